@@ -1,0 +1,14 @@
+pub mod AdvanceLemmas
+pub mod CodeReads
+pub mod CodeTexts
+pub mod Gathering
+pub mod LineLemmas
+pub mod PieceLemmas
+pub mod Positions
+pub mod PowersOfTen
+pub mod ReadBack
+pub mod ReturnLemmas
+pub mod SeekLemmas
+pub mod Sizes
+pub mod Spellings
+pub mod WindowLemmas

@@ -1,0 +1,17 @@
+-- Observation epochs as values: RINEX 3.05, the observation data record (epoch line and satellite lines).
+use Rattle.std.specs.Prelude.{ℕ, ℤ, Option, List}
+
+-- a satellite in an epoch: its identifier of three characters; the values of its observation types in the header's
+-- order, in thousandths, none where the observation is missing; and two indicators (loss of lock, signal strength) for
+-- each type
+pub record Row : Type 0 where
+  pub name : List ℕ
+  pub values : List (Option ℤ)
+  pub flags : List ℕ
+
+-- an observation epoch: columns 1 to 41 of its line; the receiver clock offset in units of 10^-12 seconds, none where
+-- there is none; and its satellites in the order of the file
+pub record Epoch : Type 0 where
+  pub head : List ℕ
+  pub clock : Option ℤ
+  pub rows : List Row

@@ -1,0 +1,14 @@
+pub mod Codes
+pub mod Columns
+pub mod Devices
+pub mod Epochs
+pub mod Faults
+pub mod Inputs
+pub mod Lines
+pub mod Numbers
+pub mod Readers
+pub mod Reading
+pub mod Seeking
+pub mod Seen
+pub mod Texts
+pub mod Window

@@ -1,0 +1,169 @@
+//! Numbers in columns: observations in format F14.3 and receiver clock offsets in format F15.12
+//! (RINEX 3.05, table A3). They are read leniently and printed in one spelling.
+
+ghost use Rattle.std.specs.Prelude.{◌≡◌, ◌+◌, ◌-◌, ◌*◌, ◌<◌, ◌≤◌, ◌^◌, ◌%◌, Option, length, take, drop, replicate, decimal, if◌then◌else◌, IfOk, IfSome};
+ghost use Rattle.std.specs.Option.{ForSome};
+ghost use Rattle.std.specs.Result.{result_ok};
+ghost use Rattle.crx_text.specs.declared.digits.TheConstants.{WIDEST};
+ghost use Rattle.crx_text.specs.Columns.{without_first_blanks};
+ghost use Rattle.crx_text.specs.Numbers.{IsWithin, IsObservation, IsClock, number_of, observation_of, clock_of, size_of, spelt_number, number_text, observation_text, clock_text, size_text, zero_padded};
+
+use crate::digits::{WIDEST, digits_read, signed, split_minus};
+use crate::limits::{CLOCK_DECIMALS, CLOCK_WIDTH, OBSERVATION_DECIMALS, OBSERVATION_WIDTH};
+use itoa::write_digits;
+use thiserror::Error;
+
+/// A text that spells no number, or that has another number of columns.
+#[derive(Clone, Copy, Debug, PartialEq, Eq, Error)]
+#[error("bad field")]
+pub struct BadField;
+
+/// Reads an observation of 14 columns, in thousandths; a blank field is `None`, a missing
+/// observation. Blanks may stand before the number, zeros at its beginning and a minus before 0,
+/// and there may be no digit before the point. `BadField` comes for every other text.
+pub fn obs_read(field: &[u8]) -> Result<Option<i64>, BadField>
+    ensures value { result_ok result ≡ observation_of field.now }
+    ensures in_range { IfOk result (λ value. IfSome value IsObservation) }
+{
+    number_read(field, OBSERVATION_WIDTH, OBSERVATION_DECIMALS)
+}
+
+/// Prints an observation, in thousandths, right justified into 14 columns; `None` is printed as
+/// blanks.
+pub fn obs_print(value: Option<i64>, field: &mut [u8; OBSERVATION_WIDTH])
+    requires { ForSome value IsObservation }
+    ensures { field.new ≡ observation_text value }
+{
+    number_print(value, OBSERVATION_DECIMALS, field)
+}
+
+/// Reads a receiver clock offset of 15 columns, in units of 10^-12 seconds; a blank field is
+/// `None`, no offset. The spellings are those of [`obs_read`] with 12 digits behind the point.
+/// `BadField` comes for every other text.
+pub fn clock_read(field: &[u8]) -> Result<Option<i64>, BadField>
+    ensures value { result_ok result ≡ clock_of field.now }
+    ensures in_range { IfOk result (λ value. IfSome value IsClock) }
+{
+    number_read(field, CLOCK_WIDTH, CLOCK_DECIMALS)
+}
+
+/// Prints a receiver clock offset, in units of 10^-12 seconds, right justified into 15 columns;
+/// `None` is printed as blanks.
+pub fn clock_print(value: Option<i64>, field: &mut [u8; CLOCK_WIDTH])
+    requires { ForSome value IsClock }
+    ensures { field.new ≡ clock_text value }
+{
+    number_print(value, CLOCK_DECIMALS, field)
+}
+
+/// A law: what is printed of an observation is read back.
+pub fn obs_is_read_back(value: Option<i64>)
+    requires { ForSome value IsObservation }
+    ensures { observation_of (observation_text value) ≡ Some value }
+{}
+
+/// A law: what is printed of a receiver clock offset is read back.
+pub fn clock_is_read_back(value: Option<i64>)
+    requires { ForSome value IsClock }
+    ensures { clock_of (clock_text value) ≡ Some value }
+{}
+
+fn number_read(field: &[u8], width: usize, decimals: usize) -> Result<Option<i64>, BadField>
+    requires { width ≤ WIDEST }
+    ensures value { result_ok result ≡ number_of width decimals field.now }
+    ensures in_range { IfOk result (λ value. IfSome value (IsWithin width)) }
+{
+    if field.len() != width {
+        return Err(BadField);
+    }
+    let text = trim_first_blanks(field);
+    if text.is_empty() {
+        return Ok(None);
+    }
+    match spelt_read(text, decimals) {
+        Some(number) => Ok(Some(number)),
+        None => Err(BadField),
+    }
+}
+
+// The text without the blanks at its beginning.
+fn trim_first_blanks(field: &[u8]) -> &[u8]
+    ensures value { result.now ≡ without_first_blanks field.now }
+    ensures shorter { length result.now ≤ length field.now }
+{
+    let mut text = field;
+    while let [b' ', rest @ ..] = text {
+        text = rest;
+    }
+    text
+}
+
+// A number behind its blanks; None where the text spells none.
+fn spelt_read(text: &[u8], decimals: usize) -> Option<i64>
+    requires { length text.now ≤ WIDEST }
+    ensures value { result ≡ spelt_number decimals text.now }
+    ensures in_range { IfSome result (IsWithin (length text.now)) }
+{
+    let (is_below, rest) = split_minus(text);
+    let size = size_read(rest, decimals)?;
+    Some(signed(is_below, size))
+}
+
+// A number without a sign, as all of its digits write it; None where the text spells none.
+fn size_read(text: &[u8], decimals: usize) -> Option<u64>
+    requires { length text.now ≤ WIDEST }
+    ensures value { result ≡ size_of decimals text.now }
+    ensures fits { IfSome result (λ size. size < 10 ^ (length text.now - 1)) }
+{
+    if text.len() <= decimals {
+        return None;
+    }
+    let point = text.len() - decimals - 1;
+    if text[point] != b'.' {
+        return None;
+    }
+    let whole = digits_read(0, &text[..point])?;
+    digits_read(whole, &text[point + 1..])
+}
+
+fn number_print(value: Option<i64>, decimals: usize, field: &mut [u8])
+    requires shape { (0 < decimals) × (decimals + 3 ≤ length field.old) × (length field.old ≤ WIDEST) }
+    requires in_range { ForSome value (IsWithin (length field.old)) }
+    ensures { field.new ≡ number_text (length field.old) decimals value }
+{
+    field.fill(b' ');
+    if let Some(number) = value {
+        let start = size_print(number.unsigned_abs(), decimals, field);
+        if number < 0 {
+            field[start - 1] = b'-';
+        }
+    }
+}
+
+// Prints a number without its sign up to the last column, and answers the index where it begins.
+fn size_print(size: u64, decimals: usize, field: &mut [u8]) -> usize
+    requires decimals { (0 < decimals) × (decimals < WIDEST) }
+    requires room { length (size_text decimals size) ≤ length field.old }
+    ensures start { result + length (size_text decimals size) ≡ length field.old }
+    ensures written { drop result field.new ≡ size_text decimals size }
+    ensures before { take result field.new ≡ take result field.old }
+{
+    let unit = 10u64.pow(decimals as u32);
+    let point = field.len() - decimals - 1;
+    padded_print(size % unit, &mut field[point + 1..]);
+    field[point] = b'.';
+    write_digits(size / unit, field, point)
+}
+
+// Prints a number with zeros before it, so that it fills the columns.
+fn padded_print(number: u64, columns: &mut [u8])
+    requires { length (decimal number) ≤ length columns.old }
+    ensures { columns.new ≡ zero_padded (length columns.old) number }
+{
+    columns.fill(b'0');
+    let width = columns.len();
+    write_digits(number, columns, width);
+}
+
+#[cfg(test)]
+mod tests;

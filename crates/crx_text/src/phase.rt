@@ -1,0 +1,14 @@
+//! How far the reading of an input is.
+
+use crate::fault::At;
+
+/// Whether lines may come.
+#[derive(Clone, Copy, Debug, PartialEq, Eq)]
+pub enum Phase {
+    /// Lines may come.
+    Open,
+    /// The end was told, and every line was lent.
+    Ended,
+    /// This fault is answered from now on.
+    Stopped(At),
+}

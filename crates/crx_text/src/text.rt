@@ -1,0 +1,111 @@
+//! A text of a line's length at most, held in place.
+
+ghost use Rattle.std.specs.Prelude.{◌≡◌, ◌+◌, ◌<◌, ◌≤◌, ◌↔◌, List, [], ◌∷◌, ◌++◌, ℕ, length, take, OnOk, OnErr, IsErr, IsTrue};
+ghost use Rattle.crx_text.specs.Columns.{without_end_blanks};
+ghost use Rattle.crx_text.specs.declared.limits.TheConstants.{LINE_LIMIT};
+
+use crate::limits::LINE_LIMIT;
+use std::marker::Model;
+use thiserror::Error;
+
+/// What was to be appended doesn't fit: the text would be longer than a line may be.
+#[derive(Clone, Copy, Debug, PartialEq, Eq, Error)]
+#[error("the text is full")]
+pub struct TextFull;
+
+/// A text of at most [`LINE_LIMIT`] bytes, held in place: it takes no memory elsewhere.
+#[derive(Drop)]
+pub struct Text {
+    bytes: [u8; LINE_LIMIT],
+    len: usize,
+}
+
+impl Model for Text {
+    ghost Value = { List ℕ };
+
+    ghost view = { λ text. take text.len text.bytes };
+
+    ghost invariant = { λ text. text.len ≤ LINE_LIMIT };
+}
+
+impl Text {
+    /// The empty text.
+    pub fn new() -> Self
+        ensures { result ≡ [] }
+    {
+        Text {
+            bytes: [0; LINE_LIMIT],
+            len: 0,
+        }
+    }
+
+    /// Makes the text empty.
+    pub fn clear(&mut self)
+        ensures { self.new ≡ [] }
+    {
+        self.len = 0;
+    }
+
+    /// The bytes of the text.
+    pub fn bytes(&self) -> &[u8]
+        ensures value { result.now ≡ self.now }
+        ensures within { length self.now ≤ LINE_LIMIT }
+    {
+        &self.bytes[..self.len]
+    }
+
+    /// How many bytes the text has.
+    pub fn len(&self) -> usize
+        ensures value { result ≡ length self.now }
+        ensures within { length self.now ≤ LINE_LIMIT }
+    {
+        self.bytes().len()
+    }
+
+    /// Whether the text has no byte.
+    pub fn is_empty(&self) -> bool
+        ensures { IsTrue result ↔ (self.now ≡ []) }
+    {
+        self.len == 0
+    }
+
+    /// Appends a byte. `TextFull` comes where the text has [`LINE_LIMIT`] bytes already, and then
+    /// it stays as it was.
+    pub fn push(&mut self, byte: u8) -> Result<(), TextFull>
+        ensures ok { OnOk result (self.new ≡ self.old ++ byte ∷ []) }
+        ensures full { IsErr result ↔ (length self.old ≡ LINE_LIMIT) }
+        ensures err { OnErr result (self.new ≡ self.old) }
+    {
+        if self.len == LINE_LIMIT {
+            return Err(TextFull);
+        }
+        self.bytes[self.len] = byte;
+        self.len += 1;
+        Ok(())
+    }
+
+    /// Appends bytes, all of them or none. `TextFull` comes where the text would pass
+    /// [`LINE_LIMIT`] bytes, and then it stays as it was.
+    pub fn extend(&mut self, bytes: &[u8]) -> Result<(), TextFull>
+        ensures ok { OnOk result (self.new ≡ self.old ++ bytes.now) }
+        ensures full { IsErr result ↔ (LINE_LIMIT < length self.old + length bytes.now) }
+        ensures err { OnErr result (self.new ≡ self.old) }
+    {
+        if LINE_LIMIT - self.len < bytes.len() {
+            return Err(TextFull);
+        }
+        let end = self.len + bytes.len();
+        self.bytes[self.len..end].copy_from_slice(bytes);
+        self.len = end;
+        Ok(())
+    }
+
+    /// Drops the blanks at the end of the text.
+    pub fn trim_end_blanks(&mut self)
+        ensures { self.new ≡ without_end_blanks self.old }
+    {
+        while self.len > 0 && self.bytes[self.len - 1] == b' ' {
+            self.len -= 1;
+        }
+    }
+}
