@@ -1,0 +1,136 @@
+-- The cells of a satellite line, taken one by one.
+use Rattle.std.proofs.Common.{◌≡◌, ℕ, ℤ, ◌+◌, ◌-◌, ◌*◌, ◌<◌, ◌≤◌, true, ◌&&◌, List, [], ◌∷◌, ◌++◌, Option, Some, None, Result, Ok, Err, length, take, drop, replicate, map, get_or, refl, ap, sym, ◌∙◌, arith, suc, zero}
+use Rattle.std.specs.List.{range_with_len, list_all}
+use Rattle.std.specs.Result.{IsErr, OnOk}
+use Rattle.std.proofs.lemmas.Bool.{and_from}
+use Rattle.std.proofs.lemmas.List.Elements.{All-replicate}
+use Rattle.std.proofs.lemmas.List.Folds.{list_all-append}
+use Rattle.std.proofs.lemmas.List.{map-id, take-append-le, drop_all, drop_more, drop-drop, length-drop, length-append, length-replicate, append_assoc}
+use Rattle.std.proofs.lemmas.List.FromFn.{map-range_with_len_more, get_or-map-range_with_len, length-map-range_with_len}
+use Rattle.std.proofs.lemmas.Option.{option_and_then_some, same_Some, none-some}
+use Rattle.crx_text.specs.Columns.{character_at, columns}
+use Rattle.crx_text.specs.Epochs.{Row}
+use Rattle.crx_text.specs.Numbers.{observation_of, observation_text, number_of}
+use Rattle.crx_text.specs.declared.limits.TheConstants.{TYPES_LIMIT}
+use Rattle.crx_rinex.specs.EpochLines.{is_kept}
+use Rattle.crx_rinex.specs.Printing.{printed_cells}
+use Rattle.crx_rinex.specs.ObservationTypes.{is_system}
+use Rattle.crx_rinex.specs.SatelliteLines.{all_some, values_in, flags_from, flags_in, field, has_number, is_identifier, blank_row, with_flags, IsSoundRow, IsValue}
+
+-- one value more
+pub all_some-push : (xs : List (Option (Option ℤ))) (vs : List (Option ℤ)) (v : Option ℤ) → all_some xs ≡ Some vs → all_some (xs ++ Some v ∷ []) ≡ Some (vs ++ v ∷ [])
+all_some-push [] vs v h = ap (λ (ws : List (Option ℤ)). Some (ws ++ v ∷ [])) (same_Some [] vs h)
+all_some-push (None ∷ xs) vs v h = absurd (none-some vs h)
+all_some-push (Some x ∷ xs) vs v h =
+    option_and_then_some {P = all_some (Some x ∷ (xs ++ Some v ∷ [])) ≡ Some (vs ++ v ∷ [])} (λ values. Some (x ∷ values)) (all_some xs) vs h
+    (λ ws e g. rw (all_some-push xs ws v e) (ap (λ (us : List (Option ℤ)). Some (us ++ v ∷ [])) (same_Some (x ∷ ws) vs g)))
+
+-- one that is missing a spelling
+pub all_some_at : (xs : List (Option (Option ℤ))) (k : ℕ) → k < length xs → get_or xs k None ≡ None → all_some xs ≡ None
+all_some_at [] k h e = absurd (omega arith)
+all_some_at (None ∷ xs) k h e = refl
+all_some_at (Some x ∷ xs) zero h e = absurd (none-some x (sym e))
+all_some_at (Some x ∷ xs) (suc k) h e = rw (all_some_at xs k (omega arith) e) refl
+
+pub values_in_more : (line : List ℕ) (k : ℕ) (vs : List (Option ℤ)) (v : Option ℤ) → values_in k line ≡ Some vs → observation_of (field line k) ≡ Some v → values_in (k + 1) line ≡ Some (vs ++ v ∷ [])
+values_in_more line k vs v h e =
+    ap all_some (map-range_with_len_more (λ j. observation_of (field line j)) 0 k k (omega arith))
+    ∙ ap (λ (o : Option (Option ℤ)). all_some (map (λ j. observation_of (field line j)) (range_with_len 0 k) ++ o ∷ [])) e
+    ∙ all_some-push (map (λ j. observation_of (field line j)) (range_with_len 0 k)) vs v h
+
+pub values_in_none : (line : List ℕ) (k m : ℕ) → k < m → observation_of (field line k) ≡ None → values_in m line ≡ None
+values_in_none line k m h e =
+    all_some_at (map (λ j. observation_of (field line j)) (range_with_len 0 m)) k
+    (omega (arith, length-map-range_with_len (λ j. observation_of (field line j)) 0 m))
+    (get_or-map-range_with_len (λ j. observation_of (field line j)) 0 m k k None h (omega arith) ∙ e)
+
+range_more : (k : ℕ) → range_with_len 0 (k + 1) ≡ range_with_len 0 k ++ k ∷ []
+range_more k =
+    sym (map-id (range_with_len 0 (k + 1))) ∙ map-range_with_len_more (λ (j : ℕ). j) 0 k k (omega arith) ∙ ap (λ (js : List ℕ). js ++ k ∷ []) (map-id (range_with_len 0 k))
+
+flags_from-push : (line js : List ℕ) (k : ℕ) → flags_from line (js ++ k ∷ []) ≡ flags_from line js ++ character_at line (16 * k + 18) ∷ character_at line (16 * k + 19) ∷ []
+flags_from-push line [] k = refl
+flags_from-push line (j ∷ js) k = ap (λ (fs : List ℕ). character_at line (16 * j + 18) ∷ character_at line (16 * j + 19) ∷ fs) (flags_from-push line js k)
+
+pub flags_in_more : (line : List ℕ) (k : ℕ) → flags_in (k + 1) line ≡ flags_in k line ++ character_at line (16 * k + 18) ∷ character_at line (16 * k + 19) ∷ []
+flags_in_more line k = ap (flags_from line) (range_more k) ∙ flags_from-push line (range_with_len 0 k) k
+
+-- a field past the line's end is blank, and so missing
+pub field_past : (line : List ℕ) (k : ℕ) → length line ≤ 16 * k + 3 → observation_of (field line k) ≡ Some None
+unfolding number_of
+field_past line k h =
+    let e : drop (16 * k + 4 - 1) line ≡ [] = drop_all (16 * k + 4 - 1) line (omega arith) in
+    rw e refl
+
+-- a field inside the line
+pub field_inside : (line : List ℕ) (k : ℕ) → 16 * k + 17 ≤ length line → field line k ≡ take 14 (drop (16 * k + 3) line)
+field_inside line k h =
+    let e : 16 * k + 4 - 1 ≡ 16 * k + 3 = omega arith in
+    rw e (take-append-le 14 (drop (16 * k + 3) line) (replicate 14 32) (omega (arith, length-drop (16 * k + 3) line)))
+
+-- an identifier's columns
+pub identifier_columns : (line : List ℕ) → is_identifier (columns line 1 3) ≡ (is_system (character_at line 1) && has_number line)
+identifier_columns [] = refl
+identifier_columns (a ∷ []) = refl
+identifier_columns (a ∷ b ∷ []) = refl
+identifier_columns (a ∷ b ∷ c ∷ cs) = refl
+
+-- two indicators more
+pub flags_pushed : (line : List ℕ) (k a b : ℕ) (old one two : List ℕ) → old ≡ flags_in k line → a ≡ character_at line (16 * k + 18) → b ≡ character_at line (16 * k + 19)
+    → one ≡ old ++ a ∷ [] → two ≡ one ++ b ∷ [] → two ≡ flags_in (k + 1) line
+flags_pushed line k a b old one two h ha hb first second =
+    second ∙ ap (λ (fs : List ℕ). fs ++ b ∷ []) first ∙ append_assoc old (a ∷ []) (b ∷ [])
+    ∙ ap (λ (fs : List ℕ). fs ++ a ∷ b ∷ []) h ∙ ap (λ (x : ℕ). flags_in k line ++ x ∷ b ∷ []) ha ∙ ap (λ (x : ℕ). flags_in k line ++ character_at line (16 * k + 18) ∷ x ∷ []) hb
+    ∙ sym (flags_in_more line k)
+
+-- a call that could only refuse for want of room, and has it
+pub ok_unless : {T E P : Type 0} (r : Result T E) → OnOk r P → (IsErr r → ⊥) → P
+ok_unless (Ok x) h n = h
+ok_unless (Err e) h n = absurd (n refl)
+
+-- the cell at a place, and those behind it
+pub printed_more : (values : List (Option ℤ)) (flags : List ℕ) (k : ℕ) → k < length values →
+    printed_cells (drop k values) (drop (2 * k) flags) ≡ observation_text (get_or values k None) ++ take 2 (drop (2 * k) flags) ++ printed_cells (drop (k + 1) values) (drop (2 * (k + 1)) flags)
+printed_more values flags k h =
+    let e : 2 * k + 2 ≡ 2 * (k + 1) = omega arith in
+    let f : drop 2 (drop (2 * k) flags) ≡ drop (2 * (k + 1)) flags = drop-drop 2 (2 * k) flags ∙ ap (λ (n : ℕ). drop n flags) e in
+    ap (λ (vs : List (Option ℤ)). printed_cells vs (drop (2 * k) flags)) (drop_more values k None h)
+    ∙ ap (λ (fs : List ℕ). observation_text (get_or values k None) ++ take 2 (drop (2 * k) flags) ++ printed_cells (drop (k + 1) values) fs) f
+
+-- a text with one more cell
+pub printed_pushed : (values : List (Option ℤ)) (flags text field one two all : List ℕ) (k : ℕ) → k < length values →
+    text ++ printed_cells (drop k values) (drop (2 * k) flags) ≡ all → field ≡ observation_text (get_or values k None) → one ≡ text ++ field → two ≡ one ++ take (2 * k + 2 - 2 * k) (drop (2 * k) flags) →
+    two ++ printed_cells (drop (k + 1) values) (drop (2 * (k + 1)) flags) ≡ all
+printed_pushed values flags text field one two all k h inv printed first second =
+    let rest : List ℕ = printed_cells (drop (k + 1) values) (drop (2 * (k + 1)) flags) in
+    let width : 2 * k + 2 - 2 * k ≡ 2 = omega arith in
+    let pair : List ℕ = take 2 (drop (2 * k) flags) in
+    let spelt : List ℕ = observation_text (get_or values k None) in
+    ap (λ (t : List ℕ). t ++ rest) (second ∙ ap (λ (n : ℕ). one ++ take n (drop (2 * k) flags)) width ∙ ap (λ (t : List ℕ). t ++ pair) (first ∙ ap (λ (t : List ℕ). text ++ t) printed))
+    ∙ append_assoc (text ++ spelt) pair rest ∙ append_assoc text spelt (pair ++ rest) ∙ ap (λ (t : List ℕ). text ++ t) (sym (append_assoc spelt pair rest))
+    ∙ ap (λ (t : List ℕ). text ++ t) (sym (printed_more values flags k h)) ∙ inv
+
+all_kept_blanks : (n : ℕ) → list_all is_kept (replicate n 32) ≡ true
+all_kept_blanks zero = refl
+all_kept_blanks (suc n) = all_kept_blanks n
+
+-- rows stay sound
+pub sound-blank : (name : List ℕ) (m : ℕ) → is_identifier name ≡ true → m ≤ TYPES_LIMIT → IsSoundRow (blank_row name m)
+sound-blank name m named small =
+    record {
+      named = named;
+      counted = omega (arith, length-replicate {A = Option ℤ} m None);
+      ranged = All-replicate IsValue m None tt;
+      paired = length-replicate (2 * m) 32 ∙ ap (λ (n : ℕ). 2 * n) (sym (length-replicate {A = Option ℤ} m None));
+      kept = all_kept_blanks (2 * m);
+    }
+
+pub sound-with_flags : (row : Row) (flags : List ℕ) → IsSoundRow row → length flags ≤ 2 * length row.values → list_all is_kept flags ≡ true → IsSoundRow (with_flags row flags)
+sound-with_flags row flags h small kept =
+    record {
+      named = h.named;
+      counted = h.counted;
+      ranged = h.ranged;
+      paired = omega (arith, length-append flags (replicate (2 * length row.values - length flags) 32), length-replicate {A = ℕ} (2 * length row.values - length flags) 32);
+      kept = list_all-append is_kept flags (replicate (2 * length row.values - length flags) 32) ∙ and_from (list_all is_kept flags) (list_all is_kept (replicate (2 * length row.values - length flags) 32)) kept (all_kept_blanks (2 * length row.values - length flags));
+    }

@@ -1,0 +1,54 @@
+-- Rows of different satellites, one behind the other.
+use Rattle.std.proofs.Common.{◌≡◌, ℕ, ◌≤◌, Bool, true, false, not, ◌&&◌, List, [], ◌∷◌, ◌++◌, length, refl, sym, ◌∙◌, inl, inr, arith, Option, Some, None, unwrap_or, cond, leb}
+use Rattle.std.specs.List.{list_all}
+use Rattle.std.specs.Option.{option_and_then}
+use Rattle.crx_text.specs.Columns.{character_at, columns}
+use Rattle.crx_text.specs.declared.limits.TheConstants.{SATELLITES_LIMIT}
+use Rattle.crx_rinex.specs.Label.{number_in}
+use Rattle.std.specs.Str.{bytes_eq}
+use Rattle.std.proofs.lemmas.Bool.{cases_Bool, leb-true, false≢true, eqb-false, or_parts, and_parts, not-true, false_from_ne_true}
+use Rattle.std.proofs.lemmas.List.{length_push}
+use Rattle.std.proofs.lemmas.List.Elements.{All-push}
+use Rattle.std.proofs.lemmas.List.Folds.{list_any-append}
+use Rattle.std.proofs.lemmas.Slice.Eq.{bytes_eq-Decides}
+use Rattle.crx_text.specs.Epochs.{Row, Epoch}
+use Rattle.crx_rinex.specs.EpochLines.{satellites_of, count_within_limit, begins_epoch, is_observation_flag, is_kept}
+use Rattle.crx_rinex.specs.Epochs.{has_satellite, are_different, with_row, is_full_epoch, IsSoundEpoch}
+use Rattle.crx_rinex.specs.SatelliteLines.{IsSoundRow}
+
+-- the test of two texts doesn't ask which is the first
+other_way : (xs ys : List ℕ) → bytes_eq xs ys ≡ false → bytes_eq ys xs ≡ false
+other_way xs ys h = false_from_ne_true (bytes_eq ys xs) (λ t. false≢true (sym h ∙ (bytes_eq-Decides xs ys).1 (sym ((bytes_eq-Decides ys xs).0 t))))
+
+pub different-push : (rows : List Row) (row : Row) → are_different rows ≡ true → has_satellite row.name rows ≡ false → are_different (rows ++ row ∷ []) ≡ true
+different-push [] row h new = refl
+different-push (r ∷ rows) row h new =
+    let apart = and_parts (not (has_satellite r.name rows)) (are_different rows) h in
+    let differs = or_parts (bytes_eq r.name row.name) (has_satellite row.name rows) new in
+    let old : has_satellite r.name rows ≡ false = not-true (has_satellite r.name rows) apart.0 in
+    let other : bytes_eq row.name r.name ≡ false = other_way r.name row.name differs.0 in
+    rw (list_any-append (λ (k : Row). bytes_eq k.name r.name) rows (row ∷ []), old, other) (different-push rows row apart.1 differs.1)
+
+-- an epoch that isn't full stays sound with a new satellite's row
+pub sound-with_row : (epoch : Epoch) (row : Row) → IsSoundEpoch epoch → IsSoundRow row → is_full_epoch epoch ≡ false → has_satellite row.name epoch.rows ≡ false → IsSoundEpoch (with_row epoch row)
+sound-with_row epoch row h sound room new =
+    let full : length epoch.rows ≡ satellites_of epoch.head → ⊥ = eqb-false (length epoch.rows) (satellites_of epoch.head) room in
+    let fits = h.within in
+    record {
+      rows_sound = All-push IsSoundRow epoch.rows row h.rows_sound sound;
+      apart = different-push epoch.rows row h.apart new;
+      within = omega (arith, length_push epoch.rows row);
+    }
+
+few : (b : Bool) (o : Option ℕ) → unwrap_or (cond b (option_and_then count_within_limit o) None) 0 ≤ SATELLITES_LIMIT
+few true None = omega arith
+few true (Some n) =
+    elim (cases_Bool (leb n SATELLITES_LIMIT)) [
+      | inl t ↦ let e = leb-true n SATELLITES_LIMIT t in rw t e
+      | inr f ↦ rw f (omega arith)
+    ]
+few false o = omega arith
+
+-- columns announce no more satellites than the limit
+pub satellites_few : (head : List ℕ) → satellites_of head ≤ SATELLITES_LIMIT
+satellites_few head = few (begins_epoch head && is_observation_flag (character_at head 32) && list_all is_kept head) (number_in (columns head 33 3))

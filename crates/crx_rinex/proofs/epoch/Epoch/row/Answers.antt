@@ -1,0 +1,9 @@
+use Rattle.std.proofs.Common.{length, ap, arith}
+use Rattle.crx_text.specs.Epochs.{Epoch}
+use Rattle.crx_rinex.proofs.Rows.{satellites_few}
+use Rattle.crx_rinex.proofs.epoch.Epoch.row.Goals as goal
+
+pub returns-clause-within : goal.returns-clause-within
+returns-clause-within c =
+    let same = ap (λ (e : Epoch). length e.rows) c.self.view_is in
+    omega (arith, c.self.invariant.within, satellites_few c.self.inside.head.head, same)

@@ -1,0 +1,34 @@
+-- Observation epochs whose rows come one by one: RINEX 3.05, table A3.
+use Rattle.std.specs.Prelude.{◌≡◌, ◌≤◌, ℕ, Bool, true, List, [], ◌∷◌, ◌++◌, ◌==◌, ◌&&◌, length, not, All}
+use Rattle.std.specs.List.{list_any}
+use Rattle.std.specs.Str.{bytes_eq}
+use Rattle.crx_text.specs.Epochs.{Row, Epoch}
+use Rattle.crx_rinex.specs.EpochLines.{ObservationHead, satellites_of}
+use Rattle.crx_rinex.specs.SatelliteLines.{IsSoundRow}
+
+-- whether some rows have a satellite
+abbrev pub has_satellite : List ℕ → List Row → Bool
+has_satellite name rows = list_any (λ row. bytes_eq row.name name) rows
+
+-- whether no two rows are of one satellite
+abbrev pub are_different : List Row → Bool
+are_different [] = true
+are_different (row ∷ rows) = not (has_satellite row.name rows) && are_different rows
+
+-- an epoch before its first row
+abbrev pub begun : ObservationHead → Epoch
+begun head = record { head = head.head; clock = head.clock; rows = [] }
+
+-- an epoch with one more row at its end
+abbrev pub with_row : Epoch → Row → Epoch
+with_row epoch row = record epoch { rows = epoch.rows ++ row ∷ [] }
+
+-- whether an epoch has as many rows as its line announces
+abbrev pub is_full_epoch : Epoch → Bool
+is_full_epoch epoch = length epoch.rows == satellites_of epoch.head
+
+-- what is true of every epoch whose rows come one by one
+pub record IsSoundEpoch (epoch : Epoch) : Type 0 where
+  pub rows_sound : All IsSoundRow epoch.rows
+  pub apart : are_different epoch.rows ≡ true
+  pub within : length epoch.rows ≤ satellites_of epoch.head

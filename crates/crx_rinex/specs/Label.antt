@@ -1,0 +1,36 @@
+-- Labels of header lines and numbers in columns: RINEX 3.05, table A2.
+use Rattle.std.specs.Prelude.{ℕ, Bool, ◌&&◌, List, [], ◌∷◌, Option, Some, None, if◌then◌else◌, nat_le, codes}
+use Rattle.std.specs.List.{list_all}
+use Rattle.std.specs.Str.{bytes_eq}
+use Rattle.std.specs.Str.Parse.{digits_value}
+use Rattle.crx_text.specs.Columns.{columns, without_blanks, without_end_blanks}
+
+-- the label of a header line: columns 61 to 80 without the blanks at their end
+abbrev pub label_of : List ℕ → List ℕ
+label_of line = without_end_blanks (columns line 61 20)
+
+-- whether a line has this label
+abbrev pub has_label : List ℕ → List ℕ → Bool
+has_label label line = bytes_eq (label_of line) label
+
+abbrev pub version_label : List ℕ
+version_label = codes "RINEX VERSION / TYPE"
+
+abbrev pub types_label : List ℕ
+types_label = codes "SYS / # / OBS TYPES"
+
+abbrev pub end_label : List ℕ
+end_label = codes "END OF HEADER"
+
+-- a digit is one of the bytes 48 to 57
+abbrev pub is_digit : ℕ → Bool
+is_digit c = nat_le 48 c && nat_le c 57
+
+-- the number that digits spell; no digits spell none
+abbrev pub number_of_digits : List ℕ → Option ℕ
+number_of_digits [] = None
+number_of_digits (c ∷ cs) = if list_all is_digit (c ∷ cs) then Some (digits_value 10 (c ∷ cs)) else None
+
+-- the number in some columns: digits, with blanks before or after them
+abbrev pub number_in : List ℕ → Option ℕ
+number_in field = number_of_digits (without_blanks field)

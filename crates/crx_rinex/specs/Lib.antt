@@ -1,0 +1,9 @@
+pub mod Label
+pub mod ObservationTypes
+pub mod Header
+pub mod EpochLines
+pub mod Heads
+pub mod SatelliteLines
+pub mod Epochs
+pub mod Printing
+pub mod Units

@@ -1,0 +1,211 @@
+//! Epoch lines. RINEX 3.05, table A3, EPOCH record.
+
+ghost use Rattle.std.specs.Prelude.{◌≡◌, ◌≤◌, None, Some, Ok, Err, IfSome, MatchResult};
+ghost use Rattle.std.specs.List.{list_all};
+ghost use Rattle.std.specs.Option.{ForSome};
+ghost use Rattle.crx_text.specs.Columns.{columns};
+ghost use Rattle.crx_text.specs.Numbers.{IsClock};
+ghost use Rattle.crx_rinex.specs.EpochLines.{head_of, begins_epoch, epoch_count, epoch_head, is_event_flag, is_kept, is_observation_flag, records_in, satellites_in, EpochHead, IsObservationHead};
+ghost use Rattle.crx_rinex.specs.Heads.{head_line};
+
+use crate::columns::{all_blank, behind, character, is_blank, number, padded};
+use crx_text::limits::{CLOCK_WIDTH, SATELLITES_LIMIT};
+use crx_text::{Fault, clock_read};
+use std::marker::Model;
+
+/// The columns of an epoch line before the receiver clock offset.
+pub const HEAD_WIDTH: usize = 41;
+
+/// The first line of an observation epoch: columns 1 to 41, the count of satellites that they hold, and the
+/// receiver clock offset.
+#[derive(Drop)]
+pub struct EpochLine {
+    head: [u8; HEAD_WIDTH],
+    count: usize,
+    clock: Option<i64>,
+}
+
+impl Model for EpochLine {
+    ghost use Rattle.crx_rinex.specs.EpochLines.{ObservationHead, IsObservationHead};
+
+    ghost Value = { ObservationHead };
+
+    ghost view = { λ line. record { head = line.head; count = line.count; clock = line.clock } };
+
+    ghost invariant = { λ line. IsObservationHead (record { head = line.head; count = line.count; clock = line.clock }) };
+}
+
+impl EpochLine {
+    /// The line with these columns 1 to 41 and this receiver clock offset, in units of 10^-12 seconds.
+    ///
+    /// `BadEpoch` comes where the columns aren't those of an observation epoch: `>` in column 1, a flag of 0
+    /// or 1 in column 32, a count of satellites within the limit in columns 33 to 35, and no character but 32
+    /// to 126 other than `&` (RINEX 3.05, table A3).
+    pub fn new(columns: [u8; HEAD_WIDTH], clock: Option<i64>) -> Result<EpochLine, Fault>
+        requires { ForSome clock IsClock }
+        ensures { MatchResult result
+            (λ line. (epoch_count columns ≡ Some line.count) × (line.head ≡ columns) × (line.clock ≡ clock))
+            (λ fault. (epoch_count columns ≡ None) × (fault ≡ Fault.BadEpoch)) }
+    {
+        match satellites(&columns) {
+            Some(count) => Ok(EpochLine {
+                head: columns,
+                count,
+                clock,
+            }),
+            None => Err(Fault::BadEpoch),
+        }
+    }
+
+    /// Columns 1 to 41: `>`, date and time, flag, count of satellites, reserved columns.
+    pub fn columns(&self) -> &[u8; HEAD_WIDTH]
+        ensures value { result.now ≡ self.now.head }
+        ensures sound { IsObservationHead self.now }
+    {
+        &self.head
+    }
+
+    /// How many satellites the epoch has.
+    pub fn count(&self) -> usize
+        ensures value { result ≡ self.now.count }
+        ensures sound { IsObservationHead self.now }
+    {
+        self.count
+    }
+
+    /// The receiver clock offset, in units of 10^-12 seconds; `None` where there is none.
+    pub fn clock(&self) -> Option<i64>
+        ensures value { result ≡ self.now.clock }
+        ensures sound { IsObservationHead self.now }
+    {
+        self.clock
+    }
+}
+
+/// What stands in a line where an epoch may begin.
+#[derive(Drop)]
+pub enum Head {
+    /// An event: its flag, from 2 to 6, and how many records follow it.
+    Event {
+        /// The flag in column 32.
+        flag: u8,
+        /// The count of records in columns 33 to 35.
+        count: usize,
+    },
+    /// An observation epoch.
+    Epoch(EpochLine),
+}
+
+impl Head {
+    /// Reads a line where an epoch may begin (RINEX 3.05, table A3).
+    ///
+    /// `NotAnEpoch` comes where column 1 isn't `>`; then `BadEpoch` where the flag in column 32 is none of 0 to
+    /// 6, the count in columns 33 to 35 is none, or, in an observation epoch, columns 1 to 41 hold a character
+    /// that may not stand there or something stands behind column 56; then `BadClock` where columns 42 to 56
+    /// hold neither blanks nor a number of format F15.12.
+    pub fn read(line: &[u8]) -> Result<Head, Fault>
+        ensures { MatchResult result
+            (λ head. head_of line.now ≡ Ok (head_line head))
+            (λ fault. head_of line.now ≡ Err fault) }
+    {
+        if character(line, 1) != b'>' {
+            return Err(Fault::NotAnEpoch);
+        }
+        let flag = character(line, 32);
+        if is_event_flag(flag) {
+            return match records_in(line) {
+                Some(count) => Ok(Head::Event {
+                    flag: flag - b'0',
+                    count,
+                }),
+                None => Err(Fault::BadEpoch),
+            };
+        }
+        match observation_head(line) {
+            Ok(head) => Ok(Head::Epoch(head)),
+            Err(fault) => Err(fault),
+        }
+    }
+}
+
+/// Whether a flag in column 32 is that of an event: 2 to 5, or 6 for cycle slip records.
+fn is_event_flag(flag: u8) -> bool
+    ensures { result ≡ is_event_flag flag }
+{
+    matches!(flag, b'2'..=b'6')
+}
+
+/// How many records follow an event, in columns 33 to 35; none where they are blank.
+fn records_in(line: &[u8]) -> Option<usize>
+    ensures { result ≡ records_in line.now }
+{
+    if is_blank(line, 33, 3) {
+        Some(0)
+    } else {
+        number(line, 33)
+    }
+}
+
+/// Whether a character may stand in epoch texts and indicators: 32 to 126 other than `&`.
+pub(crate) fn is_kept(c: u8) -> bool
+    ensures { result ≡ is_kept c }
+{
+    matches!(c, b' '..=b'~') && c != b'&'
+}
+
+/// Whether all characters of a text may stand in epoch texts and indicators.
+pub(crate) fn all_kept(text: &[u8]) -> bool
+    ensures { result ≡ list_all is_kept text.now }
+{
+    text.iter().all(|c| is_kept(*c))
+}
+
+/// How many satellites columns 1 to 41 announce, if they are those of an observation epoch.
+fn satellites(columns: &[u8]) -> Option<usize>
+    ensures value { result ≡ epoch_count columns.now }
+    ensures within { IfSome result (λ count. count ≤ SATELLITES_LIMIT) }
+{
+    if character(columns, 1) == b'>'
+        && is_observation_flag(character(columns, 32))
+        && all_kept(columns)
+    {
+        satellites_in(columns)
+    } else {
+        None
+    }
+}
+
+/// Whether a flag in column 32 is that of an observation epoch: 0, or 1 for a power failure.
+fn is_observation_flag(flag: u8) -> bool
+    ensures { result ≡ is_observation_flag flag }
+{
+    flag == b'0' || flag == b'1'
+}
+
+/// The count of satellites in columns 33 to 35, if it is within the limit.
+fn satellites_in(line: &[u8]) -> Option<usize>
+    ensures value { result ≡ satellites_in line.now }
+    ensures within { IfSome result (λ count. count ≤ SATELLITES_LIMIT) }
+{
+    let count = number(line, 33)?;
+    (count <= SATELLITES_LIMIT).then_some(count)
+}
+
+/// Reads the line of an observation epoch.
+fn observation_head(line: &[u8]) -> Result<EpochLine, Fault>
+    ensures { MatchResult result
+        (λ head. epoch_head line.now (epoch_count (columns line.now 1 41)) ≡ Ok (EpochHead head.head head.count head.clock))
+        (λ fault. epoch_head line.now (epoch_count (columns line.now 1 41)) ≡ Err fault) }
+{
+    let head = padded(line, 1);
+    let Some(count) = satellites(&head) else {
+        return Err(Fault::BadEpoch);
+    };
+    if !all_blank(behind(line, 56)) {
+        return Err(Fault::BadEpoch);
+    }
+    match clock_read(&padded::<CLOCK_WIDTH>(line, 42)) {
+        Ok(clock) => Ok(EpochLine { head, count, clock }),
+        Err(_) => Err(Fault::BadClock),
+    }
+}

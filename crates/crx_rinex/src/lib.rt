@@ -1,0 +1,19 @@
+//! RINEX 3.0x observation files: header lines, observation types, epoch lines and satellite lines, read and printed.
+#![tactic(auto)]
+
+mod columns;
+pub mod epoch;
+pub mod epoch_line;
+pub mod header;
+pub mod printed;
+pub mod satellite_row;
+#[cfg(test)]
+mod tests;
+pub mod types;
+
+pub use epoch::Epoch;
+pub use epoch_line::{EpochLine, Head};
+pub use header::{header_first, is_end};
+pub use printed::Printed;
+pub use satellite_row::SatRow;
+pub use types::Types;

@@ -1,0 +1,93 @@
+//! The lines of an observation epoch, printed one at a time. RINEX 3.05, table A3.
+
+ghost use Rattle.std.specs.Prelude.{◌≡◌, ◌≤◌, None, Some, MatchBool, drop, slice_get};
+ghost use Rattle.std.specs.Bool.{OnTrue};
+ghost use Rattle.std.specs.Borrow.{sem};
+ghost use Rattle.std.specs.Io.BufRead.{Rests};
+ghost use Rattle.std.specs.Option.{option_copied};
+ghost use Rattle.crx_text.specs.declared.limits.TheConstants.{SATELLITES_LIMIT};
+ghost use Rattle.crx_rinex.specs.Printing.{printed_epoch, printed_head};
+ghost use Rattle.crx_rinex.specs.contracts.printed.Printed.{the_row};
+
+use crate::columns::put_trimmed;
+use crate::epoch::Epoch;
+use crate::epoch_line::EpochLine;
+use crx_text::limits::{CLOCK_WIDTH, SATELLITES_LIMIT};
+use crx_text::{Text, clock_print};
+use std::marker::Model;
+
+/// The lines of an epoch that are still to be lent: the epoch line, then a line for each satellite.
+#[derive(Drop)]
+pub struct Printed {
+    epoch: Epoch,
+    next: usize,
+    text: Text,
+}
+
+impl Model for Printed {
+    ghost use Rattle.std.specs.Prelude.{ℕ, List, drop, ◌≤◌, ◌+◌};
+    ghost use Rattle.crx_text.specs.declared.limits.TheConstants.{SATELLITES_LIMIT};
+    ghost use Rattle.crx_rinex.specs.Printing.{printed_epoch};
+
+    ghost Value = { List (List ℕ) };
+
+    ghost view = { λ printed. drop printed.next (printed_epoch printed.epoch) };
+
+    ghost invariant = { λ printed. printed.next ≤ SATELLITES_LIMIT + 1 };
+}
+
+impl Printed {
+    /// The lines of an epoch, none of them lent yet.
+    pub fn new(epoch: Epoch) -> Printed
+        ensures { result ≡ printed_epoch epoch }
+    {
+        Printed {
+            epoch,
+            next: 0,
+            text: Text::new(),
+        }
+    }
+
+    /// Lends the next line, without its line end; `None` once all were lent.
+    pub fn next_line(&mut self) -> Option<&[u8]>
+        ensures value { option_copied result ≡ slice_get self.old 0 }
+        // That line is no longer among those to be lent.
+        ensures* after_borrow { sem 𝓛 (Rests the_row self.entry (λ new. new ≡ drop 1 self.old)) }
+    {
+        if print_line(&self.epoch, self.next, &mut self.text) {
+            self.next += 1;
+            return Some(self.text.bytes());
+        }
+        None
+    }
+}
+
+/// Prints the line of an epoch at a place, from 0; `false` where it has no such line.
+fn print_line(epoch: &Epoch, index: usize, text: &mut Text) -> bool
+    ensures line { MatchBool result
+        (slice_get (printed_epoch epoch.now) index ≡ Some text.new)
+        (slice_get (printed_epoch epoch.now) index ≡ None) }
+    ensures within { OnTrue result (index ≤ SATELLITES_LIMIT) }
+{
+    if index == 0 {
+        print_head(epoch.head(), text);
+        return true;
+    }
+    let Some(row) = epoch.row(index - 1) else {
+        return false;
+    };
+    row.print(text);
+    true
+}
+
+/// Replaces a text by the printed epoch line, without blanks at its end.
+fn print_head(head: &EpochLine, text: &mut Text)
+    ensures { text.new ≡ printed_head head.now.head head.now.clock }
+{
+    let mut line = Text::new();
+    let mut field = [b' '; CLOCK_WIDTH];
+    clock_print(head.clock(), &mut field);
+    let _ = line.extend(head.columns());
+    let _ = line.extend(&field);
+    put_trimmed(text, &line);
+}

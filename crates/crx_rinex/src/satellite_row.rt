@@ -1,0 +1,255 @@
+//! Satellite lines. RINEX 3.05, table A3, OBSERVATION record, A1,I2.2,m(F14.3,I1,I1).
+
+ghost use Rattle.std.specs.Prelude.{◌≡◌, ◌≤◌, ◌<◌, ◌+◌, ◌-◌, ◌*◌, ◌++◌, ◌⊎◌, replicate, true, None, Some, Ok, Err, is_some, length, All, IfOk, IfErr, IfSome, OnSome, MatchResult, slice_get};
+ghost use Rattle.std.specs.List.{list_all};
+ghost use Rattle.std.specs.Option.{ForSome};
+ghost use Rattle.crx_text.specs.Columns.{columns};
+ghost use Rattle.crx_text.specs.declared.limits.TheConstants.{LINE_LIMIT, TYPES_LIMIT};
+ghost use Rattle.crx_text.specs.Numbers.{observation_of, IsObservation};
+ghost use Rattle.crx_rinex.specs.EpochLines.{is_kept};
+ghost use Rattle.crx_rinex.specs.ObservationTypes.{IsAllowedCount};
+ghost use Rattle.crx_rinex.specs.Printing.{printed_cells, printed_row};
+ghost use Rattle.crx_rinex.specs.SatelliteLines.{blank_row, field, flags_in, has_number, is_identifier, row_of, types_of_satellite, values_in, with_flags, with_value, IsSoundRow, IsValue};
+
+use crate::columns::{all_blank, behind, character, padded, put_trimmed};
+use crate::epoch_line::all_kept;
+use crate::types::Types;
+use crx_text::limits::OBSERVATION_WIDTH;
+use crx_text::{Fault, Text, obs_print, obs_read};
+use std::alloc::Global;
+use std::marker::Model;
+
+/// The columns of an identifier.
+pub const NAME_WIDTH: usize = 3;
+
+/// The columns of a cell: a field and two indicators.
+pub const CELL_WIDTH: usize = 16;
+
+/// A satellite in an epoch: its identifier, a value for each observation type of its system, and two
+/// indicators for each value.
+#[derive(Drop)]
+pub struct SatRow {
+    name: [u8; 3],
+    values: Vec<Option<i64>>,
+    flags: Vec<u8>,
+}
+
+impl Model for SatRow {
+    ghost use Rattle.crx_text.specs.Epochs.{Row};
+    ghost use Rattle.crx_rinex.specs.SatelliteLines.{IsSoundRow};
+
+    ghost Value = { Row };
+
+    ghost view = { λ row. record { name = row.name; values = row.values.items; flags = row.flags.items } };
+
+    ghost invariant = { λ row. IsSoundRow (record { name = row.name; values = row.values.items; flags = row.flags.items }) };
+}
+
+impl SatRow {
+    /// Reads a satellite line, with the counts of types that the header declared (RINEX 3.05, table A3).
+    ///
+    /// `BadSatellite` comes where columns 1 to 3 hold no identifier (a letter that has types, a digit or a blank,
+    /// a digit); then `OutOfMemory`; then `BadField` where a field is neither blank nor a number of format F14.3,
+    /// or something stands behind the last cell; then `BadFlags` where an indicator is outside the characters 32
+    /// to 126, or is `&`.
+    pub fn read(alloc: Global, types: &Types, line: &[u8]) -> Result<SatRow, Fault>
+        ensures ok { IfOk result (λ row. row_of types.now line.now ≡ Ok row) }
+        ensures sound { IfOk result IsSoundRow }
+        ensures err { IfErr result (λ fault. (row_of types.now line.now ≡ Err fault)
+            ⊎ ((fault ≡ Fault.OutOfMemory) × (is_some (types_of_satellite types.now line.now) ≡ true))) }
+    {
+        let Some(m) = types_of_satellite(types, line) else {
+            return Err(Fault::BadSatellite);
+        };
+        let cells = Cells::read(alloc, line, m)?;
+        if !all_blank(behind(line, CELL_WIDTH * m + NAME_WIDTH)) {
+            return Err(Fault::BadField);
+        }
+        if !all_kept(&cells.flags) {
+            return Err(Fault::BadFlags);
+        }
+        Ok(SatRow {
+            name: padded(line, 1),
+            values: cells.values,
+            flags: cells.flags,
+        })
+    }
+
+    /// A row of m missing values, with blank indicators. `OutOfMemory` is its one refusal.
+    pub fn blank(alloc: Global, name: [u8; NAME_WIDTH], m: usize) -> Result<SatRow, Fault>
+        requires named { is_identifier name ≡ true }
+        requires allowed { IsAllowedCount m }
+        ensures { MatchResult result (λ row. row ≡ blank_row name m) (λ fault. fault ≡ Fault.OutOfMemory) }
+    {
+        let Ok(values) = vec![in alloc; None; m] else {
+            return Err(Fault::OutOfMemory);
+        };
+        let Ok(flags) = vec![in alloc; b' '; 2 * m] else {
+            return Err(Fault::OutOfMemory);
+        };
+        Ok(SatRow {
+            name,
+            values,
+            flags,
+        })
+    }
+
+    /// The identifier: the system's letter and the satellite's number.
+    pub fn name(&self) -> [u8; 3]
+        ensures value { result ≡ self.now.name }
+        ensures sound { IsSoundRow self.now }
+    {
+        self.name
+    }
+
+    /// The value of type k, from 0, in thousandths of its unit: `Some(None)` where the observation is missing,
+    /// `None` from the count of types on.
+    pub fn value(&self, k: usize) -> Option<Option<i64>>
+        ensures value { result ≡ slice_get self.now.values k }
+        ensures sound { IsSoundRow self.now }
+    {
+        self.values.get(k).copied()
+    }
+
+    /// The indicators, two for each type: loss of lock and signal strength.
+    pub fn flags(&self) -> &[u8]
+        ensures value { result.now ≡ self.now.flags }
+        ensures sound { IsSoundRow self.now }
+    {
+        &self.flags
+    }
+
+    /// Replaces the value of type k, from 0.
+    pub fn set(&mut self, k: usize, value: Option<i64>)
+        requires within { k < length self.old.values }
+        requires ranged { ForSome value IsObservation }
+        ensures value { self.new ≡ with_value self.old k value }
+    {
+        self.values[k] = value;
+    }
+
+    /// Replaces the indicators: those past the given ones become blank.
+    pub fn set_flags(&mut self, flags: &[u8])
+        requires fitting { length flags.now ≤ 2 * length self.old.values }
+        requires kept { list_all is_kept flags.now ≡ true }
+        ensures value { self.new ≡ with_flags self.old flags.now }
+    {
+        put_flags(&mut self.flags, flags);
+    }
+
+    /// Replaces a text by the printed satellite line, without blanks at its end.
+    pub fn print(&self, text: &mut Text)
+        ensures value { text.new ≡ printed_row self.now }
+        ensures sound { IsSoundRow self.now }
+    {
+        let mut line = Text::new();
+        let _ = line.extend(&self.name);
+        print_cells(&self.values, &self.flags, &mut line);
+        put_trimmed(text, &line);
+    }
+}
+
+/// The values and the indicators of a satellite line.
+#[derive(Drop)]
+struct Cells {
+    values: Vec<Option<i64>>,
+    flags: Vec<u8>,
+}
+
+impl Cells {
+    /// Reads the cells of m types. `BadField` comes at the first field that is neither blank nor a number.
+    fn read(alloc: Global, line: &[u8], m: usize) -> Result<Cells, Fault>
+        requires { m ≤ TYPES_LIMIT }
+        ensures ok { IfOk result (λ cells. values_in m line.now ≡ Some cells.values.items) }
+        ensures ranged { IfOk result (λ cells. All IsValue cells.values.items) }
+        ensures values { IfOk result (λ cells. length cells.values.items ≡ m) }
+        ensures flags { IfOk result (λ cells. cells.flags.items ≡ flags_in m line.now) }
+        ensures pairs { IfOk result (λ cells. length cells.flags.items ≡ 2 * m) }
+        ensures err { IfErr result (λ fault. ((fault ≡ Fault.BadField) × (values_in m line.now ≡ None)) ⊎ (fault ≡ Fault.OutOfMemory)) }
+    {
+        let Ok(mut values) = Vec::with_capacity(alloc, m) else {
+            return Err(Fault::OutOfMemory);
+        };
+        let Ok(mut flags) = Vec::with_capacity(alloc, 2 * m) else {
+            return Err(Fault::OutOfMemory);
+        };
+        for k in 0..m {
+            let Some(value) = observation(line, k) else {
+                return Err(Fault::BadField);
+            };
+            let Ok(()) = values.push(value) else {
+                return Err(Fault::OutOfMemory);
+            };
+            let Ok(()) = flags.push(character(line, CELL_WIDTH * k + 18)) else {
+                return Err(Fault::OutOfMemory);
+            };
+            let Ok(()) = flags.push(character(line, CELL_WIDTH * k + 19)) else {
+                return Err(Fault::OutOfMemory);
+            };
+        }
+        Ok(Cells { values, flags })
+    }
+}
+
+/// How many types the satellite of a line has, where the line begins with an identifier of a system with types.
+fn types_of_satellite(types: &Types, line: &[u8]) -> Option<usize>
+    ensures value { result ≡ types_of_satellite types.now line.now }
+    ensures allowed { IfSome result IsAllowedCount }
+    ensures named { OnSome result (is_identifier (columns line.now 1 3) ≡ true) }
+{
+    if has_number(line) {
+        types.count(character(line, 1))
+    } else {
+        None
+    }
+}
+
+/// Whether columns 2 and 3 go on with an identifier: a digit or a blank, and a digit.
+fn has_number(line: &[u8]) -> bool
+    ensures { result ≡ has_number line.now }
+{
+    let tens = character(line, 2);
+    (tens.is_ascii_digit() || tens == b' ') && character(line, 3).is_ascii_digit()
+}
+
+/// The value of type k, from 0; `None` where its field is neither blank nor a number of format F14.3.
+fn observation(line: &[u8], k: usize) -> Option<Option<i64>>
+    requires { k < TYPES_LIMIT }
+    ensures value { result ≡ observation_of (field line.now k) }
+    ensures ranged { IfSome result IsValue }
+{
+    let start = CELL_WIDTH * k + NAME_WIDTH;
+    let end = start + OBSERVATION_WIDTH;
+    if line.len() <= start {
+        return Some(None);
+    }
+    if end <= line.len() {
+        obs_read(&line[start..end]).ok()
+    } else {
+        obs_read(&padded::<OBSERVATION_WIDTH>(line, start + 1)).ok()
+    }
+}
+
+/// Puts indicators in place of held ones, and blanks in place of those behind them.
+fn put_flags(held: &mut [u8], flags: &[u8])
+    requires { length flags.now ≤ length held.old }
+    ensures { held.new ≡ flags.now ++ replicate (length held.old - length flags.now) 32 }
+{
+    held[..flags.len()].copy_from_slice(flags);
+    held[flags.len()..].fill(b' ');
+}
+
+/// Appends cells: each value in its columns, and its two indicators.
+fn print_cells(values: &[Option<i64>], flags: &[u8], text: &mut Text)
+    requires ranged { All IsValue values.now }
+    requires paired { length flags.now ≡ 2 * length values.now }
+    requires fitting { length text.old + CELL_WIDTH * length values.now ≤ LINE_LIMIT }
+    ensures value { text.new ≡ text.old ++ printed_cells values.now flags.now }
+{
+    for k in 0..values.len() {
+        let mut field = [b' '; OBSERVATION_WIDTH];
+        obs_print(values[k], &mut field);
+        let _ = text.extend(&field);
+        let _ = text.extend(&flags[2 * k..2 * k + 2]);
+    }
+}

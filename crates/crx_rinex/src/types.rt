@@ -1,0 +1,111 @@
+//! The observation types of the satellite systems. RINEX 3.05, table A2, `SYS / # / OBS TYPES`.
+
+ghost use Rattle.std.specs.Prelude.{◌≡◌, ◌≤◌, ◌⊎◌, ℕ, List, [], ◌∷◌, ◌++◌, Some, true, false, is_some, OnOk, OnErr, IfOk, IfErr, IfSome, OnSome, slice_get};
+ghost use Rattle.crx_rinex.specs.ObservationTypes.{count_of, count_in, count_of_types_line, is_bad_types_line, is_system, is_types_line, types_of, with_line, IsAllowedCount};
+
+use crate::columns::{character, is_labelled, number};
+use crx_text::Fault;
+use crx_text::limits::TYPES_LIMIT;
+use indexmap::IndexMap;
+use std::alloc::Global;
+use std::marker::Model;
+
+/// How many observation types each satellite system has, the systems in the order in which their letters
+/// first appeared.
+#[derive(Drop)]
+pub struct Types {
+    counts: IndexMap<u8, usize>,
+}
+
+impl Model for Types {
+    ghost use Rattle.crx_rinex.specs.ObservationTypes.{Count, AreCounts};
+    ghost use Rattle.std.specs.Prelude.{List};
+
+    ghost Value = { List Count };
+
+    ghost view = { λ types. types.counts.entries };
+
+    ghost invariant = { λ types. AreCounts types.counts.entries };
+}
+
+impl Types {
+    /// No types.
+    pub fn new(alloc: Global) -> Types
+        ensures { result ≡ [] }
+    {
+        Types {
+            counts: IndexMap::new(alloc),
+        }
+    }
+
+    /// Takes in a line. A line with the label `SYS / # / OBS TYPES` and a letter in column 1 (RINEX 3.05,
+    /// table A2) replaces the count of its system; any other line, a continuation too, changes nothing.
+    ///
+    /// `BadTypesLine` comes where column 1 of such a line is the letter of no system, or columns 4 to 6 hold
+    /// no count from 1 to the limit; `OutOfMemory` only where such a line was good. After either the types are
+    /// as they were.
+    pub fn accept_line(&mut self, line: &[u8]) -> Result<(), Fault>
+        // Types are what the accepted lines declare.
+        ensures declared { (lines : List (List ℕ)) → self.old ≡ types_of lines
+            → OnOk result (self.new ≡ types_of (lines ++ line.now ∷ [])) }
+        ensures ok { OnOk result (self.new ≡ with_line self.old line.now) }
+        ensures good { OnOk result (is_bad_types_line line.now ≡ false) }
+        ensures bad { IfErr result (λ fault.
+            ((fault ≡ Fault.BadTypesLine) × (is_bad_types_line line.now ≡ true))
+            ⊎ ((fault ≡ Fault.OutOfMemory) × (is_some (count_of_types_line line.now) ≡ true))) }
+        ensures err { OnErr result (self.new ≡ self.old) }
+    {
+        if !is_types_line(line) {
+            return Ok(());
+        }
+        let Some((letter, count)) = count_in(line) else {
+            return Err(Fault::BadTypesLine);
+        };
+        let Ok(_) = self.counts.insert(letter, count) else {
+            return Err(Fault::OutOfMemory);
+        };
+        Ok(())
+    }
+
+    /// How many types a system has, by its letter.
+    pub fn count(&self, letter: u8) -> Option<usize>
+        ensures value { result ≡ count_of self.now letter }
+        ensures allowed { IfSome result IsAllowedCount }
+        ensures system { OnSome result (is_system letter ≡ true) }
+    {
+        self.counts.get(&letter).copied()
+    }
+
+    /// The letter of the system that appeared at this place, from 0, and how many types it has.
+    pub fn entry(&self, index: usize) -> Option<(u8, usize)>
+        ensures value { result ≡ slice_get self.now index }
+        ensures allowed { IfSome result (λ entry. IsAllowedCount entry.1) }
+    {
+        let (letter, count) = self.counts.get_index(index)?;
+        Some((*letter, *count))
+    }
+}
+
+/// Whether a line begins the list of a system's types. Where column 1 is blank it goes on with one.
+fn is_types_line(line: &[u8]) -> bool
+    ensures { result ≡ is_types_line line.now }
+{
+    is_labelled(line, b"SYS / # / OBS TYPES") && character(line, 1) != b' '
+}
+
+/// What a types line says: the letter in column 1 and the count in columns 4 to 6.
+fn count_in(line: &[u8]) -> Option<(u8, usize)>
+    ensures { result ≡ count_in line.now }
+{
+    let letter = character(line, 1);
+    let count = number(line, 4)?;
+    let is_allowed = is_system(letter) && 1 <= count && count <= TYPES_LIMIT;
+    is_allowed.then_some((letter, count))
+}
+
+/// Whether a letter is that of a system: GPS, GLONASS, Galileo, QZSS, BDS, NavIC/IRNSS, SBAS.
+fn is_system(letter: u8) -> bool
+    ensures { result ≡ is_system letter }
+{
+    b"GREJCIS".contains(&letter)
+}
