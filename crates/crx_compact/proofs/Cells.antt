@@ -1,0 +1,112 @@
+-- The cells of a satellite line are read back from it.
+use Rattle.std.specs.Prelude.{◌≡◌, refl, ℕ, Bool, true, false, ◌&&◌, List, [], ◌∷◌, ◌++◌, length, map, flat_map, if◌then◌else◌}
+use Rattle.std.specs.List.{list_all, AllByRecursion}
+use Rattle.std.proofs.Common.{sym, ◌∙◌, ap, arith}
+use Rattle.std.proofs.lemmas.List.{append_assoc}
+use Rattle.crx_text.specs.Columns.{is_blank, before_end_blanks, without_end_blanks}
+use Rattle.crx_text.specs.declared.code.Code.{Code}
+use Rattle.crx_text.specs.Codes.{code_text}
+use Rattle.crx_compact.specs.Compaction.{cell_text}
+use Rattle.crx_compact.specs.Places.{first_cell, behind_cell, cells_of, behind_cells}
+use Rattle.crx_compact.proofs.CodeTexts.{is_code_character}
+
+-- ---- blanks at a line's end do not change its cells
+
+before-blank : (c : ℕ) → is_blank c ≡ true → before_end_blanks c [] ≡ []
+before-blank c h = ap (λ b. if b then [] else c ∷ []) h
+
+before-other : (c : ℕ) (rest : List ℕ) → is_blank c ≡ false → before_end_blanks c rest ≡ c ∷ rest
+before-other c [] h = ap (λ b. if b then [] else c ∷ []) h
+before-other c (d ∷ ds) h = refl
+
+first_cell-blank : (c : ℕ) (cs : List ℕ) → is_blank c ≡ true → first_cell (c ∷ cs) ≡ []
+first_cell-blank c cs h = ap (λ b. if b then [] else c ∷ first_cell cs) h
+
+first_cell-other : (c : ℕ) (cs : List ℕ) → is_blank c ≡ false → first_cell (c ∷ cs) ≡ c ∷ first_cell cs
+first_cell-other c cs h = ap (λ b. if b then [] else c ∷ first_cell cs) h
+
+behind_cell-blank : (c : ℕ) (cs : List ℕ) → is_blank c ≡ true → behind_cell (c ∷ cs) ≡ cs
+behind_cell-blank c cs h = ap (λ b. if b then cs else behind_cell cs) h
+
+behind_cell-other : (c : ℕ) (cs : List ℕ) → is_blank c ≡ false → behind_cell (c ∷ cs) ≡ behind_cell cs
+behind_cell-other c cs h = ap (λ b. if b then cs else behind_cell cs) h
+
+-- what a kept or dropped blank leaves of a cell
+first-before_blank : (c : ℕ) (rest : List ℕ) → is_blank c ≡ true → first_cell (before_end_blanks c rest) ≡ []
+first-before_blank c [] h = ap first_cell (before-blank c h)
+first-before_blank c (d ∷ ds) h = first_cell-blank c (d ∷ ds) h
+
+behind-before_blank : (c : ℕ) (rest : List ℕ) → is_blank c ≡ true → behind_cell (before_end_blanks c rest) ≡ rest
+behind-before_blank c [] h = ap behind_cell (before-blank c h)
+behind-before_blank c (d ∷ ds) h = behind_cell-blank c (d ∷ ds) h
+
+pub first_cell-trimmed : (line : List ℕ) → first_cell (without_end_blanks line) ≡ first_cell line
+first_cell-trimmed [] = refl
+first_cell-trimmed (c ∷ cs) =
+    elim (is_blank c) as (λ b. is_blank c ≡ b → first_cell (without_end_blanks (c ∷ cs)) ≡ first_cell (c ∷ cs)) [
+      | true ↦ λ h. first-before_blank c (without_end_blanks cs) h ∙ sym (first_cell-blank c cs h)
+      | false ↦ λ h. ap first_cell (before-other c (without_end_blanks cs) h) ∙ first_cell-other c (without_end_blanks cs) h
+          ∙ ap (λ r. c ∷ r) (first_cell-trimmed cs) ∙ sym (first_cell-other c cs h)
+    ] refl
+
+pub behind_cell-trimmed : (line : List ℕ) → behind_cell (without_end_blanks line) ≡ without_end_blanks (behind_cell line)
+behind_cell-trimmed [] = refl
+behind_cell-trimmed (c ∷ cs) =
+    elim (is_blank c) as (λ b. is_blank c ≡ b → behind_cell (without_end_blanks (c ∷ cs)) ≡ without_end_blanks (behind_cell (c ∷ cs))) [
+      | true ↦ λ h. behind-before_blank c (without_end_blanks cs) h ∙ sym (ap without_end_blanks (behind_cell-blank c cs h))
+      | false ↦ λ h. ap behind_cell (before-other c (without_end_blanks cs) h) ∙ behind_cell-other c (without_end_blanks cs) h
+          ∙ behind_cell-trimmed cs ∙ sym (ap without_end_blanks (behind_cell-other c cs h))
+    ] refl
+
+-- ---- the cells of written codes
+
+not_blank : (c : ℕ) (b : Bool) → (is_code_character c && b) ≡ true → is_blank c ≡ false
+not_blank c b h = grind (arith, h)
+
+rest_of : (a b : Bool) → (a && b) ≡ true → b ≡ true
+rest_of true b h = h
+rest_of false b h = grind (arith, h)
+
+first_cell-text : (text rest : List ℕ) → list_all is_code_character text ≡ true → first_cell (text ++ 32 ∷ rest) ≡ text
+first_cell-text [] rest h = refl
+first_cell-text (c ∷ cs) rest h =
+    first_cell-other c (cs ++ 32 ∷ rest) (not_blank c (list_all is_code_character cs) h)
+    ∙ ap (λ r. c ∷ r) (first_cell-text cs rest (rest_of (is_code_character c) (list_all is_code_character cs) h))
+
+behind_cell-text : (text rest : List ℕ) → list_all is_code_character text ≡ true → behind_cell (text ++ 32 ∷ rest) ≡ rest
+behind_cell-text [] rest h = refl
+behind_cell-text (c ∷ cs) rest h =
+    behind_cell-other c (cs ++ 32 ∷ rest) (not_blank c (list_all is_code_character cs) h)
+    ∙ behind_cell-text cs rest (rest_of (is_code_character c) (list_all is_code_character cs) h)
+
+-- the texts of codes hold no blanks
+abbrev pub AreWritten : List Code → Type 0
+AreWritten codes = AllByRecursion (λ (c : Code). list_all is_code_character (code_text c) ≡ true) codes
+
+pub one_cell : (c : Code) (cs : List Code) (marks : List ℕ)
+    → flat_map cell_text (c ∷ cs) ++ marks ≡ code_text c ++ 32 ∷ (flat_map cell_text cs ++ marks)
+one_cell c cs marks =
+    append_assoc (code_text c ++ 32 ∷ []) (flat_map cell_text cs) marks
+    ∙ append_assoc (code_text c) (32 ∷ []) (flat_map cell_text cs ++ marks)
+
+pub cells-written : (codes : List Code) (marks : List ℕ) → AreWritten codes
+    → cells_of (length codes) (without_end_blanks (flat_map cell_text codes ++ marks)) ≡ map code_text codes
+cells-written [] marks h = refl
+cells-written (c ∷ cs) marks h =
+    let line : List ℕ = flat_map cell_text (c ∷ cs) ++ marks in
+    let first : first_cell (without_end_blanks line) ≡ code_text c =
+    first_cell-trimmed line ∙ ap first_cell (one_cell c cs marks) ∙ first_cell-text (code_text c) (flat_map cell_text cs ++ marks) h.0 in
+    let behind : behind_cell (without_end_blanks line) ≡ without_end_blanks (flat_map cell_text cs ++ marks) =
+    behind_cell-trimmed line ∙ ap without_end_blanks (ap behind_cell (one_cell c cs marks) ∙ behind_cell-text (code_text c) (flat_map cell_text cs ++ marks) h.0) in
+    ap (λ t. t ∷ cells_of (length cs) (behind_cell (without_end_blanks line))) first
+    ∙ ap (λ r. code_text c ∷ cells_of (length cs) r) behind
+    ∙ ap (λ r. code_text c ∷ r) (cells-written cs marks h.1)
+
+pub marks-written : (codes : List Code) (marks : List ℕ) → AreWritten codes
+    → behind_cells (length codes) (without_end_blanks (flat_map cell_text codes ++ marks)) ≡ without_end_blanks marks
+marks-written [] marks h = refl
+marks-written (c ∷ cs) marks h =
+    let line : List ℕ = flat_map cell_text (c ∷ cs) ++ marks in
+    let behind : behind_cell (without_end_blanks line) ≡ without_end_blanks (flat_map cell_text cs ++ marks) =
+    behind_cell-trimmed line ∙ ap without_end_blanks (ap behind_cell (one_cell c cs marks) ∙ behind_cell-text (code_text c) (flat_map cell_text cs ++ marks) h.0) in
+    ap (behind_cells (length cs)) behind ∙ marks-written cs marks h.1

@@ -1,0 +1,167 @@
+-- No line that is written for an epoch is too long.
+use Rattle.std.specs.Prelude.{◌≡◌, refl, ℕ, zero, suc, ◌+◌, ◌-◌, ◌*◌, ◌^◌, ◌<◌, ◌≤◌, min, ℤ, pos, negsuc, Bool, true, false, ◌||◌, nat_le, List, [], ◌∷◌, ◌++◌, length, map, flat_map, decimal, Option, Some, None, if◌then◌else◌}
+use Rattle.std.specs.Fmt.{signed_decimal}
+use Rattle.std.specs.Option.{option_and_then, is_some, unwrap_or}
+use Rattle.std.specs.List.{list_any, AllByRecursion}
+use Rattle.std.proofs.Common.{sym, ◌∙◌, ap, arith, true≢false}
+use Rattle.std.proofs.lemmas.Int.{ints}
+use Rattle.std.proofs.lemmas.Fmt.{length-decimal-le}
+use Rattle.std.proofs.lemmas.List.{length-append}
+use Rattle.std.proofs.Math.Nat.{pow-le-pow_right}
+use Rattle.crx_text.specs.Columns.{columns, without_end_blanks}
+use Rattle.crx_text.specs.Texts.{by_position, mark_of, text_difference}
+use Rattle.crx_text.specs.Codes.{code_text}
+use Rattle.crx_text.specs.Epochs.{Row, Epoch}
+use Rattle.crx_text.specs.declared.code.Code.{Code}
+use Rattle.crx_text.specs.declared.limits.TheConstants.{WRITTEN_ORDER, DIGITS_LIMIT, LINE_LIMIT, TYPES_LIMIT, SATELLITES_LIMIT, OBSERVATION_WIDTH, CLOCK_WIDTH}
+use Rattle.crx_compact.specs.Differences.{difference, code_at}
+use Rattle.crx_compact.specs.Compaction.{Marked, epoch_text, since_full, run_of, value_in, arc_of, clock_arc, newest_text, indicators_before, cell_text, codes_of, satellite_line, epoch_line, compact_epoch}
+use Rattle.crx_compact.specs.EpochText.{number_in, count_within_limit, satellites_in}
+use Rattle.crx_compact.specs.Places.{is_too_long}
+use Rattle.crx_compact.specs.Laws.{IsRow, IsEpoch}
+use Rattle.crx_compact.proofs.CodeTexts.{order-text}
+use Rattle.crx_compact.proofs.Bounds.{IsNear, doubled, doubled-more, difference-near, near-more}
+use Rattle.crx_compact.proofs.Runs.{marked}
+use Rattle.crx_compact.proofs.Rows.{IsRowOf, run-rows, stretch-near, values-fit, clocks-fit, each_place-all, length-each_place}
+use Rattle.crx_compact.proofs.Facts.{length-trimmed, length-text, head_tests}
+
+-- ---- numbers and codes
+
+signed-length : (k b : ℕ) (z : ℤ) → 0 < k → k ≤ DIGITS_LIMIT → b < 10 ^ k → IsNear b z → length (signed_decimal z) ≤ k + 1
+signed-length k b (pos n) some few h near =
+    let less : n < 10 ^ k = omega (arith, ints, near.high, h) in
+    let wide : 10 ^ k ≤ 10 ^ DIGITS_LIMIT = pow-le-pow_right (omega arith) few in
+    let len : length (decimal n) ≤ k = length-decimal-le k n some less (omega (arith, less, wide)) in
+    omega (arith, len)
+signed-length k b (negsuc n) some few h near =
+    let less : suc n < 10 ^ k = omega (arith, ints, near.low, h) in
+    let wide : 10 ^ k ≤ 10 ^ DIGITS_LIMIT = pow-le-pow_right (omega arith) few in
+    let len : length (decimal (suc n)) ≤ k = length-decimal-le k (suc n) some less (omega (arith, less, wide)) in
+    omega (arith, len)
+
+-- a code of an arc within a bound of so many digits
+pub code-length : (k b : ℕ) (xs : List ℤ) → 0 < k → k ≤ DIGITS_LIMIT → doubled WRITTEN_ORDER b < 10 ^ k → AllByRecursion (IsNear b) xs
+    → length (code_text (code_at WRITTEN_ORDER xs)) ≤ k + 3
+code-length k b [] some few h near = omega arith
+code-length k b (x ∷ []) some few h near =
+    let le : b ≤ doubled WRITTEN_ORDER b = doubled-more 0 WRITTEN_ORDER b (omega arith) in
+    let number : length (signed_decimal x) ≤ k + 1 = signed-length k b x some few (omega (arith, h, le)) near.0 in
+    let all : length (decimal WRITTEN_ORDER ++ 38 ∷ signed_decimal x) ≡ length ((48 + WRITTEN_ORDER) ∷ 38 ∷ signed_decimal x) =
+    ap (λ t. length (t ++ 38 ∷ signed_decimal x)) (order-text WRITTEN_ORDER (omega arith)) in
+    omega (arith, number, all)
+code-length k b (x ∷ y ∷ ys) some few h near =
+    let order : ℕ = min (length (y ∷ ys)) WRITTEN_ORDER in
+    let le : doubled order b ≤ doubled WRITTEN_ORDER b = doubled-more order WRITTEN_ORDER b (omega arith) in
+    let step : IsNear (doubled WRITTEN_ORDER b) (difference order (x ∷ y ∷ ys)) =
+    near-more (doubled order b) (doubled WRITTEN_ORDER b) (difference order (x ∷ y ∷ ys)) le (difference-near order b (x ∷ y ∷ ys) near) in
+    let number : length (signed_decimal (difference order (x ∷ y ∷ ys))) ≤ k + 1 =
+    signed-length k (doubled WRITTEN_ORDER b) (difference order (x ∷ y ∷ ys)) some few h step in
+    omega (arith, number)
+
+-- ---- texts
+
+by_position-length : (f : ℕ → ℕ → ℕ) (n : ℕ) (as' bs : List ℕ) → length as' ≤ n → length bs ≤ n → length (by_position f as' bs) ≤ n
+by_position-length f n [] [] h k = omega arith
+by_position-length f zero (a ∷ as') bs h k = absurd (omega (arith, h))
+by_position-length f zero [] (b ∷ bs) h k = absurd (omega (arith, k))
+by_position-length f (suc n) (a ∷ as') [] h k = let le : length (by_position f as' []) ≤ n = by_position-length f n as' [] (omega (arith, h)) (omega arith) in omega (arith, le)
+by_position-length f (suc n) [] (b ∷ bs) h k = let le : length (by_position f [] bs) ≤ n = by_position-length f n [] bs (omega arith) (omega (arith, k)) in omega (arith, le)
+by_position-length f (suc n) (a ∷ as') (b ∷ bs) h k = let le : length (by_position f as' bs) ≤ n = by_position-length f n as' bs (omega (arith, h)) (omega (arith, k)) in omega (arith, le)
+
+pub difference-length : (n : ℕ) (old new : List ℕ) → length old ≤ n → length new ≤ n → length (text_difference old new) ≤ n
+difference-length n old new h k =
+    let trimmed : length (text_difference old new) ≤ length (by_position mark_of old new) = length-trimmed (by_position mark_of old new) in
+    let whole : length (by_position mark_of old new) ≤ n = by_position-length mark_of n old new h k in
+    omega (arith, trimmed, whole)
+
+pub cells-length : (n : ℕ) (codes : List Code) → AllByRecursion (λ (c : Code). length (code_text c) ≤ n) codes → length (flat_map cell_text codes) ≤ (n + 1) * length codes
+cells-length n [] h = omega arith
+cells-length n (c ∷ cs) h =
+    let one : length (code_text c ++ 32 ∷ []) ≡ length (code_text c) + 1 = length-append (code_text c) (32 ∷ []) in
+    let all : length (flat_map cell_text (c ∷ cs)) ≡ length (code_text c ++ 32 ∷ []) + length (flat_map cell_text cs) = length-append (code_text c ++ 32 ∷ []) (flat_map cell_text cs) in
+    let rest : length (flat_map cell_text cs) ≤ (n + 1) * length cs = cells-length n cs h.1 in
+    omega (arith, one, all, rest, h.0)
+
+-- ---- counts of satellites
+
+within_limit : (o : Option ℕ) (n : ℕ) → option_and_then count_within_limit o ≡ Some n → n ≤ SATELLITES_LIMIT
+within_limit None n h = absurd (true≢false (sym (ap is_some h)))
+within_limit (Some k) n h = limited (nat_le k SATELLITES_LIMIT) k n refl h
+  where
+    limited : (b : Bool) (k n : ℕ) → nat_le k SATELLITES_LIMIT ≡ b → (if b then Some k else None) ≡ Some n → n ≤ SATELLITES_LIMIT
+    limited true k n e h =
+        let same : k ≡ n = ap (λ o. unwrap_or o 0) h in
+        let less : k ≤ SATELLITES_LIMIT = grind (arith, e) in
+        omega (arith, same, less)
+    limited false k n e h = absurd (true≢false (sym (ap is_some h)))
+
+pub few-satellites : (types : List (ℕ × ℕ)) (e : Epoch) → IsEpoch types e → length e.rows ≤ SATELLITES_LIMIT
+few-satellites types e h =
+    within_limit (number_in (columns e.head 33 3)) (length e.rows)
+    (sym (ap {B = Option ℕ} (λ b. if b then satellites_in e.head else None) (head_tests types e h)) ∙ h.head_counted)
+
+pub text-short : (types : List (ℕ × ℕ)) (e : Epoch) → IsEpoch types e → length (epoch_text e) ≤ 41 + 3 * SATELLITES_LIMIT
+text-short types e h =
+    let all : length (epoch_text e) ≡ 41 + 3 * length e.rows = length-text types e h in
+    let few : length e.rows ≤ SATELLITES_LIMIT = few-satellites types e h in
+    omega (arith, all, few)
+
+-- ---- lines
+
+pub not_long : (line : List ℕ) → length line ≤ LINE_LIMIT → is_too_long line ≡ false
+not_long line h = grind (arith, h)
+
+before-length : (types : List (ℕ × ℕ)) (name : List ℕ) (run : List Row) → AllByRecursion (IsRowOf types name) run → length (indicators_before run) ≤ 2 * TYPES_LIMIT
+before-length types name [] h = omega arith
+before-length types name (r ∷ []) h = omega arith
+before-length types name (r ∷ q ∷ qs) h = omega (arith, h.1.0.is_row.flags_length, h.1.0.is_row.few_values)
+
+row-short : (types : List (ℕ × ℕ)) (name : List ℕ) (run : List Row) (r : Row) → AllByRecursion (IsRowOf types name) run → IsRow types r
+    → is_too_long (satellite_line run r) ≡ false
+row-short types name run r h k =
+    let codes : List Code = codes_of (length r.values) run in
+    let marks : List ℕ = text_difference (indicators_before run) r.flags in
+    let each : AllByRecursion (λ (c : Code). length (code_text c) ≤ OBSERVATION_WIDTH + 3) codes =
+    each_place-all (λ (c : Code). length (code_text c) ≤ OBSERVATION_WIDTH + 3) (length r.values) (λ j. code_at WRITTEN_ORDER (arc_of j run)) (λ j.
+    code-length OBSERVATION_WIDTH (10 ^ (OBSERVATION_WIDTH - 1)) (arc_of j run) (omega arith) (omega arith) (omega arith)
+    (stretch-near OBSERVATION_WIDTH (map (value_in j) run) (values-fit types name j run h))) in
+    let count : length codes ≡ length r.values = length-each_place (length r.values) (λ j. code_at WRITTEN_ORDER (arc_of j run)) in
+    let cells : length (flat_map cell_text codes) ≤ (OBSERVATION_WIDTH + 3 + 1) * length codes = cells-length (OBSERVATION_WIDTH + 3) codes each in
+    let tail : length marks ≤ 2 * TYPES_LIMIT =
+    difference-length (2 * TYPES_LIMIT) (indicators_before run) r.flags (before-length types name run h) (omega (arith, k.flags_length, k.few_values)) in
+    let all : length (flat_map cell_text codes ++ marks) ≡ length (flat_map cell_text codes) + length marks = length-append (flat_map cell_text codes) marks in
+    let trimmed : length (without_end_blanks (flat_map cell_text codes ++ marks)) ≤ length (flat_map cell_text codes ++ marks) = length-trimmed (flat_map cell_text codes ++ marks) in
+    not_long (satellite_line run r) (omega (arith, count, cells, tail, all, trimmed, k.few_values))
+
+rows-short : (types : List (ℕ × ℕ)) (ms : List Marked) (rows : List Row) → AllByRecursion (IsEpoch types) (since_full ms) → AllByRecursion (IsRow types) rows
+    → list_any is_too_long (map (λ (r : Row). satellite_line (run_of r.name ms) r) rows) ≡ false
+rows-short types ms [] h k = refl
+rows-short types ms (r ∷ rs) h k =
+    ap (λ b. b || list_any is_too_long (map (λ (q : Row). satellite_line (run_of q.name ms) q) rs)) (row-short types r.name (run_of r.name ms) r (run-rows types r.name (since_full ms) h) k.0)
+    ∙ rows-short types ms rs h k.1
+
+clock-short : (types : List (ℕ × ℕ)) (ms : List Marked) → AllByRecursion (IsEpoch types) (since_full ms)
+    → is_too_long (code_text (code_at WRITTEN_ORDER (clock_arc ms))) ≡ false
+clock-short types ms h =
+    let len : length (code_text (code_at WRITTEN_ORDER (clock_arc ms))) ≤ CLOCK_WIDTH + 3 =
+    code-length CLOCK_WIDTH (10 ^ (CLOCK_WIDTH - 1)) (clock_arc ms) (omega arith) (omega arith) (omega arith)
+    (stretch-near CLOCK_WIDTH (map (λ (e : Epoch). e.clock) (since_full ms)) (clocks-fit types (since_full ms) h)) in
+    not_long (code_text (code_at WRITTEN_ORDER (clock_arc ms))) (omega (arith, len))
+
+old-short : (types : List (ℕ × ℕ)) (full : Bool) (e : Epoch) (older : List Marked) → AllByRecursion (IsEpoch types) (since_full (marked full e ∷ older))
+    → length (if full then [] else newest_text older) ≤ 41 + 3 * SATELLITES_LIMIT
+old-short types true e older h = omega arith
+old-short types false e [] h = omega arith
+old-short types false e (m ∷ older) h = text-short types m.epoch h.1.0
+
+-- none of the compact lines of an epoch is too long
+pub lines-short : (types : List (ℕ × ℕ)) (full : Bool) (e : Epoch) (older : List Marked) → AllByRecursion (IsEpoch types) (since_full (marked full e ∷ older))
+    → list_any is_too_long (compact_epoch (marked full e ∷ older)) ≡ false
+lines-short types full e older h =
+    let ms : List Marked = marked full e ∷ older in
+    let line : length (epoch_line (marked full e) older) ≤ 41 + 3 * SATELLITES_LIMIT =
+    difference-length (41 + 3 * SATELLITES_LIMIT) (if full then [] else newest_text older) (epoch_text e) (old-short types full e older h) (text-short types e h.0) in
+    let first : is_too_long (epoch_line (marked full e) older) ≡ false = not_long (epoch_line (marked full e) older) (omega (arith, line)) in
+    ap (λ b. b || list_any is_too_long (code_text (code_at WRITTEN_ORDER (clock_arc ms)) ∷ map (λ (r : Row). satellite_line (run_of r.name ms) r) e.rows)) first
+    ∙ ap (λ b. b || list_any is_too_long (map (λ (r : Row). satellite_line (run_of r.name ms) r) e.rows)) (clock-short types ms h)
+    ∙ rows-short types ms e.rows h h.0.rows_are

@@ -1,0 +1,16 @@
+pub mod Weights
+pub mod Inversion
+pub mod Overlays
+pub mod Stepping
+pub mod CodeTexts
+pub mod Cells
+pub mod Runs
+pub mod Bounds
+pub mod Facts
+pub mod Rows
+pub mod Reading
+pub mod Lengths
+pub mod Tailing
+pub mod RawTailing
+pub mod Soundness
+pub mod Writable

@@ -1,0 +1,265 @@
+-- Runs and arcs of what was written, as a reader finds them.
+use Rattle.std.specs.Prelude.{◌≡◌, refl, ◌≢◌, ℕ, zero, suc, ◌+◌, ◌-◌, ◌<◌, ◌≤◌, min, ℤ, Bool, true, false, cond, ◌&&◌, nat_eq, List, [], ◌∷◌, ◌++◌, length, map, slice_index_or, take, drop, replicate, Option, Some, None, Result, Ok, Err, if◌then◌else◌}
+use Rattle.std.specs.List.{AllByRecursion}
+use Rattle.std.specs.Option.{option_map}
+use Rattle.std.specs.Str.{bytes_eq}
+use Rattle.std.proofs.Common.{sym, ◌∙◌, ap, arith, not-suc-le-zero}
+use Rattle.crx_text.specs.Columns.{without_end_blanks, columns}
+use Rattle.crx_text.specs.Texts.{text_difference, mark_of, patched, by_position, character_of}
+use Rattle.crx_text.specs.Epochs.{Row, Epoch}
+use Rattle.crx_text.specs.declared.code.Code.{Code}
+use Rattle.crx_text.specs.declared.code.Code.TheVariants.{Missing}
+use Rattle.crx_text.specs.declared.fault.Fault.{Fault}
+use Rattle.crx_text.specs.declared.fault.Fault.TheVariants.{OutOfRange}
+use Rattle.crx_text.specs.declared.limits.TheConstants.{WRITTEN_ORDER}
+use Rattle.crx_compact.specs.Sequences.{back_to, stretch, each_place}
+use Rattle.crx_compact.specs.Differences.{code_at, difference}
+use Rattle.crx_compact.specs.Compaction.{Marked, epoch_text, row_named, since_full, run_of, value_in, arc_of, clock_arc, newest_text}
+use Rattle.crx_compact.specs.Expansion.{RawRow, RawEpoch, block_of, raw_row_named, raw_run_of, code_in, since_start, onto_started, in_range, value_since, value_of, overlaid}
+use Rattle.crx_compact.specs.Laws.{raw_row, raw_of, raws_of, fits, codes_of_arc}
+use Rattle.crx_compact.proofs.Inversion.{value-numbers, started-codes}
+use Rattle.crx_compact.proofs.Overlays.{at, at-without_end_blanks, at-by_position, same_characters, character-mark, overlaid-patched}
+
+-- ---- identifiers
+
+pub bytes_eq-same : (a : List ℕ) → bytes_eq a a ≡ true
+bytes_eq-same [] = refl
+bytes_eq-same (c ∷ cs) =
+    let first : nat_eq c c ≡ true = grind arith in
+    ap (λ b. b && bytes_eq cs cs) first ∙ bytes_eq-same cs
+
+pub bytes_eq-is : (a b : List ℕ) → bytes_eq a b ≡ true → a ≡ b
+bytes_eq-is [] [] h = refl
+bytes_eq-is [] (d ∷ ds) h = grind (arith, h)
+bytes_eq-is (c ∷ cs) [] h = grind (arith, h)
+bytes_eq-is (c ∷ cs) (d ∷ ds) h =
+    let first : c ≡ d = grind (arith, h) in
+    let rest : bytes_eq cs ds ≡ true = grind (arith, h) in
+    ap (λ n. n ∷ cs) first ∙ ap (λ r. d ∷ r) (bytes_eq-is cs ds rest)
+
+-- ---- the block that a reader finds
+
+-- the raw epochs since the latest full one
+abbrev pub raw_block : List Marked → List RawEpoch
+raw_block [] = []
+raw_block (m ∷ older) = raw_of m older ∷ (if m.is_full then [] else raw_block older)
+
+abbrev pub marked : Bool → Epoch → Marked
+marked is_full epoch = record { is_full = is_full; epoch = epoch }
+
+abbrev pub Begins : List Marked → Type 0
+Begins ms = AllByRecursion (λ (e : Epoch). at (epoch_text e) 0 ≡ 62) (since_full ms)
+
+first_mark : (old new : List ℕ) → at (text_difference old new) 0 ≡ mark_of (at old 0) (at new 0)
+first_mark old new = at-without_end_blanks (by_position mark_of old new) 0 ∙ at-by_position mark_of refl old new 0
+
+-- whether an epoch's line begins with >, where its text does and the one before does
+pub begins_full : (text : List ℕ) → at text 0 ≡ 62 → nat_eq (at (text_difference [] text) 0) 62 ≡ true
+begins_full text h = ap (λ c. nat_eq c 62) (first_mark [] text ∙ ap (mark_of 32) h)
+
+pub begins_later : (old new : List ℕ) → at old 0 ≡ 62 → at new 0 ≡ 62 → nat_eq (at (text_difference old new) 0) 62 ≡ false
+begins_later old new h k = ap (λ c. nat_eq c 62) (first_mark old new ∙ ap (λ c. mark_of c (at new 0)) h ∙ ap (mark_of 62) k)
+
+block-step : (full : Bool) (e : Epoch) (older : List Marked) → (Begins older → block_of (raws_of older) ≡ raw_block older)
+    → Begins (marked full e ∷ older) → block_of (raws_of (marked full e ∷ older)) ≡ raw_block (marked full e ∷ older)
+block-step true e older next h =
+    ap (λ b. raw_of (marked true e) older ∷ (if b then [] else block_of (raws_of older))) (begins_full (epoch_text e) h.0)
+block-step false e [] next h =
+    ap (λ b. raw_of (marked false e) [] ∷ (if b then [] else [])) (begins_full (epoch_text e) h.0)
+block-step false e (m ∷ older) next h =
+    ap (λ b. raw_of (marked false e) (m ∷ older) ∷ (if b then [] else block_of (raws_of (m ∷ older)))) (begins_later (epoch_text m.epoch) (epoch_text e) h.1.0 h.0)
+    ∙ ap (λ r. raw_of (marked false e) (m ∷ older) ∷ r) (next h.1)
+
+pub block-raws : (ms : List Marked) → Begins ms → block_of (raws_of ms) ≡ raw_block ms
+block-raws [] h = refl
+block-raws (m ∷ older) h = block-step m.is_full m.epoch older (block-raws older) h
+
+-- ---- runs
+
+-- how the rows of a run read
+abbrev pub raw_run : List Row → List RawRow
+raw_run [] = []
+raw_run (r ∷ rs) = raw_row (r ∷ rs) r ∷ raw_run rs
+
+raw_named_step : (b : Bool) (r : Row) (name : List ℕ) (runs : List ℕ → List Row) (found : Option RawRow) (row : Option Row)
+    → bytes_eq r.name name ≡ b → found ≡ option_map (raw_row (runs name)) row
+    → cond b (Some (raw_row (runs r.name) r)) found ≡ option_map (raw_row (runs name)) (cond b (Some r) row)
+raw_named_step true r name runs found row h e =
+    ap {B = Option RawRow} (λ n. Some (raw_row (runs n) r)) (bytes_eq-is r.name name h)
+raw_named_step false r name runs found row h e = e
+
+pub raw_named : (name : List ℕ) (runs : List ℕ → List Row) (rows : List Row)
+    → raw_row_named name (map (λ (r : Row). raw_row (runs r.name) r) rows) ≡ option_map (raw_row (runs name)) (row_named name rows)
+raw_named name runs [] = refl
+raw_named name runs (r ∷ rs) =
+    raw_named_step (bytes_eq r.name name) r name runs (raw_row_named name (map (λ (q : Row). raw_row (runs q.name) q) rs)) (row_named name rs) refl (raw_named name runs rs)
+
+abbrev rows_of : List ℕ → List Epoch → List Row
+rows_of name epochs = stretch (map (λ (e : Epoch). row_named name e.rows) epochs)
+
+run-step : (full : Bool) (name : List ℕ) (e : Epoch) (older : List Marked) (found : Option Row) → row_named name e.rows ≡ found
+    → raw_run_of name (raw_block older) ≡ raw_run (run_of name older)
+    → stretch (option_map (raw_row (run_of name (marked full e ∷ older))) found
+    ∷ map (λ (q : RawEpoch). raw_row_named name q.rows) (if full then [] else raw_block older))
+    ≡ raw_run (run_of name (marked full e ∷ older))
+run-step full name e older None h next =
+    ap (λ o. raw_run (stretch (o ∷ map (λ (q : Epoch). row_named name q.rows) (map (λ (m : Marked). m.epoch) (if full then [] else back_to (λ (m : Marked). m.is_full) older))))) (sym h)
+run-step true name e older (Some r) h next =
+    let run : run_of name (marked true e ∷ older) ≡ r ∷ [] = ap (λ (o : Option Row). stretch (o ∷ [])) h in
+    ap (λ rs. raw_row rs r ∷ []) run ∙ sym (ap raw_run run)
+run-step false name e older (Some r) h next =
+    let run : run_of name (marked false e ∷ older) ≡ r ∷ run_of name older =
+    ap (λ (o : Option Row). stretch (o ∷ map (λ (q : Epoch). row_named name q.rows) (since_full older))) h in
+    ap (λ rs. raw_row rs r ∷ raw_run_of name (raw_block older)) run
+    ∙ ap (λ rest. raw_row (r ∷ run_of name older) r ∷ rest) next
+    ∙ sym (ap raw_run run)
+
+-- a reader finds the runs that were written
+pub runs-read : (name : List ℕ) (ms : List Marked) → raw_run_of name (raw_block ms) ≡ raw_run (run_of name ms)
+runs-read name [] = refl
+runs-read name (m ∷ older) =
+    let head : raw_row_named name (raw_of m older).rows ≡ option_map (raw_row (run_of name (m ∷ older))) (row_named name m.epoch.rows) =
+    raw_named name (λ n. run_of n (m ∷ older)) m.epoch.rows in
+    ap (λ o. stretch (o ∷ map (λ (q : RawEpoch). raw_row_named name q.rows) (if m.is_full then [] else raw_block older))) head
+    ∙ run-step m.is_full name m.epoch older (row_named name m.epoch.rows) refl (runs-read name older)
+
+-- ---- arcs
+
+-- the codes of values that may be missing, each by the values up to it
+abbrev pub codes_behind : List (Option ℤ) → List Code
+codes_behind [] = []
+codes_behind (o ∷ os) = code_at WRITTEN_ORDER (stretch (o ∷ os)) ∷ codes_behind os
+
+clock-step : (full : Bool) (e : Epoch) (older : List Marked) → map (λ (q : RawEpoch). q.clock) (raw_block older) ≡ codes_behind (map (λ (q : Epoch). q.clock) (since_full older))
+    → map (λ (q : RawEpoch). q.clock) (raw_block (marked full e ∷ older)) ≡ codes_behind (map (λ (q : Epoch). q.clock) (since_full (marked full e ∷ older)))
+clock-step true e older next = refl
+clock-step false e older next = ap (λ cs. code_at WRITTEN_ORDER (clock_arc (marked false e ∷ older)) ∷ cs) next
+
+pub clocks-read : (ms : List Marked) → map (λ (q : RawEpoch). q.clock) (raw_block ms) ≡ codes_behind (map (λ (q : Epoch). q.clock) (since_full ms))
+clocks-read [] = refl
+clocks-read (m ∷ older) = clock-step m.is_full m.epoch older (clocks-read older)
+
+-- what stands at a place of a list of so many
+pub place-each : {X : Type 0} (n j : ℕ) (f : ℕ → X) (d : X) → (n ≤ j → f j ≡ d) → slice_index_or (each_place n f) j d ≡ f j
+place-each zero j f d h = sym (h (omega arith))
+place-each (suc n) zero f d h = refl
+place-each (suc n) (suc j) f d h = place-each n j (λ i. f (suc i)) d (λ le. h (omega (arith, le)))
+
+pub index_past : {X : Type 0} (xs : List X) (j : ℕ) (d : X) → length xs ≤ j → slice_index_or xs j d ≡ d
+index_past [] j d h = refl
+index_past (x ∷ xs) zero d h = absurd (not-suc-le-zero h)
+index_past (x ∷ xs) (suc j) d h = index_past xs j d (omega (arith, h))
+
+pub codes-read : (j : ℕ) (run : List Row) → map (code_in j) (raw_run run) ≡ codes_behind (map (value_in j) run)
+codes-read j [] = refl
+codes-read j (r ∷ rs) =
+    let here : code_in j (raw_row (r ∷ rs) r) ≡ code_at WRITTEN_ORDER (arc_of j (r ∷ rs)) =
+    place-each (length r.values) j (λ i. code_at WRITTEN_ORDER (arc_of i (r ∷ rs))) Missing (λ le.
+    ap (λ (o : Option ℤ). code_at WRITTEN_ORDER (stretch (o ∷ map (value_in j) rs))) (index_past r.values j None le)) in
+    ap (λ c. c ∷ map (code_in j) (raw_run rs)) here
+    ∙ ap (λ cs. code_at WRITTEN_ORDER (arc_of j (r ∷ rs)) ∷ cs) (codes-read j rs)
+
+-- the codes since a present value's start are those of its arc
+pub started-behind : (x : ℤ) (os : List (Option ℤ)) → since_start (codes_behind (Some x ∷ os)) ≡ since_start (codes_of_arc WRITTEN_ORDER (x ∷ stretch os))
+started-behind x [] = refl
+started-behind x (None ∷ os) = refl
+started-behind x (Some y ∷ os) =
+    ap (option_map (onto_started (difference (min (length (y ∷ stretch os)) WRITTEN_ORDER) (x ∷ y ∷ stretch os)))) (started-behind y os)
+
+value-present : (width : ℕ) (x : ℤ) (arc : List ℤ) (cs : List Code)
+    → value_of width (code_at WRITTEN_ORDER (x ∷ arc) ∷ cs) ≡ value_since width (since_start (code_at WRITTEN_ORDER (x ∷ arc) ∷ cs))
+value-present width x [] cs = refl
+value-present width x (y ∷ ys) cs = refl
+
+-- a value within its columns comes back from its code and those before it
+pub value-behind : (width : ℕ) (o : Option ℤ) (os : List (Option ℤ)) → fits width o ≡ true → value_of width (codes_behind (o ∷ os)) ≡ Ok o
+value-behind width None os h = refl
+value-behind width (Some x) os h =
+    value-present width x (stretch os) (codes_behind os)
+    ∙ ap (value_since width) (started-behind x os ∙ started-codes WRITTEN_ORDER (stretch os) x)
+    ∙ ap (in_range width) (value-numbers WRITTEN_ORDER (stretch os) x)
+    ∙ ap {B = Result (Option ℤ) Fault} (λ b. if b then Ok (Some x) else Err OutOfRange) h
+
+-- ---- texts
+
+-- no & in a text
+abbrev pub IsUnmarked : List ℕ → Type 0
+IsUnmarked text = (p : ℕ) → at text p ≢ 38
+
+-- a patch of a text whose end blanks are gone
+pub patched-back : (old new : List ℕ) → IsUnmarked new → patched (without_end_blanks old) (text_difference old new) ≡ without_end_blanks new
+patched-back old new h =
+    same_characters (by_position character_of (without_end_blanks old) (text_difference old new)) new (λ p.
+    at-by_position character_of refl (without_end_blanks old) (text_difference old new) p
+    ∙ ap (λ c. character_of c (at (text_difference old new) p)) (at-without_end_blanks old p)
+    ∙ ap (character_of (at old p)) (at-without_end_blanks (by_position mark_of old new) p ∙ at-by_position mark_of refl old new p)
+    ∙ character-mark (at old p) (at new p) (h p))
+
+first_overlay : (new : List ℕ) → IsUnmarked new → overlaid (text_difference [] new ∷ []) ≡ without_end_blanks new
+first_overlay new h = overlaid-patched (text_difference [] new) [] ∙ patched-back [] new h
+
+next_overlay : (old new : List ℕ) (marks : List (List ℕ)) → IsUnmarked new → overlaid marks ≡ without_end_blanks old
+    → overlaid (text_difference old new ∷ marks) ≡ without_end_blanks new
+next_overlay old new marks h e =
+    overlaid-patched (text_difference old new) marks ∙ ap (λ t. patched t (text_difference old new)) e ∙ patched-back old new h
+
+abbrev pub AreUnmarked : List Marked → Type 0
+AreUnmarked ms = AllByRecursion (λ (e : Epoch). IsUnmarked (epoch_text e)) (since_full ms)
+
+abbrev lines_of : List RawEpoch → List (List ℕ)
+lines_of raws = map (λ (q : RawEpoch). q.line) raws
+
+text-step : (full : Bool) (e : Epoch) (older : List Marked)
+    → (AreUnmarked older → overlaid (lines_of (raw_block older)) ≡ without_end_blanks (newest_text older))
+    → AreUnmarked (marked full e ∷ older) → overlaid (lines_of (raw_block (marked full e ∷ older))) ≡ without_end_blanks (epoch_text e)
+text-step true e older next h = first_overlay (epoch_text e) h.0
+text-step false e [] next h = first_overlay (epoch_text e) h.0
+text-step false e (m ∷ older) next h =
+    next_overlay (epoch_text m.epoch) (epoch_text e) (lines_of (raw_block (m ∷ older))) h.0 (next h.1)
+
+-- a reader finds the newest epoch's text
+pub text-read : (ms : List Marked) → AreUnmarked ms → overlaid (lines_of (raw_block ms)) ≡ without_end_blanks (newest_text ms)
+text-read [] h = refl
+text-read (m ∷ older) h = text-step m.is_full m.epoch older (text-read older) h
+
+-- a reader finds the indicators of a run's newest row
+pub marks-read : (r : Row) (rs : List Row) → AllByRecursion (λ (q : Row). IsUnmarked q.flags) (r ∷ rs)
+    → overlaid (map (λ (q : RawRow). q.marks) (raw_run (r ∷ rs))) ≡ without_end_blanks r.flags
+marks-read r [] h = first_overlay r.flags h.0
+marks-read r (q ∷ qs) h = next_overlay q.flags r.flags (map (λ (x : RawRow). x.marks) (raw_run (q ∷ qs))) h.0 (marks-read q qs h.1)
+
+-- ---- columns
+
+not-suc-zero : (n : ℕ) → suc n ≡ 0 → ⊥
+not-suc-zero n e = omega (arith, e)
+
+not-zero-suc : (n : ℕ) → 0 ≡ suc n → ⊥
+not-zero-suc n e = omega (arith, e)
+
+at-drop : (k : ℕ) (text : List ℕ) (p : ℕ) → at (drop k text) p ≡ at text (k + p)
+at-drop zero text p = ap (at text) (omega arith)
+at-drop (suc k) [] p = refl
+at-drop (suc k) (c ∷ cs) p =
+    let next : suc k + p ≡ suc (k + p) = omega arith in
+    at-drop k cs p ∙ sym (ap (at (c ∷ cs)) next)
+
+-- a text that blanks stand behind, cut at a width
+take-padded : (n k : ℕ) (text want : List ℕ) → n ≤ k → length want ≡ n → ((p : ℕ) → p < n → at text p ≡ at want p) → take n (text ++ replicate k 32) ≡ want
+take-padded zero k text [] le e h = refl
+take-padded zero k text (w ∷ ws) le e h = absurd (not-suc-zero (length ws) e)
+take-padded (suc n) k text [] le e h = absurd (not-zero-suc n e)
+take-padded (suc n) zero text (w ∷ ws) le e h = absurd (not-suc-le-zero le)
+take-padded (suc n) (suc k) [] (w ∷ ws) le e h =
+    let same : 32 ≡ w = h 0 (omega arith) in
+    ap (λ c. c ∷ take n (replicate k 32)) same
+    ∙ ap (λ r. w ∷ r) (take-padded n k [] ws (omega (arith, le)) (omega (arith, e)) (λ p less. h (suc p) (omega (arith, less))))
+take-padded (suc n) (suc k) (c ∷ cs) (w ∷ ws) le e h =
+    let same : c ≡ w = h 0 (omega arith) in
+    ap (λ d. d ∷ take n (cs ++ replicate (suc k) 32)) same
+    ∙ ap (λ r. w ∷ r) (take-padded n (suc k) cs ws (omega (arith, le)) (omega (arith, e)) (λ p less. h (suc p) (omega (arith, less))))
+
+-- columns by their characters
+pub columns-are : (text : List ℕ) (first width : ℕ) (want : List ℕ) → length want ≡ width
+    → ((p : ℕ) → p < width → at text (first - 1 + p) ≡ at want p) → columns text first width ≡ want
+columns-are text first width want e h =
+    take-padded width width (drop (first - 1) text) want (omega arith) e (λ p less. at-drop (first - 1) text p ∙ h p less)

@@ -1,0 +1,10 @@
+pub mod Sequences
+pub mod Differences
+pub mod Compaction
+pub mod EpochText
+pub mod Expansion
+pub mod Places
+pub mod Tails
+pub mod Steps
+pub mod Laws
+pub mod Examples

@@ -1,0 +1,80 @@
+-- What is left of the past between two epochs: all that the next epoch's codes, marks and values depend on.
+use Rattle.std.specs.Prelude.{ℕ, suc, ◌-◌, min, ℤ, List, [], ◌∷◌, map, length, Option, Some, None}
+use Rattle.crx_text.specs.Epochs.{Row}
+use Rattle.crx_text.specs.declared.limits.TheConstants.{WRITTEN_ORDER}
+use Rattle.crx_compact.specs.Sequences.{each_place}
+use Rattle.crx_compact.specs.Differences.{difference, value_at}
+use Rattle.crx_compact.specs.Compaction.{Marked, run_of, arc_of, clock_arc, newest_text}
+use Rattle.crx_compact.specs.Expansion.{RawEpoch, RawRow, Started, text_of, raw_run_of, overlaid, code_in, since_start}
+
+-- an arc's order n, and its differences of order 0, 1, .. up to n, or up to u where it has only u + 1 values
+pub record ArcTail : Type 0 where
+  pub order : ℕ
+  pub differences : List ℤ
+
+-- a satellite's indicators, and the tail of each cell's arc; nothing where the newest value is missing
+pub record RowTail : Type 0 where
+  pub name : List ℕ
+  pub flags : List ℕ
+  pub cells : List (Option ArcTail)
+
+-- the newest epoch's text, the clock's arc, and the satellites in the epoch's order
+pub record Tail : Type 0 where
+  pub text : List ℕ
+  pub clock : Option ArcTail
+  pub rows : List RowTail
+
+-- the differences of order 0 up to an order, or as far as the values go
+abbrev pub differences_of : ℕ → List ℤ → List ℤ
+differences_of order values = each_place (suc (min (length values - 1) order)) (λ i. difference i values)
+
+abbrev pub arc_tail : ℕ → List ℤ → Option ArcTail
+arc_tail order [] = None
+arc_tail order (a ∷ older) = Some (record { order = order; differences = differences_of order (a ∷ older) })
+
+-- ---- in compaction
+
+abbrev pub row_tail : List Row → Row → RowTail
+row_tail run row =
+    record { name = row.name; flags = row.flags; cells = each_place (length row.values) (λ j. arc_tail WRITTEN_ORDER (arc_of j run)) }
+
+abbrev pub row_tails : List Marked → List RowTail
+row_tails [] = []
+row_tails (m ∷ older) = map (λ (r : Row). row_tail (run_of r.name (m ∷ older)) r) m.epoch.rows
+
+-- the tail of some epochs, newest first; the epochs before the latest full one leave nothing
+abbrev pub tail_of : List Marked → Tail
+tail_of epochs =
+    record { text = newest_text epochs; clock = arc_tail WRITTEN_ORDER (clock_arc epochs); rows = row_tails epochs }
+
+-- ---- in expansion
+
+-- the values of an arc by the numbers of its codes, newest first
+abbrev pub values_of : ℕ → List ℤ → List ℤ
+values_of order [] = []
+values_of order (c ∷ older) = value_at order (c ∷ older) ∷ values_of order older
+
+abbrev pub started_tail : Option Started → Option ArcTail
+started_tail None = None
+started_tail (Some arc) = arc_tail arc.order (values_of arc.order arc.numbers)
+
+abbrev pub raw_row_tail : List RawRow → RawRow → RowTail
+raw_row_tail run row =
+    record {
+      name = row.name;
+      flags = overlaid (map (λ (r : RawRow). r.marks) run);
+      cells = each_place (length row.codes) (λ j. started_tail (since_start (map (code_in j) run)));
+    }
+
+abbrev pub raw_row_tails : List RawEpoch → List RowTail
+raw_row_tails [] = []
+raw_row_tails (e ∷ older) = map (λ (r : RawRow). raw_row_tail (raw_run_of r.name (e ∷ older)) r) e.rows
+
+-- the tail of a block of raw epochs, newest first
+abbrev pub tail_of_block : List RawEpoch → Tail
+tail_of_block block =
+    record {
+      text = text_of block;
+      clock = started_tail (since_start (map (λ (e : RawEpoch). e.clock) block));
+      rows = raw_row_tails block;
+    }
