@@ -1,0 +1,14 @@
+pub mod Choices
+pub mod Compacted
+pub mod Compacting
+pub mod Early
+pub mod EpochReading
+pub mod Finishing
+pub mod FullEpoch
+pub mod HeaderReading
+pub mod Items
+pub mod Messages
+pub mod Places
+pub mod Progress
+pub mod Reading
+pub mod Standard
