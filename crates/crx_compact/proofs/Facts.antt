@@ -7,7 +7,7 @@ use Rattle.std.proofs.Common.{sym, ◌∙◌, ap, arith, not-suc-le-zero, true�
 use Rattle.std.proofs.lemmas.List.{length-append}
 use Rattle.crx_text.specs.Columns.{character_at, before_end_blanks, without_end_blanks, columns}
 use Rattle.crx_text.specs.Texts.{text_difference, mark_of, by_position}
-use Rattle.crx_text.specs.Epochs.{Row, Epoch}
+use Rattle.crx_rinex.specs.Observations.{Row, Epoch}
 use Rattle.crx_text.specs.declared.fault.Fault.{Fault}
 use Rattle.crx_text.specs.declared.fault.Fault.TheVariants.{BadSatellite, RepeatedSatellite}
 use Rattle.crx_compact.specs.Sequences.{each_place, before_all}

@@ -11,7 +11,7 @@ use Rattle.std.proofs.Math.Nat.{pow-le-pow_right}
 use Rattle.crx_text.specs.Columns.{columns, without_end_blanks}
 use Rattle.crx_text.specs.Texts.{by_position, mark_of, text_difference}
 use Rattle.crx_text.specs.Codes.{code_text}
-use Rattle.crx_text.specs.Epochs.{Row, Epoch}
+use Rattle.crx_rinex.specs.Observations.{Row, Epoch}
 use Rattle.crx_text.specs.declared.code.Code.{Code}
 use Rattle.crx_text.specs.declared.limits.TheConstants.{WRITTEN_ORDER, DIGITS_LIMIT, LINE_LIMIT, TYPES_LIMIT, SATELLITES_LIMIT, OBSERVATION_WIDTH, CLOCK_WIDTH}
 use Rattle.crx_compact.specs.Differences.{difference, code_at}

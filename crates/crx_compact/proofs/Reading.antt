@@ -5,7 +5,7 @@ use Rattle.std.proofs.Common.{sym, ◌∙◌, ap, subst, arith, true≢false, dr
 use Rattle.std.proofs.lemmas.List.{length-map, append_assoc}
 use Rattle.crx_text.specs.Columns.{is_blank, before_end_blanks, without_end_blanks, columns}
 use Rattle.crx_text.specs.Codes.{code_text, code_of, IsPrintable}
-use Rattle.crx_text.specs.Epochs.{Row, Epoch}
+use Rattle.crx_rinex.specs.Observations.{Row, Epoch}
 use Rattle.crx_text.specs.declared.code.Code.{Code}
 use Rattle.crx_text.specs.declared.fault.Fault.{Fault}
 use Rattle.crx_text.specs.declared.fault.Fault.TheVariants.{LineTooLong, NotAnEpoch, BadEpoch, BadClock, Truncated}

@@ -7,7 +7,7 @@ use Rattle.std.proofs.Common.{sym, ◌∙◌, ap, subst, arith, not-suc-le-zero,
 use Rattle.crx_text.specs.Columns.{is_blank, without_end_blanks, columns}
 use Rattle.crx_text.specs.Texts.{text_difference, mark_of, by_position}
 use Rattle.crx_text.specs.Codes.{code_text, code_of, IsPrintable}
-use Rattle.crx_text.specs.Epochs.{Row, Epoch}
+use Rattle.crx_rinex.specs.Observations.{Row, Epoch}
 use Rattle.crx_text.specs.declared.code.Code.{Code}
 use Rattle.crx_text.specs.declared.code.Code.TheVariants.{Missing}
 use Rattle.crx_text.specs.declared.fault.Fault.{Fault}

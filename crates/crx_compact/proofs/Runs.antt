@@ -6,7 +6,7 @@ use Rattle.std.specs.Str.{bytes_eq}
 use Rattle.std.proofs.Common.{sym, ◌∙◌, ap, arith, not-suc-le-zero}
 use Rattle.crx_text.specs.Columns.{without_end_blanks, columns}
 use Rattle.crx_text.specs.Texts.{text_difference, mark_of, patched, by_position, character_of}
-use Rattle.crx_text.specs.Epochs.{Row, Epoch}
+use Rattle.crx_rinex.specs.Observations.{Row, Epoch}
 use Rattle.crx_text.specs.declared.code.Code.{Code}
 use Rattle.crx_text.specs.declared.code.Code.TheVariants.{Missing}
 use Rattle.crx_text.specs.declared.fault.Fault.{Fault}

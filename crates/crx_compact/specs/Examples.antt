@@ -1,6 +1,6 @@
 -- Worked examples of compact text: the epochs, newest first, and what their lines are made of.
 use Rattle.std.specs.Prelude.{ℕ, ◌+◌, ℤ, pos, neg_ℤ, true, false, List, [], ◌∷◌, ◌++◌, map, reverse, Option, Some, None, codes}
-use Rattle.crx_text.specs.Epochs.{Row, Epoch}
+use Rattle.crx_rinex.specs.Observations.{Row, Epoch}
 use Rattle.crx_compact.specs.Compaction.{Marked}
 use Rattle.crx_compact.specs.Places.{Answer, ReadEpoch, continued}
 use Rattle.crx_compact.specs.Places.Answer.{Read}

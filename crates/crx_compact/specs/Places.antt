@@ -4,7 +4,7 @@ use Rattle.std.specs.Prelude.{ℕ, zero, suc, ◌+◌, ◌*◌, Bool, true, fals
 use Rattle.std.specs.List.{list_all}
 use Rattle.crx_text.specs.Columns.{columns, is_blank, without_end_blanks}
 use Rattle.crx_text.specs.Codes.{code_of}
-use Rattle.crx_text.specs.Epochs.{Epoch}
+use Rattle.crx_rinex.specs.Observations.{Epoch}
 use Rattle.crx_text.specs.declared.code.Code.{Code}
 use Rattle.crx_text.specs.declared.fault.Fault.{Fault}
 use Rattle.crx_text.specs.declared.fault.Fault.TheVariants.{LineTooLong, NotAnEpoch, BadEpoch, BadClock, BadSatellite, BadField, BadFlags, Truncated}

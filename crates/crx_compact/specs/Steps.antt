@@ -4,7 +4,7 @@ use Rattle.std.specs.Str.{bytes_eq}
 use Rattle.crx_text.specs.Columns.{without_end_blanks, columns}
 use Rattle.crx_text.specs.Texts.{text_difference, patched}
 use Rattle.crx_text.specs.Codes.{code_text, code_of}
-use Rattle.crx_text.specs.Epochs.{Row, Epoch}
+use Rattle.crx_rinex.specs.Observations.{Row, Epoch}
 use Rattle.crx_text.specs.declared.limits.TheConstants.{WRITTEN_ORDER, OBSERVATION_WIDTH, CLOCK_WIDTH}
 use Rattle.crx_text.specs.declared.fault.Fault.{Fault}
 use Rattle.crx_text.specs.declared.fault.Fault.TheVariants.{NoArc, Truncated, BadClock, BadField, BadSatellite}

@@ -1,6 +1,6 @@
 -- What is left of the past between two epochs: all that the next epoch's codes, marks and values depend on.
 use Rattle.std.specs.Prelude.{ℕ, suc, ◌-◌, min, ℤ, List, [], ◌∷◌, map, length, Option, Some, None}
-use Rattle.crx_text.specs.Epochs.{Row}
+use Rattle.crx_rinex.specs.Observations.{Row}
 use Rattle.crx_text.specs.declared.limits.TheConstants.{WRITTEN_ORDER}
 use Rattle.crx_compact.specs.Sequences.{each_place}
 use Rattle.crx_compact.specs.Differences.{difference, value_at}

@@ -9,7 +9,7 @@ use Rattle.std.proofs.lemmas.List.{map-id, take-append-le, drop_all, drop_more, 
 use Rattle.std.proofs.lemmas.List.FromFn.{map-range_with_len_more, get_or-map-range_with_len, length-map-range_with_len}
 use Rattle.std.proofs.lemmas.Option.{option_and_then_some, same_Some, none-some}
 use Rattle.crx_text.specs.Columns.{character_at, columns}
-use Rattle.crx_text.specs.Epochs.{Row}
+use Rattle.crx_rinex.specs.Observations.{Row}
 use Rattle.crx_text.specs.Numbers.{observation_of, observation_text, number_of}
 use Rattle.crx_text.specs.declared.limits.TheConstants.{TYPES_LIMIT}
 use Rattle.crx_rinex.specs.EpochLines.{is_kept}

@@ -11,7 +11,7 @@ use Rattle.std.proofs.lemmas.List.{length_push}
 use Rattle.std.proofs.lemmas.List.Elements.{All-push}
 use Rattle.std.proofs.lemmas.List.Folds.{list_any-append}
 use Rattle.std.proofs.lemmas.Slice.Eq.{bytes_eq-Decides}
-use Rattle.crx_text.specs.Epochs.{Row, Epoch}
+use Rattle.crx_rinex.specs.Observations.{Row, Epoch}
 use Rattle.crx_rinex.specs.EpochLines.{satellites_of, count_within_limit, begins_epoch, is_observation_flag, is_kept}
 use Rattle.crx_rinex.specs.Epochs.{has_satellite, are_different, with_row, is_full_epoch, IsSoundEpoch}
 use Rattle.crx_rinex.specs.SatelliteLines.{IsSoundRow}

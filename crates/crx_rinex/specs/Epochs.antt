@@ -2,7 +2,7 @@
 use Rattle.std.specs.Prelude.{◌≡◌, ◌≤◌, ℕ, Bool, true, List, [], ◌∷◌, ◌++◌, ◌==◌, ◌&&◌, length, not, All}
 use Rattle.std.specs.List.{list_any}
 use Rattle.std.specs.Str.{bytes_eq}
-use Rattle.crx_text.specs.Epochs.{Row, Epoch}
+use Rattle.crx_rinex.specs.Observations.{Row, Epoch}
 use Rattle.crx_rinex.specs.EpochLines.{ObservationHead, satellites_of}
 use Rattle.crx_rinex.specs.SatelliteLines.{IsSoundRow}
 

@@ -4,6 +4,8 @@ pub mod Header
 pub mod EpochLines
 pub mod Heads
 pub mod SatelliteLines
+pub mod Observations
 pub mod Epochs
 pub mod Printing
+pub mod Places
 pub mod Units

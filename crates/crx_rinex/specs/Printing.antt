@@ -2,7 +2,7 @@
 use Rattle.std.specs.Prelude.{ℕ, ℤ, List, [], ◌∷◌, ◌++◌, Option, take, drop, map}
 use Rattle.crx_text.specs.Columns.{without_end_blanks}
 use Rattle.crx_text.specs.Numbers.{observation_text, clock_text}
-use Rattle.crx_text.specs.Epochs.{Row, Epoch}
+use Rattle.crx_rinex.specs.Observations.{Row, Epoch}
 
 -- each value with its two indicators
 abbrev pub printed_cells : List (Option ℤ) → List ℕ → List ℕ

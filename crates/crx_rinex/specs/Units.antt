@@ -1,6 +1,6 @@
 -- What an observation file is made of: RINEX 3.05, sections 5 and 6 (header records, and data records of epochs and events).
 use Rattle.std.specs.Prelude.{ℕ, List, [], ◌∷◌}
-use Rattle.crx_text.specs.Epochs.{Epoch}
+use Rattle.crx_rinex.specs.Observations.{Epoch}
 use Rattle.crx_rinex.specs.Printing.{printed_epoch}
 
 -- a header line; an event's first line; one of the records that an event's count announces; or an observation epoch. E is

@@ -21,7 +21,7 @@ pub struct Epoch {
 }
 
 impl Model for Epoch {
-    ghost use Rattle.crx_text.specs.Epochs.{Epoch as ObservationEpoch};
+    ghost use Rattle.crx_rinex.specs.Observations.{Epoch as ObservationEpoch};
     ghost use Rattle.crx_rinex.specs.Epochs.{IsSoundEpoch};
 
     ghost Value = { ObservationEpoch };

@@ -35,7 +35,7 @@ pub struct SatRow {
 }
 
 impl Model for SatRow {
-    ghost use Rattle.crx_text.specs.Epochs.{Row};
+    ghost use Rattle.crx_rinex.specs.Observations.{Row};
     ghost use Rattle.crx_rinex.specs.SatelliteLines.{IsSoundRow};
 
     ghost Value = { Row };

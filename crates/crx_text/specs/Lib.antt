@@ -1,7 +1,6 @@
 pub mod Codes
 pub mod Columns
 pub mod Devices
-pub mod Epochs
 pub mod Faults
 pub mod Inputs
 pub mod Lines

@@ -1,22 +1,22 @@
 //! The limits of this project's profile. Code and definitions cite them from here alone.
 
 /// The most bytes of a line's content, the line end not counted.
-pub const LINE_LIMIT: usize = 2048;
+pub const LINE_LIMIT: usize = 8192;
 
 /// The most bytes of one input.
 pub const INPUT_LIMIT: u64 = 1_099_511_627_776;
 
 /// The most observation types of a satellite system.
-pub const TYPES_LIMIT: usize = 100;
+pub const TYPES_LIMIT: usize = 400;
 
 /// The most satellites of an epoch.
-pub const SATELLITES_LIMIT: usize = 100;
+pub const SATELLITES_LIMIT: usize = 999;
 
 /// The highest order of the differences of an arc that is read.
-pub const ORDER_LIMIT: u8 = 3;
+pub const ORDER_LIMIT: u8 = 9;
 
 /// The most digits of a number in a code.
-pub const DIGITS_LIMIT: usize = 15;
+pub const DIGITS_LIMIT: usize = 18;
 
 /// The order of the differences of an arc that is written.
 pub const WRITTEN_ORDER: u8 = 3;

@@ -2,7 +2,7 @@
 use Rattle.std.proofs.Common.{ℕ, ◌≡◌, ◌+◌, ◌<◌, ◌≤◌, inl, inr, Bool, true, false, List, [], ◌∷◌, length, drop, Option, Some, None, refl, sym, ap, subst, ◌∙◌, arith, eqb, cond}
 use Rattle.std.proofs.lemmas.Bool.{false≢true}
 use Rattle.std.proofs.lemmas.List.{drop_all, length-drop}
-use Rattle.crx_text.specs.Epochs.{Epoch}
+use Rattle.crx_rinex.specs.Observations.{Epoch}
 use Rattle.crx_text.specs.Seen.{ReadLine}
 use Rattle.crx_text.specs.Inputs.{StopsWith, ReadAs}
 use Rattle.crx_text.specs.declared.fault.Fault.{Fault}

@@ -1,6 +1,6 @@
 -- From where a reading stops to how a run ends.
 use Rattle.std.proofs.Common.{ℕ, ◌≡◌, ◌+◌, Bool, true, false, List, [], ◌++◌, map, length, Option, Some, None, refl, sym, ap, subst, ◌∙◌}
-use Rattle.crx_text.specs.Epochs.{Epoch}
+use Rattle.crx_rinex.specs.Observations.{Epoch}
 use Rattle.crx_text.specs.Lines.{lines_of}
 use Rattle.crx_text.specs.Seen.{ReadLine, seen}
 use Rattle.crx_text.specs.declared.fault.Fault.{Fault}

@@ -1,6 +1,6 @@
 -- A unit takes no more lines than there are.
 use Rattle.std.proofs.Common.{ℕ, ℤ, ◌≤◌, List, [], ◌∷◌, length, Option, Result, Ok, Err, arith, suc, zero}
-use Rattle.crx_text.specs.Epochs.{Row, Epoch}
+use Rattle.crx_rinex.specs.Observations.{Row, Epoch}
 use Rattle.crx_text.specs.Seen.{ReadLine, Content, Overlong}
 use Rattle.crx_text.specs.declared.fault.Fault.{Fault}
 use Rattle.crx_rinex.specs.EpochLines.{HeadLine, EventHead, EpochHead, head_of}

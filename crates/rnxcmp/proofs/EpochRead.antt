@@ -1,6 +1,6 @@
 -- The reading of an epoch line and of its rows together.
 use Rattle.std.proofs.Common.{ℕ, ℤ, ◌≡◌, ◌+◌, inl, inr, List, [], ◌∷◌, length, Option, Some, None, Result, Ok, Err, IfOk, IfErr, refl, ap, ◌∙◌, arith}
-use Rattle.crx_text.specs.Epochs.{Epoch}
+use Rattle.crx_rinex.specs.Observations.{Epoch}
 use Rattle.crx_text.specs.Seen.{ReadLine, Content}
 use Rattle.crx_text.specs.declared.fault.At.{At}
 use Rattle.crx_rinex.specs.Units.{Observation}

@@ -9,7 +9,7 @@ use Rattle.std.proofs.lemmas.Bool.{and_parts, or_parts, not-true}
 use Rattle.crx_text.specs.Columns.{before_end_blanks, is_blank, without_end_blanks}
 use Rattle.crx_text.specs.Texts.{by_position, mark_of, text_difference}
 use Rattle.crx_text.specs.Codes.{code_text}
-use Rattle.crx_text.specs.Epochs.{Row, Epoch}
+use Rattle.crx_rinex.specs.Observations.{Row, Epoch}
 use Rattle.crx_text.specs.declared.code.Code.{Code}
 use Rattle.crx_text.specs.declared.code.Code.TheVariants.{Missing, Start}
 use Rattle.crx_text.specs.declared.limits.TheConstants.{WRITTEN_ORDER}

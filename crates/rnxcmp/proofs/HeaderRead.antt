@@ -1,7 +1,7 @@
 -- One line of the header further.
 use Rattle.std.proofs.Common.{ℕ, ◌≡◌, ◌+◌, ◌<◌, ◌≤◌, Bool, true, false, cond, List, [], ◌∷◌, ◌++◌, length, drop, Some, None, refl, sym, ap, ◌∙◌, arith, suc, eqb}
 use Rattle.std.proofs.lemmas.Bool.Decides.{nat_tests}
-use Rattle.crx_text.specs.Epochs.{Epoch}
+use Rattle.crx_rinex.specs.Observations.{Epoch}
 use Rattle.crx_text.specs.Seen.{ReadLine, Content, Overlong}
 use Rattle.crx_text.specs.declared.fault.Fault.{Fault}
 use Rattle.crx_text.specs.declared.fault.Fault.TheVariants.{LineTooLong}

@@ -1,6 +1,6 @@
 -- The faults that a reading can stop at are those of lines: never one of a device, of memory, or of the input's length.
 use Rattle.std.proofs.Common.{ℕ, ℤ, ◌≡◌, ◌+◌, ◌*◌, Bool, true, false, not, cond, List, [], ◌∷◌, drop, Option, Some, None, Result, Ok, Err, refl, subst, suc, zero}
-use Rattle.crx_text.specs.Epochs.{Row, Epoch}
+use Rattle.crx_rinex.specs.Observations.{Row, Epoch}
 use Rattle.crx_text.specs.Seen.{ReadLine, Content, Overlong}
 use Rattle.crx_text.specs.declared.fault.Fault.{Fault}
 use Rattle.crx_text.specs.declared.fault.Fault.TheVariants.{InputTooLong, MissingVersion, UnsupportedVersion, NotObservation, BadTypesLine, NoEndOfHeader, NotAnEpoch, BadEpoch, RepeatedSatellite, BadField, BadFlags, Truncated, ReadFailed, WriteFailed, OutOfMemory}

@@ -1,7 +1,7 @@
 -- How far a loop over the lines of a file has come in the file's reading.
 use Rattle.std.proofs.Common.{ℕ, ◌≡◌, ◌+◌, ◌<◌, ◌≤◌, false, List, [], ◌∷◌, length, drop, suc, zero, refl, ◌∙◌, arith}
 use Rattle.std.proofs.lemmas.List.{drop-drop}
-use Rattle.crx_text.specs.Epochs.{Epoch}
+use Rattle.crx_rinex.specs.Observations.{Epoch}
 use Rattle.crx_text.specs.Seen.{ReadLine}
 use Rattle.crx_text.specs.declared.fault.Fault.{Fault}
 use Rattle.crx_rinex.specs.Units.{Unit as FileUnit}

@@ -1,6 +1,6 @@
 -- Where nothing is skipped there is no warning.
 use Rattle.std.proofs.Common.{ℕ, ◌≡◌, ◌+◌, false, List, [], ◌∷◌, length, drop, Option, Some, None, refl, suc, zero}
-use Rattle.crx_text.specs.Epochs.{Epoch}
+use Rattle.crx_rinex.specs.Observations.{Epoch}
 use Rattle.crx_text.specs.Seen.{ReadLine}
 use Rattle.crx_text.specs.declared.fault.Fault.{Fault}
 use Rattle.rnxcmp.specs.Items.{Item, Accepted}

@@ -2,7 +2,7 @@
 -- Lists of items have the newest first.
 use Rattle.std.specs.Prelude.{ℕ, Bool, true, false, ◌||◌, ◌&&◌, ◌+◌, ◌%◌, List, [], ◌∷◌, ◌++◌, ◌==◌, Option, Some, None, if◌then◌else◌, nat_lt, take, replicate, codes, map}
 use Rattle.std.specs.List.{flat_map}
-use Rattle.crx_text.specs.Epochs.{Epoch}
+use Rattle.crx_rinex.specs.Observations.{Epoch}
 use Rattle.crx_text.specs.Seen.{seen}
 use Rattle.crx_text.specs.Lines.{lines_of}
 use Rattle.crx_text.specs.declared.fault.At.{At}

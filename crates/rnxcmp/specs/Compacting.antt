@@ -1,6 +1,6 @@
 -- What a compaction answers, step by step and as a whole.
 use Rattle.std.specs.Prelude.{ℕ, ◌≡◌, ◌-◌, ◌^◌, ◌<◌, ◌≤◌, ◌⊎◌, ◌==◌, false, List, [], ◌++◌, length, map, Option, Some, None, MatchOption, if◌then◌else◌}
-use Rattle.crx_text.specs.Epochs.{Epoch}
+use Rattle.crx_rinex.specs.Observations.{Epoch}
 use Rattle.crx_text.specs.Lines.{lines_of}
 use Rattle.crx_text.specs.Seen.{ReadLine, seen}
 use Rattle.crx_text.specs.declared.fault.Fault.{Fault}

@@ -1,6 +1,6 @@
 -- What the reading of one epoch out of lines answers.
 use Rattle.std.specs.Prelude.{ℕ, ◌≡◌, ◌+◌, ◌⊎◌, length, Option, Some, None}
-use Rattle.crx_text.specs.Epochs.{Epoch}
+use Rattle.crx_rinex.specs.Observations.{Epoch}
 use Rattle.crx_text.specs.declared.fault.Fault.TheVariants.{OutOfMemory}
 use Rattle.crx_text.specs.declared.fault.At.{At}
 use Rattle.crx_rinex.specs.Units.{Observation}

@@ -3,7 +3,7 @@ use Rattle.std.specs.Prelude.{ℕ, ℤ, List, ◌∷◌, ◌++◌, map, Option, 
 use Rattle.std.specs.List.{flat_map}
 use Rattle.crx_text.specs.Columns.{without_end_blanks}
 use Rattle.crx_text.specs.Codes.{code_text}
-use Rattle.crx_text.specs.Epochs.{Row, Epoch}
+use Rattle.crx_rinex.specs.Observations.{Row, Epoch}
 use Rattle.crx_text.specs.declared.code.Code.{Code}
 use Rattle.crx_text.specs.declared.code.Code.TheVariants.{Missing, Start}
 use Rattle.crx_text.specs.declared.limits.TheConstants.{WRITTEN_ORDER}

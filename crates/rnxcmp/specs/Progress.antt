@@ -1,6 +1,6 @@
 -- How far a run over the lines of a file has come, nothing being skipped.
 use Rattle.std.specs.Prelude.{ℕ, ◌≡◌, ◌+◌, ◌<◌, true, false, List, [], length, drop, Option}
-use Rattle.crx_text.specs.Epochs.{Epoch}
+use Rattle.crx_rinex.specs.Observations.{Epoch}
 use Rattle.crx_text.specs.Seen.{ReadLine}
 use Rattle.crx_text.specs.declared.fault.Fault.{Fault}
 use Rattle.crx_rinex.specs.ObservationTypes.{Count}

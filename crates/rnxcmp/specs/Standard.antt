@@ -1,7 +1,7 @@
 -- Standard files: those whose lines are what printing gives back.
 use Rattle.std.specs.Prelude.{ℕ, ◌≡◌, false, true, List, [], ◌++◌, ◌∷◌, map, None}
 use Rattle.std.specs.List.{list_all}
-use Rattle.crx_text.specs.Epochs.{Epoch}
+use Rattle.crx_rinex.specs.Observations.{Epoch}
 use Rattle.crx_text.specs.Lines.{InputLine, lines_of}
 use Rattle.crx_text.specs.Seen.{seen}
 use Rattle.crx_rinex.specs.Units.{printed_unit}

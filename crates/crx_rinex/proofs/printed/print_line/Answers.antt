@@ -1,6 +1,6 @@
 use Rattle.std.proofs.Common.{◌-◌, List, Option, Some, ℕ, option_map, map, ap, sym, ◌∙◌, arith}
 use Rattle.std.proofs.lemmas.Option.{slice_get-map, slice_get_within}
-use Rattle.crx_text.specs.Epochs.{Row}
+use Rattle.crx_rinex.specs.Observations.{Row}
 use Rattle.crx_rinex.specs.Printing.{printed_row, printed_head}
 use Rattle.crx_rinex.proofs.Lines.{behind_first}
 use Rattle.crx_rinex.proofs.printed.print_line.Goals as goal

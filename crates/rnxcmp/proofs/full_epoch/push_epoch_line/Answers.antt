@@ -2,7 +2,7 @@ use Rattle.std.proofs.Common.{◌≡◌, ap, sym, ◌∙◌, List, ℕ, ◌++◌
 use Rattle.std.specs.List.{flat_map}
 use Rattle.std.proofs.lemmas.List.{append_assoc}
 use Rattle.crx_text.specs.Columns.{without_end_blanks}
-use Rattle.crx_text.specs.Epochs.{Row}
+use Rattle.crx_rinex.specs.Observations.{Row}
 use Rattle.crx_compact.specs.Compaction.{epoch_text}
 use Rattle.rnxcmp.proofs.Appending.{texts_more, texts_all, line_trimmed}
 use Rattle.rnxcmp.proofs.full_epoch.push_epoch_line.Goals as goal

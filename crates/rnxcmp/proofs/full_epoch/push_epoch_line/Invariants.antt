@@ -1,6 +1,6 @@
 use Rattle.std.proofs.Common.{◌≡◌, ◌++◌, ◌-◌, take, length}
 use Rattle.std.specs.List.{flat_map}
-use Rattle.crx_text.specs.Epochs.{Row}
+use Rattle.crx_rinex.specs.Observations.{Row}
 use Rattle.rnxcmp.proofs.full_epoch.push_epoch_line.Given as goal
 
 abbrev pub invariant-loop-row : goal.invariant-loop-row

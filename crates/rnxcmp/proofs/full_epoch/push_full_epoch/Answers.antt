@@ -1,7 +1,7 @@
 use Rattle.std.proofs.Common.{◌≡◌, ℤ, Option, ap, sym, ◌∙◌, ◌++◌, ◌∷◌, []}
 use Rattle.crx_text.specs.Columns.{without_end_blanks}
 use Rattle.crx_text.specs.Codes.{code_text}
-use Rattle.crx_text.specs.Epochs.{Row}
+use Rattle.crx_rinex.specs.Observations.{Row}
 use Rattle.crx_text.specs.declared.code.Code.{Code}
 use Rattle.crx_compact.specs.Compaction.{epoch_text}
 use Rattle.rnxcmp.specs.Compacted.{lines_text}

@@ -1,6 +1,6 @@
 use Rattle.std.proofs.Common.{◌≡◌, ◌++◌, ◌∷◌, [], ◌-◌, take, length}
 use Rattle.std.specs.List.{flat_map}
-use Rattle.crx_text.specs.Epochs.{Row}
+use Rattle.crx_rinex.specs.Observations.{Row}
 use Rattle.rnxcmp.specs.Compacted.{lines_text}
 use Rattle.rnxcmp.specs.FullEpoch.{full_row}
 use Rattle.rnxcmp.proofs.full_epoch.push_full_epoch.Given as goal

@@ -1,5 +1,5 @@
 use Rattle.std.proofs.Common.{◌≡◌, List, false, ap, sym, subst, ◌∙◌}
-use Rattle.crx_text.specs.Epochs.{Row, Epoch}
+use Rattle.crx_rinex.specs.Observations.{Row, Epoch}
 use Rattle.crx_rinex.specs.Epochs.{has_satellite, is_full_epoch, IsSoundEpoch}
 use Rattle.crx_rinex.proofs.Rows.{sound-with_row}
 use Rattle.crx_rinex.proofs.epoch.Epoch.push.Goals as goal

@@ -1,6 +1,6 @@
 use Rattle.std.proofs.Common.{◌≡◌, ◌++◌, ◌-◌, ◌*◌, ℕ, List, length, take, drop, replicate, ap, sym, subst, ◌∙◌, arith}
 use Rattle.std.proofs.lemmas.List.{take_at}
-use Rattle.crx_text.specs.Epochs.{Row}
+use Rattle.crx_rinex.specs.Observations.{Row}
 use Rattle.crx_rinex.specs.SatelliteLines.{IsSoundRow}
 use Rattle.crx_rinex.proofs.Cells.{sound-with_flags}
 use Rattle.crx_rinex.proofs.satellite_row.SatRow.set_flags.Goals as goal
