@@ -64,5 +64,5 @@ pub fn order_zero()
 
 /// An order above the limit is a misspelt code.
 pub fn order_too_high()
-    ensures { epochs_in (one_type ∷ []) (full_line 0 1 (codes "G01") ∷ [] ∷ codes "4&1000" ∷ []) ≡ Wrong 2 BadField }
+    ensures { epochs_in (one_type ∷ []) (full_line 0 1 (codes "G01") ∷ [] ∷ codes "10&1000" ∷ []) ≡ Wrong 2 BadField }
 {}

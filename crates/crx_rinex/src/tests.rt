@@ -17,7 +17,7 @@ const CONTINUATION: &[u8] =
     b"       C5Q                                                  SYS / # / OBS TYPES";
 
 const TOO_MANY: &[u8] =
-    b"G  101 C1C                                                  SYS / # / OBS TYPES";
+    b"G  401 C1C                                                  SYS / # / OBS TYPES";
 
 const NO_SYSTEM: &[u8] =
     b"X    1 C1C                                                  SYS / # / OBS TYPES";

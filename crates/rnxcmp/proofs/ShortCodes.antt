@@ -8,12 +8,12 @@ use Rattle.crx_text.specs.Codes.{code_text, IsPrintable, IsShort}
 use Rattle.crx_text.specs.declared.code.Code.{Code}
 use Rattle.crx_text.specs.declared.code.Code.TheVariants.{Missing, Start, Step}
 
--- a number of at most 15 digits has at most 16 characters
-length-signed_decimal : (z : ℤ) → IsShort z → length (signed_decimal z) ≤ 16
-length-signed_decimal (pos n) short = let digits = length-decimal-le 15 n (omega arith) short (omega arith) in omega (arith, digits)
-length-signed_decimal (negsuc n) short = let digits = length-decimal-le 15 (suc n) (omega arith) short (omega arith) in omega (arith, digits)
+-- a number of at most 18 digits has at most 19 characters
+length-signed_decimal : (z : ℤ) → IsShort z → length (signed_decimal z) ≤ 19
+length-signed_decimal (pos n) short = let digits = length-decimal-le 18 n (omega arith) short (omega arith) in omega (arith, digits)
+length-signed_decimal (negsuc n) short = let digits = length-decimal-le 18 (suc n) (omega arith) short (omega arith) in omega (arith, digits)
 
-pub length-code_text : (code : Code) → IsPrintable code → length (code_text code) ≤ 18
+pub length-code_text : (code : Code) → IsPrintable code → length (code_text code) ≤ 21
 length-code_text Missing printable = omega arith
 length-code_text (Start order value) printable =
     let first = length-decimal-le 1 order (omega arith) (omega (arith, printable.0)) (omega (arith, printable.0)) in

@@ -217,7 +217,7 @@ fn too_many_types(rt: HostRuntime) -> Result<(), Fail> {
         rt.alloc(),
         &[
             VERSION,
-            "G  101 C1C                                                  SYS / # / OBS TYPES",
+            "G  401 C1C                                                  SYS / # / OBS TYPES",
             END,
         ],
     )?;
@@ -226,6 +226,63 @@ fn too_many_types(rt: HostRuntime) -> Result<(), Fail> {
     assert!(rt; run.output.as_slice() == output.as_slice());
     assert!(rt; run.messages.as_slice() == b"ERROR line 2 code 6: bad types line\n".as_slice());
     assert!(rt; run.outcome == ended(2, Fault::BadTypesLine));
+    Ok(())
+}
+
+#[test]
+fn more_types_than_one_line_lists(rt: HostRuntime) -> Result<(), Fail> {
+    let many = "G  101 C1C                                                  SYS / # / OBS TYPES";
+    let input = joined(rt.alloc(), &[VERSION, many, END])?;
+    let run = compacted(rt.alloc(), input.as_slice())?;
+    let output = joined(rt.alloc(), &[COMPACT, PROGRAM, VERSION, many, END])?;
+    assert!(rt; run.output.as_slice() == output.as_slice());
+    assert!(rt; run.messages.is_empty());
+    assert!(rt; run.outcome == GOOD);
+    Ok(())
+}
+
+/// A comment line of so many bytes.
+fn comment(alloc: Global, length: usize) -> Result<Vec<u8>, AllocError> {
+    let mut line = Vec::new(alloc);
+    line.extend_from_slice(b"                                                            COMMENT")?;
+    while line.len() < length {
+        line.push(b' ')?;
+    }
+    Ok(line)
+}
+
+/// The header of one type with a comment as its second line.
+fn with_comment(alloc: Global, comment: &[u8]) -> Result<Vec<u8>, Fail> {
+    let mut lines = joined(alloc, &[VERSION])?;
+    lines.extend_from_slice(comment)?;
+    lines.push(b'\n')?;
+    let rest = joined(alloc, &[ONE_TYPE, END])?;
+    lines.extend_from_slice(rest.as_slice())?;
+    Ok(lines)
+}
+
+#[test]
+fn a_header_line_of_8192_bytes(rt: HostRuntime) -> Result<(), Fail> {
+    let comment = comment(rt.alloc(), 8192)?;
+    let input = with_comment(rt.alloc(), comment.as_slice())?;
+    let run = compacted(rt.alloc(), input.as_slice())?;
+    let mut output = joined(rt.alloc(), &[COMPACT, PROGRAM])?;
+    output.extend_from_slice(input.as_slice())?;
+    assert!(rt; run.output.as_slice() == output.as_slice());
+    assert!(rt; run.messages.is_empty());
+    assert!(rt; run.outcome == GOOD);
+    Ok(())
+}
+
+#[test]
+fn a_header_line_of_8193_bytes(rt: HostRuntime) -> Result<(), Fail> {
+    let comment = comment(rt.alloc(), 8193)?;
+    let input = with_comment(rt.alloc(), comment.as_slice())?;
+    let run = compacted(rt.alloc(), input.as_slice())?;
+    let output = joined(rt.alloc(), &[COMPACT, PROGRAM, VERSION])?;
+    assert!(rt; run.output.as_slice() == output.as_slice());
+    assert!(rt; run.messages.as_slice() == b"ERROR line 2 code 1: line too long\n".as_slice());
+    assert!(rt; run.outcome == ended(2, Fault::LineTooLong));
     Ok(())
 }
 
@@ -390,7 +447,7 @@ fn push_compact_line(lines: &mut Vec<u8>, name: &[u8; 3]) -> Result<(), AllocErr
 }
 
 #[test]
-fn too_many_satellites(rt: HostRuntime) -> Result<(), Fail> {
+fn more_satellites_than_lines(rt: HostRuntime) -> Result<(), Fail> {
     let input = joined(
         rt.alloc(),
         &[
@@ -403,7 +460,7 @@ fn too_many_satellites(rt: HostRuntime) -> Result<(), Fail> {
     let run = compacted(rt.alloc(), input.as_slice())?;
     let output = joined(rt.alloc(), &[COMPACT, PROGRAM, VERSION, ONE_TYPE, END])?;
     assert!(rt; run.output.as_slice() == output.as_slice());
-    assert!(rt; run.messages.as_slice() == b"ERROR line 4 code 11: bad epoch line\n".as_slice());
-    assert!(rt; run.outcome == ended(4, Fault::BadEpoch));
+    assert!(rt; run.messages.as_slice() == b"ERROR line 5 code 19: truncated\n".as_slice());
+    assert!(rt; run.outcome == ended(5, Fault::Truncated));
     Ok(())
 }
