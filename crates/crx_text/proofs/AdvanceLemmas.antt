@@ -3,6 +3,7 @@ use Rattle.std.proofs.Common.{◌≡◌, ◌≢◌, ℕ, ◌+◌, ◌-◌, ◌<�
 use Rattle.std.proofs.lemmas.List.{drop_more, get_or-take, take_all, drop_all, take_at, nil_from_length}
 use Rattle.std.proofs.lemmas.List.Elements.{All-append, All-from_get_or}
 use Rattle.std.proofs.lemmas.Bool.{true≢false, lt-ltb}
+use Rattle.crx_text.specs.Devices.{Tally, with_failure}
 use Rattle.crx_text.specs.Lines.{Piece, HasNoFeed, InputLine, line_of, is_long, without_return, ends_with_return}
 use Rattle.crx_text.specs.Reading.{Reading, BeginsWith, Takes, Stops, FaultIs}
 use Rattle.crx_text.specs.declared.fault.At.{At}
@@ -26,11 +27,11 @@ piece_at front held len is_ended = record { bytes = front ++ take len held; is_e
 
 -- where the line's end was found
 abbrev pub EndIs : List ℕ → ℕ → Bool → Type 0 → Type 0
-EndIs held len is_ended told_end = MatchBool is_ended ((len < length held) × (slice_index held len ≡ 10)) ((len ≡ length held) × told_end)
+EndIs held len is_ended at_end = MatchBool is_ended ((len < length held) × (slice_index held len ≡ 10)) ((len ≡ length held) × at_end)
 
-module _ (gave : List ℕ → Type 0) (old held : List ℕ) (room taken passed len : ℕ) (told_end : Type 0) (s : Seeking gave old held room taken passed len) where
-  pub begins : (is_ended : Bool) → EndIs held len is_ended told_end → (0 < passed + len) ⊎ (is_ended ≡ true)
-      → BeginsWith (old ++ s.given) told_end (piece_at s.front held len is_ended) (drop (len + cond is_ended 1 0) held)
+module _ (gave : List ℕ → Type 0) (old held : List ℕ) (room taken passed len : ℕ) (at_end : Type 0) (s : Seeking gave old held room taken passed len) where
+  pub begins : (is_ended : Bool) → EndIs held len is_ended at_end → (0 < passed + len) ⊎ (is_ended ≡ true)
+      → BeginsWith (old ++ s.given) at_end (piece_at s.front held len is_ended) (drop (len + cond is_ended 1 0) held)
   begins true end some = record {
     cut = s.input ∙ ap (λ l. s.front ++ l) (sym (take-append-drop len held) ∙ ap (λ l. take len held ++ l) (drop_more held len 0 end.0 ∙ ap (λ b. b ∷ drop (len + 1) held) end.1))
         ∙ sym (append_assoc s.front (take len held) (10 ∷ drop (len + 1) held));
@@ -50,11 +51,11 @@ module _ (gave : List ℕ → Type 0) (old held : List ℕ) (room taken passed l
       }
 
   -- how many of the bytes that are held are the line's, with its LF
-  ends-within : (is_ended : Bool) → EndIs held len is_ended told_end → len + cond is_ended 1 0 ≤ length held
+  ends-within : (is_ended : Bool) → EndIs held len is_ended at_end → len + cond is_ended 1 0 ≤ length held
   ends-within true end = omega (arith, end.0)
   ends-within false end = omega (arith, end.0)
 
-  pub held-within : (is_ended : Bool) (n : ℕ) → EndIs held len is_ended told_end → n ≡ len + cond is_ended 1 0 → n ≤ length held
+  pub held-within : (is_ended : Bool) (n : ℕ) → EndIs held len is_ended at_end → n ≡ len + cond is_ended 1 0 → n ≤ length held
   held-within is_ended n end e = omega (arith, ends-within is_ended end, e)
 
   -- a line has a byte
@@ -62,18 +63,18 @@ module _ (gave : List ℕ → Type 0) (old held : List ℕ) (room taken passed l
   some-byte true n some e = omega (arith, e)
   some-byte false n some e = let long : 0 < passed + len = ⊎_elim (λ h. h) (λ e. absurd (true≢false (sym e))) some in omega (arith, e, long)
 
-  pub takes : (is_ended : Bool) → EndIs held len is_ended told_end → (0 < passed + len) ⊎ (is_ended ≡ true)
+  pub takes : (is_ended : Bool) → EndIs held len is_ended at_end → (0 < passed + len) ⊎ (is_ended ≡ true)
       → (before after : Reading) (n : ℕ) → before.rest ≡ old → n ≡ len + cond is_ended 1 0 → after.rest ≡ drop n held
       → after.lent ≡ before.lent + (passed + n) → before.lent + (length old + room) ≤ INPUT_LIMIT
       → after.number ≡ before.number + 1 → after.phase ≡ cond is_ended Open Ended
-      → Takes before s.given told_end (piece_at s.front held len is_ended) after
+      → Takes before s.given at_end (piece_at s.front held len is_ended) after
   takes is_ended end some before after n rest count left lent limit number phase =
       let whole = Seeking-sum gave old held room taken passed len s in
       let within = held-within is_ended n end count in
       let sum : after.lent + length after.rest ≡ before.lent + (length old + taken) = omega (arith, lent, ap length left, length-drop n held, whole, within) in
       record {
-        first = subst (λ l. BeginsWith (l ++ s.given) told_end (piece_at s.front held len is_ended) after.rest) (sym rest)
-            (subst (λ l. BeginsWith (old ++ s.given) told_end (piece_at s.front held len is_ended) l) (sym (left ∙ ap (λ k. drop k held) count)) (begins is_ended end some));
+        first = subst (λ l. BeginsWith (l ++ s.given) at_end (piece_at s.front held len is_ended) after.rest) (sym rest)
+            (subst (λ l. BeginsWith (old ++ s.given) at_end (piece_at s.front held len is_ended) l) (sym (left ∙ ap (λ k. drop k held) count)) (begins is_ended end some));
         lent = omega (arith, sum, ap length rest, length-append before.rest s.given, s.taken_is);
         within = omega (arith, sum, limit, s.within);
         number = number;
@@ -117,24 +118,24 @@ over-limit gave old held room passed b lent s limit =
     )
 
 -- the faults that end the reading, out of what the search found
-pub over-fault : (gave : List ℕ → Type 0) (old held : List ℕ) (room passed b : ℕ) (told_end good failed : Type 0)
+pub over-fault : (gave : List ℕ → Type 0) (old held : List ℕ) (room passed b : ℕ) (at_end : Type 0) (tally then : Tally)
     → (s : Seeking gave old held room room passed (length held)) (before after : Reading) (at : At) (fault : Fault)
-    → fault ≡ InputTooLong → before.rest ≡ old → before.lent + (length old + room) ≡ INPUT_LIMIT → Stops before at after → good
-    → FaultIs before (s.given ++ b ∷ []) told_end good failed at fault after
-over-fault gave old held room passed b told_end good failed s before after at fault is rest limit stops well =
+    → fault ≡ InputTooLong → before.rest ≡ old → before.lent + (length old + room) ≡ INPUT_LIMIT → Stops before at after → then ≡ tally
+    → FaultIs before (s.given ++ b ∷ []) at_end tally then at fault after
+over-fault gave old held room passed b at_end tally then s before after at fault is rest limit stops well =
     let facts = over-limit gave old held room passed b before.lent s limit in
     let P : List ℕ → Type 0 = λ l. (INPUT_LIMIT < before.lent + length (l ++ (s.given ++ b ∷ []))) × HasNoFeed (take (INPUT_LIMIT - before.lent) (l ++ (s.given ++ b ∷ []))) in
     let there = subst P (sym rest) facts in
-    subst (λ f. FaultIs before (s.given ++ b ∷ []) told_end good failed at f after) (sym is) (there.0, there.1, stops, well)
+    subst (λ f. FaultIs before (s.given ++ b ∷ []) at_end tally then at f after) (sym is) (there.0, there.1, stops, well)
 
-pub read-fault : (gave : List ℕ → Type 0) (old held : List ℕ) (room taken passed : ℕ) (told_end good failed : Type 0)
+pub read-fault : (gave : List ℕ → Type 0) (old held : List ℕ) (room taken passed : ℕ) (at_end : Type 0) (tally then : Tally)
     → (s : Seeking gave old held room taken passed (length held)) (before after : Reading) (at : At) (fault : Fault)
-    → fault ≡ ReadFailed → before.rest ≡ old → before.lent + (length old + room) ≡ INPUT_LIMIT → Stops before at after → failed
-    → FaultIs before s.given told_end good failed at fault after
-read-fault gave old held room taken passed told_end good failed s before after at fault is rest limit stops bad =
+    → fault ≡ ReadFailed → before.rest ≡ old → before.lent + (length old + room) ≡ INPUT_LIMIT → Stops before at after → then ≡ with_failure tally
+    → FaultIs before s.given at_end tally then at fault after
+read-fault gave old held room taken passed at_end tally then s before after at fault is rest limit stops bad =
     let none : HasNoFeed (before.rest ++ s.given) = subst HasNoFeed (sym (ap (λ l. l ++ s.given) rest ∙ s.input)) (Seeking-none gave old held room taken passed s) in
     let within : before.lent + length (before.rest ++ s.given) ≤ INPUT_LIMIT = omega (arith, length-append before.rest s.given, ap length rest, s.taken_is, s.within, limit) in
-    subst (λ f. FaultIs before s.given told_end good failed at f after) (sym is) (within, none, stops, bad)
+    subst (λ f. FaultIs before s.given at_end tally then at f after) (sym is) (within, none, stops, bad)
 
 -- the first line is the one whose content stands in a part of the window
 pub shown-line : (front part content : List ℕ) (is_ended has_return is_plain : Bool) → front ++ part ≡ part

@@ -1,5 +1,5 @@
 -- Printed codes.
-use Rattle.std.proofs.Common.{true, false, ◌≡◌, ◌≢◌, ◌==◌, ℕ, ℤ, pos, negsuc, neg_ℤ, suc, ◌+◌, ◌-◌, ◌≤◌, ◌<◌, ◌^◌, List, [], ◌∷◌, ◌++◌, length, get_or, decimal, Some, inl, inr, arith, ap, sym, ◌∙◌, refl}
+use Rattle.std.proofs.Common.{true, false, ◌≡◌, ◌≢◌, ◌==◌, ℕ, ℤ, pos, negsuc, neg_ℤ, suc, ◌+◌, ◌-◌, ◌≤◌, ◌<◌, ◌^◌, List, [], ◌∷◌, ◌++◌, length, get_or, take, slice_set, decimal, Some, inl, inr, arith, ap, sym, ◌∙◌, refl}
 use Rattle.std.proofs.lemmas.Bool.{cases_lt}
 use Rattle.std.proofs.lemmas.Bool.Decides.{nat_tests}
 use Rattle.std.proofs.lemmas.Fmt.{decimal_digit, decimal_nonempty, length-decimal-le}
@@ -14,6 +14,7 @@ use Rattle.crx_text.specs.declared.code.Code.TheVariants.{Missing, Start, Step}
 use Rattle.crx_text.specs.declared.limits.TheConstants.{DIGITS_LIMIT, ORDER_LIMIT}
 use Rattle.crx_text.specs.Codes.{code_of, code_text, coded_number, is_order, step_of, IsPrintable, IsShort}
 use Rattle.crx_text.specs.Numbers.{without_minus}
+use Rattle.crx_text.proofs.DigitPairs.{two_written}
 use Rattle.crx_text.proofs.CodeReads.{coded_number_fitting}
 use Rattle.crx_text.proofs.ReadBack.{decimal_first, decimal_is_digits, decimal_weighs, digits_own}
 
@@ -21,9 +22,23 @@ use Rattle.crx_text.proofs.ReadBack.{decimal_first, decimal_is_digits, decimal_w
 pub code_text_start : (order : ℕ) (value : ℤ) → order < 10 → code_text (Start order value) ≡ (48 + order) ∷ 38 ∷ signed_decimal value
 code_text_start order value small = ap (λ (ds : List ℕ). ds ++ 38 ∷ signed_decimal value) (decimal_digit order small)
 
--- two bytes and a number, one after the other
-pub three_appends : (text number : List ℕ) (a b : ℕ) → ((text ++ a ∷ []) ++ b ∷ []) ++ number ≡ text ++ (a ∷ b ∷ number)
-three_appends text number a b = append_assoc (text ++ a ∷ []) (b ∷ []) number ∙ append_assoc text (a ∷ []) (b ∷ number)
+signed_decimal_length : (z : ℤ) → IsShort z → length (signed_decimal z) ≤ DIGITS_LIMIT + 1
+signed_decimal_length (pos n) short = let few = length-decimal-le DIGITS_LIMIT n (omega arith) short (omega arith) in omega (arith, few)
+signed_decimal_length (negsuc n) short = let few = length-decimal-le DIGITS_LIMIT (suc n) (omega arith) short (omega arith) in omega (arith, few)
+
+-- how long a code's text may be
+pub code_text_length : (code : Code) → IsPrintable code → length (code_text code) ≤ 21
+code_text_length Missing printable = omega arith
+code_text_length (Start order value) printable =
+    let whole = ap length (code_text_start order value (omega (arith, printable.0))) in
+    let number = signed_decimal_length value printable.1 in
+    omega (arith, whole, number)
+code_text_length (Step difference) printable = let number = signed_decimal_length difference printable in omega (arith, number)
+
+-- an order, & and a number, written one after another
+pub start_written : (bytes number : List ℕ) (at order : ℕ) → at + 2 ≤ length bytes → take (at + 2) (slice_set (slice_set bytes at (48 + order)) (at + 1) 38) ++ number ≡ take at bytes ++ (48 + order) ∷ 38 ∷ number
+start_written bytes number at order room =
+    ap (λ (t : List ℕ). t ++ number) (two_written bytes at (48 + order) 38 room) ∙ append_assoc (take at bytes) ((48 + order) ∷ 38 ∷ []) number
 
 -- ---- reading back
 

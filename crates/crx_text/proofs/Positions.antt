@@ -1,8 +1,12 @@
 -- Texts by position, and the blanks at their ends.
-use Rattle.std.proofs.Common.{false, ℕ, suc, zero, ◌≡◌, ◌≢◌, ◌==◌, ◌+◌, ◌-◌, ◌<◌, ◌≤◌, max, ◌↔◌, Result, Ok, Err, IsErr, OnOk, List, [], ◌∷◌, ◌++◌, length, drop, take, get_or, arith, refl, ap, sym, ◌∙◌}
+use Rattle.std.proofs.Common.{true, false, Bool, if◌then◌else◌, ℕ, suc, zero, ◌≡◌, ◌≢◌, ◌==◌, ◌+◌, ◌-◌, ◌<◌, ◌≤◌, List, [], ◌∷◌, ◌++◌, length, drop, take, get_or, replicate, arith, refl, ap, sym, ◌∙◌}
+use Rattle.std.proofs.lemmas.Bool.{and_parts}
 use Rattle.std.proofs.lemmas.Bool.Decides.{nat_tests}
-use Rattle.std.proofs.lemmas.List.{drop_all, take_more, append_assoc}
-use Rattle.crx_text.specs.Columns.{before_end_blanks, without_end_blanks}
+use Rattle.std.proofs.lemmas.List.{take_more}
+use Rattle.std.proofs.Math.Seq.{take-add}
+use Rattle.std.specs.List.{list_all}
+use Rattle.std.specs.Simd.Lanes.{zip2, chunk}
+use Rattle.crx_text.specs.Columns.{is_blank, before_end_blanks, without_end_blanks}
 use Rattle.crx_text.specs.Texts.{by_position}
 
 pub without_end_blanks-blank : (xs : List ℕ) → without_end_blanks (xs ++ 32 ∷ []) ≡ without_end_blanks xs
@@ -27,38 +31,42 @@ trim_blank bytes n some within blank =
     ap (λ (k : ℕ). take k bytes) sum ∙ (take_more bytes (n - 1) 0 (omega arith) ∙ ap (λ (c : ℕ). take (n - 1) bytes ++ c ∷ []) blank) in
     sym (ap without_end_blanks split ∙ without_end_blanks-blank (take (n - 1) bytes))
 
+all_blank : (bs : List ℕ) → list_all is_blank bs ≡ true → without_end_blanks bs ≡ []
+all_blank [] blank = refl
+all_blank (b ∷ bs) blank =
+    let first : is_blank b ≡ true = (and_parts (is_blank b) (list_all is_blank bs) blank).0 in
+    let rest : list_all is_blank bs ≡ true = (and_parts (is_blank b) (list_all is_blank bs) blank).1 in
+    ap (before_end_blanks b) (all_blank bs rest) ∙ ap (λ (t : Bool). if t then [] else b ∷ []) first
+
+without_end_blanks-blanks : (xs bs : List ℕ) → list_all is_blank bs ≡ true → without_end_blanks (xs ++ bs) ≡ without_end_blanks xs
+without_end_blanks-blanks [] bs blank = all_blank bs blank
+without_end_blanks-blanks (x ∷ xs) bs blank = ap (before_end_blanks x) (without_end_blanks-blanks xs bs blank)
+
+-- the last of some first bytes are all blanks
+pub trim_blanks : (bytes : List ℕ) (n count : ℕ) → count ≤ n → list_all is_blank (chunk (n - count) count bytes) ≡ true → without_end_blanks (take (n - count) bytes) ≡ without_end_blanks (take n bytes)
+trim_blanks bytes n count some blank =
+    let sum : n ≡ n - count + count = omega arith in
+    sym (ap (λ (k : ℕ). without_end_blanks (take k bytes)) sum ∙ ap without_end_blanks (take-add (n - count) count bytes)
+    ∙ without_end_blanks-blanks (take (n - count) bytes) (chunk (n - count) count bytes) blank)
+
 pub trim_done : (bytes : List ℕ) (n : ℕ) → 0 < n → n ≤ length bytes → get_or bytes (n - 1) 0 ≢ 32 → without_end_blanks (take n bytes) ≡ take n bytes
 trim_done bytes n some within other =
     let sum : n ≡ n - 1 + 1 = omega arith in
     let split : take n bytes ≡ take (n - 1) bytes ++ get_or bytes (n - 1) 0 ∷ [] = ap (λ (k : ℕ). take k bytes) sum ∙ take_more bytes (n - 1) 0 (omega arith) in
     ap without_end_blanks split ∙ (without_end_blanks-other (get_or bytes (n - 1) 0) other (take (n - 1) bytes) ∙ sym split)
 
--- one position
-pub by_position-step : (f : ℕ → ℕ → ℕ) (xs ys : List ℕ) (i : ℕ) → i < max (length xs) (length ys) → by_position f (drop i xs) (drop i ys) ≡ f (get_or xs i 32) (get_or ys i 32) ∷ by_position f (drop (suc i) xs) (drop (suc i) ys)
-by_position-step f [] [] i within = absurd (omega arith)
-by_position-step f (x ∷ xs) [] zero within = refl
-by_position-step f [] (y ∷ ys) zero within = refl
-by_position-step f (x ∷ xs) (y ∷ ys) zero within = refl
-by_position-step f (x ∷ xs) [] (suc i) within =
-    let none : drop {A = ℕ} i [] ≡ [] = drop_all i [] (omega arith) in
-    let rest = by_position-step f xs [] i (omega arith) in
-    rw none at rest
-by_position-step f [] (y ∷ ys) (suc i) within =
-    let none : drop {A = ℕ} i [] ≡ [] = drop_all i [] (omega arith) in
-    let rest = by_position-step f [] ys i (omega arith) in
-    rw none at rest
-by_position-step f (x ∷ xs) (y ∷ ys) (suc i) within = by_position-step f xs ys i (omega arith)
+-- ---- two texts as far as both go, and the rest of one
 
-pub by_position-end : (f : ℕ → ℕ → ℕ) (xs ys : List ℕ) (i : ℕ) → length xs ≤ i → length ys ≤ i → by_position f (drop i xs) (drop i ys) ≡ []
-by_position-end f xs ys i first second = rw (drop_all i xs first, drop_all i ys second) refl
+pub by_position-split : (f : ℕ → ℕ → ℕ) (n : ℕ) (xs ys : List ℕ) → n ≤ length xs → n ≤ length ys → by_position f xs ys ≡ zip2 f (take n xs) (take n ys) ++ by_position f (drop n xs) (drop n ys)
+by_position-split f zero xs ys first second = refl
+by_position-split f (suc n) [] ys first second = absurd (omega arith)
+by_position-split f (suc n) (x ∷ xs) [] first second = absurd (omega arith)
+by_position-split f (suc n) (x ∷ xs) (y ∷ ys) first second = ap (λ t. f x y ∷ t) (by_position-split f n xs ys (omega arith) (omega arith))
 
--- one more position is written
-pub by_position-written : (f : ℕ → ℕ → ℕ) (xs ys out : List ℕ) (i : ℕ) → i < max (length xs) (length ys) → by_position f xs ys ≡ out ++ by_position f (drop i xs) (drop i ys) → by_position f xs ys ≡ (out ++ f (get_or xs i 32) (get_or ys i 32) ∷ []) ++ by_position f (drop (i + 1) xs) (drop (i + 1) ys)
-by_position-written f xs ys out i within so_far =
-    let next : i + 1 ≡ suc i = omega arith in
-    rw next (so_far ∙ (ap (λ (t : List ℕ). out ++ t) (by_position-step f xs ys i within) ∙ sym (append_assoc out (f (get_or xs i 32) (get_or ys i 32) ∷ []) (by_position f (drop (suc i) xs) (drop (suc i) ys)))))
+pub by_position-old : (f : ℕ → ℕ → ℕ) (xs : List ℕ) → by_position f xs [] ≡ zip2 f xs (replicate (length xs) 32)
+by_position-old f [] = refl
+by_position-old f (x ∷ xs) = ap (λ t. f x 32 ∷ t) (by_position-old f xs)
 
--- a call that fails only where it can't
-pub holds_if_ok : {T E Full Q : Type 0} (r : Result T E) → (IsErr r ↔ Full) → (Full → ⊥) → OnOk r Q → Q
-holds_if_ok (Ok x) full room q = q
-holds_if_ok (Err e) full room q = absurd (room (full.0 refl))
+pub by_position-other : (f : ℕ → ℕ → ℕ) (ys : List ℕ) → by_position f [] ys ≡ zip2 f (replicate (length ys) 32) ys
+by_position-other f [] = refl
+by_position-other f (y ∷ ys) = ap (λ t. f 32 y ∷ t) (by_position-other f ys)

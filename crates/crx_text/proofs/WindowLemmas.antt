@@ -1,5 +1,5 @@
 -- The bytes of a window, after a read past its end or a step of its start.
-use Rattle.std.proofs.Common.{◌≡◌, ℕ, ◌+◌, ◌-◌, ◌≤◌, List, ◌++◌, length, take, drop, slice_range, refl, sym, ap, ◌∙◌, arith}
+use Rattle.std.proofs.Common.{◌≡◌, ℕ, ◌+◌, ◌-◌, ◌≤◌, List, ◌++◌, length, take, drop, slice_range, refl, sym, ap, ◌∙◌, arith, append-nil}
 use Rattle.std.proofs.lemmas.List.{take_at, drop_at, take-append-le, drop-append-le, drop-take, drop-drop, length-take-le, length-take, length-drop}
 use Rattle.std.proofs.Math.Seq.{take-add}
 use borrow.Rule.Slice.PartMut.{put_mid, post_of}
@@ -30,3 +30,10 @@ passed xs start end count inside =
 -- a window holds no more than it spans
 pub length-kept : (xs : List ℕ) (start end : ℕ) → length (slice_range xs start end) ≤ end
 length-kept xs start end = omega (arith, length-take (end - start) (drop start xs))
+
+-- what was read past the end is not held
+pub unread : (xs ys : List ℕ) (start end k : ℕ) → start ≤ end → end ≤ length xs
+    → slice_range (put_mid end k xs ys) start end ≡ slice_range xs start end
+unread xs ys start end k ordered within =
+    let same : end + 0 ≡ end = omega arith in
+    ap (slice_range (put_mid end k xs ys) start) (sym same) ∙ grown xs ys start end k 0 ordered within (omega arith) ∙ append-nil (slice_range xs start end)

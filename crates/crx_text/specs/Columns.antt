@@ -1,4 +1,4 @@
--- Lines as rows of columns: columns count from 1, and blanks stand without end behind a line.
+-- Lines as rows of columns: columns count from 1, and blanks stand without end after a line.
 -- RINEX 3.05, appendix A (its tables A1 to A3 count columns so).
 use Rattle.std.specs.Prelude.{ℕ, Bool, List, [], ◌∷◌, ◌++◌, ◌-◌, ◌==◌, if◌then◌else◌, take, drop, replicate, slice_index_or}
 

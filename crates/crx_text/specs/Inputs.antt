@@ -1,5 +1,6 @@
 -- A whole input, as its lines were read.
 use Rattle.std.specs.Prelude.{◌≡◌, ℕ, ◌+◌, ◌<◌, ◌≤◌, List, [], ◌++◌, Option, Some, None, Result, Ok, Err, length, take, map}
+use Rattle.crx_text.specs.Devices.{Tally, with_end, tally_after_line}
 use Rattle.crx_text.specs.Lines.{Piece, lines_of, line_of}
 use Rattle.crx_text.specs.Reading.{Reading, Takes, FaultIs}
 use Rattle.crx_text.specs.declared.phase.Phase.TheVariants.{Ended}
@@ -28,24 +29,24 @@ StopsWith lines given good failed line ReadFailed =
     (length given ≤ INPUT_LIMIT) × (lines ≡ map seen (ended_lines_of given)) × (line ≡ length lines + 1) × failed
 StopsWith lines given good failed line _ = ⊥
 
--- what was read of the bytes that a reader gave: all lines, where the end was told, or those before a fault
+-- what was read of the bytes that a reader gave: all lines, where the end was reported, or those before a fault
 abbrev pub ReadAs : List ReadLine → Option At → List ℕ → Type 0 → Type 0 → Type 0 → Type 0
-ReadAs lines None given told_end good failed =
-    told_end × (length given ≤ INPUT_LIMIT) × (lines ≡ map seen (lines_of given)) × good
-ReadAs lines (Some at) given told_end good failed = StopsWith lines given good failed at.line at.fault
+ReadAs lines None given at_end good failed =
+    at_end × (length given ≤ INPUT_LIMIT) × (lines ≡ map seen (lines_of given)) × good
+ReadAs lines (Some at) given at_end good failed = StopsWith lines given good failed at.line at.fault
 
--- a fault between two lines: want of memory for a line that was taken, or a fault that ends the reading
-abbrev pub HoldFails : Reading → List ℕ → Type 0 → Type 0 → Type 0 → At → Fault → Reading → Type 0
-HoldFails old given told_end good failed at OutOfMemory new =
-    (p : Piece) × Takes old given told_end p new × (at.line ≡ new.number) × good
-HoldFails old given told_end good failed at InputTooLong new = FaultIs old given told_end good failed at InputTooLong new
-HoldFails old given told_end good failed at ReadFailed new = FaultIs old given told_end good failed at ReadFailed new
-HoldFails old given told_end good failed at _ new = ⊥
+-- a fault between two lines: memory ran out for a line that was taken, or a fault that ends the reading
+abbrev pub HoldFails : Reading → List ℕ → Type 0 → Tally → Tally → At → Fault → Reading → Type 0
+HoldFails old given at_end before after at OutOfMemory new =
+    (p : Piece) × Takes old given at_end p new × (at.line ≡ new.number) × (after ≡ tally_after_line p.is_ended before)
+HoldFails old given at_end before after at InputTooLong new = FaultIs old given at_end before after at InputTooLong new
+HoldFails old given at_end before after at ReadFailed new = FaultIs old given at_end before after at ReadFailed new
+HoldFails old given at_end before after at _ new = ⊥
 
 -- the next line as it is held, or none, at the end, or a fault
-abbrev pub HoldsNext : Reading → List ℕ → Type 0 → Type 0 → Type 0 → Result (Option HeldLine) At → Reading → Type 0
-HoldsNext old given told_end good failed (Ok (Some h)) new =
-    (p : Piece) × Takes old given told_end p new × (held_seen h ≡ seen (line_of p)) × good
-HoldsNext old given told_end good failed (Ok None) new =
-    (old.rest ++ given ≡ []) × told_end × (new ≡ record old { rest = []; phase = Ended }) × good
-HoldsNext old given told_end good failed (Err at) new = HoldFails old given told_end good failed at at.fault new
+abbrev pub HoldsNext : Reading → List ℕ → Type 0 → Tally → Tally → Result (Option HeldLine) At → Reading → Type 0
+HoldsNext old given at_end before after (Ok (Some h)) new =
+    (p : Piece) × Takes old given at_end p new × (held_seen h ≡ seen (line_of p)) × (after ≡ tally_after_line p.is_ended before)
+HoldsNext old given at_end before after (Ok None) new =
+    (old.rest ++ given ≡ []) × at_end × (new ≡ record old { rest = []; phase = Ended }) × (after ≡ with_end before)
+HoldsNext old given at_end before after (Err at) new = HoldFails old given at_end before after at at.fault new

@@ -1,4 +1,4 @@
--- The lines of an input: RINEX files are text, and a line ends with LF, alone or behind one CR.
+-- The lines of an input: RINEX files are text, and a line ends with LF, alone or after one CR.
 use Rattle.std.specs.Prelude.{ℕ, ◌≢◌, Bool, true, false, not, List, [], ◌∷◌, All, ◌==◌, ◌&&◌, if◌then◌else◌, nat_lt, length, map}
 use Rattle.crx_text.specs.declared.limits.TheConstants.{LINE_LIMIT}
 
@@ -12,7 +12,7 @@ abbrev pub onto_first : ℕ → List Piece → List Piece
 onto_first b [] = record { bytes = b ∷ []; is_ended = false } ∷ []
 onto_first b (p ∷ ps) = record { bytes = b ∷ p.bytes; is_ended = p.is_ended } ∷ ps
 
--- the bytes cut at LF; what stands behind the last LF is a piece if it isn't empty
+-- the bytes cut at LF; what comes after the last LF is a piece if it isn't empty
 abbrev pub pieces_of : List ℕ → List Piece
 pieces_of [] = []
 pieces_of (b ∷ bs) = if b == 10 then record { bytes = []; is_ended = true } ∷ pieces_of bs else onto_first b (pieces_of bs)

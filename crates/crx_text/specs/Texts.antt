@@ -2,7 +2,7 @@
 use Rattle.std.specs.Prelude.{ℕ, Bool, not, List, [], ◌∷◌, ◌==◌, ◌&&◌, nat_le, if◌then◌else◌}
 use Rattle.crx_text.specs.Columns.{is_blank, without_end_blanks}
 
--- f of the characters of two texts, position by position, blanks standing behind the shorter
+-- f of the characters of two texts, position by position, blanks standing after the shorter
 abbrev pub by_position : (ℕ → ℕ → ℕ) → List ℕ → List ℕ → List ℕ
 by_position f [] [] = []
 by_position f (a ∷ as') [] = f a 32 ∷ by_position f as' []

@@ -1,13 +1,13 @@
 //! Codes of numbers: Hatanaka's Compact RINEX 3.0, the codes of satellite lines and of the clock line.
 
-ghost use Rattle.std.specs.Prelude.{◌≡◌, ◌+◌, ◌<◌, ◌++◌, ◌↔◌, length, IfOk, IfSome, OnOk, OnErr, IsErr};
+ghost use Rattle.std.specs.Prelude.{◌≡◌, ◌+◌, ◌<◌, ◌≤◌, [], ◌∷◌, ◌++◌, ◌↔◌, length, take, drop, IfOk, IfSome, OnOk, OnErr, IsErr};
+ghost use Rattle.std.specs.Option.{option_map};
 ghost use Rattle.std.specs.Result.{result_ok};
 
-use crate::digits::{digits_read, signed, split_minus};
+use crate::digits::{digits_before_blank, digits_read, signed, split_minus, write_signed};
 use crate::limits::{DIGITS_LIMIT, LINE_LIMIT, ORDER_LIMIT};
 use crate::number::BadField;
 use crate::text::{Text, TextFull};
-use itoa::Buffer;
 
 /// What stands for a value in compact text.
 #[derive(Clone, Copy, Debug, PartialEq, Eq)]
@@ -25,32 +25,105 @@ pub enum Code {
     Step(i64),
 }
 
-ghost use Rattle.crx_text.specs.Codes.{IsPrintable, IsShort, code_of, code_text, coded_number};
+ghost use Rattle.crx_text.specs.Codes.{IsPrintable, IsShort, after_cell, code_of, code_text, coded_number, first_cell, is_order};
 ghost use Rattle.crx_text.specs.declared.limits.TheConstants.{LINE_LIMIT};
 
-/// Appends a code's printed text: an order is one digit, and `&` stands behind it. It asks for an
+/// The most bytes of a code's text: an order, `&`, a minus and the digits.
+const CODE_WIDTH: usize = DIGITS_LIMIT + 3;
+
+/// Appends a code's printed text: an order is one digit, and `&` stands after it. It asks for an
 /// order and numbers within the limits. `TextFull` comes only where the text would pass
 /// [`LINE_LIMIT`] bytes, and then it stays as it was.
+#[inline]
+#[tactic(auto, using(crate::proofs::CodeTexts::code_text_length))]
 pub fn code_print(code: Code, text: &mut Text) -> Result<(), TextFull>
     requires { IsPrintable code }
     ensures ok { OnOk result (text.new ≡ text.old ++ code_text code) }
     ensures full { IsErr result ↔ (LINE_LIMIT < length text.old + length (code_text code)) }
     ensures err { OnErr result (text.new ≡ text.old) }
 {
-    let room = LINE_LIMIT - text.len();
-    let mut buffer = Buffer::new();
+    if LINE_LIMIT - text.len < CODE_WIDTH {
+        return code_print_at_end(code, text);
+    }
+    text.len = write_code(&mut text.bytes, text.len, code);
+    Ok(())
+}
+
+/// Appends a code's printed text and a blank, both or none; else as [`code_print`].
+#[inline]
+#[tactic(auto, using(crate::proofs::CodeTexts::code_text_length))]
+pub fn code_print_cell(code: Code, text: &mut Text) -> Result<(), TextFull>
+    requires { IsPrintable code }
+    ensures ok { OnOk result (text.new ≡ text.old ++ (code_text code ++ 32 ∷ [])) }
+    ensures full { IsErr result ↔ (LINE_LIMIT < length text.old + length (code_text code) + 1) }
+    ensures err { OnErr result (text.new ≡ text.old) }
+{
+    if LINE_LIMIT - text.len <= CODE_WIDTH {
+        return cell_print_at_end(code, text);
+    }
+    text.len = write_cell(&mut text.bytes, text.len, code);
+    Ok(())
+}
+
+// The same as `code_print`, where there may be no room for every code.
+#[cold]
+#[inline(never)]
+#[tactic(auto, using(crate::proofs::CodeTexts::code_text_length))]
+fn code_print_at_end(code: Code, text: &mut Text) -> Result<(), TextFull>
+    requires { IsPrintable code }
+    ensures ok { OnOk result (text.new ≡ text.old ++ code_text code) }
+    ensures full { IsErr result ↔ (LINE_LIMIT < length text.old + length (code_text code)) }
+    ensures err { OnErr result (text.new ≡ text.old) }
+{
+    let mut printed = [b' '; CODE_WIDTH];
+    let end = write_code(&mut printed, 0, code);
+    text.extend(&printed[..end])
+}
+
+// The same as `code_print_cell`.
+#[cold]
+#[inline(never)]
+#[tactic(auto, using(crate::proofs::CodeTexts::code_text_length))]
+fn cell_print_at_end(code: Code, text: &mut Text) -> Result<(), TextFull>
+    requires { IsPrintable code }
+    ensures ok { OnOk result (text.new ≡ text.old ++ (code_text code ++ 32 ∷ [])) }
+    ensures full { IsErr result ↔ (LINE_LIMIT < length text.old + length (code_text code) + 1) }
+    ensures err { OnErr result (text.new ≡ text.old) }
+{
+    let mut printed = [b' '; CODE_WIDTH + 1];
+    let end = write_cell(&mut printed, 0, code);
+    text.extend(&printed[..end])
+}
+
+// Writes a code's text and a blank from an index on, and answers the index after them.
+#[inline(always)]
+fn write_cell(buffer: &mut [u8], at: usize, code: Code) -> usize
+    requires printable { IsPrintable code }
+    requires room { at + length (code_text code) < length buffer.old }
+    ensures written { take result buffer.new ≡ take at buffer.old ++ (code_text code ++ 32 ∷ []) }
+    ensures within { result ≡ at + length (code_text code) + 1 }
+{
+    let end = write_code(buffer, at, code);
+    buffer[end] = b' ';
+    end + 1
+}
+
+// Writes a code's text from an index on, and answers the index after it.
+#[inline(always)]
+fn write_code(buffer: &mut [u8], at: usize, code: Code) -> usize
+    requires printable { IsPrintable code }
+    requires room { at + length (code_text code) ≤ length buffer.old }
+    ensures written { take result buffer.new ≡ take at buffer.old ++ code_text code }
+    ensures within { result ≡ at + length (code_text code) }
+{
     match code {
-        Code::Missing => Ok(()),
+        Code::Missing => at,
         Code::Start { order, value } => {
-            let number = buffer.format(value).as_bytes();
-            if room < 2 + number.len() {
-                return Err(TextFull);
-            }
-            text.push(b'0' + order)?;
-            text.push(b'&')?;
-            text.extend(number)
+            buffer[at] = b'0' + order;
+            buffer[at + 1] = b'&';
+            write_signed(buffer, at + 2, value)
         }
-        Code::Step(difference) => text.extend(buffer.format(difference).as_bytes()),
+        Code::Step(difference) => write_signed(buffer, at, difference),
     }
 }
 
@@ -64,7 +137,7 @@ pub fn code_read(text: &[u8]) -> Result<Code, BadField>
     match text {
         [] => Ok(Code::Missing),
         [order, b'&', number @ ..] => {
-            if !order.is_ascii_digit() || ORDER_LIMIT < *order - b'0' {
+            if !is_order(*order) {
                 return Err(BadField);
             }
             match coded_number_read(number) {
@@ -82,11 +155,47 @@ pub fn code_read(text: &[u8]) -> Result<Code, BadField>
     }
 }
 
+/// Reads the code up to a line's first blank, or up to its end, and answers it with the index after
+/// that blank, or of the line's end. Spellings and `BadField` are those of [`code_read`].
+#[inline]
+pub fn code_before_blank(line: &[u8]) -> Result<(Code, usize), BadField>
+    ensures value { option_map (λ cell. cell.0) (result_ok result) ≡ code_of (first_cell line.now) }
+    ensures next { IfOk result (λ cell. drop cell.1 line.now ≡ after_cell line.now) }
+    ensures within { IfOk result (λ cell. cell.1 ≤ length line.now) }
+    ensures printable { IfOk result (λ cell. IsPrintable cell.0) }
+{
+    match line {
+        [] => Ok((Code::Missing, 0)),
+        [b' ', ..] => Ok((Code::Missing, 1)),
+        [order, b'&', rest @ ..] => {
+            if !is_order(*order) {
+                return Err(BadField);
+            }
+            let order = *order - b'0';
+            match number_before_blank(rest) {
+                Some((value, next)) => Ok((Code::Start { order, value }, next + 2)),
+                None => Err(BadField),
+            }
+        }
+        _ => match number_before_blank(line) {
+            Some((difference, next)) => Ok((Code::Step(difference), next)),
+            None => Err(BadField),
+        },
+    }
+}
+
 /// A law: what is printed of a code is read back.
 pub fn code_is_read_back(code: Code)
     requires { IsPrintable code }
     ensures { code_of (code_text code) ≡ Some code }
 {}
+
+// Whether the character is an order that may be read.
+fn is_order(character: u8) -> bool
+    ensures { result ≡ is_order character }
+{
+    character.is_ascii_digit() && character - b'0' <= ORDER_LIMIT
+}
 
 // The number in a code; None where the text is none.
 fn coded_number_read(text: &[u8]) -> Option<i64>
@@ -99,6 +208,19 @@ fn coded_number_read(text: &[u8]) -> Option<i64>
     }
     let size = digits_read(0, digits)?;
     Some(signed(is_below, size))
+}
+
+// The number up to a text's first blank, and the index after that blank; None where it is none.
+#[inline(always)]
+fn number_before_blank(text: &[u8]) -> Option<(i64, usize)>
+    ensures value { option_map (λ cell. cell.0) result ≡ coded_number (first_cell text.now) }
+    ensures next { IfSome result (λ cell. drop cell.1 text.now ≡ after_cell text.now) }
+    ensures within { IfSome result (λ cell. cell.1 ≤ length text.now) }
+    ensures short { IfSome result (λ cell. IsShort cell.0) }
+{
+    let (is_below, digits) = split_minus(text);
+    let (size, next) = digits_before_blank(digits)?;
+    Some((signed(is_below, size), next + usize::from(is_below)))
 }
 
 #[cfg(test)]

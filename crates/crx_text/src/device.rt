@@ -1,9 +1,10 @@
 //! The devices that bytes come from and go to. Each one counts its failures, so that a contract
-//! can say of a run that none happened, and what became of the bytes where one did.
+//! can say of a run that none happened, and what became of the bytes where one did. A source also
+//! counts how often it reported its end, so that a read after that shows.
 ghost use Rattle.std.specs.Prelude.{◌≡◌, ℕ, List, [], ◌++◌, ◌<◌, ◌≤◌, length, take, is_ok, IfOk, OnOk, OnErr};
 ghost use Rattle.std.specs.Io.KnownBytes.{Appends, Consumes, IsAtEnd};
 ghost use Rattle.std.proofs.KnownBytes.{Appends-nil, Appends-trans, Consumes-nil, Consumes-trans};
-ghost use Rattle.crx_text.specs.Devices.{one_more};
+ghost use Rattle.crx_text.specs.Devices.{ends_after, one_more};
 
 use std::io;
 use std::io::{Read, Write};
@@ -24,21 +25,27 @@ pub trait Source {
     // These bytes, in this order, lead from the first state to the second.
     ghost gave: { Self → List ℕ → Self → Type 0 };
 
-    // No byte is left, and a read said so.
+    // No byte is left, and a read reported it.
     ghost at_end: { Self → Type 0 };
 
     // How many reads failed; the count stops at the greatest value of 64 bits.
     ghost failures: { Self → ℕ };
 
+    // How many reads reported the end; the count stops at the greatest value of 64 bits.
+    ghost ends: { Self → ℕ };
+
     /// Gives the next bytes, as many as it likes, into the front of `buffer`, and answers how
-    /// many. None into a buffer that isn't empty tells the end. What stands in the buffer past
+    /// many. None into a buffer that isn't empty reports the end. What stands in the buffer after
     /// them, or after a failure, is left open.
     fn read(&mut self, buffer: &mut [u8]) -> Result<usize, ReadFailed>
         ensures bound { IfOk result (λ n. n ≤ length buffer.new) }
         ensures bytes { IfOk result (λ n. gave self.old (take n buffer.new) self.new) }
         ensures end { IfOk result (λ n. n ≡ 0 → 0 < length buffer.new → at_end self.new) }
         ensures good { OnOk result (failures self.new ≡ failures self.old) }
+        ensures ends { IfOk result (λ n. 0 < length buffer.new → ends self.new ≡ ends_after n (ends self.old)) }
+        ensures unasked { length buffer.new ≡ 0 → ends self.new ≡ ends self.old }
         ensures none_lost { OnErr result (gave self.old [] self.new) }
+        ensures no_end { OnErr result (ends self.new ≡ ends self.old) }
         ensures counted { OnErr result (failures self.new ≡ one_more (failures self.old)) };
 
     ghost gave_none: { (s : Self) → gave s [] s };
@@ -74,20 +81,26 @@ pub trait Sink {
     ghost took_both: { (a b c : Self) (xs ys : List ℕ) → took a xs b → took b ys c → took a (xs ++ ys) c };
 }
 
-/// A reader or a writer of std as a device. Of a file nothing is known but the count of failures.
+/// A reader or a writer of std as a device. Of a file nothing is known but the counts.
 #[derive(Drop)]
 pub struct Std<D> {
     inner: D,
     failures: u64,
+    ends: u64,
 }
 
 impl<D> Std<D> {
-    /// The device, none of whose reads, writes and flushes failed yet.
+    /// The device, none of whose reads, writes and flushes failed or reported the end yet.
     pub fn new(inner: D) -> Std<D>
         ensures inner { result.inner ≡ inner }
         ensures failures { result.failures ≡ 0 }
+        ensures ends { result.ends ≡ 0 }
     {
-        Std { inner, failures: 0 }
+        Std {
+            inner,
+            failures: 0,
+            ends: 0,
+        }
     }
 
     /// The reader or writer itself.
@@ -121,8 +134,14 @@ impl<D: Read> Source for Std<D> {
 
     ghost failures = { λ s. s.failures };
 
+    ghost ends = { λ s. s.ends };
+
     fn read(&mut self, buffer: &mut [u8]) -> Result<usize, ReadFailed> {
         match self.inner.read(buffer) {
+            Ok(0) if !buffer.is_empty() => {
+                self.ends = self.ends.saturating_add(1);
+                Ok(0)
+            }
             Ok(count) => Ok(count),
             Err(_) => {
                 self.failures = self.failures.saturating_add(1);
@@ -164,3 +183,6 @@ impl<D: Write> Sink for Std<D> {
 
     ghost took_both = { λ a b c xs ys p q. Appends-trans (D.contents a.inner) (D.contents b.inner) (D.contents c.inner) xs ys p q };
 }
+
+#[cfg(test)]
+mod tests;

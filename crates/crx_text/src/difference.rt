@@ -1,11 +1,15 @@
 //! Position-wise differences of texts: Hatanaka's Compact RINEX 3.0, epoch lines and indicators.
 
-ghost use Rattle.std.specs.Prelude.{◌≡◌, ◌≤◌, length, slice_index_or, is_ok, OnOk, OnErr};
+ghost use Rattle.std.specs.Prelude.{◌≡◌, ◌+◌, ◌≤◌, ◌++◌, length, take, is_ok, OnOk, OnErr};
 ghost use Rattle.std.specs.List.{list_all};
-ghost use Rattle.crx_text.specs.Texts.{is_plain, mark_of, text_difference};
+ghost use Rattle.std.specs.Simd.Lanes.{zip2};
+ghost use Rattle.crx_text.specs.Texts.{is_plain, is_printable, mark_of, character_of, by_position, text_difference, patched};
 ghost use Rattle.crx_text.specs.declared.limits.TheConstants.{LINE_LIMIT};
 
+use crate::lanes::{Kind, Rule, all_of, write_by_rule};
+use crate::limits::LINE_LIMIT;
 use crate::text::Text;
+use std::simd::prelude::*;
 use thiserror::Error;
 
 /// A text holds a character that may not stand there.
@@ -23,49 +27,175 @@ pub fn diff_text(old: &Text, new: &[u8], out: &mut Text) -> Result<(), BadCharac
     ensures ok { OnOk result (out.new ≡ text_difference old.now new.now) }
     ensures err { OnErr result (out.new ≡ out.old) }
 {
-    if !is_all_plain(new) {
+    if !all_kept(new) {
         return Err(BadCharacter);
     }
-    let old = old.bytes();
     out.clear();
-    for column in 0..old.len().max(new.len()) {
-        let _ = out.push(mark(byte_at(old, column), byte_at(new, column)));
-    }
+    append_difference(old.bytes(), new, out);
     out.trim_end_blanks();
     Ok(())
 }
 
-fn is_all_plain(text: &[u8]) -> bool
+/// Appends the marks that lead from the old text to the new one, those of blanks at the end too. It
+/// asks for room for as many bytes as the longer text has.
+pub fn append_difference(old: &[u8], new: &[u8], out: &mut Text)
+    requires old_fits { length out.old + length old.now ≤ LINE_LIMIT }
+    requires new_fits { length out.old + length new.now ≤ LINE_LIMIT }
+    ensures { out.new ≡ out.old ++ by_position mark_of old.now new.now }
+{
+    let start = out.len;
+    out.len += write_by_position::<Marks>(old, new, &mut out.bytes[start..]);
+}
+
+/// Writes the text that marks make of the old one: a blank leaves the old character, `&` gives a
+/// blank, another character stands for itself; blanks at the end are dropped. It asks for at most
+/// [`LINE_LIMIT`](crate::limits::LINE_LIMIT) bytes. `BadCharacter` comes where the marks hold a
+/// byte outside 32 to 126, and then `out` stays as it was.
+pub fn patch_text(old: &Text, marks: &[u8], out: &mut Text) -> Result<(), BadCharacter>
+    requires { length marks.now ≤ LINE_LIMIT }
+    ensures printable { is_ok result ≡ list_all is_printable marks.now }
+    ensures ok { OnOk result (out.new ≡ patched old.now marks.now) }
+    ensures err { OnErr result (out.new ≡ out.old) }
+{
+    patch_bytes(old.bytes(), marks, out)
+}
+
+/// The same of an old text in a slice: it asks for at most
+/// [`LINE_LIMIT`](crate::limits::LINE_LIMIT) bytes there too.
+pub fn patch_bytes(old: &[u8], marks: &[u8], out: &mut Text) -> Result<(), BadCharacter>
+    requires old_fits { length old.now ≤ LINE_LIMIT }
+    requires marks_fit { length marks.now ≤ LINE_LIMIT }
+    ensures printable { is_ok result ≡ list_all is_printable marks.now }
+    ensures ok { OnOk result (out.new ≡ patched old.now marks.now) }
+    ensures err { OnErr result (out.new ≡ out.old) }
+{
+    if !all_printable(marks) {
+        return Err(BadCharacter);
+    }
+    out.len = write_by_position::<Characters>(old, marks, &mut out.bytes);
+    out.trim_end_blanks();
+    Ok(())
+}
+
+/// Whether marks can be made of a text: all its bytes are 32 to 126, and none is `&`.
+pub fn all_kept(text: &[u8]) -> bool
     ensures { result ≡ list_all is_plain text.now }
 {
-    text.iter().all(|character| is_plain(*character))
+    all_of::<Kept>(text)
 }
 
-// Whether the character may stand in a text that marks are made of.
-fn is_plain(character: u8) -> bool
-    ensures { result ≡ is_plain character }
+/// Whether a text can be marks: all its bytes are 32 to 126.
+pub fn all_printable(text: &[u8]) -> bool
+    ensures { result ≡ list_all is_printable text.now }
 {
-    32 <= character && character <= 126 && character != b'&'
+    all_of::<Printable>(text)
 }
 
-// The mark at a position.
-fn mark(old: u8, new: u8) -> u8
-    ensures { result ≡ mark_of old new }
-{
-    if old == new {
-        b' '
-    } else if new == b' ' {
-        b'&'
-    } else {
-        new
+// The characters that may stand in a text which marks are made of.
+struct Kept;
+
+impl Kind for Kept {
+    ghost is_of_kind = { is_plain };
+
+    fn holds(character: u8) -> bool {
+        32 <= character && character <= 126 && character != b'&'
+    }
+
+    fn holds_in(characters: u8x32) -> bool {
+        let others = characters.simd_lt(u8x32::splat(32))
+            | characters.simd_gt(u8x32::splat(126))
+            | characters.simd_eq(u8x32::splat(b'&'));
+        others.to_bitmask() == 0
     }
 }
 
-// The character at a position; blanks stand behind a text.
-fn byte_at(text: &[u8], position: usize) -> u8
-    ensures { result ≡ slice_index_or text.now position 32 }
+// The characters that may stand in marks.
+struct Printable;
+
+impl Kind for Printable {
+    ghost is_of_kind = { is_printable };
+
+    fn holds(character: u8) -> bool {
+        32 <= character && character <= 126
+    }
+
+    fn holds_in(characters: u8x32) -> bool {
+        let others = characters.simd_lt(u8x32::splat(32)) | characters.simd_gt(u8x32::splat(126));
+        others.to_bitmask() == 0
+    }
+}
+
+// The mark at a position.
+struct Marks;
+
+impl Rule for Marks {
+    ghost rule = { mark_of };
+
+    fn apply(old: u8, new: u8) -> u8 {
+        if old == new {
+            b' '
+        } else if new == b' ' {
+            b'&'
+        } else {
+            new
+        }
+    }
+
+    fn apply_to(old: u8x32, new: u8x32) -> u8x32 {
+        let blank = u8x32::splat(b' ');
+        let other = new.simd_eq(blank).select(u8x32::splat(b'&'), new);
+        old.simd_eq(new).select(blank, other)
+    }
+}
+
+// The character that a mark leaves at a position.
+struct Characters;
+
+impl Rule for Characters {
+    ghost rule = { character_of };
+
+    fn apply(old: u8, mark: u8) -> u8 {
+        if mark == b' ' {
+            old
+        } else if mark == b'&' {
+            b' '
+        } else {
+            mark
+        }
+    }
+
+    fn apply_to(old: u8x32, mark: u8x32) -> u8x32 {
+        let blank = u8x32::splat(b' ');
+        let other = mark.simd_eq(u8x32::splat(b'&')).select(blank, mark);
+        mark.simd_eq(blank).select(old, other)
+    }
+}
+
+static BLANKS: [u8; LINE_LIMIT] = [b' '; LINE_LIMIT];
+
+// Writes what the rule makes of two texts, blanks standing after the shorter one, and answers how
+// many characters that makes.
+fn write_by_position<R: Rule>(old: &[u8], other: &[u8], out: &mut [u8]) -> usize
+    requires fits { (length old.now ≤ length out.old) × (length other.now ≤ length out.old) }
+    requires within { length out.old ≤ LINE_LIMIT }
+    ensures written { take result out.new ≡ by_position R.rule old.now other.now }
+    ensures within { result ≤ length out.old }
+    ensures same_length { length out.new ≡ length out.old }
 {
-    text.get(position).copied().unwrap_or(b' ')
+    let common = old.len().min(other.len());
+    write_by_rule::<R>(&old[..common], &other[..common], &mut out[..common]);
+    if common < old.len() {
+        let end = old.len();
+        write_by_rule::<R>(&old[common..], &BLANKS[common..end], &mut out[common..end]);
+        return end;
+    }
+    let end = other.len();
+    write_by_rule::<R>(
+        &BLANKS[common..end],
+        &other[common..],
+        &mut out[common..end],
+    );
+    end
 }
 
 #[cfg(test)]

@@ -1,9 +1,16 @@
 //! Digits and signs, as numbers in columns and numbers in codes have them.
 
-ghost use Rattle.std.specs.Prelude.{◌≡◌, ◌+◌, ◌-◌, ◌*◌, ◌<◌, ◌≤◌, ◌^◌, Some, None, length, if◌then◌else◌, IfSome};
+ghost use Rattle.std.specs.Prelude.{◌≡◌, ◌+◌, ◌-◌, ◌*◌, ◌/◌, ◌%◌, ◌<◌, ◌≤◌, ◌^◌, Some, None, [], ◌∷◌, ◌++◌, length, take, drop, decimal, if◌then◌else◌, IfSome};
+ghost use Rattle.std.specs.Fmt.{signed_decimal};
+ghost use Rattle.std.specs.Option.{option_map};
 ghost use Rattle.std.specs.Str.{all_ascii_digits};
 ghost use Rattle.std.specs.Str.Parse.{digits_value_after, starts_with_minus};
 ghost use Rattle.crx_text.specs.Numbers.{signed_number, without_minus};
+ghost use Rattle.crx_text.specs.Codes.{after_cell, counted_digits, first_cell};
+ghost use Rattle.crx_text.specs.FirstDigits.{HasFirstDigits};
+ghost use Rattle.crx_text.specs.declared.limits.TheConstants.{DIGITS_LIMIT};
+
+use crate::limits::DIGITS_LIMIT;
 
 /// The most columns of a number, its point among them, that an `i64` holds in every spelling.
 pub(crate) const WIDEST: usize = 19;
@@ -22,6 +29,50 @@ pub(crate) fn digits_read(before: u64, digits: &[u8]) -> Option<u64>
         size = size * 10 + u64::from(*digit - b'0');
     }
     Some(size)
+}
+
+// The number that the digits up to a text's first blank write, and the index after that blank or of
+// the text's end; None where there is no digit, too many, or something else.
+#[inline(always)]
+pub(crate) fn digits_before_blank(text: &[u8]) -> Option<(u64, usize)>
+    ensures value { option_map (λ cell. cell.0) result ≡ counted_digits (first_cell text.now) }
+    ensures next { IfSome result (λ cell. drop cell.1 text.now ≡ after_cell text.now) }
+    ensures within { IfSome result (λ cell. (cell.0 < 10 ^ DIGITS_LIMIT) × (cell.1 ≤ length text.now)) }
+{
+    let (size, count) = first_digits(text);
+    if count == 0 {
+        return None;
+    }
+    if count > DIGITS_LIMIT {
+        return None;
+    }
+    if count == text.len() {
+        return Some((size, count));
+    }
+    if text[count] == b' ' {
+        return Some((size, count + 1));
+    }
+    None
+}
+
+// The number that the digits at a text's beginning write, and how many they are; no more of them
+// than one too many are read.
+#[inline(always)]
+fn first_digits(text: &[u8]) -> (u64, usize)
+    ensures { HasFirstDigits text.now result.0 result.1 }
+{
+    let limit = text.len().min(DIGITS_LIMIT + 1);
+    let mut size = 0;
+    let mut count = 0;
+    while count < limit {
+        let digit = text[count];
+        if !digit.is_ascii_digit() {
+            return (size, count);
+        }
+        size = size * 10 + u64::from(digit - b'0');
+        count += 1;
+    }
+    (size, count)
 }
 
 // Whether a minus begins the text, and the text without it.
@@ -43,4 +94,80 @@ pub(crate) fn signed(is_below: bool, size: u64) -> i64
 {
     let number = size as i64;
     if is_below { -number } else { number }
+}
+
+static PAIRS: [u8; 200] =
+    *b"00010203040506070809101112131415161718192021222324252627282930313233343536373839404142434445464748495051525354555657585960616263646566676869707172737475767778798081828384858687888990919293949596979899";
+
+// Writes a number from an index on, its minus and digits one after another, and answers the index
+// after it.
+#[inline(always)]
+pub(crate) fn write_signed(buffer: &mut [u8], at: usize, number: i64) -> usize
+    requires { at + length (signed_decimal number) ≤ length buffer.old }
+    ensures written { take result buffer.new ≡ take at buffer.old ++ signed_decimal number }
+    ensures within { result ≡ at + length (signed_decimal number) }
+{
+    buffer[at] = b'-';
+    write_decimal(buffer, at + usize::from(number < 0), number.unsigned_abs())
+}
+
+// Writes a number without a sign.
+pub(crate) fn write_decimal(buffer: &mut [u8], at: usize, size: u64) -> usize
+    requires { at + length (decimal size) ≤ length buffer.old }
+    ensures written { take result buffer.new ≡ take at buffer.old ++ decimal size }
+    ensures within { result ≡ at + length (decimal size) }
+{
+    if size < 10_000 {
+        return write_short(buffer, at, size as usize);
+    }
+    let high = size / 10_000;
+    let low = (size - high * 10_000) as usize;
+    let middle = write_decimal(buffer, at, high);
+    write_pair(buffer, middle, low / 100);
+    write_pair(buffer, middle + 2, low % 100);
+    middle + 4
+}
+
+// The same of a number of at most four digits.
+#[inline(always)]
+fn write_short(buffer: &mut [u8], at: usize, size: usize) -> usize
+    requires small { size < 10000 }
+    requires room { at + length (decimal size) ≤ length buffer.old }
+    ensures written { take result buffer.new ≡ take at buffer.old ++ decimal size }
+    ensures within { result ≡ at + length (decimal size) }
+{
+    if size < 100 {
+        return write_first(buffer, at, size);
+    }
+    let high = size / 100;
+    let middle = write_first(buffer, at, high);
+    write_pair(buffer, middle, size - high * 100);
+    middle + 2
+}
+
+// The same of a number of one or two digits.
+#[inline(always)]
+fn write_first(buffer: &mut [u8], at: usize, size: usize) -> usize
+    requires small { size < 100 }
+    requires room { at + length (decimal size) ≤ length buffer.old }
+    ensures written { take result buffer.new ≡ take at buffer.old ++ decimal size }
+    ensures within { result ≡ at + length (decimal size) }
+{
+    if size < 10 {
+        buffer[at] = b'0' + size as u8;
+        return at + 1;
+    }
+    write_pair(buffer, at, size);
+    at + 2
+}
+
+#[inline(always)]
+fn write_pair(buffer: &mut [u8], at: usize, pair: usize)
+    requires small { pair < 100 }
+    requires room { at + 2 ≤ length buffer.old }
+    ensures { take (at + 2) buffer.new ≡ take at buffer.old ++ (48 + pair / 10) ∷ (48 + pair % 10) ∷ [] }
+{
+    let (tens, ones) = (PAIRS[pair * 2], PAIRS[pair * 2 + 1]);
+    buffer[at] = tens;
+    buffer[at + 1] = ones;
 }

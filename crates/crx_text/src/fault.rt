@@ -127,3 +127,6 @@ pub struct At {
     /// The fault.
     pub fault: Fault,
 }
+
+#[cfg(test)]
+mod tests;

@@ -1,6 +1,6 @@
 //! A whole input, held line by line.
 ghost use Rattle.std.specs.Prelude.{◌≡◌, ℕ, ◌≤◌, List, length, IfOk, IfErr, Ok, None};
-ghost use Rattle.crx_text.specs.Devices.{one_more};
+ghost use Rattle.crx_text.specs.Devices.{one_more, tally_of};
 ghost use Rattle.crx_text.specs.Lines.{lines_of};
 ghost use Rattle.crx_text.specs.Seen.{seen};
 ghost use Rattle.crx_text.specs.Reading.{line_shown};
@@ -39,7 +39,7 @@ fn held(alloc: Global, line: Line<'_>) -> Result<HeldLine, AllocError>
     Ok(HeldLine::Content(content))
 }
 
-/// Want of memory, at the last line that was read.
+/// Memory ran out, at the last line that was read.
 fn out_of_memory(line: u64) -> At
     ensures line { result.line ≡ line }
     ensures fault { result.fault ≡ Fault.OutOfMemory }
@@ -58,8 +58,7 @@ fn next_held<R: Source>(
 ) -> Result<Option<HeldLine>, At>
     ensures open { (reading input.old).phase ≡ Phase.Open → (given : List ℕ) × R.gave reader.old given reader.new
         × HoldsNext (reading input.old) given (R.at_end reader.new)
-        (R.failures reader.new ≡ R.failures reader.old)
-        (R.failures reader.new ≡ one_more (R.failures reader.old)) result (reading input.new) }
+        (tally_of (R.failures reader.old) (R.ends reader.old)) (tally_of (R.failures reader.new) (R.ends reader.new)) result (reading input.new) }
     ensures ended { (reading input.old).phase ≡ Phase.Ended → (result ≡ Ok None) × (reader.new ≡ reader.old) }
 {
     match input.next_line(reader) {
@@ -78,7 +77,7 @@ fn next_held<R: Source>(
     }
 }
 
-/// Reads an input to its end, or to the fault that ends its reading. Want of memory is the one
+/// Reads an input to its end, or to the fault that ends its reading. Out of memory is the one
 /// error, at the number of the last line that was read, 0 if none was.
 pub fn read_all<R: Source>(alloc: Global, reader: &mut R) -> Result<Input, At>
     ensures read { IfOk result (λ i. (given : List ℕ) × R.gave reader.old given reader.new

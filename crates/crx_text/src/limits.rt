@@ -21,16 +21,25 @@ pub const DIGITS_LIMIT: usize = 18;
 /// The order of the differences of an arc that is written.
 pub const WRITTEN_ORDER: u8 = 3;
 
+/// The columns of an epoch line before the receiver clock offset.
+pub const HEAD_WIDTH: usize = 41;
+
+/// The columns of a satellite's identifier.
+pub const NAME_WIDTH: usize = 3;
+
+/// The columns of a cell of a satellite line: an observation and two indicators.
+pub const CELL_WIDTH: usize = 16;
+
 /// The columns of an observation, format F14.3.
 pub const OBSERVATION_WIDTH: usize = 14;
 
-/// The digits behind the point of an observation: it counts thousandths.
+/// The digits after the point of an observation: it counts thousandths.
 pub const OBSERVATION_DECIMALS: usize = 3;
 
 /// The columns of a receiver clock offset, format F15.12.
 pub const CLOCK_WIDTH: usize = 15;
 
-/// The digits behind the point of a receiver clock offset: it counts units of 10^-12 seconds.
+/// The digits after the point of a receiver clock offset: it counts units of 10^-12 seconds.
 pub const CLOCK_DECIMALS: usize = 12;
 
 /// The most bytes of the date in the second line of a compact file.

@@ -1,6 +1,6 @@
 //! Lines of an input, and what lends them one after another.
 ghost use Rattle.std.specs.Prelude.{◌≡◌, ◌≢◌, ℕ, ◌+◌, ◌-◌, ◌<◌, ◌≤◌, ◌&&◌, ◌⊎◌, not, true, false, IsTrue, List, [], ◌++◌, length, slice_range, Option, Some, None, Ok, Err, IfOk, IfSome, Contains, if◌then◌else◌};
-ghost use Rattle.crx_text.specs.Devices.{one_more};
+ghost use Rattle.crx_text.specs.Devices.{tally_of};
 ghost use Rattle.crx_text.specs.declared.fault.At.{At};
 ghost use Rattle.crx_text.specs.Window.{kept};
 ghost use Rattle.crx_text.specs.declared.limits.TheConstants.{INPUT_LIMIT, LINE_LIMIT};
@@ -57,7 +57,7 @@ struct Part {
     is_plain: bool,
 }
 
-/// Lines may come behind a line with an end; behind one without, the input is over.
+/// Lines may come after a line with an end; after one without, the input is over.
 fn phase_after(is_ended: bool) -> Phase
     ensures { result ≡ (if is_ended then Phase.Open else Phase.Ended) }
 {
@@ -110,14 +110,20 @@ impl LineReader {
         })
     }
 
+    /// The number of the last line that was read, 0 before the first.
+    pub fn number(&self) -> u64
+        ensures { result ≡ (reading self.now).number }
+    {
+        self.number
+    }
+
     /// Takes the next line. Its content stays in the window, at the place that is answered.
     fn advance<R: Source>(&mut self, reader: &mut R) -> Result<Option<Part>, At>
         requires { self.old.phase ≡ Phase.Open }
         ensures answers { (given : List ℕ) × R.gave reader.old given reader.new
             × AnswersAs (part_shown self.new.window.value.bytes) (λ _. self.new.number)
             (reading self.old) given (R.at_end reader.new)
-            (R.failures reader.new ≡ R.failures reader.old)
-            (R.failures reader.new ≡ one_more (R.failures reader.old)) result (reading self.new) }
+            (tally_of (R.failures reader.old) (R.ends reader.old)) (tally_of (R.failures reader.new) (R.ends reader.new)) result (reading self.new) }
         ensures place { IfOk result (λ o. IfSome o (λ p. (p.from ≤ p.to) × (p.to ≤ SIZE) × (p.to - p.from ≤ LINE_LIMIT))) }
         ensures unasked { Contains (kept self.old.window.value) 10 → reader.new ≡ reader.old }
     {
@@ -171,27 +177,25 @@ impl LineReader {
         }
     }
 
-    /// Lends the next line of what is kept and what `reader` gives behind it, until the next call.
-    /// It asks `reader` only while what is kept holds no LF.
+    /// Lends the next line of what is kept and what `reader` gives after it, until the next call.
+    /// It asks `reader` only while what is kept holds no LF, and never after `reader` reported its end.
     ///
     /// `LineTooLong` is the answer to a line over `LINE_LIMIT`, once its end was read; the line
-    /// counts, and the next call goes on behind it. `InputTooLong` is the answer where a byte past
+    /// counts, and the next call goes on after it. `InputTooLong` is the answer where a byte past
     /// `INPUT_LIMIT` was given and no LF before it is left, `ReadFailed` where a read failed. Both
     /// are repeated from then on, as None is after the end, and `reader` isn't asked again.
     pub fn next_line<'a, R: Source>(&'a mut self, reader: &mut R) -> Result<Option<Line<'a>>, At>
         ensures open { (reading self.old).phase ≡ Phase.Open → (given : List ℕ) × (new : Reading)
             × R.gave reader.old given reader.new
             × Answers (reading self.old) given (R.at_end reader.new)
-            (R.failures reader.new ≡ R.failures reader.old)
-            (R.failures reader.new ≡ one_more (R.failures reader.old)) result new }
+            (tally_of (R.failures reader.old) (R.ends reader.old)) (tally_of (R.failures reader.new) (R.ends reader.new)) result new }
         ensures ended { (reading self.old).phase ≡ Phase.Ended → (result ≡ Ok None) × (reader.new ≡ reader.old) }
         ensures stopped { (at : At) → (reading self.old).phase ≡ Phase.Stopped at → (result ≡ Err at) × (reader.new ≡ reader.old) }
         ensures unasked { Contains (reading self.old).rest 10 → reader.new ≡ reader.old }
         ensures* after_borrow { sem 𝓛 (Rests the_row self.entry (λ new.
             ((reading self.old).phase ≡ Phase.Open → (given : List ℕ) × R.gave reader.old given reader.new
             × Answers (reading self.old) given (R.at_end reader.new)
-            (R.failures reader.new ≡ R.failures reader.old)
-            (R.failures reader.new ≡ one_more (R.failures reader.old)) result (reading new))
+            (tally_of (R.failures reader.old) (R.ends reader.old)) (tally_of (R.failures reader.new) (R.ends reader.new)) result (reading new))
             × ((reading self.old).phase ≢ Phase.Open → reading new ≡ reading self.old))) }
     {
         match self.phase {

@@ -5,10 +5,13 @@ ghost use Rattle.std.specs.Prelude.{◌≡◌, ◌+◌, ◌-◌, ◌*◌, ◌<�
 ghost use Rattle.std.specs.Option.{ForSome};
 ghost use Rattle.std.specs.Result.{result_ok};
 ghost use Rattle.crx_text.specs.declared.digits.TheConstants.{WIDEST};
+ghost use Rattle.crx_text.specs.declared.limits.TheConstants.{OBSERVATION_WIDTH};
 ghost use Rattle.crx_text.specs.Columns.{without_first_blanks};
 ghost use Rattle.crx_text.specs.Numbers.{IsWithin, IsObservation, IsClock, number_of, observation_of, clock_of, size_of, spelt_number, number_text, observation_text, clock_text, size_text, zero_padded};
 
 use crate::digits::{WIDEST, digits_read, signed, split_minus};
+use crate::field;
+use crate::field_text::size_print_by_lanes;
 use crate::limits::{CLOCK_DECIMALS, CLOCK_WIDTH, OBSERVATION_DECIMALS, OBSERVATION_WIDTH};
 use itoa::write_digits;
 use thiserror::Error;
@@ -21,7 +24,26 @@ pub struct BadField;
 /// Reads an observation of 14 columns, in thousandths; a blank field is `None`, a missing
 /// observation. Blanks may stand before the number, zeros at its beginning and a minus before 0,
 /// and there may be no digit before the point. `BadField` comes for every other text.
+#[inline(always)]
 pub fn obs_read(field: &[u8]) -> Result<Option<i64>, BadField>
+    ensures value { result_ok result ≡ observation_of field.now }
+    ensures in_range { IfOk result (λ value. IfSome value IsObservation) }
+{
+    if field.len() == OBSERVATION_WIDTH {
+        let columns = field::columns(field);
+        if field::is_blank(columns) {
+            return Ok(None);
+        }
+        if field::is_plain(columns) {
+            return Ok(Some(field::value(columns)));
+        }
+    }
+    obs_read_any(field)
+}
+
+// Reads an observation in any spelling, column by column.
+#[inline(never)]
+fn obs_read_any(field: &[u8]) -> Result<Option<i64>, BadField>
     ensures value { result_ok result ≡ observation_of field.now }
     ensures in_range { IfOk result (λ value. IfSome value IsObservation) }
 {
@@ -30,12 +52,38 @@ pub fn obs_read(field: &[u8]) -> Result<Option<i64>, BadField>
 
 /// Prints an observation, in thousandths, right justified into 14 columns; `None` is printed as
 /// blanks.
+#[inline(always)]
 pub fn obs_print(value: Option<i64>, field: &mut [u8; OBSERVATION_WIDTH])
     requires { ForSome value IsObservation }
     ensures { field.new ≡ observation_text value }
 {
-    number_print(value, OBSERVATION_DECIMALS, field)
+    obs_print_into(value, field)
 }
+
+/// Prints an observation as [`obs_print`] does, into 14 columns of a longer text.
+#[inline(always)]
+pub fn obs_print_into(value: Option<i64>, columns: &mut [u8])
+    requires width { length columns.old ≡ OBSERVATION_WIDTH }
+    requires in_range { ForSome value IsObservation }
+    ensures { columns.new ≡ observation_text value }
+{
+    let Some(number) = value else {
+        columns.copy_from_slice(&[b' '; OBSERVATION_WIDTH]);
+        return;
+    };
+    let size = number.unsigned_abs();
+    if size >= SHORT_SIZE {
+        number_print(value, OBSERVATION_DECIMALS, columns);
+        return;
+    }
+    let start = size_print_by_lanes(size, columns);
+    if number < 0 {
+        columns[start - 1] = b'-';
+    }
+}
+
+// A size below it has no digit in the first column of an observation.
+const SHORT_SIZE: u64 = 1_000_000_000_000;
 
 /// Reads a receiver clock offset of 15 columns, in units of 10^-12 seconds; a blank field is
 /// `None`, no offset. The spellings are those of [`obs_read`] with 12 digits behind the point.
@@ -126,6 +174,7 @@ fn size_read(text: &[u8], decimals: usize) -> Option<u64>
     digits_read(whole, &text[point + 1..])
 }
 
+#[inline(never)]
 fn number_print(value: Option<i64>, decimals: usize, field: &mut [u8])
     requires shape { (0 < decimals) × (decimals + 3 ≤ length field.old) × (length field.old ≤ WIDEST) }
     requires in_range { ForSome value (IsWithin (length field.old)) }

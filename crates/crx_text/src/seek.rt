@@ -7,6 +7,7 @@ ghost use Rattle.crx_text.specs.declared.limits.TheConstants.{INPUT_LIMIT, LINE_
 
 use crate::device::{ReadFailed, Source};
 use crate::fault::Fault;
+use crate::feed::feed_from;
 use crate::limits::LINE_LIMIT;
 use crate::window::{SIZE, Window};
 
@@ -17,7 +18,7 @@ pub(crate) struct Sought {
     pub(crate) passed: u64,
     /// How many of its bytes stand at the front of the window.
     pub(crate) len: usize,
-    /// Whether an LF stands behind them, or the end.
+    /// Whether an LF follows them, or the end.
     pub(crate) is_ended: bool,
 }
 
@@ -30,7 +31,7 @@ impl Sought {
         self.passed == 0 && self.len == 0 && !self.is_ended
     }
 
-    /// How many of the window's bytes are the line's, with an LF behind them.
+    /// How many of the window's bytes are the line's, with its LF.
     pub(crate) fn held(&self) -> usize
         requires { self.now.len < 2 ^ 63 }
         ensures { result ≡ self.now.len + (if self.now.is_ended then 1 else 0) }
@@ -43,26 +44,12 @@ impl Sought {
     }
 }
 
-/// The place of the first LF, from a place on.
-fn feed_from(bytes: &[u8], from: usize) -> Option<usize>
-    requires { from ≤ length bytes.now }
-    ensures within { IfSome result (λ at. (from ≤ at) × (at < length bytes.now)) }
-    ensures found { IfSome result (λ at. slice_index bytes.now at ≡ 10) }
-    ensures first { IfSome result (λ at. (k : ℕ) → from ≤ k → k < at → slice_index bytes.now k ≢ 10) }
-    ensures none { IfNone result ((k : ℕ) → from ≤ k → k < length bytes.now → slice_index bytes.now k ≢ 10) }
-{
-    for at in from..bytes.len() {
-        if bytes[at] == b'\n' {
-            return Some(at);
-        }
-    }
-    None
-}
-
 /// Asks for one byte, and answers whether there was one.
 fn has_more<R: Source>(reader: &mut R) -> Result<bool, ReadFailed>
     ensures some { result ≡ Ok true → (b : ℕ) × R.gave reader.old (b ∷ []) reader.new }
     ensures none { result ≡ Ok false → R.gave reader.old [] reader.new × R.at_end reader.new }
+    ensures ends { IfOk result (λ more. R.ends reader.new ≡ (if more then R.ends reader.old else one_more (R.ends reader.old))) }
+    ensures no_end { OnErr result (R.ends reader.new ≡ R.ends reader.old) }
     ensures good { OnOk result (R.failures reader.new ≡ R.failures reader.old) }
     ensures none_lost { OnErr result (R.gave reader.old [] reader.new) }
     ensures counted { OnErr result (R.failures reader.new ≡ one_more (R.failures reader.old)) }
@@ -100,6 +87,8 @@ pub(crate) fn seek<R: Source>(
     ensures end { IfOk result (λ s. MatchBool s.is_ended
         ((s.len < length (kept window.new)) × (slice_index (kept window.new) s.len ≡ 10))
         ((s.len ≡ length (kept window.new)) × R.at_end reader.new)) }
+    ensures ends { IfOk result (λ s. R.ends reader.new ≡ (if s.is_ended then R.ends reader.old else one_more (R.ends reader.old))) }
+    ensures no_end { OnErr result (R.ends reader.new ≡ R.ends reader.old) }
     ensures unasked { Contains (kept window.old) 10 → reader.new ≡ reader.old }
     ensures good { IsOk result ⊎ (result ≡ Err Fault.InputTooLong) → R.failures reader.new ≡ R.failures reader.old }
     ensures faults { IfErr result (λ e. (e ≡ Fault.InputTooLong) ⊎ (e ≡ Fault.ReadFailed)) }

@@ -1,11 +1,13 @@
 //! A text of a line's length at most, held in place.
 
 ghost use Rattle.std.specs.Prelude.{◌≡◌, ◌+◌, ◌<◌, ◌≤◌, ◌↔◌, List, [], ◌∷◌, ◌++◌, ℕ, length, take, OnOk, OnErr, IsErr, IsTrue};
-ghost use Rattle.crx_text.specs.Columns.{without_end_blanks};
+ghost use Rattle.crx_text.specs.Columns.{is_blank, without_end_blanks};
 ghost use Rattle.crx_text.specs.declared.limits.TheConstants.{LINE_LIMIT};
 
+use crate::lanes::{Kind, LANES};
 use crate::limits::LINE_LIMIT;
 use std::marker::Model;
+use std::simd::prelude::*;
 use thiserror::Error;
 
 /// What was to be appended doesn't fit: the text would be longer than a line may be.
@@ -16,8 +18,8 @@ pub struct TextFull;
 /// A text of at most [`LINE_LIMIT`] bytes, held in place: it takes no memory elsewhere.
 #[derive(Drop)]
 pub struct Text {
-    bytes: [u8; LINE_LIMIT],
-    len: usize,
+    pub(crate) bytes: [u8; LINE_LIMIT],
+    pub(crate) len: usize,
 }
 
 impl Model for Text {
@@ -104,8 +106,61 @@ impl Text {
     pub fn trim_end_blanks(&mut self)
         ensures { self.new ≡ without_end_blanks self.old }
     {
-        while self.len > 0 && self.bytes[self.len - 1] == b' ' {
-            self.len -= 1;
+        let text = self.bytes();
+        self.len = end_blanks(text);
+    }
+}
+
+/// A text without the blanks at its end.
+pub fn trim_end(text: &[u8]) -> &[u8]
+    ensures { result.now ≡ without_end_blanks text.now }
+{
+    &text[..end_blanks(text)]
+}
+
+// Where the blanks at the end of a text begin.
+fn end_blanks(text: &[u8]) -> usize
+    ensures kept { take result text.now ≡ without_end_blanks text.now }
+    ensures within { result ≤ length text.now }
+{
+    let mut end = text.len();
+    while end >= LANES {
+        if !Blank::holds_in(u8x32::from_slice(&text[end - LANES..])) {
+            break;
         }
+        end -= LANES;
+    }
+    end_blanks_singly(text, end)
+}
+
+// The same, where only blanks stand from an index on.
+fn end_blanks_singly(text: &[u8], from: usize) -> usize
+    requires within { from ≤ length text.now }
+    requires blanks { without_end_blanks (take from text.now) ≡ without_end_blanks text.now }
+    ensures kept { take result text.now ≡ without_end_blanks text.now }
+    ensures within { result ≤ length text.now }
+{
+    let mut end = from;
+    while end > 0 {
+        if text[end - 1] != b' ' {
+            return end;
+        }
+        end -= 1;
+    }
+    end
+}
+
+// The blank alone.
+struct Blank;
+
+impl Kind for Blank {
+    ghost is_of_kind = { is_blank };
+
+    fn holds(character: u8) -> bool {
+        character == b' '
+    }
+
+    fn holds_in(characters: u8x32) -> bool {
+        characters.simd_ne(u8x32::splat(b' ')).to_bitmask() == 0
     }
 }

@@ -1,15 +1,20 @@
-//! The buffer of a reader of lines: bytes that were given and not lent yet, and room behind them.
+//! The buffer of a reader of lines: bytes that were given and not lent yet, and room after them.
 ghost use Rattle.std.specs.Prelude.{◌≡◌, ℕ, ◌+◌, ◌-◌, ◌<◌, ◌≤◌, List, [], ◌++◌, length, take, drop, slice_range, IfOk, OnOk, OnErr};
-ghost use Rattle.crx_text.specs.Devices.{one_more};
+ghost use Rattle.crx_text.specs.Devices.{ends_after, one_more};
 ghost use Rattle.crx_text.specs.Lines.{ends_with_return, without_return};
-ghost use Rattle.crx_text.specs.declared.window.TheConstants.{SIZE};
+ghost use Rattle.crx_text.specs.declared.limits.TheConstants.{LINE_LIMIT};
+ghost use Rattle.crx_text.specs.declared.window.TheConstants.{LEAST_ROOM, SIZE};
 
 use crate::device::{ReadFailed, Source};
+use crate::limits::LINE_LIMIT;
 
 /// How many bytes are held at once: some hundred lines of common files.
 pub(crate) const SIZE: usize = 65536;
 
-/// Where a line's content stands in the window, and whether one CR stands behind it.
+/// The room that a read finds at least, where something is held: a line's content, CR and LF.
+const LEAST_ROOM: usize = LINE_LIMIT + 2;
+
+/// Where a line's content stands in the window, and whether one CR follows it.
 #[derive(Clone, Copy)]
 pub(crate) struct Place {
     pub(crate) from: usize,
@@ -93,7 +98,9 @@ impl Window {
 
     /// Lets go of all bytes.
     pub(crate) fn clear(&mut self)
-        ensures { kept self.new ≡ [] }
+        ensures kept { kept self.new ≡ [] }
+        ensures end { self.new.end ≡ 0 }
+        ensures bytes { self.new.bytes ≡ self.old.bytes }
     {
         self.start = 0;
         self.end = 0;
@@ -102,6 +109,7 @@ impl Window {
     fn move_to_front(&mut self)
         ensures kept { kept self.new ≡ kept self.old }
         ensures start { self.new.start ≡ 0 }
+        ensures end { self.new.end ≡ self.old.end - self.old.start }
     {
         let (start, end) = (self.start, self.end);
         self.bytes.copy_within(start..end, 0);
@@ -109,28 +117,50 @@ impl Window {
         self.end = end - start;
     }
 
-    /// Asks the reader once, for at most so many bytes, and holds them behind the others.
+    /// Makes room after the bytes that are held. They move only where too little is left.
+    fn make_room(&mut self)
+        requires { length (kept self.old) ≤ LINE_LIMIT + 1 }
+        ensures kept { kept self.new ≡ kept self.old }
+        ensures room { self.new.end + LEAST_ROOM ≤ SIZE }
+        ensures unmoved { self.old.end + LEAST_ROOM ≤ SIZE → self.new.bytes ≡ self.old.bytes }
+    {
+        if self.start == self.end {
+            self.clear();
+            return;
+        }
+        if SIZE - self.end < LEAST_ROOM {
+            self.move_to_front();
+        }
+    }
+
+    /// Asks the reader once, for at most so many bytes, and holds them after the others.
     pub(crate) fn fill<R: Source>(
         &mut self,
         reader: &mut R,
         most: usize,
     ) -> Result<usize, ReadFailed>
         requires some { 0 < most }
-        requires room { length (kept self.old) < SIZE }
+        requires room { length (kept self.old) ≤ LINE_LIMIT + 1 }
         ensures ok { IfOk result (λ n. (more : List ℕ) × (length more ≡ n)
             × (kept self.new ≡ kept self.old ++ more) × R.gave reader.old more reader.new) }
         ensures bound { IfOk result (λ n. n ≤ most) }
         ensures end { IfOk result (λ n. n ≡ 0 → R.at_end reader.new) }
+        ensures ends { IfOk result (λ n. R.ends reader.new ≡ ends_after n (R.ends reader.old)) }
         ensures good { OnOk result (R.failures reader.new ≡ R.failures reader.old) }
         ensures kept { OnErr result (kept self.new ≡ kept self.old) }
         ensures none_lost { OnErr result (R.gave reader.old [] reader.new) }
+        ensures no_end { OnErr result (R.ends reader.new ≡ R.ends reader.old) }
         ensures counted { OnErr result (R.failures reader.new ≡ one_more (R.failures reader.old)) }
     {
-        self.move_to_front();
+        self.make_room();
         let end = self.end;
         let room = most.min(SIZE - end);
-        let count = reader.read(&mut self.bytes[end..end + room])?;
-        self.end = end + count;
-        Ok(count)
+        match reader.read(&mut self.bytes[end..end + room]) {
+            Ok(count) => {
+                self.end = end + count;
+                Ok(count)
+            }
+            Err(failed) => Err(failed),
+        }
     }
 }

@@ -4,7 +4,7 @@ ghost use Rattle.crx_text.specs.Devices.{one_more};
 
 use crate::device::{Sink, WriteFailed};
 
-/// Writes all of `bytes`, going on behind a short write. A failure comes with the number of bytes
+/// Writes all of `bytes`, going on after a short write. A failure comes with the number of bytes
 /// that went out before it, from the front.
 pub fn write_all_counted<W: Sink>(writer: &mut W, bytes: &[u8]) -> Result<(), (usize, WriteFailed)>
     ensures all { OnOk result (W.took writer.old bytes.now writer.new) }

@@ -16,8 +16,58 @@ fn texts_of_codes(rt: HostRuntime) {
 }
 
 #[test]
+fn texts_of_steps(rt: HostRuntime) {
+    let cases: [(i64, &[u8]); 12] = [
+        (7, b"7"),
+        (-10, b"-10"),
+        (99, b"99"),
+        (100, b"100"),
+        (-907, b"-907"),
+        (1000, b"1000"),
+        (-9999, b"-9999"),
+        (10_000, b"10000"),
+        (-123_456, b"-123456"),
+        (100_000_000, b"100000000"),
+        (20_000_304_500, b"20000304500"),
+        (-999_999_999_999_999_999, b"-999999999999999999"),
+    ];
+    let mut text = Text::new();
+    for (difference, digits) in cases {
+        if difference.unsigned_abs() >= 1_000_000_000_000_000_000 {
+            continue;
+        }
+        text.clear();
+        assert!(rt; code_print(Code::Step(difference), &mut text).is_ok());
+        assert_eq!(rt; text.bytes(), digits);
+        assert!(rt; code_print_cell(Code::Step(difference), &mut text).is_ok());
+        assert!(rt; text.bytes().starts_with(digits));
+        assert_eq!(rt; text.len(), 2 * digits.len() + 1);
+        assert!(rt; text.bytes().last() == Some(&b' '));
+    }
+}
+
+#[test]
+fn codes_at_the_end_of_a_text(rt: HostRuntime) {
+    let start = Code::Start {
+        order: 3,
+        value: -12_345,
+    };
+    let zeros = [b'0'; LINE_LIMIT];
+    let mut text = Text::new();
+    assert!(rt; text.extend(&zeros[..LINE_LIMIT - 8]).is_ok());
+    assert!(rt; code_print_cell(start, &mut text).is_err());
+    assert_eq!(rt; text.len(), LINE_LIMIT - 8);
+    assert!(rt; code_print(start, &mut text).is_ok());
+    assert!(rt; text.bytes().ends_with(b"03&-12345"));
+    assert!(rt; code_print_cell(Code::Missing, &mut text).is_err());
+    assert!(rt; code_print(Code::Step(0), &mut text).is_err());
+    assert!(rt; code_print(Code::Missing, &mut text).is_ok());
+    assert_eq!(rt; text.len(), LINE_LIMIT);
+}
+
+#[test]
 fn spellings_of_codes(rt: HostRuntime) {
-    let cases: [(&[u8], Result<Code, BadField>); 12] = [
+    let cases: [(&[u8], Result<Code, BadField>); 16] = [
         (b"", Ok(Code::Missing)),
         (b"-0", Ok(Code::Step(0))),
         (b"-007", Ok(Code::Step(-7))),
@@ -30,6 +80,13 @@ fn spellings_of_codes(rt: HostRuntime) {
         ),
         (b"1234567890123456789", Err(BadField)),
         (b"10&1", Err(BadField)),
+        (
+            b"-999999999999999999",
+            Ok(Code::Step(-999_999_999_999_999_999)),
+        ),
+        (b"0000000000000000000", Err(BadField)),
+        (b"9&1", Ok(Code::Start { order: 9, value: 1 })),
+        (b":&1", Err(BadField)),
         (b"03&1", Err(BadField)),
         (b"&1", Err(BadField)),
         (b"3&", Err(BadField)),
@@ -39,5 +96,50 @@ fn spellings_of_codes(rt: HostRuntime) {
     ];
     for (text, code) in cases {
         assert!(rt; code_read(text) == code);
+    }
+}
+
+#[test]
+fn codes_of_a_line(rt: HostRuntime) {
+    let mut line: &[u8] = b"3&-12345  -0 000000000000000007 9&0";
+    let codes = [
+        Code::Start {
+            order: 3,
+            value: -12_345,
+        },
+        Code::Missing,
+        Code::Step(0),
+        Code::Step(7),
+        Code::Start { order: 9, value: 0 },
+        Code::Missing,
+    ];
+    for code in codes {
+        let cell = code_before_blank(line);
+        assert!(rt; matches!(&cell, Ok((read, _)) if *read == code));
+        if let Ok((_, next)) = cell {
+            line = &line[next..];
+        }
+    }
+    assert!(rt; line.is_empty());
+}
+
+#[test]
+fn spellings_that_are_no_code(rt: HostRuntime) {
+    let lines: [&[u8]; 12] = [
+        b"-",
+        b"- 1",
+        b"+1 ",
+        b"&1 ",
+        b"3& 1",
+        b"3&",
+        b"33&1",
+        b":&1",
+        b"1.5 2",
+        b"1- 2",
+        b"0000000000000000001 2",
+        b"-1234567890123456789",
+    ];
+    for line in lines {
+        assert!(rt; code_before_blank(line) == Err(BadField));
     }
 }

@@ -98,6 +98,8 @@ impl Source for Broken<'_> {
 
     ghost failures = { λ s. s.failures };
 
+    ghost ends = { λ s. 0 };
+
     fn read(&mut self, buffer: &mut [u8]) -> Result<usize, ReadFailed> {
         let rest = self.rest;
         if buffer.is_empty() {
@@ -137,7 +139,7 @@ fn stops_at_a_failed_read(rt: HostRuntime) {
 }
 
 #[test]
-fn tells_lines_over_the_limit(rt: HostRuntime) -> Result<(), Fail> {
+fn reports_lines_over_the_limit(rt: HostRuntime) -> Result<(), Fail> {
     let mut bytes = vec![in rt.alloc(); b'x'; LINE_LIMIT]?;
     bytes.extend_from_slice(b"\r\n")?;
     for _ in 0..=LINE_LIMIT {

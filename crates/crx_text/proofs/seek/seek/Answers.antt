@@ -1,13 +1,14 @@
 use Rattle.std.proofs.Common.{ℕ, ◌+◌, ◌≤◌, List, [], ◌∷◌, ◌++◌, ⊎_elim, Ok, length, subst, sym, ap, ◌∙◌, refl, arith, append-nil}
 use Rattle.crx_text.specs.Window.{kept}
 use Rattle.crx_text.specs.Seeking.{Seeking}
+use Rattle.crx_text.proofs.DeviceLemmas.{ends-some}
 use Rattle.crx_text.proofs.WindowLemmas.{length-kept}
 use Rattle.crx_text.proofs.SeekLemmas.{Seeking-start, Seeking-step, Seeking-filled, Seeking-same, Seeking-sum, Seeking-not_old}
 use Rattle.crx_text.proofs.seek.seek.Goals as goal
 
 pub seeking-init : goal.seeking-init
 seeking-init g c =
-    (Seeking-start (λ given. g.R.Source.gave c.args.reader.now given c.args.reader.now) (kept c.args.window.now) c.args.room (g.met.R.Source.gave_none c.args.reader.now), refl, λ _. refl)
+    (Seeking-start (λ given. g.R.Source.gave c.args.reader.now given c.args.reader.now) (kept c.args.window.now) c.args.room (g.met.R.Source.gave_none c.args.reader.now), refl, refl, λ _. refl)
 
 pub overflow_add-passed : goal.overflow_add-passed
 overflow_add-passed g c =
@@ -74,7 +75,7 @@ seeking-preserved g c =
     let new = c.fill.new.reader in
     let s = Seeking-step (λ given. g.R.Source.gave old given now) (kept c.args.window.now) (kept c.seeking.window) c.as_slice.result.now (kept c.let_go.new.window) c.args.room c.seeking.taken c.seeking.passed c.seeking.searched c.let_go.result c.seeking.invariant.0 c.as_slice.ensures.value c.in_default.ensures.none c.let_go.ensures.count in
     let more = c.in-Ok.ensures.ok in
-    (Seeking-filled _ (λ given. g.R.Source.gave old given new) _ _ _ more.0 _ _ _ c.in-Ok.count _ s (λ given lead. g.met.R.Source.gave_both old now new given more.0 lead more.3) more.1 (omega (arith, s.within, c.in-Ok.ensures.bound, c.min-most.ensures)) more.2 (ap length c.as_slice-searched.ensures.value), c.in-Ok.ensures.good ∙ c.seeking.invariant.1, λ has. absurd (Seeking-not_old _ _ _ _ _ _ s has))
+    (Seeking-filled _ (λ given. g.R.Source.gave old given new) _ _ _ more.0 _ _ _ c.in-Ok.count _ s (λ given lead. g.met.R.Source.gave_both old now new given more.0 lead more.3) more.1 (omega (arith, s.within, c.in-Ok.ensures.bound, c.min-most.ensures)) more.2 (ap length c.as_slice-searched.ensures.value), c.in-Ok.ensures.good ∙ c.seeking.invariant.1, ends-some _ _ _ c.in-Ok.count-test.1 c.in-Ok.ensures.ends ∙ c.seeking.invariant.2, λ has. absurd (Seeking-not_old _ _ _ _ _ _ s has))
 
 pub returns-in-Err-fill-clause-failed : goal.returns-in-Err-fill-clause-failed
 returns-in-Err-fill-clause-failed g c =

@@ -1,5 +1,6 @@
-use Rattle.std.proofs.Common.{◌≡◌, ℕ, ◌+◌, ◌-◌, ◌<◌, ◌≤◌, ◌⊎◌, ⊎_elim, inl, inr, List, [], ◌∷◌, ◌++◌, Err, length, take, drop, slice_range, subst, sym, ap, ◌∙◌, refl, arith, rules}
+use Rattle.std.proofs.Common.{◌≡◌, ℕ, false, cond, ◌+◌, ◌-◌, ◌<◌, ◌≤◌, ◌⊎◌, ⊎_elim, inl, inr, List, [], ◌∷◌, ◌++◌, Err, length, take, drop, slice_range, subst, sym, ap, ◌∙◌, refl, arith, rules}
 use Rattle.std.proofs.lemmas.List.{length-drop}
+use Rattle.crx_text.specs.Devices.{one_more}
 use Rattle.crx_text.specs.Lines.{without_return, ends_with_return}
 use Rattle.crx_text.specs.declared.phase.Phase.TheVariants.{Ended}
 use Rattle.crx_text.specs.Reading.{Reading}
@@ -7,6 +8,7 @@ use Rattle.crx_text.specs.Readers.{reading}
 use Rattle.crx_text.specs.Window.{kept}
 use Rattle.crx_text.specs.declared.limits.TheConstants.{INPUT_LIMIT, LINE_LIMIT}
 use Rattle.crx_text.specs.declared.fault.Fault.TheVariants.{InputTooLong, ReadFailed}
+use Rattle.crx_text.proofs.DeviceLemmas.{tally-same, tally-line}
 use Rattle.crx_text.proofs.SeekLemmas.{Seeking-sum}
 use Rattle.crx_text.proofs.AdvanceLemmas.{EndIs, piece_at, takes, held-within, some-byte, whole-piece, content-long, nothing, over-fault, read-fault, shown-line}
 use Rattle.crx_text.proofs.line.LineReader.advance.Goals as goal
@@ -38,10 +40,10 @@ returns-in-Err-clause-answers g c =
     ⊎_elim
     (λ (e : c.in-Err.fault ≡ InputTooLong).
     let found = c.in-Err.ensures.over (ap Err e) in
-    (found.2.given ++ found.0 ∷ [], found.2.lead, over-fault _ _ _ _ found.1 found.0 _ _ _ found.2 (reading old) _ _ _ e (sym same) limit (record { line = refl; number = refl; phase = refl }) (c.in-Err.ensures.good (inr (ap Err e)))))
+    (found.2.given ++ found.0 ∷ [], found.2.lead, over-fault _ _ _ _ found.1 found.0 _ _ _ found.2 (reading old) _ _ _ e (sym same) limit (record { line = refl; number = refl; phase = refl }) (tally-same _ _ _ _ (c.in-Err.ensures.good (inr (ap Err e))) c.in-Err.ensures.no_end)))
     (λ (e : c.in-Err.fault ≡ ReadFailed).
     let found = c.in-Err.ensures.failed (ap Err e) in
-    (found.2.given, found.2.lead, read-fault _ _ _ _ found.0 found.1 _ _ _ found.2 (reading old) _ _ _ e (sym same) limit (record { line = refl; number = refl; phase = refl }) (c.in-Err.ensures.counted (ap Err e))))
+    (found.2.given, found.2.lead, read-fault _ _ _ _ found.0 found.1 _ _ _ found.2 (reading old) _ _ _ e (sym same) limit (record { line = refl; number = refl; phase = refl }) (tally-same _ _ _ _ (c.in-Err.ensures.counted (ap Err e)) c.in-Err.ensures.no_end)))
     c.in-Err.ensures.faults
 
 pub returns-then-is_nothing-clause-answers : goal.returns-then-is_nothing-clause-answers
@@ -57,8 +59,9 @@ returns-then-is_nothing-clause-answers g c =
     let s = c.in-Ok.ensures.ok.1 in
     let end : (sought.len ≡ length held) × at_end = subst (λ b. EndIs held sought.len b at_end) none.2 c.in-Ok.ensures.end in
     let facts = nothing gave start held _ _ _ _ at_end s none.0 none.1 end.0 in
+    let asked = g.R.Source.ends c.args.reader.now in
     let now : List ℕ → Reading = λ l. record { rest = l; lent = old.lent; number = old.number; phase = Ended } in
-    (s.given, s.lead, (ap (λ l. l ++ s.given) (sym same) ∙ facts.1, end.1, ap now facts.0, c.in-Ok.ensures.good (inl (search rules))))
+    (s.given, s.lead, (ap (λ l. l ++ s.given) (sym same) ∙ facts.1, end.1, ap now facts.0, tally-line false _ _ _ _ (c.in-Ok.ensures.good (inl (search rules))) (c.in-Ok.ensures.ends ∙ ap (λ b. cond b asked (one_more asked)) none.2)))
 
 pub overflow_add-self : goal.overflow_add-self
 overflow_add-self g c =
@@ -138,7 +141,7 @@ returns-then-is_over-clause-answers g c =
     let content = slice_range c.deref-2.result.now.bytes place.from place.to in
     let over : (0 < sought.passed) ⊎ (LINE_LIMIT < length content) = ⊎_elim (λ h. inl h) (λ h. inr (omega (arith, h, c.content-place.ensures.len))) (c.if-is_over.ensures.over refl) in
     let piece = piece_at s.front held sought.len sought.is_ended in
-    (s.given, s.lead, (piece, takes gave start held _ taken sought.passed sought.len at_end s sought.is_ended c.in-Ok.ensures.end some (reading old) _ c.held-held.result (sym same) c.held-held.ensures now refl (omega (arith, limit)) refl c.phase_after-self.ensures, content-long gave start held _ taken sought.passed sought.len at_end s sought.is_ended content (c.content-place.ensures.value ∙ ap (λ w. without_return (take sought.len (kept w))) c.deref-2.ensures) over, refl, c.in-Ok.ensures.good (inl (search rules))))
+    (s.given, s.lead, (piece, takes gave start held _ taken sought.passed sought.len at_end s sought.is_ended c.in-Ok.ensures.end some (reading old) _ c.held-held.result (sym same) c.held-held.ensures now refl (omega (arith, limit)) refl c.phase_after-self.ensures, content-long gave start held _ taken sought.passed sought.len at_end s sought.is_ended content (c.content-place.ensures.value ∙ ap (λ w. without_return (take sought.len (kept w))) c.deref-2.ensures) over, refl, tally-line sought.is_ended _ _ _ _ (c.in-Ok.ensures.good (inl (search rules))) c.in-Ok.ensures.ends))
 
 pub returns-clause-answers : goal.returns-clause-answers
 returns-clause-answers g c =
@@ -164,4 +167,4 @@ returns-clause-answers g c =
     let content = ap (λ l. slice_range l place.from place.to) bytes ∙ c.content-place.ensures.value ∙ ap (λ w. without_return (take sought.len (kept w))) c.deref-2.ensures in
     let returns = c.content-place.ensures.has_return ∙ ap (λ w. ends_with_return (take sought.len (kept w))) c.deref-2.ensures in
     let piece = piece_at s.front held sought.len sought.is_ended in
-    (s.given, s.lead, (piece, takes gave start held _ taken sought.passed sought.len at_end s sought.is_ended c.in-Ok.ensures.end some (reading old) _ c.held-held.result (sym same) c.held-held.ensures now refl (omega (arith, limit)) refl c.phase_after-self.ensures, shown-line s.front (take sought.len held) (slice_range c.pass.new.self.bytes place.from place.to) sought.is_ended place.has_return c.is_plain.result whole content returns c.is_plain.ensures, refl, c.in-Ok.ensures.good (inl (search rules))))
+    (s.given, s.lead, (piece, takes gave start held _ taken sought.passed sought.len at_end s sought.is_ended c.in-Ok.ensures.end some (reading old) _ c.held-held.result (sym same) c.held-held.ensures now refl (omega (arith, limit)) refl c.phase_after-self.ensures, shown-line s.front (take sought.len held) (slice_range c.pass.new.self.bytes place.from place.to) sought.is_ended place.has_return c.is_plain.result whole content returns c.is_plain.ensures, refl, tally-line sought.is_ended _ _ _ _ (c.in-Ok.ensures.good (inl (search rules))) c.in-Ok.ensures.ends))

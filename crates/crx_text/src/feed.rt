@@ -1,0 +1,61 @@
+//! The search for LF, 32 bytes at a time.
+ghost use Rattle.std.specs.Prelude.{◌≡◌, ◌≢◌, ℕ, ◌+◌, ◌<◌, ◌≤◌, ◌==◌, not, length, slice_index, IfSome, IfNone};
+ghost use Rattle.std.specs.List.{prefix_len};
+ghost use Rattle.std.specs.Simd.Lanes.{chunk};
+
+use std::simd::prelude::*;
+
+/// How many of the 32 bytes from a place on stand before the first LF: 32 where none is LF.
+#[inline(always)]
+fn before_feed(bytes: &[u8], at: usize) -> usize
+    requires { at + 32 ≤ length bytes.now }
+    ensures { result ≡ prefix_len (λ b. not (b == 10)) (chunk at 32 bytes.now) }
+{
+    let feeds = u8x32::from_slice(&bytes[at..])
+        .simd_eq(u8x32::splat(b'\n'))
+        .to_bitmask();
+    if feeds == 0 {
+        32
+    } else {
+        feeds.trailing_zeros() as usize
+    }
+}
+
+/// The place of the first LF, from a place on, of the last 31 bytes at most.
+fn feed_in_rest(bytes: &[u8], from: usize) -> Option<usize>
+    requires within { from ≤ length bytes.now }
+    requires few { length bytes.now < from + 32 }
+    ensures within { IfSome result (λ at. (from ≤ at) × (at < length bytes.now)) }
+    ensures found { IfSome result (λ at. slice_index bytes.now at ≡ 10) }
+    ensures first { IfSome result (λ at. (k : ℕ) → from ≤ k → k < at → slice_index bytes.now k ≢ 10) }
+    ensures none { IfNone result ((k : ℕ) → from ≤ k → k < length bytes.now → slice_index bytes.now k ≢ 10) }
+{
+    for at in from..bytes.len() {
+        if bytes[at] == b'\n' {
+            return Some(at);
+        }
+    }
+    None
+}
+
+/// The place of the first LF, from a place on.
+pub(crate) fn feed_from(bytes: &[u8], from: usize) -> Option<usize>
+    requires { from ≤ length bytes.now }
+    ensures within { IfSome result (λ at. (from ≤ at) × (at < length bytes.now)) }
+    ensures found { IfSome result (λ at. slice_index bytes.now at ≡ 10) }
+    ensures first { IfSome result (λ at. (k : ℕ) → from ≤ k → k < at → slice_index bytes.now k ≢ 10) }
+    ensures none { IfNone result ((k : ℕ) → from ≤ k → k < length bytes.now → slice_index bytes.now k ≢ 10) }
+{
+    let mut at = from;
+    while bytes.len() - at >= 32 {
+        let before = before_feed(bytes, at);
+        if before < 32 {
+            return Some(at + before);
+        }
+        at += 32;
+    }
+    feed_in_rest(bytes, at)
+}
+
+#[cfg(test)]
+mod tests;

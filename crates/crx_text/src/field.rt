@@ -1,0 +1,90 @@
+//! An observation's 14 columns in one row of lanes: blanks, perhaps a minus, digits, and the point
+//! in column 11. That is how nearly every field is written.
+
+ghost use Rattle.std.specs.Prelude.{◌≡◌, ◌==◌, ◌++◌, ◌∷◌, [], length, slice_index, IsTrue};
+ghost use Rattle.std.specs.List.{list_all, list_any};
+ghost use Rattle.crx_text.specs.declared.limits.TheConstants.{OBSERVATION_WIDTH};
+ghost use Rattle.crx_text.specs.Fields.{IsPlain, weighed, plain_digits};
+ghost use Rattle.crx_text.specs.Numbers.{IsObservation, signed_number};
+
+use crate::digits::signed;
+use std::simd::prelude::*;
+
+/// The columns of a field; the last one stands in the last three lanes.
+#[inline(always)]
+pub(crate) fn columns(field: &[u8]) -> u8x16
+    requires { length field.now ≡ OBSERVATION_WIDTH }
+    ensures { result ≡ field.now ++ slice_index field.now 13 ∷ slice_index field.now 13 ∷ [] }
+{
+    let first = u8x8::from_slice(field);
+    let last = u8x8::from_slice(&field[6..]);
+    first.shuffle(
+        last,
+        [0, 1, 2, 3, 4, 5, 6, 7, 10, 11, 12, 13, 14, 15, 15, 15],
+    )
+}
+
+/// Whether every column is blank.
+#[inline(always)]
+pub(crate) fn is_blank(columns: u8x16) -> bool
+    ensures { result ≡ list_all (λ c. c == 32) columns }
+{
+    columns.simd_eq(u8x16::splat(b' ')).to_bitmask() == 0xffff
+}
+
+/// Whether a column has a minus.
+#[inline(always)]
+fn has_minus(columns: u8x16) -> bool
+    ensures { result ≡ list_any (λ c. c == 45) columns }
+{
+    columns.simd_eq(u8x16::splat(b'-')).to_bitmask() != 0
+}
+
+// The first byte of what a column may have beside blanks and a minus: a digit, or the point.
+const FIRST: [u8; 16] = [
+    45, 48, 48, 48, 48, 48, 48, 48, 48, 48, 46, 48, 48, 48, 48, 48,
+];
+
+// How many bytes from that one on it may have; the first column has no digit, but a minus.
+const COUNT: [u8; 16] = [1, 10, 10, 10, 10, 10, 10, 10, 10, 10, 1, 10, 10, 10, 10, 10];
+
+/// Whether the columns are plain.
+#[inline(always)]
+pub(crate) fn is_plain(columns: u8x16) -> bool
+    ensures { IsTrue result → IsPlain columns }
+{
+    let blank = u8x16::splat(b' ');
+    let before = columns.shuffle(
+        u8x16::splat(0),
+        [0, 0, 1, 2, 3, 4, 5, 6, 7, 8, 16, 16, 16, 16, 16, 16],
+    );
+    let digit = (columns - u8x16::from_array(FIRST)).simd_lt(u8x16::from_array(COUNT));
+    let prefix = columns.simd_eq(blank) | columns.simd_eq(u8x16::splat(b'-'));
+    (digit | before.simd_eq(blank) & prefix).to_bitmask() == 0xffff
+}
+
+// What three digits weigh.
+const WEIGHTS: [u8; 16] = [100, 10, 1, 0, 100, 10, 1, 0, 100, 10, 1, 0, 100, 10, 1, 0];
+
+/// What the digits write, without the point; a blank or a minus counts as 0.
+#[inline(always)]
+fn size(columns: u8x16) -> u64
+    ensures { result ≡ weighed 0 (plain_digits columns) }
+{
+    let digits = columns
+        .saturating_sub(u8x16::splat(b'0'))
+        .swizzle([1, 2, 3, 0, 4, 5, 6, 0, 7, 8, 9, 0, 11, 12, 13, 0]);
+    let groups = digits.dot4(u8x16::from_array(WEIGHTS)) * u32x4::from_array([1000, 1, 1000, 1]);
+    let halves = (groups + groups.swizzle([1, 0, 3, 2])).to_array();
+    u64::from(halves[0]) * 1_000_000 + u64::from(halves[2])
+}
+
+/// The number in plain columns.
+#[inline(always)]
+pub(crate) fn value(columns: u8x16) -> i64
+    requires { IsPlain columns }
+    ensures value { result ≡ signed_number (list_any (λ c. c == 45) columns) (weighed 0 (plain_digits columns)) }
+    ensures in_range { IsObservation result }
+{
+    signed(has_minus(columns), size(columns))
+}

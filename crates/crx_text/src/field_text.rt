@@ -1,0 +1,104 @@
+//! An observation's text by lanes: the digits of its 14 columns in one row, and then the blanks
+//! before the first of them.
+
+ghost use Rattle.std.specs.Prelude.{◌≡◌, ◌+◌, ◌-◌, ◌/◌, ◌%◌, ◌^◌, ◌<◌, ◌≤◌, ◌∷◌, ◌++◌, [], length, slice_index, take, drop, replicate};
+ghost use Rattle.std.specs.Simd.Lanes.{Each1, zip2};
+ghost use Rattle.crx_text.specs.declared.limits.TheConstants.{OBSERVATION_WIDTH, OBSERVATION_DECIMALS};
+ghost use Rattle.crx_text.specs.FieldTexts.{group_digits, spread, leading_zeros};
+ghost use Rattle.crx_text.specs.Numbers.{size_text};
+
+use std::simd::prelude::*;
+
+/// The groups of three digits of a size, the highest first.
+#[inline(always)]
+fn groups(size: u64) -> u32x4
+    requires { size < 10 ^ 12 }
+    ensures { result ≡ size / 10 ^ 9 ∷ size / 10 ^ 6 % 1000 ∷ size / 1000 % 1000 ∷ size % 1000 ∷ [] }
+{
+    let high = (size / 1_000_000) as u32;
+    let low = (size - u64::from(high) * 1_000_000) as u32;
+    let first = high / 1000;
+    let third = low / 1000;
+    u32x4::from_array([first, high - first * 1000, third, low - third * 1000])
+}
+
+/// Each group's three digits and a 0, by products in place of divisions.
+#[inline(always)]
+fn digits(groups: u32x4) -> u8x16
+    requires { Each1 (λ group. group < 1000) groups }
+    ensures { result ≡ group_digits groups }
+{
+    let hundreds = (groups * u32x4::splat(41)) >> u32x4::splat(12);
+    let rest = groups - hundreds * u32x4::splat(100);
+    let tens = (rest * u32x4::splat(103)) >> u32x4::splat(10);
+    let ones = rest - tens * u32x4::splat(10);
+    (hundreds + (tens << u32x4::splat(8)) + (ones << u32x4::splat(16))).to_le_bytes()
+}
+
+/// The digits in their columns, with what becomes the point once 48 is added.
+#[inline(always)]
+fn columns(digits: u8x16) -> u8x16
+    ensures { result ≡ spread digits }
+{
+    digits.shuffle(
+        u8x16::splat(254),
+        [3, 0, 1, 2, 4, 5, 6, 8, 9, 10, 16, 12, 13, 14, 3, 3],
+    )
+}
+
+// The least byte at which a column begins the number: the one before the point does at any digit.
+const LEAST: [u8; 16] = [1, 1, 1, 1, 1, 1, 1, 1, 1, 0, 1, 1, 1, 1, 1, 1];
+
+/// The index of the column where the number begins.
+#[inline(always)]
+fn first_digit(columns: u8x16) -> usize
+    requires { slice_index columns 0 ≡ 0 }
+    ensures { result ≡ 1 + leading_zeros (take 9 (drop 1 columns)) }
+{
+    columns
+        .simd_ge(u8x16::from_array(LEAST))
+        .to_bitmask()
+        .trailing_zeros() as usize
+}
+
+// Blanks, and what makes a digit of a number below 10.
+const BASES: [u8; 32] = [
+    32, 32, 32, 32, 32, 32, 32, 32, 32, 32, 32, 32, 32, 32, 32, 32, 48, 48, 48, 48, 48, 48, 48, 48,
+    48, 48, 48, 48, 48, 48, 48, 48,
+];
+
+/// The text of digits in their columns, blanks in those before the number begins.
+#[inline(always)]
+fn glyphs(columns: u8x16, start: usize) -> u8x16
+    requires { start ≤ 9 }
+    ensures { result ≡ zip2 (λ digit base. (digit + base) % 256) columns (replicate start 32 ++ replicate (16 - start) 48) }
+{
+    columns + u8x16::from_slice(&BASES[16 - start..])
+}
+
+/// Puts the first 14 lanes into a field.
+#[inline(always)]
+fn store(text: u8x16, field: &mut [u8])
+    requires { length field.old ≡ OBSERVATION_WIDTH }
+    ensures { field.new ≡ take OBSERVATION_WIDTH text }
+{
+    text.extract::<0, 8>().copy_to_slice(field);
+    text.extract::<6, 8>().copy_to_slice(&mut field[6..]);
+}
+
+/// Prints a size right justified into the columns of an observation, with blanks before it, and
+/// answers the index where it begins.
+#[inline(always)]
+pub(crate) fn size_print_by_lanes(size: u64, field: &mut [u8]) -> usize
+    requires short { size < 10 ^ 12 }
+    requires width { length field.old ≡ OBSERVATION_WIDTH }
+    ensures start { result + length (size_text OBSERVATION_DECIMALS size) ≡ OBSERVATION_WIDTH }
+    ensures room { 1 ≤ result }
+    ensures written { drop result field.new ≡ size_text OBSERVATION_DECIMALS size }
+    ensures before { take result field.new ≡ replicate result 32 }
+{
+    let columns = columns(digits(groups(size)));
+    let start = first_digit(columns);
+    store(glyphs(columns, start), field);
+    start
+}
