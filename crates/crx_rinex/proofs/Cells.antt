@@ -1,20 +1,20 @@
 -- The cells of a satellite line, taken one by one.
-use Rattle.std.proofs.Common.{◌≡◌, ℕ, ℤ, ◌+◌, ◌-◌, ◌*◌, ◌<◌, ◌≤◌, true, ◌&&◌, List, [], ◌∷◌, ◌++◌, Option, Some, None, Result, Ok, Err, length, take, drop, replicate, map, get_or, refl, ap, sym, ◌∙◌, arith, suc, zero}
+use Rattle.std.proofs.Common.{◌≡◌, ℕ, ℤ, ◌+◌, ◌-◌, ◌*◌, ◌<◌, ◌≤◌, true, ◌&&◌, All, List, [], ◌∷◌, ◌++◌, Option, Some, None, Result, Ok, Err, length, take, drop, replicate, map, get_or, refl, ap, sym, subst, ◌∙◌, arith, suc, zero}
 use Rattle.std.specs.List.{range_with_len, list_all}
 use Rattle.std.specs.Result.{IsErr, OnOk}
 use Rattle.std.proofs.lemmas.Bool.{and_from}
 use Rattle.std.proofs.lemmas.List.Elements.{All-replicate}
 use Rattle.std.proofs.lemmas.List.Folds.{list_all-append}
-use Rattle.std.proofs.lemmas.List.{map-id, take-append-le, drop_all, drop_more, drop-drop, length-drop, length-append, length-replicate, append_assoc}
+use Rattle.std.specs.Prelude.{slice_set}
+use Rattle.std.proofs.lemmas.List.{take_more_set, length-set, take_at, map-id, take-append-le, drop_all, drop_more, drop-drop, length-drop, length-append, length-replicate, append_assoc}
 use Rattle.std.proofs.lemmas.List.FromFn.{map-range_with_len_more, get_or-map-range_with_len, length-map-range_with_len}
 use Rattle.std.proofs.lemmas.Option.{option_and_then_some, same_Some, none-some}
 use Rattle.crx_text.specs.Columns.{character_at, columns}
 use Rattle.crx_rinex.specs.Observations.{Row}
 use Rattle.crx_text.specs.Numbers.{observation_of, observation_text, number_of}
-use Rattle.crx_text.specs.declared.limits.TheConstants.{TYPES_LIMIT}
 use Rattle.crx_rinex.specs.EpochLines.{is_kept}
 use Rattle.crx_rinex.specs.Printing.{printed_cells}
-use Rattle.crx_rinex.specs.ObservationTypes.{is_system}
+use Rattle.crx_rinex.specs.ObservationTypes.{is_system, IsAllowedCount}
 use Rattle.crx_rinex.specs.SatelliteLines.{all_some, values_in, flags_from, flags_in, field, has_number, is_identifier, blank_row, with_flags, IsSoundRow, IsValue}
 
 -- one value more
@@ -59,13 +59,13 @@ flags_in_more line k = ap (flags_from line) (range_more k) ∙ flags_from-push l
 pub field_past : (line : List ℕ) (k : ℕ) → length line ≤ 16 * k + 3 → observation_of (field line k) ≡ Some None
 unfolding number_of
 field_past line k h =
-    let e : drop (16 * k + 4 - 1) line ≡ [] = drop_all (16 * k + 4 - 1) line (omega arith) in
+    let e : drop (16 * k + 3 + 1 - 1) line ≡ [] = drop_all (16 * k + 3 + 1 - 1) line (omega arith) in
     rw e refl
 
 -- a field inside the line
 pub field_inside : (line : List ℕ) (k : ℕ) → 16 * k + 17 ≤ length line → field line k ≡ take 14 (drop (16 * k + 3) line)
 field_inside line k h =
-    let e : 16 * k + 4 - 1 ≡ 16 * k + 3 = omega arith in
+    let e : 16 * k + 3 + 1 - 1 ≡ 16 * k + 3 = omega arith in
     rw e (take-append-le 14 (drop (16 * k + 3) line) (replicate 14 32) (omega (arith, length-drop (16 * k + 3) line)))
 
 -- an identifier's columns
@@ -76,19 +76,25 @@ identifier_columns (a ∷ b ∷ []) = refl
 identifier_columns (a ∷ b ∷ c ∷ cs) = refl
 
 -- two indicators more
-pub flags_pushed : (line : List ℕ) (k a b : ℕ) (old one two : List ℕ) → old ≡ flags_in k line → a ≡ character_at line (16 * k + 18) → b ≡ character_at line (16 * k + 19)
-    → one ≡ old ++ a ∷ [] → two ≡ one ++ b ∷ [] → two ≡ flags_in (k + 1) line
-flags_pushed line k a b old one two h ha hb first second =
-    second ∙ ap (λ (fs : List ℕ). fs ++ b ∷ []) first ∙ append_assoc old (a ∷ []) (b ∷ [])
+pub pair_pushed : (line : List ℕ) (k : ℕ) (flags : List ℕ) (a b : ℕ) → 2 * k + 1 < length flags → take (2 * k) flags ≡ flags_in k line → a ≡ character_at line (16 * k + 18) → b ≡ character_at line (16 * k + 19)
+    → take (2 * (k + 1)) (slice_set (slice_set flags (2 * k) a) (2 * k + 1) b) ≡ flags_in (k + 1) line
+pair_pushed line k flags a b room h ha hb =
+    let one = slice_set flags (2 * k) a in
+    let e : 2 * (k + 1) ≡ 2 * k + 1 + 1 = omega arith in
+    let long = length-set flags (2 * k) a in
+    ap (λ n. take n (slice_set one (2 * k + 1) b)) e
+    ∙ take_more_set one (2 * k + 1) b (omega (arith, room, long))
+    ∙ ap (λ (fs : List ℕ). fs ++ b ∷ []) (take_more_set flags (2 * k) a (omega (arith, room)))
+    ∙ append_assoc (take (2 * k) flags) (a ∷ []) (b ∷ [])
     ∙ ap (λ (fs : List ℕ). fs ++ a ∷ b ∷ []) h ∙ ap (λ (x : ℕ). flags_in k line ++ x ∷ b ∷ []) ha ∙ ap (λ (x : ℕ). flags_in k line ++ character_at line (16 * k + 18) ∷ x ∷ []) hb
     ∙ sym (flags_in_more line k)
 
--- a call that could only refuse for want of room, and has it
+-- a call that could refuse only where there is no room, and has it
 pub ok_unless : {T E P : Type 0} (r : Result T E) → OnOk r P → (IsErr r → ⊥) → P
 ok_unless (Ok x) h n = h
 ok_unless (Err e) h n = absurd (n refl)
 
--- the cell at a place, and those behind it
+-- the cell at a place, and those after it
 pub printed_more : (values : List (Option ℤ)) (flags : List ℕ) (k : ℕ) → k < length values →
     printed_cells (drop k values) (drop (2 * k) flags) ≡ observation_text (get_or values k None) ++ take 2 (drop (2 * k) flags) ++ printed_cells (drop (k + 1) values) (drop (2 * (k + 1)) flags)
 printed_more values flags k h =
@@ -114,12 +120,26 @@ all_kept_blanks : (n : ℕ) → list_all is_kept (replicate n 32) ≡ true
 all_kept_blanks zero = refl
 all_kept_blanks (suc n) = all_kept_blanks n
 
+-- a row of sound cells
+pub sound-cells : (name : List ℕ) (values : List (Option ℤ)) (flags : List ℕ) (m : ℕ) → is_identifier name ≡ true → IsAllowedCount m → length values ≡ m → length flags ≡ 2 * m
+    → All IsValue values → list_all is_kept flags ≡ true → IsSoundRow (record { name = name; values = values; flags = flags })
+sound-cells name values flags m named allowed long pairs ranged kept =
+    record { named = named; counted = subst IsAllowedCount (sym long) allowed; ranged = ranged; paired = omega (arith, long, pairs); kept = kept }
+
+-- the same where each list was written through a slice of so many elements
+pub sound-written : (name : List ℕ) (values old_values : List (Option ℤ)) (flags old_flags : List ℕ) (m n k : ℕ) → is_identifier name ≡ true → IsAllowedCount m → length values ≡ m → length flags ≡ 2 * m → n ≡ m → k ≡ 2 * m
+    → All IsValue values → list_all is_kept flags ≡ true
+    → IsSoundRow (record { name = name; values = take n (values ++ drop (length values) old_values); flags = take k (flags ++ drop (length flags) old_flags) })
+sound-written name values old_values flags old_flags m n k named allowed long pairs n_is k_is ranged kept =
+    rw (take_at values (drop (length values) old_values) n (omega (arith, long, n_is)), take_at flags (drop (length flags) old_flags) k (omega (arith, pairs, k_is)))
+    (sound-cells name values flags m named allowed long pairs ranged kept)
+
 -- rows stay sound
-pub sound-blank : (name : List ℕ) (m : ℕ) → is_identifier name ≡ true → m ≤ TYPES_LIMIT → IsSoundRow (blank_row name m)
+pub sound-blank : (name : List ℕ) (m : ℕ) → is_identifier name ≡ true → IsAllowedCount m → IsSoundRow (blank_row name m)
 sound-blank name m named small =
     record {
       named = named;
-      counted = omega (arith, length-replicate {A = Option ℤ} m None);
+      counted = let e = length-replicate {A = Option ℤ} m None in (omega (arith, e, small.0), omega (arith, e, small.1));
       ranged = All-replicate IsValue m None tt;
       paired = length-replicate (2 * m) 32 ∙ ap (λ (n : ℕ). 2 * n) (sym (length-replicate {A = Option ℤ} m None));
       kept = all_kept_blanks (2 * m);

@@ -1,17 +1,17 @@
 -- Counts of types, letter by letter: what a map from letters holds is what the lines declare.
-use Rattle.std.proofs.Common.{◌≡◌, ℕ, Bool, true, false, cond, eqb, List, [], ◌∷◌, ◌++◌, Option, Some, None, IfSome, OnSome, refl, ap, sym, subst, ◌∙◌, inl, inr, arith, leb, ◌&&◌}
-use Rattle.std.specs.List.{All, cons_option}
+use Rattle.std.proofs.Common.{◌≡◌, ℕ, ◌+◌, ◌<◌, ◌≤◌, zero, suc, drop, slice_get, length, Bool, true, false, cond, eqb, List, [], ◌∷◌, ◌++◌, Option, Some, None, is_none, IfSome, OnSome, refl, ap, sym, subst, ◌∙◌, inl, inr, arith, leb, ◌&&◌}
+use Rattle.std.specs.List.{All, cons_option, list_any}
 use Rattle.std.specs.Map.{lookup}
-use Rattle.std.proofs.lemmas.Bool.{cases_eq, cases_Bool, eq-eqb, ne_eqb, eqb-true, leb-true, and_parts}
+use Rattle.std.proofs.lemmas.Bool.{cases_eq, cases_Bool, eq-eqb, ne_eqb, eqb-true, leb-true, and_parts, and_from, false≢true}
 use Rattle.std.proofs.lemmas.List.{append-nil}
 use Rattle.std.proofs.lemmas.List.Elements.{filter_map-append, All-cons, All-head, All-tail, All-weaker}
 use Rattle.std.proofs.lemmas.Map.Entries.{All-lookup}
 use Rattle.indexmap.specs.IndexMap.{insert_entry}
-use Rattle.crx_rinex.specs.ObservationTypes.{Count, AreCounts, IsAllowedCount, is_system, count_of, with_count, after_count, with_line, without, last_count, last_counts, counts_in, count_of_types_line, types_of, is_types_line, count_in, count_if_allowed}
+use Rattle.crx_rinex.specs.ObservationTypes.{Count, AreCounts, IsAllowedCount, IsCount, letters_differ, system_letters, is_system, count_of, with_count, after_count, with_line, without, last_count, last_counts, counts_in, count_of_types_line, types_of, is_types_line, count_in, count_if_allowed}
 use Rattle.crx_text.specs.declared.limits.TheConstants.{TYPES_LIMIT}
 use Rattle.crx_rinex.specs.Label.{number_in}
 use Rattle.crx_text.specs.Columns.{character_at, columns}
-use Rattle.std.proofs.lemmas.Option.{cond_some, option_and_then_some}
+use Rattle.std.proofs.lemmas.Option.{cond_some, option_and_then_some, none-some, same_Some}
 
 same_test : (a b : ℕ) → eqb a b ≡ eqb b a
 same_test a b =
@@ -79,22 +79,45 @@ types_of-push lines line =
     [ None ↦ ap last_counts (append-nil (counts_in lines)) | Some c ↦ last_counts-push (counts_in lines) c ])
 
 -- counts stay allowed
-pub AreCounts-with_count : (es : List Count) (letter count : ℕ) → AreCounts es → is_system letter ≡ true → IsAllowedCount count → AreCounts (with_count es letter count)
-AreCounts-with_count [] letter count h s a = All-cons (λ c. (is_system c.0 ≡ true) × IsAllowedCount c.1) (letter, count) [] (s, a) h
-AreCounts-with_count (e ∷ es) letter count h s a =
-    let P : Count → Type 0 = λ c. (is_system c.0 ≡ true) × IsAllowedCount c.1 in
-    let first : P e = All-head P e es h in
-    let rest : All P es = All-tail P e es h in
-    elim (eqb letter e.0) as (λ b. All P (cond b ((e.0, count) ∷ es) (e ∷ with_count es letter count))) [
-      | true ↦ All-cons P (e.0, count) es (first.0, a) rest
-      | false ↦ All-cons P e (with_count es letter count) first (AreCounts-with_count es letter count rest s a)
+allowed-with_count : (es : List Count) (letter count : ℕ) → All IsCount es → is_system letter ≡ true → IsAllowedCount count → All IsCount (with_count es letter count)
+allowed-with_count [] letter count h s a = All-cons IsCount (letter, count) [] (s, a) h
+allowed-with_count (e ∷ es) letter count h s a =
+    let first : IsCount e = All-head IsCount e es h in
+    let rest : All IsCount es = All-tail IsCount e es h in
+    elim (eqb letter e.0) as (λ b. All IsCount (cond b ((e.0, count) ∷ es) (e ∷ with_count es letter count))) [
+      | true ↦ All-cons IsCount (e.0, count) es (first.0, a) rest
+      | false ↦ All-cons IsCount e (with_count es letter count) first (allowed-with_count es letter count rest s a)
     ]
+
+-- another letter's count leaves a letter absent
+absent-with_count : (es : List Count) (a letter count : ℕ) → eqb letter a ≡ false → is_none (count_of es a) ≡ true → is_none (count_of (with_count es letter count) a) ≡ true
+absent-with_count [] a letter count n h = rw n refl
+absent-with_count (e ∷ es) a letter count n h =
+    elim (cases_Bool (eqb e.0 a)) [
+      | inl t ↦ absurd (false≢true ((rw t at h)))
+      | inr f ↦ elim (eqb letter e.0) as (λ b. is_none (count_of (cond b ((e.0, count) ∷ es) (e ∷ with_count es letter count)) a) ≡ true) [
+        | true ↦ rw f (rw f at h)
+        | false ↦ rw f (absent-with_count es a letter count n (rw f at h))
+      ]
+    ]
+
+apart-with_count : (es : List Count) (letter count : ℕ) → letters_differ es ≡ true → letters_differ (with_count es letter count) ≡ true
+apart-with_count [] letter count h = refl
+apart-with_count (e ∷ es) letter count h =
+    let parts = and_parts (is_none (count_of es e.0)) (letters_differ es) h in
+    elim (cases_Bool (eqb letter e.0)) [
+      | inl t ↦ rw t h
+      | inr f ↦ rw f (and_from (is_none (count_of (with_count es letter count) e.0)) (letters_differ (with_count es letter count)) (absent-with_count es e.0 letter count f parts.0) (apart-with_count es letter count parts.1))
+    ]
+
+pub AreCounts-with_count : (es : List Count) (letter count : ℕ) → AreCounts es → is_system letter ≡ true → IsAllowedCount count → AreCounts (with_count es letter count)
+AreCounts-with_count es letter count h s a =
+    record { allowed = allowed-with_count es letter count h.allowed s a; apart = apart-with_count es letter count h.apart }
 
 pub allowed_of : (es : List Count) (letter : ℕ) → AreCounts es → IfSome (count_of es letter) IsAllowedCount
 allowed_of es letter h =
-    let P : Count → Type 0 = λ c. (is_system c.0 ≡ true) × IsAllowedCount c.1 in
     let Q : Count → Type 0 = λ c. IsAllowedCount c.1 in
-    subst (λ (o : Option ℕ). IfSome o IsAllowedCount) (lookup_is_count es letter) (All-lookup IsAllowedCount (eqb letter) es (All-weaker P Q (λ c p. p.1) es h))
+    subst (λ (o : Option ℕ). IfSome o IsAllowedCount) (lookup_is_count es letter) (All-lookup IsAllowedCount (eqb letter) es (All-weaker IsCount Q (λ c p. p.1) es h.allowed))
 
 -- a line that isn't a types line changes nothing
 pub with_line-other : (counts : List Count) (line : List ℕ) → is_types_line line ≡ false → with_line counts line ≡ counts
@@ -120,11 +143,82 @@ count_in_allowed line letter count h =
     (λ n e g. allowed_if (character_at line 1) n letter count g)
 
 -- a letter that has a count is that of a system
-pub system_of : (es : List Count) (letter : ℕ) → AreCounts es → OnSome (count_of es letter) (is_system letter ≡ true)
-system_of [] letter h = tt
-system_of (e ∷ es) letter h =
-    let P : Count → Type 0 = λ c. (is_system c.0 ≡ true) × IsAllowedCount c.1 in
+system_in : (es : List Count) (letter : ℕ) → All IsCount es → OnSome (count_of es letter) (is_system letter ≡ true)
+system_in [] letter h = tt
+system_in (e ∷ es) letter h =
     elim (cases_Bool (eqb e.0 letter)) [
-      | inl t ↦ rw t (ap is_system (sym (eqb-true e.0 letter t)) ∙ (All-head P e es h).0)
-      | inr f ↦ rw f (system_of es letter (All-tail P e es h))
+      | inl t ↦ rw t (ap is_system (sym (eqb-true e.0 letter t)) ∙ (All-head IsCount e es h).0)
+      | inr f ↦ rw f (system_in es letter (All-tail IsCount e es h))
     ]
+
+pub system_of : (es : List Count) (letter : ℕ) → AreCounts es → OnSome (count_of es letter) (is_system letter ≡ true)
+system_of es letter h = system_in es letter h.allowed
+
+-- the entries from a place on decide by their first, or else by the others
+pub count_at : (es : List Count) (k : ℕ) (e : Count) (letter : ℕ) → slice_get es k ≡ Some e → count_of (drop k es) letter ≡ cond (eqb e.0 letter) (Some e.1) (count_of (drop (suc k) es) letter)
+count_at [] k e letter h = absurd (none-some e h)
+count_at (c ∷ es) zero e letter h = let same : c ≡ e = same_Some c e h in rw (sym same) refl
+count_at (c ∷ es) (suc k) e letter h = count_at es k e letter h
+
+-- ---- few systems
+
+-- how often a letter stands among some counts
+abbrev times : ℕ → List Count → ℕ
+times letter [] = 0
+times letter (c ∷ cs) = cond (eqb c.0 letter) (suc (times letter cs)) (times letter cs)
+
+never : (letter : ℕ) (cs : List Count) → is_none (count_of cs letter) ≡ true → times letter cs ≡ 0
+never letter [] h = refl
+never letter (c ∷ cs) h =
+    elim (cases_Bool (eqb c.0 letter)) [
+      | inl t ↦ absurd (false≢true ((rw t at h)))
+      | inr f ↦ rw f (never letter cs (rw f at h))
+    ]
+
+once : (letter : ℕ) (cs : List Count) → letters_differ cs ≡ true → times letter cs ≤ 1
+once letter [] h = omega arith
+once letter (c ∷ cs) h =
+    let parts = and_parts (is_none (count_of cs c.0)) (letters_differ cs) h in
+    elim (cases_Bool (eqb c.0 letter)) [
+      | inl t ↦
+          let same : c.0 ≡ letter = eqb-true c.0 letter t in
+          let rest : times letter cs ≡ 0 = subst (λ l. times l cs ≡ 0) same (never c.0 cs parts.0) in
+          rw t (omega (arith, rest))
+      | inr f ↦ rw f (once letter cs parts.1)
+    ]
+
+-- how often the letters of a list stand among some counts, all together
+abbrev times_of_any : List ℕ → List Count → ℕ
+times_of_any [] cs = 0
+times_of_any (l ∷ ls) cs = times l cs + times_of_any ls cs
+
+few_times : (letters : List ℕ) (cs : List Count) → letters_differ cs ≡ true → times_of_any letters cs ≤ length letters
+few_times [] cs h = omega arith
+few_times (l ∷ ls) cs h = let a = once l cs h in let b = few_times ls cs h in omega (arith, a, b)
+
+more_times : (letters : List ℕ) (c : Count) (cs : List Count) → times_of_any letters cs ≤ times_of_any letters (c ∷ cs)
+more_times [] c cs = omega arith
+more_times (l ∷ ls) c cs =
+    let rest = more_times ls c cs in
+    elim (eqb c.0 l) as (λ b. times l cs + times_of_any ls cs ≤ cond b (suc (times l cs)) (times l cs) + times_of_any ls (c ∷ cs)) [ true ↦ omega (arith, rest) | false ↦ omega (arith, rest) ]
+
+one_time_more : (letters : List ℕ) (c : Count) (cs : List Count) → list_any (λ l. eqb l c.0) letters ≡ true → times_of_any letters cs < times_of_any letters (c ∷ cs)
+one_time_more [] c cs h = absurd (false≢true h)
+one_time_more (l ∷ ls) c cs h =
+    let rest = more_times ls c cs in
+    elim (cases_Bool (eqb l c.0)) [
+      | inl t ↦ let e : eqb c.0 l ≡ true = same_test c.0 l ∙ t in rw e (omega (arith, rest))
+      | inr f ↦
+          let more = one_time_more ls c cs (rw f at h) in
+          elim (eqb c.0 l) as (λ b. times l cs + times_of_any ls cs < cond b (suc (times l cs)) (times l cs) + times_of_any ls (c ∷ cs)) [ true ↦ omega (arith, rest) | false ↦ omega (arith, more) ]
+    ]
+
+all_times : (cs : List Count) → All IsCount cs → length cs ≤ times_of_any system_letters cs
+all_times [] h = omega arith
+all_times (c ∷ cs) h =
+    let more = one_time_more system_letters c cs (All-head IsCount c cs h).0 in
+    let rest = all_times cs (All-tail IsCount c cs h) in
+    omega (arith, more, rest)
+
+pub systems_few : (counts : List Count) → AreCounts counts → length counts ≤ length system_letters
+systems_few counts h = let a = all_times counts h.allowed in let b = few_times system_letters counts h.apart in omega (arith, a, b)

@@ -2,9 +2,9 @@
 use Rattle.std.proofs.Common.{◌≡◌, ◌≢◌, ℕ, ◌-◌, List, [], ◌∷◌, None, drop, slice_get, refl, ap, sym, arith, suc, zero}
 use Rattle.std.proofs.lemmas.Option.{none-some}
 
-pub behind_first : {X : Type 0} (x : X) (xs : List X) (n : ℕ) → n ≢ 0 → slice_get (x ∷ xs) n ≡ slice_get xs (n - 1)
-behind_first x xs zero h = absurd (h refl)
-behind_first x xs (suc n) h = let e : n ≡ suc n - 1 = omega arith in ap (slice_get xs) e
+pub after_first : {X : Type 0} (x : X) (xs : List X) (n : ℕ) → n ≢ 0 → slice_get (x ∷ xs) n ≡ slice_get xs (n - 1)
+after_first x xs zero h = absurd (h refl)
+after_first x xs (suc n) h = let e : n ≡ suc n - 1 = omega arith in ap (slice_get xs) e
 
 pub first_of_rest : {X : Type 0} (xs : List X) (n : ℕ) → slice_get (drop n xs) 0 ≡ slice_get xs n
 first_of_rest xs zero = refl

@@ -1,5 +1,5 @@
--- Rows of different satellites, one behind the other.
-use Rattle.std.proofs.Common.{◌≡◌, ℕ, ◌≤◌, Bool, true, false, not, ◌&&◌, List, [], ◌∷◌, ◌++◌, length, refl, sym, ◌∙◌, inl, inr, arith, Option, Some, None, unwrap_or, cond, leb}
+-- Rows of different satellites, one after another.
+use Rattle.std.proofs.Common.{◌≡◌, ℕ, ◌+◌, ◌<◌, ◌≤◌, Bool, true, false, not, ◌&&◌, List, [], ◌∷◌, ◌++◌, length, take, refl, ap, sym, subst, ◌∙◌, inl, inr, arith, Option, Some, None, unwrap_or, cond, leb}
 use Rattle.std.specs.List.{list_all}
 use Rattle.std.specs.Option.{option_and_then}
 use Rattle.crx_text.specs.Columns.{character_at, columns}
@@ -7,7 +7,8 @@ use Rattle.crx_text.specs.declared.limits.TheConstants.{SATELLITES_LIMIT}
 use Rattle.crx_rinex.specs.Label.{number_in}
 use Rattle.std.specs.Str.{bytes_eq}
 use Rattle.std.proofs.lemmas.Bool.{cases_Bool, leb-true, false≢true, eqb-false, or_parts, and_parts, not-true, false_from_ne_true}
-use Rattle.std.proofs.lemmas.List.{length_push}
+use Rattle.std.specs.Prelude.{ℤ, slice_set}
+use Rattle.std.proofs.lemmas.List.{length_push, take_all, take_more_set}
 use Rattle.std.proofs.lemmas.List.Elements.{All-push}
 use Rattle.std.proofs.lemmas.List.Folds.{list_any-append}
 use Rattle.std.proofs.lemmas.Slice.Eq.{bytes_eq-Decides}
@@ -35,10 +36,28 @@ sound-with_row epoch row h sound room new =
     let full : length epoch.rows ≡ satellites_of epoch.head → ⊥ = eqb-false (length epoch.rows) (satellites_of epoch.head) room in
     let fits = h.within in
     record {
+      head_sound = h.head_sound;
       rows_sound = All-push IsSoundRow epoch.rows row h.rows_sound sound;
       apart = different-push epoch.rows row h.apart new;
       within = omega (arith, length_push epoch.rows row);
     }
+
+-- the same where the rows are the first of some list: the row stands at its end, or in the place of a spare one
+pub sound-pushed : (head : List ℕ) (clock : Option ℤ) (rows : List Row) (count : ℕ) (row : Row) → IsSoundEpoch (record { head = head; clock = clock; rows = take count rows }) → count ≡ length rows
+    → IsSoundRow row → is_full_epoch (record { head = head; clock = clock; rows = take count rows }) ≡ false → has_satellite row.name (take count rows) ≡ false
+    → IsSoundEpoch (record { head = head; clock = clock; rows = take (count + 1) (rows ++ row ∷ []) })
+sound-pushed head clock rows count row h long sound room new =
+    let all : take (count + 1) (rows ++ row ∷ []) ≡ take count rows ++ row ∷ [] =
+    take_all (count + 1) (rows ++ row ∷ []) (omega (arith, long, length_push rows row)) ∙ ap (λ (rs : List Row). rs ++ row ∷ []) (sym (take_all count rows (omega (arith, long)))) in
+    subst (λ (rs : List Row). IsSoundEpoch (record { head = head; clock = clock; rows = rs })) (sym all)
+    (sound-with_row (record { head = head; clock = clock; rows = take count rows }) row h sound room new)
+
+pub sound-put : (head : List ℕ) (clock : Option ℤ) (rows : List Row) (count : ℕ) (row : Row) → IsSoundEpoch (record { head = head; clock = clock; rows = take count rows }) → count < length rows
+    → IsSoundRow row → is_full_epoch (record { head = head; clock = clock; rows = take count rows }) ≡ false → has_satellite row.name (take count rows) ≡ false
+    → IsSoundEpoch (record { head = head; clock = clock; rows = take (count + 1) (slice_set rows count row) })
+sound-put head clock rows count row h within sound room new =
+    subst (λ (rs : List Row). IsSoundEpoch (record { head = head; clock = clock; rows = rs })) (sym (take_more_set rows count row within))
+    (sound-with_row (record { head = head; clock = clock; rows = take count rows }) row h sound room new)
 
 few : (b : Bool) (o : Option ℕ) → unwrap_or (cond b (option_and_then count_within_limit o) None) 0 ≤ SATELLITES_LIMIT
 few true None = omega arith

@@ -1,10 +1,10 @@
 -- Epoch lines: RINEX 3.05, table A3, EPOCH record.
-use Rattle.std.specs.Prelude.{◌≡◌, ◌≤◌, ⊤, ℕ, ℤ, Bool, length, ◌||◌, ◌&&◌, ◌-◌, List, ◌==◌, Option, Some, None, Result, Ok, Err, if◌then◌else◌, nat_le, unwrap_or, not, drop}
+use Rattle.std.specs.Prelude.{◌≡◌, ◌≤◌, ◌+◌, ℕ, ℤ, Bool, length, ◌||◌, ◌&&◌, ◌-◌, List, ◌==◌, Option, Some, None, IfSome, Result, Ok, Err, if◌then◌else◌, nat_le, unwrap_or, not, drop}
 use Rattle.std.specs.List.{list_all}
 use Rattle.std.specs.Option.{option_and_then}
 use Rattle.crx_text.specs.Columns.{columns, character_at, is_blank}
 use Rattle.crx_text.specs.Numbers.{clock_of, IsClock}
-use Rattle.crx_text.specs.declared.limits.TheConstants.{SATELLITES_LIMIT, CLOCK_WIDTH}
+use Rattle.crx_text.specs.declared.limits.TheConstants.{SATELLITES_LIMIT, HEAD_WIDTH, CLOCK_WIDTH}
 use Rattle.crx_text.specs.declared.fault.Fault.{Fault}
 use Rattle.crx_text.specs.declared.fault.Fault.TheVariants.{NotAnEpoch, BadEpoch, BadClock}
 use Rattle.crx_rinex.specs.Label.{number_in}
@@ -46,7 +46,7 @@ count_within_limit count = if nat_le count SATELLITES_LIMIT then Some count else
 abbrev pub satellites_in : List ℕ → Option ℕ
 satellites_in line = option_and_then count_within_limit (number_in (columns line 33 3))
 
--- the count that 41 columns announce, where they are those of an observation epoch: >, a flag of 0 or 1, a count, and no
+-- the count that an epoch line's columns before the clock announce, where they are those of an observation epoch: >, a flag of 0 or 1, a count, and no
 -- character but those kept
 abbrev pub epoch_count : List ℕ → Option ℕ
 epoch_count head = if begins_epoch head && is_observation_flag (character_at head 32) && list_all is_kept head then satellites_in head else None
@@ -59,10 +59,10 @@ abbrev pub with_clock : List ℕ → ℕ → Option (Option ℤ) → Result Head
 with_clock head count None = Err BadClock
 with_clock head count (Some clock) = Ok (EpochHead head count clock)
 
--- an observation epoch's line: columns 1 to 41, the clock in columns 42 to 56, and blanks behind it
+-- an observation epoch's line: columns 1 to 41, the clock in columns 42 to 56, and blanks after it
 abbrev pub epoch_head : List ℕ → Option ℕ → Result HeadLine Fault
 epoch_head line None = Err BadEpoch
-epoch_head line (Some count) = if list_all is_blank (drop 56 line) then with_clock (columns line 1 41) count (clock_of (columns line 42 CLOCK_WIDTH)) else Err BadEpoch
+epoch_head line (Some count) = if list_all is_blank (drop (HEAD_WIDTH + CLOCK_WIDTH) line) then with_clock (columns line 1 HEAD_WIDTH) count (clock_of (columns line (HEAD_WIDTH + 1) CLOCK_WIDTH)) else Err BadEpoch
 
 -- what stands in a line where an epoch may begin, or its first fault: no >, then the flag, the count and the columns,
 -- then the clock
@@ -70,7 +70,7 @@ abbrev pub head_of : List ℕ → Result HeadLine Fault
 head_of line =
     if not (begins_epoch line) then Err NotAnEpoch
     else if is_event_flag (character_at line 32) then event_head (character_at line 32) (records_in line)
-    else epoch_head line (epoch_count (columns line 1 41))
+    else epoch_head line (epoch_count (columns line 1 HEAD_WIDTH))
 
 -- an observation epoch's line: columns 1 to 41, the count of satellites that they announce, and the receiver clock offset
 pub record ObservationHead : Type 0 where
@@ -84,12 +84,11 @@ satellites_of head = unwrap_or (epoch_count head) 0
 
 -- a clock that fits its columns, or none
 abbrev pub IsClockOffset : Option ℤ → Type 0
-IsClockOffset None = ⊤
-IsClockOffset (Some clock) = IsClock clock
+IsClockOffset clock = IfSome clock IsClock
 
 -- what is true of every observation epoch's line: its columns are those of one, and its clock fits its columns
 pub record IsObservationHead (line : ObservationHead) : Type 0 where
-  pub width : length line.head ≡ 41
+  pub width : length line.head ≡ HEAD_WIDTH
   pub counted : epoch_count line.head ≡ Some line.count
   pub within : line.count ≤ SATELLITES_LIMIT
   pub ranged : IsClockOffset line.clock

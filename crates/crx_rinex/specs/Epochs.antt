@@ -1,10 +1,12 @@
 -- Observation epochs whose rows come one by one: RINEX 3.05, table A3.
-use Rattle.std.specs.Prelude.{◌≡◌, ◌≤◌, ℕ, Bool, true, List, [], ◌∷◌, ◌++◌, ◌==◌, ◌&&◌, length, not, All}
+use Rattle.std.specs.Prelude.{◌≡◌, ◌≤◌, ℕ, Bool, true, List, [], ◌∷◌, ◌++◌, ◌==◌, ◌&&◌, length, not, All, Result, Ok, Err}
 use Rattle.std.specs.List.{list_any}
 use Rattle.std.specs.Str.{bytes_eq}
+use Rattle.crx_text.specs.declared.fault.Fault.{Fault}
 use Rattle.crx_rinex.specs.Observations.{Row, Epoch}
-use Rattle.crx_rinex.specs.EpochLines.{ObservationHead, satellites_of}
-use Rattle.crx_rinex.specs.SatelliteLines.{IsSoundRow}
+use Rattle.crx_rinex.specs.EpochLines.{ObservationHead, IsObservationHead, satellites_of}
+use Rattle.crx_rinex.specs.ObservationTypes.{Count}
+use Rattle.crx_rinex.specs.SatelliteLines.{IsSoundRow, HasItsTypes}
 
 -- whether some rows have a satellite
 abbrev pub has_satellite : List ℕ → List Row → Bool
@@ -23,12 +25,25 @@ begun head = record { head = head.head; clock = head.clock; rows = [] }
 abbrev pub with_row : Epoch → Row → Epoch
 with_row epoch row = record epoch { rows = epoch.rows ++ row ∷ [] }
 
+-- the epoch afterwards is the one before with the row that was read at its end
+abbrev pub AddsRow : Epoch → Result Row Fault → Epoch → Type 0
+AddsRow before (Ok row) after = after ≡ with_row before row
+AddsRow before (Err fault) after = ⊥
+
 -- whether an epoch has as many rows as its line announces
 abbrev pub is_full_epoch : Epoch → Bool
 is_full_epoch epoch = length epoch.rows == satellites_of epoch.head
 
--- what is true of every epoch whose rows come one by one
+-- what is true of every epoch, also while rows are still to come: its line is sound, and so are its rows, each of another
+-- satellite, and no more than the line announces
 pub record IsSoundEpoch (epoch : Epoch) : Type 0 where
+  pub head_sound : IsObservationHead (record { head = epoch.head; count = satellites_of epoch.head; clock = epoch.clock })
   pub rows_sound : All IsSoundRow epoch.rows
   pub apart : are_different epoch.rows ≡ true
   pub within : length epoch.rows ≤ satellites_of epoch.head
+
+-- an epoch that has all of its rows, where these counts of types are in force
+pub record IsWholeEpoch (types : List Count) (epoch : Epoch) : Type 0 where
+  pub sound : IsSoundEpoch epoch
+  pub full : length epoch.rows ≡ satellites_of epoch.head
+  pub typed : All (HasItsTypes types) epoch.rows

@@ -9,3 +9,7 @@ pub mod Epochs
 pub mod Printing
 pub mod Places
 pub mod Units
+pub mod Steady
+pub mod EpochPlaces
+pub mod Laws
+pub mod Examples

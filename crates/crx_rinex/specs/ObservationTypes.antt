@@ -58,7 +58,7 @@ abbrev pub count_of : List Count → ℕ → Option ℕ
 count_of [] letter = None
 count_of (c ∷ cs) letter = if c.0 == letter then Some c.1 else count_of cs letter
 
--- the counts with a letter's new count: in the letter's place, or behind the others where the letter is new
+-- the counts with a letter's new count: in the letter's place, or after the others where the letter is new
 abbrev pub with_count : List Count → ℕ → ℕ → List Count
 with_count [] letter count = (letter, count) ∷ []
 with_count (c ∷ cs) letter count = if letter == c.0 then (c.0, count) ∷ cs else c ∷ with_count cs letter count
@@ -79,6 +79,15 @@ is_bad_types_line line = is_types_line line && is_none (count_in line)
 abbrev pub IsAllowedCount : ℕ → Type 0
 IsAllowedCount count = (1 ≤ count) × (count ≤ TYPES_LIMIT)
 
--- counts that types lines declare: each allowed, and of a system
-abbrev pub AreCounts : List Count → Type 0
-AreCounts counts = All (λ c. (is_system c.0 ≡ true) × IsAllowedCount c.1) counts
+abbrev pub IsCount : Count → Type 0
+IsCount c = (is_system c.0 ≡ true) × IsAllowedCount c.1
+
+-- whether no letter stands twice
+abbrev pub letters_differ : List Count → Bool
+letters_differ [] = true
+letters_differ (c ∷ cs) = is_none (count_of cs c.0) && letters_differ cs
+
+-- counts that types lines declare: each allowed and of a system, and no system twice
+pub record AreCounts (counts : List Count) : Type 0 where
+  pub allowed : All IsCount counts
+  pub apart : letters_differ counts ≡ true

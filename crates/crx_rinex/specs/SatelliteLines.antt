@@ -1,16 +1,16 @@
 -- Satellite lines: RINEX 3.05, table A3, OBSERVATION record, A1,I2.2,m(F14.3,I1,I1).
-use Rattle.std.specs.Prelude.{◌≡◌, ◌≤◌, ⊤, ℕ, ℤ, Bool, true, ◌==◌, ◌||◌, ◌&&◌, ◌+◌, ◌*◌, ◌-◌, List, [], ◌∷◌, ◌++◌, Option, Some, None, Result, Ok, Err, if◌then◌else◌, not, drop, map, length, replicate, slice_set, All}
+use Rattle.std.specs.Prelude.{◌≡◌, ℕ, ℤ, Bool, true, ◌==◌, ◌||◌, ◌&&◌, ◌+◌, ◌*◌, ◌-◌, List, [], ◌∷◌, ◌++◌, Option, Some, None, IfSome, Result, Ok, Err, if◌then◌else◌, not, drop, map, length, replicate, slice_set, All}
 use Rattle.std.specs.List.{list_all, range_with_len}
 use Rattle.std.specs.Option.{option_and_then}
 use Rattle.crx_text.specs.Columns.{columns, character_at, is_blank}
 use Rattle.crx_text.specs.Numbers.{observation_of, IsObservation}
 use Rattle.crx_rinex.specs.Observations.{Row}
-use Rattle.crx_text.specs.declared.limits.TheConstants.{OBSERVATION_WIDTH, TYPES_LIMIT}
+use Rattle.crx_text.specs.declared.limits.TheConstants.{OBSERVATION_WIDTH, NAME_WIDTH, CELL_WIDTH}
 use Rattle.crx_text.specs.declared.fault.Fault.{Fault}
 use Rattle.crx_text.specs.declared.fault.Fault.TheVariants.{BadSatellite, BadField, BadFlags}
 use Rattle.crx_rinex.specs.Label.{is_digit}
 use Rattle.crx_rinex.specs.EpochLines.{is_kept}
-use Rattle.crx_rinex.specs.ObservationTypes.{Count, count_of, is_system}
+use Rattle.crx_rinex.specs.ObservationTypes.{Count, IsAllowedCount, count_of, is_system}
 
 -- whether columns 2 and 3 of a satellite line go on with an identifier: a digit or a blank, and a digit
 abbrev pub has_number : List ℕ → Bool
@@ -22,7 +22,7 @@ types_of_satellite types line = if has_number line then count_of types (characte
 
 -- the field of type k, from 0
 abbrev pub field : List ℕ → ℕ → List ℕ
-field line k = columns line (16 * k + 4) OBSERVATION_WIDTH
+field line k = columns line (CELL_WIDTH * k + NAME_WIDTH + 1) OBSERVATION_WIDTH
 
 -- all of the values, if each text spells one or is missing
 abbrev pub all_some : List (Option (Option ℤ)) → Option (List (Option ℤ))
@@ -42,13 +42,13 @@ flags_from line (k ∷ ks) = character_at line (16 * k + 18) ∷ character_at li
 abbrev pub flags_in : ℕ → List ℕ → List ℕ
 flags_in m line = flags_from line (range_with_len 0 m)
 
--- a row of m types, or its first fault: a field that is no number, or text behind the last cell; then an indicator
+-- a row of m types, or its first fault: a field that is no number, or text after the last cell; then an indicator
 abbrev pub row_with : ℕ → List ℕ → Option (List (Option ℤ)) → Result Row Fault
 row_with m line None = Err BadField
 row_with m line (Some values) =
-    if not (list_all is_blank (drop (16 * m + 3) line)) then Err BadField
+    if not (list_all is_blank (drop (CELL_WIDTH * m + NAME_WIDTH) line)) then Err BadField
     else if not (list_all is_kept (flags_in m line)) then Err BadFlags
-    else Ok (record { name = columns line 1 3; values = values; flags = flags_in m line })
+    else Ok (record { name = columns line 1 NAME_WIDTH; values = values; flags = flags_in m line })
 
 abbrev pub row_of_types : List ℕ → Option ℕ → Result Row Fault
 row_of_types line None = Err BadSatellite
@@ -60,21 +60,24 @@ row_of types line = row_of_types line (types_of_satellite types line)
 
 -- an identifier: the letter of a system, a digit or a blank, and a digit
 abbrev pub is_identifier : List ℕ → Bool
-is_identifier name = (length name == 3) && (is_system (character_at name 1) && has_number name)
+is_identifier name = (length name == NAME_WIDTH) && (is_system (character_at name 1) && has_number name)
 
 -- a value that fits its columns, or none
 abbrev pub IsValue : Option ℤ → Type 0
-IsValue None = ⊤
-IsValue (Some value) = IsObservation value
+IsValue value = IfSome value IsObservation
 
--- what is true of every row: its identifier is spelt as one; it has no more values than a system may have types, each
--- within its columns; and two indicators for each, of the characters that may stand there
+-- what is true of every row: its identifier is spelt as one; it has as many values as a system may have types, each within
+-- its columns; and two indicators for each, of the characters that may stand there
 pub record IsSoundRow (row : Row) : Type 0 where
   pub named : is_identifier row.name ≡ true
-  pub counted : length row.values ≤ TYPES_LIMIT
+  pub counted : IsAllowedCount (length row.values)
   pub ranged : All IsValue row.values
   pub paired : length row.flags ≡ 2 * length row.values
   pub kept : list_all is_kept row.flags ≡ true
+
+-- a row has a value for each of its system's types
+abbrev pub HasItsTypes : List Count → Row → Type 0
+HasItsTypes types row = types_of_satellite types row.name ≡ Some (length row.values)
 
 -- a row of m missing values with blank indicators
 abbrev pub blank_row : List ℕ → ℕ → Row

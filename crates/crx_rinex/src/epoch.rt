@@ -1,34 +1,43 @@
 //! Observation epochs. RINEX 3.05, table A3.
 
-ghost use Rattle.std.specs.Prelude.{◌≡◌, ◌≤◌, ◌⊎◌, length, true, false, OnOk, OnErr, IfErr, IfSome, slice_get};
+ghost use Rattle.std.specs.Prelude.{◌≡◌, ◌≤◌, ◌⊎◌, length, is_some, true, false, Err, OnOk, OnErr, IfErr, IfSome, slice_get};
 ghost use Rattle.std.specs.Option.{option_copied};
 ghost use Rattle.crx_text.specs.declared.limits.TheConstants.{SATELLITES_LIMIT};
 ghost use Rattle.crx_rinex.specs.EpochLines.{satellites_of, IsObservationHead};
-ghost use Rattle.crx_rinex.specs.Epochs.{begun, has_satellite, is_full_epoch, with_row, IsSoundEpoch};
-ghost use Rattle.crx_rinex.specs.SatelliteLines.{IsSoundRow};
+ghost use Rattle.crx_rinex.specs.Epochs.{begun, has_satellite, is_full_epoch, with_row, AddsRow, IsSoundEpoch};
+ghost use Rattle.crx_rinex.specs.EpochPlaces.{row_if_new};
+ghost use Rattle.crx_rinex.specs.SatelliteLines.{row_of, types_of_satellite, IsSoundRow};
 
 use crate::epoch_line::EpochLine;
 use crate::satellite_row::SatRow;
+use crate::types::Types;
 use crx_text::Fault;
+use crx_text::limits::NAME_WIDTH;
 use std::alloc::Global;
 use std::marker::Model;
 
 /// An observation epoch: its line and the rows of its satellites, each satellite once.
 #[derive(Drop)]
 pub struct Epoch {
+    alloc: Global,
     head: EpochLine,
+    /// The epoch's rows, and after them spare ones of earlier epochs.
     rows: Vec<SatRow>,
+    /// How many rows the epoch has.
+    count: usize,
 }
 
 impl Model for Epoch {
+    ghost use Rattle.std.specs.Prelude.{◌≤◌, length, take};
     ghost use Rattle.crx_rinex.specs.Observations.{Epoch as ObservationEpoch};
     ghost use Rattle.crx_rinex.specs.Epochs.{IsSoundEpoch};
+    ghost use Rattle.crx_rinex.specs.EpochLines.{IsObservationHead};
 
     ghost Value = { ObservationEpoch };
 
-    ghost view = { λ epoch. record { head = epoch.head.head; clock = epoch.head.clock; rows = epoch.rows.items } };
+    ghost view = { λ epoch. record { head = epoch.head.head; clock = epoch.head.clock; rows = take epoch.count epoch.rows.items } };
 
-    ghost invariant = { λ epoch. IsSoundEpoch (record { head = epoch.head.head; clock = epoch.head.clock; rows = epoch.rows.items }) };
+    ghost invariant = { λ epoch. IsSoundEpoch (record { head = epoch.head.head; clock = epoch.head.clock; rows = take epoch.count epoch.rows.items }) × (epoch.count ≤ length epoch.rows.items) × IsObservationHead epoch.head };
 }
 
 impl Epoch {
@@ -37,12 +46,22 @@ impl Epoch {
         ensures value { result ≡ begun head }
     {
         Epoch {
+            alloc,
             head,
             rows: Vec::new(alloc),
+            count: 0,
         }
     }
 
-    /// Puts a row behind the others.
+    /// Begins another epoch with this line and no rows yet. The memory of the rows is kept for [`Epoch::read_row`].
+    pub fn begin_again(&mut self, head: EpochLine)
+        ensures value { self.new ≡ begun head }
+    {
+        self.head = head;
+        self.count = 0;
+    }
+
+    /// Puts a row after the others.
     ///
     /// `RepeatedSatellite` comes where the epoch has a row of the same identifier already, else `OutOfMemory`.
     /// Either hands the row back, and the epoch is as it was.
@@ -56,12 +75,44 @@ impl Epoch {
             ⊎ ((refused.1 ≡ Fault.OutOfMemory) × (has_satellite row.name self.old.rows ≡ false))) }
         ensures err { OnErr result (self.new ≡ self.old) }
     {
-        if has_satellite(&self.rows, &row) {
+        if has_satellite(&self.rows[..self.count], row.name()) {
             return Err((row, Fault::RepeatedSatellite));
+        }
+        if self.count < self.rows.len() {
+            self.rows[self.count] = row;
+            self.count += 1;
+            return Ok(());
         }
         if let Err(full) = self.rows.push(row) {
             return Err((full.value, Fault::OutOfMemory));
         }
+        self.count += 1;
+        Ok(())
+    }
+
+    /// Reads a satellite line and puts its row after the others, into the memory of an earlier row where there is one:
+    /// [`SatRow::read`] and [`Epoch::push`] in one, with their refusals. After a refusal the epoch is as it was.
+    pub fn read_row(&mut self, types: &Types, line: &[u8]) -> Result<(), Fault>
+        requires { is_full_epoch self.old ≡ false }
+        ensures ok { OnOk result (AddsRow self.old (row_if_new self.old.rows (row_of types.now line.now)) self.new) }
+        ensures refused { IfErr result (λ fault. (row_if_new self.old.rows (row_of types.now line.now) ≡ Err fault)
+            ⊎ ((fault ≡ Fault.OutOfMemory) × (is_some (types_of_satellite types.now line.now) ≡ true))) }
+        ensures err { OnErr result (self.new ≡ self.old) }
+    {
+        if self.count == self.rows.len() {
+            let row = SatRow::read(self.alloc, types, line)?;
+            return match self.push(row) {
+                Ok(()) => Ok(()),
+                Err((_, fault)) => Err(fault),
+            };
+        }
+        let row = &mut self.rows[self.count];
+        row.read_again(types, line)?;
+        let name = row.name();
+        if has_satellite(&self.rows[..self.count], name) {
+            return Err(Fault::RepeatedSatellite);
+        }
+        self.count += 1;
         Ok(())
     }
 
@@ -70,7 +121,7 @@ impl Epoch {
         ensures value { result ≡ is_full_epoch self.now }
         ensures sound { IsSoundEpoch self.now }
     {
-        self.rows.len() == self.head.count()
+        self.count == self.head.count()
     }
 
     /// The epoch's line.
@@ -80,10 +131,7 @@ impl Epoch {
         ensures count { result.now.count ≡ satellites_of self.now.head }
         ensures sound { IsObservationHead result.now }
     {
-        let head = &self.head;
-        // A line's count tells what holds of every line.
-        let _count = head.count();
-        head
+        &self.head
     }
 
     /// The row at this place, from 0.
@@ -92,15 +140,13 @@ impl Epoch {
         ensures sound { IfSome result (λ row. IsSoundRow row.now) }
         ensures within { length self.now.rows ≤ SATELLITES_LIMIT }
     {
-        self.rows.get(index)
+        self.rows[..self.count].get(index)
     }
 }
 
-/// Whether some rows have a satellite of the same identifier as a row.
-fn has_satellite(rows: &[SatRow], row: &SatRow) -> bool
-    ensures value { result ≡ has_satellite row.now.name rows.now }
-    ensures sound { IsSoundRow row.now }
+/// Whether some rows have the satellite of this identifier.
+fn has_satellite(rows: &[SatRow], name: [u8; NAME_WIDTH]) -> bool
+    ensures { result ≡ has_satellite name rows.now }
 {
-    let name = row.name();
     rows.iter().any(|known| known.name() == name)
 }

@@ -5,16 +5,14 @@ ghost use Rattle.std.specs.List.{list_all};
 ghost use Rattle.std.specs.Option.{ForSome};
 ghost use Rattle.crx_text.specs.Columns.{columns};
 ghost use Rattle.crx_text.specs.Numbers.{IsClock};
+ghost use Rattle.crx_text.specs.declared.limits.TheConstants.{HEAD_WIDTH};
 ghost use Rattle.crx_rinex.specs.EpochLines.{head_of, begins_epoch, epoch_count, epoch_head, is_event_flag, is_kept, is_observation_flag, records_in, satellites_in, EpochHead, IsObservationHead};
 ghost use Rattle.crx_rinex.specs.Heads.{head_line};
 
 use crate::columns::{all_blank, behind, character, is_blank, number, padded};
-use crx_text::limits::{CLOCK_WIDTH, SATELLITES_LIMIT};
-use crx_text::{Fault, clock_read};
+use crx_text::limits::{CLOCK_WIDTH, HEAD_WIDTH, SATELLITES_LIMIT};
+use crx_text::{Fault, all_kept, clock_read};
 use std::marker::Model;
-
-/// The columns of an epoch line before the receiver clock offset.
-pub const HEAD_WIDTH: usize = 41;
 
 /// The first line of an observation epoch: columns 1 to 41, the count of satellites that they hold, and the
 /// receiver clock offset.
@@ -101,7 +99,7 @@ impl Head {
     ///
     /// `NotAnEpoch` comes where column 1 isn't `>`; then `BadEpoch` where the flag in column 32 is none of 0 to
     /// 6, the count in columns 33 to 35 is none, or, in an observation epoch, columns 1 to 41 hold a character
-    /// that may not stand there or something stands behind column 56; then `BadClock` where columns 42 to 56
+    /// that may not stand there or something stands after column 56; then `BadClock` where columns 42 to 56
     /// hold neither blanks nor a number of format F15.12.
     pub fn read(line: &[u8]) -> Result<Head, Fault>
         ensures { MatchResult result
@@ -146,20 +144,6 @@ fn records_in(line: &[u8]) -> Option<usize>
     }
 }
 
-/// Whether a character may stand in epoch texts and indicators: 32 to 126 other than `&`.
-pub(crate) fn is_kept(c: u8) -> bool
-    ensures { result ≡ is_kept c }
-{
-    matches!(c, b' '..=b'~') && c != b'&'
-}
-
-/// Whether all characters of a text may stand in epoch texts and indicators.
-pub(crate) fn all_kept(text: &[u8]) -> bool
-    ensures { result ≡ list_all is_kept text.now }
-{
-    text.iter().all(|c| is_kept(*c))
-}
-
 /// How many satellites columns 1 to 41 announce, if they are those of an observation epoch.
 fn satellites(columns: &[u8]) -> Option<usize>
     ensures value { result ≡ epoch_count columns.now }
@@ -194,17 +178,17 @@ fn satellites_in(line: &[u8]) -> Option<usize>
 /// Reads the line of an observation epoch.
 fn observation_head(line: &[u8]) -> Result<EpochLine, Fault>
     ensures { MatchResult result
-        (λ head. epoch_head line.now (epoch_count (columns line.now 1 41)) ≡ Ok (EpochHead head.head head.count head.clock))
-        (λ fault. epoch_head line.now (epoch_count (columns line.now 1 41)) ≡ Err fault) }
+        (λ head. epoch_head line.now (epoch_count (columns line.now 1 HEAD_WIDTH)) ≡ Ok (EpochHead head.head head.count head.clock))
+        (λ fault. epoch_head line.now (epoch_count (columns line.now 1 HEAD_WIDTH)) ≡ Err fault) }
 {
     let head = padded(line, 1);
     let Some(count) = satellites(&head) else {
         return Err(Fault::BadEpoch);
     };
-    if !all_blank(behind(line, 56)) {
+    if !all_blank(behind(line, HEAD_WIDTH + CLOCK_WIDTH)) {
         return Err(Fault::BadEpoch);
     }
-    match clock_read(&padded::<CLOCK_WIDTH>(line, 42)) {
+    match clock_read(&padded::<CLOCK_WIDTH>(line, HEAD_WIDTH + 1)) {
         Ok(clock) => Ok(EpochLine { head, count, clock }),
         Err(_) => Err(Fault::BadClock),
     }

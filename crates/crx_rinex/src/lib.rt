@@ -5,15 +5,17 @@ mod columns;
 pub mod epoch;
 pub mod epoch_line;
 pub mod header;
+pub mod laws;
 pub mod printed;
 pub mod satellite_row;
 #[cfg(test)]
 mod tests;
 pub mod types;
 
+pub use columns::{all_blank, behind, padded};
 pub use epoch::Epoch;
 pub use epoch_line::{EpochLine, Head};
 pub use header::{header_first, is_end};
 pub use printed::Printed;
-pub use satellite_row::SatRow;
-pub use types::Types;
+pub use satellite_row::{SatRow, types_of_satellite};
+pub use types::{Types, is_types};

@@ -9,12 +9,12 @@ ghost use Rattle.crx_text.specs.declared.limits.TheConstants.{SATELLITES_LIMIT};
 ghost use Rattle.crx_rinex.specs.Printing.{printed_epoch, printed_head};
 ghost use Rattle.crx_rinex.specs.contracts.printed.Printed.{the_row};
 
-use crate::columns::put_trimmed;
 use crate::epoch::Epoch;
 use crate::epoch_line::EpochLine;
 use crx_text::limits::{CLOCK_WIDTH, SATELLITES_LIMIT};
 use crx_text::{Text, clock_print};
 use std::marker::Model;
+use std::mem;
 
 /// The lines of an epoch that are still to be lent: the epoch line, then a line for each satellite.
 #[derive(Drop)]
@@ -46,6 +46,20 @@ impl Printed {
             next: 0,
             text: Text::new(),
         }
+    }
+
+    /// Takes another epoch, none of whose lines is lent yet, and hands back the one before, whose memory can be used again
+    /// ([`Epoch::begin_again`]).
+    pub fn begin(&mut self, epoch: Epoch) -> Epoch
+        ensures { self.new ≡ printed_epoch epoch }
+    {
+        self.next = 0;
+        mem::replace(&mut self.epoch, epoch)
+    }
+
+    /// Hands back the epoch, whose memory can be used again ([`Epoch::begin_again`]).
+    pub fn into_epoch(self) -> Epoch {
+        self.epoch
     }
 
     /// Lends the next line, without its line end; `None` once all were lent.
@@ -84,10 +98,10 @@ fn print_line(epoch: &Epoch, index: usize, text: &mut Text) -> bool
 fn print_head(head: &EpochLine, text: &mut Text)
     ensures { text.new ≡ printed_head head.now.head head.now.clock }
 {
-    let mut line = Text::new();
     let mut field = [b' '; CLOCK_WIDTH];
     clock_print(head.clock(), &mut field);
-    let _ = line.extend(head.columns());
-    let _ = line.extend(&field);
-    put_trimmed(text, &line);
+    text.clear();
+    let _ = text.extend(head.columns());
+    let _ = text.extend(&field);
+    text.trim_end_blanks();
 }

@@ -1,35 +1,29 @@
 //! Satellite lines. RINEX 3.05, table A3, OBSERVATION record, A1,I2.2,m(F14.3,I1,I1).
 
-ghost use Rattle.std.specs.Prelude.{◌≡◌, ◌≤◌, ◌<◌, ◌+◌, ◌-◌, ◌*◌, ◌++◌, ◌⊎◌, replicate, true, None, Some, Ok, Err, is_some, length, All, IfOk, IfErr, IfSome, OnSome, MatchResult, slice_get};
+ghost use Rattle.std.specs.Prelude.{◌≡◌, ◌≤◌, ◌<◌, ◌+◌, ◌-◌, ◌*◌, ◌++◌, ◌⊎◌, replicate, true, None, Some, Ok, Err, is_some, length, All, IfOk, IfErr, IfSome, OnOk, OnErr, OnSome, MatchBool, MatchResult, slice_get};
+ghost use Rattle.std.specs.Bool.{OnTrue, OnFalse};
 ghost use Rattle.std.specs.List.{list_all};
 ghost use Rattle.std.specs.Option.{ForSome};
 ghost use Rattle.crx_text.specs.Columns.{columns};
-ghost use Rattle.crx_text.specs.declared.limits.TheConstants.{LINE_LIMIT, TYPES_LIMIT};
+ghost use Rattle.crx_text.specs.declared.limits.TheConstants.{CELL_WIDTH, LINE_LIMIT, NAME_WIDTH, TYPES_LIMIT};
 ghost use Rattle.crx_text.specs.Numbers.{observation_of, IsObservation};
 ghost use Rattle.crx_rinex.specs.EpochLines.{is_kept};
 ghost use Rattle.crx_rinex.specs.ObservationTypes.{IsAllowedCount};
 ghost use Rattle.crx_rinex.specs.Printing.{printed_cells, printed_row};
-ghost use Rattle.crx_rinex.specs.SatelliteLines.{blank_row, field, flags_in, has_number, is_identifier, row_of, types_of_satellite, values_in, with_flags, with_value, IsSoundRow, IsValue};
+ghost use Rattle.crx_rinex.specs.SatelliteLines.{blank_row, field, flags_in, has_number, is_identifier, row_of, row_with, types_of_satellite, values_in, with_flags, with_value, IsSoundRow, IsValue};
 
-use crate::columns::{all_blank, behind, character, padded, put_trimmed};
-use crate::epoch_line::all_kept;
+use crate::columns::{all_blank, behind, character, padded};
 use crate::types::Types;
-use crx_text::limits::OBSERVATION_WIDTH;
-use crx_text::{Fault, Text, obs_print, obs_read};
+use crx_text::limits::{CELL_WIDTH, NAME_WIDTH, OBSERVATION_WIDTH};
+use crx_text::{Fault, Text, all_kept, obs_print, obs_read};
 use std::alloc::Global;
 use std::marker::Model;
-
-/// The columns of an identifier.
-pub const NAME_WIDTH: usize = 3;
-
-/// The columns of a cell: a field and two indicators.
-pub const CELL_WIDTH: usize = 16;
 
 /// A satellite in an epoch: its identifier, a value for each observation type of its system, and two
 /// indicators for each value.
 #[derive(Drop)]
 pub struct SatRow {
-    name: [u8; 3],
+    name: [u8; NAME_WIDTH],
     values: Vec<Option<i64>>,
     flags: Vec<u8>,
 }
@@ -50,7 +44,7 @@ impl SatRow {
     ///
     /// `BadSatellite` comes where columns 1 to 3 hold no identifier (a letter that has types, a digit or a blank,
     /// a digit); then `OutOfMemory`; then `BadField` where a field is neither blank nor a number of format F14.3,
-    /// or something stands behind the last cell; then `BadFlags` where an indicator is outside the characters 32
+    /// or something stands after the last cell; then `BadFlags` where an indicator is outside the characters 32
     /// to 126, or is `&`.
     pub fn read(alloc: Global, types: &Types, line: &[u8]) -> Result<SatRow, Fault>
         ensures ok { IfOk result (λ row. row_of types.now line.now ≡ Ok row) }
@@ -61,18 +55,46 @@ impl SatRow {
         let Some(m) = types_of_satellite(types, line) else {
             return Err(Fault::BadSatellite);
         };
-        let cells = Cells::read(alloc, line, m)?;
-        if !all_blank(behind(line, CELL_WIDTH * m + NAME_WIDTH)) {
-            return Err(Fault::BadField);
+        let Ok(mut values) = vec![in alloc; None; m] else {
+            return Err(Fault::OutOfMemory);
+        };
+        let Ok(mut flags) = vec![in alloc; b' '; 2 * m] else {
+            return Err(Fault::OutOfMemory);
+        };
+        match read_cells(line, &mut values, &mut flags) {
+            Ok(()) => Ok(SatRow {
+                name: padded(line, 1),
+                values,
+                flags,
+            }),
+            Err(fault) => Err(fault),
         }
-        if !all_kept(&cells.flags) {
-            return Err(Fault::BadFlags);
+    }
+
+    /// Reads another satellite line into the row, with the meaning and the refusals of [`SatRow::read`]. Memory is asked
+    /// for only where the row never had so many types before.
+    ///
+    /// After `BadSatellite` and `OutOfMemory` the row is as it was; after `BadField` and `BadFlags` it keeps its identifier,
+    /// and all of its values are missing.
+    pub fn read_again(&mut self, types: &Types, line: &[u8]) -> Result<(), Fault>
+        ensures ok { OnOk result (row_of types.now line.now ≡ Ok self.new) }
+        ensures refused { IfErr result (λ fault. (row_of types.now line.now ≡ Err fault)
+            ⊎ ((fault ≡ Fault.OutOfMemory) × (is_some (types_of_satellite types.now line.now) ≡ true))) }
+        ensures err { OnErr result ((self.new ≡ self.old) ⊎ (self.new ≡ blank_row self.old.name (length self.new.values))) }
+    {
+        let Some(m) = types_of_satellite(types, line) else {
+            return Err(Fault::BadSatellite);
+        };
+        if !resize_cells(&mut self.values, &mut self.flags, m) {
+            return Err(Fault::OutOfMemory);
         }
-        Ok(SatRow {
-            name: padded(line, 1),
-            values: cells.values,
-            flags: cells.flags,
-        })
+        if let Err(fault) = read_cells(line, &mut self.values, &mut self.flags) {
+            self.values.fill(None);
+            self.flags.fill(b' ');
+            return Err(fault);
+        }
+        self.name = padded(line, 1);
+        Ok(())
     }
 
     /// A row of m missing values, with blank indicators. `OutOfMemory` is its one refusal.
@@ -95,7 +117,7 @@ impl SatRow {
     }
 
     /// The identifier: the system's letter and the satellite's number.
-    pub fn name(&self) -> [u8; 3]
+    pub fn name(&self) -> [u8; NAME_WIDTH]
         ensures value { result ≡ self.now.name }
         ensures sound { IsSoundRow self.now }
     {
@@ -142,57 +164,78 @@ impl SatRow {
         ensures value { text.new ≡ printed_row self.now }
         ensures sound { IsSoundRow self.now }
     {
-        let mut line = Text::new();
-        let _ = line.extend(&self.name);
-        print_cells(&self.values, &self.flags, &mut line);
-        put_trimmed(text, &line);
+        text.clear();
+        let _ = text.extend(&self.name);
+        print_cells(&self.values, &self.flags, text);
+        text.trim_end_blanks();
     }
 }
 
-/// The values and the indicators of a satellite line.
-#[derive(Drop)]
-struct Cells {
-    values: Vec<Option<i64>>,
-    flags: Vec<u8>,
+/// Gives cells the size for m types; `false` where there is no memory, and then they are as they were.
+fn resize_cells(values: &mut Vec<Option<i64>>, flags: &mut Vec<u8>, m: usize) -> bool
+    requires paired { length flags.old.items ≡ 2 * length values.old.items }
+    requires few { m ≤ TYPES_LIMIT }
+    ensures ok { OnTrue result ((length values.new.items ≡ m) × (length flags.new.items ≡ 2 * m)) }
+    ensures err { OnFalse result ((values.new.items ≡ values.old.items) × (flags.new.items ≡ flags.old.items)) }
+{
+    if values.len() == m {
+        return true;
+    }
+    if flags.resize(2 * m, b' ').is_err() {
+        return false;
+    }
+    if values.resize(m, None).is_err() {
+        flags.truncate(2 * values.len());
+        return false;
+    }
+    true
 }
 
-impl Cells {
-    /// Reads the cells of m types. `BadField` comes at the first field that is neither blank nor a number.
-    fn read(alloc: Global, line: &[u8], m: usize) -> Result<Cells, Fault>
-        requires { m ≤ TYPES_LIMIT }
-        ensures ok { IfOk result (λ cells. values_in m line.now ≡ Some cells.values.items) }
-        ensures ranged { IfOk result (λ cells. All IsValue cells.values.items) }
-        ensures values { IfOk result (λ cells. length cells.values.items ≡ m) }
-        ensures flags { IfOk result (λ cells. cells.flags.items ≡ flags_in m line.now) }
-        ensures pairs { IfOk result (λ cells. length cells.flags.items ≡ 2 * m) }
-        ensures err { IfErr result (λ fault. ((fault ≡ Fault.BadField) × (values_in m line.now ≡ None)) ⊎ (fault ≡ Fault.OutOfMemory)) }
-    {
-        let Ok(mut values) = Vec::with_capacity(alloc, m) else {
-            return Err(Fault::OutOfMemory);
-        };
-        let Ok(mut flags) = Vec::with_capacity(alloc, 2 * m) else {
-            return Err(Fault::OutOfMemory);
-        };
-        for k in 0..m {
-            let Some(value) = observation(line, k) else {
-                return Err(Fault::BadField);
-            };
-            let Ok(()) = values.push(value) else {
-                return Err(Fault::OutOfMemory);
-            };
-            let Ok(()) = flags.push(character(line, CELL_WIDTH * k + 18)) else {
-                return Err(Fault::OutOfMemory);
-            };
-            let Ok(()) = flags.push(character(line, CELL_WIDTH * k + 19)) else {
-                return Err(Fault::OutOfMemory);
-            };
-        }
-        Ok(Cells { values, flags })
+/// Reads the cells of a satellite line, and looks at what stands after the last. `BadField` comes where a field is neither
+/// blank nor a number, or something stands after the last cell; then `BadFlags` where an indicator may not stand there.
+fn read_cells(line: &[u8], values: &mut [Option<i64>], flags: &mut [u8]) -> Result<(), Fault>
+    requires paired { length flags.old ≡ 2 * length values.old }
+    requires few { length values.old ≤ TYPES_LIMIT }
+    ensures ok { OnOk result (row_with (length values.old) line.now (values_in (length values.old) line.now)
+        ≡ Ok (record { name = columns line.now 1 NAME_WIDTH; values = values.new; flags = flags.new })) }
+    ensures ranged { OnOk result (All IsValue values.new) }
+    ensures kept { OnOk result (list_all is_kept flags.new ≡ true) }
+    ensures err { IfErr result (λ fault. row_with (length values.old) line.now (values_in (length values.old) line.now) ≡ Err fault) }
+{
+    let m = values.len();
+    if !split_cells(line, values, flags) {
+        return Err(Fault::BadField);
     }
+    if !all_blank(behind(line, CELL_WIDTH * m + NAME_WIDTH)) {
+        return Err(Fault::BadField);
+    }
+    if !all_kept(flags) {
+        return Err(Fault::BadFlags);
+    }
+    Ok(())
+}
+
+/// Takes the values and the indicators out of a line's cells; `false` at the first field that is neither blank nor a number.
+fn split_cells(line: &[u8], values: &mut [Option<i64>], flags: &mut [u8]) -> bool
+    requires paired { length flags.old ≡ 2 * length values.old }
+    requires few { length values.old ≤ TYPES_LIMIT }
+    ensures values { MatchBool result (values_in (length values.old) line.now ≡ Some values.new) (values_in (length values.old) line.now ≡ None) }
+    ensures flags { OnTrue result (flags.new ≡ flags_in (length values.old) line.now) }
+    ensures ranged { OnTrue result (All IsValue values.new) }
+{
+    for k in 0..values.len() {
+        let Some(value) = observation(line, k) else {
+            return false;
+        };
+        values[k] = value;
+        flags[2 * k] = character(line, CELL_WIDTH * k + 18);
+        flags[2 * k + 1] = character(line, CELL_WIDTH * k + 19);
+    }
+    true
 }
 
 /// How many types the satellite of a line has, where the line begins with an identifier of a system with types.
-fn types_of_satellite(types: &Types, line: &[u8]) -> Option<usize>
+pub fn types_of_satellite(types: &Types, line: &[u8]) -> Option<usize>
     ensures value { result ≡ types_of_satellite types.now line.now }
     ensures allowed { IfSome result IsAllowedCount }
     ensures named { OnSome result (is_identifier (columns line.now 1 3) ≡ true) }
@@ -230,7 +273,7 @@ fn observation(line: &[u8], k: usize) -> Option<Option<i64>>
     }
 }
 
-/// Puts indicators in place of held ones, and blanks in place of those behind them.
+/// Puts indicators in place of held ones, and blanks in place of those after them.
 fn put_flags(held: &mut [u8], flags: &[u8])
     requires { length flags.now ≤ length held.old }
     ensures { held.new ≡ flags.now ++ replicate (length held.old - length flags.now) 32 }

@@ -1,7 +1,7 @@
 //! The observation types of the satellite systems. RINEX 3.05, table A2, `SYS / # / OBS TYPES`.
 
 ghost use Rattle.std.specs.Prelude.{◌≡◌, ◌≤◌, ◌⊎◌, ℕ, List, [], ◌∷◌, ◌++◌, Some, true, false, is_some, OnOk, OnErr, IfOk, IfErr, IfSome, OnSome, slice_get};
-ghost use Rattle.crx_rinex.specs.ObservationTypes.{count_of, count_in, count_of_types_line, is_bad_types_line, is_system, is_types_line, types_of, with_line, IsAllowedCount};
+ghost use Rattle.crx_rinex.specs.ObservationTypes.{count_of, count_in, count_of_types_line, is_bad_types_line, is_system, is_types_line, types_of, with_line, IsAllowedCount, IsCount};
 
 use crate::columns::{character, is_labelled, number};
 use crx_text::Fault;
@@ -55,7 +55,7 @@ impl Types {
             ⊎ ((fault ≡ Fault.OutOfMemory) × (is_some (count_of_types_line line.now) ≡ true))) }
         ensures err { OnErr result (self.new ≡ self.old) }
     {
-        if !is_types_line(line) {
+        if !is_types(line) {
             return Ok(());
         }
         let Some((letter, count)) = count_in(line) else {
@@ -73,21 +73,29 @@ impl Types {
         ensures allowed { IfSome result IsAllowedCount }
         ensures system { OnSome result (is_system letter ≡ true) }
     {
-        self.counts.get(&letter).copied()
+        // There are at most seven systems, and a search through them is quicker than a hash.
+        for index in 0..self.counts.len() {
+            let (known, count) = self.entry(index)?;
+            if known == letter {
+                return Some(count);
+            }
+        }
+        None
     }
 
     /// The letter of the system that appeared at this place, from 0, and how many types it has.
     pub fn entry(&self, index: usize) -> Option<(u8, usize)>
         ensures value { result ≡ slice_get self.now index }
-        ensures allowed { IfSome result (λ entry. IsAllowedCount entry.1) }
+        ensures allowed { IfSome result IsCount }
     {
         let (letter, count) = self.counts.get_index(index)?;
         Some((*letter, *count))
     }
 }
 
-/// Whether a line begins the list of a system's types. Where column 1 is blank it goes on with one.
-fn is_types_line(line: &[u8]) -> bool
+/// Whether a line begins the list of a system's types: its label is `SYS / # / OBS TYPES`, and column 1 isn't blank
+/// (RINEX 3.05, table A2). Where column 1 is blank the line goes on with such a list, and counts nothing.
+pub fn is_types(line: &[u8]) -> bool
     ensures { result ≡ is_types_line line.now }
 {
     is_labelled(line, b"SYS / # / OBS TYPES") && character(line, 1) != b' '

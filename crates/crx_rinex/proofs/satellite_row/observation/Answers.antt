@@ -1,5 +1,4 @@
 use Rattle.std.proofs.Common.{◌≡◌, ℕ, ◌+◌, ◌-◌, ◌*◌, take, drop, ap, sym, ◌∙◌, arith}
-use Rattle.crx_text.specs.Columns.{columns}
 use Rattle.crx_text.specs.Numbers.{observation_of}
 use Rattle.crx_rinex.specs.SatelliteLines.{field}
 use Rattle.crx_rinex.proofs.Cells.{field_past, field_inside}
@@ -21,6 +20,5 @@ pub returns-else-end-line-clause-value : goal.returns-else-end-line-clause-value
 returns-else-end-line-clause-value c =
     let line = c.args.line.now in
     let k = c.args.k in
-    let first : 16 * k + 3 + 1 ≡ 16 * k + 4 = omega arith in
     c.ok-else-end-line.ensures.value ∙ c.obs_read-else-end-line.ensures.value
-    ∙ ap observation_of (c.padded.ensures ∙ ap (λ (n : ℕ). columns line n 14) first)
+    ∙ ap observation_of c.padded.ensures

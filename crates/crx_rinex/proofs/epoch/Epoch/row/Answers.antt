@@ -6,4 +6,5 @@ use Rattle.crx_rinex.proofs.epoch.Epoch.row.Goals as goal
 pub returns-clause-within : goal.returns-clause-within
 returns-clause-within c =
     let same = ap (λ (e : Epoch). length e.rows) c.self.view_is in
-    omega (arith, c.self.invariant.within, satellites_few c.self.inside.head.head, same)
+    let within = c.self.invariant.0.within in
+    omega (arith, within, satellites_few c.self.inside.head.head, same)

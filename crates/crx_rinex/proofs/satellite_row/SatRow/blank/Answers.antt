@@ -9,4 +9,4 @@ invariant_of-result c =
     let flags : c.in-Ok-vec.flags.items ≡ replicate {A = ℕ} (2 * c.args.m) 32 = search rules in
     subst (λ (vs : List (Option ℤ)). IsSoundRow (record { name = c.args.name; values = vs; flags = c.in-Ok-vec.flags.items })) (sym values)
     (subst (λ (fs : List ℕ). IsSoundRow (record { name = c.args.name; values = replicate {A = Option ℤ} c.args.m None; flags = fs })) (sym flags)
-    (sound-blank c.args.name c.args.m c.requires.named c.requires.allowed.1))
+    (sound-blank c.args.name c.args.m c.requires.named c.requires.allowed))

@@ -1,0 +1,17 @@
+-- by computation
+use Rattle.std.proofs.Common.{[], refl, arith}
+use Rattle.std.proofs.lemmas.List.Elements.{All-cons, All-nil}
+use Rattle.crx_text.specs.Numbers.{number_of, size_of}
+use Rattle.crx_rinex.specs.ObservationTypes.{IsCount}
+use Rattle.crx_rinex.proofs.laws.an_epoch_of_two.Goals as goal
+
+pub returns : goal.returns
+unfolding number_of size_of
+returns c = record {
+  left_open = refl;
+  wanted = refl;
+  whole = refl;
+  cut = refl;
+  repeated = refl;
+  counts = record { allowed = All-cons IsCount (71, 1) [] (refl, (omega arith, omega arith)) (All-nil IsCount); apart = refl };
+}
