@@ -5,9 +5,9 @@ use Rattle.std.proofs.Common.{sym, ◌∙◌, ap, arith}
 use Rattle.std.proofs.lemmas.List.{append_assoc}
 use Rattle.crx_text.specs.Columns.{is_blank, before_end_blanks, without_end_blanks}
 use Rattle.crx_text.specs.declared.code.Code.{Code}
-use Rattle.crx_text.specs.Codes.{code_text}
+use Rattle.crx_text.specs.Codes.{code_text, first_cell, after_cell}
 use Rattle.crx_compact.specs.Compaction.{cell_text}
-use Rattle.crx_compact.specs.Places.{first_cell, behind_cell, cells_of, behind_cells}
+use Rattle.crx_compact.specs.CompactPlaces.{cells_of, after_cells}
 use Rattle.crx_compact.proofs.CodeTexts.{is_code_character}
 
 -- ---- blanks at a line's end do not change its cells
@@ -25,20 +25,20 @@ first_cell-blank c cs h = ap (λ b. if b then [] else c ∷ first_cell cs) h
 first_cell-other : (c : ℕ) (cs : List ℕ) → is_blank c ≡ false → first_cell (c ∷ cs) ≡ c ∷ first_cell cs
 first_cell-other c cs h = ap (λ b. if b then [] else c ∷ first_cell cs) h
 
-behind_cell-blank : (c : ℕ) (cs : List ℕ) → is_blank c ≡ true → behind_cell (c ∷ cs) ≡ cs
-behind_cell-blank c cs h = ap (λ b. if b then cs else behind_cell cs) h
+after_cell-blank : (c : ℕ) (cs : List ℕ) → is_blank c ≡ true → after_cell (c ∷ cs) ≡ cs
+after_cell-blank c cs h = ap (λ b. if b then cs else after_cell cs) h
 
-behind_cell-other : (c : ℕ) (cs : List ℕ) → is_blank c ≡ false → behind_cell (c ∷ cs) ≡ behind_cell cs
-behind_cell-other c cs h = ap (λ b. if b then cs else behind_cell cs) h
+after_cell-other : (c : ℕ) (cs : List ℕ) → is_blank c ≡ false → after_cell (c ∷ cs) ≡ after_cell cs
+after_cell-other c cs h = ap (λ b. if b then cs else after_cell cs) h
 
 -- what a kept or dropped blank leaves of a cell
 first-before_blank : (c : ℕ) (rest : List ℕ) → is_blank c ≡ true → first_cell (before_end_blanks c rest) ≡ []
 first-before_blank c [] h = ap first_cell (before-blank c h)
 first-before_blank c (d ∷ ds) h = first_cell-blank c (d ∷ ds) h
 
-behind-before_blank : (c : ℕ) (rest : List ℕ) → is_blank c ≡ true → behind_cell (before_end_blanks c rest) ≡ rest
-behind-before_blank c [] h = ap behind_cell (before-blank c h)
-behind-before_blank c (d ∷ ds) h = behind_cell-blank c (d ∷ ds) h
+after-before_blank : (c : ℕ) (rest : List ℕ) → is_blank c ≡ true → after_cell (before_end_blanks c rest) ≡ rest
+after-before_blank c [] h = ap after_cell (before-blank c h)
+after-before_blank c (d ∷ ds) h = after_cell-blank c (d ∷ ds) h
 
 pub first_cell-trimmed : (line : List ℕ) → first_cell (without_end_blanks line) ≡ first_cell line
 first_cell-trimmed [] = refl
@@ -49,13 +49,13 @@ first_cell-trimmed (c ∷ cs) =
           ∙ ap (λ r. c ∷ r) (first_cell-trimmed cs) ∙ sym (first_cell-other c cs h)
     ] refl
 
-pub behind_cell-trimmed : (line : List ℕ) → behind_cell (without_end_blanks line) ≡ without_end_blanks (behind_cell line)
-behind_cell-trimmed [] = refl
-behind_cell-trimmed (c ∷ cs) =
-    elim (is_blank c) as (λ b. is_blank c ≡ b → behind_cell (without_end_blanks (c ∷ cs)) ≡ without_end_blanks (behind_cell (c ∷ cs))) [
-      | true ↦ λ h. behind-before_blank c (without_end_blanks cs) h ∙ sym (ap without_end_blanks (behind_cell-blank c cs h))
-      | false ↦ λ h. ap behind_cell (before-other c (without_end_blanks cs) h) ∙ behind_cell-other c (without_end_blanks cs) h
-          ∙ behind_cell-trimmed cs ∙ sym (ap without_end_blanks (behind_cell-other c cs h))
+pub after_cell-trimmed : (line : List ℕ) → after_cell (without_end_blanks line) ≡ without_end_blanks (after_cell line)
+after_cell-trimmed [] = refl
+after_cell-trimmed (c ∷ cs) =
+    elim (is_blank c) as (λ b. is_blank c ≡ b → after_cell (without_end_blanks (c ∷ cs)) ≡ without_end_blanks (after_cell (c ∷ cs))) [
+      | true ↦ λ h. after-before_blank c (without_end_blanks cs) h ∙ sym (ap without_end_blanks (after_cell-blank c cs h))
+      | false ↦ λ h. ap after_cell (before-other c (without_end_blanks cs) h) ∙ after_cell-other c (without_end_blanks cs) h
+          ∙ after_cell-trimmed cs ∙ sym (ap without_end_blanks (after_cell-other c cs h))
     ] refl
 
 -- ---- the cells of written codes
@@ -73,11 +73,11 @@ first_cell-text (c ∷ cs) rest h =
     first_cell-other c (cs ++ 32 ∷ rest) (not_blank c (list_all is_code_character cs) h)
     ∙ ap (λ r. c ∷ r) (first_cell-text cs rest (rest_of (is_code_character c) (list_all is_code_character cs) h))
 
-behind_cell-text : (text rest : List ℕ) → list_all is_code_character text ≡ true → behind_cell (text ++ 32 ∷ rest) ≡ rest
-behind_cell-text [] rest h = refl
-behind_cell-text (c ∷ cs) rest h =
-    behind_cell-other c (cs ++ 32 ∷ rest) (not_blank c (list_all is_code_character cs) h)
-    ∙ behind_cell-text cs rest (rest_of (is_code_character c) (list_all is_code_character cs) h)
+after_cell-text : (text rest : List ℕ) → list_all is_code_character text ≡ true → after_cell (text ++ 32 ∷ rest) ≡ rest
+after_cell-text [] rest h = refl
+after_cell-text (c ∷ cs) rest h =
+    after_cell-other c (cs ++ 32 ∷ rest) (not_blank c (list_all is_code_character cs) h)
+    ∙ after_cell-text cs rest (rest_of (is_code_character c) (list_all is_code_character cs) h)
 
 -- the texts of codes hold no blanks
 abbrev pub AreWritten : List Code → Type 0
@@ -96,17 +96,17 @@ cells-written (c ∷ cs) marks h =
     let line : List ℕ = flat_map cell_text (c ∷ cs) ++ marks in
     let first : first_cell (without_end_blanks line) ≡ code_text c =
     first_cell-trimmed line ∙ ap first_cell (one_cell c cs marks) ∙ first_cell-text (code_text c) (flat_map cell_text cs ++ marks) h.0 in
-    let behind : behind_cell (without_end_blanks line) ≡ without_end_blanks (flat_map cell_text cs ++ marks) =
-    behind_cell-trimmed line ∙ ap without_end_blanks (ap behind_cell (one_cell c cs marks) ∙ behind_cell-text (code_text c) (flat_map cell_text cs ++ marks) h.0) in
-    ap (λ t. t ∷ cells_of (length cs) (behind_cell (without_end_blanks line))) first
-    ∙ ap (λ r. code_text c ∷ cells_of (length cs) r) behind
+    let after : after_cell (without_end_blanks line) ≡ without_end_blanks (flat_map cell_text cs ++ marks) =
+    after_cell-trimmed line ∙ ap without_end_blanks (ap after_cell (one_cell c cs marks) ∙ after_cell-text (code_text c) (flat_map cell_text cs ++ marks) h.0) in
+    ap (λ t. t ∷ cells_of (length cs) (after_cell (without_end_blanks line))) first
+    ∙ ap (λ r. code_text c ∷ cells_of (length cs) r) after
     ∙ ap (λ r. code_text c ∷ r) (cells-written cs marks h.1)
 
 pub marks-written : (codes : List Code) (marks : List ℕ) → AreWritten codes
-    → behind_cells (length codes) (without_end_blanks (flat_map cell_text codes ++ marks)) ≡ without_end_blanks marks
+    → after_cells (length codes) (without_end_blanks (flat_map cell_text codes ++ marks)) ≡ without_end_blanks marks
 marks-written [] marks h = refl
 marks-written (c ∷ cs) marks h =
     let line : List ℕ = flat_map cell_text (c ∷ cs) ++ marks in
-    let behind : behind_cell (without_end_blanks line) ≡ without_end_blanks (flat_map cell_text cs ++ marks) =
-    behind_cell-trimmed line ∙ ap without_end_blanks (ap behind_cell (one_cell c cs marks) ∙ behind_cell-text (code_text c) (flat_map cell_text cs ++ marks) h.0) in
-    ap (behind_cells (length cs)) behind ∙ marks-written cs marks h.1
+    let after : after_cell (without_end_blanks line) ≡ without_end_blanks (flat_map cell_text cs ++ marks) =
+    after_cell-trimmed line ∙ ap without_end_blanks (ap after_cell (one_cell c cs marks) ∙ after_cell-text (code_text c) (flat_map cell_text cs ++ marks) h.0) in
+    ap (after_cells (length cs)) after ∙ marks-written cs marks h.1

@@ -9,6 +9,7 @@ use Rattle.std.specs.Str.Parse.{digits_value, starts_with_minus}
 use Rattle.std.proofs.Common.{◌∙◌, ap, arith, not-suc-le-zero}
 use Rattle.std.proofs.lemmas.Fmt.{decimal_by_steps, decimal_is_IsNumeral, decimal_digit, length-decimal-le}
 use Rattle.crx_text.specs.Columns.{is_blank}
+use Rattle.crx_text.specs.Texts.{is_printable}
 use Rattle.crx_text.specs.Numbers.{without_minus, signed_number}
 use Rattle.crx_text.specs.Codes.{code_text, code_of, coded_number, step_of, start_of, is_order, is_count_of_digits, IsShort, IsPrintable}
 use Rattle.crx_text.specs.declared.code.Code.{Code}
@@ -18,7 +19,7 @@ use Rattle.crx_text.specs.declared.limits.TheConstants.{ORDER_LIMIT, DIGITS_LIMI
 -- ---- characters of codes: digits, a minus and &
 
 abbrev pub is_code_character : ℕ → Bool
-is_code_character c = not (is_blank c) && not (c == 62)
+is_code_character c = is_printable c && (not (is_blank c) && not (c == 62))
 
 digits-characters : (text : List ℕ) → all_ascii_digits text ≡ true → list_all is_code_character text ≡ true
 digits-characters [] h = refl

@@ -1,7 +1,6 @@
 -- What follows of an epoch and its rows from their being ones that can be written.
 use Rattle.std.specs.Prelude.{◌≡◌, refl, ◌≢◌, ℕ, zero, suc, ◌+◌, ◌-◌, ◌*◌, ◌<◌, ◌≤◌, Bool, true, false, not, ◌&&◌, ◌==◌, nat_eq, nat_le, List, [], ◌∷◌, ◌++◌, length, map, flat_map, Option, Some, None, Result, Ok, Err, if◌then◌else◌}
 use Rattle.std.specs.List.{list_all, list_any, AllByRecursion}
-use Rattle.std.specs.Option.{is_some}
 use Rattle.std.specs.Str.{bytes_eq}
 use Rattle.std.proofs.Common.{sym, ◌∙◌, ap, arith, not-suc-le-zero, true≢false}
 use Rattle.std.proofs.lemmas.List.{length-append}
@@ -9,12 +8,13 @@ use Rattle.crx_text.specs.Columns.{character_at, before_end_blanks, without_end_
 use Rattle.crx_text.specs.Texts.{text_difference, mark_of, by_position}
 use Rattle.crx_rinex.specs.Observations.{Row, Epoch}
 use Rattle.crx_text.specs.declared.fault.Fault.{Fault}
-use Rattle.crx_text.specs.declared.fault.Fault.TheVariants.{BadSatellite, RepeatedSatellite}
+use Rattle.crx_text.specs.declared.fault.Fault.TheVariants.{RepeatedSatellite}
 use Rattle.crx_compact.specs.Sequences.{each_place, before_all}
-use Rattle.crx_compact.specs.EpochText.{begins_epoch, is_observation_flag, is_printable, is_kept, satellites_in, types_of_satellite, names_checked}
+use Rattle.crx_compact.specs.EpochText.{begins_epoch, is_observation_flag, is_printable, is_kept, satellites_in, Satellite, satellite_before, satellites_named}
+use Rattle.crx_rinex.specs.ObservationTypes.{Count}
 use Rattle.crx_compact.specs.Compaction.{epoch_text}
-use Rattle.crx_compact.specs.Laws.{IsRow, IsEpoch, are_new}
-use Rattle.crx_compact.proofs.Overlays.{at, at-without_end_blanks, at-by_position}
+use Rattle.crx_compact.proofs.Written.{IsRow, IsEpoch, are_new}
+use Rattle.crx_compact.proofs.Overlays.{at, at-without_end_blanks, at-by_position, same_characters}
 use Rattle.crx_compact.proofs.Runs.{IsUnmarked, columns-are}
 
 -- ---- tests of all characters
@@ -74,22 +74,22 @@ pub if_some : (b : Bool) (x : Option ℕ) (n : ℕ) → (if b then x else None) 
 if_some true x n h = refl
 if_some false x n h = grind (arith, h)
 
-pub head_tests : (types : List (ℕ × ℕ)) (e : Epoch) → IsEpoch types e → (begins_epoch e.head && is_observation_flag (character_at e.head 32) && list_all is_kept e.head) ≡ true
+pub head_tests : (types : List Count) (e : Epoch) → IsEpoch types e → (begins_epoch e.head && is_observation_flag (character_at e.head 32) && list_all is_kept e.head) ≡ true
 head_tests types e h = if_some (begins_epoch e.head && is_observation_flag (character_at e.head 32) && list_all is_kept e.head) (satellites_in e.head) (length e.rows) h.head_counted
 
-pub head-kept : (types : List (ℕ × ℕ)) (e : Epoch) → IsEpoch types e → list_all is_kept e.head ≡ true
+pub head-kept : (types : List Count) (e : Epoch) → IsEpoch types e → list_all is_kept e.head ≡ true
 head-kept types e h = and_right (begins_epoch e.head && is_observation_flag (character_at e.head 32)) (list_all is_kept e.head) (head_tests types e h)
 
-head-begins : (types : List (ℕ × ℕ)) (e : Epoch) → IsEpoch types e → begins_epoch e.head ≡ true
+head-begins : (types : List Count) (e : Epoch) → IsEpoch types e → begins_epoch e.head ≡ true
 head-begins types e h =
     and_left (begins_epoch e.head) (is_observation_flag (character_at e.head 32))
     (and_left (begins_epoch e.head && is_observation_flag (character_at e.head 32)) (list_all is_kept e.head) (head_tests types e h))
 
-names-kept : (types : List (ℕ × ℕ)) (rows : List Row) → AllByRecursion (IsRow types) rows → list_all is_kept (flat_map (λ (r : Row). r.name) rows) ≡ true
+names-kept : (types : List Count) (rows : List Row) → AllByRecursion (IsRow types) rows → list_all is_kept (flat_map (λ (r : Row). r.name) rows) ≡ true
 names-kept types [] h = refl
 names-kept types (r ∷ rs) h = list_all-append is_kept r.name (flat_map (λ (q : Row). q.name) rs) h.0.name_kept (names-kept types rs h.1)
 
-pub text-kept : (types : List (ℕ × ℕ)) (e : Epoch) → IsEpoch types e → list_all is_kept (epoch_text e) ≡ true
+pub text-kept : (types : List Count) (e : Epoch) → IsEpoch types e → list_all is_kept (epoch_text e) ≡ true
 text-kept types e h = list_all-append is_kept e.head (flat_map (λ (r : Row). r.name) e.rows) (head-kept types e h) (names-kept types e.rows h.rows_are)
 
 at-append : (xs ys : List ℕ) (p : ℕ) → p < length xs → at (xs ++ ys) p ≡ at xs p
@@ -103,10 +103,10 @@ at-append_past (x ∷ xs) ys n p e =
     let next : n + p ≡ suc (length xs + p) = omega (arith, e) in
     ap (at (x ∷ (xs ++ ys))) next ∙ at-append_past xs ys (length xs) p refl
 
-pub text-head : (types : List (ℕ × ℕ)) (e : Epoch) → IsEpoch types e → (p : ℕ) → p < 41 → at (epoch_text e) p ≡ at e.head p
+pub text-head : (types : List Count) (e : Epoch) → IsEpoch types e → (p : ℕ) → p < 41 → at (epoch_text e) p ≡ at e.head p
 text-head types e h p less = at-append e.head (flat_map (λ (r : Row). r.name) e.rows) p (omega (arith, less, h.head_length))
 
-pub text-begins : (types : List (ℕ × ℕ)) (e : Epoch) → IsEpoch types e → at (epoch_text e) 0 ≡ 62
+pub text-begins : (types : List Count) (e : Epoch) → IsEpoch types e → at (epoch_text e) 0 ≡ 62
 text-begins types e h =
     let c : ℕ = at e.head 0 in
     let first : nat_eq (at e.head 0) 62 ≡ true = head-begins types e h in
@@ -115,21 +115,30 @@ text-begins types e h =
     is_same : (c : ℕ) → nat_eq c 62 ≡ true → c ≡ 62
     is_same c h = grind (arith, h)
 
-length-names : (types : List (ℕ × ℕ)) (rows : List Row) → AllByRecursion (IsRow types) rows → length (flat_map (λ (r : Row). r.name) rows) ≡ 3 * length rows
+length-names : (types : List Count) (rows : List Row) → AllByRecursion (IsRow types) rows → length (flat_map (λ (r : Row). r.name) rows) ≡ 3 * length rows
 length-names types [] h = refl
 length-names types (r ∷ rs) h =
     let front : length (flat_map (λ (q : Row). q.name) (r ∷ rs)) ≡ length r.name + length (flat_map (λ (q : Row). q.name) rs) = length-append r.name (flat_map (λ (q : Row). q.name) rs) in
     let rest : length (flat_map (λ (q : Row). q.name) rs) ≡ 3 * length rs = length-names types rs h.1 in
     omega (arith, front, rest, h.0.name_length)
 
-pub length-text : (types : List (ℕ × ℕ)) (e : Epoch) → IsEpoch types e → length (epoch_text e) ≡ 41 + 3 * length e.rows
+pub length-text : (types : List Count) (e : Epoch) → IsEpoch types e → length (epoch_text e) ≡ 41 + 3 * length e.rows
 length-text types e h =
     let front : length (epoch_text e) ≡ length e.head + length (flat_map (λ (r : Row). r.name) e.rows) = length-append e.head (flat_map (λ (r : Row). r.name) e.rows) in
     let rest : length (flat_map (λ (r : Row). r.name) e.rows) ≡ 3 * length e.rows = length-names types e.rows h.rows_are in
     omega (arith, front, rest, h.head_length)
 
-pub text-names : (types : List (ℕ × ℕ)) (e : Epoch) → IsEpoch types e → (p : ℕ) → at (epoch_text e) (41 + p) ≡ at (flat_map (λ (r : Row). r.name) e.rows) p
+pub text-names : (types : List Count) (e : Epoch) → IsEpoch types e → (p : ℕ) → at (epoch_text e) (41 + p) ≡ at (flat_map (λ (r : Row). r.name) e.rows) p
 text-names types e h p = at-append_past e.head (flat_map (λ (r : Row). r.name) e.rows) 41 p h.head_length
+
+pub trimmed-again : (text : List ℕ) → without_end_blanks (without_end_blanks text) ≡ without_end_blanks text
+trimmed-again text = same_characters (without_end_blanks text) text (λ p. at-without_end_blanks text p)
+
+-- a difference doesn't depend on the blanks at the old text's end
+pub difference-trimmed : (old new : List ℕ) → text_difference (without_end_blanks old) new ≡ text_difference old new
+difference-trimmed old new =
+    same_characters (by_position mark_of (without_end_blanks old) new) (by_position mark_of old new) (λ p.
+    at-by_position mark_of refl (without_end_blanks old) new p ∙ ap (λ c. mark_of c (at new p)) (at-without_end_blanks old p) ∙ sym (at-by_position mark_of refl old new p))
 
 -- ---- lengths without end blanks
 
@@ -151,7 +160,7 @@ each_place-same zero f g h = refl
 each_place-same (suc n) f g h = ap (λ x. x ∷ each_place n (λ i. f (suc i))) (h 0) ∙ ap (λ r. g 0 ∷ r) (each_place-same n (λ i. f (suc i)) (λ i. g (suc i)) (λ k. h (suc k)))
 
 -- the identifiers that stand from an offset on
-pub names-read : (types : List (ℕ × ℕ)) (text : List ℕ) (offset : ℕ) (rows : List Row) → AllByRecursion (IsRow types) rows
+pub names-read : (types : List Count) (text : List ℕ) (offset : ℕ) (rows : List Row) → AllByRecursion (IsRow types) rows
     → ((p : ℕ) → at text (offset + p) ≡ at (flat_map (λ (r : Row). r.name) rows) p)
     → each_place (length rows) (λ k. columns text (offset + 1 + 3 * k) 3) ≡ map (λ (r : Row). r.name) rows
 names-read types text offset [] h e = refl
@@ -173,15 +182,18 @@ names-read types text offset (r ∷ rs) h e =
 pub not_true : (b : Bool) → not b ≡ true → b ≡ false
 not_true b h = grind (arith, h)
 
-pub names-good : (types : List (ℕ × ℕ)) (earlier : List (List ℕ)) (rows : List Row) → AllByRecursion (IsRow types) rows → are_new earlier rows ≡ true
-    → names_checked types earlier (map (λ (r : Row). r.name) rows) ≡ Ok (map (λ (r : Row). r.name) rows)
-names-good types earlier [] h k = refl
-names-good types earlier (r ∷ rs) h k =
-    let known : not (is_some (types_of_satellite types r.name)) ≡ false = ap (λ o. not (is_some o)) h.0.counted in
+-- the satellites of some rows, with their counts of types
+abbrev pub satellites_of : List Row → List Satellite
+satellites_of rows = map (λ (r : Row). record { name = r.name; count = length r.values }) rows
+
+pub satellites-good : (types : List Count) (earlier : List (List ℕ)) (rows : List Row) → AllByRecursion (IsRow types) rows → are_new earlier rows ≡ true
+    → satellites_named types earlier (map (λ (r : Row). r.name) rows) ≡ Ok (satellites_of rows)
+satellites-good types earlier [] h k = refl
+satellites-good types earlier (r ∷ rs) h k =
+    let others : Result (List Satellite) Fault = satellites_named types (r.name ∷ earlier) (map (λ (q : Row). q.name) rs) in
     let new : list_any (bytes_eq r.name) earlier ≡ false = not_true (list_any (bytes_eq r.name) earlier) (and_left (not (list_any (bytes_eq r.name) earlier)) (are_new (r.name ∷ earlier) rs) k) in
-    let rest : names_checked types (r.name ∷ earlier) (map (λ (q : Row). q.name) rs) ≡ Ok (map (λ (q : Row). q.name) rs) =
-    names-good types (r.name ∷ earlier) rs h.1 (and_right (not (list_any (bytes_eq r.name) earlier)) (are_new (r.name ∷ earlier) rs) k) in
-    let follow : Result (List (List ℕ)) Fault = before_all r.name (names_checked types (r.name ∷ earlier) (map (λ (q : Row). q.name) rs)) in
-    ap {B = Result (List (List ℕ)) Fault} (λ b. if b then Err BadSatellite else if list_any (bytes_eq r.name) earlier then Err RepeatedSatellite else before_all r.name (names_checked types (r.name ∷ earlier) (map (λ (q : Row). q.name) rs))) known
-    ∙ ap {B = Result (List (List ℕ)) Fault} (λ b. if b then Err RepeatedSatellite else before_all r.name (names_checked types (r.name ∷ earlier) (map (λ (q : Row). q.name) rs))) new
-    ∙ ap (before_all r.name) rest
+    let rest : satellites_named types (r.name ∷ earlier) (map (λ (q : Row). q.name) rs) ≡ Ok (satellites_of rs) =
+    satellites-good types (r.name ∷ earlier) rs h.1 (and_right (not (list_any (bytes_eq r.name) earlier)) (are_new (r.name ∷ earlier) rs) k) in
+    ap (λ count. satellite_before earlier r.name count others) h.0.counted
+    ∙ ap {B = Result (List Satellite) Fault} (λ b. if b then Err RepeatedSatellite else before_all (record { name = r.name; count = length r.values }) others) new
+    ∙ ap (before_all (record { name = r.name; count = length r.values })) rest

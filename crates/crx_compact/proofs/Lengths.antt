@@ -1,9 +1,9 @@
 -- No line that is written for an epoch is too long.
-use Rattle.std.specs.Prelude.{◌≡◌, refl, ℕ, zero, suc, ◌+◌, ◌-◌, ◌*◌, ◌^◌, ◌<◌, ◌≤◌, min, ℤ, pos, negsuc, Bool, true, false, ◌||◌, nat_le, List, [], ◌∷◌, ◌++◌, length, map, flat_map, decimal, Option, Some, None, if◌then◌else◌}
+use Rattle.std.specs.Prelude.{◌≡◌, refl, ℕ, zero, suc, ◌+◌, ◌-◌, ◌*◌, ◌^◌, ◌<◌, ◌≤◌, min, ℤ, pos, negsuc, neg_ℤ, ◌<ℤ◌, Bool, true, false, nat_le, List, [], ◌∷◌, ◌++◌, length, map, flat_map, decimal, Option, Some, None, if◌then◌else◌}
 use Rattle.std.specs.Fmt.{signed_decimal}
 use Rattle.std.specs.Option.{option_and_then, is_some, unwrap_or}
-use Rattle.std.specs.List.{list_any, AllByRecursion}
-use Rattle.std.proofs.Common.{sym, ◌∙◌, ap, arith, true≢false}
+use Rattle.std.specs.List.{AllByRecursion}
+use Rattle.std.proofs.Common.{sym, ◌∙◌, ap, subst, arith, true≢false}
 use Rattle.std.proofs.lemmas.Int.{ints}
 use Rattle.std.proofs.lemmas.Fmt.{length-decimal-le}
 use Rattle.std.proofs.lemmas.List.{length-append}
@@ -13,16 +13,19 @@ use Rattle.crx_text.specs.Texts.{by_position, mark_of, text_difference}
 use Rattle.crx_text.specs.Codes.{code_text}
 use Rattle.crx_rinex.specs.Observations.{Row, Epoch}
 use Rattle.crx_text.specs.declared.code.Code.{Code}
-use Rattle.crx_text.specs.declared.limits.TheConstants.{WRITTEN_ORDER, DIGITS_LIMIT, LINE_LIMIT, TYPES_LIMIT, SATELLITES_LIMIT, OBSERVATION_WIDTH, CLOCK_WIDTH}
+use Rattle.crx_text.specs.declared.limits.TheConstants.{WRITTEN_ORDER, DIGITS_LIMIT, TYPES_LIMIT, SATELLITES_LIMIT, OBSERVATION_WIDTH, CLOCK_WIDTH}
 use Rattle.crx_compact.specs.Differences.{difference, code_at}
 use Rattle.crx_compact.specs.Compaction.{Marked, epoch_text, since_full, run_of, value_in, arc_of, clock_arc, newest_text, indicators_before, cell_text, codes_of, satellite_line, epoch_line, compact_epoch}
 use Rattle.crx_compact.specs.EpochText.{number_in, count_within_limit, satellites_in}
-use Rattle.crx_compact.specs.Places.{is_too_long}
-use Rattle.crx_compact.specs.Laws.{IsRow, IsEpoch}
+use Rattle.crx_rinex.specs.ObservationTypes.{Count}
+use Rattle.crx_text.specs.Numbers.{IsWithin}
+use Rattle.crx_compact.specs.Sequences.{stretch}
+use Rattle.crx_compact.specs.Expansion.{is_within}
+use Rattle.crx_compact.proofs.Written.{fits, IsRow, IsEpoch}
 use Rattle.crx_compact.proofs.CodeTexts.{order-text}
-use Rattle.crx_compact.proofs.Bounds.{IsNear, doubled, doubled-more, difference-near, near-more}
+use Rattle.crx_compact.proofs.Bounds.{IsNear, doubled, doubled-more, difference-near, near-more, near-within, within-is}
 use Rattle.crx_compact.proofs.Runs.{marked}
-use Rattle.crx_compact.proofs.Rows.{IsRowOf, run-rows, stretch-near, values-fit, clocks-fit, each_place-all, length-each_place}
+use Rattle.crx_compact.proofs.Rows.{IsRowOf, run-rows, values-fit, clocks-fit, each_place-all, length-each_place}
 use Rattle.crx_compact.proofs.Facts.{length-trimmed, length-text, head_tests}
 
 -- ---- numbers and codes
@@ -39,23 +42,63 @@ signed-length k b (negsuc n) some few h near =
     let len : length (decimal (suc n)) ≤ k = length-decimal-le k (suc n) some less (omega (arith, less, wide)) in
     omega (arith, len)
 
--- a code of an arc within a bound of so many digits
-pub code-length : (k b : ℕ) (xs : List ℤ) → 0 < k → k ≤ DIGITS_LIMIT → doubled WRITTEN_ORDER b < 10 ^ k → AllByRecursion (IsNear b) xs
-    → length (code_text (code_at WRITTEN_ORDER xs)) ≤ k + 3
-code-length k b [] some few h near = omega arith
-code-length k b (x ∷ []) some few h near =
-    let le : b ≤ doubled WRITTEN_ORDER b = doubled-more 0 WRITTEN_ORDER b (omega arith) in
-    let number : length (signed_decimal x) ≤ k + 1 = signed-length k b x some few (omega (arith, h, le)) near.0 in
-    let all : length (decimal WRITTEN_ORDER ++ 38 ∷ signed_decimal x) ≡ length ((48 + WRITTEN_ORDER) ∷ 38 ∷ signed_decimal x) =
+ten-more : (a b : ℕ) → a ≤ b → 10 ^ a ≤ 10 ^ b
+ten-more a b h = pow-le-pow_right (omega arith) h
+
+-- a number that fits its columns: a minus takes the place of a digit
+within-length : (j : ℕ) (z : ℤ) → 0 < j → j + 1 ≤ DIGITS_LIMIT → is_within (j + 2) z ≡ true → length (signed_decimal z) ≤ j + 1
+within-length j (pos n) some few h =
+    let in_range : IsWithin (j + 2) (pos n) = (within-is (j + 2) (pos n)).0 h in
+    let same : j + 2 - 1 ≡ j + 1 = omega arith in
+    let P : ℕ → Type 0 = λ m. pos n <ℤ pos (10 ^ m) in
+    let high : pos n <ℤ pos (10 ^ (j + 1)) = subst P same in_range.high in
+    let less : n < 10 ^ (j + 1) = omega (arith, ints, high) in
+    let wide : 10 ^ (j + 1) ≤ 10 ^ DIGITS_LIMIT = ten-more (j + 1) DIGITS_LIMIT few in
+    length-decimal-le (j + 1) n (omega arith) less (omega (arith, less, wide))
+within-length j (negsuc n) some few h =
+    let in_range : IsWithin (j + 2) (negsuc n) = (within-is (j + 2) (negsuc n)).0 h in
+    let same : j + 2 - 2 ≡ j = omega arith in
+    let P : ℕ → Type 0 = λ m. neg_ℤ (pos (10 ^ m)) <ℤ negsuc n in
+    let low : neg_ℤ (pos (10 ^ j)) <ℤ negsuc n = subst P same in_range.low in
+    let less : suc n < 10 ^ j = omega (arith, ints, low) in
+    let fewer : j ≤ DIGITS_LIMIT = omega (arith, few) in
+    let wide : 10 ^ j ≤ 10 ^ DIGITS_LIMIT = ten-more j DIGITS_LIMIT fewer in
+    let len : length (decimal (suc n)) ≤ j = length-decimal-le j (suc n) some less (omega (arith, less, wide)) in
+    omega (arith, len)
+
+abbrev pub AreWithin : ℕ → List ℤ → Type 0
+AreWithin width xs = AllByRecursion (λ x. is_within width x ≡ true) xs
+
+pub stretch-within : (width : ℕ) (os : List (Option ℤ)) → AllByRecursion (λ (o : Option ℤ). fits width o ≡ true) os → AreWithin width (stretch os)
+stretch-within width [] h = tt
+stretch-within width (None ∷ os) h = tt
+stretch-within width (Some x ∷ os) h = (h.0, stretch-within width os h.1)
+
+near-all : (width : ℕ) (xs : List ℤ) → AreWithin width xs → AllByRecursion (IsNear (10 ^ (width - 1))) xs
+near-all width [] h = tt
+near-all width (x ∷ xs) h = (near-within width x h.0, near-all width xs h.1)
+
+-- a code of an arc whose values fit so many columns: a first value has two characters before it, and a difference one digit
+-- more than a value
+pub code-length : (j : ℕ) (xs : List ℤ) → 0 < j → j + 2 ≤ DIGITS_LIMIT → doubled WRITTEN_ORDER (10 ^ (j + 1)) < 10 ^ (j + 2) → AreWithin (j + 2) xs
+    → length (code_text (code_at WRITTEN_ORDER xs)) ≤ j + 3
+code-length j [] some few h all = omega arith
+code-length j (x ∷ []) some few h all =
+    let number : length (signed_decimal x) ≤ j + 1 = within-length j x some (omega (arith, few)) all.0 in
+    let whole : length (decimal WRITTEN_ORDER ++ 38 ∷ signed_decimal x) ≡ length ((48 + WRITTEN_ORDER) ∷ 38 ∷ signed_decimal x) =
     ap (λ t. length (t ++ 38 ∷ signed_decimal x)) (order-text WRITTEN_ORDER (omega arith)) in
-    omega (arith, number, all)
-code-length k b (x ∷ y ∷ ys) some few h near =
+    omega (arith, number, whole)
+code-length j (x ∷ y ∷ ys) some few h all =
     let order : ℕ = min (length (y ∷ ys)) WRITTEN_ORDER in
+    let b : ℕ = 10 ^ (j + 1) in
+    let same : j + 2 - 1 ≡ j + 1 = omega arith in
+    let P : ℕ → Type 0 = λ m. AllByRecursion (IsNear (10 ^ m)) (x ∷ y ∷ ys) in
+    let near : AllByRecursion (IsNear (10 ^ (j + 1))) (x ∷ y ∷ ys) = subst P same (near-all (j + 2) (x ∷ y ∷ ys) all) in
     let le : doubled order b ≤ doubled WRITTEN_ORDER b = doubled-more order WRITTEN_ORDER b (omega arith) in
     let step : IsNear (doubled WRITTEN_ORDER b) (difference order (x ∷ y ∷ ys)) =
     near-more (doubled order b) (doubled WRITTEN_ORDER b) (difference order (x ∷ y ∷ ys)) le (difference-near order b (x ∷ y ∷ ys) near) in
-    let number : length (signed_decimal (difference order (x ∷ y ∷ ys))) ≤ k + 1 =
-    signed-length k (doubled WRITTEN_ORDER b) (difference order (x ∷ y ∷ ys)) some few h step in
+    let number : length (signed_decimal (difference order (x ∷ y ∷ ys))) ≤ j + 2 + 1 =
+    signed-length (j + 2) (doubled WRITTEN_ORDER b) (difference order (x ∷ y ∷ ys)) (omega arith) few h step in
     omega (arith, number)
 
 -- ---- texts
@@ -95,12 +138,12 @@ within_limit (Some k) n h = limited (nat_le k SATELLITES_LIMIT) k n refl h
         omega (arith, same, less)
     limited false k n e h = absurd (true≢false (sym (ap is_some h)))
 
-pub few-satellites : (types : List (ℕ × ℕ)) (e : Epoch) → IsEpoch types e → length e.rows ≤ SATELLITES_LIMIT
+pub few-satellites : (types : List Count) (e : Epoch) → IsEpoch types e → length e.rows ≤ SATELLITES_LIMIT
 few-satellites types e h =
     within_limit (number_in (columns e.head 33 3)) (length e.rows)
     (sym (ap {B = Option ℕ} (λ b. if b then satellites_in e.head else None) (head_tests types e h)) ∙ h.head_counted)
 
-pub text-short : (types : List (ℕ × ℕ)) (e : Epoch) → IsEpoch types e → length (epoch_text e) ≤ 41 + 3 * SATELLITES_LIMIT
+pub text-short : (types : List Count) (e : Epoch) → IsEpoch types e → length (epoch_text e) ≤ 41 + 3 * SATELLITES_LIMIT
 text-short types e h =
     let all : length (epoch_text e) ≡ 41 + 3 * length e.rows = length-text types e h in
     let few : length e.rows ≤ SATELLITES_LIMIT = few-satellites types e h in
@@ -108,60 +151,58 @@ text-short types e h =
 
 -- ---- lines
 
-pub not_long : (line : List ℕ) → length line ≤ LINE_LIMIT → is_too_long line ≡ false
-not_long line h = grind (arith, h)
+-- the most bytes of a written line: so many codes of 15 characters, each with a blank and two indicators
+abbrev most : ℕ
+most = 18 * TYPES_LIMIT
 
-before-length : (types : List (ℕ × ℕ)) (name : List ℕ) (run : List Row) → AllByRecursion (IsRowOf types name) run → length (indicators_before run) ≤ 2 * TYPES_LIMIT
+before-length : (types : List Count) (name : List ℕ) (run : List Row) → AllByRecursion (IsRowOf types name) run → length (indicators_before run) ≤ 2 * TYPES_LIMIT
 before-length types name [] h = omega arith
 before-length types name (r ∷ []) h = omega arith
 before-length types name (r ∷ q ∷ qs) h = omega (arith, h.1.0.is_row.flags_length, h.1.0.is_row.few_values)
 
-row-short : (types : List (ℕ × ℕ)) (name : List ℕ) (run : List Row) (r : Row) → AllByRecursion (IsRowOf types name) run → IsRow types r
-    → is_too_long (satellite_line run r) ≡ false
+row-short : (types : List Count) (name : List ℕ) (run : List Row) (r : Row) → AllByRecursion (IsRowOf types name) run → IsRow types r
+    → length (satellite_line run r) ≤ most
 row-short types name run r h k =
     let codes : List Code = codes_of (length r.values) run in
     let marks : List ℕ = text_difference (indicators_before run) r.flags in
-    let each : AllByRecursion (λ (c : Code). length (code_text c) ≤ OBSERVATION_WIDTH + 3) codes =
-    each_place-all (λ (c : Code). length (code_text c) ≤ OBSERVATION_WIDTH + 3) (length r.values) (λ j. code_at WRITTEN_ORDER (arc_of j run)) (λ j.
-    code-length OBSERVATION_WIDTH (10 ^ (OBSERVATION_WIDTH - 1)) (arc_of j run) (omega arith) (omega arith) (omega arith)
-    (stretch-near OBSERVATION_WIDTH (map (value_in j) run) (values-fit types name j run h))) in
+    let each : AllByRecursion (λ (c : Code). length (code_text c) ≤ 15) codes =
+    each_place-all (λ (c : Code). length (code_text c) ≤ 15) (length r.values) (λ j. code_at WRITTEN_ORDER (arc_of j run)) (λ j.
+    code-length 12 (arc_of j run) (omega arith) (omega arith) (omega arith)
+    (stretch-within OBSERVATION_WIDTH (map (value_in j) run) (values-fit types name j run h))) in
     let count : length codes ≡ length r.values = length-each_place (length r.values) (λ j. code_at WRITTEN_ORDER (arc_of j run)) in
-    let cells : length (flat_map cell_text codes) ≤ (OBSERVATION_WIDTH + 3 + 1) * length codes = cells-length (OBSERVATION_WIDTH + 3) codes each in
+    let cells : length (flat_map cell_text codes) ≤ (15 + 1) * length codes = cells-length 15 codes each in
     let tail : length marks ≤ 2 * TYPES_LIMIT =
     difference-length (2 * TYPES_LIMIT) (indicators_before run) r.flags (before-length types name run h) (omega (arith, k.flags_length, k.few_values)) in
     let all : length (flat_map cell_text codes ++ marks) ≡ length (flat_map cell_text codes) + length marks = length-append (flat_map cell_text codes) marks in
     let trimmed : length (without_end_blanks (flat_map cell_text codes ++ marks)) ≤ length (flat_map cell_text codes ++ marks) = length-trimmed (flat_map cell_text codes ++ marks) in
-    not_long (satellite_line run r) (omega (arith, count, cells, tail, all, trimmed, k.few_values))
+    omega (arith, count, cells, tail, all, trimmed, k.few_values)
 
-rows-short : (types : List (ℕ × ℕ)) (ms : List Marked) (rows : List Row) → AllByRecursion (IsEpoch types) (since_full ms) → AllByRecursion (IsRow types) rows
-    → list_any is_too_long (map (λ (r : Row). satellite_line (run_of r.name ms) r) rows) ≡ false
-rows-short types ms [] h k = refl
-rows-short types ms (r ∷ rs) h k =
-    ap (λ b. b || list_any is_too_long (map (λ (q : Row). satellite_line (run_of q.name ms) q) rs)) (row-short types r.name (run_of r.name ms) r (run-rows types r.name (since_full ms) h) k.0)
-    ∙ rows-short types ms rs h k.1
+rows-short : (types : List Count) (ms : List Marked) (rows : List Row) → AllByRecursion (IsEpoch types) (since_full ms) → AllByRecursion (IsRow types) rows
+    → AllByRecursion (λ (line : List ℕ). length line ≤ most) (map (λ (r : Row). satellite_line (run_of r.name ms) r) rows)
+rows-short types ms [] h k = tt
+rows-short types ms (r ∷ rs) h k = (
+  row-short types r.name (run_of r.name ms) r (run-rows types r.name (since_full ms) h) k.0,
+  rows-short types ms rs h k.1,
+)
 
-clock-short : (types : List (ℕ × ℕ)) (ms : List Marked) → AllByRecursion (IsEpoch types) (since_full ms)
-    → is_too_long (code_text (code_at WRITTEN_ORDER (clock_arc ms))) ≡ false
+clock-short : (types : List Count) (ms : List Marked) → AllByRecursion (IsEpoch types) (since_full ms)
+    → length (code_text (code_at WRITTEN_ORDER (clock_arc ms))) ≤ 16
 clock-short types ms h =
-    let len : length (code_text (code_at WRITTEN_ORDER (clock_arc ms))) ≤ CLOCK_WIDTH + 3 =
-    code-length CLOCK_WIDTH (10 ^ (CLOCK_WIDTH - 1)) (clock_arc ms) (omega arith) (omega arith) (omega arith)
-    (stretch-near CLOCK_WIDTH (map (λ (e : Epoch). e.clock) (since_full ms)) (clocks-fit types (since_full ms) h)) in
-    not_long (code_text (code_at WRITTEN_ORDER (clock_arc ms))) (omega (arith, len))
+    code-length 13 (clock_arc ms) (omega arith) (omega arith) (omega arith)
+    (stretch-within CLOCK_WIDTH (map (λ (e : Epoch). e.clock) (since_full ms)) (clocks-fit types (since_full ms) h))
 
-old-short : (types : List (ℕ × ℕ)) (full : Bool) (e : Epoch) (older : List Marked) → AllByRecursion (IsEpoch types) (since_full (marked full e ∷ older))
+old-short : (types : List Count) (full : Bool) (e : Epoch) (older : List Marked) → AllByRecursion (IsEpoch types) (since_full (marked full e ∷ older))
     → length (if full then [] else newest_text older) ≤ 41 + 3 * SATELLITES_LIMIT
 old-short types true e older h = omega arith
 old-short types false e [] h = omega arith
 old-short types false e (m ∷ older) h = text-short types m.epoch h.1.0
 
 -- none of the compact lines of an epoch is too long
-pub lines-short : (types : List (ℕ × ℕ)) (full : Bool) (e : Epoch) (older : List Marked) → AllByRecursion (IsEpoch types) (since_full (marked full e ∷ older))
-    → list_any is_too_long (compact_epoch (marked full e ∷ older)) ≡ false
+pub lines-short : (types : List Count) (full : Bool) (e : Epoch) (older : List Marked) → AllByRecursion (IsEpoch types) (since_full (marked full e ∷ older))
+    → AllByRecursion (λ (line : List ℕ). length line ≤ 18 * TYPES_LIMIT) (compact_epoch (marked full e ∷ older))
 lines-short types full e older h =
     let ms : List Marked = marked full e ∷ older in
     let line : length (epoch_line (marked full e) older) ≤ 41 + 3 * SATELLITES_LIMIT =
     difference-length (41 + 3 * SATELLITES_LIMIT) (if full then [] else newest_text older) (epoch_text e) (old-short types full e older h) (text-short types e h.0) in
-    let first : is_too_long (epoch_line (marked full e) older) ≡ false = not_long (epoch_line (marked full e) older) (omega (arith, line)) in
-    ap (λ b. b || list_any is_too_long (code_text (code_at WRITTEN_ORDER (clock_arc ms)) ∷ map (λ (r : Row). satellite_line (run_of r.name ms) r) e.rows)) first
-    ∙ ap (λ b. b || list_any is_too_long (map (λ (r : Row). satellite_line (run_of r.name ms) r) e.rows)) (clock-short types ms h)
-    ∙ rows-short types ms e.rows h h.0.rows_are
+    let clock : length (code_text (code_at WRITTEN_ORDER (clock_arc (marked full e ∷ older)))) ≤ 16 = clock-short types (marked full e ∷ older) h in
+    (omega (arith, line), (omega (arith, clock), rows-short types ms e.rows h h.0.rows_are))

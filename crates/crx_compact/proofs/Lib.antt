@@ -1,3 +1,4 @@
+pub mod Written
 pub mod Weights
 pub mod Inversion
 pub mod Overlays
@@ -13,4 +14,22 @@ pub mod Lengths
 pub mod Tailing
 pub mod RawTailing
 pub mod Soundness
+pub mod LineByLine
 pub mod Writable
+pub mod Goodness
+pub mod Arcs
+pub mod SteadyEpochs
+pub mod Forgetting
+pub mod OneTail
+pub mod Standing
+pub mod BackByLines
+pub mod GoodLists
+pub mod BoundedTails
+pub mod Running
+pub mod Making
+pub mod SoundTexts
+pub mod Naming
+pub mod Encoding
+pub mod CellsRead
+pub mod Marks
+pub mod StepsByCode

@@ -7,7 +7,7 @@ use Rattle.crx_compact.specs.Sequences.{each_place}
 use Rattle.crx_compact.specs.Expansion.{latest_mark, shown, longest, overlaid}
 use Rattle.crx_compact.specs.Laws.{patched_in_turn}
 
--- ---- characters, blanks standing behind a text
+-- ---- characters, blanks standing after a text
 
 abbrev pub at : List ℕ → ℕ → ℕ
 at text position = slice_index_or text position 32
@@ -51,7 +51,7 @@ at-by_position f e (a ∷ as') (b ∷ bs) (suc p) = at-by_position f e as' bs p
 pub character-mark : (a b : ℕ) → b ≢ 38 → character_of a (mark_of a b) ≡ b
 character-mark a b h = grind arith
 
--- a character that All speaks of, or the blank behind the text
+-- a character that All speaks of, or the blank after the text
 pub at-All : (P : ℕ → Type 0) → P 32 → (text : List ℕ) → All P text → (p : ℕ) → P (at text p)
 at-All P e [] h p = e
 at-All P e (c ∷ cs) h zero = h 0 32 (omega arith)

@@ -1,41 +1,44 @@
 -- The compact lines of an epoch read as that epoch.
-use Rattle.std.specs.Prelude.{◌≡◌, refl, ◌≢◌, ℕ, suc, ◌+◌, ◌-◌, ◌*◌, ◌^◌, ◌≤◌, ℤ, Bool, true, false, not, ◌&&◌, List, [], ◌∷◌, ◌++◌, length, map, drop, Option, Some, Result, Ok, Err, if◌then◌else◌}
-use Rattle.std.specs.List.{list_all, list_any, AllByRecursion}
+use Rattle.std.specs.Prelude.{◌≡◌, refl, ◌≢◌, ℕ, suc, ◌+◌, ◌-◌, ◌*◌, ◌≤◌, Bool, true, false, not, List, [], ◌∷◌, ◌++◌, length, map, drop, Option, Some, Result, Ok, Err, if◌then◌else◌}
+use Rattle.std.specs.List.{list_all, AllByRecursion}
 use Rattle.std.proofs.Common.{sym, ◌∙◌, ap, subst, arith, true≢false, drop_of_length-le}
-use Rattle.std.proofs.lemmas.List.{length-map, append_assoc}
+use Rattle.std.proofs.lemmas.List.{length-map, length-append, append_assoc}
 use Rattle.crx_text.specs.Columns.{is_blank, before_end_blanks, without_end_blanks, columns}
 use Rattle.crx_text.specs.Codes.{code_text, code_of, IsPrintable}
+use Rattle.crx_text.specs.Seen.{ReadLine, Content}
 use Rattle.crx_rinex.specs.Observations.{Row, Epoch}
+use Rattle.crx_rinex.specs.ObservationTypes.{Count}
+use Rattle.crx_rinex.specs.Places.{Place, Here, then_place, after_lines, one_line}
 use Rattle.crx_text.specs.declared.code.Code.{Code}
 use Rattle.crx_text.specs.declared.fault.Fault.{Fault}
-use Rattle.crx_text.specs.declared.fault.Fault.TheVariants.{LineTooLong, NotAnEpoch, BadEpoch, BadClock, Truncated}
+use Rattle.crx_text.specs.declared.fault.Fault.TheVariants.{BadEpoch, BadClock, Truncated}
 use Rattle.crx_text.specs.declared.limits.TheConstants.{WRITTEN_ORDER, CLOCK_WIDTH}
-use Rattle.crx_compact.specs.Sequences.{back_to, stretch, all_ok, before_all, and_then}
+use Rattle.crx_compact.specs.Sequences.{back_to, stretch, and_then}
 use Rattle.crx_compact.specs.Differences.{code_at}
 use Rattle.crx_compact.specs.Compaction.{Marked, epoch_text, row_named, since_full, run_of, clock_arc, newest_text, satellite_line, epoch_line, compact_epoch}
-use Rattle.crx_compact.specs.EpochText.{is_printable, begins_epoch, epoch_count, names_in, names_checked}
-use Rattle.crx_compact.specs.Expansion.{RawRow, RawEpoch, block_of, raw_run_of, value_of, row_from, rows_from, clock_from, text_of, epoch_of_block, epoch_from}
-use Rattle.crx_compact.specs.Places.{block_before, text_after, names_counted, names_of_text, is_empty, names_of_line, code_checked, clock_of_line, row_of_line, Answer, continued, answered, is_too_long, line_read, rows_of_lines, with_epoch, epoch_of_lines, epoch_at, ReadEpoch}
-use Rattle.crx_compact.specs.Places.Answer.{Read, Wrong}
-use Rattle.crx_compact.specs.Laws.{IsEpoch, raw_row, raw_of, raws_of, IsRead, text_lines, read_next, read_all, Typed, marked_of, counts_of, AreWritable, reads_of, ReadsBack}
+use Rattle.crx_compact.specs.EpochText.{is_printable, begins_epoch, epoch_count, names_in, Satellite, satellites_named}
+use Rattle.crx_compact.specs.Expansion.{RawEpoch, block_of, raw_run_of, value_of, overlaid}
+use Rattle.crx_compact.specs.Past.{Past, past_of_block, past_of_epochs, past_of_line}
+use Rattle.crx_compact.specs.CompactPlaces.{satellites_counted, satellites_of_text, satellites_of_line, BegunEpoch, epoch_begun, ReadCell, cell_read, clock_line_read, ReadRow, satellite_line_read, rows_read, ReadEpoch, epoch_of_rows, epoch_after_line, epoch_at}
+use Rattle.crx_compact.proofs.Written.{IsEpoch}
+use Rattle.crx_compact.specs.ReadingLaws.{EpochReadsBack, raw_row, raw_of, raws_of, read_of, lines_of_epoch, EachReadsBack, text_lines, epochs_at, marked_of, counts_of, reads_of, ReadsBack}
+use Rattle.crx_compact.proofs.Writable.{all-whole}
 use Rattle.crx_compact.proofs.CodeTexts.{is_code_character, code-characters, code-read}
 use Rattle.crx_compact.proofs.Overlays.{at, at-without_end_blanks}
-use Rattle.crx_compact.proofs.Runs.{raw_block, marked, Begins, begins_full, begins_later, block-raws, raw_run, runs-read, clocks-read, value-behind, text-read, columns-are}
-use Rattle.crx_compact.proofs.Bounds.{code-printable}
-use Rattle.crx_compact.proofs.Facts.{and_left, and_right, text-kept, text-head, text-begins, length-text, text-names, length-trimmed, names-read, names-good, unmarked, difference-printable}
-use Rattle.crx_compact.proofs.Lengths.{lines-short}
-use Rattle.crx_compact.proofs.Rows.{IsRowOf, run-rows, stretch-near, clocks-fit, row-read, row-given, each-own, or-left, or-right}
+use Rattle.crx_compact.proofs.Runs.{raw_block, marked, Begins, begins_full, begins_later, block-raws, raw_run, runs-read, clocks-read, value-back, text-read, columns-are}
+use Rattle.crx_compact.proofs.Facts.{and_left, and_right, text-kept, text-head, text-begins, length-text, text-names, length-trimmed, names-read, satellites_of, satellites-good, unmarked, difference-printable}
+use Rattle.crx_compact.proofs.Rows.{IsRowOf, run-rows, clock-printable, satellite_of, row-read, each-own}
 
 -- ---- the epochs of a block
 
-abbrev Epochs : List (ℕ × ℕ) → List Epoch → Type 0
+abbrev pub Epochs : List Count → List Epoch → Type 0
 Epochs types epochs = AllByRecursion (IsEpoch types) epochs
 
-epochs-begin : (types : List (ℕ × ℕ)) (epochs : List Epoch) → Epochs types epochs → AllByRecursion (λ (e : Epoch). at (epoch_text e) 0 ≡ 62) epochs
+pub epochs-begin : (types : List Count) (epochs : List Epoch) → Epochs types epochs → AllByRecursion (λ (e : Epoch). at (epoch_text e) 0 ≡ 62) epochs
 epochs-begin types [] h = tt
 epochs-begin types (e ∷ es) h = (text-begins types e h.0, epochs-begin types es h.1)
 
-epochs-unmarked : (types : List (ℕ × ℕ)) (epochs : List Epoch) → Epochs types epochs → AllByRecursion (λ (e : Epoch). (p : ℕ) → at (epoch_text e) p ≢ 38) epochs
+pub epochs-unmarked : (types : List Count) (epochs : List Epoch) → Epochs types epochs → AllByRecursion (λ (e : Epoch). (p : ℕ) → at (epoch_text e) p ≢ 38) epochs
 epochs-unmarked types [] h = tt
 epochs-unmarked types (e ∷ es) h = (unmarked (epoch_text e) (text-kept types e h.0), epochs-unmarked types es h.1)
 
@@ -44,35 +47,43 @@ epochs-unmarked types (e ∷ es) h = (unmarked (epoch_text e) (text-kept types e
 abbrev before : Bool → List Marked → List RawEpoch
 before full older = if full then [] else raw_block older
 
-block-found : (full : Bool) (e : Epoch) (older : List Marked) (raws : List RawEpoch) → Begins (marked full e ∷ older)
-    → (full ≡ false → block_of raws ≡ block_of (raws_of older)) → block_before (epoch_line (marked full e) older) raws ≡ before full older
-block-found true e older raws h k = ap (λ b. if b then [] else block_of raws) (begins_full (epoch_text e) h.0)
-block-found false e [] raws h k = ap (λ b. if b then [] else block_of raws) (begins_full (epoch_text e) h.0)
-block-found false e (m ∷ older) raws h k =
-    ap (λ b. if b then [] else block_of raws) (begins_later (epoch_text m.epoch) (epoch_text e) h.1.0 h.0)
-    ∙ k refl ∙ block-raws (m ∷ older) h.1
-
-not-empty : (raws : List RawEpoch) (raw : RawEpoch) (block : List RawEpoch) → block_of raws ≡ raw ∷ block → is_empty raws ≡ false
-not-empty [] raw block e = absurd (true≢false (ap is_empty e))
+not-empty : (raws : List RawEpoch) (raw : RawEpoch) (block : List RawEpoch) → block_of raws ≡ raw ∷ block → past_of_epochs raws ≡ Some (past_of_block (block_of raws))
+not-empty [] raw block e = absurd (nothing_is_one raw block e)
+  where
+    nothing_is_one : (raw : RawEpoch) (block : List RawEpoch) → [] ≡ raw ∷ block → ⊥
+    nothing_is_one raw block e = true≢false (ap (λ (l : List RawEpoch). elim l [ [] ↦ true | x ∷ xs ↦ false ]) e)
 not-empty (x ∷ xs) raw block e = refl
 
-state-found : (full : Bool) (e : Epoch) (older : List Marked) (raws : List RawEpoch) → Begins (marked full e ∷ older)
-    → (full ≡ false → block_of raws ≡ block_of (raws_of older)) → (not (begins_epoch (epoch_line (marked full e) older)) && is_empty raws) ≡ false
-state-found true e older raws h k = ap (λ b. not b && is_empty raws) (begins_full (epoch_text e) h.0)
-state-found false e [] raws h k = ap (λ b. not b && is_empty raws) (begins_full (epoch_text e) h.0)
-state-found false e (m ∷ older) raws h k =
-    ap (λ b. not b && is_empty raws) (begins_later (epoch_text m.epoch) (epoch_text e) h.1.0 h.0)
-    ∙ not-empty raws (raw_of m older) (before m.is_full older) (k refl ∙ block-raws (m ∷ older) h.1)
+-- what the lines of an epoch are read against
+past-found : (full : Bool) (e : Epoch) (older : List Marked) (raws : List RawEpoch) → Begins (marked full e ∷ older)
+    → (full ≡ false → block_of raws ≡ block_of (raws_of older))
+    → past_of_line raws (epoch_line (marked full e) older) ≡ Some (past_of_block (before full older))
+past-found true e older raws h k = ap {B = Option Past} (λ b. if b then Some (past_of_block []) else past_of_epochs raws) (begins_full (epoch_text e) h.0)
+past-found false e [] raws h k = ap {B = Option Past} (λ b. if b then Some (past_of_block []) else past_of_epochs raws) (begins_full (epoch_text e) h.0)
+past-found false e (m ∷ older) raws h k =
+    let block : block_of raws ≡ raw_block (m ∷ older) = k refl ∙ block-raws (m ∷ older) h.1 in
+    ap {B = Option Past} (λ b. if b then Some (past_of_block []) else past_of_epochs raws) (begins_later (epoch_text m.epoch) (epoch_text e) h.1.0 h.0)
+    ∙ not-empty raws (raw_of m older) (before m.in_full older) block
+    ∙ ap {B = Option Past} (λ b. Some (past_of_block b)) block
+
+block-found : (full : Bool) (e : Epoch) (older : List Marked) (raws : List RawEpoch) → Begins (marked full e ∷ older)
+    → (full ≡ false → block_of raws ≡ block_of (raws_of older)) → block_of (raw_of (marked full e) older ∷ raws) ≡ block_of (raws_of (marked full e ∷ older))
+block-found true e older raws h k =
+    let begins : begins_epoch (epoch_line (marked true e) older) ≡ true = begins_full (epoch_text e) h.0 in
+    ap (λ b. raw_of (marked true e) older ∷ (if b then [] else block_of raws)) begins
+    ∙ sym (ap (λ b. raw_of (marked true e) older ∷ (if b then [] else block_of (raws_of older))) begins)
+block-found false e older raws h k =
+    ap (λ rest. raw_of (marked false e) older ∷ (if begins_epoch (epoch_line (marked false e) older) then [] else rest)) (k refl)
 
 -- ---- the epoch line
 
-text-columns : (types : List (ℕ × ℕ)) (e : Epoch) → IsEpoch types e → columns (without_end_blanks (epoch_text e)) 1 41 ≡ e.head
+text-columns : (types : List Count) (e : Epoch) → IsEpoch types e → columns (without_end_blanks (epoch_text e)) 1 41 ≡ e.head
 text-columns types e h =
     columns-are (without_end_blanks (epoch_text e)) 1 41 e.head h.head_length (λ p less.
     let place : 1 - 1 + p ≡ p = omega arith in
     ap (at (without_end_blanks (epoch_text e))) place ∙ at-without_end_blanks (epoch_text e) p ∙ text-head types e h p less)
 
-text-good : (types : List (ℕ × ℕ)) (e : Epoch) → IsEpoch types e → names_of_text types (without_end_blanks (epoch_text e)) ≡ Ok (map (λ (r : Row). r.name) e.rows)
+text-good : (types : List Count) (e : Epoch) → IsEpoch types e → satellites_of_text types (without_end_blanks (epoch_text e)) ≡ Ok (satellites_of e.rows)
 text-good types e h =
     let text : List ℕ = without_end_blanks (epoch_text e) in
     let count : epoch_count (columns (without_end_blanks (epoch_text e)) 1 41) ≡ Some (length e.rows) = ap epoch_count (text-columns types e h) ∙ h.head_counted in
@@ -82,32 +93,28 @@ text-good types e h =
     drop_of_length-le (without_end_blanks (epoch_text e)) (omega (arith, long, whole)) in
     let names : names_in (without_end_blanks (epoch_text e)) (length e.rows) ≡ map (λ (r : Row). r.name) e.rows =
     names-read types (without_end_blanks (epoch_text e)) 41 e.rows h.rows_are (λ p. at-without_end_blanks (epoch_text e) (41 + p) ∙ text-names types e h p) in
-    ap (names_counted types text) count
-    ∙ ap {B = Result (List (List ℕ)) Fault} (λ r. if list_all is_blank r then names_checked types [] (names_in text (length e.rows)) else Err BadEpoch) rest
-    ∙ ap (names_checked types []) names
-    ∙ names-good types [] e.rows h.rows_are h.rows_differ
+    ap (satellites_counted types text) count
+    ∙ ap {B = Result (List Satellite) Fault} (λ r. if list_all is_blank r then satellites_named types [] (names_in text (length e.rows)) else Err BadEpoch) rest
+    ∙ ap (satellites_named types []) names
+    ∙ satellites-good types [] e.rows h.rows_are h.rows_differ
 
-line-good : (types : List (ℕ × ℕ)) (full : Bool) (e : Epoch) (older : List Marked) (raws : List RawEpoch) → Epochs types (since_full (marked full e ∷ older))
-    → (full ≡ false → block_of raws ≡ block_of (raws_of older))
-    → names_of_line types raws (epoch_line (marked full e) older) ≡ Ok (map (λ (r : Row). r.name) e.rows)
-line-good types full e older raws h k =
-    let ms : List Marked = marked full e ∷ older in
+text-good_line : (types : List Count) (full : Bool) (e : Epoch) (older : List Marked) → Epochs types (since_full (marked full e ∷ older))
+    → overlaid (epoch_line (marked full e) older ∷ map (λ (q : RawEpoch). q.line) (before full older)) ≡ without_end_blanks (epoch_text e)
+text-good_line types full e older h = text-read (marked full e ∷ older) (epochs-unmarked types (since_full (marked full e ∷ older)) h)
+
+line-good : (types : List Count) (full : Bool) (e : Epoch) (older : List Marked) → Epochs types (since_full (marked full e ∷ older))
+    → satellites_of_line types (past_of_block (before full older)) (epoch_line (marked full e) older) ≡ Ok (satellites_of e.rows)
+line-good types full e older h =
     let line : List ℕ = epoch_line (marked full e) older in
-    let begins : Begins (marked full e ∷ older) = epochs-begin types (since_full (marked full e ∷ older)) h in
-    let state : (not (begins_epoch line) && is_empty raws) ≡ false = state-found full e older raws begins k in
-    let block : block_before line raws ≡ before full older = block-found full e older raws begins k in
+    let past : Past = past_of_block (before full older) in
     let printable : list_all is_printable line ≡ true = difference-printable (if full then [] else newest_text older) (epoch_text e) (text-kept types e h.0) in
-    let text : text_after line raws ≡ without_end_blanks (epoch_text e) =
-    ap (λ b. text_of (raw_of (marked full e) older ∷ b)) block
-    ∙ text-read (marked full e ∷ older) (epochs-unmarked types (since_full (marked full e ∷ older)) h) in
-    ap {B = Result (List (List ℕ)) Fault} (λ b. if b then Err NotAnEpoch else if not (list_all is_printable line) then Err BadEpoch else names_of_text types (text_after line raws)) state
-    ∙ ap {B = Result (List (List ℕ)) Fault} (λ b. if not b then Err BadEpoch else names_of_text types (text_after line raws)) printable
-    ∙ ap (names_of_text types) text
+    ap {B = Result (List Satellite) Fault} (λ b. if not b then Err BadEpoch else satellites_of_text types (past.text line)) printable
+    ∙ ap (satellites_of_text types) (text-good_line types full e older h)
     ∙ text-good types e h.0
 
 -- ---- the clock line
 
-text-other : (text : List ℕ) → list_all is_code_character text ≡ true → begins_epoch text ≡ false
+pub text-other : (text : List ℕ) → list_all is_code_character text ≡ true → begins_epoch text ≡ false
 text-other [] h = refl
 text-other (c ∷ cs) h =
     let ok : is_code_character c ≡ true = and_left (is_code_character c) (list_all is_code_character cs) h in
@@ -123,149 +130,119 @@ no-end_blanks (c ∷ cs) h =
     kept_first c [] h = grind (arith, h)
     kept_first c (d ∷ ds) h = refl
 
-clock-value : (types : List (ℕ × ℕ)) (full : Bool) (e : Epoch) (older : List Marked) → Epochs types (since_full (marked full e ∷ older))
-    → clock_from (raw_block (marked full e ∷ older)) ≡ Ok e.clock
-clock-value types full e older h =
-    ap (value_of CLOCK_WIDTH) (clocks-read (marked full e ∷ older))
-    ∙ value-behind CLOCK_WIDTH e.clock (map (λ (q : Epoch). q.clock) (map (λ (m : Marked). m.epoch) (if full then [] else back_to (λ (m : Marked). m.is_full) older))) h.0.clock_fits
-
-clock-good : (types : List (ℕ × ℕ)) (full : Bool) (e : Epoch) (older : List Marked) → Epochs types (since_full (marked full e ∷ older))
-    → clock_of_line (before full older) (code_text (code_at WRITTEN_ORDER (clock_arc (marked full e ∷ older)))) ≡ Ok (code_at WRITTEN_ORDER (clock_arc (marked full e ∷ older)))
+clock-good : (types : List Count) (full : Bool) (e : Epoch) (older : List Marked) → Epochs types (since_full (marked full e ∷ older))
+    → clock_line_read (past_of_block (before full older)) (code_text (code_at WRITTEN_ORDER (clock_arc (marked full e ∷ older))))
+    ≡ Ok (record { code = code_at WRITTEN_ORDER (clock_arc (marked full e ∷ older)); value = e.clock })
 clock-good types full e older h =
+    let past : Past = past_of_block (before full older) in
     let code : Code = code_at WRITTEN_ORDER (clock_arc (marked full e ∷ older)) in
-    let clocks : List (Option ℤ) = map (λ (q : Epoch). q.clock) (since_full (marked full e ∷ older)) in
-    let printable : IsPrintable code =
-    code-printable (10 ^ (CLOCK_WIDTH - 1)) (clock_arc (marked full e ∷ older)) (omega arith)
-    (stretch-near CLOCK_WIDTH clocks (clocks-fit types (since_full (marked full e ∷ older)) h)) in
+    let printable : IsPrintable code = clock-printable types (since_full (marked full e ∷ older)) h in
     let characters : list_all is_code_character (code_text code) ≡ true = code-characters code printable in
-    ap {B = Result Code Fault} (λ b. if b then Err Truncated else code_checked CLOCK_WIDTH BadClock (map (λ (q : RawEpoch). q.clock) (before full older)) (code_of (without_end_blanks (code_text code)))) (text-other (code_text code) characters)
-    ∙ ap (λ t. code_checked CLOCK_WIDTH BadClock (map (λ (q : RawEpoch). q.clock) (before full older)) (code_of t)) (no-end_blanks (code_text code) characters)
-    ∙ ap (code_checked CLOCK_WIDTH BadClock (map (λ (q : RawEpoch). q.clock) (before full older))) (code-read code printable)
-    ∙ ap {B = Result Code Fault} (λ r. and_then r (λ value. Ok code)) (clock-value types full e older h)
+    let value : past.clock code ≡ Ok e.clock =
+    ap (value_of CLOCK_WIDTH) (clocks-read (marked full e ∷ older))
+    ∙ value-back CLOCK_WIDTH e.clock (map (λ (q : Epoch). q.clock) (map (λ (m : Marked). m.epoch) (if full then [] else back_to (λ (m : Marked). m.in_full) older))) h.0.clock_fits in
+    ap {B = Result ReadCell Fault} (λ b. if b then Err Truncated else cell_read BadClock past.clock (code_of (without_end_blanks (code_text code)))) (text-other (code_text code) characters)
+    ∙ ap (λ t. cell_read BadClock past.clock (code_of t)) (no-end_blanks (code_text code) characters)
+    ∙ ap (cell_read BadClock past.clock) (code-read code printable)
+    ∙ ap {B = Result ReadCell Fault} (λ r. and_then r (λ value. Ok (record { code = code; value = value }))) value
 
 -- ---- the satellite lines
 
--- a satellite's line reads as its codes and marks, and these give its row
-record RowReads (types : List (ℕ × ℕ)) (block : List RawEpoch) (ms : List Marked) (r : Row) : Type 0 where
-  reads : row_of_line types block r.name (satellite_line (run_of r.name ms) r) ≡ Ok (raw_row (run_of r.name ms) r)
-  gives : row_from (raw_run_of r.name (raw_block ms)) (raw_row (run_of r.name ms) r) ≡ Ok r
-
 -- the run before the newest epoch
 abbrev rows_before : Bool → List ℕ → List Marked → List Row
-rows_before full name older = stretch (map (λ (q : Epoch). row_named name q.rows) (map (λ (m : Marked). m.epoch) (if full then [] else back_to (λ (m : Marked). m.is_full) older)))
+rows_before full name older = stretch (map (λ (q : Epoch). row_named name q.rows) (map (λ (m : Marked). m.epoch) (if full then [] else back_to (λ (m : Marked). m.in_full) older)))
 
 run-before : (full : Bool) (name : List ℕ) (older : List Marked) → raw_run_of name (before full older) ≡ raw_run (rows_before full name older)
 run-before true name older = refl
 run-before false name older = runs-read name older
 
-row-reads : (types : List (ℕ × ℕ)) (full : Bool) (e : Epoch) (older : List Marked) → Epochs types (since_full (marked full e ∷ older))
-    → (r : Row) → row_named r.name e.rows ≡ Some r → RowReads types (before full older) (marked full e ∷ older) r
-row-reads types full e older h r own =
-    let ms : List Marked = marked full e ∷ older in
-    let run : run_of r.name (marked full e ∷ older) ≡ r ∷ rows_before full r.name older =
-    ap (λ (o : Option Row). stretch (o ∷ map (λ (q : Epoch). row_named r.name q.rows) (map (λ (m : Marked). m.epoch) (if full then [] else back_to (λ (m : Marked). m.is_full) older)))) own in
-    let all : AllByRecursion (IsRowOf types r.name) (run_of r.name (marked full e ∷ older)) = run-rows types r.name (since_full (marked full e ∷ older)) h in
-    let P : List Row → Type 0 = λ q. AllByRecursion (IsRowOf types r.name) q in
-    let rows : AllByRecursion (IsRowOf types r.name) (r ∷ rows_before full r.name older) = subst P run all in
-    let Q : List Row → Type 0 = λ q. row_of_line types (before full older) r.name (satellite_line q r) ≡ Ok (raw_row q r) in
-    let R : List Row → Type 0 = λ q. row_from (raw_run q) (raw_row q r) ≡ Ok r in
-    record {
-      reads = subst Q (sym run) (row-read types (before full older) r (rows_before full r.name older) rows (run-before full r.name older));
-      gives = ap (λ q. row_from q (raw_row (run_of r.name (marked full e ∷ older)) r)) (runs-read r.name (marked full e ∷ older))
-          ∙ subst R (sym run) (row-given types r (rows_before full r.name older) rows);
-    }
-
-all-reads : (types : List (ℕ × ℕ)) (full : Bool) (e : Epoch) (older : List Marked) → Epochs types (since_full (marked full e ∷ older))
-    → (rows : List Row) → AllByRecursion (λ (r : Row). row_named r.name e.rows ≡ Some r) rows
-    → AllByRecursion (RowReads types (before full older) (marked full e ∷ older)) rows
-all-reads types full e older h [] own = tt
-all-reads types full e older h (r ∷ rs) own = (row-reads types full e older h r own.0, all-reads types full e older h rs own.1)
-
 abbrev line_in : List Marked → Row → List ℕ
 line_in ms r = satellite_line (run_of r.name ms) r
 
-abbrev raw_in : List Marked → Row → RawRow
-raw_in ms r = raw_row (run_of r.name ms) r
+abbrev read_in : List Marked → Row → ReadRow
+read_in ms r = record { raw = raw_row (run_of r.name ms) r; row = r }
 
-rows-good : (types : List (ℕ × ℕ)) (block : List RawEpoch) (ms : List Marked) (rows : List Row) (rest : List (List ℕ)) (offset : ℕ)
-    → AllByRecursion (RowReads types block ms) rows → list_any is_too_long (map (line_in ms) rows) ≡ false
-    → rows_of_lines types block offset (map (λ (r : Row). r.name) rows) (map (line_in ms) rows ++ rest) ≡ Read (map (raw_in ms) rows)
-rows-good types block ms [] rest offset h k = refl
-rows-good types block ms (r ∷ rs) rest offset h k =
-    let short : is_too_long (line_in ms r) ≡ false = or-left (is_too_long (line_in ms r)) (list_any is_too_long (map (line_in ms) rs)) k in
-    let next : Answer (List RawRow) = rows_of_lines types block (suc offset) (map (λ (q : Row). q.name) rs) (map (line_in ms) rs ++ rest) in
-    ap (λ b. continued (if b then Wrong offset LineTooLong else answered offset (row_of_line types block r.name (line_in ms r))) (λ row. continued next (λ more. Read (row ∷ more)))) short
-    ∙ ap (λ res. continued (answered offset res) (λ row. continued next (λ more. Read (row ∷ more)))) h.0.reads
-    ∙ ap (λ a. continued a (λ more. Read (raw_in ms r ∷ more)))
-    (rows-good types block ms rs rest (suc offset) h.1 (or-right (is_too_long (line_in ms r)) (list_any is_too_long (map (line_in ms) rs)) k))
+abbrev RowReads : Past → List Marked → Row → Type 0
+RowReads past ms r = satellite_line_read past (satellite_of r) (line_in ms r) ≡ Ok (read_in ms r)
 
-rows-given : (types : List (ℕ × ℕ)) (block : List RawEpoch) (ms : List Marked) (rows : List Row) → AllByRecursion (RowReads types block ms) rows
-    → rows_from (raw_block ms) (map (raw_in ms) rows) ≡ Ok rows
-rows-given types block ms [] h = refl
-rows-given types block ms (r ∷ rs) h =
-    ap {B = Result (List Row) Fault} (λ res. all_ok (res ∷ map (λ (q : RawRow). row_from (raw_run_of q.name (raw_block ms)) q) (map (raw_in ms) rs))) h.0.gives
-    ∙ ap (before_all r) (rows-given types block ms rs h.1)
+row-reads : (types : List Count) (full : Bool) (e : Epoch) (older : List Marked) → Epochs types (since_full (marked full e ∷ older))
+    → (r : Row) → row_named r.name e.rows ≡ Some r → RowReads (past_of_block (before full older)) (marked full e ∷ older) r
+row-reads types full e older h r own =
+    let run : run_of r.name (marked full e ∷ older) ≡ r ∷ rows_before full r.name older =
+    ap (λ (o : Option Row). stretch (o ∷ map (λ (q : Epoch). row_named r.name q.rows) (map (λ (m : Marked). m.epoch) (if full then [] else back_to (λ (m : Marked). m.in_full) older)))) own in
+    let P : List Row → Type 0 = λ q. AllByRecursion (IsRowOf types r.name) q in
+    let rows : AllByRecursion (IsRowOf types r.name) (r ∷ rows_before full r.name older) = subst P run (run-rows types r.name (since_full (marked full e ∷ older)) h) in
+    let Q : List Row → Type 0 = λ q. satellite_line_read (past_of_block (before full older)) (satellite_of r) (satellite_line q r) ≡ Ok (record { raw = raw_row q r; row = r }) in
+    subst Q (sym run) (row-read types (before full older) r (rows_before full r.name older) rows (run-before full r.name older))
+
+all-reads : (types : List Count) (full : Bool) (e : Epoch) (older : List Marked) → Epochs types (since_full (marked full e ∷ older))
+    → (rows : List Row) → AllByRecursion (λ (r : Row). row_named r.name e.rows ≡ Some r) rows
+    → AllByRecursion (RowReads (past_of_block (before full older)) (marked full e ∷ older)) rows
+all-reads types full e older h [] own = tt
+all-reads types full e older h (r ∷ rs) own = (row-reads types full e older h r own.0, all-reads types full e older h rs own.1)
+
+rows-good : (past : Past) (ms : List Marked) (rows : List Row) (rest : List ReadLine) → AllByRecursion (RowReads past ms) rows
+    → rows_read past (satellites_of rows) (map Content (map (line_in ms) rows) ++ rest) ≡ Here (map (read_in ms) rows) (length rows)
+rows-good past ms [] rest h = refl
+rows-good past ms (r ∷ rs) rest h =
+    let others : List ReadLine = map Content (map (line_in ms) rs) ++ rest in
+    ap {B = Place (List ReadRow)} (λ res. then_place (one_line res) (Content (line_in ms r) ∷ others) (λ row more. then_place (rows_read past (satellites_of rs) more) more (λ rows last. Here (row ∷ rows) 0))) h.0
+    ∙ ap {B = Place (List ReadRow)} (λ p. after_lines 1 (then_place p others (λ rows last. Here (read_in ms r ∷ rows) 0))) (rows-good past ms rs rest h.1)
+    ∙ ap {B = Place (List ReadRow)} (λ n. Here (map (read_in ms) (r ∷ rs)) n) (counted (length rs))
+  where
+    counted : (n : ℕ) → 1 + (n + 0) ≡ suc n
+    counted n = omega arith
 
 -- ---- the epoch
 
-epoch-given : (types : List (ℕ × ℕ)) (full : Bool) (e : Epoch) (older : List Marked) → Epochs types (since_full (marked full e ∷ older))
-    → AllByRecursion (RowReads types (before full older) (marked full e ∷ older)) e.rows
-    → epoch_of_block (raw_block (marked full e ∷ older)) (raw_of (marked full e) older) ≡ Ok e
-epoch-given types full e older h k =
-    let ms : List Marked = marked full e ∷ older in
-    let block : List RawEpoch = raw_block (marked full e ∷ older) in
-    let head : columns (text_of (raw_block (marked full e ∷ older))) 1 41 ≡ e.head =
-    ap (λ t. columns t 1 41) (text-read (marked full e ∷ older) (epochs-unmarked types (since_full (marked full e ∷ older)) h)) ∙ text-columns types e h.0 in
-    ap {B = Result Epoch Fault} (λ res. and_then res (λ clock. and_then (rows_from block (map (raw_in ms) e.rows)) (λ rows. Ok (record { head = columns (text_of block) 1 41; clock = clock; rows = rows })))) (clock-value types full e older h)
-    ∙ ap {B = Result Epoch Fault} (λ res. and_then res (λ rows. Ok (record { head = columns (text_of block) 1 41; clock = e.clock; rows = rows }))) (rows-given types (before full older) ms e.rows k)
-    ∙ ap {B = Result Epoch Fault} (λ t. Ok (record { head = t; clock = e.clock; rows = e.rows })) head
+map-raw : (ms : List Marked) (rows : List Row) → map (λ (r : ReadRow). r.raw) (map (read_in ms) rows) ≡ map (λ (r : Row). raw_row (run_of r.name ms) r) rows
+map-raw ms [] = refl
+map-raw ms (r ∷ rs) = ap (λ q. raw_row (run_of r.name ms) r ∷ q) (map-raw ms rs)
 
--- what reading an epoch of a written list comes to
-abbrev read_of : Bool → Epoch → List Marked → ReadEpoch
-read_of full e older = record { count = 2 + length e.rows; raw = raw_of (marked full e) older; epoch = e }
+map-row : (ms : List Marked) (rows : List Row) → map (λ (r : ReadRow). r.row) (map (read_in ms) rows) ≡ rows
+map-row ms [] = refl
+map-row ms (r ∷ rs) = ap (λ q. r ∷ q) (map-row ms rs)
 
-epoch-good : (types : List (ℕ × ℕ)) (full : Bool) (e : Epoch) (older : List Marked) (raws : List RawEpoch) (rest : List (List ℕ))
+epoch-good : (types : List Count) (full : Bool) (e : Epoch) (older : List Marked) (raws : List RawEpoch) (rest : List ReadLine)
     → Epochs types (since_full (marked full e ∷ older))
     → (full ≡ false → block_of raws ≡ block_of (raws_of older))
-    → epoch_at types raws (compact_epoch (marked full e ∷ older) ++ rest) ≡ Read (read_of full e older)
+    → epoch_at types raws (lines_of_epoch (marked full e ∷ older) ++ rest) ≡ Here (read_of (marked full e) older) (2 + length e.rows)
 epoch-good types full e older raws rest h k =
-    let fits : list_any is_too_long (compact_epoch (marked full e ∷ older)) ≡ false = lines-short types full e older h in
     let ms : List Marked = marked full e ∷ older in
+    let past : Past = past_of_block (before full older) in
     let line : List ℕ = epoch_line (marked full e) older in
     let code : Code = code_at WRITTEN_ORDER (clock_arc (marked full e ∷ older)) in
-    let names : List (List ℕ) = map (λ (r : Row). r.name) e.rows in
-    let lines : List (List ℕ) = map (line_in ms) e.rows in
-    let raw : RawEpoch = raw_of (marked full e) older in
-    let later : (list_any is_too_long (code_text code ∷ lines)) ≡ false = or-right (is_too_long line) (list_any is_too_long (code_text code ∷ lines)) fits in
-    let block : block_before line raws ≡ before full older =
-    block-found full e older raws (epochs-begin types (since_full (marked full e ∷ older)) h) k in
-    let reads : AllByRecursion (RowReads types (before full older) (marked full e ∷ older)) e.rows =
-    all-reads types full e older h e.rows (each-own e.rows h.0.rows_differ) in
-    let given : epoch_from raw raws ≡ Ok e =
-    ap (λ b. epoch_of_block (raw ∷ b) raw) block ∙ epoch-given types full e older h reads in
-    let behind : epoch_of_lines types raws line names (code_text code ∷ (lines ++ rest)) ≡ Read (read_of full e older) =
-    ap (λ b. continued (line_read 1 (code_text code ∷ (lines ++ rest)) (clock_of_line b)) (λ clock.
-    continued (rows_of_lines types b 2 names (lines ++ rest)) (λ rows.
-    with_epoch (record { line = line; clock = clock; rows = rows }) (epoch_from (record { line = line; clock = clock; rows = rows }) raws)))) block
-    ∙ ap (λ b. continued (if b then Wrong 1 LineTooLong else answered 1 (clock_of_line (before full older) (code_text code))) (λ clock.
-    continued (rows_of_lines types (before full older) 2 names (lines ++ rest)) (λ rows.
-    with_epoch (record { line = line; clock = clock; rows = rows }) (epoch_from (record { line = line; clock = clock; rows = rows }) raws))))
-    (or-left (is_too_long (code_text code)) (list_any is_too_long lines) later)
-    ∙ ap (λ res. continued (answered 1 res) (λ clock.
-    continued (rows_of_lines types (before full older) 2 names (lines ++ rest)) (λ rows.
-    with_epoch (record { line = line; clock = clock; rows = rows }) (epoch_from (record { line = line; clock = clock; rows = rows }) raws))))
-    (clock-good types full e older h)
-    ∙ ap (λ a. continued a (λ rows. with_epoch (record { line = line; clock = code; rows = rows }) (epoch_from (record { line = line; clock = code; rows = rows }) raws)))
-    (rows-good types (before full older) ms e.rows rest 2 reads (or-right (is_too_long (code_text code)) (list_any is_too_long lines) later))
-    ∙ ap (with_epoch raw) given
-    ∙ ap (λ n. Read (record { count = 2 + n; raw = raw; epoch = e })) (length-map e.rows (raw_in ms)) in
-    ap (λ b. continued (if b then Wrong 0 LineTooLong else answered 0 (names_of_line types raws line)) (λ ns. epoch_of_lines types raws line ns (code_text code ∷ (lines ++ rest))))
-    (or-left (is_too_long line) (list_any is_too_long (code_text code ∷ lines)) fits)
-    ∙ ap (λ res. continued (answered 0 res) (λ ns. epoch_of_lines types raws line ns (code_text code ∷ (lines ++ rest)))) (line-good types full e older raws h k)
-    ∙ behind
+    let begun : BegunEpoch = record { line = line; past = past; satellites = satellites_of e.rows } in
+    let clock : ReadCell = record { code = code; value = e.clock } in
+    let others : List ReadLine = map Content (map (line_in ms) e.rows) ++ rest in
+    let later : List ReadLine = Content (code_text code) ∷ others in
+    let first : epoch_begun types line (past_of_line raws line) ≡ Ok begun =
+    ap (epoch_begun types line) (past-found full e older raws (epochs-begin types (since_full (marked full e ∷ older)) h) k)
+    ∙ ap {B = Result BegunEpoch Fault} (λ r. and_then r (λ satellites. Ok (record { line = line; past = past; satellites = satellites }))) (line-good types full e older h) in
+    let reads : AllByRecursion (RowReads past (marked full e ∷ older)) e.rows = all-reads types full e older h e.rows (each-own e.rows h.0.rows_differ) in
+    let same : epoch_of_rows begun clock (map (read_in ms) e.rows) ≡ read_of (marked full e) older =
+    ap {B = ReadEpoch} (λ rs. record { raw = record { line = line; clock = code; rows = rs }; epoch = record { head = columns (past.text line) 1 41; clock = e.clock; rows = map (λ (r : ReadRow). r.row) (map (read_in ms) e.rows) } }) (map-raw ms e.rows)
+    ∙ ap {B = ReadEpoch} (λ rs. record { raw = raw_of (marked full e) older; epoch = record { head = columns (past.text line) 1 41; clock = e.clock; rows = rs } }) (map-row ms e.rows)
+    ∙ ap {B = ReadEpoch} (λ t. record { raw = raw_of (marked full e) older; epoch = record { head = t; clock = e.clock; rows = e.rows } })
+    (ap (λ t. columns t 1 41) (text-good_line types full e older h) ∙ text-columns types e h.0) in
+    ap {B = Place ReadEpoch} (λ res. then_place (one_line res) (Content line ∷ later) (λ b more. epoch_after_line b more)) first
+    ∙ ap {B = Place ReadEpoch} (λ res. after_lines 1 (then_place (one_line res) later (λ c more. then_place (rows_read past (satellites_of e.rows) more) more (λ rows last. Here (epoch_of_rows begun c rows) 0)))) (clock-good types full e older h)
+    ∙ ap {B = Place ReadEpoch} (λ p. after_lines 1 (after_lines 1 (then_place p others (λ rows last. Here (epoch_of_rows begun clock rows) 0)))) (rows-good past ms e.rows rest reads)
+    ∙ ap {B = Place ReadEpoch} (λ r. Here r (1 + (1 + (length e.rows + 0)))) same
+    ∙ ap {B = Place ReadEpoch} (λ n. Here (read_of (marked full e) older) n) (counted (length e.rows))
+  where
+    counted : (n : ℕ) → 1 + (1 + (n + 0)) ≡ 2 + n
+    counted n = omega arith
 
-pub is-read : (types : List (ℕ × ℕ)) (m : Marked) (older : List Marked) → IsRead types m older
-is-read types m older = record { reads = λ raws rest h k. epoch-good types m.is_full m.epoch older raws rest h k }
+each-reads : (types : List Count) (m : Marked) (older : List Marked) (raws : List RawEpoch) → Epochs types (since_full (m ∷ older))
+    → (m.in_full ≡ false → block_of raws ≡ block_of (raws_of older)) → EpochReadsBack types m older raws
+each-reads types m older raws h k = record {
+  reads = λ rest. epoch-good types m.in_full m.epoch older raws rest h k;
+  block = block-found m.in_full m.epoch older raws (epochs-begin types (since_full (m ∷ older)) h) k;
+}
+
+pub each-reads_back : EachReadsBack
+each-reads_back types m older raws h k = each-reads types m older raws (all-whole types (since_full (m ∷ older)) h) k
 
 -- ---- the epochs of a list
 
@@ -273,27 +250,34 @@ map-raws : (ms : List Marked) → map (λ (r : ReadEpoch). r.raw) (reads_of ms) 
 map-raws [] = refl
 map-raws (m ∷ older) = ap (λ rs. raw_of m older ∷ rs) (map-raws older)
 
-drop-lines : (xs ys : List (List ℕ)) (n : ℕ) → length xs ≡ n → drop n (xs ++ ys) ≡ ys
+drop-lines : {X : Type 0} (xs ys : List X) (n : ℕ) → length xs ≡ n → drop n (xs ++ ys) ≡ ys
 drop-lines [] ys n e = ap (λ k. drop k ys) (sym e)
 drop-lines (x ∷ xs) ys n e = ap (λ k. drop k (x ∷ (xs ++ ys))) (sym e) ∙ drop-lines xs ys (length xs) refl
 
-next-read : (t : Typed) (older : List Typed) (rest : List (List ℕ)) → AreWritable (t ∷ older)
-    → read_next t.types (record { epochs = reads_of (marked_of older); rest = compact_epoch (marked_of (t ∷ older)) ++ rest })
-    ≡ Read (record { epochs = reads_of (marked_of (t ∷ older)); rest = rest })
-next-read t older rest h =
-    let ms : List Marked = marked_of older in
-    let lines : List (List ℕ) = compact_epoch (t.marked ∷ ms) in
-    let rows : List Row = t.marked.epoch.rows in
-    let read : ReadEpoch = record { count = 2 + length rows; raw = raw_of t.marked ms; epoch = t.marked.epoch } in
-    let count : length (map (line_in (t.marked ∷ ms)) rows) ≡ length rows = length-map rows (line_in (t.marked ∷ ms)) in
-    ap (λ raws. continued (epoch_at t.types raws (lines ++ rest)) (λ r. Read (record { epochs = r ∷ reads_of ms; rest = drop r.count (lines ++ rest) }))) (map-raws ms)
-    ∙ ap (λ a. continued a (λ r. Read (record { epochs = r ∷ reads_of ms; rest = drop r.count (lines ++ rest) })))
-    ((is-read t.types t.marked ms).reads (raws_of ms) rest h.0 (λ later. refl))
-    ∙ ap (λ ls. Read (record { epochs = read ∷ reads_of ms; rest = ls })) (drop-lines lines rest (2 + length rows) (omega (arith, count)))
+map-append : (xs ys : List (List ℕ)) → map Content (xs ++ ys) ≡ map Content xs ++ map Content ys
+map-append [] ys = refl
+map-append (x ∷ xs) ys = ap (λ r. Content x ∷ r) (map-append xs ys)
 
 pub reads-back : ReadsBack
 reads-back [] rest h = refl
 reads-back (t ∷ older) rest h =
-    ap (λ lines. continued (read_all (counts_of older) lines) (read_next t.types)) (append_assoc (text_lines (marked_of older)) (compact_epoch (marked_of (t ∷ older))) rest)
-    ∙ ap (λ a. continued a (read_next t.types)) (reads-back older (compact_epoch (marked_of (t ∷ older)) ++ rest) h.1)
-    ∙ next-read t older rest h
+    let ms : List Marked = marked_of older in
+    let m : Marked = t.marked in
+    let text : List (List ℕ) = text_lines ms in
+    let lines : List (List ℕ) = compact_epoch (m ∷ ms) in
+    let all : List ReadLine = map Content (text ++ lines) ++ rest in
+    let split : map Content (text ++ lines) ++ rest ≡ map Content text ++ (map Content lines ++ rest) =
+    ap (λ l. l ++ rest) (map-append text lines) ∙ append_assoc (map Content text) (map Content lines) rest in
+    let first : epochs_at (counts_of older) all ≡ Here (reads_of ms) (length text) = ap (epochs_at (counts_of older)) split ∙ reads-back older (map Content lines ++ rest) h.1 in
+    let left : drop (length text) all ≡ map Content lines ++ rest =
+    ap (drop (length text)) split ∙ drop-lines (map Content text) (map Content lines ++ rest) (length text) (length-map text Content) in
+    let next : epoch_at t.types (raws_of ms) (map Content lines ++ rest) ≡ Here (read_of m ms) (2 + length m.epoch.rows) =
+    (each-reads_back t.types m ms (raws_of ms) h.0 (λ later. refl)).reads rest in
+    let rows : length (map (λ (r : Row). satellite_line (run_of r.name (m ∷ ms)) r) m.epoch.rows) ≡ length m.epoch.rows = length-map m.epoch.rows (λ (r : Row). satellite_line (run_of r.name (m ∷ ms)) r) in
+    let count : length text + (2 + length m.epoch.rows + 0) ≡ length (text ++ lines) =
+    let sum : length (text ++ lines) ≡ length text + length lines = length-append text lines in omega (arith, sum, rows) in
+    ap {B = Place (List ReadEpoch)} (λ p. then_place p all (λ es more. then_place (epoch_at t.types (map (λ (r : ReadEpoch). r.raw) es) more) more (λ e last. Here (e ∷ es) 0))) first
+    ∙ ap {B = Place (List ReadEpoch)} (λ more. after_lines (length text) (then_place (epoch_at t.types (map (λ (r : ReadEpoch). r.raw) (reads_of ms)) more) more (λ e last. Here (e ∷ reads_of ms) 0))) left
+    ∙ ap {B = Place (List ReadEpoch)} (λ raws. after_lines (length text) (then_place (epoch_at t.types raws (map Content lines ++ rest)) (map Content lines ++ rest) (λ e last. Here (e ∷ reads_of ms) 0))) (map-raws ms)
+    ∙ ap {B = Place (List ReadEpoch)} (λ p. after_lines (length text) (then_place p (map Content lines ++ rest) (λ e last. Here (e ∷ reads_of ms) 0))) next
+    ∙ ap {B = Place (List ReadEpoch)} (λ n. Here (read_of m ms ∷ reads_of ms) n) count

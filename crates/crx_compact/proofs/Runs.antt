@@ -12,11 +12,13 @@ use Rattle.crx_text.specs.declared.code.Code.TheVariants.{Missing}
 use Rattle.crx_text.specs.declared.fault.Fault.{Fault}
 use Rattle.crx_text.specs.declared.fault.Fault.TheVariants.{OutOfRange}
 use Rattle.crx_text.specs.declared.limits.TheConstants.{WRITTEN_ORDER}
-use Rattle.crx_compact.specs.Sequences.{back_to, stretch, each_place}
+use Rattle.crx_compact.specs.Sequences.{back_to, named, stretch, each_place}
 use Rattle.crx_compact.specs.Differences.{code_at, difference}
 use Rattle.crx_compact.specs.Compaction.{Marked, epoch_text, row_named, since_full, run_of, value_in, arc_of, clock_arc, newest_text}
 use Rattle.crx_compact.specs.Expansion.{RawRow, RawEpoch, block_of, raw_row_named, raw_run_of, code_in, since_start, onto_started, in_range, value_since, value_of, overlaid}
-use Rattle.crx_compact.specs.Laws.{raw_row, raw_of, raws_of, fits, codes_of_arc}
+use Rattle.crx_compact.specs.Laws.{codes_of_arc}
+use Rattle.crx_compact.proofs.Written.{fits}
+use Rattle.crx_compact.specs.ReadingLaws.{raw_row, raw_of, raws_of}
 use Rattle.crx_compact.proofs.Inversion.{value-numbers, started-codes}
 use Rattle.crx_compact.proofs.Overlays.{at, at-without_end_blanks, at-by_position, same_characters, character-mark, overlaid-patched}
 
@@ -42,10 +44,10 @@ bytes_eq-is (c ∷ cs) (d ∷ ds) h =
 -- the raw epochs since the latest full one
 abbrev pub raw_block : List Marked → List RawEpoch
 raw_block [] = []
-raw_block (m ∷ older) = raw_of m older ∷ (if m.is_full then [] else raw_block older)
+raw_block (m ∷ older) = raw_of m older ∷ (if m.in_full then [] else raw_block older)
 
 abbrev pub marked : Bool → Epoch → Marked
-marked is_full epoch = record { is_full = is_full; epoch = epoch }
+marked in_full epoch = record { in_full = in_full; epoch = epoch }
 
 abbrev pub Begins : List Marked → Type 0
 Begins ms = AllByRecursion (λ (e : Epoch). at (epoch_text e) 0 ≡ 62) (since_full ms)
@@ -72,7 +74,7 @@ block-step false e (m ∷ older) next h =
 
 pub block-raws : (ms : List Marked) → Begins ms → block_of (raws_of ms) ≡ raw_block ms
 block-raws [] h = refl
-block-raws (m ∷ older) h = block-step m.is_full m.epoch older (block-raws older) h
+block-raws (m ∷ older) h = block-step m.in_full m.epoch older (block-raws older) h
 
 -- ---- runs
 
@@ -81,18 +83,20 @@ abbrev pub raw_run : List Row → List RawRow
 raw_run [] = []
 raw_run (r ∷ rs) = raw_row (r ∷ rs) r ∷ raw_run rs
 
-raw_named_step : (b : Bool) (r : Row) (name : List ℕ) (runs : List ℕ → List Row) (found : Option RawRow) (row : Option Row)
-    → bytes_eq r.name name ≡ b → found ≡ option_map (raw_row (runs name)) row
-    → cond b (Some (raw_row (runs r.name) r)) found ≡ option_map (raw_row (runs name)) (cond b (Some r) row)
-raw_named_step true r name runs found row h e =
-    ap {B = Option RawRow} (λ n. Some (raw_row (runs n) r)) (bytes_eq-is r.name name h)
-raw_named_step false r name runs found row h e = e
-
-pub raw_named : (name : List ℕ) (runs : List ℕ → List Row) (rows : List Row)
-    → raw_row_named name (map (λ (r : Row). raw_row (runs r.name) r) rows) ≡ option_map (raw_row (runs name)) (row_named name rows)
-raw_named name runs [] = refl
-raw_named name runs (r ∷ rs) =
-    raw_named_step (bytes_eq r.name name) r name runs (raw_row_named name (map (λ (q : Row). raw_row (runs q.name) q) rs)) (row_named name rs) refl (raw_named name runs rs)
+-- the search by an identifier among what is made of other things, each under its own identifier
+pub named-made : {X Y : Type 0} (name_x : X → List ℕ) (name_y : Y → List ℕ) (make : List ℕ → X → Y)
+    → ((n : List ℕ) (x : X) → name_y (make n x) ≡ name_x x) → (name : List ℕ) (xs : List X)
+    → named name_y name (map (λ x. make (name_x x) x) xs) ≡ option_map (make name) (named name_x name xs)
+named-made name_x name_y make h name [] = refl
+named-made name_x name_y make h name (x ∷ xs) =
+    ap (λ n. cond (bytes_eq n name) (Some (make (name_x x) x)) (named name_y name (map (λ y. make (name_x y) y) xs))) (h (name_x x) x)
+    ∙ step (bytes_eq (name_x x) name) refl (named-made name_x name_y make h name xs)
+  where
+    step : (b : Bool) → bytes_eq (name_x x) name ≡ b
+        → named name_y name (map (λ y. make (name_x y) y) xs) ≡ option_map (make name) (named name_x name xs)
+        → cond b (Some (make (name_x x) x)) (named name_y name (map (λ y. make (name_x y) y) xs)) ≡ option_map (make name) (cond b (Some x) (named name_x name xs))
+    step true e next = ap (λ n. Some (make n x)) (bytes_eq-is (name_x x) name e)
+    step false e next = next
 
 abbrev rows_of : List ℕ → List Epoch → List Row
 rows_of name epochs = stretch (map (λ (e : Epoch). row_named name e.rows) epochs)
@@ -103,7 +107,7 @@ run-step : (full : Bool) (name : List ℕ) (e : Epoch) (older : List Marked) (fo
     ∷ map (λ (q : RawEpoch). raw_row_named name q.rows) (if full then [] else raw_block older))
     ≡ raw_run (run_of name (marked full e ∷ older))
 run-step full name e older None h next =
-    ap (λ o. raw_run (stretch (o ∷ map (λ (q : Epoch). row_named name q.rows) (map (λ (m : Marked). m.epoch) (if full then [] else back_to (λ (m : Marked). m.is_full) older))))) (sym h)
+    ap (λ o. raw_run (stretch (o ∷ map (λ (q : Epoch). row_named name q.rows) (map (λ (m : Marked). m.epoch) (if full then [] else back_to (λ (m : Marked). m.in_full) older))))) (sym h)
 run-step true name e older (Some r) h next =
     let run : run_of name (marked true e ∷ older) ≡ r ∷ [] = ap (λ (o : Option Row). stretch (o ∷ [])) h in
     ap (λ rs. raw_row rs r ∷ []) run ∙ sym (ap raw_run run)
@@ -119,25 +123,25 @@ pub runs-read : (name : List ℕ) (ms : List Marked) → raw_run_of name (raw_bl
 runs-read name [] = refl
 runs-read name (m ∷ older) =
     let head : raw_row_named name (raw_of m older).rows ≡ option_map (raw_row (run_of name (m ∷ older))) (row_named name m.epoch.rows) =
-    raw_named name (λ n. run_of n (m ∷ older)) m.epoch.rows in
-    ap (λ o. stretch (o ∷ map (λ (q : RawEpoch). raw_row_named name q.rows) (if m.is_full then [] else raw_block older))) head
-    ∙ run-step m.is_full name m.epoch older (row_named name m.epoch.rows) refl (runs-read name older)
+    named-made (λ (r : Row). r.name) (λ (r : RawRow). r.name) (λ n r. raw_row (run_of n (m ∷ older)) r) (λ n r. refl) name m.epoch.rows in
+    ap (λ o. stretch (o ∷ map (λ (q : RawEpoch). raw_row_named name q.rows) (if m.in_full then [] else raw_block older))) head
+    ∙ run-step m.in_full name m.epoch older (row_named name m.epoch.rows) refl (runs-read name older)
 
 -- ---- arcs
 
 -- the codes of values that may be missing, each by the values up to it
-abbrev pub codes_behind : List (Option ℤ) → List Code
-codes_behind [] = []
-codes_behind (o ∷ os) = code_at WRITTEN_ORDER (stretch (o ∷ os)) ∷ codes_behind os
+abbrev pub codes_of_values : List (Option ℤ) → List Code
+codes_of_values [] = []
+codes_of_values (o ∷ os) = code_at WRITTEN_ORDER (stretch (o ∷ os)) ∷ codes_of_values os
 
-clock-step : (full : Bool) (e : Epoch) (older : List Marked) → map (λ (q : RawEpoch). q.clock) (raw_block older) ≡ codes_behind (map (λ (q : Epoch). q.clock) (since_full older))
-    → map (λ (q : RawEpoch). q.clock) (raw_block (marked full e ∷ older)) ≡ codes_behind (map (λ (q : Epoch). q.clock) (since_full (marked full e ∷ older)))
+clock-step : (full : Bool) (e : Epoch) (older : List Marked) → map (λ (q : RawEpoch). q.clock) (raw_block older) ≡ codes_of_values (map (λ (q : Epoch). q.clock) (since_full older))
+    → map (λ (q : RawEpoch). q.clock) (raw_block (marked full e ∷ older)) ≡ codes_of_values (map (λ (q : Epoch). q.clock) (since_full (marked full e ∷ older)))
 clock-step true e older next = refl
 clock-step false e older next = ap (λ cs. code_at WRITTEN_ORDER (clock_arc (marked false e ∷ older)) ∷ cs) next
 
-pub clocks-read : (ms : List Marked) → map (λ (q : RawEpoch). q.clock) (raw_block ms) ≡ codes_behind (map (λ (q : Epoch). q.clock) (since_full ms))
+pub clocks-read : (ms : List Marked) → map (λ (q : RawEpoch). q.clock) (raw_block ms) ≡ codes_of_values (map (λ (q : Epoch). q.clock) (since_full ms))
 clocks-read [] = refl
-clocks-read (m ∷ older) = clock-step m.is_full m.epoch older (clocks-read older)
+clocks-read (m ∷ older) = clock-step m.in_full m.epoch older (clocks-read older)
 
 -- what stands at a place of a list of so many
 pub place-each : {X : Type 0} (n j : ℕ) (f : ℕ → X) (d : X) → (n ≤ j → f j ≡ d) → slice_index_or (each_place n f) j d ≡ f j
@@ -150,7 +154,7 @@ index_past [] j d h = refl
 index_past (x ∷ xs) zero d h = absurd (not-suc-le-zero h)
 index_past (x ∷ xs) (suc j) d h = index_past xs j d (omega (arith, h))
 
-pub codes-read : (j : ℕ) (run : List Row) → map (code_in j) (raw_run run) ≡ codes_behind (map (value_in j) run)
+pub codes-read : (j : ℕ) (run : List Row) → map (code_in j) (raw_run run) ≡ codes_of_values (map (value_in j) run)
 codes-read j [] = refl
 codes-read j (r ∷ rs) =
     let here : code_in j (raw_row (r ∷ rs) r) ≡ code_at WRITTEN_ORDER (arc_of j (r ∷ rs)) =
@@ -160,11 +164,11 @@ codes-read j (r ∷ rs) =
     ∙ ap (λ cs. code_at WRITTEN_ORDER (arc_of j (r ∷ rs)) ∷ cs) (codes-read j rs)
 
 -- the codes since a present value's start are those of its arc
-pub started-behind : (x : ℤ) (os : List (Option ℤ)) → since_start (codes_behind (Some x ∷ os)) ≡ since_start (codes_of_arc WRITTEN_ORDER (x ∷ stretch os))
-started-behind x [] = refl
-started-behind x (None ∷ os) = refl
-started-behind x (Some y ∷ os) =
-    ap (option_map (onto_started (difference (min (length (y ∷ stretch os)) WRITTEN_ORDER) (x ∷ y ∷ stretch os)))) (started-behind y os)
+pub started-values : (x : ℤ) (os : List (Option ℤ)) → since_start (codes_of_values (Some x ∷ os)) ≡ since_start (codes_of_arc WRITTEN_ORDER (x ∷ stretch os))
+started-values x [] = refl
+started-values x (None ∷ os) = refl
+started-values x (Some y ∷ os) =
+    ap (option_map (onto_started (difference (min (length (y ∷ stretch os)) WRITTEN_ORDER) (x ∷ y ∷ stretch os)))) (started-values y os)
 
 value-present : (width : ℕ) (x : ℤ) (arc : List ℤ) (cs : List Code)
     → value_of width (code_at WRITTEN_ORDER (x ∷ arc) ∷ cs) ≡ value_since width (since_start (code_at WRITTEN_ORDER (x ∷ arc) ∷ cs))
@@ -172,11 +176,11 @@ value-present width x [] cs = refl
 value-present width x (y ∷ ys) cs = refl
 
 -- a value within its columns comes back from its code and those before it
-pub value-behind : (width : ℕ) (o : Option ℤ) (os : List (Option ℤ)) → fits width o ≡ true → value_of width (codes_behind (o ∷ os)) ≡ Ok o
-value-behind width None os h = refl
-value-behind width (Some x) os h =
-    value-present width x (stretch os) (codes_behind os)
-    ∙ ap (value_since width) (started-behind x os ∙ started-codes WRITTEN_ORDER (stretch os) x)
+pub value-back : (width : ℕ) (o : Option ℤ) (os : List (Option ℤ)) → fits width o ≡ true → value_of width (codes_of_values (o ∷ os)) ≡ Ok o
+value-back width None os h = refl
+value-back width (Some x) os h =
+    value-present width x (stretch os) (codes_of_values os)
+    ∙ ap (value_since width) (started-values x os ∙ started-codes WRITTEN_ORDER (stretch os) x)
     ∙ ap (in_range width) (value-numbers WRITTEN_ORDER (stretch os) x)
     ∙ ap {B = Result (Option ℤ) Fault} (λ b. if b then Ok (Some x) else Err OutOfRange) h
 
@@ -220,7 +224,7 @@ text-step false e (m ∷ older) next h =
 -- a reader finds the newest epoch's text
 pub text-read : (ms : List Marked) → AreUnmarked ms → overlaid (lines_of (raw_block ms)) ≡ without_end_blanks (newest_text ms)
 text-read [] h = refl
-text-read (m ∷ older) h = text-step m.is_full m.epoch older (text-read older) h
+text-read (m ∷ older) h = text-step m.in_full m.epoch older (text-read older) h
 
 -- a reader finds the indicators of a run's newest row
 pub marks-read : (r : Row) (rs : List Row) → AllByRecursion (λ (q : Row). IsUnmarked q.flags) (r ∷ rs)
@@ -243,7 +247,7 @@ at-drop (suc k) (c ∷ cs) p =
     let next : suc k + p ≡ suc (k + p) = omega arith in
     at-drop k cs p ∙ sym (ap (at (c ∷ cs)) next)
 
--- a text that blanks stand behind, cut at a width
+-- a text that blanks stand after, cut at a width
 take-padded : (n k : ℕ) (text want : List ℕ) → n ≤ k → length want ≡ n → ((p : ℕ) → p < n → at text p ≡ at want p) → take n (text ++ replicate k 32) ≡ want
 take-padded zero k text [] le e h = refl
 take-padded zero k text (w ∷ ws) le e h = absurd (not-suc-zero (length ws) e)

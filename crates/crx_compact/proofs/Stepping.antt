@@ -32,7 +32,7 @@ differences-each (suc m) f g h =
     ap (λ d. f zero ∷ differences_after d (each_place m (λ i. g (suc i)))) (sym (h zero))
     ∙ ap (λ r. f zero ∷ r) (differences-each m (λ i. f (suc i)) (λ i. g (suc i)) (λ i. h (suc i)))
 
--- the differences of an arc behind its next value
+-- the differences of an arc after its next value
 pub differences-step : (n : ℕ) (x y : ℤ) (ys : List ℤ)
     → take (suc n) (differences_after x (differences_of n (y ∷ ys))) ≡ differences_of n (x ∷ y ∷ ys)
 differences-step n x y ys =
@@ -118,7 +118,7 @@ length-values n (c ∷ cs) = ap suc (length-values n cs)
 head-numbers : (a b : ℤ) (as' bs : List ℤ) → a ∷ as' ≡ b ∷ bs → a ≡ b
 head-numbers a b as' bs e = ap newest e
 
--- the differences of an arc's values behind a next number
+-- the differences of an arc's values after a next number
 pub values-differences : (n : ℕ) (c b : ℤ) (older : List ℤ)
     → differences_of n (values_of n (c ∷ b ∷ older)) ≡ differences_by c (take n (differences_of n (values_of n (b ∷ older))))
 values-differences n c b older =

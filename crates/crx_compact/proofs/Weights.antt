@@ -87,7 +87,7 @@ alternating-zero (suc i) = ap neg_ℤ (alternating-zero i)
 pos-add : (m n : ℕ) → pos (m + n) ≡ pos m +ℤ pos n
 pos-add m n = omega (arith, ints)
 
--- the weight behind the first of a difference of the next order: Pascal's law
+-- the weight after the first of a difference of the next order: Pascal's law
 next_weight : (k i : ℕ) → alternating (suc i) (pos (binomial (suc k) (suc i)))
     ≡ alternating (suc i) (pos (binomial k (suc i))) +ℤ neg_ℤ (alternating i (pos (binomial k i)))
 next_weight k i =

@@ -2,22 +2,24 @@
 use Rattle.std.specs.Prelude.{◌≡◌, refl, ℕ, suc, ℤ, true, false, not, ◌&&◌, ◌||◌, ◌==◌, nat_eq, List, [], ◌∷◌, length, All, Option, Some, None}
 use Rattle.std.specs.List.{list_all, list_any, AllByRecursion}
 use Rattle.std.specs.Str.{bytes_eq}
-use Rattle.std.proofs.Common.{◌∙◌, ap, arith}
-use Rattle.crx_rinex.specs.Observations.{Row}
+use Rattle.std.proofs.Common.{sym, ◌∙◌, ap, arith}
+use Rattle.crx_rinex.specs.Observations.{Row, Epoch}
+use Rattle.crx_rinex.specs.ObservationTypes.{Count}
 use Rattle.crx_text.specs.declared.limits.TheConstants.{OBSERVATION_WIDTH, CLOCK_WIDTH}
 use Rattle.crx_rinex.specs.Label.{is_digit}
 use Rattle.crx_rinex.specs.ObservationTypes.{is_system}
 use Rattle.crx_rinex.specs.EpochLines.{is_kept, IsClockOffset}
-use Rattle.crx_rinex.specs.SatelliteLines.{is_identifier, IsValue, IsSoundRow}
-use Rattle.crx_rinex.specs.Epochs.{has_satellite, are_different}
-use Rattle.crx_compact.specs.Laws.{fits, IsRow, are_new, HasTypes, SoundIsWritable}
+use Rattle.crx_rinex.specs.SatelliteLines.{is_identifier, IsValue, IsSoundRow, HasItsTypes}
+use Rattle.crx_rinex.specs.Epochs.{has_satellite, are_different, IsWholeEpoch}
+use Rattle.crx_compact.specs.Laws.{AreWhole}
+use Rattle.crx_compact.proofs.Written.{fits, IsRow, are_new, IsEpoch}
 use Rattle.crx_compact.proofs.Bounds.{within-is}
 use Rattle.crx_compact.proofs.Facts.{and_left, and_right, both, not_true}
 use Rattle.crx_compact.proofs.Rows.{or-left, or-right}
 
 -- ---- identifiers
 
-length-is : (name : List ℕ) → is_identifier name ≡ true → length name ≡ 3
+pub length-is : (name : List ℕ) → is_identifier name ≡ true → length name ≡ 3
 length-is name h =
     let same : nat_eq (length name) 3 ≡ true = and_left (length name == 3) _ h in
     grind (arith, same)
@@ -31,7 +33,7 @@ digit-kept c h = grind (arith, h)
 second-kept : (c : ℕ) → (is_digit c || nat_eq c 32) ≡ true → is_kept c ≡ true
 second-kept c h = grind (arith, h)
 
-name-kept : (name : List ℕ) → length name ≡ 3 → is_identifier name ≡ true → list_all is_kept name ≡ true
+pub name-kept : (name : List ℕ) → length name ≡ 3 → is_identifier name ≡ true → list_all is_kept name ≡ true
 name-kept [] e h = refl
 name-kept (a ∷ []) e h = absurd (omega (arith, e))
 name-kept (a ∷ b ∷ []) e h = absurd (omega (arith, e))
@@ -61,21 +63,24 @@ clock-fits (Some v) h = (within-is CLOCK_WIDTH v).1 h
 
 -- ---- rows
 
-row-is : (types : List (ℕ × ℕ)) (row : Row) → IsSoundRow row → HasTypes types row → IsRow types row
+row-is : (types : List Count) (row : Row) → IsSoundRow row → HasItsTypes types row → IsRow types row
 row-is types row h k = record {
   name_length = length-is row.name h.named;
   name_kept = name-kept row.name (length-is row.name h.named) h.named;
-  counted = k.counted;
-  has_values = k.has_values;
-  few_values = h.counted;
+  counted = k;
+  has_values = h.counted.0;
+  few_values = h.counted.1;
   values_fit = values-fit row.values h.ranged;
   flags_length = h.paired;
   flags_kept = h.kept;
 }
 
-rows-are : (types : List (ℕ × ℕ)) (rows : List Row) → All IsSoundRow rows → AllByRecursion (HasTypes types) rows → AllByRecursion (IsRow types) rows
+rows-are : (types : List Count) (rows : List Row) → All IsSoundRow rows → All (HasItsTypes types) rows → AllByRecursion (IsRow types) rows
 rows-are types [] h k = tt
-rows-are types (r ∷ rs) h k = (row-is types r (h 0 r (omega arith)) k.0, rows-are types rs (λ i d less. h (suc i) d (omega (arith, less))) k.1)
+rows-are types (r ∷ rs) h k = (
+  row-is types r (h 0 r (omega arith)) (k 0 r (omega arith)),
+  rows-are types rs (λ i d less. h (suc i) d (omega (arith, less))) (λ i d less. k (suc i) d (omega (arith, less))),
+)
 
 -- none of some rows is of an earlier satellite
 abbrev AreApart : List (List ℕ) → List Row → Type 0
@@ -99,11 +104,20 @@ none-earlier : (rows : List Row) → AreApart [] rows
 none-earlier [] = tt
 none-earlier (r ∷ rs) = (refl, none-earlier rs)
 
-pub sound-writable : SoundIsWritable
-sound-writable types epoch h head k = record {
-  head_length = head.width;
-  head_counted = head.counted;
-  clock_fits = clock-fits epoch.clock head.ranged;
-  rows_are = rows-are types epoch.rows h.rows_sound k;
-  rows_differ = rows-new [] epoch.rows (none-earlier epoch.rows) h.apart;
+pub rows-differ : (rows : List Row) → are_different rows ≡ true → are_new [] rows ≡ true
+rows-differ rows h = rows-new [] rows (none-earlier rows) h
+
+-- ---- epochs
+
+pub whole-is : (types : List Count) (epoch : Epoch) → IsWholeEpoch types epoch → IsEpoch types epoch
+whole-is types epoch h = record {
+  head_length = h.sound.head_sound.width;
+  head_counted = h.sound.head_sound.counted ∙ ap (λ n. Some n) (sym h.full);
+  clock_fits = clock-fits epoch.clock h.sound.head_sound.ranged;
+  rows_are = rows-are types epoch.rows h.sound.rows_sound h.typed;
+  rows_differ = rows-differ epoch.rows h.sound.apart;
 }
+
+pub all-whole : (types : List Count) (epochs : List Epoch) → AreWhole types epochs → AllByRecursion (IsEpoch types) epochs
+all-whole types [] h = tt
+all-whole types (e ∷ es) h = (whole-is types e h.0, all-whole types es h.1)

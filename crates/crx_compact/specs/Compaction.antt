@@ -1,19 +1,18 @@
 -- The compact text of epochs: Hatanaka's Compact RINEX 3.0, epoch line, clock line and satellite lines.
 -- Lists of epochs stand newest first: the first one is the epoch that is written.
-use Rattle.std.specs.Prelude.{ℕ, ℤ, Bool, List, [], ◌∷◌, ◌++◌, map, length, slice_index_or, Option, None, if◌then◌else◌, find, flat_map}
-use Rattle.std.specs.Str.{bytes_eq}
+use Rattle.std.specs.Prelude.{ℕ, ℤ, Bool, List, [], ◌∷◌, ◌++◌, map, length, slice_index_or, Option, None, if◌then◌else◌, flat_map}
 use Rattle.crx_text.specs.Columns.{without_end_blanks}
 use Rattle.crx_text.specs.Texts.{text_difference}
 use Rattle.crx_text.specs.Codes.{code_text}
 use Rattle.crx_rinex.specs.Observations.{Row, Epoch}
 use Rattle.crx_text.specs.declared.code.Code.{Code}
 use Rattle.crx_text.specs.declared.limits.TheConstants.{WRITTEN_ORDER}
-use Rattle.crx_compact.specs.Sequences.{back_to, stretch, each_place}
+use Rattle.crx_compact.specs.Sequences.{back_to, named, stretch, each_place}
 use Rattle.crx_compact.specs.Differences.{code_at}
 
 -- an epoch, and whether it stands in full: its line begins with >, and everything starts anew
 pub record Marked : Type 0 where
-  pub is_full : Bool
+  pub in_full : Bool
   pub epoch : Epoch
 
 -- columns 1 to 41 of the epoch line, directly followed by the identifiers
@@ -22,11 +21,11 @@ epoch_text epoch = epoch.head ++ flat_map (λ (r : Row). r.name) epoch.rows
 
 -- a satellite's row, if the epoch holds it
 abbrev pub row_named : List ℕ → List Row → Option Row
-row_named name rows = find (λ (r : Row). bytes_eq r.name name) rows
+row_named name rows = named (λ (r : Row). r.name) name rows
 
 -- the epochs from the newest back to the latest that stands in full, it too
 abbrev pub since_full : List Marked → List Epoch
-since_full epochs = map (λ (m : Marked). m.epoch) (back_to (λ (m : Marked). m.is_full) epochs)
+since_full epochs = map (λ (m : Marked). m.epoch) (back_to (λ (m : Marked). m.in_full) epochs)
 
 -- a satellite's rows over the longest list of consecutive epochs ending with the newest that all hold it and of which
 -- none but the oldest stands in full
@@ -64,14 +63,18 @@ cell_text code = code_text code ++ 32 ∷ []
 abbrev pub codes_of : ℕ → List Row → List Code
 codes_of count run = each_place count (λ j. code_at WRITTEN_ORDER (arc_of j run))
 
--- a satellite line: the codes, and the change of the indicators, without blanks at its end
+-- a satellite line by its codes and by the indicators before and now: the codes, and the change of the indicators,
+-- without blanks at its end
+abbrev pub line_of_codes : List Code → List ℕ → List ℕ → List ℕ
+line_of_codes codes before now = without_end_blanks (flat_map cell_text codes ++ text_difference before now)
+
+-- the satellite line of a run's newest row
 abbrev pub satellite_line : List Row → Row → List ℕ
-satellite_line run row =
-    without_end_blanks (flat_map cell_text (codes_of (length row.values) run) ++ text_difference (indicators_before run) row.flags)
+satellite_line run row = line_of_codes (codes_of (length row.values) run) (indicators_before run) row.flags
 
 -- an epoch line: the change of the epoch text, from the empty text where the epoch stands in full
 abbrev pub epoch_line : Marked → List Marked → List ℕ
-epoch_line m older = text_difference (if m.is_full then [] else newest_text older) (epoch_text m.epoch)
+epoch_line m older = text_difference (if m.in_full then [] else newest_text older) (epoch_text m.epoch)
 
 -- the compact lines of the newest epoch: the epoch line, the clock line, and one line for each satellite
 abbrev pub compact_epoch : List Marked → List (List ℕ)

@@ -1,9 +1,9 @@
 -- What an epoch text has to be: RINEX 3.05, table A3, EPOCH record, and Hatanaka's Compact RINEX 3.0, epoch line.
-use Rattle.std.specs.Prelude.{ℕ, ◌+◌, ◌*◌, not, List, [], ◌∷◌, Result, Ok, Err, if◌then◌else◌}
+use Rattle.std.specs.Prelude.{ℕ, ◌+◌, ◌*◌, List, [], ◌∷◌, Option, Some, None, Result, Ok, Err, if◌then◌else◌}
 use Rattle.std.specs.List.{list_any}
-use Rattle.std.specs.Option.{is_some}
 use Rattle.std.specs.Str.{bytes_eq}
 use Rattle.crx_text.specs.Columns.{columns}
+use Rattle.crx_text.specs.declared.limits.TheConstants.{HEAD_WIDTH, NAME_WIDTH}
 use Rattle.crx_text.specs.declared.fault.Fault.{Fault}
 use Rattle.crx_text.specs.declared.fault.Fault.TheVariants.{BadSatellite, RepeatedSatellite}
 use Rattle.crx_compact.specs.Sequences.{each_place, before_all}
@@ -11,15 +11,26 @@ pub use Rattle.crx_text.specs.Texts.{is_printable}
 pub use Rattle.crx_rinex.specs.Label.{number_in}
 pub use Rattle.crx_rinex.specs.EpochLines.{begins_epoch, is_observation_flag, is_kept, count_within_limit, satellites_in, epoch_count}
 pub use Rattle.crx_rinex.specs.SatelliteLines.{types_of_satellite}
+use Rattle.crx_rinex.specs.ObservationTypes.{Count}
 
--- the identifiers behind the 41 columns, three characters each
+-- the identifiers after the 41 columns, three characters each
 abbrev pub names_in : List ℕ → ℕ → List (List ℕ)
-names_in text count = each_place count (λ k. columns text (42 + 3 * k) 3)
+names_in text count = each_place count (λ k. columns text (HEAD_WIDTH + 1 + NAME_WIDTH * k) NAME_WIDTH)
+
+-- a satellite of an epoch text: its identifier, and how many types its system has
+pub record Satellite : Type 0 where
+  pub name : List ℕ
+  pub count : ℕ
+
+-- an identifier with its count of types before the others, where none of those before it is the same
+abbrev pub satellite_before : List (List ℕ) → List ℕ → Option ℕ → Result (List Satellite) Fault → Result (List Satellite) Fault
+satellite_before earlier name None others = Err BadSatellite
+satellite_before earlier name (Some count) others =
+    if list_any (bytes_eq name) earlier then Err RepeatedSatellite
+    else before_all (record { name = name; count = count }) others
 
 -- identifiers from left to right, each well spelt and none of them twice, or the first fault
-abbrev pub names_checked : List (ℕ × ℕ) → List (List ℕ) → List (List ℕ) → Result (List (List ℕ)) Fault
-names_checked types earlier [] = Ok []
-names_checked types earlier (name ∷ names) =
-    if not (is_some (types_of_satellite types name)) then Err BadSatellite
-    else if list_any (bytes_eq name) earlier then Err RepeatedSatellite
-    else before_all name (names_checked types (name ∷ earlier) names)
+abbrev pub satellites_named : List Count → List (List ℕ) → List (List ℕ) → Result (List Satellite) Fault
+satellites_named types earlier [] = Ok []
+satellites_named types earlier (name ∷ names) =
+    satellite_before earlier name (types_of_satellite types name) (satellites_named types (name ∷ earlier) names)

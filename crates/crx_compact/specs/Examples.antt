@@ -2,9 +2,13 @@
 use Rattle.std.specs.Prelude.{ℕ, ◌+◌, ℤ, pos, neg_ℤ, true, false, List, [], ◌∷◌, ◌++◌, map, reverse, Option, Some, None, codes}
 use Rattle.crx_rinex.specs.Observations.{Row, Epoch}
 use Rattle.crx_compact.specs.Compaction.{Marked}
-use Rattle.crx_compact.specs.Places.{Answer, ReadEpoch, continued}
-use Rattle.crx_compact.specs.Places.Answer.{Read}
-use Rattle.crx_compact.specs.Laws.{Progress, read_all}
+use Rattle.crx_rinex.specs.ObservationTypes.{Count}
+use Rattle.crx_rinex.specs.Places.{Place}
+use Rattle.crx_text.specs.Seen.{ReadLine, Content}
+use Rattle.crx_compact.specs.CompactPlaces.{ReadEpoch}
+use Rattle.crx_compact.specs.Steps.{no_tail}
+use Rattle.crx_compact.specs.OpenEpochs.{OpenRawEpoch, placed_as}
+use Rattle.crx_compact.specs.ReadingLaws.{epochs_at, TypedEpoch}
 
 -- columns 1 to 41 of the epoch at second s of 2024-01-01, with n satellites
 abbrev pub head_at : ℕ → ℕ → List ℕ
@@ -15,10 +19,10 @@ abbrev pub full_line : ℕ → ℕ → List ℕ → List ℕ
 full_line s n names = head_at s n ++ names
 
 abbrev pub full : Epoch → Marked
-full epoch = record { is_full = true; epoch = epoch }
+full epoch = record { in_full = true; epoch = epoch }
 
 abbrev pub later : Epoch → Marked
-later epoch = record { is_full = false; epoch = epoch }
+later epoch = record { in_full = false; epoch = epoch }
 
 -- a satellite with one observation type and its two indicators
 abbrev pub satellite : List ℕ → Option ℤ → List ℕ → Row
@@ -85,10 +89,48 @@ extremes =
     ∷ later (epoch_of_one 2 (Some (pos 9999999999999))) ∷ later (epoch_of_one 1 (Some (neg_ℤ (pos 999999999999))))
     ∷ full (epoch_of_one 0 (Some (pos 9999999999999))) ∷ []
 
+-- two epochs of no satellites
+abbrev pub no_satellites : List Marked
+no_satellites =
+    later (record { head = head_at 0 0; clock = None; rows = [] }) ∷ full (record { head = head_at 0 0; clock = None; rows = [] }) ∷ []
+
 -- one type for GPS
-abbrev pub one_type : List (ℕ × ℕ)
+abbrev pub one_type : List Count
 one_type = (71, 1) ∷ []
 
+-- one type for GPS, and two for Galileo
+abbrev pub two_systems : List Count
+two_systems = (71, 1) ∷ (69, 2) ∷ []
+
+abbrev pub e05 : Option ℤ → Option ℤ → List ℕ → Row
+e05 first second flags = record { name = codes "E05"; values = first ∷ second ∷ []; flags = flags }
+
+-- an epoch of G01 and E05
+abbrev pub epoch_of_systems : ℕ → ℤ → Row → Epoch
+epoch_of_systems s value row = record { head = head_at s 2; clock = None; rows = g01 (Some value) ∷ row ∷ [] }
+
 -- what some lines read as: so many epochs, the oldest first, or the first fault
-abbrev pub epochs_in : List (List (ℕ × ℕ)) → List (List ℕ) → Answer (List Epoch)
-epochs_in types lines = continued (read_all types lines) (λ (p : Progress). Read (reverse (map (λ (r : ReadEpoch). r.epoch) p.epochs)))
+abbrev pub epochs_read : List (List Count) → List ReadLine → Place (List Epoch)
+epochs_read types lines = placed_as (λ (read : List ReadEpoch). reverse (map (λ (r : ReadEpoch). r.epoch) read)) (epochs_at types lines)
+
+abbrev pub epochs_in : List (List Count) → List (List ℕ) → Place (List Epoch)
+epochs_in types lines = epochs_read types (map Content lines)
+
+-- an epoch of G01 whose satellite line is still to come
+abbrev pub half_open : OpenRawEpoch
+half_open =
+    record {
+      before = no_tail;
+      text = codes "> 2024 01 01 00 00  0.0000000  0  1      G01";
+      clock = Some (record { value = None; arc = None });
+      rows = [];
+      awaited = record { name = codes "G01"; count = 1 } ∷ [];
+    }
+
+-- two epochs of one satellite
+abbrev pub two_epochs : List Marked
+two_epochs = later (epoch_of_one 1 (Some (pos 2000))) ∷ full (epoch_of_one 0 (Some (pos 1000))) ∷ []
+
+-- the same with the counts of types in force
+abbrev pub two_typed : List TypedEpoch
+two_typed = map (λ (m : Marked). record { types = one_type; marked = m }) two_epochs

@@ -1,16 +1,15 @@
 -- What compact text stands for: Hatanaka's Compact RINEX 3.0, epoch line, clock line and satellite lines.
 -- Lists of raw epochs stand newest first, and hold the accepted ones since the reader's state was last emptied.
-use Rattle.std.specs.Prelude.{ℕ, ◌-◌, ◌*◌, ◌^◌, ◌==◌, ◌&&◌, max, Bool, ℤ, pos, neg_ℤ, int_lt, List, [], ◌∷◌, map, length, slice_index_or, Option, Some, None, Result, Ok, Err, if◌then◌else◌, find}
+use Rattle.std.specs.Prelude.{ℕ, ◌-◌, ◌*◌, ◌^◌, ◌==◌, ◌&&◌, max, Bool, ℤ, pos, neg_ℤ, int_lt, List, [], ◌∷◌, map, length, slice_index_or, Option, Some, None, Result, Ok, Err, if◌then◌else◌}
 use Rattle.std.specs.Option.{option_map}
-use Rattle.std.specs.Str.{bytes_eq}
 use Rattle.crx_text.specs.Columns.{columns, is_blank, without_end_blanks}
 use Rattle.crx_rinex.specs.Observations.{Row, Epoch}
 use Rattle.crx_text.specs.declared.code.Code.{Code}
 use Rattle.crx_text.specs.declared.code.Code.TheVariants.{Missing, Start, Step}
 use Rattle.crx_text.specs.declared.fault.Fault.{Fault}
 use Rattle.crx_text.specs.declared.fault.Fault.TheVariants.{NoArc, OutOfRange}
-use Rattle.crx_text.specs.declared.limits.TheConstants.{OBSERVATION_WIDTH, CLOCK_WIDTH}
-use Rattle.crx_compact.specs.Sequences.{back_to, stretch, each_place, all_ok, and_then}
+use Rattle.crx_text.specs.declared.limits.TheConstants.{OBSERVATION_WIDTH, CLOCK_WIDTH, HEAD_WIDTH}
+use Rattle.crx_compact.specs.Sequences.{back_to, named, stretch, each_place, all_ok, and_then}
 use Rattle.crx_compact.specs.Differences.{value_at}
 use Rattle.crx_compact.specs.EpochText.{begins_epoch}
 
@@ -57,7 +56,7 @@ text_of block = overlaid (map (λ (e : RawEpoch). e.line) block)
 
 -- a satellite's line, if the epoch holds it
 abbrev pub raw_row_named : List ℕ → List RawRow → Option RawRow
-raw_row_named name rows = find (λ (r : RawRow). bytes_eq r.name name) rows
+raw_row_named name rows = named (λ (r : RawRow). r.name) name rows
 
 -- a satellite's lines over the longest list of a block's epochs, from the newest on, that all hold it
 abbrev pub raw_run_of : List ℕ → List RawEpoch → List RawRow
@@ -127,8 +126,8 @@ abbrev pub epoch_of_block : List RawEpoch → RawEpoch → Result Epoch Fault
 epoch_of_block block raw =
     and_then (clock_from block) (λ clock.
     and_then (rows_from block raw.rows) (λ rows.
-    Ok (record { head = columns (text_of block) 1 41; clock = clock; rows = rows })))
+    Ok (record { head = columns (text_of block) 1 HEAD_WIDTH; clock = clock; rows = rows })))
 
--- the epoch that a raw epoch stands for behind older ones
+-- the epoch that a raw epoch stands for after older ones
 abbrev pub epoch_from : RawEpoch → List RawEpoch → Result Epoch Fault
 epoch_from raw older = epoch_of_block (block_of (raw ∷ older)) raw

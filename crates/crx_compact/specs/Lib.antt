@@ -3,8 +3,16 @@ pub mod Differences
 pub mod Compaction
 pub mod EpochText
 pub mod Expansion
-pub mod Places
+pub mod Past
+pub mod CompactPlaces
 pub mod Tails
 pub mod Steps
+pub mod OpenEpochs
+pub mod Arcs
+pub mod Cells
+pub mod LineLists
+pub mod Coded
 pub mod Laws
+pub mod ReadingLaws
 pub mod Examples
+pub mod HeldRows

@@ -1,10 +1,15 @@
 -- Words on sequences. Lists of epochs, and the values and codes of an arc, stand newest first.
-use Rattle.std.specs.Prelude.{ℕ, zero, suc, Bool, List, [], ◌∷◌, Option, Some, None, Result, Ok, Err, if◌then◌else◌}
+use Rattle.std.specs.Prelude.{ℕ, zero, suc, Bool, List, [], ◌∷◌, Option, Some, None, Result, Ok, Err, if◌then◌else◌, find}
+use Rattle.std.specs.Str.{bytes_eq}
 
 -- the items from the newest back to the first that passes the test, it too; all of them where none passes
 abbrev pub back_to : {X : Type 0} → (X → Bool) → List X → List X
 back_to test [] = []
 back_to test (x ∷ xs) = x ∷ (if test x then [] else back_to test xs)
+
+-- the first item whose identifier is this one
+abbrev pub named : {X : Type 0} → (X → List ℕ) → List ℕ → List X → Option X
+named name_of name xs = find (λ x. bytes_eq (name_of x) name) xs
 
 -- the longest stretch, from the newest on, in which each is present
 abbrev pub stretch : {X : Type 0} → List (Option X) → List X

@@ -1,10 +1,12 @@
-//! Laws over the definitions of this crate: each is the contract of a function that does nothing.
+//! Laws of arcs, texts and the epochs that are written: each is the contract of a function that does nothing.
 
-ghost use Rattle.std.specs.Prelude.{◌≡◌, ◌↔◌, ◌∷◌, [], true, ℕ, ℤ, List};
+ghost use Rattle.std.specs.Prelude.{◌≡◌, ◌↔◌, true, ℕ, ℤ, List, Option};
+ghost use Rattle.crx_text.specs.declared.code.Code.{Code};
 ghost use Rattle.crx_text.specs.Numbers.{IsWithin};
+ghost use Rattle.crx_rinex.specs.Epochs.{are_different};
 ghost use Rattle.crx_compact.specs.Compaction.{Marked};
-ghost use Rattle.crx_compact.specs.Expansion.{RawEpoch, is_within, overlaid};
-ghost use Rattle.crx_compact.specs.Laws.{Inverts, PatchesBack, patched_in_turn, CodesByTail, ValuesByTail, EpochByTail, are_new, RawByTail, AreOwn, LinesByTail, ReadsSoundly, SoundIsWritable, ArePrintable, AreShort, IsRead, ReadsBack};
+ghost use Rattle.crx_compact.specs.Expansion.{is_within, overlaid};
+ghost use Rattle.crx_compact.specs.Laws.{Inverts, PatchesBack, patched_in_turn, CodesByTail, ValuesByTail, CodesOfValues, ValuesOfCodes, EpochByTail, ArePrintable, AreShort, AllLinesCanStand, WrittenAreBounded};
 
 /// From the codes of an arc, of any order, comes its newest value.
 pub fn inversion()
@@ -35,27 +37,7 @@ pub fn next_value()
 
 /// What is left of the epochs before decides the compact lines of the next one, and what is left then.
 pub fn next_epoch()
-    ensures { (m : Marked) (older : List Marked) → are_new [] m.epoch.rows ≡ true → EpochByTail m older }
-{}
-
-/// What is left of a block of raw epochs decides what the next one stands for, and what is left then.
-pub fn next_raw_epoch()
-    ensures { (raw : RawEpoch) (older : List RawEpoch) → AreOwn raw → RawByTail raw older }
-{}
-
-/// What is left of a block decides how the next epoch's lines read, each with its first fault.
-pub fn next_lines()
-    ensures { (types : List (ℕ × ℕ)) → LinesByTail types }
-{}
-
-/// An epoch that was read is what its raw epoch stands for, and each of its lines is the one of its identifier.
-pub fn sound_reading()
-    ensures { ReadsSoundly }
-{}
-
-/// An epoch as the reader of RINEX makes them can be written, where each row has its system's count of types.
-pub fn writable_epochs()
-    ensures { SoundIsWritable }
+    ensures { (m : Marked) (older : List Marked) → are_different m.epoch.rows ≡ true → EpochByTail m older }
 {}
 
 /// The test whether a value fits its columns, and the fact that it does.
@@ -68,17 +50,32 @@ pub fn printable_codes()
     ensures { ArePrintable }
 {}
 
-/// None of the compact lines of an epoch is longer than a line may be.
+/// Each of the compact lines of an epoch has at most 7200 bytes: 400 codes of 15 characters, each with a blank and two
+/// indicators. So none is longer than a line may be.
 pub fn short_lines()
     ensures { AreShort }
 {}
 
-/// The compact lines of an epoch read as that epoch, whatever lines follow.
-pub fn reading_an_epoch()
-    ensures { (types : List (ℕ × ℕ)) (m : Marked) (older : List Marked) → IsRead types m older }
+/// After every list of values, missing ones too, an arc is that of their latest stretch without a missing one, and gives the
+/// code of that stretch's newest value.
+pub fn codes_of_values()
+    ensures { (value : Option ℤ) (older : List (Option ℤ)) → CodesOfValues value older }
 {}
 
-/// Reading the compact text of a list of epochs gives these epochs, where the counts of types change only at full ones.
-pub fn reading_epochs()
-    ensures { ReadsBack }
+/// After every list of codes an arc is that of the accepted ones since their latest start, and gives the value that they
+/// stand for; a refused code changes nothing.
+pub fn values_of_codes()
+    ensures { (width : ℕ) (code : Code) (older : List Code) → ValuesOfCodes width code older }
+{}
+
+/// The compact lines of an epoch can stand in a file: characters 32 to 126, none an event's first line, and `>` at the
+/// beginning of a full epoch's first line alone.
+pub fn lines_can_stand()
+    ensures { AllLinesCanStand }
+{}
+
+/// What is left of the epochs that were written is within the limits, however many they were: the text of one epoch, and for
+/// each of its satellites two indicators a type and at most ten differences a cell.
+pub fn bounded_tails()
+    ensures { WrittenAreBounded }
 {}

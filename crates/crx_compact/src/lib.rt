@@ -1,5 +1,20 @@
-//! Compact RINEX both ways: what the compact text of epochs is, what it stands for, and the laws that join the two.
+//! Compact RINEX both ways: epochs to compact lines and back, what the compact text of epochs is, what it stands for, and
+//! the laws that join the two.
 #![tactic(auto)]
 
+pub mod arc;
+mod awaited;
+pub mod coded;
+pub mod columns;
 pub mod examples;
+mod held;
+mod kept;
 pub mod laws;
+pub mod lines;
+pub mod reading_laws;
+#[cfg(test)]
+mod tests;
+
+pub use arc::{ClockArc, ObsArc};
+pub use coded::Coded;
+pub use columns::Columns;

@@ -1,0 +1,175 @@
+-- The cells of a line, read from left to right.
+use Rattle.std.specs.Prelude.{◌≡◌, ◌≤◌, ◌<◌, refl, ℕ, suc, ◌+◌, ◌-◌, ℤ, List, [], ◌∷◌, ◌++◌, length, map, drop, replicate, slice_index_or, slice_set, Option, Some, None, Result, Ok, Err}
+use Rattle.std.proofs.Common.{sym, ◌∙◌, ap, arith, length-append}
+use Rattle.std.proofs.lemmas.List.{append-nil}
+use Rattle.crx_text.specs.Codes.{code_of, first_cell, after_cell}
+use Rattle.crx_text.specs.declared.code.Code.{Code}
+use Rattle.crx_text.specs.declared.fault.Fault.{Fault}
+use Rattle.crx_text.specs.declared.fault.Fault.TheVariants.{BadField}
+use Rattle.crx_rinex.specs.Observations.{Row}
+use Rattle.crx_compact.specs.Sequences.{and_then, before_all}
+use Rattle.crx_compact.specs.CompactPlaces.{ReadCell, cell_read, cells_read, cells_of, after_cells}
+use Rattle.crx_compact.specs.Tails.{ArcTail}
+use Rattle.crx_compact.specs.Steps.{arc_of_code}
+use Rattle.crx_compact.specs.Cells.{value_at_place, arcs_of_codes, AreRead}
+
+-- some cells before those of a good result
+abbrev pub onto : List ReadCell → Result (List ReadCell) Fault → Result (List ReadCell) Fault
+onto [] r = r
+onto (c ∷ cs) r = before_all c (onto cs r)
+
+onto-ok : (cs : List ReadCell) → onto cs (Ok []) ≡ Ok cs
+onto-ok [] = refl
+onto-ok (c ∷ cs) = ap (before_all c) (onto-ok cs)
+
+onto-err : (cs : List ReadCell) (fault : Fault) → onto cs (Err fault) ≡ Err fault
+onto-err [] fault = refl
+onto-err (c ∷ cs) fault = ap (before_all c) (onto-err cs fault)
+
+onto-more : (cs : List ReadCell) (c : ReadCell) (r : Result (List ReadCell) Fault) → onto (cs ++ c ∷ []) r ≡ onto cs (before_all c r)
+onto-more [] c r = refl
+onto-more (d ∷ ds) c r = ap (before_all d) (onto-more ds c r)
+
+-- ---- the same values at each place read the same
+
+abbrev Values : Type 0
+Values = ℕ → Code → Result (Option ℤ) Fault
+
+cell-same : (f g : Code → Result (Option ℤ) Fault) → ((c : Code) → f c ≡ g c) → (code : Option Code) → cell_read BadField f code ≡ cell_read BadField g code
+cell-same f g h None = refl
+cell-same f g h (Some code) = ap {B = Result ReadCell Fault} (λ r. and_then r (λ value. Ok (record { code = code; value = value }))) (h code)
+
+pub cells-same : (f g : Values) → ((place : ℕ) (c : Code) → f place c ≡ g place c) → (texts : List (List ℕ)) → cells_read f texts ≡ cells_read g texts
+cells-same f g h [] = refl
+cells-same f g h (text ∷ texts) =
+    ap {B = Result (List ReadCell) Fault} (λ r. and_then r (λ cell. before_all cell (cells_read (λ place. f (suc place)) texts))) (cell-same (f 0) (g 0) (h 0) (code_of text))
+    ∙ ap {B = Result (List ReadCell) Fault} (λ r. and_then (cell_read BadField (g 0) (code_of text)) (λ cell. before_all cell r)) (cells-same (λ place. f (suc place)) (λ place. g (suc place)) (λ place c. h (suc place) c) texts)
+
+-- ---- one cell more
+
+arcs-more : (before : List (Option ArcTail)) (codes : List Code) (code : Code)
+    → arcs_of_codes before (codes ++ code ∷ []) ≡ arcs_of_codes before codes ++ arc_of_code code (slice_index_or before (length codes) None) ∷ []
+arcs-more before [] code = refl
+arcs-more [] (c ∷ cs) code = ap {B = List (Option ArcTail)} (λ r. arc_of_code c None ∷ r) (arcs-more [] cs code)
+arcs-more (b ∷ bs) (c ∷ cs) code = ap {B = List (Option ArcTail)} (λ r. arc_of_code c b ∷ r) (arcs-more bs cs code)
+
+map-more : {X Y : Type 0} (f : X → Y) (xs : List X) (x : X) → map f (xs ++ x ∷ []) ≡ map f xs ++ f x ∷ []
+map-more f [] x = refl
+map-more f (y ∷ ys) x = ap (λ zs. f y ∷ zs) (map-more f ys x)
+
+length-map : {X Y : Type 0} (f : X → Y) (xs : List X) → length (map f xs) ≡ length xs
+length-map f [] = refl
+length-map f (x ∷ xs) = ap suc (length-map f xs)
+
+-- the next of some values that are missing so far
+set-next : (xs ys : List (Option ℤ)) (d v : Option ℤ) → slice_set (xs ++ d ∷ ys) (length xs) v ≡ (xs ++ v ∷ []) ++ ys
+set-next [] ys d v = refl
+set-next (x ∷ xs) ys d v = ap {B = List (Option ℤ)} (λ r. x ∷ r) (set-next xs ys d v)
+
+abbrev codes_in : List ReadCell → List Code
+codes_in cells = map (λ (c : ReadCell). c.code) cells
+
+abbrev values_in : List ReadCell → List (Option ℤ)
+values_in cells = map (λ (c : ReadCell). c.value) cells
+
+-- the cells up to a place are read
+pub record ReadSoFar (before : List (Option ArcTail)) (count : ℕ) (line : List ℕ) (k at : ℕ) (arcs : List (Option ArcTail)) (old new : Row) : Type 0 where
+  pub cells : List ReadCell
+  pub counted : length cells ≡ k
+  pub so_far : cells_read (value_at_place before) (cells_of count line) ≡ onto cells (cells_read (λ p. value_at_place before (k + p)) (cells_of (count - k) (drop at line)))
+  pub marks : after_cells count line ≡ after_cells (count - k) (drop at line)
+  pub within : at ≤ length line
+  pub left : arcs ≡ arcs_of_codes before (map (λ (c : ReadCell). c.code) cells)
+  pub shown : new ≡ record old { values = map (λ (c : ReadCell). c.value) cells ++ replicate (count - k) None }
+
+-- what stands at a place: the text of its cell, and the rest
+at-next : (before : List (Option ArcTail)) (count : ℕ) (line : List ℕ) (k at : ℕ) (arcs : List (Option ArcTail)) (old new : Row) (s : ReadSoFar before count line k at arcs old new)
+    → k < count → (code : Option Code) → code_of (first_cell (drop at line)) ≡ code
+    → cells_read (value_at_place before) (cells_of count line)
+    ≡ onto s.cells (and_then (cell_read BadField (value_at_place before k) code) (λ cell.
+    before_all cell (cells_read (λ p. value_at_place before (k + 1 + p)) (cells_of (count - (k + 1)) (after_cell (drop at line))))))
+at-next before count line k at arcs old new s h code e =
+    let n : ℕ = count - (k + 1) in
+    let more : count - k ≡ suc n = omega arith in
+    let here : k + 0 ≡ k = omega arith in
+    let rest : List (List ℕ) = cells_of n (after_cell (drop at line)) in
+    s.so_far
+    ∙ ap (λ m. onto s.cells (cells_read (λ p. value_at_place before (k + p)) (cells_of m (drop at line)))) more
+    ∙ ap (λ m. onto s.cells (and_then (cell_read BadField (value_at_place before m) (code_of (first_cell (drop at line)))) (λ cell. before_all cell (cells_read (λ p. value_at_place before (k + suc p)) rest)))) here
+    ∙ ap (λ (r : Result (List ReadCell) Fault). onto s.cells (and_then (cell_read BadField (value_at_place before k) (code_of (first_cell (drop at line)))) (λ cell. before_all cell r)))
+    (cells-same (λ p. value_at_place before (k + suc p)) (λ p. value_at_place before (k + 1 + p)) (λ p c. ap (λ m. value_at_place before m c) (omega arith)) rest)
+    ∙ ap (λ (o : Option Code). onto s.cells (and_then (cell_read BadField (value_at_place before k) o) (λ cell. before_all cell (cells_read (λ p. value_at_place before (k + 1 + p)) rest)))) e
+
+pub read-misspelt : (before : List (Option ArcTail)) (count : ℕ) (line : List ℕ) (k at : ℕ) (arcs : List (Option ArcTail)) (old new : Row) → ReadSoFar before count line k at arcs old new
+    → k < count → code_of (first_cell (drop at line)) ≡ None → cells_read (value_at_place before) (cells_of count line) ≡ Err BadField
+read-misspelt before count line k at arcs old new s h e = at-next before count line k at arcs old new s h None e ∙ onto-err s.cells BadField
+
+pub read-fault : (before : List (Option ArcTail)) (count : ℕ) (line : List ℕ) (k at : ℕ) (arcs : List (Option ArcTail)) (old new : Row) (code : Code) (fault : Fault)
+    → ReadSoFar before count line k at arcs old new → k < count → code_of (first_cell (drop at line)) ≡ Some code → value_at_place before k code ≡ Err fault
+    → cells_read (value_at_place before) (cells_of count line) ≡ Err fault
+read-fault before count line k at arcs old new code fault s h e v =
+    let rest : Result (List ReadCell) Fault = cells_read (λ p. value_at_place before (k + 1 + p)) (cells_of (count - (k + 1)) (after_cell (drop at line))) in
+    at-next before count line k at arcs old new s h (Some code) e
+    ∙ ap (λ (r : Result (Option ℤ) Fault). onto s.cells (and_then (and_then r (λ value. Ok (record { code = code; value = value }))) (λ cell. before_all cell rest))) v
+    ∙ onto-err s.cells fault
+
+pub read-more : (before : List (Option ArcTail)) (count : ℕ) (line : List ℕ) (k at at' : ℕ) (arcs arcs' : List (Option ArcTail)) (old new new' : Row) (code : Code) (value : Option ℤ) (arc : Option ArcTail)
+    → ReadSoFar before count line k at arcs old new → k < count → code_of (first_cell (drop at line)) ≡ Some code → value_at_place before k code ≡ Ok value
+    → after_cell (drop at line) ≡ drop at' line → at' ≤ length line
+    → arc ≡ arc_of_code code (slice_index_or before k None) → arcs' ≡ arcs ++ arc ∷ [] → new' ≡ record new { values = slice_set new.values k value }
+    → ReadSoFar before count line (k + 1) at' arcs' old new'
+read-more before count line k at at' arcs arcs' old new new' code value arc s h e v t w a l r =
+    let n : ℕ = count - (k + 1) in
+    let c : ReadCell = record { code = code; value = value } in
+    let more : count - k ≡ suc n = omega arith in
+    let rest : Result (List ReadCell) Fault = cells_read (λ p. value_at_place before (k + 1 + p)) (cells_of n (after_cell (drop at line))) in
+    record {
+      cells = s.cells ++ c ∷ [];
+      counted = let count' : length s.cells ≡ k = s.counted in omega (arith, length-append s.cells (c ∷ []), count');
+      so_far =
+          at-next before count line k at arcs old new s h (Some code) e
+          ∙ ap (λ (q : Result (Option ℤ) Fault). onto s.cells (and_then (and_then q (λ x. Ok (record { code = code; value = x }))) (λ cell. before_all cell rest))) v
+          ∙ sym (onto-more s.cells c rest)
+          ∙ ap (λ text. onto (s.cells ++ c ∷ []) (cells_read (λ p. value_at_place before (k + 1 + p)) (cells_of n text))) t;
+      marks = s.marks ∙ ap (λ m. after_cells m (drop at line)) more ∙ ap (after_cells n) t;
+      within = w;
+      left =
+          l ∙ ap (λ xs. xs ++ arc ∷ []) s.left
+          ∙ ap {B = List (Option ArcTail)} (λ x. arcs_of_codes before (codes_in s.cells) ++ x ∷ []) (a ∙ ap (λ m. arc_of_code code (slice_index_or before m None)) (sym s.counted ∙ sym (length-map (λ (q : ReadCell). q.code) s.cells)))
+          ∙ sym (arcs-more before (codes_in s.cells) code)
+          ∙ ap (arcs_of_codes before) (sym (map-more (λ (q : ReadCell). q.code) s.cells c));
+      shown =
+          r ∙ ap {B = Row} (λ (q : Row). record q { values = slice_set q.values k value }) s.shown
+          ∙ ap {B = Row} (λ m. record old { values = slice_set (values_in s.cells ++ replicate m None) k value }) more
+          ∙ ap {B = Row} (λ m. record old { values = slice_set (values_in s.cells ++ replicate (suc n) None) m value }) (sym s.counted ∙ sym (length-map (λ (q : ReadCell). q.value) s.cells))
+          ∙ ap {B = Row} (λ vs. record old { values = vs }) (set-next (values_in s.cells) (replicate n None) None value)
+          ∙ ap {B = Row} (λ vs. record old { values = vs ++ replicate n None }) (sym (map-more (λ (q : ReadCell). q.value) s.cells c));
+    }
+
+pub read-none : (before : List (Option ArcTail)) (count : ℕ) (line : List ℕ) (row : Row) → row.values ≡ replicate count None → ReadSoFar before count line 0 0 [] row row
+read-none before count line row e =
+    let all : count - 0 ≡ count = omega arith in
+    record {
+      cells = [];
+      counted = refl;
+      so_far =
+          cells-same (value_at_place before) (λ p. value_at_place before (0 + p)) (λ p c. ap (λ m. value_at_place before m c) (omega arith)) (cells_of count line)
+          ∙ ap (λ m. cells_read (λ p. value_at_place before (0 + p)) (cells_of m line)) (sym all);
+      marks = ap (λ m. after_cells m line) (sym all);
+      within = omega arith;
+      left = refl;
+      shown = ap {B = Row} (λ vs. record row { values = vs }) (e ∙ ap {B = List (Option ℤ)} (λ m. replicate m None) (sym all));
+    }
+
+pub read-all : (before : List (Option ArcTail)) (count : ℕ) (line : List ℕ) (k at : ℕ) (arcs : List (Option ArcTail)) (old new : Row) → ReadSoFar before count line k at arcs old new
+    → k ≡ count → AreRead before count line arcs old new at
+read-all before count line k at arcs old new s e =
+    let none : count - k ≡ 0 = omega arith in
+    record {
+      cells = s.cells;
+      good = s.so_far ∙ ap (λ m. onto s.cells (cells_read (λ p. value_at_place before (k + p)) (cells_of m (drop at line)))) none ∙ onto-ok s.cells;
+      marks = s.marks ∙ ap (λ m. after_cells m (drop at line)) none;
+      within = s.within;
+      left = s.left;
+      shown = s.shown ∙ ap {B = Row} (λ m. record old { values = values_in s.cells ++ replicate m None }) none ∙ ap {B = Row} (λ vs. record old { values = vs }) (append-nil (values_in s.cells));
+    }

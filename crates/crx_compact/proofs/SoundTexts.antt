@@ -1,0 +1,81 @@
+-- The text of an epoch as the reader of RINEX makes it: how long it is, and of which characters.
+use Rattle.std.specs.Prelude.{◌≡◌, ◌≤◌, refl, ℕ, suc, ◌*◌, true, false, ◌&&◌, if◌then◌else◌, List, [], ◌∷◌, length, take, flat_map, All}
+use Rattle.std.specs.List.{list_all}
+use Rattle.std.proofs.Common.{ap, arith, length-append, ◌∙◌, sym}
+use Rattle.crx_text.specs.declared.limits.TheConstants.{LINE_LIMIT}
+use Rattle.crx_text.specs.Columns.{character_at}
+use Rattle.crx_rinex.specs.Observations.{Row, Epoch}
+use Rattle.crx_rinex.specs.EpochLines.{ObservationHead, IsObservationHead, begins_epoch, is_observation_flag, is_kept, satellites_in}
+use Rattle.crx_rinex.specs.Epochs.{IsSoundEpoch}
+use Rattle.crx_rinex.specs.SatelliteLines.{IsSoundRow}
+use Rattle.crx_compact.specs.Cells.{AreHeldFlags}
+use Rattle.crx_compact.specs.Compaction.{epoch_text}
+use Rattle.crx_compact.proofs.Facts.{and_right, if_some, list_all-append, list_all-at, list_all-from_at, length-trimmed}
+use Rattle.crx_compact.proofs.Overlays.{at, at-without_end_blanks, at-by_position, same_characters}
+use Rattle.crx_text.specs.Columns.{is_blank, without_end_blanks, before_end_blanks}
+use Rattle.crx_text.specs.Texts.{by_position, mark_of, text_difference}
+use Rattle.crx_compact.proofs.Writable.{length-is, name-kept}
+
+abbrev names : List Row → List ℕ
+names rows = flat_map (λ (r : Row). r.name) rows
+
+names-length : (rows : List Row) → All IsSoundRow rows → length (names rows) ≡ 3 * length rows
+names-length [] h = refl
+names-length (r ∷ rs) h =
+    let first : length r.name ≡ 3 = length-is r.name (h 0 r (omega arith)).named in
+    let rest : length (names rs) ≡ 3 * length rs = names-length rs (λ i d less. h (suc i) d (omega (arith, less))) in
+    omega (arith, first, rest, length-append r.name (names rs))
+
+names-kept : (rows : List Row) → All IsSoundRow rows → list_all is_kept (names rows) ≡ true
+names-kept [] h = refl
+names-kept (r ∷ rs) h =
+    let sound : IsSoundRow r = h 0 r (omega arith) in
+    list_all-append is_kept r.name (names rs) (name-kept r.name (length-is r.name sound.named) sound.named)
+    (names-kept rs (λ i d less. h (suc i) d (omega (arith, less))))
+
+pub text-fits : (e : Epoch) → IsSoundEpoch e → length (epoch_text e) ≤ LINE_LIMIT
+text-fits e h =
+    let width : length e.head ≡ 41 = h.head_sound.width in
+    let few = h.head_sound.within in
+    omega (arith, width, few, h.within, names-length e.rows h.rows_sound, length-append e.head (names e.rows))
+
+head-kept : (head : ObservationHead) → IsObservationHead head → list_all is_kept head.head ≡ true
+head-kept head h =
+    and_right (begins_epoch head.head && is_observation_flag (character_at head.head 32)) (list_all is_kept head.head)
+    (if_some (begins_epoch head.head && is_observation_flag (character_at head.head 32) && list_all is_kept head.head) (satellites_in head.head) head.count h.counted)
+
+pub text-plain : (e : Epoch) → IsSoundEpoch e → list_all is_kept (epoch_text e) ≡ true
+text-plain e h = list_all-append is_kept e.head (names e.rows) (head-kept _ h.head_sound) (names-kept e.rows h.rows_sound)
+
+-- ---- blanks at the end
+
+-- a text without the blanks at its end is its beginning
+pub beginning-trimmed : (text : List ℕ) → take (length (without_end_blanks text)) text ≡ without_end_blanks text
+beginning-trimmed [] = refl
+beginning-trimmed (c ∷ cs) = begun c (without_end_blanks cs) cs (beginning-trimmed cs)
+  where
+    begun : (c : ℕ) (front cs : List ℕ) → take (length front) cs ≡ front → take (length (before_end_blanks c front)) (c ∷ cs) ≡ before_end_blanks c front
+    begun c [] cs e = elim (is_blank c) as (λ b. take (length (if b then [] else c ∷ [])) (c ∷ cs) ≡ (if b then [] else c ∷ [])) [ true ↦ refl | false ↦ refl ]
+    begun c (d ∷ ds) cs e = ap (λ r. c ∷ r) e
+
+pub trimmed-fits : (e : Epoch) → IsSoundEpoch e → length (without_end_blanks (epoch_text e)) ≤ LINE_LIMIT
+trimmed-fits e h = omega (arith, length-trimmed (epoch_text e), text-fits e h)
+
+pub trimmed-plain : (e : Epoch) → IsSoundEpoch e → list_all is_kept (without_end_blanks (epoch_text e)) ≡ true
+trimmed-plain e h = list_all-from_at is_kept (without_end_blanks (epoch_text e)) (λ k. ap is_kept (at-without_end_blanks (epoch_text e) k) ∙ list_all-at is_kept refl (epoch_text e) (text-plain e h) k)
+
+-- a difference doesn't see the blanks at the end of the new text
+pub difference-trimmed : (old new : List ℕ) → text_difference old (without_end_blanks new) ≡ text_difference old new
+difference-trimmed old new =
+    same_characters (by_position mark_of old (without_end_blanks new)) (by_position mark_of old new) (λ p.
+    at-by_position mark_of refl old (without_end_blanks new) p ∙ ap (mark_of (at old p)) (at-without_end_blanks new p) ∙ sym (at-by_position mark_of refl old new p))
+
+-- ---- indicators
+
+pub flags-held : (row : Row) → IsSoundRow row → AreHeldFlags (without_end_blanks row.flags)
+flags-held row h =
+    let few = h.counted.1 in
+    record {
+      within = omega (arith, length-trimmed row.flags, h.paired, few);
+      kept = list_all-from_at is_kept (without_end_blanks row.flags) (λ k. ap is_kept (at-without_end_blanks row.flags k) ∙ list_all-at is_kept refl row.flags h.kept k);
+    }

@@ -1,0 +1,98 @@
+use Rattle.std.proofs.Common.{rules, ◌≡◌, ◌<◌, ◌+◌, ℕ, List, ℤ, Bool, to_z, of_z, true, false, length, min, take, sym, ap, ◌∙◌, arith, FitsSigned, w64, Some, Result, Ok, Err, Option}
+use Rattle.std.specs.Prelude.{if◌then◌else◌}
+use Rattle.crx_text.specs.declared.fault.Fault.{Fault}
+use Rattle.crx_text.specs.declared.fault.Fault.TheVariants.{OutOfRange}
+use Rattle.crx_compact.specs.Differences.{newest}
+use Rattle.crx_compact.specs.Expansion.{is_within, in_range}
+use Rattle.crx_compact.specs.Steps.{differences_after, differences_by}
+use Rattle.crx_compact.specs.Arcs.{kept_tail}
+use Rattle.crx_compact.proofs.Bounds.{within-is}
+use Rattle.crx_compact.proofs.Running.{IsLast, StepsOn, same-bits, begun-list, begun-kept, lower-below, within-below, goes-on-kept, steps-on}
+use Rattle.crx_compact.proofs.arc.Arc.go_on_by_code.Goals as goal
+
+pub invariant_of-self-in-Start : goal.invariant_of-self-in-Start
+invariant_of-self-in-Start g c =
+    let some : 0 < length c.self.inside.differences = search rules in
+    let fits : FitsSigned w64 c.in-Start.value = search rules in
+    let is : is_within g.row.WIDTH c.in-Start.value ≡ true = ap (is_within g.row.WIDTH) (sym (same-bits _ fits)) ∙ sym c.is_within.ensures ∙ c.if-not-is_within.false in
+    let printable = rw c.in-Start.is at c.requires in
+    rw (same-bits _ fits) (begun-kept g.row.WIDTH c.in-Start.order c.self.inside.differences c.in-Start.value some c.self.invariant.few_columns printable.0 ((within-is _ _).0 is))
+
+pub returns-else-not-is_within-clause-ok : goal.returns-else-not-is_within-clause-ok
+returns-else-not-is_within-clause-ok g c =
+    let some : 0 < length c.self.inside.differences = search rules in
+    let fits : FitsSigned w64 c.in-Start.value = search rules in
+    rw (c.in-Start.is, same-bits _ fits) (ap (kept_tail c.in-Start.order) (begun-list c.self.inside.differences c.in-Start.value some))
+
+pub value_after-value-requires-clause-below : goal.value_after-value-requires-clause-below
+value_after-value-requires-clause-below g c =
+    let last : IsLast c.self.inside.order c.self.inside.count c.min-last.result = record { least = search rules } in
+    lower-below c.self.inside.order c.self.inside.count c.min-last.result c.self.inside.differences last c.self.invariant.below
+
+-- what the number of a next code leads to
+stepped : (width order count last : ℕ) (number value : ℤ) (ds : List ℤ) → last ≡ min order count → 0 < count → length ds ≡ 10
+    → value ≡ newest (differences_by (to_z w64 (of_z w64 number)) (take last ds)) → FitsSigned w64 number → StepsOn width order count last number value ds
+stepped width order count last number value ds e h l v f =
+    steps-on width order count last number value ds (record { least = e }) h (omega arith)
+    (v ∙ ap (λ x. newest (differences_by x (take last ds))) (same-bits number f))
+
+refused : (width : ℕ) (value : ℤ) (b : Bool) → b ≡ is_within width (to_z w64 (of_z w64 value)) → b ≡ false → FitsSigned w64 value → Err OutOfRange ≡ in_range width value
+refused width value b e h f =
+    let out : is_within width value ≡ false = ap (is_within width) (sym (same-bits value f)) ∙ sym e ∙ h in
+    ap {B = Result (Option ℤ) Fault} (λ t. if t then Ok (Some value) else Err OutOfRange) (sym out)
+
+accepted : (width : ℕ) (value : ℤ) (b : Bool) → b ≡ is_within width (to_z w64 (of_z w64 value)) → b ≡ true → FitsSigned w64 value → is_within width value ≡ true
+accepted width value b e h f = ap (is_within width) (sym (same-bits value f)) ∙ sym e ∙ h
+
+pub returns-then-not-is_within-2-clause-value : goal.returns-then-not-is_within-2-clause-value
+returns-then-not-is_within-2-clause-value g c =
+    let fits : FitsSigned w64 c.in-Step.number = search rules in
+    let fits' : FitsSigned w64 c.value_after-value.result = search rules in
+    let more : 0 < c.self.inside.count = search rules in
+    let on : StepsOn g.row.WIDTH c.self.inside.order c.self.inside.count c.min-last.result c.in-Step.number c.value_after-value.result c.self.inside.differences =
+    stepped _ _ _ _ _ _ _ c.min-last.ensures more c.self.told c.value_after-value.ensures fits in
+    rw (c.in-Step.is, ← c.self.view_is)
+    (refused g.row.WIDTH c.value_after-value.result _ c.is_within-in-Step.ensures c.if-not-is_within-2.true fits' ∙ on.value_is)
+
+pub go_on-requires-clause-below : goal.go_on-requires-clause-below
+go_on-requires-clause-below g c =
+    let last : IsLast c.self.inside.order c.self.inside.count c.min-last.result = record { least = search rules } in
+    lower-below c.self.inside.order c.self.inside.count c.min-last.result c.self.inside.differences last c.self.invariant.below
+
+pub go_on-requires-clause-next : goal.go_on-requires-clause-next
+go_on-requires-clause-next g c =
+    let fits' : FitsSigned w64 c.value_after-value.result = search rules in
+    let is : is_within g.row.WIDTH c.value_after-value.result ≡ true = accepted g.row.WIDTH _ _ c.is_within-in-Step.ensures c.if-not-is_within-2.false fits' in
+    rw (same-bits _ fits') (within-below g.row.WIDTH c.value_after-value.result c.self.invariant.few_columns ((within-is _ _).0 is))
+
+pub invariant_of-self-in-Step : goal.invariant_of-self-in-Step
+invariant_of-self-in-Step g c =
+    let last : IsLast c.self.inside.order c.self.inside.count c.min-last.result = record { least = c.min-last.ensures } in
+    let fits' : FitsSigned w64 c.value_after-value.result = search rules in
+    let is : is_within g.row.WIDTH c.value_after-value.result ≡ true = accepted g.row.WIDTH _ _ c.is_within-in-Step.ensures c.if-not-is_within-2.false fits' in
+    let after : take (c.min-last.result + 1) c.go_on.new.differences ≡ differences_after c.value_after-value.result (take c.min-last.result c.self.inside.differences) =
+    rw (same-bits _ fits') at c.go_on.ensures.after in
+    goes-on-kept g.row.WIDTH c.self.inside.order c.self.inside.count c.min-last.result c.self.inside.differences c.go_on.new.differences c.value_after-value.result last
+    c.self.invariant ((within-is _ _).0 is) after
+
+pub returns-else-not-is_within-2-clause-value : goal.returns-else-not-is_within-2-clause-value
+returns-else-not-is_within-2-clause-value g c =
+    let fits : FitsSigned w64 c.in-Step.number = search rules in
+    let fits' : FitsSigned w64 c.value_after-value.result = search rules in
+    let more : 0 < c.self.inside.count = search rules in
+    let on : StepsOn g.row.WIDTH c.self.inside.order c.self.inside.count c.min-last.result c.in-Step.number c.value_after-value.result c.self.inside.differences =
+    stepped _ _ _ _ _ _ _ c.min-last.ensures more c.self.told c.value_after-value.ensures fits in
+    let is : is_within g.row.WIDTH c.value_after-value.result ≡ true = accepted g.row.WIDTH _ _ c.is_within-in-Step.ensures c.if-not-is_within-2.false fits' in
+    let given : Ok (Some c.value_after-value.result) ≡ in_range g.row.WIDTH c.value_after-value.result =
+    ap {B = Result (Option ℤ) Fault} (λ t. if t then Ok (Some c.value_after-value.result) else Err OutOfRange) (sym is) in
+    rw (c.in-Step.is, ← c.self.view_is, same-bits _ fits') (given ∙ on.value_is)
+
+pub returns-else-not-is_within-2-clause-ok : goal.returns-else-not-is_within-2-clause-ok
+returns-else-not-is_within-2-clause-ok g c =
+    let fits : FitsSigned w64 c.in-Step.number = search rules in
+    let fits' : FitsSigned w64 c.value_after-value.result = search rules in
+    let more : 0 < c.self.inside.count = search rules in
+    let on : StepsOn g.row.WIDTH c.self.inside.order c.self.inside.count c.min-last.result c.in-Step.number c.value_after-value.result c.self.inside.differences =
+    stepped _ _ _ _ _ _ _ c.min-last.ensures more c.self.told c.value_after-value.ensures fits in
+    rw (c.in-Step.is, ← c.self.view_is)
+    (ap (kept_tail c.self.inside.order) (rw (same-bits _ fits') at c.go_on.ensures.after) ∙ on.tail)

@@ -1,0 +1,5 @@
+use Rattle.crx_compact.proofs.CellsRead.{ReadSoFar}
+use Rattle.crx_compact.proofs.held.read_cells.Given as goal
+
+abbrev pub invariant-loop-place : goal.invariant-loop-place
+invariant-loop-place l = ReadSoFar l.before l.count l.line l.place l.at l.arcs.items l.initial.row l.row

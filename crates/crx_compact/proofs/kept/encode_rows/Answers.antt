@@ -1,0 +1,41 @@
+use Rattle.std.proofs.Common.{◌++◌, ◌∷◌, [], List, ℕ, Option, sym, ap, ◌∙◌, arith}
+use Rattle.std.proofs.lemmas.List.{take_more_set, length-set}
+use Rattle.crx_text.specs.Columns.{without_end_blanks}
+use Rattle.crx_rinex.specs.Observations.{Row}
+use Rattle.crx_compact.specs.Tails.{RowTail}
+use Rattle.crx_compact.specs.Sequences.{named}
+use Rattle.crx_compact.specs.Compaction.{line_of_codes}
+use Rattle.crx_compact.specs.Steps.{codes_after, flags_of_tail, row_tail_after}
+use Rattle.crx_compact.specs.Cells.{row_line_after, row_tail_in}
+use Rattle.crx_compact.proofs.Making.{made-more, made-all}
+use Rattle.crx_compact.proofs.kept.encode_rows.Goals as goal
+
+abbrev line_after : Option RowTail → Row → List ℕ
+line_after before row = line_of_codes (codes_after before row) (flags_of_tail before) row.flags
+
+pub loop-row-preserved : goal.loop-row-preserved
+loop-row-preserved c =
+    let index : ℕ = c.loop-row.index in
+    let row : Row = c.in-Some.row.now in
+    let before : List RowTail = c.args.before.now in
+    let found = c.find.ensures ∙ ap (λ (name : List ℕ). named (λ (r : RowTail). r.name) name before) c.name.ensures.value in
+    let room = c.in_ok-make_room.ensures.room in
+    record {
+      within = omega (arith, room, length-set {A = RowTail});
+      left =
+          made-more (row_tail_in before) [] c.args.epoch.now.rows index row _ _ c.encode.new.self c.loop-row.invariant.left (sym c.in-Some.ensures.value)
+          (take_more_set c.make_room.new.satellites.items index c.encode.new.self room ∙ ap (λ xs. xs ++ c.encode.new.self ∷ []) c.make_room.ensures.same)
+          (c.in_ok-encode.ensures.after ∙ ap (λ (kept : Option RowTail). row_tail_after kept row) found);
+      lent =
+          made-more (row_line_after before) c.args.lines.now c.args.epoch.now.rows index row _ _ (without_end_blanks c.encode.new.desk.line.items) c.loop-row.invariant.lent (sym c.in-Some.ensures.value)
+          c.in_ok-end_line.ensures
+          (c.in_ok-encode.ensures.line ∙ ap (λ (kept : Option RowTail). line_after kept row) found);
+    }
+
+pub returns-clause-after : goal.returns-clause-after
+returns-clause-after c =
+    c.truncate.ensures.items ∙ made-all (row_tail_in c.args.before.now) [] c.args.epoch.now.rows c.loop-row.index _ c.loop-row.invariant.left (sym c.in_default.ensures.value)
+
+pub returns-clause-lines : goal.returns-clause-lines
+returns-clause-lines c =
+    made-all (row_line_after c.args.before.now) c.args.lines.now c.args.epoch.now.rows c.loop-row.index c.loop-row.lines c.loop-row.invariant.lent (sym c.in_default.ensures.value)

@@ -1,0 +1,70 @@
+-- A row's cells after the arcs of its satellite in the epoch before.
+use Rattle.std.specs.Prelude.{◌≡◌, ◌≤◌, ℕ, ℤ, true, List, length, map, drop, slice_index_or, Option, None, Result, Ok}
+use Rattle.std.specs.List.{list_all}
+use Rattle.crx_text.specs.declared.limits.TheConstants.{LINE_LIMIT, OBSERVATION_WIDTH}
+use Rattle.crx_text.specs.declared.code.Code.TheVariants.{Missing}
+use Rattle.crx_text.specs.declared.fault.Fault.{Fault}
+use Rattle.crx_compact.specs.CompactPlaces.{ReadCell, cells_read, cells_of, after_cells}
+use Rattle.crx_rinex.specs.EpochLines.{is_kept}
+use Rattle.crx_rinex.specs.ObservationTypes.{IsAllowedCount}
+use Rattle.crx_rinex.specs.SatelliteLines.{is_identifier}
+use Rattle.crx_compact.specs.EpochText.{Satellite}
+use Rattle.crx_rinex.specs.Observations.{Row}
+use Rattle.crx_text.specs.declared.code.Code.{Code}
+use Rattle.crx_compact.specs.Sequences.{each_place, named}
+use Rattle.crx_compact.specs.Tails.{ArcTail, RowTail}
+use Rattle.crx_compact.specs.Compaction.{value_in, line_of_codes}
+use Rattle.crx_compact.specs.Steps.{arc_of_code, arc_of_value, code_of_value, value_of_code, codes_after, flags_of_tail, row_tail_after}
+
+-- the arc and the code of the cell at a place, the arcs before being given; a place past them has none
+abbrev pub arc_at_place : List (Option ArcTail) → Row → ℕ → Option ArcTail
+arc_at_place before row place = arc_of_value (value_in place row) (slice_index_or before place None)
+
+abbrev pub code_at_place : List (Option ArcTail) → Row → ℕ → Code
+code_at_place before row place = code_of_value (value_in place row) (slice_index_or before place None)
+
+-- those of all cells
+abbrev pub arcs_of_row : List (Option ArcTail) → Row → List (Option ArcTail)
+arcs_of_row before row = each_place (length row.values) (arc_at_place before row)
+
+abbrev pub codes_of_row : List (Option ArcTail) → Row → List Code
+codes_of_row before row = each_place (length row.values) (code_at_place before row)
+
+-- what a row leaves, and its line, what was kept of the satellites before being given
+abbrev pub row_tail_in : List RowTail → Row → RowTail
+row_tail_in before row = row_tail_after (named (λ (r : RowTail). r.name) row.name before) row
+
+abbrev pub row_line_after : List RowTail → Row → List ℕ
+row_line_after before row =
+    let kept : Option RowTail = named (λ (r : RowTail). r.name) row.name before in
+    line_of_codes (codes_after kept row) (flags_of_tail kept) row.flags
+
+-- indicators that may be kept: no more than a line holds, of the characters that may stand there
+pub record AreHeldFlags (flags : List ℕ) : Type 0 where
+  pub within : length flags ≤ LINE_LIMIT
+  pub kept : list_all is_kept flags ≡ true
+
+-- a satellite whose line may be awaited: its identifier is spelt as one, and it has as many types as a system may have
+pub record IsAwaited (satellite : Satellite) : Type 0 where
+  pub named : is_identifier satellite.name ≡ true
+  pub counted : IsAllowedCount satellite.count
+
+-- ---- reading
+
+-- the value that a code gives at a place, the arcs before being given
+abbrev pub value_at_place : List (Option ArcTail) → ℕ → Code → Result (Option ℤ) Fault
+value_at_place before place code = value_of_code OBSERVATION_WIDTH code (slice_index_or before place None)
+
+-- the arcs that codes leave
+abbrev pub arcs_of_codes : List (Option ArcTail) → List Code → List (Option ArcTail)
+arcs_of_codes before codes = each_place (length codes) (λ place. arc_of_code (slice_index_or codes place Missing) (slice_index_or before place None))
+
+-- the cells of a line for so many types: their values in a row that had none, the arcs that they leave, and where the marks
+-- begin
+pub record AreRead (before : List (Option ArcTail)) (count : ℕ) (line : List ℕ) (arcs : List (Option ArcTail)) (old new : Row) (at : ℕ) : Type 0 where
+  pub cells : List ReadCell
+  pub good : cells_read (value_at_place before) (cells_of count line) ≡ Ok cells
+  pub marks : after_cells count line ≡ drop at line
+  pub within : at ≤ length line
+  pub left : arcs ≡ arcs_of_codes before (map (λ (c : ReadCell). c.code) cells)
+  pub shown : new ≡ record old { values = map (λ (c : ReadCell). c.value) cells }

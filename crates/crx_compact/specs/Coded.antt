@@ -1,0 +1,7 @@
+-- An epoch and the compact lines of it that are still to be lent.
+use Rattle.std.specs.Prelude.{ℕ, List}
+use Rattle.crx_rinex.specs.Observations.{Epoch}
+
+pub record CodedEpoch : Type 0 where
+  pub epoch : Epoch
+  pub lines : List (List ℕ)

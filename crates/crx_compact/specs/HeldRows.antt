@@ -1,0 +1,57 @@
+-- A satellite's line read after what was kept of the satellite in the epoch before.
+use Rattle.std.specs.Prelude.{◌≡◌, ℕ, ◌+◌, ◌++◌, ◌∷◌, take, List, [], Option, None, Some, Result, Ok}
+use Rattle.crx_text.specs.Texts.{patched}
+use Rattle.crx_text.specs.declared.fault.Fault.{Fault}
+use Rattle.crx_rinex.specs.Observations.{Row}
+use Rattle.crx_compact.specs.Sequences.{and_then}
+use Rattle.crx_compact.specs.EpochText.{Satellite}
+use Rattle.crx_compact.specs.Past.{Past}
+use Rattle.crx_compact.specs.CompactPlaces.{ReadRow, satellite_line_read}
+use Rattle.crx_compact.specs.Tails.{ArcTail, RowTail, Tail}
+use Rattle.crx_compact.specs.Steps.{flags_of_tail}
+use Rattle.crx_compact.specs.OpenEpochs.{HeldRow, held_row, past_of_tail}
+use Rattle.crx_compact.specs.Cells.{arcs_of_codes, value_at_place}
+
+-- the arcs that were kept of a satellite; none where it was absent
+abbrev pub arcs_of_tail : Option RowTail → List (Option ArcTail)
+arcs_of_tail None = []
+arcs_of_tail (Some kept) = kept.cells
+
+-- what a satellite's arcs and indicators give to its line; the epoch line and the clock line don't matter to it
+abbrev pub past_of_row : List (Option ArcTail) → List ℕ → Past
+past_of_row arcs flags =
+    record {
+      text = λ line. line;
+      clock = λ code. Ok None;
+      value = λ name place code. value_at_place arcs place code;
+      flags = λ name marks. patched flags marks;
+    }
+
+-- a row that was read, and what it leaves of its satellite
+abbrev pub held_from : List (Option ArcTail) → List ℕ → ReadRow → HeldRow
+held_from arcs flags read =
+    record {
+      row = read.row;
+      tail = record { name = read.raw.name; flags = patched flags read.raw.marks; cells = arcs_of_codes arcs read.raw.codes };
+    }
+
+-- what a satellite's line makes after its arcs and indicators, or its first fault
+abbrev pub row_held_from : List (Option ArcTail) → List ℕ → Satellite → List ℕ → Result HeldRow Fault
+row_held_from arcs flags satellite line =
+    and_then (satellite_line_read (past_of_row arcs flags) satellite line) (λ read. Ok (held_from arcs flags read))
+
+-- the same after what was kept of the satellite
+abbrev pub row_held : Option RowTail → Satellite → List ℕ → Result HeldRow Fault
+row_held kept satellite line = row_held_from (arcs_of_tail kept) (flags_of_tail kept) satellite line
+
+-- the same after what was kept of the whole epoch before
+abbrev pub row_after : Tail → Satellite → List ℕ → Result HeldRow Fault
+row_after tail satellite line = and_then (satellite_line_read (past_of_tail tail) satellite line) (λ read. Ok (held_row tail read))
+
+-- a row that was read after the epoch before: what it leaves stands after what the so many rows before it left
+pub record IsNextRow (before : Tail) (satellite : Satellite) (line : List ℕ) (index : ℕ) (row : Row) (old new : Tail) : Type 0 where
+  pub left : RowTail
+  pub read : row_after before satellite line ≡ Ok (record { row = row; tail = left })
+  pub rows : take (index + 1) new.rows ≡ take index old.rows ++ left ∷ []
+  pub text : new.text ≡ old.text
+  pub clock : new.clock ≡ old.clock

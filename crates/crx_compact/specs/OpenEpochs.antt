@@ -1,0 +1,190 @@
+-- Compact text read line by line, by the tail alone: what is held between two lines, and what one line more makes of it.
+use Rattle.std.specs.Prelude.{ℕ, suc, ℤ, Bool, true, false, List, [], ◌∷◌, ◌++◌, map, Option, Some, None, Result, Ok, Err, if◌then◌else◌, unwrap_or}
+use Rattle.std.specs.Option.{option_map}
+use Rattle.crx_text.specs.Columns.{columns}
+use Rattle.crx_text.specs.Texts.{patched}
+use Rattle.crx_text.specs.Seen.{ReadLine, Content, Overlong}
+use Rattle.crx_text.specs.declared.limits.TheConstants.{OBSERVATION_WIDTH, CLOCK_WIDTH, HEAD_WIDTH}
+use Rattle.crx_text.specs.declared.fault.Fault.{Fault}
+use Rattle.crx_text.specs.declared.fault.Fault.TheVariants.{LineTooLong, NotAnEpoch}
+use Rattle.crx_rinex.specs.Observations.{Row, Epoch}
+use Rattle.crx_rinex.specs.ObservationTypes.{Count}
+use Rattle.crx_rinex.specs.Places.{Place, Here, Wrong, Wanted}
+use Rattle.crx_compact.specs.Sequences.{and_then}
+use Rattle.crx_compact.specs.EpochText.{begins_epoch, Satellite}
+use Rattle.crx_compact.specs.Past.{Past}
+use Rattle.crx_compact.specs.CompactPlaces.{ReadCell, ReadRow, ReadEpoch, satellites_of_line, clock_line_read, satellite_line_read, epoch_against}
+use Rattle.crx_compact.specs.Tails.{ArcTail, RowTail, Tail}
+use Rattle.crx_compact.specs.Steps.{no_tail, tail_named, cell_of_tail, flags_of_tail, value_of_code, arc_of_code, raw_row_tail_after, raw_tail_after}
+
+-- ---- what a tail gives to the lines of the next epoch
+
+abbrev pub past_of_tail : Tail → Past
+past_of_tail tail =
+    record {
+      text = λ line. patched tail.text line;
+      clock = λ code. value_of_code CLOCK_WIDTH code tail.clock;
+      value = λ name place code. value_of_code OBSERVATION_WIDTH code (cell_of_tail place (tail_named name tail));
+      flags = λ name marks. patched (flags_of_tail (tail_named name tail)) marks;
+    }
+
+-- the tail that an epoch line is read after, where a tail is held or nothing: where it begins with >, all starts anew
+abbrev pub tail_for_line : Option Tail → List ℕ → Option Tail
+tail_for_line tail line = if begins_epoch line then Some no_tail else tail
+
+-- the observation epoch at the first of some lines, which begins no event, by the tail that is held, or nothing
+abbrev pub epoch_after : List Count → Option Tail → List ReadLine → Place ReadEpoch
+epoch_after types tail lines = epoch_against types (λ line. option_map past_of_tail (tail_for_line tail line)) lines
+
+-- ---- an epoch whose lines have come in part
+
+-- the clock's value, and what is left of its arc
+pub record HeldClock : Type 0 where
+  pub value : Option ℤ
+  pub arc : Option ArcTail
+
+-- a satellite's row, and what is left of the satellite
+pub record HeldRow : Type 0 where
+  pub row : Row
+  pub tail : RowTail
+
+-- an epoch, and what is left after it
+pub record HeldEpoch : Type 0 where
+  pub epoch : Epoch
+  pub tail : Tail
+
+-- an epoch whose epoch line has come, but not all its lines: the tail that they are read after, the epoch's text, the clock
+-- once its line has come, the rows so far, and the satellites whose lines are awaited
+pub record OpenRawEpoch : Type 0 where
+  pub before : Tail
+  pub text : List ℕ
+  pub clock : Option HeldClock
+  pub rows : List HeldRow
+  pub awaited : List Satellite
+
+-- what a line makes: an epoch that wants more lines, a whole epoch, or a fault
+pub data RawStep : Type 0 where
+  Going : OpenRawEpoch → RawStep
+  Whole : HeldEpoch → RawStep
+  Faulty : Fault → RawStep
+
+-- ---- the epoch line
+
+abbrev pub opened : List Count → List ℕ → Option Tail → Result OpenRawEpoch Fault
+opened types line None = Err NotAnEpoch
+opened types line (Some before) =
+    and_then (satellites_of_line types (past_of_tail before) line) (λ satellites.
+    Ok (record { before = before; text = patched before.text line; clock = None; rows = []; awaited = satellites }))
+
+abbrev pub opening : Result OpenRawEpoch Fault → RawStep
+opening (Ok begun) = Going begun
+opening (Err fault) = Faulty fault
+
+-- what an epoch line makes, by the tail that is held, or nothing
+abbrev pub first_step : List Count → Option Tail → ReadLine → RawStep
+first_step types tail Overlong = Faulty LineTooLong
+first_step types tail (Content line) = opening (opened types line (tail_for_line tail line))
+
+-- ---- the clock line and the satellite lines
+
+abbrev pub whole_epoch : OpenRawEpoch → HeldClock → List HeldRow → HeldEpoch
+whole_epoch begun clock rows =
+    record {
+      epoch = record { head = columns begun.text 1 HEAD_WIDTH; clock = clock.value; rows = map (λ (r : HeldRow). r.row) rows };
+      tail = record { text = begun.text; clock = clock.arc; rows = map (λ (r : HeldRow). r.tail) rows };
+    }
+
+-- an epoch with the clock and some rows: whole where no satellite is awaited
+abbrev pub gone_on : OpenRawEpoch → HeldClock → List HeldRow → List Satellite → RawStep
+gone_on begun clock rows [] = Whole (whole_epoch begun clock rows)
+gone_on begun clock rows (satellite ∷ awaited) = Going (record begun { clock = Some clock; rows = rows; awaited = satellite ∷ awaited })
+
+abbrev pub held_clock : Tail → ReadCell → HeldClock
+held_clock before cell = record { value = cell.value; arc = arc_of_code cell.code before.clock }
+
+abbrev pub held_row : Tail → ReadRow → HeldRow
+held_row before read = record { row = read.row; tail = raw_row_tail_after (tail_named read.raw.name before) read.raw }
+
+abbrev pub with_clock : OpenRawEpoch → Result ReadCell Fault → RawStep
+with_clock begun (Err fault) = Faulty fault
+with_clock begun (Ok cell) = gone_on begun (held_clock begun.before cell) begun.rows begun.awaited
+
+abbrev pub with_row : OpenRawEpoch → HeldClock → List Satellite → Result ReadRow Fault → RawStep
+with_row begun clock awaited (Err fault) = Faulty fault
+with_row begun clock awaited (Ok read) = gone_on begun clock (begun.rows ++ held_row begun.before read ∷ []) awaited
+
+-- the clock line first, then one line for each awaited satellite; where none is awaited, the epoch is whole
+abbrev pub line_step : OpenRawEpoch → Option HeldClock → List Satellite → List ℕ → RawStep
+line_step begun None awaited line = with_clock begun (clock_line_read (past_of_tail begun.before) line)
+line_step begun (Some clock) [] line = Whole (whole_epoch begun clock begun.rows)
+line_step begun (Some clock) (satellite ∷ awaited) line =
+    with_row begun clock awaited (satellite_line_read (past_of_tail begun.before) satellite line)
+
+-- what one line more makes of an open epoch
+abbrev pub next_step : OpenRawEpoch → ReadLine → RawStep
+next_step begun Overlong = Faulty LineTooLong
+next_step begun (Content line) = line_step begun begun.clock begun.awaited line
+
+-- ---- all lines so far
+
+-- another thing in place of the one that stands there
+abbrev pub placed_as : {X Y : Type 0} → (X → Y) → Place X → Place Y
+placed_as f (Here x count) = Here (f x) count
+placed_as f (Wrong offset fault) = Wrong offset fault
+placed_as f Wanted = Wanted
+
+-- what a read epoch leaves, where a tail was held or nothing
+abbrev pub held_after : Option Tail → ReadEpoch → HeldEpoch
+held_after tail read =
+    record { epoch = read.epoch; tail = raw_tail_after (unwrap_or (tail_for_line tail read.raw.line) no_tail) read.raw }
+
+-- what stands at some lines by the step that the last of them makes, so many standing before that one
+abbrev pub place_of_step : ℕ → RawStep → Place HeldEpoch
+place_of_step count (Going begun) = Wanted
+place_of_step count (Whole held) = Here held (suc count)
+place_of_step count (Faulty fault) = Wrong count fault
+
+-- what stands at some lines, step by step, the count of those before them being given
+abbrev pub place_of_steps : ℕ → RawStep → List ReadLine → Place HeldEpoch
+place_of_steps count (Going begun) [] = Wanted
+place_of_steps count (Going begun) (line ∷ lines) = place_of_steps (suc count) (next_step begun line) lines
+place_of_steps count (Whole held) lines = Here held (suc count)
+place_of_steps count (Faulty fault) lines = Wrong count fault
+
+abbrev pub place_by_steps : List Count → Option Tail → List ReadLine → Place HeldEpoch
+place_by_steps types tail [] = Wanted
+place_by_steps types tail (line ∷ lines) = place_of_steps 0 (first_step types tail line) lines
+
+-- the open epoch that some lines make after a step, where they want more
+abbrev pub open_after : RawStep → List ReadLine → Option OpenRawEpoch
+open_after (Going begun) [] = Some begun
+open_after (Going begun) (line ∷ lines) = open_after (next_step begun line) lines
+open_after (Whole held) lines = None
+open_after (Faulty fault) lines = None
+
+-- the open epoch that some lines make, where they want more
+abbrev pub open_with : List Count → Option Tail → List ReadLine → Option OpenRawEpoch
+open_with types tail [] = None
+open_with types tail (line ∷ lines) = open_after (first_step types tail line) lines
+
+-- ---- what a reader of compact epochs is seen as
+
+-- between two epochs: the tail of the block so far, or nothing; or an epoch whose lines have come in part
+pub data ColumnsState : Type 0 where
+  Idle : Option Tail → ColumnsState
+  Reading : OpenRawEpoch → ColumnsState
+
+-- the state after a step: a fault empties it
+abbrev pub state_after : RawStep → ColumnsState
+state_after (Going begun) = Reading begun
+state_after (Whole held) = Idle (Some held.tail)
+state_after (Faulty fault) = Idle None
+
+abbrev pub is_idle : ColumnsState → Bool
+is_idle (Idle tail) = true
+is_idle (Reading begun) = false
+
+-- the tail that is held between two epochs
+abbrev pub tail_held : ColumnsState → Option Tail
+tail_held (Idle tail) = tail
+tail_held (Reading begun) = None

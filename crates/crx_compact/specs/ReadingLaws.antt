@@ -1,0 +1,210 @@
+-- What the laws of this crate say of reading compact text, where it is long.
+use Rattle.std.specs.Prelude.{◌≡◌, ℕ, ◌+◌, Bool, true, false, ◌||◌, List, [], ◌∷◌, ◌++◌, map, length, Option, Some, Ok, ⊤}
+use Rattle.std.specs.List.{list_all, AllByRecursion}
+use Rattle.std.specs.Option.{is_some}
+use Rattle.crx_text.specs.Texts.{text_difference}
+use Rattle.crx_text.specs.Seen.{ReadLine, Content}
+use Rattle.crx_rinex.specs.Observations.{Row}
+use Rattle.crx_rinex.specs.ObservationTypes.{Count, AreCounts}
+use Rattle.crx_rinex.specs.Places.{Place, Here, Wrong, Wanted, then_place}
+use Rattle.crx_text.specs.declared.limits.TheConstants.{WRITTEN_ORDER}
+use Rattle.crx_rinex.specs.Epochs.{IsWholeEpoch}
+use Rattle.crx_compact.specs.Differences.{code_at}
+use Rattle.crx_compact.specs.EpochText.{is_printable}
+use Rattle.crx_compact.specs.Compaction.{Marked, since_full, run_of, clock_arc, codes_of, indicators_before, epoch_line, compact_epoch}
+use Rattle.crx_compact.specs.Expansion.{RawRow, RawEpoch, block_of, raw_row_named, epoch_from}
+use Rattle.crx_compact.specs.CompactPlaces.{ReadEpoch, epoch_at}
+use Rattle.crx_compact.specs.Tails.{Tail, tail_of, tail_of_block, tail_left, tail_or_nothing}
+use Rattle.crx_compact.specs.Steps.{raw_tail_after}
+use Rattle.crx_compact.specs.OpenEpochs.{epoch_after, OpenRawEpoch, next_step, placed_as, held_after, place_of_step, place_by_steps, open_after, open_with}
+use Rattle.crx_compact.specs.Laws.{AreWhole}
+
+-- ---- reading what was written
+
+-- how the line of a satellite reads: its codes and marks
+abbrev pub raw_row : List Row → Row → RawRow
+raw_row run row =
+    record { name = row.name; codes = codes_of (length row.values) run; marks = text_difference (indicators_before run) row.flags }
+
+-- how the compact lines of the newest epoch read
+abbrev pub raw_of : Marked → List Marked → RawEpoch
+raw_of m older =
+    record {
+      line = epoch_line m older;
+      clock = code_at WRITTEN_ORDER (clock_arc (m ∷ older));
+      rows = map (λ (r : Row). raw_row (run_of r.name (m ∷ older)) r) m.epoch.rows;
+    }
+
+abbrev pub raws_of : List Marked → List RawEpoch
+raws_of [] = []
+raws_of (m ∷ older) = raw_of m older ∷ raws_of older
+
+-- how an epoch that was written is read
+abbrev pub read_of : Marked → List Marked → ReadEpoch
+read_of m older = record { raw = raw_of m older; epoch = m.epoch }
+
+-- the compact lines of an epoch, as a reader of lines gives them
+abbrev pub lines_of_epoch : List Marked → List ReadLine
+lines_of_epoch epochs = map Content (compact_epoch epochs)
+
+-- the compact lines of an epoch read as that epoch, whatever lines follow, and the reader's block is then that of the epochs
+-- written so far; where the epochs since the latest full one are whole by the counts of types in force, and the
+-- reader's block is that of the epochs before. Of an epoch in full the reader's state is left open
+pub record EpochReadsBack (types : List Count) (m : Marked) (older : List Marked) (raws : List RawEpoch) : Type 0 where
+  pub reads : (rest : List ReadLine) → epoch_at types raws (lines_of_epoch (m ∷ older) ++ rest) ≡ Here (read_of m older) (2 + length m.epoch.rows)
+  pub block : block_of (raw_of m older ∷ raws) ≡ block_of (raws_of (m ∷ older))
+
+abbrev pub EachReadsBack : Type 0
+EachReadsBack =
+    (types : List Count) (m : Marked) (older : List Marked) (raws : List RawEpoch) → AreWhole types (since_full (m ∷ older))
+    → (m.in_full ≡ false → block_of raws ≡ block_of (raws_of older)) → EpochReadsBack types m older raws
+
+-- the compact text of some epochs, the oldest one's lines first
+abbrev pub text_lines : List Marked → List (List ℕ)
+text_lines [] = []
+text_lines (m ∷ older) = text_lines older ++ compact_epoch (m ∷ older)
+
+-- as many epochs as there are lists of counts of types, newest first: the older ones are read first
+abbrev pub epochs_at : List (List Count) → List ReadLine → Place (List ReadEpoch)
+epochs_at [] lines = Here [] 0
+epochs_at (types ∷ older) lines =
+    then_place (epochs_at older lines) lines (λ epochs others.
+    then_place (epoch_at types (map (λ (r : ReadEpoch). r.raw) epochs) others) others (λ epoch rest.
+    Here (epoch ∷ epochs) 0))
+
+-- an epoch and the counts of types in force at it
+pub record TypedEpoch : Type 0 where
+  pub types : List Count
+  pub marked : Marked
+
+abbrev pub marked_of : List TypedEpoch → List Marked
+marked_of epochs = map (λ (t : TypedEpoch). t.marked) epochs
+
+abbrev pub counts_of : List TypedEpoch → List (List Count)
+counts_of epochs = map (λ (t : TypedEpoch). t.types) epochs
+
+-- each epoch, and those before it back to the latest full one, are whole by the counts of types in force at it;
+-- so a count changes only at a full epoch
+abbrev pub AreWholeByTypes : List TypedEpoch → Type 0
+AreWholeByTypes [] = ⊤
+AreWholeByTypes (t ∷ older) = AreWhole t.types (since_full (marked_of (t ∷ older))) × AreWholeByTypes older
+
+-- how some epochs read, each after those before it
+abbrev pub reads_of : List Marked → List ReadEpoch
+reads_of [] = []
+reads_of (m ∷ older) = read_of m older ∷ reads_of older
+
+-- reading the compact text of a list of epochs gives these epochs
+abbrev pub ReadsBack : Type 0
+ReadsBack =
+    (epochs : List TypedEpoch) (rest : List ReadLine) → AreWholeByTypes epochs
+    → epochs_at (counts_of epochs) (map Content (text_lines (marked_of epochs)) ++ rest)
+    ≡ Here (reads_of (marked_of epochs)) (length (text_lines (marked_of epochs)))
+
+-- ---- what is read
+
+-- no satellite has two lines: each line of a raw epoch is the one of its identifier
+abbrev pub HasSingleLines : RawEpoch → Type 0
+HasSingleLines raw = AllByRecursion (λ (r : RawRow). raw_row_named r.name raw.rows ≡ Some r) raw.rows
+
+-- an epoch that was read: no satellite has two lines, it is what its raw epoch stands for after the older ones, and it took
+-- its epoch line, its clock line and one line for each satellite
+pub record IsSound (older : List RawEpoch) (read : ReadEpoch) (count : ℕ) : Type 0 where
+  pub single : HasSingleLines read.raw
+  pub meant : epoch_from read.raw older ≡ Ok read.epoch
+  pub counted : count ≡ 2 + length read.epoch.rows
+
+abbrev pub ReadsSoundly : Type 0
+ReadsSoundly =
+    (types : List Count) (older : List RawEpoch) (lines : List ReadLine) (read : ReadEpoch) (count : ℕ)
+    → epoch_at types older lines ≡ Here read count → IsSound older read count
+
+-- the marks of a raw epoch's lines are characters 32 to 126
+abbrev pub HasPrintableMarks : RawEpoch → Type 0
+HasPrintableMarks raw = AllByRecursion (λ (r : RawRow). list_all is_printable r.marks ≡ true) raw.rows
+
+-- an epoch that was read is whole, by the counts of types that it was read with, and its lines can stand before others
+pub record IsGood (types : List Count) (read : ReadEpoch) : Type 0 where
+  pub whole : IsWholeEpoch types read.epoch
+  pub marks : HasPrintableMarks read.raw
+
+abbrev pub ReadsWholeEpochs : Type 0
+ReadsWholeEpochs =
+    (types : List Count) (older : List RawEpoch) (lines : List ReadLine) (read : ReadEpoch) (count : ℕ)
+    → AreCounts types → AllByRecursion HasPrintableMarks older → epoch_at types older lines ≡ Here read count → IsGood types read
+
+-- each of some epochs is whole, by the counts of types that it was read with
+abbrev pub AreGood : List (List Count) → List ReadEpoch → Type 0
+AreGood [] [] = ⊤
+AreGood [] (read ∷ older) = ⊥
+AreGood (types ∷ counts) [] = ⊥
+AreGood (types ∷ counts) (read ∷ older) = IsGood types read × AreGood counts older
+
+-- epochs that are read one after another, from nothing on, are all whole
+abbrev pub ReadsWholeLists : Type 0
+ReadsWholeLists =
+    (counts : List (List Count)) (lines : List ReadLine) (epochs : List ReadEpoch) (count : ℕ)
+    → AllByRecursion AreCounts counts → epochs_at counts lines ≡ Here epochs count → AreGood counts epochs
+
+-- ---- the tail decides
+
+-- the tail of its block decides what the next raw epoch leaves
+abbrev pub RawByTail : RawEpoch → List RawEpoch → Type 0
+RawByTail raw block = tail_of_block (raw ∷ block) ≡ raw_tail_after (tail_of_block block) raw
+
+-- what is left of the raw epochs before decides what stands at the next lines, faults too, and what an epoch that was read
+-- there leaves
+pub record TailDecides (types : List Count) (older : List RawEpoch) (lines : List ReadLine) : Type 0 where
+  pub place : epoch_at types older lines ≡ epoch_after types (tail_left older) lines
+  pub next : (read : ReadEpoch) (count : ℕ) → epoch_at types older lines ≡ Here read count
+      → tail_left (read.raw ∷ older) ≡ Some (held_after (tail_left older) read).tail
+
+-- a line that begins with > forgets: what stands there doesn't depend on older raw epochs, and its epoch is a block's first
+pub record Forgets (types : List Count) (older : List RawEpoch) (line : List ℕ) (lines : List ReadLine) : Type 0 where
+  pub place : epoch_at types older (Content line ∷ lines) ≡ epoch_at types [] (Content line ∷ lines)
+  pub block : (read : ReadEpoch) (count : ℕ) → epoch_at types older (Content line ∷ lines) ≡ Here read count
+      → block_of (read.raw ∷ older) ≡ read.raw ∷ []
+
+-- the tail of what was written is the tail of its block as it is read
+abbrev pub OneTail : Type 0
+OneTail =
+    (types : List Count) (m : Marked) (older : List Marked) → AreWhole types (since_full (m ∷ older))
+    → tail_left (raws_of (m ∷ older)) ≡ tail_or_nothing (m ∷ older)
+
+-- ---- line by line
+
+-- whether more lines are wanted at a place
+abbrev pub is_wanted : {X : Type 0} → Place X → Bool
+is_wanted (Here x count) = false
+is_wanted (Wrong offset fault) = false
+is_wanted Wanted = true
+
+abbrev pub has_no_lines : List ReadLine → Bool
+has_no_lines [] = true
+has_no_lines (line ∷ lines) = false
+
+-- what stands at some lines, and what an epoch there leaves, is what the steps make of them line by line
+abbrev pub StepsAgree : List Count → Option Tail → List ReadLine → Type 0
+StepsAgree types tail lines = placed_as (held_after tail) (epoch_after types tail lines) ≡ place_by_steps types tail lines
+
+-- more lines are wanted exactly where there is no line yet, or the lines so far make an open epoch
+abbrev pub WantedWhereOpen : List Count → Option Tail → List ReadLine → Type 0
+WantedWhereOpen types tail lines = is_wanted (epoch_after types tail lines) ≡ (has_no_lines lines || is_some (open_with types tail lines))
+
+-- the step from an open epoch is what the place has with one line more
+pub record StepFromOpen (types : List Count) (tail : Option Tail) (lines : List ReadLine) (line : ReadLine) (begun : OpenRawEpoch) : Type 0 where
+  pub place : placed_as (held_after tail) (epoch_after types tail (lines ++ line ∷ [])) ≡ place_of_step (length lines) (next_step begun line)
+  pub open_epoch : open_with types tail (lines ++ line ∷ []) ≡ open_after (next_step begun line) []
+
+abbrev pub StepsFromOpen : Type 0
+StepsFromOpen =
+    (types : List Count) (tail : Option Tail) (lines : List ReadLine) (line : ReadLine) (begun : OpenRawEpoch)
+    → open_with types tail lines ≡ Some begun → StepFromOpen types tail lines line begun
+
+-- the lines of an epoch that was written, read one by one after what was left before it, give the epoch with the last of
+-- them, and leave what the writer has left; where the epoch stands in full, after whatever was left before it
+abbrev pub StepsReadBack : Type 0
+StepsReadBack =
+    (types : List Count) (m : Marked) (older : List Marked) (tail : Option Tail) → AreWhole types (since_full (m ∷ older))
+    → (m.in_full ≡ false → tail ≡ tail_or_nothing older)
+    → place_by_steps types tail (lines_of_epoch (m ∷ older)) ≡ Here (record { epoch = m.epoch; tail = tail_of (m ∷ older) }) (2 + length m.epoch.rows)

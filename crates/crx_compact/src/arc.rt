@@ -1,0 +1,224 @@
+//! Arcs: Hatanaka's Compact RINEX 3.0, data arcs. An arc's values become codes and come back from them by running
+//! differences: what is kept is the arc's order and its latest differences of order 0, 1, .. up to it.
+
+ghost use Rattle.std.specs.Prelude.{◌≡◌, ◌≤◌, ◌<◌, ◌+◌, ◌*◌, ◌^◌, ◌++◌, ◌∷◌, [], ℕ, ℤ, List, Option, None, length, take, OnOk, OnErr, MatchResult};
+ghost use Rattle.crx_text.specs.Codes.{IsPrintable};
+ghost use Rattle.crx_compact.specs.Arcs.{AreBelow, IsBelow, IsIn, value_bound};
+ghost use Rattle.crx_compact.specs.Differences.{code_at, newest};
+ghost use Rattle.crx_compact.specs.Expansion.{is_within, value_of};
+ghost use Rattle.crx_compact.specs.Laws.{accepted, arc_of_codes, arc_of_values};
+ghost use Rattle.crx_compact.specs.Sequences.{stretch};
+ghost use Rattle.crx_text.specs.declared.code.Code.{Code};
+ghost use Rattle.crx_text.specs.declared.limits.TheConstants.{CLOCK_WIDTH, WRITTEN_ORDER};
+ghost use Rattle.crx_compact.specs.Steps.{arc_of_code, arc_of_value, code_of_value, differences_after, differences_by, highest, value_of_code};
+
+use crx_text::limits::{CLOCK_WIDTH, OBSERVATION_WIDTH, ORDER_LIMIT, WRITTEN_ORDER};
+use crx_text::{Code, Fault};
+use std::marker::Model;
+
+/// The most differences that an arc keeps: those of order 0 to [`ORDER_LIMIT`].
+const KEPT_LIMIT: usize = ORDER_LIMIT as usize + 1;
+
+/// The arc of an observation, in thousandths of its unit.
+pub type ObsArc = Arc<OBSERVATION_WIDTH>;
+
+/// The arc of the receiver clock offset, in units of 10^-12 seconds.
+pub type ClockArc = Arc<CLOCK_WIDTH>;
+
+/// An arc of values that fit a field of so many columns: its order, and its latest differences of order 0, 1, .. up to
+/// it or as far as its values go. It takes no memory elsewhere.
+#[derive(Drop)]
+pub struct Arc<const WIDTH: usize> {
+    differences: [i64; KEPT_LIMIT],
+    count: usize,
+    order: usize,
+}
+
+impl<const WIDTH: usize> Model for Arc<WIDTH> {
+    ghost use Rattle.std.specs.Prelude.{Option, take};
+    ghost use Rattle.crx_compact.specs.Tails.{ArcTail};
+    ghost use Rattle.crx_compact.specs.Arcs.{kept_tail, IsKept};
+
+    ghost Value = { Option ArcTail };
+
+    ghost view = { λ arc. kept_tail arc.order (take arc.count arc.differences) };
+
+    ghost invariant = { λ arc. IsKept WIDTH arc.order arc.count (take arc.count arc.differences) };
+}
+
+/// Puts the differences of order 0, 1, .. at a next value in place of those at the value before it, and gives the
+/// difference of the next order.
+fn advance(differences: &mut [i64], value: i64) -> i64
+    requires few { length differences.old ≤ 9 }
+    requires below { AreBelow value_bound differences.old }
+    requires next { IsBelow value_bound value }
+    ensures { differences.new ++ result ∷ [] ≡ differences_after value differences.old }
+{
+    let mut next = value;
+    for order in 0..differences.len() {
+        let before = differences[order];
+        differences[order] = next;
+        next -= before;
+    }
+    next
+}
+
+/// Puts the differences at a next value in place of those at the value before it, of order 0 up to the given one, and
+/// gives the difference of that order.
+fn go_on(differences: &mut [i64], order: usize, value: i64) -> i64
+    requires within { order < length differences.old }
+    requires few { order ≤ 9 }
+    requires below { AreBelow value_bound (take order differences.old) }
+    requires next { IsBelow value_bound value }
+    ensures after { take (order + 1) differences.new ≡ differences_after value (take order differences.old) }
+    ensures highest { result ≡ highest (differences_after value (take order differences.old)) }
+{
+    let highest = advance(&mut differences[..order], value);
+    differences[order] = highest;
+    highest
+}
+
+/// The value after the one that some differences of order 0, 1, .. stand at, by the difference of the next order.
+fn value_after(differences: &[i64], number: i64) -> i64
+    requires few { length differences.now ≤ 9 }
+    requires below { AreBelow value_bound differences.now }
+    requires short { IsBelow (10 ^ 18) number }
+    ensures { result ≡ newest (differences_by number differences.now) }
+{
+    let mut value = number;
+    for difference in differences {
+        value += *difference;
+    }
+    value
+}
+
+impl<const WIDTH: usize> Arc<WIDTH> {
+    /// An arc without values.
+    pub fn new() -> Self
+        requires { WIDTH ≤ CLOCK_WIDTH }
+        ensures { result ≡ None }
+    {
+        Arc {
+            differences: [0; KEPT_LIMIT],
+            count: 0,
+            order: 0,
+        }
+    }
+
+    /// The same arc once more.
+    pub fn copied(&self) -> Self
+        ensures { result ≡ self.now }
+    {
+        Arc {
+            differences: self.differences,
+            count: self.count,
+            order: self.order,
+        }
+    }
+
+    /// The code of a next value, after which the arc goes on: `Missing` where there is none, and then the arc is over; of
+    /// a first value the value itself and the order [`WRITTEN_ORDER`]; else the next difference of the arc's order, or
+    /// of a lower one while it has too few values. It asks for a value that fits the columns.
+    pub fn push(&mut self, value: Option<i64>) -> Code
+        requires { IsIn WIDTH value }
+        ensures code { result ≡ code_of_value value self.old }
+        ensures printable { IsPrintable result }
+        ensures arc { self.new ≡ arc_of_value value self.old }
+        // After any values at all, missing ones too, the code is the one of the arc that they leave.
+        ensures every { (values : List (Option ℤ)) → self.old ≡ arc_of_values values
+            → (result ≡ code_at WRITTEN_ORDER (stretch (value ∷ values))) × (self.new ≡ arc_of_values (value ∷ values)) }
+    {
+        self.go_on_by_value(value)
+    }
+
+    /// The step of [`Arc::push`].
+    fn go_on_by_value(&mut self, value: Option<i64>) -> Code
+        requires { IsIn WIDTH value }
+        ensures code { result ≡ code_of_value value self.old }
+        ensures printable { IsPrintable result }
+        ensures arc { self.new ≡ arc_of_value value self.old }
+    {
+        let Some(value) = value else {
+            self.count = 0;
+            return Code::Missing;
+        };
+        if self.count == 0 {
+            self.differences[0] = value;
+            self.order = WRITTEN_ORDER as usize;
+            self.count = 1;
+            return Code::Start {
+                order: WRITTEN_ORDER,
+                value,
+            };
+        }
+        let last = self.order.min(self.count);
+        let highest = go_on(&mut self.differences, last, value);
+        self.count = last + 1;
+        Code::Step(highest)
+    }
+
+    /// The value that a next code gives, after which the arc goes on; `None` of `Missing`, and then the arc is over. A
+    /// start begins a new arc, also in the middle of one. It asks for an order and a number within the limits.
+    ///
+    /// `NoArc` comes at a difference where no arc has begun, `OutOfRange` where the value doesn't fit the columns. After
+    /// either the arc is as it was.
+    pub fn apply(&mut self, code: Code) -> Result<Option<i64>, Fault>
+        requires { IsPrintable code }
+        ensures value { result ≡ value_of_code WIDTH code self.old }
+        ensures ok { OnOk result (self.new ≡ arc_of_code code self.old) }
+        ensures err { OnErr result (self.new ≡ self.old) }
+        // After any codes at all, of which those that were refused don't count, the value is the one that they give.
+        ensures every { (codes : List Code) → self.old ≡ arc_of_codes WIDTH codes
+            → (result ≡ value_of WIDTH (code ∷ accepted WIDTH codes)) × (self.new ≡ arc_of_codes WIDTH (code ∷ codes)) }
+    {
+        self.go_on_by_code(code)
+    }
+
+    /// The step of [`Arc::apply`].
+    fn go_on_by_code(&mut self, code: Code) -> Result<Option<i64>, Fault>
+        requires { IsPrintable code }
+        ensures value { result ≡ value_of_code WIDTH code self.old }
+        ensures ok { OnOk result (self.new ≡ arc_of_code code self.old) }
+        ensures err { OnErr result (self.new ≡ self.old) }
+    {
+        match code {
+            Code::Missing => {
+                self.count = 0;
+                Ok(None)
+            }
+            Code::Start { order, value } => {
+                if !is_within(WIDTH, value) {
+                    return Err(Fault::OutOfRange);
+                }
+                self.differences[0] = value;
+                self.order = order as usize;
+                self.count = 1;
+                Ok(Some(value))
+            }
+            Code::Step(number) => {
+                if self.count == 0 {
+                    return Err(Fault::NoArc);
+                }
+                let last = self.order.min(self.count);
+                let value = value_after(&self.differences[..last], number);
+                if !is_within(WIDTH, value) {
+                    return Err(Fault::OutOfRange);
+                }
+                go_on(&mut self.differences, last, value);
+                self.count = last + 1;
+                Ok(Some(value))
+            }
+        }
+    }
+}
+
+/// Whether a value fits so many columns: the point takes one of them, and a minus another.
+fn is_within(width: usize, value: i64) -> bool
+    requires { width ≤ CLOCK_WIDTH }
+    ensures { result ≡ is_within width value }
+{
+    let width = width as u32;
+    let lowest = -10i64.pow(width.saturating_sub(2));
+    let highest = 10i64.pow(width.saturating_sub(1));
+    lowest < value && value < highest
+}

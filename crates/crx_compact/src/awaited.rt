@@ -1,0 +1,122 @@
+//! The satellites of an epoch text: RINEX 3.05, table A3, and Hatanaka's Compact RINEX 3.0, epoch line.
+
+ghost use Rattle.std.specs.List.{list_any};
+ghost use Rattle.std.specs.Str.{bytes_eq};
+ghost use Rattle.std.specs.Prelude.{◌≡◌, ◌≤◌, ◌⊎◌, [], true, Ok, Err, length, OnOk, IfErr};
+ghost use Rattle.crx_text.specs.declared.limits.TheConstants.{LINE_LIMIT, SATELLITES_LIMIT};
+ghost use Rattle.crx_rinex.specs.ObservationTypes.{IsAllowedCount};
+ghost use Rattle.crx_rinex.specs.SatelliteLines.{is_identifier};
+ghost use Rattle.crx_compact.specs.CompactPlaces.{satellites_of_text};
+ghost use Rattle.crx_compact.specs.EpochText.{begins_epoch, Satellite, names_in, satellites_named};
+
+use crx_rinex::{EpochLine, Types, all_blank, behind, padded, types_of_satellite};
+use crx_text::Fault;
+use crx_text::limits::{HEAD_WIDTH, NAME_WIDTH};
+use std::marker::Model;
+
+/// A satellite whose line is awaited: its identifier, and how many types its system has.
+#[derive(Drop)]
+pub(crate) struct AwaitedSatellite {
+    name: [u8; NAME_WIDTH],
+    count: usize,
+}
+
+impl Model for AwaitedSatellite {
+    ghost use Rattle.crx_compact.specs.EpochText.{Satellite};
+    ghost use Rattle.crx_compact.specs.Cells.{IsAwaited};
+
+    ghost Value = { Satellite };
+
+    ghost view = { λ awaited. record { name = awaited.name; count = awaited.count } };
+
+    ghost invariant = { λ awaited. IsAwaited (record { name = awaited.name; count = awaited.count }) };
+}
+
+impl AwaitedSatellite {
+    /// The identifier.
+    pub(crate) fn name(&self) -> [u8; NAME_WIDTH]
+        ensures value { result ≡ self.now.name }
+        ensures named { is_identifier result ≡ true }
+    {
+        self.name
+    }
+
+    /// How many types the system has.
+    pub(crate) fn count(&self) -> usize
+        ensures value { result ≡ self.now.count }
+        ensures allowed { IsAllowedCount result }
+    {
+        self.count
+    }
+}
+
+/// Whether a line begins an epoch: its first character is `>`.
+pub(crate) fn begins_epoch(line: &[u8]) -> bool
+    ensures { result ≡ begins_epoch line.now }
+{
+    matches!(line, [b'>', ..])
+}
+
+/// Whether some satellites have one of this identifier.
+fn has_name(satellites: &[AwaitedSatellite], name: [u8; NAME_WIDTH]) -> bool
+    ensures { result ≡ list_any (λ (s : Satellite). bytes_eq s.name name) satellites.now }
+{
+    satellites.iter().any(|known| known.name() == name)
+}
+
+/// Reads so many identifiers after the columns of an epoch text, from left to right.
+///
+/// `BadSatellite` comes where one is spelt as none of a system that has types, then `RepeatedSatellite` where it stands
+/// before already; `OutOfMemory` where the satellites can't grow.
+fn read_names(
+    types: &Types,
+    text: &[u8],
+    count: usize,
+    satellites: &mut Vec<AwaitedSatellite>,
+) -> Result<(), Fault>
+    requires none { satellites.old.items ≡ [] }
+    requires few { count ≤ SATELLITES_LIMIT }
+    ensures ok { OnOk result (satellites_named types.now [] (names_in text.now count) ≡ Ok satellites.new.items) }
+    ensures err { IfErr result (λ fault. (satellites_named types.now [] (names_in text.now count) ≡ Err fault)
+        ⊎ (fault ≡ Fault.OutOfMemory)) }
+{
+    for place in 0..count {
+        let name = padded(text, HEAD_WIDTH + 1 + NAME_WIDTH * place);
+        let Some(types) = types_of_satellite(types, &name) else {
+            return Err(Fault::BadSatellite);
+        };
+        if has_name(satellites, name) {
+            return Err(Fault::RepeatedSatellite);
+        }
+        if satellites
+            .push(AwaitedSatellite { name, count: types })
+            .is_err()
+        {
+            return Err(Fault::OutOfMemory);
+        }
+    }
+    Ok(())
+}
+
+/// Reads the satellites of an epoch text.
+///
+/// `BadEpoch` comes where columns 1 to 41 are not those of an observation epoch, or anything but blanks stands after the
+/// last identifier; then the faults of the identifiers.
+pub(crate) fn read_satellites(
+    types: &Types,
+    text: &[u8],
+    satellites: &mut Vec<AwaitedSatellite>,
+) -> Result<(), Fault>
+    requires { satellites.old.items ≡ [] }
+    ensures ok { OnOk result (satellites_of_text types.now text.now ≡ Ok satellites.new.items) }
+    ensures err { IfErr result (λ fault. (satellites_of_text types.now text.now ≡ Err fault) ⊎ (fault ≡ Fault.OutOfMemory)) }
+{
+    let Ok(head) = EpochLine::new(padded(text, 1), None) else {
+        return Err(Fault::BadEpoch);
+    };
+    let count = head.count();
+    if !all_blank(behind(text, HEAD_WIDTH + NAME_WIDTH * count)) {
+        return Err(Fault::BadEpoch);
+    }
+    read_names(types, text, count, satellites)
+}

@@ -1,0 +1,59 @@
+//! An epoch that was coded, and its compact lines.
+
+ghost use Rattle.std.specs.Prelude.{◌≡◌, drop, slice_get};
+ghost use Rattle.std.specs.Borrow.{sem};
+ghost use Rattle.std.specs.Io.BufRead.{Rests};
+ghost use Rattle.std.specs.Option.{option_copied};
+ghost use Rattle.crx_compact.specs.contracts.coded.Coded.{the_row};
+
+use crate::lines::Lines;
+use crx_rinex::Epoch;
+use std::marker::Model;
+
+/// An epoch and the compact lines of it that are still to be lent: the epoch line, the clock line, and a line for each
+/// satellite.
+#[derive(Drop)]
+pub struct Coded {
+    epoch: Epoch,
+    lines: Lines,
+}
+
+impl Model for Coded {
+    ghost use Rattle.crx_compact.specs.Coded.{CodedEpoch};
+
+    ghost Value = { CodedEpoch };
+
+    ghost view = { λ coded. record { epoch = coded.epoch; lines = coded.lines } };
+}
+
+impl Coded {
+    pub(crate) fn new(epoch: Epoch, lines: Lines) -> Coded
+        ensures { result ≡ record { epoch = epoch; lines = lines } }
+    {
+        Coded { epoch, lines }
+    }
+
+    /// Lends the next line, without its line end; `None` once all were lent.
+    pub fn next_line(&mut self) -> Option<&[u8]>
+        ensures value { option_copied result ≡ slice_get self.old.lines 0 }
+        // That line is no longer among those to be lent.
+        ensures* after_borrow { sem 𝓛 (Rests the_row self.entry (λ new. new ≡ record self.old { lines = drop 1 self.old.lines })) }
+    {
+        self.lines.next_line()
+    }
+
+    /// The epoch.
+    pub fn into_epoch(self) -> Epoch
+        ensures { result ≡ self.epoch }
+    {
+        self.epoch
+    }
+
+    /// The epoch and the lines.
+    pub(crate) fn into_parts(self) -> (Epoch, Lines)
+        ensures epoch { result.0 ≡ self.epoch }
+        ensures lines { result.1 ≡ self.lines }
+    {
+        (self.epoch, self.lines)
+    }
+}

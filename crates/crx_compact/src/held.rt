@@ -1,0 +1,373 @@
+//! What is kept of a satellite between two epochs: Hatanaka's Compact RINEX 3.0, satellite lines.
+
+ghost use Rattle.std.specs.Prelude.{◌≡◌, ◌≤◌, ◌++◌, ◌∷◌, ◌⊎◌, ◌*◌, [], None, Ok, Err, true, false, length, replicate, slice_index_or, take, OnOk, IfOk, IfErr, Option, ℤ};
+ghost use Rattle.std.specs.List.{flat_map, list_all};
+ghost use Rattle.crx_text.specs.Codes.{code_text, IsPrintable};
+ghost use Rattle.crx_text.specs.Texts.{is_plain, patched, text_difference};
+ghost use Rattle.crx_text.specs.declared.limits.TheConstants.{LINE_LIMIT};
+ghost use Rattle.std.specs.Option.{option_copied};
+ghost use Rattle.crx_text.specs.Columns.{columns, without_end_blanks};
+ghost use Rattle.crx_compact.specs.Cells.{arcs_of_row, codes_of_row, value_at_place, AreHeldFlags, AreRead};
+ghost use Rattle.crx_compact.specs.CompactPlaces.{are_marks, cells_of, cells_read};
+ghost use Rattle.crx_compact.specs.HeldRows.{row_held, row_held_from};
+ghost use Rattle.crx_rinex.specs.ObservationTypes.{IsAllowedCount};
+ghost use Rattle.crx_compact.specs.Compaction.{cell_text, line_of_codes};
+ghost use Rattle.crx_compact.specs.Sequences.{named};
+ghost use Rattle.crx_compact.specs.Steps.{codes_after, flags_of_tail, row_tail_after};
+ghost use Rattle.crx_compact.specs.Tails.{RowTail};
+
+use crate::arc::ObsArc;
+use crate::awaited::{AwaitedSatellite, begins_epoch};
+use crate::lines::Lines;
+use crx_rinex::{SatRow, all_blank, behind};
+use crx_text::difference::patch_bytes;
+use crx_text::limits::NAME_WIDTH;
+use crx_text::{Code, Fault, Text, code_before_blank, code_print, diff_text, trim_end};
+use std::alloc::{AllocError, Global};
+use std::marker::Model;
+
+/// What lines are made with: the line, and texts that hold a part of it for a moment.
+#[derive(Drop)]
+pub(crate) struct Desk {
+    pub(crate) line: Vec<u8>,
+    part: Text,
+    before: Text,
+}
+
+impl Desk {
+    /// A desk with an empty line.
+    pub(crate) fn new(alloc: Global) -> Desk
+        ensures { result.line.items ≡ [] }
+    {
+        Desk {
+            line: Vec::new(alloc),
+            part: Text::new(),
+            before: Text::new(),
+        }
+    }
+
+    /// Appends a code to the line.
+    pub(crate) fn push_code(&mut self, code: Code) -> Result<(), AllocError>
+        requires { IsPrintable code }
+        ensures { OnOk result (self.new.line.items ≡ self.old.line.items ++ code_text code) }
+    {
+        self.part.clear();
+        code_print(code, &mut self.part).unwrap();
+        self.line.extend_from_slice(self.part.bytes())
+    }
+
+    /// Appends a code and one blank to the line.
+    fn push_cell(&mut self, code: Code) -> Result<(), AllocError>
+        requires { IsPrintable code }
+        ensures { OnOk result (self.new.line.items ≡ self.old.line.items ++ cell_text code) }
+    {
+        self.push_code(code)?;
+        self.line.push(b' ')?;
+        Ok(())
+    }
+
+    /// Appends to the line what changes from a text to another one.
+    pub(crate) fn push_difference(&mut self, old: &[u8], new: &[u8]) -> Result<(), AllocError>
+        requires old_short { length old.now ≤ LINE_LIMIT }
+        requires new_short { length new.now ≤ LINE_LIMIT }
+        requires plain { list_all is_plain new.now ≡ true }
+        ensures { OnOk result (self.new.line.items ≡ self.old.line.items ++ text_difference old.now new.now) }
+    {
+        self.before.clear();
+        self.before.extend(old).unwrap();
+        diff_text(&self.before, new, &mut self.part).unwrap();
+        self.line.extend_from_slice(self.part.bytes())
+    }
+
+    /// Puts the line, without the blanks at its end, after others.
+    pub(crate) fn end_line(&self, lines: &mut Lines) -> Result<(), AllocError>
+        ensures { OnOk result (lines.new ≡ lines.old ++ without_end_blanks self.now.line.items ∷ []) }
+    {
+        lines.push(trim_end(&self.line))
+    }
+
+    /// Puts the line of what changes from a text to another one after other lines.
+    pub(crate) fn push_line(
+        &mut self,
+        old: &[u8],
+        new: &[u8],
+        lines: &mut Lines,
+    ) -> Result<(), AllocError>
+        requires old_short { length old.now ≤ LINE_LIMIT }
+        requires new_short { length new.now ≤ LINE_LIMIT }
+        requires plain { list_all is_plain new.now ≡ true }
+        ensures { OnOk result (lines.new ≡ lines.old ++ text_difference old.now new.now ∷ []) }
+    {
+        self.before.clear();
+        self.before.extend(old).unwrap();
+        diff_text(&self.before, new, &mut self.part).unwrap();
+        lines.push(self.part.bytes())
+    }
+
+    /// Puts the line of a code after other lines.
+    pub(crate) fn push_code_line(&mut self, code: Code, lines: &mut Lines) -> Result<(), AllocError>
+        requires { IsPrintable code }
+        ensures { OnOk result (lines.new ≡ lines.old ++ code_text code ∷ []) }
+    {
+        self.part.clear();
+        code_print(code, &mut self.part).unwrap();
+        lines.push(self.part.bytes())
+    }
+}
+
+/// The arc of a cell; an arc without values where there is none.
+fn arc_at(arcs: &[ObsArc], place: usize) -> ObsArc
+    ensures { result ≡ slice_index_or arcs.now place None }
+{
+    match arcs.get(place) {
+        Some(arc) => arc.copied(),
+        None => ObsArc::new(),
+    }
+}
+
+/// Appends the codes of a row's values, each followed by a blank, and makes the arcs after them.
+fn push_cells(
+    before: &[ObsArc],
+    row: &SatRow,
+    arcs: &mut Vec<ObsArc>,
+    desk: &mut Desk,
+) -> Result<(), AllocError>
+    requires { arcs.old.items ≡ [] }
+    ensures arcs { OnOk result (arcs.new.items ≡ arcs_of_row before.now row.now) }
+    ensures line { OnOk result (desk.new.line.items ≡ desk.old.line.items ++ flat_map cell_text (codes_of_row before.now row.now)) }
+{
+    let mut place = 0;
+    while let Some(value) = row.value(place) {
+        let mut arc = arc_at(before, place);
+        desk.push_cell(arc.push(value))?;
+        arcs.push(arc)?;
+        place += 1;
+    }
+    Ok(())
+}
+
+/// What is kept of a satellite: its identifier, its indicators, and an arc for each cell.
+#[derive(Drop)]
+pub(crate) struct HeldSatellite {
+    name: [u8; NAME_WIDTH],
+    flags: Vec<u8>,
+    arcs: Vec<ObsArc>,
+}
+
+impl Model for HeldSatellite {
+    ghost use Rattle.crx_compact.specs.Tails.{RowTail};
+    ghost use Rattle.crx_compact.specs.Cells.{AreHeldFlags};
+
+    ghost Value = { RowTail };
+
+    ghost view = { λ held. record { name = held.name; flags = held.flags.items; cells = held.arcs.items } };
+
+    ghost invariant = { λ held. AreHeldFlags held.flags.items };
+}
+
+impl HeldSatellite {
+    /// A satellite without a name, to be gone on with.
+    pub(crate) fn new(alloc: Global) -> HeldSatellite {
+        HeldSatellite {
+            name: [b' '; NAME_WIDTH],
+            flags: Vec::new(alloc),
+            arcs: Vec::new(alloc),
+        }
+    }
+
+    /// The identifier.
+    pub(crate) fn name(&self) -> [u8; NAME_WIDTH]
+        ensures { result ≡ self.now.name }
+    {
+        self.name
+    }
+
+    /// Replaces what is kept by what a row leaves after what was kept of its satellite in the epoch before, and makes
+    /// the row's line, whose blanks at the end are still to be dropped.
+    pub(crate) fn encode(
+        &mut self,
+        before: Option<&HeldSatellite>,
+        row: &SatRow,
+        desk: &mut Desk,
+    ) -> Result<(), AllocError>
+        ensures after { OnOk result (self.new ≡ row_tail_after (option_copied before.entry) row.now) }
+        ensures line { OnOk result (without_end_blanks desk.new.line.items
+            ≡ line_of_codes (codes_after (option_copied before.entry) row.now) (flags_of_tail (option_copied before.entry)) row.now.flags) }
+    {
+        match before {
+            Some(held) => self.go_on(&held.arcs, &held.flags, row, desk),
+            None => self.go_on(&[], &[], row, desk),
+        }
+    }
+
+    /// The same, from the arcs and the indicators of the epoch before.
+    fn go_on(
+        &mut self,
+        arcs: &[ObsArc],
+        flags: &[u8],
+        row: &SatRow,
+        desk: &mut Desk,
+    ) -> Result<(), AllocError>
+        requires { length flags.now ≤ LINE_LIMIT }
+        ensures after { OnOk result (self.new ≡ record { name = row.now.name; flags = without_end_blanks row.now.flags; cells = arcs_of_row arcs.now row.now }) }
+        ensures line { OnOk result (without_end_blanks desk.new.line.items ≡ line_of_codes (codes_of_row arcs.now row.now) flags.now row.now.flags) }
+    {
+        desk.line.clear();
+        self.arcs.clear();
+        push_cells(arcs, row, &mut self.arcs, desk)?;
+        desk.push_difference(flags, row.flags())?;
+        self.name = row.name();
+        self.flags.clear();
+        self.flags.extend_from_slice(trim_end(row.flags()))?;
+        Ok(())
+    }
+
+    /// Reads a satellite's line after what was kept of it in the epoch before: replaces what is kept, and gives the row.
+    ///
+    /// `Truncated` comes where the line begins another epoch; then the first cell with a fault decides: `BadField` where its
+    /// text is no code, then `NoArc` and `OutOfRange` as by [`ObsArc::apply`]; then `BadFlags` where the marks hold a character
+    /// outside 32 to 126, or anything but blanks past two for each type. `OutOfMemory` comes where something can't grow.
+    pub(crate) fn read(
+        &mut self,
+        alloc: Global,
+        before: Option<&HeldSatellite>,
+        satellite: &AwaitedSatellite,
+        line: &[u8],
+        part: &mut Text,
+    ) -> Result<SatRow, Fault>
+        requires { length line.now ≤ LINE_LIMIT }
+        ensures ok { IfOk result (λ row. row_held (option_copied before.entry) satellite.now line.now ≡ Ok (record { row = row; tail = self.new })) }
+        ensures err { IfErr result (λ fault. (row_held (option_copied before.entry) satellite.now line.now ≡ Err fault)
+            ⊎ (fault ≡ Fault.OutOfMemory)) }
+    {
+        match before {
+            Some(held) => self.read_from(alloc, &held.arcs, &held.flags, satellite, line, part),
+            None => self.read_from(alloc, &[], &[], satellite, line, part),
+        }
+    }
+
+    /// The same, from the arcs and the indicators of the epoch before.
+    fn read_from(
+        &mut self,
+        alloc: Global,
+        arcs: &[ObsArc],
+        flags: &[u8],
+        satellite: &AwaitedSatellite,
+        line: &[u8],
+        part: &mut Text,
+    ) -> Result<SatRow, Fault>
+        requires flags { AreHeldFlags flags.now }
+        requires short { length line.now ≤ LINE_LIMIT }
+        ensures ok { IfOk result (λ row. row_held_from arcs.now flags.now satellite.now line.now ≡ Ok (record { row = row; tail = self.new })) }
+        ensures err { IfErr result (λ fault. (row_held_from arcs.now flags.now satellite.now line.now ≡ Err fault)
+            ⊎ (fault ≡ Fault.OutOfMemory)) }
+    {
+        if begins_epoch(line) {
+            return Err(Fault::Truncated);
+        }
+        let name = satellite.name();
+        let count = satellite.count();
+        let Ok(mut row) = SatRow::blank(alloc, name, count) else {
+            return Err(Fault::OutOfMemory);
+        };
+        self.arcs.clear();
+        let at = match read_cells(arcs, count, line, &mut self.arcs, &mut row) {
+            Ok(at) => at,
+            Err(fault) => return Err(fault),
+        };
+        match read_marks(flags, count, &line[at..], &mut row, part) {
+            Ok(()) => {}
+            Err(fault) => return Err(fault),
+        }
+        self.name = name;
+        self.flags.clear();
+        let Ok(()) = self.flags.extend_from_slice(part.bytes()) else {
+            return Err(Fault::OutOfMemory);
+        };
+        Ok(row)
+    }
+}
+
+/// At most so many bytes of a text, from its first on.
+fn first_bytes(text: &[u8], count: usize) -> &[u8]
+    ensures { result.now ≡ take count text.now }
+{
+    &text[..count.min(text.len())]
+}
+
+/// Reads a line's marks after a satellite's indicators in the epoch before: leaves the indicators that they make in a text,
+/// and puts those of the row's types into the row.
+///
+/// `BadFlags` comes where the marks hold a character outside 32 to 126, or anything but blanks past two for each type.
+fn read_marks(
+    before: &[u8],
+    count: usize,
+    marks: &[u8],
+    row: &mut SatRow,
+    part: &mut Text,
+) -> Result<(), Fault>
+    requires before { AreHeldFlags before.now }
+    requires short { length marks.now ≤ LINE_LIMIT }
+    requires allowed { IsAllowedCount count }
+    requires counted { length row.old.values ≡ count }
+    ensures marks { OnOk result (are_marks count marks.now ≡ true) }
+    ensures text { OnOk result (part.new ≡ patched before.now marks.now) }
+    ensures held { OnOk result (AreHeldFlags part.new) }
+    ensures row { OnOk result (row.new ≡ record row.old { flags = columns (patched before.now marks.now) 1 (2 * count) }) }
+    ensures err { IfErr result (λ fault. (are_marks count marks.now ≡ false) × (fault ≡ Fault.BadFlags)) }
+{
+    if !all_blank(behind(marks, 2 * count)) {
+        return Err(Fault::BadFlags);
+    }
+    let Ok(()) = patch_bytes(before, marks, part) else {
+        return Err(Fault::BadFlags);
+    };
+    row.set_flags(first_bytes(part.bytes(), 2 * count));
+    Ok(())
+}
+
+/// What is kept of a satellite among some others.
+pub(crate) fn find<'a>(
+    held: &'a [HeldSatellite],
+    name: [u8; NAME_WIDTH],
+) -> Option<&'a HeldSatellite>
+    ensures { option_copied result ≡ named (λ (row : RowTail). row.name) name held.now }
+{
+    held.iter().find(|satellite| satellite.name() == name)
+}
+
+/// Reads the cells of a line for as many types as a row without values has, after the arcs of the epoch before: puts their
+/// values into the row, makes the arcs after them, and gives the index at which the marks begin.
+///
+/// The first cell with a fault decides: `BadField` where its text is no code, then `NoArc` and `OutOfRange` as by
+/// [`ObsArc::apply`]; `OutOfMemory` where the arcs can't grow.
+fn read_cells(
+    before: &[ObsArc],
+    count: usize,
+    line: &[u8],
+    arcs: &mut Vec<ObsArc>,
+    row: &mut SatRow,
+) -> Result<usize, Fault>
+    requires none { arcs.old.items ≡ [] }
+    requires blank { row.old.values ≡ replicate count None }
+    ensures ok { IfOk result (λ at. AreRead before.now count line.now arcs.new.items row.old row.new at) }
+    ensures err { IfErr result (λ fault. (cells_read (value_at_place before.now) (cells_of count line.now) ≡ Err fault)
+        ⊎ (fault ≡ Fault.OutOfMemory)) }
+{
+    let mut at = 0;
+    for place in 0..count {
+        let Ok((code, length)) = code_before_blank(&line[at..]) else {
+            return Err(Fault::BadField);
+        };
+        let mut next = arc_at(before, place);
+        match next.apply(code) {
+            Ok(value) => row.set(place, value),
+            Err(fault) => return Err(fault),
+        }
+        if arcs.push(next).is_err() {
+            return Err(Fault::OutOfMemory);
+        }
+        at += length;
+    }
+    Ok(at)
+}

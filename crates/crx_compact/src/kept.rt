@@ -1,0 +1,246 @@
+//! What is kept of an epoch for the next one: Hatanaka's Compact RINEX 3.0.
+
+ghost use Rattle.std.specs.Prelude.{◌≡◌, ◌≤◌, ◌<◌, ◌++◌, ◌∷◌, [], true, Ok, Err, length, take, map, ◌⊎◌, OnOk, IfOk, IfErr};
+ghost use Rattle.std.specs.List.{list_all};
+ghost use Rattle.crx_text.specs.Columns.{without_end_blanks};
+ghost use Rattle.crx_text.specs.Texts.{is_plain};
+ghost use Rattle.crx_text.specs.declared.limits.TheConstants.{LINE_LIMIT};
+ghost use Rattle.crx_rinex.specs.Epochs.{IsSoundEpoch};
+ghost use Rattle.crx_compact.specs.Compaction.{epoch_text};
+ghost use Rattle.crx_text.specs.Texts.{patched};
+ghost use Rattle.crx_compact.specs.CompactPlaces.{clock_line_read, satellites_of_line};
+ghost use Rattle.crx_compact.specs.OpenEpochs.{past_of_tail};
+ghost use Rattle.crx_compact.specs.Steps.{arc_of_code, lines_after, no_tail, tail_after};
+ghost use Rattle.crx_compact.specs.Cells.{row_line_after, row_tail_in};
+ghost use Rattle.crx_compact.specs.HeldRows.{row_after, IsNextRow};
+
+use crate::arc::ClockArc;
+use crate::awaited::{AwaitedSatellite, begins_epoch, read_satellites};
+use crate::held::{Desk, HeldSatellite, find};
+use crate::lines::Lines;
+use crx_rinex::{Epoch, SatRow, Types};
+use crx_text::difference::patch_bytes;
+use crx_text::{Code, Fault, Text, code_read, trim_end};
+use std::alloc::{AllocError, Global};
+use std::marker::Model;
+
+/// What is kept of an epoch: its text, the clock's arc, and its satellites in the order of the file.
+#[derive(Drop)]
+pub(crate) struct KeptEpoch {
+    text: Vec<u8>,
+    clock: ClockArc,
+    satellites: Vec<HeldSatellite>,
+    alloc: Global,
+}
+
+impl Model for KeptEpoch {
+    ghost use Rattle.std.specs.Prelude.{◌≤◌, length};
+    ghost use Rattle.crx_text.specs.declared.limits.TheConstants.{LINE_LIMIT};
+    ghost use Rattle.crx_compact.specs.Tails.{Tail};
+
+    ghost Value = { Tail };
+
+    ghost view = { λ kept. record { text = kept.text.items; clock = kept.clock; rows = kept.satellites.items } };
+
+    ghost invariant = { λ kept. length kept.text.items ≤ LINE_LIMIT };
+}
+
+impl KeptEpoch {
+    /// What is kept where everything starts anew.
+    pub(crate) fn new(alloc: Global) -> KeptEpoch
+        ensures { result ≡ no_tail }
+    {
+        KeptEpoch {
+            text: Vec::new(alloc),
+            clock: ClockArc::new(),
+            satellites: Vec::new(alloc),
+            alloc,
+        }
+    }
+
+    /// Replaces what is kept by what an epoch leaves after the one before, and puts the epoch's compact lines after
+    /// others.
+    pub(crate) fn encode(
+        &mut self,
+        before: &KeptEpoch,
+        epoch: &Epoch,
+        desk: &mut Desk,
+        lines: &mut Lines,
+    ) -> Result<(), AllocError>
+        requires { IsSoundEpoch epoch.now }
+        ensures after { OnOk result (self.new ≡ tail_after before.now epoch.now) }
+        ensures lines { OnOk result (lines.new ≡ lines.old ++ lines_after before.now epoch.now) }
+    {
+        renew_text(&mut self.text, epoch)?;
+        desk.push_line(&before.text, &self.text, lines)?;
+        self.clock = before.clock.copied();
+        desk.push_code_line(self.clock.push(epoch.head().clock()), lines)?;
+        encode_rows(
+            self.alloc,
+            &before.satellites,
+            epoch,
+            &mut self.satellites,
+            desk,
+            lines,
+        )?;
+        Ok(())
+    }
+
+    /// Reads an epoch line after what was kept of the epoch before: replaces the text, and gives the satellites.
+    ///
+    /// `BadEpoch` comes where the line holds a character outside 32 to 126, then where the text that it makes is none of an
+    /// observation epoch; then the faults of the identifiers; `OutOfMemory` where something can't grow.
+    pub(crate) fn read_epoch_line(
+        &mut self,
+        types: &Types,
+        before: &KeptEpoch,
+        line: &[u8],
+        satellites: &mut Vec<AwaitedSatellite>,
+        part: &mut Text,
+    ) -> Result<(), Fault>
+        requires short { length line.now ≤ LINE_LIMIT }
+        requires none { satellites.old.items ≡ [] }
+        ensures ok { OnOk result (satellites_of_line types.now (past_of_tail before.now) line.now ≡ Ok satellites.new.items) }
+        ensures text { OnOk result (self.new ≡ record self.old { text = patched before.now.text line.now }) }
+        ensures err { IfErr result (λ fault. (satellites_of_line types.now (past_of_tail before.now) line.now ≡ Err fault)
+            ⊎ (fault ≡ Fault.OutOfMemory)) }
+    {
+        if patch_bytes(&before.text, line, part).is_err() {
+            return Err(Fault::BadEpoch);
+        }
+        self.text.clear();
+        if self.text.extend_from_slice(part.bytes()).is_err() {
+            return Err(Fault::OutOfMemory);
+        }
+        read_satellites(types, &self.text, satellites)
+    }
+
+    /// Reads a clock line after what was kept of the epoch before: replaces the clock's arc, and gives the code and its
+    /// value in units of 10^-12 seconds, `None` where it is missing. Blanks at the line's end don't count.
+    ///
+    /// `Truncated` comes where the line begins another epoch, `BadClock` where it is no code, then `NoArc` and `OutOfRange`
+    /// as by [`ClockArc::apply`].
+    pub(crate) fn read_clock(
+        &mut self,
+        before: &KeptEpoch,
+        line: &[u8],
+    ) -> Result<(Code, Option<i64>), Fault>
+        ensures ok { IfOk result (λ cell. clock_line_read (past_of_tail before.now) line.now ≡ Ok (record { code = cell.0; value = cell.1 })) }
+        ensures left { IfOk result (λ cell. self.new ≡ record self.old { clock = arc_of_code cell.0 before.now.clock }) }
+        ensures err { IfErr result (λ fault. clock_line_read (past_of_tail before.now) line.now ≡ Err fault) }
+    {
+        if begins_epoch(line) {
+            return Err(Fault::Truncated);
+        }
+        let Ok(code) = code_read(trim_end(line)) else {
+            return Err(Fault::BadClock);
+        };
+        let mut arc = before.clock.copied();
+        match arc.apply(code) {
+            Ok(value) => {
+                self.clock = arc;
+                Ok((code, value))
+            }
+            Err(fault) => Err(fault),
+        }
+    }
+
+    /// Reads the satellite line of the row at a place after what was kept of the epoch before: puts what it leaves after
+    /// what the rows before it left, and gives the row. The faults are those of [`HeldSatellite::read`].
+    pub(crate) fn read_row(
+        &mut self,
+        before: &KeptEpoch,
+        index: usize,
+        satellite: &AwaitedSatellite,
+        line: &[u8],
+        part: &mut Text,
+    ) -> Result<SatRow, Fault>
+        requires short { length line.now ≤ LINE_LIMIT }
+        requires next { index ≤ length self.old.rows }
+        ensures ok { IfOk result (λ row. IsNextRow before.now satellite.now line.now index row self.old self.new) }
+        ensures err { IfErr result (λ fault. (row_after before.now satellite.now line.now ≡ Err fault) ⊎ (fault ≡ Fault.OutOfMemory)) }
+    {
+        let Ok(()) = make_room(self.alloc, &mut self.satellites, index) else {
+            return Err(Fault::OutOfMemory);
+        };
+        let kept = find(&before.satellites, satellite.name());
+        let next = &mut self.satellites[index];
+        next.read(self.alloc, kept, satellite, line, part)
+    }
+}
+
+/// Replaces a text by an epoch's text without the blanks at its end; after `AllocError` it is empty.
+fn renew_text(text: &mut Vec<u8>, epoch: &Epoch) -> Result<(), AllocError>
+    requires { IsSoundEpoch epoch.now }
+    ensures ok { OnOk result (text.new.items ≡ without_end_blanks (epoch_text epoch.now)) }
+    ensures within { length text.new.items ≤ LINE_LIMIT }
+    ensures plain { list_all is_plain text.new.items ≡ true }
+{
+    text.clear();
+    match push_epoch_text(text, epoch) {
+        Ok(()) => {
+            let end = trim_end(text).len();
+            text.truncate(end);
+            Ok(())
+        }
+        Err(error) => {
+            text.clear();
+            Err(error)
+        }
+    }
+}
+
+/// Appends an epoch's text: columns 1 to 41 of its line, and the identifiers.
+fn push_epoch_text(text: &mut Vec<u8>, epoch: &Epoch) -> Result<(), AllocError>
+    requires { IsSoundEpoch epoch.now }
+    ensures { OnOk result (text.new.items ≡ text.old.items ++ epoch_text epoch.now) }
+{
+    text.extend_from_slice(epoch.head().columns())?;
+    let mut index = 0;
+    while let Some(row) = epoch.row(index) {
+        text.extend_from_slice(&row.name())?;
+        index += 1;
+    }
+    Ok(())
+}
+
+/// Makes sure that some satellites have one at a place, which may be right after the last one.
+fn make_room(
+    alloc: Global,
+    satellites: &mut Vec<HeldSatellite>,
+    index: usize,
+) -> Result<(), AllocError>
+    requires { index ≤ length satellites.old.items }
+    ensures room { OnOk result (index < length satellites.new.items) }
+    ensures same { take index satellites.new.items ≡ take index satellites.old.items }
+{
+    if index < satellites.len() {
+        return Ok(());
+    }
+    satellites.push(HeldSatellite::new(alloc))?;
+    Ok(())
+}
+
+/// Makes the satellite lines of an epoch, and what its satellites leave.
+fn encode_rows(
+    alloc: Global,
+    before: &[HeldSatellite],
+    epoch: &Epoch,
+    satellites: &mut Vec<HeldSatellite>,
+    desk: &mut Desk,
+    lines: &mut Lines,
+) -> Result<(), AllocError>
+    ensures after { OnOk result (satellites.new.items ≡ map (row_tail_in before.now) epoch.now.rows) }
+    ensures lines { OnOk result (lines.new ≡ lines.old ++ map (row_line_after before.now) epoch.now.rows) }
+{
+    let mut index = 0;
+    while let Some(row) = epoch.row(index) {
+        make_room(alloc, satellites, index)?;
+        let next = &mut satellites[index];
+        next.encode(find(before, row.name()), row, desk)?;
+        desk.end_line(lines)?;
+        index += 1;
+    }
+    satellites.truncate(index);
+    Ok(())
+}
