@@ -1,0 +1,208 @@
+-- What follows from how a run ended.
+use Rattle.std.proofs.Common.{◌≡◌, ◌⊎◌, inl, inr, ⊎_elim, ℕ, ◌+◌, ◌-◌, ◌^◌, ◌<◌, ◌≤◌, Bool, true, List, [], ◌∷◌, ◌++◌, length, take, Option, Some, None, refl, sym, ap, subst, ◌∙◌, arith, append-nil, append_assoc, length-append}
+use Rattle.crx_text.specs.Devices.{Tally, one_more, with_failure, with_end}
+use Rattle.crx_text.specs.Lines.{InputLine, lines_of}
+use Rattle.crx_text.specs.Reading.{Reading}
+use Rattle.crx_text.specs.Progress.{HasRead, StandsAt, IsOpen, IsOver, IsStopped}
+use Rattle.crx_text.specs.declared.limits.TheConstants.{INPUT_LIMIT}
+use Rattle.crx_text.specs.declared.fault.At.{At}
+use Rattle.crx_text.specs.declared.fault.Fault.{Fault}
+use Rattle.crx_text.specs.declared.fault.Fault.TheVariants.{InputTooLong, ReadFailed, OutOfMemory}
+use Rattle.crx_text.specs.declared.phase.Phase.{Phase}
+use Rattle.crx_text.specs.declared.phase.Phase.TheVariants.{Open, Ended, Stopped}
+use Rattle.crx_text.proofs.ProgressLemmas.{HasRead-ended, HasRead-stopped}
+use Rattle.crx_filter.specs.declared.taking.Halt.{Halt}
+use Rattle.crx_filter.specs.declared.taking.Halt.TheVariants as halt
+use Rattle.crx_filter.specs.Filters.{Course, Filter}
+use Rattle.crx_filter.specs.Engines.{with_next}
+use Rattle.crx_filter.specs.Messages.{error_text, notices_text}
+use Rattle.crx_filter.specs.Taking.{Device, TookAll, TookPart, are_some}
+use Rattle.crx_filter.specs.Running.{Input, WorkEnds, WellDone, FaultFound, EndsAt}
+use Rattle.crx_filter.specs.Endings.{Finishes, FinishesWell, IsReported, good_status}
+use Rattle.crx_filter.specs.Runs.{IsLawful, IsWhole, NoneFailed, FaultIs, RunsAs, status_of}
+
+-- a count that could rise didn't
+not-raised : (before mid after : ℕ) → after ≡ before → before < 2 ^ 64 - 1 → before ≤ mid → after ≡ one_more mid → ⊥
+not-raised before mid after same room le rose = omega (arith, same, room, le, rose)
+
+-- what a device took before the end and at it
+module _ (first second both : Device) (joined : (xs ys : List ℕ) → first.took xs → second.took ys → both.took (xs ++ ys)) where
+  pub took-then : (xs ys : List ℕ) → first.took xs → second.took ys → both.took (xs ++ ys)
+  took-then xs ys a b = joined xs ys a b
+
+  pub took-still : (xs : List ℕ) → first.took xs → second.took [] → both.took xs
+  took-still xs a b = subst both.took (append-nil xs) (joined xs [] a b)
+
+-- the lines of what was read come first in every input that begins with what was given
+pub first-lines : (input : Input) (now : Reading) (lines : List InputLine) (h : HasRead input.gave input.at_end input.start input.counted now lines) → (now.phase ≡ Open) ⊎ (now.phase ≡ Ended)
+    → (rest : List ℕ) → (input.at_end → rest ≡ []) → (more : List InputLine) × (lines_of (h.given ++ rest) ≡ lines ++ more)
+first-lines input now lines h (inl e) rest none =
+    let o : IsOpen input.start input.counted h.given now lines = subst (λ (f : Phase). StandsAt f input.at_end input.start input.counted h.given now lines) e h.stands in
+    (lines_of (now.rest ++ rest), o.first rest)
+first-lines input now lines h (inr e) rest none =
+    let o = HasRead-ended input.gave input.at_end input.start input.counted now lines h e in
+    ([], ap (λ (x : List ℕ). lines_of (h.given ++ x)) (none o.reported) ∙ ap lines_of (append-nil h.given) ∙ sym o.all ∙ sym (append-nil lines))
+
+pub all-lines : (input : Input) (now : Reading) (lines : List InputLine) (h : HasRead input.gave input.at_end input.start input.counted now lines) → now.phase ≡ Ended
+    → (rest : List ℕ) → (input.at_end → rest ≡ []) → lines_of (h.given ++ rest) ≡ lines
+all-lines input now lines h e rest none =
+    let o = HasRead-ended input.gave input.at_end input.start input.counted now lines h e in
+    ap (λ (x : List ℕ). lines_of (h.given ++ x)) (none o.reported) ∙ ap lines_of (append-nil h.given) ∙ sym o.all
+
+status-good : (course : Course) → course.fault ≡ None → status_of course ≡ good_status (are_some course.warnings)
+status-good course is = rw is refl
+
+status-bad : (course : Course) (at : At) → course.fault ≡ Some at → status_of course ≡ 1
+status-bad course at is = rw is refl
+
+-- ---- a whole run
+
+module _ (filter : Filter) (lawful : IsLawful filter) (input : Input) (writer1 writer2 writer messages1 messages2 messages : Device)
+    (wsame : writer2.before ≡ writer1.after) (wstart : writer.before ≡ writer1.before) (wend : writer.after ≡ writer2.after)
+    (wjoined : (xs ys : List ℕ) → writer1.took xs → writer2.took ys → writer.took (xs ++ ys))
+    (msame : messages2.before ≡ messages1.after) (mstart : messages.before ≡ messages1.before) (mend : messages.after ≡ messages2.after)
+    (mjoined : (xs ys : List ℕ) → messages1.took xs → messages2.took ys → messages.took (xs ++ ys)) where
+  -- a course with a fault that was written, flushed and reported
+  whole-bad : (course : Course) (at : At) (status : ℕ) (fault : Option At) → course.fault ≡ Some at → TookAll writer1 course.output → TookAll messages1 (notices_text course.warnings)
+      → writer2.took [] → TookAll messages2 (error_text (Some at)) → fault ≡ Some at → status ≡ 1 → IsWhole course writer messages status fault
+  whole-bad course at status fault bad wrote told flushed reported is one = record {
+    output = took-still writer1 writer2 writer wjoined course.output wrote.0 flushed;
+    messages_are = subst (λ (f : Option At). messages.took (notices_text course.warnings ++ error_text f)) (sym bad) (mjoined (notices_text course.warnings) (error_text (Some at)) told.0 reported.0);
+    status_is = one ∙ sym (status-bad course at bad);
+    fault_is = is ∙ sym bad;
+  }
+
+  -- a course without one
+  whole-good : (course : Course) (status : ℕ) (fault : Option At) → course.fault ≡ None → TookAll writer1 course.output → TookAll messages1 (notices_text course.warnings)
+      → writer2.took [] → messages2.took [] → fault ≡ None → status ≡ good_status (are_some course.warnings) → IsWhole course writer messages status fault
+  whole-good course status fault good wrote told flushed silent is two = record {
+    output = took-still writer1 writer2 writer wjoined course.output wrote.0 flushed;
+    messages_are = subst (λ (f : Option At). messages.took (notices_text course.warnings ++ error_text f)) (sym good) (mjoined (notices_text course.warnings) [] told.0 silent);
+    status_is = two ∙ sym (status-good course good);
+    fault_is = is ∙ sym good;
+  }
+
+  flushed-either : (TookAll writer2 []) ⊎ (writer2.took [] × (writer2.after ≡ one_more writer2.before)) → writer2.took []
+  flushed-either (inl t) = t.0
+  flushed-either (inr t) = t.0
+
+  -- a message that was cut off was counted
+  reported-whole : (at : At) (notices : List ℕ) → TookAll messages1 notices → NoneFailed messages.before messages.after → IsReported messages2 at → TookAll messages2 (error_text (Some at))
+  reported-whole at notices told none (inl t) = t
+  reported-whole at notices told none (inr t) = absurd (omega (arith, t.1, msame, told.1, mstart, mend, none.0, none.1))
+
+  -- a fault that was found on the way to all lines
+  found-whole : (course all : Course) (at at' : At) (status : ℕ) (fault : Option At) → all ≡ course → FaultFound writer1 messages1 course at' → at ≡ at'
+      → NoneFailed messages.before messages.after → Finishes writer2 messages2 0 true (Some (halt.Fault at)) status fault → IsWhole all writer messages status fault
+  found-whole course all at at' status fault same found is none finished =
+      subst (λ (k : Course). IsWhole k writer messages status fault) (sym same)
+      (whole-bad course at status fault (found.fault ∙ ap Some (sym is)) found.wrote found.told (flushed-either finished.0)
+      (reported-whole at (notices_text course.warnings) found.told none finished.1) finished.2 finished.3)
+
+  -- what a line, or the end, ended the run with, where no device failed and memory didn't run out
+  ends-whole : (number : ℕ) (before course all : Course) (halt : Halt) (last : ℕ) (warned : Bool) (status : ℕ) (fault : Option At)
+      → ((at : At) → course.fault ≡ Some at → all ≡ course) → EndsAt number writer1 messages1 before course halt → Finishes writer2 messages2 last warned (Some halt) status fault
+      → NoneFailed writer.before writer.after → NoneFailed messages.before messages.after → (FaultIs OutOfMemory fault → ⊥) → IsWhole all writer messages status fault
+  ends-whole number before course all (halt.Fault at) last warned status fault same (inl ran) finished wnone mnone memory =
+      absurd (memory (subst (FaultIs OutOfMemory) (sym finished.2) ran.fault))
+  ends-whole number before course all (halt.Fault at) last warned status fault same (inr found) finished wnone mnone memory =
+      found-whole course all at at status fault (same at found.fault) found refl mnone finished
+  ends-whole number before course all halt.Unwritten last warned status fault same failed finished wnone mnone memory =
+      absurd (omega (arith, failed.wrote.failed, finished.0.1, wsame, wstart, wend, wnone.0, wnone.1))
+  ends-whole number before course all halt.Unreported last warned status fault same failed finished wnone mnone memory =
+      absurd (omega (arith, failed.told.failed, finished.1.1, msame, mstart, mend, mnone.0, mnone.1))
+
+  stopped-none : (f : Fault) (given : List ℕ) (lines : List InputLine) (rest : List ℕ) → IsStopped f input.start input.counted given lines → length (given ++ rest) ≤ INPUT_LIMIT
+      → NoneFailed input.start.failures input.counted.failures → ⊥
+  stopped-none InputTooLong given lines rest s within none = omega (arith, s.0, within, length-append given rest)
+  stopped-none ReadFailed given lines rest s within none = omega (arith, ap (λ (t : Tally). t.failures) s.2, none.0, none.1)
+  stopped-none _ given lines rest s within none = s
+
+  no-fault : (at : At) (fault : Option At) → fault ≡ Some at → fault ≡ None → ⊥
+  no-fault at fault is none = cc
+
+  never-good : (halt : Halt) (last : ℕ) (warned : Bool) (status : ℕ) (fault : Option At) → Finishes writer2 messages2 last warned (Some halt) status fault → fault ≡ None → ⊥
+  never-good (halt.Fault at) last warned status fault finished none = no-fault at fault finished.2 none
+  never-good halt.Unwritten last warned status fault finished none = no-fault _ fault finished.2 none
+  never-good halt.Unreported last warned status fault finished none = no-fault _ fault finished.2 none
+
+  no-memory : (stop : Halt) (last : ℕ) (warned : Bool) (status : ℕ) (fault : Option At) → stop ≡ halt.Fault (record { line = 0; fault = OutOfMemory })
+      → Finishes writer2 messages2 last warned (Some stop) status fault → FaultIs OutOfMemory fault
+  no-memory stop last warned status fault is finished =
+      let f : Finishes writer2 messages2 last warned (Some (halt.Fault (record { line = 0; fault = OutOfMemory }))) status fault =
+      subst (λ (h : Halt). Finishes writer2 messages2 last warned (Some h) status fault) is finished in
+      subst (FaultIs OutOfMemory) (sym f.2) refl
+
+  pub runs-as : (now : Reading) (last : ℕ) (warned : Bool) (halt : Option Halt) (status : ℕ) (fault : Option At)
+      → WorkEnds filter input writer1 messages1 now last warned halt → Finishes writer2 messages2 last warned halt status fault
+      → (given : List ℕ) × input.gave given × RunsAs filter input given writer messages status fault
+  runs-as now last warned None status None done finished =
+      let h = done.read in
+      let over = HasRead-ended input.gave input.at_end input.start input.counted now done.lines h done.ended in
+      let course = filter.whole done.lines in
+      let whole = whole-good course status None done.good done.wrote done.told finished.0.0 finished.1.0 refl (finished.2 ∙ ap good_status done.flag) in (
+        h.given,
+        h.lead,
+        record {
+          whole = λ rn wn mn memory (rest : List ℕ) none within. subst (λ (ls : List InputLine). IsWhole (filter.whole ls) writer messages status None) (sym (all-lines input now done.lines h done.ended rest none)) whole;
+          good = λ e. (
+            over.reported,
+            over.within,
+            ap (λ (t : Tally). t.failures) over.counts,
+            wend ∙ finished.0.1 ∙ wsame ∙ done.wrote.1 ∙ sym wstart,
+            mend ∙ finished.1.1 ∙ msame ∙ done.told.1 ∙ sym mstart,
+            subst (λ (ls : List InputLine). IsWhole (filter.whole ls) writer messages status None) over.all whole,
+          );
+        },
+      )
+  runs-as now last warned None status (Some at) done finished =
+      let h = done.read in (
+        h.given,
+        h.lead,
+        record {
+          whole = λ rn wn mn memory rest none within. absurd (omega (arith, finished.0.1, done.wrote.1, wsame, wstart, wend, wn.0, wn.1));
+          good = λ e. absurd (no-fault at (Some at) refl e);
+        },
+      )
+  runs-as now last warned (Some halt) status fault (inl s) finished =
+      let h = s.stopped.read in
+      let stopped = HasRead-stopped input.gave input.at_end input.start input.counted now s.lines h s.at s.stopped.stopped in (
+        h.given,
+        h.lead,
+        record {
+          whole = λ rn wn mn memory (rest : List ℕ) none within. absurd (stopped-none s.at.fault h.given s.lines rest stopped.0 within rn);
+          good = λ e. absurd (never-good halt last warned status fault finished e);
+        },
+      )
+  runs-as now last warned (Some halt) status fault (inr (inl s)) finished =
+      let h = s.ends.read in
+      let next = with_next s.lines s.ends.line in (
+        h.given,
+        h.lead,
+        record {
+          whole = λ rn wn mn memory (rest : List ℕ) none within.
+              let first = first-lines input now next h s.ends.going rest none in
+              ends-whole (length s.lines + 1) (filter.so_far s.lines) (filter.so_far next) (filter.whole (lines_of (h.given ++ rest))) halt last warned status fault
+              (λ (at : At) bad. ap filter.whole first.1 ∙ lawful.decided next first.0 at bad) s.ends.ends finished wn mn memory;
+          good = λ e. absurd (never-good halt last warned status fault finished e);
+        },
+      )
+  runs-as now last warned (Some halt) status fault (inr (inr (inl s))) finished =
+      let h = s.read in (
+        h.given,
+        h.lead,
+        record {
+          whole = λ rn wn mn memory (rest : List ℕ) none within.
+              ends-whole (length s.lines) (filter.so_far s.lines) (filter.whole s.lines) (filter.whole (lines_of (h.given ++ rest))) halt last warned status fault
+              (λ (at : At) bad. ap filter.whole (all-lines input now s.lines h s.ended rest none)) s.ends finished wn mn memory;
+          good = λ e. absurd (never-good halt last warned status fault finished e);
+        },
+      )
+  runs-as now last warned (Some halt) status fault (inr (inr (inr s))) finished = (
+    [],
+    s.gave,
+    record {
+      whole = λ rn wn mn memory rest none within. absurd (memory (no-memory halt last warned status fault s.halt_is finished));
+      good = λ e. absurd (never-good halt last warned status fault finished e);
+    },
+  )

@@ -1,0 +1,12 @@
+use Rattle.std.proofs.Common.{◌≡◌, ◌⊎◌, inr, ℕ, ◌<◌, List, length, take, Some, subst, ◌∙◌}
+use Rattle.crx_filter.specs.Messages.{error_text}
+use Rattle.crx_filter.proofs.finish.report.Goals as goal
+
+pub returns-in-Err-clause-reported : goal.returns-in-Err-clause-reported
+returns-in-Err-clause-reported g c =
+    let n = c.in-Err.field-0.0 in
+    let same = c.bytes.ensures.value ∙ c.message.ensures in
+    inr (
+      (n, subst (λ (t : List ℕ). n < length t) same c.in-Err.ensures.short, subst (λ (t : List ℕ). g.M.Sink.took c.args.messages.now (take n t) c.write_all_counted.new.writer) same c.in-Err.ensures.part),
+      c.in-Err.ensures.counted,
+    )

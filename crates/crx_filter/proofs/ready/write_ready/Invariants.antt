@@ -1,0 +1,17 @@
+use Rattle.std.proofs.Common.{◌≡◌, ℕ, List, ◌++◌, length}
+use Rattle.crx_text.specs.Lines.{InputLine}
+use Rattle.crx_text.specs.declared.fault.At.{At}
+use Rattle.crx_filter.specs.Engines.{Awaited}
+use Rattle.crx_filter.specs.Filters.{lines_text}
+use Rattle.crx_filter.proofs.ready.write_ready.Given as goal
+
+abbrev pub invariant-loop-line : goal.invariant-loop-line
+invariant-loop-line g l =
+    ((written : List ℕ) × g.W.Sink.took l.initial.writer written l.writer × (lines_text (g.E.Engine.ready l.initial.engine) ≡ written ++ lines_text (g.E.Engine.ready l.engine)))
+    × (g.W.Sink.failures l.writer ≡ g.W.Sink.failures l.initial.writer)
+    × (g.E.Engine.filter l.engine ≡ g.E.Engine.filter l.initial.engine)
+    × ((lines : List InputLine) (notices : List Awaited) → g.E.Engine.shows l.initial.engine lines notices → g.E.Engine.shows l.engine lines notices)
+    × (g.E.Engine.is_open l.initial.engine → g.E.Engine.is_open l.engine)
+
+abbrev pub decreases-loop-line : goal.decreases-loop-line
+decreases-loop-line g l = length (g.E.Engine.ready l.engine)

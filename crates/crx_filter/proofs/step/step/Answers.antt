@@ -1,0 +1,218 @@
+use Rattle.std.proofs.Common.{◌≡◌, ◌⊎◌, inl, inr, ℕ, ◌+◌, List, [], ◌∷◌, ◌++◌, length, Ok, refl, sym, ap, subst, ◌∙◌, arith}
+use Rattle.crx_text.specs.Devices.{tally_of}
+use Rattle.crx_text.specs.Lines.{InputLine}
+use Rattle.crx_text.specs.Readers.{reading}
+use Rattle.crx_text.specs.Reading.{Reading, line_shown, line_number}
+use Rattle.crx_text.specs.Progress.{HasRead}
+use Rattle.crx_text.specs.declared.fault.Fault.TheVariants.{LineTooLong}
+use Rattle.crx_text.specs.declared.phase.Phase.TheVariants.{Open, Ended}
+use Rattle.crx_filter.specs.Running.{Input}
+use Rattle.crx_filter.specs.Taking.{Device}
+use Rattle.crx_filter.proofs.StepReading.{line-read, overlong-read, stop-read, end-read, overlong-number, line-lent, overlong-lent, ended-not-open}
+use Rattle.crx_filter.proofs.StepLemmas.{goes-by, ends-by}
+use Rattle.crx_filter.proofs.step.step.Goals as goal
+
+pub take_line-requires-in-LineTooLong-clause-next :
+    goal.take_line-requires-in-LineTooLong-clause-next
+take_line-requires-in-LineTooLong-clause-next g c =
+    let counts = λ (r : g.row.R.Denot). tally_of (g.R.Source.failures r) (g.R.Source.ends r) in
+    overlong-number (λ given. g.R.Source.gave c.args.reader.now given c.next_line.new.reader) (g.R.Source.at_end c.next_line.new.reader) (counts c.args.reader.now) (counts c.next_line.new.reader)
+    (reading c.args.input.now) (reading c.next_line.follows.lender-at-none) c.next_line.result c.requires.going c.next_line.follows.holds-at-none.0 (λ e. (c.next_line.ensures.ended e).0) c.in-Err.at c.in-Err.is c.in-LineTooLong.is
+    ∙ ap (λ n. n + 1) c.requires.next
+
+pub returns-in-Ok-clause-goes : goal.returns-in-Ok-clause-goes
+returns-in-Ok-clause-goes g c = λ r0 w0 m0 (lines : List InputLine) shown running.
+    let filter = g.E.Engine.filter c.args.engine.now in
+    let r1 = c.args.reader.now in
+    let r2 = c.next_line.new.reader in
+    let w1 = c.args.writer.now in
+    let m1 = c.args.messages.now in
+    let counts = λ (r : g.row.R.Denot). tally_of (g.R.Source.failures r) (g.R.Source.ends r) in
+    let old = reading c.args.input.now in
+    let new = reading c.next_line.follows.lender-at-none in
+    let gave : List ℕ → Type 0 = λ given. g.R.Source.gave r0 given r1 in
+    let gives : List ℕ → Type 0 = λ given. g.R.Source.gave r0 given r2 in
+    let step : List ℕ → Type 0 = λ given. g.R.Source.gave r1 given r2 in
+    let goes = λ (given more : List ℕ) (a : gave given) (b : step more). g.met.R.Source.gave_both r0 r1 r2 given more a b in
+    let at-open = c.next_line.follows.holds-at-none.0 in
+    let at-ended = λ (e : old.phase ≡ Ended). (c.next_line.ensures.ended e).0 in
+    let is = c.in-Ok-Some.is ∙ ap Ok c.in-Ok-Some.field-0-is in
+    let line = line_shown c.in-Ok-Some.line in
+    let number = line_number c.in-Ok-Some.line in
+    let read = line-read gave gives step (g.R.Source.at_end r1) (g.R.Source.at_end r2) (counts r0) (counts r1) (counts r2) old new lines running.read goes c.next_line.result c.requires.going at-open at-ended c.in-Ok-Some.line is in
+    let taken = refl in
+    let w2 = c.take_line.new.writer in
+    let m2 = c.take_line.new.messages in
+    let input : Input = record { gave = gave; at_end = g.R.Source.at_end r1; start = counts r0; counted = counts r1 } in
+    let then : Input = record { gave = gives; at_end = g.R.Source.at_end r2; start = counts r0; counted = counts r2 } in
+    let writer1 : Device = record { took = λ text. g.W.Sink.took w0 text w1; before = g.W.Sink.failures w0; after = g.W.Sink.failures w1 } in
+    let writer2 : Device = record { took = λ text. g.W.Sink.took w1 text w2; before = g.W.Sink.failures w1; after = g.W.Sink.failures w2 } in
+    let writer : Device = record { took = λ text. g.W.Sink.took w0 text w2; before = g.W.Sink.failures w0; after = g.W.Sink.failures w2 } in
+    let messages1 : Device = record { took = λ text. g.M.Sink.took m0 text m1; before = g.M.Sink.failures m0; after = g.M.Sink.failures m1 } in
+    let messages2 : Device = record { took = λ text. g.M.Sink.took m1 text m2; before = g.M.Sink.failures m1; after = g.M.Sink.failures m2 } in
+    let messages : Device = record { took = λ text. g.M.Sink.took m0 text m2; before = g.M.Sink.failures m0; after = g.M.Sink.failures m2 } in
+    goes-by filter input then old new lines writer1 writer2 writer messages1 messages2 messages
+    refl refl refl (λ xs ys a b. g.met.W.Sink.took_both w0 w1 w2 xs ys a b)
+    refl refl refl (λ xs ys a b. g.met.M.Sink.took_both m0 m1 m2 xs ys a b)
+    running line number read (g.E.Engine.shows c.take_line.new.engine) c.in-Ok.warned (c.in-Ok.ensures.done lines line shown taken)
+
+pub returns-in-Err-take_line-clause-stops : goal.returns-in-Err-take_line-clause-stops
+returns-in-Err-take_line-clause-stops g c = λ r0 w0 m0 (lines : List InputLine) shown running.
+    let filter = g.E.Engine.filter c.args.engine.now in
+    let r1 = c.args.reader.now in
+    let r2 = c.next_line.new.reader in
+    let w1 = c.args.writer.now in
+    let m1 = c.args.messages.now in
+    let counts = λ (r : g.row.R.Denot). tally_of (g.R.Source.failures r) (g.R.Source.ends r) in
+    let old = reading c.args.input.now in
+    let new = reading c.next_line.follows.lender-at-none in
+    let gave : List ℕ → Type 0 = λ given. g.R.Source.gave r0 given r1 in
+    let gives : List ℕ → Type 0 = λ given. g.R.Source.gave r0 given r2 in
+    let step : List ℕ → Type 0 = λ given. g.R.Source.gave r1 given r2 in
+    let goes = λ (given more : List ℕ) (a : gave given) (b : step more). g.met.R.Source.gave_both r0 r1 r2 given more a b in
+    let at-open = c.next_line.follows.holds-at-none.0 in
+    let at-ended = λ (e : old.phase ≡ Ended). (c.next_line.ensures.ended e).0 in
+    let is = c.in-Ok-Some.is ∙ ap Ok c.in-Ok-Some.field-0-is in
+    let line = line_shown c.in-Ok-Some.line in
+    let number = line_number c.in-Ok-Some.line in
+    let read = line-read gave gives step (g.R.Source.at_end r1) (g.R.Source.at_end r2) (counts r0) (counts r1) (counts r2) old new lines running.read goes c.next_line.result c.requires.going at-open at-ended c.in-Ok-Some.line is in
+    let taken = refl in
+    let w2 = c.take_line.new.writer in
+    let m2 = c.take_line.new.messages in
+    let input : Input = record { gave = gave; at_end = g.R.Source.at_end r1; start = counts r0; counted = counts r1 } in
+    let then : Input = record { gave = gives; at_end = g.R.Source.at_end r2; start = counts r0; counted = counts r2 } in
+    let writer1 : Device = record { took = λ text. g.W.Sink.took w0 text w1; before = g.W.Sink.failures w0; after = g.W.Sink.failures w1 } in
+    let writer2 : Device = record { took = λ text. g.W.Sink.took w1 text w2; before = g.W.Sink.failures w1; after = g.W.Sink.failures w2 } in
+    let writer : Device = record { took = λ text. g.W.Sink.took w0 text w2; before = g.W.Sink.failures w0; after = g.W.Sink.failures w2 } in
+    let messages1 : Device = record { took = λ text. g.M.Sink.took m0 text m1; before = g.M.Sink.failures m0; after = g.M.Sink.failures m1 } in
+    let messages2 : Device = record { took = λ text. g.M.Sink.took m1 text m2; before = g.M.Sink.failures m1; after = g.M.Sink.failures m2 } in
+    let messages : Device = record { took = λ text. g.M.Sink.took m0 text m2; before = g.M.Sink.failures m0; after = g.M.Sink.failures m2 } in
+    inr (ends-by filter input then old new lines writer1 writer2 writer messages1 messages2 messages
+    refl refl refl (λ xs ys a b. g.met.W.Sink.took_both w0 w1 w2 xs ys a b)
+    refl refl refl (λ xs ys a b. g.met.M.Sink.took_both m0 m1 m2 xs ys a b)
+    running line number read c.in-Err-take_line.halt (c.in-Err-take_line.ensures.cut lines line shown taken))
+
+pub returns-in-Ok-None-clause-goes : goal.returns-in-Ok-None-clause-goes
+returns-in-Ok-None-clause-goes g c = λ r0 w0 m0 (lines : List InputLine) shown running.
+    let r1 = c.args.reader.now in
+    let r2 = c.next_line.new.reader in
+    let counts = λ (r : g.row.R.Denot). tally_of (g.R.Source.failures r) (g.R.Source.ends r) in
+    let old = reading c.args.input.now in
+    let new = reading c.next_line.follows.lender-at-none in
+    let gave : List ℕ → Type 0 = λ given. g.R.Source.gave r0 given r1 in
+    let gives : List ℕ → Type 0 = λ given. g.R.Source.gave r0 given r2 in
+    let step : List ℕ → Type 0 = λ given. g.R.Source.gave r1 given r2 in
+    let goes = λ (given more : List ℕ) (a : gave given) (b : step more). g.met.R.Source.gave_both r0 r1 r2 given more a b in
+    let kept : old.phase ≡ Ended → HasRead gives (g.R.Source.at_end r2) (counts r0) (counts r2) new lines × (new.phase ≡ Ended) = λ e.
+    let same = (c.next_line.ensures.ended e).1 in
+    let still : new ≡ old = c.next_line.follows.holds-at-none.1 (λ o. ended-not-open (sym e ∙ o)) in (
+      subst (λ (n : Reading). HasRead gives (g.R.Source.at_end r2) (counts r0) (counts r2) n lines) (sym still)
+          (subst (λ (r : g.row.R.Denot). HasRead (λ given. g.R.Source.gave r0 given r) (g.R.Source.at_end r) (counts r0) (counts r) old lines) (sym same) running.read),
+      ap (λ (n : Reading). n.phase) still ∙ e,
+    ) in
+    let over = end-read gave gives step (g.R.Source.at_end r1) (g.R.Source.at_end r2) (counts r0) (counts r1) (counts r2) old new lines running.read goes c.next_line.result c.requires.going
+    c.next_line.follows.holds-at-none.0 (λ e. (c.next_line.ensures.ended e).0) (c.in-Ok-None.is ∙ ap Ok c.in-Ok-None.field-0-is) kept in
+    record {
+      shown = shown;
+      running = record { read = over.0; going = inr over.1; good = running.good; wrote = running.wrote; told = running.told };
+      ended = over.1;
+    }
+
+pub returns-in-Ok-take_line-clause-goes : goal.returns-in-Ok-take_line-clause-goes
+returns-in-Ok-take_line-clause-goes g c = λ r0 w0 m0 (lines : List InputLine) shown running.
+    let filter = g.E.Engine.filter c.args.engine.now in
+    let r1 = c.args.reader.now in
+    let r2 = c.next_line.new.reader in
+    let w1 = c.args.writer.now in
+    let m1 = c.args.messages.now in
+    let counts = λ (r : g.row.R.Denot). tally_of (g.R.Source.failures r) (g.R.Source.ends r) in
+    let old = reading c.args.input.now in
+    let new = reading c.next_line.follows.lender-at-none in
+    let gave : List ℕ → Type 0 = λ given. g.R.Source.gave r0 given r1 in
+    let gives : List ℕ → Type 0 = λ given. g.R.Source.gave r0 given r2 in
+    let step : List ℕ → Type 0 = λ given. g.R.Source.gave r1 given r2 in
+    let goes = λ (given more : List ℕ) (a : gave given) (b : step more). g.met.R.Source.gave_both r0 r1 r2 given more a b in
+    let at-open = c.next_line.follows.holds-at-none.0 in
+    let at-ended = λ (e : old.phase ≡ Ended). (c.next_line.ensures.ended e).0 in
+    let over = overlong-read gave gives step (g.R.Source.at_end r1) (g.R.Source.at_end r2) (counts r0) (counts r1) (counts r2) old new lines running.read goes c.next_line.result c.requires.going at-open at-ended c.in-Err.at c.in-Err.is c.in-LineTooLong.is in
+    let line = over.0 in
+    let number = c.in-Err.at.line in
+    let read = over.2 in
+    let taken = over.1 in
+    let w2 = c.take_line-in-LineTooLong.new.writer in
+    let m2 = c.take_line-in-LineTooLong.new.messages in
+    let input : Input = record { gave = gave; at_end = g.R.Source.at_end r1; start = counts r0; counted = counts r1 } in
+    let then : Input = record { gave = gives; at_end = g.R.Source.at_end r2; start = counts r0; counted = counts r2 } in
+    let writer1 : Device = record { took = λ text. g.W.Sink.took w0 text w1; before = g.W.Sink.failures w0; after = g.W.Sink.failures w1 } in
+    let writer2 : Device = record { took = λ text. g.W.Sink.took w1 text w2; before = g.W.Sink.failures w1; after = g.W.Sink.failures w2 } in
+    let writer : Device = record { took = λ text. g.W.Sink.took w0 text w2; before = g.W.Sink.failures w0; after = g.W.Sink.failures w2 } in
+    let messages1 : Device = record { took = λ text. g.M.Sink.took m0 text m1; before = g.M.Sink.failures m0; after = g.M.Sink.failures m1 } in
+    let messages2 : Device = record { took = λ text. g.M.Sink.took m1 text m2; before = g.M.Sink.failures m1; after = g.M.Sink.failures m2 } in
+    let messages : Device = record { took = λ text. g.M.Sink.took m0 text m2; before = g.M.Sink.failures m0; after = g.M.Sink.failures m2 } in
+    goes-by filter input then old new lines writer1 writer2 writer messages1 messages2 messages
+    refl refl refl (λ xs ys a b. g.met.W.Sink.took_both w0 w1 w2 xs ys a b)
+    refl refl refl (λ xs ys a b. g.met.M.Sink.took_both m0 m1 m2 xs ys a b)
+    running line number read (g.E.Engine.shows c.take_line-in-LineTooLong.new.engine) c.in-Ok-take_line.warned (c.in-Ok-take_line.ensures.done lines line shown taken)
+
+pub returns-in-Err-take_line-2-clause-stops : goal.returns-in-Err-take_line-2-clause-stops
+returns-in-Err-take_line-2-clause-stops g c = λ r0 w0 m0 (lines : List InputLine) shown running.
+    let filter = g.E.Engine.filter c.args.engine.now in
+    let r1 = c.args.reader.now in
+    let r2 = c.next_line.new.reader in
+    let w1 = c.args.writer.now in
+    let m1 = c.args.messages.now in
+    let counts = λ (r : g.row.R.Denot). tally_of (g.R.Source.failures r) (g.R.Source.ends r) in
+    let old = reading c.args.input.now in
+    let new = reading c.next_line.follows.lender-at-none in
+    let gave : List ℕ → Type 0 = λ given. g.R.Source.gave r0 given r1 in
+    let gives : List ℕ → Type 0 = λ given. g.R.Source.gave r0 given r2 in
+    let step : List ℕ → Type 0 = λ given. g.R.Source.gave r1 given r2 in
+    let goes = λ (given more : List ℕ) (a : gave given) (b : step more). g.met.R.Source.gave_both r0 r1 r2 given more a b in
+    let at-open = c.next_line.follows.holds-at-none.0 in
+    let at-ended = λ (e : old.phase ≡ Ended). (c.next_line.ensures.ended e).0 in
+    let over = overlong-read gave gives step (g.R.Source.at_end r1) (g.R.Source.at_end r2) (counts r0) (counts r1) (counts r2) old new lines running.read goes c.next_line.result c.requires.going at-open at-ended c.in-Err.at c.in-Err.is c.in-LineTooLong.is in
+    let line = over.0 in
+    let number = c.in-Err.at.line in
+    let read = over.2 in
+    let taken = over.1 in
+    let w2 = c.take_line-in-LineTooLong.new.writer in
+    let m2 = c.take_line-in-LineTooLong.new.messages in
+    let input : Input = record { gave = gave; at_end = g.R.Source.at_end r1; start = counts r0; counted = counts r1 } in
+    let then : Input = record { gave = gives; at_end = g.R.Source.at_end r2; start = counts r0; counted = counts r2 } in
+    let writer1 : Device = record { took = λ text. g.W.Sink.took w0 text w1; before = g.W.Sink.failures w0; after = g.W.Sink.failures w1 } in
+    let writer2 : Device = record { took = λ text. g.W.Sink.took w1 text w2; before = g.W.Sink.failures w1; after = g.W.Sink.failures w2 } in
+    let writer : Device = record { took = λ text. g.W.Sink.took w0 text w2; before = g.W.Sink.failures w0; after = g.W.Sink.failures w2 } in
+    let messages1 : Device = record { took = λ text. g.M.Sink.took m0 text m1; before = g.M.Sink.failures m0; after = g.M.Sink.failures m1 } in
+    let messages2 : Device = record { took = λ text. g.M.Sink.took m1 text m2; before = g.M.Sink.failures m1; after = g.M.Sink.failures m2 } in
+    let messages : Device = record { took = λ text. g.M.Sink.took m0 text m2; before = g.M.Sink.failures m0; after = g.M.Sink.failures m2 } in
+    inr (ends-by filter input then old new lines writer1 writer2 writer messages1 messages2 messages
+    refl refl refl (λ xs ys a b. g.met.W.Sink.took_both w0 w1 w2 xs ys a b)
+    refl refl refl (λ xs ys a b. g.met.M.Sink.took_both m0 m1 m2 xs ys a b)
+    running line number read c.in-Err-take_line-2.halt (c.in-Err-take_line-2.ensures.cut lines line shown taken))
+
+pub returns-in_default-clause-stops : goal.returns-in_default-clause-stops
+returns-in_default-clause-stops g c = λ r0 w0 m0 (lines : List InputLine) shown running.
+    let r1 = c.args.reader.now in
+    let r2 = c.next_line.new.reader in
+    let counts = λ (r : g.row.R.Denot). tally_of (g.R.Source.failures r) (g.R.Source.ends r) in
+    let old = reading c.args.input.now in
+    let new = reading c.next_line.follows.lender-at-none in
+    let gave : List ℕ → Type 0 = λ given. g.R.Source.gave r0 given r1 in
+    let gives : List ℕ → Type 0 = λ given. g.R.Source.gave r0 given r2 in
+    let step : List ℕ → Type 0 = λ given. g.R.Source.gave r1 given r2 in
+    let goes = λ (given more : List ℕ) (a : gave given) (b : step more). g.met.R.Source.gave_both r0 r1 r2 given more a b in
+    let stopped = stop-read gave gives step (g.R.Source.at_end r1) (g.R.Source.at_end r2) (counts r0) (counts r1) (counts r2) old new lines running.read goes c.next_line.result c.requires.going
+    c.next_line.follows.holds-at-none.0 (λ e. (c.next_line.ensures.ended e).0) c.in-Err.at c.in-Err.is c.in_default.not-LineTooLong in
+    inl (c.in-Err.at, refl, record { read = stopped.0; stopped = stopped.1; wrote = running.wrote; told = running.told })
+
+pub returns-in-Ok-clause-farther : goal.returns-in-Ok-clause-farther
+returns-in-Ok-clause-farther g c =
+    let counts = λ (r : g.row.R.Denot). tally_of (g.R.Source.failures r) (g.R.Source.ends r) in
+    line-lent (λ given. g.R.Source.gave c.args.reader.now given c.next_line.new.reader) (g.R.Source.at_end c.next_line.new.reader) (counts c.args.reader.now) (counts c.next_line.new.reader)
+    (reading c.args.input.now) (reading c.next_line.follows.lender-at-none) c.next_line.result c.requires.going c.next_line.follows.holds-at-none.0 (λ e. (c.next_line.ensures.ended e).0) c.in-Ok-Some.line (c.in-Ok-Some.is ∙ ap Ok c.in-Ok-Some.field-0-is)
+
+pub returns-in-Ok-take_line-clause-farther : goal.returns-in-Ok-take_line-clause-farther
+returns-in-Ok-take_line-clause-farther g c =
+    let counts = λ (r : g.row.R.Denot). tally_of (g.R.Source.failures r) (g.R.Source.ends r) in
+    overlong-lent (λ given. g.R.Source.gave c.args.reader.now given c.next_line.new.reader) (g.R.Source.at_end c.next_line.new.reader) (counts c.args.reader.now) (counts c.next_line.new.reader)
+    (reading c.args.input.now) (reading c.next_line.follows.lender-at-none) c.next_line.result c.requires.going c.next_line.follows.holds-at-none.0 (λ e. (c.next_line.ensures.ended e).0) c.in-Err.at c.in-Err.is c.in-LineTooLong.is

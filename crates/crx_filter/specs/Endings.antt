@@ -1,0 +1,48 @@
+-- How a run is finished once its work has ended: the writer is flushed, and the fault is reported.
+use Rattle.std.specs.Prelude.{◌≡◌, ◌⊎◌, ◌<◌, ◌≤◌, ◌-◌, ◌^◌, ℕ, ◌+◌, Bool, true, false, List, [], ◌∷◌, ◌++◌, length, Option, Some, None, if◌then◌else◌}
+use Rattle.crx_text.specs.Devices.{Tally, one_more}
+use Rattle.crx_text.specs.Lines.{InputLine, lines_of}
+use Rattle.crx_text.specs.Reading.{Reading}
+use Rattle.crx_text.specs.declared.fault.At.{At}
+use Rattle.crx_text.specs.declared.fault.Fault.{Fault}
+use Rattle.crx_text.specs.declared.fault.Fault.TheVariants.{WriteFailed, OutOfMemory}
+use Rattle.crx_text.specs.declared.limits.TheConstants.{INPUT_LIMIT}
+use Rattle.crx_filter.specs.declared.taking.Halt.{Halt}
+use Rattle.crx_filter.specs.declared.taking.Halt.TheVariants.{Unwritten, Unreported}
+use Rattle.crx_filter.specs.declared.taking.Halt.TheVariants as halt
+use Rattle.crx_filter.specs.Filters.{Course, Filter}
+use Rattle.crx_filter.specs.Messages.{error_text, notices_text}
+use Rattle.crx_filter.specs.Taking.{Device, TookAll, TookPart, are_some}
+use Rattle.crx_filter.specs.Running.{Input, WorkEnds}
+
+-- a write that failed, at the last line that was read
+abbrev pub write_failed_at : ℕ → At
+write_failed_at last = record { line = last; fault = WriteFailed }
+
+-- the message of a fault was written, whole or as far as it went
+abbrev pub IsReported : Device → At → Type 0
+IsReported messages at = TookAll messages (error_text (Some at)) ⊎ TookPart messages (error_text (Some at))
+
+-- a flush was tried: it writes nothing, and its failure is counted
+abbrev pub IsFlushed : Device → Type 0
+IsFlushed writer = TookAll writer []
+
+abbrev pub FlushFailed : Device → Type 0
+FlushFailed writer = writer.took [] × (writer.after ≡ one_more writer.before)
+
+-- 2 where there were warnings, else 0
+abbrev pub good_status : Bool → ℕ
+good_status warned = if warned then 2 else 0
+
+-- a run that came to the good end of its input is flushed; where that fails, the failure is its fault
+abbrev pub FinishesWell : Device → Device → ℕ → Bool → ℕ → Option At → Type 0
+FinishesWell writer messages last warned status None = IsFlushed writer × TookAll messages [] × (status ≡ good_status warned)
+FinishesWell writer messages last warned status (Some at) = FlushFailed writer × IsReported messages at × (at ≡ write_failed_at last) × (status ≡ 1)
+
+-- a run with a fault of its input, its reader or its memory is flushed, and the fault is reported; a writer that failed isn't
+-- flushed, and after a warning that couldn't be written nothing more is
+abbrev pub Finishes : Device → Device → ℕ → Bool → Option Halt → ℕ → Option At → Type 0
+Finishes writer messages last warned None status fault = FinishesWell writer messages last warned status fault
+Finishes writer messages last warned (Some (halt.Fault at)) status fault = (IsFlushed writer ⊎ FlushFailed writer) × IsReported messages at × (fault ≡ Some at) × (status ≡ 1)
+Finishes writer messages last warned (Some Unwritten) status fault = TookAll writer [] × IsReported messages (write_failed_at last) × (fault ≡ Some (write_failed_at last)) × (status ≡ 1)
+Finishes writer messages last warned (Some Unreported) status fault = TookAll writer [] × TookAll messages [] × (fault ≡ Some (write_failed_at last)) × (status ≡ 1)

@@ -1,0 +1,173 @@
+-- What becomes of one line of the input.
+use Rattle.std.specs.Prelude.{◌≡◌, ◌⊎◌, ◌<◌, ◌≤◌, ℕ, ◌+◌, Bool, true, false, List, [], ◌∷◌, ◌++◌, length, take, Option, Some, None, Result, Ok, Err}
+use Rattle.crx_text.specs.Devices.{one_more}
+use Rattle.crx_text.specs.Lines.{InputLine, is_long}
+use Rattle.crx_text.specs.Reading.{line_shown, line_number}
+use Rattle.crx_text.specs.declared.fault.At.{At}
+use Rattle.crx_text.specs.declared.fault.Fault.TheVariants.{OutOfMemory}
+use Rattle.crx_filter.specs.declared.engine.Step.{Step}
+use Rattle.crx_filter.specs.declared.engine.Step.TheVariants.{Quiet, Ready, Warned}
+use Rattle.crx_filter.specs.declared.taking.Halt.{Halt}
+use Rattle.crx_filter.specs.declared.taking.Halt.TheVariants.{Fault, Unwritten, Unreported}
+use Rattle.crx_filter.specs.declared.taking.Taken.{Taken}
+use Rattle.crx_filter.specs.declared.taking.Taken.TheVariants.{Line, Overlong}
+use Rattle.crx_filter.specs.declared.taking.Once.{Once}
+use Rattle.crx_filter.specs.declared.taking.Once.TheVariants.{Done, Again}
+use Rattle.crx_filter.specs.Filters.{Course, Filter}
+use Rattle.crx_filter.specs.Engines.{Awaited, notices_of as warnings_awaited, with_next, IsNext, EndsWith}
+use Rattle.crx_filter.specs.Messages.{warning_text, notices_text}
+
+-- the line that was taken is this one
+abbrev pub TakenIs : Taken → InputLine → Type 0
+TakenIs (Line l) line = line ≡ line_shown l
+TakenIs (Overlong number) line = is_long line ≡ true
+
+abbrev pub number_taken : Taken → ℕ
+number_taken (Line l) = line_number l
+number_taken (Overlong number) = number
+
+abbrev pub is_warning : Step → Bool
+is_warning Quiet = false
+is_warning Ready = false
+is_warning (Warned notice again) = true
+
+-- the warning of a step, if it is one
+abbrev pub notices_of : Step → List At
+notices_of Quiet = []
+notices_of Ready = []
+notices_of (Warned notice again) = notice ∷ []
+
+-- whether there are any
+abbrev pub are_some : List At → Bool
+are_some [] = false
+are_some (notice ∷ notices) = true
+
+-- ---- devices
+
+-- a writer between two moments: which texts it may have taken in between, and the counts of its failures
+pub record Device : Type 1 where
+  pub took : List ℕ → Type 0
+  pub before : ℕ
+  pub after : ℕ
+
+-- it took a text whole, and counted no failure
+abbrev pub TookAll : Device → List ℕ → Type 0
+TookAll device text = device.took text × (device.after ≡ device.before)
+
+-- it took less than a text, from its front, and counted one failure more
+abbrev pub TookPart : Device → List ℕ → Type 0
+TookPart device text = ((n : ℕ) × (n < length text) × device.took (take n text)) × (device.after ≡ one_more device.before)
+
+-- ---- one step
+
+-- a step's lines or its warning couldn't be written whole
+abbrev pub Unsettled : Device → Device → List ℕ → List At → Halt → Type 0
+Unsettled writer messages text notices (Fault at) = ⊥
+Unsettled writer messages text notices Unwritten = TookPart writer text × TookAll messages []
+Unsettled writer messages text notices Unreported = TookPart messages (notices_text notices) × TookAll writer []
+
+-- ---- one line
+
+-- a course goes on by a text and warnings, and nothing ends it
+pub record Adds (before after : Course) (text : List ℕ) (notices : List At) : Type 0 where
+  pub output : after.output ≡ before.output ++ text
+  pub warnings : after.warnings ≡ before.warnings ++ notices
+  pub good : after.fault ≡ None
+
+-- these are the first warnings by which a course goes on
+abbrev pub AreNext : Course → Course → List At → Type 0
+AreNext before after notices = (more : List At) × (after.warnings ≡ before.warnings ++ notices ++ more)
+
+-- a line was taken, or the end: what it adds was written and reported, but for earlier warnings, which were reported before
+pub record IsDone (before after : Course) (shown : Type 0) (writer messages : Device) (earlier : List At) (warned : Bool) : Type 0 where
+  pub is_shown : shown
+  pub text : List ℕ
+  pub notices : List At
+  pub adds : Adds before after text (earlier ++ notices)
+  pub wrote : TookAll writer text
+  pub told : TookAll messages (notices_text notices)
+  pub flag : warned ≡ are_some notices
+
+-- a line is to come again after a warning
+pub record IsAgain (before after : Course) (line : InputLine) (shows : List Awaited → Type 0) (writer messages : Device) (earlier : List At) : Type 0 where
+  pub notice : At
+  pub shown : shows (record { notice = notice; line = line } ∷ [])
+  pub none : earlier ≡ []
+  pub next : AreNext before after (notice ∷ [])
+  pub wrote : TookAll writer []
+  pub told : TookAll messages (notices_text (notice ∷ []))
+
+abbrev pub IsOnce : Filter → (List InputLine → List Awaited → Type 0) → Device → Device → List InputLine → List Awaited → InputLine → Once → Type 0
+IsOnce filter shows writer messages lines earlier line (Done warned) =
+    IsDone (filter.so_far lines) (filter.so_far (with_next lines line)) (shows (with_next lines line) []) writer messages (warnings_awaited earlier) warned
+IsOnce filter shows writer messages lines earlier line Again =
+    IsAgain (filter.so_far lines) (filter.so_far (with_next lines line)) line (shows lines) writer messages (warnings_awaited earlier)
+
+-- memory ran out at a line
+pub record RunsOut (writer messages : Device) (number : ℕ) (at : At) : Type 0 where
+  pub fault : at.fault ≡ OutOfMemory
+  pub line : at.line ≡ number
+  pub wrote : TookAll writer []
+  pub told : TookAll messages []
+
+pub record IsFaulty (before after : Course) (writer messages : Device) (earlier : List At) (at : At) : Type 0 where
+  pub ends : EndsWith before after earlier at
+  pub wrote : TookAll writer []
+  pub told : TookAll messages []
+
+pub record IsUnwritten (before after : Course) (writer messages : Device) (earlier : List At) : Type 0 where
+  pub text : List ℕ
+  pub adds : Adds before after text earlier
+  pub wrote : TookPart writer text
+  pub told : TookAll messages []
+
+pub record IsUnreported (before after : Course) (writer messages : Device) (earlier : List At) : Type 0 where
+  pub notice : At
+  pub next : AreNext before after (earlier ++ notice ∷ [])
+  pub wrote : TookAll writer []
+  pub told : TookPart messages (notices_text (notice ∷ []))
+
+-- a line that was given once ended the run
+abbrev pub IsHalted : Course → Course → ℕ → Device → Device → List At → Halt → Type 0
+IsHalted before after number writer messages earlier (Fault at) = RunsOut writer messages number at ⊎ IsFaulty before after writer messages earlier at
+IsHalted before after number writer messages earlier Unwritten = IsUnwritten before after writer messages earlier
+IsHalted before after number writer messages earlier Unreported = IsUnreported before after writer messages earlier
+
+-- ---- a line that may come twice
+
+-- memory ran out for a line, after the first warnings that it adds, if any
+pub record IsOutOfMemory (before after : Course) (number : ℕ) (writer messages : Device) (at : At) : Type 0 where
+  pub fault : at.fault ≡ OutOfMemory
+  pub place : at.line ≡ number
+  pub notices : List At
+  pub next : (notices ≡ []) ⊎ AreNext before after notices
+  pub wrote : TookAll writer []
+  pub told : TookAll messages (notices_text notices)
+
+-- a fault ends the run, after the line's warnings
+pub record IsEnded (before after : Course) (writer messages : Device) (at : At) : Type 0 where
+  pub notices : List At
+  pub ends : EndsWith before after notices at
+  pub wrote : TookAll writer []
+  pub told : TookAll messages (notices_text notices)
+
+-- a text couldn't be written whole
+pub record IsCutText (before after : Course) (writer messages : Device) : Type 0 where
+  pub text : List ℕ
+  pub notices : List At
+  pub adds : Adds before after text notices
+  pub wrote : TookPart writer text
+  pub told : TookAll messages (notices_text notices)
+
+-- warnings couldn't be written whole
+pub record IsCutNotice (before after : Course) (writer messages : Device) : Type 0 where
+  pub notices : List At
+  pub next : AreNext before after notices
+  pub wrote : TookAll writer []
+  pub told : TookPart messages (notices_text notices)
+
+-- a line, or the end, ended the run
+abbrev pub IsCut : Course → Course → ℕ → Device → Device → Halt → Type 0
+IsCut before after number writer messages (Fault at) = IsOutOfMemory before after number writer messages at ⊎ IsEnded before after writer messages at
+IsCut before after number writer messages Unwritten = IsCutText before after writer messages
+IsCut before after number writer messages Unreported = IsCutNotice before after writer messages

@@ -1,0 +1,58 @@
+//! The end of a run: the writer is flushed, and the fault is reported.
+
+ghost use Rattle.std.specs.Prelude.{◌≡◌, ◌⊎◌, Some};
+ghost use Rattle.crx_filter.specs.Endings.{Finishes, IsReported};
+
+use crate::message::message;
+use crate::outcome::Outcome;
+use crate::taking::Halt;
+use crate::work::Work;
+use crx_text::{At, Fault, Sink, write_all_counted};
+
+/// Reports a fault; a failure ends its message where it comes.
+fn report<M: Sink>(messages: &mut M, at: At) -> Outcome
+    ensures reported { IsReported (record { took = λ text. M.took messages.old text messages.new; before = M.failures messages.old; after = M.failures messages.new }) at }
+    ensures fault { result.fault ≡ Some at }
+    ensures status { result.status ≡ 1 }
+{
+    let outcome = Outcome {
+        status: 1,
+        fault: Some(at),
+    };
+    match write_all_counted(messages, message(b"ERROR", at).bytes()) {
+        Ok(()) => outcome,
+        Err(_) => outcome,
+    }
+}
+
+/// Finishes a run whose work has ended. A writer that failed isn't flushed; a flush that fails is `WriteFailed` at the
+/// last line that was read, unless a fault stands. Then the fault is reported, but for a warning that couldn't be.
+pub(crate) fn finish<W: Sink, M: Sink>(writer: &mut W, messages: &mut M, work: Work) -> Outcome
+    ensures { Finishes
+        (record { took = λ text. W.took writer.old text writer.new; before = W.failures writer.old; after = W.failures writer.new })
+        (record { took = λ text. M.took messages.old text messages.new; before = M.failures messages.old; after = M.failures messages.new })
+        work.last work.warned work.halt result.status result.fault }
+{
+    let unwritten = At {
+        line: work.last,
+        fault: Fault::WriteFailed,
+    };
+    match work.halt {
+        None => match writer.flush() {
+            Ok(()) => Outcome {
+                status: if work.warned { 2 } else { 0 },
+                fault: None,
+            },
+            Err(_) => report(messages, unwritten),
+        },
+        Some(Halt::Fault(at)) => {
+            let _ = writer.flush();
+            report(messages, at)
+        }
+        Some(Halt::Unwritten) => report(messages, unwritten),
+        Some(Halt::Unreported) => Outcome {
+            status: 1,
+            fault: Some(unwritten),
+        },
+    }
+}

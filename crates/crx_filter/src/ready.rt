@@ -1,0 +1,36 @@
+//! Writing the lines that an engine has ready.
+
+ghost use Rattle.std.specs.Prelude.{◌≡◌, ◌<◌, ℕ, List, [], length, take, IfErr, OnOk, OnErr};
+ghost use Rattle.crx_text.specs.Lines.{InputLine};
+ghost use Rattle.crx_text.specs.Devices.{one_more};
+ghost use Rattle.crx_text.specs.declared.fault.At.{At};
+ghost use Rattle.crx_filter.specs.Engines.{Awaited};
+ghost use Rattle.crx_filter.specs.Filters.{lines_text};
+
+use crate::engine::Engine;
+use crx_text::{Sink, WriteFailed, write_all_counted};
+
+/// Writes the lines that an engine has ready, each with LF.
+pub(crate) fn write_ready<E: Engine, W: Sink>(
+    engine: &mut E,
+    writer: &mut W,
+) -> Result<(), WriteFailed>
+    ensures all { OnOk result (W.took writer.old (lines_text (E.ready engine.old)) writer.new) }
+    ensures good { OnOk result (W.failures writer.new ≡ W.failures writer.old) }
+    ensures drained { OnOk result (E.ready engine.new ≡ []) }
+    ensures filter { E.filter engine.new ≡ E.filter engine.old }
+    ensures shows { (lines : List InputLine) (notices : List Awaited) → E.shows engine.old lines notices → E.shows engine.new lines notices }
+    ensures running { E.is_open engine.old → E.is_open engine.new }
+    ensures part { OnErr result ((n : ℕ) × (n < length (lines_text (E.ready engine.old))) × W.took writer.old (take n (lines_text (E.ready engine.old))) writer.new) }
+    ensures counted { OnErr result (W.failures writer.new ≡ one_more (W.failures writer.old)) }
+{
+    while let Some(line) = engine.next_line() {
+        if let Err((_, failed)) = write_all_counted(writer, line) {
+            return Err(failed);
+        }
+        if let Err((_, failed)) = write_all_counted(writer, b"\n") {
+            return Err(failed);
+        }
+    }
+    Ok(())
+}

@@ -1,0 +1,70 @@
+//! A whole run: an input through an engine to a writer and its messages.
+
+ghost use Rattle.std.specs.Prelude.{◌≡◌, ℕ, Bool, List, [], Option};
+ghost use Rattle.crx_text.specs.Devices.{tally_of};
+ghost use Rattle.crx_text.specs.Reading.{Reading};
+ghost use Rattle.crx_filter.specs.declared.taking.Halt.{Halt as RunHalt};
+ghost use Rattle.crx_filter.specs.Endings.{Finishes};
+ghost use Rattle.crx_filter.specs.Running.{WorkEnds};
+ghost use Rattle.crx_filter.specs.Runs.{IsLawful, RunsAs};
+
+use crate::engine::Engine;
+use crate::finish::finish;
+use crate::outcome::Outcome;
+use crate::taking::Halt;
+use crate::work::{Work, take_all};
+use crx_text::{At, Fault, LineReader, Sink, Source};
+use std::alloc::Global;
+
+/// Memory ran out before the first line was asked for.
+pub(crate) fn no_memory() -> Work
+    ensures last { result.last ≡ 0 }
+    ensures halt { result.halt ≡ Some (Halt.Fault (record { line = 0; fault = Fault.OutOfMemory })) }
+{
+    Work {
+        last: 0,
+        warned: false,
+        halt: Some(Halt::Fault(At {
+            line: 0,
+            fault: Fault::OutOfMemory,
+        })),
+    }
+}
+
+/// Runs an engine over an input: reads its lines, writes what the engine makes ready, reports its warnings, and finishes.
+pub fn run<E: Engine, R: Source, W: Sink, M: Sink>(
+    alloc: Global,
+    engine: &mut E,
+    reader: &mut R,
+    writer: &mut W,
+    messages: &mut M,
+) -> Outcome
+    requires drained { E.ready engine.old ≡ [] }
+    requires running { E.is_open engine.old }
+    requires shown { E.shows engine.old [] [] }
+    requires lawful { IsLawful (E.filter engine.old) }
+    ensures ends { (w : W) × (m : M) × (now : Reading) × (last : ℕ) × (warned : Bool) × (halt : Option RunHalt)
+        × WorkEnds (E.filter engine.old)
+        (record { gave = λ given. R.gave reader.old given reader.new; at_end = R.at_end reader.new; start = tally_of (R.failures reader.old) (R.ends reader.old); counted = tally_of (R.failures reader.new) (R.ends reader.new) })
+        (record { took = λ text. W.took writer.old text w; before = W.failures writer.old; after = W.failures w })
+        (record { took = λ text. M.took messages.old text m; before = M.failures messages.old; after = M.failures m })
+        now last warned halt
+        × Finishes
+        (record { took = λ text. W.took w text writer.new; before = W.failures w; after = W.failures writer.new })
+        (record { took = λ text. M.took m text messages.new; before = M.failures m; after = M.failures messages.new })
+        last warned halt result.status result.fault }
+    ensures runs { (given : List ℕ) × R.gave reader.old given reader.new × RunsAs (E.filter engine.old)
+        (record { gave = λ given. R.gave reader.old given reader.new; at_end = R.at_end reader.new; start = tally_of (R.failures reader.old) (R.ends reader.old); counted = tally_of (R.failures reader.new) (R.ends reader.new) })
+        given
+        (record { took = λ text. W.took writer.old text writer.new; before = W.failures writer.old; after = W.failures writer.new })
+        (record { took = λ text. M.took messages.old text messages.new; before = M.failures messages.old; after = M.failures messages.new })
+        result.status result.fault }
+{
+    match LineReader::new(alloc) {
+        Err(_) => finish(writer, messages, no_memory()),
+        Ok(mut input) => {
+            let work = take_all(engine, &mut input, reader, writer, messages);
+            finish(writer, messages, work)
+        }
+    }
+}

@@ -1,0 +1,73 @@
+//! The work of a run: each line of the input, and its end.
+
+ghost use Rattle.std.specs.Prelude.{◌≡◌, ◌⊎◌, ◌+◌, ℕ, List, [], None};
+ghost use Rattle.crx_text.specs.Devices.{tally_of};
+ghost use Rattle.crx_text.specs.Lines.{InputLine};
+ghost use Rattle.crx_text.specs.Readers.{reading};
+ghost use Rattle.crx_filter.specs.Running.{WorkEnds};
+
+use crate::engine::Engine;
+use crate::step::step;
+use crate::taking::{Halt, take_end};
+use crx_text::phase::Phase;
+use crx_text::{LineReader, Sink, Source};
+
+/// Where the work of a run ended.
+#[derive(Clone, Copy, Debug, PartialEq, Eq)]
+pub(crate) struct Work {
+    /// The number of the last line that was read, 0 if none was.
+    pub(crate) last: u64,
+    /// Whether a warning was reported.
+    pub(crate) warned: bool,
+    /// What ended the work; `None` where the input came to its good end.
+    pub(crate) halt: Option<Halt>,
+}
+
+/// Takes the lines of an input one after another, and its end.
+pub(crate) fn take_all<E: Engine, R: Source, W: Sink, M: Sink>(
+    engine: &mut E,
+    input: &mut LineReader,
+    reader: &mut R,
+    writer: &mut W,
+    messages: &mut M,
+) -> Work
+    requires drained { E.ready engine.old ≡ [] }
+    requires running { E.is_open engine.old }
+    requires shown { E.shows engine.old [] [] }
+    requires first { reading input.old ≡ record { rest = []; lent = 0; number = 0; phase = Phase.Open } }
+    requires nothing { (E.filter engine.old).so_far [] ≡ record { output = []; warnings = []; fault = None } }
+    ensures { WorkEnds (E.filter engine.old)
+        (record { gave = λ given. R.gave reader.old given reader.new; at_end = R.at_end reader.new; start = tally_of (R.failures reader.old) (R.ends reader.old); counted = tally_of (R.failures reader.new) (R.ends reader.new) })
+        (record { took = λ text. W.took writer.old text writer.new; before = W.failures writer.old; after = W.failures writer.new })
+        (record { took = λ text. M.took messages.old text messages.new; before = M.failures messages.old; after = M.failures messages.new })
+        (reading input.new) result.last result.warned result.halt }
+{
+    let mut warned = false;
+    'lines: loop {
+        match step(engine, input, reader, writer, messages) {
+            Ok(Some(warning)) => warned = warned || warning,
+            Ok(None) => {
+                let last = input.number();
+                return match take_end(engine, writer, messages) {
+                    Ok(warning) => Work {
+                        last,
+                        warned: warned || warning,
+                        halt: None,
+                    },
+                    Err(halt) => Work {
+                        last,
+                        warned,
+                        halt: Some(halt),
+                    },
+                };
+            }
+            Err(halt) => {
+                return Work {
+                    last: input.number(),
+                    warned,
+                    halt: Some(halt),
+                };
+            }
+        }
+    }
+}
