@@ -38,9 +38,9 @@ in_full-one every items one = either-way (eqb (epochs_accepted items) 0) (is_int
 
 -- the text of an epoch behind some items
 epoch_text-here : (choices : Choices) (items : List (Item Epoch)) (epoch : Epoch) → choices.every ≡ Some 1 → are_different epoch.rows ≡ true →
-    compact_epoch (record { is_full = is_in_full choices.every items; epoch = epoch } ∷ marked_epochs choices.every items) ≡ full_epoch epoch
+    compact_epoch (record { in_full = is_in_full choices.every items; epoch = epoch } ∷ marked_epochs choices.every items) ≡ full_epoch epoch
 epoch_text-here choices items epoch one apart =
-    ap (λ (full : Bool). compact_epoch (record { is_full = full; epoch = epoch } ∷ marked_epochs choices.every items)) (in_full-one choices.every items one)
+    ap (λ (full : Bool). compact_epoch (record { in_full = full; epoch = epoch } ∷ marked_epochs choices.every items)) (in_full-one choices.every items one)
     ∙ compact_epoch-full epoch (marked_epochs choices.every items) apart
 
 -- an epoch was read and its text appended

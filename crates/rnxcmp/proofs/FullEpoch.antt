@@ -99,7 +99,7 @@ code-of_one None = refl
 code-of_one (Some v) = refl
 
 -- the compact lines of an epoch in full, whatever stands before it
-pub compact_epoch-full : (epoch : Epoch) (older : List Marked) → are_different epoch.rows ≡ true → compact_epoch (record { is_full = true; epoch = epoch } ∷ older) ≡ full_epoch epoch
+pub compact_epoch-full : (epoch : Epoch) (older : List Marked) → are_different epoch.rows ≡ true → compact_epoch (record { in_full = true; epoch = epoch } ∷ older) ≡ full_epoch epoch
 compact_epoch-full epoch older h =
     first_and_rest (text_difference-nothing (epoch_text epoch))
     (first_and_rest (ap code_text (code-of_one epoch.clock)) (satellite_lines-full [] epoch.rows h))

@@ -1,5 +1,7 @@
+pub mod AlikeKinds
 pub mod Appending
 pub mod Between
+pub mod CommandSteps
 pub mod CompactRun
 pub mod CompactSteps
 pub mod Ended
@@ -12,6 +14,8 @@ pub mod HeldLines
 pub mod InputFaults
 pub mod Justified
 pub mod LinesText
+pub mod NumberRead
+pub mod PlanSteps
 pub mod Reached
 pub mod Results
 pub mod RowsRead

@@ -2,7 +2,7 @@
 use Rattle.std.proofs.Common.{ℕ, ◌≡◌, ◌+◌, ◌-◌, ◌<◌, ◌≤◌, List, [], ◌∷◌, ◌++◌, take, drop, length, get_or, false, refl, ap, ◌∙◌, arith}
 use Rattle.std.proofs.lemmas.List.{take-append-le, drop-append-le, take-append-drop, length-drop, get_or-drop}
 use Rattle.crx_text.specs.Columns.{without_end_blanks, is_blank}
-use Rattle.crx_rinex.proofs.Blanks.{end_blanks-push, end_blanks_stop}
+use Rattle.crx_text.proofs.Blanks.{end_blanks-push, end_blanks_stop}
 
 -- one blank more is no matter
 pub trimmed-push : (start : ℕ) (xs : List ℕ) → start ≤ length xs →

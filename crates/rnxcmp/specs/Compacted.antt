@@ -48,7 +48,7 @@ marked_epochs every [] = []
 marked_epochs every (Accepted (HeaderLine line) ∷ before) = marked_epochs every before
 marked_epochs every (Accepted (EventLine line) ∷ before) = marked_epochs every before
 marked_epochs every (Accepted (EventRecord line) ∷ before) = marked_epochs every before
-marked_epochs every (Accepted (Observation epoch) ∷ before) = record { is_full = is_in_full every before; epoch = epoch } ∷ marked_epochs every before
+marked_epochs every (Accepted (Observation epoch) ∷ before) = record { in_full = is_in_full every before; epoch = epoch } ∷ marked_epochs every before
 marked_epochs every (Warned at ∷ before) = marked_epochs every before
 
 -- a text in so many columns, blanks behind it
@@ -72,7 +72,7 @@ abbrev pub compact_unit : Choices → List (Item Epoch) → Unit Epoch → List 
 compact_unit choices before (HeaderLine line) = lines_before_header choices.date before ++ line ∷ []
 compact_unit choices before (EventLine line) = line ∷ []
 compact_unit choices before (EventRecord line) = line ∷ []
-compact_unit choices before (Observation epoch) = compact_epoch (record { is_full = is_in_full choices.every before; epoch = epoch } ∷ marked_epochs choices.every before)
+compact_unit choices before (Observation epoch) = compact_epoch (record { in_full = is_in_full choices.every before; epoch = epoch } ∷ marked_epochs choices.every before)
 
 -- lines, each followed by LF
 abbrev pub lines_text : List (List ℕ) → List ℕ

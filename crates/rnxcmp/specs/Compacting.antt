@@ -13,6 +13,8 @@ use Rattle.rnxcmp.specs.Items.{Item}
 use Rattle.rnxcmp.specs.Places.{unit_at}
 use Rattle.rnxcmp.specs.Reading.{AtFault, reading_of}
 use Rattle.rnxcmp.specs.Compacted.{compact_text, compacted}
+use Rattle.crx_text.specs.Devices.{one_more}
+use Rattle.rnxcmp.specs.Finishing.{end_status}
 use Rattle.rnxcmp.specs.Progress.{IsBetweenUnits, IsDone, IsOpen}
 
 -- the fault is this one
@@ -73,9 +75,13 @@ pub record IsCompacted (choices : Choices) (given written told : List ℕ) (stat
 
 -- a run over devices: where none of them failed and memory didn't run out, the run is the compaction of every input within
 -- the limit that begins with what was given; and where no fault ended it, whatever the devices did, the end was told within the
--- limit and no read failed, so that no more was to come
+-- limit and no read failed, so that no more was to come, and no write failed; the status is the fault's, and a device's fault
+-- stands only where the device failed
 pub record Compacts (choices : Choices) (given : List ℕ) (told_end : Type 0) (reads reads_after writes writes_after tells tells_after : ℕ) (written told : List ℕ) (status : ℕ) (fault : Option At) : Type 0 where
   pub whole : NoneFailed reads reads_after → NoneFailed writes writes_after → NoneFailed tells tells_after → (FaultIs OutOfMemory fault → ⊥) →
       (rest : List ℕ) → (told_end → rest ≡ []) → length (given ++ rest) ≤ INPUT_LIMIT → IsCompacted choices (given ++ rest) written told status fault
-  pub to_end : fault ≡ None → told_end × (length given ≤ INPUT_LIMIT) × (reads_after ≡ reads)
+  pub to_end : fault ≡ None → told_end × (length given ≤ INPUT_LIMIT) × (reads_after ≡ reads) × (writes_after ≡ writes)
+  pub status_is : status ≡ end_status fault
+  pub read_failed : FaultIs ReadFailed fault → reads_after ≡ one_more reads
+  pub write_failed : FaultIs WriteFailed fault → writes_after ≡ one_more writes
   pub too_long : FaultIs InputTooLong fault → INPUT_LIMIT < length given

@@ -1,6 +1,8 @@
 pub mod Choices
+pub mod Commands
 pub mod Compacted
 pub mod Compacting
+pub mod Dates
 pub mod Early
 pub mod EpochReading
 pub mod Finishing
@@ -8,7 +10,9 @@ pub mod FullEpoch
 pub mod HeaderReading
 pub mod Items
 pub mod Messages
+pub mod Names
 pub mod Places
+pub mod Planning
 pub mod Progress
 pub mod Reading
 pub mod Standard

@@ -158,14 +158,11 @@ pub fn compact<R: Source, W: Sink, M: Sink>(
     requires every { options.every ≡ Some 1 }
     requires skip { options.skip ≡ false }
     // Where no device failed and memory didn't run out, the run is the defined one of all bytes that the reader gave.
-    ensures run { (given written told : List ℕ) × R.gave reader.old given reader.new × W.took writer.old written writer.new
+    ensures { (given written told : List ℕ) × R.gave reader.old given reader.new × W.took writer.old written writer.new
         × M.took messages.old told messages.new
         × Compacts options given (R.at_end reader.new) (R.failures reader.old) (R.failures reader.new)
         (W.failures writer.old) (W.failures writer.new) (M.failures messages.old) (M.failures messages.new)
         written told result.status result.fault }
-    ensures status { result.status ≡ end_status result.fault }
-    ensures read_failed { FaultIs Fault.ReadFailed result.fault → R.failures reader.new ≡ one_more (R.failures reader.old) }
-    ensures write_failed { FaultIs Fault.WriteFailed result.fault → W.failures writer.new ≡ one_more (W.failures writer.old) }
 {
     let mut output = Vec::new(alloc);
     let end = compact_input(alloc, reader, options.date(), &mut output);

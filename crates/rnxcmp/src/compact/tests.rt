@@ -245,7 +245,7 @@ fn more_types_than_one_line_lists(rt: HostRuntime) -> Result<(), Fail> {
 fn comment(alloc: Global, length: usize) -> Result<Vec<u8>, AllocError> {
     let mut line = Vec::new(alloc);
     line.extend_from_slice(b"                                                            COMMENT")?;
-    while line.len() < length {
+    for _ in line.len()..length {
         line.push(b' ')?;
     }
     Ok(line)

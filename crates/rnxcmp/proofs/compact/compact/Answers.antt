@@ -1,11 +1,11 @@
 use Rattle.std.proofs.Common.{◌∙◌}
 use Rattle.rnxcmp.specs.Messages.{error_text}
 use Rattle.rnxcmp.proofs.Finished.{handed-fault}
-use Rattle.rnxcmp.proofs.CompactRun.{written-of, told-of, compacts-run}
+use Rattle.rnxcmp.proofs.CompactRun.{written-of, told-of, handed-none, compacts-run}
 use Rattle.rnxcmp.proofs.compact.compact.Goals as goal
 
-pub returns-clause-run : goal.returns-clause-run
-returns-clause-run g c =
+pub returns : goal.returns
+returns g c =
     let input = c.compact_input-end.ensures in
     let before = c.compact_input-end.result.fault in
     let after = c.finish.result.fault in
@@ -26,5 +26,6 @@ returns-clause-run g c =
           (g.M.Sink.failures c.args.messages.now) (g.M.Sink.failures c.finish.new.messages)
           c.compact_input-end.new.output.items written.0 told.0 c.finish.result.status last before after
           c.requires.every c.requires.skip c.date.ensures input.2
-          (λ none. ((written.2 none).0 ∙ c.as_slice.ensures.value, (written.2 none).1)) told.2 c.finish.ensures.status faults,
+          (λ none. ((written.2 none).0 ∙ c.as_slice.ensures.value, (written.2 none).1)) told.2 c.finish.ensures.status faults
+          (handed-none g.W.Sink.took g.W.Sink.failures c.args.writer.now slice c.finish.new.writer last before after c.finish.ensures.output),
     )

@@ -29,7 +29,7 @@ made-choices words asked choices e good made =
 pub returns-in-Ok-clause-compacted : goal.returns-in-Ok-clause-compacted
 returns-in-Ok-clause-compacted g c = λ choices e.
     let plan = c.in-Some.plan in
-    let run = c.compact.ensures.run in
+    let run = c.compact.ensures in
     let date : c.as_bytes.result.now ≡ plan.date.now = c.as_bytes.ensures.value in
     let good : is_date plan.date.now ≡ true = ap is_date (sym date) ∙ c.in-Ok.ensures.1 in
     let made = made-choices (map (string_bytes {Z = Global}) c.args.words.now) (record { tool = plan.tool; every = plan.every; skip = plan.skip; date = plan.date.now }) choices c.in-Some.ensures.asked good e in

@@ -1,0 +1,297 @@
+//! The command line: its subcommands, their options, and their help.
+
+ghost use Rattle.std.specs.Prelude.{◌≡◌, IfOk, codes, false};
+ghost use Rattle.clap.specs.Words.{app_of, rule_of, shape_of};
+ghost use Rattle.rnxcmp.specs.Commands.{checker, crx2rnx, date_rule, every_rule, flag_rule, names_rule, program, rnx2crx, top};
+
+use clap::{Arg, ArgAction, Command, value_parser};
+use std::alloc::{AllocError, Global};
+
+const ABOUT: &str = "Compacts and expands RINEX 3.0x observation files, and checks them";
+
+const HELP: &str = "\
+What goes in and out:
+  rnx2crx  a RINEX 3.0x observation file becomes Compact RINEX 3.0 (Hatanaka)
+  crx2rnx  Compact RINEX 3.0 becomes a RINEX 3.0x observation file
+  check    a RINEX 3.0x observation file is reported on in six lines
+
+Names: without a file name standard input is read, and without one or with `-`
+standard output is written. Else the output file is named after the input file:
+  .rnx <-> .crx   .RNX <-> .CRX   .24o <-> .24d   .24O <-> .24D   (any year)
+
+Messages go to standard error, one line each:
+  ERROR line 7 code 18: bad indicator
+
+Exit status: 0 all went well; 1 an error ended the run, or the words or the files
+aren't right; 2 there were warnings (with -s), or the file isn't standard (check).
+
+Examples:
+  rnxcmp rnx2crx abcd0010.24o            writes abcd0010.24d
+  rnxcmp crx2rnx - abcd0010.24d | less   shows it
+  gzip -dc a.crx.gz | rnxcmp crx2rnx > a.rnx";
+
+const RNX2CRX_ABOUT: &str = "Compacts a RINEX 3.0x observation file";
+
+const RNX2CRX_HELP: &str = "\
+In: a RINEX 3.0x observation file. Out: Compact RINEX 3.0.
+Without FILE standard input is read. Without FILE, or with `-`, standard output is
+written; else the output is FILE with another ending: .rnx becomes .crx, .RNX .CRX,
+.24o .24d and .24O .24D (any year). A file that exists is overwritten only with -f.
+
+Exit status: 0 all went well; 1 an error ended the run (what was written stays);
+2 epochs were skipped with warnings (-s).
+
+Examples:
+  rnxcmp rnx2crx abcd0010.24o            writes abcd0010.24d
+  rnxcmp rnx2crx -s -e 120 - a.rnx > a.crx
+  rnxcmp rnx2crx --date '01-Jan-24 00:00' < a.rnx > a.crx";
+
+const CRX2RNX_ABOUT: &str = "Expands Compact RINEX 3.0";
+
+const CRX2RNX_HELP: &str = "\
+In: Compact RINEX 3.0. Out: the RINEX 3.0x observation file that it stands for.
+Without FILE standard input is read. Without FILE, or with `-`, standard output is
+written; else the output is FILE with another ending: .crx becomes .rnx, .CRX .RNX,
+.24d .24o and .24D .24O (any year). A file that exists is overwritten only with -f.
+
+Exit status: 0 all went well; 1 an error ended the run (what was written stays);
+2 epochs were skipped with warnings (-s).
+
+Examples:
+  rnxcmp crx2rnx abcd0010.24d            writes abcd0010.24o
+  gzip -dc a.crx.gz | rnxcmp crx2rnx -s > a.rnx";
+
+const CHECK_ABOUT: &str = "Reports on a RINEX 3.0x observation file";
+
+const CHECK_HELP: &str = "\
+In: a RINEX 3.0x observation file. Out, on standard output, six lines: format,
+systems with their counts of types, epochs, events, observations, and standard
+`yes` or `no` with the number of the first line that isn't. A standard file comes
+back byte for byte when it is compacted and expanded. `-` has no effect.
+
+Exit status: 0 standard; 1 an error, and no report; 2 accepted, but not standard.
+
+Examples:
+  rnxcmp check abcd0010.24o
+  rnxcmp crx2rnx - abcd0010.24d | rnxcmp check";
+
+const OBSERVATION_FILE: &str = "`-` and the observation file, in any order";
+
+const COMPACT_FILE: &str = "`-` and the compact file, in any order";
+
+const CHECKED_FILE: &str = "The observation file";
+
+/// `-e N`, N from 1 to 1000000.
+fn every_option<'a>(alloc: Global) -> Arg<'a>
+    ensures rule { rule_of result ≡ every_rule }
+    ensures local { result.global ≡ false }
+{
+    Arg::new(alloc, "every")
+        .short('e')
+        .value_name("N")
+        .value_parser(value_parser!(u32).range(1..=1_000_000))
+        .help("Start everything anew at every N epochs, N from 1 to 1000000")
+}
+
+/// `--date TEXT`.
+fn date_option<'a>(alloc: Global) -> Arg<'a>
+    ensures rule { rule_of result ≡ date_rule }
+    ensures local { result.global ≡ false }
+{
+    Arg::new(alloc, "date").long("date").value_name("TEXT").help(
+        "The date in line 2 of the output, at most 20 bytes [default: now]",
+    )
+}
+
+/// A flag of one letter.
+fn flag<'a>(alloc: Global, id: &'a str, letter: char, help: &'a str) -> Arg<'a>
+    ensures rule { rule_of result ≡ flag_rule id.now letter }
+    ensures local { result.global ≡ false }
+{
+    Arg::new(alloc, id)
+        .short(letter)
+        .action(ArgAction::SetTrue)
+        .help(help)
+}
+
+/// `-s`.
+fn skip_flag<'a>(alloc: Global) -> Arg<'a>
+    ensures rule { rule_of result ≡ flag_rule (codes "skip") 115 }
+    ensures local { result.global ≡ false }
+{
+    flag(
+        alloc,
+        "skip",
+        's',
+        "Warn about strange epochs and skip them",
+    )
+}
+
+/// `-f`.
+fn force_flag<'a>(alloc: Global) -> Arg<'a>
+    ensures rule { rule_of result ≡ flag_rule (codes "force") 102 }
+    ensures local { result.global ≡ false }
+{
+    flag(
+        alloc,
+        "force",
+        'f',
+        "Overwrite the output file where it exists",
+    )
+}
+
+/// `-` and a file's name, in any order.
+fn names_of_files<'a>(alloc: Global, help: &'a str) -> Arg<'a>
+    ensures rule { rule_of result ≡ names_rule }
+    ensures local { result.global ≡ false }
+{
+    Arg::new(alloc, "names")
+        .action(ArgAction::Append)
+        .num_args(0..)
+        .value_name("FILE")
+        .help(help)
+}
+
+/// `rnx2crx`.
+fn rnx2crx<'a>(alloc: Global) -> Result<Command<'a>, AllocError>
+    ensures { IfOk result (λ c. shape_of c ≡ rnx2crx) }
+{
+    Command::new(alloc, "rnx2crx")
+        .about(RNX2CRX_ABOUT)
+        .override_usage("rnxcmp rnx2crx [OPTIONS] [FILE]...")
+        .after_help(RNX2CRX_HELP)
+        .arg(every_option(alloc))?
+        .arg(skip_flag(alloc))?
+        .arg(force_flag(alloc))?
+        .arg(date_option(alloc))?
+        .arg(names_of_files(alloc, OBSERVATION_FILE))
+}
+
+/// `crx2rnx`.
+fn crx2rnx<'a>(alloc: Global) -> Result<Command<'a>, AllocError>
+    ensures { IfOk result (λ c. shape_of c ≡ crx2rnx) }
+{
+    Command::new(alloc, "crx2rnx")
+        .about(CRX2RNX_ABOUT)
+        .override_usage("rnxcmp crx2rnx [OPTIONS] [FILE]...")
+        .after_help(CRX2RNX_HELP)
+        .arg(skip_flag(alloc))?
+        .arg(force_flag(alloc))?
+        .arg(names_of_files(alloc, COMPACT_FILE))
+}
+
+/// `check`.
+fn checker<'a>(alloc: Global) -> Result<Command<'a>, AllocError>
+    ensures { IfOk result (λ c. shape_of c ≡ checker) }
+{
+    Command::new(alloc, "check")
+        .about(CHECK_ABOUT)
+        .override_usage("rnxcmp check [FILE]...")
+        .after_help(CHECK_HELP)
+        .arg(names_of_files(alloc, CHECKED_FILE))
+}
+
+/// The program without its subcommands.
+fn top<'a>(alloc: Global) -> Command<'a>
+    ensures { app_of result ≡ top }
+{
+    Command::new(alloc, "rnxcmp")
+        .about(ABOUT)
+        .after_help(HELP)
+        .no_binary_name(true)
+        .disable_help_subcommand(true)
+        .subcommand_required(true)
+}
+
+/// The whole command line: `rnx2crx`, `crx2rnx` and `check`, each with its options and its help. The
+/// words come without the program's name.
+pub fn command<'a>(alloc: Global) -> Result<Command<'a>, AllocError>
+    ensures { IfOk result (λ c. app_of c ≡ program) }
+{
+    top(alloc)
+        .subcommand(rnx2crx(alloc)?)?
+        .subcommand(crx2rnx(alloc)?)?
+        .subcommand(checker(alloc)?)
+}
+
+#[cfg(test)]
+mod tests {
+    use super::*;
+    use std::process::Abort;
+    use std::test::Fail;
+
+    // The help that some words ask for.
+    fn help(alloc: Global, line: &str) -> Result<String, Fail> {
+        let mut words = Vec::new(alloc);
+        for word in line.split(' ') {
+            words.push(String::from_str(alloc, word)?)?;
+        }
+        match command(alloc)?.try_get_matches_from(words.as_slice()) {
+            Ok(_) => Err(Fail::from("no help")),
+            Err(error) => Ok(format!(in alloc; "{error}")?),
+        }
+    }
+
+    fn holds(rt: &impl Abort, text: &str, parts: &[&str]) {
+        for part in parts {
+            assert!(rt; text.contains(*part), "{part}: {text}");
+        }
+        for line in text.lines() {
+            assert!(rt; line.len() <= 90, "{line}");
+        }
+    }
+
+    #[test]
+    fn the_help_of_the_program(rt: HostRuntime) -> Result<(), Fail> {
+        let text = help(rt.alloc(), "--help")?;
+        holds(
+            &rt,
+            text.as_str(),
+            &[
+                "Usage: rnxcmp <COMMAND>",
+                "rnx2crx",
+                "crx2rnx",
+                "check",
+                ".24o <-> .24d",
+                "ERROR line 7 code 18: bad indicator",
+                "Exit status: 0",
+                "gzip -dc a.crx.gz | rnxcmp crx2rnx > a.rnx",
+            ],
+        );
+        Ok(())
+    }
+
+    #[test]
+    fn the_help_of_each_subcommand(rt: HostRuntime) -> Result<(), Fail> {
+        let common = ["-h, --help", "Exit status: 0", "Examples:", "[FILE]..."];
+        for (words, parts) in [
+            (
+                "rnx2crx --help",
+                [
+                    "Usage: rnxcmp rnx2crx",
+                    "-e <N>",
+                    "--date <TEXT>",
+                    ".rnx becomes .crx",
+                ],
+            ),
+            (
+                "crx2rnx --help",
+                ["Usage: rnxcmp crx2rnx", "  -s", "  -f", ".crx becomes .rnx"],
+            ),
+            (
+                "check --help",
+                [
+                    "Usage: rnxcmp check",
+                    "six lines",
+                    "byte for byte",
+                    "not standard",
+                ],
+            ),
+        ] {
+            let text = help(rt.alloc(), words)?;
+            holds(&rt, text.as_str(), parts.as_slice());
+            holds(&rt, text.as_str(), common.as_slice());
+        }
+        Ok(())
+    }
+}

@@ -1,0 +1,145 @@
+//! The date in the second line of Compact RINEX 3.0.
+
+ghost use Rattle.std.specs.Prelude.{◌≡◌, ◌<◌, ◌-◌, ◌⊎◌, ◌++◌, ℤ, [], IfOk, OnOk, string_bytes};
+ghost use Rattle.rnxcmp.specs.Dates.{IsDateText, date_text_of, months, two_digits};
+ghost use Rattle.std.specs.List.{slice_index_or};
+
+use jiff::Timestamp;
+use jiff::civil::DateTime;
+use jiff::tz::Offset;
+use std::alloc::{AllocError, Global};
+use std::time::Clock;
+
+static MONTHS: [&str; 12] = [
+    "Jan", "Feb", "Mar", "Apr", "May", "Jun", "Jul", "Aug", "Sep", "Oct", "Nov", "Dec",
+];
+
+/// Adds a number in two digits.
+fn push_two_digits(text: &mut String, number: u8) -> Result<(), AllocError>
+    requires { number < 100 }
+    ensures { OnOk result (string_bytes text.new ≡ string_bytes text.old ++ two_digits number) }
+{
+    text.push((b'0' + number / 10) as char)?;
+    text.push((b'0' + number % 10) as char)
+}
+
+/// The English name of a month in three letters.
+fn month_name(at: DateTime) -> &'static str
+    ensures { result.now ≡ slice_index_or months (at.date.month - 1) [] }
+{
+    MONTHS[at.month() as usize - 1]
+}
+
+/// What a clock shows, to the minute.
+fn shown(alloc: Global, at: DateTime) -> Result<String, AllocError>
+    ensures { IfOk result (λ text. string_bytes text ≡ date_text_of at) }
+{
+    let mut text = String::new(alloc);
+    push_two_digits(&mut text, at.day() as u8)?;
+    text.push_str("-")?;
+    text.push_str(month_name(at))?;
+    text.push_str("-")?;
+    push_two_digits(&mut text, (at.year().unsigned_abs() % 100) as u8)?;
+    text.push_str(" ")?;
+    push_two_digits(&mut text, at.hour() as u8)?;
+    text.push_str(":")?;
+    push_two_digits(&mut text, at.minute() as u8)?;
+    Ok(text)
+}
+
+/// A moment in UTC, as `31-Dec-23 23:59`: the day, the English name of the month in three letters,
+/// the last two digits of the year (its sign left out), the hour and the minute. What is past the
+/// minute is left out, so each text stands for the minute that it names, before 1970 too.
+pub fn date_text(alloc: Global, at: Timestamp) -> Result<String, AllocError>
+    ensures { IfOk result (λ text. IsDateText at.nanosecond (string_bytes text)) }
+{
+    shown(alloc, Offset::UTC.to_datetime(at))
+}
+
+/// The clock's moment as [`date_text`] gives it; an empty text where the clock gives none.
+pub fn default_date<C: Clock>(clock: &C, alloc: Global) -> Result<String, AllocError>
+    ensures { IfOk result (λ text. (string_bytes text ≡ []) ⊎ ((nanoseconds : ℤ) × IsDateText nanoseconds (string_bytes text))) }
+{
+    match Timestamp::now(clock) {
+        Ok(at) => date_text(alloc, at),
+        Err(_) => Ok(String::new(alloc)),
+    }
+}
+
+#[cfg(test)]
+mod tests {
+    use super::*;
+    use std::io;
+    use std::test::Fail;
+    use std::time::Duration;
+
+    #[test]
+    fn shows_moments_in_utc(rt: HostRuntime) -> Result<(), Fail> {
+        let cases = [
+            (0, 0, "01-Jan-70 00:00"),
+            (1_704_067_199, 0, "31-Dec-23 23:59"),
+            (1_704_067_199, 999_999_999, "31-Dec-23 23:59"),
+            (1_704_067_200, 0, "01-Jan-24 00:00"),
+            (951_782_400, 0, "29-Feb-00 00:00"),
+            (0, -1, "31-Dec-69 23:59"),
+            (-60, 0, "31-Dec-69 23:59"),
+            (-60, -1, "31-Dec-69 23:58"),
+            (-62_135_596_800, 0, "01-Jan-01 00:00"),
+            (-62_167_219_201, 0, "31-Dec-01 23:59"),
+        ];
+        for (seconds, nanoseconds, want) in cases {
+            let at = Timestamp::new(seconds, nanoseconds)?;
+            let text = date_text(rt.alloc(), at)?;
+            assert!(rt; text.as_str() == want, "{text}");
+        }
+        Ok(())
+    }
+
+    #[test]
+    fn names_each_month(rt: HostRuntime) -> Result<(), Fail> {
+        let days = [
+            (15, "Jan"),
+            (46, "Feb"),
+            (74, "Mar"),
+            (105, "Apr"),
+            (135, "May"),
+            (166, "Jun"),
+            (196, "Jul"),
+            (227, "Aug"),
+            (258, "Sep"),
+            (288, "Oct"),
+            (319, "Nov"),
+            (349, "Dec"),
+        ];
+        for (day, month) in days {
+            let text = date_text(rt.alloc(), Timestamp::new(day * 86_400, 0)?)?;
+            assert!(rt; text.as_str().contains(month), "{text}");
+        }
+        Ok(())
+    }
+
+    // A clock that stands still, or gives no moment.
+    #[derive(Drop)]
+    struct Still(Option<Duration>);
+
+    impl Clock for Still {
+        fn monotonic(&self) -> io::Result<Duration> {
+            Ok(Duration::from_secs(0))
+        }
+
+        fn since_1970(&self) -> io::Result<Duration> {
+            self.0.ok_or(io::Error::from(io::ErrorKind::Other))
+        }
+    }
+
+    #[test]
+    fn the_default_is_the_moment_of_the_clock(rt: HostRuntime) -> Result<(), Fail> {
+        let late = Still(Some(Duration::new(1_704_067_199, 5)));
+        assert!(rt; default_date(&late, rt.alloc())?.as_str() == "31-Dec-23 23:59");
+        let none = Still(None);
+        assert!(rt; default_date(&none, rt.alloc())?.as_str() == "");
+        let now = default_date(&rt, rt.alloc())?;
+        assert!(rt; now.len() == 15, "{now}");
+        Ok(())
+    }
+}

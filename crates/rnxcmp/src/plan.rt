@@ -1,0 +1,441 @@
+//! From the words of the command line to what is to be done.
+
+ghost use Rattle.std.specs.Prelude.{◌≡◌, ◌≢◌, IfOk, IfSome, codes, count_by, find, map, option_and_then, option_map, string_bytes, true};
+ghost use Rattle.std.specs.Option.{option_map_or};
+ghost use Rattle.clap.specs.Words.{found_of, kind_of, one_of, rows_of, subcommand_rows_of};
+ghost use Rattle.rnxcmp.specs.Choices.{is_date};
+ghost use Rattle.rnxcmp.specs.Planning.{by_kind, given_in, given_of, is_dash, is_file, is_set, job_of, judged, names_in, number_in, of_subcommand, plan_in, plan_of, tool_named, with_source, writes_file};
+
+use crate::command::command;
+use crate::job::{Decision, Job, Tool, UsageFault};
+use crate::names::output_name;
+use crate::options::Options;
+use crate::word::Word;
+use clap::error::ErrorKind;
+use clap::{ArgMatches, Error};
+use std::alloc::{AllocError, Global};
+
+/// What stands after a subcommand.
+#[derive(Clone, Copy)]
+struct Arguments<'a> {
+    /// How often `-` stands there.
+    dashes: usize,
+    /// How many names of files stand there, and the first of them.
+    files: usize,
+    file: Option<&'a str>,
+    every: Option<u32>,
+    skip: bool,
+    force: bool,
+    date: Option<&'a str>,
+}
+
+/// How many of the names are `-`.
+fn dashes_among(names: &[&str]) -> usize
+    ensures { result ≡ count_by is_dash (map (λ name. name.now) names.now) }
+{
+    names.iter().filter(|name| **name == "-").count()
+}
+
+/// How many of the names aren't `-`.
+fn files_among(names: &[&str]) -> usize
+    ensures { result ≡ count_by is_file (map (λ name. name.now) names.now) }
+{
+    names.iter().filter(|name| **name != "-").count()
+}
+
+/// The first name that isn't `-`.
+fn file_among<'a>(names: &[&'a str]) -> Option<&'a str>
+    ensures { option_map (λ name. name.now) result ≡ find is_file (map (λ name. name.now) names.now) }
+{
+    for name in names {
+        if *name != "-" {
+            return Some(*name);
+        }
+    }
+    None
+}
+
+/// How often `-` stands after a subcommand.
+fn dash_count(found: &ArgMatches<'_>) -> usize
+    ensures { result ≡ count_by is_dash (names_in (rows_of (found_of found.now))) }
+{
+    match found.get_strs("names") {
+        Some(names) => dashes_among(names),
+        None => 0,
+    }
+}
+
+/// How many names of files stand after a subcommand.
+fn file_count(found: &ArgMatches<'_>) -> usize
+    ensures { result ≡ count_by is_file (names_in (rows_of (found_of found.now))) }
+{
+    match found.get_strs("names") {
+        Some(names) => files_among(names),
+        None => 0,
+    }
+}
+
+/// The first name of a file after a subcommand.
+fn file_given<'a>(found: &ArgMatches<'a>) -> Option<&'a str>
+    ensures { option_map (λ name. name.now) result ≡ find is_file (names_in (rows_of (found_of found.now))) }
+{
+    match found.get_strs("names") {
+        Some(names) => file_among(names),
+        None => None,
+    }
+}
+
+/// The number of `-e N`.
+fn every(found: &ArgMatches<'_>) -> Option<u32>
+    ensures { result ≡ option_and_then number_in (one_of (codes "every") (rows_of (found_of found.now))) }
+{
+    found.get_one::<u32>("every")
+}
+
+/// Whether a flag was given.
+fn is_set(found: &ArgMatches<'_>, flag: &str) -> bool
+    ensures { result ≡ is_set flag.now (rows_of (found_of found.now)) }
+{
+    match found.get_str(flag) {
+        Some(text) => text == "true",
+        None => false,
+    }
+}
+
+/// What stands after a subcommand.
+fn arguments_of<'a>(found: &ArgMatches<'a>) -> Arguments<'a>
+    ensures { given_of result ≡ given_in (rows_of (found_of found.now)) }
+{
+    Arguments {
+        dashes: dash_count(found),
+        files: file_count(found),
+        file: file_given(found),
+        every: every(found),
+        skip: is_set(found, "skip"),
+        force: is_set(found, "force"),
+        date: found.get_str("date"),
+    }
+}
+
+/// Whether a date fits its columns, where one was given.
+fn date_fits(date: Option<&str>) -> bool
+    ensures { result ≡ option_map_or is_date (option_map (λ date. date.now) date.entry) true }
+{
+    match date {
+        Some(text) => Options::new(None, false, text.as_bytes()).is_ok(),
+        None => true,
+    }
+}
+
+/// Whether the output goes to a file of its own where the input comes from one.
+fn writes_file(tool: Tool, dashes: usize) -> bool
+    ensures { result ≡ writes_file tool dashes }
+{
+    match tool {
+        Tool::Check => false,
+        _ => dashes == 0,
+    }
+}
+
+/// A copy of a text, where there is one.
+fn copied(alloc: Global, text: Option<&str>) -> Result<Option<Word>, AllocError>
+    ensures { IfOk result (λ word. word ≡ option_map (λ text. text.now) text.entry) }
+{
+    match text {
+        Some(text) => Ok(Some(Word::new(alloc, text)?)),
+        None => Ok(None),
+    }
+}
+
+/// The run that the arguments ask for, with its input and its output.
+fn job(
+    alloc: Global,
+    tool: Tool,
+    given: &Arguments<'_>,
+    source: Option<&str>,
+    target: Option<Word>,
+) -> Result<Job, AllocError>
+    ensures { IfOk result (λ job. job ≡ job_of tool (given_of given.now) (option_map (λ name. name.now) source.entry) target) }
+{
+    Ok(Job {
+        tool,
+        source: copied(alloc, source)?,
+        target,
+        force: given.force,
+        every: given.every,
+        skip: given.skip,
+        date: copied(alloc, given.date)?,
+    })
+}
+
+/// The run that the arguments ask for, from a file.
+fn run_from_file(
+    alloc: Global,
+    tool: Tool,
+    given: &Arguments<'_>,
+    source: &str,
+) -> Result<Decision, UsageFault>
+    ensures { IfSome (plan_in result) (λ plan. plan ≡ with_source tool (given_of given.now) (Some source.now)) }
+{
+    if !writes_file(tool, given.dashes) {
+        return Ok(Decision::Run(job(alloc, tool, given, Some(source), None)?));
+    }
+    match output_name(alloc, tool, source)? {
+        Some(target) => Ok(Decision::Run(job(alloc, tool, given, Some(source), Some(target))?)),
+        None => Err(UsageFault::NoName(Word::new(alloc, source)?)),
+    }
+}
+
+/// What the arguments of a subcommand ask for: the first refusal that fits, else the run.
+fn judged(alloc: Global, tool: Tool, given: &Arguments<'_>) -> Result<Decision, UsageFault>
+    ensures { IfSome (plan_in result) (λ plan. plan ≡ judged tool (given_of given.now)) }
+{
+    if given.dashes > 1 {
+        return Err(UsageFault::DashTwice);
+    }
+    if given.files > 1 {
+        return Err(UsageFault::TwoFiles);
+    }
+    if !date_fits(given.date) {
+        return Err(UsageFault::BadDate);
+    }
+    match given.file {
+        Some(source) => run_from_file(alloc, tool, given, source),
+        None => Ok(Decision::Run(job(alloc, tool, given, None, None)?)),
+    }
+}
+
+/// What a subcommand does.
+fn tool_named(name: &str) -> Tool
+    ensures { result ≡ tool_named name.now }
+{
+    match name {
+        "rnx2crx" => Tool::Compact,
+        "crx2rnx" => Tool::Expand,
+        _ => Tool::Check,
+    }
+}
+
+/// What the words ask for where they fit the command line.
+fn matched(alloc: Global, matches: &ArgMatches<'_>) -> Result<Decision, UsageFault>
+    ensures { IfSome (plan_in result) (λ plan. plan ≡ of_subcommand (subcommand_rows_of matches.now)) }
+{
+    match matches.subcommand() {
+        Some((name, found)) => judged(alloc, tool_named(name), &arguments_of(found)),
+        None => Err(UsageFault::Parse(Word::new(alloc, "no subcommand\n")?)),
+    }
+}
+
+/// What the parser has to tell: the help that was asked for, or that the words are refused.
+fn told(alloc: Global, error: &Error) -> Result<Decision, UsageFault>
+    ensures { IfSome (plan_in result) (λ plan. (plan ≡ by_kind (kind_of error.now)) × (kind_of error.now ≢ ErrorKind.OutOfMemory)) }
+{
+    match error.kind() {
+        ErrorKind::OutOfMemory => Err(UsageFault::Memory),
+        ErrorKind::DisplayHelp => Ok(Decision::Help(Word::shown(alloc, error)?)),
+        _ => Err(UsageFault::Parse(Word::shown(alloc, error)?)),
+    }
+}
+
+/// What the words of the command line ask for; they come without the program's name.
+///
+/// `Help` holds the help that `-h` or `--help` asks for. Words that aren't those of the command line
+/// are `Parse`, with the text for the user. Then come, in this order: `DashTwice` where `-` stands
+/// more than once, `TwoFiles` where there is more than one file name, `BadDate` where the date has
+/// more than 20 bytes or a byte outside 32 to 126, and `NoName` where the output would go to a file
+/// but the input's name has no ending that can be changed (see [`output_name`]). `Memory` comes where
+/// no memory was left, at any of these places.
+///
+/// Without a file name standard input is read. `check`, and the others without a file name or with
+/// `-`, write to standard output.
+pub fn plan(alloc: Global, words: Vec<String>) -> Result<Decision, UsageFault>
+    ensures { IfSome (plan_in result) (λ plan. plan ≡ plan_of (map string_bytes words.items)) }
+{
+    match command(alloc)?.try_get_matches_from(words.as_slice()) {
+        Ok(matches) => matched(alloc, &matches),
+        Err(error) => told(alloc, &error),
+    }
+}
+
+#[cfg(test)]
+mod tests {
+    use super::*;
+    use std::process::Abort;
+    use std::test::Fail;
+
+    // The plan of some words, as one text: what is asked for, the input, the output, and the choices.
+    fn shown(alloc: Global, line: &str) -> Result<String, Fail> {
+        let mut words = Vec::new(alloc);
+        for word in line.split('|') {
+            words.push(String::from_str(alloc, word)?)?;
+        }
+        let planned = plan(alloc, words);
+        let text = match &planned {
+            Ok(Decision::Help(_)) => String::from_str(alloc, "help")?,
+            Ok(Decision::Run(job)) => {
+                let source = job.source.as_ref().map_or("stdin", |name| name.text());
+                let target = job.target.as_ref().map_or("stdout", |name| name.text());
+                let date = job.date.as_ref().map_or("now", |date| date.text());
+                let every = job.every.unwrap_or(0);
+                format!(in alloc;
+                    "{:?} {source} {target} e{every} s{} f{} [{date}]",
+                    job.tool, job.skip, job.force
+                )?
+            }
+            Err(UsageFault::Parse(_)) => String::from_str(alloc, "parse")?,
+            Err(fault) => format!(in alloc; "{fault}")?,
+        };
+        Ok(text)
+    }
+
+    // Each case is words with `|` between them, and the plan of them.
+    fn agree(rt: &impl Abort, alloc: Global, cases: &[(&str, &str)]) -> Result<(), Fail> {
+        for (words, want) in cases {
+            let text = shown(alloc, words)?;
+            assert!(rt; text.as_str() == *want, "{words}: {text}");
+        }
+        Ok(())
+    }
+
+    #[test]
+    fn names_and_dashes(rt: HostRuntime) -> Result<(), Fail> {
+        agree(
+            &rt,
+            rt.alloc(),
+            &[
+                ("rnx2crx", "Compact stdin stdout e0 sfalse ffalse [now]"),
+                ("rnx2crx|-", "Compact stdin stdout e0 sfalse ffalse [now]"),
+                (
+                    "crx2rnx|-|x.crx",
+                    "Expand x.crx stdout e0 sfalse ffalse [now]",
+                ),
+                (
+                    "crx2rnx|x.crx|-",
+                    "Expand x.crx stdout e0 sfalse ffalse [now]",
+                ),
+                (
+                    "crx2rnx|abcd0010.24d",
+                    "Expand abcd0010.24d abcd0010.24o e0 sfalse ffalse [now]",
+                ),
+                ("check|-|a.rnx", "Check a.rnx stdout e0 sfalse ffalse [now]"),
+                ("check|a.txt", "Check a.txt stdout e0 sfalse ffalse [now]"),
+                ("check|-", "Check stdin stdout e0 sfalse ffalse [now]"),
+                (
+                    "rnx2crx|-|a.txt",
+                    "Compact a.txt stdout e0 sfalse ffalse [now]",
+                ),
+                (
+                    "rnx2crx|--|-s.rnx",
+                    "Compact -s.rnx -s.crx e0 sfalse ffalse [now]",
+                ),
+                (
+                    "rnx2crx|--|-|a.rnx",
+                    "Compact a.rnx stdout e0 sfalse ffalse [now]",
+                ),
+                (
+                    "rnx2crx|a.rnx|--",
+                    "Compact a.rnx a.crx e0 sfalse ffalse [now]",
+                ),
+            ],
+        )
+    }
+
+    #[test]
+    fn options_in_any_order(rt: HostRuntime) -> Result<(), Fail> {
+        agree(
+            &rt,
+            rt.alloc(),
+            &[
+                (
+                    "rnx2crx|-e|1|--date|D",
+                    "Compact stdin stdout e1 sfalse ffalse [D]",
+                ),
+                (
+                    "rnx2crx|--date=D|-e1",
+                    "Compact stdin stdout e1 sfalse ffalse [D]",
+                ),
+                (
+                    "rnx2crx|a.rnx|-s|-f|-e|1000000",
+                    "Compact a.rnx a.crx e1000000 strue ftrue [now]",
+                ),
+                (
+                    "rnx2crx|-sf|a.rnx",
+                    "Compact a.rnx a.crx e0 strue ftrue [now]",
+                ),
+                (
+                    "rnx2crx|-|-s|a.rnx",
+                    "Compact a.rnx stdout e0 strue ffalse [now]",
+                ),
+                (
+                    "crx2rnx|-f|-s|a.crx",
+                    "Expand a.crx a.rnx e0 strue ftrue [now]",
+                ),
+                (
+                    "rnx2crx|--date|",
+                    "Compact stdin stdout e0 sfalse ffalse []",
+                ),
+                (
+                    "rnx2crx|--date|12345678901234567890",
+                    "Compact stdin stdout e0 sfalse ffalse [12345678901234567890]",
+                ),
+                ("rnx2crx|-h", "help"),
+                ("rnx2crx|--help", "help"),
+                ("crx2rnx|a.crx|-h", "help"),
+                ("check|--help", "help"),
+                ("-h", "help"),
+                ("--help", "help"),
+            ],
+        )
+    }
+
+    #[test]
+    fn refusals_in_their_order(rt: HostRuntime) -> Result<(), Fail> {
+        agree(
+            &rt,
+            rt.alloc(),
+            &[
+                ("", "parse"),
+                ("help", "parse"),
+                ("-e|1", "parse"),
+                ("rnx2crx|-e|0", "parse"),
+                ("rnx2crx|-e|1000001", "parse"),
+                ("rnx2crx|-e|-1", "parse"),
+                ("rnx2crx|-e|x", "parse"),
+                ("rnx2crx|-e", "parse"),
+                ("rnx2crx|-d", "parse"),
+                ("crx2rnx|-e|1", "parse"),
+                ("crx2rnx|--date|D", "parse"),
+                ("check|-s", "parse"),
+                ("check|-f", "parse"),
+                ("rnx2crx|-|-|-x", "parse"),
+                ("rnx2crx|-|-|a|b", "- given twice"),
+                ("check|-|-", "- given twice"),
+                ("rnx2crx|a.rnx|b.rnx", "more than one file name"),
+                ("check|a|b", "more than one file name"),
+                (
+                    "rnx2crx|a|b|--date|123456789012345678901",
+                    "more than one file name",
+                ),
+                ("rnx2crx|--date|123456789012345678901", "bad date"),
+                ("rnx2crx|--date|a\tb", "bad date"),
+                ("rnx2crx|--date|ä", "bad date"),
+                ("rnx2crx|a.txt|--date|123456789012345678901", "bad date"),
+                ("rnx2crx|a.txt", "no output name for a.txt"),
+                ("rnx2crx|a.crx", "no output name for a.crx"),
+                ("crx2rnx|a.Crx", "no output name for a.Crx"),
+            ],
+        )
+    }
+
+    #[test]
+    fn no_words_at_all(rt: HostRuntime) -> Result<(), Fail> {
+        let planned = plan(rt.alloc(), Vec::new(rt.alloc()));
+        match &planned {
+            Err(UsageFault::Parse(text)) => {
+                assert!(rt; text.text().contains("requires a subcommand"), "{text}");
+            }
+            _ => assert!(rt; false),
+        }
+        Ok(())
+    }
+}
