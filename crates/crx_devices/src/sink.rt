@@ -1,0 +1,144 @@
+//! A sink over memory that fails where its plans say.
+ghost use Rattle.std.specs.Prelude.{◌≡◌, ℕ, List, [], ◌++◌, ◌+◌, ◌-◌, ◌<◌, ◌≤◌, length, take, min, is_err, false, ◌||◌, IfOk, OnOk, OnErr};
+ghost use Rattle.std.specs.Vec.{vec_len};
+ghost use Rattle.crx_devices.specs.Joining.{taken_both, taken_none};
+ghost use Rattle.crx_text.specs.Devices.{one_more};
+
+use crate::plan::{Plan, Watch};
+use crx_text::{Sink, WriteFailed};
+use std::alloc::{AllocError, Global};
+
+/// Takes as many bytes as it has room for, and fails where its plans say.
+#[derive(Drop)]
+pub struct FailingSink {
+    memory: Vec<u8>,
+    len: usize,
+    at_most: usize,
+    writes: Watch,
+    flushes: Watch,
+    failures: u64,
+    ghost within: { len ≤ length memory.items },
+}
+
+ghost use Rattle.crx_devices.specs.Plans.{after_call, fails, is_stuck, up_to_failure};
+
+impl FailingSink {
+    /// A sink with room for so many bytes, that takes at most `at_most` a call (0: none), and whose
+    /// writes and flushes fail by these plans. It takes its memory here and none later.
+    pub fn new(
+        alloc: Global,
+        room: usize,
+        at_most: usize,
+        writes: Plan,
+        flushes: Plan,
+    ) -> Result<Self, AllocError>
+        ensures room { IfOk result (λ s. length s.memory.items ≡ room) }
+        ensures len { IfOk result (λ s. s.len ≡ 0) }
+        ensures at_most { IfOk result (λ s. s.at_most ≡ at_most) }
+        ensures writes { IfOk result (λ s. s.writes.plan ≡ writes) }
+        ensures no_write { IfOk result (λ s. s.writes.calls ≡ 0) }
+        ensures no_struck_write { IfOk result (λ s. s.writes.struck ≡ false) }
+        ensures flushes { IfOk result (λ s. s.flushes.plan ≡ flushes) }
+        ensures no_flush { IfOk result (λ s. s.flushes.calls ≡ 0) }
+        ensures no_struck_flush { IfOk result (λ s. s.flushes.struck ≡ false) }
+        ensures failures { IfOk result (λ s. s.failures ≡ 0) }
+    {
+        Ok(FailingSink {
+            memory: vec![in alloc; 0; room]?,
+            len: 0,
+            at_most,
+            writes: Watch::new(writes),
+            flushes: Watch::new(flushes),
+            failures: 0,
+        })
+    }
+
+    /// The bytes that were taken.
+    pub fn contents(&self) -> &[u8]
+        ensures { result.now ≡ take self.now.len self.now.memory.items }
+    {
+        &self.memory[..self.len]
+    }
+
+    /// How many writes were made; the count stops at the greatest value of 64 bits.
+    pub fn writes(&self) -> u64
+        ensures { result ≡ self.now.writes.calls }
+    {
+        self.writes.calls
+    }
+
+    /// How many flushes were made; the count stops at the greatest value of 64 bits.
+    pub fn flushes(&self) -> u64
+        ensures { result ≡ self.now.flushes.calls }
+    {
+        self.flushes.calls
+    }
+
+    /// How many writes and flushes failed; the count stops at the greatest value of 64 bits.
+    pub fn failures(&self) -> u64
+        ensures { result ≡ self.now.failures }
+    {
+        self.failures
+    }
+}
+
+impl Sink for FailingSink {
+    ghost took = { λ a bytes b. take b.len b.memory.items ≡ take a.len a.memory.items ++ bytes };
+
+    ghost failures = { λ s. s.failures };
+
+    fn write(&mut self, bytes: &[u8]) -> Result<usize, WriteFailed>
+        ensures bound { IfOk result (λ n. n ≤ length bytes.now) }
+        ensures bytes { IfOk result (λ n. take self.new.len self.new.memory.items ≡ take self.old.len self.old.memory.items ++ take n bytes.now) }
+        ensures progress { IfOk result (λ n. 0 < length bytes.now → 0 < n) }
+        ensures good { OnOk result (self.new.failures ≡ self.old.failures) }
+        ensures none_taken { OnErr result (take self.new.len self.new.memory.items ≡ take self.old.len self.old.memory.items ++ []) }
+        ensures counted { OnErr result (self.new.failures ≡ one_more self.old.failures) }
+        ensures fails { is_err result ≡ (fails self.old.writes self.old.len || is_stuck (length bytes.now) self.old.at_most (length self.old.memory.items - self.old.len)) }
+        ensures count { IfOk result (λ n. n ≡ up_to_failure self.old.writes self.old.len (min (min (length bytes.now) self.old.at_most) (length self.old.memory.items - self.old.len))) }
+        ensures len { IfOk result (λ n. self.new.len ≡ self.old.len + n) }
+        ensures writes { self.new.writes ≡ after_call self.old.writes self.old.len }
+        ensures flushes { self.new.flushes ≡ self.old.flushes }
+        ensures at_most { self.new.at_most ≡ self.old.at_most }
+        ensures room { length self.new.memory.items ≡ length self.old.memory.items }
+    {
+        let room = self.memory.len() - self.len;
+        let wanted = bytes.len().min(self.at_most).min(room);
+        match self.writes.next_call(self.len, wanted) {
+            Some(count) if count > 0 || bytes.is_empty() => {
+                let end = self.len + count;
+                self.memory[self.len..end].copy_from_slice(&bytes[..count]);
+                self.len = end;
+                Ok(count)
+            }
+            _ => {
+                self.failures = self.failures.saturating_add(1);
+                Err(WriteFailed)
+            }
+        }
+    }
+
+    fn flush(&mut self) -> Result<(), WriteFailed>
+        ensures none_taken { take self.new.len self.new.memory.items ≡ take self.old.len self.old.memory.items ++ [] }
+        ensures good { OnOk result (self.new.failures ≡ self.old.failures) }
+        ensures counted { OnErr result (self.new.failures ≡ one_more self.old.failures) }
+        ensures fails { is_err result ≡ fails self.old.flushes self.old.len }
+        ensures flushes { self.new.flushes ≡ after_call self.old.flushes self.old.len }
+        ensures writes { self.new.writes ≡ self.old.writes }
+        ensures at_most { self.new.at_most ≡ self.old.at_most }
+        ensures room { length self.new.memory.items ≡ length self.old.memory.items }
+    {
+        if self.flushes.next_call(self.len, 0).is_none() {
+            self.failures = self.failures.saturating_add(1);
+            return Err(WriteFailed);
+        }
+        Ok(())
+    }
+
+    ghost took_none = { λ s. taken_none (take s.len s.memory.items) };
+
+    ghost took_both = { λ a b c xs ys p q. taken_both (take a.len a.memory.items) (take b.len b.memory.items) (take c.len c.memory.items) xs ys p q };
+}
+
+#[cfg(test)]
+mod tests;

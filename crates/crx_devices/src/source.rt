@@ -1,0 +1,122 @@
+//! A source over memory that fails where its plan says.
+ghost use Rattle.std.specs.Prelude.{◌≡◌, ℕ, List, [], ◌∷◌, ◌++◌, ◌+◌, ◌^◌, ◌-◌, ◌<◌, ◌≤◌, length, take, drop, min, is_err, IfOk, OnOk, OnErr};
+ghost use Rattle.crx_devices.specs.Joining.{given_both};
+ghost use Rattle.crx_text.specs.Devices.{ends_after, one_more};
+
+use crate::plan::{Plan, Watch};
+use crx_text::{ReadFailed, Source};
+
+/// Gives the bytes that it was made with, and fails where its plan says.
+#[derive(Drop)]
+pub struct FailingSource<'a> {
+    left: &'a [u8],
+    at_most: usize,
+    given: usize,
+    reads: Watch,
+    failures: u64,
+    ends: u64,
+    ghost gives: { 0 < at_most },
+}
+
+impl<'a> FailingSource<'a> {
+    /// A source of these bytes, that gives at most so many a call and fails by this plan.
+    pub fn new(bytes: &'a [u8], at_most: usize, plan: Plan) -> Self
+        requires { 0 < at_most }
+        ensures left { result.left.now ≡ bytes.now }
+        ensures at_most { result.at_most ≡ at_most }
+        ensures given { result.given ≡ 0 }
+        ensures plan { result.reads.plan ≡ plan }
+        ensures calls { result.reads.calls ≡ 0 }
+        ensures struck { result.reads.struck ≡ false }
+        ensures failures { result.failures ≡ 0 }
+        ensures ends { result.ends ≡ 0 }
+    {
+        FailingSource {
+            left: bytes,
+            at_most,
+            given: 0,
+            reads: Watch::new(plan),
+            failures: 0,
+            ends: 0,
+        }
+    }
+
+    /// How many reads were made; the count stops at the greatest value of 64 bits.
+    pub fn calls(&self) -> u64
+        ensures { result ≡ self.now.reads.calls }
+    {
+        self.reads.calls
+    }
+
+    /// How many reads failed; the count stops at the greatest value of 64 bits.
+    pub fn failures(&self) -> u64
+        ensures { result ≡ self.now.failures }
+    {
+        self.failures
+    }
+
+    /// How many reads reported the end; the count stops at the greatest value of 64 bits.
+    pub fn ends(&self) -> u64
+        ensures { result ≡ self.now.ends }
+    {
+        self.ends
+    }
+
+    /// The bytes that were not given yet.
+    pub fn left(&self) -> &'a [u8]
+        ensures { result.now ≡ self.now.left.now }
+    {
+        self.left
+    }
+}
+
+ghost use Rattle.std.specs.Prelude.{false};
+ghost use Rattle.crx_devices.specs.Plans.{after_call, fails, up_to_failure};
+
+impl Source for FailingSource<'_> {
+    ghost gave = { λ a bytes b. a.left.now ≡ bytes ++ b.left.now };
+
+    ghost at_end = { λ s. s.left.now ≡ [] };
+
+    ghost failures = { λ s. s.failures };
+
+    ghost ends = { λ s. s.ends };
+
+    fn read(&mut self, buffer: &mut [u8]) -> Result<usize, ReadFailed>
+        ensures bound { IfOk result (λ n. n ≤ length buffer.new) }
+        ensures bytes { IfOk result (λ n. self.old.left.now ≡ take n buffer.new ++ self.new.left.now) }
+        ensures end { IfOk result (λ n. n ≡ 0 → 0 < length buffer.new → self.new.left.now ≡ []) }
+        ensures good { OnOk result (self.new.failures ≡ self.old.failures) }
+        ensures ends { IfOk result (λ n. 0 < length buffer.new → self.new.ends ≡ ends_after n self.old.ends) }
+        ensures unasked { length buffer.new ≡ 0 → self.new.ends ≡ self.old.ends }
+        ensures none_lost { OnErr result (self.old.left.now ≡ [] ++ self.new.left.now) }
+        ensures no_end { OnErr result (self.new.ends ≡ self.old.ends) }
+        ensures counted { OnErr result (self.new.failures ≡ one_more self.old.failures) }
+        ensures fails { is_err result ≡ fails self.old.reads self.old.given }
+        ensures count { IfOk result (λ n. n ≡ up_to_failure self.old.reads self.old.given (min (min (length buffer.new) self.old.at_most) (length self.old.left.now))) }
+        ensures reads { self.new.reads ≡ after_call self.old.reads self.old.given }
+        ensures given { IfOk result (λ n. self.new.given ≡ min (self.old.given + n) (2 ^ 64 - 1)) }
+        ensures none_given { OnErr result (self.new.given ≡ self.old.given) }
+        ensures at_most { self.new.at_most ≡ self.old.at_most }
+    {
+        let wanted = buffer.len().min(self.at_most).min(self.left.len());
+        let Some(count) = self.reads.next_call(self.given, wanted) else {
+            self.failures = self.failures.saturating_add(1);
+            return Err(ReadFailed);
+        };
+        buffer[..count].copy_from_slice(&self.left[..count]);
+        self.left = &self.left[count..];
+        self.given = self.given.saturating_add(count);
+        if count == 0 && !buffer.is_empty() {
+            self.ends = self.ends.saturating_add(1);
+        }
+        Ok(count)
+    }
+
+    ghost gave_none = { λ s i. s.left.now };
+
+    ghost gave_both = { λ a b c xs ys p q. given_both a.left.now b.left.now c.left.now xs ys p q };
+}
+
+#[cfg(test)]
+mod tests;
