@@ -1,0 +1,54 @@
+# Completion of rnxcmp, RNX2CRX and CRX2RNX for bash.
+
+_rnxcmp_files() {
+    # $1: an extended pattern of names, $2: the word so far
+    local shopts
+    shopts=$(shopt -p extglob)
+    shopt -s extglob
+    COMPREPLY+=($(compgen -o plusdirs -f -X "!$1" -- "$2"))
+    eval "$shopts"
+}
+
+_rnxcmp_words() {
+    # $1: the subcommand, $2: the word so far, $3: the word before it
+    case $3 in
+        -e | --date) return ;;
+    esac
+    case $1 in
+        rnx2crx)
+            [[ $2 == -* ]] && COMPREPLY=($(compgen -W '-e -s -f --date -h --help -' -- "$2"))
+            [[ $2 == -* ]] || _rnxcmp_files '*.@(rnx|RNX|[0-9][0-9][oO])' "$2"
+            ;;
+        crx2rnx)
+            [[ $2 == -* ]] && COMPREPLY=($(compgen -W '-s -f -h --help -' -- "$2"))
+            [[ $2 == -* ]] || _rnxcmp_files '*.@(crx|CRX|[0-9][0-9][dD])' "$2"
+            ;;
+        check)
+            [[ $2 == -* ]] && COMPREPLY=($(compgen -W '-h --help -' -- "$2"))
+            [[ $2 == -* ]] || COMPREPLY=($(compgen -o plusdirs -f -- "$2"))
+            ;;
+    esac
+}
+
+_rnxcmp() {
+    COMPREPLY=()
+    if [[ $COMP_CWORD -eq 1 ]]; then
+        COMPREPLY=($(compgen -W 'rnx2crx crx2rnx check -h --help' -- "$2"))
+    else
+        _rnxcmp_words "${COMP_WORDS[1]}" "$2" "$3"
+    fi
+}
+
+_RNX2CRX() {
+    COMPREPLY=()
+    _rnxcmp_words rnx2crx "$2" "$3"
+}
+
+_CRX2RNX() {
+    COMPREPLY=()
+    _rnxcmp_words crx2rnx "$2" "$3"
+}
+
+complete -o filenames -F _rnxcmp rnxcmp
+complete -o filenames -F _RNX2CRX RNX2CRX
+complete -o filenames -F _CRX2RNX CRX2RNX

@@ -1,0 +1,112 @@
+#!/usr/bin/env python3
+"""Runs the program as a process on the cases of cases.py, and compares what it does with them.
+
+    tests/process/run.py PROGRAM            the cases alone
+    tests/process/run.py PROGRAM --gate     after `rt ci` at the top of the repository
+
+The last line is `N passed, M failed`, of both. The exit status is 0 where nothing failed.
+"""
+
+import argparse
+import os
+import re
+import subprocess
+import sys
+import tempfile
+from pathlib import Path
+
+sys.path.insert(0, str(Path(__file__).parent))
+from cases import CASES, CLOSED, FULL  # noqa: E402
+
+TOP = Path(__file__).resolve().parents[2]
+
+
+def gate(program):
+    """Runs `rt ci`, which builds the program, shows what it prints, and gives the counts of its last line."""
+    program.unlink(missing_ok=True)
+    lines = []
+    with subprocess.Popen(["rt", "ci"], cwd=TOP, stdout=subprocess.PIPE, text=True) as process:
+        for line in process.stdout:
+            sys.stdout.write(line)
+            sys.stdout.flush()
+            lines.append(line)
+    found = re.fullmatch(r"(\d+) passed, (\d+) failed", lines[-1].strip()) if lines else None
+    if found is None:
+        return 0, 1
+    passed, failed = int(found[1]), int(found[2])
+    return passed, failed or (1 if process.returncode else 0)
+
+
+def files_in(folder):
+    return {str(path.relative_to(folder)): path.read_bytes() for path in folder.rglob("*") if path.is_file()}
+
+
+def run_case(program, case):
+    """What differs from the case, as lines."""
+    with tempfile.TemporaryDirectory() as name:
+        folder = Path(name)
+        for path, content in case.before.items():
+            (folder / path).parent.mkdir(parents=True, exist_ok=True)
+            (folder / path).write_bytes(content)
+        streams = {"stdout": subprocess.PIPE, "stderr": subprocess.PIPE}
+        opened = []
+        if case.stdout == FULL:
+            streams["stdout"] = open("/dev/full", "wb")
+            opened.append(streams["stdout"])
+        elif case.stdout == CLOSED:
+            end, streams["stdout"] = os.pipe()
+            os.close(end)
+        words = [str(program), *case.words]
+        if case.stderr == CLOSED:
+            words = ["sh", "-c", 'exec "$@" 2>&-', "sh", *words]
+        run = subprocess.run(words, cwd=folder, input=case.stdin, timeout=60, **streams)
+        if case.stdout == CLOSED:
+            os.close(streams["stdout"])
+        for stream in opened:
+            stream.close()
+        wrong = []
+        if run.returncode != case.status:
+            wrong.append(f"status {run.returncode}, not {case.status}")
+        for which, got, want in (("output", run.stdout, case.stdout), ("messages", run.stderr, case.stderr)):
+            if want in (FULL, CLOSED):
+                continue
+            if not (want(got) if callable(want) else want == got):
+                wrong.append(f"{which} {got!r}" + ("" if callable(want) else f", not {want!r}"))
+        left, wanted = files_in(folder), {**case.before, **case.after}
+        for path in sorted({*left, *wanted}):
+            if left.get(path) != wanted.get(path):
+                wrong.append(f"file {path}: {left.get(path)!r}, not {wanted.get(path)!r}")
+        return wrong
+
+
+def main():
+    parser = argparse.ArgumentParser(description=__doc__, formatter_class=argparse.RawDescriptionHelpFormatter)
+    parser.add_argument("program", type=Path)
+    parser.add_argument("--gate", action="store_true", help="run `rt ci` first, which builds the program")
+    arguments = parser.parse_args()
+    program = arguments.program.resolve()
+    passed = failed = 0
+    if arguments.gate:
+        passed, failed = gate(program)
+        if not program.exists():
+            subprocess.run(["rt", "run", "--", "--help"], cwd=program.parent.parent, stdin=subprocess.DEVNULL)
+    if program.exists():
+        asked = subprocess.run([str(program), "--help"], capture_output=True)
+        known = asked.stdout.decode(errors="replace") if asked.returncode == 0 else ""
+        for case in CASES:
+            if (case.needs and case.needs not in known) or (case.until and case.until in known):
+                continue
+            wrong = run_case(program, case)
+            passed, failed = (passed, failed + 1) if wrong else (passed + 1, failed)
+            print(f"process {case.name} ... {'FAILED' if wrong else 'ok'}")
+            for line in wrong:
+                print(f"    {line}")
+    else:
+        failed += 1
+        print(f"no program {program}")
+    print(f"{passed} passed, {failed} failed")
+    return 1 if failed else 0
+
+
+if __name__ == "__main__":
+    sys.exit(main())
