@@ -1,8 +1,9 @@
 -- Two digits at a time.
-use Rattle.std.proofs.Common.{◌≡◌, ℕ, ℤ, pos, negsuc, w64, zero, suc, ◌+◌, ◌-◌, ◌*◌, ◌/◌, ◌%◌, ◌<◌, ◌≤◌, Bool, true, ◌&&◌, T, eqb, List, [], ◌∷◌, ◌++◌, length, take, get_or, slice_set, inl, inr, arith, eq-zero-or-pos, eqb→eq, append_assoc, ap, ◌∙◌}
+use Rattle.std.proofs.Common.{◌≡◌, ℕ, ℤ, pos, negsuc, w64, zero, suc, ◌+◌, ◌-◌, ◌*◌, ◌/◌, ◌%◌, ◌<◌, ◌≤◌, Bool, true, ◌&&◌, T, eqb, List, [], ◌∷◌, ◌++◌, length, take, get_or, slice_set, inl, inr, arith, eq-zero-or-pos, eqb→eq, append_assoc, decimal, ◌^◌, ap, sym, ◌∙◌}
 use Rattle.std.proofs.lemmas.List.{take_more_set, length-set}
 use lib.Ieee.Fits.{and_l, and_r}
 use mir.Val.{SFits}
+use Rattle.itoa.proofs.Decimal.{decimal_four}
 use Rattle.std.proofs.lemmas.Fmt.{decimal_nonempty}
 use Rattle.std.specs.Fmt.{signed_decimal}
 use Rattle.crx_text.specs.declared.digits.TheConstants.{PAIRS}
@@ -36,3 +37,15 @@ joined first second third front back at middle end one two = two ∙ ap (λ (t :
 pub signed_decimal-some : (z : ℤ) → SFits w64 z → 0 < length (signed_decimal z)
 signed_decimal-some (pos n) fits = let small = fits.sfits in decimal_nonempty n (omega (arith, small))
 signed_decimal-some (negsuc n) fits = omega arith
+
+abbrev four : ℕ → List ℕ
+four low = (48 + low / 100 / 10) ∷ (48 + low / 100 % 10) ∷ (48 + low % 100 / 10) ∷ (48 + low % 100 % 10) ∷ []
+
+-- a number's last four digits, after those before them
+pub four_written : (first second third : List ℕ) (size at middle : ℕ) → 10000 ≤ size → size < 2 ^ 64 → take middle second ≡ take at first ++ decimal (size / 10000) →
+    take (middle + 4) third ≡ take middle second ++ four (size - size / 10000 * 10000) → take (middle + 4) third ≡ take at first ++ decimal size
+four_written first second third size at middle many fits one two =
+    let low : size - size / 10000 * 10000 ≡ size % 10000 = omega arith in
+    joined first second third (decimal (size / 10000)) (four (size - size / 10000 * 10000)) at middle (middle + 4) one two
+    ∙ ap (λ (n : ℕ). take at first ++ (decimal (size / 10000) ++ four n)) low
+    ∙ ap (λ (t : List ℕ). take at first ++ t) (sym (decimal_four size many fits))

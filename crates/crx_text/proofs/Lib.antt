@@ -1,11 +1,13 @@
 pub mod AdvanceLemmas
 pub mod Blanks
+pub mod ClockColumns
 pub mod CodeReads
 pub mod CodeTexts
 pub mod DeviceLemmas
 pub mod Gathering
 pub mod CellReads
 pub mod DigitPairs
+pub mod DigitRows
 pub mod LaneBits
 pub mod LaneTexts
 pub mod LaneWords
@@ -25,4 +27,5 @@ pub mod ReturnLemmas
 pub mod SeekLemmas
 pub mod Sizes
 pub mod Spellings
+pub mod TextEnds
 pub mod WindowLemmas

@@ -49,7 +49,7 @@ point_lane c small = agree_below_at (lane 46 1 0) (λ x. eqb x 46) 256 c refl sm
 fraction_lane : (c : ℕ) → c < 256 → lane 48 10 0 c ≡ is_ascii_digit c
 fraction_lane c small = agree_below_at (lane 48 10 0) is_ascii_digit 256 c refl small
 
-all_at : (bits : List Bool) (i : ℕ) → list_all (λ b. b) bits ≡ true → get_or bits i true ≡ true
+pub all_at : (bits : List Bool) (i : ℕ) → list_all (λ b. b) bits ≡ true → get_or bits i true ≡ true
 all_at [] i all = refl
 all_at (true ∷ bits) zero all = refl
 all_at (true ∷ bits) (suc i) all = all_at bits i all

@@ -42,14 +42,14 @@ abbrev pub joined_halves : List ℕ → ℕ
 joined_halves halves = get_or halves 0 0 * 1000000 + get_or halves 2 0
 
 -- three digits, as the weights add them up
-abbrev group_of : ℕ → ℕ → ℕ → ℕ → ℕ
+abbrev pub group_of : ℕ → ℕ → ℕ → ℕ → ℕ
 group_of a b c x = (a * 100 + b * 10) + (c * 1 + x * 0)
 
-half_is : (a b c d e f x : ℕ) → a < 256 → b < 256 → c < 256 → d < 256 → e < 256 → f < 256 →
+pub half_is : (a b c d e f x : ℕ) → a < 256 → b < 256 → c < 256 → d < 256 → e < 256 → f < 256 →
     (group_of a b c x * 1000 % 2 ^ 32 + group_of d e f x * 1 % 2 ^ 32) % 2 ^ 32 ≡ ((((a * 10 + b) * 10 + c) * 10 + d) * 10 + e) * 10 + f
 half_is a b c d e f x a_small b_small c_small d_small e_small f_small = omega arith
 
-twelve : (a b c d e f g h i j k l : ℕ) →
+pub twelve : (a b c d e f g h i j k l : ℕ) →
     (((((a * 10 + b) * 10 + c) * 10 + d) * 10 + e) * 10 + f) * 1000000 + (((((g * 10 + h) * 10 + i) * 10 + j) * 10 + k) * 10 + l)
     ≡ (((((((((((0 * 10 + a) * 10 + b) * 10 + c) * 10 + d) * 10 + e) * 10 + f) * 10 + g) * 10 + h) * 10 + i) * 10 + j) * 10 + k) * 10 + l
 twelve a b c d e f g h i j k l = omega arith

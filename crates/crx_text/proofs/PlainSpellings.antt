@@ -57,46 +57,46 @@ no_minus (c ∷ cs) digits =
     let test : eqb c 45 ≡ false = ne_eqb c 45 (λ e. omega (arith, range)) in
     rw test (no_minus cs parts.1)
 
-digits_spelt : (whole fraction : List ℕ) → all_ascii_digits whole ≡ true → all_ascii_digits fraction ≡ true → length fraction ≡ 3 → size_of 3 (whole ++ 46 ∷ fraction) ≡ Some (weighed 0 (whole ++ fraction))
-digits_spelt whole fraction first then three =
+digits_spelt : (decimals : ℕ) (whole fraction : List ℕ) → all_ascii_digits whole ≡ true → all_ascii_digits fraction ≡ true → length fraction ≡ decimals → size_of decimals (whole ++ 46 ∷ fraction) ≡ Some (weighed 0 (whole ++ fraction))
+digits_spelt decimals whole fraction first then three =
     let w = digits_value_after 10 0 whole in
     let f = digits_value_after 10 0 fraction in
     let joined : weighed 0 (whole ++ fraction) ≡ w * 10 ^ length fraction + f =
     weighed_digits 0 (whole ++ fraction) (digits_joined whole fraction first then) ∙ (digits_value_after-append 0 whole fraction ∙ digits_behind w fraction) in
-    let power : w * 10 ^ length fraction + f ≡ w * 10 ^ 3 + f = ap (λ (n : ℕ). w * 10 ^ n + f) three in
-    size_of_pieces 3 w f whole fraction three first then refl refl ∙ ap Some (sym (joined ∙ power))
+    let power : w * 10 ^ length fraction + f ≡ w * 10 ^ decimals + f = ap (λ (n : ℕ). w * 10 ^ n + f) three in
+    size_of_pieces decimals w f whole fraction three first then refl refl ∙ ap Some (sym (joined ∙ power))
 
 -- ---- a number after its blanks
 
-spelt_after : (c : ℕ) (cs fraction : List ℕ) → c ≢ 32 → c ≢ 45 → all_ascii_digits (c ∷ cs) ≡ true → all_ascii_digits fraction ≡ true → length fraction ≡ 3 →
-    missing_or_spelt 3 (without_first_blanks (c ∷ cs ++ 46 ∷ fraction)) ≡ Some (Some (signed_number (list_any (λ c. eqb c 45) (c ∷ cs)) (weighed 0 (c ∷ cs ++ fraction))))
-spelt_after c cs fraction no_blank no_sign digits then three =
+spelt_after : (decimals c : ℕ) (cs fraction : List ℕ) → c ≢ 32 → c ≢ 45 → all_ascii_digits (c ∷ cs) ≡ true → all_ascii_digits fraction ≡ true → length fraction ≡ decimals →
+    missing_or_spelt decimals (without_first_blanks (c ∷ cs ++ 46 ∷ fraction)) ≡ Some (Some (signed_number (list_any (λ c. eqb c 45) (c ∷ cs)) (weighed 0 (c ∷ cs ++ fraction))))
+spelt_after decimals c cs fraction no_blank no_sign digits then three =
     let text = c ∷ cs ++ 46 ∷ fraction in
     let sign : list_any (λ c. eqb c 45) (c ∷ cs) ≡ false = no_minus (c ∷ cs) digits in
-    let spelt = spelt_number_plain 3 text no_sign ∙ ap (option_map pos) (digits_spelt (c ∷ cs) fraction digits then three) in
-    ap (missing_or_spelt 3) (without_first_blanks-text text no_blank)
-    ∙ (missing_or_spelt_text 3 text (omega arith) ∙ ap (option_map Some) spelt)
+    let spelt = spelt_number_plain decimals text no_sign ∙ ap (option_map pos) (digits_spelt decimals (c ∷ cs) fraction digits then three) in
+    ap (missing_or_spelt decimals) (without_first_blanks-text text no_blank)
+    ∙ (missing_or_spelt_text decimals text (omega arith) ∙ ap (option_map Some) spelt)
     ∙ ap (λ (b : Bool). Some (Some (signed_number b (weighed 0 (c ∷ cs ++ fraction))))) (sym sign)
 
-abbrev Spells : List ℕ → List ℕ → Type 0
-Spells fraction whole = missing_or_spelt 3 (without_first_blanks (whole ++ 46 ∷ fraction)) ≡ Some (Some (signed_number (list_any (λ c. eqb c 45) whole) (weighed 0 (whole ++ fraction))))
+abbrev Spells : ℕ → List ℕ → List ℕ → Type 0
+Spells decimals fraction whole = missing_or_spelt decimals (without_first_blanks (whole ++ 46 ∷ fraction)) ≡ Some (Some (signed_number (list_any (λ c. eqb c 45) whole) (weighed 0 (whole ++ fraction))))
 
-spelt_whole : (fraction whole : List ℕ) → all_ascii_digits fraction ≡ true → length fraction ≡ 3 → is_plain_after 32 whole ≡ true → Spells fraction whole
-spelt_whole fraction [] then three plain =
-    ap (λ (o : Option ℕ). option_map Some (option_map (signed_number false) o)) (digits_spelt [] fraction refl then three)
-spelt_whole fraction (c ∷ cs) then three plain =
+pub spelt_whole : (decimals : ℕ) (fraction whole : List ℕ) → all_ascii_digits fraction ≡ true → length fraction ≡ decimals → is_plain_after 32 whole ≡ true → Spells decimals fraction whole
+spelt_whole decimals fraction [] then three plain =
+    ap (λ (o : Option ℕ). option_map Some (option_map (signed_number false) o)) (digits_spelt decimals [] fraction refl then three)
+spelt_whole decimals fraction (c ∷ cs) then three plain =
     elim (cases_eq c 32) [
-      | inl blank ↦ subst (λ (b : ℕ). is_plain_after 32 (b ∷ cs) ≡ true → Spells fraction (b ∷ cs)) (sym blank) (λ p. spelt_whole fraction cs then three p) plain
+      | inl blank ↦ subst (λ (b : ℕ). is_plain_after 32 (b ∷ cs) ≡ true → Spells decimals fraction (b ∷ cs)) (sym blank) (λ p. spelt_whole decimals fraction cs then three p) plain
       | inr no_blank ↦ elim (cases_eq c 45) [
-        | inl minus ↦ subst (λ (b : ℕ). is_plain_after 32 (b ∷ cs) ≡ true → Spells fraction (b ∷ cs)) (sym minus)
-            (λ p. ap (λ (o : Option ℕ). option_map Some (option_map (signed_number true) o)) (digits_spelt cs fraction (digits_after 45 cs (omega arith) p) then three)) plain
+        | inl minus ↦ subst (λ (b : ℕ). is_plain_after 32 (b ∷ cs) ≡ true → Spells decimals fraction (b ∷ cs)) (sym minus)
+            (λ p. ap (λ (o : Option ℕ). option_map Some (option_map (signed_number true) o)) (digits_spelt decimals cs fraction (digits_after 45 cs (omega arith) p) then three)) plain
         | inr no_sign ↦
             let parts = and_parts (is_ascii_digit c || (eqb c 32 || eqb c 45)) (is_plain_after c cs) plain in
             let blank_test : eqb c 32 ≡ false = ne_eqb c 32 no_blank in
             let sign_test : eqb c 45 ≡ false = ne_eqb c 45 no_sign in
             let is_digit : is_ascii_digit c ≡ true = elim (or_cases _ _ parts.0) [ inl digit ↦ digit | inr other ↦ absurd (cc) ] in
             let digits : all_ascii_digits (c ∷ cs) ≡ true = rw is_digit (digits_after c cs no_blank parts.1) in
-            spelt_after c cs fraction no_blank no_sign digits then three
+            spelt_after decimals c cs fraction no_blank no_sign digits then three
       ]
     ]
 
@@ -124,7 +124,7 @@ plain_explicit c plain =
     let one = and_parts (is_ascii_digit (c 11)) _ plain.fraction in
     let two = and_parts (is_ascii_digit (c 12)) _ one.1 in
     let three = and_parts (is_ascii_digit (c 13)) _ two.1 in
-    let spelt = spelt_whole fraction whole plain.fraction refl plain.whole in
+    let spelt = spelt_whole 3 fraction whole plain.fraction refl plain.whole in
     let first : 0 * 10 + (c 0 - 48) ≡ 0 = first_weighs_nothing (c 0) plain.first in
     number_of_width 14 3 (map c (range_with_len 0 14)) refl
     ∙ (rw (plain.point, not_minus (c 11) one.0, not_minus (c 12) two.0, not_minus (c 13) three.0) (rw first at spelt))

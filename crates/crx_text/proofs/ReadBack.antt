@@ -17,7 +17,7 @@ use Rattle.crx_text.proofs.PowersOfTen.{ten_pow_pos}
 use Rattle.crx_text.proofs.Sizes.{size_of_parts, spelt_number_plain, spelt_number_minus, missing_or_spelt_text, number_of_width}
 use Rattle.crx_text.proofs.Spellings.{fraction_short, length-zero_padded, length-size_text, size_text_fits, ten_pow_small, abs_within, abs_within_below}
 
--- the digits that are behind a number
+-- the digits that are after a number
 pub digits_behind : (n : ℕ) (ds : List ℕ) → digits_value_after 10 n ds ≡ n * 10 ^ length ds + digits_value_after 10 0 ds
 digits_behind n [] = omega arith
 digits_behind n (c ∷ cs) =
@@ -43,7 +43,7 @@ decimal_is_digits n small = digits_decimal digits_own n small
 pub decimal_weighs : (n : ℕ) → n < 2 ^ 64 → digits_value_after 10 0 (decimal n) ≡ n
 decimal_weighs n small = (decimal_is_IsNumeral n small).1
 
--- whole digits, a point and digits behind it
+-- whole digits, a point and digits after it
 pub size_of_pieces : (decimals w f : ℕ) (whole fraction : List ℕ) → length fraction ≡ decimals → all_ascii_digits whole ≡ true → all_ascii_digits fraction ≡ true → digits_value_after 10 0 whole ≡ w → digits_value_after 10 0 fraction ≡ f → size_of decimals (whole ++ 46 ∷ fraction) ≡ Some (w * 10 ^ decimals + f)
 size_of_pieces decimals w f whole fraction count whole_digits fraction_digits whole_is fraction_is =
     let text = whole ++ 46 ∷ fraction in
@@ -100,7 +100,7 @@ size_text_first decimals size small =
     get_or_append_left (decimal (size / 10 ^ decimals)) (46 ∷ zero_padded decimals (size % 10 ^ decimals)) 0 0 some in
     rw same (decimal_first (size / 10 ^ decimals) whole_small)
 
--- a text behind its blanks, in a field that it fills
+-- a text after its blanks, in a field that it fills
 pub number_of-right_justified : (width decimals : ℕ) (text : List ℕ) (number : ℤ) → length text ≤ width → 0 < length text → get_or text 0 0 ≢ 32 → spelt_number decimals text ≡ Some number → number_of width decimals (right_justified width text) ≡ Some (Some number)
 number_of-right_justified width decimals text number fits some other spelt =
     let filled : length (right_justified width text) ≡ width = simp (length-append, length-replicate) (omega arith) in

@@ -18,7 +18,7 @@ ten_pow_small decimals few =
     let power : 10 ^ decimals ≤ 10 ^ 18 = pow-le-pow_right {n = 10} (omega arith) within in
     omega (arith, power)
 
--- the digits behind the point fit their places
+-- the digits after the point fit their places
 pub fraction_short : (decimals size : ℕ) → 0 < decimals → decimals < 19 → length (decimal (size % 10 ^ decimals)) ≤ decimals
 fraction_short decimals size some few =
     let one = ten_pow_pos decimals in

@@ -33,13 +33,13 @@ size_of decimals text =
 abbrev pub spelt_number : ℕ → List ℕ → Option ℤ
 spelt_number decimals text = option_map (signed_number (starts_with_minus text)) (size_of decimals (without_minus text))
 
--- what a text behind its blanks spells: nothing is a missing number
+-- what a text after its blanks spells: nothing is a missing number
 abbrev pub missing_or_spelt : ℕ → List ℕ → Option (Option ℤ)
 missing_or_spelt decimals [] = Some None
 missing_or_spelt decimals (c ∷ cs) = option_map Some (spelt_number decimals (c ∷ cs))
 
 -- what a text of so many columns spells: `None` where it spells nothing, `Some None` where it is
--- blank and the number is missing, else the number, behind blanks and up to the last column
+-- blank and the number is missing, else the number, after blanks and up to the last column
 unfoldable pub number_of : ℕ → ℕ → List ℕ → Option (Option ℤ)
 number_of width decimals text =
     if length text == width then missing_or_spelt decimals (without_first_blanks text) else None

@@ -50,7 +50,7 @@ pub fn code_print(code: Code, text: &mut Text) -> Result<(), TextFull>
 }
 
 /// Appends a code's printed text and a blank, both or none; else as [`code_print`].
-#[inline]
+#[inline(always)]
 #[tactic(auto, using(crate::proofs::CodeTexts::code_text_length))]
 pub fn code_print_cell(code: Code, text: &mut Text) -> Result<(), TextFull>
     requires { IsPrintable code }

@@ -89,7 +89,7 @@ pub fn is_blank(line: &[u8], first: usize, width: usize) -> bool
 }
 
 /// What comes after so many columns.
-pub fn behind(line: &[u8], width: usize) -> &[u8]
+pub fn after_columns(line: &[u8], width: usize) -> &[u8]
     ensures { result.now ≡ drop width line.now }
 {
     if width < line.len() {

@@ -1,16 +1,19 @@
 //! Digits and signs, as numbers in columns and numbers in codes have them.
 
-ghost use Rattle.std.specs.Prelude.{◌≡◌, ◌+◌, ◌-◌, ◌*◌, ◌/◌, ◌%◌, ◌<◌, ◌≤◌, ◌^◌, Some, None, [], ◌∷◌, ◌++◌, length, take, drop, decimal, if◌then◌else◌, IfSome};
+ghost use Rattle.std.specs.Prelude.{true, ◌≡◌, ◌+◌, ◌-◌, ◌*◌, ◌/◌, ◌%◌, ◌<◌, ◌≤◌, ◌^◌, Some, None, [], ◌∷◌, ◌++◌, length, take, drop, decimal, if◌then◌else◌, IfSome};
 ghost use Rattle.std.specs.Fmt.{signed_decimal};
 ghost use Rattle.std.specs.Option.{option_map};
+ghost use Rattle.std.specs.Char.{is_ascii_digit};
+ghost use Rattle.std.specs.List.{prefix_len};
 ghost use Rattle.std.specs.Str.{all_ascii_digits};
-ghost use Rattle.std.specs.Str.Parse.{digits_value_after, starts_with_minus};
+ghost use Rattle.std.specs.Str.Parse.{digits_value, digits_value_after, starts_with_minus};
 ghost use Rattle.crx_text.specs.Numbers.{signed_number, without_minus};
 ghost use Rattle.crx_text.specs.Codes.{after_cell, counted_digits, first_cell};
 ghost use Rattle.crx_text.specs.FirstDigits.{HasFirstDigits};
 ghost use Rattle.crx_text.specs.declared.limits.TheConstants.{DIGITS_LIMIT};
 
 use crate::limits::DIGITS_LIMIT;
+use std::simd::prelude::*;
 
 /// The most columns of a number, its point among them, that an `i64` holds in every spelling.
 pub(crate) const WIDEST: usize = 19;
@@ -35,6 +38,22 @@ pub(crate) fn digits_read(before: u64, digits: &[u8]) -> Option<u64>
 // the text's end; None where there is no digit, too many, or something else.
 #[inline(always)]
 pub(crate) fn digits_before_blank(text: &[u8]) -> Option<(u64, usize)>
+    ensures value { option_map (λ cell. cell.0) result ≡ counted_digits (first_cell text.now) }
+    ensures next { IfSome result (λ cell. drop cell.1 text.now ≡ after_cell text.now) }
+    ensures within { IfSome result (λ cell. (cell.0 < 10 ^ DIGITS_LIMIT) × (cell.1 ≤ length text.now)) }
+{
+    if text.len() >= ROW {
+        let (size, count) = digits_in_front(text);
+        if 0 < count && count < ROW && text[count] == b' ' {
+            return Some((size, count + 1));
+        }
+    }
+    digits_before_blank_singly(text)
+}
+
+// The same, digit by digit.
+#[inline(never)]
+fn digits_before_blank_singly(text: &[u8]) -> Option<(u64, usize)>
     ensures value { option_map (λ cell. cell.0) result ≡ counted_digits (first_cell text.now) }
     ensures next { IfSome result (λ cell. drop cell.1 text.now ≡ after_cell text.now) }
     ensures within { IfSome result (λ cell. (cell.0 < 10 ^ DIGITS_LIMIT) × (cell.1 ≤ length text.now)) }
@@ -75,6 +94,82 @@ fn first_digits(text: &[u8]) -> (u64, usize)
     (size, count)
 }
 
+// How many characters stand in a row of lanes.
+const ROW: usize = 8;
+
+// The number that the digits at a text's beginning write, and how many they are, where these are
+// fewer than a row has; else any number, and how many a row has.
+#[inline(always)]
+fn digits_in_front(text: &[u8]) -> (u64, usize)
+    requires { ROW ≤ length text.now }
+    ensures { result.1 < ROW → HasFirstDigits text.now result.0 result.1 }
+{
+    let row = u8x8::from_slice(text);
+    let count = digits_in_row(row);
+    if count >= ROW {
+        return (0, ROW);
+    }
+    (row_size(row, count), count)
+}
+
+// How many digits a row begins with.
+#[inline(always)]
+fn digits_in_row(row: u8x8) -> usize
+    ensures { result ≡ prefix_len is_ascii_digit row }
+{
+    let others = (row - u8x8::splat(b'0'))
+        .simd_gt(u8x8::splat(9))
+        .to_bitmask();
+    if others == 0 {
+        ROW
+    } else {
+        others.trailing_zeros() as usize
+    }
+}
+
+// What each digit of a row weighs in its pair, for each count of digits.
+#[rattlefmt::skip]
+static WEIGHTS: [u8; 16 * ROW] = [
+    0, 0, 0, 0, 0, 0, 0, 0, 0, 0, 0, 0, 0, 0, 0, 0,
+    1, 0, 0, 0, 0, 0, 0, 0, 0, 0, 0, 0, 0, 0, 0, 0,
+    10, 1, 0, 0, 0, 0, 0, 0, 0, 0, 0, 0, 0, 0, 0, 0,
+    10, 1, 0, 0, 1, 0, 0, 0, 0, 0, 0, 0, 0, 0, 0, 0,
+    10, 1, 0, 0, 10, 1, 0, 0, 0, 0, 0, 0, 0, 0, 0, 0,
+    10, 1, 0, 0, 10, 1, 0, 0, 1, 0, 0, 0, 0, 0, 0, 0,
+    10, 1, 0, 0, 10, 1, 0, 0, 10, 1, 0, 0, 0, 0, 0, 0,
+    10, 1, 0, 0, 10, 1, 0, 0, 10, 1, 0, 0, 1, 0, 0, 0,
+];
+
+// What each pair weighs.
+#[rattlefmt::skip]
+static SCALES: [u32; 4 * ROW] = [
+    0, 0, 0, 0,
+    1, 0, 0, 0,
+    1, 0, 0, 0,
+    10, 1, 0, 0,
+    100, 1, 0, 0,
+    1000, 10, 1, 0,
+    10_000, 100, 1, 0,
+    100_000, 1000, 10, 1,
+];
+
+// The number that so many digits write, which a row begins with.
+#[inline(always)]
+fn row_size(row: u8x8, count: usize) -> u64
+    requires few { count < ROW }
+    requires digits { all_ascii_digits (take count row) ≡ true }
+    ensures { result ≡ digits_value 10 (take count row) }
+{
+    let digits = (row - u8x8::splat(b'0')).shuffle(
+        u8x8::splat(0),
+        [0, 1, 8, 8, 2, 3, 8, 8, 4, 5, 8, 8, 6, 7, 8, 8],
+    );
+    let pairs = digits.dot4(u8x16::from_slice(&WEIGHTS[16 * count..]))
+        * u32x4::from_slice(&SCALES[4 * count..]);
+    let halves = (pairs + pairs.swizzle([1, 0, 3, 2])).to_array();
+    u64::from(halves[0]) + u64::from(halves[2])
+}
+
 // Whether a minus begins the text, and the text without it.
 pub(crate) fn split_minus(text: &[u8]) -> (bool, &[u8])
     ensures sign { result.0 ≡ starts_with_minus text.now }
@@ -112,6 +207,7 @@ pub(crate) fn write_signed(buffer: &mut [u8], at: usize, number: i64) -> usize
 }
 
 // Writes a number without a sign.
+#[inline(always)]
 pub(crate) fn write_decimal(buffer: &mut [u8], at: usize, size: u64) -> usize
     requires { at + length (decimal size) ≤ length buffer.old }
     ensures written { take result buffer.new ≡ take at buffer.old ++ decimal size }
@@ -121,11 +217,49 @@ pub(crate) fn write_decimal(buffer: &mut [u8], at: usize, size: u64) -> usize
         return write_short(buffer, at, size as usize);
     }
     let high = size / 10_000;
-    let low = (size - high * 10_000) as usize;
-    let middle = write_decimal(buffer, at, high);
-    write_pair(buffer, middle, low / 100);
-    write_pair(buffer, middle + 2, low % 100);
+    let middle = write_front(buffer, at, high);
+    write_four(buffer, middle, (size - high * 10_000) as usize);
     middle + 4
+}
+
+// The same of what stands before a number's last four digits.
+#[inline(always)]
+fn write_front(buffer: &mut [u8], at: usize, size: u64) -> usize
+    requires { at + length (decimal size) ≤ length buffer.old }
+    ensures written { take result buffer.new ≡ take at buffer.old ++ decimal size }
+    ensures within { result ≡ at + length (decimal size) }
+{
+    if size < 10_000 {
+        return write_short(buffer, at, size as usize);
+    }
+    write_long(buffer, at, size)
+}
+
+// The same of a number of any count of digits, four at a time.
+fn write_long(buffer: &mut [u8], at: usize, size: u64) -> usize
+    requires { at + length (decimal size) ≤ length buffer.old }
+    ensures written { take result buffer.new ≡ take at buffer.old ++ decimal size }
+    ensures within { result ≡ at + length (decimal size) }
+{
+    if size < 10_000 {
+        return write_short(buffer, at, size as usize);
+    }
+    let high = size / 10_000;
+    let middle = write_long(buffer, at, high);
+    write_four(buffer, middle, (size - high * 10_000) as usize);
+    middle + 4
+}
+
+// The four last digits of a number, zeros among them.
+#[inline(always)]
+fn write_four(buffer: &mut [u8], at: usize, low: usize)
+    requires small { low < 10000 }
+    requires room { at + 4 ≤ length buffer.old }
+    ensures { take (at + 4) buffer.new ≡ take at buffer.old ++ (48 + low / 100 / 10) ∷ (48 + low / 100 % 10) ∷ (48 + low % 100 / 10) ∷ (48 + low % 100 % 10) ∷ [] }
+{
+    let high = low / 100;
+    write_pair(buffer, at, high);
+    write_pair(buffer, at + 2, low - high * 100);
 }
 
 // The same of a number of at most four digits.

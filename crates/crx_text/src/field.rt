@@ -63,8 +63,8 @@ pub(crate) fn is_plain(columns: u8x16) -> bool
     (digit | before.simd_eq(blank) & prefix).to_bitmask() == 0xffff
 }
 
-// What three digits weigh.
-const WEIGHTS: [u8; 16] = [100, 10, 1, 0, 100, 10, 1, 0, 100, 10, 1, 0, 100, 10, 1, 0];
+/// What three digits weigh.
+pub(crate) const WEIGHTS: [u8; 16] = [100, 10, 1, 0, 100, 10, 1, 0, 100, 10, 1, 0, 100, 10, 1, 0];
 
 /// What the digits write, without the point; a blank or a minus counts as 0.
 #[inline(always)]

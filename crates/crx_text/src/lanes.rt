@@ -1,6 +1,6 @@
 //! Texts read and written 32 characters at a time, and the rest of a text character by character.
 
-ghost use Rattle.std.specs.Prelude.{◌≡◌, ℕ, ◌+◌, ◌<◌, ◌≤◌, Bool, ◌++◌, length, take, drop};
+ghost use Rattle.std.specs.Prelude.{◌≡◌, ℕ, ◌+◌, ◌-◌, ◌<◌, ◌≤◌, Bool, ◌++◌, length, take, drop};
 ghost use Rattle.std.specs.List.{list_all};
 ghost use Rattle.std.specs.Simd.Lanes.{zip2};
 
@@ -33,7 +33,55 @@ pub(crate) fn all_of<K: Kind>(text: &[u8]) -> bool
         }
         at += LANES;
     }
-    all_of_singly::<K>(&text[at..])
+    all_of_rest::<K>(&text[at..])
+}
+
+// The same of a text that is no longer than a vector: its two ends in one vector, where these are
+// lanes enough.
+#[inline(always)]
+fn all_of_rest<K: Kind>(text: &[u8]) -> bool
+    requires { length text.now < 32 }
+    ensures { result ≡ list_all K.is_of_kind text.now }
+{
+    if text.len() >= 16 {
+        return K::holds_in(ends_of_sixteen(text));
+    }
+    if text.len() >= 8 {
+        return K::holds_in(ends_of_eight(text));
+    }
+    all_of_singly::<K>(text)
+}
+
+/// The first 16 characters of a text, and the last 16.
+#[inline(always)]
+fn ends_of_sixteen(text: &[u8]) -> u8x32
+    requires { 16 ≤ length text.now }
+    ensures { result ≡ take 16 text.now ++ drop (length text.now - 16) text.now }
+{
+    let last = u8x16::from_slice(&text[text.len() - 16..]);
+    u8x16::from_slice(text).shuffle(
+        last,
+        [
+            0, 1, 2, 3, 4, 5, 6, 7, 8, 9, 10, 11, 12, 13, 14, 15, 16, 17, 18, 19, 20, 21, 22, 23,
+            24, 25, 26, 27, 28, 29, 30, 31,
+        ],
+    )
+}
+
+/// The first 8 characters of a text and the last 8, twice.
+#[inline(always)]
+fn ends_of_eight(text: &[u8]) -> u8x32
+    requires { 8 ≤ length text.now }
+    ensures { result ≡ (take 8 text.now ++ drop (length text.now - 8) text.now) ++ (take 8 text.now ++ drop (length text.now - 8) text.now) }
+{
+    let last = u8x8::from_slice(&text[text.len() - 8..]);
+    u8x8::from_slice(text).shuffle(
+        last,
+        [
+            0, 1, 2, 3, 4, 5, 6, 7, 8, 9, 10, 11, 12, 13, 14, 15, 0, 1, 2, 3, 4, 5, 6, 7, 8, 9, 10,
+            11, 12, 13, 14, 15,
+        ],
+    )
 }
 
 fn all_of_singly<K: Kind>(text: &[u8]) -> bool
@@ -72,7 +120,31 @@ pub(crate) fn write_by_rule<R: Rule>(old: &[u8], other: &[u8], out: &mut [u8])
         R::apply_to(olds, others).copy_to_slice(&mut out[at..]);
         at += LANES;
     }
-    write_singly::<R>(&old[at..], &other[at..], &mut out[at..]);
+    write_rest::<R>(&old[at..], &other[at..], &mut out[at..]);
+}
+
+// The same of texts that are shorter than a vector.
+#[inline(always)]
+fn write_rest<R: Rule>(old: &[u8], other: &[u8], out: &mut [u8])
+    requires few { length old.now < 32 }
+    requires same_length { (length other.now ≡ length old.now) × (length out.old ≡ length old.now) }
+    ensures { out.new ≡ zip2 R.rule old.now other.now }
+{
+    let count = old.len();
+    if count >= 16 {
+        let made = R::apply_to(ends_of_sixteen(old), ends_of_sixteen(other));
+        made.extract::<0, 16>().copy_to_slice(out);
+        made.extract::<16, 16>()
+            .copy_to_slice(&mut out[count - 16..]);
+        return;
+    }
+    if count >= 8 {
+        let made = R::apply_to(ends_of_eight(old), ends_of_eight(other));
+        made.extract::<0, 8>().copy_to_slice(out);
+        made.extract::<8, 8>().copy_to_slice(&mut out[count - 8..]);
+        return;
+    }
+    write_singly::<R>(old, other, out);
 }
 
 fn write_singly<R: Rule>(old: &[u8], other: &[u8], out: &mut [u8])

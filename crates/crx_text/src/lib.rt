@@ -2,6 +2,7 @@
 //! position-wise differences, and the devices that bytes come from and go to.
 #![tactic(auto)]
 
+mod clock_field;
 pub mod code;
 pub mod columns;
 pub mod device;

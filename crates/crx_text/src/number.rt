@@ -10,9 +10,9 @@ ghost use Rattle.crx_text.specs.Columns.{without_first_blanks};
 ghost use Rattle.crx_text.specs.Numbers.{IsWithin, IsObservation, IsClock, number_of, observation_of, clock_of, size_of, spelt_number, number_text, observation_text, clock_text, size_text, zero_padded};
 
 use crate::digits::{WIDEST, digits_read, signed, split_minus};
-use crate::field;
 use crate::field_text::size_print_by_lanes;
 use crate::limits::{CLOCK_DECIMALS, CLOCK_WIDTH, OBSERVATION_DECIMALS, OBSERVATION_WIDTH};
+use crate::{clock_field, field};
 use itoa::write_digits;
 use thiserror::Error;
 
@@ -86,9 +86,26 @@ pub fn obs_print_into(value: Option<i64>, columns: &mut [u8])
 const SHORT_SIZE: u64 = 1_000_000_000_000;
 
 /// Reads a receiver clock offset of 15 columns, in units of 10^-12 seconds; a blank field is
-/// `None`, no offset. The spellings are those of [`obs_read`] with 12 digits behind the point.
+/// `None`, no offset. The spellings are those of [`obs_read`] with 12 digits after the point.
 /// `BadField` comes for every other text.
 pub fn clock_read(field: &[u8]) -> Result<Option<i64>, BadField>
+    ensures value { result_ok result ≡ clock_of field.now }
+    ensures in_range { IfOk result (λ value. IfSome value IsClock) }
+{
+    if field.len() == CLOCK_WIDTH {
+        if clock_field::is_blank(field) {
+            return Ok(None);
+        }
+        if let Some(number) = clock_field::value(field) {
+            return Ok(Some(number));
+        }
+    }
+    clock_read_any(field)
+}
+
+// Reads a receiver clock offset in any spelling, column by column.
+#[inline(never)]
+fn clock_read_any(field: &[u8]) -> Result<Option<i64>, BadField>
     ensures value { result_ok result ≡ clock_of field.now }
     ensures in_range { IfOk result (λ value. IfSome value IsClock) }
 {
@@ -146,7 +163,7 @@ fn trim_first_blanks(field: &[u8]) -> &[u8]
     text
 }
 
-// A number behind its blanks; None where the text spells none.
+// A number after its blanks; None where the text spells none.
 fn spelt_read(text: &[u8], decimals: usize) -> Option<i64>
     requires { length text.now ≤ WIDEST }
     ensures value { result ≡ spelt_number decimals text.now }

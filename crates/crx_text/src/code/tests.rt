@@ -1,4 +1,5 @@
 use super::*;
+use std::process::Abort;
 
 #[test]
 fn texts_of_codes(rt: HostRuntime) {
@@ -142,4 +143,63 @@ fn spellings_that_are_no_code(rt: HostRuntime) {
     for line in lines {
         assert!(rt; code_before_blank(line) == Err(BadField));
     }
+}
+
+// A line that begins with a number of so many digits, and so many bytes after it, a blank first.
+fn expect_number(rt: &impl Abort, digits: usize, more: usize, is_below: bool) {
+    let all = *b"370481592637048159";
+    let mut line = Text::new();
+    if is_below {
+        assert!(rt; line.push(b'-').is_ok());
+    }
+    let mut value: i64 = 0;
+    for digit in &all[..digits.min(18)] {
+        assert!(rt; line.push(*digit).is_ok());
+        value = value
+            .wrapping_mul(10)
+            .wrapping_add(i64::from(*digit))
+            .wrapping_sub(48);
+    }
+    if is_below {
+        value = value.wrapping_neg();
+    }
+    let end = line.len();
+    assert!(rt; code_read(line.bytes()) == Ok(Code::Step(value)));
+    assert!(rt; line.extend(&b" 8 888888888"[..more.min(12)]).is_ok());
+    let cell = code_before_blank(line.bytes());
+    assert!(rt;
+        matches!(&cell, Ok((code, next)) if *code == Code::Step(value) && *next == end + more.min(1))
+    );
+    if value.unsigned_abs() < 1_000_000_000_000_000_000 {
+        let mut text = Text::new();
+        assert!(rt; code_print_cell(Code::Step(value), &mut text).is_ok());
+        assert_eq!(rt; text.len(), end + 1);
+        assert!(rt; more == 0 || text.bytes() == &line.bytes()[..(end + 1).min(line.len())]);
+    }
+}
+
+#[test]
+fn numbers_of_each_length(rt: HostRuntime) {
+    for digits in 1..19 {
+        for more in 0..12 {
+            expect_number(&rt, digits, more, false);
+            expect_number(&rt, digits, more, true);
+        }
+    }
+}
+
+#[test]
+fn numbers_with_another_byte(rt: HostRuntime) {
+    let mut line = *b"1234567 12345678";
+    for place in 0..7 {
+        let before = line[place];
+        for byte in [0, 9, 31, 33, 46, 47, 58, 255] {
+            line[place] = byte;
+            assert!(rt; code_before_blank(&line) == Err(BadField));
+        }
+        line[place] = before;
+        assert!(rt; code_before_blank(&line) == Ok((Code::Step(1_234_567), 8)));
+    }
+    line[7] = b':';
+    assert!(rt; code_before_blank(&line) == Err(BadField));
 }

@@ -30,7 +30,7 @@ returns g c =
     let old = c.args.old.now in
     let other = c.args.other.now in
     let rule = g.R.Rule.rule in
-    put_mid-at_end out c.write_singly.new.out i (omega (arith, c.loop-at.invariant.0, c.loop-at.invariant.1))
-    ∙ ap (λ (t : List ℕ). t ++ c.write_singly.new.out) c.loop-at.invariant.2
-    ∙ ap (λ (t : List ℕ). zip2 rule (take i old) (take i other) ++ t) c.write_singly.ensures
+    put_mid-at_end out c.write_rest.new.out i (omega (arith, c.loop-at.invariant.0, c.loop-at.invariant.1))
+    ∙ ap (λ (t : List ℕ). t ++ c.write_rest.new.out) c.loop-at.invariant.2
+    ∙ ap (λ (t : List ℕ). zip2 rule (take i old) (take i other) ++ t) c.write_rest.ensures
     ∙ zip2-rest rule old other i c.loop-at.invariant.0 c.requires.0

@@ -3,7 +3,7 @@ use Rattle.std.proofs.Math.Seq.{take-add}
 use Rattle.std.proofs.lemmas.Slice.{between_to_end}
 use Rattle.crx_text.proofs.write.write_all_counted.Goals as goal
 
--- what went out so far, and the next bytes behind it
+-- what went out so far, and the next bytes after it
 take-rest : (bytes : List ℕ) (n m : ℕ) → take n bytes ++ take m (slice_range bytes n (length bytes)) ≡ take (n + m) bytes
 take-rest bytes n m =
     ap (λ l. take n bytes ++ take m l) (between_to_end bytes n (length bytes) (omega arith)) ∙ sym (take-add n m bytes)

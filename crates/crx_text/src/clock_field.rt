@@ -1,0 +1,92 @@
+//! A receiver clock offset's 15 columns by lanes: blanks, perhaps a minus, at most one digit, the
+//! point in column 3 and twelve digits. That is how nearly every offset is written.
+
+ghost use Rattle.std.specs.Prelude.{◌≡◌, ◌==◌, ◌++◌, ◌∷◌, ◌<◌, ◌^◌, [], true, length, drop, slice_index, Some, IfSome};
+ghost use Rattle.std.specs.List.{list_all, list_any};
+ghost use Rattle.std.specs.Str.{all_ascii_digits};
+ghost use Rattle.std.specs.Str.Parse.{digits_value};
+ghost use Rattle.crx_text.specs.declared.limits.TheConstants.{CLOCK_WIDTH};
+ghost use Rattle.crx_text.specs.Fields.{is_plain_after, weighed};
+ghost use Rattle.crx_text.specs.Numbers.{IsClock, clock_of};
+
+use crate::digits::signed;
+use crate::field::{self, WEIGHTS};
+use std::simd::prelude::*;
+
+/// Whether every column is blank.
+#[inline(always)]
+pub(crate) fn is_blank(field: &[u8]) -> bool
+    requires { length field.now ≡ CLOCK_WIDTH }
+    ensures { result ≡ list_all (λ c. c == 32) (field.now ++ slice_index field.now 14 ∷ []) }
+{
+    field::is_blank(columns(field))
+}
+
+/// The columns of a field; the last one stands in the last two lanes.
+#[inline(always)]
+fn columns(field: &[u8]) -> u8x16
+    requires { length field.now ≡ CLOCK_WIDTH }
+    ensures { result ≡ field.now ++ slice_index field.now 14 ∷ [] }
+{
+    u8x8::from_slice(field).shuffle(
+        u8x8::from_slice(&field[7..]),
+        [0, 1, 2, 3, 4, 5, 6, 7, 9, 10, 11, 12, 13, 14, 15, 15],
+    )
+}
+
+/// The number in the columns; None where they are spelt in another way.
+#[inline(always)]
+pub(crate) fn value(field: &[u8]) -> Option<i64>
+    requires { length field.now ≡ CLOCK_WIDTH }
+    ensures value { IfSome result (λ number. clock_of field.now ≡ Some (Some number)) }
+    ensures in_range { IfSome result IsClock }
+{
+    if field[2] != b'.' {
+        return None;
+    }
+    let (is_below, digit) = whole(field[0], field[1])?;
+    let fraction = fraction(field)?;
+    Some(signed(is_below, digit * 1_000_000_000_000 + fraction))
+}
+
+/// Whether a minus stands in the two columns before the point, and the digit there, or 0.
+#[inline(always)]
+fn whole(first: u8, second: u8) -> Option<(bool, u64)>
+    ensures plain { IfSome result (λ part. is_plain_after 32 (first ∷ second ∷ []) ≡ true) }
+    ensures sign { IfSome result (λ part. part.0 ≡ list_any (λ c. c == 45) (first ∷ second ∷ [])) }
+    ensures digit { IfSome result (λ part. part.1 ≡ weighed 0 (first ∷ second ∷ [])) }
+    ensures small { IfSome result (λ part. part.1 < 10) }
+{
+    if second.is_ascii_digit() {
+        return match first {
+            b' ' => Some((false, u64::from(second - b'0'))),
+            b'-' => Some((true, u64::from(second - b'0'))),
+            _ => None,
+        };
+    }
+    match (first, second) {
+        (b' ', b' ') => Some((false, 0)),
+        (b' ', b'-') => Some((true, 0)),
+        _ => None,
+    }
+}
+
+/// The number that the twelve columns after the point write; None where one of them is no digit.
+#[inline(always)]
+fn fraction(field: &[u8]) -> Option<u64>
+    requires { length field.now ≡ CLOCK_WIDTH }
+    ensures digits { IfSome result (λ size. all_ascii_digits (drop 3 field.now) ≡ true) }
+    ensures value { IfSome result (λ size. size ≡ digits_value 10 (drop 3 field.now)) }
+{
+    let row = u8x8::from_slice(&field[3..]).shuffle(
+        u8x8::from_slice(&field[7..]),
+        [0, 1, 2, 0, 3, 4, 5, 0, 6, 7, 12, 0, 13, 14, 15, 0],
+    );
+    let digits = row - u8x16::splat(b'0');
+    if digits.simd_lt(u8x16::splat(10)).to_bitmask() != 0xffff {
+        return None;
+    }
+    let groups = digits.dot4(u8x16::from_array(WEIGHTS)) * u32x4::from_array([1000, 1, 1000, 1]);
+    let halves = (groups + groups.swizzle([1, 0, 3, 2])).to_array();
+    Some(u64::from(halves[0]) * 1_000_000 + u64::from(halves[2]))
+}
