@@ -1,8 +1,12 @@
 pub mod Cells
+pub mod Characters
 pub mod Counts
 pub mod Lines
 pub mod Steady
 pub mod OpenEpochs
+pub mod OpenSound
 pub mod Ranges
+pub mod ReadingBack
 pub mod Rows
 pub mod SoundEpochs
+pub mod LastLines

@@ -18,7 +18,7 @@ use Rattle.crx_rinex.specs.Epochs.{has_satellite, are_different, with_row, is_fu
 use Rattle.crx_rinex.specs.SatelliteLines.{IsSoundRow}
 
 -- the test of two texts doesn't ask which is the first
-other_way : (xs ys : List ℕ) → bytes_eq xs ys ≡ false → bytes_eq ys xs ≡ false
+pub other_way : (xs ys : List ℕ) → bytes_eq xs ys ≡ false → bytes_eq ys xs ≡ false
 other_way xs ys h = false_from_ne_true (bytes_eq ys xs) (λ t. false≢true (sym h ∙ (bytes_eq-Decides xs ys).1 (sym ((bytes_eq-Decides ys xs).0 t))))
 
 pub different-push : (rows : List Row) (row : Row) → are_different rows ≡ true → has_satellite row.name rows ≡ false → are_different (rows ++ row ∷ []) ≡ true

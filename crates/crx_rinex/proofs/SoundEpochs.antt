@@ -29,7 +29,7 @@ use Rattle.crx_rinex.proofs.Rows.{different-push, satellites_few}
 -- ---- a row
 
 -- an identifier's columns have the system's count of types that its line has
-name_types : (types : List Count) (line : List ℕ) → types_of_satellite types (columns line 1 3) ≡ types_of_satellite types line
+pub name_types : (types : List Count) (line : List ℕ) → types_of_satellite types (columns line 1 3) ≡ types_of_satellite types line
 name_types types [] = refl
 name_types types (a ∷ []) = refl
 name_types types (a ∷ b ∷ []) = refl
@@ -123,7 +123,7 @@ length-columns : (line : List ℕ) (first width : ℕ) → length (columns line 
 length-columns line first width =
     omega (arith, length-take width (drop (first - 1) line ++ replicate width 32), length-append (drop (first - 1) line) (replicate width 32), length-replicate {A = ℕ} width 32)
 
-abbrev IsSoundHead : Result HeadLine Fault → Type 0
+abbrev pub IsSoundHead : Result HeadLine Fault → Type 0
 IsSoundHead (Err fault) = ⊤
 IsSoundHead (Ok (EventHead flag count)) = ⊤
 IsSoundHead (Ok (EpochHead head count clock)) = IsObservationHead (record { head = head; count = count; clock = clock })
@@ -172,7 +172,7 @@ pub record IsSoundSoFar (so_far : OpenEpoch) : Type 0 where
 pub sound-opened : (types : List Count) (head : ObservationHead) → IsObservationHead head → IsSoundSoFar (opened types head)
 sound-opened types head h = record { head = h; rows = All-nil IsSoundRow; typed = All-nil (HasItsTypes types); apart = refl }
 
-abbrev IsNext : OpenEpoch → Result Row Fault → Type 0
+abbrev pub IsNext : OpenEpoch → Result Row Fault → Type 0
 IsNext so_far (Err fault) = ⊤
 IsNext so_far (Ok row) = IsSoundRow row × HasItsTypes so_far.types row × (has_satellite row.name so_far.rows ≡ false)
 
@@ -184,7 +184,7 @@ new_row : (so_far : OpenEpoch) (r : Result Row Fault) → IsSoundRead so_far.typ
 new_row so_far (Err fault) h = tt
 new_row so_far (Ok row) h = new_case so_far row h.0 h.1 (has_satellite row.name so_far.rows) refl
 
-next_sound : (so_far : OpenEpoch) (line : List ℕ) → AreCounts so_far.types → IsNext so_far (next_row so_far line)
+pub next_sound : (so_far : OpenEpoch) (line : List ℕ) → AreCounts so_far.types → IsNext so_far (next_row so_far line)
 next_sound so_far line counts =
     elim (begins_epoch line) as (λ b. IsNext so_far (cond b (Err Truncated) (row_if_new so_far.rows (row_of so_far.types line)))) [
       | true ↦ tt
@@ -256,12 +256,12 @@ good_unit types count (Wrong j fault) lines h = tt
 good_unit types count Wanted lines h = tt
 
 -- what an epoch line begins is sound
-abbrev IsSoundBeginning : Result Beginning Fault → Type 0
+abbrev pub IsSoundBeginning : Result Beginning Fault → Type 0
 IsSoundBeginning (Err fault) = ⊤
 IsSoundBeginning (Ok (EventBegins line)) = ⊤
 IsSoundBeginning (Ok (EpochBegins head)) = IsObservationHead head
 
-begun_sound : (line : List ℕ) (r : Result HeadLine Fault) → IsSoundHead r → IsSoundBeginning (begun_by line r)
+pub begun_sound : (line : List ℕ) (r : Result HeadLine Fault) → IsSoundHead r → IsSoundBeginning (begun_by line r)
 begun_sound line (Err fault) h = tt
 begun_sound line (Ok (EventHead flag count)) h = tt
 begun_sound line (Ok (EpochHead head count clock)) h = h

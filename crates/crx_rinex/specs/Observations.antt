@@ -1,5 +1,6 @@
 -- Observation epochs as values: RINEX 3.05, the observation data record (epoch line and satellite lines).
-use Rattle.std.specs.Prelude.{ℕ, ℤ, Option, List}
+use Rattle.std.specs.Prelude.{ℕ, ℤ, Option, List, is_some, filter, length}
+use Rattle.std.specs.List.{sum_by}
 
 -- a satellite in an epoch: its identifier of three characters; the values of its observation types in the header's
 -- order, in thousandths, none where the observation is missing; and two indicators (loss of lock, signal strength) for
@@ -15,3 +16,11 @@ pub record Epoch : Type 0 where
   pub head : List ℕ
   pub clock : Option ℤ
   pub rows : List Row
+
+-- how many values of a satellite aren't missing
+abbrev pub observations_of : Row → ℕ
+observations_of row = length (filter is_some row.values)
+
+-- how many values of an epoch's satellites aren't missing; the clock is none of them
+abbrev pub observations_in : Epoch → ℕ
+observations_in epoch = sum_by observations_of epoch.rows

@@ -20,3 +20,9 @@ printed_head head clock = without_end_blanks (head ++ clock_text clock)
 -- the lines of an observation epoch
 abbrev pub printed_epoch : Epoch → List (List ℕ)
 printed_epoch epoch = printed_head epoch.head epoch.clock ∷ map printed_row epoch.rows
+
+-- the last of some lines
+abbrev pub last_line : List (List ℕ) → List ℕ
+last_line [] = []
+last_line (line ∷ []) = line
+last_line (line ∷ next ∷ lines) = last_line (next ∷ lines)

@@ -6,7 +6,7 @@ ghost use Rattle.crx_text.specs.Columns.{columns};
 ghost use Rattle.crx_rinex.specs.Label.{has_label, number_in, number_of_digits};
 
 pub(crate) use crx_text::columns::{character, end_trimmed, is_blank, trimmed};
-pub use crx_text::columns::{all_blank, behind, padded};
+pub use crx_text::columns::{after_columns, all_blank, padded};
 
 /// The number that at most three digits spell.
 fn number_of_digits(digits: &[u8]) -> Option<usize>
@@ -37,7 +37,7 @@ pub(crate) fn number(line: &[u8], first: usize) -> Option<usize>
 }
 
 /// Whether a header line has this label in its columns 61 to 80.
-pub(crate) fn is_labelled(line: &[u8], label: &[u8]) -> bool
+pub fn is_labelled(line: &[u8], label: &[u8]) -> bool
     ensures { result ≡ has_label label.now line.now }
 {
     end_trimmed(line, 61, 20) == label

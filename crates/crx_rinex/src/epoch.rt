@@ -1,11 +1,13 @@
 //! Observation epochs. RINEX 3.05, table A3.
 
-ghost use Rattle.std.specs.Prelude.{◌≡◌, ◌≤◌, ◌⊎◌, length, is_some, true, false, Err, OnOk, OnErr, IfErr, IfSome, slice_get};
+ghost use Rattle.std.specs.Prelude.{◌≡◌, ◌≤◌, ◌⊎◌, ◌-◌, ◌*◌, length, is_some, true, false, Err, OnOk, OnErr, IfErr, IfSome, slice_get};
+ghost use Rattle.std.specs.List.{sum_by};
 ghost use Rattle.std.specs.Option.{option_copied};
-ghost use Rattle.crx_text.specs.declared.limits.TheConstants.{SATELLITES_LIMIT};
+ghost use Rattle.crx_text.specs.declared.limits.TheConstants.{SATELLITES_LIMIT, TYPES_LIMIT};
 ghost use Rattle.crx_rinex.specs.EpochLines.{satellites_of, IsObservationHead};
 ghost use Rattle.crx_rinex.specs.Epochs.{begun, has_satellite, is_full_epoch, with_row, AddsRow, IsSoundEpoch};
 ghost use Rattle.crx_rinex.specs.EpochPlaces.{row_if_new};
+ghost use Rattle.crx_rinex.specs.Observations.{observations_in, observations_of};
 ghost use Rattle.crx_rinex.specs.SatelliteLines.{row_of, types_of_satellite, IsSoundRow};
 
 use crate::epoch_line::EpochLine;
@@ -134,6 +136,21 @@ impl Epoch {
         &self.head
     }
 
+    /// How many values of the rows aren't missing.
+    pub fn observations(&self) -> usize
+        ensures value { result ≡ observations_in self.now }
+        ensures within { result ≤ SATELLITES_LIMIT * TYPES_LIMIT }
+    {
+        observations_in(&self.rows[..self.count])
+    }
+
+    /// The last of the rows so far.
+    pub fn last_row(&self) -> Option<&SatRow>
+        ensures value { option_copied result ≡ slice_get self.now.rows (length self.now.rows - 1) }
+    {
+        self.rows[..self.count].last()
+    }
+
     /// The row at this place, from 0.
     pub fn row(&self, index: usize) -> Option<&SatRow>
         ensures value { option_copied result ≡ slice_get self.now.rows index }
@@ -142,6 +159,19 @@ impl Epoch {
     {
         self.rows[..self.count].get(index)
     }
+}
+
+/// How many values of some rows aren't missing.
+fn observations_in(rows: &[SatRow]) -> usize
+    requires { length rows.now ≤ SATELLITES_LIMIT }
+    ensures value { result ≡ sum_by observations_of rows.now }
+    ensures within { result ≤ TYPES_LIMIT * length rows.now }
+{
+    let mut count = 0;
+    for k in 0..rows.len() {
+        count += rows[k].observations();
+    }
+    count
 }
 
 /// Whether some rows have the satellite of this identifier.

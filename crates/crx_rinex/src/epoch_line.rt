@@ -9,7 +9,7 @@ ghost use Rattle.crx_text.specs.declared.limits.TheConstants.{HEAD_WIDTH};
 ghost use Rattle.crx_rinex.specs.EpochLines.{head_of, begins_epoch, epoch_count, epoch_head, is_event_flag, is_kept, is_observation_flag, records_in, satellites_in, EpochHead, IsObservationHead};
 ghost use Rattle.crx_rinex.specs.Heads.{head_line};
 
-use crate::columns::{all_blank, behind, character, is_blank, number, padded};
+use crate::columns::{after_columns, all_blank, character, is_blank, number, padded};
 use crx_text::limits::{CLOCK_WIDTH, HEAD_WIDTH, SATELLITES_LIMIT};
 use crx_text::{Fault, all_kept, clock_read};
 use std::marker::Model;
@@ -185,7 +185,7 @@ fn observation_head(line: &[u8]) -> Result<EpochLine, Fault>
     let Some(count) = satellites(&head) else {
         return Err(Fault::BadEpoch);
     };
-    if !all_blank(behind(line, HEAD_WIDTH + CLOCK_WIDTH)) {
+    if !all_blank(after_columns(line, HEAD_WIDTH + CLOCK_WIDTH)) {
         return Err(Fault::BadEpoch);
     }
     match clock_read(&padded::<CLOCK_WIDTH>(line, HEAD_WIDTH + 1)) {

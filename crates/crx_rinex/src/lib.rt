@@ -7,15 +7,16 @@ pub mod epoch_line;
 pub mod header;
 pub mod laws;
 pub mod printed;
+pub mod reading_back;
 pub mod satellite_row;
 #[cfg(test)]
 mod tests;
 pub mod types;
 
-pub use columns::{all_blank, behind, padded};
+pub use columns::{after_columns, all_blank, is_labelled, padded};
 pub use epoch::Epoch;
 pub use epoch_line::{EpochLine, Head};
 pub use header::{header_first, is_end};
-pub use printed::Printed;
+pub use printed::{Printed, print_last_line};
 pub use satellite_row::{SatRow, types_of_satellite};
 pub use types::{Types, is_types};

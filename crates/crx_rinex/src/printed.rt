@@ -1,12 +1,12 @@
 //! The lines of an observation epoch, printed one at a time. RINEX 3.05, table A3.
 
-ghost use Rattle.std.specs.Prelude.{◌≡◌, ◌≤◌, None, Some, MatchBool, drop, slice_get};
+ghost use Rattle.std.specs.Prelude.{◌≡◌, ◌≤◌, ◌↔◌, [], None, Some, IsTrue, MatchBool, drop, slice_get};
 ghost use Rattle.std.specs.Bool.{OnTrue};
 ghost use Rattle.std.specs.Borrow.{sem};
 ghost use Rattle.std.specs.Io.BufRead.{Rests};
 ghost use Rattle.std.specs.Option.{option_copied};
 ghost use Rattle.crx_text.specs.declared.limits.TheConstants.{SATELLITES_LIMIT};
-ghost use Rattle.crx_rinex.specs.Printing.{printed_epoch, printed_head};
+ghost use Rattle.crx_rinex.specs.Printing.{last_line, printed_epoch, printed_head};
 ghost use Rattle.crx_rinex.specs.contracts.printed.Printed.{the_row};
 
 use crate::epoch::Epoch;
@@ -62,6 +62,13 @@ impl Printed {
         self.epoch
     }
 
+    /// Whether all lines were lent.
+    pub fn is_drained(&self) -> bool
+        ensures { IsTrue result ↔ (self.now ≡ []) }
+    {
+        self.next > 0 && self.epoch.row(self.next - 1).is_none()
+    }
+
     /// Lends the next line, without its line end; `None` once all were lent.
     pub fn next_line(&mut self) -> Option<&[u8]>
         ensures value { option_copied result ≡ slice_get self.old 0 }
@@ -92,6 +99,16 @@ fn print_line(epoch: &Epoch, index: usize, text: &mut Text) -> bool
     };
     row.print(text);
     true
+}
+
+/// Replaces a text by the last of an epoch's lines so far, as it is printed: that of its last row, or its epoch line where it has no row.
+pub fn print_last_line(epoch: &Epoch, text: &mut Text)
+    ensures { text.new ≡ last_line (printed_epoch epoch.now) }
+{
+    match epoch.last_row() {
+        Some(row) => row.print(text),
+        None => print_head(epoch.head(), text),
+    }
 }
 
 /// Replaces a text by the printed epoch line, without blanks at its end.

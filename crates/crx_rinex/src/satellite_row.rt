@@ -9,10 +9,11 @@ ghost use Rattle.crx_text.specs.declared.limits.TheConstants.{CELL_WIDTH, LINE_L
 ghost use Rattle.crx_text.specs.Numbers.{observation_of, IsObservation};
 ghost use Rattle.crx_rinex.specs.EpochLines.{is_kept};
 ghost use Rattle.crx_rinex.specs.ObservationTypes.{IsAllowedCount};
+ghost use Rattle.crx_rinex.specs.Observations.{observations_of};
 ghost use Rattle.crx_rinex.specs.Printing.{printed_cells, printed_row};
 ghost use Rattle.crx_rinex.specs.SatelliteLines.{blank_row, field, flags_in, has_number, is_identifier, row_of, row_with, types_of_satellite, values_in, with_flags, with_value, IsSoundRow, IsValue};
 
-use crate::columns::{all_blank, behind, character, padded};
+use crate::columns::{after_columns, all_blank, character, padded};
 use crate::types::Types;
 use crx_text::limits::{CELL_WIDTH, NAME_WIDTH, OBSERVATION_WIDTH};
 use crx_text::{Fault, Text, all_kept, obs_print, obs_read};
@@ -159,6 +160,14 @@ impl SatRow {
         put_flags(&mut self.flags, flags);
     }
 
+    /// How many of the values aren't missing.
+    pub fn observations(&self) -> usize
+        ensures value { result ≡ observations_of self.now }
+        ensures within { result ≤ TYPES_LIMIT }
+    {
+        self.values.iter().filter(|value| value.is_some()).count()
+    }
+
     /// Replaces a text by the printed satellite line, without blanks at its end.
     pub fn print(&self, text: &mut Text)
         ensures value { text.new ≡ printed_row self.now }
@@ -206,7 +215,7 @@ fn read_cells(line: &[u8], values: &mut [Option<i64>], flags: &mut [u8]) -> Resu
     if !split_cells(line, values, flags) {
         return Err(Fault::BadField);
     }
-    if !all_blank(behind(line, CELL_WIDTH * m + NAME_WIDTH)) {
+    if !all_blank(after_columns(line, CELL_WIDTH * m + NAME_WIDTH)) {
         return Err(Fault::BadField);
     }
     if !all_kept(flags) {

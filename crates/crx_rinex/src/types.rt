@@ -1,6 +1,6 @@
 //! The observation types of the satellite systems. RINEX 3.05, table A2, `SYS / # / OBS TYPES`.
 
-ghost use Rattle.std.specs.Prelude.{◌≡◌, ◌≤◌, ◌⊎◌, ℕ, List, [], ◌∷◌, ◌++◌, Some, true, false, is_some, OnOk, OnErr, IfOk, IfErr, IfSome, OnSome, slice_get};
+ghost use Rattle.std.specs.Prelude.{◌≡◌, ◌≤◌, ◌⊎◌, ℕ, List, [], ◌∷◌, ◌++◌, Some, true, false, is_some, OnOk, OnErr, IfOk, IfErr, IfSome, OnSome, slice_get, length};
 ghost use Rattle.crx_rinex.specs.ObservationTypes.{count_of, count_in, count_of_types_line, is_bad_types_line, is_system, is_types_line, types_of, with_line, IsAllowedCount, IsCount};
 
 use crate::columns::{character, is_labelled, number};
@@ -81,6 +81,14 @@ impl Types {
             }
         }
         None
+    }
+
+    /// How many systems have types: at most seven.
+    pub fn systems(&self) -> usize
+        ensures value { result ≡ length self.now }
+        ensures few { result ≤ 7 }
+    {
+        self.counts.len()
     }
 
     /// The letter of the system that appeared at this place, from 0, and how many types it has.
