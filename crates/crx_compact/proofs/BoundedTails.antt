@@ -4,7 +4,7 @@ use Rattle.std.specs.List.{AllByRecursion}
 use Rattle.std.proofs.Common.{arith}
 use Rattle.std.proofs.lemmas.List.{length-map}
 use Rattle.crx_text.specs.Columns.{without_end_blanks}
-use Rattle.crx_text.specs.declared.limits.TheConstants.{WRITTEN_ORDER, ORDER_LIMIT, SATELLITES_LIMIT}
+use Rattle.crx_text.specs.declared.limits.TheConstants.{WRITTEN_ORDER, SATELLITES_LIMIT}
 use Rattle.crx_rinex.specs.Observations.{Row}
 use Rattle.crx_rinex.specs.ObservationTypes.{Count}
 use Rattle.crx_compact.specs.Sequences.{each_place}
@@ -18,25 +18,25 @@ use Rattle.crx_compact.proofs.Lengths.{few-satellites, text-short}
 use Rattle.crx_compact.proofs.Rows.{length-each_place, each_place-all}
 use Rattle.crx_compact.proofs.Writable.{all-whole}
 
-pub arc-bounded : (order : ℕ) (values : List ℤ) → order ≤ ORDER_LIMIT → IfSome (arc_tail order values) IsBoundedArc
-arc-bounded order [] h = tt
-arc-bounded order (a ∷ older) h =
+pub arc-bounded : (order : ℕ) (values : List ℤ) → IfSome (arc_tail order values) (IsBoundedArc order)
+arc-bounded order [] = tt
+arc-bounded order (a ∷ older) =
     let many : length (differences_of order (a ∷ older)) ≡ suc (min (length (a ∷ older) - 1) order) =
     length-each_place (suc (min (length (a ∷ older) - 1) order)) (λ i. difference i (a ∷ older)) in
-    record { order = h; few = omega (arith, many) }
+    record { order = omega arith; few = omega (arith, many) }
 
-row-bounded : (types : List Count) (run : List Row) (r : Row) → IsRow types r → IsBoundedRow (row_tail run r)
+row-bounded : (types : List Count) (run : List Row) (r : Row) → IsRow types r → IsBoundedRow WRITTEN_ORDER (row_tail run r)
 row-bounded types run r h =
     let trimmed : length (without_end_blanks r.flags) ≤ length r.flags = length-trimmed r.flags in
     let many : length (each_place (length r.values) (λ j. arc_tail WRITTEN_ORDER (arc_of j run))) ≡ length r.values = length-each_place (length r.values) (λ j. arc_tail WRITTEN_ORDER (arc_of j run)) in
     record {
       flags = omega (arith, trimmed, h.flags_length, h.few_values);
       few = omega (arith, many, h.few_values);
-      cells = each_place-all (λ (c : Option ArcTail). IfSome c IsBoundedArc) (length r.values) (λ j. arc_tail WRITTEN_ORDER (arc_of j run)) (λ j. arc-bounded WRITTEN_ORDER (arc_of j run) (omega arith));
+      cells = each_place-all (λ (c : Option ArcTail). IfSome c (IsBoundedArc WRITTEN_ORDER)) (length r.values) (λ j. arc_tail WRITTEN_ORDER (arc_of j run)) (λ j. arc-bounded WRITTEN_ORDER (arc_of j run));
     }
 
 rows-bounded : (types : List Count) (ms : List Marked) (rows : List Row) → AllByRecursion (IsRow types) rows
-    → AllByRecursion IsBoundedRow (map (λ (r : Row). row_tail (run_of r.name ms) r) rows)
+    → AllByRecursion (IsBoundedRow WRITTEN_ORDER) (map (λ (r : Row). row_tail (run_of r.name ms) r) rows)
 rows-bounded types ms [] h = tt
 rows-bounded types ms (r ∷ rs) h = (row-bounded types (run_of r.name ms) r h.0, rows-bounded types ms rs h.1)
 
@@ -49,7 +49,7 @@ written-bounded types m older h =
     let many : length (map (λ (r : Row). row_tail (run_of r.name (m ∷ older)) r) m.epoch.rows) ≡ length m.epoch.rows = length-map m.epoch.rows (λ (r : Row). row_tail (run_of r.name (m ∷ older)) r) in
     record {
       text = omega (arith, trimmed, short);
-      clock = arc-bounded WRITTEN_ORDER (clock_arc (m ∷ older)) (omega arith);
+      clock = arc-bounded WRITTEN_ORDER (clock_arc (m ∷ older));
       few = omega (arith, many, few);
       rows = rows-bounded types (m ∷ older) m.epoch.rows all.0.rows_are;
     }

@@ -2,7 +2,7 @@
 use Rattle.std.specs.Prelude.{◌≡◌, refl, ◌≢◌, ℕ, zero, suc, ◌+◌, ◌-◌, ◌*◌, ◌<◌, ◌≤◌, Bool, true, false, not, ◌&&◌, ◌==◌, nat_eq, nat_le, List, [], ◌∷◌, ◌++◌, length, map, flat_map, Option, Some, None, Result, Ok, Err, if◌then◌else◌}
 use Rattle.std.specs.List.{list_all, list_any, AllByRecursion}
 use Rattle.std.specs.Str.{bytes_eq}
-use Rattle.std.proofs.Common.{sym, ◌∙◌, ap, arith, not-suc-le-zero, true≢false}
+use Rattle.std.proofs.Common.{sym, ◌∙◌, ap, arith, true≢false}
 use Rattle.std.proofs.lemmas.List.{length-append}
 use Rattle.crx_text.specs.Columns.{character_at, before_end_blanks, without_end_blanks, columns}
 use Rattle.crx_text.specs.Texts.{text_difference, mark_of, by_position}
@@ -14,8 +14,9 @@ use Rattle.crx_compact.specs.EpochText.{begins_epoch, is_observation_flag, is_pr
 use Rattle.crx_rinex.specs.ObservationTypes.{Count}
 use Rattle.crx_compact.specs.Compaction.{epoch_text}
 use Rattle.crx_compact.proofs.Written.{IsRow, IsEpoch, are_new}
-use Rattle.crx_compact.proofs.Overlays.{at, at-without_end_blanks, at-by_position, same_characters}
-use Rattle.crx_compact.proofs.Runs.{IsUnmarked, columns-are}
+use Rattle.crx_compact.proofs.Overlays.{at-by_position, same_characters}
+use Rattle.crx_compact.proofs.Runs.{IsUnmarked}
+use Rattle.crx_rinex.proofs.Characters.{at, at-without_end_blanks, at-append, at-append_past, columns-are, list_all-from_at}
 
 -- ---- tests of all characters
 
@@ -34,10 +35,6 @@ pub list_all-at : (p : ℕ → Bool) → p 32 ≡ true → (text : List ℕ) →
 list_all-at p e [] h k = e
 list_all-at p e (c ∷ cs) h zero = and_left (p c) (list_all p cs) h
 list_all-at p e (c ∷ cs) h (suc k) = list_all-at p e cs (and_right (p c) (list_all p cs) h) k
-
-pub list_all-from_at : (p : ℕ → Bool) (text : List ℕ) → ((k : ℕ) → p (at text k) ≡ true) → list_all p text ≡ true
-list_all-from_at p [] h = refl
-list_all-from_at p (c ∷ cs) h = both (p c) (list_all p cs) (h 0) (list_all-from_at p cs (λ k. h (suc k)))
 
 pub list_all-append : (p : ℕ → Bool) (xs ys : List ℕ) → list_all p xs ≡ true → list_all p ys ≡ true → list_all p (xs ++ ys) ≡ true
 list_all-append p [] ys h k = k
@@ -91,17 +88,6 @@ names-kept types (r ∷ rs) h = list_all-append is_kept r.name (flat_map (λ (q 
 
 pub text-kept : (types : List Count) (e : Epoch) → IsEpoch types e → list_all is_kept (epoch_text e) ≡ true
 text-kept types e h = list_all-append is_kept e.head (flat_map (λ (r : Row). r.name) e.rows) (head-kept types e h) (names-kept types e.rows h.rows_are)
-
-at-append : (xs ys : List ℕ) (p : ℕ) → p < length xs → at (xs ++ ys) p ≡ at xs p
-at-append [] ys p h = absurd (not-suc-le-zero h)
-at-append (x ∷ xs) ys zero h = refl
-at-append (x ∷ xs) ys (suc p) h = at-append xs ys p (omega (arith, h))
-
-at-append_past : (xs ys : List ℕ) (n p : ℕ) → length xs ≡ n → at (xs ++ ys) (n + p) ≡ at ys p
-at-append_past [] ys n p e = ap (at ys) (omega (arith, e))
-at-append_past (x ∷ xs) ys n p e =
-    let next : n + p ≡ suc (length xs + p) = omega (arith, e) in
-    ap (at (x ∷ (xs ++ ys))) next ∙ at-append_past xs ys (length xs) p refl
 
 pub text-head : (types : List Count) (e : Epoch) → IsEpoch types e → (p : ℕ) → p < 41 → at (epoch_text e) p ≡ at e.head p
 text-head types e h p less = at-append e.head (flat_map (λ (r : Row). r.name) e.rows) p (omega (arith, less, h.head_length))

@@ -28,10 +28,11 @@ use Rattle.crx_compact.specs.CompactPlaces.{ReadCell, cell_read, cells_read, Rea
 use Rattle.crx_compact.specs.ReadingLaws.{HasPrintableMarks, IsGood, ReadsWholeEpochs}
 use Rattle.crx_compact.proofs.Written.{fits}
 use Rattle.crx_compact.proofs.Bounds.{within-is}
-use Rattle.crx_compact.proofs.Overlays.{at, at-overlaid}
+use Rattle.crx_compact.proofs.Overlays.{at-overlaid}
 use Rattle.crx_compact.proofs.Rows.{or-left, or-right, each_place-all}
-use Rattle.crx_compact.proofs.Facts.{and_left, and_right, both, list_all-at, list_all-from_at, list_all-append, not_true}
+use Rattle.crx_compact.proofs.Facts.{and_left, and_right, both, list_all-at, list_all-append, not_true}
 use Rattle.crx_compact.proofs.Soundness.{no-err, ok-same, Follows, and_then-ok, before-ok, RowFacts, Paired, names_of, differ, block_for, EpochFacts, epoch-facts}
+use Rattle.crx_rinex.proofs.Characters.{at, list_all-from_at}
 
 -- ---- columns
 
@@ -173,11 +174,11 @@ pub record IsKnown (types : List Count) (satellite : Satellite) : Type 0 where
   pub typed : types_of_satellite types satellite.name ≡ Some satellite.count
   pub short : length satellite.name ≡ 3
 
-record IsTyped (types : List Count) (name : List ℕ) (count : ℕ) : Type 0 where
-  number : has_number name ≡ true
-  found : count_of types (character_at name 1) ≡ Some count
+pub record IsTyped (types : List Count) (name : List ℕ) (count : ℕ) : Type 0 where
+  pub number : has_number name ≡ true
+  pub found : count_of types (character_at name 1) ≡ Some count
 
-typed-parts : (types : List Count) (name : List ℕ) (count : ℕ) → types_of_satellite types name ≡ Some count → IsTyped types name count
+pub typed-parts : (types : List Count) (name : List ℕ) (count : ℕ) → types_of_satellite types name ≡ Some count → IsTyped types name count
 typed-parts types name count h = parts (has_number name) refl h
   where
     parts : (b : Bool) → has_number name ≡ b → (if b then count_of types (character_at name 1) else None) ≡ Some count → IsTyped types name count

@@ -25,6 +25,7 @@ pub mod Standing
 pub mod BackByLines
 pub mod GoodLists
 pub mod BoundedTails
+pub mod BoundedReading
 pub mod Running
 pub mod Making
 pub mod SoundTexts
@@ -33,3 +34,6 @@ pub mod Encoding
 pub mod CellsRead
 pub mod Marks
 pub mod StepsByCode
+pub mod Opening
+pub mod Blocks
+pub mod LentLines

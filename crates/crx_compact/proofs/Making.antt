@@ -1,5 +1,5 @@
 -- Lines that are made one after another, and cells that are made place by place.
-use Rattle.std.specs.Prelude.{◌≡◌, ◌≤◌, ◌<◌, refl, ℕ, zero, suc, ◌+◌, ℤ, pos, negsuc, List, [], ◌∷◌, ◌++◌, length, take, drop, sum, flat_map, map, decimal, slice_get, slice_index_or, Option, Some, None, Result, Ok, Err, IsOk, IsErr}
+use Rattle.std.specs.Prelude.{◌≡◌, ◌≤◌, ◌<◌, refl, ℕ, zero, suc, ◌+◌, ℤ, pos, negsuc, List, [], ◌∷◌, ◌++◌, length, take, drop, sum, flat_map, map, decimal, slice_get, slice_index_or, slice_set, Option, Some, None, Result, Ok, Err, IsOk, IsErr}
 use Rattle.std.specs.Fmt.{signed_decimal}
 use Rattle.std.proofs.Common.{sym, ◌∙◌, ap, arith, subst, append_assoc, length-append, add-one}
 use Rattle.std.proofs.lemmas.Fmt.{length-decimal-le}
@@ -112,6 +112,22 @@ texts_all f before xs i new so_far none = so_far ∙ ap (λ zs. before ++ flat_m
 map-more : {X Y : Type 0} (f : X → Y) (xs : List X) (x : X) → map f (xs ++ x ∷ []) ≡ map f xs ++ f x ∷ []
 map-more f [] x = refl
 map-more f (y ∷ ys) x = ap (λ zs. f y ∷ zs) (map-more f ys x)
+
+-- another item in place of the last one
+pub set-last : {X : Type 0} (xs ys : List X) (k : ℕ) (a b : X) → ys ≡ xs ++ a ∷ [] → k ≡ length xs → slice_set ys k b ≡ xs ++ b ∷ []
+set-last xs ys k a b e l = ap (λ zs. slice_set zs k b) e ∙ ap (λ n. slice_set (xs ++ a ∷ []) n b) l ∙ set xs a b
+  where
+    set : {X : Type 0} (xs : List X) (a b : X) → slice_set (xs ++ a ∷ []) (length xs) b ≡ xs ++ b ∷ []
+    set [] a b = refl
+    set (x ∷ xs) a b = ap (λ zs. x ∷ zs) (set xs a b)
+
+-- the last item
+pub last-there : {X : Type 0} (xs ys : List X) (k : ℕ) (a b : X) → ys ≡ xs ++ a ∷ [] → k ≡ length xs → b ≡ slice_index_or ys k b → b ≡ a
+last-there xs ys k a b e l h = h ∙ ap (λ zs. slice_index_or zs k b) e ∙ ap (λ n. slice_index_or (xs ++ a ∷ []) n b) l ∙ there xs a b
+  where
+    there : {X : Type 0} (xs : List X) (a b : X) → slice_index_or (xs ++ a ∷ []) (length xs) b ≡ a
+    there [] a b = refl
+    there (x ∷ xs) a b = there xs a b
 
 -- what is made of the items up to a place
 pub record Made {X Y : Type 0} (f : X → Y) (before : List Y) (xs : List X) (i : ℕ) (made : List Y) : Type 0 where

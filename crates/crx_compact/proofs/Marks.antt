@@ -25,9 +25,10 @@ use Rattle.crx_compact.proofs.CellsRead.{cells-same}
 use Rattle.crx_compact.specs.OpenEpochs.{HeldRow, held_row, past_of_tail}
 use Rattle.crx_compact.specs.Cells.{arcs_of_codes, value_at_place, AreRead}
 use Rattle.crx_compact.specs.HeldRows.{arcs_of_tail, held_from, past_of_row, row_after, row_held, row_held_from, IsNextRow}
-use Rattle.crx_compact.proofs.Facts.{both, and_left, and_right, list_all-at, list_all-from_at}
+use Rattle.crx_compact.proofs.Facts.{both, and_left, and_right, list_all-at}
 use Rattle.crx_compact.proofs.Soundness.{cells-count, texts-count}
-use Rattle.crx_compact.proofs.Overlays.{at, at-without_end_blanks, at-by_position}
+use Rattle.crx_compact.proofs.Overlays.{at-by_position}
+use Rattle.crx_rinex.proofs.Characters.{at, at-without_end_blanks, list_all-from_at}
 
 -- ---- the characters of patched indicators
 

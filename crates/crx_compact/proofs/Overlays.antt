@@ -1,26 +1,14 @@
 -- Texts by their characters: what a difference marks comes back, and marks laid over one another are patches in turn.
-use Rattle.std.specs.Prelude.{◌≡◌, refl, ◌≢◌, ℕ, zero, suc, ◌≤◌, if◌then◌else◌, List, [], ◌∷◌, length, slice_index_or, All}
+use Rattle.std.specs.Prelude.{◌≡◌, refl, ◌≢◌, ℕ, zero, suc, ◌≤◌, if◌then◌else◌, List, [], ◌∷◌, length, All}
 use Rattle.std.proofs.Common.{sym, ◌∙◌, ap, arith, not-suc-le-zero, le_of_suc-le-suc}
 use Rattle.crx_text.specs.Columns.{is_blank, before_end_blanks, without_end_blanks}
 use Rattle.crx_text.specs.Texts.{by_position, mark_of, text_difference, character_of, patched}
 use Rattle.crx_compact.specs.Sequences.{each_place}
 use Rattle.crx_compact.specs.Expansion.{latest_mark, shown, longest, overlaid}
 use Rattle.crx_compact.specs.Laws.{patched_in_turn}
+use Rattle.crx_rinex.proofs.Characters.{at, at-without_end_blanks}
 
 -- ---- characters, blanks standing after a text
-
-abbrev pub at : List ℕ → ℕ → ℕ
-at text position = slice_index_or text position 32
-
-pub at-before_end_blanks : (c : ℕ) (text : List ℕ) (p : ℕ) → at (before_end_blanks c text) p ≡ at (c ∷ text) p
-at-before_end_blanks c (d ∷ ds) p = refl
-at-before_end_blanks c [] zero = grind arith
-at-before_end_blanks c [] (suc p) = grind arith
-
-pub at-without_end_blanks : (text : List ℕ) (p : ℕ) → at (without_end_blanks text) p ≡ at text p
-at-without_end_blanks [] p = refl
-at-without_end_blanks (c ∷ cs) zero = at-before_end_blanks c (without_end_blanks cs) zero
-at-without_end_blanks (c ∷ cs) (suc p) = at-before_end_blanks c (without_end_blanks cs) (suc p) ∙ at-without_end_blanks cs p
 
 before-blank : (c : ℕ) (rest : List ℕ) → c ≡ 32 → rest ≡ [] → before_end_blanks c rest ≡ []
 before-blank c rest ec er =

@@ -24,10 +24,10 @@ use Rattle.crx_compact.proofs.Written.{IsEpoch}
 use Rattle.crx_compact.specs.ReadingLaws.{EpochReadsBack, raw_row, raw_of, raws_of, read_of, lines_of_epoch, EachReadsBack, text_lines, epochs_at, marked_of, counts_of, reads_of, ReadsBack}
 use Rattle.crx_compact.proofs.Writable.{all-whole}
 use Rattle.crx_compact.proofs.CodeTexts.{is_code_character, code-characters, code-read}
-use Rattle.crx_compact.proofs.Overlays.{at, at-without_end_blanks}
-use Rattle.crx_compact.proofs.Runs.{raw_block, marked, Begins, begins_full, begins_later, block-raws, raw_run, runs-read, clocks-read, value-back, text-read, columns-are}
+use Rattle.crx_compact.proofs.Runs.{raw_block, marked, Begins, begins_full, begins_later, block-raws, raw_run, runs-read, clocks-read, value-back, text-read}
 use Rattle.crx_compact.proofs.Facts.{and_left, and_right, text-kept, text-head, text-begins, length-text, text-names, length-trimmed, names-read, satellites_of, satellites-good, unmarked, difference-printable}
 use Rattle.crx_compact.proofs.Rows.{IsRowOf, run-rows, clock-printable, satellite_of, row-read, each-own}
+use Rattle.crx_rinex.proofs.Characters.{at, at-without_end_blanks, columns-are}
 
 -- ---- the epochs of a block
 

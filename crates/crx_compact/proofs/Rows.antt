@@ -26,10 +26,11 @@ use Rattle.crx_compact.specs.ReadingLaws.{raw_row}
 use Rattle.crx_rinex.specs.ObservationTypes.{Count}
 use Rattle.crx_compact.proofs.CodeTexts.{is_code_character, code-characters, code-read}
 use Rattle.crx_compact.proofs.Cells.{AreWritten, cells-written, marks-written, one_cell}
-use Rattle.crx_compact.proofs.Overlays.{at, at-without_end_blanks, at_past}
-use Rattle.crx_compact.proofs.Runs.{raw_run, codes-read, value-back, IsUnmarked, marks-read, columns-are, bytes_eq-is, bytes_eq-same, place-each, index_past}
+use Rattle.crx_compact.proofs.Overlays.{at_past}
+use Rattle.crx_compact.proofs.Runs.{raw_run, codes-read, value-back, IsUnmarked, marks-read, bytes_eq-is, bytes_eq-same, place-each, index_past}
 use Rattle.crx_compact.proofs.Bounds.{IsNear, near-within, code-printable}
-use Rattle.crx_compact.proofs.Facts.{and_left, and_right, both, list_all-from_at, unmarked, at-difference, difference-printable, trimmed-again, not_true}
+use Rattle.crx_compact.proofs.Facts.{and_left, and_right, both, unmarked, at-difference, difference-printable, trimmed-again, not_true}
+use Rattle.crx_rinex.proofs.Characters.{at, at-without_end_blanks, columns-are, list_all-from_at}
 
 -- ---- lists place by place
 

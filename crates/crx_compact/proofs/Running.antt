@@ -166,6 +166,81 @@ advance-step k target ds next h a =
       rest_below = subst P (sym later) b.rest;
     }
 
+-- ---- the same up to order 3, at once
+
+-- the differences up to order 3 at a next value, and those before, are numbers of 64 bits
+pub record ToThird (value : ℤ) (ds : List ℤ) : Type 0 where
+  pub zeroth_before : FitsSigned w64 (slice_index_or ds 0 (pos 0))
+  pub first_before : FitsSigned w64 (slice_index_or ds 1 (pos 0))
+  pub second_before : FitsSigned w64 (slice_index_or ds 2 (pos 0))
+  pub first : FitsSigned w64 (value -ℤ slice_index_or ds 0 (pos 0))
+  pub second : FitsSigned w64 (value -ℤ slice_index_or ds 0 (pos 0) -ℤ slice_index_or ds 1 (pos 0))
+  pub third : FitsSigned w64 (value -ℤ slice_index_or ds 0 (pos 0) -ℤ slice_index_or ds 1 (pos 0) -ℤ slice_index_or ds 2 (pos 0))
+
+pub to-third : (value : ℤ) (ds : List ℤ) → 3 < length ds → IsBelow value_bound value → AreBelow value_bound (take 3 ds) → ToThird value ds
+to-third value [] h f hs = absurd (omega (arith, h))
+to-third value (a ∷ []) h f hs = absurd (omega (arith, h))
+to-third value (a ∷ b ∷ []) h f hs = absurd (omega (arith, h))
+to-third value (a ∷ b ∷ c ∷ ds) h f hs =
+    let v : IsBelow 100000000000000 value = f in
+    let x : IsBelow 100000000000000 a = hs.0 in
+    let y : IsBelow 200000000000000 b = hs.1.0 in
+    let z : IsBelow 400000000000000 c = hs.1.1.0 in
+    record {
+      zeroth_before = omega (arith, ints, x.low, x.high);
+      first_before = omega (arith, ints, y.low, y.high);
+      second_before = omega (arith, ints, z.low, z.high);
+      first = omega (arith, ints, v.low, v.high, x.low, x.high);
+      second = omega (arith, ints, v.low, v.high, x.low, x.high, y.low, y.high);
+      third = omega (arith, ints, v.low, v.high, x.low, x.high, y.low, y.high, z.low, z.high);
+    }
+
+-- the first four of some numbers, put in place one after another
+pub set-four : (ds : List ℤ) (v a b c : ℤ) → 3 < length ds → take 4 (slice_set (slice_set (slice_set (slice_set ds 0 v) 1 a) 2 b) 3 c) ≡ v ∷ a ∷ b ∷ c ∷ []
+set-four [] v a b c h = absurd (omega (arith, h))
+set-four (d ∷ []) v a b c h = absurd (omega (arith, h))
+set-four (d ∷ e ∷ []) v a b c h = absurd (omega (arith, h))
+set-four (d ∷ e ∷ f ∷ []) v a b c h = absurd (omega (arith, h))
+set-four (d ∷ e ∷ f ∷ g ∷ ds) v a b c h = refl
+
+pub after-three : (ds : List ℤ) (value : ℤ) → 3 < length ds
+    → differences_after value (take 3 ds) ≡ value ∷ (value -ℤ slice_index_or ds 0 (pos 0)) ∷ (value -ℤ slice_index_or ds 0 (pos 0) -ℤ slice_index_or ds 1 (pos 0)) ∷ (value -ℤ slice_index_or ds 0 (pos 0) -ℤ slice_index_or ds 1 (pos 0) -ℤ slice_index_or ds 2 (pos 0)) ∷ []
+after-three [] value h = absurd (omega (arith, h))
+after-three (d ∷ []) value h = absurd (omega (arith, h))
+after-three (d ∷ e ∷ []) value h = absurd (omega (arith, h))
+after-three (d ∷ e ∷ f ∷ ds) value h = refl
+
+-- a number and three differences, and their sums, are numbers of 64 bits
+pub record FromThird (number : ℤ) (ds : List ℤ) : Type 0 where
+  pub zeroth_before : FitsSigned w64 (slice_index_or ds 0 (pos 0))
+  pub first_before : FitsSigned w64 (slice_index_or ds 1 (pos 0))
+  pub second_before : FitsSigned w64 (slice_index_or ds 2 (pos 0))
+  pub one : FitsSigned w64 (number +ℤ slice_index_or ds 0 (pos 0))
+  pub two : FitsSigned w64 (number +ℤ slice_index_or ds 0 (pos 0) +ℤ slice_index_or ds 1 (pos 0))
+  pub all : FitsSigned w64 (number +ℤ slice_index_or ds 0 (pos 0) +ℤ slice_index_or ds 1 (pos 0) +ℤ slice_index_or ds 2 (pos 0))
+  pub value_is : number +ℤ slice_index_or ds 0 (pos 0) +ℤ slice_index_or ds 1 (pos 0) +ℤ slice_index_or ds 2 (pos 0) ≡ newest (differences_by number ds)
+
+pub from-third : (number : ℤ) (ds : List ℤ) → length ds ≡ 3 → IsBelow (10 ^ 18) number → AreBelow value_bound ds → FromThird number ds
+from-third number [] h f hs = absurd (omega (arith, h))
+from-third number (a ∷ []) h f hs = absurd (omega (arith, h))
+from-third number (a ∷ b ∷ []) h f hs = absurd (omega (arith, h))
+from-third number (a ∷ b ∷ c ∷ d ∷ ds) h f hs = absurd (omega (arith, h))
+from-third number (a ∷ b ∷ c ∷ []) h f hs =
+    let n : IsBelow 1000000000000000000 number = f in
+    let x : IsBelow 100000000000000 a = hs.0 in
+    let y : IsBelow 200000000000000 b = hs.1.0 in
+    let z : IsBelow 400000000000000 c = hs.1.1.0 in
+    let sum : number +ℤ a +ℤ b +ℤ c ≡ number +ℤ total (a ∷ b ∷ c ∷ []) = omega (arith, ints) in
+    record {
+      zeroth_before = omega (arith, ints, x.low, x.high);
+      first_before = omega (arith, ints, y.low, y.high);
+      second_before = omega (arith, ints, z.low, z.high);
+      one = omega (arith, ints, n.low, n.high, x.low, x.high);
+      two = omega (arith, ints, n.low, n.high, x.low, x.high, y.low, y.high);
+      all = omega (arith, ints, n.low, n.high, x.low, x.high, y.low, y.high, z.low, z.high);
+      value_is = sum ∙ sym (newest-by number (a ∷ b ∷ c ∷ []));
+    }
+
 -- one place more of the value by a number
 pub record Summed (k : ℕ) (target value : ℤ) (ds : List ℤ) : Type 0 where
   pub done : value +ℤ total (drop k ds) ≡ target

@@ -1,10 +1,10 @@
 -- Runs and arcs of what was written, as a reader finds them.
-use Rattle.std.specs.Prelude.{◌≡◌, refl, ◌≢◌, ℕ, zero, suc, ◌+◌, ◌-◌, ◌<◌, ◌≤◌, min, ℤ, Bool, true, false, cond, ◌&&◌, nat_eq, List, [], ◌∷◌, ◌++◌, length, map, slice_index_or, take, drop, replicate, Option, Some, None, Result, Ok, Err, if◌then◌else◌}
+use Rattle.std.specs.Prelude.{◌≡◌, refl, ◌≢◌, ℕ, zero, suc, ◌≤◌, min, ℤ, Bool, true, false, cond, ◌&&◌, nat_eq, List, [], ◌∷◌, length, map, slice_index_or, Option, Some, None, Result, Ok, Err, if◌then◌else◌}
 use Rattle.std.specs.List.{AllByRecursion}
 use Rattle.std.specs.Option.{option_map}
 use Rattle.std.specs.Str.{bytes_eq}
 use Rattle.std.proofs.Common.{sym, ◌∙◌, ap, arith, not-suc-le-zero}
-use Rattle.crx_text.specs.Columns.{without_end_blanks, columns}
+use Rattle.crx_text.specs.Columns.{without_end_blanks}
 use Rattle.crx_text.specs.Texts.{text_difference, mark_of, patched, by_position, character_of}
 use Rattle.crx_rinex.specs.Observations.{Row, Epoch}
 use Rattle.crx_text.specs.declared.code.Code.{Code}
@@ -20,7 +20,8 @@ use Rattle.crx_compact.specs.Laws.{codes_of_arc}
 use Rattle.crx_compact.proofs.Written.{fits}
 use Rattle.crx_compact.specs.ReadingLaws.{raw_row, raw_of, raws_of}
 use Rattle.crx_compact.proofs.Inversion.{value-numbers, started-codes}
-use Rattle.crx_compact.proofs.Overlays.{at, at-without_end_blanks, at-by_position, same_characters, character-mark, overlaid-patched}
+use Rattle.crx_compact.proofs.Overlays.{at-by_position, same_characters, character-mark, overlaid-patched}
+use Rattle.crx_rinex.proofs.Characters.{at, at-without_end_blanks}
 
 -- ---- identifiers
 
@@ -239,31 +240,3 @@ not-suc-zero n e = omega (arith, e)
 
 not-zero-suc : (n : ℕ) → 0 ≡ suc n → ⊥
 not-zero-suc n e = omega (arith, e)
-
-at-drop : (k : ℕ) (text : List ℕ) (p : ℕ) → at (drop k text) p ≡ at text (k + p)
-at-drop zero text p = ap (at text) (omega arith)
-at-drop (suc k) [] p = refl
-at-drop (suc k) (c ∷ cs) p =
-    let next : suc k + p ≡ suc (k + p) = omega arith in
-    at-drop k cs p ∙ sym (ap (at (c ∷ cs)) next)
-
--- a text that blanks stand after, cut at a width
-take-padded : (n k : ℕ) (text want : List ℕ) → n ≤ k → length want ≡ n → ((p : ℕ) → p < n → at text p ≡ at want p) → take n (text ++ replicate k 32) ≡ want
-take-padded zero k text [] le e h = refl
-take-padded zero k text (w ∷ ws) le e h = absurd (not-suc-zero (length ws) e)
-take-padded (suc n) k text [] le e h = absurd (not-zero-suc n e)
-take-padded (suc n) zero text (w ∷ ws) le e h = absurd (not-suc-le-zero le)
-take-padded (suc n) (suc k) [] (w ∷ ws) le e h =
-    let same : 32 ≡ w = h 0 (omega arith) in
-    ap (λ c. c ∷ take n (replicate k 32)) same
-    ∙ ap (λ r. w ∷ r) (take-padded n k [] ws (omega (arith, le)) (omega (arith, e)) (λ p less. h (suc p) (omega (arith, less))))
-take-padded (suc n) (suc k) (c ∷ cs) (w ∷ ws) le e h =
-    let same : c ≡ w = h 0 (omega arith) in
-    ap (λ d. d ∷ take n (cs ++ replicate (suc k) 32)) same
-    ∙ ap (λ r. w ∷ r) (take-padded n (suc k) cs ws (omega (arith, le)) (omega (arith, e)) (λ p less. h (suc p) (omega (arith, less))))
-
--- columns by their characters
-pub columns-are : (text : List ℕ) (first width : ℕ) (want : List ℕ) → length want ≡ width
-    → ((p : ℕ) → p < width → at text (first - 1 + p) ≡ at want p) → columns text first width ≡ want
-columns-are text first width want e h =
-    take-padded width width (drop (first - 1) text) want (omega arith) e (λ p less. at-drop (first - 1) text p ∙ h p less)

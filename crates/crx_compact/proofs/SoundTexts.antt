@@ -10,11 +10,12 @@ use Rattle.crx_rinex.specs.Epochs.{IsSoundEpoch}
 use Rattle.crx_rinex.specs.SatelliteLines.{IsSoundRow}
 use Rattle.crx_compact.specs.Cells.{AreHeldFlags}
 use Rattle.crx_compact.specs.Compaction.{epoch_text}
-use Rattle.crx_compact.proofs.Facts.{and_right, if_some, list_all-append, list_all-at, list_all-from_at, length-trimmed}
-use Rattle.crx_compact.proofs.Overlays.{at, at-without_end_blanks, at-by_position, same_characters}
+use Rattle.crx_compact.proofs.Facts.{and_right, if_some, list_all-append, list_all-at, length-trimmed}
+use Rattle.crx_compact.proofs.Overlays.{at-by_position, same_characters}
 use Rattle.crx_text.specs.Columns.{is_blank, without_end_blanks, before_end_blanks}
 use Rattle.crx_text.specs.Texts.{by_position, mark_of, text_difference}
 use Rattle.crx_compact.proofs.Writable.{length-is, name-kept}
+use Rattle.crx_rinex.proofs.Characters.{at, at-without_end_blanks, list_all-from_at}
 
 abbrev names : List Row → List ℕ
 names rows = flat_map (λ (r : Row). r.name) rows

@@ -298,7 +298,7 @@ satellite-before types earlier name (Some n) others given h e =
       made = ok-same (s ∷ step.from) given step.next;
     }
 
-satellites-facts : (types : List Count) (earlier names : List (List ℕ)) (given : List Satellite) → satellites_named types earlier names ≡ Ok given
+pub satellites-facts : (types : List Count) (earlier names : List (List ℕ)) (given : List Satellite) → satellites_named types earlier names ≡ Ok given
     → SatellitesFacts types earlier names given
 satellites-facts types earlier [] given e =
     let P : List Satellite → Type 0 = λ ss. SatellitesFacts types earlier [] ss in
@@ -345,6 +345,7 @@ pub record LineFacts (types : List Count) (past : Past) (line : List ℕ) (satel
   pub count : ℕ
   pub counted : epoch_count (columns (past.text line) 1 41) ≡ Some count
   pub printable : list_all is_printable line ≡ true
+  pub ended : list_all is_blank (drop (41 + 3 * count) (past.text line)) ≡ true
   pub named : SatellitesFacts types [] (names_in (past.text line) count) satellites
 
 text-facts : (types : List Count) (past : Past) (line : List ℕ) (found : Option ℕ) (satellites : List Satellite)
@@ -357,11 +358,12 @@ text-facts types past line (Some n) satellites h p e =
       count = n;
       counted = h;
       printable = p;
+      ended = if-true (list_all is_blank (drop (41 + 3 * n) text)) BadEpoch (satellites_named types [] (names_in text n)) satellites e;
       named = satellites-facts types [] (names_in text n) satellites
           (if-ok (list_all is_blank (drop (41 + 3 * n) text)) BadEpoch (satellites_named types [] (names_in text n)) satellites e);
     }
 
-line-facts_of : (types : List Count) (past : Past) (line : List ℕ) (satellites : List Satellite) → satellites_of_line types past line ≡ Ok satellites
+pub line-facts_of : (types : List Count) (past : Past) (line : List ℕ) (satellites : List Satellite) → satellites_of_line types past line ≡ Ok satellites
     → LineFacts types past line satellites
 line-facts_of types past line satellites e =
     let rest : Result (List Satellite) Fault = satellites_of_text types (past.text line) in

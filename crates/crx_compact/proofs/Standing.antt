@@ -16,11 +16,11 @@ use Rattle.crx_compact.specs.Laws.{has_no_epochs, LinesCanStand}
 use Rattle.crx_compact.proofs.Written.{IsRow, IsEpoch}
 use Rattle.crx_compact.proofs.CodeTexts.{is_code_character, code-characters}
 use Rattle.crx_compact.proofs.Cells.{AreWritten}
-use Rattle.crx_compact.proofs.Overlays.{at, at-without_end_blanks}
 use Rattle.crx_compact.proofs.Runs.{marked, begins_full, begins_later}
-use Rattle.crx_compact.proofs.Facts.{and_left, and_right, both, list_all-at, list_all-from_at, list_all-append, head_tests, text-kept, text-head, text-begins, at-difference, difference-printable}
+use Rattle.crx_compact.proofs.Facts.{and_left, and_right, both, list_all-at, list_all-append, head_tests, text-kept, text-head, text-begins, at-difference, difference-printable}
 use Rattle.crx_compact.proofs.Rows.{IsRowOf, run-rows, clock-printable, written-codes, line-begins, length-each_place}
 use Rattle.crx_compact.proofs.Reading.{text-other}
+use Rattle.crx_rinex.proofs.Characters.{at, at-without_end_blanks, list_all-from_at}
 
 -- ---- characters
 

@@ -121,7 +121,7 @@ ArePrintable =
 
 -- what is left of whole epochs is within the limits
 abbrev pub WrittenAreBounded : Type 0
-WrittenAreBounded = (types : List Count) (m : Marked) (older : List Marked) → AreWhole types (since_full (m ∷ older)) → IsBoundedTail (tail_of (m ∷ older))
+WrittenAreBounded = (types : List Count) (m : Marked) (older : List Marked) → AreWhole types (since_full (m ∷ older)) → IsBoundedTail WRITTEN_ORDER (tail_of (m ∷ older))
 
 -- ---- the lines of a file
 

@@ -14,5 +14,7 @@ pub mod LineLists
 pub mod Coded
 pub mod Laws
 pub mod ReadingLaws
-pub mod Examples
 pub mod HeldRows
+pub mod OpenLines
+pub mod ReadBlocks
+pub mod LentLines

@@ -1,10 +1,11 @@
 -- Compact text read line by line, by the tail alone: what is held between two lines, and what one line more makes of it.
-use Rattle.std.specs.Prelude.{ℕ, suc, ℤ, Bool, true, false, List, [], ◌∷◌, ◌++◌, map, Option, Some, None, Result, Ok, Err, if◌then◌else◌, unwrap_or}
+use Rattle.std.specs.Prelude.{◌≡◌, ◌≤◌, ◌+◌, ◌*◌, ⊤, length, IfSome, ℕ, suc, ℤ, Bool, true, false, List, [], ◌∷◌, ◌++◌, map, Option, Some, None, Result, Ok, Err, if◌then◌else◌, unwrap_or}
+use Rattle.std.specs.List.{AllByRecursion}
 use Rattle.std.specs.Option.{option_map}
 use Rattle.crx_text.specs.Columns.{columns}
 use Rattle.crx_text.specs.Texts.{patched}
 use Rattle.crx_text.specs.Seen.{ReadLine, Content, Overlong}
-use Rattle.crx_text.specs.declared.limits.TheConstants.{OBSERVATION_WIDTH, CLOCK_WIDTH, HEAD_WIDTH}
+use Rattle.crx_text.specs.declared.limits.TheConstants.{OBSERVATION_WIDTH, CLOCK_WIDTH, HEAD_WIDTH, NAME_WIDTH, ORDER_LIMIT, TYPES_LIMIT, SATELLITES_LIMIT}
 use Rattle.crx_text.specs.declared.fault.Fault.{Fault}
 use Rattle.crx_text.specs.declared.fault.Fault.TheVariants.{LineTooLong, NotAnEpoch}
 use Rattle.crx_rinex.specs.Observations.{Row, Epoch}
@@ -14,7 +15,7 @@ use Rattle.crx_compact.specs.Sequences.{and_then}
 use Rattle.crx_compact.specs.EpochText.{begins_epoch, Satellite}
 use Rattle.crx_compact.specs.Past.{Past}
 use Rattle.crx_compact.specs.CompactPlaces.{ReadCell, ReadRow, ReadEpoch, satellites_of_line, clock_line_read, satellite_line_read, epoch_against}
-use Rattle.crx_compact.specs.Tails.{ArcTail, RowTail, Tail}
+use Rattle.crx_compact.specs.Tails.{ArcTail, RowTail, Tail, IsBoundedArc, IsBoundedRow, IsBoundedTail}
 use Rattle.crx_compact.specs.Steps.{no_tail, tail_named, cell_of_tail, flags_of_tail, value_of_code, arc_of_code, raw_row_tail_after, raw_tail_after}
 
 -- ---- what a tail gives to the lines of the next epoch
@@ -188,3 +189,37 @@ is_idle (Reading begun) = false
 abbrev pub tail_held : ColumnsState → Option Tail
 tail_held (Idle tail) = tail
 tail_held (Reading begun) = None
+
+-- what a line makes in a state where an epoch is open
+abbrev pub step_in : ColumnsState → ReadLine → RawStep
+step_in (Reading begun) line = next_step begun line
+step_in (Idle tail) line = Faulty NotAnEpoch
+
+-- what was made of a line: an epoch that wants more lines, or a whole one, which is given out
+abbrev pub HasMade : RawStep → ColumnsState → Option Epoch → Type 0
+HasMade step after None = (begun : OpenRawEpoch) × (step ≡ Going begun) × (after ≡ Reading begun)
+HasMade step after (Some epoch) = (held : HeldEpoch) × (step ≡ Whole held) × (epoch ≡ held.epoch) × (after ≡ Idle (Some held.tail))
+
+-- ---- bounds
+
+-- a row that is held within the limits
+pub record IsBoundedHeld (row : HeldRow) : Type 0 where
+  pub values : length row.row.values ≤ TYPES_LIMIT
+  pub flags : length row.row.flags ≤ 2 * TYPES_LIMIT
+  pub tail : IsBoundedRow ORDER_LIMIT row.tail
+
+-- an open epoch within the limits: the tail that its lines are read after, its text, the clock's arc, and at most so many satellites
+-- as an epoch may have, those whose lines are awaited among them
+pub record IsBoundedOpen (begun : OpenRawEpoch) : Type 0 where
+  pub before : IsBoundedTail ORDER_LIMIT begun.before
+  pub text : length begun.text ≤ HEAD_WIDTH + NAME_WIDTH * SATELLITES_LIMIT
+  pub clock : IfSome begun.clock (λ (clock : HeldClock). IfSome clock.arc (IsBoundedArc ORDER_LIMIT))
+  pub few : length begun.rows + length begun.awaited ≤ SATELLITES_LIMIT
+  pub rows : AllByRecursion IsBoundedHeld begun.rows
+  pub awaited : AllByRecursion (λ (satellite : Satellite). satellite.count ≤ TYPES_LIMIT) begun.awaited
+
+-- what a line makes is within the limits: an open epoch, or what a whole one leaves
+abbrev pub IsBoundedStep : RawStep → Type 0
+IsBoundedStep (Going begun) = IsBoundedOpen begun
+IsBoundedStep (Whole held) = IsBoundedTail ORDER_LIMIT held.tail
+IsBoundedStep (Faulty fault) = ⊤

@@ -1,5 +1,5 @@
 -- What the laws of this crate say of reading compact text, where it is long.
-use Rattle.std.specs.Prelude.{◌≡◌, ℕ, ◌+◌, Bool, true, false, ◌||◌, List, [], ◌∷◌, ◌++◌, map, length, Option, Some, Ok, ⊤}
+use Rattle.std.specs.Prelude.{◌≡◌, ℕ, ◌+◌, Bool, true, false, ◌||◌, List, [], ◌∷◌, ◌++◌, map, length, Option, Some, IfSome, Ok, ⊤}
 use Rattle.std.specs.List.{list_all, AllByRecursion}
 use Rattle.std.specs.Option.{is_some}
 use Rattle.crx_text.specs.Texts.{text_difference}
@@ -7,16 +7,16 @@ use Rattle.crx_text.specs.Seen.{ReadLine, Content}
 use Rattle.crx_rinex.specs.Observations.{Row}
 use Rattle.crx_rinex.specs.ObservationTypes.{Count, AreCounts}
 use Rattle.crx_rinex.specs.Places.{Place, Here, Wrong, Wanted, then_place}
-use Rattle.crx_text.specs.declared.limits.TheConstants.{WRITTEN_ORDER}
+use Rattle.crx_text.specs.declared.limits.TheConstants.{WRITTEN_ORDER, ORDER_LIMIT}
 use Rattle.crx_rinex.specs.Epochs.{IsWholeEpoch}
 use Rattle.crx_compact.specs.Differences.{code_at}
 use Rattle.crx_compact.specs.EpochText.{is_printable}
 use Rattle.crx_compact.specs.Compaction.{Marked, since_full, run_of, clock_arc, codes_of, indicators_before, epoch_line, compact_epoch}
 use Rattle.crx_compact.specs.Expansion.{RawRow, RawEpoch, block_of, raw_row_named, epoch_from}
 use Rattle.crx_compact.specs.CompactPlaces.{ReadEpoch, epoch_at}
-use Rattle.crx_compact.specs.Tails.{Tail, tail_of, tail_of_block, tail_left, tail_or_nothing}
+use Rattle.crx_compact.specs.Tails.{Tail, IsBoundedTail, tail_of, tail_of_block, tail_left, tail_or_nothing}
 use Rattle.crx_compact.specs.Steps.{raw_tail_after}
-use Rattle.crx_compact.specs.OpenEpochs.{epoch_after, OpenRawEpoch, next_step, placed_as, held_after, place_of_step, place_by_steps, open_after, open_with}
+use Rattle.crx_compact.specs.OpenEpochs.{epoch_after, OpenRawEpoch, IsBoundedOpen, IsBoundedStep, first_step, next_step, placed_as, held_after, place_of_step, place_by_steps, open_after, open_with}
 use Rattle.crx_compact.specs.Laws.{AreWhole}
 
 -- ---- reading what was written
@@ -208,3 +208,11 @@ StepsReadBack =
     (types : List Count) (m : Marked) (older : List Marked) (tail : Option Tail) → AreWhole types (since_full (m ∷ older))
     → (m.in_full ≡ false → tail ≡ tail_or_nothing older)
     → place_by_steps types tail (lines_of_epoch (m ∷ older)) ≡ Here (record { epoch = m.epoch; tail = tail_of (m ∷ older) }) (2 + length m.epoch.rows)
+
+-- ---- bounds
+
+-- whatever was read before, what is held of an epoch whose lines have come in part, and what is left of a whole one, is within the limits:
+-- each line keeps it so
+pub record ReadAreBounded : Type 0 where
+  pub first : (types : List Count) (tail : Option Tail) (line : ReadLine) → AreCounts types → IfSome tail (IsBoundedTail ORDER_LIMIT) → IsBoundedStep (first_step types tail line)
+  pub next : (begun : OpenRawEpoch) (line : ReadLine) → IsBoundedOpen begun → IsBoundedStep (next_step begun line)

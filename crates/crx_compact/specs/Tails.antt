@@ -3,7 +3,7 @@ use Rattle.std.specs.Prelude.{ℕ, suc, ◌-◌, min, ℤ, List, [], ◌∷◌, 
 use Rattle.std.specs.List.{AllByRecursion}
 use Rattle.crx_text.specs.Columns.{without_end_blanks}
 use Rattle.crx_rinex.specs.Observations.{Row}
-use Rattle.crx_text.specs.declared.limits.TheConstants.{WRITTEN_ORDER, ORDER_LIMIT, TYPES_LIMIT, SATELLITES_LIMIT, HEAD_WIDTH, NAME_WIDTH}
+use Rattle.crx_text.specs.declared.limits.TheConstants.{WRITTEN_ORDER, TYPES_LIMIT, SATELLITES_LIMIT, HEAD_WIDTH, NAME_WIDTH}
 use Rattle.crx_compact.specs.Sequences.{each_place}
 use Rattle.crx_compact.specs.Differences.{difference, value_at}
 use Rattle.crx_compact.specs.Compaction.{Marked, run_of, arc_of, clock_arc, newest_text}
@@ -95,20 +95,20 @@ tail_left (e ∷ older) = Some (tail_of_block (block_of (e ∷ older)))
 
 -- ---- bounds
 
--- an arc's tail within the limits: an order that may be read, and at most one difference more
-pub record IsBoundedArc (arc : ArcTail) : Type 0 where
-  pub order : arc.order ≤ ORDER_LIMIT
+-- an arc's tail within a limit of orders: an order that may stand there, and at most one difference more
+pub record IsBoundedArc (limit : ℕ) (arc : ArcTail) : Type 0 where
+  pub order : arc.order ≤ limit
   pub few : length arc.differences ≤ arc.order + 1
 
 -- what is left of a satellite within the limits: two indicators and one cell for each type
-pub record IsBoundedRow (row : RowTail) : Type 0 where
+pub record IsBoundedRow (limit : ℕ) (row : RowTail) : Type 0 where
   pub flags : length row.flags ≤ 2 * TYPES_LIMIT
   pub few : length row.cells ≤ TYPES_LIMIT
-  pub cells : AllByRecursion (λ (cell : Option ArcTail). IfSome cell IsBoundedArc) row.cells
+  pub cells : AllByRecursion (λ (cell : Option ArcTail). IfSome cell (IsBoundedArc limit)) row.cells
 
--- a tail within the limits: whatever was read or written before, no more than this is left of it
-pub record IsBoundedTail (tail : Tail) : Type 0 where
+-- a tail within the limits, by the highest order of an arc: whatever was read or written before, no more than this is left of it
+pub record IsBoundedTail (limit : ℕ) (tail : Tail) : Type 0 where
   pub text : length tail.text ≤ HEAD_WIDTH + NAME_WIDTH * SATELLITES_LIMIT
-  pub clock : IfSome tail.clock IsBoundedArc
+  pub clock : IfSome tail.clock (IsBoundedArc limit)
   pub few : length tail.rows ≤ SATELLITES_LIMIT
-  pub rows : AllByRecursion IsBoundedRow tail.rows
+  pub rows : AllByRecursion (IsBoundedRow limit) tail.rows

@@ -63,6 +63,25 @@ fn advance(differences: &mut [i64], value: i64) -> i64
     next
 }
 
+/// The step of [`go_on`] for order 3, that of most arcs.
+#[inline(always)]
+fn go_on_to_third(differences: &mut [i64], value: i64) -> i64
+    requires within { 3 < length differences.old }
+    requires below { AreBelow value_bound (take 3 differences.old) }
+    requires next { IsBelow value_bound value }
+    ensures after { take 4 differences.new ≡ differences_after value (take 3 differences.old) }
+    ensures highest { result ≡ highest (differences_after value (take 3 differences.old)) }
+{
+    let first = value - differences[0];
+    let second = first - differences[1];
+    let third = second - differences[2];
+    differences[0] = value;
+    differences[1] = first;
+    differences[2] = second;
+    differences[3] = third;
+    third
+}
+
 /// Puts the differences at a next value in place of those at the value before it, of order 0 up to the given one, and
 /// gives the difference of that order.
 fn go_on(differences: &mut [i64], order: usize, value: i64) -> i64
@@ -73,9 +92,23 @@ fn go_on(differences: &mut [i64], order: usize, value: i64) -> i64
     ensures after { take (order + 1) differences.new ≡ differences_after value (take order differences.old) }
     ensures highest { result ≡ highest (differences_after value (take order differences.old)) }
 {
+    if order == 3 {
+        return go_on_to_third(differences, value);
+    }
     let highest = advance(&mut differences[..order], value);
     differences[order] = highest;
     highest
+}
+
+/// The step of [`value_after`] for order 3, that of most arcs.
+#[inline(always)]
+fn value_after_three(differences: &[i64], number: i64) -> i64
+    requires three { length differences.now ≡ 3 }
+    requires below { AreBelow value_bound differences.now }
+    requires short { IsBelow (10 ^ 18) number }
+    ensures { result ≡ newest (differences_by number differences.now) }
+{
+    number + differences[0] + differences[1] + differences[2]
 }
 
 /// The value after the one that some differences of order 0, 1, .. stand at, by the difference of the next order.
@@ -85,6 +118,9 @@ fn value_after(differences: &[i64], number: i64) -> i64
     requires short { IsBelow (10 ^ 18) number }
     ensures { result ≡ newest (differences_by number differences.now) }
 {
+    if differences.len() == 3 {
+        return value_after_three(differences, number);
+    }
     let mut value = number;
     for difference in differences {
         value += *difference;

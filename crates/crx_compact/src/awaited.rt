@@ -9,7 +9,7 @@ ghost use Rattle.crx_rinex.specs.SatelliteLines.{is_identifier};
 ghost use Rattle.crx_compact.specs.CompactPlaces.{satellites_of_text};
 ghost use Rattle.crx_compact.specs.EpochText.{begins_epoch, Satellite, names_in, satellites_named};
 
-use crx_rinex::{EpochLine, Types, all_blank, behind, padded, types_of_satellite};
+use crx_rinex::{EpochLine, Types, after_columns, all_blank, padded, types_of_satellite};
 use crx_text::Fault;
 use crx_text::limits::{HEAD_WIDTH, NAME_WIDTH};
 use std::marker::Model;
@@ -115,7 +115,7 @@ pub(crate) fn read_satellites(
         return Err(Fault::BadEpoch);
     };
     let count = head.count();
-    if !all_blank(behind(text, HEAD_WIDTH + NAME_WIDTH * count)) {
+    if !all_blank(after_columns(text, HEAD_WIDTH + NAME_WIDTH * count)) {
         return Err(Fault::BadEpoch);
     }
     read_names(types, text, count, satellites)

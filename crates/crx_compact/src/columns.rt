@@ -3,17 +3,28 @@
 
 ghost use Rattle.std.specs.Prelude.{◌≡◌, ◌≤◌, ◌++◌, ◌∷◌, List, if◌then◌else◌, [], Some, None, true, false, length, IfOk, IfErr, OnOk, OnErr};
 ghost use Rattle.crx_rinex.specs.Epochs.{is_full_epoch};
-ghost use Rattle.crx_compact.specs.OpenEpochs.{is_idle, tail_held};
+ghost use Rattle.std.specs.Prelude.{◌⊎◌};
+ghost use Rattle.crx_text.specs.Seen.{Content, ReadLine};
+ghost use Rattle.crx_rinex.specs.ObservationTypes.{Count};
+ghost use Rattle.crx_rinex.specs.Places.{Wrong};
+ghost use Rattle.crx_compact.specs.Expansion.{RawEpoch};
+ghost use Rattle.crx_compact.specs.CompactPlaces.{epoch_at};
+ghost use Rattle.crx_compact.specs.ReadBlocks.{HasReadTo, IsReading};
+ghost use Rattle.crx_text.specs.declared.limits.TheConstants.{LINE_LIMIT};
+ghost use Rattle.crx_rinex.specs.EpochLines.{is_event_line};
+ghost use Rattle.crx_compact.specs.OpenEpochs.{is_idle, tail_held, first_step, step_in, Faulty, HasMade};
 ghost use Rattle.crx_compact.specs.OpenEpochs.ColumnsState.{Idle};
 ghost use Rattle.crx_compact.specs.Compaction.{Marked, compact_epoch};
-ghost use Rattle.crx_compact.specs.Tails.{tail_or_nothing};
+ghost use Rattle.crx_compact.specs.Tails.{tail_left, tail_or_nothing};
 ghost use Rattle.crx_compact.specs.Steps.{lines_after, no_tail, tail_after, tail_written_after};
 
+use crate::awaited::begins_epoch;
 use crate::coded::Coded;
 use crate::held::Desk;
+use crate::incoming::Incoming;
 use crate::kept::KeptEpoch;
 use crate::lines::Lines;
-use crx_rinex::Epoch;
+use crx_rinex::{Epoch, Types};
 use crx_text::Fault;
 use std::alloc::{AllocError, Global};
 use std::marker::Model;
@@ -27,6 +38,9 @@ pub struct Columns {
     kept: KeptEpoch,
     next: KeptEpoch,
     nothing: KeptEpoch,
+    /// The epoch whose lines have come in part, and whether they are read after what is kept, or after nothing.
+    incoming: Incoming,
+    goes_on: bool,
     lines: Lines,
     desk: Desk,
     alloc: Global,
@@ -35,12 +49,13 @@ pub struct Columns {
 impl Model for Columns {
     ghost use Rattle.std.specs.Prelude.{Some, None, ◌≡◌, if◌then◌else◌};
     ghost use Rattle.crx_compact.specs.OpenEpochs.{ColumnsState};
-    ghost use Rattle.crx_compact.specs.OpenEpochs.ColumnsState.{Idle};
+    ghost use Rattle.crx_compact.specs.OpenLines.{columns_state};
     ghost use Rattle.crx_compact.specs.Steps.{no_tail};
 
     ghost Value = { ColumnsState };
 
-    ghost view = { λ columns. Idle (if columns.is_kept then Some columns.kept else None) };
+    ghost view = { λ columns. columns_state (if columns.is_kept then Some columns.kept else None)
+        (if columns.goes_on then columns.kept else columns.nothing) columns.incoming };
 
     ghost invariant = { λ columns. columns.nothing ≡ no_tail };
 }
@@ -55,6 +70,8 @@ impl Columns {
             kept: KeptEpoch::new(alloc),
             next: KeptEpoch::new(alloc),
             nothing: KeptEpoch::new(alloc),
+            incoming: Incoming::new(alloc),
+            goes_on: false,
             lines: Lines::new(alloc),
             desk: Desk::new(alloc),
             alloc,
@@ -66,14 +83,14 @@ impl Columns {
         ensures { self.new ≡ Idle None }
     {
         self.is_kept = false;
+        self.incoming.clear();
     }
 
     /// Whether no epoch's lines have come in part.
     pub fn is_idle(&self) -> bool
         ensures { result ≡ is_idle self.now }
     {
-        let _ = &self.is_kept;
-        true
+        !self.incoming.is_open()
     }
 
     /// Makes the compact lines of an epoch that has all its rows: in full, where that is asked for or nothing is kept of
@@ -94,7 +111,7 @@ impl Columns {
         ensures lines { (epochs : List Marked) → tail_held self.old ≡ tail_or_nothing epochs
             → IfOk result (λ coded. coded.lines ≡ compact_epoch (record { in_full = full; epoch = epoch } ∷ epochs)) }
     {
-        // An epoch's line tells what holds of every epoch.
+        // What holds of every epoch is known by its line.
         let _ = epoch.is_full();
         self.encode_next(epoch, full)
     }
@@ -132,13 +149,113 @@ impl Columns {
         ensures kept { OnOk result (self.new ≡ Idle (Some (tail_after (tail_written_after full (tail_held self.old)) epoch.now))) }
         ensures err { OnErr result (self.new ≡ self.old) }
     {
-        // An epoch's line tells what holds of every epoch.
+        // What holds of every epoch is known by its line.
         let _ = epoch.is_full();
-        let before = written_after(&self.nothing, &self.kept, self.is_kept && !full);
+        let before = stands_after(&self.nothing, &self.kept, self.is_kept && !full);
         self.next.encode(before, epoch, &mut self.desk, lines)?;
         mem::swap(&mut self.kept, &mut self.next);
         self.is_kept = true;
         Ok(())
+    }
+
+    /// Begins an epoch with its epoch line, which is read after the epoch before; a line that begins with `>` is read after
+    /// nothing. The counts of types hold for all lines of the epoch.
+    ///
+    /// `NotAnEpoch` comes where nothing is kept of an epoch before and the line doesn't begin with `>`; then `BadEpoch`,
+    /// `BadSatellite` and `RepeatedSatellite`; `OutOfMemory` where something can't grow. After a refusal everything is forgotten.
+    pub fn begin(&mut self, types: &Types, line: &[u8]) -> Result<(), Fault>
+        requires idle { is_idle self.old ≡ true }
+        requires short { length line.now ≤ LINE_LIMIT }
+        requires no_event { is_event_line line.now ≡ false }
+        ensures made { OnOk result (HasMade (first_step types.now (tail_held self.old) (Content line.now)) self.new None) }
+        ensures refused { IfErr result (λ fault. (first_step types.now (tail_held self.old) (Content line.now) ≡ Faulty fault) ⊎ (fault ≡ Fault.OutOfMemory)) }
+        ensures emptied { OnErr result (self.new ≡ Idle None) }
+        // After the raw epochs accepted since everything was last forgotten, the line makes what it makes by them.
+        ensures block { (older : List RawEpoch) → tail_held self.old ≡ tail_left older
+            → OnOk result (IsReading types.now older (Content line.now ∷ []) self.new) }
+        ensures block_fault { (older : List RawEpoch) → tail_held self.old ≡ tail_left older
+            → IfErr result (λ fault. (epoch_at types.now older (Content line.now ∷ []) ≡ Wrong 0 fault) ⊎ (fault ≡ Fault.OutOfMemory)) }
+    {
+        self.begin_next(types, line)
+    }
+
+    /// The step of [`Columns::begin`].
+    fn begin_next(&mut self, types: &Types, line: &[u8]) -> Result<(), Fault>
+        requires idle { is_idle self.old ≡ true }
+        requires short { length line.now ≤ LINE_LIMIT }
+        requires no_event { is_event_line line.now ≡ false }
+        ensures made { OnOk result (HasMade (first_step types.now (tail_held self.old) (Content line.now)) self.new None) }
+        ensures refused { IfErr result (λ fault. (first_step types.now (tail_held self.old) (Content line.now) ≡ Faulty fault) ⊎ (fault ≡ Fault.OutOfMemory)) }
+        ensures emptied { OnErr result (self.new ≡ Idle None) }
+    {
+        let goes_on = !begins_epoch(line);
+        if goes_on && !self.is_kept {
+            return Err(Fault::NotAnEpoch);
+        }
+        let before = stands_after(&self.nothing, &self.kept, goes_on);
+        match self.incoming.begin(types, before, line) {
+            Ok(()) => {
+                self.goes_on = goes_on;
+                Ok(())
+            }
+            Err(fault) => {
+                self.reset();
+                Err(fault)
+            }
+        }
+    }
+
+    /// Takes the next line of the epoch that was begun: the clock line, then a line for each satellite. With the last one it
+    /// gives the epoch.
+    ///
+    /// `Truncated` comes where the line begins with `>`; then `BadClock` for the clock line, `BadField` for a satellite line,
+    /// for both `NoArc` and `OutOfRange`, for a satellite line `BadFlags`; `OutOfMemory` where something can't grow. After a
+    /// refusal everything is forgotten.
+    pub fn feed(&mut self, line: &[u8]) -> Result<Option<Epoch>, Fault>
+        requires open { is_idle self.old ≡ false }
+        requires short { length line.now ≤ LINE_LIMIT }
+        ensures made { IfOk result (λ given. HasMade (step_in self.old (Content line.now)) self.new given) }
+        ensures refused { IfErr result (λ fault. (step_in self.old (Content line.now) ≡ Faulty fault) ⊎ (fault ≡ Fault.OutOfMemory)) }
+        ensures emptied { OnErr result (self.new ≡ Idle None) }
+        // After the raw epochs accepted since everything was last forgotten, and the lines of the epoch so far, the line makes
+        // what it makes by them: the epoch that is given is the one that stands at these lines.
+        ensures block { (types : List Count) (older : List RawEpoch) (lines : List ReadLine) → IsReading types older lines self.old
+            → IfOk result (λ given. HasReadTo types older (lines ++ Content line.now ∷ []) self.new given) }
+        ensures block_fault { (types : List Count) (older : List RawEpoch) (lines : List ReadLine) → IsReading types older lines self.old
+            → IfErr result (λ fault. (epoch_at types older (lines ++ Content line.now ∷ []) ≡ Wrong (length lines) fault) ⊎ (fault ≡ Fault.OutOfMemory)) }
+    {
+        self.feed_next(line)
+    }
+
+    /// The step of [`Columns::feed`].
+    fn feed_next(&mut self, line: &[u8]) -> Result<Option<Epoch>, Fault>
+        requires open { is_idle self.old ≡ false }
+        requires short { length line.now ≤ LINE_LIMIT }
+        ensures made { IfOk result (λ given. HasMade (step_in self.old (Content line.now)) self.new given) }
+        ensures refused { IfErr result (λ fault. (step_in self.old (Content line.now) ≡ Faulty fault) ⊎ (fault ≡ Fault.OutOfMemory)) }
+        ensures emptied { OnErr result (self.new ≡ Idle None) }
+    {
+        let before = stands_after(&self.nothing, &self.kept, self.goes_on);
+        match self.incoming.take_line(before, line) {
+            Ok(()) => match self.incoming.finish(&mut self.kept) {
+                Some(epoch) => {
+                    self.is_kept = true;
+                    Ok(Some(epoch))
+                }
+                None => Ok(None),
+            },
+            Err(fault) => {
+                self.reset();
+                Err(fault)
+            }
+        }
+    }
+
+    /// Takes back an epoch that [`Columns::feed`] gave: its memory serves the epochs after it.
+    pub fn take_epoch_back(&mut self, epoch: Epoch)
+        ensures same { self.new ≡ self.old }
+    {
+        self.incoming.take_back(epoch);
     }
 
     /// Takes an epoch and its lines back: their memory serves the epochs after it.
@@ -152,8 +269,8 @@ impl Columns {
     }
 }
 
-/// What an epoch is written after: the epoch before, or nothing.
-fn written_after<'a>(nothing: &'a KeptEpoch, kept: &'a KeptEpoch, goes_on: bool) -> &'a KeptEpoch
+/// What an epoch is written or read after: the epoch before, or nothing.
+fn stands_after<'a>(nothing: &'a KeptEpoch, kept: &'a KeptEpoch, goes_on: bool) -> &'a KeptEpoch
     ensures { result.now ≡ (if goes_on then kept.now else nothing.now) }
 {
     if goes_on { kept } else { nothing }

@@ -4,25 +4,28 @@ ghost use Rattle.std.specs.Prelude.{◌≡◌, ◌≤◌, ◌++◌, ◌∷◌, �
 ghost use Rattle.std.specs.List.{flat_map, list_all};
 ghost use Rattle.crx_text.specs.Codes.{code_text, IsPrintable};
 ghost use Rattle.crx_text.specs.Texts.{is_plain, patched, text_difference};
-ghost use Rattle.crx_text.specs.declared.limits.TheConstants.{LINE_LIMIT};
+ghost use Rattle.crx_text.specs.declared.limits.TheConstants.{LINE_LIMIT, OBSERVATION_WIDTH};
 ghost use Rattle.std.specs.Option.{option_copied};
 ghost use Rattle.crx_text.specs.Columns.{columns, without_end_blanks};
+ghost use Rattle.crx_compact.specs.Arcs.{IsIn};
 ghost use Rattle.crx_compact.specs.Cells.{arcs_of_row, codes_of_row, value_at_place, AreHeldFlags, AreRead};
 ghost use Rattle.crx_compact.specs.CompactPlaces.{are_marks, cells_of, cells_read};
 ghost use Rattle.crx_compact.specs.HeldRows.{row_held, row_held_from};
 ghost use Rattle.crx_rinex.specs.ObservationTypes.{IsAllowedCount};
 ghost use Rattle.crx_compact.specs.Compaction.{cell_text, line_of_codes};
 ghost use Rattle.crx_compact.specs.Sequences.{named};
-ghost use Rattle.crx_compact.specs.Steps.{codes_after, flags_of_tail, row_tail_after};
+ghost use Rattle.crx_compact.specs.Steps.{arc_of_code, arc_of_value, code_of_value, codes_after, flags_of_tail, row_tail_after};
 ghost use Rattle.crx_compact.specs.Tails.{RowTail};
 
 use crate::arc::ObsArc;
 use crate::awaited::{AwaitedSatellite, begins_epoch};
 use crate::lines::Lines;
-use crx_rinex::{SatRow, all_blank, behind};
+use crx_rinex::{SatRow, after_columns, all_blank};
 use crx_text::difference::patch_bytes;
 use crx_text::limits::NAME_WIDTH;
-use crx_text::{Code, Fault, Text, code_before_blank, code_print, diff_text, trim_end};
+use crx_text::{
+    Code, Fault, Text, code_before_blank, code_print, code_print_cell, diff_text, trim_end,
+};
 use std::alloc::{AllocError, Global};
 use std::marker::Model;
 
@@ -56,13 +59,26 @@ impl Desk {
         self.line.extend_from_slice(self.part.bytes())
     }
 
-    /// Appends a code and one blank to the line.
+    /// Appends a code and one blank to the line and its part: to the part, as long as there is room.
     fn push_cell(&mut self, code: Code) -> Result<(), AllocError>
         requires { IsPrintable code }
-        ensures { OnOk result (self.new.line.items ≡ self.old.line.items ++ cell_text code) }
+        ensures { OnOk result (self.new.line.items ++ self.new.part ≡ (self.old.line.items ++ self.old.part) ++ cell_text code) }
     {
-        self.push_code(code)?;
-        self.line.push(b' ')?;
+        if code_print_cell(code, &mut self.part).is_ok() {
+            return Ok(());
+        }
+        self.end_cells()?;
+        code_print_cell(code, &mut self.part).unwrap();
+        Ok(())
+    }
+
+    /// Moves what the part holds to the line's end.
+    fn end_cells(&mut self) -> Result<(), AllocError>
+        ensures line { OnOk result (self.new.line.items ≡ self.old.line.items ++ self.old.part) }
+        ensures part { OnOk result (self.new.part ≡ []) }
+    {
+        self.line.extend_from_slice(self.part.bytes())?;
+        self.part.clear();
         Ok(())
     }
 
@@ -115,14 +131,57 @@ impl Desk {
     }
 }
 
-/// The arc of a cell; an arc without values where there is none.
-fn arc_at(arcs: &[ObsArc], place: usize) -> ObsArc
-    ensures { result ≡ slice_index_or arcs.now place None }
+/// Appends the arc of a cell to others; an arc without values where there is none.
+#[inline(always)]
+fn push_arc_at(before: &[ObsArc], place: usize, arcs: &mut Vec<ObsArc>) -> Result<(), AllocError>
+    ensures { OnOk result (arcs.new.items ≡ arcs.old.items ++ slice_index_or before.now place None ∷ []) }
 {
-    match arcs.get(place) {
-        Some(arc) => arc.copied(),
-        None => ObsArc::new(),
+    arcs.reserve(1)?;
+    match before.get(place) {
+        Some(arc) => arcs.push_reserved(arc.copied()),
+        None => arcs.push_reserved(ObsArc::new()),
     }
+    Ok(())
+}
+
+/// Appends the arc of a cell to others, after its next value, and gives the value's code.
+#[inline(always)]
+fn push_value(
+    before: &[ObsArc],
+    place: usize,
+    value: Option<i64>,
+    arcs: &mut Vec<ObsArc>,
+) -> Result<Code, AllocError>
+    requires { IsIn OBSERVATION_WIDTH value }
+    ensures code { IfOk result (λ code. code ≡ code_of_value value (slice_index_or before.now place None)) }
+    ensures printable { IfOk result IsPrintable }
+    ensures arc { OnOk result (arcs.new.items ≡ arcs.old.items ++ arc_of_value value (slice_index_or before.now place None) ∷ []) }
+{
+    let last = arcs.len();
+    push_arc_at(before, place, arcs)?;
+    Ok(arcs[last].push(value))
+}
+
+/// Appends the arc of a cell to others, after its next code, and gives the code's value.
+///
+/// `NoArc` and `OutOfRange` come as by [`ObsArc::apply`]; `OutOfMemory` where the arcs can't grow.
+#[inline(always)]
+fn push_applied(
+    before: &[ObsArc],
+    place: usize,
+    code: Code,
+    arcs: &mut Vec<ObsArc>,
+) -> Result<Option<i64>, Fault>
+    requires { IsPrintable code }
+    ensures ok { IfOk result (λ value. value_at_place before.now place code ≡ Ok value) }
+    ensures arc { OnOk result (arcs.new.items ≡ arcs.old.items ++ arc_of_code code (slice_index_or before.now place None) ∷ []) }
+    ensures err { IfErr result (λ fault. (value_at_place before.now place code ≡ Err fault) ⊎ (fault ≡ Fault.OutOfMemory)) }
+{
+    let last = arcs.len();
+    if push_arc_at(before, place, arcs).is_err() {
+        return Err(Fault::OutOfMemory);
+    }
+    arcs[last].apply(code)
 }
 
 /// Appends the codes of a row's values, each followed by a blank, and makes the arcs after them.
@@ -136,14 +195,14 @@ fn push_cells(
     ensures arcs { OnOk result (arcs.new.items ≡ arcs_of_row before.now row.now) }
     ensures line { OnOk result (desk.new.line.items ≡ desk.old.line.items ++ flat_map cell_text (codes_of_row before.now row.now)) }
 {
+    desk.part.clear();
     let mut place = 0;
     while let Some(value) = row.value(place) {
-        let mut arc = arc_at(before, place);
-        desk.push_cell(arc.push(value))?;
-        arcs.push(arc)?;
+        let code = push_value(before, place, value, arcs)?;
+        desk.push_cell(code)?;
         place += 1;
     }
-    Ok(())
+    desk.end_cells()
 }
 
 /// What is kept of a satellite: its identifier, its indicators, and an arc for each cell.
@@ -316,7 +375,7 @@ fn read_marks(
     ensures row { OnOk result (row.new ≡ record row.old { flags = columns (patched before.now marks.now) 1 (2 * count) }) }
     ensures err { IfErr result (λ fault. (are_marks count marks.now ≡ false) × (fault ≡ Fault.BadFlags)) }
 {
-    if !all_blank(behind(marks, 2 * count)) {
+    if !all_blank(after_columns(marks, 2 * count)) {
         return Err(Fault::BadFlags);
     }
     let Ok(()) = patch_bytes(before, marks, part) else {
@@ -359,13 +418,9 @@ fn read_cells(
         let Ok((code, length)) = code_before_blank(&line[at..]) else {
             return Err(Fault::BadField);
         };
-        let mut next = arc_at(before, place);
-        match next.apply(code) {
+        match push_applied(before, place, code, arcs) {
             Ok(value) => row.set(place, value),
             Err(fault) => return Err(fault),
-        }
-        if arcs.push(next).is_err() {
-            return Err(Fault::OutOfMemory);
         }
         at += length;
     }

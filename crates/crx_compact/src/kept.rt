@@ -8,6 +8,8 @@ ghost use Rattle.crx_text.specs.declared.limits.TheConstants.{LINE_LIMIT};
 ghost use Rattle.crx_rinex.specs.Epochs.{IsSoundEpoch};
 ghost use Rattle.crx_compact.specs.Compaction.{epoch_text};
 ghost use Rattle.crx_text.specs.Texts.{patched};
+ghost use Rattle.crx_text.specs.Numbers.{IsClock};
+ghost use Rattle.std.specs.Option.{ForSome};
 ghost use Rattle.crx_compact.specs.CompactPlaces.{clock_line_read, satellites_of_line};
 ghost use Rattle.crx_compact.specs.OpenEpochs.{past_of_tail};
 ghost use Rattle.crx_compact.specs.Steps.{arc_of_code, lines_after, no_tail, tail_after};
@@ -56,6 +58,20 @@ impl KeptEpoch {
             satellites: Vec::new(alloc),
             alloc,
         }
+    }
+
+    /// The epoch's text.
+    pub(crate) fn text(&self) -> &[u8]
+        ensures { result.now ≡ self.now.text }
+    {
+        &self.text
+    }
+
+    /// Drops the satellites after so many of them.
+    pub(crate) fn truncate(&mut self, count: usize)
+        ensures { self.new ≡ record self.old { rows = take count self.old.rows } }
+    {
+        self.satellites.truncate(count);
     }
 
     /// Replaces what is kept by what an epoch leaves after the one before, and puts the epoch's compact lines after
@@ -127,6 +143,7 @@ impl KeptEpoch {
     ) -> Result<(Code, Option<i64>), Fault>
         ensures ok { IfOk result (λ cell. clock_line_read (past_of_tail before.now) line.now ≡ Ok (record { code = cell.0; value = cell.1 })) }
         ensures left { IfOk result (λ cell. self.new ≡ record self.old { clock = arc_of_code cell.0 before.now.clock }) }
+        ensures ranged { IfOk result (λ cell. ForSome cell.1 IsClock) }
         ensures err { IfErr result (λ fault. clock_line_read (past_of_tail before.now) line.now ≡ Err fault) }
     {
         if begins_epoch(line) {

@@ -6,12 +6,13 @@ pub mod arc;
 mod awaited;
 pub mod coded;
 pub mod columns;
-pub mod examples;
 mod held;
+mod incoming;
 mod kept;
-pub mod laws;
 pub mod lines;
-pub mod reading_laws;
+pub mod read_back;
+#[cfg(test)]
+mod reading_tests;
 #[cfg(test)]
 mod tests;
 

@@ -1,6 +1,6 @@
 //! Lines that are made one after another and lent in that order.
 
-ghost use Rattle.std.specs.Prelude.{◌≡◌, ◌++◌, ◌∷◌, [], drop, slice_get, OnOk, OnErr};
+ghost use Rattle.std.specs.Prelude.{◌≡◌, ◌++◌, ◌∷◌, [], drop, slice_get, OnOk, OnErr, IsTrue, ◌↔◌};
 ghost use Rattle.std.specs.Borrow.{sem};
 ghost use Rattle.std.specs.Io.BufRead.{Rests};
 ghost use Rattle.std.specs.Option.{option_copied};
@@ -65,6 +65,13 @@ impl Lines {
             return Err(AllocError);
         }
         Ok(())
+    }
+
+    /// Whether all lines were lent.
+    pub fn is_empty(&self) -> bool
+        ensures { IsTrue result ↔ (self.now ≡ []) }
+    {
+        self.lent == self.lengths.len()
     }
 
     /// Lends the next line, without its line end; `None` once all were lent.

@@ -1,0 +1,141 @@
+-- Compact lines that are lent one after another, and what they make.
+use Rattle.std.specs.Prelude.{◌≡◌, refl, ℕ, suc, ◌+◌, Bool, true, false, List, [], ◌∷◌, drop, map, length, slice_get, Option, Some, None, Result, Ok, Err, IfOk, IfErr, unwrap_or}
+use Rattle.std.specs.Option.{is_some}
+use Rattle.std.proofs.Common.{sym, ◌∙◌, ap, subst, inl, inr, ◌⊎◌, true≢false}
+use Rattle.crx_text.specs.Seen.{Content}
+use Rattle.crx_text.specs.declared.fault.Fault.{Fault}
+use Rattle.crx_text.specs.declared.fault.Fault.TheVariants.{OutOfMemory}
+use Rattle.crx_rinex.specs.Observations.{Epoch}
+use Rattle.crx_rinex.specs.ObservationTypes.{Count}
+use Rattle.crx_rinex.specs.Places.{Place, Here, Wrong, Wanted}
+use Rattle.crx_compact.specs.Compaction.{Marked, compact_epoch, since_full}
+use Rattle.crx_compact.specs.Laws.{AreWhole}
+use Rattle.crx_compact.specs.LentLines.{AreReadable, HasGiven, IsMidway, IsReadable, StandsAt}
+use Rattle.crx_compact.specs.Tails.{Tail, tail_of, tail_or_nothing}
+use Rattle.crx_compact.specs.OpenEpochs.{ColumnsState, Faulty, Going, HasMade, HeldEpoch, Idle, RawStep, Whole, first_step, is_idle, place_by_steps, place_of_steps, step_in}
+use Rattle.crx_compact.proofs.BackByLines.{steps-read_back}
+
+-- the first of some lines, and those after it
+pub first-is : (lines : List (List ℕ)) (line : List ℕ) → Some line ≡ slice_get lines 0 → lines ≡ line ∷ drop 1 lines
+first-is [] line e = absurd (true≢false (ap {B = Bool} (λ (o : Option (List ℕ)). is_some o) e))
+first-is (l ∷ ls) line e = ap (λ (o : Option (List ℕ)). unwrap_or o l ∷ ls) (sym e)
+
+pub none-is : (lines : List (List ℕ)) → None ≡ slice_get lines 0 → lines ≡ []
+none-is [] e = refl
+none-is (l ∷ ls) e = absurd (true≢false (sym (ap {B = Bool} (λ (o : Option (List ℕ)). is_some o) e)))
+
+pub first-readable : (lines : List (List ℕ)) (line : List ℕ) → AreReadable lines → Some line ≡ slice_get lines 0 → IsReadable line
+first-readable lines line h e =
+    let P : List (List ℕ) → Type 0 = λ ls. AreReadable ls in
+    (subst P (first-is lines line e) h).0
+
+pub rest-readable : (lines : List (List ℕ)) (line : List ℕ) → AreReadable lines → Some line ≡ slice_get lines 0 → AreReadable (drop 1 lines)
+rest-readable lines line h e =
+    let P : List (List ℕ) → Type 0 = λ ls. AreReadable ls in
+    (subst P (first-is lines line e) h).1
+
+-- ---- the epoch line
+
+begins : (types : List Count) (tail : Option Tail) (lines : List (List ℕ)) (line : List ℕ) (step : RawStep) → Some line ≡ slice_get lines 0 → first_step types tail (Content line) ≡ step
+    → place_by_steps types tail (map Content lines) ≡ place_of_steps 0 step (map Content (drop 1 lines))
+begins types tail lines line step e h =
+    ap {B = Place HeldEpoch} (λ (ls : List (List ℕ)). place_by_steps types tail (map Content ls)) (first-is lines line e)
+    ∙ ap {B = Place HeldEpoch} (λ (s : RawStep). place_of_steps 0 s (map Content (drop 1 lines))) h
+
+pub midway-begun : (types : List Count) (tail : Option Tail) (lines rest : List (List ℕ)) (line : List ℕ) (after : ColumnsState) → AreReadable lines → Some line ≡ slice_get lines 0
+    → HasMade (first_step types tail (Content line)) after None → rest ≡ drop 1 lines → IsMidway (place_by_steps types tail (map Content lines)) after rest
+midway-begun types tail lines rest line after h e made r =
+    let P : List (List ℕ) → Type 0 = λ ls. IsMidway (place_by_steps types tail (map Content lines)) after ls in
+    subst P (sym r) (record {
+      begun = made.0;
+      count = 0;
+      reading = made.2;
+      left = begins types tail lines line (Going made.0) e made.1;
+      readable = rest-readable lines line h e;
+    })
+
+pub begun-stands : (types : List Count) (tail : Option Tail) (lines : List (List ℕ)) (line : List ℕ) (fault : Fault) → Some line ≡ slice_get lines 0
+    → (first_step types tail (Content line) ≡ Faulty fault) ⊎ (fault ≡ OutOfMemory) → StandsAt (place_by_steps types tail (map Content lines)) fault ⊎ (fault ≡ OutOfMemory)
+begun-stands types tail lines line fault e (inl h) = inl (0, begins types tail lines line (Faulty fault) e h)
+begun-stands types tail lines line fault e (inr h) = inr h
+
+-- ---- the lines after it
+
+goes-on : (place : Place HeldEpoch) (state : ColumnsState) (lines : List (List ℕ)) (line : List ℕ) (step : RawStep) (w : IsMidway place state lines) → Some line ≡ slice_get lines 0
+    → step_in state (Content line) ≡ step → place ≡ place_of_steps (suc w.count) step (map Content (drop 1 lines))
+goes-on place state lines line step w e h =
+    w.left
+    ∙ ap {B = Place HeldEpoch} (λ (ls : List (List ℕ)). place_of_steps w.count (Going w.begun) (map Content ls)) (first-is lines line e)
+    ∙ ap {B = Place HeldEpoch} (λ (s : RawStep). place_of_steps (suc w.count) s (map Content (drop 1 lines)))
+    (sym (ap {B = RawStep} (λ (s : ColumnsState). step_in s (Content line)) w.reading) ∙ h)
+
+pub midway-more : (place : Place HeldEpoch) (state after : ColumnsState) (lines rest : List (List ℕ)) (line : List ℕ) → IsMidway place state lines → Some line ≡ slice_get lines 0
+    → HasMade (step_in state (Content line)) after None → rest ≡ drop 1 lines → IsMidway place after rest
+midway-more place state after lines rest line w e made r =
+    let P : List (List ℕ) → Type 0 = λ ls. IsMidway place after ls in
+    subst P (sym r) (record {
+      begun = made.0;
+      count = suc w.count;
+      reading = made.2;
+      left = goes-on place state lines line (Going made.0) w e made.1;
+      readable = rest-readable lines line w.readable e;
+    })
+
+pub midway-whole : (place : Place HeldEpoch) (state after : ColumnsState) (lines : List (List ℕ)) (line : List ℕ) (epoch : Epoch) → IsMidway place state lines → Some line ≡ slice_get lines 0
+    → HasMade (step_in state (Content line)) after (Some epoch) → HasGiven place after (Some epoch)
+midway-whole place state after lines line epoch w e made =
+    (made.0, suc (suc w.count), goes-on place state lines line (Whole made.0) w e made.1, made.2, made.3)
+
+pub midway-stands : (place : Place HeldEpoch) (state : ColumnsState) (lines : List (List ℕ)) (line : List ℕ) (fault : Fault) → IsMidway place state lines → Some line ≡ slice_get lines 0
+    → (step_in state (Content line) ≡ Faulty fault) ⊎ (fault ≡ OutOfMemory) → StandsAt place fault ⊎ (fault ≡ OutOfMemory)
+midway-stands place state lines line fault w e (inl h) = inl (suc w.count, goes-on place state lines line (Faulty fault) w e h)
+midway-stands place state lines line fault w e (inr h) = inr h
+
+pub midway-over : (place : Place HeldEpoch) (state : ColumnsState) (lines : List (List ℕ)) → IsMidway place state lines → None ≡ slice_get lines 0 → place ≡ Wanted
+midway-over place state lines w e = w.left ∙ ap {B = Place HeldEpoch} (λ (ls : List (List ℕ)). place_of_steps w.count (Going w.begun) (map Content ls)) (none-is lines e)
+
+pub midway-idle : (place : Place HeldEpoch) (state : ColumnsState) (lines : List (List ℕ)) → IsMidway place state lines → is_idle state ≡ false
+midway-idle place state lines w = ap is_idle w.reading
+
+-- ---- what was written
+
+abbrev held_here : HeldEpoch → Place HeldEpoch → HeldEpoch
+held_here d (Here h n) = h
+held_here d (Wrong o f) = d
+held_here d Wanted = d
+
+abbrev stands : Place HeldEpoch → Bool
+stands (Here h n) = true
+stands (Wrong o f) = false
+stands Wanted = false
+
+written : (types : List Count) (tail : Option Tail) (lines : List (List ℕ)) (m : Marked) (older : List Marked) → AreWhole types (since_full (m ∷ older)) → lines ≡ compact_epoch (m ∷ older)
+    → (m.in_full ≡ false → tail ≡ tail_or_nothing older)
+    → place_by_steps types tail (map Content lines) ≡ Here (record { epoch = m.epoch; tail = tail_of (m ∷ older) }) (2 + length m.epoch.rows)
+written types tail lines m older h e k =
+    ap {B = Place HeldEpoch} (λ (ls : List (List ℕ)). place_by_steps types tail (map Content ls)) e ∙ steps-read_back types m older tail h k
+
+pub back-given : (result : Result (Option Epoch) Fault) (types : List Count) (tail : Option Tail) (lines : List (List ℕ)) (after : ColumnsState) (m : Marked) (older : List Marked)
+    → IfOk result (λ given. HasGiven (place_by_steps types tail (map Content lines)) after given) → AreWhole types (since_full (m ∷ older)) → lines ≡ compact_epoch (m ∷ older)
+    → (m.in_full ≡ false → tail ≡ tail_or_nothing older)
+    → IfOk result (λ given. (given ≡ Some m.epoch) × (after ≡ Idle (tail_or_nothing (m ∷ older))))
+back-given (Err fault) types tail lines after m older given h e k = given
+back-given (Ok None) types tail lines after m older given h e k =
+    absurd (true≢false (sym (ap stands (written types tail lines m older h e k)) ∙ ap stands given))
+back-given (Ok (Some epoch)) types tail lines after m older given h e k =
+    let same : record { epoch = m.epoch; tail = tail_of (m ∷ older) } ≡ given.0 =
+    ap (held_here given.0) (sym (written types tail lines m older h e k) ∙ given.2) in (
+      ap {B = Option Epoch} (λ (q : Epoch). Some q) (given.3 ∙ ap (λ (q : HeldEpoch). q.epoch) (sym same)),
+      given.4 ∙ ap {B = ColumnsState} (λ (q : HeldEpoch). Idle (Some q.tail)) (sym same),
+    )
+
+pub back-refused : (result : Result (Option Epoch) Fault) (types : List Count) (tail : Option Tail) (lines : List (List ℕ)) (m : Marked) (older : List Marked)
+    → IfErr result (λ fault. StandsAt (place_by_steps types tail (map Content lines)) fault ⊎ (fault ≡ OutOfMemory)) → AreWhole types (since_full (m ∷ older)) → lines ≡ compact_epoch (m ∷ older)
+    → (m.in_full ≡ false → tail ≡ tail_or_nothing older)
+    → IfErr result (λ fault. fault ≡ OutOfMemory)
+back-refused (Ok given) types tail lines m older refused h e k = refused
+back-refused (Err fault) types tail lines m older refused h e k = only refused
+  where
+    only : StandsAt (place_by_steps types tail (map Content lines)) fault ⊎ (fault ≡ OutOfMemory) → fault ≡ OutOfMemory
+    only (inl s) = absurd (true≢false (sym (ap stands (written types tail lines m older h e k)) ∙ ap stands s.1))
+    only (inr q) = q

@@ -1,5 +1,0 @@
-use Rattle.crx_compact.proofs.BoundedTails.{written-bounded}
-use Rattle.crx_compact.proofs.laws.bounded_tails.Goals as goal
-
-pub returns : goal.returns
-returns c = written-bounded

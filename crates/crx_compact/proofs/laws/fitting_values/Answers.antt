@@ -1,5 +1,0 @@
-use Rattle.crx_compact.proofs.Bounds.{within-is}
-use Rattle.crx_compact.proofs.laws.fitting_values.Goals as goal
-
-pub returns : goal.returns
-returns c = within-is

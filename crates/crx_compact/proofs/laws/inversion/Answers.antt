@@ -1,5 +1,0 @@
-use Rattle.crx_compact.proofs.Inversion.{inverts}
-use Rattle.crx_compact.proofs.laws.inversion.Goals as goal
-
-pub returns : goal.returns
-returns c = inverts

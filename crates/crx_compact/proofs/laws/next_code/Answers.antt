@@ -1,5 +1,0 @@
-use Rattle.crx_compact.proofs.Stepping.{codes-by_tail}
-use Rattle.crx_compact.proofs.laws.next_code.Goals as goal
-
-pub returns : goal.returns
-returns c = codes-by_tail

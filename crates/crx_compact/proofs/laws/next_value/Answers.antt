@@ -1,5 +1,0 @@
-use Rattle.crx_compact.proofs.Stepping.{values-by_tail}
-use Rattle.crx_compact.proofs.laws.next_value.Goals as goal
-
-pub returns : goal.returns
-returns c = values-by_tail

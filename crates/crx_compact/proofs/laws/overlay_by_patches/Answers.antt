@@ -1,5 +1,0 @@
-use Rattle.crx_compact.proofs.Overlays.{overlaid-in_turn}
-use Rattle.crx_compact.proofs.laws.overlay_by_patches.Goals as goal
-
-pub returns : goal.returns
-returns c = overlaid-in_turn

@@ -1,5 +1,0 @@
-use Rattle.crx_compact.proofs.Overlays.{patched-difference}
-use Rattle.crx_compact.proofs.laws.patch_after_difference.Goals as goal
-
-pub returns : goal.returns
-returns c = patched-difference

@@ -1,6 +1,0 @@
-use Rattle.crx_compact.proofs.Goodness.{reads-whole}
-use Rattle.crx_compact.proofs.GoodLists.{reads-whole_lists}
-use Rattle.crx_compact.proofs.reading_laws.epochs_are_whole.Goals as goal
-
-pub returns : goal.returns
-returns c = record { one = reads-whole; list = reads-whole_lists }

@@ -1,5 +1,0 @@
-use Rattle.crx_compact.proofs.RawTailing.{raw-by_tail}
-use Rattle.crx_compact.proofs.reading_laws.next_raw_epoch.Goals as goal
-
-pub returns : goal.returns
-returns c = raw-by_tail

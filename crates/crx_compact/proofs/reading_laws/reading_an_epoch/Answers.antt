@@ -1,5 +1,0 @@
-use Rattle.crx_compact.proofs.Reading.{each-reads_back}
-use Rattle.crx_compact.proofs.reading_laws.reading_an_epoch.Goals as goal
-
-pub returns : goal.returns
-returns c = each-reads_back

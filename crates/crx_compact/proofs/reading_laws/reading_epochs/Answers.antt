@@ -1,5 +1,0 @@
-use Rattle.crx_compact.proofs.Reading.{reads-back}
-use Rattle.crx_compact.proofs.reading_laws.reading_epochs.Goals as goal
-
-pub returns : goal.returns
-returns c = reads-back

@@ -1,5 +1,0 @@
-use Rattle.crx_compact.proofs.BackByLines.{steps-read_back}
-use Rattle.crx_compact.proofs.reading_laws.steps_read_back.Goals as goal
-
-pub returns : goal.returns
-returns c = steps-read_back

@@ -1,5 +1,0 @@
-use Rattle.crx_compact.proofs.LineByLine.{wanted-where_open}
-use Rattle.crx_compact.proofs.reading_laws.wanted_where_open.Goals as goal
-
-pub returns : goal.returns
-returns c = wanted-where_open

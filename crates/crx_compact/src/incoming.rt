@@ -1,0 +1,255 @@
+//! An epoch whose compact lines come one by one: Hatanaka's Compact RINEX 3.0.
+
+ghost use Rattle.std.specs.Option.{option_copied};
+ghost use Rattle.std.specs.Prelude.{slice_get, ◌≡◌, ◌≤◌, ◌⊎◌, None, Some, Ok, Err, length, is_some, false, true, OnOk, IfOk, IfErr, IfSome, OnSome, IfNone, take};
+ghost use Rattle.crx_text.specs.declared.limits.TheConstants.{LINE_LIMIT};
+ghost use Rattle.crx_rinex.specs.Observations.{Row};
+ghost use Rattle.crx_rinex.specs.Epochs.{begun, is_full_epoch, with_row};
+ghost use Rattle.crx_compact.specs.Tails.{Tail};
+ghost use Rattle.crx_compact.specs.OpenEpochs.{opened, Going, Whole, Faulty};
+ghost use Rattle.crx_compact.specs.HeldRows.{row_after, IsNextRow};
+ghost use Rattle.crx_text.specs.Columns.{columns};
+ghost use Rattle.crx_text.specs.declared.limits.TheConstants.{HEAD_WIDTH};
+ghost use Rattle.crx_compact.specs.EpochText.{epoch_count};
+ghost use Rattle.crx_compact.specs.CompactPlaces.{clock_line_read};
+ghost use Rattle.crx_compact.specs.OpenEpochs.{past_of_tail};
+ghost use Rattle.crx_compact.specs.OpenLines.{open_raw, made_of, step_after, HasClock, IsRowAfter};
+
+use crate::awaited::AwaitedSatellite;
+use crate::kept::KeptEpoch;
+use crx_rinex::{Epoch, EpochLine, Types, padded};
+use crx_text::{Fault, Text};
+use std::alloc::Global;
+use std::marker::Model;
+use std::mem;
+
+/// How far the lines of an epoch have come.
+#[derive(Drop)]
+pub(crate) enum Stage {
+    /// None has come.
+    Unbegun,
+    /// The clock line is awaited.
+    Clock,
+    /// Satellite lines are awaited: the epoch with the rows so far.
+    Rows(Epoch),
+}
+
+/// An epoch whose lines come one by one: what they leave, its satellites, and how many of their lines have come.
+#[derive(Drop)]
+pub(crate) struct Incoming {
+    stage: Stage,
+    next: KeptEpoch,
+    count: usize,
+    satellites: Vec<AwaitedSatellite>,
+    part: Text,
+    /// An epoch that was given out and handed back, whose memory serves the next one.
+    spare: Option<Epoch>,
+    alloc: Global,
+}
+
+impl Model for Incoming {
+    ghost use Rattle.std.specs.Prelude.{Option};
+    ghost use Rattle.crx_compact.specs.OpenLines.{OpenLines, lines_so_far, AreLinesSoFar};
+
+    ghost Value = { Option OpenLines };
+
+    ghost view = { λ incoming. lines_so_far incoming.stage incoming.next incoming.count incoming.satellites.items };
+
+    ghost invariant = { λ incoming. AreLinesSoFar incoming.stage incoming.next incoming.count incoming.satellites.items };
+}
+
+impl Incoming {
+    /// No lines.
+    pub(crate) fn new(alloc: Global) -> Incoming
+        ensures { result ≡ None }
+    {
+        Incoming {
+            stage: Stage::Unbegun,
+            next: KeptEpoch::new(alloc),
+            count: 0,
+            satellites: Vec::new(alloc),
+            part: Text::new(),
+            spare: None,
+            alloc,
+        }
+    }
+
+    /// Forgets the lines that have come.
+    pub(crate) fn clear(&mut self)
+        ensures { self.new ≡ None }
+    {
+        self.stage = Stage::Unbegun;
+    }
+
+    /// Whether an epoch line has come, but not all lines of its epoch.
+    pub(crate) fn is_open(&self) -> bool
+        ensures { result ≡ is_some self.now }
+    {
+        !matches!(&self.stage, Stage::Unbegun)
+    }
+
+    /// Takes an epoch back, whose memory serves the next one.
+    pub(crate) fn take_back(&mut self, epoch: Epoch)
+        ensures { self.new ≡ self.old }
+    {
+        self.spare = Some(epoch);
+    }
+
+    /// Takes an epoch line, which is read after what was kept of the epoch before.
+    pub(crate) fn begin(
+        &mut self,
+        types: &Types,
+        before: &KeptEpoch,
+        line: &[u8],
+    ) -> Result<(), Fault>
+        requires short { length line.now ≤ LINE_LIMIT }
+        ensures ok { OnOk result (IfSome self.new (λ lines. opened types.now line.now (Some before.now) ≡ Ok (open_raw before.now lines))) }
+        ensures open { OnOk result (is_some self.new ≡ true) }
+        ensures err { IfErr result (λ fault. (opened types.now line.now (Some before.now) ≡ Err fault) ⊎ (fault ≡ Fault.OutOfMemory)) }
+    {
+        self.stage = Stage::Unbegun;
+        self.satellites.clear();
+        match self
+            .next
+            .read_epoch_line(types, before, line, &mut self.satellites, &mut self.part)
+        {
+            Ok(()) => {
+                self.stage = Stage::Clock;
+                Ok(())
+            }
+            Err(fault) => Err(fault),
+        }
+    }
+    /// Takes the next line of an epoch whose epoch line has come: the clock line, then a line for each satellite. Where all
+    /// lines have come, nothing changes.
+    pub(crate) fn take_line(&mut self, before: &KeptEpoch, line: &[u8]) -> Result<(), Fault>
+        requires open { is_some self.old ≡ true }
+        requires short { length line.now ≤ LINE_LIMIT }
+        ensures ok { OnOk result (step_after before.now self.old line.now ≡ made_of before.now self.new) }
+        ensures open { OnOk result (is_some self.new ≡ true) }
+        ensures err { IfErr result (λ fault. (step_after before.now self.old line.now ≡ Faulty fault) ⊎ (fault ≡ Fault.OutOfMemory)) }
+    {
+        match &mut self.stage {
+            Stage::Unbegun => Err(Fault::NotAnEpoch),
+            Stage::Clock => {
+                self.stage = Stage::Unbegun;
+                let epoch = begun_epoch(self.alloc, &mut self.spare, &mut self.next, before, line)?;
+                self.count = 0;
+                self.stage = Stage::Rows(epoch);
+                Ok(())
+            }
+            Stage::Rows(epoch) => {
+                let Some(satellite) = satellite_at(&self.satellites, self.count) else {
+                    return Ok(());
+                };
+                match next_row(
+                    epoch,
+                    &mut self.next,
+                    before,
+                    self.count,
+                    satellite,
+                    line,
+                    &mut self.part,
+                ) {
+                    Ok(()) => {
+                        self.count += 1;
+                        Ok(())
+                    }
+                    Err(fault) => {
+                        self.stage = Stage::Unbegun;
+                        Err(fault)
+                    }
+                }
+            }
+        }
+    }
+
+    /// The epoch, where all its lines have come. What they leave then is what is kept.
+    pub(crate) fn finish(&mut self, kept: &mut KeptEpoch) -> Option<Epoch>
+        requires open { is_some self.old ≡ true }
+        ensures whole { IfSome result (λ epoch. (before : Tail) → made_of before self.old ≡ Whole (record { epoch = epoch; tail = kept.new })) }
+        ensures over { OnSome result (self.new ≡ None) }
+        ensures going { IfNone result (IfSome self.old (λ lines. (before : Tail) → made_of before self.old ≡ Going (open_raw before lines))) }
+        ensures same { IfNone result ((self.new ≡ self.old) × (kept.new ≡ kept.old)) }
+    {
+        let Stage::Rows(_) = &self.stage else {
+            return None;
+        };
+        if self.count < self.satellites.len() {
+            return None;
+        }
+        let Stage::Rows(epoch) = mem::replace(&mut self.stage, Stage::Unbegun) else {
+            return None;
+        };
+        self.next.truncate(self.count);
+        mem::swap(kept, &mut self.next);
+        Some(epoch)
+    }
+}
+
+/// The satellite at a place, from 0.
+fn satellite_at(satellites: &[AwaitedSatellite], index: usize) -> Option<&AwaitedSatellite>
+    ensures { option_copied result ≡ slice_get satellites.now index }
+{
+    satellites.get(index)
+}
+
+/// Reads a clock line after what was kept of the epoch before, and begins the epoch of an epoch text with its clock.
+fn begun_epoch(
+    alloc: Global,
+    spare: &mut Option<Epoch>,
+    next: &mut KeptEpoch,
+    before: &KeptEpoch,
+    line: &[u8],
+) -> Result<Epoch, Fault>
+    requires { is_some (epoch_count (columns next.old.text 1 HEAD_WIDTH)) ≡ true }
+    ensures ok { IfOk result (λ epoch. HasClock before.now line.now next.old next.new epoch) }
+    ensures err { IfErr result (λ fault. clock_line_read (past_of_tail before.now) line.now ≡ Err fault) }
+{
+    let value = match next.read_clock(before, line) {
+        Ok((_, value)) => value,
+        Err(fault) => return Err(fault),
+    };
+    let head = EpochLine::new(padded(next.text(), 1), value).unwrap();
+    Ok(epoch_with(alloc, spare, head))
+}
+
+/// An epoch with this line and no rows yet, in the memory of a spare one where there is one.
+fn epoch_with(alloc: Global, spare: &mut Option<Epoch>, head: EpochLine) -> Epoch
+    ensures { result ≡ begun head }
+{
+    match spare.take() {
+        Some(mut epoch) => {
+            epoch.begin_again(head);
+            epoch
+        }
+        None => Epoch::new(alloc, head),
+    }
+}
+
+/// Reads the next satellite line of an epoch after what was kept of the epoch before, and puts its row after the others.
+fn next_row(
+    epoch: &mut Epoch,
+    next: &mut KeptEpoch,
+    before: &KeptEpoch,
+    count: usize,
+    satellite: &AwaitedSatellite,
+    line: &[u8],
+    part: &mut Text,
+) -> Result<(), Fault>
+    requires wanted { is_full_epoch epoch.old ≡ false }
+    requires left { count ≤ length next.old.rows }
+    requires short { length line.now ≤ LINE_LIMIT }
+    ensures ok { OnOk result (IsRowAfter before.now satellite.now line.now count epoch.old epoch.new next.old next.new) }
+    ensures err { IfErr result (λ fault. (row_after before.now satellite.now line.now ≡ Err fault) ⊎ (fault ≡ Fault.OutOfMemory)) }
+{
+    let row = match next.read_row(before, count, satellite, line, part) {
+        Ok(row) => row,
+        Err(fault) => return Err(fault),
+    };
+    // No satellite is awaited twice, so that a row is refused for its memory alone.
+    match epoch.push(row) {
+        Ok(()) => Ok(()),
+        Err(_) => Err(Fault::OutOfMemory),
+    }
+}
