@@ -37,7 +37,7 @@ reading-more skip lines more (Here two count) e =
 reading-more skip lines more (Wrong offset fault) e = rw (e, compact_reading) (from-none _)
 reading-more skip lines more Wanted e = rw (e, compact_reading) (from-none _)
 
-whole-more : (skip : Bool) (lines more : List ReadLine) (p : Place (List (List ℕ))) → first_lines lines ≡ p → AreMore (compact_reading skip lines).items (whole_compact skip (lines ++ more)).items
+pub whole-more : (skip : Bool) (lines more : List ReadLine) (p : Place (List (List ℕ))) → first_lines lines ≡ p → AreMore (compact_reading skip lines).items (whole_compact skip (lines ++ more)).items
 whole-more skip lines more (Here two count) e =
     let h = remains lines more (Here two count) e in
     let same : drop count (lines ++ more) ≡ drop count lines ++ more = drop-append-le count lines more h.0 in

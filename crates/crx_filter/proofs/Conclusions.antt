@@ -1,25 +1,28 @@
 -- What follows from how a run ended.
-use Rattle.std.proofs.Common.{◌≡◌, ◌⊎◌, inl, inr, ⊎_elim, ℕ, ◌+◌, ◌-◌, ◌^◌, ◌<◌, ◌≤◌, Bool, true, List, [], ◌∷◌, ◌++◌, length, take, Option, Some, None, refl, sym, ap, subst, ◌∙◌, arith, append-nil, append_assoc, length-append}
-use Rattle.crx_text.specs.Devices.{Tally, one_more, with_failure, with_end}
+use Rattle.std.proofs.Common.{◌≡◌, ◌⊎◌, inl, inr, ℕ, ◌+◌, ◌-◌, ◌^◌, ◌<◌, ◌≤◌, Bool, true, false, List, [], ◌++◌, length, Option, Some, None, refl, sym, ap, subst, ◌∙◌, arith, append-nil, length-append}
+use Rattle.crx_text.specs.Devices.{Tally, one_more}
 use Rattle.crx_text.specs.Lines.{InputLine, lines_of}
 use Rattle.crx_text.specs.Reading.{Reading}
-use Rattle.crx_text.specs.Progress.{HasRead, StandsAt, IsOpen, IsOver, IsStopped}
+use Rattle.crx_text.specs.Progress.{HasRead, StandsAt, IsOpen, IsStopped}
 use Rattle.crx_text.specs.declared.limits.TheConstants.{INPUT_LIMIT}
 use Rattle.crx_text.specs.declared.fault.At.{At}
 use Rattle.crx_text.specs.declared.fault.Fault.{Fault}
 use Rattle.crx_text.specs.declared.fault.Fault.TheVariants.{InputTooLong, ReadFailed, OutOfMemory}
 use Rattle.crx_text.specs.declared.phase.Phase.{Phase}
-use Rattle.crx_text.specs.declared.phase.Phase.TheVariants.{Open, Ended, Stopped}
+use Rattle.crx_text.specs.declared.phase.Phase.TheVariants.{Open, Ended}
 use Rattle.crx_text.proofs.ProgressLemmas.{HasRead-ended, HasRead-stopped}
 use Rattle.crx_filter.specs.declared.taking.Halt.{Halt}
 use Rattle.crx_filter.specs.declared.taking.Halt.TheVariants as halt
 use Rattle.crx_filter.specs.Filters.{Course, Filter}
 use Rattle.crx_filter.specs.Engines.{with_next}
+use Rattle.crx_filter.specs.Results.{FilterResult}
 use Rattle.crx_filter.specs.Messages.{error_text, notices_text}
-use Rattle.crx_filter.specs.Taking.{Device, TookAll, TookPart, are_some}
-use Rattle.crx_filter.specs.Running.{Input, WorkEnds, WellDone, FaultFound, EndsAt}
-use Rattle.crx_filter.specs.Endings.{Finishes, FinishesWell, IsReported, good_status}
-use Rattle.crx_filter.specs.Runs.{IsLawful, IsWhole, NoneFailed, FaultIs, RunsAs, status_of}
+use Rattle.crx_filter.specs.Taking.{Device, TookAll, are_some}
+use Rattle.crx_filter.specs.Running.{Input, WorkEnds, FaultFound, EndsAt}
+use Rattle.crx_filter.specs.Endings.{Finishes, IsReported, good_status}
+use Rattle.crx_filter.proofs.Salvaged.{none-failed}
+use Rattle.crx_filter.proofs.RunEndings.{line-stands, end-stands, reader-stands, start-stands, flush-stands, well-salvaged}
+use Rattle.crx_filter.specs.Runs.{IsLawful, result_by, IsResult, NoneFailed, FaultIs, RunsAs, status_of}
 
 -- a count that could rise didn't
 not-raised : (before mid after : ℕ) → after ≡ before → before < 2 ^ 64 - 1 → before ≤ mid → after ≡ one_more mid → ⊥
@@ -49,6 +52,10 @@ all-lines input now lines h e rest none =
     let o = HasRead-ended input.gave input.at_end input.start input.counted now lines h e in
     ap (λ (x : List ℕ). lines_of (h.given ++ x)) (none o.reported) ∙ ap lines_of (append-nil h.given) ∙ sym o.all
 
+-- what is made of a whole course
+abbrev result_of : Course → FilterResult
+result_of course = record { output = course.output; messages = notices_text course.warnings ++ error_text course.fault; status = status_of course; fault = course.fault }
+
 status-good : (course : Course) → course.fault ≡ None → status_of course ≡ good_status (are_some course.warnings)
 status-good course is = rw is refl
 
@@ -64,20 +71,20 @@ module _ (filter : Filter) (lawful : IsLawful filter) (input : Input) (writer1 w
     (mjoined : (xs ys : List ℕ) → messages1.took xs → messages2.took ys → messages.took (xs ++ ys)) where
   -- a course with a fault that was written, flushed and reported
   whole-bad : (course : Course) (at : At) (status : ℕ) (fault : Option At) → course.fault ≡ Some at → TookAll writer1 course.output → TookAll messages1 (notices_text course.warnings)
-      → writer2.took [] → TookAll messages2 (error_text (Some at)) → fault ≡ Some at → status ≡ 1 → IsWhole course writer messages status fault
-  whole-bad course at status fault bad wrote told flushed reported is one = record {
+      → writer2.took [] → TookAll messages2 (error_text (Some at)) → fault ≡ Some at → status ≡ 1 → IsResult (result_of course) writer messages status fault
+  whole-bad course at status fault bad wrote warned flushed reported is one = record {
     output = took-still writer1 writer2 writer wjoined course.output wrote.0 flushed;
-    messages_are = subst (λ (f : Option At). messages.took (notices_text course.warnings ++ error_text f)) (sym bad) (mjoined (notices_text course.warnings) (error_text (Some at)) told.0 reported.0);
+    messages_are = subst (λ (f : Option At). messages.took (notices_text course.warnings ++ error_text f)) (sym bad) (mjoined (notices_text course.warnings) (error_text (Some at)) warned.0 reported.0);
     status_is = one ∙ sym (status-bad course at bad);
     fault_is = is ∙ sym bad;
   }
 
   -- a course without one
   whole-good : (course : Course) (status : ℕ) (fault : Option At) → course.fault ≡ None → TookAll writer1 course.output → TookAll messages1 (notices_text course.warnings)
-      → writer2.took [] → messages2.took [] → fault ≡ None → status ≡ good_status (are_some course.warnings) → IsWhole course writer messages status fault
-  whole-good course status fault good wrote told flushed silent is two = record {
+      → writer2.took [] → messages2.took [] → fault ≡ None → status ≡ good_status (are_some course.warnings) → IsResult (result_of course) writer messages status fault
+  whole-good course status fault good wrote reported flushed silent is two = record {
     output = took-still writer1 writer2 writer wjoined course.output wrote.0 flushed;
-    messages_are = subst (λ (f : Option At). messages.took (notices_text course.warnings ++ error_text f)) (sym good) (mjoined (notices_text course.warnings) [] told.0 silent);
+    messages_are = subst (λ (f : Option At). messages.took (notices_text course.warnings ++ error_text f)) (sym good) (mjoined (notices_text course.warnings) [] reported.0 silent);
     status_is = two ∙ sym (status-good course good);
     fault_is = is ∙ sym good;
   }
@@ -88,29 +95,29 @@ module _ (filter : Filter) (lawful : IsLawful filter) (input : Input) (writer1 w
 
   -- a message that was cut off was counted
   reported-whole : (at : At) (notices : List ℕ) → TookAll messages1 notices → NoneFailed messages.before messages.after → IsReported messages2 at → TookAll messages2 (error_text (Some at))
-  reported-whole at notices told none (inl t) = t
-  reported-whole at notices told none (inr t) = absurd (omega (arith, t.1, msame, told.1, mstart, mend, none.0, none.1))
+  reported-whole at notices reported none (inl t) = t
+  reported-whole at notices reported none (inr t) = absurd (omega (arith, t.1, msame, reported.1, mstart, mend, none.0, none.1))
 
   -- a fault that was found on the way to all lines
   found-whole : (course all : Course) (at at' : At) (status : ℕ) (fault : Option At) → all ≡ course → FaultFound writer1 messages1 course at' → at ≡ at'
-      → NoneFailed messages.before messages.after → Finishes writer2 messages2 0 true (Some (halt.Fault at)) status fault → IsWhole all writer messages status fault
+      → NoneFailed messages.before messages.after → Finishes writer2 messages2 0 true (Some (halt.Fault at)) status fault → IsResult (result_of all) writer messages status fault
   found-whole course all at at' status fault same found is none finished =
-      subst (λ (k : Course). IsWhole k writer messages status fault) (sym same)
-      (whole-bad course at status fault (found.fault ∙ ap Some (sym is)) found.wrote found.told (flushed-either finished.0)
-      (reported-whole at (notices_text course.warnings) found.told none finished.1) finished.2 finished.3)
+      subst (λ (k : Course). IsResult (result_of k) writer messages status fault) (sym same)
+      (whole-bad course at status fault (found.fault ∙ ap Some (sym is)) found.wrote found.reported (flushed-either finished.0)
+      (reported-whole at (notices_text course.warnings) found.reported none finished.1) finished.2 finished.3)
 
   -- what a line, or the end, ended the run with, where no device failed and memory didn't run out
-  ends-whole : (number : ℕ) (before course all : Course) (halt : Halt) (last : ℕ) (warned : Bool) (status : ℕ) (fault : Option At)
-      → ((at : At) → course.fault ≡ Some at → all ≡ course) → EndsAt number writer1 messages1 before course halt → Finishes writer2 messages2 last warned (Some halt) status fault
-      → NoneFailed writer.before writer.after → NoneFailed messages.before messages.after → (FaultIs OutOfMemory fault → ⊥) → IsWhole all writer messages status fault
-  ends-whole number before course all (halt.Fault at) last warned status fault same (inl ran) finished wnone mnone memory =
+  ends-whole : (can : Bool) (number : ℕ) (before course all : Course) (halt : Halt) (last : ℕ) (warned : Bool) (status : ℕ) (fault : Option At)
+      → ((at : At) → course.fault ≡ Some at → all ≡ course) → EndsAt can number writer1 messages1 before course halt → Finishes writer2 messages2 last warned (Some halt) status fault
+      → NoneFailed writer.before writer.after → NoneFailed messages.before messages.after → (FaultIs OutOfMemory fault → ⊥) → IsResult (result_of all) writer messages status fault
+  ends-whole can number before course all (halt.Fault at) last warned status fault same (inl ran) finished wnone mnone memory =
       absurd (memory (subst (FaultIs OutOfMemory) (sym finished.2) ran.fault))
-  ends-whole number before course all (halt.Fault at) last warned status fault same (inr found) finished wnone mnone memory =
+  ends-whole can number before course all (halt.Fault at) last warned status fault same (inr found) finished wnone mnone memory =
       found-whole course all at at status fault (same at found.fault) found refl mnone finished
-  ends-whole number before course all halt.Unwritten last warned status fault same failed finished wnone mnone memory =
+  ends-whole can number before course all halt.Unwritten last warned status fault same failed finished wnone mnone memory =
       absurd (omega (arith, failed.wrote.failed, finished.0.1, wsame, wstart, wend, wnone.0, wnone.1))
-  ends-whole number before course all halt.Unreported last warned status fault same failed finished wnone mnone memory =
-      absurd (omega (arith, failed.told.failed, finished.1.1, msame, mstart, mend, mnone.0, mnone.1))
+  ends-whole can number before course all halt.Unreported last warned status fault same failed finished wnone mnone memory =
+      absurd (omega (arith, failed.reported.failed, finished.1.1, msame, mstart, mend, mnone.0, mnone.1))
 
   stopped-none : (f : Fault) (given : List ℕ) (lines : List InputLine) (rest : List ℕ) → IsStopped f input.start input.counted given lines → length (given ++ rest) ≤ INPUT_LIMIT
       → NoneFailed input.start.failures input.counted.failures → ⊥
@@ -133,38 +140,59 @@ module _ (filter : Filter) (lawful : IsLawful filter) (input : Input) (writer1 w
       subst (λ (h : Halt). Finishes writer2 messages2 last warned (Some h) status fault) is finished in
       subst (FaultIs OutOfMemory) (sym f.2) refl
 
-  pub runs-as : (now : Reading) (last : ℕ) (warned : Bool) (halt : Option Halt) (status : ℕ) (fault : Option At)
-      → WorkEnds filter input writer1 messages1 now last warned halt → Finishes writer2 messages2 last warned halt status fault
-      → (given : List ℕ) × input.gave given × RunsAs filter input given writer messages status fault
-  runs-as now last warned None status None done finished =
+  -- a fault of the reader is the run's
+  reader-fault : (at : At) (stop : Halt) (last : ℕ) (warned : Bool) (status : ℕ) (fault : Option At) → stop ≡ halt.Fault at → Finishes writer2 messages2 last warned (Some stop) status fault → fault ≡ Some at
+  reader-fault at stop last warned status fault is finished =
+      let f : Finishes writer2 messages2 last warned (Some (halt.Fault at)) status fault = subst (λ (h : Halt). Finishes writer2 messages2 last warned (Some h) status fault) is finished in
+      f.2
+
+  -- unless a read failed, none did
+  reader-none : (f : Fault) (given : List ℕ) (lines : List InputLine) → IsStopped f input.start input.counted given lines → (f ≡ ReadFailed → ⊥) → input.counted.failures ≡ input.start.failures
+  reader-none InputTooLong given lines s other = ap (λ (t : Tally). t.failures) s.2
+  reader-none ReadFailed given lines s other = absurd (other refl)
+  reader-none _ given lines s other = absurd s
+
+  pub runs-as : (has_ended : List InputLine → Type 0) (now : Reading) (last : ℕ) (warned : Bool) (halt : Option Halt) (status : ℕ) (fault : Option At)
+      → WorkEnds filter has_ended input writer1 messages1 now last warned halt → Finishes writer2 messages2 last warned halt status fault
+      → (given : List ℕ) × input.gave given × RunsAs (result_by filter) filter input given writer messages status fault × (fault ≡ None → has_ended (lines_of given))
+  runs-as has_ended now last warned None status None done finished =
       let h = done.read in
       let over = HasRead-ended input.gave input.at_end input.start input.counted now done.lines h done.ended in
       let course = filter.whole done.lines in
-      let whole = whole-good course status None done.good done.wrote done.told finished.0.0 finished.1.0 refl (finished.2 ∙ ap good_status done.flag) in (
+      let whole = whole-good course status None done.good done.wrote done.reported finished.0.0 finished.1.0 refl (finished.2 ∙ ap good_status done.flag) in (
         h.given,
         h.lead,
         record {
-          whole = λ rn wn mn memory (rest : List ℕ) none within. subst (λ (ls : List InputLine). IsWhole (filter.whole ls) writer messages status None) (sym (all-lines input now done.lines h done.ended rest none)) whole;
+          whole = λ rn wn mn memory (rest : List ℕ) none within. subst (λ (ls : List InputLine). IsResult (result_of (filter.whole ls)) writer messages status None) (sym (all-lines input now done.lines h done.ended rest none)) whole;
+          ended = λ at is. absurd (no-fault at None is refl);
+          read = λ other. ap (λ (t : Tally). t.failures) over.counts;
+          salvaged = well-salvaged filter lawful input writer1 writer2 writer messages1 messages2 messages wsame wstart wend wjoined msame mstart mend mjoined has_ended now last warned done finished.0.0;
           good = λ e. (
             over.reported,
             over.within,
             ap (λ (t : Tally). t.failures) over.counts,
             wend ∙ finished.0.1 ∙ wsame ∙ done.wrote.1 ∙ sym wstart,
-            mend ∙ finished.1.1 ∙ msame ∙ done.told.1 ∙ sym mstart,
-            subst (λ (ls : List InputLine). IsWhole (filter.whole ls) writer messages status None) over.all whole,
+            mend ∙ finished.1.1 ∙ msame ∙ done.reported.1 ∙ sym mstart,
+            subst (λ (ls : List InputLine). IsResult (result_of (filter.whole ls)) writer messages status None) over.all whole,
           );
         },
+        (λ e. subst has_ended over.all done.engine_ended),
       )
-  runs-as now last warned None status (Some at) done finished =
-      let h = done.read in (
+  runs-as has_ended now last warned None status (Some at) done finished =
+      let h = done.read in
+      let over = HasRead-ended input.gave input.at_end input.start input.counted now done.lines h done.ended in (
         h.given,
         h.lead,
         record {
           whole = λ rn wn mn memory rest none within. absurd (omega (arith, finished.0.1, done.wrote.1, wsame, wstart, wend, wn.0, wn.1));
           good = λ e. absurd (no-fault at (Some at) refl e);
+          ended = flush-stands filter lawful input writer1 writer2 writer messages1 messages2 messages wsame wstart wend wjoined msame mstart mend mjoined has_ended now last warned status at done finished;
+          read = λ other. ap (λ (t : Tally). t.failures) over.counts;
+          salvaged = well-salvaged filter lawful input writer1 writer2 writer messages1 messages2 messages wsame wstart wend wjoined msame mstart mend mjoined has_ended now last warned done finished.0.0;
         },
+        (λ e. absurd (no-fault at (Some at) refl e)),
       )
-  runs-as now last warned (Some halt) status fault (inl s) finished =
+  runs-as has_ended now last warned (Some halt) status fault (inl s) finished =
       let h = s.stopped.read in
       let stopped = HasRead-stopped input.gave input.at_end input.start input.counted now s.lines h s.at s.stopped.stopped in (
         h.given,
@@ -172,9 +200,13 @@ module _ (filter : Filter) (lawful : IsLawful filter) (input : Input) (writer1 w
         record {
           whole = λ rn wn mn memory (rest : List ℕ) none within. absurd (stopped-none s.at.fault h.given s.lines rest stopped.0 within rn);
           good = λ e. absurd (never-good halt last warned status fault finished e);
+          ended = (reader-stands filter lawful input writer1 writer2 writer messages1 messages2 messages wsame wstart wend wjoined msame mstart mend mjoined now last warned halt status fault s finished).0;
+          read = λ other. reader-none s.at.fault h.given s.lines stopped.0 (λ f. other (subst (FaultIs ReadFailed) (sym (reader-fault s.at halt last warned status fault s.halt_is finished)) f));
+          salvaged = (reader-stands filter lawful input writer1 writer2 writer messages1 messages2 messages wsame wstart wend wjoined msame mstart mend mjoined now last warned halt status fault s finished).1;
         },
+        (λ e. absurd (never-good halt last warned status fault finished e)),
       )
-  runs-as now last warned (Some halt) status fault (inr (inl s)) finished =
+  runs-as has_ended now last warned (Some halt) status fault (inr (inl s)) finished =
       let h = s.ends.read in
       let next = with_next s.lines s.ends.line in (
         h.given,
@@ -182,27 +214,48 @@ module _ (filter : Filter) (lawful : IsLawful filter) (input : Input) (writer1 w
         record {
           whole = λ rn wn mn memory (rest : List ℕ) none within.
               let first = first-lines input now next h s.ends.going rest none in
-              ends-whole (length s.lines + 1) (filter.so_far s.lines) (filter.so_far next) (filter.whole (lines_of (h.given ++ rest))) halt last warned status fault
+              ends-whole (filter.may_take_memory s.lines s.ends.line) (length s.lines + 1) (filter.so_far s.lines) (filter.so_far next) (filter.whole (lines_of (h.given ++ rest))) halt last warned status fault
               (λ (at : At) bad. ap filter.whole first.1 ∙ lawful.decided next first.0 at bad) s.ends.ends finished wn mn memory;
           good = λ e. absurd (never-good halt last warned status fault finished e);
+          ended = (line-stands filter lawful input writer1 writer2 writer messages1 messages2 messages wsame wstart wend wjoined msame mstart mend mjoined now last warned halt status fault s finished).0;
+          read = λ other. none-failed input now next h s.ends.going;
+          salvaged = (line-stands filter lawful input writer1 writer2 writer messages1 messages2 messages wsame wstart wend wjoined msame mstart mend mjoined now last warned halt status fault s finished).1;
         },
+        (λ e. absurd (never-good halt last warned status fault finished e)),
       )
-  runs-as now last warned (Some halt) status fault (inr (inr (inl s))) finished =
+  runs-as has_ended now last warned (Some halt) status fault (inr (inr (inl s))) finished =
       let h = s.read in (
         h.given,
         h.lead,
         record {
           whole = λ rn wn mn memory (rest : List ℕ) none within.
-              ends-whole (length s.lines) (filter.so_far s.lines) (filter.whole s.lines) (filter.whole (lines_of (h.given ++ rest))) halt last warned status fault
+              ends-whole false (length s.lines) (filter.so_far s.lines) (filter.whole s.lines) (filter.whole (lines_of (h.given ++ rest))) halt last warned status fault
               (λ (at : At) bad. ap filter.whole (all-lines input now s.lines h s.ended rest none)) s.ends finished wn mn memory;
           good = λ e. absurd (never-good halt last warned status fault finished e);
+          ended = (end-stands filter lawful input writer1 writer2 writer messages1 messages2 messages wsame wstart wend wjoined msame mstart mend mjoined now last warned halt status fault s finished).0;
+          read = λ other. none-failed input now s.lines h (inr s.ended);
+          salvaged = (end-stands filter lawful input writer1 writer2 writer messages1 messages2 messages wsame wstart wend wjoined msame mstart mend mjoined now last warned halt status fault s finished).1;
         },
+        (λ e. absurd (never-good halt last warned status fault finished e)),
       )
-  runs-as now last warned (Some halt) status fault (inr (inr (inr s))) finished = (
+  runs-as has_ended now last warned (Some halt) status fault (inr (inr (inr s))) finished = (
     [],
     s.gave,
     record {
       whole = λ rn wn mn memory rest none within. absurd (memory (no-memory halt last warned status fault s.halt_is finished));
       good = λ e. absurd (never-good halt last warned status fault finished e);
+      ended = (start-stands filter lawful input writer1 writer2 writer messages1 messages2 messages wsame wstart wend wjoined msame mstart mend mjoined last warned halt status fault s finished).0;
+      read = λ other. ap (λ (t : Tally). t.failures) s.counts;
+      salvaged = (start-stands filter lawful input writer1 writer2 writer messages1 messages2 messages wsame wstart wend wjoined msame mstart mend mjoined last warned halt status fault s finished).1;
     },
+    (λ e. absurd (never-good halt last warned status fault finished e)),
   )
+
+  -- memory ran out before the first line was asked for
+  pub runs-nothing : (has_ended : List InputLine → Type 0) (last : ℕ) (warned : Bool) (stop : Option Halt) (status : ℕ) (fault : Option At)
+      → stop ≡ Some (halt.Fault (record { line = 0; fault = OutOfMemory })) → last ≡ 0 → input.gave [] → input.counted ≡ input.start → TookAll writer1 [] → TookAll messages1 [] → Finishes writer2 messages2 last warned stop status fault
+      → (given : List ℕ) × input.gave given × RunsAs (result_by filter) filter input given writer messages status fault × (fault ≡ None → has_ended (lines_of given))
+  runs-nothing has_ended last warned stop status fault is none gave counts wrote reported finished =
+      runs-as has_ended (record { rest = []; lent = 0; number = 0; phase = Open }) last warned stop status fault
+      (subst (λ (h : Option Halt). WorkEnds filter has_ended input writer1 messages1 (record { rest = []; lent = 0; number = 0; phase = Open }) last warned h) (sym is)
+      (inr (inr (inr (record { halt_is = refl; gave = gave; counts = counts; wrote = wrote; reported = reported; last_is = none }))))) finished

@@ -31,7 +31,7 @@ quiet-elsewhere direction seen line (Fails fault) e = by_bool (is_skipped_in see
     (λ on. ap (λ (s : Step _ _). is_again s.answer) (failed-skipped direction seen line fault on) ∙ ap (λ b. b && can_go_on line) e)
     (λ off. ap (λ (s : Step _ _). is_again s.answer) (failed-ends direction seen line fault off))
 
-false-true : {X : Type 0} → false ≡ true → X
+pub false-true : {X : Type 0} → false ≡ true → X
 false-true e = absurd (cc)
 
 -- what is kept of a line that comes twice, in the order of its two steps

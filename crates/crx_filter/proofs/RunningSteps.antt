@@ -1,5 +1,5 @@
 -- A run goes on by a line, or ends at it.
-use Rattle.std.proofs.Common.{◌≡◌, ◌⊎◌, inl, inr, ℕ, ◌+◌, ◌<◌, ◌≤◌, Bool, true, List, [], ◌∷◌, ◌++◌, length, take, Option, Some, None, refl, sym, ap, subst, ◌∙◌, arith, append_assoc, append-nil, length-append}
+use Rattle.std.proofs.Common.{◌≡◌, inl, inr, ℕ, ◌+◌, Bool, List, [], ◌++◌, length, take, refl, sym, ap, subst, ◌∙◌, arith, append-nil, length-append}
 use Rattle.std.proofs.Math.Seq.{take-append-add}
 use Rattle.std.proofs.lemmas.List.{take-append-le}
 use Rattle.crx_text.specs.Devices.{one_more}
@@ -8,8 +8,8 @@ use Rattle.crx_filter.specs.declared.taking.Halt.{Halt}
 use Rattle.crx_filter.specs.declared.taking.Halt.TheVariants.{Fault, Unwritten, Unreported}
 use Rattle.crx_filter.specs.Filters.{Course}
 use Rattle.crx_filter.specs.Messages.{notices_text}
-use Rattle.crx_filter.specs.Taking.{Device, TookAll, TookPart, Adds, AreNext, IsDone, IsOutOfMemory, IsEnded, IsCutText, IsCutNotice, IsCut}
-use Rattle.crx_filter.specs.Running.{IsPart, MemoryRanOut, FaultFound, WritingFailed, ReportingFailed, EndsAt}
+use Rattle.crx_filter.specs.Taking.{Device, TookAll, TookPart, IsCut}
+use Rattle.crx_filter.specs.Running.{IsPart, EndsAt}
 use Rattle.crx_filter.proofs.TakingTwice.{notices-append, all-all}
 
 -- a device before a line (first), over the line (second), and over both
@@ -43,39 +43,40 @@ module _ (before after : Course) (writer1 writer2 writer messages1 messages2 mes
     (wjoined : (xs ys : List ℕ) → writer1.took xs → writer2.took ys → writer.took (xs ++ ys))
     (msame : messages2.before ≡ messages1.after) (mstart : messages.before ≡ messages1.before) (mend : messages.after ≡ messages2.after)
     (mjoined : (xs ys : List ℕ) → messages1.took xs → messages2.took ys → messages.took (xs ++ ys))
-    (wrote : TookAll writer1 before.output) (told : TookAll messages1 (notices_text before.warnings)) where
+    (wrote : TookAll writer1 before.output) (reported : TookAll messages1 (notices_text before.warnings)) where
   pub more-written : (text : List ℕ) → TookAll writer2 text → after.output ≡ before.output ++ text → TookAll writer after.output
   more-written text wrote2 is = took-more writer1 writer2 writer wsame wstart wend wjoined before.output text after.output wrote wrote2 is
 
   same-written : (output : List ℕ) → TookAll writer2 [] → output ≡ before.output → TookAll writer output
   same-written output wrote2 is = took-same writer1 writer2 writer wsame wstart wend wjoined before.output output wrote wrote2 is
 
-  pub more-told : (notices all : List At) → TookAll messages2 (notices_text notices) → all ≡ before.warnings ++ notices → TookAll messages (notices_text all)
-  more-told notices all told2 is =
-      took-more messages1 messages2 messages msame mstart mend mjoined (notices_text before.warnings) (notices_text notices) (notices_text all) told told2 (warnings-text before.warnings notices all is)
+  pub more-reported : (notices all : List At) → TookAll messages2 (notices_text notices) → all ≡ before.warnings ++ notices → TookAll messages (notices_text all)
+  more-reported notices all told2 is =
+      took-more messages1 messages2 messages msame mstart mend mjoined (notices_text before.warnings) (notices_text notices) (notices_text all) reported told2 (warnings-text before.warnings notices all is)
 
-  pub ends-at : (number : ℕ) (halt : Halt) → IsCut before after number writer2 messages2 halt → EndsAt number writer messages before after halt
-  ends-at number (Fault at) (inl r) =
+  pub ends-at : (memory : Bool) (number : ℕ) (halt : Halt) → IsCut before after memory number writer2 messages2 halt → EndsAt memory number writer messages before after halt
+  ends-at memory number (Fault at) (inl r) =
       inl (record {
+        allowed = r.allowed;
         fault = r.fault;
         place = r.place;
         notices = r.notices;
         next = r.next;
         wrote = same-written before.output r.wrote refl;
-        told = more-told r.notices (before.warnings ++ r.notices) r.told refl;
+        reported = more-reported r.notices (before.warnings ++ r.notices) r.reported refl;
       })
-  ends-at number (Fault at) (inr r) =
-      inr (record { fault = r.ends.fault; wrote = same-written after.output r.wrote r.ends.output; told = more-told r.notices after.warnings r.told r.ends.warnings })
-  ends-at number Unwritten r =
+  ends-at memory number (Fault at) (inr r) =
+      inr (record { fault = r.ends.fault; wrote = same-written after.output r.wrote r.ends.output; reported = more-reported r.notices after.warnings r.reported r.ends.warnings })
+  ends-at memory number Unwritten r =
       record {
         good = r.adds.good;
         wrote = took-part writer1 writer2 writer wsame wstart wend wjoined before.output r.text [] after.output wrote r.wrote (r.adds.output ∙ sym (append-nil (before.output ++ r.text)));
-        told = more-told r.notices after.warnings r.told r.adds.warnings;
+        reported = more-reported r.notices after.warnings r.reported r.adds.warnings;
       }
-  ends-at number Unreported r =
+  ends-at memory number Unreported r =
       let whole : notices_text after.warnings ≡ (notices_text before.warnings ++ notices_text r.notices) ++ notices_text r.next.0 =
       ap notices_text r.next.1 ∙ notices-append (before.warnings ++ r.notices) r.next.0 ∙ ap (λ (t : List ℕ). t ++ notices_text r.next.0) (notices-append before.warnings r.notices) in
       record {
         wrote = same-written before.output r.wrote refl;
-        told = took-part messages1 messages2 messages msame mstart mend mjoined (notices_text before.warnings) (notices_text r.notices) (notices_text r.next.0) (notices_text after.warnings) told r.told whole;
+        reported = took-part messages1 messages2 messages msame mstart mend mjoined (notices_text before.warnings) (notices_text r.notices) (notices_text r.next.0) (notices_text after.warnings) reported r.reported whole;
       }

@@ -1,20 +1,14 @@
 -- A run goes on by a line that was read, or ends at it.
-use Rattle.std.proofs.Common.{◌≡◌, ◌⊎◌, inl, inr, ℕ, ◌+◌, Bool, List, [], ◌∷◌, ◌++◌, length, refl}
-use Rattle.crx_text.specs.Devices.{Tally}
+use Rattle.std.proofs.Common.{◌≡◌, ℕ, ◌+◌, Bool, List, [], ◌++◌, length}
 use Rattle.crx_text.specs.Lines.{InputLine}
 use Rattle.crx_text.specs.Reading.{Reading}
-use Rattle.crx_text.specs.Progress.{HasRead}
-use Rattle.crx_text.specs.declared.fault.At.{At}
-use Rattle.crx_text.specs.declared.phase.Phase.TheVariants.{Ended, Stopped}
 use Rattle.crx_filter.specs.declared.taking.Halt.{Halt}
-use Rattle.crx_filter.specs.declared.taking.Halt.TheVariants.{Fault}
-use Rattle.crx_filter.specs.Filters.{Course, Filter}
+use Rattle.crx_filter.specs.Filters.{Filter}
 use Rattle.crx_filter.specs.Engines.{Awaited, with_next}
-use Rattle.crx_filter.specs.Messages.{notices_text}
-use Rattle.crx_filter.specs.Taking.{Device, TookAll, IsDone, IsCut}
-use Rattle.crx_filter.specs.Running.{Input, IsRunning, GoesOnBy, ComesToEnd, ReaderStopped, EndsBy}
+use Rattle.crx_filter.specs.Taking.{Device, IsDone, IsCut}
+use Rattle.crx_filter.specs.Running.{Input, IsRunning, GoesOnBy, EndsBy}
 use Rattle.crx_filter.proofs.StepReading.{ReadsLine}
-use Rattle.crx_filter.proofs.RunningSteps.{ends-at, more-written, more-told}
+use Rattle.crx_filter.proofs.RunningSteps.{ends-at, more-written, more-reported}
 
 module _ (filter : Filter) (input then : Input) (old new : Reading) (lines : List InputLine) (writer1 writer2 writer messages1 messages2 messages : Device)
     (wsame : writer2.before ≡ writer1.after) (wstart : writer.before ≡ writer1.before) (wend : writer.after ≡ writer2.after)
@@ -36,20 +30,20 @@ module _ (filter : Filter) (input then : Input) (old new : Reading) (lines : Lis
           read = read.read;
           going = read.going;
           good = done.adds.good;
-          wrote = more-written before after writer1 writer2 writer messages1 messages2 messages wsame wstart wend wjoined msame mstart mend mjoined running.wrote running.told done.text done.wrote done.adds.output;
-          told = more-told before after writer1 writer2 writer messages1 messages2 messages wsame wstart wend wjoined msame mstart mend mjoined running.wrote running.told done.notices after.warnings done.told done.adds.warnings;
+          wrote = more-written before after writer1 writer2 writer messages1 messages2 messages wsame wstart wend wjoined msame mstart mend mjoined running.wrote running.reported done.text done.wrote done.adds.output;
+          reported = more-reported before after writer1 writer2 writer messages1 messages2 messages wsame wstart wend wjoined msame mstart mend mjoined running.wrote running.reported done.notices after.warnings done.reported done.adds.warnings;
         };
         notices = done.notices;
         added = done.adds.warnings;
         flag = done.flag;
       }
 
-  pub ends-by : (halt : Halt) → IsCut (filter.so_far lines) (filter.so_far (with_next lines line)) (length lines + 1) writer2 messages2 halt
+  pub ends-by : (halt : Halt) → IsCut (filter.so_far lines) (filter.so_far (with_next lines line)) (filter.may_take_memory lines line) (length lines + 1) writer2 messages2 halt
       → EndsBy filter then writer messages new lines halt
   ends-by halt cut =
       record {
         line = line;
         read = read.read;
         going = read.going;
-        ends = ends-at (filter.so_far lines) (filter.so_far (with_next lines line)) writer1 writer2 writer messages1 messages2 messages wsame wstart wend wjoined msame mstart mend mjoined running.wrote running.told (length lines + 1) halt cut;
+        ends = ends-at (filter.so_far lines) (filter.so_far (with_next lines line)) writer1 writer2 writer messages1 messages2 messages wsame wstart wend wjoined msame mstart mend mjoined running.wrote running.reported (filter.may_take_memory lines line) (length lines + 1) halt cut;
       }

@@ -1,10 +1,10 @@
 -- What a reader of lines answers, by the lines that were read before.
-use Rattle.std.proofs.Common.{◌≡◌, ◌⊎◌, inl, inr, ⊎_elim, ℕ, ◌+◌, ◌<◌, ◌≤◌, Bool, true, false, cond, List, [], ◌∷◌, ◌++◌, length, Option, Some, None, Result, Ok, Err, refl, sym, ap, subst, ◌∙◌, arith, length-append}
+use Rattle.std.proofs.Common.{◌≡◌, ◌⊎◌, inl, inr, ⊎_elim, ℕ, ◌+◌, ◌<◌, ◌≤◌, Bool, true, false, cond, List, ◌∷◌, ◌++◌, length, Option, Some, None, Result, Ok, Err, refl, sym, ap, subst, ◌∙◌, arith, length-append}
 use Rattle.std.proofs.lemmas.List.{length_push}
 use Rattle.crx_text.specs.Devices.{Tally}
 use Rattle.crx_text.specs.Lines.{InputLine, is_long}
 use Rattle.crx_text.specs.Reading.{Reading, Answers, FaultIs, Takes, line_shown, line_number}
-use Rattle.crx_text.specs.Progress.{HasRead, AtAnswer, AtFault, IsOneMore}
+use Rattle.crx_text.specs.Progress.{HasRead, AtFault}
 use Rattle.crx_text.specs.declared.limits.TheConstants.{INPUT_LIMIT}
 use Rattle.crx_text.specs.declared.fault.At.{At}
 use Rattle.crx_text.specs.declared.fault.Fault.{Fault}

@@ -1,5 +1,5 @@
 -- A line that was given once or twice.
-use Rattle.std.proofs.Common.{◌≡◌, ◌⊎◌, inl, inr, ℕ, ◌+◌, ◌<◌, Bool, true, List, [], ◌∷◌, ◌++◌, length, take, Option, refl, sym, ap, subst, ◌∙◌, arith, append_assoc, append-nil, length-append}
+use Rattle.std.proofs.Common.{◌≡◌, inl, inr, ℕ, ◌+◌, Bool, true, List, [], ◌∷◌, ◌++◌, length, take, refl, sym, ap, subst, ◌∙◌, arith, append_assoc, length-append}
 use Rattle.std.proofs.Math.Seq.{take-append-add}
 use Rattle.crx_text.specs.Devices.{one_more}
 use Rattle.crx_text.specs.Lines.{InputLine}
@@ -11,7 +11,7 @@ use Rattle.crx_filter.specs.declared.taking.Once.TheVariants.{Done, Again}
 use Rattle.crx_filter.specs.Filters.{Course, Filter}
 use Rattle.crx_filter.specs.Engines.{Awaited, with_next}
 use Rattle.crx_filter.specs.Messages.{warning_text, notices_text}
-use Rattle.crx_filter.specs.Taking.{Device, TookAll, TookPart, AreNext, IsDone, IsAgain, IsOnce, RunsOut, IsFaulty, IsUnwritten, IsUnreported, IsHalted, IsOutOfMemory, IsEnded, IsCutText, IsCutNotice, IsCut}
+use Rattle.crx_filter.specs.Taking.{Device, TookAll, TookPart, AreNext, IsDone, IsOnce, IsHalted, IsCut}
 
 -- the messages of some warnings and of others
 pub notices-append : (xs ys : List At) → notices_text (xs ++ ys) ≡ notices_text xs ++ notices_text ys
@@ -31,13 +31,13 @@ module _ (first second both : Device) (same : second.before ≡ first.after) (st
   )
 
 -- a line that was given once
-pub cut-once : (before after : Course) (number : ℕ) (writer messages : Device) (halt : Halt)
-    → IsHalted before after number writer messages [] halt → IsCut before after number writer messages halt
-cut-once before after number writer messages (Fault at) (inl r) =
-    inl (record { fault = r.fault; place = r.line; notices = []; next = inl refl; wrote = r.wrote; told = r.told })
-cut-once before after number writer messages (Fault at) (inr r) = inr (record { notices = []; ends = r.ends; wrote = r.wrote; told = r.told })
-cut-once before after number writer messages Unwritten r = record { text = r.text; notices = []; adds = r.adds; wrote = r.wrote; told = r.told }
-cut-once before after number writer messages Unreported r = record { notices = r.notice ∷ []; next = r.next; wrote = r.wrote; told = r.told }
+pub cut-once : (before after : Course) (memory : Bool) (number : ℕ) (writer messages : Device) (halt : Halt)
+    → IsHalted before after memory number writer messages [] halt → IsCut before after memory number writer messages halt
+cut-once before after memory number writer messages (Fault at) (inl r) =
+    inl (record { allowed = r.allowed; fault = r.fault; place = r.line; notices = []; next = inl refl; wrote = r.wrote; reported = r.reported })
+cut-once before after memory number writer messages (Fault at) (inr r) = inr (record { notices = []; ends = r.ends; wrote = r.wrote; reported = r.reported })
+cut-once before after memory number writer messages Unwritten r = record { text = r.text; notices = []; adds = r.adds; wrote = r.wrote; reported = r.reported }
+cut-once before after memory number writer messages Unreported r = record { notices = r.notice ∷ []; next = r.next; wrote = r.wrote; reported = r.reported }
 
 -- a line that was given a second time, after its first warning
 module _ (before after : Course) (writer1 writer2 writer messages1 messages2 messages : Device)
@@ -47,11 +47,11 @@ module _ (before after : Course) (writer1 writer2 writer messages1 messages2 mes
     (mjoined : (xs ys : List ℕ) → messages1.took xs → messages2.took ys → messages.took (xs ++ ys))
     (notice : At) (next : AreNext before after (notice ∷ []))
     (wrote1 : TookAll writer1 []) (told1 : TookAll messages1 (notices_text (notice ∷ []))) where
-  told-all : (ns : List At) → TookAll messages2 (notices_text ns) → TookAll messages (notices_text (notice ∷ ns))
-  told-all ns told2 = subst (TookAll messages) (sym (notices-append (notice ∷ []) ns)) (all-all messages1 messages2 messages msame mstart mend mjoined (notices_text (notice ∷ [])) (notices_text ns) told1 told2)
+  reported-all : (ns : List At) → TookAll messages2 (notices_text ns) → TookAll messages (notices_text (notice ∷ ns))
+  reported-all ns told2 = subst (TookAll messages) (sym (notices-append (notice ∷ []) ns)) (all-all messages1 messages2 messages msame mstart mend mjoined (notices_text (notice ∷ [])) (notices_text ns) told1 told2)
 
-  told-none : TookAll messages2 [] → TookAll messages (notices_text (notice ∷ []))
-  told-none told2 = told-all [] told2
+  reported-none : TookAll messages2 [] → TookAll messages (notices_text (notice ∷ []))
+  reported-none told2 = reported-all [] told2
 
   wrote-none : TookAll writer2 [] → TookAll writer []
   wrote-none wrote2 = all-all writer1 writer2 writer wsame wstart wend wjoined [] [] wrote1 wrote2
@@ -63,22 +63,22 @@ module _ (before after : Course) (writer1 writer2 writer messages1 messages2 mes
     notices = notice ∷ r.notices;
     adds = r.adds;
     wrote = all-all writer1 writer2 writer wsame wstart wend wjoined [] r.text wrote1 r.wrote;
-    told = told-all r.notices r.told;
+    reported = reported-all r.notices r.reported;
     flag = refl;
   }
 
-  pub cut-twice : (number : ℕ) (halt : Halt) → IsHalted before after number writer2 messages2 (notice ∷ []) halt → IsCut before after number writer messages halt
-  cut-twice number (Fault at) (inl r) =
-      inl (record { fault = r.fault; place = r.line; notices = notice ∷ []; next = inr next; wrote = wrote-none r.wrote; told = told-none r.told })
-  cut-twice number (Fault at) (inr r) = inr (record { notices = notice ∷ []; ends = r.ends; wrote = wrote-none r.wrote; told = told-none r.told })
-  cut-twice number Unwritten r =
-      record { text = r.text; notices = notice ∷ []; adds = r.adds; wrote = all-part writer1 writer2 writer wsame wstart wend wjoined [] r.text wrote1 r.wrote; told = told-none r.told }
-  cut-twice number Unreported r =
+  pub cut-twice : (memory : Bool) (number : ℕ) (halt : Halt) → IsHalted before after memory number writer2 messages2 (notice ∷ []) halt → IsCut before after memory number writer messages halt
+  cut-twice memory number (Fault at) (inl r) =
+      inl (record { allowed = r.allowed; fault = r.fault; place = r.line; notices = notice ∷ []; next = inr next; wrote = wrote-none r.wrote; reported = reported-none r.reported })
+  cut-twice memory number (Fault at) (inr r) = inr (record { notices = notice ∷ []; ends = r.ends; wrote = wrote-none r.wrote; reported = reported-none r.reported })
+  cut-twice memory number Unwritten r =
+      record { text = r.text; notices = notice ∷ []; adds = r.adds; wrote = all-part writer1 writer2 writer wsame wstart wend wjoined [] r.text wrote1 r.wrote; reported = reported-none r.reported }
+  cut-twice memory number Unreported r =
       record {
         notices = notice ∷ r.notice ∷ [];
         next = r.next;
         wrote = wrote-none r.wrote;
-        told = subst (TookPart messages) (sym (notices-append (notice ∷ []) (r.notice ∷ []))) (all-part messages1 messages2 messages msame mstart mend mjoined (notices_text (notice ∷ [])) (notices_text (r.notice ∷ [])) told1 r.told);
+        reported = subst (TookPart messages) (sym (notices-append (notice ∷ []) (r.notice ∷ []))) (all-part messages1 messages2 messages msame mstart mend mjoined (notices_text (notice ∷ [])) (notices_text (r.notice ∷ [])) told1 r.reported);
       }
 
 -- the same of a filter's lines, by an engine whose filter stays
@@ -101,7 +101,7 @@ module _ (filter then : Filter) (is : then ≡ filter) (lines : List InputLine) 
       (subst (λ (f : Filter). IsDone (f.so_far lines) (f.so_far (with_next lines line)) (shows (with_next lines line) []) writer2 messages2 (notice ∷ []) warned) is r)
   once-twice shows Again r = absurd (omega (arith, ap length r.none))
 
-  pub halted-twice : (number : ℕ) (halt : Halt) → IsHalted (then.so_far lines) (then.so_far (with_next lines line)) number writer2 messages2 (notice ∷ []) halt → IsCut before after number writer messages halt
+  pub halted-twice : (number : ℕ) (halt : Halt) → IsHalted (then.so_far lines) (then.so_far (with_next lines line)) (then.may_take_memory lines line) number writer2 messages2 (notice ∷ []) halt → IsCut before after (filter.may_take_memory lines line) number writer messages halt
   halted-twice number halt r =
-      cut-twice before after writer1 writer2 writer messages1 messages2 messages wsame wstart wend wjoined msame mstart mend mjoined notice next wrote1 told1 number halt
-      (subst (λ (f : Filter). IsHalted (f.so_far lines) (f.so_far (with_next lines line)) number writer2 messages2 (notice ∷ []) halt) is r)
+      cut-twice before after writer1 writer2 writer messages1 messages2 messages wsame wstart wend wjoined msame mstart mend mjoined notice next wrote1 told1 (filter.may_take_memory lines line) number halt
+      (subst (λ (f : Filter). IsHalted (f.so_far lines) (f.so_far (with_next lines line)) (f.may_take_memory lines line) number writer2 messages2 (notice ∷ []) halt) is r)

@@ -35,8 +35,10 @@ use Rattle.crx_filter.proofs.InPlace.{items-in_place}
 use Rattle.crx_filter.proofs.WhatWasRead.{items-read, allowed}
 use Rattle.crx_filter.proofs.WayBackCut.{IsClean, CanStand, lines-cut, input-stands}
 use Rattle.crx_filter.proofs.WayBackFirst.{first-lines_read, program-clean, version-clean, printable-no_feed, printable-no_return}
-use Rattle.crx_filter.proofs.WayBackItems.{marked_now, body_unit, read_back, header-same, left-same, started, whole-next, epoch-stands}
-use Rattle.crx_filter.proofs.WayBackReading.{lines_back, reads-back, items-copied}
+use Rattle.crx_filter.proofs.WayBackItems.{marked_now, body_unit, known_back, read_back, unit-here, whole-next, epoch-stands}
+use Rattle.crx_filter.proofs.Carried.{started, whole-again}
+use Rattle.crx_filter.proofs.ForwardCompact.{compact-forward}
+use Rattle.crx_filter.proofs.WayBackReading.{lines_back, items-copied}
 
 -- ---- the end of the compaction
 
@@ -163,11 +165,6 @@ result-well items lines e f =
     ap (λ (w : List At). let all : FilterResult = record { output = lines_text (written_lines expanded_unit items); messages = flat_map (message_text (codes "WARNING")) (reverse w) ++ []; status = status_after w None; fault = None } in all) f
     ∙ ap (λ ls. written_well (lines_text ls)) e
 
--- the end of compact text that was written is good
-closes-well : (items : List (Item ReadEpoch)) → header_has_ended items ≡ true → records_left items ≡ 0 → fault_at_end items [] ≡ None
-closes-well [] e f = absurd (cc)
-closes-well (item ∷ before) e f = rw (e, f) refl
-
 -- the two first lines, and then the reading of the rest
 whole-after : (skip : Bool) (date : List ℕ) (rest : List ReadLine) → whole_compact skip (Content version_line ∷ Content (program_line date) ∷ rest) ≡ ended skip (reading_from compact_place skip [] 3 rest)
 whole-after skip date rest = rw (first-lines_read date rest, whole_compact) refl
@@ -175,11 +172,8 @@ whole-after skip date rest = rw (first-lines_read date rest, whole_compact) refl
 whole-back : (every : Option ℕ) (skip : Bool) (date : List ℕ) (items : List (Item Epoch)) → IsSettled items
     → whole_compact skip (map Content (version_line ∷ program_line date ∷ lines_back every items)) ≡ record { items = read_back every items; fault = None }
 whole-back every skip date items h =
-    let back : List (Item ReadEpoch) = read_back every items in
-    let good : fault_at_end (read_back every items) [] ≡ None = closes-well (read_back every items) (header-same every items ∙ h.header) (left-same every items h.in_place ∙ h.none) in
     whole-after skip date (map Content (lines_back every items))
-    ∙ ap (ended skip) (reads-back every skip 3 items h.in_place)
-    ∙ ap (ended_with skip back (3 + length (lines_back every items) + 0)) good
+    ∙ whole-again compact_place (known_back every) (body_unit every) compact-forward (unit-here every) skip 3 items h.in_place h.header h.none
 
 pub comes-back : (input : List ℕ) (compacting expanding : Choices) → ComesBack input compacting expanding
 comes-back input compacting expanding dated f none =

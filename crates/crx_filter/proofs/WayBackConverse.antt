@@ -26,13 +26,15 @@ use Rattle.crx_rinex.specs.Observations.{Row, Epoch}
 use Rattle.crx_rinex.specs.EpochLines.{is_kept}
 use Rattle.crx_rinex.specs.Printing.{printed_cells, printed_row, printed_epoch}
 use Rattle.crx_rinex.specs.Units.{HeaderLine, EventLine, EventRecord, Observation}
-use Rattle.crx_filter.specs.Choices.{Choices}
+use Rattle.crx_filter.specs.Choices.{Choices, is_date}
+use Rattle.crx_filter.specs.Compacted.{compacted}
+use Rattle.crx_filter.specs.Expanded.{expanded}
 use Rattle.crx_filter.specs.Items.{Item, Accepted, Warned, types_in_force}
 use Rattle.crx_filter.specs.Reading.{WholeReading}
 use Rattle.crx_filter.specs.Results.{FilterResult, lines_text}
-use Rattle.crx_filter.specs.Standard.{printed_items, whole_of}
+use Rattle.crx_filter.specs.Standard.{printed_items, whole_of, IsStandard}
 use Rattle.crx_filter.specs.Laws.{AreInPlace}
-use Rattle.crx_filter.specs.WayBack.{OfCopiedLines, HaveNoReturns, IsStandardWhereSame}
+use Rattle.crx_filter.specs.WayBack.{OfCopiedLines, HaveNoReturns}
 use Rattle.crx_filter.proofs.WayBack.{IsSettled, whole-settled}
 use Rattle.crx_filter.proofs.WayBackCut.{CanStand}
 use Rattle.crx_filter.proofs.WayBackStandard.{normal-comes_back}
@@ -151,7 +153,7 @@ printable-plain : (lines : List (List ℕ)) → AllByRecursion (λ (line : List 
 printable-plain [] h = tt
 printable-plain (line ∷ lines) h = (record { one_line = printable-no_feed line h.0; no_return = printable-no_return line h.0 }, printable-plain lines h.1)
 
-printed-plain : (items : List (Item Epoch)) → AreInPlace items → OfCopiedLines CanStand items → HaveNoReturns items → AllByRecursion IsPlainLine (printed_items items)
+pub printed-plain : (items : List (Item Epoch)) → AreInPlace items → OfCopiedLines CanStand items → HaveNoReturns items → AllByRecursion IsPlainLine (printed_items items)
 printed-plain [] h k e = tt
 printed-plain (Accepted (HeaderLine line) ∷ before) h k e = append-plain (printed_items before) (line ∷ []) (printed-plain before h.1 k.1 e.1) (record { one_line = (k.0).0; no_return = e.0 }, tt)
 printed-plain (Accepted (EventLine line) ∷ before) h k e = append-plain (printed_items before) (line ∷ []) (printed-plain before h.1 k.1 e.1) (record { one_line = (k.0).0; no_return = e.0 }, tt)
@@ -160,16 +162,18 @@ printed-plain (Accepted (Observation epoch) ∷ before) h k e =
     append-plain (printed_items before) (printed_epoch epoch) (printed-plain before h.1 k.1 e.1) (printable-plain (printed_epoch epoch) (epoch-printable (types_in_force before) epoch (h.0).2))
 printed-plain (Warned at ∷ before) h k e = printed-plain before h.1 k e
 
-all-plain : (lines : List (List ℕ)) → list_all (λ (line : InputLine). line.is_plain) (map plain lines) ≡ true
+pub all-plain : (lines : List (List ℕ)) → list_all (λ (line : InputLine). line.is_plain) (map plain lines) ≡ true
 all-plain [] = refl
 all-plain (line ∷ lines) = all-plain lines
 
-contents-plain : (lines : List (List ℕ)) → map (λ (line : InputLine). line.content) (map plain lines) ≡ lines
+pub contents-plain : (lines : List (List ℕ)) → map (λ (line : InputLine). line.content) (map plain lines) ≡ lines
 contents-plain [] = refl
 contents-plain (line ∷ lines) = ap (λ ls. line ∷ ls) (contents-plain lines)
 
-pub standard-where_same : (input : List ℕ) (compacting expanding : Choices) → IsStandardWhereSame input compacting expanding
-standard-where_same input compacting expanding dated good none same =
+-- a file without copied lines that end in CR
+pub standard-where_kept : (input : List ℕ) (compacting expanding : Choices) → is_date compacting.date ≡ true → (whole_of input).fault ≡ None → HaveNoReturns (whole_of input).items
+    → (expanded (compacted input compacting).output expanding).output ≡ input → IsStandard input
+standard-where_kept input compacting expanding dated good none same =
     let items : List (Item Epoch) = WholeReading.items (whole_of input) in
     let h : IsSettled items = whole-settled false input good in
     let back : lines_text (printed_items items) ≡ input = sym (ap (λ (r : FilterResult). r.output) (normal-comes_back input compacting expanding dated good none)) ∙ same in

@@ -44,7 +44,7 @@ first-lines_read date rest = rw (program-read date) refl
 -- ---- each is cut off again
 
 -- a printable character is none that isn't
-printable-other : (c d : ℕ) → is_printable d ≡ false → is_printable c ≡ true → c ≢ d
+pub printable-other : (c d : ℕ) → is_printable d ≡ false → is_printable c ≡ true → c ≢ d
 printable-other c d isn_t is_so is = let same : is_printable c ≡ is_printable d = ap is_printable is in absurd (cc)
 
 pub printable-no_feed : (line : List ℕ) → list_all is_printable line ≡ true → HasNoFeed line
@@ -70,12 +70,16 @@ take-printable zero a h = refl
 take-printable (suc n) [] h = refl
 take-printable (suc n) (c ∷ cs) h = both-true (is_printable c) (list_all is_printable (take n cs)) (first-true (is_printable c) (list_all is_printable cs) h) (take-printable n cs (second-true (is_printable c) (list_all is_printable cs) h))
 
-pub program-clean : (date : List ℕ) → is_date date ≡ true → IsClean (program_line date)
-program-clean date h =
+pub program-printable : (date : List ℕ) → is_date date ≡ true → list_all is_printable (program_line date) ≡ true
+program-printable date h =
     let good : list_all is_printable date ≡ true = second-true (nat_le (length date) DATE_LIMIT) (list_all is_printable date) h in
     let columns : list_all is_printable (left_justified 20 date) ≡ true = take-printable 20 (date ++ replicate 20 32) (append-printable date (replicate 20 32) good refl) in
     let after : list_all is_printable (left_justified 20 date ++ codes "CRINEX PROG / DATE") ≡ true = append-printable (left_justified 20 date) (codes "CRINEX PROG / DATE") columns refl in
-    let all : list_all is_printable (program_line date) ≡ true = append-printable (left_justified 40 (codes "RNX2CRX profile 1.0")) (left_justified 20 date ++ codes "CRINEX PROG / DATE") refl after in
+    append-printable (left_justified 40 (codes "RNX2CRX profile 1.0")) (left_justified 20 date ++ codes "CRINEX PROG / DATE") refl after
+
+pub program-clean : (date : List ℕ) → is_date date ≡ true → IsClean (program_line date)
+program-clean date h =
+    let all : list_all is_printable (program_line date) ≡ true = program-printable date h in
     let width : length (left_justified 20 date) ≡ 20 = date-width date in
     let two : length (left_justified 20 date ++ codes "CRINEX PROG / DATE") ≡ length (left_justified 20 date) + 18 = length-append (left_justified 20 date) (codes "CRINEX PROG / DATE") in
     let three : length (program_line date) ≡ 40 + length (left_justified 20 date ++ codes "CRINEX PROG / DATE") = length-append (left_justified 40 (codes "RNX2CRX profile 1.0")) (left_justified 20 date ++ codes "CRINEX PROG / DATE") in

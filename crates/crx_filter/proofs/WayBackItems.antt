@@ -1,15 +1,14 @@
 -- What was accepted by a compaction, and how its compact text is read: the same header, events and types in force.
-use Rattle.std.proofs.Common.{ℕ, zero, suc, ◌≡◌, ◌+◌, ◌-◌, ◌<◌, Bool, true, false, cond, List, [], ◌∷◌, ◌++◌, map, length, Option, Some, None, Ok, refl, ap, sym, ◌∙◌, arith, subst, append-nil}
+use Rattle.std.proofs.Common.{ℕ, ◌≡◌, ◌+◌, Bool, true, false, cond, List, [], ◌∷◌, ◌++◌, map, length, Option, Some, None, Ok, refl, ap, sym, ◌∙◌, arith, subst, append-nil}
 use Rattle.std.specs.Prelude.{◌||◌, drop}
 use Rattle.std.specs.Option.{is_some}
 use Rattle.std.proofs.lemmas.List.{length-map}
 use Rattle.crx_text.specs.Seen.{ReadLine, Content}
 use Rattle.crx_rinex.specs.Observations.{Row, Epoch}
-use Rattle.crx_rinex.specs.Places.{Place, Here, first_line}
+use Rattle.crx_rinex.specs.Places.{Place, Here}
 use Rattle.crx_rinex.specs.Units.{Unit as FileUnit, HeaderLine, EventLine, EventRecord, Observation}
-use Rattle.crx_rinex.specs.Header.{is_end_of_header}
 use Rattle.crx_rinex.specs.EpochLines.{is_event_line, records_in}
-use Rattle.crx_rinex.specs.ObservationTypes.{Count, types_of}
+use Rattle.crx_rinex.specs.ObservationTypes.{Count}
 use Rattle.crx_compact.specs.Compaction.{Marked, since_full, run_of, satellite_line, compact_epoch, epoch_line}
 use Rattle.crx_compact.specs.Expansion.{RawEpoch, block_of}
 use Rattle.crx_compact.specs.CompactPlaces.{ReadEpoch, epoch_at}
@@ -19,14 +18,14 @@ use Rattle.crx_compact.specs.ReadingLaws.{raws_of, read_of, lines_of_epoch, Epoc
 use Rattle.crx_compact.proofs.Reading.{each-reads_back}
 use Rattle.crx_compact.proofs.Standing.{lines-stand}
 use Rattle.crx_compact.proofs.Writable.{all-whole}
-use Rattle.crx_filter.specs.Items.{Item, Accepted, Warned, is_at_start, header_has_ended, records_left, records_count_types, declaring_lines, types_in_force}
-use Rattle.crx_filter.specs.UnitPlaces.{types_fault, header_line_fault, event_record}
+use Rattle.crx_filter.specs.Items.{Item, Accepted, Warned, records_left, types_in_force}
+use Rattle.crx_filter.specs.UnitPlaces.{types_fault, header_line_fault}
 use Rattle.crx_filter.specs.Compacted.{is_interrupted, is_at_every, is_in_full, marked_epochs, epochs_accepted}
 use Rattle.crx_filter.specs.Expanded.{raws_kept, event_line, as_observation, compact_epoch_place, compact_place}
 use Rattle.crx_filter.specs.Laws.{AreInPlace}
 use Rattle.crx_filter.proofs.Resuming.{by_bool}
 use Rattle.crx_filter.proofs.Following.{body-place}
-use Rattle.crx_filter.proofs.FollowingLines.{record-place}
+use Rattle.crx_filter.proofs.Carried.{carried_unit, carried, header-same, start-same, left-same, count-same, types-same, header-here, record-here}
 
 -- an epoch with its mark
 abbrev pub marked_now : Option ℕ → List (Item Epoch) → Epoch → Marked
@@ -39,65 +38,15 @@ body_unit every before (EventLine line) = line ∷ []
 body_unit every before (EventRecord line) = line ∷ []
 body_unit every before (Observation epoch) = compact_epoch (marked_now every before epoch ∷ marked_epochs every before)
 
--- how a unit is read of compact text
+-- how an epoch is read of compact text
+abbrev pub known_back : Option ℕ → List (Item Epoch) → Epoch → ReadEpoch
+known_back every before epoch = read_of (marked_now every before epoch) (marked_epochs every before)
+
 abbrev pub unit_back : Option ℕ → List (Item Epoch) → FileUnit Epoch → FileUnit ReadEpoch
-unit_back every before (HeaderLine line) = HeaderLine line
-unit_back every before (EventLine line) = EventLine line
-unit_back every before (EventRecord line) = EventRecord line
-unit_back every before (Observation epoch) = Observation (read_of (marked_now every before epoch) (marked_epochs every before))
+unit_back every before unit = carried_unit (known_back every) before unit
 
 abbrev pub read_back : Option ℕ → List (Item Epoch) → List (Item ReadEpoch)
-read_back every [] = []
-read_back every (Accepted unit ∷ before) = Accepted (unit_back every before unit) ∷ read_back every before
-read_back every (Warned at ∷ before) = read_back every before
-
--- ---- the same state
-
-pub header-same : (every : Option ℕ) (items : List (Item Epoch)) → header_has_ended (read_back every items) ≡ header_has_ended items
-header-same every [] = refl
-header-same every (Accepted (HeaderLine line) ∷ before) = ap (λ b. is_end_of_header line || b) (header-same every before)
-header-same every (Accepted (EventLine line) ∷ before) = header-same every before
-header-same every (Accepted (EventRecord line) ∷ before) = header-same every before
-header-same every (Accepted (Observation epoch) ∷ before) = header-same every before
-header-same every (Warned at ∷ before) = header-same every before
-
-pub started : {E : Type 0} (items : List (Item E)) → header_has_ended items ≡ true → is_at_start items ≡ false
-started [] e = absurd (cc)
-started (item ∷ before) e = refl
-
-start-same : (every : Option ℕ) (items : List (Item Epoch)) → AreInPlace items → is_at_start (read_back every items) ≡ is_at_start items
-start-same every [] h = refl
-start-same every (Accepted unit ∷ before) h = refl
-start-same every (Warned at ∷ before) h = started (read_back every before) (header-same every before ∙ (h.0).0)
-
-pub left-same : (every : Option ℕ) (items : List (Item Epoch)) → AreInPlace items → records_left (read_back every items) ≡ records_left items
-left-same every [] h = refl
-left-same every (Accepted (HeaderLine line) ∷ before) h = refl
-left-same every (Accepted (EventLine line) ∷ before) h = refl
-left-same every (Accepted (EventRecord line) ∷ before) h = ap (λ n. n - 1) (left-same every before h.1)
-left-same every (Accepted (Observation epoch) ∷ before) h = refl
-left-same every (Warned at ∷ before) h = left-same every before h.1 ∙ (h.0).1
-
-count-same : (every : Option ℕ) (items : List (Item Epoch)) → AreInPlace items → 0 < records_left items → records_count_types (read_back every items) ≡ records_count_types items
-count-same every [] h some = refl
-count-same every (Accepted (HeaderLine line) ∷ before) h some = refl
-count-same every (Accepted (EventLine line) ∷ before) h some = refl
-count-same every (Accepted (EventRecord line) ∷ before) h some = count-same every before h.1 (h.0).1
-count-same every (Accepted (Observation epoch) ∷ before) h some = refl
-count-same every (Warned at ∷ before) h some = absurd (omega (arith, some))
-
-declares-same : (every : Option ℕ) (items : List (Item Epoch)) → AreInPlace items → declaring_lines (read_back every items) ≡ declaring_lines items
-declares-same every [] h = refl
-declares-same every (Accepted (HeaderLine line) ∷ before) h = ap (λ ls. ls ++ line ∷ []) (declares-same every before h.1)
-declares-same every (Accepted (EventLine line) ∷ before) h = declares-same every before h.1
-declares-same every (Accepted (EventRecord line) ∷ before) h =
-    ap (λ b. cond b (declaring_lines (read_back every before) ++ line ∷ []) (declaring_lines (read_back every before))) (count-same every before h.1 (h.0).1)
-    ∙ ap (λ ls. cond (records_count_types before) (ls ++ line ∷ []) ls) (declares-same every before h.1)
-declares-same every (Accepted (Observation epoch) ∷ before) h = declares-same every before h.1
-declares-same every (Warned at ∷ before) h = declares-same every before h.1
-
-types-same : (every : Option ℕ) (items : List (Item Epoch)) → AreInPlace items → types_in_force (read_back every items) ≡ types_in_force items
-types-same every items h = ap types_of (declares-same every items h)
+read_back every items = carried (known_back every) items
 
 -- ---- the epochs since the latest full one
 
@@ -157,9 +106,6 @@ epoch-stands every before epoch h =
 abbrev beginning : List (Item ReadEpoch) → List ReadLine → Place (FileUnit ReadEpoch)
 beginning items = compact_epoch_place (types_in_force items) (raws_kept items)
 
-header-here : (items : List (Item ReadEpoch)) (line : List ℕ) → header_has_ended items ≡ false → header_line_fault (is_at_start items) line ≡ None → compact_place items (Content line ∷ []) ≡ Here (HeaderLine line) 1
-header-here items line e f = rw (e, f) refl
-
 event-here : (line : List ℕ) (o : Option ℕ) → records_in line ≡ o → is_some o ≡ true → event_line {E = ReadEpoch} line ≡ Ok (EventLine line)
 event-here line None e h = absurd (cc)
 event-here line (Some count) e h = rw (e, event_line) refl
@@ -167,28 +113,20 @@ event-here line (Some count) e h = rw (e, event_line) refl
 event-begins : (types : List Count) (raws : List RawEpoch) (line : List ℕ) → is_event_line line ≡ true → is_some (records_in line) ≡ true → compact_epoch_place types raws (Content line ∷ []) ≡ Here (EventLine line) 1
 event-begins types raws line e h = let here = event-here line (records_in line) refl h in rw (e, here) refl
 
-record-read : (b : Bool) (line : List ℕ) → cond b (types_fault line) None ≡ None → first_line (Content line ∷ []) (event_record {E = ReadEpoch} b) ≡ Here (EventRecord line) 1
-record-read b line e = rw e refl
-
-record-here : (items : List (Item ReadEpoch)) (line : List ℕ) (left : ℕ) → header_has_ended items ≡ true → records_left items ≡ left → 0 < left → cond (records_count_types items) (types_fault line) None ≡ None
-    → compact_place items (Content line ∷ []) ≡ Here (EventRecord line) 1
-record-here items line zero ended e some good = absurd (omega (arith, some))
-record-here items line (suc left) ended e some good = record-place beginning items left (Content line ∷ []) ended e ∙ record-read (records_count_types items) line good
-
 epoch-begins : (types : List Count) (raws : List RawEpoch) (line : List ℕ) (rest : List ReadLine) → is_event_line line ≡ false → compact_epoch_place types raws (Content line ∷ rest) ≡ as_observation (epoch_at types raws (Content line ∷ rest))
 epoch-begins types raws line rest e = rw e refl
 
 pub unit-here : (every : Option ℕ) (before : List (Item Epoch)) (unit : FileUnit Epoch) → AreInPlace (Accepted unit ∷ before)
     → compact_place (read_back every before) (map Content (body_unit every before unit)) ≡ Here (unit_back every before unit) (length (body_unit every before unit))
 unit-here every before (HeaderLine line) h =
-    header-here (read_back every before) line (header-same every before ∙ (h.0).0)
-    (ap (λ b. header_line_fault b line) (start-same every before h.1) ∙ (h.0).1)
+    header-here beginning (read_back every before) line (header-same (known_back every) before ∙ (h.0).0)
+    (ap (λ b. header_line_fault b line) (start-same (known_back every) before h.1) ∙ (h.0).1)
 unit-here every before (EventLine line) h =
-    body-place beginning (read_back every before) (Content line ∷ []) (header-same every before ∙ (h.0).0) (left-same every before h.1 ∙ (h.0).1)
+    body-place beginning (read_back every before) (Content line ∷ []) (header-same (known_back every) before ∙ (h.0).0) (left-same (known_back every) before h.1 ∙ (h.0).1)
     ∙ event-begins (types_in_force (read_back every before)) (raws_kept (read_back every before)) line (h.0).2 (h.0).3
 unit-here every before (EventRecord line) h =
-    record-here (read_back every before) line (records_left before) (header-same every before ∙ (h.0).0) (left-same every before h.1) (h.0).1
-    (ap (λ b. cond b (types_fault line) None) (count-same every before h.1 (h.0).1) ∙ (h.0).2)
+    record-here beginning (read_back every before) line (records_left before) (header-same (known_back every) before ∙ (h.0).0) (left-same (known_back every) before h.1) (h.0).1
+    (ap (λ b. cond b (types_fault line) None) (count-same (known_back every) before h.1 (h.0).1) ∙ (h.0).2)
 unit-here every before (Observation epoch) h =
     let m : Marked = marked_now every before epoch in
     let older : List Marked = marked_epochs every before in
@@ -198,8 +136,8 @@ unit-here every before (Observation epoch) h =
     let reads : epoch_at (types_in_force before) raws (lines ++ []) ≡ Here (read_of m older) (2 + length epoch.rows) = EpochReadsBack.reads (epoch-back every before epoch h) [] in
     let kept : length (map (λ (r : Row). satellite_line (run_of r.name (m ∷ older)) r) epoch.rows) ≡ length epoch.rows = length-map epoch.rows (λ (r : Row). satellite_line (run_of r.name (m ∷ older)) r) in
     let counted : 2 + length epoch.rows ≡ length (compact_epoch (m ∷ older)) = omega (arith, kept) in
-    body-place beginning (read_back every before) lines (header-same every before ∙ (h.0).0) (left-same every before h.1 ∙ (h.0).1)
-    ∙ ap (λ types. compact_epoch_place types raws lines) (types-same every before h.1)
+    body-place beginning (read_back every before) lines (header-same (known_back every) before ∙ (h.0).0) (left-same (known_back every) before h.1 ∙ (h.0).1)
+    ∙ ap (λ types. compact_epoch_place types raws lines) (types-same (known_back every) before h.1)
     ∙ epoch-begins (types_in_force before) raws (epoch_line m older) (map Content (drop 1 (compact_epoch (m ∷ older)))) (stands.no_event).0
     ∙ ap (λ ls. as_observation (epoch_at (types_in_force before) raws ls)) (sym (append-nil lines))
     ∙ ap as_observation reads

@@ -1,8 +1,7 @@
 -- The lines that a compaction wrote, read one unit after another; and what an input's lines give to the lines that are copied.
-use Rattle.std.proofs.Common.{ℕ, zero, suc, ◌≡◌, ◌+◌, max, Bool, true, false, cond, List, [], ◌∷◌, ◌++◌, map, length, drop, Option, Some, None, Result, Ok, Err, ap, sym, ◌∙◌, arith, subst, length-append}
+use Rattle.std.proofs.Common.{ℕ, zero, suc, ◌+◌, max, Bool, true, false, cond, List, [], ◌∷◌, length, drop, Option, Some, None, Result, Ok, Err, sym, subst}
 use Rattle.std.specs.Prelude.{⊤, nat_lt, not}
 use Rattle.std.specs.List.{AllByRecursion}
-use Rattle.std.proofs.lemmas.List.{map-append, length-map, drop_all}
 use Rattle.crx_text.specs.Seen.{ReadLine, Content, Overlong}
 use Rattle.crx_text.specs.declared.fault.Fault.{Fault}
 use Rattle.crx_text.specs.declared.fault.At.{At}
@@ -14,54 +13,19 @@ use Rattle.crx_rinex.specs.ObservationTypes.{Count}
 use Rattle.crx_rinex.specs.EpochPlaces.{opened, begun_by, rest_at, unit_begun, epoch_place}
 use Rattle.crx_filter.specs.Items.{Item, Accepted, Warned, is_at_start, header_has_ended, records_left, records_count_types, types_in_force}
 use Rattle.crx_filter.specs.UnitPlaces.{unless_wrong, header_line_fault, types_fault, header_line, event_record}
-use Rattle.crx_filter.specs.Reading.{Reading, AtLines, is_skipped, can_go_on, looked_for, reading_within, reading_from, gone_on}
+use Rattle.crx_filter.specs.Reading.{Reading, is_skipped, can_go_on, looked_for, reading_within, reading_from}
 use Rattle.crx_filter.specs.Results.{written_lines}
 use Rattle.crx_filter.specs.Compacted.{rinex_place}
-use Rattle.crx_filter.specs.Expanded.{compact_place}
-use Rattle.crx_filter.specs.Laws.{IsReadForward, AreInPlace}
 use Rattle.crx_filter.specs.WayBack.{OfCopiedLine, OfCopiedLines}
-use Rattle.crx_filter.proofs.Resuming.{by_bool, by_place, within-here, within-wrong, within-wanted, fault-skipped, fault-ends, looked-here, looked-on, enough-units, resumed}
-use Rattle.crx_filter.proofs.ForwardCompact.{compact-forward}
+use Rattle.crx_filter.proofs.Resuming.{by_bool, by_place, within-here, within-wrong, within-wanted, fault-skipped, fault-ends, looked-here, looked-on}
 use Rattle.crx_filter.proofs.WayBackCut.{OfContent}
-use Rattle.crx_filter.proofs.WayBackItems.{body_unit, unit_back, read_back, unit-here}
+use Rattle.crx_filter.proofs.WayBackItems.{body_unit}
 
 -- ---- the lines written for the units, read again
 
 -- the lines of compact text after its first two
 abbrev pub lines_back : Option ℕ → List (Item Epoch) → List (List ℕ)
 lines_back every items = written_lines (body_unit every) items
-
--- one unit more, which takes all lines there
-one-unit : {E : Type 0} (place : List (Item E) → List ReadLine → Place (FileUnit E)) → IsReadForward place
-    → (skip : Bool) (items : List (Item E)) (number : ℕ) (lines : List ReadLine) (unit : FileUnit E) → place items lines ≡ Here unit (length lines)
-    → reading_from place skip items number lines ≡ record { items = Accepted unit ∷ items; stop = AtLines (number + length lines) [] }
-one-unit place h skip items number lines unit e =
-    let none : drop (length lines) lines ≡ [] = drop_all (length lines) lines (omega arith) in
-    enough-units place h skip (length lines + 1) (suc (suc (length lines))) items number lines (omega arith) (omega arith)
-    ∙ within-here place skip (suc (length lines)) items number lines unit (length lines) e
-    ∙ ap (λ ls. reading_within place skip (suc (length lines)) (Accepted unit ∷ items) (number + length lines) ls) none
-    ∙ within-wanted place skip (length lines) (Accepted unit ∷ items) (number + length lines) [] (h.wants (Accepted unit ∷ items))
-
-at-line : {E : Type 0} (items : List (Item E)) (m n : ℕ) → m ≡ n → ◌≡◌ {A = Reading E} (record { items = items; stop = AtLines m [] }) (record { items = items; stop = AtLines n [] })
-at-line items m n e = ap (λ k. record { items = items; stop = AtLines k [] }) e
-
-pub reads-back : (every : Option ℕ) (skip : Bool) (number : ℕ) (items : List (Item Epoch)) → AreInPlace items
-    → reading_from compact_place skip [] number (map Content (lines_back every items)) ≡ record { items = read_back every items; stop = AtLines (number + length (lines_back every items)) [] }
-reads-back every skip number [] h = at-line [] number (number + 0) (omega arith)
-reads-back every skip number (Warned at ∷ before) h = reads-back every skip number before h.1
-reads-back every skip number (Accepted unit ∷ before) h =
-    let first : List (List ℕ) = lines_back every before in
-    let more : List (List ℕ) = body_unit every before unit in
-    let one : ℕ = length (map Content more) in
-    let same : length (map Content more) ≡ length more = length-map more Content in
-    let all : length (first ++ more) ≡ length first + length more = length-append first more in
-    let here : compact_place (read_back every before) (map Content more) ≡ Here (unit_back every before unit) (length (map Content more)) =
-    unit-here every before unit h ∙ ap (λ n. Here (unit_back every before unit) n) (sym same) in
-    ap (λ ls. reading_from compact_place skip [] number ls) (map-append Content first more)
-    ∙ resumed compact_place compact-forward skip [] number (map Content first) (map Content more)
-    ∙ ap (λ r. gone_on compact_place skip r (map Content more)) (reads-back every skip number before h.1)
-    ∙ one-unit compact_place compact-forward skip (read_back every before) (number + length first) (map Content more) (unit_back every before unit) here
-    ∙ at-line (Accepted (unit_back every before unit) ∷ read_back every before) (number + length first + length (map Content more)) (number + length (first ++ more)) (omega (arith, same, all))
 
 -- ---- lines that are copied are lines of the input
 

@@ -1,16 +1,15 @@
 -- The work of a run, from line to line and at its end.
-use Rattle.std.proofs.Common.{◌≡◌, ◌⊎◌, inl, inr, ℕ, ◌+◌, Bool, true, false, ◌||◌, List, [], ◌∷◌, ◌++◌, length, Option, Some, None, refl, sym, ap, subst, ◌∙◌, arith, length-append}
+use Rattle.std.proofs.Common.{◌≡◌, inl, inr, ℕ, Bool, false, ◌||◌, List, [], ◌∷◌, ◌++◌, length, Some, refl, sym, ap, ◌∙◌, arith, length-append}
 use Rattle.crx_text.specs.Lines.{InputLine}
 use Rattle.crx_text.specs.Reading.{Reading}
 use Rattle.crx_text.specs.declared.fault.At.{At}
 use Rattle.crx_filter.specs.declared.taking.Halt.{Halt}
-use Rattle.crx_filter.specs.Filters.{Course, Filter}
+use Rattle.crx_filter.specs.Filters.{Filter}
 use Rattle.crx_filter.specs.Engines.{Awaited}
-use Rattle.crx_filter.specs.Messages.{notices_text}
-use Rattle.crx_filter.specs.Taking.{Device, TookAll, IsDone, IsHalted, are_some}
-use Rattle.crx_filter.specs.Running.{Input, IsRunning, GoesOnBy, ComesToEnd, StopsAt, EndsBy, WellDone, StoppedByReader, StoppedByLine, StoppedByEnd, WorkEnds}
+use Rattle.crx_filter.specs.Taking.{Device, IsDone, IsHalted, are_some}
+use Rattle.crx_filter.specs.Running.{Input, IsRunning, GoesOnBy, ComesToEnd, StopsAt, WellDone, StoppedByEnd, WorkEnds}
 use Rattle.crx_filter.proofs.TakingTwice.{cut-once}
-use Rattle.crx_filter.proofs.RunningSteps.{ends-at, more-written, more-told}
+use Rattle.crx_filter.proofs.RunningSteps.{ends-at, more-written, more-reported}
 
 are-some-append : (xs ys : List At) → are_some (xs ++ ys) ≡ (are_some xs || are_some ys)
 are-some-append [] ys = refl
@@ -35,9 +34,9 @@ module _ (filter : Filter) (shows : List InputLine → List Awaited → Type 0) 
   last-line : last ≡ length lines
   last-line = last_is ∙ comes.running.read.number
 
-  pub well-done : (shown : Type 0) (warned warning both : Bool) → warned ≡ are_some (filter.so_far lines).warnings → both ≡ (warned || warning)
-      → IsDone (filter.so_far lines) (filter.whole lines) shown writer2 messages2 [] warning → WellDone filter input writer messages now last both
-  well-done shown warned warning both flag is done =
+  pub well-done : (has_ended : List InputLine → Type 0) (warned warning both : Bool) → warned ≡ are_some (filter.so_far lines).warnings → both ≡ (warned || warning)
+      → IsDone (filter.so_far lines) (filter.whole lines) (has_ended lines) writer2 messages2 [] warning → WellDone filter has_ended input writer messages now last both
+  well-done has_ended warned warning both flag is done =
       let before = filter.so_far lines in
       let after = filter.whole lines in
       record {
@@ -45,13 +44,14 @@ module _ (filter : Filter) (shows : List InputLine → List Awaited → Type 0) 
         read = comes.running.read;
         ended = comes.ended;
         good = done.adds.good;
-        wrote = more-written before after writer1 writer2 writer messages1 messages2 messages wsame wstart wend wjoined msame mstart mend mjoined comes.running.wrote comes.running.told done.text done.wrote done.adds.output;
-        told = more-told before after writer1 writer2 writer messages1 messages2 messages wsame wstart wend wjoined msame mstart mend mjoined comes.running.wrote comes.running.told done.notices after.warnings done.told done.adds.warnings;
+        wrote = more-written before after writer1 writer2 writer messages1 messages2 messages wsame wstart wend wjoined msame mstart mend mjoined comes.running.wrote comes.running.reported done.text done.wrote done.adds.output;
+        reported = more-reported before after writer1 writer2 writer messages1 messages2 messages wsame wstart wend wjoined msame mstart mend mjoined comes.running.wrote comes.running.reported done.notices after.warnings done.reported done.adds.warnings;
         flag = is ∙ flag-after before.warnings done.notices after.warnings warned warning flag done.flag done.adds.warnings;
+        engine_ended = done.is_shown;
         last_is = last-line;
       }
 
-  pub stopped-end : (halt : Halt) → IsHalted (filter.so_far lines) (filter.whole lines) (length lines) writer2 messages2 [] halt → StoppedByEnd filter input writer messages now last halt
+  pub stopped-end : (halt : Halt) → IsHalted (filter.so_far lines) (filter.whole lines) false (length lines) writer2 messages2 [] halt → StoppedByEnd filter input writer messages now last halt
   stopped-end halt h =
       let before = filter.so_far lines in
       let after = filter.whole lines in
@@ -59,15 +59,15 @@ module _ (filter : Filter) (shows : List InputLine → List Awaited → Type 0) 
         lines = lines;
         read = comes.running.read;
         ended = comes.ended;
-        ends = ends-at before after writer1 writer2 writer messages1 messages2 messages wsame wstart wend wjoined msame mstart mend mjoined comes.running.wrote comes.running.told (length lines) halt
-            (cut-once before after (length lines) writer2 messages2 halt h);
+        ends = ends-at before after writer1 writer2 writer messages1 messages2 messages wsame wstart wend wjoined msame mstart mend mjoined comes.running.wrote comes.running.reported false (length lines) halt
+            (cut-once before after false (length lines) writer2 messages2 halt h);
         last_is = last-line;
       }
 
 -- a line or the reader ended it
-pub stopped-on : (filter : Filter) (input : Input) (writer messages : Device) (now : Reading) (lines : List InputLine) (last : ℕ) (warned : Bool) (halt : Halt) → last ≡ now.number
-    → StopsAt filter input writer messages now lines halt → WorkEnds filter input writer messages now last warned (Some halt)
-stopped-on filter input writer messages now lines last warned halt is (inl s) =
+pub stopped-on : (filter : Filter) (has_ended : List InputLine → Type 0) (input : Input) (writer messages : Device) (now : Reading) (lines : List InputLine) (last : ℕ) (warned : Bool) (halt : Halt) → last ≡ now.number
+    → StopsAt filter input writer messages now lines halt → WorkEnds filter has_ended input writer messages now last warned (Some halt)
+stopped-on filter has_ended input writer messages now lines last warned halt is (inl s) =
     inl (record { lines = lines; at = s.0; halt_is = s.1; stopped = s.2; last_is = is ∙ s.2.read.number })
-stopped-on filter input writer messages now lines last warned halt is (inr s) =
+stopped-on filter has_ended input writer messages now lines last warned halt is (inr s) =
     inr (inl (record { lines = lines; ends = s; last_is = omega (arith, is, s.read.number, length-append lines (s.line ∷ [])) }))

@@ -32,7 +32,7 @@ made_of_beginning types (Ok (EventBegins line)) = Completes (EventLine line)
 made_of_beginning types (Ok (EpochBegins head)) = made_of_step (whole_or_going (opened types head))
 
 -- where an epoch or an event may begin
-abbrev pub rinex_begins : List Count → Written → ReadLine → Made Epoch OpenEpoch
+abbrev pub rinex_begins : {K : Type 0} → List Count → K → ReadLine → Made Epoch OpenEpoch
 rinex_begins types kept line = made_of_line (λ content. made_of_beginning types (beginning_of content)) line
 
 -- in an epoch

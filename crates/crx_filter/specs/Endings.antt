@@ -1,19 +1,13 @@
 -- How a run is finished once its work has ended: the writer is flushed, and the fault is reported.
-use Rattle.std.specs.Prelude.{◌≡◌, ◌⊎◌, ◌<◌, ◌≤◌, ◌-◌, ◌^◌, ℕ, ◌+◌, Bool, true, false, List, [], ◌∷◌, ◌++◌, length, Option, Some, None, if◌then◌else◌}
-use Rattle.crx_text.specs.Devices.{Tally, one_more}
-use Rattle.crx_text.specs.Lines.{InputLine, lines_of}
-use Rattle.crx_text.specs.Reading.{Reading}
+use Rattle.std.specs.Prelude.{◌≡◌, ◌⊎◌, ℕ, Bool, [], Option, Some, None, if◌then◌else◌}
+use Rattle.crx_text.specs.Devices.{one_more}
 use Rattle.crx_text.specs.declared.fault.At.{At}
-use Rattle.crx_text.specs.declared.fault.Fault.{Fault}
-use Rattle.crx_text.specs.declared.fault.Fault.TheVariants.{WriteFailed, OutOfMemory}
-use Rattle.crx_text.specs.declared.limits.TheConstants.{INPUT_LIMIT}
+use Rattle.crx_text.specs.declared.fault.Fault.TheVariants.{WriteFailed}
 use Rattle.crx_filter.specs.declared.taking.Halt.{Halt}
 use Rattle.crx_filter.specs.declared.taking.Halt.TheVariants.{Unwritten, Unreported}
 use Rattle.crx_filter.specs.declared.taking.Halt.TheVariants as halt
-use Rattle.crx_filter.specs.Filters.{Course, Filter}
-use Rattle.crx_filter.specs.Messages.{error_text, notices_text}
-use Rattle.crx_filter.specs.Taking.{Device, TookAll, TookPart, are_some}
-use Rattle.crx_filter.specs.Running.{Input, WorkEnds}
+use Rattle.crx_filter.specs.Messages.{error_text}
+use Rattle.crx_filter.specs.Taking.{Device, TookAll, TookPart}
 
 -- a write that failed, at the last line that was read
 abbrev pub write_failed_at : ℕ → At

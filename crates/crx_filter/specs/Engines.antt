@@ -1,6 +1,6 @@
 -- What an engine answers, line by line.
-use Rattle.std.specs.Prelude.{◌≡◌, ◌⊎◌, ℕ, ◌+◌, ⊤, Bool, true, false, List, [], ◌∷◌, ◌++◌, length, Option, Some, None, Result, Ok, Err}
-use Rattle.crx_text.specs.Lines.{InputLine, is_long}
+use Rattle.std.specs.Prelude.{◌≡◌, ◌⊎◌, ℕ, ◌+◌, ⊤, true, false, List, [], ◌∷◌, ◌++◌, length, Some, None, Result, Ok, Err}
+use Rattle.crx_text.specs.Lines.{InputLine}
 use Rattle.crx_text.specs.declared.fault.At.{At}
 use Rattle.crx_text.specs.declared.fault.Fault.TheVariants.{OutOfMemory}
 use Rattle.crx_filter.specs.Filters.{Course, Filter, lines_text}
@@ -55,6 +55,12 @@ abbrev pub IsAwaited : List Awaited → InputLine → Type 0
 IsAwaited [] line = ⊤
 IsAwaited (a ∷ others) line = a.line ≡ line
 
+-- memory ran out at a line that may take some
+pub record RunsOutAt (filter : Filter) (lines : List InputLine) (line : InputLine) (at : At) : Type 0 where
+  pub fault : at.fault ≡ OutOfMemory
+  pub place : at.line ≡ length lines + 1
+  pub allowed : filter.may_take_memory lines line ≡ true
+
 -- what an engine answers to a line. It showed these lines, and where the line comes a second time the warning of the first
 -- time: nothing, lines to be lent, a warning with the line or before it comes a second time, or a fault
 abbrev pub Answers : Filter → (List InputLine → List Awaited → Type 0) → List (List ℕ) → List InputLine → List Awaited → InputLine → Result Step At → Type 0
@@ -67,7 +73,7 @@ Answers filter shows ready lines notices line (Ok (Warned notice true)) =
 Answers filter shows ready lines notices line (Ok (Warned notice false)) =
     shows (with_next lines line) [] × GoesOn (filter.so_far lines) (filter.so_far (with_next lines line)) [] (notices_of notices ++ notice ∷ [])
 Answers filter shows ready lines notices line (Err at) =
-    ((at.fault ≡ OutOfMemory) × (at.line ≡ length lines + 1)) ⊎ EndsWith (filter.so_far lines) (filter.so_far (with_next lines line)) (notices_of notices) at
+    RunsOutAt filter lines line at ⊎ EndsWith (filter.so_far lines) (filter.so_far (with_next lines line)) (notices_of notices) at
 
 -- what an engine answers at the end of the input, after these lines
 abbrev pub Concludes : Filter → List (List ℕ) → List InputLine → Result Step At → Type 0

@@ -1,5 +1,5 @@
 -- What a filter is to write and to report, for the lines of an input that have come so far and for all of them.
-use Rattle.std.specs.Prelude.{◌≡◌, ℕ, List, [], ◌∷◌, ◌++◌, Option, Some, None}
+use Rattle.std.specs.Prelude.{ℕ, Bool, List, Option}
 pub use Rattle.crx_filter.specs.Results.{lines_text}
 use Rattle.crx_text.specs.Lines.{InputLine}
 use Rattle.crx_text.specs.declared.fault.At.{At}
@@ -10,7 +10,9 @@ pub record Course : Type 0 where
   pub warnings : List At
   pub fault : Option At
 
--- what is to be written and reported for the lines so far, the end of the input not being judged, and for all lines
+-- what is to be written and reported for the lines so far, the end of the input not being judged, and for all lines; and whether
+-- a line after some others may take memory, so that it may run out there
 pub record Filter : Type 0 where
   pub so_far : List InputLine → Course
   pub whole : List InputLine → Course
+  pub may_take_memory : List InputLine → InputLine → Bool

@@ -1,10 +1,11 @@
 -- A run between two lines, and how it goes on or ends.
-use Rattle.std.specs.Prelude.{◌≡◌, ◌⊎◌, ◌<◌, ◌≤◌, ⊤, ℕ, ◌+◌, Bool, true, false, List, [], ◌∷◌, ◌++◌, length, take, Option, Some, None, Result, Ok, Err}
+use Rattle.std.specs.Prelude.{◌≡◌, ◌⊎◌, ◌<◌, ◌≤◌, ℕ, ◌+◌, Bool, true, false, List, [], ◌++◌, length, take, Option, Some, None}
 use Rattle.crx_text.specs.Devices.{Tally, one_more}
 use Rattle.crx_text.specs.Lines.{InputLine}
 use Rattle.crx_text.specs.Reading.{Reading}
 use Rattle.crx_text.specs.Progress.{HasRead}
 use Rattle.crx_text.specs.declared.fault.At.{At}
+use Rattle.crx_text.specs.declared.limits.TheConstants.{INPUT_LIMIT}
 use Rattle.crx_text.specs.declared.phase.Phase.TheVariants.{Open, Ended, Stopped}
 use Rattle.crx_text.specs.declared.fault.Fault.TheVariants.{OutOfMemory}
 use Rattle.crx_filter.specs.declared.taking.Halt.{Halt}
@@ -12,7 +13,7 @@ use Rattle.crx_filter.specs.declared.taking.Halt.TheVariants.{Fault, Unwritten, 
 use Rattle.crx_filter.specs.Filters.{Course, Filter}
 use Rattle.crx_filter.specs.Engines.{Awaited, with_next}
 use Rattle.crx_filter.specs.Messages.{notices_text}
-use Rattle.crx_filter.specs.Taking.{Device, TookAll, TookPart, AreNext, are_some}
+use Rattle.crx_filter.specs.Taking.{Device, TookAll, AreNext, are_some}
 
 -- the reader between two moments: which bytes it may have given in between, whether it stands at its end, and its counts
 pub record Input : Type 1 where
@@ -27,7 +28,11 @@ pub record IsRunning (input : Input) (writer messages : Device) (now : Reading) 
   pub going : (now.phase ≡ Open) ⊎ (now.phase ≡ Ended)
   pub good : course.fault ≡ None
   pub wrote : TookAll writer course.output
-  pub told : TookAll messages (notices_text course.warnings)
+  pub reported : TookAll messages (notices_text course.warnings)
+
+-- each line so far had a byte at least, and all were within the limit of an input
+abbrev pub IsWithinLimit : Reading → Type 0
+IsWithinLimit now = (now.number ≤ now.lent) × (now.lent ≤ INPUT_LIMIT)
 
 -- ---- how a run ends
 
@@ -37,22 +42,23 @@ pub record ReaderStopped (input : Input) (writer messages : Device) (now : Readi
   pub read : HasRead input.gave input.at_end input.start input.counted now lines
   pub stopped : now.phase ≡ Stopped at
   pub wrote : TookAll writer course.output
-  pub told : TookAll messages (notices_text course.warnings)
+  pub reported : TookAll messages (notices_text course.warnings)
 
--- memory ran out at a line: all before it was written and reported, and of its own warnings the first, if any
-pub record MemoryRanOut (number : ℕ) (writer messages : Device) (before after : Course) (at : At) : Type 0 where
+-- memory ran out at a line that may take some: all before it was written and reported, and of its own warnings the first, if any
+pub record MemoryRanOut (memory : Bool) (number : ℕ) (writer messages : Device) (before after : Course) (at : At) : Type 0 where
+  pub allowed : memory ≡ true
   pub fault : at.fault ≡ OutOfMemory
   pub place : at.line ≡ number
   pub notices : List At
   pub next : (notices ≡ []) ⊎ AreNext before after notices
   pub wrote : TookAll writer before.output
-  pub told : TookAll messages (notices_text (before.warnings ++ notices))
+  pub reported : TookAll messages (notices_text (before.warnings ++ notices))
 
 -- a fault ended it, and all that is due was written and reported
 pub record FaultFound (writer messages : Device) (after : Course) (at : At) : Type 0 where
   pub fault : after.fault ≡ Some at
   pub wrote : TookAll writer after.output
-  pub told : TookAll messages (notices_text after.warnings)
+  pub reported : TookAll messages (notices_text after.warnings)
 
 -- a text was written in part: all before it, and not all with it
 pub record IsPart (device : Device) (before after : List ℕ) : Type 0 where
@@ -66,17 +72,17 @@ pub record IsPart (device : Device) (before after : List ℕ) : Type 0 where
 pub record WritingFailed (writer messages : Device) (before after : Course) : Type 0 where
   pub good : after.fault ≡ None
   pub wrote : IsPart writer before.output after.output
-  pub told : TookAll messages (notices_text after.warnings)
+  pub reported : TookAll messages (notices_text after.warnings)
 
 -- its warnings couldn't be written whole
 pub record ReportingFailed (writer messages : Device) (before after : Course) : Type 0 where
   pub wrote : TookAll writer before.output
-  pub told : IsPart messages (notices_text before.warnings) (notices_text after.warnings)
+  pub reported : IsPart messages (notices_text before.warnings) (notices_text after.warnings)
 
-abbrev pub EndsAt : ℕ → Device → Device → Course → Course → Halt → Type 0
-EndsAt number writer messages before after (Fault at) = MemoryRanOut number writer messages before after at ⊎ FaultFound writer messages after at
-EndsAt number writer messages before after Unwritten = WritingFailed writer messages before after
-EndsAt number writer messages before after Unreported = ReportingFailed writer messages before after
+abbrev pub EndsAt : Bool → ℕ → Device → Device → Course → Course → Halt → Type 0
+EndsAt memory number writer messages before after (Fault at) = MemoryRanOut memory number writer messages before after at ⊎ FaultFound writer messages after at
+EndsAt memory number writer messages before after Unwritten = WritingFailed writer messages before after
+EndsAt memory number writer messages before after Unreported = ReportingFailed writer messages before after
 
 -- ---- one step over the input
 
@@ -104,7 +110,7 @@ pub record EndsBy (filter : Filter) (input : Input) (writer messages : Device) (
   pub line : InputLine
   pub read : HasRead input.gave input.at_end input.start input.counted now (with_next lines line)
   pub going : (now.phase ≡ Open) ⊎ (now.phase ≡ Ended)
-  pub ends : EndsAt (length lines + 1) writer messages (filter.so_far lines) (filter.so_far (with_next lines line)) halt
+  pub ends : EndsAt (filter.may_take_memory lines line) (length lines + 1) writer messages (filter.so_far lines) (filter.so_far (with_next lines line)) halt
 
 -- the reader's fault ended it, or a line
 abbrev pub StopsAt : Filter → Input → Device → Device → Reading → List InputLine → Halt → Type 0
@@ -115,14 +121,15 @@ StopsAt filter input writer messages now lines halt =
 -- ---- the work of a run: all lines, and the end
 
 -- where the work ended: the last line's number, whether a warning was reported, and what ended it before the input's end
-pub record WellDone (filter : Filter) (input : Input) (writer messages : Device) (now : Reading) (last : ℕ) (warned : Bool) : Type 0 where
+pub record WellDone (filter : Filter) (has_ended : List InputLine → Type 0) (input : Input) (writer messages : Device) (now : Reading) (last : ℕ) (warned : Bool) : Type 0 where
   pub lines : List InputLine
   pub read : HasRead input.gave input.at_end input.start input.counted now lines
   pub ended : now.phase ≡ Ended
   pub good : (filter.whole lines).fault ≡ None
   pub wrote : TookAll writer (filter.whole lines).output
-  pub told : TookAll messages (notices_text (filter.whole lines).warnings)
+  pub reported : TookAll messages (notices_text (filter.whole lines).warnings)
   pub flag : warned ≡ are_some (filter.whole lines).warnings
+  pub engine_ended : has_ended lines
   pub last_is : last ≡ length lines
 
 -- the reader's fault ended it
@@ -144,7 +151,7 @@ pub record StoppedByEnd (filter : Filter) (input : Input) (writer messages : Dev
   pub lines : List InputLine
   pub read : HasRead input.gave input.at_end input.start input.counted now lines
   pub ended : now.phase ≡ Ended
-  pub ends : EndsAt (length lines) writer messages (filter.so_far lines) (filter.whole lines) halt
+  pub ends : EndsAt false (length lines) writer messages (filter.so_far lines) (filter.whole lines) halt
   pub last_is : last ≡ length lines
 
 -- memory ran out before the first line was asked for
@@ -153,12 +160,12 @@ pub record StoppedAtStart (input : Input) (writer messages : Device) (last : ℕ
   pub gave : input.gave []
   pub counts : input.counted ≡ input.start
   pub wrote : TookAll writer []
-  pub told : TookAll messages []
+  pub reported : TookAll messages []
   pub last_is : last ≡ 0
 
-abbrev pub WorkEnds : Filter → Input → Device → Device → Reading → ℕ → Bool → Option Halt → Type 0
-WorkEnds filter input writer messages now last warned None = WellDone filter input writer messages now last warned
-WorkEnds filter input writer messages now last warned (Some halt) =
+abbrev pub WorkEnds : Filter → (List InputLine → Type 0) → Input → Device → Device → Reading → ℕ → Bool → Option Halt → Type 0
+WorkEnds filter has_ended input writer messages now last warned None = WellDone filter has_ended input writer messages now last warned
+WorkEnds filter has_ended input writer messages now last warned (Some halt) =
     StoppedByReader filter input writer messages now last halt
     ⊎ (StoppedByLine filter input writer messages now last halt
     ⊎ (StoppedByEnd filter input writer messages now last halt

@@ -6,7 +6,8 @@ use Rattle.std.specs.Str.{bytes_eq}
 use Rattle.crx_text.specs.Columns.{columns, without_blanks}
 use Rattle.crx_text.specs.Lines.{InputLine, lines_of}
 use Rattle.crx_text.specs.Seen.{seen}
-use Rattle.crx_rinex.specs.Observations.{Row, Epoch}
+use Rattle.crx_text.specs.declared.fault.At.{At}
+use Rattle.crx_rinex.specs.Observations.{Epoch, observations_in}
 use Rattle.crx_rinex.specs.Units.{HeaderLine, EventLine, EventRecord, Observation, printed_unit}
 use Rattle.crx_rinex.specs.ObservationTypes.{Count}
 use Rattle.crx_filter.specs.Items.{Item, Accepted, Warned, types_in_force}
@@ -19,9 +20,13 @@ use Rattle.crx_filter.specs.Compacted.{epochs_accepted, whole_rinex}
 abbrev pub printed_items : List (Item Epoch) → List (List ℕ)
 printed_items items = written_lines (λ (before : List (Item Epoch)). printed_unit) items
 
--- the reading of a whole input, nothing being skipped
+-- the reading of all lines of a file, nothing being skipped
+abbrev pub whole_reading_of : List InputLine → WholeReading Epoch
+whole_reading_of lines = whole_rinex false (map seen lines)
+
+-- the reading of a whole input
 abbrev pub whole_of : List ℕ → WholeReading Epoch
-whole_of input = whole_rinex false (map seen (lines_of input))
+whole_of input = whole_reading_of (lines_of input)
 
 -- a standard file is read to its good end; each of its lines ends with LF and no CR before it; and printing gives back its
 -- lines: header lines, event lines and records as they are, an epoch line and satellite lines with each number in its one
@@ -42,6 +47,10 @@ abbrev pub first_header_line : List (List ℕ) → List ℕ
 first_header_line [] = []
 first_header_line (line ∷ lines) = line
 
+-- the version in columns 1 to 9 of that line, without the blanks at both ends
+abbrev pub version_in : List ℕ → List ℕ
+version_in line = without_blanks (columns line 1 9)
+
 -- a system's letter and its count of types
 abbrev pub count_text : Count → List ℕ
 count_text c = codes " " ++ c.0 ∷ codes " " ++ decimal c.1
@@ -59,23 +68,13 @@ events_accepted (Accepted (EventRecord line) ∷ before) = events_accepted befor
 events_accepted (Accepted (Observation epoch) ∷ before) = events_accepted before
 events_accepted (Warned at ∷ before) = events_accepted before
 
--- how many values are there
-abbrev pub count_present : List (Option ℤ) → ℕ
-count_present [] = 0
-count_present (None ∷ values) = count_present values
-count_present (Some value ∷ values) = count_present values + 1
-
-abbrev pub observations_in : List Row → ℕ
-observations_in [] = 0
-observations_in (row ∷ rows) = count_present row.values + observations_in rows
-
 -- how many values of the accepted epochs aren't missing; the clock is none of them
 abbrev pub observations_accepted : List (Item Epoch) → ℕ
 observations_accepted [] = 0
 observations_accepted (Accepted (HeaderLine line) ∷ before) = observations_accepted before
 observations_accepted (Accepted (EventLine line) ∷ before) = observations_accepted before
 observations_accepted (Accepted (EventRecord line) ∷ before) = observations_accepted before
-observations_accepted (Accepted (Observation epoch) ∷ before) = observations_accepted before + observations_in epoch.rows
+observations_accepted (Accepted (Observation epoch) ∷ before) = observations_accepted before + observations_in epoch
 observations_accepted (Warned at ∷ before) = observations_accepted before
 
 -- a line that ends with LF and no CR before it, and that printing gives back
@@ -92,27 +91,43 @@ abbrev pub standard_text : Option ℕ → List ℕ
 standard_text None = codes " yes"
 standard_text (Some number) = codes " no " ++ decimal number
 
--- where a file that is read to its good end is not standard
-abbrev pub not_standard_at : List ℕ → Option ℕ
-not_standard_at input = first_not_standard 1 (lines_of input) (printed_items (whole_of input).items)
+-- what a check finds: the version; the systems and their counts of types at the end of the file, in order of first appearance; how
+-- many epochs, events and observations were accepted; and the number of the first line that isn't standard, if there is one
+pub record Findings : Type 0 where
+  pub version : List ℕ
+  pub systems : List Count
+  pub epochs : ℕ
+  pub events : ℕ
+  pub observations : ℕ
+  pub not_standard : Option ℕ
 
--- the six lines of the report: the version of line 1, the systems and their counts of types at the end of the file in order
--- of first appearance, the accepted epochs, events and observations, and whether the file is standard
-abbrev pub report_lines : List ℕ → List (List ℕ)
-report_lines input =
-    let items : List (Item Epoch) = (whole_of input).items in
-    let first : List ℕ = first_header_line (printed_items items) in
-    (codes "format " ++ without_blanks (columns first 1 9))
-    ∷ (codes "systems" ++ systems_text (types_in_force items))
-    ∷ (codes "epochs " ++ decimal (epochs_accepted items))
-    ∷ (codes "events " ++ decimal (events_accepted items))
-    ∷ (codes "observations " ++ decimal (observations_accepted items))
-    ∷ (codes "standard" ++ standard_text (not_standard_at input))
+-- what is found in a file that is read to its good end, by its lines
+abbrev pub findings_of : List InputLine → Findings
+findings_of lines =
+    let items : List (Item Epoch) = (whole_reading_of lines).items in
+    record {
+      version = version_in (first_header_line (printed_items items));
+      systems = types_in_force items;
+      epochs = epochs_accepted items;
+      events = events_accepted items;
+      observations = observations_accepted items;
+      not_standard = first_not_standard 1 lines (printed_items items);
+    }
+
+-- the six lines of a report
+abbrev pub report_lines : Findings → List (List ℕ)
+report_lines found =
+    (codes "format " ++ found.version)
+    ∷ (codes "systems" ++ systems_text found.systems)
+    ∷ (codes "epochs " ++ decimal found.epochs)
+    ∷ (codes "events " ++ decimal found.events)
+    ∷ (codes "observations " ++ decimal found.observations)
+    ∷ (codes "standard" ++ standard_text found.not_standard)
     ∷ []
 
 -- the report of a file that is read to its good end
 abbrev pub report_of : List ℕ → List ℕ
-report_of input = lines_text (report_lines input)
+report_of input = lines_text (report_lines (findings_of (lines_of input)))
 
 -- the report is written once the whole input is accepted, and nothing before; 0 where the file is standard, 2 where it isn't, 1
 -- after a fault
@@ -120,9 +135,10 @@ abbrev pub report_status : Option ℕ → ℕ
 report_status None = 0
 report_status (Some number) = 2
 
--- the check of an input
+-- the check of an input: by the fault of its reading, if there is one, and by what there is to find
+abbrev pub checked_by : Option At → Findings → FilterResult
+checked_by None found = record { output = lines_text (report_lines found); messages = []; status = report_status found.not_standard; fault = None }
+checked_by (Some at) found = record { output = []; messages = error_text (Some at); status = 1; fault = Some at }
+
 abbrev pub checked : List ℕ → FilterResult
-checked input = elim ((whole_of input).fault) [
-  | None ↦ record { output = report_of input; messages = []; status = report_status (not_standard_at input); fault = None }
-  | Some at ↦ record { output = []; messages = error_text (Some at); status = 1; fault = Some at }
-]
+checked input = checked_by (whole_of input).fault (findings_of (lines_of input))

@@ -1,5 +1,5 @@
 -- What becomes of one line of the input.
-use Rattle.std.specs.Prelude.{◌≡◌, ◌⊎◌, ◌<◌, ◌≤◌, ℕ, ◌+◌, Bool, true, false, List, [], ◌∷◌, ◌++◌, length, take, Option, Some, None, Result, Ok, Err}
+use Rattle.std.specs.Prelude.{◌≡◌, ◌⊎◌, ◌<◌, ℕ, Bool, true, false, List, [], ◌∷◌, ◌++◌, length, take, None}
 use Rattle.crx_text.specs.Devices.{one_more}
 use Rattle.crx_text.specs.Lines.{InputLine, is_long}
 use Rattle.crx_text.specs.Reading.{line_shown, line_number}
@@ -14,8 +14,8 @@ use Rattle.crx_filter.specs.declared.taking.Taken.TheVariants.{Line, Overlong}
 use Rattle.crx_filter.specs.declared.taking.Once.{Once}
 use Rattle.crx_filter.specs.declared.taking.Once.TheVariants.{Done, Again}
 use Rattle.crx_filter.specs.Filters.{Course, Filter}
-use Rattle.crx_filter.specs.Engines.{Awaited, notices_of as warnings_awaited, with_next, IsNext, EndsWith}
-use Rattle.crx_filter.specs.Messages.{warning_text, notices_text}
+use Rattle.crx_filter.specs.Engines.{Awaited, notices_of as warnings_awaited, with_next, EndsWith}
+use Rattle.crx_filter.specs.Messages.{notices_text}
 
 -- the line that was taken is this one
 abbrev pub TakenIs : Taken → InputLine → Type 0
@@ -85,7 +85,7 @@ pub record IsDone (before after : Course) (shown : Type 0) (writer messages : De
   pub notices : List At
   pub adds : Adds before after text (earlier ++ notices)
   pub wrote : TookAll writer text
-  pub told : TookAll messages (notices_text notices)
+  pub reported : TookAll messages (notices_text notices)
   pub flag : warned ≡ are_some notices
 
 -- a line is to come again after a warning
@@ -95,7 +95,7 @@ pub record IsAgain (before after : Course) (line : InputLine) (shows : List Awai
   pub none : earlier ≡ []
   pub next : AreNext before after (notice ∷ [])
   pub wrote : TookAll writer []
-  pub told : TookAll messages (notices_text (notice ∷ []))
+  pub reported : TookAll messages (notices_text (notice ∷ []))
 
 abbrev pub IsOnce : Filter → (List InputLine → List Awaited → Type 0) → Device → Device → List InputLine → List Awaited → InputLine → Once → Type 0
 IsOnce filter shows writer messages lines earlier line (Done warned) =
@@ -103,53 +103,55 @@ IsOnce filter shows writer messages lines earlier line (Done warned) =
 IsOnce filter shows writer messages lines earlier line Again =
     IsAgain (filter.so_far lines) (filter.so_far (with_next lines line)) line (shows lines) writer messages (warnings_awaited earlier)
 
--- memory ran out at a line
-pub record RunsOut (writer messages : Device) (number : ℕ) (at : At) : Type 0 where
+-- memory ran out at a line that may take some
+pub record RunsOut (memory : Bool) (writer messages : Device) (number : ℕ) (at : At) : Type 0 where
+  pub allowed : memory ≡ true
   pub fault : at.fault ≡ OutOfMemory
   pub line : at.line ≡ number
   pub wrote : TookAll writer []
-  pub told : TookAll messages []
+  pub reported : TookAll messages []
 
 pub record IsFaulty (before after : Course) (writer messages : Device) (earlier : List At) (at : At) : Type 0 where
   pub ends : EndsWith before after earlier at
   pub wrote : TookAll writer []
-  pub told : TookAll messages []
+  pub reported : TookAll messages []
 
 pub record IsUnwritten (before after : Course) (writer messages : Device) (earlier : List At) : Type 0 where
   pub text : List ℕ
   pub adds : Adds before after text earlier
   pub wrote : TookPart writer text
-  pub told : TookAll messages []
+  pub reported : TookAll messages []
 
 pub record IsUnreported (before after : Course) (writer messages : Device) (earlier : List At) : Type 0 where
   pub notice : At
   pub next : AreNext before after (earlier ++ notice ∷ [])
   pub wrote : TookAll writer []
-  pub told : TookPart messages (notices_text (notice ∷ []))
+  pub reported : TookPart messages (notices_text (notice ∷ []))
 
--- a line that was given once ended the run
-abbrev pub IsHalted : Course → Course → ℕ → Device → Device → List At → Halt → Type 0
-IsHalted before after number writer messages earlier (Fault at) = RunsOut writer messages number at ⊎ IsFaulty before after writer messages earlier at
-IsHalted before after number writer messages earlier Unwritten = IsUnwritten before after writer messages earlier
-IsHalted before after number writer messages earlier Unreported = IsUnreported before after writer messages earlier
+-- a line that was given once, and may take memory or not, ended the run
+abbrev pub IsHalted : Course → Course → Bool → ℕ → Device → Device → List At → Halt → Type 0
+IsHalted before after memory number writer messages earlier (Fault at) = RunsOut memory writer messages number at ⊎ IsFaulty before after writer messages earlier at
+IsHalted before after memory number writer messages earlier Unwritten = IsUnwritten before after writer messages earlier
+IsHalted before after memory number writer messages earlier Unreported = IsUnreported before after writer messages earlier
 
 -- ---- a line that may come twice
 
 -- memory ran out for a line, after the first warnings that it adds, if any
-pub record IsOutOfMemory (before after : Course) (number : ℕ) (writer messages : Device) (at : At) : Type 0 where
+pub record IsOutOfMemory (before after : Course) (memory : Bool) (number : ℕ) (writer messages : Device) (at : At) : Type 0 where
+  pub allowed : memory ≡ true
   pub fault : at.fault ≡ OutOfMemory
   pub place : at.line ≡ number
   pub notices : List At
   pub next : (notices ≡ []) ⊎ AreNext before after notices
   pub wrote : TookAll writer []
-  pub told : TookAll messages (notices_text notices)
+  pub reported : TookAll messages (notices_text notices)
 
 -- a fault ends the run, after the line's warnings
 pub record IsEnded (before after : Course) (writer messages : Device) (at : At) : Type 0 where
   pub notices : List At
   pub ends : EndsWith before after notices at
   pub wrote : TookAll writer []
-  pub told : TookAll messages (notices_text notices)
+  pub reported : TookAll messages (notices_text notices)
 
 -- a text couldn't be written whole
 pub record IsCutText (before after : Course) (writer messages : Device) : Type 0 where
@@ -157,17 +159,17 @@ pub record IsCutText (before after : Course) (writer messages : Device) : Type 0
   pub notices : List At
   pub adds : Adds before after text notices
   pub wrote : TookPart writer text
-  pub told : TookAll messages (notices_text notices)
+  pub reported : TookAll messages (notices_text notices)
 
 -- warnings couldn't be written whole
 pub record IsCutNotice (before after : Course) (writer messages : Device) : Type 0 where
   pub notices : List At
   pub next : AreNext before after notices
   pub wrote : TookAll writer []
-  pub told : TookPart messages (notices_text notices)
+  pub reported : TookPart messages (notices_text notices)
 
 -- a line, or the end, ended the run
-abbrev pub IsCut : Course → Course → ℕ → Device → Device → Halt → Type 0
-IsCut before after number writer messages (Fault at) = IsOutOfMemory before after number writer messages at ⊎ IsEnded before after writer messages at
-IsCut before after number writer messages Unwritten = IsCutText before after writer messages
-IsCut before after number writer messages Unreported = IsCutNotice before after writer messages
+abbrev pub IsCut : Course → Course → Bool → ℕ → Device → Device → Halt → Type 0
+IsCut before after memory number writer messages (Fault at) = IsOutOfMemory before after memory number writer messages at ⊎ IsEnded before after writer messages at
+IsCut before after memory number writer messages Unwritten = IsCutText before after writer messages
+IsCut before after memory number writer messages Unreported = IsCutNotice before after writer messages

@@ -52,9 +52,7 @@ abbrev pub StandardComesBack : List ℕ → Choices → Choices → Type 0
 StandardComesBack input compacting expanding =
     is_date compacting.date ≡ true → IsStandard input → expanded (compacted input compacting).output expanding ≡ written_well input
 
--- a file that is read to its good end, and has no copied line that ends in CR, is standard where it comes back byte for byte by any
--- choices
+-- a file that is read to its good end is standard where it comes back byte for byte, by any choices
 abbrev pub IsStandardWhereSame : List ℕ → Choices → Choices → Type 0
 IsStandardWhereSame input compacting expanding =
-    is_date compacting.date ≡ true → (whole_of input).fault ≡ None → HaveNoReturns (whole_of input).items
-    → (expanded (compacted input compacting).output expanding).output ≡ input → IsStandard input
+    is_date compacting.date ≡ true → (whole_of input).fault ≡ None → (expanded (compacted input compacting).output expanding).output ≡ input → IsStandard input

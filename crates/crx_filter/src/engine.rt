@@ -1,12 +1,13 @@
 //! Engines: what takes the lines of an input one at a time, and lends what is to be written.
 
-ghost use Rattle.std.specs.Prelude.{◌≡◌, ◌+◌, ℕ, List, [], drop, length, slice_get, IfOk, IsTrue, true};
+ghost use Rattle.std.specs.Prelude.{◌≡◌, ◌≤◌, ◌+◌, ℕ, List, [], drop, length, slice_get, IfOk, IsTrue, true};
 ghost use Rattle.std.specs.Borrow.{sem};
 ghost use Rattle.std.specs.Io.BufRead.{Rests};
 ghost use Rattle.std.specs.Option.{option_copied};
 ghost use Rattle.crx_text.specs.Lines.{InputLine, is_long};
 ghost use Rattle.crx_text.specs.Reading.{line_shown, line_number};
 ghost use Rattle.crx_text.specs.declared.fault.At.{At};
+ghost use Rattle.crx_text.specs.declared.limits.TheConstants.{INPUT_LIMIT};
 ghost use Rattle.crx_filter.specs.Filters.{Filter};
 ghost use Rattle.crx_filter.specs.Engines.{Answers, Awaited, IsAwaited, Concludes, IsDrainedAfter, taken_after};
 
@@ -45,11 +46,15 @@ pub trait Engine {
     // The end of the input wasn't answered yet.
     ghost is_open: { Self → Type 0 };
 
+    // The end of the input was taken after these lines.
+    ghost has_ended: { Self → List InputLine → Type 0 };
+
     /// Takes a line.
     fn feed(&mut self, line: Line<'_>) -> Result<Step, At>
         requires drained { ready self.old ≡ [] }
         requires running { is_open self.old }
         requires next { line_number line ≡ taken self.old + 1 }
+        requires within { line_number line ≤ INPUT_LIMIT }
         ensures filter { filter self.new ≡ filter self.old }
         ensures running { IfOk result (λ _. is_open self.new) }
         ensures drained { IfOk result (λ step. IsDrainedAfter step (ready self.new)) }
@@ -63,6 +68,7 @@ pub trait Engine {
         requires drained { ready self.old ≡ [] }
         requires running { is_open self.old }
         requires next { number ≡ taken self.old + 1 }
+        requires within { number ≤ INPUT_LIMIT }
         ensures filter { filter self.new ≡ filter self.old }
         ensures running { IfOk result (λ _. is_open self.new) }
         ensures drained { IfOk result (λ step. IsDrainedAfter step (ready self.new)) }
@@ -76,10 +82,12 @@ pub trait Engine {
     fn end(&mut self) -> Result<Step, At>
         requires drained { ready self.old ≡ [] }
         requires running { is_open self.old }
+        requires within { taken self.old ≤ INPUT_LIMIT }
         ensures filter { filter self.new ≡ filter self.old }
         ensures drained { IfOk result (λ step. IsDrainedAfter step (ready self.new)) }
         ensures concludes { (lines : List InputLine) → shows self.old lines []
-            → Concludes (filter self.old) (ready self.new) lines result };
+            → Concludes (filter self.old) (ready self.new) lines result }
+        ensures ended { (lines : List InputLine) → shows self.old lines [] → IfOk result (λ _. has_ended self.new lines) };
 
     /// Lends the next of the lines that are ready, without its line end; `None` once all were lent.
     fn next_line(&mut self) -> Option<&[u8]>
@@ -87,7 +95,8 @@ pub trait Engine {
         ensures* after_borrow { sem 𝓛 (Rests Self.row self.entry (λ new.
             (ready new ≡ drop 1 (ready self.old)) × (filter new ≡ filter self.old)
             × ((lines : List InputLine) (notices : List Awaited) → shows self.old lines notices → shows new lines notices)
-            × (is_open self.old → is_open new))) };
+            × (is_open self.old → is_open new)
+            × ((lines : List InputLine) → has_ended self.old lines → has_ended new lines))) };
 
     ghost counted: { (e : Self) (lines : List InputLine) (notices : List Awaited) → shows e lines notices → taken e ≡ length lines };
 }

@@ -2,18 +2,41 @@
 //! same line by line.
 #![tactic(auto)]
 
-mod compactor;
+pub mod checker;
+mod checks;
+mod compact_reader;
+mod compaction;
+pub mod compactor;
+mod compactor_engine;
 pub mod engine;
-pub mod examples;
+mod event_lines;
+mod expanded_lines;
+pub mod expander;
+mod expander_engine;
+mod filters;
 mod finish;
-pub mod laws;
+mod first_lines;
 pub mod message;
 mod options;
 pub mod outcome;
 mod ready;
+mod ready_lines;
+mod report;
+mod rinex_reader;
 pub mod run;
+mod settled;
 mod stage;
+mod start;
 mod step;
 pub mod taking;
-pub mod way_back;
+mod totals;
+mod types_lines;
 mod work;
+
+pub use checks::check;
+pub use compactor::Compactor;
+pub use engine::Step;
+pub use expander::Expander;
+pub use filters::{compact, expand};
+pub use options::{BadDate, Options};
+pub use outcome::Outcome;

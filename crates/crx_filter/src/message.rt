@@ -8,7 +8,7 @@ use crx_text::{At, Text};
 use itoa::Buffer;
 
 /// Appends bytes that fit.
-fn append(text: &mut Text, bytes: &[u8])
+pub(crate) fn append(text: &mut Text, bytes: &[u8])
     requires { length text.old + length bytes.now ≤ LINE_LIMIT }
     ensures { text.new ≡ text.old ++ bytes.now }
 {

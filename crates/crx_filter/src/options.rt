@@ -54,7 +54,7 @@ fn is_date(date: &[u8]) -> bool
 }
 
 /// The date in its columns of the second line, with blanks after it.
-fn in_columns(date: &[u8]) -> [u8; DATE_LIMIT]
+pub(crate) fn in_columns(date: &[u8]) -> [u8; DATE_LIMIT]
     requires { length date.now ≤ DATE_LIMIT }
     ensures { result ≡ date.now ++ replicate (DATE_LIMIT - length date.now) 32 }
 {
@@ -112,7 +112,8 @@ impl Options {
 
     /// The date, at most [`DATE_LIMIT`] bytes.
     pub fn date(&self) -> &[u8]
-        ensures { result.now ≡ self.now.date }
+        ensures value { result.now ≡ self.now.date }
+        ensures within { length result.now ≤ DATE_LIMIT }
     {
         &self.date[..self.date_len]
     }

@@ -21,6 +21,7 @@ pub(crate) fn write_ready<E: Engine, W: Sink>(
     ensures filter { E.filter engine.new ≡ E.filter engine.old }
     ensures shows { (lines : List InputLine) (notices : List Awaited) → E.shows engine.old lines notices → E.shows engine.new lines notices }
     ensures running { E.is_open engine.old → E.is_open engine.new }
+    ensures ended { (lines : List InputLine) → E.has_ended engine.old lines → E.has_ended engine.new lines }
     ensures part { OnErr result ((n : ℕ) × (n < length (lines_text (E.ready engine.old))) × W.took writer.old (take n (lines_text (E.ready engine.old))) writer.new) }
     ensures counted { OnErr result (W.failures writer.new ≡ one_more (W.failures writer.old)) }
 {

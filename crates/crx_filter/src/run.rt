@@ -1,12 +1,9 @@
 //! A whole run: an input through an engine to a writer and its messages.
 
-ghost use Rattle.std.specs.Prelude.{◌≡◌, ℕ, Bool, List, [], Option};
+ghost use Rattle.std.specs.Prelude.{◌≡◌, ℕ, List, [], Some, None};
 ghost use Rattle.crx_text.specs.Devices.{tally_of};
-ghost use Rattle.crx_text.specs.Reading.{Reading};
-ghost use Rattle.crx_filter.specs.declared.taking.Halt.{Halt as RunHalt};
-ghost use Rattle.crx_filter.specs.Endings.{Finishes};
-ghost use Rattle.crx_filter.specs.Running.{WorkEnds};
-ghost use Rattle.crx_filter.specs.Runs.{IsLawful, RunsAs};
+ghost use Rattle.crx_text.specs.Lines.{lines_of};
+ghost use Rattle.crx_filter.specs.Runs.{IsLawful, result_by, RunsAs};
 
 use crate::engine::Engine;
 use crate::finish::finish;
@@ -43,22 +40,13 @@ pub fn run<E: Engine, R: Source, W: Sink, M: Sink>(
     requires running { E.is_open engine.old }
     requires shown { E.shows engine.old [] [] }
     requires lawful { IsLawful (E.filter engine.old) }
-    ensures ends { (w : W) × (m : M) × (now : Reading) × (last : ℕ) × (warned : Bool) × (halt : Option RunHalt)
-        × WorkEnds (E.filter engine.old)
-        (record { gave = λ given. R.gave reader.old given reader.new; at_end = R.at_end reader.new; start = tally_of (R.failures reader.old) (R.ends reader.old); counted = tally_of (R.failures reader.new) (R.ends reader.new) })
-        (record { took = λ text. W.took writer.old text w; before = W.failures writer.old; after = W.failures w })
-        (record { took = λ text. M.took messages.old text m; before = M.failures messages.old; after = M.failures m })
-        now last warned halt
-        × Finishes
-        (record { took = λ text. W.took w text writer.new; before = W.failures w; after = W.failures writer.new })
-        (record { took = λ text. M.took m text messages.new; before = M.failures m; after = M.failures messages.new })
-        last warned halt result.status result.fault }
-    ensures runs { (given : List ℕ) × R.gave reader.old given reader.new × RunsAs (E.filter engine.old)
+    ensures runs { (given : List ℕ) × R.gave reader.old given reader.new × RunsAs (result_by (E.filter engine.old)) (E.filter engine.old)
         (record { gave = λ given. R.gave reader.old given reader.new; at_end = R.at_end reader.new; start = tally_of (R.failures reader.old) (R.ends reader.old); counted = tally_of (R.failures reader.new) (R.ends reader.new) })
         given
         (record { took = λ text. W.took writer.old text writer.new; before = W.failures writer.old; after = W.failures writer.new })
         (record { took = λ text. M.took messages.old text messages.new; before = M.failures messages.old; after = M.failures messages.new })
-        result.status result.fault }
+        result.status result.fault
+        × (result.fault ≡ None → E.has_ended engine.new (lines_of given)) }
 {
     match LineReader::new(alloc) {
         Err(_) => finish(writer, messages, no_memory()),

@@ -1,20 +1,28 @@
-//! Where a compaction is between two lines.
+//! Where a run is between two lines, in either direction.
 
-ghost use Rattle.std.specs.Prelude.{◌≡◌, List, true};
+ghost use Rattle.std.specs.Prelude.{◌≡◌, List, Option, Bool, true, false, if◌then◌else◌};
 ghost use Rattle.crx_rinex.specs.EpochLines.{begins_epoch};
-ghost use Rattle.crx_filter.specs.LineByLine.{is_in_epoch, may_skip, with_records_left};
+ghost use Rattle.crx_rinex.specs.EpochPlaces.{OpenEpoch};
+ghost use Rattle.crx_compact.specs.OpenEpochs.{OpenRawEpoch};
+ghost use Rattle.crx_filter.specs.LineByLine.{is_in_epoch, may_skip, with_records_left, InHeader, BetweenUnits};
 ghost use Rattle.crx_filter.specs.Items.{counts_types};
 ghost use Rattle.crx_filter.specs.Reading.{is_skippable};
-ghost use Rattle.crx_filter.specs.Compacted.{is_at_every};
-ghost use Rattle.crx_filter.specs.Compacting.{is_running, seen_stage, WantsRows};
-ghost use Rattle.crx_rinex.specs.ObservationTypes.{Count};
+ghost use Rattle.crx_filter.specs.EngineSteps.{seen_stage, is_held, is_settled};
+ghost use Rattle.crx_filter.specs.RinexStages.{is_consistent};
+ghost use Rattle.crx_rinex.specs.Header.{is_end_of_header};
+ghost use Rattle.crx_rinex.specs.Observations.{Epoch};
 
-use crx_rinex::Epoch;
+use crx_rinex::is_end;
 use crx_text::{At, Fault};
 
-/// Where a compaction is between two lines.
-#[derive(Drop)]
+/// Where a run is between two lines.
+#[derive(Clone, Copy)]
 pub(crate) enum Stage {
+    /// In the first lines of compact text.
+    FirstLines {
+        /// How many of them have come.
+        count: usize,
+    },
     /// In the header, before its first line or later.
     Header {
         /// Whether no line has come yet.
@@ -29,12 +37,10 @@ pub(crate) enum Stage {
         /// Whether types lines count among them.
         counted: bool,
     },
-    /// In an epoch whose rows have come in part.
-    Open(Epoch),
+    /// In an epoch whose lines have come in part.
+    Open,
     /// After a warning: a line that begins with `>` is looked for.
     Looking,
-    /// After a warning, at its line, which begins with `>` and comes once more.
-    Again,
     /// After the end of the input.
     Closed,
     /// Ended by a fault.
@@ -42,36 +48,48 @@ pub(crate) enum Stage {
 }
 
 impl Stage {
-    /// Whether lines can come.
-    pub(crate) fn is_running(&self) -> bool
-        ensures { result ≡ is_running self.now }
+    /// Whether an epoch's lines have come in part.
+    pub(crate) fn is_in_epoch(&self) -> bool
+        ensures rinex { (held : Option OpenEpoch) → is_held self.now held ≡ true → result ≡ is_in_epoch (seen_stage held self.now) }
+        ensures compact { (held : Option OpenRawEpoch) → is_held self.now held ≡ true → result ≡ is_in_epoch (seen_stage held self.now) }
     {
-        !matches!(self, Stage::Closed | Stage::Ended(_))
+        matches!(self, Stage::Open)
     }
 
-    /// Whether an epoch's rows have come in part.
-    pub(crate) fn is_in_epoch(&self) -> bool
-        ensures { (types : List Count) → result ≡ is_in_epoch (seen_stage types self.now) }
+    /// Whether the stage is one after a fault or after the end of the input.
+    pub(crate) fn is_settled(&self) -> bool
+        ensures { result ≡ is_settled self.now }
     {
-        matches!(self, Stage::Open(_))
+        matches!(self, Stage::Looking | Stage::Closed | Stage::Ended(_))
     }
 
     /// Whether faults may be skipped: outside the header and the records of events.
     pub(crate) fn may_skip(&self) -> bool
-        ensures { (types : List Count) → result ≡ may_skip (seen_stage types self.now) }
+        ensures rinex { (held : Option OpenEpoch) → result ≡ may_skip (seen_stage held self.now) }
+        ensures compact { (held : Option OpenRawEpoch) → result ≡ may_skip (seen_stage held self.now) }
     {
-        matches!(
-            self,
-            Stage::Between | Stage::Open(_) | Stage::Looking | Stage::Again
-        )
+        matches!(self, Stage::Between | Stage::Open | Stage::Looking)
+    }
+}
+
+/// The stage after a header line.
+pub(crate) fn after_header_line(line: &[u8]) -> Stage
+    ensures rinex { (held : Option OpenEpoch) → seen_stage held result ≡ (if is_end_of_header line.now then BetweenUnits else InHeader false) }
+    ensures compact { (held : Option OpenRawEpoch) → seen_stage held result ≡ (if is_end_of_header line.now then BetweenUnits else InHeader false) }
+    ensures consistent { (epoch : Option Epoch) → is_consistent result epoch ≡ true }
+{
+    if is_end(line) {
+        Stage::Between
+    } else {
+        Stage::Header { is_first: false }
     }
 }
 
 /// The stage with so many records of an event left.
 pub(crate) fn with_records_left(left: usize, counted: bool) -> Stage
-    ensures value { (types : List Count) → seen_stage types result ≡ with_records_left left counted }
-    ensures running { is_running result ≡ true }
-    ensures wants { WantsRows result }
+    ensures rinex { (held : Option OpenEpoch) → seen_stage held result ≡ with_records_left left counted }
+    ensures compact { (held : Option OpenRawEpoch) → seen_stage held result ≡ with_records_left left counted }
+    ensures consistent { (epoch : Option Epoch) → is_consistent result epoch ≡ true }
 {
     if left == 0 {
         Stage::Between
@@ -100,14 +118,4 @@ pub(crate) fn is_skippable(fault: Fault) -> bool
 {
     let code = fault.code();
     code == 1 || (10 <= code && code <= 19)
-}
-
-/// Whether an epoch of this index, from 0, stands in full because the user wants one at every so many.
-pub(crate) fn is_at_every(every: Option<u32>, index: u64) -> bool
-    ensures { result ≡ is_at_every every index }
-{
-    match every {
-        None => false,
-        Some(count) => count > 0 && index % u64::from(count) == 0,
-    }
 }

@@ -5,7 +5,7 @@ ghost use Rattle.crx_text.specs.Devices.{tally_of};
 ghost use Rattle.crx_text.specs.Lines.{InputLine};
 ghost use Rattle.crx_text.specs.Readers.{reading};
 ghost use Rattle.crx_text.specs.declared.limits.TheConstants.{INPUT_LIMIT};
-ghost use Rattle.crx_filter.specs.Running.{IsRunning, Goes, StopsAt};
+ghost use Rattle.crx_filter.specs.Running.{IsWithinLimit, IsRunning, Goes, StopsAt};
 
 use crate::engine::Engine;
 use crate::taking::{Halt, Taken, take_line};
@@ -24,9 +24,11 @@ pub(crate) fn step<E: Engine, R: Source, W: Sink, M: Sink>(
     requires running { E.is_open engine.old }
     requires going { ((reading input.old).phase ≡ Phase.Open) ⊎ ((reading input.old).phase ≡ Phase.Ended) }
     requires next { (reading input.old).number ≡ E.taken engine.old }
+    requires counted { IsWithinLimit (reading input.old) }
     ensures filter { E.filter engine.new ≡ E.filter engine.old }
     ensures running { OnOk result (E.is_open engine.new) }
     ensures drained { OnOk result (E.ready engine.new ≡ []) }
+    ensures counted { OnOk result (IsWithinLimit (reading input.new)) }
     ensures farther { IfOk result (λ o. IfSome o (λ _. ((reading input.old).lent < (reading input.new).lent) × ((reading input.new).lent ≤ INPUT_LIMIT))) }
     ensures goes { (r0 : R) (w0 : W) (m0 : M) (lines : List InputLine) → E.shows engine.old lines []
         → IsRunning

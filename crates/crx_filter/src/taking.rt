@@ -1,9 +1,10 @@
 //! One line of the input, through an engine to the writer and the messages.
 
-ghost use Rattle.std.specs.Prelude.{◌≡◌, ⊤, ◌+◌, ◌<◌, ℕ, List, [], ◌∷◌, length, take, IfOk, IfErr, OnOk, OnErr, true, false};
+ghost use Rattle.std.specs.Prelude.{◌≡◌, ◌+◌, ◌<◌, ◌≤◌, ℕ, List, [], ◌∷◌, length, take, IfOk, IfErr, OnOk, OnErr, true, false};
 ghost use Rattle.crx_text.specs.Lines.{InputLine};
 ghost use Rattle.crx_text.specs.Devices.{one_more};
 ghost use Rattle.crx_text.specs.declared.fault.At.{At};
+ghost use Rattle.crx_text.specs.declared.limits.TheConstants.{INPUT_LIMIT};
 ghost use Rattle.crx_filter.specs.Filters.{lines_text};
 ghost use Rattle.crx_filter.specs.Messages.{warning_text, notices_text};
 ghost use Rattle.crx_filter.specs.Engines.{Answers, Awaited, IsAwaited, notices_of as warnings_awaited, Concludes, IsDrainedAfter, taken_after, with_next};
@@ -48,6 +49,7 @@ fn give<E: Engine>(engine: &mut E, taken: Taken<'_>) -> Result<Step, At>
     requires drained { E.ready engine.old ≡ [] }
     requires running { E.is_open engine.old }
     requires next { number_taken taken ≡ E.taken engine.old + 1 }
+    requires within { number_taken taken ≤ INPUT_LIMIT }
     ensures filter { E.filter engine.new ≡ E.filter engine.old }
     ensures running { IfOk result (λ _. E.is_open engine.new) }
     ensures drained { IfOk result (λ step. IsDrainedAfter step (E.ready engine.new)) }
@@ -89,6 +91,7 @@ fn settle<E: Engine, W: Sink, M: Sink>(
     ensures filter { E.filter engine.new ≡ E.filter engine.old }
     ensures shows { (lines : List InputLine) (notices : List Awaited) → E.shows engine.old lines notices → E.shows engine.new lines notices }
     ensures running { E.is_open engine.old → E.is_open engine.new }
+    ensures ended { (lines : List InputLine) → E.has_ended engine.old lines → E.has_ended engine.new lines }
     ensures warned { IfOk result (λ warned. warned ≡ is_warning step) }
     ensures written { OnOk result (W.took writer.old (lines_text (E.ready engine.old)) writer.new) }
     ensures reported { OnOk result (M.took messages.old (notices_text (notices_of step)) messages.new) }
@@ -121,6 +124,7 @@ fn take_once<E: Engine, W: Sink, M: Sink>(
     requires drained { E.ready engine.old ≡ [] }
     requires running { E.is_open engine.old }
     requires next { number_taken taken ≡ E.taken engine.old + 1 }
+    requires within { number_taken taken ≤ INPUT_LIMIT }
     ensures filter { E.filter engine.new ≡ E.filter engine.old }
     ensures running { OnOk result (E.is_open engine.new) }
     ensures drained { OnOk result (E.ready engine.new ≡ []) }
@@ -131,7 +135,7 @@ fn take_once<E: Engine, W: Sink, M: Sink>(
         (record { took = λ text. M.took messages.old text messages.new; before = M.failures messages.old; after = M.failures messages.new })
         lines earlier line once) }
     ensures halted { (lines : List InputLine) (earlier : List Awaited) (line : InputLine) → E.shows engine.old lines earlier → IsAwaited earlier line → TakenIs taken.entry line
-        → IfErr result (λ halt. IsHalted ((E.filter engine.old).so_far lines) ((E.filter engine.old).so_far (with_next lines line)) (length lines + 1)
+        → IfErr result (λ halt. IsHalted ((E.filter engine.old).so_far lines) ((E.filter engine.old).so_far (with_next lines line)) ((E.filter engine.old).may_take_memory lines line) (length lines + 1)
         (record { took = λ text. W.took writer.old text writer.new; before = W.failures writer.old; after = W.failures writer.new })
         (record { took = λ text. M.took messages.old text messages.new; before = M.failures messages.old; after = M.failures messages.new })
         (warnings_awaited earlier) halt) }
@@ -163,6 +167,7 @@ pub(crate) fn take_line<E: Engine, W: Sink, M: Sink>(
     requires drained { E.ready engine.old ≡ [] }
     requires running { E.is_open engine.old }
     requires next { number_taken taken ≡ E.taken engine.old + 1 }
+    requires within { number_taken taken ≤ INPUT_LIMIT }
     ensures filter { E.filter engine.new ≡ E.filter engine.old }
     ensures running { OnOk result (E.is_open engine.new) }
     ensures drained { OnOk result (E.ready engine.new ≡ []) }
@@ -172,7 +177,7 @@ pub(crate) fn take_line<E: Engine, W: Sink, M: Sink>(
         (record { took = λ text. M.took messages.old text messages.new; before = M.failures messages.old; after = M.failures messages.new })
         [] warned) }
     ensures cut { (lines : List InputLine) (line : InputLine) → E.shows engine.old lines [] → TakenIs taken.entry line
-        → IfErr result (λ halt. IsCut ((E.filter engine.old).so_far lines) ((E.filter engine.old).so_far (with_next lines line)) (length lines + 1)
+        → IfErr result (λ halt. IsCut ((E.filter engine.old).so_far lines) ((E.filter engine.old).so_far (with_next lines line)) ((E.filter engine.old).may_take_memory lines line) (length lines + 1)
         (record { took = λ text. W.took writer.old text writer.new; before = W.failures writer.old; after = W.failures writer.new })
         (record { took = λ text. M.took messages.old text messages.new; before = M.failures messages.old; after = M.failures messages.new })
         halt) }
@@ -195,14 +200,15 @@ pub(crate) fn take_end<E: Engine, W: Sink, M: Sink>(
 ) -> Result<bool, Halt>
     requires drained { E.ready engine.old ≡ [] }
     requires running { E.is_open engine.old }
+    requires within { E.taken engine.old ≤ INPUT_LIMIT }
     ensures filter { E.filter engine.new ≡ E.filter engine.old }
     ensures done { (lines : List InputLine) → E.shows engine.old lines []
-        → IfOk result (λ warned. IsDone ((E.filter engine.old).so_far lines) ((E.filter engine.old).whole lines) ⊤
+        → IfOk result (λ warned. IsDone ((E.filter engine.old).so_far lines) ((E.filter engine.old).whole lines) (E.has_ended engine.new lines)
         (record { took = λ text. W.took writer.old text writer.new; before = W.failures writer.old; after = W.failures writer.new })
         (record { took = λ text. M.took messages.old text messages.new; before = M.failures messages.old; after = M.failures messages.new })
         [] warned) }
     ensures cut { (lines : List InputLine) → E.shows engine.old lines []
-        → IfErr result (λ halt. IsHalted ((E.filter engine.old).so_far lines) ((E.filter engine.old).whole lines) (length lines)
+        → IfErr result (λ halt. IsHalted ((E.filter engine.old).so_far lines) ((E.filter engine.old).whole lines) false (length lines)
         (record { took = λ text. W.took writer.old text writer.new; before = W.failures writer.old; after = W.failures writer.new })
         (record { took = λ text. M.took messages.old text messages.new; before = M.failures messages.old; after = M.failures messages.new })
         [] halt) }

@@ -36,7 +36,7 @@ pub(crate) fn take_all<E: Engine, R: Source, W: Sink, M: Sink>(
     requires shown { E.shows engine.old [] [] }
     requires first { reading input.old ≡ record { rest = []; lent = 0; number = 0; phase = Phase.Open } }
     requires nothing { (E.filter engine.old).so_far [] ≡ record { output = []; warnings = []; fault = None } }
-    ensures { WorkEnds (E.filter engine.old)
+    ensures { WorkEnds (E.filter engine.old) (E.has_ended engine.new)
         (record { gave = λ given. R.gave reader.old given reader.new; at_end = R.at_end reader.new; start = tally_of (R.failures reader.old) (R.ends reader.old); counted = tally_of (R.failures reader.new) (R.ends reader.new) })
         (record { took = λ text. W.took writer.old text writer.new; before = W.failures writer.old; after = W.failures writer.new })
         (record { took = λ text. M.took messages.old text messages.new; before = M.failures messages.old; after = M.failures messages.new })

@@ -1,5 +1,4 @@
-use Rattle.std.proofs.Common.{◌≡◌, ◌⊎◌, inr, ℕ, ◌<◌, List, length, take, Some, subst, ◌∙◌}
-use Rattle.crx_filter.specs.Messages.{error_text}
+use Rattle.std.proofs.Common.{inr, ℕ, ◌<◌, List, length, take, subst, ◌∙◌}
 use Rattle.crx_filter.proofs.finish.report.Goals as goal
 
 pub returns-in-Err-clause-reported : goal.returns-in-Err-clause-reported

@@ -1,10 +1,8 @@
-use Rattle.std.proofs.Common.{◌≡◌, ℕ, ◌+◌, ◌<◌, List, [], ◌∷◌, ◌++◌, length, take, drop, refl, sym, ap, subst, ◌∙◌, append_assoc}
+use Rattle.std.proofs.Common.{◌≡◌, ℕ, ◌+◌, List, [], ◌∷◌, ◌++◌, length, take, drop, sym, ap, subst, ◌∙◌, append_assoc}
 use Rattle.crx_text.specs.Lines.{InputLine}
-use Rattle.crx_text.specs.Devices.{one_more}
-use Rattle.crx_text.specs.declared.fault.At.{At}
 use Rattle.crx_filter.specs.Engines.{Awaited}
 use Rattle.crx_filter.specs.Filters.{lines_text}
-use Rattle.crx_filter.proofs.ReadyLines.{first-and-rest, none-left, one-written, part-written}
+use Rattle.crx_filter.proofs.ReadyLines.{first-and-rest, one-written, part-written}
 use Rattle.crx_filter.proofs.ready.write_ready.Goals as goal
 
 pub returns-in-Err-clause-part : goal.returns-in-Err-clause-part
@@ -61,4 +59,5 @@ loop-line-preserved g c =
       kept.1 ∙ i.2,
       (λ (ls : List InputLine) (notices : List Awaited) h. kept.2 ls notices (i.3 ls notices h)),
       (λ h. kept.3 (i.4 h)),
+      (λ (ls : List InputLine) h. kept.4 ls (i.5 ls h)),
     )

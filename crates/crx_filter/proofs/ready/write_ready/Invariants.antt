@@ -1,6 +1,5 @@
 use Rattle.std.proofs.Common.{◌≡◌, ℕ, List, ◌++◌, length}
 use Rattle.crx_text.specs.Lines.{InputLine}
-use Rattle.crx_text.specs.declared.fault.At.{At}
 use Rattle.crx_filter.specs.Engines.{Awaited}
 use Rattle.crx_filter.specs.Filters.{lines_text}
 use Rattle.crx_filter.proofs.ready.write_ready.Given as goal
@@ -12,6 +11,7 @@ invariant-loop-line g l =
     × (g.E.Engine.filter l.engine ≡ g.E.Engine.filter l.initial.engine)
     × ((lines : List InputLine) (notices : List Awaited) → g.E.Engine.shows l.initial.engine lines notices → g.E.Engine.shows l.engine lines notices)
     × (g.E.Engine.is_open l.initial.engine → g.E.Engine.is_open l.engine)
+    × ((lines : List InputLine) → g.E.Engine.has_ended l.initial.engine lines → g.E.Engine.has_ended l.engine lines)
 
 abbrev pub decreases-loop-line : goal.decreases-loop-line
 decreases-loop-line g l = length (g.E.Engine.ready l.engine)

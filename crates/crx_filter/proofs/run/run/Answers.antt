@@ -1,16 +1,10 @@
-use Rattle.std.proofs.Common.{◌≡◌, ◌⊎◌, inl, inr, ℕ, Bool, List, [], Option, Some, None, refl, sym, ap, subst, ◌∙◌}
+use Rattle.std.proofs.Common.{refl}
 use Rattle.crx_text.specs.Devices.{tally_of}
 use Rattle.crx_text.specs.Readers.{reading}
-use Rattle.crx_text.specs.declared.phase.Phase.TheVariants.{Open}
-use Rattle.crx_text.specs.Reading.{Reading}
-use Rattle.crx_filter.specs.declared.taking.Halt.{Halt}
-use Rattle.crx_filter.specs.Running.{Input, WorkEnds}
+use Rattle.crx_filter.specs.Running.{Input}
 use Rattle.crx_filter.specs.Taking.{Device}
-use Rattle.crx_filter.proofs.Conclusions.{runs-as}
+use Rattle.crx_filter.proofs.Conclusions.{runs-as, runs-nothing}
 use Rattle.crx_filter.proofs.run.run.Goals as goal
-
-start : Reading
-start = record { rest = []; lent = 0; number = 0; phase = Open }
 
 pub returns-in-Err : goal.returns-in-Err
 returns-in-Err g c =
@@ -20,18 +14,6 @@ returns-in-Err g c =
     let m = c.args.messages.now in
     let counts = λ (r : g.row.R.Denot). tally_of (g.R.Source.failures r) (g.R.Source.ends r) in
     let input : Input = record { gave = λ given. g.R.Source.gave r given r; at_end = g.R.Source.at_end r; start = counts r; counted = counts r } in
-    let writer : Device = record { took = λ text. g.W.Sink.took w text w; before = g.W.Sink.failures w; after = g.W.Sink.failures w } in
-    let messages : Device = record { took = λ text. g.M.Sink.took m text m; before = g.M.Sink.failures m; after = g.M.Sink.failures m } in
-    let ends : WorkEnds (g.E.Engine.filter c.args.engine.now) input writer messages start work.last work.warned work.halt =
-    subst (λ (h : Option Halt). WorkEnds (g.E.Engine.filter c.args.engine.now) input writer messages start work.last work.warned h) (sym c.no_memory.ensures.halt)
-    (inr (inr (inr (record {
-      halt_is = refl;
-      gave = g.met.R.Source.gave_none r;
-      counts = refl;
-      wrote = (g.met.W.Sink.took_none w, refl);
-      told = (g.met.M.Sink.took_none m, refl);
-      last_is = c.no_memory.ensures.last;
-    })))) in
     let w0 = c.args.writer.now in
     let m0 = c.args.messages.now in
     let writer1 : Device = record { took = λ text. g.W.Sink.took w0 text w; before = g.W.Sink.failures w0; after = g.W.Sink.failures w } in
@@ -41,11 +23,11 @@ returns-in-Err g c =
     let messages2 : Device = record { took = λ text. g.M.Sink.took m text c.finish.new.messages; before = g.M.Sink.failures m; after = g.M.Sink.failures c.finish.new.messages } in
     let messages3 : Device = record { took = λ text. g.M.Sink.took m0 text c.finish.new.messages; before = g.M.Sink.failures m0; after = g.M.Sink.failures c.finish.new.messages } in
     record {
-      ends = (w, m, start, work.last, work.warned, work.halt, ends, c.finish.ensures);
-      runs = runs-as (g.E.Engine.filter c.args.engine.now) c.requires.lawful input writer1 writer2 writer3 messages1 messages2 messages3
+      runs = runs-nothing (g.E.Engine.filter c.args.engine.now) c.requires.lawful input writer1 writer2 writer3 messages1 messages2 messages3
           refl refl refl (λ xs ys a b. g.met.W.Sink.took_both w0 w c.finish.new.writer xs ys a b)
           refl refl refl (λ xs ys a b. g.met.M.Sink.took_both m0 m c.finish.new.messages xs ys a b)
-          start work.last work.warned work.halt c.finish.result.status c.finish.result.fault ends c.finish.ensures;
+          (g.E.Engine.has_ended c.args.engine.now) work.last work.warned work.halt c.finish.result.status c.finish.result.fault
+          c.no_memory.ensures.halt c.no_memory.ensures.last (g.met.R.Source.gave_none r) refl (g.met.W.Sink.took_none w, refl) (g.met.M.Sink.took_none m, refl) c.finish.ensures;
     }
 
 pub returns-in-Ok : goal.returns-in-Ok
@@ -66,9 +48,8 @@ returns-in-Ok g c =
     let messages2 : Device = record { took = λ text. g.M.Sink.took m text c.finish-in-Ok.new.messages; before = g.M.Sink.failures m; after = g.M.Sink.failures c.finish-in-Ok.new.messages } in
     let messages3 : Device = record { took = λ text. g.M.Sink.took m0 text c.finish-in-Ok.new.messages; before = g.M.Sink.failures m0; after = g.M.Sink.failures c.finish-in-Ok.new.messages } in
     record {
-      ends = (w, m, (reading c.take_all-work.new.input), work.last, work.warned, work.halt, c.take_all-work.ensures, c.finish-in-Ok.ensures);
       runs = runs-as (g.E.Engine.filter c.args.engine.now) c.requires.lawful input writer1 writer2 writer3 messages1 messages2 messages3
           refl refl refl (λ xs ys a b. g.met.W.Sink.took_both w0 w c.finish-in-Ok.new.writer xs ys a b)
           refl refl refl (λ xs ys a b. g.met.M.Sink.took_both m0 m c.finish-in-Ok.new.messages xs ys a b)
-          (reading c.take_all-work.new.input) work.last work.warned work.halt c.finish-in-Ok.result.status c.finish-in-Ok.result.fault c.take_all-work.ensures c.finish-in-Ok.ensures;
+          (g.E.Engine.has_ended c.take_all-work.new.engine) (reading c.take_all-work.new.input) work.last work.warned work.halt c.finish-in-Ok.result.status c.finish-in-Ok.result.fault c.take_all-work.ensures c.finish-in-Ok.ensures;
     }

@@ -1,11 +1,10 @@
-use Rattle.std.proofs.Common.{◌≡◌, ◌⊎◌, inl, inr, ℕ, ◌+◌, List, [], ◌∷◌, ◌++◌, length, Ok, refl, sym, ap, subst, ◌∙◌, arith}
+use Rattle.std.proofs.Common.{◌≡◌, inl, inr, ℕ, ◌+◌, List, Ok, refl, sym, ap, subst, ◌∙◌}
 use Rattle.crx_text.specs.Devices.{tally_of}
 use Rattle.crx_text.specs.Lines.{InputLine}
 use Rattle.crx_text.specs.Readers.{reading}
 use Rattle.crx_text.specs.Reading.{Reading, line_shown, line_number}
 use Rattle.crx_text.specs.Progress.{HasRead}
-use Rattle.crx_text.specs.declared.fault.Fault.TheVariants.{LineTooLong}
-use Rattle.crx_text.specs.declared.phase.Phase.TheVariants.{Open, Ended}
+use Rattle.crx_text.specs.declared.phase.Phase.TheVariants.{Ended}
 use Rattle.crx_filter.specs.Running.{Input}
 use Rattle.crx_filter.specs.Taking.{Device}
 use Rattle.crx_filter.proofs.StepReading.{line-read, overlong-read, stop-read, end-read, overlong-number, line-lent, overlong-lent, ended-not-open}
@@ -114,7 +113,7 @@ returns-in-Ok-None-clause-goes g c = λ r0 w0 m0 (lines : List InputLine) shown 
     c.next_line.follows.holds-at-none.0 (λ e. (c.next_line.ensures.ended e).0) (c.in-Ok-None.is ∙ ap Ok c.in-Ok-None.field-0-is) kept in
     record {
       shown = shown;
-      running = record { read = over.0; going = inr over.1; good = running.good; wrote = running.wrote; told = running.told };
+      running = record { read = over.0; going = inr over.1; good = running.good; wrote = running.wrote; reported = running.reported };
       ended = over.1;
     }
 
@@ -203,7 +202,7 @@ returns-in_default-clause-stops g c = λ r0 w0 m0 (lines : List InputLine) shown
     let goes = λ (given more : List ℕ) (a : gave given) (b : step more). g.met.R.Source.gave_both r0 r1 r2 given more a b in
     let stopped = stop-read gave gives step (g.R.Source.at_end r1) (g.R.Source.at_end r2) (counts r0) (counts r1) (counts r2) old new lines running.read goes c.next_line.result c.requires.going
     c.next_line.follows.holds-at-none.0 (λ e. (c.next_line.ensures.ended e).0) c.in-Err.at c.in-Err.is c.in_default.not-LineTooLong in
-    inl (c.in-Err.at, refl, record { read = stopped.0; stopped = stopped.1; wrote = running.wrote; told = running.told })
+    inl (c.in-Err.at, refl, record { read = stopped.0; stopped = stopped.1; wrote = running.wrote; reported = running.reported })
 
 pub returns-in-Ok-clause-farther : goal.returns-in-Ok-clause-farther
 returns-in-Ok-clause-farther g c =

@@ -1,11 +1,8 @@
-use Rattle.std.proofs.Common.{◌≡◌, ℕ, ◌+◌, length, true, List, [], ◌∷◌, ◌++◌, refl, sym, subst, ap, ◌∙◌}
+use Rattle.std.proofs.Common.{◌+◌, length, List, [], ◌∷◌, refl, subst}
 use Rattle.crx_text.specs.Lines.{InputLine}
-use Rattle.crx_text.specs.declared.fault.At.{At}
 use Rattle.crx_filter.specs.declared.taking.Once.{Once}
-use Rattle.crx_filter.specs.declared.taking.Once.TheVariants.{Again}
-use Rattle.crx_filter.specs.Filters.{Filter}
 use Rattle.crx_filter.specs.Engines.{with_next}
-use Rattle.crx_filter.specs.Taking.{Device, TakenIs, IsAgain, IsOnce, IsDone, IsHalted, IsCut}
+use Rattle.crx_filter.specs.Taking.{Device, IsAgain, IsOnce}
 use Rattle.crx_filter.proofs.TakingTwice.{cut-once, once-twice, halted-twice}
 use Rattle.crx_filter.proofs.taking.take_line.Goals as goal
 
@@ -16,7 +13,7 @@ returns-in-Ok-clause-done g c =
     let w0 = c.args.writer.now in
     let w1 = c.take_once.new.writer in
     let w2 = c.take_once-in-Ok-Again.new.writer in
-    let told = g.M.Sink.took in
+    let reported = g.M.Sink.took in
     let m0 = c.args.messages.now in
     let m1 = c.take_once.new.messages in
     let m2 = c.take_once-in-Ok-Again.new.messages in
@@ -26,14 +23,14 @@ returns-in-Ok-clause-done g c =
     let writer1 : Device = record { took = λ text. took w0 text w1; before = g.W.Sink.failures w0; after = g.W.Sink.failures w1 } in
     let writer2 : Device = record { took = λ text. took w1 text w2; before = g.W.Sink.failures w1; after = g.W.Sink.failures w2 } in
     let writer : Device = record { took = λ text. took w0 text w2; before = g.W.Sink.failures w0; after = g.W.Sink.failures w2 } in
-    let messages1 : Device = record { took = λ text. told m0 text m1; before = g.M.Sink.failures m0; after = g.M.Sink.failures m1 } in
-    let messages2 : Device = record { took = λ text. told m1 text m2; before = g.M.Sink.failures m1; after = g.M.Sink.failures m2 } in
-    let messages : Device = record { took = λ text. told m0 text m2; before = g.M.Sink.failures m0; after = g.M.Sink.failures m2 } in
+    let messages1 : Device = record { took = λ text. reported m0 text m1; before = g.M.Sink.failures m0; after = g.M.Sink.failures m1 } in
+    let messages2 : Device = record { took = λ text. reported m1 text m2; before = g.M.Sink.failures m1; after = g.M.Sink.failures m2 } in
+    let messages : Device = record { took = λ text. reported m0 text m2; before = g.M.Sink.failures m0; after = g.M.Sink.failures m2 } in
     let first : IsAgain (filter.so_far lines) (filter.so_far (with_next lines line)) line (shows lines) writer1 messages1 [] = subst (λ (once : Once). IsOnce filter shows writer1 messages1 lines [] line once) c.in-Ok-Again.field-0-is (c.in-Ok-Again.ensures.once lines [] line shown tt taken) in
     once-twice filter then c.take_once.ensures.filter lines line writer1 writer2 writer messages1 messages2 messages
     refl refl refl (λ xs ys a b. g.met.W.Sink.took_both w0 w1 w2 xs ys a b)
     refl refl refl (λ xs ys a b. g.met.M.Sink.took_both m0 m1 m2 xs ys a b)
-    first.notice first.next first.wrote first.told (g.E.Engine.shows c.take_once-in-Ok-Again.new.engine) c.in-Ok.field-0 (c.in-Ok.ensures.once lines (record { notice = first.notice; line = line } ∷ []) line first.shown refl taken)
+    first.notice first.next first.wrote first.reported (g.E.Engine.shows c.take_once-in-Ok-Again.new.engine) c.in-Ok.field-0 (c.in-Ok.ensures.once lines (record { notice = first.notice; line = line } ∷ []) line first.shown refl taken)
 
 pub returns-in-Err-take_once-clause-cut : goal.returns-in-Err-take_once-clause-cut
 returns-in-Err-take_once-clause-cut g c =
@@ -42,7 +39,7 @@ returns-in-Err-take_once-clause-cut g c =
     let w0 = c.args.writer.now in
     let w1 = c.take_once.new.writer in
     let w2 = c.take_once-in-Ok-Again.new.writer in
-    let told = g.M.Sink.took in
+    let reported = g.M.Sink.took in
     let m0 = c.args.messages.now in
     let m1 = c.take_once.new.messages in
     let m2 = c.take_once-in-Ok-Again.new.messages in
@@ -52,14 +49,14 @@ returns-in-Err-take_once-clause-cut g c =
     let writer1 : Device = record { took = λ text. took w0 text w1; before = g.W.Sink.failures w0; after = g.W.Sink.failures w1 } in
     let writer2 : Device = record { took = λ text. took w1 text w2; before = g.W.Sink.failures w1; after = g.W.Sink.failures w2 } in
     let writer : Device = record { took = λ text. took w0 text w2; before = g.W.Sink.failures w0; after = g.W.Sink.failures w2 } in
-    let messages1 : Device = record { took = λ text. told m0 text m1; before = g.M.Sink.failures m0; after = g.M.Sink.failures m1 } in
-    let messages2 : Device = record { took = λ text. told m1 text m2; before = g.M.Sink.failures m1; after = g.M.Sink.failures m2 } in
-    let messages : Device = record { took = λ text. told m0 text m2; before = g.M.Sink.failures m0; after = g.M.Sink.failures m2 } in
+    let messages1 : Device = record { took = λ text. reported m0 text m1; before = g.M.Sink.failures m0; after = g.M.Sink.failures m1 } in
+    let messages2 : Device = record { took = λ text. reported m1 text m2; before = g.M.Sink.failures m1; after = g.M.Sink.failures m2 } in
+    let messages : Device = record { took = λ text. reported m0 text m2; before = g.M.Sink.failures m0; after = g.M.Sink.failures m2 } in
     let first : IsAgain (filter.so_far lines) (filter.so_far (with_next lines line)) line (shows lines) writer1 messages1 [] = subst (λ (once : Once). IsOnce filter shows writer1 messages1 lines [] line once) c.in-Ok-Again.field-0-is (c.in-Ok-Again.ensures.once lines [] line shown tt taken) in
     halted-twice filter then c.take_once.ensures.filter lines line writer1 writer2 writer messages1 messages2 messages
     refl refl refl (λ xs ys a b. g.met.W.Sink.took_both w0 w1 w2 xs ys a b)
     refl refl refl (λ xs ys a b. g.met.M.Sink.took_both m0 m1 m2 xs ys a b)
-    first.notice first.next first.wrote first.told (length lines + 1) c.in-Err-take_once.halt (c.in-Err-take_once.ensures.halted lines (record { notice = first.notice; line = line } ∷ []) line first.shown refl taken)
+    first.notice first.next first.wrote first.reported (length lines + 1) c.in-Err-take_once.halt (c.in-Err-take_once.ensures.halted lines (record { notice = first.notice; line = line } ∷ []) line first.shown refl taken)
 
 pub returns-in-Ok-Done-clause-done : goal.returns-in-Ok-Done-clause-done
 returns-in-Ok-Done-clause-done g c =
@@ -73,7 +70,7 @@ pub returns-in-Err-clause-cut : goal.returns-in-Err-clause-cut
 returns-in-Err-clause-cut g c =
     λ (lines : List InputLine) (line : InputLine) shown taken.
     let filter = g.E.Engine.filter c.args.engine.now in
-    cut-once (filter.so_far lines) (filter.so_far (with_next lines line)) (length lines + 1)
+    cut-once (filter.so_far lines) (filter.so_far (with_next lines line)) (filter.may_take_memory lines line) (length lines + 1)
     (record { took = λ text. g.W.Sink.took c.args.writer.now text c.take_once.new.writer; before = g.W.Sink.failures c.args.writer.now; after = g.W.Sink.failures c.take_once.new.writer })
     (record { took = λ text. g.M.Sink.took c.args.messages.now text c.take_once.new.messages; before = g.M.Sink.failures c.args.messages.now; after = g.M.Sink.failures c.take_once.new.messages })
     c.in-Err.halt (c.in-Err.ensures.halted lines [] line shown tt taken)

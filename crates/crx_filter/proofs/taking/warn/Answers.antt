@@ -1,4 +1,4 @@
-use Rattle.std.proofs.Common.{◌≡◌, ℕ, ◌<◌, List, length, take, subst, ◌∙◌}
+use Rattle.std.proofs.Common.{ℕ, ◌<◌, List, length, take, subst, ◌∙◌}
 use Rattle.crx_filter.specs.Messages.{warning_text}
 use Rattle.crx_filter.proofs.taking.warn.Goals as goal
 

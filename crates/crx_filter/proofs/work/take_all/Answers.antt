@@ -1,7 +1,6 @@
-use Rattle.std.proofs.Common.{◌≡◌, ◌⊎◌, inl, inr, ℕ, Bool, true, false, ◌||◌, List, [], ◌∷◌, ◌++◌, length, Option, Some, None, refl, sym, ap, subst, ◌∙◌, rules}
+use Rattle.std.proofs.Common.{◌≡◌, inl, inr, Bool, false, ◌||◌, [], length, Option, refl, sym, ap, subst, ◌∙◌}
 use Rattle.std.specs.Prelude.{⊤}
 use Rattle.crx_text.specs.Devices.{tally_of}
-use Rattle.crx_text.specs.Lines.{InputLine}
 use Rattle.crx_text.specs.Readers.{reading}
 use Rattle.crx_filter.specs.Filters.{Filter}
 use Rattle.crx_filter.specs.Running.{Input, IsRunning, Goes, GoesOnBy, ComesToEnd, StopsAt}
@@ -39,7 +38,7 @@ lines-preserved-then-warned g c =
     let by : GoesOnBy filter shows input writer1 messages1 now lines c.in-Ok-Some.warning =
     subst (λ (f : Filter). GoesOnBy f shows input writer1 messages1 now lines c.in-Ok-Some.warning) i.3
     (subst (λ (p : Option Bool). Goes (g.E.Engine.filter c.lines.engine) shows input writer1 messages1 now lines p) c.in-Ok-Some.field-0-is (c.in-Ok-Some.ensures.goes r0 w0 m0 lines i.0.1 start)) in
-    (go-on filter shows input writer1 messages1 now lines c.lines.warned c.in-Ok-Some.warning _ i.0.3 by (c.if-warned.true ∙ sym (ap (λ (b : Bool). b || c.in-Ok-Some.warning) c.if-warned.true)), c.in-Ok-Some.ensures.drained, c.in-Ok-Some.ensures.running, c.step.ensures.filter ∙ i.3)
+    (go-on filter shows input writer1 messages1 now lines c.lines.warned c.in-Ok-Some.warning _ i.0.3 by (c.if-warned.true ∙ sym (ap (λ (b : Bool). b || c.in-Ok-Some.warning) c.if-warned.true)), c.in-Ok-Some.ensures.drained, c.in-Ok-Some.ensures.running, c.step.ensures.filter ∙ i.3, c.in-Ok-Some.ensures.counted)
 
 pub lines-preserved : goal.lines-preserved
 lines-preserved g c =
@@ -71,7 +70,7 @@ lines-preserved g c =
     let by : GoesOnBy filter shows input writer1 messages1 now lines c.in-Ok-Some.warning =
     subst (λ (f : Filter). GoesOnBy f shows input writer1 messages1 now lines c.in-Ok-Some.warning) i.3
     (subst (λ (p : Option Bool). Goes (g.E.Engine.filter c.lines.engine) shows input writer1 messages1 now lines p) c.in-Ok-Some.field-0-is (c.in-Ok-Some.ensures.goes r0 w0 m0 lines i.0.1 start)) in
-    (go-on filter shows input writer1 messages1 now lines c.lines.warned c.in-Ok-Some.warning _ i.0.3 by (ap (λ (b : Bool). b || c.in-Ok-Some.warning) (sym c.if-warned.false)), c.in-Ok-Some.ensures.drained, c.in-Ok-Some.ensures.running, c.step.ensures.filter ∙ i.3)
+    (go-on filter shows input writer1 messages1 now lines c.lines.warned c.in-Ok-Some.warning _ i.0.3 by (ap (λ (b : Bool). b || c.in-Ok-Some.warning) (sym c.if-warned.false)), c.in-Ok-Some.ensures.drained, c.in-Ok-Some.ensures.running, c.step.ensures.filter ∙ i.3, c.in-Ok-Some.ensures.counted)
 
 pub returns-then-warned-2 : goal.returns-then-warned-2
 returns-then-warned-2 g c =
@@ -110,12 +109,13 @@ returns-then-warned-2 g c =
     let writer : Device = record { took = λ text. g.W.Sink.took w0 text w3; before = g.W.Sink.failures w0; after = g.W.Sink.failures w3 } in
     let messages2 : Device = record { took = λ text. g.M.Sink.took m2 text m3; before = g.M.Sink.failures m2; after = g.M.Sink.failures m3 } in
     let messages : Device = record { took = λ text. g.M.Sink.took m0 text m3; before = g.M.Sink.failures m0; after = g.M.Sink.failures m3 } in
-    let done : IsDone (filter.so_far lines) (filter.whole lines) ⊤ writer2 messages2 [] c.in-Ok.warning =
-    subst (λ (f : Filter). IsDone (f.so_far lines) (f.whole lines) ⊤ writer2 messages2 [] c.in-Ok.warning) same (c.in-Ok.ensures.done lines comes.shown) in
+    let ended = g.E.Engine.has_ended c.take_end.new.engine in
+    let done : IsDone (filter.so_far lines) (filter.whole lines) (ended lines) writer2 messages2 [] c.in-Ok.warning =
+    subst (λ (f : Filter). IsDone (f.so_far lines) (f.whole lines) (ended lines) writer2 messages2 [] c.in-Ok.warning) same (c.in-Ok.ensures.done lines comes.shown) in
     well-done filter shows input now lines writer1 writer2 writer messages1 messages2 messages
     refl refl refl (λ xs ys a b. g.met.W.Sink.took_both w0 w2 w3 xs ys a b)
     refl refl refl (λ xs ys a b. g.met.M.Sink.took_both m0 m2 m3 xs ys a b)
-    comes c.number-last.result c.number-last.ensures ⊤ c.lines.warned c.in-Ok.warning _ i.0.3 (c.if-warned-2.true ∙ sym (ap (λ (b : Bool). b || c.in-Ok.warning) c.if-warned-2.true)) done
+    comes c.number-last.result c.number-last.ensures ended c.lines.warned c.in-Ok.warning _ i.0.3 (c.if-warned-2.true ∙ sym (ap (λ (b : Bool). b || c.in-Ok.warning) c.if-warned-2.true)) done
 
 pub returns-else-warned-2 : goal.returns-else-warned-2
 returns-else-warned-2 g c =
@@ -154,12 +154,13 @@ returns-else-warned-2 g c =
     let writer : Device = record { took = λ text. g.W.Sink.took w0 text w3; before = g.W.Sink.failures w0; after = g.W.Sink.failures w3 } in
     let messages2 : Device = record { took = λ text. g.M.Sink.took m2 text m3; before = g.M.Sink.failures m2; after = g.M.Sink.failures m3 } in
     let messages : Device = record { took = λ text. g.M.Sink.took m0 text m3; before = g.M.Sink.failures m0; after = g.M.Sink.failures m3 } in
-    let done : IsDone (filter.so_far lines) (filter.whole lines) ⊤ writer2 messages2 [] c.in-Ok.warning =
-    subst (λ (f : Filter). IsDone (f.so_far lines) (f.whole lines) ⊤ writer2 messages2 [] c.in-Ok.warning) same (c.in-Ok.ensures.done lines comes.shown) in
+    let ended = g.E.Engine.has_ended c.take_end.new.engine in
+    let done : IsDone (filter.so_far lines) (filter.whole lines) (ended lines) writer2 messages2 [] c.in-Ok.warning =
+    subst (λ (f : Filter). IsDone (f.so_far lines) (f.whole lines) (ended lines) writer2 messages2 [] c.in-Ok.warning) same (c.in-Ok.ensures.done lines comes.shown) in
     well-done filter shows input now lines writer1 writer2 writer messages1 messages2 messages
     refl refl refl (λ xs ys a b. g.met.W.Sink.took_both w0 w2 w3 xs ys a b)
     refl refl refl (λ xs ys a b. g.met.M.Sink.took_both m0 m2 m3 xs ys a b)
-    comes c.number-last.result c.number-last.ensures ⊤ c.lines.warned c.in-Ok.warning _ i.0.3 (ap (λ (b : Bool). b || c.in-Ok.warning) (sym c.if-warned-2.false)) done
+    comes c.number-last.result c.number-last.ensures ended c.lines.warned c.in-Ok.warning _ i.0.3 (ap (λ (b : Bool). b || c.in-Ok.warning) (sym c.if-warned-2.false)) done
 
 pub returns-in-Err-take_end : goal.returns-in-Err-take_end
 returns-in-Err-take_end g c =
@@ -198,8 +199,8 @@ returns-in-Err-take_end g c =
     let writer : Device = record { took = λ text. g.W.Sink.took w0 text w3; before = g.W.Sink.failures w0; after = g.W.Sink.failures w3 } in
     let messages2 : Device = record { took = λ text. g.M.Sink.took m2 text m3; before = g.M.Sink.failures m2; after = g.M.Sink.failures m3 } in
     let messages : Device = record { took = λ text. g.M.Sink.took m0 text m3; before = g.M.Sink.failures m0; after = g.M.Sink.failures m3 } in
-    let halted : IsHalted (filter.so_far lines) (filter.whole lines) (length lines) writer2 messages2 [] c.in-Err-take_end.halt =
-    subst (λ (f : Filter). IsHalted (f.so_far lines) (f.whole lines) (length lines) writer2 messages2 [] c.in-Err-take_end.halt) same (c.in-Err-take_end.ensures.cut lines comes.shown) in
+    let halted : IsHalted (filter.so_far lines) (filter.whole lines) false (length lines) writer2 messages2 [] c.in-Err-take_end.halt =
+    subst (λ (f : Filter). IsHalted (f.so_far lines) (f.whole lines) false (length lines) writer2 messages2 [] c.in-Err-take_end.halt) same (c.in-Err-take_end.ensures.cut lines comes.shown) in
     inr (inr (inl (stopped-end filter shows input now lines writer1 writer2 writer messages1 messages2 messages
     refl refl refl (λ xs ys a b. g.met.W.Sink.took_both w0 w2 w3 xs ys a b)
     refl refl refl (λ xs ys a b. g.met.M.Sink.took_both m0 m2 m3 xs ys a b)
@@ -233,4 +234,4 @@ returns-in-Err g c =
     let messages1 : Device = record { took = λ text. g.M.Sink.took m0 text m2; before = g.M.Sink.failures m0; after = g.M.Sink.failures m2 } in
     let stops : StopsAt filter input writer1 messages1 now lines c.in-Err.halt =
     subst (λ (f : Filter). StopsAt f input writer1 messages1 now lines c.in-Err.halt) i.3 (c.in-Err.ensures.stops r0 w0 m0 lines i.0.1 start) in
-    stopped-on filter input writer1 messages1 now lines c.number.result c.lines.warned c.in-Err.halt c.number.ensures stops
+    stopped-on filter (g.E.Engine.has_ended c.step.new.engine) input writer1 messages1 now lines c.number.result c.lines.warned c.in-Err.halt c.number.ensures stops

@@ -1,9 +1,9 @@
-use Rattle.std.proofs.Common.{◌≡◌, ◌-◌, ℕ, List, []}
+use Rattle.std.proofs.Common.{◌≡◌, ◌-◌, List, []}
 use Rattle.crx_text.specs.Devices.{tally_of}
 use Rattle.crx_text.specs.Lines.{InputLine}
 use Rattle.crx_text.specs.Readers.{reading}
 use Rattle.crx_text.specs.declared.limits.TheConstants.{INPUT_LIMIT}
-use Rattle.crx_filter.specs.Running.{IsRunning}
+use Rattle.crx_filter.specs.Running.{IsWithinLimit, IsRunning}
 use Rattle.crx_filter.specs.Taking.{are_some}
 use Rattle.crx_filter.proofs.work.take_all.Given as goal
 
@@ -19,6 +19,7 @@ invariant-lines g l =
     × (g.E.Engine.ready l.engine ≡ [])
     × g.E.Engine.is_open l.engine
     × (g.E.Engine.filter l.engine ≡ g.E.Engine.filter l.initial.engine)
+    × IsWithinLimit (reading l.input)
 
 abbrev pub decreases-lines : goal.decreases-lines
 decreases-lines g l = INPUT_LIMIT - (reading l.input).lent

@@ -1,0 +1,35 @@
+use Rattle.std.proofs.Common.{◌≡◌, List, ℕ, Option, None, refl, sym, ap, ◌∙◌}
+use Rattle.crx_text.specs.declared.fault.At.{At}
+use Rattle.crx_compact.specs.OpenEpochs.{OpenRawEpoch, tail_held}
+use Rattle.crx_compact.specs.Tails.{Tail}
+use Rattle.crx_filter.specs.CompactStages.{open_in}
+use Rattle.crx_filter.specs.EngineSteps.{IsAt, step_made}
+use Rattle.crx_filter.specs.CompactReaders.{seen_in}
+use Rattle.crx_filter.specs.Expander.{expansion}
+use Rattle.crx_filter.specs.Expanding.{seen_by}
+use Rattle.crx_filter.specs.declared.stage.Stage.{Stage}
+use Rattle.crx_filter.specs.declared.stage.Stage.TheVariants.{Ended}
+use Rattle.crx_filter.specs.LineByLine.{Step, seen_end}
+use Rattle.crx_filter.proofs.ExpanderSteps.{failed-at, held-open, settled-as}
+use Rattle.crx_filter.proofs.expander.Expander.end.Goals as goal
+
+pub returns-clause-ends : goal.returns-clause-ends
+returns-clause-ends c =
+    let self = c.args.self.now in
+    let s = c.after_end-settled.result in
+    let reader = c.settle.new.self in
+    let held = open_in self.reader.columns in
+    let at : IsAt {O = OpenRawEpoch} {K = Option Tail} (seen_by self) held self.reader.stage self.number c.skip.result = record { is_phase = refl; is_open = held-open self.reader.stage self.reader.columns self.reader.consistent; is_count = refl; is_skip = sym c.skip.ensures } in
+    let after = seen_by (record self { number = s.number; reader = reader }) in
+    ap (λ (l : List (List ℕ)). step_made s.answer l after) c.requires.drained
+    ∙ settled-as (seen_by self) (open_in reader.columns) s self.options reader.stage reader.types (tail_held reader.columns) refl c.settle.ensures.stage c.settle.ensures.types c.settle.ensures.tail
+    ∙ c.after_end-settled.ensures.expansion (seen_by self) held (open_in reader.columns) at
+
+pub returns-clause-repeated : goal.returns-clause-repeated
+returns-clause-repeated c = λ (at : At) (is : c.args.self.now.reader.stage ≡ Ended at).
+    let self = c.args.self.now in
+    let held = open_in self.reader.columns in
+    let known : IsAt {O = OpenRawEpoch} {K = Option Tail} (seen_by self) held self.reader.stage self.number c.skip.result = record { is_phase = refl; is_open = held-open self.reader.stage self.reader.columns self.reader.consistent; is_count = refl; is_skip = sym c.skip.ensures } in
+    let step = c.after_end-settled.ensures.expansion (seen_by self) held None known in
+    failed-at c.after_end-settled.result.answer at
+    (ap (λ (s : Step OpenRawEpoch (Option Tail)). s.answer) step ∙ ap (λ (stage : Stage). (seen_end expansion (seen_in self.options self.number self.reader stage)).answer) is)

@@ -1,5 +1,0 @@
-use Rattle.crx_filter.proofs.Bounds.{compaction-bounded}
-use Rattle.crx_filter.proofs.laws.bounded_compaction.Goals as goal
-
-pub returns : goal.returns
-returns c = compaction-bounded

@@ -1,5 +1,0 @@
-use Rattle.crx_filter.proofs.CompactedOn.{compacted-on}
-use Rattle.crx_filter.proofs.laws.compaction_by_line.Goals as goal
-
-pub returns : goal.returns
-returns c = compacted-on

@@ -1,5 +1,0 @@
-use Rattle.crx_filter.proofs.Ended.{compaction-ended}
-use Rattle.crx_filter.proofs.laws.compaction_ends.Goals as goal
-
-pub returns : goal.returns
-returns c = compaction-ended

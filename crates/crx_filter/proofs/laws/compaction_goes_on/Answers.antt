@@ -1,5 +1,0 @@
-use Rattle.crx_filter.proofs.RinexPrefixes.{compacted-first}
-use Rattle.crx_filter.proofs.laws.compaction_goes_on.Goals as goal
-
-pub returns : goal.returns
-returns c = compacted-first

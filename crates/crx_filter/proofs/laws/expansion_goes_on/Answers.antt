@@ -1,5 +1,0 @@
-use Rattle.crx_filter.proofs.CompactPrefixes.{expanded-first}
-use Rattle.crx_filter.proofs.laws.expansion_goes_on.Goals as goal
-
-pub returns : goal.returns
-returns c = expanded-first

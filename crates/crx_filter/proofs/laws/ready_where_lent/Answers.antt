@@ -1,5 +1,0 @@
-use Rattle.crx_filter.proofs.Readiness.{compaction-ready, expansion-ready}
-use Rattle.crx_filter.proofs.laws.ready_where_lent.Goals as goal
-
-pub returns : goal.returns
-returns c = record { compaction = compaction-ready; expansion = expansion-ready }

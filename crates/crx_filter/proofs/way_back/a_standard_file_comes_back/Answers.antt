@@ -1,5 +1,0 @@
-use Rattle.crx_filter.proofs.WayBackStandard.{standard-comes_back}
-use Rattle.crx_filter.proofs.way_back.a_standard_file_comes_back.Goals as goal
-
-pub returns : goal.returns
-returns c = standard-comes_back

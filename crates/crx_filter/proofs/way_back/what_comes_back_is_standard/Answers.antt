@@ -1,5 +1,0 @@
-use Rattle.crx_filter.proofs.WayBackConverse.{standard-where_same}
-use Rattle.crx_filter.proofs.way_back.what_comes_back_is_standard.Goals as goal
-
-pub returns : goal.returns
-returns c = standard-where_same

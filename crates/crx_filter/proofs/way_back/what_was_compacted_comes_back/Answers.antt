@@ -1,5 +1,0 @@
-use Rattle.crx_filter.proofs.WayBack.{comes-back}
-use Rattle.crx_filter.proofs.way_back.what_was_compacted_comes_back.Goals as goal
-
-pub returns : goal.returns
-returns c = comes-back

@@ -1,0 +1,74 @@
+//! The check of a RINEX file.
+
+ghost use Rattle.std.specs.Prelude.{◌≡◌, ℕ, List, [], None, Some};
+ghost use Rattle.crx_text.specs.declared.fault.At.{At};
+ghost use Rattle.crx_text.specs.Devices.{tally_of};
+ghost use Rattle.crx_filter.specs.Checkers.{HasTaken, IsOpen, ready_lines};
+ghost use Rattle.crx_filter.specs.Checking.{check_filter};
+ghost use Rattle.crx_filter.specs.Runs.{RunsAs};
+ghost use Rattle.crx_filter.specs.Standard.{checked, report_status};
+
+use crate::checker::Checker;
+use crate::outcome::Outcome;
+use crate::run::run;
+use crx_text::{Sink, Source};
+use std::alloc::Global;
+
+/// What a check answers: where no fault ended it, the status says whether the file is standard.
+fn judged(outcome: Outcome, not_standard: Option<u64>) -> Outcome
+    ensures fault { result.fault ≡ outcome.fault }
+    ensures good { outcome.fault ≡ None → result.status ≡ report_status not_standard }
+    ensures bad { (at : At) → outcome.fault ≡ Some at → result.status ≡ outcome.status }
+{
+    let status = match (outcome.fault, not_standard) {
+        (None, None) => 0,
+        (None, Some(_)) => 2,
+        (Some(_), _) => outcome.status,
+    };
+    Outcome {
+        status,
+        fault: outcome.fault,
+    }
+}
+
+/// Checks a RINEX file by a checker that has taken no line.
+fn check_by<R: Source, W: Sink, M: Sink>(
+    alloc: Global,
+    checker: &mut Checker,
+    reader: &mut R,
+    writer: &mut W,
+    messages: &mut M,
+) -> Outcome
+    requires taken { HasTaken checker.old [] [] }
+    requires open { IsOpen checker.old }
+    requires drained { ready_lines checker.old ≡ [] }
+    ensures runs { (given : List ℕ) × R.gave reader.old given reader.new × RunsAs checked check_filter
+        (record { gave = λ given. R.gave reader.old given reader.new; at_end = R.at_end reader.new; start = tally_of (R.failures reader.old) (R.ends reader.old); counted = tally_of (R.failures reader.new) (R.ends reader.new) })
+        given
+        (record { took = λ text. W.took writer.old text writer.new; before = W.failures writer.old; after = W.failures writer.new })
+        (record { took = λ text. M.took messages.old text messages.new; before = M.failures messages.old; after = M.failures messages.new })
+        result.status result.fault }
+{
+    let outcome = run(alloc, checker, reader, writer, messages);
+    judged(outcome, checker.not_standard())
+}
+
+/// Checks a RINEX file: writes its report once the whole input is accepted, and else reports the fault that ended the check. The status
+/// is 0 where the file is standard, 2 where it isn't, and 1 after a fault: one of a line, or `ReadFailed`, `WriteFailed`, `InputTooLong` and
+/// `OutOfMemory` where a device or memory failed or the input is longer.
+pub fn check<R: Source, W: Sink, M: Sink>(
+    alloc: Global,
+    reader: &mut R,
+    writer: &mut W,
+    messages: &mut M,
+) -> Outcome
+    ensures runs { (given : List ℕ) × R.gave reader.old given reader.new × RunsAs checked check_filter
+        (record { gave = λ given. R.gave reader.old given reader.new; at_end = R.at_end reader.new; start = tally_of (R.failures reader.old) (R.ends reader.old); counted = tally_of (R.failures reader.new) (R.ends reader.new) })
+        given
+        (record { took = λ text. W.took writer.old text writer.new; before = W.failures writer.old; after = W.failures writer.new })
+        (record { took = λ text. M.took messages.old text messages.new; before = M.failures messages.old; after = M.failures messages.new })
+        result.status result.fault }
+{
+    let mut checker = Checker::new(alloc);
+    check_by(alloc, &mut checker, reader, writer, messages)
+}
