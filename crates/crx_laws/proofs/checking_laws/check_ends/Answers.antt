@@ -1,0 +1,5 @@
+use Rattle.crx_filter.proofs.CheckEnded.{check-ended}
+use Rattle.crx_laws.proofs.checking_laws.check_ends.Goals as goal
+
+pub returns : goal.returns
+returns c = check-ended

@@ -1,0 +1,5 @@
+use Rattle.crx_filter.proofs.CheckStandard.{standard-exactly_where_same}
+use Rattle.crx_laws.proofs.checking_laws.standard_exactly_where_same.Goals as goal
+
+pub returns : goal.returns
+returns c = standard-exactly_where_same

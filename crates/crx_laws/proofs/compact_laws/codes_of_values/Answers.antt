@@ -1,0 +1,5 @@
+use Rattle.crx_compact.proofs.Arcs.{codes-of_values}
+use Rattle.crx_laws.proofs.compact_laws.codes_of_values.Goals as goal
+
+pub returns : goal.returns
+returns c = codes-of_values

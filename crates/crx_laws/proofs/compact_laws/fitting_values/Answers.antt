@@ -1,0 +1,5 @@
+use Rattle.crx_compact.proofs.Bounds.{within-is}
+use Rattle.crx_laws.proofs.compact_laws.fitting_values.Goals as goal
+
+pub returns : goal.returns
+returns c = within-is

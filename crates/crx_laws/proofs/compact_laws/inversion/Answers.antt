@@ -1,0 +1,5 @@
+use Rattle.crx_compact.proofs.Inversion.{inverts}
+use Rattle.crx_laws.proofs.compact_laws.inversion.Goals as goal
+
+pub returns : goal.returns
+returns c = inverts

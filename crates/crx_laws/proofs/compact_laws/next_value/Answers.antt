@@ -1,0 +1,5 @@
+use Rattle.crx_compact.proofs.Stepping.{values-by_tail}
+use Rattle.crx_laws.proofs.compact_laws.next_value.Goals as goal
+
+pub returns : goal.returns
+returns c = values-by_tail

@@ -1,0 +1,5 @@
+use Rattle.crx_compact.proofs.Overlays.{overlaid-in_turn}
+use Rattle.crx_laws.proofs.compact_laws.overlay_by_patches.Goals as goal
+
+pub returns : goal.returns
+returns c = overlaid-in_turn

@@ -1,0 +1,5 @@
+use Rattle.crx_compact.proofs.Overlays.{patched-difference}
+use Rattle.crx_laws.proofs.compact_laws.patch_after_difference.Goals as goal
+
+pub returns : goal.returns
+returns c = patched-difference

@@ -1,0 +1,5 @@
+use Rattle.crx_compact.proofs.BoundedReading.{read-bounded}
+use Rattle.crx_laws.proofs.compact_reading.bounded_reading.Goals as goal
+
+pub returns : goal.returns
+returns c = read-bounded

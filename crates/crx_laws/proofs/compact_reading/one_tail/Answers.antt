@@ -1,0 +1,5 @@
+use Rattle.crx_compact.proofs.OneTail.{one-tail}
+use Rattle.crx_laws.proofs.compact_reading.one_tail.Goals as goal
+
+pub returns : goal.returns
+returns c = one-tail

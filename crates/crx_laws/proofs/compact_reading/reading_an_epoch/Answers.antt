@@ -1,0 +1,5 @@
+use Rattle.crx_compact.proofs.Reading.{each-reads_back}
+use Rattle.crx_laws.proofs.compact_reading.reading_an_epoch.Goals as goal
+
+pub returns : goal.returns
+returns c = each-reads_back

@@ -1,0 +1,5 @@
+use Rattle.crx_compact.proofs.Reading.{reads-back}
+use Rattle.crx_laws.proofs.compact_reading.reading_epochs.Goals as goal
+
+pub returns : goal.returns
+returns c = reads-back

@@ -1,0 +1,5 @@
+use Rattle.crx_compact.proofs.Soundness.{reads-soundly}
+use Rattle.crx_laws.proofs.compact_reading.sound_reading.Goals as goal
+
+pub returns : goal.returns
+returns c = reads-soundly

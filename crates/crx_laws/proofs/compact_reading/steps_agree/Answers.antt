@@ -1,0 +1,5 @@
+use Rattle.crx_compact.proofs.LineByLine.{steps-agree}
+use Rattle.crx_laws.proofs.compact_reading.steps_agree.Goals as goal
+
+pub returns : goal.returns
+returns c = steps-agree

@@ -1,0 +1,5 @@
+use Rattle.crx_compact.proofs.LineByLine.{steps-from_open}
+use Rattle.crx_laws.proofs.compact_reading.steps_from_open.Goals as goal
+
+pub returns : goal.returns
+returns c = steps-from_open

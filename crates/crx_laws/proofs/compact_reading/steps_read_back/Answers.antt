@@ -1,0 +1,5 @@
+use Rattle.crx_compact.proofs.BackByLines.{steps-read_back}
+use Rattle.crx_laws.proofs.compact_reading.steps_read_back.Goals as goal
+
+pub returns : goal.returns
+returns c = steps-read_back

@@ -1,0 +1,5 @@
+use Rattle.crx_compact.proofs.LineByLine.{wanted-where_open}
+use Rattle.crx_laws.proofs.compact_reading.wanted_where_open.Goals as goal
+
+pub returns : goal.returns
+returns c = wanted-where_open

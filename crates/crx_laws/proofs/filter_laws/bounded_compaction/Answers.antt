@@ -1,0 +1,5 @@
+use Rattle.crx_filter.proofs.Bounds.{compaction-bounded}
+use Rattle.crx_laws.proofs.filter_laws.bounded_compaction.Goals as goal
+
+pub returns : goal.returns
+returns c = compaction-bounded

@@ -1,0 +1,5 @@
+use Rattle.crx_filter.proofs.Lendable.{compact-lendable}
+use Rattle.crx_laws.proofs.filter_laws.bounded_lines.Goals as goal
+
+pub returns : goal.returns
+returns c = compact-lendable

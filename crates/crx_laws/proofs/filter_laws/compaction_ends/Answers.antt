@@ -1,0 +1,5 @@
+use Rattle.crx_filter.proofs.Ended.{compaction-ended}
+use Rattle.crx_laws.proofs.filter_laws.compaction_ends.Goals as goal
+
+pub returns : goal.returns
+returns c = compaction-ended

@@ -1,0 +1,5 @@
+use Rattle.crx_filter.proofs.CompactPrefixes.{expanded-first}
+use Rattle.crx_laws.proofs.filter_laws.expansion_goes_on.Goals as goal
+
+pub returns : goal.returns
+returns c = expanded-first

@@ -1,0 +1,5 @@
+use Rattle.crx_filter.proofs.Anew.{depends-on_types}
+use Rattle.crx_laws.proofs.filter_laws.reading_starts_anew.Goals as goal
+
+pub returns : goal.returns
+returns c = depends-on_types

@@ -1,0 +1,5 @@
+use Rattle.crx_filter.proofs.Readiness.{compaction-ready, expansion-ready}
+use Rattle.crx_laws.proofs.filter_laws.ready_where_lent.Goals as goal
+
+pub returns : goal.returns
+returns c = record { compaction = compaction-ready; expansion = expansion-ready }

@@ -1,0 +1,7 @@
+use Rattle.crx_filter.proofs.Resuming.{resumed}
+use Rattle.crx_filter.proofs.ForwardCompact.{compact-forward}
+use Rattle.crx_filter.specs.Expanded.{compact_place}
+use Rattle.crx_laws.proofs.filter_laws.resumed_compact.Goals as goal
+
+pub returns : goal.returns
+returns c = record { forward = compact-forward; resumed = resumed compact_place compact-forward }

@@ -1,0 +1,7 @@
+use Rattle.crx_filter.proofs.Resuming.{resumed}
+use Rattle.crx_filter.proofs.Forward.{rinex-forward}
+use Rattle.crx_filter.specs.Compacted.{rinex_place}
+use Rattle.crx_laws.proofs.filter_laws.resumed_rinex.Goals as goal
+
+pub returns : goal.returns
+returns c = record { forward = rinex-forward; resumed = resumed rinex_place rinex-forward }

@@ -1,0 +1,7 @@
+use Rattle.crx_filter.specs.Compacted.{rinex_place, rinex_reading}
+use Rattle.crx_filter.proofs.WhatWasRead.{items-read}
+use Rattle.crx_filter.proofs.InPlace.{items-in_place}
+use Rattle.crx_laws.proofs.filter_laws.what_was_accepted.Goals as goal
+
+pub returns : goal.returns
+returns c = λ skip lines. items-in_place (rinex_reading skip lines).items (items-read rinex_place skip 1 lines)

@@ -1,0 +1,6 @@
+use Rattle.crx_filter.specs.Compacted.{rinex_place}
+use Rattle.crx_filter.proofs.WhatWasRead.{items-read, compact-items-read}
+use Rattle.crx_laws.proofs.filter_laws.what_was_read.Goals as goal
+
+pub returns : goal.returns
+returns c = record { rinex = λ skip lines. items-read rinex_place skip 1 lines; compact = compact-items-read }

@@ -1,0 +1,124 @@
+//! Laws over the definitions of this crate: each is the contract of a function that does nothing.
+
+ghost use Rattle.std.specs.Prelude.{◌≡◌, ◌∷◌, [], List, Bool, true, false, Some, codes, map};
+ghost use Rattle.crx_text.specs.Seen.{ReadLine, Content};
+ghost use Rattle.crx_text.specs.declared.fault.At.{At};
+ghost use Rattle.crx_filter.specs.Anew.{starts_anew, DependsOnTypes};
+ghost use Rattle.crx_filter.specs.Bounds.{IsBoundedCompaction, IsBoundedExpansion, CompactIsLendable};
+ghost use Rattle.crx_filter.specs.Choices.{Choices};
+ghost use Rattle.crx_filter.specs.Compactor.{compaction, compaction_seen};
+ghost use Rattle.crx_laws.specs.FilterExamples.{line_at, one_type, full_line_at, second_changed};
+ghost use Rattle.crx_filter.specs.Expander.{expansion, expansion_seen};
+ghost use Rattle.crx_filter.specs.Compacted.{rinex_place, rinex_reading, whole_rinex, compacted, compacted_so_far};
+ghost use Rattle.crx_filter.specs.Directions.{compaction_filter, expansion_filter};
+ghost use Rattle.crx_filter.specs.Runs.{IsLawful};
+ghost use Rattle.crx_filter.specs.Expanded.{compact_place, compact_reading, whole_compact, expanded, expanded_so_far};
+ghost use Rattle.crx_filter.specs.Laws.{IsReadForward, IsResumed, IsWrittenFirst, IsCompactedOn, IsExpandedOn, IsCompactionEnded, IsExpansionEnded, StaysEnded, AreRead, AreInPlace, IsReadyWhereLent, fault_of_stop};
+
+/// What stands at a line of a RINEX file is certain as soon as its last line has come; so the reading of some lines and more goes on
+/// from where the reading of the first lines stopped.
+pub fn resumed_rinex()
+    ensures forward { IsReadForward rinex_place }
+    ensures resumed { IsResumed rinex_place }
+{}
+
+/// The same of compact text from its third line on.
+pub fn resumed_compact()
+    ensures forward { IsReadForward compact_place }
+    ensures resumed { IsResumed compact_place }
+{}
+
+/// What a compaction has written for some lines stands at the beginning of its output for every input that has these lines first.
+pub fn compaction_goes_on()
+    ensures { (choices : Choices) (lines : List ReadLine) → IsWrittenFirst compacted_so_far (λ input (c : Choices). (compacted input c).output) choices lines }
+{}
+
+/// A compaction goes line by line: after each line it has seen, lent and reported what the compaction of all lines so far has, by
+/// what it held before that line alone; with faults skipped or not.
+pub fn compaction_by_line()
+    ensures { (choices : Choices) (lines : List ReadLine) (line : ReadLine) → IsCompactedOn choices lines line }
+{}
+
+/// What an expansion has written for some lines stands at the beginning of its output for every input that has these lines first.
+pub fn expansion_goes_on()
+    ensures { (choices : Choices) (lines : List ReadLine) → IsWrittenFirst expanded_so_far (λ input (c : Choices). (expanded input c).output) choices lines }
+{}
+
+/// An expansion goes line by line, in the same way.
+pub fn expansion_by_line()
+    ensures { (choices : Choices) (lines : List ReadLine) (line : ReadLine) → IsExpandedOn choices lines line }
+{}
+
+/// The end of the input, after any lines, is what it is for the compaction of all of them: nothing more is written, and the fault or
+/// the warning is that of the whole reading.
+pub fn compaction_ends()
+    ensures { (choices : Choices) (lines : List ReadLine) → IsCompactionEnded choices lines }
+{}
+
+/// The same of an expansion.
+pub fn expansion_ends()
+    ensures { (choices : Choices) (lines : List ReadLine) → IsExpansionEnded choices lines }
+{}
+
+/// Once a fault has ended the run, more lines change nothing, in both directions.
+pub fn ended_stays()
+    ensures compaction { (skip : Bool) (lines more : List ReadLine) (at : At) → fault_of_stop (rinex_reading skip lines).stop ≡ Some at → StaysEnded (rinex_reading skip) (whole_rinex skip) lines more at }
+    ensures expansion { (skip : Bool) (lines more : List ReadLine) (at : At) → fault_of_stop (compact_reading skip lines).stop ≡ Some at → StaysEnded (compact_reading skip) (whole_compact skip) lines more at }
+{}
+
+/// What was accepted stood where it was read, after what was accepted before it.
+pub fn what_was_read()
+    ensures rinex { (skip : Bool) (lines : List ReadLine) → AreRead rinex_place (rinex_reading skip lines).items }
+    ensures compact { (skip : Bool) (lines : List ReadLine) → AreRead compact_place (compact_reading skip lines).items }
+{}
+
+/// What was accepted of a RINEX file is in place: each unit where it belongs, and each epoch whole, with the types in force.
+pub fn what_was_accepted()
+    ensures { (skip : Bool) (lines : List ReadLine) → AreInPlace (rinex_reading skip lines).items }
+{}
+
+/// What a compaction holds between two lines is bounded, however long the input is: at most seven counts of types; of the last epoch
+/// alone its text, its satellites' indicators, and four numbers for each of their cells; and of an epoch whose lines have come in
+/// part at most 999 rows of at most 400 values, with two indicators each.
+pub fn bounded_compaction()
+    ensures { (choices : Choices) (lines : List ReadLine) → IsBoundedCompaction (compaction_seen choices lines) }
+{}
+
+/// What an expansion holds between two lines is bounded in the same way: of the last epoch its text of at most 3038 characters, at most
+/// 999 satellites of at most 400 cells with ten numbers each, and their indicators, at most 800 a satellite; and of an epoch whose
+/// lines have come in part no more satellites than that, those whose lines are awaited among them.
+pub fn bounded_expansion()
+    ensures { (choices : Choices) (lines : List ReadLine) → IsBoundedExpansion (expansion_seen choices lines) }
+{}
+
+/// What is lent of a unit in compact text is bounded: at most 1001 lines, of at most 8192 bytes each, and of at most 7200 bytes each where
+/// they are those of an epoch.
+pub fn bounded_lines()
+    ensures { (choices : Choices) (lines : List ReadLine) → CompactIsLendable choices lines }
+{}
+
+/// The reading of compact text starts anew between two units, where the next line begins with `>` and so does the one after the events
+/// that stand there, if any: whatever was read before, the units from there on depend on the observation types in force and on those
+/// lines alone.
+pub fn reading_starts_anew()
+    ensures { DependsOnTypes }
+{}
+
+/// Such lines: an event with a record that doesn't begin with `>`, and then an epoch in full; but no line of an epoch that goes on.
+pub fn lines_that_start_anew()
+    ensures anew { starts_anew 0 (map Content (line_at 1 4 1 ∷ one_type ∷ full_line_at 2 1 (codes "G01") ∷ [] ∷ codes "3&2000" ∷ [])) ≡ true }
+    ensures on { starts_anew 0 (map Content (line_at 1 4 1 ∷ one_type ∷ second_changed 2 ∷ [] ∷ codes "500" ∷ [])) ≡ false }
+{}
+
+/// A line is answered as ready exactly where lines are lent.
+pub fn ready_where_lent()
+    ensures compaction { IsReadyWhereLent compaction }
+    ensures expansion { IsReadyWhereLent expansion }
+{}
+
+/// Both directions are lawful filters: a fault stays once it is found, what is written grows with the lines, and the faults are those
+/// of lines.
+pub fn lawful_directions()
+    ensures compaction { (choices : Choices) → IsLawful (compaction_filter choices) }
+    ensures expansion { (choices : Choices) → IsLawful (expansion_filter choices) }
+{}

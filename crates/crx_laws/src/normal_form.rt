@@ -1,0 +1,32 @@
+//! The normal form of a file, the printed text of its units: each law is the contract of a function that does nothing.
+//!
+//! It is had by every file that is read to its good end and has no header line, event line or record whose content ends in CR.
+
+ghost use Rattle.std.specs.Prelude.{◌≡◌, ◌∷◌, ◌++◌, [], List, ℕ, codes};
+ghost use Rattle.crx_laws.specs.FilterExamples.{header, epoch_line_at, observed};
+ghost use Rattle.crx_filter.specs.NormalForm.{HasNormalForm, IsReadAsNormal, IsStandardAsNormal, IsNormalForGood};
+ghost use Rattle.crx_filter.specs.Results.{lines_text};
+ghost use Rattle.crx_filter.specs.Standard.{normal_form};
+
+/// The normal form is read as the very same units as the file: each header line, event line and record, and each epoch with its clock
+/// offset, values and indicators.
+pub fn the_normal_form_reads_the_same()
+    ensures { (input : List ℕ) → IsReadAsNormal input }
+{}
+
+/// The normal form is a standard file.
+pub fn the_normal_form_is_standard()
+    ensures { (input : List ℕ) → IsStandardAsNormal input }
+{}
+
+/// The normal form is its own normal form.
+pub fn the_normal_form_stays()
+    ensures { (input : List ℕ) → IsNormalForGood input }
+{}
+
+/// What these laws ask for can be met, and by a file that isn't standard: its number is spelt with a zero too many before the point,
+/// and its normal form has it without.
+pub fn premises()
+    ensures met { HasNormalForm (lines_text (header ++ epoch_line_at 0 1 ∷ codes "G01        01.000" ∷ [])) }
+    ensures changed { normal_form (lines_text (header ++ epoch_line_at 0 1 ∷ codes "G01        01.000" ∷ [])) ≡ lines_text (header ++ epoch_line_at 0 1 ∷ observed (codes "1.000") ∷ []) }
+{}
