@@ -35,8 +35,8 @@ module _ {X A B : Type 0} (f : X → A) (g : X → B) where
 pub same_plan : (o : Option Plan) (p q : Plan) → p ≡ q → IfSome o (λ plan. plan ≡ p) → IfSome o (λ plan. plan ≡ q)
 same_plan o p q same h = subst (λ (r : Plan). IfSome o (λ plan. plan ≡ r)) same h
 
--- the plan of an error that the parser tells, whose kind is among those that it may have
-pub told_plan : (o : Option Plan) (e : Error) (kinds : Kinds) (rest : Plan) → Alike kinds → HasKind kinds e
+-- the plan of an error of the parser, whose kind is among those that it may have
+pub not_run_plan : (o : Option Plan) (e : Error) (kinds : Kinds) (rest : Plan) → Alike kinds → HasKind kinds e
     → IfSome o (λ plan. (plan ≡ by_kind (kind_of e)) × (kind_of e ≢ OutOfMemory)) → IfSome o (λ plan. plan ≡ by_kinds kinds rest)
-told_plan None e kinds rest alike has h = h
-told_plan (Some plan) e kinds rest alike has h = ⊎_elim (λ memory. absurd (h.1 memory)) (λ among. h.0 ∙ alike.same (kind_of e) rest among) has
+not_run_plan None e kinds rest alike has h = h
+not_run_plan (Some plan) e kinds rest alike has h = ⊎_elim (λ memory. absurd (h.1 memory)) (λ among. h.0 ∙ alike.same (kind_of e) rest among) has

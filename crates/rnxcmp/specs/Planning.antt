@@ -11,7 +11,7 @@ use Rattle.clap.specs.Kinds.{Kinds}
 use Rattle.clap.specs.Faults.{fault_of}
 use Rattle.clap.specs.declared.error.ErrorKind.{ErrorKind}
 use Rattle.clap.specs.declared.error.ErrorKind.TheVariants.{DisplayHelp}
-use Rattle.rnxcmp.specs.Choices.{is_date}
+use Rattle.crx_filter.specs.Choices.{is_date}
 use Rattle.rnxcmp.specs.Commands.{program}
 use Rattle.rnxcmp.specs.Names.{output_name}
 use Rattle.rnxcmp.specs.declared.job.Tool.{Tool}
@@ -123,7 +123,7 @@ abbrev pub by_kind : ErrorKind → Plan
 by_kind DisplayHelp = Help
 by_kind _ = Refused Parse
 
--- what the words come to where the parser has the first of these kinds to tell, and else
+-- what the words come to where the first of these kinds is what the parser answers, and else
 abbrev pub by_kinds : Kinds → Plan → Plan
 by_kinds [] plan = plan
 by_kinds (kind ∷ more) plan = by_kind kind

@@ -1,48 +1,59 @@
 //! The program's words and its standard streams.
 
-use crate::finish::write_line;
-use crate::message::message;
-use crate::program::run_words;
-use crx_text::{At, Fault, Std};
+use crate::job::UsageFault;
+use crate::program::{OUTPUT_BUFFER, run};
+use crate::refusal::{refuse, report_at_start};
+use crate::word::Word;
+use crx_text::{Fault, Std};
+use std::alloc::Global;
+use std::io::{BufWriter, Write};
 use std::process::ExitCode;
 use std::{env, io};
 
-/// The words of the command line without the program's name.
-fn words_given(rt: &HostRuntime) -> io::Result<Vec<String>> {
-    let words = env::args(rt)?.skip(1).collect(rt.alloc())?;
-    Ok(words)
+/// Why there are no words: no memory was left for them, or they aren't text.
+fn no_words(alloc: Global, error: &io::Error) -> UsageFault {
+    if error.kind() == io::ErrorKind::OutOfMemory {
+        return UsageFault::Memory;
+    }
+    let text = "error: invalid UTF-8 was detected in one or more arguments\n";
+    Word::new(alloc, text).map_or_else(UsageFault::from, UsageFault::Parse)
 }
 
-/// Does what the words of the command line say, over the standard streams: input to output, and
-/// messages to standard error. Reads and writes are of whole buffers. Answers the exit status.
+/// The words of the command line without the program's name.
+fn words_given(rt: &HostRuntime) -> Result<Vec<String>, UsageFault> {
+    match env::args(rt) {
+        Ok(args) => Ok(args.skip(1).collect(rt.alloc())?),
+        Err(error) => Err(no_words(rt.alloc(), &error)),
+    }
+}
+
+/// Does what the words of the command line ask for, over the standard streams (see [`run`]), and
+/// answers the exit status. The output goes through a buffer.
 ///
-/// Where no memory is left for the words, that is fault 22 at line 0, status 1. Words that aren't
-/// text are words that aren't known.
+/// Where no memory is left for the words or the buffer, that is fault 22 at line 0, status 1. Words
+/// that aren't text are refused as such.
 pub fn run_host(rt: &HostRuntime) -> ExitCode {
     let mut messages = Std::new(rt.stderr());
     let words = match words_given(rt) {
         Ok(words) => words,
-        Err(error) if error.kind() == io::ErrorKind::OutOfMemory => {
-            let at = At {
-                line: 0,
-                fault: Fault::OutOfMemory,
-            };
-            write_line(&mut messages, message(b"ERROR", at).bytes());
-            return ExitCode::FAILURE;
-        }
-        Err(_) => {
-            write_line(&mut messages, b"ERROR: words not known\n");
-            return ExitCode::FAILURE;
-        }
+        Err(fault) => return ExitCode::from(refuse(rt.alloc(), &mut messages, &fault)),
+    };
+    let Ok(buffer) = BufWriter::with_capacity(rt.alloc(), OUTPUT_BUFFER, rt.stdout()) else {
+        return ExitCode::from(report_at_start(&mut messages, Fault::OutOfMemory));
     };
     let mut input = Std::new(rt.stdin());
-    let mut output = Std::new(rt.stdout());
-    let status = run_words(
+    let mut output = Std::new(buffer);
+    let status = run(
+        rt,
         rt.alloc(),
-        words.as_slice(),
+        words,
         &mut input,
         &mut output,
         &mut messages,
     );
+    // A run that ended since a message couldn't be written hasn't flushed what it wrote before.
+    let mut buffer = output.into_inner();
+    let _ = buffer.flush();
+    let _ = buffer.into_parts();
     ExitCode::from(status)
 }

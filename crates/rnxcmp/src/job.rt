@@ -2,8 +2,10 @@
 
 ghost use Rattle.std.specs.Prelude.{◌≡◌};
 ghost use Rattle.rnxcmp.specs.declared.job.UsageFault.TheVariants as usage_fault;
+ghost use Rattle.rnxcmp.specs.Program.{subject_of_usage, words_of_usage};
 
 use crate::word::Word;
+use crx_filter::BadDate;
 use std::alloc::AllocError;
 use thiserror::Error;
 
@@ -46,29 +48,50 @@ pub enum Decision {
     Run(Job),
 }
 
-/// Why the words ask for nothing that can be done. The text of each is what a user reads after
-/// `ERROR: `, but of `Parse`, which is shown as it is.
+/// Why the words ask for nothing that can be done.
 #[derive(Debug, Drop, Error)]
+#[error("{}{}", self.words(), self.subject())]
 pub enum UsageFault {
     /// The words aren't those of the program, or an option's value isn't one that it takes. It holds
     /// the text for the user.
-    #[error("{0}")]
     Parse(Word),
     /// `-` stands twice.
-    #[error("- given twice")]
     DashTwice,
     /// There is more than one file name.
-    #[error("more than one file name")]
     TwoFiles,
     /// The date has more than 20 bytes, or a byte outside 32 to 126.
-    #[error("bad date")]
     BadDate,
     /// The name of the input file, which has no ending from which the output's name is made.
-    #[error("no output name for {0}")]
     NoName(Word),
     /// No memory was left.
-    #[error("out of memory")]
     Memory,
+}
+
+impl UsageFault {
+    /// What is wrong, in words for the user; of `Parse` nothing, since its text says all.
+    pub fn words(&self) -> &'static str
+        ensures { result.now ≡ words_of_usage self.now }
+    {
+        match self {
+            UsageFault::Parse(_) => "",
+            UsageFault::DashTwice => "- given twice",
+            UsageFault::TwoFiles => "more than one file name",
+            UsageFault::BadDate => "bad date",
+            UsageFault::NoName(_) => "no output name for ",
+            UsageFault::Memory => "out of memory",
+        }
+    }
+
+    /// The text or the name that it holds, which stands after the words; empty where it holds none.
+    pub fn subject(&self) -> &str
+        ensures { result.now ≡ subject_of_usage self.now }
+    {
+        match self {
+            UsageFault::Parse(text) => text.text(),
+            UsageFault::NoName(name) => name.text(),
+            _ => "",
+        }
+    }
 }
 
 impl From<AllocError> for UsageFault {
@@ -76,5 +99,13 @@ impl From<AllocError> for UsageFault {
 
     fn from(_error: AllocError) -> UsageFault {
         UsageFault::Memory
+    }
+}
+
+impl From<BadDate> for UsageFault {
+    ghost from_gives = { λ _ fault. fault ≡ usage_fault.BadDate };
+
+    fn from(_error: BadDate) -> UsageFault {
+        UsageFault::BadDate
     }
 }

@@ -2,21 +2,13 @@
 #![tactic(auto)]
 
 pub mod command;
-pub mod compact;
 pub mod date;
-pub mod early;
-pub mod epoch;
-pub mod finish;
-pub mod full_epoch;
-pub mod header;
 pub mod host;
 pub mod job;
-pub mod message;
 pub mod names;
-pub mod options;
-pub mod outcome;
 pub mod plan;
 pub mod program;
+pub mod refusal;
 pub mod word;
 
 use std::process::ExitCode;

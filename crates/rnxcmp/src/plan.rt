@@ -3,16 +3,16 @@
 ghost use Rattle.std.specs.Prelude.{◌≡◌, ◌≢◌, IfOk, IfSome, codes, count_by, find, map, option_and_then, option_map, string_bytes, true};
 ghost use Rattle.std.specs.Option.{option_map_or};
 ghost use Rattle.clap.specs.Words.{found_of, kind_of, one_of, rows_of, subcommand_rows_of};
-ghost use Rattle.rnxcmp.specs.Choices.{is_date};
+ghost use Rattle.crx_filter.specs.Choices.{is_date};
 ghost use Rattle.rnxcmp.specs.Planning.{by_kind, given_in, given_of, is_dash, is_file, is_set, job_of, judged, names_in, number_in, of_subcommand, plan_in, plan_of, tool_named, with_source, writes_file};
 
 use crate::command::command;
 use crate::job::{Decision, Job, Tool, UsageFault};
 use crate::names::output_name;
-use crate::options::Options;
 use crate::word::Word;
 use clap::error::ErrorKind;
 use clap::{ArgMatches, Error};
+use crx_filter::Options;
 use std::alloc::{AllocError, Global};
 
 /// What stands after a subcommand.
@@ -226,8 +226,8 @@ fn matched(alloc: Global, matches: &ArgMatches<'_>) -> Result<Decision, UsageFau
     }
 }
 
-/// What the parser has to tell: the help that was asked for, or that the words are refused.
-fn told(alloc: Global, error: &Error) -> Result<Decision, UsageFault>
+/// What the parser answers where nothing is to be run: the help that was asked for, or that the words are refused.
+fn not_run(alloc: Global, error: &Error) -> Result<Decision, UsageFault>
     ensures { IfSome (plan_in result) (λ plan. (plan ≡ by_kind (kind_of error.now)) × (kind_of error.now ≢ ErrorKind.OutOfMemory)) }
 {
     match error.kind() {
@@ -253,7 +253,7 @@ pub fn plan(alloc: Global, words: Vec<String>) -> Result<Decision, UsageFault>
 {
     match command(alloc)?.try_get_matches_from(words.as_slice()) {
         Ok(matches) => matched(alloc, &matches),
-        Err(error) => told(alloc, &error),
+        Err(error) => not_run(alloc, &error),
     }
 }
 

@@ -1,131 +1,217 @@
-//! From the words of the command line to a run.
+//! A whole run of the program: from the words of the command line to an exit status.
 
-ghost use Rattle.std.specs.Prelude.{◌≡◌, ℕ, List, Option, map, string_bytes};
-ghost use Rattle.crx_text.specs.declared.fault.At.{At};
-ghost use Rattle.rnxcmp.specs.Choices.{Choices};
-ghost use Rattle.rnxcmp.specs.Compacting.{Compacts};
-ghost use Rattle.rnxcmp.specs.Early.{Refused, Compacted, decision_of};
-ghost use Rattle.rnxcmp.specs.Finishing.{IsTold};
+ghost use Rattle.std.specs.Prelude.{◌≡◌, ◌⊎◌, IfErr, IfOk, None, is_some, map, string_bytes, true};
+ghost use Rattle.rnxcmp.specs.Planning.{Help, Refusal, Refused, Run, plan_of};
+ghost use Rattle.rnxcmp.specs.Program.{IsChosen, IsDone, IsFiltered, IsHelped, IsRefused, between, reader_between};
 
-use crate::compact::compact;
-use crate::early::early_plan;
-use crate::finish::write_line;
-use crate::options::Options;
-use crx_text::{Sink, Source};
+use crate::date::default_date;
+use crate::job::{Decision, Job, Tool, UsageFault};
+use crate::plan::plan;
+use crate::refusal::{refuse, report, report_at_start};
+use crate::word::Word;
+use crx_filter::{Options, check, compact, expand};
+use crx_text::{Fault, Sink, Source, Std, write_all_counted};
 use std::alloc::Global;
+use std::fs::OpenOptions;
+use std::io::{BufWriter, ErrorKind, Write};
+use std::rt::{Clock, Files};
+use std::{fs, io};
 
-/// Does what the words say, and answers the exit status; the words come without the program's
-/// name. Words that aren't known are the line `ERROR: words not known`, and a date that doesn't
-/// fit is the line `ERROR: bad date`, both with status 1; the input isn't read then and nothing
-/// goes to the output. Else the input is compacted, and the status is that of the compaction.
-pub fn run_words<R: Source, W: Sink, M: Sink>(
+/// How many bytes of the output are held before they are written: a system call a line would cost more
+/// than all other work. Input is read in pieces of that size by the reader of lines itself.
+pub const OUTPUT_BUFFER: usize = 65536;
+
+/// What the user chose: the date among the words, else that of the clock's moment where one is needed.
+fn options_of<C: Clock>(clock: &C, alloc: Global, job: &Job) -> Result<Options, UsageFault>
+    ensures ok { IfOk result (λ options. IsChosen job.now.tool job.now.date job.now.every job.now.skip options) }
+    ensures err { IfErr result (λ fault. (fault ≡ UsageFault.Memory) ⊎ (fault ≡ UsageFault.BadDate)) }
+{
+    match (&job.date, job.tool) {
+        (Some(date), _) => Ok(Options::new(job.every, job.skip, date.text().as_bytes())?),
+        (None, Tool::Compact) => {
+            let date = default_date(clock, alloc)?;
+            Ok(Options::new(job.every, job.skip, date.as_str().as_bytes())?)
+        }
+        (None, _) => Ok(Options::new(job.every, job.skip, b"")?),
+    }
+}
+
+/// Runs a filter, and answers the exit status: that of its outcome.
+fn filter<R: Source, W: Sink, M: Sink>(
     alloc: Global,
-    words: &[String],
+    tool: Tool,
+    options: Options,
+    reader: &mut R,
+    writer: &mut W,
+    messages: &mut M,
+) -> u8
+    ensures { IsFiltered tool options (reader_between R.gave R.at_end R.failures R.ends reader.old reader.new)
+        (between W.took W.failures writer.old writer.new) (between M.took M.failures messages.old messages.new) result }
+{
+    match tool {
+        Tool::Compact => compact(alloc, reader, writer, messages, options).status,
+        Tool::Expand => expand(alloc, reader, writer, messages, options).status,
+        Tool::Check => check(alloc, reader, writer, messages).status,
+    }
+}
+
+/// Runs a filter that writes to a file, through a buffer. A run that ended since a message couldn't be written hasn't
+/// flushed what it wrote before, so the buffer is flushed once more; the status is that of the run.
+fn filter_to_file<R: Source, F: Write + Drop, M: Sink>(
+    alloc: Global,
+    tool: Tool,
+    options: Options,
+    reader: &mut R,
+    file: F,
+    messages: &mut M,
+) -> u8 {
+    match BufWriter::with_capacity(alloc, OUTPUT_BUFFER, file) {
+        Ok(buffer) => {
+            let mut writer = Std::new(buffer);
+            let status = filter(alloc, tool, options, reader, &mut writer, messages);
+            let mut buffer = writer.into_inner();
+            let _ = buffer.flush();
+            let _ = buffer.into_parts();
+            status
+        }
+        Err(_) => report_at_start(messages, Fault::OutOfMemory),
+    }
+}
+
+/// Makes the file that is written. One that exists is overwritten only where `force` says so, and else
+/// the error is `AlreadyExists`.
+fn create<H: Files>(rt: &H, name: &str, force: bool) -> io::Result<H::File> {
+    if force {
+        return fs::create(rt, name);
+    }
+    OpenOptions::new()
+        .write(true)
+        .create_new(true)
+        .open(rt, name)
+}
+
+/// Runs a filter into the job's target: a file, or `output` where the job names none.
+fn run_to_target<H: Files, R: Source, W: Sink, M: Sink>(
+    rt: &H,
+    alloc: Global,
+    job: &Job,
+    options: Options,
+    reader: &mut R,
+    output: &mut W,
+    messages: &mut M,
+) -> u8
+    ensures output { is_some job.now.target ≡ true → output.new ≡ output.old }
+    ensures filtered { job.now.target ≡ None → IsFiltered job.now.tool options (reader_between R.gave R.at_end R.failures R.ends reader.old reader.new)
+        (between W.took W.failures output.old output.new) (between M.took M.failures messages.old messages.new) result }
+{
+    match &job.target {
+        None => filter(alloc, job.tool, options, reader, output, messages),
+        Some(name) => match create(rt, name.text(), job.force) {
+            Ok(file) => filter_to_file(alloc, job.tool, options, reader, file, messages),
+            Err(error) if error.kind() == ErrorKind::AlreadyExists => {
+                report(alloc, messages, "file exists: ", name.text())
+            }
+            Err(_) => report(alloc, messages, "cannot create ", name.text()),
+        },
+    }
+}
+
+/// Runs a filter from the job's source: a file, or `input` where the job names none.
+fn run_from_source<H: Files, R: Source, W: Sink, M: Sink>(
+    rt: &H,
+    alloc: Global,
+    job: &Job,
+    options: Options,
     input: &mut R,
     output: &mut W,
     messages: &mut M,
 ) -> u8
-    ensures refused { (line : List ℕ) → decision_of (map string_bytes words.now) ≡ Refused line
-        → IsTold M.took M.failures messages.old line messages.new × (result ≡ 1)
-        × (input.new ≡ input.old) × (output.new ≡ output.old) }
-    ensures compacted { (choices : Choices) → decision_of (map string_bytes words.now) ≡ Compacted choices
-        → (given written told : List ℕ) × (fault : Option At) × R.gave input.old given input.new
-        × W.took output.old written output.new × M.took messages.old told messages.new
-        × Compacts choices given (R.at_end input.new) (R.failures input.old) (R.failures input.new)
-        (W.failures output.old) (W.failures output.new) (M.failures messages.old) (M.failures messages.new)
-        written told result fault }
+    ensures input { is_some job.now.source ≡ true → input.new ≡ input.old }
+    ensures output { is_some job.now.target ≡ true → output.new ≡ output.old }
+    ensures filtered { job.now.source ≡ None → job.now.target ≡ None → IsFiltered job.now.tool options (reader_between R.gave R.at_end R.failures R.ends input.old input.new)
+        (between W.took W.failures output.old output.new) (between M.took M.failures messages.old messages.new) result }
 {
-    let Some(plan) = early_plan(words) else {
-        write_line(messages, b"ERROR: words not known\n");
-        return 1;
-    };
-    match Options::new(plan.every, plan.skip, plan.date.as_bytes()) {
-        Ok(options) => compact(alloc, input, output, messages, options).status,
-        Err(_) => {
-            write_line(messages, b"ERROR: bad date\n");
-            1
-        }
+    match &job.source {
+        None => run_to_target(rt, alloc, job, options, input, output, messages),
+        Some(name) => match fs::open(rt, name.text()) {
+            Ok(file) => {
+                let mut reader = Std::new(file);
+                run_to_target(rt, alloc, job, options, &mut reader, output, messages)
+            }
+            Err(_) => report(alloc, messages, "cannot read ", name.text()),
+        },
+    }
+}
+
+/// Does a job: makes the default date where one is needed, then opens the input file, then makes the
+/// output file, and runs the filter.
+fn run_job<H: Files + Clock, R: Source, W: Sink, M: Sink>(
+    rt: &H,
+    alloc: Global,
+    job: &Job,
+    input: &mut R,
+    output: &mut W,
+    messages: &mut M,
+) -> u8
+    ensures input { is_some job.now.source ≡ true → input.new ≡ input.old }
+    ensures output { is_some job.now.target ≡ true → output.new ≡ output.old }
+    ensures done { job.now.source ≡ None → job.now.target ≡ None → IsDone job.now (reader_between R.gave R.at_end R.failures R.ends input.old input.new)
+        (between W.took W.failures output.old output.new) (between M.took M.failures messages.old messages.new) result }
+{
+    match options_of(rt, alloc, job) {
+        Ok(options) => run_from_source(rt, alloc, job, options, input, output, messages),
+        Err(fault) => refuse(alloc, messages, &fault),
+    }
+}
+
+/// Writes the help and flushes it.
+fn show_help<W: Sink, M: Sink>(text: &Word, output: &mut W, messages: &mut M) -> u8
+    ensures { IsHelped (between W.took W.failures output.old output.new) (between M.took M.failures messages.old messages.new) result }
+{
+    match write_all_counted(output, text.text().as_bytes()) {
+        Ok(()) => match output.flush() {
+            Ok(()) => 0,
+            Err(_) => report_at_start(messages, Fault::WriteFailed),
+        },
+        Err(_) => report_at_start(messages, Fault::WriteFailed),
+    }
+}
+
+/// Does what the words of the command line ask for, and answers the exit status; the words come without
+/// the program's name. `input` and `output` stand for standard input and standard output.
+///
+/// A run's status is that of its filter: 0 where no message was written, 1 where an error ended it, and
+/// 2 where there were warnings alone or, for `check`, where the file isn't standard. Help is written to
+/// `output`, status 0. All else is a line of the messages, status 1: words that are refused (see
+/// [`plan`]), `ERROR: cannot read NAME`, `ERROR: file exists: NAME` where the output file exists and
+/// `-f` isn't given, and `ERROR: cannot create NAME`. Where no memory is left before the filter runs,
+/// that is fault 22 at line 0, and a help that can't be written is fault 21 at line 0.
+///
+/// The default date is made first, where one is needed; then the input file is opened, then the output
+/// file is made.
+pub fn run<H: Files + Clock, R: Source, W: Sink, M: Sink>(
+    rt: &H,
+    alloc: Global,
+    words: Vec<String>,
+    input: &mut R,
+    output: &mut W,
+    messages: &mut M,
+) -> u8
+    ensures refused { (refusal : Refusal) → plan_of (map string_bytes words.items) ≡ Refused refusal
+        → IsRefused (between M.took M.failures messages.old messages.new) refusal result × (input.new ≡ input.old) × (output.new ≡ output.old) }
+    ensures help { plan_of (map string_bytes words.items) ≡ Help
+        → IsHelped (between W.took W.failures output.old output.new) (between M.took M.failures messages.old messages.new) result × (input.new ≡ input.old) }
+    ensures input { (job : Job) → plan_of (map string_bytes words.items) ≡ Run job → is_some job.source ≡ true → input.new ≡ input.old }
+    ensures output { (job : Job) → plan_of (map string_bytes words.items) ≡ Run job → is_some job.target ≡ true → output.new ≡ output.old }
+    ensures done { (job : Job) → plan_of (map string_bytes words.items) ≡ Run job → job.source ≡ None → job.target ≡ None
+        → IsDone job (reader_between R.gave R.at_end R.failures R.ends input.old input.new) (between W.took W.failures output.old output.new) (between M.took M.failures messages.old messages.new) result }
+{
+    match plan(alloc, words) {
+        Ok(Decision::Help(text)) => show_help(&text, output, messages),
+        Ok(Decision::Run(job)) => run_job(rt, alloc, &job, input, output, messages),
+        Err(fault) => refuse(alloc, messages, &fault),
     }
 }
 
 #[cfg(test)]
-mod tests {
-    use super::*;
-    use crx_text::Std;
-    use std::test::Fail;
-
-    #[test]
-    fn refuses_words_and_dates(rt: HostRuntime) -> Result<(), Fail> {
-        let cases = [
-            ("rnx2crx|-e|2|--date|D", "ERROR: words not known\n"),
-            ("", "ERROR: words not known\n"),
-            (
-                "rnx2crx|-e|1|--date|123456789012345678901",
-                "ERROR: bad date\n",
-            ),
-            ("rnx2crx|-e|1|--date|\t", "ERROR: bad date\n"),
-        ];
-        for (line, message) in cases {
-            let mut words = Vec::new(rt.alloc());
-            for word in line.split('|') {
-                words.push(String::from_str(rt.alloc(), word)?)?;
-            }
-            let text: &[u8] = b"not read";
-            let mut input = Std::new(text);
-            let mut output = Std::new(Vec::new(rt.alloc()));
-            let mut messages = Std::new(Vec::new(rt.alloc()));
-            let status = run_words(
-                rt.alloc(),
-                words.as_slice(),
-                &mut input,
-                &mut output,
-                &mut messages,
-            );
-            assert_eq!(rt; status, 1);
-            assert!(rt; input.into_inner() == b"not read".as_slice());
-            assert!(rt; output.into_inner().is_empty());
-            assert!(rt; messages.into_inner().as_slice() == message.as_bytes());
-        }
-        Ok(())
-    }
-
-    #[test]
-    fn compacts_a_header(rt: HostRuntime) -> Result<(), Fail> {
-        let mut words = Vec::new(rt.alloc());
-        for word in ["rnx2crx", "-e", "1", "--date", "D"] {
-            words.push(String::from_str(rt.alloc(), word)?)?;
-        }
-        let header = [
-            "     3.04           OBSERVATION DATA    G                   RINEX VERSION / TYPE\n",
-            "G    1 C1C                                                  SYS / # / OBS TYPES\n",
-            "                                                            END OF HEADER\n",
-        ];
-        let compact_lines = [
-            "3.0                 COMPACT RINEX FORMAT                    CRINEX VERS   / TYPE\n",
-            "RNX2CRX profile 1.0                     D                   CRINEX PROG / DATE\n",
-        ];
-        let mut text = Vec::new(rt.alloc());
-        for line in header {
-            text.extend_from_slice(line.as_bytes())?;
-        }
-        let mut compact_text = Vec::new(rt.alloc());
-        for line in compact_lines {
-            compact_text.extend_from_slice(line.as_bytes())?;
-        }
-        compact_text.extend_from_slice(text.as_slice())?;
-        let mut input = Std::new(text.as_slice());
-        let mut output = Std::new(Vec::new(rt.alloc()));
-        let mut messages = Std::new(Vec::new(rt.alloc()));
-        let status = run_words(
-            rt.alloc(),
-            words.as_slice(),
-            &mut input,
-            &mut output,
-            &mut messages,
-        );
-        assert_eq!(rt; status, 0);
-        assert!(rt; messages.into_inner().is_empty());
-        assert!(rt; output.into_inner().as_slice() == compact_text.as_slice());
-        Ok(())
-    }
-}
+mod tests;

@@ -1,6 +1,7 @@
 //! Texts that come from the command line or go to the user.
 
 ghost use Rattle.std.specs.Prelude.{◌≡◌, ◌++◌, IfOk};
+ghost use Rattle.rnxcmp.specs.Program.{error_line};
 
 use std::alloc::{AllocError, Global};
 use std::fmt;
@@ -36,6 +37,17 @@ impl Word {
     {
         let mut text = String::from_str(alloc, start)?;
         text.push_str(end)?;
+        Ok(Word { text })
+    }
+
+    /// The line of an error, as `ERROR: file exists: a.crx`, with its LF: what is wrong, and a name.
+    pub fn error_line(alloc: Global, words: &str, name: &str) -> Result<Word, AllocError>
+        ensures { IfOk result (λ w. w ≡ error_line words.now name.now) }
+    {
+        let mut text = String::from_str(alloc, "ERROR: ")?;
+        text.push_str(words)?;
+        text.push_str(name)?;
+        text.push_str("\n")?;
         Ok(Word { text })
     }
 

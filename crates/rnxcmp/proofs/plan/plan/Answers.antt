@@ -5,7 +5,7 @@ use Rattle.clap.specs.Simple.{App, app_of, is_simple, subcommand_of, subcommand_
 use Rattle.rnxcmp.specs.Commands.{program}
 use Rattle.rnxcmp.specs.Planning.{by_kinds, of_subcommand, plan_in}
 use Rattle.rnxcmp.proofs.AlikeKinds.{program_alike}
-use Rattle.rnxcmp.proofs.PlanSteps.{program_is_free, program_is_simple, same_plan, told_plan}
+use Rattle.rnxcmp.proofs.PlanSteps.{program_is_free, program_is_simple, same_plan, not_run_plan}
 use Rattle.rnxcmp.proofs.plan.plan.Goals as goal
 
 pub returns-in-Ok : goal.returns-in-Ok
@@ -21,4 +21,4 @@ returns c =
     let is_program : app_of c.in_ok-command.field-0 ≡ program = c.in_ok-command.ensures in
     let words_are : map string_bytes c.as_slice.result.now ≡ map string_bytes c.args.words.items = ap (map string_bytes) c.as_slice.ensures.value in
     let has = subst (λ kinds. HasKind kinds c.in-Err.error) (ap₂ fault_of is_program words_are) (c.in-Err.ensures.kinds (ap is_simple_and_free is_program ∙ program_is_free)) in
-    told_plan (plan_in c.told.result) c.in-Err.error _ _ (program_alike (map string_bytes c.args.words.items)) has c.told.ensures
+    not_run_plan (plan_in c.not_run.result) c.in-Err.error _ _ (program_alike (map string_bytes c.args.words.items)) has c.not_run.ensures

@@ -1,0 +1,29 @@
+-- What the user reads of a refusal.
+use Rattle.std.proofs.Common.{◌≡◌, ◌∙◌, List, [], ℕ, Err, Some, inr, ap, refl}
+use Rattle.std.specs.Option.{IfSome}
+use Rattle.crx_filter.specs.Taking.{Device}
+use Rattle.crx_text.specs.declared.fault.Fault.TheVariants.{OutOfMemory}
+use Rattle.rnxcmp.specs.Planning.{Plan, Refused, Refusal, Parse, DashTwice, TwoFiles, BadDate, NoName, plan_in}
+use Rattle.rnxcmp.specs.Program.{IsLineOf, IsRefused, IsShown, at_start, error_line}
+use Rattle.rnxcmp.specs.declared.job.UsageFault.{UsageFault}
+use Rattle.rnxcmp.specs.declared.job.UsageFault.TheVariants as usage_fault
+
+-- each refusal has a line
+some_line : (refusal : Refusal) → (line : List ℕ) × IsLineOf refusal line
+some_line Parse = ([], tt)
+some_line DashTwice = (_, refl)
+some_line TwoFiles = (_, refl)
+some_line BadDate = (_, refl)
+some_line (NoName name) = (_, refl)
+
+module _ (p : Plan) (refusal : Refusal) (messages : Device) (status : ℕ) where
+  -- words are refused by the line of their fault, or by that of the memory that ran out
+  pub refused_by : (fault : UsageFault) → p ≡ Refused refusal → status ≡ 1 → (fault ≡ usage_fault.Memory → IsShown messages (at_start OutOfMemory))
+      → (plan_in (Err fault) ≡ Some (Refused refusal) → IsRefused messages refusal status)
+      → IfSome (plan_in (Err fault)) (λ plan. plan ≡ p) → IsRefused messages refusal status
+  refused_by (usage_fault.Parse text) e one memory by h = by (ap Some (h ∙ e))
+  refused_by usage_fault.DashTwice e one memory by h = by (ap Some (h ∙ e))
+  refused_by usage_fault.TwoFiles e one memory by h = by (ap Some (h ∙ e))
+  refused_by usage_fault.BadDate e one memory by h = by (ap Some (h ∙ e))
+  refused_by (usage_fault.NoName name) e one memory by h = by (ap Some (h ∙ e))
+  refused_by usage_fault.Memory e one memory by h = (one, ((some_line refusal).0, (some_line refusal).1, inr (memory refl)))

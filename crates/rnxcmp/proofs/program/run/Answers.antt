@@ -1,0 +1,27 @@
+use Rattle.std.proofs.Common.{◌≡◌, ◌∙◌, None, map, refl, string_bytes, subst}
+use Rattle.rnxcmp.specs.Planning.{Run, plan_of}
+use Rattle.rnxcmp.specs.Program.{IsDone, between, reader_between}
+use Rattle.rnxcmp.specs.declared.job.Job.{Job}
+use Rattle.rnxcmp.proofs.Refusals.{refused_by}
+use Rattle.rnxcmp.proofs.program.run.Goals as goal
+
+-- a run is of one job
+same_job : (a b : Job) → Run a ≡ Run b → a ≡ b
+same_job a b e = cc
+
+pub returns-in-Err-clause-refused : goal.returns-in-Err-clause-refused
+returns-in-Err-clause-refused g c = λ refusal e. (
+  refused_by _ refusal (between g.M.Sink.took g.M.Sink.failures c.args.messages.now c.refuse.new.messages) c.refuse.result c.in-Err.fault e c.refuse.ensures.status
+      c.refuse.ensures.memory (c.refuse.ensures.refused refusal) c.in-Err.ensures,
+  refl {a = c.args.input.now},
+  refl {a = c.args.output.now},
+)
+
+pub returns-in-Ok-Run-clause-done : goal.returns-in-Ok-Run-clause-done
+returns-in-Ok-Run-clause-done g c = λ job e source target.
+    let planned : Run c.in-Ok-Run.job ≡ plan_of (map string_bytes c.args.words.items) = rw c.in-Ok-Run.field-0-is at c.in-Ok-Run.ensures in
+    subst (λ (j : Job). j.source ≡ None → j.target ≡ None → IsDone j
+    (reader_between g.R.Source.gave g.R.Source.at_end g.R.Source.failures g.R.Source.ends c.args.input.now c.run_job.new.input)
+    (between g.W.Sink.took g.W.Sink.failures c.args.output.now c.run_job.new.output)
+    (between g.M.Sink.took g.M.Sink.failures c.args.messages.now c.run_job.new.messages) c.run_job.result)
+    (same_job c.in-Ok-Run.job job (planned ∙ e)) c.run_job.ensures.done source target

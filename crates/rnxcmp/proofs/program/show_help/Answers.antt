@@ -1,0 +1,12 @@
+use Rattle.std.proofs.Common.{[], ◌++◌, inl, refl, ◌∙◌}
+use Rattle.rnxcmp.proofs.program.show_help.Goals as goal
+
+pub returns-in-Ok-flush : goal.returns-in-Ok-flush
+returns-in-Ok-flush g c =
+    let text = c.as_bytes.result.now in
+    let took = g.met.W.Sink.took_both c.args.output.now c.write_all_counted.new.writer c.flush.new.self text [] c.in-Ok.ensures.all c.in-Ok-flush.ensures.none_taken in
+    inl (
+      refl,
+      (text ++ [], (took, c.in-Ok-flush.ensures.good ∙ c.in-Ok.ensures.good)),
+      (g.met.M.Sink.took_none c.args.messages.now, refl),
+    )
