@@ -1,4 +1,5 @@
-# make        proves and builds the program, compacts the sample with it, and shows what it wrote
+# make        proves and builds the program, compacts the sample with it, expands that again and compares,
+#             and shows what was written
 # make test   runs the gate: proofs from nothing, wrong bodies, the program's stored run, and tests; then
 #             the program as a process, on the cases of tests/process
 # make install PREFIX=/usr/local
@@ -6,7 +7,8 @@
 
 SAMPLE := samples/station.rnx
 COMPACT := out/station.crx
-WORDS := rnx2crx -e 1 --date "01-Jan-24 00:00"
+PROGRAM := crates/rnxcmp/out/rnxcmp
+WORDS := rnx2crx --date "01-Jan-24 00:00"
 
 PREFIX ?= /usr/local
 
@@ -15,16 +17,20 @@ PREFIX ?= /usr/local
 all:
 	@mkdir -p out
 	cd crates/rnxcmp && rt run -- $(WORDS) < ../../$(SAMPLE) > ../../$(COMPACT)
+	$(PROGRAM) crx2rnx < $(COMPACT) | cmp - $(SAMPLE)
+	@echo "the sample comes back byte for byte"
 	@echo
-	@echo "$(COMPACT), its first three lines, and its first epoch (columns 1 to 100):"
+	$(PROGRAM) check $(SAMPLE)
+	@echo
+	@echo "$(COMPACT), its first three lines, and its first two epochs (columns 1 to 100):"
 	@head -n 3 $(COMPACT) | cut -c 1-100
 	@echo ...
-	@grep -A 9 -m 1 'END OF HEADER' $(COMPACT) | tail -n +2 | cut -c 1-100
+	@grep -A 54 -m 1 'END OF HEADER' $(COMPACT) | tail -n +2 | cut -c 1-100
 	@echo ...
 	@wc -c $(SAMPLE) $(COMPACT) | grep -v total
 
 test:
-	tests/process/run.py crates/rnxcmp/out/rnxcmp --gate
+	tests/process/run.py $(PROGRAM) --gate
 
 install:
-	packaging/install.sh "$(DESTDIR)$(PREFIX)" crates/rnxcmp/out/rnxcmp
+	packaging/install.sh "$(DESTDIR)$(PREFIX)" $(PROGRAM)

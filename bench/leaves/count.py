@@ -50,6 +50,12 @@ def numbers(digits):
             for k in range(LINES)]
 
 
+def rows(digits):
+    """Rows of twenty such numbers, a blank after each."""
+    made = numbers(digits)
+    return [" ".join(made[(k + j) % LINES] for j in range(20)) for k in range(LINES)]
+
+
 def flags(k):
     """A satellite's indicators, 40 columns: signal strengths that change now and then."""
     return "".join("%s%d" % (" " if (k + j) % 7 else "1", 4 + (k // 3 + j) % 5) for j in range(20))
@@ -68,13 +74,25 @@ CASES = [
     ("obs_print, negative", "obs_print", cells(doppler), 1),
     ("obs_print, blank", "obs_print", [" " * 14] * LINES, 1),
     ("clock_read", "clock_read", ["%15s" % ("-.%012d" % (123_456_789 + k)) for k in range(LINES)], 1),
+    ("clock_read, digit before the point", "clock_read", ["%15s" % ("0.%012d" % (123_456_789 + k)) for k in range(LINES)], 1),
+    ("clock_read, blank", "clock_read", [" " * 15] * LINES, 1),
     ("clock_print", "clock_print", ["%15s" % ("-.%012d" % (123_456_789 + k)) for k in range(LINES)], 1),
 ] + [
     ("code_read, %d digits" % digits, "code_read", numbers(digits), 1) for digits in (1, 2, 4, 6, 8, 11, 13)
 ] + [
+    ("code_before_blank, %d digits" % digits, "code_before_blank", rows(digits), 20) for digits in (1, 2, 4, 6, 7, 8, 11)
+] + [
+    ("code_before_blank, no code", "code_before_blank", [" " * 20] * LINES, 20),
+    ("next_line, 330 columns, a byte", "next_line", [("%08d" % k) + "x" * 322 for k in range(20 * LINES)], 331),
+    ("next_line, 8000 columns, a byte", "next_line", [("%08d" % k) + "x" * 7992 for k in range(LINES)], 8001),
+] + [
     ("code_print, %d digits" % digits, "code_print", numbers(digits), 1) for digits in (1, 2, 4, 6, 8, 11, 13)
 ] + [
     ("code_print_cell, %d digits" % digits, "code_print_cell", numbers(digits), 1) for digits in (1, 2, 4, 6, 8, 11, 13)
+] + [
+    ("diff_text, %d columns, a byte" % columns, "diff_text", [flags(k)[:columns] for k in range(LINES)], columns) for columns in (8, 18, 31)
+] + [
+    ("patch_text, %d columns, a byte" % columns, "patch_text", [flags(k)[:columns] for k in range(LINES)], columns) for columns in (8, 18, 31)
 ] + [
     ("all_kept, 40 columns, a byte", "all_kept", [flags(k) for k in range(LINES)], 40),
     ("diff_text, 40 columns, a byte", "diff_text", [flags(k) for k in range(LINES)], 40),

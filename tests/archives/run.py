@@ -1,9 +1,9 @@
 #!/usr/bin/env python3
 """Runs each recipe of docs/ARCHIVES.md as it stands there, on files that are made up here.
 
-    tests/archives/run.py            with a stub in place of the program
-    tests/archives/run.py PROGRAM    with the program
+    tests/archives/run.py [PROGRAM]
 
+Without a name the program is crates/rnxcmp/out/rnxcmp.
 A block ```sh needs=NAME is left out where there is no program NAME. The blocks are run one after another in one
 folder. The last line is `N passed, M failed`.
 """
@@ -29,7 +29,7 @@ WANTED = {
 }
 
 
-def make_files(folder, real):
+def make_files(folder):
     """Two good files, one with a strange epoch, one that is no observation file, and two with a year's ending."""
     good = SAMPLE.read_bytes()
     lines = good.split(b"\n")
@@ -40,8 +40,8 @@ def make_files(folder, real):
     (archive / "sub").mkdir(parents=True)
     for name in ("a.rnx", "sub/b.rnx", "abcd0010.24o", "abcd0020.24o"):
         (archive / name).write_bytes(good)
-    (archive / "strange.rnx").write_bytes(b"\n".join(strange) if real else b"one\nSTRANGE\n")
-    (archive / "bad.rnx").write_bytes(b"not RINEX\n" if real else b"one\nBAD\n")
+    (archive / "strange.rnx").write_bytes(b"\n".join(strange))
+    (archive / "bad.rnx").write_bytes(b"not RINEX\n")
 
 
 def blocks(text):
@@ -55,16 +55,16 @@ def blocks(text):
 
 
 def main():
-    real = len(sys.argv) > 1
+    program = sys.argv[1] if len(sys.argv) > 1 else TOP / "crates/rnxcmp/out/rnxcmp"
     passed = failed = 0
     with tempfile.TemporaryDirectory() as name:
         folder = Path(name)
         tools = folder / "bin"
         tools.mkdir()
-        shutil.copy(sys.argv[1] if real else TOP / "tests/archives/stub/rnxcmp", tools / "rnxcmp")
+        shutil.copy(program, tools / "rnxcmp")
         work = folder / "work"
         work.mkdir()
-        make_files(work, real)
+        make_files(work)
         environment = {**os.environ, "PATH": f"{tools}:{os.environ['PATH']}"}
         for heading, needs, block in blocks((TOP / "docs/ARCHIVES.md").read_text()):
             if needs and not shutil.which(needs):

@@ -16,7 +16,7 @@ import tempfile
 from pathlib import Path
 
 sys.path.insert(0, str(Path(__file__).parent))
-from cases import CASES, CLOSED, FULL  # noqa: E402
+from cases import CASES, CLOSED, COMPACT_FIVE, DATED, FIVE, FULL, SHUT  # noqa: E402
 
 TOP = Path(__file__).resolve().parents[2]
 
@@ -41,6 +41,15 @@ def files_in(folder):
     return {str(path.relative_to(folder)): path.read_bytes() for path in folder.rglob("*") if path.is_file()}
 
 
+def command_of(program, case):
+    """The case's command: through a shell where a stream is closed, or the output goes through another program."""
+    words = [str(program), *case.words]
+    shut = "".join((" <&-" if case.stdin == CLOSED else "", " >&-" if case.stdout == SHUT else "", " 2>&-" if case.stderr == CLOSED else ""))
+    if case.through:
+        return ["bash", "-o", "pipefail", "-c", f'"$@"{shut} | {case.through}', "bash", *words]
+    return ["sh", "-c", f'exec "$@"{shut}', "sh", *words] if shut else words
+
+
 def run_case(program, case):
     """What differs from the case, as lines."""
     with tempfile.TemporaryDirectory() as name:
@@ -56,10 +65,8 @@ def run_case(program, case):
         elif case.stdout == CLOSED:
             end, streams["stdout"] = os.pipe()
             os.close(end)
-        words = [str(program), *case.words]
-        if case.stderr == CLOSED:
-            words = ["sh", "-c", 'exec "$@" 2>&-', "sh", *words]
-        run = subprocess.run(words, cwd=folder, input=case.stdin, timeout=60, **streams)
+        given = b"" if case.stdin == CLOSED else case.stdin
+        run = subprocess.run(command_of(program, case), cwd=folder, input=given, timeout=60, **streams)
         if case.stdout == CLOSED:
             os.close(streams["stdout"])
         for stream in opened:
@@ -68,7 +75,7 @@ def run_case(program, case):
         if run.returncode != case.status:
             wrong.append(f"status {run.returncode}, not {case.status}")
         for which, got, want in (("output", run.stdout, case.stdout), ("messages", run.stderr, case.stderr)):
-            if want in (FULL, CLOSED):
+            if want in (FULL, CLOSED, SHUT):
                 continue
             if not (want(got) if callable(want) else want == got):
                 wrong.append(f"{which} {got!r}" + ("" if callable(want) else f", not {want!r}"))
@@ -77,6 +84,23 @@ def run_case(program, case):
             if left.get(path) != wanted.get(path):
                 wrong.append(f"file {path}: {left.get(path)!r}, not {wanted.get(path)!r}")
         return wrong
+
+
+def run_short_of_memory(program, words, given, whole):
+    """What is wrong in runs with less and less memory, as lines: each ends well, or says that memory ran out."""
+    wrong, short = [], 0
+    for kilobytes in range(20000, 1000, -100):
+        limited = ["sh", "-c", 'ulimit -v "$0" && exec "$@"', str(kilobytes), str(program), *words]
+        run = subprocess.run(limited, input=given, capture_output=True, timeout=60)
+        if run.returncode == 0 and run.stdout == whole and run.stderr == b"":
+            continue
+        if run.returncode == 1 and re.fullmatch(rb"ERROR line [0-9]+ code 22: out of memory\n", run.stderr):
+            short += 1
+        elif run.returncode not in (126, 127, -11, -6, 139, 134):
+            wrong.append(f"{kilobytes} KB: status {run.returncode}, output {run.stdout[:80]!r}, messages {run.stderr!r}")
+        else:
+            break
+    return wrong if short else [*wrong, "no run was short of memory"]
 
 
 def main():
@@ -91,14 +115,13 @@ def main():
         if not program.exists():
             subprocess.run(["rt", "run", "--", "--help"], cwd=program.parent.parent, stdin=subprocess.DEVNULL)
     if program.exists():
-        asked = subprocess.run([str(program), "--help"], capture_output=True)
-        known = asked.stdout.decode(errors="replace") if asked.returncode == 0 else ""
-        for case in CASES:
-            if (case.needs and case.needs not in known) or (case.until and case.until in known):
-                continue
-            wrong = run_case(program, case)
+        checks = [(case.name, lambda case=case: run_case(program, case)) for case in CASES]
+        checks.append(("compaction, short of memory", lambda: run_short_of_memory(program, DATED, FIVE, COMPACT_FIVE)))
+        checks.append(("expansion, short of memory", lambda: run_short_of_memory(program, ["crx2rnx"], COMPACT_FIVE, FIVE)))
+        for name, check in checks:
+            wrong = check()
             passed, failed = (passed, failed + 1) if wrong else (passed + 1, failed)
-            print(f"process {case.name} ... {'FAILED' if wrong else 'ok'}")
+            print(f"process {name} ... {'FAILED' if wrong else 'ok'}")
             for line in wrong:
                 print(f"    {line}")
     else:
