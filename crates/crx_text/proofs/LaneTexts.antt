@@ -1,24 +1,37 @@
 -- Texts in pieces of 32 characters and a rest.
 use Rattle.std.proofs.Common.{true, false, ℕ, ◌≡◌, ◌+◌, ◌-◌, ◌<◌, ◌≤◌, ◌&&◌, Bool, List, [], ◌∷◌, ◌++◌, length, drop, take, get_or, arith, refl, ap, sym, ◌∙◌}
-use Rattle.std.proofs.Math.Seq.{take-add}
-use Rattle.std.proofs.lemmas.List.{take-append-drop, length-take-le, take_more, drop_all, append-nil, length-drop, take_all}
-use borrow.Rule.Slice.PartMut.{put_mid, post_of}
+use Rattle.std.proofs.Math.Seq.{take-add, take-take}
+use Rattle.std.proofs.lemmas.List.{take-append-drop, length-take-le, take_more, take_at, length-drop, take_all}
 use Rattle.std.proofs.lemmas.List.Folds.{list_all-append}
-use Rattle.std.proofs.lemmas.Simd.{chunk-drop}
+use Rattle.std.proofs.lemmas.Bool.{and_parts}
+use Rattle.std.proofs.lemmas.Simd.{chunk-drop, length-zip2}
 use Rattle.std.specs.List.{list_all}
 use Rattle.std.specs.Simd.Lanes.{zip2, chunk}
 
 -- ---- tests
 
--- a piece that passes leaves the question to what stands after it
-pub list_all-after_piece : (p : ℕ → Bool) (xs : List ℕ) (i n : ℕ) → list_all p (chunk i n xs) ≡ true → list_all p (drop (i + n) xs) ≡ list_all p (drop i xs)
-list_all-after_piece p xs i n passes =
-    sym (ap (list_all p) (chunk-drop i n xs) ∙ list_all-append p (chunk i n xs) (drop (i + n) xs) ∙ ap (λ b. b && list_all p (drop (i + n) xs)) passes)
+module _ (p : ℕ → Bool) (xs : List ℕ) (i n : ℕ) (before : list_all p (take i xs) ≡ true) where
+  -- one more piece that passes
+  pub list_all-with_piece : list_all p (chunk i n xs) ≡ true → list_all p (take (i + n) xs) ≡ true
+  list_all-with_piece passes =
+      ap (list_all p) (take-add i n xs) ∙ list_all-append p (take i xs) (chunk i n xs) ∙ (rw (before, passes) refl)
 
--- a piece that fails decides
-pub list_all-failing_piece : (p : ℕ → Bool) (xs : List ℕ) (i n : ℕ) → list_all p (chunk i n xs) ≡ false → list_all p (drop i xs) ≡ false
-list_all-failing_piece p xs i n fails =
-    ap (list_all p) (chunk-drop i n xs) ∙ list_all-append p (chunk i n xs) (drop (i + n) xs) ∙ ap (λ b. b && list_all p (drop (i + n) xs)) fails
+  -- a piece that fails decides
+  pub list_all-failing_piece : list_all p (chunk i n xs) ≡ false → list_all p xs ≡ false
+  list_all-failing_piece fails =
+      let rest : list_all p (drop i xs) ≡ false = ap (list_all p) (chunk-drop i n xs) ∙ list_all-append p (chunk i n xs) (drop (i + n) xs) ∙ ap (λ b. b && list_all p (drop (i + n) xs)) fails in
+      ap (list_all p) (sym (take-append-drop i xs)) ∙ list_all-append p (take i xs) (drop i xs) ∙ (rw (before, rest) refl)
+
+  -- the last piece decides, where all before it passed
+  pub list_all-last_piece : n ≤ length xs → length xs - n ≤ i → list_all p xs ≡ list_all p (chunk (length xs - n) n xs)
+  list_all-last_piece some passed =
+      let m : ℕ = length xs - n in
+      let sum : m + (i - m) ≡ i = omega (arith, passed) in
+      let both : (list_all p (take m xs) && list_all p (chunk m (i - m) xs)) ≡ true =
+      sym (list_all-append p (take m xs) (chunk m (i - m) xs)) ∙ (ap (list_all p) (sym (take-add m (i - m) xs)) ∙ (ap (λ (k : ℕ). list_all p (take k xs)) sum ∙ before)) in
+      let first : list_all p (take m xs) ≡ true = (and_parts (list_all p (take m xs)) (list_all p (chunk m (i - m) xs)) both).0 in
+      let last : chunk m n xs ≡ drop m xs = take_all n (drop m xs) (omega (arith, length-drop m xs)) in
+      ap (list_all p) (sym (take-append-drop m xs)) ∙ list_all-append p (take m xs) (drop m xs) ∙ (rw first (ap (list_all p) (sym last)))
 
 -- ---- rules
 
@@ -42,19 +55,23 @@ zip2-next f xs ys i within same =
     let second : length (take i ys) ≡ i = length-take-le i ys (omega arith) in
     rw (take_more xs i 0 within, take_more ys i 0 (omega arith)) (zip2-append f (take i xs) (get_or xs i 0 ∷ []) (take i ys) (get_or ys i 0 ∷ []) (omega (arith, first, second)))
 
--- the rest after some pieces
-pub zip2-rest : (f : ℕ → ℕ → ℕ) (xs ys : List ℕ) (i : ℕ) → i ≤ length xs → length ys ≡ length xs →
-    zip2 f (take i xs) (take i ys) ++ zip2 f (take (length xs - i) (drop i xs)) (take (length ys - i) (drop i ys)) ≡ zip2 f xs ys
-zip2-rest f xs ys i within same =
-    let first = length-take-le i xs within in
-    let second : length (take i ys) ≡ i = length-take-le i ys (omega arith) in
-    let xs_rest : take (length xs - i) (drop i xs) ≡ drop i xs = take_all _ (drop i xs) (omega (arith, length-drop i xs)) in
-    let ys_rest : take (length ys - i) (drop i ys) ≡ drop i ys = take_all _ (drop i ys) (omega (arith, length-drop i ys)) in
-    rw (xs_rest, ys_rest) (sym (zip2-append f (take i xs) (drop i xs) (take i ys) (drop i ys) (omega (arith, first, second)))
-    ∙ (rw (take-append-drop i xs, take-append-drop i ys) refl))
-
--- a part written at the end of a text
-pub put_mid-at_end : (xs ys : List ℕ) (i : ℕ) → i ≤ length xs → put_mid i (length xs - i) xs ys ≡ take i xs ++ ys
-put_mid-at_end xs ys i within =
-    let none : post_of i (length xs - i) xs ≡ [] = drop_all _ (drop i xs) (omega (arith, length-drop i xs)) in
-    ap (λ (t : List ℕ). take i xs ++ (ys ++ t)) none ∙ ap (λ (t : List ℕ). take i xs ++ t) (append-nil ys)
+-- the last piece, written over those before it
+pub zip2-last_piece : (f : ℕ → ℕ → ℕ) (xs ys out made : List ℕ) (i n : ℕ) → n ≤ length xs → length ys ≡ length xs → length xs - n ≤ i → i ≤ length xs
+    → take i out ≡ zip2 f (take i xs) (take i ys) → length made ≡ length xs
+    → take (length xs - n + n) made ≡ take (length xs - n) out ++ zip2 f (chunk (length xs - n) n xs) (chunk (length xs - n) n ys) → made ≡ zip2 f xs ys
+zip2-last_piece f xs ys out made i n some same passed within written long last =
+    let m : ℕ = length xs - n in
+    let sum : m + (i - m) ≡ i = omega (arith, passed) in
+    let whole : m + n ≡ length xs = omega (arith, some) in
+    let a = length-take-le m xs (omega arith) in
+    let b = length-take-le m ys (omega (arith, same)) in
+    let front : List ℕ = zip2 f (take m xs) (take m ys) in
+    let fronts : length front ≡ m = length-zip2 f (take m xs) (take m ys) (a ∙ sym b) ∙ a in
+    let kept : take m out ≡ front =
+    sym (take-take m i out passed) ∙ (ap (take m) (written ∙ ap (λ (k : ℕ). zip2 f (take k xs) (take k ys)) (sym sum) ∙ zip2-piece f xs ys m (i - m) (omega arith) same)
+    ∙ take_at front (zip2 f (chunk m (i - m) xs) (chunk m (i - m) ys)) m fronts) in
+    let all : take (m + n) made ≡ made = take_all (m + n) made (omega (arith, long, whole)) in
+    let xs_all : take (m + n) xs ≡ xs = take_all (m + n) xs (omega (arith, whole)) in
+    let ys_all : take (m + n) ys ≡ ys = take_all (m + n) ys (omega (arith, whole, same)) in
+    sym all ∙ (last ∙ (ap (λ (t : List ℕ). t ++ zip2 f (chunk m n xs) (chunk m n ys)) kept
+    ∙ (sym (zip2-piece f xs ys m n (omega arith) same) ∙ (rw (xs_all, ys_all) refl))))

@@ -7,8 +7,7 @@ use Rattle.std.proofs.lemmas.Simd.{map-map, mask_l-mod, tops_compared, zip2_of_m
 use mir.Val.{bits, hbits}
 use Rattle.std.specs.List.{list_all}
 use Rattle.std.specs.Simd.Lanes.{zip2, sel_l, mask_l, top, Each1}
-use Rattle.crx_text.specs.Columns.{is_blank}
-use Rattle.crx_text.specs.Texts.{mark_of, character_of, is_printable, is_plain}
+use Rattle.crx_text.specs.Texts.{mark_of, character_of, is_printable, is_kept}
 
 -- ---- marks and what they leave
 
@@ -96,13 +95,7 @@ unprintable_each v long = zip2_of_maps bit_or (λ x. below x 32) (λ x. below 12
 pub printable_lanes : (v : List ℕ) → length v ≡ 32 → Each1 (Fits w8) v → eqb (mask_l (map (top 7) (unprintable v)) % 2 ^ 64) 0 ≡ list_all is_printable v
 printable_lanes v long fits = lanes-pass is_printable (λ x. bit_or (below x 32) (below 126 x)) v (unprintable v) long fits (unprintable_each v long) refl
 
-pub plain_lanes : (v : List ℕ) → length v ≡ 32 → Each1 (Fits w8) v → eqb (mask_l (map (top 7) (zip2 bit_or (unprintable v) (zip2 same v (replicate 32 38)))) % 2 ^ 64) 0 ≡ list_all is_plain v
+pub plain_lanes : (v : List ℕ) → length v ≡ 32 → Each1 (Fits w8) v → eqb (mask_l (map (top 7) (zip2 bit_or (unprintable v) (zip2 same v (replicate 32 38)))) % 2 ^ 64) 0 ≡ list_all is_kept v
 plain_lanes v long fits =
-    lanes-pass is_plain (λ x. bit_or (bit_or (below x 32) (below 126 x)) (same x 38)) v (zip2 bit_or (unprintable v) (zip2 same v (replicate 32 38))) long fits
+    lanes-pass is_kept (λ x. bit_or (bit_or (below x 32) (below 126 x)) (same x 38)) v (zip2 bit_or (unprintable v) (zip2 same v (replicate 32 38))) long fits
     (zip2_of_maps bit_or (λ x. bit_or (below x 32) (below 126 x)) (λ x. same x 38) v (unprintable_each v long) (zip2_splat same v 32 38 long)) refl
-
-abbrev other : ℕ → ℕ → ℕ
-other a b = cond (not (eqb a b)) (2 ^ bits w8 - 1) 0
-
-pub blank_lanes : (v : List ℕ) → length v ≡ 32 → Each1 (Fits w8) v → eqb (mask_l (map (top 7) (zip2 other v (replicate 32 32))) % 2 ^ 64) 0 ≡ list_all is_blank v
-blank_lanes v long fits = lanes-pass is_blank (λ x. other x 32) v (zip2 other v (replicate 32 32)) long fits (zip2_splat other v 32 32 long) refl

@@ -1,13 +1,14 @@
 pub mod AdvanceLemmas
 pub mod Blanks
 pub mod ClockColumns
+pub mod ClockTexts
 pub mod CodeReads
 pub mod CodeTexts
 pub mod DeviceLemmas
-pub mod Gathering
 pub mod CellReads
 pub mod DigitPairs
 pub mod DigitRows
+pub mod EndBlanks
 pub mod LaneBits
 pub mod LaneTexts
 pub mod LaneWords

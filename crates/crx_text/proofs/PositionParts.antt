@@ -1,6 +1,6 @@
 -- What two parts of a buffer hold: a rule on two texts as far as both go, and on the rest of the longer one.
 use Rattle.std.proofs.Common.{ℕ, ◌≡◌, ◌+◌, ◌-◌, ◌≤◌, List, [], ◌++◌, length, drop, take, replicate, arith, refl, ap, sym, ◌∙◌}
-use Rattle.std.proofs.lemmas.List.{append_assoc, drop_all, length-append, length-drop, length-replicate, length-take-le, take_all, take_at, take-replicate, drop-replicate}
+use Rattle.std.proofs.lemmas.List.{append_assoc, append-nil, drop_all, length-append, length-drop, length-replicate, length-take-le, take_all, take_at, take-replicate, drop-replicate}
 use Rattle.std.proofs.lemmas.Simd.{length-zip2}
 use Rattle.std.specs.Simd.Lanes.{zip2}
 use Rattle.crx_text.specs.Texts.{by_position}
@@ -29,6 +29,13 @@ module _ (f : ℕ → ℕ → ℕ) (old other front rest more others : List ℕ)
 
   by_parts : by_position f old other ≡ front ++ by_position f (drop k old) (drop k other)
   by_parts = by_position-split f k old other first second ∙ ap (λ t. t ++ by_position f (drop k old) (drop k other)) (sym front_is)
+
+  pub both_end : length old ≡ k → length other ≡ k → take k (front ++ more) ≡ by_position f old other
+  both_end one two =
+      let olds : drop k old ≡ [] = drop_all k old (omega (arith, one)) in
+      let others : drop k other ≡ [] = drop_all k other (omega (arith, two)) in
+      let none : by_position f (drop k old) (drop k other) ≡ [] = rw (olds, others) refl in
+      take_at front more k front_long ∙ (sym (append-nil front) ∙ (ap (λ (t : List ℕ). front ++ t) (sym none) ∙ sym by_parts))
 
   pub old_is_longer : length other ≡ k → length old ≤ LINE_LIMIT → rest ≡ zip2 f (take (length old - k) (drop k old)) (take (length old - k) (drop k BLANKS)) →
       take (length old) (take k (front ++ more) ++ (rest ++ others)) ≡ by_position f old other

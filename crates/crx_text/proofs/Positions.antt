@@ -1,11 +1,8 @@
 -- Texts by position, and the blanks at their ends.
 use Rattle.std.proofs.Common.{true, false, Bool, if◌then◌else◌, ℕ, suc, zero, ◌≡◌, ◌≢◌, ◌==◌, ◌+◌, ◌-◌, ◌<◌, ◌≤◌, List, [], ◌∷◌, ◌++◌, length, drop, take, get_or, replicate, arith, refl, ap, sym, ◌∙◌}
-use Rattle.std.proofs.lemmas.Bool.{and_parts}
 use Rattle.std.proofs.lemmas.Bool.Decides.{nat_tests}
 use Rattle.std.proofs.lemmas.List.{take_more}
-use Rattle.std.proofs.Math.Seq.{take-add}
-use Rattle.std.specs.List.{list_all}
-use Rattle.std.specs.Simd.Lanes.{zip2, chunk}
+use Rattle.std.specs.Simd.Lanes.{zip2}
 use Rattle.crx_text.specs.Columns.{is_blank, before_end_blanks, without_end_blanks}
 use Rattle.crx_text.specs.Texts.{by_position}
 
@@ -30,24 +27,6 @@ trim_blank bytes n some within blank =
     let split : take n bytes ≡ take (n - 1) bytes ++ 32 ∷ [] =
     ap (λ (k : ℕ). take k bytes) sum ∙ (take_more bytes (n - 1) 0 (omega arith) ∙ ap (λ (c : ℕ). take (n - 1) bytes ++ c ∷ []) blank) in
     sym (ap without_end_blanks split ∙ without_end_blanks-blank (take (n - 1) bytes))
-
-all_blank : (bs : List ℕ) → list_all is_blank bs ≡ true → without_end_blanks bs ≡ []
-all_blank [] blank = refl
-all_blank (b ∷ bs) blank =
-    let first : is_blank b ≡ true = (and_parts (is_blank b) (list_all is_blank bs) blank).0 in
-    let rest : list_all is_blank bs ≡ true = (and_parts (is_blank b) (list_all is_blank bs) blank).1 in
-    ap (before_end_blanks b) (all_blank bs rest) ∙ ap (λ (t : Bool). if t then [] else b ∷ []) first
-
-without_end_blanks-blanks : (xs bs : List ℕ) → list_all is_blank bs ≡ true → without_end_blanks (xs ++ bs) ≡ without_end_blanks xs
-without_end_blanks-blanks [] bs blank = all_blank bs blank
-without_end_blanks-blanks (x ∷ xs) bs blank = ap (before_end_blanks x) (without_end_blanks-blanks xs bs blank)
-
--- the last of some first bytes are all blanks
-pub trim_blanks : (bytes : List ℕ) (n count : ℕ) → count ≤ n → list_all is_blank (chunk (n - count) count bytes) ≡ true → without_end_blanks (take (n - count) bytes) ≡ without_end_blanks (take n bytes)
-trim_blanks bytes n count some blank =
-    let sum : n ≡ n - count + count = omega arith in
-    sym (ap (λ (k : ℕ). without_end_blanks (take k bytes)) sum ∙ ap without_end_blanks (take-add (n - count) count bytes)
-    ∙ without_end_blanks-blanks (take (n - count) bytes) (chunk (n - count) count bytes) blank)
 
 pub trim_done : (bytes : List ℕ) (n : ℕ) → 0 < n → n ≤ length bytes → get_or bytes (n - 1) 0 ≢ 32 → without_end_blanks (take n bytes) ≡ take n bytes
 trim_done bytes n some within other =

@@ -4,7 +4,7 @@ use Rattle.std.proofs.lemmas.Bool.{and_parts}
 use Rattle.std.proofs.lemmas.List.{length-map, length-drop, length-replicate, take_at, drop_at, replicate-append-replicate}
 use lib.Lanes.{zip2}
 use Rattle.crx_text.specs.FieldTexts.{leading_zeros}
-use Rattle.crx_text.specs.Numbers.{size_text}
+use Rattle.crx_text.specs.Numbers.{size_text, zero_padded}
 use Rattle.crx_text.proofs.PrintedDigits.{written, are_digits, glyphs, decimal_of_digits, padded_digits, zeros_few, zeros_first}
 
 -- ---- lanes added to their bases
@@ -112,6 +112,31 @@ module _ (size : ℕ) (small : size < 10 ^ 12) where
 
   fraction_weighs : written 0 (three_of (size % 1000)) ≡ size % 1000
   fraction_weighs = group_weighs 0 (size % 1000) (omega arith) ∙ omega arith
+
+  abbrev pub twelve : List ℕ
+  twelve = nine_of (size / 10 ^ 9) (size / 10 ^ 6 % 1000) (size / 1000 % 1000) ++ three_of (size % 1000)
+
+  twelve_weigh : written 0 twelve ≡ size
+  twelve_weigh =
+      let first = group_weighs 0 (size / 10 ^ 9) (omega arith) in
+      let second = group_weighs (0 * 1000 + size / 10 ^ 9) (size / 10 ^ 6 % 1000) (omega arith) in
+      let third = group_weighs ((0 * 1000 + size / 10 ^ 9) * 1000 + size / 10 ^ 6 % 1000) (size / 1000 % 1000) (omega arith) in
+      let fourth = group_weighs (((0 * 1000 + size / 10 ^ 9) * 1000 + size / 10 ^ 6 % 1000) * 1000 + size / 1000 % 1000) (size % 1000) (omega arith) in
+      rw (first, second, third, fourth) (omega arith)
+
+  twelve_are_digits : are_digits twelve ≡ true
+  twelve_are_digits =
+      group_is_digits (size / 10 ^ 9) (three_of (size / 10 ^ 6 % 1000) ++ (three_of (size / 1000 % 1000) ++ three_of (size % 1000))) (omega arith)
+      (group_is_digits (size / 10 ^ 6 % 1000) (three_of (size / 1000 % 1000) ++ three_of (size % 1000)) (omega arith)
+      (group_is_digits (size / 1000 % 1000) (three_of (size % 1000)) (omega arith) three_are_digits))
+
+  -- twelve digits, zeros before the number among them
+  pub twelve_padded : take 12 (plus (twelve ++ (0 ∷ 0 ∷ 0 ∷ 0 ∷ [])) (replicate 16 48)) ≡ zero_padded 12 size
+  twelve_padded =
+      let fits : written 0 twelve < 2 ^ 64 = rw twelve_weigh (omega arith) in
+      let padded = padded_digits (size / 10 ^ 9 / 100) (drop 1 twelve) twelve_are_digits fits in
+      ap (take 12) (plus_digits twelve (0 ∷ 0 ∷ 0 ∷ 0 ∷ []) (48 ∷ 48 ∷ 48 ∷ 48 ∷ []) twelve_are_digits)
+      ∙ (sym padded ∙ ap (zero_padded 12) twelve_weigh)
 
   pub printed_is_size_text : printed (nine_of (size / 10 ^ 9) (size / 10 ^ 6 % 1000) (size / 1000 % 1000)) (three_of (size % 1000)) ≡ size_text 3 size
   printed_is_size_text =

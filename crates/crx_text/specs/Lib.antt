@@ -3,7 +3,6 @@ pub mod Columns
 pub mod Devices
 pub mod Faults
 pub mod FirstDigits
-pub mod Inputs
 pub mod Lines
 pub mod FieldTexts
 pub mod Fields

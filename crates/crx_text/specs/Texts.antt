@@ -29,6 +29,6 @@ patched old marks = without_end_blanks (by_position character_of old marks)
 abbrev pub is_printable : ℕ → Bool
 is_printable c = nat_le 32 c && nat_le c 126
 
--- a character that may stand in a text which marks are made of
-abbrev pub is_plain : ℕ → Bool
-is_plain c = is_printable c && not (c == 38)
+-- a character that may stand in epoch texts and indicators, which marks are made of: 32 to 126 other than &, which means a blank in marks
+abbrev pub is_kept : ℕ → Bool
+is_kept c = is_printable c && not (c == 38)

@@ -3,7 +3,7 @@
 ghost use Rattle.std.specs.Prelude.{◌≡◌, ◌+◌, ◌≤◌, ◌++◌, length, take, is_ok, OnOk, OnErr};
 ghost use Rattle.std.specs.List.{list_all};
 ghost use Rattle.std.specs.Simd.Lanes.{zip2};
-ghost use Rattle.crx_text.specs.Texts.{is_plain, is_printable, mark_of, character_of, by_position, text_difference, patched};
+ghost use Rattle.crx_text.specs.Texts.{is_kept, is_printable, mark_of, character_of, by_position, text_difference, patched};
 ghost use Rattle.crx_text.specs.declared.limits.TheConstants.{LINE_LIMIT};
 
 use crate::lanes::{Kind, Rule, all_of, write_by_rule};
@@ -23,15 +23,26 @@ pub struct BadCharacter;
 /// text holds a byte outside 32 to 126, or `&`, and then `out` stays as it was.
 pub fn diff_text(old: &Text, new: &[u8], out: &mut Text) -> Result<(), BadCharacter>
     requires { length new.now ≤ LINE_LIMIT }
-    ensures plain { is_ok result ≡ list_all is_plain new.now }
+    ensures plain { is_ok result ≡ list_all is_kept new.now }
+    ensures ok { OnOk result (out.new ≡ text_difference old.now new.now) }
+    ensures err { OnErr result (out.new ≡ out.old) }
+{
+    diff_bytes(old.bytes(), new, out)
+}
+
+/// The same of an old text in a slice: it asks for at most
+/// [`LINE_LIMIT`](crate::limits::LINE_LIMIT) bytes there too.
+pub fn diff_bytes(old: &[u8], new: &[u8], out: &mut Text) -> Result<(), BadCharacter>
+    requires old_fits { length old.now ≤ LINE_LIMIT }
+    requires new_fits { length new.now ≤ LINE_LIMIT }
+    ensures plain { is_ok result ≡ list_all is_kept new.now }
     ensures ok { OnOk result (out.new ≡ text_difference old.now new.now) }
     ensures err { OnErr result (out.new ≡ out.old) }
 {
     if !all_kept(new) {
         return Err(BadCharacter);
     }
-    out.clear();
-    append_difference(old.bytes(), new, out);
+    out.len = write_by_position::<Marks>(old, new, &mut out.bytes);
     out.trim_end_blanks();
     Ok(())
 }
@@ -79,7 +90,7 @@ pub fn patch_bytes(old: &[u8], marks: &[u8], out: &mut Text) -> Result<(), BadCh
 
 /// Whether marks can be made of a text: all its bytes are 32 to 126, and none is `&`.
 pub fn all_kept(text: &[u8]) -> bool
-    ensures { result ≡ list_all is_plain text.now }
+    ensures { result ≡ list_all is_kept text.now }
 {
     all_of::<Kept>(text)
 }
@@ -95,7 +106,7 @@ pub fn all_printable(text: &[u8]) -> bool
 struct Kept;
 
 impl Kind for Kept {
-    ghost is_of_kind = { is_plain };
+    ghost is_of_kind = { is_kept };
 
     fn holds(character: u8) -> bool {
         32 <= character && character <= 126 && character != b'&'
@@ -184,6 +195,9 @@ fn write_by_position<R: Rule>(old: &[u8], other: &[u8], out: &mut [u8]) -> usize
 {
     let common = old.len().min(other.len());
     write_by_rule::<R>(&old[..common], &other[..common], &mut out[..common]);
+    if old.len() == other.len() {
+        return common;
+    }
     if common < old.len() {
         let end = old.len();
         write_by_rule::<R>(&old[common..], &BLANKS[common..end], &mut out[common..end]);

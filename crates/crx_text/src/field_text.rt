@@ -11,7 +11,7 @@ use std::simd::prelude::*;
 
 /// The groups of three digits of a size, the highest first.
 #[inline(always)]
-fn groups(size: u64) -> u32x4
+pub(crate) fn groups(size: u64) -> u32x4
     requires { size < 10 ^ 12 }
     ensures { result ≡ size / 10 ^ 9 ∷ size / 10 ^ 6 % 1000 ∷ size / 1000 % 1000 ∷ size % 1000 ∷ [] }
 {
@@ -24,7 +24,7 @@ fn groups(size: u64) -> u32x4
 
 /// Each group's three digits and a 0, by products in place of divisions.
 #[inline(always)]
-fn digits(groups: u32x4) -> u8x16
+pub(crate) fn digits(groups: u32x4) -> u8x16
     requires { Each1 (λ group. group < 1000) groups }
     ensures { result ≡ group_digits groups }
 {

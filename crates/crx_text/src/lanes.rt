@@ -1,8 +1,8 @@
-//! Texts read and written 32 characters at a time, and the rest of a text character by character.
+//! Texts read and written 32 characters at a time; the last 32 may overlap those before.
 
 ghost use Rattle.std.specs.Prelude.{◌≡◌, ℕ, ◌+◌, ◌-◌, ◌<◌, ◌≤◌, Bool, ◌++◌, length, take, drop};
 ghost use Rattle.std.specs.List.{list_all};
-ghost use Rattle.std.specs.Simd.Lanes.{zip2};
+ghost use Rattle.std.specs.Simd.Lanes.{chunk, zip2};
 
 use std::simd::prelude::*;
 
@@ -26,20 +26,24 @@ pub(crate) trait Kind {
 pub(crate) fn all_of<K: Kind>(text: &[u8]) -> bool
     ensures { result ≡ list_all K.is_of_kind text.now }
 {
+    if text.len() < LANES {
+        return all_of_few::<K>(text);
+    }
+    let last = text.len() - LANES;
     let mut at = 0;
-    while text.len() - at >= LANES {
+    while at < last {
         if !K::holds_in(u8x32::from_slice(&text[at..])) {
             return false;
         }
         at += LANES;
     }
-    all_of_rest::<K>(&text[at..])
+    K::holds_in(u8x32::from_slice(&text[last..]))
 }
 
-// The same of a text that is no longer than a vector: its two ends in one vector, where these are
+// The same of a text that is shorter than a vector: its two ends in one vector, where these are
 // lanes enough.
 #[inline(always)]
-fn all_of_rest<K: Kind>(text: &[u8]) -> bool
+fn all_of_few<K: Kind>(text: &[u8]) -> bool
     requires { length text.now < 32 }
     ensures { result ≡ list_all K.is_of_kind text.now }
 {
@@ -113,19 +117,35 @@ pub(crate) fn write_by_rule<R: Rule>(old: &[u8], other: &[u8], out: &mut [u8])
     requires { (length other.now ≡ length old.now) × (length out.old ≡ length old.now) }
     ensures { out.new ≡ zip2 R.rule old.now other.now }
 {
+    if old.len() < LANES {
+        write_few::<R>(old, other, out);
+        return;
+    }
+    let last = old.len() - LANES;
     let mut at = 0;
-    while old.len() - at >= LANES {
-        let olds = u8x32::from_slice(&old[at..]);
-        let others = u8x32::from_slice(&other[at..]);
-        R::apply_to(olds, others).copy_to_slice(&mut out[at..]);
+    while at < last {
+        write_lanes::<R>(old, other, out, at);
         at += LANES;
     }
-    write_rest::<R>(&old[at..], &other[at..], &mut out[at..]);
+    write_lanes::<R>(old, other, out, last);
+}
+
+// The same of 32 characters from an index on.
+#[inline(always)]
+fn write_lanes<R: Rule>(old: &[u8], other: &[u8], out: &mut [u8], at: usize)
+    requires room { at + 32 ≤ length old.now }
+    requires same_length { (length other.now ≡ length old.now) × (length out.old ≡ length old.now) }
+    ensures written { take (at + 32) out.new ≡ take at out.old ++ zip2 R.rule (chunk at 32 old.now) (chunk at 32 other.now) }
+    ensures long { length out.new ≡ length out.old }
+{
+    let olds = u8x32::from_slice(&old[at..]);
+    let others = u8x32::from_slice(&other[at..]);
+    R::apply_to(olds, others).copy_to_slice(&mut out[at..]);
 }
 
 // The same of texts that are shorter than a vector.
 #[inline(always)]
-fn write_rest<R: Rule>(old: &[u8], other: &[u8], out: &mut [u8])
+fn write_few<R: Rule>(old: &[u8], other: &[u8], out: &mut [u8])
     requires few { length old.now < 32 }
     requires same_length { (length other.now ≡ length old.now) × (length out.old ≡ length old.now) }
     ensures { out.new ≡ zip2 R.rule old.now other.now }

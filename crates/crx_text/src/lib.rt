@@ -3,6 +3,7 @@
 #![tactic(auto)]
 
 mod clock_field;
+mod clock_text;
 pub mod code;
 pub mod columns;
 pub mod device;
@@ -12,7 +13,6 @@ pub mod fault;
 mod feed;
 mod field;
 mod field_text;
-pub mod input;
 mod lanes;
 pub mod laws;
 pub mod limits;
@@ -27,10 +27,10 @@ pub mod write;
 pub use code::{Code, code_before_blank, code_print, code_print_cell, code_read};
 pub use device::{ReadFailed, Sink, Source, Std, WriteFailed};
 pub use difference::{
-    BadCharacter, all_kept, all_printable, append_difference, diff_text, patch_bytes, patch_text,
+    BadCharacter, all_kept, all_printable, append_difference, diff_bytes, diff_text, patch_bytes,
+    patch_text,
 };
 pub use fault::{At, Fault};
-pub use input::{HeldLine, Input, read_all};
 pub use line::{Line, LineReader};
 pub use number::{BadField, clock_print, clock_read, obs_print, obs_print_into, obs_read};
 pub use text::{Text, TextFull, trim_end};

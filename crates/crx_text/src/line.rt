@@ -210,3 +210,6 @@ impl LineReader {
         }
     }
 }
+
+#[cfg(test)]
+mod tests;

@@ -5,14 +5,14 @@ ghost use Rattle.std.specs.Prelude.{◌≡◌, ◌+◌, ◌-◌, ◌*◌, ◌<�
 ghost use Rattle.std.specs.Option.{ForSome};
 ghost use Rattle.std.specs.Result.{result_ok};
 ghost use Rattle.crx_text.specs.declared.digits.TheConstants.{WIDEST};
-ghost use Rattle.crx_text.specs.declared.limits.TheConstants.{OBSERVATION_WIDTH};
+ghost use Rattle.crx_text.specs.declared.limits.TheConstants.{OBSERVATION_WIDTH, CLOCK_WIDTH};
 ghost use Rattle.crx_text.specs.Columns.{without_first_blanks};
 ghost use Rattle.crx_text.specs.Numbers.{IsWithin, IsObservation, IsClock, number_of, observation_of, clock_of, size_of, spelt_number, number_text, observation_text, clock_text, size_text, zero_padded};
 
 use crate::digits::{WIDEST, digits_read, signed, split_minus};
 use crate::field_text::size_print_by_lanes;
 use crate::limits::{CLOCK_DECIMALS, CLOCK_WIDTH, OBSERVATION_DECIMALS, OBSERVATION_WIDTH};
-use crate::{clock_field, field};
+use crate::{clock_field, clock_text, field};
 use itoa::write_digits;
 use thiserror::Error;
 
@@ -118,8 +118,33 @@ pub fn clock_print(value: Option<i64>, field: &mut [u8; CLOCK_WIDTH])
     requires { ForSome value IsClock }
     ensures { field.new ≡ clock_text value }
 {
-    number_print(value, CLOCK_DECIMALS, field)
+    clock_print_into(value, field)
 }
+
+// Prints a receiver clock offset into 15 columns.
+#[inline(always)]
+fn clock_print_into(value: Option<i64>, columns: &mut [u8])
+    requires width { length columns.old ≡ CLOCK_WIDTH }
+    requires in_range { ForSome value IsClock }
+    ensures { columns.new ≡ clock_text value }
+{
+    let Some(number) = value else {
+        columns.copy_from_slice(&[b' '; CLOCK_WIDTH]);
+        return;
+    };
+    let size = number.unsigned_abs();
+    if size >= SHORT_CLOCK {
+        number_print(value, CLOCK_DECIMALS, columns);
+        return;
+    }
+    clock_text::size_print(size, columns);
+    if number < 0 {
+        columns[0] = b'-';
+    }
+}
+
+// A size below it has one digit before the point of a clock offset.
+const SHORT_CLOCK: u64 = 10_000_000_000_000;
 
 /// A law: what is printed of an observation is read back.
 pub fn obs_is_read_back(value: Option<i64>)

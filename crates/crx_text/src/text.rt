@@ -1,10 +1,10 @@
 //! A text of a line's length at most, held in place.
 
 ghost use Rattle.std.specs.Prelude.{◌≡◌, ◌+◌, ◌<◌, ◌≤◌, ◌↔◌, List, [], ◌∷◌, ◌++◌, ℕ, length, take, OnOk, OnErr, IsErr, IsTrue};
-ghost use Rattle.crx_text.specs.Columns.{is_blank, without_end_blanks};
+ghost use Rattle.crx_text.specs.Columns.{without_end_blanks};
 ghost use Rattle.crx_text.specs.declared.limits.TheConstants.{LINE_LIMIT};
 
-use crate::lanes::{Kind, LANES};
+use crate::lanes::LANES;
 use crate::limits::LINE_LIMIT;
 use std::marker::Model;
 use std::simd::prelude::*;
@@ -125,12 +125,28 @@ fn end_blanks(text: &[u8]) -> usize
 {
     let mut end = text.len();
     while end >= LANES {
-        if !Blank::holds_in(u8x32::from_slice(&text[end - LANES..])) {
-            break;
+        let start = end - LANES;
+        let count = kept_in(u8x32::from_slice(&text[start..]));
+        if count > 0 {
+            return start + count;
         }
-        end -= LANES;
+        end = start;
+    }
+    if text.len() >= LANES {
+        return kept_in(u8x32::from_slice(text));
     }
     end_blanks_singly(text, end)
+}
+
+// How many of 32 characters stand before the blanks at their end.
+#[inline(always)]
+fn kept_in(characters: u8x32) -> usize
+    ensures kept { take result characters ≡ without_end_blanks characters }
+    ensures long { length (without_end_blanks characters) ≡ result }
+    ensures within { result ≤ 32 }
+{
+    let others = characters.simd_ne(u8x32::splat(b' ')).to_bitmask();
+    64 - others.leading_zeros() as usize
 }
 
 // The same, where only blanks stand from an index on.
@@ -148,19 +164,4 @@ fn end_blanks_singly(text: &[u8], from: usize) -> usize
         end -= 1;
     }
     end
-}
-
-// The blank alone.
-struct Blank;
-
-impl Kind for Blank {
-    ghost is_of_kind = { is_blank };
-
-    fn holds(character: u8) -> bool {
-        character == b' '
-    }
-
-    fn holds_in(characters: u8x32) -> bool {
-        characters.simd_ne(u8x32::splat(b' ')).to_bitmask() == 0
-    }
 }

@@ -22,3 +22,6 @@ pub fn write_all_counted<W: Sink>(writer: &mut W, bytes: &[u8]) -> Result<(), (u
     }
     Ok(())
 }
+
+#[cfg(test)]
+mod tests;

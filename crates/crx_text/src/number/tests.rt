@@ -71,16 +71,58 @@ fn clock_offsets_with_another_byte(rt: HostRuntime) {
     }
 }
 
+/// What is printed of an observation in range.
+fn printed_observation(value: i64) -> [u8; OBSERVATION_WIDTH] {
+    let mut field = [b'x'; OBSERVATION_WIDTH];
+    if -1_000_000_000_000 < value && value < 10_000_000_000_000 {
+        obs_print(Some(value), &mut field);
+    }
+    field
+}
+
+/// What is printed of a clock offset in range.
+fn printed_clock(value: i64) -> [u8; CLOCK_WIDTH] {
+    let mut field = [b'x'; CLOCK_WIDTH];
+    if -10_000_000_000_000 < value && value < 100_000_000_000_000 {
+        clock_print(Some(value), &mut field);
+    }
+    field
+}
+
 #[test]
-fn printed_numbers(rt: HostRuntime) {
+fn printed_observations(rt: HostRuntime) {
+    let cases = [
+        (0, *b"         0.000"),
+        (-1, *b"        -0.001"),
+        (999_999_999_999, *b" 999999999.999"),
+        (1_000_000_000_000, *b"1000000000.000"),
+        (9_999_999_999_999, *b"9999999999.999"),
+        (-999_999_999_999, *b"-999999999.999"),
+    ];
+    for (value, text) in cases {
+        assert_eq!(rt; printed_observation(value), text);
+    }
     let mut field = [0; OBSERVATION_WIDTH];
-    obs_print(Some(-1), &mut field);
-    assert_eq!(rt; field, *b"        -0.001");
-    obs_print(Some(9_999_999_999_999), &mut field);
-    assert_eq!(rt; field, *b"9999999999.999");
     obs_print(None, &mut field);
     assert_eq!(rt; field, *b"              ");
-    let mut clock = [0; CLOCK_WIDTH];
-    clock_print(Some(0), &mut clock);
-    assert_eq!(rt; clock, *b" 0.000000000000");
+}
+
+#[test]
+fn printed_clock_offsets(rt: HostRuntime) {
+    let cases = [
+        (0, *b" 0.000000000000"),
+        (-1, *b"-0.000000000001"),
+        (123_456_789_012, *b" 0.123456789012"),
+        (9_008_007_006_005, *b" 9.008007006005"),
+        (9_999_999_999_999, *b" 9.999999999999"),
+        (10_000_000_000_000, *b"10.000000000000"),
+        (99_999_999_999_999, *b"99.999999999999"),
+        (-9_999_999_999_999, *b"-9.999999999999"),
+    ];
+    for (value, text) in cases {
+        assert_eq!(rt; printed_clock(value), text);
+    }
+    let mut field = [0; CLOCK_WIDTH];
+    clock_print(None, &mut field);
+    assert_eq!(rt; field, *b"               ");
 }

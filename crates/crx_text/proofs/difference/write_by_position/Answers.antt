@@ -1,6 +1,14 @@
-use Rattle.std.proofs.Common.{◌≡◌, ℕ, length, min, arith}
-use Rattle.crx_text.proofs.PositionParts.{old_is_longer, other_is_longer}
+use Rattle.std.proofs.Common.{◌≡◌, ℕ, [], length, min, arith}
+use Rattle.crx_text.proofs.PositionParts.{both_end, old_is_longer, other_is_longer}
 use Rattle.crx_text.proofs.difference.write_by_position.Goals as goal
+
+pub returns-then-old-other-clause-written : goal.returns-then-old-other-clause-written
+returns-then-old-other-clause-written g c =
+    let old = c.args.old.now in
+    let other = c.args.other.now in
+    let k : ℕ = c.min-common.result in
+    let least : k ≡ min (length old) (length other) = c.min-common.ensures in
+    both_end g.R.Rule.rule old other c.write_by_rule.new.out [] _ [] k (omega arith) (omega arith) c.write_by_rule.ensures (omega (arith, c.if-old-other.true)) (omega (arith, c.if-old-other.true))
 
 pub returns-then-common-old-clause-written : goal.returns-then-common-old-clause-written
 returns-then-common-old-clause-written g c =

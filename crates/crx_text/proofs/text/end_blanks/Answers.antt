@@ -1,15 +1,24 @@
-use Rattle.std.proofs.Common.{true, ◌≡◌, ◌-◌, sym, ◌∙◌, arith}
-use Rattle.std.specs.List.{list_all}
-use Rattle.std.specs.Simd.Lanes.{chunk}
-use Rattle.crx_text.specs.Columns.{is_blank}
-use Rattle.crx_text.proofs.Positions.{trim_blanks}
+use Rattle.std.proofs.Common.{◌≡◌, ◌+◌, ◌-◌, ◌∙◌, ℕ, arith}
+use Rattle.crx_text.proofs.EndBlanks.{kept_before, kept_in_piece, none_in_piece, kept_in_first}
 use Rattle.crx_text.proofs.text.end_blanks.Goals as goal
+
+pub returns-then-count-gt0-clause-kept : goal.returns-then-count-gt0-clause-kept
+returns-then-count-gt0-clause-kept c =
+    let end = c.loop-end.end in
+    let piece = c.kept_in-count in
+    kept_in_piece c.args.text.now end c.loop-end.invariant.0 c.loop-end.invariant.1 (end - 32) piece.result (omega (arith, c.loop-end-test.true)) c.if-count-gt0.true piece.ensures.within piece.ensures.kept piece.ensures.long
 
 pub loop-end-preserved : goal.loop-end-preserved
 loop-end-preserved c =
-    let text = c.args.text.now in
     let end = c.loop-end.end in
-    let blank : list_all is_blank (chunk (end - 32) 32 text) ≡ true = sym c.holds_in.ensures ∙ c.if-not-holds_in.false in (
+    let zero : c.kept_in-count.result ≡ 0 = omega (arith, c.if-count-gt0.false) in (
       omega (arith, c.loop-end.invariant.0),
-      trim_blanks text end 32 c.loop-end-test.true blank ∙ c.loop-end.invariant.1,
+      none_in_piece c.args.text.now end c.loop-end.invariant.0 c.loop-end.invariant.1 (end - 32) (omega (arith, c.loop-end-test.true)) (c.kept_in-count.ensures.long ∙ zero),
     )
+
+pub returns-then-text-ge-LANES-clause-kept : goal.returns-then-text-ge-LANES-clause-kept
+returns-then-text-ge-LANES-clause-kept c =
+    kept_in_first c.args.text.now c.loop-end.end c.loop-end.invariant.0 c.loop-end.invariant.1 c.kept_in.result (omega (arith, c.loop-end-test.false)) c.kept_in.ensures.within c.kept_in.ensures.kept
+
+pub end_blanks_singly-requires-clause-blanks : goal.end_blanks_singly-requires-clause-blanks
+end_blanks_singly-requires-clause-blanks c = kept_before c.args.text.now c.loop-end.end c.loop-end.invariant.0 c.loop-end.invariant.1

@@ -2,7 +2,7 @@ use Rattle.std.proofs.Common.{◌∙◌, arith}
 use Rattle.std.proofs.Common.{ap}
 use Rattle.std.specs.List.{list_all}
 use Rattle.crx_text.proofs.TextEnds.{list_all-ends, list_all-ends_twice}
-use Rattle.crx_text.proofs.lanes.all_of_rest.Goals as goal
+use Rattle.crx_text.proofs.lanes.all_of_few.Goals as goal
 
 pub returns-then-text-ge16 : goal.returns-then-text-ge16
 returns-then-text-ge16 g c =

@@ -1,7 +1,7 @@
 use Rattle.std.proofs.Common.{ℕ, List, ◌++◌, ◌∙◌, ap, arith}
 use Rattle.std.specs.Simd.Lanes.{zip2}
 use Rattle.crx_text.proofs.TextEnds.{ends, stored_ends, stored_ends_twice}
-use Rattle.crx_text.proofs.lanes.write_rest.Goals as goal
+use Rattle.crx_text.proofs.lanes.write_few.Goals as goal
 
 pub returns-then-count-ge16 : goal.returns-then-count-ge16
 returns-then-count-ge16 g c =
