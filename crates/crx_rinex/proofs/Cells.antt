@@ -12,7 +12,7 @@ use Rattle.std.proofs.lemmas.Option.{option_and_then_some, same_Some, none-some}
 use Rattle.crx_text.specs.Columns.{character_at, columns}
 use Rattle.crx_rinex.specs.Observations.{Row}
 use Rattle.crx_text.specs.Numbers.{observation_of, observation_text, number_of}
-use Rattle.crx_rinex.specs.EpochLines.{is_kept}
+use Rattle.crx_text.specs.Texts.{is_kept}
 use Rattle.crx_rinex.specs.Printing.{printed_cells}
 use Rattle.crx_rinex.specs.ObservationTypes.{is_system, IsAllowedCount}
 use Rattle.crx_rinex.specs.SatelliteLines.{all_some, values_in, flags_from, flags_in, field, has_number, is_identifier, blank_row, with_flags, IsSoundRow, IsValue}
@@ -102,19 +102,6 @@ printed_more values flags k h =
     let f : drop 2 (drop (2 * k) flags) ≡ drop (2 * (k + 1)) flags = drop-drop 2 (2 * k) flags ∙ ap (λ (n : ℕ). drop n flags) e in
     ap (λ (vs : List (Option ℤ)). printed_cells vs (drop (2 * k) flags)) (drop_more values k None h)
     ∙ ap (λ (fs : List ℕ). observation_text (get_or values k None) ++ take 2 (drop (2 * k) flags) ++ printed_cells (drop (k + 1) values) fs) f
-
--- a text with one more cell
-pub printed_pushed : (values : List (Option ℤ)) (flags text field one two all : List ℕ) (k : ℕ) → k < length values →
-    text ++ printed_cells (drop k values) (drop (2 * k) flags) ≡ all → field ≡ observation_text (get_or values k None) → one ≡ text ++ field → two ≡ one ++ take (2 * k + 2 - 2 * k) (drop (2 * k) flags) →
-    two ++ printed_cells (drop (k + 1) values) (drop (2 * (k + 1)) flags) ≡ all
-printed_pushed values flags text field one two all k h inv printed first second =
-    let rest : List ℕ = printed_cells (drop (k + 1) values) (drop (2 * (k + 1)) flags) in
-    let width : 2 * k + 2 - 2 * k ≡ 2 = omega arith in
-    let pair : List ℕ = take 2 (drop (2 * k) flags) in
-    let spelt : List ℕ = observation_text (get_or values k None) in
-    ap (λ (t : List ℕ). t ++ rest) (second ∙ ap (λ (n : ℕ). one ++ take n (drop (2 * k) flags)) width ∙ ap (λ (t : List ℕ). t ++ pair) (first ∙ ap (λ (t : List ℕ). text ++ t) printed))
-    ∙ append_assoc (text ++ spelt) pair rest ∙ append_assoc text spelt (pair ++ rest) ∙ ap (λ (t : List ℕ). text ++ t) (sym (append_assoc spelt pair rest))
-    ∙ ap (λ (t : List ℕ). text ++ t) (sym (printed_more values flags k h)) ∙ inv
 
 all_kept_blanks : (n : ℕ) → list_all is_kept (replicate n 32) ≡ true
 all_kept_blanks zero = refl

@@ -14,9 +14,10 @@ use Rattle.crx_text.specs.Numbers.{number_of, missing_or_spelt, observation_of, 
 use Rattle.crx_text.specs.Seen.{ReadLine, Content}
 use Rattle.crx_text.specs.declared.limits.TheConstants.{OBSERVATION_WIDTH, OBSERVATION_DECIMALS, CLOCK_WIDTH, CLOCK_DECIMALS}
 use Rattle.crx_text.proofs.ReadBack.{number_of-number_text}
+use Rattle.crx_text.specs.Texts.{is_kept}
 use Rattle.crx_rinex.specs.Observations.{Row, Epoch}
 use Rattle.crx_rinex.specs.ObservationTypes.{Count, is_system}
-use Rattle.crx_rinex.specs.EpochLines.{EpochHead, ObservationHead, IsObservationHead, IsClockOffset, is_kept, begins_epoch, is_event_flag, is_observation_flag, satellites_in, satellites_of, epoch_count, epoch_head, with_clock, head_of}
+use Rattle.crx_rinex.specs.EpochLines.{EpochHead, ObservationHead, IsObservationHead, IsClockOffset, begins_epoch, is_event_flag, is_observation_flag, satellites_in, satellites_of, epoch_count, epoch_head, with_clock, head_of}
 use Rattle.crx_rinex.specs.Epochs.{has_satellite, are_different, IsWholeEpoch}
 use Rattle.crx_rinex.specs.EpochPlaces.{OpenEpoch, EpochBegins, opened, rows_wanted, epoch_of, with_next_row, next_row, rows_at, rest_at, begun_by, beginning_of, unit_begun, epoch_place}
 use Rattle.crx_rinex.specs.Places.{Here, after_lines, then_place, one_line}

@@ -12,8 +12,9 @@ use Rattle.std.proofs.lemmas.List.{length_push, take_all, take_more_set}
 use Rattle.std.proofs.lemmas.List.Elements.{All-push}
 use Rattle.std.proofs.lemmas.List.Folds.{list_any-append}
 use Rattle.std.proofs.lemmas.Slice.Eq.{bytes_eq-Decides}
+use Rattle.crx_text.specs.Texts.{is_kept}
 use Rattle.crx_rinex.specs.Observations.{Row, Epoch}
-use Rattle.crx_rinex.specs.EpochLines.{satellites_of, count_within_limit, begins_epoch, is_observation_flag, is_kept}
+use Rattle.crx_rinex.specs.EpochLines.{satellites_of, count_within_limit, begins_epoch, is_observation_flag}
 use Rattle.crx_rinex.specs.Epochs.{has_satellite, are_different, with_row, is_full_epoch, IsSoundEpoch}
 use Rattle.crx_rinex.specs.SatelliteLines.{IsSoundRow}
 

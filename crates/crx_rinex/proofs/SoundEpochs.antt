@@ -13,11 +13,12 @@ use Rattle.crx_text.specs.Seen.{ReadLine, Content, Overlong}
 use Rattle.crx_text.specs.declared.fault.Fault.{Fault}
 use Rattle.crx_text.specs.declared.fault.Fault.TheVariants.{NotAnEpoch, BadEpoch, RepeatedSatellite, BadField, BadFlags, Truncated}
 use Rattle.crx_text.specs.declared.limits.TheConstants.{SATELLITES_LIMIT}
+use Rattle.crx_text.specs.Texts.{is_kept}
 use Rattle.crx_rinex.specs.ObservationTypes.{Count, AreCounts, IsAllowedCount, is_system, count_of}
 use Rattle.crx_rinex.specs.Observations.{Row, Epoch}
 use Rattle.crx_rinex.specs.Units.{Unit, Observation}
 use Rattle.crx_rinex.specs.Places.{Place, Here, Wrong, Wanted, after_lines, then_place, one_line}
-use Rattle.crx_rinex.specs.EpochLines.{HeadLine, EventHead, EpochHead, ObservationHead, IsObservationHead, is_kept, is_event_flag, begins_epoch, epoch_count, epoch_head, event_head, with_clock, head_of, records_in, satellites_of}
+use Rattle.crx_rinex.specs.EpochLines.{HeadLine, EventHead, EpochHead, ObservationHead, IsObservationHead, is_event_flag, begins_epoch, epoch_count, epoch_head, event_head, with_clock, head_of, records_in, satellites_of}
 use Rattle.crx_rinex.specs.SatelliteLines.{row_of, row_of_types, row_with, values_in, flags_in, flags_from, field, all_some, types_of_satellite, has_number, is_identifier, IsSoundRow, IsValue, HasItsTypes}
 use Rattle.crx_rinex.specs.Epochs.{has_satellite, are_different, IsWholeEpoch}
 use Rattle.crx_rinex.specs.EpochPlaces.{OpenEpoch, Beginning, EventBegins, EpochBegins, opened, rows_wanted, epoch_of, with_next_row, row_if_new, next_row, rows_at, rest_at, begun_by, beginning_of, unit_begun, epoch_place}

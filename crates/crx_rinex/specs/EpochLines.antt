@@ -4,6 +4,7 @@ use Rattle.std.specs.List.{list_all}
 use Rattle.std.specs.Option.{option_and_then}
 use Rattle.crx_text.specs.Columns.{columns, character_at, is_blank}
 use Rattle.crx_text.specs.Numbers.{clock_of, IsClock}
+use Rattle.crx_text.specs.Texts.{is_kept}
 use Rattle.crx_text.specs.declared.limits.TheConstants.{SATELLITES_LIMIT, HEAD_WIDTH, CLOCK_WIDTH}
 use Rattle.crx_text.specs.declared.fault.Fault.{Fault}
 use Rattle.crx_text.specs.declared.fault.Fault.TheVariants.{NotAnEpoch, BadEpoch, BadClock}
@@ -30,10 +31,6 @@ is_observation_flag flag = (flag == 48) || (flag == 49)
 -- a line that begins an event
 abbrev pub is_event_line : List ℕ → Bool
 is_event_line line = begins_epoch line && is_event_flag (character_at line 32)
-
--- characters that may stand in epoch texts and indicators: 32 to 126 other than &, which means a blank in compact text
-abbrev pub is_kept : ℕ → Bool
-is_kept c = nat_le 32 c && nat_le c 126 && not (c == 38)
 
 -- the count of an event's records in columns 33 to 35; blank is none
 abbrev pub records_in : List ℕ → Option ℕ

@@ -1,14 +1,15 @@
 -- The first line of a header: RINEX 3.05, table A2, RINEX VERSION / TYPE.
 use Rattle.std.specs.Prelude.{ℕ, Bool, false, ◌||◌, ◌&&◌, List, [], ◌∷◌, ◌==◌, Option, Some, None, if◌then◌else◌, not, codes}
+use Rattle.std.specs.Char.{is_ascii_digit}
 use Rattle.std.specs.Str.{bytes_eq}
 use Rattle.crx_text.specs.Columns.{columns, character_at, without_blanks}
 use Rattle.crx_text.specs.declared.fault.Fault.{Fault}
 use Rattle.crx_text.specs.declared.fault.Fault.TheVariants.{MissingVersion, UnsupportedVersion, NotObservation}
-use Rattle.crx_rinex.specs.Label.{has_label, version_label, end_label, is_digit}
+use Rattle.crx_rinex.specs.Label.{has_label, version_label, end_label}
 
 -- 3.0 and one digit
 abbrev pub is_version_with_digit : List ℕ → Bool
-is_version_with_digit (a ∷ b ∷ c ∷ d ∷ []) = bytes_eq (a ∷ b ∷ c ∷ []) (codes "3.0") && is_digit d
+is_version_with_digit (a ∷ b ∷ c ∷ d ∷ []) = bytes_eq (a ∷ b ∷ c ∷ []) (codes "3.0") && is_ascii_digit d
 is_version_with_digit _ = false
 
 -- the versions that are read: 3, 3.0, and 3.0 with one more digit

@@ -1,5 +1,6 @@
 -- Labels of header lines and numbers in columns: RINEX 3.05, table A2.
-use Rattle.std.specs.Prelude.{ℕ, Bool, ◌&&◌, List, [], ◌∷◌, Option, Some, None, if◌then◌else◌, nat_le, codes}
+use Rattle.std.specs.Prelude.{ℕ, Bool, List, [], ◌∷◌, Option, Some, None, if◌then◌else◌, codes}
+use Rattle.std.specs.Char.{is_ascii_digit}
 use Rattle.std.specs.List.{list_all}
 use Rattle.std.specs.Str.{bytes_eq}
 use Rattle.std.specs.Str.Parse.{digits_value}
@@ -22,14 +23,10 @@ types_label = codes "SYS / # / OBS TYPES"
 abbrev pub end_label : List ℕ
 end_label = codes "END OF HEADER"
 
--- a digit is one of the bytes 48 to 57
-abbrev pub is_digit : ℕ → Bool
-is_digit c = nat_le 48 c && nat_le c 57
-
 -- the number that digits spell; no digits spell none
 abbrev pub number_of_digits : List ℕ → Option ℕ
 number_of_digits [] = None
-number_of_digits (c ∷ cs) = if list_all is_digit (c ∷ cs) then Some (digits_value 10 (c ∷ cs)) else None
+number_of_digits (c ∷ cs) = if list_all is_ascii_digit (c ∷ cs) then Some (digits_value 10 (c ∷ cs)) else None
 
 -- the number in some columns: digits, with blanks before or after them
 abbrev pub number_in : List ℕ → Option ℕ

@@ -1,5 +1,6 @@
 -- Satellite lines: RINEX 3.05, table A3, OBSERVATION record, A1,I2.2,m(F14.3,I1,I1).
 use Rattle.std.specs.Prelude.{◌≡◌, ℕ, ℤ, Bool, true, ◌==◌, ◌||◌, ◌&&◌, ◌+◌, ◌*◌, ◌-◌, List, [], ◌∷◌, ◌++◌, Option, Some, None, IfSome, Result, Ok, Err, if◌then◌else◌, not, drop, map, length, replicate, slice_set, All}
+use Rattle.std.specs.Char.{is_ascii_digit}
 use Rattle.std.specs.List.{list_all, range_with_len}
 use Rattle.std.specs.Option.{option_and_then}
 use Rattle.crx_text.specs.Columns.{columns, character_at, is_blank}
@@ -8,13 +9,12 @@ use Rattle.crx_rinex.specs.Observations.{Row}
 use Rattle.crx_text.specs.declared.limits.TheConstants.{OBSERVATION_WIDTH, NAME_WIDTH, CELL_WIDTH}
 use Rattle.crx_text.specs.declared.fault.Fault.{Fault}
 use Rattle.crx_text.specs.declared.fault.Fault.TheVariants.{BadSatellite, BadField, BadFlags}
-use Rattle.crx_rinex.specs.Label.{is_digit}
-use Rattle.crx_rinex.specs.EpochLines.{is_kept}
+use Rattle.crx_text.specs.Texts.{is_kept}
 use Rattle.crx_rinex.specs.ObservationTypes.{Count, IsAllowedCount, count_of, is_system}
 
 -- whether columns 2 and 3 of a satellite line go on with an identifier: a digit or a blank, and a digit
 abbrev pub has_number : List ℕ → Bool
-has_number line = (is_digit (character_at line 2) || is_blank (character_at line 2)) && is_digit (character_at line 3)
+has_number line = (is_ascii_digit (character_at line 2) || is_blank (character_at line 2)) && is_ascii_digit (character_at line 3)
 
 -- how many types the satellite of a line has, where it has an identifier of a system with types
 abbrev pub types_of_satellite : List Count → List ℕ → Option ℕ

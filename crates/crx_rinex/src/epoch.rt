@@ -1,6 +1,6 @@
 //! Observation epochs. RINEX 3.05, table A3.
 
-ghost use Rattle.std.specs.Prelude.{◌≡◌, ◌≤◌, ◌⊎◌, ◌-◌, ◌*◌, length, is_some, true, false, Err, OnOk, OnErr, IfErr, IfSome, slice_get};
+ghost use Rattle.std.specs.Prelude.{◌≡◌, ◌≤◌, ◌<◌, ◌+◌, ◌⊎◌, ◌-◌, ◌*◌, ◌++◌, ◌∷◌, [], length, take, is_some, true, false, Err, OnOk, OnErr, IfErr, IfSome, slice_get};
 ghost use Rattle.std.specs.List.{sum_by};
 ghost use Rattle.std.specs.Option.{option_copied};
 ghost use Rattle.crx_text.specs.declared.limits.TheConstants.{SATELLITES_LIMIT, TYPES_LIMIT};
@@ -17,6 +17,7 @@ use crx_text::Fault;
 use crx_text::limits::NAME_WIDTH;
 use std::alloc::Global;
 use std::marker::Model;
+use std::mem;
 
 /// An observation epoch: its line and the rows of its satellites, each satellite once.
 #[derive(Drop)]
@@ -63,6 +64,17 @@ impl Epoch {
         self.count = 0;
     }
 
+    /// Takes a spare row of an earlier epoch out, where there is one, to be filled and put after the others.
+    pub fn take_spare(&mut self) -> Option<SatRow>
+        ensures { self.new ≡ self.old }
+    {
+        if self.count < self.rows.len() {
+            self.rows.pop()
+        } else {
+            None
+        }
+    }
+
     /// Puts a row after the others.
     ///
     /// `RepeatedSatellite` comes where the epoch has a row of the same identifier already, else `OutOfMemory`.
@@ -81,7 +93,7 @@ impl Epoch {
             return Err((row, Fault::RepeatedSatellite));
         }
         if self.count < self.rows.len() {
-            self.rows[self.count] = row;
+            put_row(&mut self.rows, self.count, row);
             self.count += 1;
             return Ok(());
         }
@@ -159,6 +171,16 @@ impl Epoch {
     {
         self.rows[..self.count].get(index)
     }
+}
+
+/// Puts a row in the place of a spare one, which becomes the last one where there is memory for it.
+fn put_row(rows: &mut Vec<SatRow>, count: usize, row: SatRow)
+    requires { count < length rows.old.items }
+    ensures rows { take (count + 1) rows.new.items ≡ take count rows.old.items ++ row ∷ [] }
+    ensures within { count < length rows.new.items }
+{
+    let spare = mem::replace(&mut rows[count], row);
+    let _ = rows.push(spare);
 }
 
 /// How many values of some rows aren't missing.

@@ -1,13 +1,13 @@
 //! Satellite lines. RINEX 3.05, table A3, OBSERVATION record, A1,I2.2,m(F14.3,I1,I1).
 
-ghost use Rattle.std.specs.Prelude.{◌≡◌, ◌≤◌, ◌<◌, ◌+◌, ◌-◌, ◌*◌, ◌++◌, ◌⊎◌, replicate, true, None, Some, Ok, Err, is_some, length, All, IfOk, IfErr, IfSome, OnOk, OnErr, OnSome, MatchBool, MatchResult, slice_get};
+ghost use Rattle.std.specs.Prelude.{◌≡◌, ◌≤◌, ◌<◌, ◌+◌, ◌-◌, ◌*◌, ◌++◌, ◌∷◌, [], ◌⊎◌, replicate, true, None, Some, Ok, Err, is_some, length, All, IfOk, IfErr, IfSome, OnOk, OnErr, OnSome, MatchBool, MatchResult, slice_get};
 ghost use Rattle.std.specs.Bool.{OnTrue, OnFalse};
 ghost use Rattle.std.specs.List.{list_all};
-ghost use Rattle.std.specs.Option.{ForSome};
-ghost use Rattle.crx_text.specs.Columns.{columns};
+ghost use Rattle.std.specs.Option.{option_map, ForSome};
+ghost use Rattle.crx_text.specs.Columns.{character_at, columns};
 ghost use Rattle.crx_text.specs.declared.limits.TheConstants.{CELL_WIDTH, LINE_LIMIT, NAME_WIDTH, TYPES_LIMIT};
-ghost use Rattle.crx_text.specs.Numbers.{observation_of, IsObservation};
-ghost use Rattle.crx_rinex.specs.EpochLines.{is_kept};
+ghost use Rattle.crx_text.specs.Numbers.{observation_of, observation_text, IsObservation};
+ghost use Rattle.crx_text.specs.Texts.{is_kept};
 ghost use Rattle.crx_rinex.specs.ObservationTypes.{IsAllowedCount};
 ghost use Rattle.crx_rinex.specs.Observations.{observations_of};
 ghost use Rattle.crx_rinex.specs.Printing.{printed_cells, printed_row};
@@ -16,7 +16,7 @@ ghost use Rattle.crx_rinex.specs.SatelliteLines.{blank_row, field, flags_in, has
 use crate::columns::{after_columns, all_blank, character, padded};
 use crate::types::Types;
 use crx_text::limits::{CELL_WIDTH, NAME_WIDTH, OBSERVATION_WIDTH};
-use crx_text::{Fault, Text, all_kept, obs_print, obs_read};
+use crx_text::{Fault, Text, all_kept, obs_print_into, obs_read};
 use std::alloc::Global;
 use std::marker::Model;
 
@@ -115,6 +115,40 @@ impl SatRow {
             values,
             flags,
         })
+    }
+
+    /// The row of [`SatRow::blank`], in the memory of a spare row where there is one.
+    pub fn blank_again(
+        alloc: Global,
+        spare: Option<SatRow>,
+        name: [u8; NAME_WIDTH],
+        m: usize,
+    ) -> Result<SatRow, Fault>
+        requires named { is_identifier name ≡ true }
+        requires allowed { IsAllowedCount m }
+        ensures { MatchResult result (λ row. row ≡ blank_row name m) (λ fault. fault ≡ Fault.OutOfMemory) }
+    {
+        let Some(mut row) = spare else {
+            return SatRow::blank(alloc, name, m);
+        };
+        row.begin_again(name, m)?;
+        Ok(row)
+    }
+
+    /// Makes the row that of [`SatRow::blank`].
+    fn begin_again(&mut self, name: [u8; NAME_WIDTH], m: usize) -> Result<(), Fault>
+        requires named { is_identifier name ≡ true }
+        requires allowed { IsAllowedCount m }
+        ensures ok { OnOk result (self.new ≡ blank_row name m) }
+        ensures err { IfErr result (λ fault. fault ≡ Fault.OutOfMemory) }
+    {
+        if !resize_cells(&mut self.values, &mut self.flags, m) {
+            return Err(Fault::OutOfMemory);
+        }
+        self.values.fill(None);
+        self.flags.fill(b' ');
+        self.name = name;
+        Ok(())
     }
 
     /// The identifier: the system's letter and the satellite's number.
@@ -233,12 +267,12 @@ fn split_cells(line: &[u8], values: &mut [Option<i64>], flags: &mut [u8]) -> boo
     ensures ranged { OnTrue result (All IsValue values.new) }
 {
     for k in 0..values.len() {
-        let Some(value) = observation(line, k) else {
+        let Some((value, lock, strength)) = cell(line, k) else {
             return false;
         };
         values[k] = value;
-        flags[2 * k] = character(line, CELL_WIDTH * k + 18);
-        flags[2 * k + 1] = character(line, CELL_WIDTH * k + 19);
+        flags[2 * k] = lock;
+        flags[2 * k + 1] = strength;
     }
     true
 }
@@ -262,6 +296,46 @@ fn has_number(line: &[u8]) -> bool
 {
     let tens = character(line, 2);
     (tens.is_ascii_digit() || tens == b' ') && character(line, 3).is_ascii_digit()
+}
+
+/// The value of type k, from 0, and its two indicators; `None` where its field is neither blank nor a number of format F14.3.
+#[inline(always)]
+fn cell(line: &[u8], k: usize) -> Option<(Option<i64>, u8, u8)>
+    requires { k < TYPES_LIMIT }
+    ensures value { option_map (λ cell. cell.0) result ≡ observation_of (field line.now k) }
+    ensures ranged { IfSome result (λ cell. IsValue cell.0) }
+    ensures flags { IfSome result (λ cell. (cell.1 ≡ character_at line.now (CELL_WIDTH * k + 18)) × (cell.2 ≡ character_at line.now (CELL_WIDTH * k + 19))) }
+{
+    let start = CELL_WIDTH * k + NAME_WIDTH;
+    if line.len() < start + CELL_WIDTH {
+        return cell_at_end(line, k);
+    }
+    match obs_read(&line[start..start + OBSERVATION_WIDTH]) {
+        Ok(value) => Some((
+            value,
+            line[start + OBSERVATION_WIDTH],
+            line[start + OBSERVATION_WIDTH + 1],
+        )),
+        Err(_) => None,
+    }
+}
+
+/// The same of a cell that may end after the line does.
+#[inline(never)]
+fn cell_at_end(line: &[u8], k: usize) -> Option<(Option<i64>, u8, u8)>
+    requires { k < TYPES_LIMIT }
+    ensures value { option_map (λ cell. cell.0) result ≡ observation_of (field line.now k) }
+    ensures ranged { IfSome result (λ cell. IsValue cell.0) }
+    ensures flags { IfSome result (λ cell. (cell.1 ≡ character_at line.now (CELL_WIDTH * k + 18)) × (cell.2 ≡ character_at line.now (CELL_WIDTH * k + 19))) }
+{
+    match observation(line, k) {
+        Some(value) => Some((
+            value,
+            character(line, CELL_WIDTH * k + 18),
+            character(line, CELL_WIDTH * k + 19),
+        )),
+        None => None,
+    }
 }
 
 /// The value of type k, from 0; `None` where its field is neither blank nor a number of format F14.3.
@@ -299,9 +373,19 @@ fn print_cells(values: &[Option<i64>], flags: &[u8], text: &mut Text)
     ensures value { text.new ≡ text.old ++ printed_cells values.now flags.now }
 {
     for k in 0..values.len() {
-        let mut field = [b' '; OBSERVATION_WIDTH];
-        obs_print(values[k], &mut field);
-        let _ = text.extend(&field);
-        let _ = text.extend(&flags[2 * k..2 * k + 2]);
+        let _ = text.extend(&printed_cell(values[k], flags[2 * k], flags[2 * k + 1]));
     }
+}
+
+/// A cell as it is printed: the columns of its value, and its two indicators.
+#[inline(always)]
+fn printed_cell(value: Option<i64>, lock: u8, strength: u8) -> [u8; CELL_WIDTH]
+    requires { ForSome value IsObservation }
+    ensures { result ≡ observation_text value ++ lock ∷ strength ∷ [] }
+{
+    let mut columns = [b' '; CELL_WIDTH];
+    columns[OBSERVATION_WIDTH] = lock;
+    columns[OBSERVATION_WIDTH + 1] = strength;
+    obs_print_into(value, &mut columns[..OBSERVATION_WIDTH]);
+    columns
 }
