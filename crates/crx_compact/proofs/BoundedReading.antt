@@ -4,7 +4,7 @@ use Rattle.std.specs.List.{list_all, AllByRecursion}
 use Rattle.std.specs.Char.{is_ascii_digit}
 use Rattle.std.specs.Option.{option_map}
 use Rattle.std.specs.Str.{bytes_eq}
-use Rattle.std.proofs.Common.{sym, ◌∙◌, ap, subst, arith, not-suc-le-zero}
+use Rattle.std.proofs.Common.{sym, ◌∙◌, ap, subst, arith}
 use Rattle.std.proofs.lemmas.Bool.{leb-true}
 use Rattle.std.proofs.lemmas.List.{length-map, length-append, length-take, length-replicate}
 use Rattle.crx_text.specs.Columns.{is_blank, character_at, before_end_blanks, without_end_blanks, columns}
@@ -23,7 +23,7 @@ use Rattle.crx_rinex.proofs.Characters.{at, at-without_end_blanks, at-drop}
 use Rattle.crx_rinex.proofs.Counts.{allowed_of}
 use Rattle.crx_rinex.proofs.Rows.{satellites_few}
 use Rattle.crx_compact.specs.Sequences.{each_place, and_then, before_all, named}
-use Rattle.crx_compact.specs.EpochText.{begins_epoch, is_printable, Satellite}
+use Rattle.crx_compact.specs.EpochText.{begins_epoch, Satellite}
 use Rattle.crx_compact.specs.Expansion.{code_in}
 use Rattle.crx_compact.specs.Past.{Past}
 use Rattle.crx_compact.specs.CompactPlaces.{ReadCell, ReadRow, cell_read, cells_read, cells_of, after_cells, are_marks, clock_line_read, row_of_cells, row_with_marks, row_of_line, satellite_line_read, satellites_of_line}
@@ -31,10 +31,11 @@ use Rattle.crx_compact.specs.Tails.{ArcTail, RowTail, Tail, IsBoundedArc, IsBoun
 use Rattle.crx_compact.specs.Steps.{no_tail, onto_sum, differences_by, tail_named, cell_of_tail, flags_of_tail, arc_of_code}
 use Rattle.crx_compact.specs.OpenEpochs.{past_of_tail, tail_for_line, HeldClock, HeldRow, HeldEpoch, OpenRawEpoch, RawStep, Going, Whole, Faulty, opened, opening, first_step, gone_on, held_clock, held_row, with_clock, with_row, line_step, next_step, place_of_steps, open_after, IsBoundedHeld, IsBoundedOpen, IsBoundedStep}
 use Rattle.crx_compact.specs.ReadingLaws.{ReadAreBounded}
-use Rattle.crx_compact.proofs.Overlays.{at-by_position, same_characters}
+use Rattle.crx_compact.proofs.Overlays.{same_characters, length-each_place}
+use Rattle.crx_compact.proofs.SoundTexts.{length-held}
 use Rattle.crx_compact.proofs.Facts.{and_right, list_all-at}
 use Rattle.crx_compact.proofs.Goodness.{typed-parts}
-use Rattle.crx_compact.proofs.Rows.{length-each_place, each_place-all}
+use Rattle.crx_compact.proofs.Rows.{each_place-all}
 use Rattle.crx_compact.proofs.Soundness.{no-err, ok-same, Follows, and_then-ok, if-err, if-ok, if-true, before-ok, cells-count, texts-count, LineFacts, line-facts_of, names_of}
 
 -- ---- orders of codes that are read
@@ -137,20 +138,6 @@ is-blank c h = grind (arith, h)
 blank-after : (n : ℕ) (text : List ℕ) → list_all is_blank (drop n text) ≡ true → (p : ℕ) → at text (n + p) ≡ 32
 blank-after n text h p = sym (at-drop n text p) ∙ is-blank (at (drop n text) p) (list_all-at is_blank refl (drop n text) h p)
 
-at-past : (text : List ℕ) (p : ℕ) → length text ≤ p → at text p ≡ 32
-at-past [] p h = refl
-at-past (c ∷ cs) zero h = absurd (not-suc-le-zero h)
-at-past (c ∷ cs) (suc p) h = at-past cs p (omega (arith, h))
-
--- marks for no more than so many places leave a text within them
-patched-within : (n m : ℕ) (old marks : List ℕ) → length old ≤ n → m ≤ n → list_all is_blank (drop m marks) ≡ true → length (patched old marks) ≤ n
-patched-within n m old marks few fewer blank =
-    ends-within n (by_position character_of old marks) (λ p.
-    let place : n + p ≡ m + (n - m + p) = omega (arith, fewer) in
-    at-by_position character_of refl old marks (n + p)
-    ∙ ap (λ c. character_of c (at marks (n + p))) (at-past old (n + p) (omega (arith, few)))
-    ∙ ap (character_of 32) (ap (at marks) place ∙ blank-after m marks blank (n - m + p)))
-
 -- ---- arcs
 
 onto-few : (d : ℤ) (es : List ℤ) → length (onto_sum d es) ≤ suc (length es)
@@ -182,10 +169,6 @@ arc-kept : (place : ℕ) (row : Option RowTail) → IfSome row (IsBoundedRow ORD
 arc-kept place None h = tt
 arc-kept place (Some row) h = cell-bounded row.cells place h.cells
 
-flags-kept : (row : Option RowTail) → IfSome row (IsBoundedRow ORDER_LIMIT) → length (flags_of_tail row) ≤ 2 * TYPES_LIMIT
-flags-kept None h = omega arith
-flags-kept (Some row) h = h.flags
-
 named-bounded : (name : List ℕ) (rows : List RowTail) → AllByRecursion (IsBoundedRow ORDER_LIMIT) rows → IfSome (named (λ (r : RowTail). r.name) name rows) (IsBoundedRow ORDER_LIMIT)
 named-bounded name [] h = tt
 named-bounded name (row ∷ rows) h =
@@ -205,14 +188,13 @@ row-read before satellite read h few parts =
     let codes = parts.codes in
     let values = parts.values in
     let flags = parts.flags in
-    let blank : list_all is_blank (drop (2 * satellite.count) read.raw.marks) ≡ true = and_right (list_all is_printable read.raw.marks) (list_all is_blank (drop (2 * satellite.count) read.raw.marks)) parts.marks in
     let cells : length (each_place (length read.raw.codes) (λ place. arc_of_code (code_in place read.raw) (cell_of_tail place kept))) ≡ length read.raw.codes =
     length-each_place (length read.raw.codes) (λ place. arc_of_code (code_in place read.raw) (cell_of_tail place kept)) in
     record {
       values = omega (arith, values, few);
       flags = omega (arith, flags, few);
       tail = record {
-        flags = patched-within (2 * TYPES_LIMIT) (2 * satellite.count) (flags_of_tail kept) read.raw.marks (flags-kept kept bounded) (omega (arith, few)) blank;
+        flags = omega (arith, few, codes, length-held (length read.raw.codes) (patched (flags_of_tail kept) read.raw.marks));
         few = omega (arith, cells, codes, few);
         cells = each_place-all (λ (c : Option ArcTail). IfSome c (IsBoundedArc ORDER_LIMIT)) (length read.raw.codes) (λ place. arc_of_code (code_in place read.raw) (cell_of_tail place kept))
             (λ place. arc-read (code_in place read.raw) (cell_of_tail place kept) (code-kept read.raw.codes place parts.ordered) (arc-kept place kept bounded));

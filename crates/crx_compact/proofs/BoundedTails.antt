@@ -15,7 +15,8 @@ use Rattle.crx_compact.specs.Laws.{WrittenAreBounded}
 use Rattle.crx_compact.proofs.Written.{IsRow, IsEpoch}
 use Rattle.crx_compact.proofs.Facts.{length-trimmed}
 use Rattle.crx_compact.proofs.Lengths.{few-satellites, text-short}
-use Rattle.crx_compact.proofs.Rows.{length-each_place, each_place-all}
+use Rattle.crx_compact.proofs.Overlays.{length-each_place}
+use Rattle.crx_compact.proofs.Rows.{each_place-all}
 use Rattle.crx_compact.proofs.Writable.{all-whole}
 
 pub arc-bounded : (order : ℕ) (values : List ℤ) → IfSome (arc_tail order values) (IsBoundedArc order)

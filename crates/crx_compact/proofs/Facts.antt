@@ -1,16 +1,16 @@
 -- What follows of an epoch and its rows from their being ones that can be written.
-use Rattle.std.specs.Prelude.{◌≡◌, refl, ◌≢◌, ℕ, zero, suc, ◌+◌, ◌-◌, ◌*◌, ◌<◌, ◌≤◌, Bool, true, false, not, ◌&&◌, ◌==◌, nat_eq, nat_le, List, [], ◌∷◌, ◌++◌, length, map, flat_map, Option, Some, None, Result, Ok, Err, if◌then◌else◌}
+use Rattle.std.specs.Prelude.{◌≡◌, refl, ◌≢◌, ℕ, zero, suc, ◌+◌, ◌-◌, ◌*◌, ◌<◌, ◌≤◌, Bool, true, false, not, ◌&&◌, ◌==◌, nat_eq, nat_le, List, [], ◌∷◌, ◌++◌, length, take, map, flat_map, Option, Some, None, Result, Ok, Err, if◌then◌else◌}
 use Rattle.std.specs.List.{list_all, list_any, AllByRecursion}
 use Rattle.std.specs.Str.{bytes_eq}
 use Rattle.std.proofs.Common.{sym, ◌∙◌, ap, arith, true≢false}
 use Rattle.std.proofs.lemmas.List.{length-append}
 use Rattle.crx_text.specs.Columns.{character_at, before_end_blanks, without_end_blanks, columns}
-use Rattle.crx_text.specs.Texts.{text_difference, mark_of, by_position}
+use Rattle.crx_text.specs.Texts.{text_difference, mark_of, by_position, is_kept}
 use Rattle.crx_rinex.specs.Observations.{Row, Epoch}
 use Rattle.crx_text.specs.declared.fault.Fault.{Fault}
 use Rattle.crx_text.specs.declared.fault.Fault.TheVariants.{RepeatedSatellite}
 use Rattle.crx_compact.specs.Sequences.{each_place, before_all}
-use Rattle.crx_compact.specs.EpochText.{begins_epoch, is_observation_flag, is_printable, is_kept, satellites_in, Satellite, satellite_before, satellites_named}
+use Rattle.crx_compact.specs.EpochText.{begins_epoch, is_observation_flag, is_printable, satellites_in, Satellite, satellite_before, satellites_named}
 use Rattle.crx_rinex.specs.ObservationTypes.{Count}
 use Rattle.crx_compact.specs.Compaction.{epoch_text}
 use Rattle.crx_compact.proofs.Written.{IsRow, IsEpoch, are_new}
@@ -40,6 +40,11 @@ pub list_all-append : (p : ℕ → Bool) (xs ys : List ℕ) → list_all p xs �
 list_all-append p [] ys h k = k
 list_all-append p (x ∷ xs) ys h k =
     both (p x) (list_all p (xs ++ ys)) (and_left (p x) (list_all p xs) h) (list_all-append p xs ys (and_right (p x) (list_all p xs) h) k)
+
+pub all-take : (p : ℕ → Bool) (n : ℕ) (xs : List ℕ) → list_all p xs ≡ true → list_all p (take n xs) ≡ true
+all-take p zero xs h = refl
+all-take p (suc n) [] h = refl
+all-take p (suc n) (x ∷ xs) h = both (p x) (list_all p (take n xs)) (and_left (p x) (list_all p xs) h) (all-take p n xs (and_right (p x) (list_all p xs) h))
 
 kept-unmarked : (c : ℕ) → is_kept c ≡ true → c ≢ 38
 kept-unmarked c h e =

@@ -1,5 +1,5 @@
 -- An epoch that was read is whole, and its marks can stand before others.
-use Rattle.std.specs.Prelude.{◌≡◌, refl, ℕ, zero, suc, ◌+◌, ◌-◌, ◌*◌, ◌≤◌, ℤ, Bool, true, false, not, ◌&&◌, ◌||◌, nat_eq, List, [], ◌∷◌, ◌++◌, map, length, take, drop, replicate, Option, Some, None, Result, Ok, Err, IfSome, OnSome, if◌then◌else◌, unwrap_or}
+use Rattle.std.specs.Prelude.{◌≡◌, refl, ℕ, zero, suc, ◌+◌, ◌-◌, ◌*◌, ℤ, Bool, true, false, not, ◌&&◌, ◌||◌, nat_eq, List, [], ◌∷◌, ◌++◌, map, length, take, drop, replicate, Option, Some, None, Result, Ok, Err, IfSome, OnSome, if◌then◌else◌, unwrap_or}
 use Rattle.std.specs.List.{list_all, list_any, AllByRecursion}
 use Rattle.std.specs.Str.{bytes_eq}
 use Rattle.std.proofs.Common.{sym, ◌∙◌, ap, subst, arith, true≢false}
@@ -19,36 +19,24 @@ use Rattle.crx_text.specs.declared.code.Code.TheVariants.{Missing, Start, Step}
 use Rattle.crx_text.specs.declared.fault.Fault.{Fault}
 use Rattle.crx_text.specs.declared.fault.Fault.TheVariants.{BadField, NoArc, OutOfRange}
 use Rattle.crx_text.specs.declared.limits.TheConstants.{OBSERVATION_WIDTH, CLOCK_WIDTH}
+use Rattle.crx_text.specs.Texts.{is_kept}
 use Rattle.crx_compact.specs.Sequences.{stretch, each_place, before_all}
 use Rattle.crx_compact.specs.Differences.{value_at}
-use Rattle.crx_compact.specs.EpochText.{begins_epoch, is_printable, is_kept, names_in, types_of_satellite, Satellite}
-use Rattle.crx_compact.specs.Expansion.{RawRow, RawEpoch, Started, block_of, latest_mark, shown, overlaid, raw_row_named, raw_run_of, code_in, since_start, is_within, value_since, value_of}
+use Rattle.crx_compact.specs.EpochText.{begins_epoch, is_printable, names_in, types_of_satellite, Satellite}
+use Rattle.crx_compact.specs.Expansion.{RawRow, RawEpoch, Started, block_of, latest_mark, shown, overlaid, raw_row_named, raw_run_of, marks_of, code_in, since_start, is_within, value_since, value_of}
 use Rattle.crx_compact.specs.Past.{past_of_block}
 use Rattle.crx_compact.specs.CompactPlaces.{ReadCell, cell_read, cells_read, ReadRow, ReadEpoch}
 use Rattle.crx_compact.specs.ReadingLaws.{HasPrintableMarks, IsGood, ReadsWholeEpochs}
 use Rattle.crx_compact.proofs.Written.{fits}
 use Rattle.crx_compact.proofs.Bounds.{within-is}
 use Rattle.crx_compact.proofs.Overlays.{at-overlaid}
+use Rattle.crx_compact.proofs.Cuts.{length-columns}
 use Rattle.crx_compact.proofs.Rows.{or-left, or-right, each_place-all}
-use Rattle.crx_compact.proofs.Facts.{and_left, and_right, both, list_all-at, list_all-append, not_true}
+use Rattle.crx_compact.proofs.Facts.{and_left, and_right, both, all-take, list_all-at, list_all-append, not_true}
 use Rattle.crx_compact.proofs.Soundness.{no-err, ok-same, Follows, and_then-ok, before-ok, RowFacts, Paired, names_of, differ, block_for, EpochFacts, epoch-facts}
 use Rattle.crx_rinex.proofs.Characters.{at, list_all-from_at}
 
 -- ---- columns
-
-length-columns : (text : List ℕ) (first width : ℕ) → length (columns text first width) ≡ width
-length-columns text first width = padded width (drop (first - 1) text) width (omega arith)
-  where
-    padded : (n : ℕ) (xs : List ℕ) (k : ℕ) → n ≤ k → length (take n (xs ++ replicate k 32)) ≡ n
-    padded zero xs k h = refl
-    padded (suc n) [] zero h = absurd (omega (arith, h))
-    padded (suc n) [] (suc k) h = ap suc (padded n [] k (omega (arith, h)))
-    padded (suc n) (x ∷ xs) k h = ap suc (padded n xs k (omega (arith, h)))
-
-all-take : (p : ℕ → Bool) (n : ℕ) (xs : List ℕ) → list_all p xs ≡ true → list_all p (take n xs) ≡ true
-all-take p zero xs h = refl
-all-take p (suc n) [] h = refl
-all-take p (suc n) (x ∷ xs) h = both (p x) (list_all p (take n xs)) (and_left (p x) (list_all p xs) h) (all-take p n xs (and_right (p x) (list_all p xs) h))
 
 all-drop : (p : ℕ → Bool) (n : ℕ) (xs : List ℕ) → list_all p xs ≡ true → list_all p (drop n xs) ≡ true
 all-drop p zero xs h = h
@@ -111,14 +99,18 @@ found-printable name (r ∷ rs) h = choose (bytes_eq r.name name) (raw_row_named
     choose true o k = h.0
     choose false o k = k
 
-run-printable : (name : List ℕ) (block : List RawEpoch) → AllByRecursion HasPrintableMarks block → ArePrintable (map (λ (r : RawRow). r.marks) (raw_run_of name block))
+marks-cut : (n : ℕ) (marks : List (List ℕ)) → ArePrintable marks → ArePrintable (map (take n) marks)
+marks-cut n [] h = tt
+marks-cut n (w ∷ ws) h = (all-take is_printable n w h.0, marks-cut n ws h.1)
+
+run-printable : (name : List ℕ) (block : List RawEpoch) → AllByRecursion HasPrintableMarks block → ArePrintable (marks_of (raw_run_of name block))
 run-printable name [] h = tt
 run-printable name (e ∷ es) h = choose (raw_row_named name e.rows) (found-printable name e.rows h.0) (run-printable name es h.1)
   where
-    choose : (o : Option RawRow) → IfSome o (λ (r : RawRow). list_all is_printable r.marks ≡ true) → ArePrintable (map (λ (r : RawRow). r.marks) (raw_run_of name es))
-        → ArePrintable (map (λ (r : RawRow). r.marks) (stretch (o ∷ map (λ (q : RawEpoch). raw_row_named name q.rows) es)))
+    choose : (o : Option RawRow) → IfSome o (λ (r : RawRow). list_all is_printable r.marks ≡ true) → ArePrintable (marks_of (raw_run_of name es))
+        → ArePrintable (marks_of (stretch (o ∷ map (λ (q : RawEpoch). raw_row_named name q.rows) es)))
     choose None k next = tt
-    choose (Some r) k next = (k, next)
+    choose (Some r) k next = marks-cut (2 * length r.codes) (r.marks ∷ marks_of (raw_run_of name es)) (k, next)
 
 -- ---- values
 
@@ -210,7 +202,7 @@ row-sound types block satellite read counts printable known h =
         ranged = All-from_recursion IsValue values (cells-fit ((past_of_block block).value name) (λ j c v e. fits-value v (value-fits OBSERVATION_WIDTH (c ∷ map (code_in j) (raw_run_of name block)) v e)) h.texts h.cells h.cells_ok);
         paired = omega (arith, wide, many);
         kept = all-columns is_kept ((past_of_block block).flags name read.raw.marks) 1 (2 * length h.cells) refl
-            (overlaid-kept (read.raw.marks ∷ map (λ (r : RawRow). r.marks) (raw_run_of name block)) (marks, run-printable name block printable));
+            (overlaid-kept (read.raw.marks ∷ marks_of (raw_run_of name block)) (marks, run-printable name block printable));
       },
       known.typed ∙ ap (λ n. Some n) (sym count),
     )

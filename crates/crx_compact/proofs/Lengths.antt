@@ -25,7 +25,8 @@ use Rattle.crx_compact.proofs.Written.{fits, IsRow, IsEpoch}
 use Rattle.crx_compact.proofs.CodeTexts.{order-text}
 use Rattle.crx_compact.proofs.Bounds.{IsNear, doubled, doubled-more, difference-near, near-more, near-within, within-is}
 use Rattle.crx_compact.proofs.Runs.{marked}
-use Rattle.crx_compact.proofs.Rows.{IsRowOf, run-rows, values-fit, clocks-fit, each_place-all, length-each_place}
+use Rattle.crx_compact.proofs.Overlays.{length-each_place}
+use Rattle.crx_compact.proofs.Rows.{IsRowOf, run-rows, values-fit, clocks-fit, each_place-all}
 use Rattle.crx_compact.proofs.Facts.{length-trimmed, length-text, head_tests}
 
 -- ---- numbers and codes

@@ -2,6 +2,7 @@ pub mod Written
 pub mod Weights
 pub mod Inversion
 pub mod Overlays
+pub mod Cuts
 pub mod Stepping
 pub mod CodeTexts
 pub mod Cells

@@ -1,16 +1,15 @@
 -- The marks of a satellite line, and the row that its cells and marks make.
-use Rattle.std.specs.Prelude.{◌≡◌, refl, ℕ, zero, suc, ◌+◌, ◌-◌, ◌*◌, Bool, true, false, List, [], ◌∷◌, ◌++◌, length, map, take, drop, replicate, slice_index_or, Option, None, Some, Result, Ok, Err, IfOk, IfErr, if◌then◌else◌}
+use Rattle.std.specs.Prelude.{◌≡◌, refl, ℕ, suc, ◌+◌, ◌-◌, ◌*◌, Bool, true, false, List, [], ◌∷◌, ◌++◌, length, map, take, drop, replicate, slice_index_or, Option, None, Some, Result, Ok, Err, IfOk, IfErr, if◌then◌else◌}
 use Rattle.std.specs.List.{list_all}
 use Rattle.std.proofs.Common.{sym, ◌∙◌, ap, arith, inl, inr, ◌⊎◌}
-use Rattle.std.proofs.lemmas.List.{length-drop}
+use Rattle.std.proofs.lemmas.List.{length-drop, length-map}
 use Rattle.crx_text.specs.Columns.{columns}
-use Rattle.crx_text.specs.Texts.{by_position, character_of, patched, is_printable}
+use Rattle.crx_text.specs.Texts.{by_position, character_of, patched, is_printable, is_kept}
 use Rattle.crx_text.specs.declared.code.Code.{Code}
 use Rattle.crx_text.specs.declared.code.Code.TheVariants.{Missing}
 use Rattle.crx_text.specs.declared.limits.TheConstants.{OBSERVATION_WIDTH}
 use Rattle.crx_text.specs.declared.fault.Fault.{Fault}
 use Rattle.crx_text.specs.declared.fault.Fault.TheVariants.{BadFlags, OutOfMemory, Truncated}
-use Rattle.crx_rinex.specs.EpochLines.{is_kept}
 use Rattle.crx_rinex.specs.Observations.{Row}
 use Rattle.crx_rinex.specs.SatelliteLines.{with_flags}
 use Rattle.std.proofs.Math.Path.{fun_ext}
@@ -20,12 +19,12 @@ use Rattle.crx_compact.specs.EpochText.{begins_epoch, Satellite}
 use Rattle.crx_compact.specs.CompactPlaces.{ReadCell, are_marks, after_cells, cells_of, cells_read, row_of_cells, row_of_line, row_with_marks}
 use Rattle.crx_compact.specs.Past.{Past}
 use Rattle.crx_compact.specs.Tails.{ArcTail, RowTail, Tail}
-use Rattle.crx_compact.specs.Steps.{arc_of_code, cell_of_tail, flags_of_tail, tail_named, value_of_code}
+use Rattle.crx_compact.specs.Steps.{arc_of_code, cell_of_tail, flags_held, flags_of_tail, tail_named, value_of_code}
 use Rattle.crx_compact.proofs.CellsRead.{cells-same}
 use Rattle.crx_compact.specs.OpenEpochs.{HeldRow, held_row, past_of_tail}
 use Rattle.crx_compact.specs.Cells.{arcs_of_codes, value_at_place, AreRead}
 use Rattle.crx_compact.specs.HeldRows.{arcs_of_tail, held_from, past_of_row, row_after, row_held, row_held_from, IsNextRow}
-use Rattle.crx_compact.proofs.Facts.{both, and_left, and_right, list_all-at}
+use Rattle.crx_compact.proofs.Facts.{list_all-at}
 use Rattle.crx_compact.proofs.Soundness.{cells-count, texts-count}
 use Rattle.crx_compact.proofs.Overlays.{at-by_position}
 use Rattle.crx_rinex.proofs.Characters.{at, at-without_end_blanks, list_all-from_at}
@@ -40,11 +39,6 @@ patched-kept old marks h k =
     list_all-from_at is_kept (patched old marks) (λ p.
     ap is_kept (at-without_end_blanks (by_position character_of old marks) p ∙ at-by_position character_of refl old marks p)
     ∙ patched-character (at old p) (at marks p) (list_all-at is_kept refl old h p) (list_all-at is_printable refl marks k p))
-
-pub all-take : (p : ℕ → Bool) (n : ℕ) (xs : List ℕ) → list_all p xs ≡ true → list_all p (take n xs) ≡ true
-all-take p zero xs h = refl
-all-take p (suc n) [] h = refl
-all-take p (suc n) (x ∷ xs) h = both (p x) (list_all p (take n xs)) (and_left (p x) (list_all p xs) h) (all-take p n xs (and_right (p x) (list_all p xs) h))
 
 pub flags-set : (row : Row) (flags : List ℕ) (count : ℕ) → length row.values ≡ count
     → with_flags row (take (2 * count) flags) ≡ record row { flags = columns flags 1 (2 * count) }
@@ -94,26 +88,28 @@ still-counted arcs count line left old new at read =
 line-read : (arcs : List (Option ArcTail)) (flags : List ℕ) (satellite : Satellite) (line : List ℕ) (left : List (Option ArcTail)) (old new row : Row) (at : ℕ)
     → begins_epoch line ≡ false → old.name ≡ satellite.name → AreRead arcs satellite.count line left old new at → are_marks satellite.count (drop at line) ≡ true
     → row ≡ record new { flags = columns (patched flags (drop at line)) 1 (2 * satellite.count) }
-    → row_held_from arcs flags satellite line ≡ Ok (record { row = row; tail = record { name = satellite.name; flags = patched flags (drop at line); cells = left } })
+    → row_held_from arcs flags satellite line ≡ Ok (record { row = row; tail = record { name = satellite.name; flags = flags_held satellite.count (patched flags (drop at line)); cells = left } })
 line-read arcs flags satellite line left old new row at h name read e r =
     let text : List ℕ = patched flags (drop at line) in
+    let codes : List Code = map (λ (c : ReadCell). c.code) read.cells in
     let count : length read.cells ≡ satellite.count = sym (length-values read.cells) ∙ sym (ap (λ (q : Row). length q.values) read.shown) ∙ still-counted arcs satellite.count line left old new at read in
     let shown : row ≡ record { name = satellite.name; values = map (λ (c : ReadCell). c.value) read.cells; flags = columns text 1 (2 * length read.cells) } =
     r ∙ ap {B = Row} (λ (q : Row). record q { flags = columns text 1 (2 * satellite.count) }) read.shown
     ∙ ap {B = Row} (λ n. record { name = n; values = map (λ (c : ReadCell). c.value) read.cells; flags = columns text 1 (2 * satellite.count) }) name
     ∙ ap {B = Row} (λ n. record { name = satellite.name; values = map (λ (c : ReadCell). c.value) read.cells; flags = columns text 1 (2 * n) }) (sym count) in
     line-marks arcs flags satellite line at read.cells true h read.good read.marks e
-    ∙ ap {B = Result HeldRow Fault} (λ (q : Row). Ok (record { row = q; tail = record { name = satellite.name; flags = text; cells = arcs_of_codes arcs (map (λ (c : ReadCell). c.code) read.cells) } })) (sym shown)
-    ∙ ap {B = Result HeldRow Fault} (λ (cs : List (Option ArcTail)). Ok (record { row = row; tail = record { name = satellite.name; flags = text; cells = cs } })) (sym read.left)
+    ∙ ap {B = Result HeldRow Fault} (λ (q : Row). Ok (record { row = q; tail = record { name = satellite.name; flags = flags_held (length codes) text; cells = arcs_of_codes arcs codes } })) (sym shown)
+    ∙ ap {B = Result HeldRow Fault} (λ n. Ok (record { row = row; tail = record { name = satellite.name; flags = flags_held n text; cells = arcs_of_codes arcs codes } })) (length-map read.cells (λ (c : ReadCell). c.code) ∙ count)
+    ∙ ap {B = Result HeldRow Fault} (λ (cs : List (Option ArcTail)). Ok (record { row = row; tail = record { name = satellite.name; flags = flags_held satellite.count text; cells = cs } })) (sym read.left)
 
 -- the same, where the name, the indicators and the row that are held are shown equal
 pub line-held : (arcs : List (Option ArcTail)) (flags : List ℕ) (satellite : Satellite) (line : List ℕ) (left : List (Option ArcTail)) (old new row : Row) (at : ℕ) (name text : List ℕ)
     → begins_epoch line ≡ false → old.name ≡ satellite.name → AreRead arcs satellite.count line left old new at → are_marks satellite.count (drop at line) ≡ true
-    → row ≡ record new { flags = columns (patched flags (drop at line)) 1 (2 * satellite.count) } → name ≡ satellite.name → text ≡ patched flags (drop at line)
+    → row ≡ record new { flags = columns (patched flags (drop at line)) 1 (2 * satellite.count) } → name ≡ satellite.name → text ≡ flags_held satellite.count (patched flags (drop at line))
     → row_held_from arcs flags satellite line ≡ Ok (record { row = row; tail = record { name = name; flags = text; cells = left } })
 line-held arcs flags satellite line left old new row at name text h n read e r same t =
     line-read arcs flags satellite line left old new row at h n read e r
-    ∙ ap {B = Result HeldRow Fault} (λ m. Ok (record { row = row; tail = record { name = m; flags = patched flags (drop at line); cells = left } })) (sym same)
+    ∙ ap {B = Result HeldRow Fault} (λ m. Ok (record { row = row; tail = record { name = m; flags = flags_held satellite.count (patched flags (drop at line)); cells = left } })) (sym same)
     ∙ ap {B = Result HeldRow Fault} (λ q. Ok (record { row = row; tail = record { name = name; flags = q; cells = left } })) (sym t)
 
 -- ---- a line from a place on
@@ -154,7 +150,7 @@ row-decided tail satellite marks false true (Ok cells) =
     let codes : List Code = map (λ (c : ReadCell). c.code) cells in
     ap {B = Result HeldRow Fault} (λ (cell : ℕ → Option ArcTail). Ok (record {
       row = (row_of_cells (past_of_tail tail) satellite.name marks cells).row;
-      tail = record { name = satellite.name; flags = patched (flags_of_tail kept) marks; cells = each_place (length codes) (λ place. arc_of_code (slice_index_or codes place Missing) (cell place)) };
+      tail = record { name = satellite.name; flags = flags_held (length codes) (patched (flags_of_tail kept) marks); cells = each_place (length codes) (λ place. arc_of_code (slice_index_or codes place Missing) (cell place)) };
     })) (fun_ext (λ place. cell-by_kept kept place))
 
 pub row-by_tail : (tail : Tail) (satellite : Satellite) (line : List ℕ) → row_held (tail_named satellite.name tail) satellite line ≡ row_after tail satellite line

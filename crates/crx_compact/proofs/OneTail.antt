@@ -16,7 +16,8 @@ use Rattle.crx_compact.proofs.Written.{IsEpoch}
 use Rattle.crx_compact.proofs.Inversion.{numbers_of, value-numbers, started-codes}
 use Rattle.crx_compact.proofs.Runs.{raw_block, marked, block-raws, raw_run, runs-read, codes_of_values, clocks-read, codes-read, started-values, text-read, marks-read}
 use Rattle.crx_compact.proofs.Facts.{each_place-same}
-use Rattle.crx_compact.proofs.Rows.{IsRowOf, run-rows, unmarked-run, length-each_place, each-own}
+use Rattle.crx_compact.proofs.Overlays.{length-each_place}
+use Rattle.crx_compact.proofs.Rows.{IsRowOf, run-rows, flags-run, each-own}
 use Rattle.crx_compact.proofs.Reading.{epochs-begin, epochs-unmarked}
 use Rattle.crx_compact.proofs.Writable.{all-whole}
 
@@ -46,7 +47,7 @@ row-same types r rs h =
     each_place-same n (λ j. started_tail (since_start (map (code_in j) (raw_run (r ∷ rs))))) (λ j. arc_tail WRITTEN_ORDER (arc_of j (r ∷ rs))) (λ j.
     ap (λ cs. started_tail (since_start cs)) (codes-read j (r ∷ rs)) ∙ arc-same (map (value_in j) (r ∷ rs))) in
     ap {B = RowTail} (λ t. record { name = r.name; flags = t; cells = each_place n (λ j. started_tail (since_start (map (code_in j) (raw_run (r ∷ rs))))) })
-    (marks-read r rs (unmarked-run types r.name (r ∷ rs) h))
+    (marks-read r rs (flags-run types r.name (r ∷ rs) h))
     ∙ ap {B = RowTail} (λ cs. record { name = r.name; flags = without_end_blanks r.flags; cells = cs }) cells
     ∙ ap {B = RowTail} (λ k. record { name = r.name; flags = without_end_blanks r.flags; cells = each_place k (λ j. arc_tail WRITTEN_ORDER (arc_of j (r ∷ rs))) }) count
 

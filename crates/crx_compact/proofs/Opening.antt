@@ -33,7 +33,7 @@ use Rattle.crx_compact.specs.Tails.{RowTail, Tail}
 use Rattle.crx_compact.specs.OpenEpochs.{HeldClock, HeldRow, OpenRawEpoch, RawStep, Going, Whole, gone_on, past_of_tail}
 use Rattle.crx_compact.specs.OpenLines.{AreRowsSoFar, OpenLines, held_rows, lines_so_far, made_of, open_raw}
 use Rattle.crx_compact.specs.declared.incoming.Stage.TheVariants.{Rows}
-use Rattle.crx_compact.proofs.Rows.{length-each_place}
+use Rattle.crx_compact.proofs.Overlays.{length-each_place}
 use Rattle.crx_compact.proofs.Soundness.{LineFacts, line-facts_of}
 
 -- ---- the epoch line

@@ -54,6 +54,10 @@ patched-difference old new h =
 
 -- ---- marks over one another
 
+pub length-each_place : {X : Type 0} (n : ℕ) (f : ℕ → X) → length (each_place n f) ≡ n
+length-each_place zero f = refl
+length-each_place (suc n) f = ap suc (length-each_place n (λ i. f (suc i)))
+
 at-each_place : (n : ℕ) (f : ℕ → ℕ) (p : ℕ) → (n ≤ p → f p ≡ 32) → at (each_place n f) p ≡ f p
 at-each_place zero f p h = sym (h (omega arith))
 at-each_place (suc n) f zero h = refl
@@ -70,10 +74,13 @@ past_longest (w ∷ ws) p h =
     let blank : at w p ≡ 32 = at_past w p (omega (arith, h)) in
     ap (λ (c : ℕ). if is_blank c then latest_mark ws p else at w p) blank ∙ past_longest ws p (omega (arith, h))
 
+pub at-longest : (marks : List (List ℕ)) (p : ℕ) → at (each_place (longest marks) (λ q. shown (latest_mark marks q))) p ≡ shown (latest_mark marks p)
+at-longest marks p = at-each_place (longest marks) (λ q. shown (latest_mark marks q)) p (λ h. ap shown (past_longest marks p h))
+
 pub at-overlaid : (marks : List (List ℕ)) (p : ℕ) → at (overlaid marks) p ≡ shown (latest_mark marks p)
 at-overlaid marks p =
     at-without_end_blanks (each_place (longest marks) (λ q. shown (latest_mark marks q))) p
-    ∙ at-each_place (longest marks) (λ q. shown (latest_mark marks q)) p (λ h. ap shown (past_longest marks p h))
+    ∙ at-longest marks p
 
 character-shown : (old c : ℕ) → character_of (shown old) c ≡ shown (if is_blank c then old else c)
 character-shown old c = grind arith
@@ -81,7 +88,7 @@ character-shown old c = grind arith
 pub overlaid-patched : (w : List ℕ) (ws : List (List ℕ)) → overlaid (w ∷ ws) ≡ patched (overlaid ws) w
 overlaid-patched w ws =
     same_characters (each_place (longest (w ∷ ws)) (λ q. shown (latest_mark (w ∷ ws) q))) (by_position character_of (overlaid ws) w) (λ p.
-    at-each_place (longest (w ∷ ws)) (λ q. shown (latest_mark (w ∷ ws) q)) p (λ h. ap shown (past_longest (w ∷ ws) p h))
+    at-longest (w ∷ ws) p
     ∙ sym (at-by_position character_of refl (overlaid ws) w p
     ∙ ap (λ n. character_of n (at w p)) (at-overlaid ws p)
     ∙ character-shown (latest_mark ws p) (at w p)))

@@ -1,5 +1,5 @@
 -- The tail of a block of raw epochs decides what the next one stands for, and the next tail.
-use Rattle.std.specs.Prelude.{◌≡◌, refl, ℕ, zero, suc, ◌<◌, ℤ, Bool, true, false, List, [], ◌∷◌, map, length, Option, Some, None, ⊤, if◌then◌else◌, unwrap_or}
+use Rattle.std.specs.Prelude.{◌≡◌, refl, ℕ, zero, suc, ◌<◌, ℤ, Bool, true, false, List, [], ◌∷◌, ◌*◌, map, length, Option, Some, None, ⊤, if◌then◌else◌, unwrap_or}
 use Rattle.std.specs.List.{AllByRecursion}
 use Rattle.std.specs.Option.{option_map}
 use Rattle.std.proofs.Common.{sym, ◌∙◌, ap, arith, not-suc-le-zero}
@@ -13,16 +13,17 @@ use Rattle.crx_rinex.specs.ObservationTypes.{Count}
 use Rattle.crx_compact.specs.Sequences.{stretch, each_place}
 use Rattle.crx_compact.specs.Differences.{value_at}
 use Rattle.crx_compact.specs.EpochText.{begins_epoch}
-use Rattle.crx_compact.specs.Expansion.{RawRow, RawEpoch, Started, onto_started, since_start, block_of, overlaid, text_of, raw_row_named, raw_run_of, code_in, in_range, value_since, value_of}
+use Rattle.crx_compact.specs.Expansion.{RawRow, RawEpoch, Started, onto_started, since_start, block_of, overlaid, text_of, raw_row_named, raw_run_of, marks_of, code_in, in_range, value_since, value_of}
 use Rattle.crx_compact.specs.Past.{Past, past_of_block, past_of_epochs, past_of_line}
 use Rattle.crx_compact.specs.CompactPlaces.{epoch_against, epoch_at}
 use Rattle.crx_compact.specs.Tails.{ArcTail, RowTail, Tail, started_tail, raw_row_tail, raw_row_tails, tail_of_block, tail_left}
-use Rattle.crx_compact.specs.Steps.{no_tail, tail_named, cell_of_tail, flags_of_tail, value_of_code, arc_of_code, raw_row_tail_after, raw_tail_after}
+use Rattle.crx_compact.specs.Steps.{no_tail, tail_named, cell_of_tail, flags_of_tail, flags_held, value_of_code, arc_of_code, raw_row_tail_after, raw_tail_after}
 use Rattle.crx_compact.specs.OpenEpochs.{past_of_tail, tail_for_line, epoch_after}
 use Rattle.crx_compact.specs.ReadingLaws.{HasSingleLines, RawByTail}
 use Rattle.crx_compact.proofs.Inversion.{value-first}
 use Rattle.crx_compact.proofs.Stepping.{values-by_tail, first-differences}
 use Rattle.crx_compact.proofs.Overlays.{overlaid-patched}
+use Rattle.crx_compact.proofs.Cuts.{overlaid-take}
 use Rattle.crx_compact.proofs.Runs.{named-made, place-each, index_past}
 use Rattle.crx_compact.proofs.Facts.{each_place-same}
 
@@ -79,9 +80,6 @@ number-next (Step d) cs = step-arc_of d (since_start cs) (has-numbers cs)
 
 -- ---- what a tail holds of a satellite
 
-abbrev marks_of : List RawRow → List (List ℕ)
-marks_of run = map (λ (r : RawRow). r.marks) run
-
 cell-found : (rest : List (Option RawRow)) (found : Option RawRow) (j : ℕ)
     → cell_of_tail j (option_map (raw_row_tail (stretch (found ∷ rest))) found) ≡ started_tail (since_start (map (code_in j) (stretch (found ∷ rest))))
 cell-found rest None j = refl
@@ -120,11 +118,12 @@ row-tail raw block r own =
     let cells : each_place n (λ j. started_tail (since_start (map (code_in j) (r ∷ rs)))) ≡ each_place n (λ j. arc_of_code (code_in j r) (cell_of_tail j found)) =
     each_place-same n (λ j. started_tail (since_start (map (code_in j) (r ∷ rs)))) (λ j. arc_of_code (code_in j r) (cell_of_tail j found)) (λ j.
     number-next (code_in j r) (map (code_in j) rs) ∙ ap (arc_of_code (code_in j r)) (sym (cell-left r.name block j))) in
-    let flags : overlaid (marks_of (r ∷ rs)) ≡ patched (flags_of_tail found) r.marks =
-    overlaid-patched r.marks (marks_of rs) ∙ ap (λ t. patched t r.marks) (sym (flags-left r.name block)) in
+    let flags : overlaid (marks_of (r ∷ rs)) ≡ flags_held n (patched (flags_of_tail found) r.marks) =
+    overlaid-take (2 * n) (r.marks ∷ marks_of rs)
+    ∙ ap (flags_held n) (overlaid-patched r.marks (marks_of rs) ∙ ap (λ t. patched t r.marks) (sym (flags-left r.name block))) in
     ap (λ q. raw_row_tail q r) run
     ∙ ap {B = RowTail} (λ t. record { name = r.name; flags = t; cells = each_place n (λ j. started_tail (since_start (map (code_in j) (r ∷ rs)))) }) flags
-    ∙ ap {B = RowTail} (λ cs. record { name = r.name; flags = patched (flags_of_tail found) r.marks; cells = cs }) cells
+    ∙ ap {B = RowTail} (λ cs. record { name = r.name; flags = flags_held n (patched (flags_of_tail found) r.marks); cells = cs }) cells
 
 -- ---- one epoch more
 

@@ -17,7 +17,7 @@ use Rattle.crx_compact.specs.Sequences.{stretch, each_place, before_all, and_the
 use Rattle.crx_compact.specs.Differences.{code_at}
 use Rattle.crx_compact.specs.Compaction.{Marked, run_of, since_full, row_named, value_in, arc_of, indicators_before, cell_text, codes_of, satellite_line}
 use Rattle.crx_compact.specs.EpochText.{is_printable, begins_epoch, types_of_satellite, Satellite}
-use Rattle.crx_compact.specs.Expansion.{RawRow, RawEpoch, overlaid, raw_run_of, code_in, value_of}
+use Rattle.crx_compact.specs.Expansion.{RawEpoch, overlaid, raw_run_of, marks_of, code_in, value_of}
 use Rattle.crx_compact.specs.Past.{Past, past_of_block}
 use Rattle.crx_compact.specs.CompactPlaces.{ReadCell, ReadRow, cell_read, cells_read, cells_of, after_cells, are_marks, row_of_cells, row_with_marks, row_of_line, satellite_line_read}
 use Rattle.crx_compact.specs.Laws.{CodesFit}
@@ -26,17 +26,13 @@ use Rattle.crx_compact.specs.ReadingLaws.{raw_row}
 use Rattle.crx_rinex.specs.ObservationTypes.{Count}
 use Rattle.crx_compact.proofs.CodeTexts.{is_code_character, code-characters, code-read}
 use Rattle.crx_compact.proofs.Cells.{AreWritten, cells-written, marks-written, one_cell}
-use Rattle.crx_compact.proofs.Overlays.{at_past}
-use Rattle.crx_compact.proofs.Runs.{raw_run, codes-read, value-back, IsUnmarked, marks-read, bytes_eq-is, bytes_eq-same, place-each, index_past}
+use Rattle.crx_compact.proofs.Overlays.{at_past, length-each_place}
+use Rattle.crx_compact.proofs.Runs.{raw_run, codes-read, value-back, HasFlags, marks-new, bytes_eq-is, bytes_eq-same, place-each, index_past}
 use Rattle.crx_compact.proofs.Bounds.{IsNear, near-within, code-printable}
 use Rattle.crx_compact.proofs.Facts.{and_left, and_right, both, unmarked, at-difference, difference-printable, trimmed-again, not_true}
 use Rattle.crx_rinex.proofs.Characters.{at, at-without_end_blanks, columns-are, list_all-from_at}
 
 -- ---- lists place by place
-
-pub length-each_place : {X : Type 0} (n : ℕ) (f : ℕ → X) → length (each_place n f) ≡ n
-length-each_place zero f = refl
-length-each_place (suc n) f = ap suc (length-each_place n (λ i. f (suc i)))
 
 pub each_place-all : {X : Type 0} (P : X → Type 0) (n : ℕ) (f : ℕ → X) → ((i : ℕ) → P (f i)) → AllByRecursion P (each_place n f)
 each_place-all P zero f h = tt
@@ -210,9 +206,9 @@ map-each_place : {X Y : Type 0} (g : X → Y) (n : ℕ) (f : ℕ → X) → map 
 map-each_place g zero f = refl
 map-each_place g (suc n) f = ap (λ r. g (f 0) ∷ r) (map-each_place g n (λ i. f (suc i)))
 
-pub unmarked-run : (types : List Count) (name : List ℕ) (run : List Row) → AllByRecursion (IsRowOf types name) run → AllByRecursion (λ (q : Row). IsUnmarked q.flags) run
-unmarked-run types name [] h = tt
-unmarked-run types name (r ∷ rs) h = (unmarked r.flags h.0.is_row.flags_kept, unmarked-run types name rs h.1)
+pub flags-run : (types : List Count) (name : List ℕ) (run : List Row) → AllByRecursion (IsRowOf types name) run → AllByRecursion HasFlags run
+flags-run types name [] h = tt
+flags-run types name (r ∷ rs) h = (record { unmarked = unmarked r.flags h.0.is_row.flags_kept; counted = h.0.is_row.flags_length }, flags-run types name rs h.1)
 
 abbrev pub satellite_of : Row → Satellite
 satellite_of r = record { name = r.name; count = length r.values }
@@ -233,15 +229,15 @@ row-again types block r rs h e =
     let codes : map (λ (c : ReadCell). c.code) cells ≡ codes_of (length r.values) (r ∷ rs) = map-each_place (λ (c : ReadCell). c.code) (length r.values) (cells_at r rs) in
     let values : map (λ (c : ReadCell). c.value) cells ≡ r.values = map-each_place (λ (c : ReadCell). c.value) (length r.values) (cells_at r rs) ∙ values-again r.values in
     let count : length cells ≡ length r.values = length-each_place (length r.values) (cells_at r rs) in
-    let flags : columns (overlaid (marks ∷ map (λ (q : RawRow). q.marks) (raw_run_of r.name block))) 1 (2 * length cells) ≡ r.flags =
-    ap (λ run. columns (overlaid (marks ∷ map (λ (q : RawRow). q.marks) run)) 1 (2 * length cells)) e
-    ∙ ap (λ k. columns (overlaid (map (λ (q : RawRow). q.marks) (raw_run (r ∷ rs)))) 1 (2 * k)) count
-    ∙ ap (λ t. columns t 1 (2 * length r.values)) (marks-read r rs (unmarked-run types r.name (r ∷ rs) h))
+    let flags : columns (overlaid (marks ∷ marks_of (raw_run_of r.name block))) 1 (2 * length cells) ≡ r.flags =
+    ap (λ run. columns (overlaid (marks ∷ marks_of run)) 1 (2 * length cells)) e
+    ∙ ap (λ k. columns (overlaid (marks ∷ marks_of (raw_run rs))) 1 (2 * k)) count
+    ∙ ap (λ t. columns t 1 (2 * length r.values)) (marks-new r rs (flags-run types r.name (r ∷ rs) h))
     ∙ columns-are (without_end_blanks r.flags) 1 (2 * length r.values) r.flags h.0.is_row.flags_length (λ p less.
     let place : 1 - 1 + p ≡ p = omega arith in
     ap (at (without_end_blanks r.flags)) place ∙ at-without_end_blanks r.flags p) in
-    ap {B = ReadRow} (λ cs. record { raw = record { name = r.name; codes = cs; marks = marks }; row = record { name = r.name; values = map (λ (c : ReadCell). c.value) cells; flags = columns (overlaid (marks ∷ map (λ (q : RawRow). q.marks) (raw_run_of r.name block))) 1 (2 * length cells) } }) codes
-    ∙ ap {B = ReadRow} (λ vs. record { raw = raw_row (r ∷ rs) r; row = record { name = r.name; values = vs; flags = columns (overlaid (marks ∷ map (λ (q : RawRow). q.marks) (raw_run_of r.name block))) 1 (2 * length cells) } }) values
+    ap {B = ReadRow} (λ cs. record { raw = record { name = r.name; codes = cs; marks = marks }; row = record { name = r.name; values = map (λ (c : ReadCell). c.value) cells; flags = columns (overlaid (marks ∷ marks_of (raw_run_of r.name block))) 1 (2 * length cells) } }) codes
+    ∙ ap {B = ReadRow} (λ vs. record { raw = raw_row (r ∷ rs) r; row = record { name = r.name; values = vs; flags = columns (overlaid (marks ∷ marks_of (raw_run_of r.name block))) 1 (2 * length cells) } }) values
     ∙ ap {B = ReadRow} (λ fs. record { raw = raw_row (r ∷ rs) r; row = record { name = r.name; values = r.values; flags = fs } }) flags
 
 -- a line that was written reads as its codes and marks, and as its row

@@ -360,11 +360,11 @@ pub begun-list : (ds : List ℤ) (value : ℤ) → 0 < length ds → take 1 (sli
 begun-list [] value h = absurd (omega arith)
 begun-list (d ∷ ds) value h = refl
 
-pub begun-tail : (order order' count : ℕ) (ds : List ℤ) (value : ℤ) → 0 < length ds → count ≡ 0
-    → kept_tail WRITTEN_ORDER (take 1 (slice_set ds 0 value)) ≡ arc_of_value (Some value) (kept_tail order (take count ds))
-begun-tail order order' count ds value l e =
+pub begun-tail : (order count : ℕ) (ds ds' : List ℤ) (value : ℤ) → 0 < length ds → count ≡ 0
+    → kept_tail WRITTEN_ORDER (take 1 (slice_set ds 0 value)) ≡ arc_of_value (Some value) (kept_tail order (take count ds'))
+begun-tail order count ds ds' value l e =
     ap (kept_tail WRITTEN_ORDER) (begun-list ds value l)
-    ∙ ap (λ n. arc_of_value (Some value) (kept_tail order (take n ds))) (sym e)
+    ∙ ap (λ n. arc_of_value (Some value) (kept_tail order (take n ds'))) (sym e)
 
 pub begun-kept : (width order : ℕ) (ds : List ℤ) (value : ℤ) → 0 < length ds → width ≤ 15 → order ≤ 9 → IsWithin width value → IsKept width order 1 (take 1 (slice_set ds 0 value))
 begun-kept width order ds value l few o h =

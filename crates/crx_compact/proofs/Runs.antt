@@ -1,5 +1,5 @@
 -- Runs and arcs of what was written, as a reader finds them.
-use Rattle.std.specs.Prelude.{◌≡◌, refl, ◌≢◌, ℕ, zero, suc, ◌≤◌, min, ℤ, Bool, true, false, cond, ◌&&◌, nat_eq, List, [], ◌∷◌, length, map, slice_index_or, Option, Some, None, Result, Ok, Err, if◌then◌else◌}
+use Rattle.std.specs.Prelude.{◌≡◌, refl, ◌≢◌, ℕ, zero, suc, ◌≤◌, ◌*◌, min, ℤ, Bool, true, false, cond, ◌&&◌, nat_eq, List, [], ◌∷◌, length, map, take, slice_index_or, Option, Some, None, Result, Ok, Err, if◌then◌else◌}
 use Rattle.std.specs.List.{AllByRecursion}
 use Rattle.std.specs.Option.{option_map}
 use Rattle.std.specs.Str.{bytes_eq}
@@ -14,13 +14,14 @@ use Rattle.crx_text.specs.declared.fault.Fault.TheVariants.{OutOfRange}
 use Rattle.crx_text.specs.declared.limits.TheConstants.{WRITTEN_ORDER}
 use Rattle.crx_compact.specs.Sequences.{back_to, named, stretch, each_place}
 use Rattle.crx_compact.specs.Differences.{code_at, difference}
-use Rattle.crx_compact.specs.Compaction.{Marked, epoch_text, row_named, since_full, run_of, value_in, arc_of, clock_arc, newest_text}
-use Rattle.crx_compact.specs.Expansion.{RawRow, RawEpoch, block_of, raw_row_named, raw_run_of, code_in, since_start, onto_started, in_range, value_since, value_of, overlaid}
+use Rattle.crx_compact.specs.Compaction.{Marked, epoch_text, row_named, since_full, run_of, value_in, arc_of, clock_arc, codes_of, indicators_before, newest_text}
+use Rattle.crx_compact.specs.Expansion.{RawRow, RawEpoch, block_of, raw_row_named, raw_run_of, marks_of, code_in, since_start, onto_started, in_range, value_since, value_of, overlaid}
 use Rattle.crx_compact.specs.Laws.{codes_of_arc}
 use Rattle.crx_compact.proofs.Written.{fits}
 use Rattle.crx_compact.specs.ReadingLaws.{raw_row, raw_of, raws_of}
 use Rattle.crx_compact.proofs.Inversion.{value-numbers, started-codes}
-use Rattle.crx_compact.proofs.Overlays.{at-by_position, same_characters, character-mark, overlaid-patched}
+use Rattle.crx_compact.proofs.Overlays.{at-by_position, same_characters, character-mark, overlaid-patched, length-each_place}
+use Rattle.crx_compact.proofs.Cuts.{overlaid-take, trimmed-within}
 use Rattle.crx_rinex.proofs.Characters.{at, at-without_end_blanks}
 
 -- ---- identifiers
@@ -227,11 +228,29 @@ pub text-read : (ms : List Marked) → AreUnmarked ms → overlaid (lines_of (ra
 text-read [] h = refl
 text-read (m ∷ older) h = text-step m.in_full m.epoch older (text-read older) h
 
--- a reader finds the indicators of a run's newest row
-pub marks-read : (r : Row) (rs : List Row) → AllByRecursion (λ (q : Row). IsUnmarked q.flags) (r ∷ rs)
-    → overlaid (map (λ (q : RawRow). q.marks) (raw_run (r ∷ rs))) ≡ without_end_blanks r.flags
-marks-read r [] h = first_overlay r.flags h.0
-marks-read r (q ∷ qs) h = next_overlay q.flags r.flags (map (λ (x : RawRow). x.marks) (raw_run (q ∷ qs))) h.0 (marks-read q qs h.1)
+-- no & among the indicators of a row, and two of them for each type
+pub record HasFlags (row : Row) : Type 0 where
+  pub unmarked : IsUnmarked row.flags
+  pub counted : length row.flags ≡ 2 * length row.values
+
+-- nothing of them stands past the types of the row's line
+marks-cut : (r : Row) (rs : List Row) → HasFlags r → overlaid (text_difference (indicators_before (r ∷ rs)) r.flags ∷ marks_of (raw_run rs)) ≡ without_end_blanks r.flags
+    → overlaid (marks_of (raw_run (r ∷ rs))) ≡ without_end_blanks r.flags
+marks-cut r rs h e =
+    let n : ℕ = 2 * length (codes_of (length r.values) (r ∷ rs)) in
+    let count : length (codes_of (length r.values) (r ∷ rs)) ≡ length r.values = length-each_place (length r.values) (λ j. code_at WRITTEN_ORDER (arc_of j (r ∷ rs))) in
+    overlaid-take n (text_difference (indicators_before (r ∷ rs)) r.flags ∷ marks_of (raw_run rs))
+    ∙ ap (λ t. without_end_blanks (take n t)) e
+    ∙ trimmed-within n r.flags (omega (arith, count, h.counted))
+
+-- a reader finds the indicators of a run's newest row, by its marks over those before
+pub marks-new : (r : Row) (rs : List Row) → AllByRecursion HasFlags (r ∷ rs)
+    → overlaid (text_difference (indicators_before (r ∷ rs)) r.flags ∷ marks_of (raw_run rs)) ≡ without_end_blanks r.flags
+marks-new r [] h = first_overlay r.flags h.0.unmarked
+marks-new r (q ∷ qs) h = next_overlay q.flags r.flags (marks_of (raw_run (q ∷ qs))) h.0.unmarked (marks-cut q qs h.1.0 (marks-new q qs h.1))
+
+pub marks-read : (r : Row) (rs : List Row) → AllByRecursion HasFlags (r ∷ rs) → overlaid (marks_of (raw_run (r ∷ rs))) ≡ without_end_blanks r.flags
+marks-read r rs h = marks-cut r rs h.0 (marks-new r rs h)
 
 -- ---- columns
 

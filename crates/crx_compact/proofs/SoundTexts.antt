@@ -1,19 +1,24 @@
 -- The text of an epoch as the reader of RINEX makes it: how long it is, and of which characters.
-use Rattle.std.specs.Prelude.{◌≡◌, ◌≤◌, refl, ℕ, suc, ◌*◌, true, false, ◌&&◌, if◌then◌else◌, List, [], ◌∷◌, length, take, flat_map, All}
+use Rattle.std.specs.Prelude.{◌≡◌, ◌≤◌, refl, ℕ, zero, suc, ◌*◌, true, false, ◌&&◌, if◌then◌else◌, List, [], ◌∷◌, ◌++◌, length, take, flat_map, All}
 use Rattle.std.specs.List.{list_all}
+use Rattle.std.specs.Str.{bytes_eq}
+use Rattle.std.proofs.lemmas.Bool.Decides.{Decides-eqb}
+use Rattle.std.proofs.lemmas.List.{append-nil}
+use Rattle.std.proofs.lemmas.Slice.Eq.{bytes_eq-Decides}
 use Rattle.std.proofs.Common.{ap, arith, length-append, ◌∙◌, sym}
 use Rattle.crx_text.specs.declared.limits.TheConstants.{LINE_LIMIT}
 use Rattle.crx_text.specs.Columns.{character_at}
 use Rattle.crx_rinex.specs.Observations.{Row, Epoch}
-use Rattle.crx_rinex.specs.EpochLines.{ObservationHead, IsObservationHead, begins_epoch, is_observation_flag, is_kept, satellites_in}
+use Rattle.crx_rinex.specs.EpochLines.{ObservationHead, IsObservationHead, begins_epoch, is_observation_flag, satellites_in}
 use Rattle.crx_rinex.specs.Epochs.{IsSoundEpoch}
 use Rattle.crx_rinex.specs.SatelliteLines.{IsSoundRow}
 use Rattle.crx_compact.specs.Cells.{AreHeldFlags}
 use Rattle.crx_compact.specs.Compaction.{epoch_text}
-use Rattle.crx_compact.proofs.Facts.{and_right, if_some, list_all-append, list_all-at, length-trimmed}
+use Rattle.crx_compact.specs.Steps.{flags_held}
+use Rattle.crx_compact.proofs.Facts.{all-take, and_right, if_some, list_all-append, list_all-at, length-trimmed}
 use Rattle.crx_compact.proofs.Overlays.{at-by_position, same_characters}
 use Rattle.crx_text.specs.Columns.{is_blank, without_end_blanks, before_end_blanks}
-use Rattle.crx_text.specs.Texts.{by_position, mark_of, text_difference}
+use Rattle.crx_text.specs.Texts.{by_position, mark_of, text_difference, is_kept}
 use Rattle.crx_compact.proofs.Writable.{length-is, name-kept}
 use Rattle.crx_rinex.proofs.Characters.{at, at-without_end_blanks, list_all-from_at}
 
@@ -73,10 +78,46 @@ difference-trimmed old new =
 
 -- ---- indicators
 
+-- nothing is marked where nothing changes
+mark-same : (c : ℕ) → mark_of c c ≡ 32
+mark-same c = ap (λ b. if b then 32 else if is_blank c then 38 else c) ((Decides-eqb c c).1 refl)
+
+same-text : (text : List ℕ) → text_difference text text ≡ []
+same-text [] = refl
+same-text (c ∷ cs) =
+    ap (λ m. before_end_blanks m (text_difference cs cs)) (mark-same c) ∙ ap (before_end_blanks 32) (same-text cs)
+
+pub unmarked : (line old new : List ℕ) → bytes_eq old new ≡ true → line ≡ line ++ text_difference old new
+unmarked line old new h =
+    sym (append-nil line) ∙ ap (λ (t : List ℕ). line ++ t) (sym (same-text old) ∙ ap (text_difference old) ((bytes_eq-Decides old new).0 h))
+
 pub flags-held : (row : Row) → IsSoundRow row → AreHeldFlags (without_end_blanks row.flags)
 flags-held row h =
     let few = h.counted.1 in
     record {
       within = omega (arith, length-trimmed row.flags, h.paired, few);
       kept = list_all-from_at is_kept (without_end_blanks row.flags) (λ k. ap is_kept (at-without_end_blanks row.flags k) ∙ list_all-at is_kept refl row.flags h.kept k);
+    }
+
+-- ---- what is held of indicators by so many types
+
+length-cut : (n : ℕ) (text : List ℕ) → length (take n text) ≤ n
+length-cut zero text = omega arith
+length-cut (suc n) [] = omega arith
+length-cut (suc n) (c ∷ cs) = omega (arith, length-cut n cs)
+
+pub length-held : (count : ℕ) (flags : List ℕ) → length (flags_held count flags) ≤ 2 * count
+length-held count flags = omega (arith, length-trimmed (take (2 * count) flags), length-cut (2 * count) flags)
+
+no-longer : (n : ℕ) (text : List ℕ) → length (take n text) ≤ length text
+no-longer zero text = omega arith
+no-longer (suc n) [] = omega arith
+no-longer (suc n) (c ∷ cs) = omega (arith, no-longer n cs)
+
+pub cut-held : (count : ℕ) (flags : List ℕ) → AreHeldFlags flags → AreHeldFlags (flags_held count flags)
+cut-held count flags h =
+    record {
+      within = omega (arith, length-trimmed (take (2 * count) flags), no-longer (2 * count) flags, h.within);
+      kept = list_all-from_at is_kept (flags_held count flags) (λ k.
+          ap is_kept (at-without_end_blanks (take (2 * count) flags) k) ∙ list_all-at is_kept refl (take (2 * count) flags) (all-take is_kept (2 * count) flags h.kept) k);
     }

@@ -17,8 +17,9 @@ use Rattle.crx_text.specs.declared.fault.Fault.{Fault}
 use Rattle.crx_text.specs.declared.fault.Fault.TheVariants.{LineTooLong, NotAnEpoch, BadEpoch, BadClock, BadSatellite, BadField, RepeatedSatellite, BadFlags, Truncated}
 use Rattle.crx_compact.specs.Sequences.{stretch, each_place, all_ok, and_then, before_all}
 use Rattle.crx_compact.specs.EpochText.{begins_epoch, is_printable, epoch_count, types_of_satellite, names_in, Satellite, satellite_before, satellites_named}
-use Rattle.crx_compact.specs.Expansion.{RawRow, RawEpoch, block_of, text_of, raw_row_named, raw_run_of, indicators_of, row_from, rows_from, epoch_of_block, epoch_from}
+use Rattle.crx_compact.specs.Expansion.{RawRow, RawEpoch, block_of, text_of, raw_row_named, raw_run_of, marks_of, overlaid, indicators_of, row_from, rows_from, epoch_of_block, epoch_from}
 use Rattle.crx_compact.specs.Past.{Past, past_of_block, past_of_epochs, past_of_line}
+use Rattle.crx_compact.proofs.Cuts.{columns-cut}
 use Rattle.crx_compact.specs.CompactPlaces.{satellites_counted, satellites_of_text, satellites_of_line, BegunEpoch, epoch_begun, ReadCell, cell_read, cells_read, clock_line_read, cells_of, after_cells, are_marks, ReadRow, row_of_cells, row_with_marks, row_of_line, satellite_line_read, rows_read, ReadEpoch, epoch_of_rows, epoch_after_line, epoch_at}
 use Rattle.crx_compact.specs.ReadingLaws.{HasSingleLines, ReadsSoundly}
 use Rattle.crx_compact.proofs.Runs.{bytes_eq-same}
@@ -218,7 +219,8 @@ row-meant block satellite read h =
     let raw : RawRow = record { name = satellite.name; codes = codes; marks = marks } in
     subst P h.is_read (
     ap {B = Result Row Fault} (λ res. and_then res (λ vs. Ok (record { name = satellite.name; values = vs; flags = indicators_of (length codes) (raw ∷ run) }))) (cells-meant ((past_of_block block).value satellite.name) h.texts h.cells h.cells_ok)
-    ∙ ap {B = Result Row Fault} (λ n. Ok (record { name = satellite.name; values = values; flags = indicators_of n (raw ∷ run) })) (length-map h.cells (λ (c : ReadCell). c.code)))
+    ∙ ap {B = Result Row Fault} (λ fs. Ok (record { name = satellite.name; values = values; flags = fs })) (columns-cut (2 * length codes) (marks ∷ marks_of run))
+    ∙ ap {B = Result Row Fault} (λ n. Ok (record { name = satellite.name; values = values; flags = columns (overlaid (marks ∷ marks_of run)) 1 (2 * n) })) (length-map h.cells (λ (c : ReadCell). c.code)))
 
 -- ---- all satellites
 

@@ -3,13 +3,13 @@ use Rattle.std.specs.Prelude.{◌≡◌, refl, ℕ, Bool, true, false, ◌&&◌,
 use Rattle.std.specs.List.{list_all, AllByRecursion}
 use Rattle.std.proofs.Common.{◌∙◌, ap, arith}
 use Rattle.crx_text.specs.Columns.{character_at, without_end_blanks}
-use Rattle.crx_text.specs.Texts.{text_difference, is_printable, mark_of}
+use Rattle.crx_text.specs.Texts.{text_difference, is_printable, mark_of, is_kept}
 use Rattle.crx_text.specs.Codes.{code_text}
 use Rattle.crx_text.specs.declared.code.Code.{Code}
 use Rattle.crx_text.specs.declared.limits.TheConstants.{WRITTEN_ORDER}
 use Rattle.crx_rinex.specs.Observations.{Row, Epoch}
 use Rattle.crx_rinex.specs.ObservationTypes.{Count}
-use Rattle.crx_rinex.specs.EpochLines.{begins_epoch, is_event_flag, is_event_line, is_observation_flag, is_kept}
+use Rattle.crx_rinex.specs.EpochLines.{begins_epoch, is_event_flag, is_event_line, is_observation_flag}
 use Rattle.crx_compact.specs.Compaction.{Marked, epoch_text, since_full, run_of, arc_of, clock_arc, newest_text, indicators_before, cell_text, codes_of, satellite_line, epoch_line}
 use Rattle.crx_compact.specs.Differences.{code_at}
 use Rattle.crx_compact.specs.Laws.{has_no_epochs, LinesCanStand}
@@ -18,7 +18,8 @@ use Rattle.crx_compact.proofs.CodeTexts.{is_code_character, code-characters}
 use Rattle.crx_compact.proofs.Cells.{AreWritten}
 use Rattle.crx_compact.proofs.Runs.{marked, begins_full, begins_later}
 use Rattle.crx_compact.proofs.Facts.{and_left, and_right, both, list_all-at, list_all-append, head_tests, text-kept, text-head, text-begins, at-difference, difference-printable}
-use Rattle.crx_compact.proofs.Rows.{IsRowOf, run-rows, clock-printable, written-codes, line-begins, length-each_place}
+use Rattle.crx_compact.proofs.Overlays.{length-each_place}
+use Rattle.crx_compact.proofs.Rows.{IsRowOf, run-rows, clock-printable, written-codes, line-begins}
 use Rattle.crx_compact.proofs.Reading.{text-other}
 use Rattle.crx_rinex.proofs.Characters.{at, at-without_end_blanks, list_all-from_at}
 

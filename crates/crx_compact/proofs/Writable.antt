@@ -1,14 +1,15 @@
 -- An epoch as the reader of RINEX makes them can be written.
 use Rattle.std.specs.Prelude.{◌≡◌, refl, ℕ, suc, ℤ, true, false, not, ◌&&◌, ◌||◌, ◌==◌, nat_eq, List, [], ◌∷◌, length, All, Option, Some, None}
+use Rattle.std.specs.Char.{is_ascii_digit}
 use Rattle.std.specs.List.{list_all, list_any, AllByRecursion}
 use Rattle.std.specs.Str.{bytes_eq}
 use Rattle.std.proofs.Common.{sym, ◌∙◌, ap, arith}
 use Rattle.crx_rinex.specs.Observations.{Row, Epoch}
 use Rattle.crx_rinex.specs.ObservationTypes.{Count}
 use Rattle.crx_text.specs.declared.limits.TheConstants.{OBSERVATION_WIDTH, CLOCK_WIDTH}
-use Rattle.crx_rinex.specs.Label.{is_digit}
+use Rattle.crx_text.specs.Texts.{is_kept}
 use Rattle.crx_rinex.specs.ObservationTypes.{is_system}
-use Rattle.crx_rinex.specs.EpochLines.{is_kept, IsClockOffset}
+use Rattle.crx_rinex.specs.EpochLines.{IsClockOffset}
 use Rattle.crx_rinex.specs.SatelliteLines.{is_identifier, IsValue, IsSoundRow, HasItsTypes}
 use Rattle.crx_rinex.specs.Epochs.{has_satellite, are_different, IsWholeEpoch}
 use Rattle.crx_compact.specs.Laws.{AreWhole}
@@ -27,10 +28,10 @@ length-is name h =
 system-kept : (c : ℕ) → is_system c ≡ true → is_kept c ≡ true
 system-kept c h = grind (arith, h)
 
-digit-kept : (c : ℕ) → is_digit c ≡ true → is_kept c ≡ true
+digit-kept : (c : ℕ) → is_ascii_digit c ≡ true → is_kept c ≡ true
 digit-kept c h = grind (arith, h)
 
-second-kept : (c : ℕ) → (is_digit c || nat_eq c 32) ≡ true → is_kept c ≡ true
+second-kept : (c : ℕ) → (is_ascii_digit c || nat_eq c 32) ≡ true → is_kept c ≡ true
 second-kept c h = grind (arith, h)
 
 pub name-kept : (name : List ℕ) → length name ≡ 3 → is_identifier name ≡ true → list_all is_kept name ≡ true
@@ -39,11 +40,11 @@ name-kept (a ∷ []) e h = absurd (omega (arith, e))
 name-kept (a ∷ b ∷ []) e h = absurd (omega (arith, e))
 name-kept (a ∷ b ∷ c ∷ d ∷ ds) e h = absurd (omega (arith, e))
 name-kept (a ∷ b ∷ c ∷ []) e h =
-    let parts : (is_system a && ((is_digit b || nat_eq b 32) && is_digit c)) ≡ true = h in
-    let number : ((is_digit b || nat_eq b 32) && is_digit c) ≡ true = and_right (is_system a) ((is_digit b || nat_eq b 32) && is_digit c) parts in
-    both (is_kept a) (is_kept b && (is_kept c && true)) (system-kept a (and_left (is_system a) ((is_digit b || nat_eq b 32) && is_digit c) parts))
-    (both (is_kept b) (is_kept c && true) (second-kept b (and_left (is_digit b || nat_eq b 32) (is_digit c) number))
-    (both (is_kept c) true (digit-kept c (and_right (is_digit b || nat_eq b 32) (is_digit c) number)) refl))
+    let parts : (is_system a && ((is_ascii_digit b || nat_eq b 32) && is_ascii_digit c)) ≡ true = h in
+    let number : ((is_ascii_digit b || nat_eq b 32) && is_ascii_digit c) ≡ true = and_right (is_system a) ((is_ascii_digit b || nat_eq b 32) && is_ascii_digit c) parts in
+    both (is_kept a) (is_kept b && (is_kept c && true)) (system-kept a (and_left (is_system a) ((is_ascii_digit b || nat_eq b 32) && is_ascii_digit c) parts))
+    (both (is_kept b) (is_kept c && true) (second-kept b (and_left (is_ascii_digit b || nat_eq b 32) (is_ascii_digit c) number))
+    (both (is_kept c) true (digit-kept c (and_right (is_ascii_digit b || nat_eq b 32) (is_ascii_digit c) number)) refl))
 
 -- ---- values
 

@@ -5,7 +5,8 @@ use Rattle.std.specs.Str.{bytes_eq}
 use Rattle.crx_rinex.specs.Observations.{Row, Epoch}
 use Rattle.crx_rinex.specs.ObservationTypes.{Count}
 use Rattle.crx_text.specs.declared.limits.TheConstants.{OBSERVATION_WIDTH, CLOCK_WIDTH, TYPES_LIMIT}
-use Rattle.crx_compact.specs.EpochText.{is_kept, epoch_count, types_of_satellite}
+use Rattle.crx_text.specs.Texts.{is_kept}
+use Rattle.crx_compact.specs.EpochText.{epoch_count, types_of_satellite}
 use Rattle.crx_compact.specs.Expansion.{is_within}
 
 -- whether a value is missing or fits so many columns

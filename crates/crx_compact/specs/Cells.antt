@@ -5,12 +5,12 @@ use Rattle.crx_text.specs.declared.limits.TheConstants.{LINE_LIMIT, OBSERVATION_
 use Rattle.crx_text.specs.declared.code.Code.TheVariants.{Missing}
 use Rattle.crx_text.specs.declared.fault.Fault.{Fault}
 use Rattle.crx_compact.specs.CompactPlaces.{ReadCell, cells_read, cells_of, after_cells}
-use Rattle.crx_rinex.specs.EpochLines.{is_kept}
 use Rattle.crx_rinex.specs.ObservationTypes.{IsAllowedCount}
 use Rattle.crx_rinex.specs.SatelliteLines.{is_identifier}
 use Rattle.crx_compact.specs.EpochText.{Satellite}
 use Rattle.crx_rinex.specs.Observations.{Row}
 use Rattle.crx_text.specs.declared.code.Code.{Code}
+use Rattle.crx_text.specs.Texts.{is_kept}
 use Rattle.crx_compact.specs.Sequences.{each_place, named}
 use Rattle.crx_compact.specs.Tails.{ArcTail, RowTail}
 use Rattle.crx_compact.specs.Compaction.{value_in, line_of_codes}

@@ -9,7 +9,7 @@ use Rattle.crx_text.specs.declared.fault.Fault.TheVariants.{BadSatellite, Repeat
 use Rattle.crx_compact.specs.Sequences.{each_place, before_all}
 pub use Rattle.crx_text.specs.Texts.{is_printable}
 pub use Rattle.crx_rinex.specs.Label.{number_in}
-pub use Rattle.crx_rinex.specs.EpochLines.{begins_epoch, is_observation_flag, is_kept, count_within_limit, satellites_in, epoch_count}
+pub use Rattle.crx_rinex.specs.EpochLines.{begins_epoch, is_observation_flag, count_within_limit, satellites_in, epoch_count}
 pub use Rattle.crx_rinex.specs.SatelliteLines.{types_of_satellite}
 use Rattle.crx_rinex.specs.ObservationTypes.{Count}
 

@@ -1,6 +1,6 @@
 -- What compact text stands for: Hatanaka's Compact RINEX 3.0, epoch line, clock line and satellite lines.
 -- Lists of raw epochs stand newest first, and hold the accepted ones since the reader's state was last emptied.
-use Rattle.std.specs.Prelude.{ℕ, ◌-◌, ◌*◌, ◌^◌, ◌==◌, ◌&&◌, max, Bool, ℤ, pos, neg_ℤ, int_lt, List, [], ◌∷◌, map, length, slice_index_or, Option, Some, None, Result, Ok, Err, if◌then◌else◌}
+use Rattle.std.specs.Prelude.{ℕ, ◌-◌, ◌*◌, ◌^◌, ◌==◌, ◌&&◌, max, Bool, ℤ, pos, neg_ℤ, int_lt, List, [], ◌∷◌, map, length, slice_index_or, take, Option, Some, None, Result, Ok, Err, if◌then◌else◌}
 use Rattle.std.specs.Option.{option_map}
 use Rattle.crx_text.specs.Columns.{columns, is_blank, without_end_blanks}
 use Rattle.crx_rinex.specs.Observations.{Row, Epoch}
@@ -62,9 +62,14 @@ raw_row_named name rows = named (λ (r : RawRow). r.name) name rows
 abbrev pub raw_run_of : List ℕ → List RawEpoch → List RawRow
 raw_run_of name block = stretch (map (λ (e : RawEpoch). raw_row_named name e.rows) block)
 
+-- the marks of a run's lines, newest first, two for each type: past the types of a line, what older lines marked is dropped
+abbrev pub marks_of : List RawRow → List (List ℕ)
+marks_of [] = []
+marks_of (raw ∷ older) = map (take (2 * length raw.codes)) (raw.marks ∷ marks_of older)
+
 -- the indicators of a run's newest epoch, for so many types
 abbrev pub indicators_of : ℕ → List RawRow → List ℕ
-indicators_of count run = columns (overlaid (map (λ (r : RawRow). r.marks) run)) 1 (2 * count)
+indicators_of count run = columns (overlaid (marks_of run)) 1 (2 * count)
 
 -- ---- values
 

@@ -1,5 +1,5 @@
 -- A satellite's line read after what was kept of the satellite in the epoch before.
-use Rattle.std.specs.Prelude.{◌≡◌, ℕ, ◌+◌, ◌++◌, ◌∷◌, take, List, [], Option, None, Some, Result, Ok}
+use Rattle.std.specs.Prelude.{◌≡◌, ℕ, ◌+◌, ◌++◌, ◌∷◌, length, take, List, [], Option, None, Some, Result, Ok}
 use Rattle.crx_text.specs.Texts.{patched}
 use Rattle.crx_text.specs.declared.fault.Fault.{Fault}
 use Rattle.crx_rinex.specs.Observations.{Row}
@@ -8,7 +8,7 @@ use Rattle.crx_compact.specs.EpochText.{Satellite}
 use Rattle.crx_compact.specs.Past.{Past}
 use Rattle.crx_compact.specs.CompactPlaces.{ReadRow, satellite_line_read}
 use Rattle.crx_compact.specs.Tails.{ArcTail, RowTail, Tail}
-use Rattle.crx_compact.specs.Steps.{flags_of_tail}
+use Rattle.crx_compact.specs.Steps.{flags_of_tail, flags_held}
 use Rattle.crx_compact.specs.OpenEpochs.{HeldRow, held_row, past_of_tail}
 use Rattle.crx_compact.specs.Cells.{arcs_of_codes, value_at_place}
 
@@ -32,7 +32,7 @@ abbrev pub held_from : List (Option ArcTail) → List ℕ → ReadRow → HeldRo
 held_from arcs flags read =
     record {
       row = read.row;
-      tail = record { name = read.raw.name; flags = patched flags read.raw.marks; cells = arcs_of_codes arcs read.raw.codes };
+      tail = record { name = read.raw.name; flags = flags_held (length read.raw.codes) (patched flags read.raw.marks); cells = arcs_of_codes arcs read.raw.codes };
     }
 
 -- what a satellite's line makes after its arcs and indicators, or its first fault

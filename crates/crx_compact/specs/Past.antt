@@ -5,7 +5,7 @@ use Rattle.crx_text.specs.declared.code.Code.{Code}
 use Rattle.crx_text.specs.declared.fault.Fault.{Fault}
 use Rattle.crx_text.specs.declared.limits.TheConstants.{OBSERVATION_WIDTH, CLOCK_WIDTH}
 use Rattle.crx_compact.specs.EpochText.{begins_epoch}
-use Rattle.crx_compact.specs.Expansion.{RawRow, RawEpoch, block_of, overlaid, code_in, raw_run_of, value_of}
+use Rattle.crx_compact.specs.Expansion.{RawEpoch, block_of, overlaid, code_in, raw_run_of, marks_of, value_of}
 
 -- the epoch text that an epoch line makes; the value that the clock's code gives, or its fault; the same of a
 -- satellite's code at a place, counted from 0; and the indicators that a satellite's marks make
@@ -22,7 +22,7 @@ past_of_block block =
       text = λ line. overlaid (line ∷ map (λ (e : RawEpoch). e.line) block);
       clock = λ code. value_of CLOCK_WIDTH (code ∷ map (λ (e : RawEpoch). e.clock) block);
       value = λ name place code. value_of OBSERVATION_WIDTH (code ∷ map (code_in place) (raw_run_of name block));
-      flags = λ name marks. overlaid (marks ∷ map (λ (r : RawRow). r.marks) (raw_run_of name block));
+      flags = λ name marks. overlaid (marks ∷ marks_of (raw_run_of name block));
     }
 
 -- what the raw epochs accepted since the reader's state was last emptied give to an epoch line that doesn't begin with >;

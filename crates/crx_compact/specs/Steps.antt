@@ -1,5 +1,5 @@
 -- One step of the running differences: the next code, the next value, the next lines and the next tail by the tail alone.
-use Rattle.std.specs.Prelude.{ℕ, suc, ℤ, pos, ◌+ℤ◌, ◌-ℤ◌, Bool, List, [], ◌∷◌, map, length, slice_index_or, take, Option, Some, None, Result, Ok, Err, if◌then◌else◌, unwrap_or}
+use Rattle.std.specs.Prelude.{ℕ, suc, ℤ, pos, ◌+ℤ◌, ◌-ℤ◌, ◌*◌, Bool, List, [], ◌∷◌, map, length, slice_index_or, take, Option, Some, None, Result, Ok, Err, if◌then◌else◌, unwrap_or}
 use Rattle.crx_text.specs.Columns.{without_end_blanks}
 use Rattle.crx_text.specs.Texts.{text_difference, patched}
 use Rattle.crx_text.specs.Codes.{code_text}
@@ -131,11 +131,15 @@ tail_written_after in_full tail = if in_full then no_tail else unwrap_or tail no
 
 -- ---- a raw epoch after a tail, in expansion
 
+-- what is held of indicators by so many types: two for each of them, without the blanks at their end
+abbrev pub flags_held : ℕ → List ℕ → List ℕ
+flags_held count flags = without_end_blanks (take (2 * count) flags)
+
 abbrev pub raw_row_tail_after : Option RowTail → RawRow → RowTail
 raw_row_tail_after tail raw =
     record {
       name = raw.name;
-      flags = patched (flags_of_tail tail) raw.marks;
+      flags = flags_held (length raw.codes) (patched (flags_of_tail tail) raw.marks);
       cells = each_place (length raw.codes) (λ place. arc_of_code (code_in place raw) (cell_of_tail place tail));
     }
 

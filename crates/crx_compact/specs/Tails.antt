@@ -7,7 +7,7 @@ use Rattle.crx_text.specs.declared.limits.TheConstants.{WRITTEN_ORDER, TYPES_LIM
 use Rattle.crx_compact.specs.Sequences.{each_place}
 use Rattle.crx_compact.specs.Differences.{difference, value_at}
 use Rattle.crx_compact.specs.Compaction.{Marked, run_of, arc_of, clock_arc, newest_text}
-use Rattle.crx_compact.specs.Expansion.{RawEpoch, RawRow, Started, block_of, text_of, raw_run_of, overlaid, code_in, since_start}
+use Rattle.crx_compact.specs.Expansion.{RawEpoch, RawRow, Started, block_of, text_of, raw_run_of, marks_of, overlaid, code_in, since_start}
 
 -- an arc's order n, and its differences of order 0, 1, .. up to n, or up to u where it has only u + 1 values
 pub record ArcTail : Type 0 where
@@ -70,7 +70,7 @@ abbrev pub raw_row_tail : List RawRow → RawRow → RowTail
 raw_row_tail run row =
     record {
       name = row.name;
-      flags = overlaid (map (λ (r : RawRow). r.marks) run);
+      flags = overlaid (marks_of run);
       cells = each_place (length row.codes) (λ j. started_tail (since_start (map (code_in j) run)));
     }
 

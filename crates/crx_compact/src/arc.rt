@@ -63,25 +63,6 @@ fn advance(differences: &mut [i64], value: i64) -> i64
     next
 }
 
-/// The step of [`go_on`] for order 3, that of most arcs.
-#[inline(always)]
-fn go_on_to_third(differences: &mut [i64], value: i64) -> i64
-    requires within { 3 < length differences.old }
-    requires below { AreBelow value_bound (take 3 differences.old) }
-    requires next { IsBelow value_bound value }
-    ensures after { take 4 differences.new ≡ differences_after value (take 3 differences.old) }
-    ensures highest { result ≡ highest (differences_after value (take 3 differences.old)) }
-{
-    let first = value - differences[0];
-    let second = first - differences[1];
-    let third = second - differences[2];
-    differences[0] = value;
-    differences[1] = first;
-    differences[2] = second;
-    differences[3] = third;
-    third
-}
-
 /// Puts the differences at a next value in place of those at the value before it, of order 0 up to the given one, and
 /// gives the difference of that order.
 fn go_on(differences: &mut [i64], order: usize, value: i64) -> i64
@@ -92,12 +73,48 @@ fn go_on(differences: &mut [i64], order: usize, value: i64) -> i64
     ensures after { take (order + 1) differences.new ≡ differences_after value (take order differences.old) }
     ensures highest { result ≡ highest (differences_after value (take order differences.old)) }
 {
-    if order == 3 {
-        return go_on_to_third(differences, value);
-    }
     let highest = advance(&mut differences[..order], value);
     differences[order] = highest;
     highest
+}
+
+/// The step of [`go_on_from`] for order 3, that of most arcs.
+#[inline(always)]
+fn third_from(before: &[i64], value: i64, differences: &mut [i64]) -> i64
+    requires within { 3 < length before.now }
+    requires room { 3 < length differences.old }
+    requires below { AreBelow value_bound (take 3 before.now) }
+    requires next { IsBelow value_bound value }
+    ensures after { take 4 differences.new ≡ differences_after value (take 3 before.now) }
+    ensures highest { result ≡ highest (differences_after value (take 3 before.now)) }
+{
+    let first = value - before[0];
+    let second = first - before[1];
+    let third = second - before[2];
+    differences[0] = value;
+    differences[1] = first;
+    differences[2] = second;
+    differences[3] = third;
+    third
+}
+
+/// Puts the differences at a next value, of order 0 up to the given one, in place of others, those at the value before it
+/// being given, and gives the difference of that order.
+#[inline(always)]
+fn go_on_from(before: &[i64], order: usize, value: i64, differences: &mut [i64]) -> i64
+    requires room { length differences.old ≡ length before.now }
+    requires within { order < length before.now }
+    requires few { order ≤ 9 }
+    requires below { AreBelow value_bound (take order before.now) }
+    requires next { IsBelow value_bound value }
+    ensures after { take (order + 1) differences.new ≡ differences_after value (take order before.now) }
+    ensures highest { result ≡ highest (differences_after value (take order before.now)) }
+{
+    if order == 3 {
+        return third_from(before, value, differences);
+    }
+    differences.copy_from_slice(before);
+    go_on(differences, order, value)
 }
 
 /// The step of [`value_after`] for order 3, that of most arcs.
@@ -164,21 +181,23 @@ impl<const WIDTH: usize> Arc<WIDTH> {
         ensures every { (values : List (Option ℤ)) → self.old ≡ arc_of_values values
             → (result ≡ code_at WRITTEN_ORDER (stretch (value ∷ values))) × (self.new ≡ arc_of_values (value ∷ values)) }
     {
-        self.go_on_by_value(value)
+        let before = self.copied();
+        self.push_after(&before, value)
     }
 
-    /// The step of [`Arc::push`].
-    fn go_on_by_value(&mut self, value: Option<i64>) -> Code
+    /// The code of a next value of another arc, which this one replaces as it goes on: that of [`Arc::push`] on a copy.
+    #[inline(always)]
+    pub(crate) fn push_after(&mut self, before: &Self, value: Option<i64>) -> Code
         requires { IsIn WIDTH value }
-        ensures code { result ≡ code_of_value value self.old }
+        ensures code { result ≡ code_of_value value before.now }
         ensures printable { IsPrintable result }
-        ensures arc { self.new ≡ arc_of_value value self.old }
+        ensures arc { self.new ≡ arc_of_value value before.now }
     {
         let Some(value) = value else {
             self.count = 0;
             return Code::Missing;
         };
-        if self.count == 0 {
+        if before.count == 0 {
             self.differences[0] = value;
             self.order = WRITTEN_ORDER as usize;
             self.count = 1;
@@ -187,8 +206,9 @@ impl<const WIDTH: usize> Arc<WIDTH> {
                 value,
             };
         }
-        let last = self.order.min(self.count);
-        let highest = go_on(&mut self.differences, last, value);
+        let last = before.order.min(before.count);
+        let highest = go_on_from(&before.differences, last, value, &mut self.differences);
+        self.order = before.order;
         self.count = last + 1;
         Code::Step(highest)
     }
@@ -207,14 +227,16 @@ impl<const WIDTH: usize> Arc<WIDTH> {
         ensures every { (codes : List Code) → self.old ≡ arc_of_codes WIDTH codes
             → (result ≡ value_of WIDTH (code ∷ accepted WIDTH codes)) × (self.new ≡ arc_of_codes WIDTH (code ∷ codes)) }
     {
-        self.go_on_by_code(code)
+        let before = self.copied();
+        self.apply_after(&before, code)
     }
 
-    /// The step of [`Arc::apply`].
-    fn go_on_by_code(&mut self, code: Code) -> Result<Option<i64>, Fault>
+    /// The step of [`Arc::apply`] after another arc, in whose place this one goes on.
+    #[inline(always)]
+    pub(crate) fn apply_after(&mut self, earlier: &Self, code: Code) -> Result<Option<i64>, Fault>
         requires { IsPrintable code }
-        ensures value { result ≡ value_of_code WIDTH code self.old }
-        ensures ok { OnOk result (self.new ≡ arc_of_code code self.old) }
+        ensures value { result ≡ value_of_code WIDTH code earlier.now }
+        ensures ok { OnOk result (self.new ≡ arc_of_code code earlier.now) }
         ensures err { OnErr result (self.new ≡ self.old) }
     {
         match code {
@@ -232,15 +254,16 @@ impl<const WIDTH: usize> Arc<WIDTH> {
                 Ok(Some(value))
             }
             Code::Step(number) => {
-                if self.count == 0 {
+                if earlier.count == 0 {
                     return Err(Fault::NoArc);
                 }
-                let last = self.order.min(self.count);
-                let value = value_after(&self.differences[..last], number);
+                let last = earlier.order.min(earlier.count);
+                let value = value_after(&earlier.differences[..last], number);
                 if !is_within(WIDTH, value) {
                     return Err(Fault::OutOfRange);
                 }
-                go_on(&mut self.differences, last, value);
+                go_on_from(&earlier.differences, last, value, &mut self.differences);
+                self.order = earlier.order;
                 self.count = last + 1;
                 Ok(Some(value))
             }
@@ -249,6 +272,7 @@ impl<const WIDTH: usize> Arc<WIDTH> {
 }
 
 /// Whether a value fits so many columns: the point takes one of them, and a minus another.
+#[inline(always)]
 fn is_within(width: usize, value: i64) -> bool
     requires { width ≤ CLOCK_WIDTH }
     ensures { result ≡ is_within width value }

@@ -1,7 +1,7 @@
 //! Epochs to compact lines, and compact lines to epochs, by what is kept of the epoch before: Hatanaka's Compact
 //! RINEX 3.0.
 
-ghost use Rattle.std.specs.Prelude.{◌≡◌, ◌≤◌, ◌++◌, ◌∷◌, List, if◌then◌else◌, [], Some, None, true, false, length, IfOk, IfErr, OnOk, OnErr};
+ghost use Rattle.std.specs.Prelude.{◌≡◌, ◌≤◌, ◌++◌, ◌∷◌, List, if◌then◌else◌, [], Some, None, true, false, length, IfOk, IfErr, OnOk, OnErr, Err};
 ghost use Rattle.crx_rinex.specs.Epochs.{is_full_epoch};
 ghost use Rattle.std.specs.Prelude.{◌⊎◌};
 ghost use Rattle.crx_text.specs.Seen.{Content, ReadLine};
@@ -11,7 +11,7 @@ ghost use Rattle.crx_compact.specs.Expansion.{RawEpoch};
 ghost use Rattle.crx_compact.specs.CompactPlaces.{epoch_at};
 ghost use Rattle.crx_compact.specs.ReadBlocks.{HasReadTo, IsReading};
 ghost use Rattle.crx_text.specs.declared.limits.TheConstants.{LINE_LIMIT};
-ghost use Rattle.crx_rinex.specs.EpochLines.{is_event_line};
+ghost use Rattle.crx_rinex.specs.EpochLines.{begins_epoch, is_event_line};
 ghost use Rattle.crx_compact.specs.OpenEpochs.{is_idle, tail_held, first_step, step_in, Faulty, HasMade};
 ghost use Rattle.crx_compact.specs.OpenEpochs.ColumnsState.{Idle};
 ghost use Rattle.crx_compact.specs.Compaction.{Marked, compact_epoch};
@@ -170,6 +170,8 @@ impl Columns {
         ensures made { OnOk result (HasMade (first_step types.now (tail_held self.old) (Content line.now)) self.new None) }
         ensures refused { IfErr result (λ fault. (first_step types.now (tail_held self.old) (Content line.now) ≡ Faulty fault) ⊎ (fault ≡ Fault.OutOfMemory)) }
         ensures emptied { OnErr result (self.new ≡ Idle None) }
+        // Memory is taken only after that check.
+        ensures no_epoch { begins_epoch line.now ≡ false → tail_held self.old ≡ None → result ≡ Err Fault.NotAnEpoch }
         // After the raw epochs accepted since everything was last forgotten, the line makes what it makes by them.
         ensures block { (older : List RawEpoch) → tail_held self.old ≡ tail_left older
             → OnOk result (IsReading types.now older (Content line.now ∷ []) self.new) }
@@ -187,6 +189,7 @@ impl Columns {
         ensures made { OnOk result (HasMade (first_step types.now (tail_held self.old) (Content line.now)) self.new None) }
         ensures refused { IfErr result (λ fault. (first_step types.now (tail_held self.old) (Content line.now) ≡ Faulty fault) ⊎ (fault ≡ Fault.OutOfMemory)) }
         ensures emptied { OnErr result (self.new ≡ Idle None) }
+        ensures no_epoch { begins_epoch line.now ≡ false → tail_held self.old ≡ None → result ≡ Err Fault.NotAnEpoch }
     {
         let goes_on = !begins_epoch(line);
         if goes_on && !self.is_kept {

@@ -1,9 +1,9 @@
 //! What is kept of a satellite between two epochs: Hatanaka's Compact RINEX 3.0, satellite lines.
 
-ghost use Rattle.std.specs.Prelude.{◌≡◌, ◌≤◌, ◌++◌, ◌∷◌, ◌⊎◌, ◌*◌, [], None, Ok, Err, true, false, length, replicate, slice_index_or, take, OnOk, IfOk, IfErr, Option, ℤ};
+ghost use Rattle.std.specs.Prelude.{◌≡◌, ◌≤◌, ◌<◌, ◌++◌, ◌∷◌, ◌⊎◌, ◌*◌, [], None, Ok, Err, true, false, length, replicate, slice_index_or, slice_set, take, OnOk, IfOk, IfErr, Option, ℤ};
 ghost use Rattle.std.specs.List.{flat_map, list_all};
 ghost use Rattle.crx_text.specs.Codes.{code_text, IsPrintable};
-ghost use Rattle.crx_text.specs.Texts.{is_plain, patched, text_difference};
+ghost use Rattle.crx_text.specs.Texts.{is_kept, patched, text_difference};
 ghost use Rattle.crx_text.specs.declared.limits.TheConstants.{LINE_LIMIT, OBSERVATION_WIDTH};
 ghost use Rattle.std.specs.Option.{option_copied};
 ghost use Rattle.crx_text.specs.Columns.{columns, without_end_blanks};
@@ -12,29 +12,27 @@ ghost use Rattle.crx_compact.specs.Cells.{arcs_of_row, codes_of_row, value_at_pl
 ghost use Rattle.crx_compact.specs.CompactPlaces.{are_marks, cells_of, cells_read};
 ghost use Rattle.crx_compact.specs.HeldRows.{row_held, row_held_from};
 ghost use Rattle.crx_rinex.specs.ObservationTypes.{IsAllowedCount};
+ghost use Rattle.crx_rinex.specs.SatelliteLines.{blank_row};
 ghost use Rattle.crx_compact.specs.Compaction.{cell_text, line_of_codes};
 ghost use Rattle.crx_compact.specs.Sequences.{named};
-ghost use Rattle.crx_compact.specs.Steps.{arc_of_code, arc_of_value, code_of_value, codes_after, flags_of_tail, row_tail_after};
+ghost use Rattle.crx_compact.specs.Steps.{arc_of_code, arc_of_value, code_of_value, codes_after, flags_held, flags_of_tail, row_tail_after, value_of_code};
 ghost use Rattle.crx_compact.specs.Tails.{RowTail};
 
 use crate::arc::ObsArc;
 use crate::awaited::{AwaitedSatellite, begins_epoch};
 use crate::lines::Lines;
 use crx_rinex::{SatRow, after_columns, all_blank};
-use crx_text::difference::patch_bytes;
+use crx_text::difference::{append_difference, patch_bytes};
 use crx_text::limits::NAME_WIDTH;
-use crx_text::{
-    Code, Fault, Text, code_before_blank, code_print, code_print_cell, diff_text, trim_end,
-};
+use crx_text::{Code, Fault, Text, code_before_blank, code_print, code_print_cell, trim_end};
 use std::alloc::{AllocError, Global};
 use std::marker::Model;
 
-/// What lines are made with: the line, and texts that hold a part of it for a moment.
+/// What lines are made with: the line, and a text that holds a part of it for a moment.
 #[derive(Drop)]
 pub(crate) struct Desk {
     pub(crate) line: Vec<u8>,
     part: Text,
-    before: Text,
 }
 
 impl Desk {
@@ -45,7 +43,6 @@ impl Desk {
         Desk {
             line: Vec::new(alloc),
             part: Text::new(),
-            before: Text::new(),
         }
     }
 
@@ -82,16 +79,29 @@ impl Desk {
         Ok(())
     }
 
+    /// Puts what changes from a text to another one into the part.
+    fn mark(&mut self, old: &[u8], new: &[u8])
+        requires old_short { length old.now ≤ LINE_LIMIT }
+        requires new_short { length new.now ≤ LINE_LIMIT }
+        ensures part { self.new.part ≡ text_difference old.now new.now }
+        ensures line { self.new.line ≡ self.old.line }
+    {
+        self.part.clear();
+        append_difference(old, new, &mut self.part);
+        self.part.trim_end_blanks();
+    }
+
     /// Appends to the line what changes from a text to another one.
     pub(crate) fn push_difference(&mut self, old: &[u8], new: &[u8]) -> Result<(), AllocError>
         requires old_short { length old.now ≤ LINE_LIMIT }
         requires new_short { length new.now ≤ LINE_LIMIT }
-        requires plain { list_all is_plain new.now ≡ true }
+        requires plain { list_all is_kept new.now ≡ true }
         ensures { OnOk result (self.new.line.items ≡ self.old.line.items ++ text_difference old.now new.now) }
     {
-        self.before.clear();
-        self.before.extend(old).unwrap();
-        diff_text(&self.before, new, &mut self.part).unwrap();
+        if old == new {
+            return Ok(());
+        }
+        self.mark(old, new);
         self.line.extend_from_slice(self.part.bytes())
     }
 
@@ -111,12 +121,10 @@ impl Desk {
     ) -> Result<(), AllocError>
         requires old_short { length old.now ≤ LINE_LIMIT }
         requires new_short { length new.now ≤ LINE_LIMIT }
-        requires plain { list_all is_plain new.now ≡ true }
+        requires plain { list_all is_kept new.now ≡ true }
         ensures { OnOk result (lines.new ≡ lines.old ++ text_difference old.now new.now ∷ []) }
     {
-        self.before.clear();
-        self.before.extend(old).unwrap();
-        diff_text(&self.before, new, &mut self.part).unwrap();
+        self.mark(old, new);
         lines.push(self.part.bytes())
     }
 
@@ -131,74 +139,84 @@ impl Desk {
     }
 }
 
-/// Appends the arc of a cell to others; an arc without values where there is none.
+/// Replaces an arc by that of a cell after its next value, and gives the value's code.
 #[inline(always)]
-fn push_arc_at(before: &[ObsArc], place: usize, arcs: &mut Vec<ObsArc>) -> Result<(), AllocError>
-    ensures { OnOk result (arcs.new.items ≡ arcs.old.items ++ slice_index_or before.now place None ∷ []) }
+fn renew_arc(before: &[ObsArc], place: usize, value: Option<i64>, arc: &mut ObsArc) -> Code
+    requires { IsIn OBSERVATION_WIDTH value }
+    ensures code { result ≡ code_of_value value (slice_index_or before.now place None) }
+    ensures printable { IsPrintable result }
+    ensures arc { arc.new ≡ arc_of_value value (slice_index_or before.now place None) }
 {
-    arcs.reserve(1)?;
     match before.get(place) {
-        Some(arc) => arcs.push_reserved(arc.copied()),
-        None => arcs.push_reserved(ObsArc::new()),
+        Some(kept) => arc.push_after(kept, value),
+        None => {
+            *arc = ObsArc::new();
+            arc.push(value)
+        }
+    }
+}
+
+/// Puts the arc of a cell after its next code in its place among others, and gives the code's value.
+///
+/// `NoArc` and `OutOfRange` come as by [`ObsArc::apply`].
+#[inline(always)]
+fn apply_at(
+    before: &[ObsArc],
+    place: usize,
+    code: Code,
+    arcs: &mut [ObsArc],
+) -> Result<Option<i64>, Fault>
+    requires printable { IsPrintable code }
+    requires within { place < length arcs.old }
+    ensures value { result ≡ value_at_place before.now place code }
+    ensures arc { OnOk result (arcs.new ≡ slice_set arcs.old place (arc_of_code code (slice_index_or before.now place None))) }
+    ensures counted { length arcs.new ≡ length arcs.old }
+{
+    match before.get(place) {
+        Some(arc) => arcs[place].apply_after(arc, code),
+        None => begin_at(place, code, arcs),
+    }
+}
+
+/// The same of a cell that had no arc.
+#[cold]
+#[inline(never)]
+fn begin_at(place: usize, code: Code, arcs: &mut [ObsArc]) -> Result<Option<i64>, Fault>
+    requires printable { IsPrintable code }
+    requires within { place < length arcs.old }
+    ensures value { result ≡ value_of_code OBSERVATION_WIDTH code None }
+    ensures arc { OnOk result (arcs.new ≡ slice_set arcs.old place (arc_of_code code None)) }
+    ensures counted { length arcs.new ≡ length arcs.old }
+{
+    arcs[place].apply_after(&ObsArc::new(), code)
+}
+
+/// Gives arcs the count of a row's cells; those that come are without values.
+fn resize_arcs(arcs: &mut Vec<ObsArc>, count: usize) -> Result<(), AllocError>
+    ensures { OnOk result (length arcs.new.items ≡ count) }
+{
+    arcs.truncate(count);
+    while arcs.len() < count {
+        arcs.push(ObsArc::new())?;
     }
     Ok(())
 }
 
-/// Appends the arc of a cell to others, after its next value, and gives the value's code.
-#[inline(always)]
-fn push_value(
-    before: &[ObsArc],
-    place: usize,
-    value: Option<i64>,
-    arcs: &mut Vec<ObsArc>,
-) -> Result<Code, AllocError>
-    requires { IsIn OBSERVATION_WIDTH value }
-    ensures code { IfOk result (λ code. code ≡ code_of_value value (slice_index_or before.now place None)) }
-    ensures printable { IfOk result IsPrintable }
-    ensures arc { OnOk result (arcs.new.items ≡ arcs.old.items ++ arc_of_value value (slice_index_or before.now place None) ∷ []) }
-{
-    let last = arcs.len();
-    push_arc_at(before, place, arcs)?;
-    Ok(arcs[last].push(value))
-}
-
-/// Appends the arc of a cell to others, after its next code, and gives the code's value.
-///
-/// `NoArc` and `OutOfRange` come as by [`ObsArc::apply`]; `OutOfMemory` where the arcs can't grow.
-#[inline(always)]
-fn push_applied(
-    before: &[ObsArc],
-    place: usize,
-    code: Code,
-    arcs: &mut Vec<ObsArc>,
-) -> Result<Option<i64>, Fault>
-    requires { IsPrintable code }
-    ensures ok { IfOk result (λ value. value_at_place before.now place code ≡ Ok value) }
-    ensures arc { OnOk result (arcs.new.items ≡ arcs.old.items ++ arc_of_code code (slice_index_or before.now place None) ∷ []) }
-    ensures err { IfErr result (λ fault. (value_at_place before.now place code ≡ Err fault) ⊎ (fault ≡ Fault.OutOfMemory)) }
-{
-    let last = arcs.len();
-    if push_arc_at(before, place, arcs).is_err() {
-        return Err(Fault::OutOfMemory);
-    }
-    arcs[last].apply(code)
-}
-
-/// Appends the codes of a row's values, each followed by a blank, and makes the arcs after them.
+/// Appends the codes of a row's values, each followed by a blank, and puts the arcs after them in place of as many others.
 fn push_cells(
     before: &[ObsArc],
     row: &SatRow,
-    arcs: &mut Vec<ObsArc>,
+    arcs: &mut [ObsArc],
     desk: &mut Desk,
 ) -> Result<(), AllocError>
-    requires { arcs.old.items ≡ [] }
-    ensures arcs { OnOk result (arcs.new.items ≡ arcs_of_row before.now row.now) }
+    requires { length arcs.old ≡ length row.now.values }
+    ensures arcs { OnOk result (arcs.new ≡ arcs_of_row before.now row.now) }
     ensures line { OnOk result (desk.new.line.items ≡ desk.old.line.items ++ flat_map cell_text (codes_of_row before.now row.now)) }
 {
     desk.part.clear();
     let mut place = 0;
     while let Some(value) = row.value(place) {
-        let code = push_value(before, place, value, arcs)?;
+        let code = renew_arc(before, place, value, &mut arcs[place]);
         desk.push_cell(code)?;
         place += 1;
     }
@@ -272,43 +290,46 @@ impl HeldSatellite {
         ensures line { OnOk result (without_end_blanks desk.new.line.items ≡ line_of_codes (codes_of_row arcs.now row.now) flags.now row.now.flags) }
     {
         desk.line.clear();
-        self.arcs.clear();
+        resize_arcs(&mut self.arcs, row.flags().len() / 2)?;
         push_cells(arcs, row, &mut self.arcs, desk)?;
-        desk.push_difference(flags, row.flags())?;
+        let next_flags = trim_end(row.flags());
+        desk.push_difference(flags, next_flags)?;
         self.name = row.name();
         self.flags.clear();
-        self.flags.extend_from_slice(trim_end(row.flags()))?;
+        self.flags.extend_from_slice(next_flags)?;
         Ok(())
     }
 
-    /// Reads a satellite's line after what was kept of it in the epoch before: replaces what is kept, and gives the row.
+    /// Reads a satellite's line after what was kept of it in the epoch before: replaces what is kept, and gives the row, which
+    /// was blank. What was kept of cells and indicators past the satellite's count of types is dropped.
     ///
     /// `Truncated` comes where the line begins another epoch; then the first cell with a fault decides: `BadField` where its
     /// text is no code, then `NoArc` and `OutOfRange` as by [`ObsArc::apply`]; then `BadFlags` where the marks hold a character
     /// outside 32 to 126, or anything but blanks past two for each type. `OutOfMemory` comes where something can't grow.
     pub(crate) fn read(
         &mut self,
-        alloc: Global,
+        row: SatRow,
         before: Option<&HeldSatellite>,
         satellite: &AwaitedSatellite,
         line: &[u8],
         part: &mut Text,
     ) -> Result<SatRow, Fault>
-        requires { length line.now ≤ LINE_LIMIT }
+        requires short { length line.now ≤ LINE_LIMIT }
+        requires blank { row ≡ blank_row satellite.now.name satellite.now.count }
         ensures ok { IfOk result (λ row. row_held (option_copied before.entry) satellite.now line.now ≡ Ok (record { row = row; tail = self.new })) }
         ensures err { IfErr result (λ fault. (row_held (option_copied before.entry) satellite.now line.now ≡ Err fault)
             ⊎ (fault ≡ Fault.OutOfMemory)) }
     {
         match before {
-            Some(held) => self.read_from(alloc, &held.arcs, &held.flags, satellite, line, part),
-            None => self.read_from(alloc, &[], &[], satellite, line, part),
+            Some(held) => self.read_from(row, &held.arcs, &held.flags, satellite, line, part),
+            None => self.read_from(row, &[], &[], satellite, line, part),
         }
     }
 
     /// The same, from the arcs and the indicators of the epoch before.
     fn read_from(
         &mut self,
-        alloc: Global,
+        mut row: SatRow,
         arcs: &[ObsArc],
         flags: &[u8],
         satellite: &AwaitedSatellite,
@@ -317,6 +338,7 @@ impl HeldSatellite {
     ) -> Result<SatRow, Fault>
         requires flags { AreHeldFlags flags.now }
         requires short { length line.now ≤ LINE_LIMIT }
+        requires blank { row ≡ blank_row satellite.now.name satellite.now.count }
         ensures ok { IfOk result (λ row. row_held_from arcs.now flags.now satellite.now line.now ≡ Ok (record { row = row; tail = self.new })) }
         ensures err { IfErr result (λ fault. (row_held_from arcs.now flags.now satellite.now line.now ≡ Err fault)
             ⊎ (fault ≡ Fault.OutOfMemory)) }
@@ -324,12 +346,10 @@ impl HeldSatellite {
         if begins_epoch(line) {
             return Err(Fault::Truncated);
         }
-        let name = satellite.name();
         let count = satellite.count();
-        let Ok(mut row) = SatRow::blank(alloc, name, count) else {
+        let Ok(()) = resize_arcs(&mut self.arcs, count) else {
             return Err(Fault::OutOfMemory);
         };
-        self.arcs.clear();
         let at = match read_cells(arcs, count, line, &mut self.arcs, &mut row) {
             Ok(at) => at,
             Err(fault) => return Err(fault),
@@ -338,9 +358,12 @@ impl HeldSatellite {
             Ok(()) => {}
             Err(fault) => return Err(fault),
         }
-        self.name = name;
+        self.name = satellite.name();
         self.flags.clear();
-        let Ok(()) = self.flags.extend_from_slice(part.bytes()) else {
+        let Ok(()) = self
+            .flags
+            .extend_from_slice(held_flags(part.bytes(), count))
+        else {
             return Err(Fault::OutOfMemory);
         };
         Ok(row)
@@ -352,6 +375,16 @@ fn first_bytes(text: &[u8], count: usize) -> &[u8]
     ensures { result.now ≡ take count text.now }
 {
     &text[..count.min(text.len())]
+}
+
+/// What is held of indicators by so many types: two for each of them, without the blanks at their end.
+fn held_flags(flags: &[u8], count: usize) -> &[u8]
+    requires held { AreHeldFlags flags.now }
+    requires allowed { IsAllowedCount count }
+    ensures value { result.now ≡ flags_held count flags.now }
+    ensures held { AreHeldFlags result.now }
+{
+    trim_end(first_bytes(flags, 2 * count))
 }
 
 /// Reads a line's marks after a satellite's indicators in the epoch before: leaves the indicators that they make in a text,
@@ -396,29 +429,28 @@ pub(crate) fn find<'a>(
 }
 
 /// Reads the cells of a line for as many types as a row without values has, after the arcs of the epoch before: puts their
-/// values into the row, makes the arcs after them, and gives the index at which the marks begin.
+/// values into the row, and the arcs after them in place of others, and gives the index at which the marks begin.
 ///
 /// The first cell with a fault decides: `BadField` where its text is no code, then `NoArc` and `OutOfRange` as by
-/// [`ObsArc::apply`]; `OutOfMemory` where the arcs can't grow.
+/// [`ObsArc::apply`].
 fn read_cells(
     before: &[ObsArc],
     count: usize,
     line: &[u8],
-    arcs: &mut Vec<ObsArc>,
+    arcs: &mut [ObsArc],
     row: &mut SatRow,
 ) -> Result<usize, Fault>
-    requires none { arcs.old.items ≡ [] }
+    requires counted { length arcs.old ≡ count }
     requires blank { row.old.values ≡ replicate count None }
-    ensures ok { IfOk result (λ at. AreRead before.now count line.now arcs.new.items row.old row.new at) }
-    ensures err { IfErr result (λ fault. (cells_read (value_at_place before.now) (cells_of count line.now) ≡ Err fault)
-        ⊎ (fault ≡ Fault.OutOfMemory)) }
+    ensures ok { IfOk result (λ at. AreRead before.now count line.now arcs.new row.old row.new at) }
+    ensures err { IfErr result (λ fault. cells_read (value_at_place before.now) (cells_of count line.now) ≡ Err fault) }
 {
     let mut at = 0;
     for place in 0..count {
         let Ok((code, length)) = code_before_blank(&line[at..]) else {
             return Err(Fault::BadField);
         };
-        match push_applied(before, place, code, arcs) {
+        match apply_at(before, place, code, arcs) {
             Ok(value) => row.set(place, value),
             Err(fault) => return Err(fault),
         }

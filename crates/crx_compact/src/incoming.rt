@@ -243,7 +243,8 @@ fn next_row(
     ensures ok { OnOk result (IsRowAfter before.now satellite.now line.now count epoch.old epoch.new next.old next.new) }
     ensures err { IfErr result (λ fault. (row_after before.now satellite.now line.now ≡ Err fault) ⊎ (fault ≡ Fault.OutOfMemory)) }
 {
-    let row = match next.read_row(before, count, satellite, line, part) {
+    let spare = epoch.take_spare();
+    let row = match next.read_row(before, count, satellite, line, spare, part) {
         Ok(row) => row,
         Err(fault) => return Err(fault),
     };

@@ -3,7 +3,7 @@
 ghost use Rattle.std.specs.Prelude.{◌≡◌, ◌≤◌, ◌<◌, ◌++◌, ◌∷◌, [], true, Ok, Err, length, take, map, ◌⊎◌, OnOk, IfOk, IfErr};
 ghost use Rattle.std.specs.List.{list_all};
 ghost use Rattle.crx_text.specs.Columns.{without_end_blanks};
-ghost use Rattle.crx_text.specs.Texts.{is_plain};
+ghost use Rattle.crx_text.specs.Texts.{is_kept};
 ghost use Rattle.crx_text.specs.declared.limits.TheConstants.{LINE_LIMIT};
 ghost use Rattle.crx_rinex.specs.Epochs.{IsSoundEpoch};
 ghost use Rattle.crx_compact.specs.Compaction.{epoch_text};
@@ -163,13 +163,15 @@ impl KeptEpoch {
     }
 
     /// Reads the satellite line of the row at a place after what was kept of the epoch before: puts what it leaves after
-    /// what the rows before it left, and gives the row. The faults are those of [`HeldSatellite::read`].
+    /// what the rows before it left, and gives the row, in the memory of a spare one where there is one. The faults are those
+    /// of [`HeldSatellite::read`].
     pub(crate) fn read_row(
         &mut self,
         before: &KeptEpoch,
         index: usize,
         satellite: &AwaitedSatellite,
         line: &[u8],
+        spare: Option<SatRow>,
         part: &mut Text,
     ) -> Result<SatRow, Fault>
         requires short { length line.now ≤ LINE_LIMIT }
@@ -180,9 +182,13 @@ impl KeptEpoch {
         let Ok(()) = make_room(self.alloc, &mut self.satellites, index) else {
             return Err(Fault::OutOfMemory);
         };
-        let kept = find(&before.satellites, satellite.name());
+        let name = satellite.name();
+        let Ok(row) = SatRow::blank_again(self.alloc, spare, name, satellite.count()) else {
+            return Err(Fault::OutOfMemory);
+        };
+        let kept = find(&before.satellites, name);
         let next = &mut self.satellites[index];
-        next.read(self.alloc, kept, satellite, line, part)
+        next.read(row, kept, satellite, line, part)
     }
 }
 
@@ -191,7 +197,7 @@ fn renew_text(text: &mut Vec<u8>, epoch: &Epoch) -> Result<(), AllocError>
     requires { IsSoundEpoch epoch.now }
     ensures ok { OnOk result (text.new.items ≡ without_end_blanks (epoch_text epoch.now)) }
     ensures within { length text.new.items ≤ LINE_LIMIT }
-    ensures plain { list_all is_plain text.new.items ≡ true }
+    ensures plain { list_all is_kept text.new.items ≡ true }
 {
     text.clear();
     match push_epoch_text(text, epoch) {

@@ -6,6 +6,8 @@ pub mod arc;
 mod awaited;
 pub mod coded;
 pub mod columns;
+#[cfg(test)]
+mod count_tests;
 mod held;
 mod incoming;
 mod kept;

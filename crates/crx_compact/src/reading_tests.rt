@@ -37,7 +37,11 @@ fn may_be_fed(line: &[u8]) -> bool
 }
 
 /// Takes one line, the first one of an epoch or a later one.
-fn take(columns: &mut Columns, types: &Types, line: &[u8]) -> Result<Option<Epoch>, Fault> {
+pub(crate) fn take(
+    columns: &mut Columns,
+    types: &Types,
+    line: &[u8],
+) -> Result<Option<Epoch>, Fault> {
     if !may_be_fed(line) {
         return Err(Fault::LineTooLong);
     }
@@ -70,7 +74,7 @@ fn gives(
 }
 
 /// Whether an epoch has these RINEX lines.
-fn prints(epoch: Epoch, want: &[&[u8]]) -> bool {
+pub(crate) fn prints(epoch: Epoch, want: &[&[u8]]) -> bool {
     let mut printed = Printed::new(epoch);
     for line in want {
         if printed.next_line() != Some(*line) {

@@ -1,5 +1,7 @@
+use Rattle.std.specs.Prelude.{◌≡◌, length, take}
 use Rattle.crx_compact.proofs.CellsRead.{ReadSoFar}
 use Rattle.crx_compact.proofs.held.read_cells.Given as goal
 
 abbrev pub invariant-loop-place : goal.invariant-loop-place
-invariant-loop-place l = ReadSoFar l.before l.count l.line l.place l.at l.arcs.items l.initial.row l.row
+invariant-loop-place l =
+    ReadSoFar l.before l.count l.line l.place l.at (take l.place l.arcs) l.initial.row l.row × (length l.arcs ≡ l.count)

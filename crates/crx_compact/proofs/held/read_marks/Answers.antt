@@ -1,8 +1,9 @@
 use Rattle.std.proofs.Common.{◌*◌, take, sym, ap, ◌∙◌}
 use Rattle.std.specs.List.{list_all}
-use Rattle.crx_rinex.specs.EpochLines.{is_kept}
+use Rattle.crx_text.specs.Texts.{is_kept}
 use Rattle.crx_rinex.specs.SatelliteLines.{with_flags}
-use Rattle.crx_compact.proofs.Marks.{all-take, flags-set, patched-kept}
+use Rattle.crx_compact.proofs.Facts.{all-take}
+use Rattle.crx_compact.proofs.Marks.{flags-set, patched-kept}
 use Rattle.crx_compact.proofs.held.read_marks.Goals as goal
 
 pub set_flags-requires-clause-kept : goal.set_flags-requires-clause-kept

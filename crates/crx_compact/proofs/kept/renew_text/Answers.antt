@@ -1,7 +1,7 @@
 use Rattle.std.proofs.Common.{◌≡◌, ◌≤◌, ◌++◌, List, ℕ, true, length, take, sym, ap, ◌∙◌, subst, refl}
 use Rattle.std.specs.List.{list_all}
 use Rattle.crx_text.specs.Columns.{without_end_blanks}
-use Rattle.crx_text.specs.Texts.{is_plain}
+use Rattle.crx_text.specs.Texts.{is_kept}
 use Rattle.crx_text.specs.declared.limits.TheConstants.{LINE_LIMIT}
 use Rattle.crx_compact.specs.Compaction.{epoch_text}
 use Rattle.crx_compact.proofs.SoundTexts.{beginning-trimmed, trimmed-fits, trimmed-plain}
@@ -26,5 +26,5 @@ returns-in-Ok-clause-within c =
 
 pub returns-in-Ok-clause-plain : goal.returns-in-Ok-clause-plain
 returns-in-Ok-clause-plain c =
-    let P : List ℕ → Type 0 = λ t. list_all is_plain t ≡ true in
+    let P : List ℕ → Type 0 = λ t. list_all is_kept t ≡ true in
     subst P (sym (returns-in-Ok-clause-ok c)) (trimmed-plain c.args.epoch.now c.requires)

@@ -9,7 +9,7 @@ use Rattle.crx_compact.proofs.kept.KeptEpoch.read_row.Goals as goal
 pub returns-clause-ok : goal.returns-clause-ok
 returns-clause-ok c =
     let before = c.args.before.now in
-    let found = c.find-kept.ensures ∙ ap (λ (rows : List RowTail). named (λ (r : RowTail). r.name) c.name.result rows) c.deref.ensures.value ∙ ap (λ (t : Tail). named (λ (r : RowTail). r.name) c.name.result t.rows) c.before-2.view_is ∙ ap (λ (name : List ℕ). named (λ (r : RowTail). r.name) name before.rows) c.name.ensures.value in
+    let found = c.find-kept.ensures ∙ ap (λ (rows : List RowTail). named (λ (r : RowTail). r.name) c.name-name.result rows) c.deref.ensures.value ∙ ap (λ (t : Tail). named (λ (r : RowTail). r.name) c.name-name.result t.rows) c.before-2.view_is ∙ ap (λ (name : List ℕ). named (λ (r : RowTail). r.name) name before.rows) c.name-name.ensures.value in
     if-ok _ _ _
     (next-row before _ c.args.satellite.now c.args.line.now c.args.index c.read.new.self c.args.self.now
     (record { text = c.self.inside.text.items; clock = c.self.inside.clock; rows = slice_set c.make_room.new.satellites.items c.args.index c.read.new.self })
@@ -23,5 +23,5 @@ returns-clause-ok c =
 pub returns-clause-err : goal.returns-clause-err
 returns-clause-err c =
     let before = c.args.before.now in
-    let found = c.find-kept.ensures ∙ ap (λ (rows : List RowTail). named (λ (r : RowTail). r.name) c.name.result rows) c.deref.ensures.value ∙ ap (λ (t : Tail). named (λ (r : RowTail). r.name) c.name.result t.rows) c.before-2.view_is ∙ ap (λ (name : List ℕ). named (λ (r : RowTail). r.name) name before.rows) c.name.ensures.value in
+    let found = c.find-kept.ensures ∙ ap (λ (rows : List RowTail). named (λ (r : RowTail). r.name) c.name-name.result rows) c.deref.ensures.value ∙ ap (λ (t : Tail). named (λ (r : RowTail). r.name) c.name-name.result t.rows) c.before-2.view_is ∙ ap (λ (name : List ℕ). named (λ (r : RowTail). r.name) name before.rows) c.name-name.ensures.value in
     if-err _ _ _ (λ fault h. same-fault _ _ (ap (λ kept. row_held kept c.args.satellite.now c.args.line.now) found ∙ row-by_tail before c.args.satellite.now c.args.line.now) fault h) c.read.ensures.err

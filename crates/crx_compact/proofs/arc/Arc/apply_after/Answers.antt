@@ -8,7 +8,7 @@ use Rattle.crx_compact.specs.Steps.{differences_after, differences_by}
 use Rattle.crx_compact.specs.Arcs.{kept_tail}
 use Rattle.crx_compact.proofs.Bounds.{within-is}
 use Rattle.crx_compact.proofs.Running.{IsLast, StepsOn, same-bits, begun-list, begun-kept, lower-below, within-below, goes-on-kept, steps-on}
-use Rattle.crx_compact.proofs.arc.Arc.go_on_by_code.Goals as goal
+use Rattle.crx_compact.proofs.arc.Arc.apply_after.Goals as goal
 
 pub invariant_of-self-in-Start : goal.invariant_of-self-in-Start
 invariant_of-self-in-Start g c =
@@ -26,8 +26,8 @@ returns-else-not-is_within-clause-ok g c =
 
 pub value_after-value-requires-clause-below : goal.value_after-value-requires-clause-below
 value_after-value-requires-clause-below g c =
-    let last : IsLast c.self.inside.order c.self.inside.count c.min-last.result = record { least = search rules } in
-    lower-below c.self.inside.order c.self.inside.count c.min-last.result c.self.inside.differences last c.self.invariant.below
+    let last : IsLast c.earlier.inside.order c.earlier.inside.count c.min-last.result = record { least = search rules } in
+    lower-below c.earlier.inside.order c.earlier.inside.count c.min-last.result c.earlier.inside.differences last c.earlier.invariant.below
 
 -- what the number of a next code leads to
 stepped : (width order count last : ℕ) (number value : ℤ) (ds : List ℤ) → last ≡ min order count → 0 < count → length ds ≡ 10
@@ -48,51 +48,51 @@ pub returns-then-not-is_within-2-clause-value : goal.returns-then-not-is_within-
 returns-then-not-is_within-2-clause-value g c =
     let fits : FitsSigned w64 c.in-Step.number = search rules in
     let fits' : FitsSigned w64 c.value_after-value.result = search rules in
-    let more : 0 < c.self.inside.count = search rules in
-    let on : StepsOn g.row.WIDTH c.self.inside.order c.self.inside.count c.min-last.result c.in-Step.number c.value_after-value.result c.self.inside.differences =
-    stepped _ _ _ _ _ _ _ c.min-last.ensures more c.self.told c.value_after-value.ensures fits in
-    rw (c.in-Step.is, ← c.self.view_is)
+    let more : 0 < c.earlier.inside.count = search rules in
+    let on : StepsOn g.row.WIDTH c.earlier.inside.order c.earlier.inside.count c.min-last.result c.in-Step.number c.value_after-value.result c.earlier.inside.differences =
+    stepped _ _ _ _ _ _ _ c.min-last.ensures more c.earlier.told c.value_after-value.ensures fits in
+    rw (c.in-Step.is, ← c.earlier.view_is)
     (refused g.row.WIDTH c.value_after-value.result _ c.is_within-in-Step.ensures c.if-not-is_within-2.true fits' ∙ on.value_is)
 
-pub go_on-requires-clause-below : goal.go_on-requires-clause-below
-go_on-requires-clause-below g c =
-    let last : IsLast c.self.inside.order c.self.inside.count c.min-last.result = record { least = search rules } in
-    lower-below c.self.inside.order c.self.inside.count c.min-last.result c.self.inside.differences last c.self.invariant.below
+pub go_on_from-requires-clause-below : goal.go_on_from-requires-clause-below
+go_on_from-requires-clause-below g c =
+    let last : IsLast c.earlier.inside.order c.earlier.inside.count c.min-last.result = record { least = search rules } in
+    lower-below c.earlier.inside.order c.earlier.inside.count c.min-last.result c.earlier.inside.differences last c.earlier.invariant.below
 
-pub go_on-requires-clause-next : goal.go_on-requires-clause-next
-go_on-requires-clause-next g c =
+pub go_on_from-requires-clause-next : goal.go_on_from-requires-clause-next
+go_on_from-requires-clause-next g c =
     let fits' : FitsSigned w64 c.value_after-value.result = search rules in
     let is : is_within g.row.WIDTH c.value_after-value.result ≡ true = accepted g.row.WIDTH _ _ c.is_within-in-Step.ensures c.if-not-is_within-2.false fits' in
-    rw (same-bits _ fits') (within-below g.row.WIDTH c.value_after-value.result c.self.invariant.few_columns ((within-is _ _).0 is))
+    rw (same-bits _ fits') (within-below g.row.WIDTH c.value_after-value.result c.earlier.invariant.few_columns ((within-is _ _).0 is))
 
 pub invariant_of-self-in-Step : goal.invariant_of-self-in-Step
 invariant_of-self-in-Step g c =
-    let last : IsLast c.self.inside.order c.self.inside.count c.min-last.result = record { least = c.min-last.ensures } in
+    let last : IsLast c.earlier.inside.order c.earlier.inside.count c.min-last.result = record { least = c.min-last.ensures } in
     let fits' : FitsSigned w64 c.value_after-value.result = search rules in
     let is : is_within g.row.WIDTH c.value_after-value.result ≡ true = accepted g.row.WIDTH _ _ c.is_within-in-Step.ensures c.if-not-is_within-2.false fits' in
-    let after : take (c.min-last.result + 1) c.go_on.new.differences ≡ differences_after c.value_after-value.result (take c.min-last.result c.self.inside.differences) =
-    rw (same-bits _ fits') at c.go_on.ensures.after in
-    goes-on-kept g.row.WIDTH c.self.inside.order c.self.inside.count c.min-last.result c.self.inside.differences c.go_on.new.differences c.value_after-value.result last
-    c.self.invariant ((within-is _ _).0 is) after
+    let after : take (c.min-last.result + 1) c.go_on_from.new.differences ≡ differences_after c.value_after-value.result (take c.min-last.result c.earlier.inside.differences) =
+    rw (same-bits _ fits') at c.go_on_from.ensures.after in
+    goes-on-kept g.row.WIDTH c.earlier.inside.order c.earlier.inside.count c.min-last.result c.earlier.inside.differences c.go_on_from.new.differences c.value_after-value.result last
+    c.earlier.invariant ((within-is _ _).0 is) after
 
 pub returns-else-not-is_within-2-clause-value : goal.returns-else-not-is_within-2-clause-value
 returns-else-not-is_within-2-clause-value g c =
     let fits : FitsSigned w64 c.in-Step.number = search rules in
     let fits' : FitsSigned w64 c.value_after-value.result = search rules in
-    let more : 0 < c.self.inside.count = search rules in
-    let on : StepsOn g.row.WIDTH c.self.inside.order c.self.inside.count c.min-last.result c.in-Step.number c.value_after-value.result c.self.inside.differences =
-    stepped _ _ _ _ _ _ _ c.min-last.ensures more c.self.told c.value_after-value.ensures fits in
+    let more : 0 < c.earlier.inside.count = search rules in
+    let on : StepsOn g.row.WIDTH c.earlier.inside.order c.earlier.inside.count c.min-last.result c.in-Step.number c.value_after-value.result c.earlier.inside.differences =
+    stepped _ _ _ _ _ _ _ c.min-last.ensures more c.earlier.told c.value_after-value.ensures fits in
     let is : is_within g.row.WIDTH c.value_after-value.result ≡ true = accepted g.row.WIDTH _ _ c.is_within-in-Step.ensures c.if-not-is_within-2.false fits' in
     let given : Ok (Some c.value_after-value.result) ≡ in_range g.row.WIDTH c.value_after-value.result =
     ap {B = Result (Option ℤ) Fault} (λ t. if t then Ok (Some c.value_after-value.result) else Err OutOfRange) (sym is) in
-    rw (c.in-Step.is, ← c.self.view_is, same-bits _ fits') (given ∙ on.value_is)
+    rw (c.in-Step.is, ← c.earlier.view_is, same-bits _ fits') (given ∙ on.value_is)
 
 pub returns-else-not-is_within-2-clause-ok : goal.returns-else-not-is_within-2-clause-ok
 returns-else-not-is_within-2-clause-ok g c =
     let fits : FitsSigned w64 c.in-Step.number = search rules in
     let fits' : FitsSigned w64 c.value_after-value.result = search rules in
-    let more : 0 < c.self.inside.count = search rules in
-    let on : StepsOn g.row.WIDTH c.self.inside.order c.self.inside.count c.min-last.result c.in-Step.number c.value_after-value.result c.self.inside.differences =
-    stepped _ _ _ _ _ _ _ c.min-last.ensures more c.self.told c.value_after-value.ensures fits in
-    rw (c.in-Step.is, ← c.self.view_is)
-    (ap (kept_tail c.self.inside.order) (rw (same-bits _ fits') at c.go_on.ensures.after) ∙ on.tail)
+    let more : 0 < c.earlier.inside.count = search rules in
+    let on : StepsOn g.row.WIDTH c.earlier.inside.order c.earlier.inside.count c.min-last.result c.in-Step.number c.value_after-value.result c.earlier.inside.differences =
+    stepped _ _ _ _ _ _ _ c.min-last.ensures more c.earlier.told c.value_after-value.ensures fits in
+    rw (c.in-Step.is, ← c.earlier.view_is)
+    (ap (kept_tail c.earlier.inside.order) (rw (same-bits _ fits') at c.go_on_from.ensures.after) ∙ on.tail)
