@@ -22,6 +22,7 @@ use Rattle.crx_compact.proofs.BoundedReading.{read-bounded, open-bounded, place-
 use Rattle.crx_compact.proofs.LineByLine.{steps-agree}
 use Rattle.crx_compact.proofs.RawTailing.{place-by_tail, left-by_tail}
 use Rattle.crx_compact.proofs.Soundness.{reads-soundly}
+use Rattle.crx_compact.proofs.Writable.{length-is}
 use Rattle.crx_filter.specs.Choices.{Choices}
 use Rattle.crx_filter.specs.Items.{Item, Accepted, Warned, header_has_ended, records_left, records_count_types, is_at_start, types_in_force}
 use Rattle.crx_filter.specs.Reading.{Reading, Stop, AtFault, AtLines, Looking}
@@ -66,14 +67,14 @@ rows-bounded (row ∷ rows) h =
     let sound : IsSoundRow row = All-head IsSoundRow row rows h in
     let few = sound.counted.1 in
     let pairs = sound.paired in
-    (record { values = few; flags = omega (arith, few, pairs) }, rows-bounded rows (All-tail IsSoundRow row rows h))
+    (record { name = length-is row.name sound.named; values = few; flags = omega (arith, few, pairs) }, rows-bounded rows (All-tail IsSoundRow row rows h))
 
 open-epoch : (so_far : Option OpenEpoch) → IfSome so_far IsOpenSoundly → IfSome so_far IsBoundedEpoch
 open-epoch None h = tt
 open-epoch (Some so_far) h =
     let wants = h.wants in
     let within = h.sound.head.within in
-    record { head = h.sound.head.width; few = omega (arith, wants, within); rows = rows-bounded so_far.rows h.sound.rows }
+    record { systems = systems_few so_far.types h.counts; counts = h.counts; head = h.sound.head.width; few = omega (arith, wants, within); rows = rows-bounded so_far.rows h.sound.rows }
 
 -- what is kept of some items
 kept-bounded : (choices : Choices) (items : List (Item Epoch)) → AreInPlace items → IfSome (written_of choices.every items).tail (IsBoundedTail WRITTEN_ORDER)

@@ -95,7 +95,7 @@ record-here beginning items line (suc left) ended e some good = record-place beg
 -- ---- one unit after another
 
 -- one unit more, which takes all lines there
-one-unit : {E : Type 0} (place : List (Item E) → List ReadLine → Place (FileUnit E)) → IsReadForward place
+pub one-unit : {E : Type 0} (place : List (Item E) → List ReadLine → Place (FileUnit E)) → IsReadForward place
     → (skip : Bool) (items : List (Item E)) (number : ℕ) (lines : List ReadLine) (unit : FileUnit E) → place items lines ≡ Here unit (length lines)
     → reading_from place skip items number lines ≡ record { items = Accepted unit ∷ items; stop = AtLines (number + length lines) [] }
 one-unit place h skip items number lines unit e =
@@ -105,7 +105,7 @@ one-unit place h skip items number lines unit e =
     ∙ ap (λ ls. reading_within place skip (suc (length lines)) (Accepted unit ∷ items) (number + length lines) ls) none
     ∙ within-wanted place skip (length lines) (Accepted unit ∷ items) (number + length lines) [] (h.wants (Accepted unit ∷ items))
 
-at-line : {E : Type 0} (items : List (Item E)) (m n : ℕ) → m ≡ n → ◌≡◌ {A = Reading E} (record { items = items; stop = AtLines m [] }) (record { items = items; stop = AtLines n [] })
+pub at-line : {E : Type 0} (items : List (Item E)) (m n : ℕ) → m ≡ n → ◌≡◌ {A = Reading E} (record { items = items; stop = AtLines m [] }) (record { items = items; stop = AtLines n [] })
 at-line items m n e = ap (λ k. record { items = items; stop = AtLines k [] }) e
 
 -- each unit that is in place stands at its lines, after those before it

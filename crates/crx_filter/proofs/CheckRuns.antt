@@ -1,8 +1,7 @@
 -- A check is a run whose good status says whether the file is standard.
-use Rattle.std.proofs.Common.{ℕ, ◌≡◌, ◌≤◌, List, [], ◌++◌, length, Option, Some, None, refl, ap, sym, subst, ◌∙◌, append-nil}
-use Rattle.crx_text.specs.Lines.{InputLine, lines_of}
+use Rattle.std.proofs.Common.{ℕ, ◌≡◌, List, ◌++◌, Option, Some, None, refl, ap, sym, subst, ◌∙◌, append-nil}
+use Rattle.crx_text.specs.Lines.{lines_of}
 use Rattle.crx_text.specs.declared.fault.At.{At}
-use Rattle.crx_filter.specs.Results.{FilterResult}
 use Rattle.crx_filter.specs.Messages.{error_text}
 use Rattle.crx_filter.specs.Running.{Input}
 use Rattle.crx_filter.specs.Runs.{result_by, IsResult, RunsAs}
@@ -54,6 +53,7 @@ runs-checked input given writer messages before status fault named r ended good 
           let h = r.good e in
           (h.0, h.1, h.2, h.3, h.4, as-checked given writer messages before status fault h.5 good_here bad_1);
       ended = λ at e. (bad_1 at e, (r.ended at e).1);
+      asked = r.asked;
       read = r.read;
       salvaged = r.salvaged;
     }

@@ -1,5 +1,5 @@
 -- A checker takes the end of the input.
-use Rattle.std.proofs.Common.{ℕ, ◌≡◌, Bool, true, false, List, [], Option, Some, None, Result, Ok, Err, refl, ap, sym, ◌∙◌}
+use Rattle.std.proofs.Common.{ℕ, ◌≡◌, true, false, List, Option, Some, None, Result, Ok, Err, refl, ap, sym, ◌∙◌}
 use Rattle.crx_text.specs.Lines.{InputLine}
 use Rattle.crx_text.specs.declared.fault.At.{At}
 use Rattle.crx_rinex.specs.EpochPlaces.{OpenEpoch}
@@ -11,7 +11,7 @@ use Rattle.crx_filter.specs.Laws.{failed_by}
 use Rattle.crx_filter.specs.LineByLine.{Phase, InFirstLines, InHeader, BetweenUnits, InEvent, InEpoch, LookingOn, Closed as SeenClosed, Ended as SeenEnded, Step as SeenStep, seen_end}
 use Rattle.crx_filter.specs.RinexReaders.{reader_phase}
 use Rattle.crx_filter.specs.RinexStages.{open_epoch, is_consistent}
-use Rattle.crx_filter.specs.Standard.{Findings, whole_reading_of, findings_of}
+use Rattle.crx_filter.specs.Standard.{whole_reading_of, findings_of}
 use Rattle.crx_filter.specs.Checking.{Totals, checking, CheckSeen, no_choices, check_seen, found_by}
 use Rattle.crx_filter.specs.Checkers.{seen_with, found_held}
 use Rattle.crx_filter.specs.declared.engine.Step.{Step}

@@ -3,20 +3,19 @@ use Rattle.std.proofs.Common.{ℕ, zero, suc, ◌≡◌, ◌⊎◌, inl, inr, �
 use Rattle.crx_text.specs.Lines.{InputLine, is_long}
 use Rattle.crx_text.specs.Seen.{ReadLine, Content, Overlong, seen}
 use Rattle.crx_text.specs.declared.limits.TheConstants.{LINE_LIMIT}
-use Rattle.crx_text.specs.declared.fault.At.{At}
 use Rattle.crx_text.specs.declared.fault.Fault.{Fault}
-use Rattle.crx_text.specs.declared.fault.Fault.TheVariants.{LineTooLong, OutOfMemory}
+use Rattle.crx_text.specs.declared.fault.Fault.TheVariants.{LineTooLong}
 use Rattle.crx_rinex.specs.EpochPlaces.{OpenEpoch}
 use Rattle.crx_rinex.specs.Header.{is_end_of_header}
 use Rattle.crx_rinex.specs.Observations.{Epoch as ObservationEpoch}
 use Rattle.crx_rinex.specs.ObservationTypes.{Count}
 use Rattle.crx_rinex.specs.Printing.{last_line}
 use Rattle.crx_rinex.specs.Units.{Unit, HeaderLine, EventLine, EventRecord, Observation}
-use Rattle.crx_filter.specs.Compactor.{Written, compaction, is_before_header}
+use Rattle.crx_filter.specs.Compactor.{compaction, is_before_header}
 use Rattle.crx_filter.specs.Engines.{with_next, RunsOutAt}
 use Rattle.crx_filter.specs.Items.{records_announced, counts_types}
 use Rattle.crx_filter.specs.Laws.{failed_by}
-use Rattle.crx_filter.specs.LineByLine.{Phase, InFirstLines, InHeader, BetweenUnits, InEvent, InEpoch, LookingOn, Closed, Ended, Seen, Step, Made, Completes, Moves, Fails, Repeats, made_in, with_records_left, phase_after, types_after, step_of, kept_in}
+use Rattle.crx_filter.specs.LineByLine.{Phase, InFirstLines, InHeader, BetweenUnits, InEvent, InEpoch, LookingOn, Closed, Ended, Seen, Step, Made, Completes, Moves, Fails, Repeats, made_in, with_records_left, phase_after, types_after, step_of}
 use Rattle.crx_filter.specs.Memory.{may_take_memory}
 use Rattle.crx_filter.specs.RinexReaders.{reader_phase, made_at, Completed, Takes, Refuses}
 use Rattle.crx_filter.specs.Standard.{is_standard_line}
@@ -187,7 +186,7 @@ refused-line before number totals named line lines fault short (inr memory) same
     inl (record {
       fault = memory.0;
       place = ap (λ n. n + 1) (ap (λ (b : CheckSeen). b.reading.number) same);
-      allowed = ap (λ l. may_take_memory (check_seen lines).reading.phase l) (seen-short line short) ∙ ap (λ (b : CheckSeen). may_take_memory b.reading.phase (Content line.content)) (sym same) ∙ memory.1;
+      allowed = ap (λ l. may_take_memory false (check_seen lines).reading.phase l) (seen-short line short) ∙ ap (λ (b : CheckSeen). may_take_memory false b.reading.phase (Content line.content)) (sym same) ∙ memory.1;
     })
 
 always-too_long : (phase : Phase OpenEpoch) (types : List Count) (kept : Totals) → is_reading phase ≡ true → made_in checking phase types kept Overlong ≡ Fails LineTooLong

@@ -1,13 +1,13 @@
 -- What a checker counts, by what a line makes.
 use Rattle.std.specs.Prelude.{unwrap_or}
-use Rattle.std.proofs.Common.{ℕ, ◌≡◌, Option, Some, Bool, true, List, [], ◌∷◌, ◌++◌, refl, ap, sym, subst, ◌∙◌}
+use Rattle.std.proofs.Common.{ℕ, ◌≡◌, Option, Some, Bool, true, List, [], ◌∷◌, ◌++◌, ap, sym, subst, ◌∙◌}
 use Rattle.crx_rinex.specs.EpochPlaces.{OpenEpoch}
 use Rattle.crx_rinex.specs.Observations.{Epoch as ObservationEpoch}
 use Rattle.crx_rinex.specs.ObservationTypes.{Count}
 use Rattle.crx_rinex.specs.Printing.{printed_epoch}
 use Rattle.crx_rinex.specs.Units.{HeaderLine}
 use Rattle.crx_filter.specs.Compactor.{is_before_header}
-use Rattle.crx_filter.specs.LineByLine.{Made, Completes, Moves}
+use Rattle.crx_filter.specs.LineByLine.{Made, Moves}
 use Rattle.crx_filter.specs.RinexReaders.{reader_phase, Takes}
 use Rattle.crx_filter.specs.Standard.{version_in}
 use Rattle.crx_filter.specs.Checking.{Totals, totals_with, totals_made, printed_open, printed_made}

@@ -10,7 +10,7 @@ use Rattle.crx_rinex.specs.ObservationTypes.{Count}
 use Rattle.crx_filter.specs.Choices.{Choices}
 use Rattle.crx_filter.specs.Compactor.{Written, compaction}
 use Rattle.crx_filter.specs.LineByLine.{Seen, Made, Fails, made_in, failed_step, step_of}
-use Rattle.crx_filter.specs.Memory.{may_take_memory}
+use Rattle.crx_filter.specs.Memory.{takes_memory}
 use Rattle.crx_filter.specs.Reading.{is_skippable}
 use Rattle.crx_filter.specs.EngineSteps.{seen_stage, step_made, Steps}
 use Rattle.crx_filter.specs.RinexStages.{open_epoch, is_whole}
@@ -21,7 +21,7 @@ use Rattle.crx_filter.specs.declared.rinex_reader.RinexStep.{RinexStep}
 use Rattle.crx_filter.specs.declared.rinex_reader.RinexStep.TheVariants.{Epoch}
 use Rattle.crx_filter.specs.declared.stage.Stage.{Stage}
 use Rattle.crx_filter.specs.declared.stage.Stage.TheVariants.{FirstLines, Header, Between, Event, Open, Looking, Closed, Ended}
-use Rattle.crx_filter.proofs.EngineLemmas.{out-fatal, ran-out}
+use Rattle.crx_filter.proofs.EngineLemmas.{out-fatal, fatal-counts, ran-out}
 
 -- an epoch that was completed is whole
 pub whole-held : (made : Made ObservationEpoch OpenEpoch) (before after : RinexReader) (line : List ℕ) (step : RinexStep) → Takes made before line step after → step ≡ Epoch → is_whole after.epoch ≡ true
@@ -33,13 +33,14 @@ whole-held made before after line step taken is = at-epoch (subst (λ s. Takes m
 -- a line with a fault
 pub refused-step : (before now : Seen OpenEpoch Written) (line : ReadLine) (result : Result Step At) (ready : List (List ℕ)) (after : Seen OpenEpoch Written) (fault : Fault)
     → now ≡ before → step_made result ready after ≡ failed_step compaction now line fault
-    → (made_in compaction before.phase before.types before.kept line ≡ Fails fault) ⊎ ((fault ≡ OutOfMemory) × (may_take_memory before.phase line ≡ true))
+    → (made_in compaction before.phase before.types before.kept line ≡ Fails fault) ⊎ ((fault ≡ OutOfMemory) × (takes_memory compaction before line ≡ true))
     → (is_skippable fault ≡ false → result ≡ Err (record { line = before.number + 1; fault = fault }))
     → Steps compaction before line result ready after
 refused-step before now line result ready after fault same step (inl made) fatal =
     inl (step ∙ ap (λ (s : Seen OpenEpoch Written). failed_step compaction s line fault) same ∙ sym (ap (λ (m : Made ObservationEpoch OpenEpoch). step_of compaction before line m) made))
 refused-step before now line result ready after fault same step (inr out) fatal =
-    inr (ran-out before line result fault out.0 (fatal (out-fatal fault out.0)) out.1)
+    let counted = fatal-counts compaction now after line fault result ready step (out-fatal fault out.0) ∙ ap (λ (s : Seen OpenEpoch Written). s.number + 1) same in
+    inr (ran-out compaction before after line result fault out.0 (fatal (out-fatal fault out.0)) out.1 counted)
 
 -- what is seen of a reader that is as it was
 pub seen-again : (choices : Choices) (number : ℕ) (kept : Written) (types now_types : List Count) (epoch now_epoch : Option ObservationEpoch) (stage now_stage : Stage)

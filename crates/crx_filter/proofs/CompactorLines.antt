@@ -1,5 +1,5 @@
 -- The lines that an engine of compaction has taken.
-use Rattle.std.proofs.Common.{◌≡◌, ℕ, List, [], ◌∷◌, length, map, sym, ap, subst, ◌∙◌}
+use Rattle.std.proofs.Common.{◌≡◌, List, [], ◌∷◌, length, map, sym, ap, subst, ◌∙◌}
 use Rattle.crx_text.specs.Lines.{InputLine}
 use Rattle.crx_text.specs.Seen.{seen}
 use Rattle.crx_rinex.specs.EpochPlaces.{OpenEpoch}

@@ -20,7 +20,7 @@ use Rattle.crx_filter.specs.Messages.{error_text, notices_text}
 use Rattle.crx_filter.specs.Taking.{Device, TookAll, are_some}
 use Rattle.crx_filter.specs.Running.{Input, WorkEnds, FaultFound, EndsAt}
 use Rattle.crx_filter.specs.Endings.{Finishes, IsReported, good_status}
-use Rattle.crx_filter.proofs.Salvaged.{none-failed}
+use Rattle.crx_filter.proofs.Salvaged.{none-failed, asked-once, asked-stopped}
 use Rattle.crx_filter.proofs.RunEndings.{line-stands, end-stands, reader-stands, start-stands, flush-stands, well-salvaged}
 use Rattle.crx_filter.specs.Runs.{IsLawful, result_by, IsResult, NoneFailed, FaultIs, RunsAs, status_of}
 
@@ -165,6 +165,7 @@ module _ (filter : Filter) (lawful : IsLawful filter) (input : Input) (writer1 w
         record {
           whole = λ rn wn mn memory (rest : List ℕ) none within. subst (λ (ls : List InputLine). IsResult (result_of (filter.whole ls)) writer messages status None) (sym (all-lines input now done.lines h done.ended rest none)) whole;
           ended = λ at is. absurd (no-fault at None is refl);
+          asked = inr (ap (λ (t : Tally). t.ends) over.counts);
           read = λ other. ap (λ (t : Tally). t.failures) over.counts;
           salvaged = well-salvaged filter lawful input writer1 writer2 writer messages1 messages2 messages wsame wstart wend wjoined msame mstart mend mjoined has_ended now last warned done finished.0.0;
           good = λ e. (
@@ -187,6 +188,7 @@ module _ (filter : Filter) (lawful : IsLawful filter) (input : Input) (writer1 w
           whole = λ rn wn mn memory rest none within. absurd (omega (arith, finished.0.1, done.wrote.1, wsame, wstart, wend, wn.0, wn.1));
           good = λ e. absurd (no-fault at (Some at) refl e);
           ended = flush-stands filter lawful input writer1 writer2 writer messages1 messages2 messages wsame wstart wend wjoined msame mstart mend mjoined has_ended now last warned status at done finished;
+          asked = inr (ap (λ (t : Tally). t.ends) over.counts);
           read = λ other. ap (λ (t : Tally). t.failures) over.counts;
           salvaged = well-salvaged filter lawful input writer1 writer2 writer messages1 messages2 messages wsame wstart wend wjoined msame mstart mend mjoined has_ended now last warned done finished.0.0;
         },
@@ -201,6 +203,7 @@ module _ (filter : Filter) (lawful : IsLawful filter) (input : Input) (writer1 w
           whole = λ rn wn mn memory (rest : List ℕ) none within. absurd (stopped-none s.at.fault h.given s.lines rest stopped.0 within rn);
           good = λ e. absurd (never-good halt last warned status fault finished e);
           ended = (reader-stands filter lawful input writer1 writer2 writer messages1 messages2 messages wsame wstart wend wjoined msame mstart mend mjoined now last warned halt status fault s finished).0;
+          asked = asked-stopped input s.at.fault h.given s.lines stopped.0;
           read = λ other. reader-none s.at.fault h.given s.lines stopped.0 (λ f. other (subst (FaultIs ReadFailed) (sym (reader-fault s.at halt last warned status fault s.halt_is finished)) f));
           salvaged = (reader-stands filter lawful input writer1 writer2 writer messages1 messages2 messages wsame wstart wend wjoined msame mstart mend mjoined now last warned halt status fault s finished).1;
         },
@@ -218,6 +221,7 @@ module _ (filter : Filter) (lawful : IsLawful filter) (input : Input) (writer1 w
               (λ (at : At) bad. ap filter.whole first.1 ∙ lawful.decided next first.0 at bad) s.ends.ends finished wn mn memory;
           good = λ e. absurd (never-good halt last warned status fault finished e);
           ended = (line-stands filter lawful input writer1 writer2 writer messages1 messages2 messages wsame wstart wend wjoined msame mstart mend mjoined now last warned halt status fault s finished).0;
+          asked = asked-once input now next h s.ends.going;
           read = λ other. none-failed input now next h s.ends.going;
           salvaged = (line-stands filter lawful input writer1 writer2 writer messages1 messages2 messages wsame wstart wend wjoined msame mstart mend mjoined now last warned halt status fault s finished).1;
         },
@@ -233,6 +237,7 @@ module _ (filter : Filter) (lawful : IsLawful filter) (input : Input) (writer1 w
               (λ (at : At) bad. ap filter.whole (all-lines input now s.lines h s.ended rest none)) s.ends finished wn mn memory;
           good = λ e. absurd (never-good halt last warned status fault finished e);
           ended = (end-stands filter lawful input writer1 writer2 writer messages1 messages2 messages wsame wstart wend wjoined msame mstart mend mjoined now last warned halt status fault s finished).0;
+          asked = asked-once input now s.lines h (inr s.ended);
           read = λ other. none-failed input now s.lines h (inr s.ended);
           salvaged = (end-stands filter lawful input writer1 writer2 writer messages1 messages2 messages wsame wstart wend wjoined msame mstart mend mjoined now last warned halt status fault s finished).1;
         },
@@ -245,6 +250,7 @@ module _ (filter : Filter) (lawful : IsLawful filter) (input : Input) (writer1 w
       whole = λ rn wn mn memory rest none within. absurd (memory (no-memory halt last warned status fault s.halt_is finished));
       good = λ e. absurd (never-good halt last warned status fault finished e);
       ended = (start-stands filter lawful input writer1 writer2 writer messages1 messages2 messages wsame wstart wend wjoined msame mstart mend mjoined last warned halt status fault s finished).0;
+      asked = inl (ap (λ (t : Tally). t.ends) s.counts);
       read = λ other. ap (λ (t : Tally). t.failures) s.counts;
       salvaged = (start-stands filter lawful input writer1 writer2 writer messages1 messages2 messages wsame wstart wend wjoined msame mstart mend mjoined last warned halt status fault s finished).1;
     },

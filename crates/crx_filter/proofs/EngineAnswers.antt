@@ -1,22 +1,19 @@
 -- From the steps of an engine of either direction to what every engine answers.
-use Rattle.std.proofs.Common.{ℕ, ◌≡◌, ◌⊎◌, inl, inr, ◌+◌, Bool, true, false, cond, List, [], ◌∷◌, ◌++◌, map, length, Option, Some, None, Result, Ok, Err, refl, ap, sym, subst, ◌∙◌, arith, append-nil, append_assoc}
-use Rattle.std.specs.Prelude.{reverse, ◌&&◌, not}
-use Rattle.std.proofs.lemmas.List.{length-map, map-append, reverse-append}
-use Rattle.std.proofs.lemmas.Grind.{flat_map-append}
+use Rattle.std.proofs.Common.{ℕ, ◌≡◌, inl, inr, ◌+◌, Bool, true, false, cond, List, [], ◌∷◌, ◌++◌, map, length, Some, None, Result, Ok, Err, refl, ap, sym, subst, ◌∙◌, append-nil}
+use Rattle.std.specs.Prelude.{reverse, ◌&&◌, ◌||◌}
+use Rattle.std.proofs.lemmas.List.{reverse-append}
 use Rattle.crx_text.specs.Lines.{InputLine, is_long}
 use Rattle.crx_text.specs.Seen.{ReadLine, Content, Overlong, seen}
 use Rattle.crx_text.specs.declared.fault.At.{At}
-use Rattle.crx_text.specs.declared.fault.Fault.{Fault}
 use Rattle.crx_text.specs.declared.fault.Fault.TheVariants.{OutOfMemory}
-use Rattle.crx_rinex.specs.EpochLines.{begins_epoch, is_event_line}
-use Rattle.crx_filter.specs.Filters.{Course, Filter, lines_text}
-use Rattle.crx_filter.specs.Engines.{Awaited, notices_of, IsAwaited, with_next, IsNext, GoesOn, EndsWith, RunsOutAt, Answers, Concludes}
+use Rattle.crx_filter.specs.Filters.{Filter, lines_text}
+use Rattle.crx_filter.specs.Engines.{Awaited, IsAwaited, with_next, GoesOn, EndsWith, Answers, Concludes}
 use Rattle.crx_filter.specs.EngineLines.{HasTaken}
-use Rattle.crx_filter.specs.EngineSteps.{answer_of, step_made, RanOut, Steps}
+use Rattle.crx_filter.specs.EngineSteps.{step_made, Steps}
 use Rattle.crx_filter.specs.Laws.{noticed_by, failed_by, is_again, is_ready, has_lines, Fed, fed_once, fed_twice, fed, IsReadyWhereLent}
-use Rattle.crx_filter.specs.LineByLine.{Phase, InFirstLines, InHeader, BetweenUnits, InEvent, InEpoch, LookingOn, Closed, Ended, Seen, Direction, Made, Completes, Moves, Fails, Repeats, Answer, Quiet as SeenQuiet, Ready as SeenReady, Notice, Failed, Step as SeenStep, made_in, is_in_epoch, is_skipped_in, failed_step, step_of, seen_next, seen_end}
-use Rattle.crx_filter.specs.Memory.{may_take_memory}
-use Rattle.crx_filter.specs.Reading.{can_go_on}
+use Rattle.crx_filter.specs.LineByLine.{Phase, LookingOn, Seen, Direction, Made, Completes, Moves, Fails, Repeats, Notice, Step as SeenStep, made_in, may_skip, is_in_epoch, is_skipped_in, failed_step, step_of, seen_next, seen_end}
+use Rattle.crx_filter.specs.Memory.{may_take_memory, takes_memory, takes_memory_at_last}
+use Rattle.crx_filter.specs.Reading.{can_go_on, is_skippable}
 use Rattle.crx_filter.specs.declared.engine.Step.{Step}
 use Rattle.crx_filter.specs.declared.engine.Step.TheVariants.{Quiet, Ready, Warned}
 use Rattle.crx_filter.proofs.Resuming.{by_bool}
@@ -41,13 +38,14 @@ pub record GoesLineByLine {U O K : Type 0} (direction : Direction U O K) (seen_a
   pub follows : (lines : List InputLine) (line : InputLine) → FollowsBy filter lines line (seen_after (map seen (with_next lines line))) (fed direction (seen_after (map seen lines)) (seen line))
   pub ends : (lines : List InputLine) → EndsBy filter lines (seen_end direction (seen_after (map seen lines)))
   pub number : (lines : List InputLine) → (seen_after (map seen lines)).number ≡ length lines
-  pub memory : (lines : List InputLine) (line : InputLine) → filter.may_take_memory lines line ≡ may_take_memory (seen_after (map seen lines)).phase (seen line)
+  pub memory : (lines : List InputLine) (line : InputLine) → filter.may_take_memory lines line ≡ takes_memory_at_last direction (seen_after (map seen lines)) (seen line)
   pub ready : IsReadyWhereLent direction
 
 -- ---- a line that comes again
 
--- where a line is to come again, it stands in an epoch, and one is looked for then
+-- where a line is to come again, it stands in an epoch whose fault is skipped, and one is looked for then
 pub record ComesAgain {O K : Type 0} (before next : Seen O K) (line : ReadLine) : Type 0 where
+  pub skips : before.choices.skip ≡ true
   pub epoch : is_in_epoch before.phase ≡ true
   pub fits : can_go_on line ≡ true
   pub phase : next.phase ≡ LookingOn
@@ -80,6 +78,7 @@ again-by-made {O = O} {K = K} direction before next line at lent (Fails fault) e
     let both = both-true (is_in_epoch before.phase) (can_go_on line) (sym yes) in
     let then = ap (λ (s : SeenStep O K). s.next) (step ∙ is) in
     record {
+      skips = (both-true before.choices.skip (may_skip before.phase && is_skippable fault) on).0;
       epoch = both.0;
       fits = both.1;
       phase = ap (λ (s : Seen O K). s.phase) then;
@@ -95,20 +94,26 @@ pub comes-again : {U O K : Type 0} (direction : Direction U O K) (before next : 
     → record { answer = Notice at true; lent = lent; next = next } ≡ seen_next direction before line → ComesAgain before next line
 comes-again direction before next line at lent e = again-by-made direction before next line at lent (made_in direction before.phase before.types before.kept line) e
 
--- memory that may run out the second time may run out at the line
-event-last : (line : List ℕ) → (begins_epoch line && not (is_event_line line)) ≡ true → not (is_event_line line) ≡ true
-event-last line e = (both-true (begins_epoch line) (not (is_event_line line)) e).1
+-- memory may run out at the line the first time or the second
+first-of : (a b : Bool) → a ≡ true → (a || b) ≡ true
+first-of a b e = rw e refl
 
-looked-memory : {O : Type 0} (phase : Phase O) (line : ReadLine) → is_in_epoch phase ≡ true → may_take_memory {O = O} LookingOn line ≡ true → may_take_memory phase line ≡ true
-looked-memory (InEpoch so_far) (Content line) e allowed = event-last line allowed
-looked-memory (InEpoch so_far) Overlong e allowed = absurd (cc)
-looked-memory (InFirstLines count) line e allowed = absurd (cc)
-looked-memory (InHeader is_first) line e allowed = absurd (cc)
-looked-memory BetweenUnits line e allowed = absurd (cc)
-looked-memory (InEvent left counted) line e allowed = absurd (cc)
-looked-memory LookingOn line e allowed = absurd (cc)
-looked-memory Closed line e allowed = absurd (cc)
-looked-memory (Ended at) line e allowed = absurd (cc)
+last-of : (a b c d : Bool) → b ≡ true → c ≡ true → d ≡ true → (a || (b && (c && d))) ≡ true
+last-of true b c d two three four = refl
+last-of false b c d two three four = rw (two, three, four) refl
+
+looking-memory : (O : Type 0) (goes_on : Bool) (line : ReadLine) → may_take_memory {O = O} goes_on LookingOn line ≡ may_take_memory {O = O} false LookingOn line
+looking-memory O goes_on Overlong = refl
+looking-memory O goes_on (Content line) = refl
+
+taken-first : {U O K : Type 0} (direction : Direction U O K) (before : Seen O K) (line : ReadLine) → takes_memory direction before line ≡ true → takes_memory_at_last direction before line ≡ true
+taken-first {O = O} direction before line e =
+    first-of (takes_memory direction before line) (before.choices.skip && (is_in_epoch before.phase && may_take_memory {O = O} false LookingOn line)) e
+
+taken-again : {U O K : Type 0} (direction : Direction U O K) (before next : Seen O K) (line : ReadLine) → ComesAgain before next line → takes_memory direction next line ≡ true → takes_memory_at_last direction before line ≡ true
+taken-again {O = O} direction before next line again e =
+    let allowed = subst (λ (p : Phase O). may_take_memory (direction.goes_on next.kept) p line ≡ true) again.phase e in
+    last-of (takes_memory direction before line) before.choices.skip (is_in_epoch before.phase) (may_take_memory {O = O} false LookingOn line) again.skips again.epoch (sym (looking-memory O (direction.goes_on next.kept) line) ∙ allowed)
 
 -- ---- one answer
 
@@ -237,7 +242,7 @@ module _ {U O K : Type 0} (direction : Direction U O K) (seen_after : List ReadL
 
     -- memory ran out, the first time or the second
     ran-out : (shows : List InputLine → List Awaited → Type 0) (ready : List (List ℕ)) (notices : List Awaited) (number : ℕ) (at : At) (result : Result Step At) → result ≡ Err at → at.fault ≡ OutOfMemory → at.line ≡ number + 1
-        → number ≡ length lines → may_take_memory first.phase (seen line) ≡ true → Answers filter shows ready lines notices line result
+        → number ≡ length lines → takes_memory_at_last direction first (seen line) ≡ true → Answers filter shows ready lines notices line result
     ran-out shows ready notices number at result is fault place same allowed =
         subst (λ (r : Result Step At). Answers filter shows ready lines notices line r) (sym is)
         (inl (record { fault = fault; place = place ∙ ap (λ (n : ℕ). n + 1) same; allowed = goes.memory lines line ∙ allowed }))
@@ -250,7 +255,7 @@ module _ {U O K : Type 0} (direction : Direction U O K) (seen_after : List ReadL
       first-time lines line shows now ready result showing (subst (λ (s : Seen O K). step_made result ready now ≡ seen_next direction s (seen line)) taken e)
   answers-line shows before now lines [] line ready result showing taken awaited (inr r) =
       ran-out lines line shows ready [] before.number r.at result r.is r.fault r.place (ap (λ (s : Seen O K). s.number) taken ∙ goes.number lines)
-      (subst (λ (s : Seen O K). may_take_memory s.phase (seen line) ≡ true) taken r.allowed)
+      (taken-first direction (seen_after (map seen lines)) (seen line) (subst (λ (s : Seen O K). takes_memory direction s (seen line) ≡ true) taken r.allowed))
   answers-line shows before now lines (a ∷ []) line ready result showing taken awaited steps =
       subst (λ (l : InputLine). Answers filter shows ready lines (record { notice = a.notice; line = l } ∷ []) line result) (sym awaited)
       (answers steps)
@@ -263,7 +268,7 @@ module _ {U O K : Type 0} (direction : Direction U O K) (seen_after : List ReadL
       answers (inr r) =
           let again = comes-again direction (seen_after (map seen lines)) before (seen line) a.notice [] one in
           ran-out lines line shows ready (record { notice = a.notice; line = line } ∷ []) before.number r.at result r.is r.fault r.place (again.number ∙ goes.number lines)
-          (looked-memory (seen_after (map seen lines)).phase (seen line) again.epoch (subst (λ (p : Phase O). may_take_memory p (seen line) ≡ true) again.phase r.allowed))
+          (taken-again direction (seen_after (map seen lines)) before (seen line) again r.allowed)
   answers-line shows before now lines (a ∷ b ∷ others) line ready result showing taken awaited steps = absurd taken
 
   -- ---- the end of the input

@@ -1,5 +1,5 @@
 -- What an engine of expansion is seen as after a fault, after the end of the input, and after a line.
-use Rattle.std.proofs.Common.{◌≡◌, inl, inr, ℕ, ◌+◌, Bool, true, false, List, [], Option, Some, None, Result, Ok, Err, refl, sym, ap, ◌∙◌, if◌then◌else◌, true≢false}
+use Rattle.std.proofs.Common.{◌≡◌, inl, inr, ℕ, ◌+◌, true, false, List, [], Option, Some, None, Result, Err, refl, sym, ap, ◌∙◌, if◌then◌else◌, true≢false}
 use Rattle.crx_rinex.specs.ObservationTypes.{Count}
 use Rattle.crx_compact.specs.OpenEpochs.{OpenRawEpoch}
 use Rattle.crx_compact.specs.Tails.{Tail}
@@ -11,16 +11,16 @@ use Rattle.crx_text.specs.declared.fault.Fault.{Fault}
 use Rattle.crx_text.specs.declared.fault.Fault.TheVariants.{LineTooLong}
 use Rattle.crx_filter.specs.Choices.{Choices}
 use Rattle.crx_filter.specs.Expander.{expansion}
-use Rattle.crx_filter.specs.LineByLine.{Phase, Seen, Fails, Answer, Quiet as SeenQuiet, Ready as SeenReady, Notice, Failed, made_in, step_of, failed_step}
+use Rattle.crx_filter.specs.LineByLine.{Phase, Seen, Fails, made_in, step_of, failed_step}
 use Rattle.crx_filter.specs.Reading.{is_skippable}
-use Rattle.crx_filter.specs.EngineSteps.{Steps, answer_of, is_held, is_settled, seen_stage, settled_seen, step_made}
+use Rattle.crx_filter.specs.EngineSteps.{Steps, is_held, is_settled, seen_stage, settled_seen, step_made}
 use Rattle.crx_filter.specs.CompactStages.{is_consistent, open_in}
 use Rattle.crx_filter.specs.CompactReaders.{Refuses}
 use Rattle.crx_filter.specs.declared.engine.Step.{Step}
-use Rattle.crx_filter.specs.declared.engine.Step.TheVariants.{Quiet, Ready, Warned}
 use Rattle.crx_filter.specs.declared.settled.Settled.{Settled}
 use Rattle.crx_filter.specs.declared.stage.Stage.{Stage}
 use Rattle.crx_filter.specs.declared.stage.Stage.TheVariants.{FirstLines, Header, Between, Event, Open, Looking, Closed, Ended}
+use Rattle.crx_filter.proofs.EngineLemmas.{fatal-counts}
 
 abbrev seen_as : Choices → ℕ → Phase OpenRawEpoch → List Count → Option Tail → Seen OpenRawEpoch (Option Tail)
 seen_as choices number phase types kept = record { choices = choices; number = number; phase = phase; types = types; kept = kept }
@@ -60,32 +60,13 @@ too-long Looking held types kept h = absurd (true≢false h)
 too-long Closed held types kept h = absurd (true≢false h)
 too-long (Ended at) held types kept h = absurd (true≢false h)
 
-abbrev is_failed : Answer → Bool
-is_failed SeenQuiet = false
-is_failed SeenReady = false
-is_failed (Notice at again) = false
-is_failed (Failed at) = true
-
-abbrev failed_or : At → Answer → At
-failed_or other SeenQuiet = other
-failed_or other SeenReady = other
-failed_or other (Notice at again) = other
-failed_or other (Failed at) = at
-
--- an answer that the run has failed is the fault that ended it
-pub failed-at : (r : Result Step At) (at : At) → answer_of r ≡ Failed at → r ≡ Err at
-failed-at (Ok Quiet) at e = absurd (true≢false (sym (ap is_failed e)))
-failed-at (Ok Ready) at e = absurd (true≢false (sym (ap is_failed e)))
-failed-at (Ok (Warned notice again)) at e = absurd (true≢false (sym (ap is_failed e)))
-failed-at (Err a) at e = ap (λ (x : At). Err x) (ap (failed_or a) e)
-
 -- a line was refused: with its fault, or because memory ran out
 pub refused-line : (before after : Seen OpenRawEpoch (Option Tail)) (line : List ℕ) (fault : Fault) (result : Result Step At) (lines : List (List ℕ))
     → step_made result [] after ≡ failed_step expansion before (Content line) fault → lines ≡ []
     → (is_skippable fault ≡ false → result ≡ Err (record { line = before.number + 1; fault = fault }))
-    → Refuses (made_in expansion before.phase before.types before.kept (Content line)) before.phase line fault
+    → Refuses before.kept (made_in expansion before.phase before.types before.kept (Content line)) before.phase line fault
     → Steps expansion before (Content line) result lines after
 refused-line before after line fault result lines failed drained fatal (inl fails) =
     inl (ap (λ (l : List (List ℕ)). step_made result l after) drained ∙ failed ∙ ap (step_of expansion before (Content line)) (sym fails))
 refused-line before after line fault result lines failed drained fatal (inr out) =
-    inr (record { at = record { line = before.number + 1; fault = fault }; is = fatal (ap is_skippable out.0); fault = out.0; place = refl; allowed = out.1 })
+    inr (record { at = record { line = before.number + 1; fault = fault }; is = fatal (ap is_skippable out.0); fault = out.0; place = refl; allowed = out.1; counted = fatal-counts expansion before after (Content line) fault result [] failed (ap is_skippable out.0) })

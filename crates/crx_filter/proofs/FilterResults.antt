@@ -1,5 +1,5 @@
 -- What the filters of both directions make of an input is what compaction and expansion are defined as.
-use Rattle.std.proofs.Common.{Result, Ok, Err, IfOk, ◌≡◌, ℕ, List, [], ◌∷◌, ◌++◌, map, length, Bool, true, Option, Some, None, refl, ap, sym, subst, ◌∙◌}
+use Rattle.std.proofs.Common.{Result, Ok, Err, IfOk, ◌≡◌, ℕ, List, [], ◌∷◌, ◌++◌, map, true, Option, Some, None, refl, ap, sym, subst, ◌∙◌}
 use Rattle.std.specs.Prelude.{reverse, codes}
 use Rattle.std.specs.List.{flat_map}
 use Rattle.std.proofs.lemmas.List.{reverse-append}
@@ -58,6 +58,7 @@ runs-same first second same filter input given writer messages status fault r = 
       let h = r.good e in
       (h.0, h.1, h.2, h.3, h.4, subst (λ (x : FilterResult). IsResult x writer messages status fault) (sym (same given)) h.5);
   ended = r.ended;
+  asked = r.asked;
   read = r.read;
   salvaged = r.salvaged;
 }

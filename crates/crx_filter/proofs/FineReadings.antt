@@ -3,12 +3,11 @@ use Rattle.std.proofs.Common.{ℕ, zero, suc, ◌≡◌, ◌+◌, max, Bool, tru
 use Rattle.std.specs.Prelude.{⊤, ◌==◌, nat_lt, not}
 use Rattle.crx_text.specs.Seen.{ReadLine}
 use Rattle.crx_text.specs.declared.fault.Fault.{Fault}
-use Rattle.crx_text.specs.declared.fault.Fault.TheVariants.{MissingVersion, NoEndOfHeader, Truncated, NotCompact, BadProgLine}
 use Rattle.crx_text.specs.declared.fault.At.{At}
 use Rattle.crx_rinex.specs.Places.{Place, Here, Wrong, Wanted}
 use Rattle.crx_rinex.specs.Units.{Unit as FileUnit}
 use Rattle.crx_filter.specs.Items.{Item, Accepted, Warned, header_has_ended, records_left}
-use Rattle.crx_filter.specs.Reading.{Reading, WholeReading, Stop, AtFault, AtLines, Looking, is_skipped, can_go_on, looked_for, reading_within, reading_from, fault_at_end, ended_with, ended, whole_reading}
+use Rattle.crx_filter.specs.Reading.{Reading, Stop, AtFault, AtLines, Looking, is_skipped, can_go_on, looked_for, reading_within, reading_from, fault_at_end, ended_with, ended, whole_reading}
 use Rattle.crx_filter.specs.Compacted.{rinex_place, rinex_reading, whole_rinex}
 use Rattle.crx_filter.specs.Expanded.{compact_place, first_lines, compact_reading, whole_compact, fault_in_first_lines}
 use Rattle.crx_filter.specs.Laws.{fault_of_stop}

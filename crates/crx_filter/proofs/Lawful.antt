@@ -12,9 +12,8 @@ use Rattle.crx_filter.specs.Results.{lines_text}
 use Rattle.crx_filter.specs.Laws.{Begins, fault_of_stop}
 use Rattle.crx_filter.specs.Compacted.{rinex_place, compact_unit, compact_lines, rinex_reading, whole_rinex, compacted_so_far}
 use Rattle.crx_filter.specs.Expanded.{expanded_unit, expanded_lines, compact_reading, whole_compact, expanded_so_far}
-use Rattle.crx_filter.specs.Filters.{Course}
 use Rattle.crx_filter.specs.Directions.{course_so_far, whole_course, compaction_filter, expansion_filter}
-use Rattle.crx_filter.specs.Runs.{IsLawful, is_of_lines}
+use Rattle.crx_filter.specs.Runs.{IsLawful}
 use Rattle.crx_filter.proofs.Forward.{rinex-forward}
 use Rattle.crx_filter.proofs.Prefixes.{text-more, whole-items}
 use Rattle.crx_filter.proofs.RinexPrefixes.{compacted-first}

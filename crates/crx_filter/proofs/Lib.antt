@@ -35,6 +35,7 @@ pub mod RunningSteps
 pub mod StepReading
 pub mod StepLemmas
 pub mod WorkLemmas
+pub mod EpochFaults
 pub mod LineFaults
 pub mod FineReadings
 pub mod Lawful

@@ -1,39 +1,34 @@
 -- The faults that a reading finds are those of lines, or of the end of the input.
-use Rattle.std.proofs.Common.{ℕ, ℤ, zero, suc, ◌≡◌, ◌+◌, ◌*◌, max, Bool, true, false, cond, List, [], ◌∷◌, ◌++◌, map, length, drop, Option, Some, None, Result, Ok, Err, refl, ap, sym, subst, ◌∙◌}
-use Rattle.std.specs.Prelude.{⊤, ◌==◌, ◌&&◌, ◌||◌, nat_lt, not, codes}
-use Rattle.std.specs.List.{list_all, list_any}
+use Rattle.std.proofs.Common.{ℕ, ℤ, zero, suc, ◌≡◌, ◌+◌, ◌*◌, Bool, true, false, cond, List, [], ◌∷◌, drop, Option, Some, None, Result, Ok, Err, refl}
+use Rattle.std.specs.Prelude.{⊤, ◌==◌, ◌&&◌, nat_lt, not, codes}
+use Rattle.std.specs.List.{list_all}
 use Rattle.std.specs.Str.{bytes_eq}
-use Rattle.crx_text.specs.Columns.{columns, character_at, is_blank, without_blanks, without_end_blanks}
-use Rattle.crx_text.specs.Codes.{code_of, first_cell, after_cell}
+use Rattle.crx_text.specs.Columns.{columns, character_at, is_blank, without_blanks}
 use Rattle.crx_text.specs.Numbers.{clock_of}
 use Rattle.crx_text.specs.Seen.{ReadLine, Content, Overlong}
-use Rattle.crx_text.specs.declared.code.Code.{Code}
-use Rattle.crx_text.specs.declared.code.Code.TheVariants.{Missing, Start, Step}
-use Rattle.crx_text.specs.declared.limits.TheConstants.{HEAD_WIDTH, NAME_WIDTH, CELL_WIDTH, CLOCK_WIDTH, OBSERVATION_WIDTH}
-use Rattle.crx_text.specs.declared.fault.At.{At}
+use Rattle.crx_text.specs.declared.limits.TheConstants.{HEAD_WIDTH, NAME_WIDTH, CELL_WIDTH, CLOCK_WIDTH}
 use Rattle.crx_text.specs.declared.fault.Fault.{Fault}
-use Rattle.crx_text.specs.declared.fault.Fault.TheVariants.{MissingVersion, UnsupportedVersion, NotObservation, BadTypesLine, NotCompact, BadProgLine, NotAnEpoch, BadEpoch, BadClock, BadSatellite, RepeatedSatellite, BadField, NoArc, OutOfRange, BadFlags, Truncated}
+use Rattle.crx_text.specs.declared.fault.Fault.TheVariants.{InputTooLong, ReadFailed, WriteFailed, OutOfMemory, MissingVersion, UnsupportedVersion, NotObservation, BadTypesLine, NotCompact, BadProgLine, NotAnEpoch, BadEpoch, RepeatedSatellite, BadField, BadFlags, Truncated}
+use Rattle.crx_text.specs.Texts.{is_kept}
 use Rattle.crx_rinex.specs.Header.{is_supported, first_header_fault}
 use Rattle.crx_rinex.specs.Label.{has_label, version_label}
-use Rattle.crx_rinex.specs.EpochLines.{HeadLine, EventHead, EpochHead, is_event_flag, is_event_line, is_kept, records_in, epoch_count, event_head, with_clock, epoch_head, head_of, begins_epoch}
-use Rattle.crx_rinex.specs.EpochPlaces.{OpenEpoch, Beginning, EventBegins, EpochBegins, opened, epoch_of, rows_wanted, with_next_row, row_if_new, next_row, row_at, rows_at, rest_at, begun_by, beginning_of, unit_begun, epoch_place}
+use Rattle.crx_rinex.specs.EpochLines.{HeadLine, EventHead, EpochHead, is_event_flag, is_event_line, records_in, epoch_count, event_head, with_clock, epoch_head, head_of, begins_epoch}
+use Rattle.crx_rinex.specs.EpochPlaces.{OpenEpoch, Beginning, EventBegins, EpochBegins, opened, rows_wanted, with_next_row, row_if_new, next_row, row_at, rows_at, rest_at, begun_by, beginning_of, unit_begun, epoch_place}
 use Rattle.crx_rinex.specs.Epochs.{has_satellite}
 use Rattle.crx_rinex.specs.Observations.{Row, Epoch}
 use Rattle.crx_rinex.specs.ObservationTypes.{Count, is_bad_types_line}
 use Rattle.crx_rinex.specs.Places.{Place, Here, Wrong, Wanted, after_lines, then_place, one_line, first_line}
 use Rattle.crx_rinex.specs.SatelliteLines.{types_of_satellite, values_in, flags_in, row_with, row_of_types, row_of}
 use Rattle.crx_rinex.specs.Units.{Unit as FileUnit, HeaderLine, EventLine, EventRecord, Observation}
-use Rattle.crx_compact.specs.CompactPlaces.{BegunEpoch, ReadCell, ReadRow, ReadEpoch, satellites_counted, satellites_of_text, satellites_of_line, epoch_begun, cell_read, clock_line_read, cells_of, after_cells, cells_read, are_marks, row_of_cells, row_with_marks, row_of_line, satellite_line_read, rows_read, epoch_of_rows, epoch_after_line, epoch_against, epoch_at}
-use Rattle.crx_compact.specs.Differences.{value_at}
-use Rattle.crx_compact.specs.EpochText.{Satellite, satellite_before, satellites_named, names_in, is_printable}
-use Rattle.crx_compact.specs.Expansion.{RawEpoch, Started, is_within, in_range, value_since, value_of, since_start, block_of, code_in, raw_run_of}
-use Rattle.crx_compact.specs.Past.{Past, past_of_block, past_of_epochs, past_of_line}
-use Rattle.crx_compact.specs.Sequences.{and_then, before_all}
-use Rattle.crx_filter.specs.Items.{Item, Accepted, Warned, is_at_start, header_has_ended, records_left, records_count_types, types_in_force}
+use Rattle.crx_compact.specs.CompactPlaces.{ReadEpoch, epoch_at}
+use Rattle.crx_compact.specs.Expansion.{RawEpoch}
+use Rattle.crx_filter.specs.Items.{Item, is_at_start, header_has_ended, records_left, records_count_types, types_in_force}
 use Rattle.crx_filter.specs.UnitPlaces.{unless_wrong, types_fault, first_fault, header_line_fault, header_line, event_record, unit_place}
 use Rattle.crx_filter.specs.Compacted.{rinex_place}
 use Rattle.crx_filter.specs.Expanded.{event_line, as_observation, compact_epoch_place, compact_place, raws_kept, crinex_version, crinex_program, first_lines}
+use Rattle.crx_filter.specs.Reading.{is_skippable}
 use Rattle.crx_filter.specs.Runs.{is_of_lines}
+use Rattle.crx_filter.proofs.EpochFaults.{IsSkippableAt, epoch-skippable}
 
 -- ---- results, options and places whose faults are those of lines
 
@@ -61,14 +56,6 @@ fault-if false a b x y = y
 place-if : {X : Type 0} (c : Bool) (a b : Place X) → IsFineAt a → IsFineAt b → IsFineAt (cond c a b)
 place-if true a b x y = x
 place-if false a b x y = y
-
-fine-and_then : {X Y : Type 0} (r : Result X Fault) (f : X → Result Y Fault) → IsFine r → ((x : X) → IsFine (f x)) → IsFine (and_then r f)
-fine-and_then (Ok x) f a b = b x
-fine-and_then (Err fault) f a b = a
-
-fine-before : {X : Type 0} (x : X) (r : Result (List X) Fault) → IsFine r → IsFine (before_all x r)
-fine-before x (Ok xs) a = tt
-fine-before x (Err fault) a = a
 
 place-after : {X : Type 0} (count : ℕ) (p : Place X) → IsFineAt p → IsFineAt (after_lines count p)
 place-after count (Here x more) a = tt
@@ -186,116 +173,21 @@ rinex-fine items lines = unit-fine (λ (before : List (Item Epoch)). epoch_place
 
 -- ---- compact text
 
-since-fine : (width : ℕ) (arc : Option Started) → IsFine (value_since width arc)
-since-fine width None = refl
-since-fine width (Some arc) = fine-if (is_within width (value_at arc.order arc.numbers)) (Ok (Some (value_at arc.order arc.numbers))) (Err OutOfRange) tt refl
+-- a fault that can be skipped is one of lines
+skippable-fine : (fault : Fault) → is_skippable fault ≡ true → is_of_lines fault ≡ true
+skippable-fine InputTooLong e = absurd (cc)
+skippable-fine ReadFailed e = absurd (cc)
+skippable-fine WriteFailed e = absurd (cc)
+skippable-fine OutOfMemory e = absurd (cc)
+skippable-fine fault e = refl
 
-value-fine : (width : ℕ) (cells : List Code) → IsFine (value_of width cells)
-value-fine width [] = tt
-value-fine width (Missing ∷ older) = tt
-value-fine width (Start order value ∷ older) = since-fine width (since_start (Start order value ∷ older))
-value-fine width (Step number ∷ older) = since-fine width (since_start (Step number ∷ older))
-
--- what is given to the lines of an epoch refuses them by faults of lines alone
-record IsFinePast (past : Past) : Type 0 where
-  clock : (code : Code) → IsFine (past.clock code)
-  value : (name : List ℕ) (place : ℕ) (code : Code) → IsFine (past.value name place code)
-
-block-fine : (block : List RawEpoch) → IsFinePast (past_of_block block)
-block-fine block = record {
-  clock = λ code. value-fine CLOCK_WIDTH (code ∷ map (λ (e : RawEpoch). e.clock) block);
-  value = λ name place code. value-fine OBSERVATION_WIDTH (code ∷ map (code_in place) (raw_run_of name block));
-}
-
-abbrev IsFineOption : Option Past → Type 0
-IsFineOption None = ⊤
-IsFineOption (Some past) = IsFinePast past
-
-epochs-fine : (older : List RawEpoch) → IsFineOption (past_of_epochs older)
-epochs-fine [] = tt
-epochs-fine (e ∷ older) = block-fine (block_of (e ∷ older))
-
-past-if : (c : Bool) (a b : Option Past) → IsFineOption a → IsFineOption b → IsFineOption (cond c a b)
-past-if true a b x y = x
-past-if false a b x y = y
-
-past-fine : (older : List RawEpoch) (line : List ℕ) → IsFineOption (past_of_line older line)
-past-fine older line = past-if (begins_epoch line) (Some (past_of_block [])) (past_of_epochs older) (block-fine []) (epochs-fine older)
-
-before-fine : (earlier : List (List ℕ)) (name : List ℕ) (count : Option ℕ) (others : Result (List Satellite) Fault) → IsFine others → IsFine (satellite_before earlier name count others)
-before-fine earlier name None others a = refl
-before-fine earlier name (Some count) others a =
-    fine-if (list_any (bytes_eq name) earlier) (Err RepeatedSatellite) (before_all (record { name = name; count = count }) others) refl (fine-before (record { name = name; count = count }) others a)
-
-named-fine : (types : List Count) (earlier names : List (List ℕ)) → IsFine (satellites_named types earlier names)
-named-fine types earlier [] = tt
-named-fine types earlier (name ∷ names) = before-fine earlier name (types_of_satellite types name) (satellites_named types (name ∷ earlier) names) (named-fine types (name ∷ earlier) names)
-
-counted-fine : (types : List Count) (text : List ℕ) (count : Option ℕ) → IsFine (satellites_counted types text count)
-counted-fine types text None = refl
-counted-fine types text (Some count) =
-    fine-if (list_all is_blank (drop (HEAD_WIDTH + NAME_WIDTH * count) text)) (satellites_named types [] (names_in text count)) (Err BadEpoch) (named-fine types [] (names_in text count)) refl
-
-satellites-fine : (types : List Count) (past : Past) (line : List ℕ) → IsFine (satellites_of_line types past line)
-satellites-fine types past line =
-    fine-if (not (list_all is_printable line)) (Err BadEpoch) (satellites_of_text types (past.text line)) refl (counted-fine types (past.text line) (epoch_count (columns (past.text line) 1 HEAD_WIDTH)))
-
--- an epoch line that was read, by what is given to its lines
-abbrev IsBegunWell : Result BegunEpoch Fault → Type 0
-IsBegunWell (Ok begun) = IsFinePast begun.past
-IsBegunWell (Err fault) = is_of_lines fault ≡ true
-
-begun-well : (line : List ℕ) (past : Past) → IsFinePast past → (r : Result (List Satellite) Fault) → IsFine r
-    → IsBegunWell (and_then r (λ satellites. Ok (record { line = line; past = past; satellites = satellites })))
-begun-well line past h (Ok satellites) a = h
-begun-well line past h (Err fault) a = a
-
-epoch_begun-well : (types : List Count) (line : List ℕ) (past : Option Past) → IsFineOption past → IsBegunWell (epoch_begun types line past)
-epoch_begun-well types line None h = refl
-epoch_begun-well types line (Some past) h = begun-well line past h (satellites_of_line types past line) (satellites-fine types past line)
-
-cell-fine : (misspelt : Fault) (value : Code → Result (Option ℤ) Fault) (code : Option Code) → is_of_lines misspelt ≡ true → ((c : Code) → IsFine (value c)) → IsFine (cell_read misspelt value code)
-cell-fine misspelt value None a b = a
-cell-fine misspelt value (Some code) a b = fine-and_then (value code) _ (b code) (λ v. tt)
-
-clock_line-fine : (past : Past) → IsFinePast past → (line : List ℕ) → IsFine (clock_line_read past line)
-clock_line-fine past h line =
-    fine-if (begins_epoch line) (Err Truncated) (cell_read BadClock past.clock (code_of (without_end_blanks line))) refl (cell-fine BadClock past.clock (code_of (without_end_blanks line)) refl h.clock)
-
-cells-fine : (value : ℕ → Code → Result (Option ℤ) Fault) → ((place : ℕ) (c : Code) → IsFine (value place c)) → (texts : List (List ℕ)) → IsFine (cells_read value texts)
-cells-fine value h [] = tt
-cells-fine value h (text ∷ texts) =
-    fine-and_then (cell_read BadField (value 0) (code_of text)) (λ cell. before_all cell (cells_read (λ place. value (suc place)) texts)) (cell-fine BadField (value 0) (code_of text) refl (h 0))
-    (λ cell. fine-before cell (cells_read (λ place. value (suc place)) texts) (cells-fine (λ place. value (suc place)) (λ place c. h (suc place) c) texts))
-
-row_line-fine : (past : Past) → IsFinePast past → (satellite : Satellite) (line : List ℕ) → IsFine (satellite_line_read past satellite line)
-row_line-fine past h satellite line =
-    let marks : List ℕ = after_cells satellite.count line in
-    fine-if (begins_epoch line) (Err Truncated) (row_of_line past satellite line) refl
-    (fine-and_then (cells_read (past.value satellite.name) (cells_of satellite.count line)) (λ cells. row_with_marks past satellite marks cells)
-    (cells-fine (past.value satellite.name) (h.value satellite.name) (cells_of satellite.count line))
-    (λ cells. fine-if (are_marks satellite.count marks) (Ok (row_of_cells past satellite.name marks cells)) (Err BadFlags) tt refl))
-
-rows_read-fine : (past : Past) → IsFinePast past → (satellites : List Satellite) (lines : List ReadLine) → IsFineAt (rows_read past satellites lines)
-rows_read-fine past h [] lines = tt
-rows_read-fine past h (satellite ∷ satellites) lines =
-    place-then (first_line lines (satellite_line_read past satellite)) lines _ (place-first lines (satellite_line_read past satellite) (row_line-fine past h satellite))
-    (λ row others. place-then (rows_read past satellites others) others (λ rows rest. Here (row ∷ rows) 0) (rows_read-fine past h satellites others) (λ rows rest. tt))
-
-after_line-fine : (begun : BegunEpoch) → IsFinePast begun.past → (lines : List ReadLine) → IsFineAt (epoch_after_line begun lines)
-after_line-fine begun h lines =
-    place-then (first_line lines (clock_line_read begun.past)) lines _ (place-first lines (clock_line_read begun.past) (clock_line-fine begun.past h))
-    (λ clock others. place-then (rows_read begun.past begun.satellites others) others (λ rows rest. Here (epoch_of_rows begun clock rows) 0) (rows_read-fine begun.past h begun.satellites others) (λ rows rest. tt))
-
-begun_line-fine : (r : Result BegunEpoch Fault) → IsBegunWell r → (lines : List ReadLine) → IsFineAt (then_place (one_line r) lines (λ begun others. epoch_after_line begun others))
-begun_line-fine (Ok begun) h lines = place-after 1 (epoch_after_line begun (drop 1 lines)) (after_line-fine begun h (drop 1 lines))
-begun_line-fine (Err fault) h lines = h
+place-skippable : {X : Type 0} (p : Place X) → IsSkippableAt p → IsFineAt p
+place-skippable (Here x count) h = tt
+place-skippable (Wrong offset fault) h = skippable-fine fault h
+place-skippable Wanted h = tt
 
 against-fine : (types : List Count) (older : List RawEpoch) (lines : List ReadLine) → IsFineAt (epoch_at types older lines)
-against-fine types older [] = tt
-against-fine types older (Overlong ∷ lines) = refl
-against-fine types older (Content line ∷ lines) =
-    begun_line-fine (epoch_begun types line (past_of_line older line)) (epoch_begun-well types line (past_of_line older line) (past-fine older line)) (Content line ∷ lines)
+against-fine types older lines = place-skippable (epoch_at types older lines) (epoch-skippable types older lines)
 
 observation-fine : {E : Type 0} (p : Place E) → IsFineAt p → IsFineAt (as_observation p)
 observation-fine (Here epoch count) a = tt

@@ -1,6 +1,6 @@
 -- What a reader of RINEX makes of the lines of an epoch, and of a line where one may begin.
 use Rattle.std.proofs.Common.{◌≡◌, ◌⊎◌, inl, inr, ℕ, zero, suc, ◌+◌, ◌-◌, ◌≤◌, ◌<◌, Bool, true, false, List, length, Option, Some, None, Result, Ok, Err, if◌then◌else◌, refl, sym, ap, subst, ◌∙◌, arith, nat_eq}
-use Rattle.std.specs.Prelude.{⊤, drop, not, ◌&&◌}
+use Rattle.std.specs.Prelude.{⊤, drop}
 use Rattle.std.specs.List.{list_all}
 use Rattle.std.proofs.lemmas.Bool.Decides.{nat_tests}
 use Rattle.crx_text.specs.Columns.{columns, character_at, is_blank}
@@ -55,7 +55,7 @@ whole-now types epoch full = when-whole (satellites_of epoch.head - length epoch
 -- ---- what a reader holds then
 
 pub whole-taken : (made : Made ObservationEpoch OpenEpoch) (before after : RinexReader) (line : List ℕ) (epoch : ObservationEpoch)
-    → made ≡ made_of_step (whole_or_going (seen_epoch before.types epoch)) → may_take_memory (reader_phase before) (Content line) ≡ true
+    → made ≡ made_of_step (whole_or_going (seen_epoch before.types epoch)) → may_take_memory false (reader_phase before) (Content line) ≡ true
     → is_full_epoch epoch ≡ true → after.epoch ≡ Some epoch → after.types ≡ before.types → after.stage ≡ Between
     → CompletedEpoch made line before after
 whole-taken made before after line epoch is allowed full holds types stage = record {
@@ -102,7 +102,7 @@ row-made before line kept epoch after stage holds other added =
     in-epoch before epoch stage holds = rw (stage, holds) refl
 
 pub row-allowed : (before : RinexReader) (line : List ℕ) (epoch : ObservationEpoch) → before.stage ≡ Open → before.epoch ≡ Some epoch → begins_epoch line ≡ false
-    → may_take_memory (reader_phase before) (Content line) ≡ true
+    → may_take_memory false (reader_phase before) (Content line) ≡ true
 row-allowed before line epoch stage holds other = rw (stage, holds, other) refl
 
 -- ---- where an epoch or an event may begin
@@ -162,12 +162,9 @@ pub begin-made : (before : RinexReader) (line : List ℕ) (kept : Written) → B
 begin-made before line kept (inl stage) = rw stage refl
 begin-made before line kept (inr looking) = rw (looking.0, looking.1) refl
 
-pub begin-allowed : (before : RinexReader) (line : List ℕ) → Begins before line → is_event_line line ≡ false → may_take_memory (reader_phase before) (Content line) ≡ true
-begin-allowed before line (inl stage) other = rw (stage, other) refl
-begin-allowed before line (inr looking) other = ap (λ (s : Stage). may_take_memory (seen_stage (open_epoch before.types before.epoch) s) (Content line)) looking.0 ∙ both (begins_epoch line) (is_event_line line) looking.1 other
-  where
-    both : (a b : Bool) → a ≡ true → b ≡ false → a && not b ≡ true
-    both a b one two = rw (one, two) refl
+pub begin-allowed : (before : RinexReader) (line : List ℕ) → Begins before line → (is_event_line line ≡ false) × (begins_epoch line ≡ true) → may_take_memory false (reader_phase before) (Content line) ≡ true
+begin-allowed before line (inl stage) epoch = rw (stage, epoch.0, epoch.1) refl
+begin-allowed before line (inr looking) epoch = rw (looking.0, epoch.0, epoch.1) refl
 
 -- an epoch that begins with a line, seen in either way
 pub begun-made : (types : List Count) (line : List ℕ) (head : ObservationHead) → head_of line ≡ Ok (EpochHead head.head head.count head.clock) → satellites_of head.head ≡ head.count
@@ -186,7 +183,7 @@ pub begun-taken : (before after : RinexReader) (line : List ℕ) (kept : Written
     → Takes (made_at before line kept) before line step after
 begun-taken before after line kept head step begins read counts sound holds types stage is = by_bool (is_full_epoch (begun head))
     (λ full. subst (λ s. Takes (made_at before line kept) before line s after) (sym (is ∙ whole-step full))
-    (whole-taken (made_at before line kept) before after line (begun head) made (begin-allowed before line begins (epoch-line line head.head head.count head.clock read).0) full holds types (stage ∙ whole-stage full)))
+    (whole-taken (made_at before line kept) before after line (begun head) made (begin-allowed before line begins (epoch-line line head.head head.count head.clock read)) full holds types (stage ∙ whole-stage full)))
     (λ part. subst (λ s. Takes (made_at before line kept) before line s after) (sym (is ∙ part-step part))
     (part-taken (made_at before line kept) before.types after.epoch after.types after.stage (begun head) made sound part holds types (stage ∙ part-stage part)))
   where

@@ -1,7 +1,7 @@
 -- What stands after a run, by how it ended.
 use Rattle.std.proofs.Common.{◌≡◌, ◌⊎◌, inl, inr, ℕ, ◌≤◌, List, [], ◌∷◌, ◌++◌, length, take, drop, refl, sym, ap, subst, ◌∙◌, append-nil, append_assoc}
 use Rattle.std.proofs.lemmas.List.{take_all, take-append-drop}
-use Rattle.crx_text.specs.Devices.{Tally}
+use Rattle.crx_text.specs.Devices.{Tally, one_more}
 use Rattle.crx_text.specs.Lines.{InputLine, lines_of}
 use Rattle.crx_text.specs.Seen.{ended_lines_of}
 use Rattle.crx_text.specs.Reading.{Reading}
@@ -46,6 +46,23 @@ none-failed input now lines h (inl e) =
 none-failed input now lines h (inr e) =
     let o = HasRead-ended input.gave input.at_end input.start input.counted now lines h e in
     ap (λ (t : Tally). t.failures) o.counts
+
+-- the end was reported at most once
+abbrev AskedOnce : Input → Type 0
+AskedOnce input = (input.counted.ends ≡ input.start.ends) ⊎ (input.counted.ends ≡ one_more input.start.ends)
+
+pub asked-once : (input : Input) (now : Reading) (lines : List InputLine) (h : HasRead input.gave input.at_end input.start input.counted now lines) → (now.phase ≡ Open) ⊎ (now.phase ≡ Ended) → AskedOnce input
+asked-once input now lines h (inl e) =
+    let o : IsOpen input.start input.counted h.given now lines = subst (λ (f : Phase). StandsAt f input.at_end input.start input.counted h.given now lines) e h.stands in
+    inl (ap (λ (t : Tally). t.ends) o.counts)
+asked-once input now lines h (inr e) =
+    let o = HasRead-ended input.gave input.at_end input.start input.counted now lines h e in
+    inr (ap (λ (t : Tally). t.ends) o.counts)
+
+pub asked-stopped : (input : Input) (f : Fault) (given : List ℕ) (lines : List InputLine) → IsStopped f input.start input.counted given lines → AskedOnce input
+asked-stopped input InputTooLong given lines s = inl (ap (λ (t : Tally). t.ends) s.2)
+asked-stopped input ReadFailed given lines s = inl (ap (λ (t : Tally). t.ends) s.2)
+asked-stopped input _ given lines s = absurd s
 
 pub all-of : (input : Input) (given : List ℕ) (lines : List InputLine) → AreAll input given lines → AreAll input given (lines_of given)
 all-of input given lines a = record { reported = a.reported; within = a.within; same = refl }

@@ -138,7 +138,7 @@ unit-clean every before (Observation epoch) h k e =
     epoch-clean (compact_epoch (m ∷ older)) stands.printable
     (lines-short (types_in_force before) m.in_full m.epoch older (all-whole (types_in_force before) (since_full (m ∷ older)) (whole-next every before epoch h)))
 
-lines-clean : (every : Option ℕ) (items : List (Item Epoch)) → AreInPlace items → OfCopiedLines CanStand items → HaveNoReturns items → AllByRecursion IsClean (lines_back every items)
+pub lines-clean : (every : Option ℕ) (items : List (Item Epoch)) → AreInPlace items → OfCopiedLines CanStand items → HaveNoReturns items → AllByRecursion IsClean (lines_back every items)
 lines-clean every [] h k e = tt
 lines-clean every (Accepted unit ∷ before) h k e =
     append-clean (lines_back every before) (body_unit every before unit) (lines-clean every before h.1 k.1 e.1) (unit-clean every before unit h k.0 e.0)
@@ -146,7 +146,7 @@ lines-clean every (Warned at ∷ before) h k e = lines-clean every before h.1 k 
 
 -- ---- what is written in the end
 
-printed-same : (every : Option ℕ) (items : List (Item Epoch)) → written_lines expanded_unit (read_back every items) ≡ printed_items items
+pub printed-same : (every : Option ℕ) (items : List (Item Epoch)) → written_lines expanded_unit (read_back every items) ≡ printed_items items
 printed-same every [] = refl
 printed-same every (Accepted (HeaderLine line) ∷ before) = ap (λ ls. ls ++ line ∷ []) (printed-same every before)
 printed-same every (Accepted (EventLine line) ∷ before) = ap (λ ls. ls ++ line ∷ []) (printed-same every before)
@@ -154,7 +154,7 @@ printed-same every (Accepted (EventRecord line) ∷ before) = ap (λ ls. ls ++ l
 printed-same every (Accepted (Observation epoch) ∷ before) = ap (λ ls. ls ++ printed_epoch epoch) (printed-same every before)
 printed-same every (Warned at ∷ before) = printed-same every before
 
-no-warnings : (every : Option ℕ) (items : List (Item Epoch)) → warnings_in (read_back every items) ≡ []
+pub no-warnings : (every : Option ℕ) (items : List (Item Epoch)) → warnings_in (read_back every items) ≡ []
 no-warnings every [] = refl
 no-warnings every (Accepted unit ∷ before) = no-warnings every before
 no-warnings every (Warned at ∷ before) = no-warnings every before
@@ -166,7 +166,7 @@ result-well items lines e f =
     ∙ ap (λ ls. written_well (lines_text ls)) e
 
 -- the two first lines, and then the reading of the rest
-whole-after : (skip : Bool) (date : List ℕ) (rest : List ReadLine) → whole_compact skip (Content version_line ∷ Content (program_line date) ∷ rest) ≡ ended skip (reading_from compact_place skip [] 3 rest)
+pub whole-after : (skip : Bool) (date : List ℕ) (rest : List ReadLine) → whole_compact skip (Content version_line ∷ Content (program_line date) ∷ rest) ≡ ended skip (reading_from compact_place skip [] 3 rest)
 whole-after skip date rest = rw (first-lines_read date rest, whole_compact) refl
 
 whole-back : (every : Option ℕ) (skip : Bool) (date : List ℕ) (items : List (Item Epoch)) → IsSettled items

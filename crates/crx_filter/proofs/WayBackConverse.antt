@@ -18,12 +18,11 @@ use Rattle.crx_compact.proofs.Facts.{head-kept}
 use Rattle.crx_text.specs.declared.limits.TheConstants.{OBSERVATION_WIDTH, OBSERVATION_DECIMALS, CLOCK_WIDTH, CLOCK_DECIMALS}
 use Rattle.crx_text.specs.Lines.{InputLine, HasNoFeed, pieces_of, ends_with_return, line_of, lines_of}
 use Rattle.crx_text.specs.Columns.{is_blank, before_end_blanks, without_end_blanks}
-use Rattle.crx_text.specs.Texts.{is_printable}
+use Rattle.crx_text.specs.Texts.{is_printable, is_kept}
 use Rattle.crx_text.specs.Numbers.{number_text, size_text, zero_padded, observation_text, clock_text}
 use Rattle.crx_text.proofs.PieceLemmas.{pieces-first}
 use Rattle.crx_text.proofs.ReadBack.{decimal_is_digits}
 use Rattle.crx_rinex.specs.Observations.{Row, Epoch}
-use Rattle.crx_rinex.specs.EpochLines.{is_kept}
 use Rattle.crx_rinex.specs.Printing.{printed_cells, printed_row, printed_epoch}
 use Rattle.crx_rinex.specs.Units.{HeaderLine, EventLine, EventRecord, Observation}
 use Rattle.crx_filter.specs.Choices.{Choices, is_date}

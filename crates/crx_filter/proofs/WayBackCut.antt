@@ -29,7 +29,7 @@ return-kept (b ∷ c ∷ bs) e = ap (λ l. b ∷ l) (return-kept (c ∷ bs) e)
 seen-short : (l : InputLine) → length l.content ≤ LINE_LIMIT → seen l ≡ Content l.content
 seen-short l h = let test : nat_lt LINE_LIMIT (length l.content) ≡ false = le-ltb LINE_LIMIT (length l.content) h in rw test refl
 
-seen-clean : (line : List ℕ) → IsClean line → seen (line_of (record { bytes = line; is_ended = true })) ≡ Content line
+pub seen-clean : (line : List ℕ) → IsClean line → seen (line_of (record { bytes = line; is_ended = true })) ≡ Content line
 seen-clean line h =
     let kept : without_return line ≡ line = return-kept line h.no_return in
     seen-short (line_of (record { bytes = line; is_ended = true })) (subst (λ l. length l ≤ LINE_LIMIT) (sym kept) h.short) ∙ ap Content kept

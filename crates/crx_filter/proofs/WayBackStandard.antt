@@ -82,7 +82,7 @@ plain-piece p e = (first-true p.is_ended (not (ends_with_return p.bytes)) e, not
 seen-no_return : (l : InputLine) → NoReturn l.content → OfContent NoReturn (seen l)
 seen-no_return l h = elim (is_long l) as (λ b. OfContent NoReturn (cond b Overlong (Content l.content))) [ true ↦ tt | false ↦ h ]
 
-plain-no_return : (ps : List Piece) → list_all (λ (line : InputLine). line.is_plain) (map line_of ps) ≡ true → AllByRecursion (OfContent NoReturn) (map seen (map line_of ps))
+pub plain-no_return : (ps : List Piece) → list_all (λ (line : InputLine). line.is_plain) (map line_of ps) ≡ true → AllByRecursion (OfContent NoReturn) (map seen (map line_of ps))
 plain-no_return [] e = tt
 plain-no_return (p ∷ ps) e =
     let plain = plain-piece p (first-true (InputLine.is_plain (line_of p)) (list_all (λ (line : InputLine). line.is_plain) (map line_of ps)) e) in

@@ -1,27 +1,33 @@
 -- What is held between two lines is bounded, however long the input is.
 use Rattle.std.specs.Prelude.{ℕ, ◌≡◌, ◌≤◌, ◌+◌, ◌*◌, ⊤, true, List, [], ◌∷◌, length, Option, IfSome}
 use Rattle.std.specs.List.{AllByRecursion}
-use Rattle.crx_text.specs.declared.limits.TheConstants.{LINE_LIMIT, SATELLITES_LIMIT, TYPES_LIMIT, HEAD_WIDTH, ORDER_LIMIT, WRITTEN_ORDER}
+use Rattle.crx_text.specs.declared.limits.TheConstants.{LINE_LIMIT, SATELLITES_LIMIT, TYPES_LIMIT, HEAD_WIDTH, NAME_WIDTH, CELL_WIDTH, ORDER_LIMIT, WRITTEN_ORDER}
 use Rattle.crx_text.specs.Seen.{ReadLine, Content, Overlong}
 use Rattle.crx_rinex.specs.Observations.{Row, Epoch}
 use Rattle.crx_rinex.specs.Units.{Unit as FileUnit, HeaderLine, EventLine, EventRecord, Observation}
 use Rattle.crx_rinex.specs.EpochPlaces.{OpenEpoch}
 use Rattle.crx_rinex.specs.ObservationTypes.{AreCounts, system_letters}
 use Rattle.crx_compact.specs.Tails.{Tail, IsBoundedTail}
+use Rattle.crx_compact.specs.CompactPlaces.{ReadEpoch}
 use Rattle.crx_compact.specs.OpenEpochs.{OpenRawEpoch, IsBoundedOpen}
 use Rattle.crx_filter.specs.Choices.{Choices, is_date}
 use Rattle.crx_filter.specs.Items.{Item, Accepted, Warned}
 use Rattle.crx_filter.specs.Compacted.{compact_unit, rinex_reading}
+use Rattle.crx_filter.specs.Expanded.{expanded_unit, compact_reading}
 use Rattle.crx_filter.specs.LineByLine.{Phase, InEpoch, Seen}
 use Rattle.crx_filter.specs.Compactor.{Written}
 
--- a row within the limits: a value for each type, and two indicators
+-- a row within the limits: its identifier, a value for each type, and two indicators
 pub record IsBoundedRow (row : Row) : Type 0 where
+  pub name : length row.name ≡ NAME_WIDTH
   pub values : length row.values ≤ TYPES_LIMIT
   pub flags : length row.flags ≤ 2 * TYPES_LIMIT
 
--- an epoch whose rows have come in part, within the limits
+-- an epoch whose rows have come in part, within the limits: the types in force at its line, that line's columns, and as many rows as an
+-- epoch may have
 pub record IsBoundedEpoch (so_far : OpenEpoch) : Type 0 where
+  pub systems : length so_far.types ≤ length system_letters
+  pub counts : AreCounts so_far.types
   pub head : length so_far.head.head ≡ HEAD_WIDTH
   pub few : length so_far.rows ≤ SATELLITES_LIMIT
   pub rows : AllByRecursion IsBoundedRow so_far.rows
@@ -75,3 +81,15 @@ IsNotTooLong Overlong = ⊤
 abbrev pub CompactIsLendable : Choices → List ReadLine → Type 0
 CompactIsLendable choices lines =
     is_date choices.date ≡ true → AllByRecursion IsNotTooLong lines → OfUnits (λ before unit. AreLendable (longest_of unit) (compact_unit choices before unit)) (rinex_reading choices.skip lines).items
+
+-- the longest line of a unit in RINEX: that of an epoch has an identifier and so many cells, each with two indicators
+abbrev pub longest_printed : FileUnit ReadEpoch → ℕ
+longest_printed (HeaderLine line) = LINE_LIMIT
+longest_printed (EventLine line) = LINE_LIMIT
+longest_printed (EventRecord line) = LINE_LIMIT
+longest_printed (Observation read) = NAME_WIDTH + CELL_WIDTH * TYPES_LIMIT
+
+-- the same of the units that an expansion accepts
+abbrev pub ExpandedIsLendable : Choices → List ReadLine → Type 0
+ExpandedIsLendable choices lines =
+    AllByRecursion IsNotTooLong lines → OfUnits (λ before unit. AreLendable (longest_printed unit) (expanded_unit before unit)) (compact_reading choices.skip lines).items

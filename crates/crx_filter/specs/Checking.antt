@@ -52,6 +52,7 @@ abbrev pub checking : Direction Epoch OpenEpoch Totals
 checking = record {
   begins = rinex_begins;
   continues = rinex_continues;
+  goes_on = λ kept. false;
   kept_after = totals_after;
   kept_open = λ kept. kept;
   emptied = λ kept. kept;
@@ -154,5 +155,5 @@ abbrev pub check_filter : Filter
 check_filter = record {
   so_far = λ lines. record { output = []; warnings = []; fault = fault_so_far lines };
   whole = λ lines. record { output = report_unless (whole_reading_of lines).fault (findings_of lines); warnings = []; fault = (whole_reading_of lines).fault };
-  may_take_memory = λ lines line. may_take_memory (check_seen lines).reading.phase (seen line);
+  may_take_memory = λ lines line. may_take_memory false (check_seen lines).reading.phase (seen line);
 }

@@ -1,5 +1,6 @@
 -- What a reader of compact text makes of a line.
 use Rattle.std.specs.Prelude.{◌≡◌, ◌⊎◌, ℕ, ◌+◌, true, List, [], ◌∷◌, Option}
+use Rattle.std.specs.Option.{is_some}
 use Rattle.crx_text.specs.Seen.{Content}
 use Rattle.crx_text.specs.declared.fault.Fault.{Fault}
 use Rattle.crx_text.specs.declared.fault.Fault.TheVariants.{OutOfMemory}
@@ -51,6 +52,6 @@ counted seen = record seen { number = seen.number + 1 }
 abbrev pub Takes : Made HeldEpoch OpenRawEpoch → List ℕ → Seen OpenRawEpoch (Option Tail) → Seen OpenRawEpoch (Option Tail) → CompactStep → Type 0
 Takes made line before after step = record { answer = answer_for step; lent = lent_for line step; next = counted after } ≡ step_of expansion before (Content line) made
 
--- a fault is that of the line, or memory ran out at a line that may take some
-abbrev pub Refuses : Made HeldEpoch OpenRawEpoch → Phase OpenRawEpoch → List ℕ → Fault → Type 0
-Refuses made phase line fault = (made ≡ Fails fault) ⊎ ((fault ≡ OutOfMemory) × (may_take_memory phase (Content line) ≡ true))
+-- a fault is that of the line, or memory ran out at a line that may take some, by what is kept of the epochs before
+abbrev pub Refuses : Option Tail → Made HeldEpoch OpenRawEpoch → Phase OpenRawEpoch → List ℕ → Fault → Type 0
+Refuses tail made phase line fault = (made ≡ Fails fault) ⊎ ((fault ≡ OutOfMemory) × (may_take_memory (is_some tail) phase (Content line) ≡ true))

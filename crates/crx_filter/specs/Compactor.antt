@@ -68,6 +68,7 @@ abbrev pub compaction : Direction Epoch OpenEpoch Written
 compaction = record {
   begins = rinex_begins;
   continues = rinex_continues;
+  goes_on = λ kept. false;
   kept_after = written_kept;
   kept_open = λ kept. kept;
   emptied = λ kept. record { index = kept.index; tail = None };

@@ -1,7 +1,10 @@
 -- What an engine of compaction is seen as.
 use Rattle.std.specs.Prelude.{ℕ, List}
 use Rattle.crx_rinex.specs.EpochPlaces.{OpenEpoch}
-use Rattle.crx_filter.specs.Compactor.{Written}
+use Rattle.crx_text.specs.Lines.{InputLine}
+use Rattle.crx_filter.specs.Compactor.{Written, compaction, compaction_seen}
+use Rattle.crx_filter.specs.EngineLines.{HasTaken}
+use Rattle.crx_filter.specs.Engines.{Awaited}
 use Rattle.crx_filter.specs.LineByLine.{Seen}
 use Rattle.crx_filter.specs.Compacting.{seen_by}
 use Rattle.crx_filter.specs.ReadyLines.{ready_lines}
@@ -14,3 +17,7 @@ compactor_seen c = seen_by c.compaction
 -- the lines that are still to be lent
 abbrev pub compactor_ready : Compactor → List (List ℕ)
 compactor_ready c = ready_lines c.ready
+
+-- it has taken these lines, and where one is to come a second time, has answered this warning to it
+abbrev pub compactor_took : Compactor → List InputLine → List Awaited → Type 0
+compactor_took c lines notices = HasTaken compaction (compaction_seen (compactor_seen c).choices) (compactor_seen c) lines notices

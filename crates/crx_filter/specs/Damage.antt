@@ -1,18 +1,20 @@
 -- Damaged compact text: the observation lines of one block, from a full epoch up to the next line that begins a unit with >, are
 -- replaced but for the first.
 use Rattle.std.specs.Prelude.{ℕ, ◌≡◌, ◌⊎◌, Bool, true, false, not, ◌&&◌, ⊤, List, [], ◌∷◌, ◌++◌, ◌≤◌, suc, None, map, codes, length, drop, take}
-use Rattle.std.specs.List.{list_all, flat_map}
+use Rattle.std.specs.List.{AllByRecursion, list_all, flat_map}
 use Rattle.crx_text.specs.Lines.{Piece, InputLine, pieces_of, lines_of, is_long}
+use Rattle.crx_text.specs.declared.fault.At.{At}
 use Rattle.crx_rinex.specs.Observations.{Epoch}
 use Rattle.crx_rinex.specs.EpochLines.{begins_epoch}
-use Rattle.crx_text.specs.declared.fault.At.{At}
+use Rattle.crx_rinex.specs.Epochs.{IsWholeEpoch}
 use Rattle.crx_rinex.specs.Printing.{printed_epoch}
 use Rattle.crx_rinex.specs.Units.{HeaderLine, EventLine, EventRecord, Observation}
-use Rattle.crx_filter.specs.Choices.{Choices}
-use Rattle.crx_filter.specs.Items.{Item, Accepted, Warned}
+use Rattle.crx_filter.specs.Choices.{Choices, is_date}
+use Rattle.crx_filter.specs.Items.{Item, Accepted, Warned, types_in_force}
 use Rattle.crx_filter.specs.Messages.{message_text}
 use Rattle.crx_filter.specs.Results.{FilterResult, lines_text, status_after}
-use Rattle.crx_filter.specs.Compacted.{is_in_full, compact_unit, compact_lines}
+use Rattle.crx_filter.specs.Compacted.{is_in_full, compact_unit, compact_lines, compacted}
+use Rattle.crx_filter.specs.Expanded.{expanded}
 use Rattle.crx_filter.specs.Standard.{IsStandard, whole_of, printed_items}
 
 -- the lines of some epochs that stand after these items, the oldest first
@@ -38,7 +40,7 @@ may_replace line = not (is_long line) && not (begins_epoch line.content)
 abbrev pub lines_after : Choices → List (Item Epoch) → List (Item Epoch) → List (List ℕ)
 lines_after choices before all = drop (length (compact_lines choices before)) (compact_lines choices all)
 
--- whether what comes after a block begins a unit with >: nothing does, an event does, and so does an epoch in full
+-- what comes after a block: nothing, or a unit that begins with >, an event or an epoch in full
 abbrev pub BeginsAnew : Choices → List (Item Epoch) → List (Item Epoch) → Type 0
 BeginsAnew choices block [] = ⊤
 BeginsAnew choices block (Warned at ∷ []) = ⊥
@@ -72,10 +74,11 @@ pub record IsDamaged (input : List ℕ) (choices : Choices) (damaged : List ℕ)
 -- ---- what is saved
 
 -- what an expansion that skips faults writes and reports of damaged text: the exact text of all units before the block, then the text of
--- some epochs, and then the exact text of all units after it, with at most one warning. The epochs are first the block's own, as far as
--- the lines in place of the block's begin with theirs
+-- some epochs, and then the exact text of all units after it, with at most one warning. Each of the epochs is whole, by the types in force
+-- at the block, and they are first the block's own, as far as the lines in place of the block's begin with theirs
 pub record IsSalvaged (input : List ℕ) (choices : Choices) (damaged : List ℕ) (damage : IsDamaged input choices damaged) (result : FilterResult) : Type 0 where
   pub epochs : List Epoch
+  pub whole : AllByRecursion (IsWholeEpoch (types_in_force damage.before)) epochs
   pub warnings : List At
   pub few : length warnings ≤ 1
   pub output : result.output ≡ lines_text (
@@ -84,6 +87,22 @@ pub record IsSalvaged (input : List ℕ) (choices : Choices) (damaged : List ℕ
       ++ drop (length (printed_items (with_epochs damage.before (damage.first ∷ damage.others)))) (printed_items (whole_of input).items))
   pub messages : result.messages ≡ flat_map (message_text (codes "WARNING")) warnings
   pub status : result.status ≡ status_after warnings None
+  pub fault : result.fault ≡ None
   pub own : (count : ℕ) (rest : List (List ℕ))
       → map (λ (line : InputLine). line.content) (lines_of damage.instead) ≡ drop 1 (lines_of_epochs choices damage.before (take (suc count) (damage.first ∷ damage.others))) ++ rest
       → (more : List Epoch) × (epochs ≡ take (suc count) (damage.first ∷ damage.others) ++ more)
+
+-- ---- the law
+
+-- what is damaged is what the compaction writes, but for the lines of the block after its first
+abbrev pub IsOfCompaction : (input : List ℕ) (choices : Choices) (damaged : List ℕ) → IsDamaged input choices damaged → Type 0
+IsOfCompaction input choices damaged damage =
+    let block : List Epoch = damage.first ∷ damage.others in
+    (compacted input choices).output ≡
+    lines_text (compact_lines choices damage.before ++ lines_of_epochs choices damage.before block)
+    ++ lines_text (lines_after choices (with_epochs damage.before block) (whole_of input).items)
+
+-- damage stays in its block: an expansion that skips faults saves all else, whatever was chosen for the compaction
+abbrev pub StaysInItsBlock : List ℕ → Choices → Choices → List ℕ → Type 0
+StaysInItsBlock input compacting expanding damaged =
+    is_date compacting.date ≡ true → expanding.skip ≡ true → (damage : IsDamaged input compacting damaged) → IsSalvaged input compacting damaged damage (expanded damaged expanding)

@@ -9,12 +9,12 @@ use Rattle.crx_filter.specs.Reading.{Reading, WholeReading}
 use Rattle.crx_filter.specs.Results.{lines_text, written_lines}
 use Rattle.crx_filter.specs.Messages.{warnings_in}
 use Rattle.crx_filter.specs.Laws.{fault_of_stop}
-use Rattle.crx_filter.specs.Memory.{may_take_memory}
+use Rattle.crx_filter.specs.Memory.{takes_memory_at_last}
 use Rattle.crx_filter.specs.Filters.{Course, Filter}
 use Rattle.crx_filter.specs.Compacted.{compact_unit, rinex_reading, whole_rinex}
-use Rattle.crx_filter.specs.Compactor.{compaction_seen}
+use Rattle.crx_filter.specs.Compactor.{compaction, compaction_seen}
 use Rattle.crx_filter.specs.Expanded.{expanded_unit, compact_reading, whole_compact}
-use Rattle.crx_filter.specs.Expander.{expansion_seen}
+use Rattle.crx_filter.specs.Expander.{expansion, expansion_seen}
 
 -- what is written and reported for a reading as far as it goes, by what is written for each unit after the items before it
 abbrev pub course_so_far : {E : Type 0} → (List (Item E) → Unit E → List (List ℕ)) → Reading E → Course
@@ -29,7 +29,7 @@ abbrev pub compaction_filter : Choices → Filter
 compaction_filter choices = record {
   so_far = λ lines. course_so_far (compact_unit choices) (rinex_reading choices.skip (map seen lines));
   whole = λ lines. whole_course (compact_unit choices) (whole_rinex choices.skip (map seen lines));
-  may_take_memory = λ lines line. may_take_memory (compaction_seen choices (map seen lines)).phase (seen line);
+  may_take_memory = λ lines line. takes_memory_at_last compaction (compaction_seen choices (map seen lines)) (seen line);
 }
 
 -- expansion
@@ -37,5 +37,5 @@ abbrev pub expansion_filter : Choices → Filter
 expansion_filter choices = record {
   so_far = λ lines. course_so_far expanded_unit (compact_reading choices.skip (map seen lines));
   whole = λ lines. whole_course expanded_unit (whole_compact choices.skip (map seen lines));
-  may_take_memory = λ lines line. may_take_memory (expansion_seen choices (map seen lines)).phase (seen line);
+  may_take_memory = λ lines line. takes_memory_at_last expansion (expansion_seen choices (map seen lines)) (seen line);
 }

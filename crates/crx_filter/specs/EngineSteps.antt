@@ -6,7 +6,7 @@ use Rattle.crx_text.specs.declared.fault.Fault.{Fault}
 use Rattle.crx_text.specs.declared.fault.Fault.TheVariants.{OutOfMemory}
 use Rattle.crx_filter.specs.LineByLine.{Phase as SeenPhase, InFirstLines, InHeader, BetweenUnits, InEvent, InEpoch, LookingOn, Closed as SeenClosed, Ended as SeenEnded, Seen, Direction, Answer, Quiet as SeenQuiet, Ready as SeenReady, Notice, Failed, Step as SeenStep, seen_next, seen_end, failed_step}
 use Rattle.crx_filter.specs.Reading.{can_go_on}
-use Rattle.crx_filter.specs.Memory.{may_take_memory}
+use Rattle.crx_filter.specs.Memory.{takes_memory}
 use Rattle.crx_filter.specs.declared.engine.Step.{Step}
 use Rattle.crx_filter.specs.declared.engine.Step.TheVariants.{Quiet, Ready, Warned}
 use Rattle.crx_filter.specs.declared.settled.Settled.{Settled}
@@ -67,17 +67,18 @@ answer_of (Err at) = Failed at
 abbrev pub step_made : {O K : Type 0} → Result Step At → List (List ℕ) → Seen O K → SeenStep O K
 step_made result ready after = record { answer = answer_of result; lent = ready; next = after }
 
--- memory ran out at the next line, which is one that may take some
-pub record RanOut {O K : Type 0} (before : Seen O K) (line : ReadLine) (result : Result Step At) : Type 0 where
+-- memory ran out at the next line, which is one that may take some; that line counts
+pub record RanOut {U O K : Type 0} (direction : Direction U O K) (before : Seen O K) (line : ReadLine) (result : Result Step At) (after : Seen O K) : Type 0 where
   pub at : At
   pub is : result ≡ Err at
   pub fault : at.fault ≡ OutOfMemory
   pub place : at.line ≡ before.number + 1
-  pub allowed : may_take_memory before.phase line ≡ true
+  pub allowed : takes_memory direction before line ≡ true
+  pub counted : after.number ≡ before.number + 1
 
 -- the step of a line, or memory ran out at it
 abbrev pub Steps : {U O K : Type 0} → Direction U O K → Seen O K → ReadLine → Result Step At → List (List ℕ) → Seen O K → Type 0
-Steps direction before line result ready after = (step_made result ready after ≡ seen_next direction before line) ⊎ RanOut before line result
+Steps direction before line result ready after = (step_made result ready after ≡ seen_next direction before line) ⊎ RanOut direction before line result after
 
 -- ---- faults and the end of the input
 

@@ -1,5 +1,6 @@
 -- Expansion line by line: what is kept between two lines, by the tail of the epochs alone.
 use Rattle.std.specs.Prelude.{Bool, false, List, [], ◌∷◌, length, Option, Some, None, if◌then◌else◌}
+use Rattle.std.specs.Option.{is_some}
 use Rattle.crx_text.specs.Seen.{ReadLine, Content, Overlong}
 use Rattle.crx_rinex.specs.EpochLines.{is_event_line}
 use Rattle.crx_rinex.specs.Places.{Here, Wrong, Wanted}
@@ -51,6 +52,7 @@ abbrev pub expansion : Direction HeldEpoch OpenRawEpoch (Option Tail)
 expansion = record {
   begins = compact_begins;
   continues = compact_continues;
+  goes_on = λ tail. is_some tail;
   kept_after = tail_kept;
   kept_open = λ tail. None;
   emptied = λ tail. None;

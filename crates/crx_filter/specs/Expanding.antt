@@ -1,11 +1,14 @@
 -- What an engine of expansion is seen as, and what it does at a fault.
-use Rattle.std.specs.Prelude.{◌≡◌, Bool, [], Option, Result}
+use Rattle.std.specs.Prelude.{◌≡◌, Bool, List, [], Option, Result}
+use Rattle.crx_text.specs.Lines.{InputLine}
 use Rattle.crx_text.specs.Seen.{ReadLine}
 use Rattle.crx_text.specs.declared.fault.At.{At}
 use Rattle.crx_text.specs.declared.fault.Fault.{Fault}
 use Rattle.crx_compact.specs.OpenEpochs.{OpenRawEpoch}
 use Rattle.crx_compact.specs.Tails.{Tail}
-use Rattle.crx_filter.specs.Expander.{expansion}
+use Rattle.crx_filter.specs.Expander.{expansion, expansion_seen}
+use Rattle.crx_filter.specs.EngineLines.{HasTaken}
+use Rattle.crx_filter.specs.Engines.{Awaited}
 use Rattle.crx_filter.specs.LineByLine.{Seen, failed_step}
 use Rattle.crx_filter.specs.Reading.{can_go_on}
 use Rattle.crx_filter.specs.EngineSteps.{IsAt, step_made}
@@ -17,6 +20,10 @@ use Rattle.crx_filter.specs.declared.stage.Stage.{Stage}
 -- what an engine is seen as
 abbrev pub seen_by : Expander → Seen OpenRawEpoch (Option Tail)
 seen_by e = seen_with e.options e.number e.reader
+
+-- it has taken these lines, and where one is to come a second time, has answered this warning to it
+abbrev pub expander_took : Expander → List InputLine → List Awaited → Type 0
+expander_took e lines notices = HasTaken expansion (expansion_seen e.options) (seen_by e) lines notices
 
 -- a fault of the next line is answered, whatever was kept before it
 abbrev pub Fails : Expander → Stage → Fault → Bool → Result Step At → Expander → Type 0

@@ -1,4 +1,4 @@
--- What the laws of this crate say, where it is long.
+-- What the laws of both filters say, where it is long.
 use Rattle.std.specs.Prelude.{◌≡◌, ◌<◌, if◌then◌else◌, ℕ, Bool, true, false, List, [], ◌∷◌, ◌++◌, Option, Some, None, map, ⊤}
 use Rattle.crx_text.specs.Seen.{ReadLine}
 use Rattle.crx_rinex.specs.Places.{Place, Here, Wanted}

@@ -47,11 +47,13 @@ pub data Made (U O : Type 0) : Type 0 where
   Fails : Fault → Made U O
   Repeats : At → Made U O
 
--- what differs between the two directions: what a line makes where an epoch or an event may begin; what it makes in an epoch; what
--- is kept after a unit, while an epoch is open, and after a fault; and the lines written for a unit
+-- what differs between the two directions: what a line makes where an epoch or an event may begin; what it makes in an epoch; whether
+-- an epoch's line may go on from what is kept, and then needs no >; what is kept after a unit, while an epoch is open, and after a
+-- fault; and the lines written for a unit
 pub record Direction (U O K : Type 0) : Type 0 where
   pub begins : List Count → K → ReadLine → Made U O
   pub continues : O → ReadLine → Made U O
+  pub goes_on : K → Bool
   pub kept_after : Seen O K → Unit U → K
   pub kept_open : K → K
   pub emptied : K → K

@@ -36,7 +36,7 @@ pub record CompletedEpoch (made : Made ObservationEpoch OpenEpoch) (line : List 
   pub held : after.epoch ≡ Some epoch
   pub is : Completed made (Observation epoch) before after
   pub full : is_full_epoch epoch ≡ true
-  pub allowed : may_take_memory (reader_phase before) (Content line) ≡ true
+  pub allowed : may_take_memory false (reader_phase before) (Content line) ≡ true
 
 -- what a step says of a line
 abbrev pub Takes : Made ObservationEpoch OpenEpoch → RinexReader → List ℕ → RinexStep → RinexReader → Type 0
@@ -48,4 +48,4 @@ Takes made before line Epoch after = CompletedEpoch made line before after
 
 -- a fault is that of the line, or memory ran out at a line that may take some
 abbrev pub Refuses : Made ObservationEpoch OpenEpoch → RinexReader → List ℕ → Fault → Type 0
-Refuses made before line fault = (made ≡ Fails fault) ⊎ ((fault ≡ OutOfMemory) × (may_take_memory (reader_phase before) (Content line) ≡ true))
+Refuses made before line fault = (made ≡ Fails fault) ⊎ ((fault ≡ OutOfMemory) × (may_take_memory false (reader_phase before) (Content line) ≡ true))

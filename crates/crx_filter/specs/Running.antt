@@ -1,6 +1,6 @@
 -- A run between two lines, and how it goes on or ends.
 use Rattle.std.specs.Prelude.{◌≡◌, ◌⊎◌, ◌<◌, ◌≤◌, ℕ, ◌+◌, Bool, true, false, List, [], ◌++◌, length, take, Option, Some, None}
-use Rattle.crx_text.specs.Devices.{Tally, one_more}
+use Rattle.crx_text.specs.Devices.{Tally, one_more, tally_of}
 use Rattle.crx_text.specs.Lines.{InputLine}
 use Rattle.crx_text.specs.Reading.{Reading}
 use Rattle.crx_text.specs.Progress.{HasRead}
@@ -22,6 +22,10 @@ pub record Input : Type 1 where
   pub start : Tally
   pub counted : Tally
 
+-- a reader between two states, by what it gave, its end and its counts
+abbrev pub reader_between : {S : Type 0} → (S → List ℕ → S → Type 0) → (S → Type 0) → (S → ℕ) → (S → ℕ) → S → S → Input
+reader_between gave at_end failures ends old new = record { gave = λ given. gave old given new; at_end = at_end new; start = tally_of (failures old) (ends old); counted = tally_of (failures new) (ends new) }
+
 -- these lines were read of an input, and what they make was written and reported
 pub record IsRunning (input : Input) (writer messages : Device) (now : Reading) (lines : List InputLine) (course : Course) : Type 0 where
   pub read : HasRead input.gave input.at_end input.start input.counted now lines
@@ -36,7 +40,6 @@ IsWithinLimit now = (now.number ≤ now.lent) × (now.lent ≤ INPUT_LIMIT)
 
 -- ---- how a run ends
 
--- a course as far as it was written and reported before a line, and with the line
 -- the reader stopped: its fault, after the lines whose LF was given
 pub record ReaderStopped (input : Input) (writer messages : Device) (now : Reading) (lines : List InputLine) (course : Course) (at : At) : Type 0 where
   pub read : HasRead input.gave input.at_end input.start input.counted now lines

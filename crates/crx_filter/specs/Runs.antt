@@ -1,5 +1,6 @@
 -- What a whole run writes, reports and answers, by what its reader gave; and how it ended.
-use Rattle.std.specs.Prelude.{◌≡◌, ◌<◌, ◌≤◌, ◌-◌, ◌^◌, ℕ, Bool, true, false, List, [], ◌++◌, length, Option, Some, None}
+use Rattle.std.specs.Prelude.{◌≡◌, ◌⊎◌, ◌<◌, ◌≤◌, ◌-◌, ◌^◌, ℕ, Bool, true, false, List, [], ◌++◌, length, Option, Some, None}
+use Rattle.crx_text.specs.Devices.{one_more}
 use Rattle.crx_text.specs.Lines.{InputLine, lines_of}
 use Rattle.crx_text.specs.declared.fault.At.{At}
 use Rattle.crx_text.specs.declared.fault.Fault.{Fault}
@@ -74,7 +75,13 @@ pub record RunsAs (result_of : List ℕ → FilterResult) (filter : Filter) (inp
       × IsResult (result_of given) writer messages status fault
   -- where a fault stands, the status is 1, and the fault says what ended the run and what was written and reported by then
   pub ended : (at : At) → fault ≡ Some at → (status ≡ 1) × Stands filter input given writer messages at at.fault
+  -- the end of the input was reported at most once: it was never asked for again
+  pub asked : (input.counted.ends ≡ input.start.ends) ⊎ (input.counted.ends ≡ one_more input.start.ends)
   -- no read failed, unless that is the fault
   pub read : (FaultIs ReadFailed fault → ⊥) → input.counted.failures ≡ input.start.failures
   -- what was written is a prefix of what is due
   pub salvaged : IsSalvaged filter input given writer
+
+-- a run from a reader to a writer and to messages: its reader gave some bytes, and it is what they make of it
+abbrev pub Runs : (List ℕ → FilterResult) → Filter → Input → Device → Device → ℕ → Option At → Type 0
+Runs result_of filter input writer messages status fault = (given : List ℕ) × input.gave given × RunsAs result_of filter input given writer messages status fault

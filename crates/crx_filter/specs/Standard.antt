@@ -1,6 +1,6 @@
 -- Standard files: those whose lines are what printing gives back; the normal form of the others; and what is reported of a file.
 -- Lists of items have the newest first.
-use Rattle.std.specs.Prelude.{ℕ, ℤ, ◌≡◌, ◌+◌, Bool, true, false, ◌&&◌, List, [], ◌∷◌, ◌++◌, map, Option, Some, None, if◌then◌else◌, codes, decimal}
+use Rattle.std.specs.Prelude.{ℕ, ◌≡◌, ◌+◌, Bool, true, false, ◌&&◌, List, [], ◌∷◌, ◌++◌, map, Option, Some, None, if◌then◌else◌, codes, decimal}
 use Rattle.std.specs.List.{list_all, flat_map}
 use Rattle.std.specs.Str.{bytes_eq}
 use Rattle.crx_text.specs.Columns.{columns, without_blanks}
@@ -124,10 +124,6 @@ report_lines found =
     ∷ (codes "observations " ++ decimal found.observations)
     ∷ (codes "standard" ++ standard_text found.not_standard)
     ∷ []
-
--- the report of a file that is read to its good end
-abbrev pub report_of : List ℕ → List ℕ
-report_of input = lines_text (report_lines (findings_of (lines_of input)))
 
 -- the report is written once the whole input is accepted, and nothing before; 0 where the file is standard, 2 where it isn't, 1
 -- after a fault

@@ -50,6 +50,10 @@ pub record Device : Type 1 where
   pub before : ℕ
   pub after : ℕ
 
+-- a writer between two states, by what it took and by its counts
+abbrev pub between : {S : Type 0} → (S → List ℕ → S → Type 0) → (S → ℕ) → S → S → Device
+between took failures old new = record { took = λ text. took old text new; before = failures old; after = failures new }
+
 -- it took a text whole, and counted no failure
 abbrev pub TookAll : Device → List ℕ → Type 0
 TookAll device text = device.took text × (device.after ≡ device.before)

@@ -27,7 +27,7 @@ use std::alloc::Global;
 
 /// Checks a RINEX file, whose lines it takes one at a time; once the whole input was accepted, it lends the six lines of the report.
 #[derive(Drop)]
-pub struct Checker {
+pub(crate) struct Checker {
     reader: RinexReader,
     /// The number of the last line.
     number: u64,
@@ -42,7 +42,7 @@ pub struct Checker {
 
 impl Checker {
     /// A checker before the first line of its input.
-    pub fn new(alloc: Global) -> Checker
+    pub(crate) fn new(alloc: Global) -> Checker
         ensures taken { HasTaken result [] [] }
         ensures running { IsOpen result }
         ensures drained { ready_lines result ≡ [] }
@@ -63,7 +63,7 @@ impl Checker {
     }
 
     /// The number of the first line that isn't standard, among the lines so far.
-    pub fn not_standard(&self) -> Option<u64>
+    pub(crate) fn not_standard(&self) -> Option<u64>
         ensures { result ≡ self.now.not_standard }
     {
         self.not_standard

@@ -2,11 +2,12 @@
 
 ghost use Rattle.std.specs.Prelude.{◌≡◌, ℕ, List, [], None, Some};
 ghost use Rattle.crx_text.specs.declared.fault.At.{At};
-ghost use Rattle.crx_text.specs.Devices.{tally_of};
 ghost use Rattle.crx_filter.specs.Checkers.{HasTaken, IsOpen, ready_lines};
 ghost use Rattle.crx_filter.specs.Checking.{check_filter};
-ghost use Rattle.crx_filter.specs.Runs.{RunsAs};
+ghost use Rattle.crx_filter.specs.Runs.{Runs};
 ghost use Rattle.crx_filter.specs.Standard.{checked, report_status};
+ghost use Rattle.crx_filter.specs.Taking.{between};
+ghost use Rattle.crx_filter.specs.Running.{reader_between};
 
 use crate::checker::Checker;
 use crate::outcome::Outcome;
@@ -42,12 +43,9 @@ fn check_by<R: Source, W: Sink, M: Sink>(
     requires taken { HasTaken checker.old [] [] }
     requires open { IsOpen checker.old }
     requires drained { ready_lines checker.old ≡ [] }
-    ensures runs { (given : List ℕ) × R.gave reader.old given reader.new × RunsAs checked check_filter
-        (record { gave = λ given. R.gave reader.old given reader.new; at_end = R.at_end reader.new; start = tally_of (R.failures reader.old) (R.ends reader.old); counted = tally_of (R.failures reader.new) (R.ends reader.new) })
-        given
-        (record { took = λ text. W.took writer.old text writer.new; before = W.failures writer.old; after = W.failures writer.new })
-        (record { took = λ text. M.took messages.old text messages.new; before = M.failures messages.old; after = M.failures messages.new })
-        result.status result.fault }
+    ensures runs { Runs checked check_filter
+        (reader_between R.gave R.at_end R.failures R.ends reader.old reader.new)
+        (between W.took W.failures writer.old writer.new) (between M.took M.failures messages.old messages.new) result.status result.fault }
 {
     let outcome = run(alloc, checker, reader, writer, messages);
     judged(outcome, checker.not_standard())
@@ -62,12 +60,9 @@ pub fn check<R: Source, W: Sink, M: Sink>(
     writer: &mut W,
     messages: &mut M,
 ) -> Outcome
-    ensures runs { (given : List ℕ) × R.gave reader.old given reader.new × RunsAs checked check_filter
-        (record { gave = λ given. R.gave reader.old given reader.new; at_end = R.at_end reader.new; start = tally_of (R.failures reader.old) (R.ends reader.old); counted = tally_of (R.failures reader.new) (R.ends reader.new) })
-        given
-        (record { took = λ text. W.took writer.old text writer.new; before = W.failures writer.old; after = W.failures writer.new })
-        (record { took = λ text. M.took messages.old text messages.new; before = M.failures messages.old; after = M.failures messages.new })
-        result.status result.fault }
+    ensures runs { Runs checked check_filter
+        (reader_between R.gave R.at_end R.failures R.ends reader.old reader.new)
+        (between W.took W.failures writer.old writer.new) (between M.took M.failures messages.old messages.new) result.status result.fault }
 {
     let mut checker = Checker::new(alloc);
     check_by(alloc, &mut checker, reader, writer, messages)

@@ -67,7 +67,7 @@ impl CompactReader {
     fn first_line(&mut self, count: usize, line: &[u8]) -> Result<CompactStep, Fault>
         requires idle { is_idle self.old.columns ≡ true }
         ensures takes { (choices : Choices) (number : ℕ) → IfOk result (Takes (made_of_first_lines count line.now) line.now (seen_in choices number self.old (FirstLines count)) (seen_with choices number self.new)) }
-        ensures refuses { IfErr result (Refuses (made_of_first_lines count line.now) (seen_stage (open_in self.old.columns) (FirstLines count)) line.now) }
+        ensures refuses { IfErr result (Refuses (tail_held self.old.columns) (made_of_first_lines count line.now) (seen_stage (open_in self.old.columns) (FirstLines count)) line.now) }
         ensures types { OnErr result (self.new.types ≡ self.old.types) }
     {
         if count == 0 {
@@ -86,7 +86,7 @@ impl CompactReader {
     fn header_line(&mut self, is_first: bool, line: &[u8]) -> Result<CompactStep, Fault>
         requires idle { is_idle self.old.columns ≡ true }
         ensures takes { (choices : Choices) (number : ℕ) → IfOk result (Takes (made_of_unit (header_line is_first line.now)) line.now (seen_in choices number self.old (Header is_first)) (seen_with choices number self.new)) }
-        ensures refuses { IfErr result (Refuses (made_of_unit (header_line is_first line.now)) (seen_stage (open_in self.old.columns) (Header is_first)) line.now) }
+        ensures refuses { IfErr result (Refuses (tail_held self.old.columns) (made_of_unit (header_line is_first line.now)) (seen_stage (open_in self.old.columns) (Header is_first)) line.now) }
         ensures types { OnErr result (self.new.types ≡ self.old.types) }
     {
         accept_header_line(&mut self.types, is_first, line)?;
@@ -102,7 +102,7 @@ impl CompactReader {
     fn record(&mut self, left: usize, counted: bool, line: &[u8]) -> Result<CompactStep, Fault>
         requires idle { is_idle self.old.columns ≡ true }
         ensures takes { (choices : Choices) (number : ℕ) → IfOk result (Takes (made_of_unit (event_record counted line.now)) line.now (seen_in choices number self.old (Event left counted)) (seen_with choices number self.new)) }
-        ensures refuses { IfErr result (Refuses (made_of_unit (event_record counted line.now)) (seen_stage (open_in self.old.columns) (Event left counted)) line.now) }
+        ensures refuses { IfErr result (Refuses (tail_held self.old.columns) (made_of_unit (event_record counted line.now)) (seen_stage (open_in self.old.columns) (Event left counted)) line.now) }
         ensures types { OnErr result (self.new.types ≡ self.old.types) }
     {
         accept_record(&mut self.types, counted, line)?;
@@ -118,7 +118,7 @@ impl CompactReader {
         requires idle { is_idle self.old.columns ≡ true }
         requires short { length line.now ≤ LINE_LIMIT }
         ensures takes { (choices : Choices) (number : ℕ) (stage : Stage) → IfOk result (Takes (compact_begins self.old.types (tail_held self.old.columns) (Content line.now)) line.now (seen_in choices number self.old stage) (seen_with choices number self.new)) }
-        ensures refuses { IfErr result (λ fault. Refuses (compact_begins self.old.types (tail_held self.old.columns) (Content line.now)) BetweenUnits line.now fault) }
+        ensures refuses { IfErr result (λ fault. Refuses (tail_held self.old.columns) (compact_begins self.old.types (tail_held self.old.columns) (Content line.now)) BetweenUnits line.now fault) }
         ensures types { OnErr result (self.new.types ≡ self.old.types) }
     {
         if is_event_line(line) {
@@ -138,7 +138,7 @@ impl CompactReader {
         requires open { wants_lines self.old.columns ≡ true }
         requires short { length line.now ≤ LINE_LIMIT }
         ensures takes { (choices : Choices) (number : ℕ) → IfOk result (Takes (made_in expansion (seen_stage (open_in self.old.columns) Open) self.old.types None (Content line.now)) line.now (seen_in choices number self.old Open) (seen_with choices number self.new)) }
-        ensures refuses { IfErr result (Refuses (made_in expansion (seen_stage (open_in self.old.columns) Open) self.old.types None (Content line.now)) (seen_stage (open_in self.old.columns) Open) line.now) }
+        ensures refuses { IfErr result (Refuses (tail_held self.old.columns) (made_in expansion (seen_stage (open_in self.old.columns) Open) self.old.types None (Content line.now)) (seen_stage (open_in self.old.columns) Open) line.now) }
         ensures types { OnErr result (self.new.types ≡ self.old.types) }
     {
         if begins_epoch(line) {
@@ -166,7 +166,7 @@ impl CompactReader {
         requires running { is_ended self.old.stage ≡ false }
         requires short { length line.now ≤ LINE_LIMIT }
         ensures takes { (choices : Choices) (number : ℕ) → IfOk result (Takes (made_next self.old line.now) line.now (seen_with choices number self.old) (seen_with choices number self.new)) }
-        ensures refuses { IfErr result (Refuses (made_next self.old line.now) (phase_of self.old) line.now) }
+        ensures refuses { IfErr result (Refuses (tail_held self.old.columns) (made_next self.old line.now) (phase_of self.old) line.now) }
         ensures types { OnErr result (self.new.types ≡ self.old.types) }
     {
         match self.stage {
@@ -180,12 +180,21 @@ impl CompactReader {
         }
     }
 
+    /// Takes back an epoch that [`CompactReader::read`] gave, where there is one: its memory serves the epochs after it.
+    pub(crate) fn take_back(&mut self, epoch: Option<Epoch>)
+        ensures same { (choices : Choices) (number : ℕ) → seen_with choices number self.new ≡ seen_with choices number self.old }
+    {
+        if let Some(epoch) = epoch {
+            self.columns.take_epoch_back(epoch);
+        }
+    }
+
     /// Takes a line where one that begins with `>` is looked for.
     fn look(&mut self, line: &[u8]) -> Result<CompactStep, Fault>
         requires looking { self.old.stage ≡ Looking }
         requires short { length line.now ≤ LINE_LIMIT }
         ensures takes { (choices : Choices) (number : ℕ) → IfOk result (Takes (made_next self.old line.now) line.now (seen_with choices number self.old) (seen_with choices number self.new)) }
-        ensures refuses { IfErr result (Refuses (made_next self.old line.now) (phase_of self.old) line.now) }
+        ensures refuses { IfErr result (Refuses (tail_held self.old.columns) (made_next self.old line.now) (phase_of self.old) line.now) }
         ensures types { OnErr result (self.new.types ≡ self.old.types) }
     {
         if begins_epoch(line) {

@@ -100,6 +100,7 @@ impl Compaction {
         ensures drained { ready_lines ready.new ≡ [] }
         ensures ended { IfErr result (λ at. (seen_by self.new).phase ≡ Ended at) }
         ensures fatal { is_skippable fault ≡ false → result ≡ Err (record { line = self.old.number + 1; fault = fault }) }
+        ensures counts { is_skippable fault ≡ false → (seen_by self.new).number ≡ self.old.number + 1 }
         ensures choices { (seen_by self.new).choices ≡ (seen_by self.old).choices }
     {
         ready.clear();

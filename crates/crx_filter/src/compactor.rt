@@ -18,17 +18,21 @@ pub struct Compactor {
 }
 
 impl Compactor {
-    ghost use Rattle.std.specs.Prelude.{◌≡◌, ◌+◌, ◌≤◌, ◌⊎◌, ◌↔◌, [], drop, slice_get, OnOk, OnErr, IfOk, IfErr, Err, IsTrue, true, false};
+    ghost use Rattle.std.specs.Prelude.{◌≡◌, ◌+◌, ◌≤◌, ◌⊎◌, ◌↔◌, List, [], drop, slice_get, OnOk, OnErr, IfOk, IfErr, Err, IsTrue, true, false};
     ghost use Rattle.std.specs.Borrow.{sem};
     ghost use Rattle.std.specs.Io.BufRead.{Rests};
     ghost use Rattle.std.specs.Option.{option_copied};
+    ghost use Rattle.crx_text.specs.Lines.{InputLine, is_long};
     ghost use Rattle.crx_text.specs.Reading.{line_shown, line_number};
     ghost use Rattle.crx_text.specs.Seen.{Content, Overlong};
+    ghost use Rattle.crx_text.specs.declared.fault.At.{At};
     ghost use Rattle.crx_text.specs.declared.limits.TheConstants.{INPUT_LIMIT};
     ghost use Rattle.crx_filter.specs.Compactor.{compaction, compaction_seen};
     ghost use Rattle.crx_filter.specs.LineByLine.{Ended, seen_next, seen_end};
     ghost use Rattle.crx_filter.specs.EngineSteps.{Steps, step_made};
-    ghost use Rattle.crx_filter.specs.Compactors.{compactor_seen, compactor_ready};
+    ghost use Rattle.crx_filter.specs.Compactors.{compactor_seen, compactor_ready, compactor_took};
+    ghost use Rattle.crx_filter.specs.Directions.{compaction_filter};
+    ghost use Rattle.crx_filter.specs.Engines.{Answers, Awaited, Concludes, IsAwaited};
     ghost use Rattle.crx_filter.specs.contracts.compactor.Compactor.{the_row};
 
     /// A compaction before the first line of its input. It takes the memory for the lines that are copied; `AllocError` comes
@@ -84,6 +88,10 @@ impl Compactor {
         ensures ended { IfErr result (λ at. (compactor_seen self.new).phase ≡ Ended at) }
         ensures nothing { OnErr result (compactor_ready self.new ≡ []) }
         ensures choices { (compactor_seen self.new).choices ≡ (compactor_seen self.old).choices }
+        // After the lines that it has taken, the answer, and the lines that are ready, are what the compaction of these and the next one adds.
+        ensures answers { (lines : List InputLine) (notices : List Awaited) → compactor_took self.old lines notices → IsAwaited notices (line_shown line.entry)
+            → Answers (compaction_filter (compactor_seen self.old).choices) (compactor_took self.new) (compactor_ready self.new) lines notices (line_shown line.entry) result }
+        ensures repeated { (at : At) → (compactor_seen self.old).phase ≡ Ended at → result ≡ Err at }
     {
         self.compaction.feed(line.bytes(), &mut self.ready)
     }
@@ -98,6 +106,9 @@ impl Compactor {
         ensures ended { IfErr result (λ at. (compactor_seen self.new).phase ≡ Ended at) }
         ensures drained { compactor_ready self.new ≡ [] }
         ensures choices { (compactor_seen self.new).choices ≡ (compactor_seen self.old).choices }
+        ensures answers { (lines : List InputLine) (notices : List Awaited) (line : InputLine) → compactor_took self.old lines notices → IsAwaited notices line → is_long line ≡ true
+            → Answers (compaction_filter (compactor_seen self.old).choices) (compactor_took self.new) (compactor_ready self.new) lines notices line result }
+        ensures repeated { (at : At) → (compactor_seen self.old).phase ≡ Ended at → result ≡ Err at }
     {
         let _ = number;
         self.compaction.overlong(&mut self.ready)
@@ -113,6 +124,9 @@ impl Compactor {
         ensures ended { IfErr result (λ at. (compactor_seen self.new).phase ≡ Ended at) }
         ensures drained { compactor_ready self.new ≡ [] }
         ensures choices { (compactor_seen self.new).choices ≡ (compactor_seen self.old).choices }
+        // After the lines that it has taken, the answer is what the compaction of them all adds.
+        ensures concludes { (lines : List InputLine) → compactor_took self.old lines [] → Concludes (compaction_filter (compactor_seen self.old).choices) [] lines result }
+        ensures repeated { (at : At) → (compactor_seen self.old).phase ≡ Ended at → result ≡ Err at }
     {
         self.compaction.end()
     }

@@ -1,12 +1,16 @@
 //! Expansion, one line of compact text at a time.
 
-ghost use Rattle.std.specs.Prelude.{◌≡◌, ◌+◌, ◌≤◌, ◌<◌, ◌↔◌, [], IsTrue, IfOk, IfErr, OnErr, Err, Ok, false, drop, length, slice_get};
+ghost use Rattle.std.specs.Prelude.{◌≡◌, ℕ, ◌+◌, ◌≤◌, ◌<◌, ◌↔◌, List, [], IsTrue, IfOk, IfErr, OnErr, Err, Ok, true, false, drop, length, slice_get};
+ghost use Rattle.crx_text.specs.Lines.{InputLine, is_long};
 ghost use Rattle.crx_text.specs.Seen.{Content, Overlong};
 ghost use Rattle.crx_text.specs.Reading.{line_number, line_shown};
 ghost use Rattle.crx_text.specs.declared.fault.At.{At};
 ghost use Rattle.crx_text.specs.declared.limits.TheConstants.{INPUT_LIMIT, LINE_LIMIT};
-ghost use Rattle.crx_filter.specs.CompactReaders.{answer_for, lent_for};
-ghost use Rattle.crx_filter.specs.EngineSteps.{Steps, answer_of, is_ended, step_made};
+ghost use Rattle.crx_filter.specs.Choices.{Choices};
+ghost use Rattle.crx_filter.specs.CompactReaders.{answer_for, lent_for, seen_with};
+ghost use Rattle.crx_filter.specs.Directions.{expansion_filter};
+ghost use Rattle.crx_filter.specs.Engines.{Answers, Awaited, Concludes, IsAwaited};
+ghost use Rattle.crx_filter.specs.EngineSteps.{Steps, answer_of, step_made};
 ghost use Rattle.crx_filter.specs.LineByLine.{seen_end, seen_next};
 ghost use Rattle.crx_filter.specs.Expander.{expansion, expansion_seen};
 ghost use Rattle.crx_filter.specs.Reading.{is_skippable};
@@ -36,7 +40,7 @@ impl Expander {
     ghost use Rattle.std.specs.Io.BufRead.{Rests};
     ghost use Rattle.std.specs.Option.{option_copied};
     ghost use Rattle.crx_filter.specs.contracts.expander.Expander.{the_row};
-    ghost use Rattle.crx_filter.specs.Expanding.{Fails, seen_by};
+    ghost use Rattle.crx_filter.specs.Expanding.{Fails, expander_took, seen_by};
 
     /// An expansion before the first line of its input. Of the options it uses alone whether faults are skipped.
     ///
@@ -88,11 +92,10 @@ impl Expander {
         ensures drained { OnErr result (self.new.lines ≡ []) }
         ensures ended { IfErr result (λ at. self.new.reader.stage ≡ Ended at) }
         ensures repeated { (at : At) → self.old.reader.stage ≡ Ended at → result ≡ Err at }
+        // After the lines that it has taken, the answer, and the lines that are ready, are what the expansion of these and the next one adds.
+        ensures answers { (lines : List InputLine) (notices : List Awaited) → expander_took self.old lines notices → IsAwaited notices (line_shown line.entry)
+            → Answers (expansion_filter self.old.options) (expander_took self.new) self.new.lines lines notices (line_shown line.entry) result }
     {
-        if let Stage::Ended(at) = self.reader.stage {
-            self.number += 1;
-            return Err(at);
-        }
         self.take(line.bytes())
     }
 
@@ -105,19 +108,14 @@ impl Expander {
         requires within { number ≤ INPUT_LIMIT }
         ensures steps { step_made result self.new.lines (seen_by self.new) ≡ seen_next expansion (seen_by self.old) Overlong }
         ensures options { self.new.options ≡ self.old.options }
+        // After a fault that ends the run no line is lent, and the same is answered from then on.
+        ensures drained { OnErr result (self.new.lines ≡ []) }
         ensures ended { IfErr result (λ at. self.new.reader.stage ≡ Ended at) }
         ensures repeated { (at : At) → self.old.reader.stage ≡ Ended at → result ≡ Err at }
+        ensures answers { (lines : List InputLine) (notices : List Awaited) (line : InputLine) → expander_took self.old lines notices → IsAwaited notices line → is_long line ≡ true
+            → Answers (expansion_filter self.old.options) (expander_took self.new) self.new.lines lines notices line result }
     {
-        let stage = self.reader.stage;
-        if let Stage::Ended(at) = stage {
-            self.number = number;
-            return Err(at);
-        }
-        if stage.is_settled() {
-            self.number = number;
-            return Ok(Step::Quiet);
-        }
-        self.fail(stage, Fault::LineTooLong, false)
+        self.pass(number)
     }
 
     /// Takes the end of the input.
@@ -133,6 +131,8 @@ impl Expander {
         ensures options { self.new.options ≡ self.old.options }
         ensures ended { IfErr result (λ at. self.new.reader.stage ≡ Ended at) }
         ensures repeated { (at : At) → self.old.reader.stage ≡ Ended at → result ≡ Err at }
+        // After the lines that it has taken, the answer is what the expansion of them all adds.
+        ensures concludes { (lines : List InputLine) → expander_took self.old lines [] → Concludes (expansion_filter self.old.options) self.new.lines lines result }
     {
         let settled = after_end(self.reader.stage, self.number, self.options.skip());
         self.reader.settle(settled.stage, settled.is_emptied);
@@ -140,9 +140,31 @@ impl Expander {
         settled.answer
     }
 
-    /// Takes the content of a line, where no fault has ended the run.
+    /// Takes a line that is too long: see [`Expander::overlong`].
+    fn pass(&mut self, number: u64) -> Result<Step, At>
+        requires drained { self.old.lines ≡ [] }
+        requires next { number ≡ self.old.number + 1 }
+        requires within { number ≤ INPUT_LIMIT }
+        ensures steps { step_made result self.new.lines (seen_by self.new) ≡ seen_next expansion (seen_by self.old) Overlong }
+        ensures options { self.new.options ≡ self.old.options }
+        ensures drained { OnErr result (self.new.lines ≡ []) }
+        ensures ended { IfErr result (λ at. self.new.reader.stage ≡ Ended at) }
+        ensures repeated { (at : At) → self.old.reader.stage ≡ Ended at → result ≡ Err at }
+    {
+        let stage = self.reader.stage;
+        if let Stage::Ended(at) = stage {
+            self.number = number;
+            return Err(at);
+        }
+        if stage.is_settled() {
+            self.number = number;
+            return Ok(Step::Quiet);
+        }
+        self.fail(stage, Fault::LineTooLong, false)
+    }
+
+    /// Takes the content of a line: see [`Expander::feed`].
     fn take(&mut self, line: &[u8]) -> Result<Step, At>
-        requires running { is_ended self.old.reader.stage ≡ false }
         requires drained { self.old.lines ≡ [] }
         requires short { length line.now ≤ LINE_LIMIT }
         requires within { self.old.number < INPUT_LIMIT }
@@ -150,12 +172,17 @@ impl Expander {
         ensures options { self.new.options ≡ self.old.options }
         ensures drained { OnErr result (self.new.lines ≡ []) }
         ensures ended { IfErr result (λ at. self.new.reader.stage ≡ Ended at) }
+        ensures repeated { (at : At) → self.old.reader.stage ≡ Ended at → result ≡ Err at }
     {
         let stage = self.reader.stage;
+        if let Stage::Ended(at) = stage {
+            self.number += 1;
+            return Err(at);
+        }
         match self.reader.read(line) {
             Ok(step) => {
                 self.number += 1;
-                Ok(make_ready(&mut self.lines, step, line))
+                Ok(make_ready(&mut self.lines, &mut self.reader, step, line))
             }
             Err(fault) => self.fail(stage, fault, begins_epoch(line)),
         }
@@ -178,12 +205,18 @@ impl Expander {
     }
 }
 
-/// Makes ready what a line gives.
-fn make_ready(lines: &mut ExpandedLines, step: CompactStep, line: &[u8]) -> Step
+/// Makes ready what a line gives; the reader gets the epoch back that was lent before.
+fn make_ready(
+    lines: &mut ExpandedLines,
+    reader: &mut CompactReader,
+    step: CompactStep,
+    line: &[u8],
+) -> Step
     requires drained { lines.old ≡ [] }
     requires short { length line.now ≤ LINE_LIMIT }
     ensures lent { lines.new ≡ lent_for line.now step }
     ensures answer { answer_of (Ok result) ≡ answer_for step }
+    ensures same { (choices : Choices) (number : ℕ) → seen_with choices number reader.new ≡ seen_with choices number reader.old }
 {
     match step {
         CompactStep::Nothing => Step::Quiet,
@@ -192,7 +225,8 @@ fn make_ready(lines: &mut ExpandedLines, step: CompactStep, line: &[u8]) -> Step
             Step::Ready
         }
         CompactStep::Whole(epoch) => {
-            lines.print(epoch);
+            let earlier = lines.print(epoch);
+            reader.take_back(earlier);
             Step::Ready
         }
     }

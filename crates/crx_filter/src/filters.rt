@@ -1,11 +1,12 @@
 //! Both filters over a whole input.
 
 ghost use Rattle.std.specs.Prelude.{◌≡◌, ℕ, List};
-ghost use Rattle.crx_text.specs.Devices.{tally_of};
 ghost use Rattle.crx_filter.specs.Compacted.{compacted};
 ghost use Rattle.crx_filter.specs.Directions.{compaction_filter, expansion_filter};
 ghost use Rattle.crx_filter.specs.Expanded.{expanded};
-ghost use Rattle.crx_filter.specs.Runs.{RunsAs};
+ghost use Rattle.crx_filter.specs.Runs.{Runs};
+ghost use Rattle.crx_filter.specs.Taking.{between};
+ghost use Rattle.crx_filter.specs.Running.{reader_between};
 
 use crate::compactor::Compactor;
 use crate::expander::Expander;
@@ -28,12 +29,9 @@ pub fn compact<R: Source, W: Sink, M: Sink>(
     messages: &mut M,
     options: Options,
 ) -> Outcome
-    ensures runs { (given : List ℕ) × R.gave reader.old given reader.new × RunsAs (λ input. compacted input options) (compaction_filter options)
-        (record { gave = λ given. R.gave reader.old given reader.new; at_end = R.at_end reader.new; start = tally_of (R.failures reader.old) (R.ends reader.old); counted = tally_of (R.failures reader.new) (R.ends reader.new) })
-        given
-        (record { took = λ text. W.took writer.old text writer.new; before = W.failures writer.old; after = W.failures writer.new })
-        (record { took = λ text. M.took messages.old text messages.new; before = M.failures messages.old; after = M.failures messages.new })
-        result.status result.fault }
+    ensures runs { Runs (λ input. compacted input options) (compaction_filter options)
+        (reader_between R.gave R.at_end R.failures R.ends reader.old reader.new)
+        (between W.took W.failures writer.old writer.new) (between M.took M.failures messages.old messages.new) result.status result.fault }
 {
     start(
         alloc,
@@ -56,12 +54,9 @@ pub fn expand<R: Source, W: Sink, M: Sink>(
     messages: &mut M,
     options: Options,
 ) -> Outcome
-    ensures runs { (given : List ℕ) × R.gave reader.old given reader.new × RunsAs (λ input. expanded input options) (expansion_filter options)
-        (record { gave = λ given. R.gave reader.old given reader.new; at_end = R.at_end reader.new; start = tally_of (R.failures reader.old) (R.ends reader.old); counted = tally_of (R.failures reader.new) (R.ends reader.new) })
-        given
-        (record { took = λ text. W.took writer.old text writer.new; before = W.failures writer.old; after = W.failures writer.new })
-        (record { took = λ text. M.took messages.old text messages.new; before = M.failures messages.old; after = M.failures messages.new })
-        result.status result.fault }
+    ensures runs { Runs (λ input. expanded input options) (expansion_filter options)
+        (reader_between R.gave R.at_end R.failures R.ends reader.old reader.new)
+        (between W.took W.failures writer.old writer.new) (between M.took M.failures messages.old messages.new) result.status result.fault }
 {
     start(
         alloc,

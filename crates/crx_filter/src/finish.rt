@@ -2,6 +2,7 @@
 
 ghost use Rattle.std.specs.Prelude.{◌≡◌, ◌⊎◌, Some};
 ghost use Rattle.crx_filter.specs.Endings.{Finishes, IsReported};
+ghost use Rattle.crx_filter.specs.Taking.{between};
 
 use crate::message::message;
 use crate::outcome::Outcome;
@@ -11,7 +12,7 @@ use crx_text::{At, Fault, Sink, write_all_counted};
 
 /// Reports a fault; a failure ends its message where it comes.
 fn report<M: Sink>(messages: &mut M, at: At) -> Outcome
-    ensures reported { IsReported (record { took = λ text. M.took messages.old text messages.new; before = M.failures messages.old; after = M.failures messages.new }) at }
+    ensures reported { IsReported (between M.took M.failures messages.old messages.new) at }
     ensures fault { result.fault ≡ Some at }
     ensures status { result.status ≡ 1 }
 {
@@ -29,8 +30,8 @@ fn report<M: Sink>(messages: &mut M, at: At) -> Outcome
 /// last line that was read, unless a fault stands. Then the fault is reported, but for a warning that couldn't be.
 pub(crate) fn finish<W: Sink, M: Sink>(writer: &mut W, messages: &mut M, work: Work) -> Outcome
     ensures { Finishes
-        (record { took = λ text. W.took writer.old text writer.new; before = W.failures writer.old; after = W.failures writer.new })
-        (record { took = λ text. M.took messages.old text messages.new; before = M.failures messages.old; after = M.failures messages.new })
+        (between W.took W.failures writer.old writer.new)
+        (between M.took M.failures messages.old messages.new)
         work.last work.warned work.halt result.status result.fault }
 {
     let unwritten = At {

@@ -1,8 +1,8 @@
-//! What both filters mean, and the laws of it: the reading of a file unit by unit, its compaction and its expansion, and the
-//! same line by line.
+//! Both filters and the check: the reading of a file unit by unit, its compaction and its expansion, the same line by line, and whole
+//! runs from a reader to a writer and messages.
 #![tactic(auto)]
 
-pub mod checker;
+mod checker;
 mod checks;
 mod compact_reader;
 mod compaction;
@@ -23,12 +23,12 @@ mod ready;
 mod ready_lines;
 mod report;
 mod rinex_reader;
-pub mod run;
+mod run;
 mod settled;
 mod stage;
 mod start;
 mod step;
-pub mod taking;
+mod taking;
 mod totals;
 mod types_lines;
 mod work;

@@ -1,6 +1,6 @@
 //! What the user chose for a compaction.
 
-ghost use Rattle.std.specs.Prelude.{◌≡◌, ◌-◌, ◌≤◌, ◌++◌, length, replicate, false, IsTrue, MatchResult};
+ghost use Rattle.std.specs.Prelude.{◌≡◌, ◌-◌, ◌≤◌, ◌++◌, length, replicate, false, true, IsTrue, MatchResult};
 ghost use Rattle.crx_text.specs.declared.limits.TheConstants.{DATE_LIMIT};
 ghost use Rattle.crx_filter.specs.Choices.{choices_of, is_date, kept_every};
 
@@ -24,8 +24,8 @@ pub struct Options {
 }
 
 impl Model for Options {
-    ghost use Rattle.std.specs.Prelude.{◌≡◌, ◌-◌, ◌≤◌, ◌++◌, length, take, drop, replicate};
-    ghost use Rattle.crx_filter.specs.Choices.{Choices};
+    ghost use Rattle.std.specs.Prelude.{◌≡◌, ◌-◌, ◌≤◌, ◌++◌, length, take, drop, replicate, true};
+    ghost use Rattle.crx_filter.specs.Choices.{Choices, is_date};
     ghost use Rattle.std.proofs.Common.{ap, sym, ◌∙◌, length-take-le, take-append-drop};
     ghost use Rattle.crx_text.specs.declared.limits.TheConstants.{DATE_LIMIT};
 
@@ -33,7 +33,8 @@ impl Model for Options {
 
     ghost view = { λ a. record { every = a.every; skip = a.skip; date = take a.date_len a.date } };
 
-    ghost invariant = { λ a. (a.date_len ≤ length a.date) × (drop a.date_len a.date ≡ replicate (DATE_LIMIT - a.date_len) 32) };
+    ghost invariant = { λ a. (a.date_len ≤ length a.date) × (drop a.date_len a.date ≡ replicate (DATE_LIMIT - a.date_len) 32)
+        × (is_date (take a.date_len a.date) ≡ true) };
 
     ghost inverse = { λ c. record { every = c.every; skip = c.skip; date = c.date ++ replicate (DATE_LIMIT - length c.date) 32; date_len = length c.date } };
 
@@ -96,7 +97,8 @@ impl Options {
         })
     }
 
-    /// At every how many epochs one stands in full, at least 1; `None` where only the first does.
+    /// At every how many epochs one stands in full; `None` where only those do that must: the first, and the first after each
+    /// event or warning.
     pub fn every(&self) -> Option<u32>
         ensures { result ≡ self.now.every }
     {
@@ -110,10 +112,11 @@ impl Options {
         self.skip
     }
 
-    /// The date, at most [`DATE_LIMIT`] bytes.
+    /// The date, at most [`DATE_LIMIT`] bytes, each from 32 to 126.
     pub fn date(&self) -> &[u8]
         ensures value { result.now ≡ self.now.date }
         ensures within { length result.now ≤ DATE_LIMIT }
+        ensures fits { is_date result.now ≡ true }
     {
         &self.date[..self.date_len]
     }

@@ -5,6 +5,7 @@ ghost use Rattle.std.specs.List.{flat_map};
 ghost use Rattle.crx_filter.specs.Standard.{standard_text, systems_text, count_text, report_lines};
 ghost use Rattle.crx_filter.specs.Checkers.{totals_held, found_held};
 
+use crate::message::append;
 use crx_rinex::{Epoch, Types};
 use crx_text::Text;
 use crx_text::columns::trimmed;
@@ -24,14 +25,6 @@ pub(crate) struct Totals {
     pub(crate) events: u64,
     /// How many observations were accepted.
     pub(crate) observations: u64,
-}
-
-/// Appends bytes to a text that is short.
-fn append(text: &mut Text, bytes: &[u8])
-    requires { length text.old + length bytes.now ≤ 8192 }
-    ensures { text.new ≡ text.old ++ bytes.now }
-{
-    let _ = text.extend(bytes);
 }
 
 /// Replaces a text by a word and a number.

@@ -1,9 +1,10 @@
 //! A whole run: an input through an engine to a writer and its messages.
 
 ghost use Rattle.std.specs.Prelude.{◌≡◌, ℕ, List, [], Some, None};
-ghost use Rattle.crx_text.specs.Devices.{tally_of};
 ghost use Rattle.crx_text.specs.Lines.{lines_of};
 ghost use Rattle.crx_filter.specs.Runs.{IsLawful, result_by, RunsAs};
+ghost use Rattle.crx_filter.specs.Taking.{between};
+ghost use Rattle.crx_filter.specs.Running.{reader_between};
 
 use crate::engine::Engine;
 use crate::finish::finish;
@@ -29,7 +30,7 @@ pub(crate) fn no_memory() -> Work
 }
 
 /// Runs an engine over an input: reads its lines, writes what the engine makes ready, reports its warnings, and finishes.
-pub fn run<E: Engine, R: Source, W: Sink, M: Sink>(
+pub(crate) fn run<E: Engine, R: Source, W: Sink, M: Sink>(
     alloc: Global,
     engine: &mut E,
     reader: &mut R,
@@ -41,11 +42,8 @@ pub fn run<E: Engine, R: Source, W: Sink, M: Sink>(
     requires shown { E.shows engine.old [] [] }
     requires lawful { IsLawful (E.filter engine.old) }
     ensures runs { (given : List ℕ) × R.gave reader.old given reader.new × RunsAs (result_by (E.filter engine.old)) (E.filter engine.old)
-        (record { gave = λ given. R.gave reader.old given reader.new; at_end = R.at_end reader.new; start = tally_of (R.failures reader.old) (R.ends reader.old); counted = tally_of (R.failures reader.new) (R.ends reader.new) })
-        given
-        (record { took = λ text. W.took writer.old text writer.new; before = W.failures writer.old; after = W.failures writer.new })
-        (record { took = λ text. M.took messages.old text messages.new; before = M.failures messages.old; after = M.failures messages.new })
-        result.status result.fault
+        (reader_between R.gave R.at_end R.failures R.ends reader.old reader.new) given
+        (between W.took W.failures writer.old writer.new) (between M.took M.failures messages.old messages.new) result.status result.fault
         × (result.fault ≡ None → E.has_ended engine.new (lines_of given)) }
 {
     match LineReader::new(alloc) {

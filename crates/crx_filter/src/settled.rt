@@ -41,6 +41,7 @@ pub(crate) fn after_fault(
     ensures ended { IfErr result.answer (λ at. result.stage ≡ Stage.Ended at) }
     ensures emptied { result.is_emptied ≡ true }
     ensures fatal { is_skippable fault ≡ false → result.answer ≡ Err (record { line = number + 1; fault = fault }) }
+    ensures counts { is_skippable fault ≡ false → result.number ≡ number + 1 }
     ensures counted { (number ≤ result.number) × (result.number ≤ number + 1) }
 {
     let at = At {

@@ -1,9 +1,10 @@
 //! The start of a run: an engine that was made, or couldn't be since memory ran out.
 
 ghost use Rattle.std.specs.Prelude.{◌≡◌, ℕ, List, [], IfOk};
-ghost use Rattle.crx_text.specs.Devices.{tally_of};
 ghost use Rattle.crx_filter.specs.Filters.{Filter};
-ghost use Rattle.crx_filter.specs.Runs.{IsLawful, result_by, RunsAs};
+ghost use Rattle.crx_filter.specs.Runs.{IsLawful, result_by, Runs};
+ghost use Rattle.crx_filter.specs.Taking.{between};
+ghost use Rattle.crx_filter.specs.Running.{reader_between};
 
 use crate::engine::Engine;
 use crate::finish::finish;
@@ -23,12 +24,9 @@ pub(crate) fn start<E: Engine + Drop, R: Source, W: Sink, M: Sink>(
     requires fresh { IfOk engine (λ e. (E.ready e ≡ []) × E.is_open e × E.shows e [] []) }
     requires lawful { IfOk engine (λ e. IsLawful (E.filter e)) }
     ensures runs { (filter : Filter) → IsLawful filter → IfOk engine (λ e. E.filter e ≡ filter)
-        → (given : List ℕ) × R.gave reader.old given reader.new × RunsAs (result_by filter) filter
-        (record { gave = λ given. R.gave reader.old given reader.new; at_end = R.at_end reader.new; start = tally_of (R.failures reader.old) (R.ends reader.old); counted = tally_of (R.failures reader.new) (R.ends reader.new) })
-        given
-        (record { took = λ text. W.took writer.old text writer.new; before = W.failures writer.old; after = W.failures writer.new })
-        (record { took = λ text. M.took messages.old text messages.new; before = M.failures messages.old; after = M.failures messages.new })
-        result.status result.fault }
+        → Runs (result_by filter) filter
+        (reader_between R.gave R.at_end R.failures R.ends reader.old reader.new)
+        (between W.took W.failures writer.old writer.new) (between M.took M.failures messages.old messages.new) result.status result.fault }
 {
     match engine {
         Ok(mut engine) => run(alloc, &mut engine, reader, writer, messages),

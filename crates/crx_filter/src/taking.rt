@@ -8,7 +8,7 @@ ghost use Rattle.crx_text.specs.declared.limits.TheConstants.{INPUT_LIMIT};
 ghost use Rattle.crx_filter.specs.Filters.{lines_text};
 ghost use Rattle.crx_filter.specs.Messages.{warning_text, notices_text};
 ghost use Rattle.crx_filter.specs.Engines.{Answers, Awaited, IsAwaited, notices_of as warnings_awaited, Concludes, IsDrainedAfter, taken_after, with_next};
-ghost use Rattle.crx_filter.specs.Taking.{TakenIs, number_taken, is_warning, notices_of, Unsettled, IsOnce, IsHalted, IsDone, IsCut};
+ghost use Rattle.crx_filter.specs.Taking.{TakenIs, number_taken, is_warning, notices_of, Unsettled, IsOnce, IsHalted, IsDone, IsCut, between};
 
 use crate::engine::{Engine, Step};
 use crate::message::message;
@@ -17,7 +17,7 @@ use crx_text::{At, Line, Sink, write_all_counted};
 
 /// What ended a run.
 #[derive(Clone, Copy, Debug, PartialEq, Eq)]
-pub enum Halt {
+pub(crate) enum Halt {
     /// A fault of the input or of its reader, or memory that ran out.
     Fault(At),
     /// The writer failed.
@@ -97,8 +97,8 @@ fn settle<E: Engine, W: Sink, M: Sink>(
     ensures reported { OnOk result (M.took messages.old (notices_text (notices_of step)) messages.new) }
     ensures good { OnOk result ((W.failures writer.new ≡ W.failures writer.old) × (M.failures messages.new ≡ M.failures messages.old)) }
     ensures halted { IfErr result (λ halt. Unsettled
-        (record { took = λ text. W.took writer.old text writer.new; before = W.failures writer.old; after = W.failures writer.new })
-        (record { took = λ text. M.took messages.old text messages.new; before = M.failures messages.old; after = M.failures messages.new })
+        (between W.took W.failures writer.old writer.new)
+        (between M.took M.failures messages.old messages.new)
         (lines_text (E.ready engine.old)) (notices_of step) halt) }
 {
     match step {
@@ -131,13 +131,13 @@ fn take_once<E: Engine, W: Sink, M: Sink>(
     ensures again { IfOk result (λ once. once ≡ Once.Again → E.taken engine.new ≡ E.taken engine.old) }
     ensures once { (lines : List InputLine) (earlier : List Awaited) (line : InputLine) → E.shows engine.old lines earlier → IsAwaited earlier line → TakenIs taken.entry line
         → IfOk result (λ once. IsOnce (E.filter engine.old) (E.shows engine.new)
-        (record { took = λ text. W.took writer.old text writer.new; before = W.failures writer.old; after = W.failures writer.new })
-        (record { took = λ text. M.took messages.old text messages.new; before = M.failures messages.old; after = M.failures messages.new })
+        (between W.took W.failures writer.old writer.new)
+        (between M.took M.failures messages.old messages.new)
         lines earlier line once) }
     ensures halted { (lines : List InputLine) (earlier : List Awaited) (line : InputLine) → E.shows engine.old lines earlier → IsAwaited earlier line → TakenIs taken.entry line
         → IfErr result (λ halt. IsHalted ((E.filter engine.old).so_far lines) ((E.filter engine.old).so_far (with_next lines line)) ((E.filter engine.old).may_take_memory lines line) (length lines + 1)
-        (record { took = λ text. W.took writer.old text writer.new; before = W.failures writer.old; after = W.failures writer.new })
-        (record { took = λ text. M.took messages.old text messages.new; before = M.failures messages.old; after = M.failures messages.new })
+        (between W.took W.failures writer.old writer.new)
+        (between M.took M.failures messages.old messages.new)
         (warnings_awaited earlier) halt) }
 {
     let step = match give(engine, taken) {
@@ -173,13 +173,13 @@ pub(crate) fn take_line<E: Engine, W: Sink, M: Sink>(
     ensures drained { OnOk result (E.ready engine.new ≡ []) }
     ensures done { (lines : List InputLine) (line : InputLine) → E.shows engine.old lines [] → TakenIs taken.entry line
         → IfOk result (λ warned. IsDone ((E.filter engine.old).so_far lines) ((E.filter engine.old).so_far (with_next lines line)) (E.shows engine.new (with_next lines line) [])
-        (record { took = λ text. W.took writer.old text writer.new; before = W.failures writer.old; after = W.failures writer.new })
-        (record { took = λ text. M.took messages.old text messages.new; before = M.failures messages.old; after = M.failures messages.new })
+        (between W.took W.failures writer.old writer.new)
+        (between M.took M.failures messages.old messages.new)
         [] warned) }
     ensures cut { (lines : List InputLine) (line : InputLine) → E.shows engine.old lines [] → TakenIs taken.entry line
         → IfErr result (λ halt. IsCut ((E.filter engine.old).so_far lines) ((E.filter engine.old).so_far (with_next lines line)) ((E.filter engine.old).may_take_memory lines line) (length lines + 1)
-        (record { took = λ text. W.took writer.old text writer.new; before = W.failures writer.old; after = W.failures writer.new })
-        (record { took = λ text. M.took messages.old text messages.new; before = M.failures messages.old; after = M.failures messages.new })
+        (between W.took W.failures writer.old writer.new)
+        (between M.took M.failures messages.old messages.new)
         halt) }
 {
     match take_once(engine, writer, messages, taken) {
@@ -204,13 +204,13 @@ pub(crate) fn take_end<E: Engine, W: Sink, M: Sink>(
     ensures filter { E.filter engine.new ≡ E.filter engine.old }
     ensures done { (lines : List InputLine) → E.shows engine.old lines []
         → IfOk result (λ warned. IsDone ((E.filter engine.old).so_far lines) ((E.filter engine.old).whole lines) (E.has_ended engine.new lines)
-        (record { took = λ text. W.took writer.old text writer.new; before = W.failures writer.old; after = W.failures writer.new })
-        (record { took = λ text. M.took messages.old text messages.new; before = M.failures messages.old; after = M.failures messages.new })
+        (between W.took W.failures writer.old writer.new)
+        (between M.took M.failures messages.old messages.new)
         [] warned) }
     ensures cut { (lines : List InputLine) → E.shows engine.old lines []
         → IfErr result (λ halt. IsHalted ((E.filter engine.old).so_far lines) ((E.filter engine.old).whole lines) false (length lines)
-        (record { took = λ text. W.took writer.old text writer.new; before = W.failures writer.old; after = W.failures writer.new })
-        (record { took = λ text. M.took messages.old text messages.new; before = M.failures messages.old; after = M.failures messages.new })
+        (between W.took W.failures writer.old writer.new)
+        (between M.took M.failures messages.old messages.new)
         [] halt) }
 {
     match engine.end() {

@@ -1,0 +1,9 @@
+pub mod CutOff
+pub mod BlockReading
+pub mod GoingOn
+pub mod TextAfter
+pub mod DamagedText
+pub mod SavedText
+pub mod BlockSaved
+pub mod DamageStays
+pub mod ExpandedLendable

@@ -1,8 +1,11 @@
 -- Worked examples: the lines of small files in RINEX and in compact text.
-use Rattle.std.specs.Prelude.{ℕ, ◌+◌, Bool, true, false, List, [], ◌∷◌, ◌++◌, Some, None, codes, replicate, flat_map, length}
+use Rattle.std.specs.Prelude.{ℕ, pos, ◌+◌, Bool, true, false, List, [], ◌∷◌, ◌++◌, Some, None, codes, replicate, flat_map, length}
 use Rattle.crx_text.specs.declared.fault.Fault.{Fault}
 use Rattle.crx_text.specs.declared.fault.At.{At}
+use Rattle.crx_rinex.specs.Observations.{Epoch}
+use Rattle.crx_rinex.specs.Units.{HeaderLine, Observation}
 use Rattle.crx_filter.specs.Choices.{Choices}
+use Rattle.crx_filter.specs.Items.{Item, Accepted}
 use Rattle.crx_filter.specs.Messages.{message_text}
 use Rattle.crx_filter.specs.Results.{FilterResult, lines_text}
 use Rattle.crx_filter.specs.Compacted.{compacted}
@@ -154,3 +157,30 @@ five_epochs after_second =
     ∷ epoch_line_at 3 1 ∷ codes "G01  20000304.500"
     ∷ epoch_line_at 4 1 ∷ codes "G01  20000408.000"
     ∷ []
+
+-- ---- a file of five epochs, every second one in full in its compact text, with damage to its second block
+
+-- the epoch of one satellite at second s with this observation
+abbrev pub epoch_at_second : ℕ → ℕ → Epoch
+epoch_at_second s value = record {
+  head = epoch_line_at s 1 ++ blanks 6;
+  clock = None;
+  rows = record { name = codes "G01"; values = Some (pos value) ∷ []; flags = codes "  " } ∷ [];
+}
+
+-- the header and the first two epochs, which are the first block
+abbrev pub first_block : List (Item Epoch)
+first_block =
+    Accepted (Observation (epoch_at_second 1 20000100500))
+    ∷ Accepted (Observation (epoch_at_second 0 20000000000))
+    ∷ Accepted (HeaderLine (blanks 60 ++ codes "END OF HEADER"))
+    ∷ Accepted (HeaderLine one_type)
+    ∷ Accepted (HeaderLine (codes "     3.04           OBSERVATION DATA    G                   RINEX VERSION / TYPE"))
+    ∷ []
+
+-- the compact text, with these lines in place of those of the second block after its first
+abbrev pub damaged_by : List (List ℕ) → List ℕ
+damaged_by lines =
+    lines_text (first_two ++ header ++ full_line_at 0 1 (codes "G01") ∷ [] ∷ codes "3&20000000000" ∷ second_changed 1 ∷ [] ∷ codes "100500" ∷ full_line_at 2 1 (codes "G01") ∷ [])
+    ++ lines_text lines
+    ++ lines_text (full_line_at 4 1 (codes "G01") ∷ [] ∷ codes "3&20000408000" ∷ [])

@@ -1,10 +1,10 @@
-//! Laws over the definitions of this crate: each is the contract of a function that does nothing.
+//! Laws over the definitions of both filters: each is the contract of a function that does nothing.
 
 ghost use Rattle.std.specs.Prelude.{◌≡◌, ◌∷◌, [], List, Bool, true, false, Some, codes, map};
 ghost use Rattle.crx_text.specs.Seen.{ReadLine, Content};
 ghost use Rattle.crx_text.specs.declared.fault.At.{At};
 ghost use Rattle.crx_filter.specs.Anew.{starts_anew, DependsOnTypes};
-ghost use Rattle.crx_filter.specs.Bounds.{IsBoundedCompaction, IsBoundedExpansion, CompactIsLendable};
+ghost use Rattle.crx_filter.specs.Bounds.{IsBoundedCompaction, IsBoundedExpansion, CompactIsLendable, ExpandedIsLendable};
 ghost use Rattle.crx_filter.specs.Choices.{Choices};
 ghost use Rattle.crx_filter.specs.Compactor.{compaction, compaction_seen};
 ghost use Rattle.crx_laws.specs.FilterExamples.{line_at, one_type, full_line_at, second_changed};
@@ -79,7 +79,8 @@ pub fn what_was_accepted()
 
 /// What a compaction holds between two lines is bounded, however long the input is: at most seven counts of types; of the last epoch
 /// alone its text, its satellites' indicators, and four numbers for each of their cells; and of an epoch whose lines have come in
-/// part at most 999 rows of at most 400 values, with two indicators each.
+/// part 41 columns, the types at its line, and at most 999 rows, each with an identifier of three characters and at most 400 values, with
+/// two indicators each.
 pub fn bounded_compaction()
     ensures { (choices : Choices) (lines : List ReadLine) → IsBoundedCompaction (compaction_seen choices lines) }
 {}
@@ -91,10 +92,11 @@ pub fn bounded_expansion()
     ensures { (choices : Choices) (lines : List ReadLine) → IsBoundedExpansion (expansion_seen choices lines) }
 {}
 
-/// What is lent of a unit in compact text is bounded: at most 1001 lines, of at most 8192 bytes each, and of at most 7200 bytes each where
-/// they are those of an epoch.
+/// What is lent of a unit is bounded: at most 1001 lines, of at most 8192 bytes each; and where they are those of an epoch, of at most
+/// 7200 bytes each in compact text, and of at most 6403 bytes each in RINEX.
 pub fn bounded_lines()
-    ensures { (choices : Choices) (lines : List ReadLine) → CompactIsLendable choices lines }
+    ensures compaction { (choices : Choices) (lines : List ReadLine) → CompactIsLendable choices lines }
+    ensures expansion { (choices : Choices) (lines : List ReadLine) → ExpandedIsLendable choices lines }
 {}
 
 /// The reading of compact text starts anew between two units, where the next line begins with `>` and so does the one after the events

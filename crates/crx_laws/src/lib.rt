@@ -8,4 +8,5 @@ pub mod compact_reading;
 pub mod filter_examples;
 pub mod filter_laws;
 pub mod normal_form;
+pub mod salvage;
 pub mod way_back;

@@ -1,6 +1,4 @@
-use Rattle.std.proofs.Common.{None, ap, ◌∙◌, sym}
 use Rattle.crx_filter.proofs.CheckLawful.{check-lawful}
-use Rattle.crx_filter.proofs.CheckRuns.{runs-checked}
 use Rattle.crx_filter.proofs.checks.check_by.Goals as goal
 
 pub run-outcome-requires-clause-lawful : goal.run-outcome-requires-clause-lawful

@@ -1,4 +1,4 @@
-use Rattle.std.proofs.Common.{ℕ, List, ap}
+use Rattle.std.proofs.Common.{ap}
 use Rattle.crx_filter.specs.LineByLine.{Seen}
 use Rattle.crx_text.specs.Devices.{tally_of}
 use Rattle.crx_filter.specs.Compacted.{compacted}

@@ -1,6 +1,5 @@
-use Rattle.std.proofs.Common.{◌≡◌, ◌+◌, ◌≤◌, ◌*◌, ◌++◌, List, length, take, ap, sym, ◌∙◌, arith, append_assoc, length-append}
+use Rattle.std.proofs.Common.{◌++◌, length, take, ap, sym, ◌∙◌, arith, append_assoc}
 use Rattle.std.specs.List.{flat_map}
-use Rattle.std.proofs.lemmas.Option.{none-some}
 use Rattle.crx_filter.specs.Standard.{count_text}
 use Rattle.crx_filter.proofs.Reports.{counts-more, one-there}
 use Rattle.crx_filter.proofs.report.append_counts.Goals.{in-Some, in_default}

@@ -1,9 +1,9 @@
-use Rattle.std.proofs.Common.{◌≡◌, ℕ, List, [], IfOk, refl, sym, subst}
+use Rattle.std.proofs.Common.{◌≡◌, IfOk, refl, subst}
 use Rattle.std.specs.Prelude.{⊤}
 use Rattle.crx_text.specs.Devices.{tally_of}
 use Rattle.crx_filter.specs.Filters.{Filter}
 use Rattle.crx_filter.specs.Running.{Input}
-use Rattle.crx_filter.specs.Runs.{IsLawful, result_by, RunsAs}
+use Rattle.crx_filter.specs.Runs.{result_by, RunsAs}
 use Rattle.crx_filter.specs.Taking.{Device}
 use Rattle.crx_filter.proofs.Conclusions.{runs-nothing}
 use Rattle.crx_filter.proofs.start.start.Goals as goal

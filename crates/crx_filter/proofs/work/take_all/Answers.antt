@@ -1,5 +1,4 @@
 use Rattle.std.proofs.Common.{◌≡◌, inl, inr, Bool, false, ◌||◌, [], length, Option, refl, sym, ap, subst, ◌∙◌}
-use Rattle.std.specs.Prelude.{⊤}
 use Rattle.crx_text.specs.Devices.{tally_of}
 use Rattle.crx_text.specs.Readers.{reading}
 use Rattle.crx_filter.specs.Filters.{Filter}

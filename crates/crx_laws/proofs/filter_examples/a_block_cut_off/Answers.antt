@@ -50,11 +50,13 @@ returns c = (
   cut,
   record {
     epochs = [];
+    whole = tt;
     warnings = record { line = 7; fault = Truncated } ∷ [];
     few = omega arith;
     output = refl;
     messages = refl;
     status = refl;
+    fault = refl;
     own = λ count rest e. absurd (cc);
   },
 )

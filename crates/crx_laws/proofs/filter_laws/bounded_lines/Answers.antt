@@ -1,5 +1,6 @@
 use Rattle.crx_filter.proofs.Lendable.{compact-lendable}
+use Rattle.crx_laws.proofs.ExpandedLendable.{expanded-lendable}
 use Rattle.crx_laws.proofs.filter_laws.bounded_lines.Goals as goal
 
 pub returns : goal.returns
-returns c = compact-lendable
+returns c = record { compaction = compact-lendable; expansion = expanded-lendable }

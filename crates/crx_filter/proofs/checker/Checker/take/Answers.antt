@@ -2,7 +2,7 @@ use Rattle.std.proofs.Common.{◌≡◌, ◌⊎◌, ◌≤◌, None, Some, lengt
 use Rattle.crx_text.specs.Reading.{line_shown}
 use Rattle.crx_text.specs.declared.limits.TheConstants.{LINE_LIMIT}
 use Rattle.crx_text.specs.declared.fault.At.{At}
-use Rattle.crx_filter.specs.Checking.{check_filter, check_seen, fault_so_far}
+use Rattle.crx_filter.specs.Checking.{check_filter, fault_so_far}
 use Rattle.crx_filter.specs.Checkers.{is_reading, seen_with}
 use Rattle.crx_filter.specs.Engines.{RunsOutAt, with_next}
 use Rattle.crx_filter.specs.RinexReaders.{reader_phase, made_at, Takes, Refuses}

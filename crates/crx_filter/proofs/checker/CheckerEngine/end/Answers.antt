@@ -1,4 +1,4 @@
-use Rattle.std.proofs.Common.{◌≡◌, None, Some, refl, ap, sym, ◌∙◌}
+use Rattle.std.proofs.Common.{refl, ap, sym, ◌∙◌}
 use Rattle.crx_filter.specs.Results.{lines_text}
 use Rattle.crx_filter.specs.Standard.{Findings, report_lines, findings_of}
 use Rattle.crx_filter.specs.Checking.{report_unless}

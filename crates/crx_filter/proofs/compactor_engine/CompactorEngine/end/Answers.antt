@@ -1,4 +1,4 @@
-use Rattle.std.proofs.Common.{List, ℕ, ap, ◌∙◌}
+use Rattle.std.proofs.Common.{ap, ◌∙◌}
 use Rattle.crx_filter.specs.EngineSteps.{step_made}
 use Rattle.crx_filter.specs.Directions.{compaction_filter}
 use Rattle.crx_filter.specs.Compactor.{compaction, compaction_seen}

@@ -4,13 +4,17 @@ use Rattle.crx_compact.specs.OpenEpochs.{OpenRawEpoch, tail_held}
 use Rattle.crx_compact.specs.Tails.{Tail}
 use Rattle.crx_filter.specs.CompactStages.{open_in}
 use Rattle.crx_filter.specs.EngineSteps.{IsAt, step_made}
-use Rattle.crx_filter.specs.CompactReaders.{seen_in}
-use Rattle.crx_filter.specs.Expander.{expansion}
+use Rattle.crx_filter.specs.CompactReaders.{seen_in, seen_with}
+use Rattle.crx_filter.specs.Expander.{expansion, expansion_seen}
 use Rattle.crx_filter.specs.Expanding.{seen_by}
 use Rattle.crx_filter.specs.declared.stage.Stage.{Stage}
 use Rattle.crx_filter.specs.declared.stage.Stage.TheVariants.{Ended}
 use Rattle.crx_filter.specs.LineByLine.{Step, seen_end}
-use Rattle.crx_filter.proofs.ExpanderSteps.{failed-at, held-open, settled-as}
+use Rattle.crx_filter.proofs.ExpanderSteps.{held-open, settled-as}
+use Rattle.crx_filter.proofs.EngineLemmas.{failed-at}
+use Rattle.crx_filter.specs.Directions.{expansion_filter}
+use Rattle.crx_filter.proofs.DirectionSteps.{expansion-goes}
+use Rattle.crx_filter.proofs.EngineAnswers.{concludes}
 use Rattle.crx_filter.proofs.expander.Expander.end.Goals as goal
 
 pub returns-clause-ends : goal.returns-clause-ends
@@ -20,7 +24,7 @@ returns-clause-ends c =
     let reader = c.settle.new.self in
     let held = open_in self.reader.columns in
     let at : IsAt {O = OpenRawEpoch} {K = Option Tail} (seen_by self) held self.reader.stage self.number c.skip.result = record { is_phase = refl; is_open = held-open self.reader.stage self.reader.columns self.reader.consistent; is_count = refl; is_skip = sym c.skip.ensures } in
-    let after = seen_by (record self { number = s.number; reader = reader }) in
+    let after = seen_with self.options s.number reader in
     ap (λ (l : List (List ℕ)). step_made s.answer l after) c.requires.drained
     ∙ settled-as (seen_by self) (open_in reader.columns) s self.options reader.stage reader.types (tail_held reader.columns) refl c.settle.ensures.stage c.settle.ensures.types c.settle.ensures.tail
     ∙ c.after_end-settled.ensures.expansion (seen_by self) held (open_in reader.columns) at
@@ -33,3 +37,9 @@ returns-clause-repeated c = λ (at : At) (is : c.args.self.now.reader.stage ≡ 
     let step = c.after_end-settled.ensures.expansion (seen_by self) held None known in
     failed-at c.after_end-settled.result.answer at
     (ap (λ (s : Step OpenRawEpoch (Option Tail)). s.answer) step ∙ ap (λ (stage : Stage). (seen_end expansion (seen_in self.options self.number self.reader stage)).answer) is)
+
+pub returns-clause-concludes : goal.returns-clause-concludes
+returns-clause-concludes c = λ lines taken.
+    let self = c.args.self.now in
+    let choices = self.options in
+    concludes expansion (expansion_seen choices) (expansion_filter choices) (expansion-goes choices) (seen_by self) _ lines _ _ taken (returns-clause-ends c)

@@ -1,25 +1,20 @@
-use Rattle.std.proofs.Common.{List, ℕ, Option, refl, sym, ap, ◌∙◌}
-use Rattle.crx_text.specs.Seen.{Overlong}
-use Rattle.crx_compact.specs.OpenEpochs.{OpenRawEpoch, tail_held}
-use Rattle.crx_compact.specs.Tails.{Tail}
-use Rattle.crx_filter.specs.CompactStages.{open_in}
-use Rattle.crx_filter.specs.EngineSteps.{IsAt, step_made}
-use Rattle.crx_filter.specs.Expander.{expansion}
+use Rattle.std.proofs.Common.{◌≡◌, inl, sym, subst}
+use Rattle.crx_text.specs.Seen.{ReadLine}
+use Rattle.crx_filter.specs.Directions.{expansion_filter}
+use Rattle.crx_filter.specs.EngineSteps.{step_made}
+use Rattle.crx_filter.specs.Expander.{expansion, expansion_seen}
 use Rattle.crx_filter.specs.Expanding.{seen_by}
-use Rattle.crx_filter.specs.LineByLine.{step_of}
-use Rattle.crx_filter.proofs.ExpanderSteps.{held-open, too-long}
+use Rattle.crx_filter.specs.LineByLine.{seen_next}
+use Rattle.crx_filter.proofs.DirectionSteps.{expansion-goes}
+use Rattle.crx_filter.proofs.EngineAnswers.{answers-line, seen-long}
+use Rattle.crx_filter.proofs.ExpanderLines.{shown-lines}
 use Rattle.crx_filter.proofs.expander.Expander.overlong.Goals as goal
 
-pub returns : goal.returns
-returns c =
+pub returns-clause-answers : goal.returns-clause-answers
+returns-clause-answers c = λ lines notices line taken awaited long.
     let self = c.args.self.now in
-    let held = open_in self.reader.columns in
-    let at : IsAt {O = OpenRawEpoch} {K = Option Tail} (seen_by self) held self.reader.stage self.number self.options.skip = record { is_phase = refl; is_open = held-open self.reader.stage self.reader.columns self.reader.consistent; is_count = refl; is_skip = refl } in
-    let failed = c.fail.ensures.fails (seen_by self) held Overlong at refl refl refl in
-    record {
-      steps = ap (λ (l : List (List ℕ)). step_made c.fail.result l (seen_by c.fail.new.self)) c.fail.ensures.drained ∙ failed
-          ∙ ap (step_of expansion (seen_by self) Overlong) (sym (too-long self.reader.stage held self.reader.types (tail_held self.reader.columns) (sym c.is_settled.ensures ∙ c.if-is_settled.false)));
-      options = c.fail.ensures.options;
-      ended = c.fail.ensures.ended;
-      repeated = λ at is. absurd (c.in_default.not-Ended at is);
-    }
+    let new = c.pass.new.self in
+    let choices = self.options in
+    let step = subst (λ (l : ReadLine). step_made c.pass.result new.lines (seen_by new) ≡ seen_next expansion (seen_by self) l) (sym (seen-long line long)) c.pass.ensures.steps in
+    answers-line expansion (expansion_seen choices) (expansion_filter choices) (expansion-goes choices) _ (seen_by self) (seen_by new) lines notices line new.lines c.pass.result
+    (λ ls ns now. (shown-lines choices new.options (seen_by new) ls ns c.pass.ensures.options now).0) taken awaited (inl step)

@@ -1,4 +1,4 @@
-use Rattle.std.proofs.Common.{Option, refl, sym}
+use Rattle.std.proofs.Common.{rules, Option, refl, sym, ◌+◌}
 use Rattle.crx_compact.specs.OpenEpochs.{OpenRawEpoch}
 use Rattle.crx_compact.specs.Tails.{Tail}
 use Rattle.crx_text.specs.Seen.{Content}
@@ -16,3 +16,6 @@ returns-in-Err-clause-steps c =
     let at : IsAt {O = OpenRawEpoch} {K = Option Tail} (seen_by self) held self.reader.stage self.number self.options.skip = record { is_phase = refl; is_open = held-open self.reader.stage self.reader.columns self.reader.consistent; is_count = refl; is_skip = refl } in
     let failed = c.fail.ensures.fails (seen_by self) held (Content line) at refl (sym c.in-Err.ensures.types) (sym c.begins_epoch.ensures) in
     refused-line (seen_by self) (seen_by c.fail.new.self) line c.in-Err.fault c.fail.result c.fail.new.self.lines failed c.fail.ensures.drained c.fail.ensures.fatal c.in-Err.ensures.refuses
+
+pub returns-in-Ok-clause-steps : goal.returns-in-Ok-clause-steps
+returns-in-Ok-clause-steps c = rw (c.make_ready.ensures.same c.args.self.now.options (c.args.self.now.number + 1)) (search rules)

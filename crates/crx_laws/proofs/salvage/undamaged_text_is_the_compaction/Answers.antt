@@ -1,0 +1,5 @@
+use Rattle.crx_laws.proofs.DamageStays.{of-compaction}
+use Rattle.crx_laws.proofs.salvage.undamaged_text_is_the_compaction.Goals as goal
+
+pub returns : goal.returns
+returns c input compacting damaged damage = of-compaction input compacting damaged damage
