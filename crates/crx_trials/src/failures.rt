@@ -2,23 +2,25 @@
 
 use crate::texts::text;
 use crx_devices::{FailingSink, FailingSource, Plan, When};
-use crx_filter::{Options, Outcome, compact, expand};
+use crx_filter::{Options, Outcome, check, compact, expand};
 use crx_text::{At, Fault};
 use std::alloc::{AllocError, Global};
 use std::process::Abort;
 use std::test::Fail;
 
 mod cases;
+mod damage;
 mod messages;
 mod reads;
 mod rows;
 mod writes;
 
-/// Which filter runs.
+/// Which filter runs, or the check.
 #[derive(Clone, Copy)]
 enum Tool {
     Compact,
     Expand,
+    Check,
 }
 
 /// A run over devices that don't fail, and what is written as its lines come.
@@ -29,7 +31,7 @@ struct Trial {
     input: &'static str,
     output: &'static str,
     messages: &'static str,
-    /// How many lines are written once none, one, two .. lines of the input were read.
+    /// How many lines are written once none, one, two .. lines of the input were read; what is written at the end alone doesn't count.
     after: &'static [usize],
     /// The line that gives a warning.
     warned_at: Option<u64>,
@@ -87,6 +89,7 @@ fn run(
     Ok(match trial.tool {
         Tool::Compact => compact(alloc, source, writer, messages, options),
         Tool::Expand => expand(alloc, source, writer, messages, options),
+        Tool::Check => check(alloc, source, writer, messages),
     })
 }
 

@@ -24,10 +24,10 @@ struct Case {
 
 /// What a run wrote, reported and answered.
 #[derive(Drop)]
-struct Run {
-    outcome: Outcome,
-    output: Vec<u8>,
-    messages: Vec<u8>,
+pub struct Run {
+    pub outcome: Outcome,
+    pub output: Vec<u8>,
+    pub messages: Vec<u8>,
 }
 
 impl Run {
@@ -57,7 +57,7 @@ fn compacted(alloc: Global, input: &[u8], options: Options) -> Run {
 }
 
 /// Expands an input.
-fn expanded(alloc: Global, input: &[u8], options: Options) -> Run {
+pub fn expanded(alloc: Global, input: &[u8], options: Options) -> Run {
     let mut reader = Std::new(input);
     let mut writer = Std::new(Vec::new(alloc));
     let mut messages = Std::new(Vec::new(alloc));

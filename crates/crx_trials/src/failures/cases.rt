@@ -2,7 +2,7 @@
 
 use super::*;
 
-pub const TRIALS: [Trial; 7] = [
+pub const TRIALS: [Trial; 9] = [
     // Third differences
     Trial {
         tool: Tool::Compact,
@@ -104,6 +104,37 @@ pub const TRIALS: [Trial; 7] = [
         outcome: Outcome {
             status: 0,
             fault: None,
+        },
+    },
+    // A check
+    Trial {
+        tool: Tool::Check,
+        skip: false,
+        input: "H|> 2024 01 01 00 00  0.0000000  0  1|G01  20000000.000|> 2024 01 01 00 00  1.0000000  0  1|G01  20000100.500|> 2024 01 01 00 00  2.0000000  0  1|G01  20000202.000|> 2024 01 01 00 00  3.0000000  0  1|G01  20000304.500|> 2024 01 01 00 00  4.0000000  0  1|G01  20000408.000",
+        output: "format 3.04|systems G 1|epochs 5|events 0|observations 5|standard yes",
+        messages: "",
+        after: &[0; 14],
+        warned_at: None,
+        outcome: Outcome {
+            status: 0,
+            fault: None,
+        },
+    },
+    // A check of a bad indicator
+    Trial {
+        tool: Tool::Check,
+        skip: false,
+        input: "H|> 2024 01 01 00 00  0.0000000  0  1|G01  20000000.000|> 2024 01 01 00 00  1.0000000  0  1|G01  20000100.500&|> 2024 01 01 00 00  2.0000000  0  1|G01  20000202.000|> 2024 01 01 00 00  3.0000000  0  1|G01  20000304.500|> 2024 01 01 00 00  4.0000000  0  1|G01  20000408.000",
+        output: "",
+        messages: "ERROR line 7 code 18: bad indicator",
+        after: &[0; 14],
+        warned_at: None,
+        outcome: Outcome {
+            status: 1,
+            fault: Some(At {
+                line: 7,
+                fault: Fault::BadFlags,
+            }),
         },
     },
 ];

@@ -2,11 +2,11 @@
 
 use super::*;
 
-const THREE_EPOCHS: &str =
-    "H|> 2024 01 01 00 00  0.0000000  0  1|G01  20000000.000|> 2024 01 01 00 00  1.0000000  0  1|G01  20000100.500|> 2024 01 01 00 00  2.0000000  0  1|G01  20000202.000";
+const FIVE_EPOCHS: &str =
+    "H|> 2024 01 01 00 00  0.0000000  0  1|G01  20000000.000|> 2024 01 01 00 00  1.0000000  0  1|G01  20000100.500|> 2024 01 01 00 00  2.0000000  0  1|G01  20000202.000|> 2024 01 01 00 00  3.0000000  0  1|G01  20000304.500|> 2024 01 01 00 00  4.0000000  0  1|G01  20000408.000";
 
 const BAD_INDICATOR: &str =
-    "H|> 2024 01 01 00 00  0.0000000  0  1|G01  20000000.000|> 2024 01 01 00 00  1.0000000  0  1|G01  20000100.500&|> 2024 01 01 00 00  2.0000000  0  1|G01  20000202.000";
+    "H|> 2024 01 01 00 00  0.0000000  0  1|G01  20000000.000|> 2024 01 01 00 00  1.0000000  0  1|G01  20000100.500&|> 2024 01 01 00 00  2.0000000  0  1|G01  20000202.000|> 2024 01 01 00 00  3.0000000  0  1|G01  20000304.500|> 2024 01 01 00 00  4.0000000  0  1|G01  20000408.000";
 
 const FIRST_EPOCH: &str = "K|H|> 2024 01 01 00 00  0.0000000  0  1      G01||3&20000000000";
 
@@ -66,7 +66,7 @@ fn a_device_fails(rt: HostRuntime) -> Result<(), Fail> {
     let rows = [
         // The reader fails after line 7 and its LF: three header lines of 81, 81 and 74 bytes, two epochs of 36 and 18
         Row {
-            input: THREE_EPOCHS,
+            input: FIVE_EPOCHS,
             skip: false,
             reads: after_bytes(344),
             writes: NEVER,
@@ -78,7 +78,7 @@ fn a_device_fails(rt: HostRuntime) -> Result<(), Fail> {
         },
         // It fails after the first 3 bytes of line 7
         Row {
-            input: THREE_EPOCHS,
+            input: FIVE_EPOCHS,
             skip: false,
             reads: after_bytes(329),
             writes: NEVER,

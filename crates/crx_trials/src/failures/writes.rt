@@ -5,14 +5,14 @@ ghost use Rattle.std.specs.Prelude.{◌<◌};
 use super::cases::TRIALS;
 use super::*;
 
-/// The line of the input at which a byte of the output is written.
+/// The line of the input at which a byte of the output is written: the last one where that is at the end.
 fn line_of_byte(trial: &Trial, texts: &Texts, place: usize) -> u64 {
     for (lines, count) in trial.after.iter().enumerate() {
         if place < length_of_lines(texts.output.as_slice(), *count) {
             return lines as u64;
         }
     }
-    0
+    (trial.after.len() as u64).saturating_sub(1)
 }
 
 /// A writer that fails after so many bytes: just these were written.

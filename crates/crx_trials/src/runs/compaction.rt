@@ -395,7 +395,7 @@ const CASES_3: [Case; 9] = [
     },
 ];
 
-const CASES_4: [Case; 6] = [
+const CASES_4: [Case; 9] = [
     // Lines ended by CR LF, blanks at a line's end, other spellings of numbers
     Case {
         every: None,
@@ -471,6 +471,48 @@ const CASES_4: [Case; 6] = [
             fault: Some(At {
                 line: 2,
                 fault: Fault::LineTooLong,
+            }),
+        },
+    },
+    // Clocks, every epoch in full
+    Case {
+        every: Some(1),
+        skip: false,
+        input: "H|> 2024 01 01 00 00  0.0000000  0  1      -0.123456789012|G01|> 2024 01 01 00 00  1.0000000  0  1|G01|> 2024 01 01 00 00  2.0000000  0  1       0.000000000001|G01|> 2024 01 01 00 00  3.0000000  0  1       0.000000000003|G01",
+        output: "K|H|> 2024 01 01 00 00  0.0000000  0  1      G01|3&-123456789012||> 2024 01 01 00 00  1.0000000  0  1      G01|||> 2024 01 01 00 00  2.0000000  0  1      G01|3&1||> 2024 01 01 00 00  3.0000000  0  1      G01|3&3|",
+        messages: "",
+        outcome: Outcome {
+            status: 0,
+            fault: None,
+        },
+    },
+    // Another kind of file, not skipped
+    Case {
+        every: None,
+        skip: true,
+        input: "     3.04           NBSERVATION DATA    G                   RINEX VERSION / TYPE|G    1 C1C                                                  SYS / # / OBS TYPES|                                                            END OF HEADER",
+        output: "",
+        messages: "ERROR line 1 code 5: not an observation file",
+        outcome: Outcome {
+            status: 1,
+            fault: Some(At {
+                line: 1,
+                fault: Fault::NotObservation,
+            }),
+        },
+    },
+    // 401 types, not skipped
+    Case {
+        every: None,
+        skip: true,
+        input: "     3.04           OBSERVATION DATA    G                   RINEX VERSION / TYPE|G  401 C1C                                                  SYS / # / OBS TYPES|                                                            END OF HEADER",
+        output: "K|     3.04           OBSERVATION DATA    G                   RINEX VERSION / TYPE",
+        messages: "ERROR line 2 code 6: bad types line",
+        outcome: Outcome {
+            status: 1,
+            fault: Some(At {
+                line: 2,
+                fault: Fault::BadTypesLine,
             }),
         },
     },
