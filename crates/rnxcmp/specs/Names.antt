@@ -1,6 +1,7 @@
 -- The names of files: an observation file and its compact form have one name but for its ending.
-use Rattle.std.specs.Prelude.{ℕ, Bool, true, false, not, ◌&&◌, ◌==◌, ◌-◌, List, [], ◌∷◌, ◌++◌, map, length, take, drop, nat_le, Option, Some, None}
+use Rattle.std.specs.Prelude.{ℕ, Bool, true, false, not, ◌&&◌, ◌==◌, ◌-◌, List, [], ◌∷◌, ◌++◌, map, length, take, drop, Option, Some, None}
 use Rattle.std.specs.Prelude.{if◌then◌else◌, codes, option_map, option_and_then}
+use Rattle.std.specs.Char.{is_ascii_digit}
 use Rattle.std.specs.Str.{bytes_eq}
 use Rattle.std.specs.Option.{option_or}
 use Rattle.rnxcmp.specs.declared.job.Tool.{Tool}
@@ -12,11 +13,8 @@ abbrev pub without_ending : List ℕ → List ℕ → Option (List ℕ)
 without_ending ending name =
     if bytes_eq (drop (length name - length ending) name) ending then Some (take (length name - length ending) name) else None
 
-abbrev pub is_digit : ℕ → Bool
-is_digit c = nat_le 48 c && nat_le c 57
-
 abbrev pub is_year : List ℕ → Bool
-is_year (point ∷ tens ∷ units ∷ []) = point == 46 && is_digit tens && is_digit units
+is_year (point ∷ tens ∷ units ∷ []) = point == 46 && is_ascii_digit tens && is_ascii_digit units
 is_year _ = false
 
 -- the last three characters are a point and two digits

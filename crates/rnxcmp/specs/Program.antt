@@ -1,19 +1,25 @@
 -- What a user reads where nothing is run, and what a run of the program leaves.
-use Rattle.std.specs.Prelude.{◌≡◌, ◌⊎◌, ⊤, ℕ, ℤ, Bool, List, [], ◌++◌, Option, Some, None, codes}
-use Rattle.crx_text.specs.Devices.{one_more, tally_of}
+use Rattle.std.specs.Prelude.{◌≡◌, ◌⊎◌, ⊤, ℕ, ℤ, Bool, false, List, [], ◌++◌, Option, Some, None, codes}
+use Rattle.crx_text.specs.Devices.{one_more}
+use Rattle.crx_text.specs.Lines.{InputLine}
 use Rattle.crx_text.specs.declared.fault.Fault.{Fault}
 use Rattle.crx_text.specs.declared.fault.Fault.TheVariants.{OutOfMemory, WriteFailed}
 use Rattle.crx_text.specs.declared.fault.At.{At}
 use Rattle.crx_filter.specs.Checking.{check_filter}
-use Rattle.crx_filter.specs.Choices.{Choices, choices_of, is_date}
+use Rattle.crx_filter.specs.Choices.{Choices, choices_of}
 use Rattle.crx_filter.specs.Compacted.{compacted}
 use Rattle.crx_filter.specs.Directions.{compaction_filter, expansion_filter}
 use Rattle.crx_filter.specs.Expanded.{expanded}
-use Rattle.crx_filter.specs.Messages.{error_text}
+use Rattle.crx_filter.specs.Messages.{error_text, notices_text}
 use Rattle.crx_filter.specs.Running.{Input}
-use Rattle.crx_filter.specs.Runs.{RunsAs}
+pub use Rattle.crx_filter.specs.Running.{reader_between}
+use Rattle.crx_filter.specs.Filters.{Filter}
+use Rattle.crx_filter.specs.Laws.{Begins}
+use Rattle.crx_filter.specs.Results.{FilterResult}
+use Rattle.crx_filter.specs.Runs.{IsResult, RunsAs}
 use Rattle.crx_filter.specs.Standard.{checked}
 use Rattle.crx_filter.specs.Taking.{Device, TookAll, TookPart}
+pub use Rattle.crx_filter.specs.Taking.{between}
 use Rattle.rnxcmp.specs.Dates.{IsDateText}
 use Rattle.rnxcmp.specs.Planning.{Refusal, Parse, DashTwice, TwoFiles, BadDate, NoName}
 use Rattle.rnxcmp.specs.declared.job.Job.{Job}
@@ -48,22 +54,23 @@ subject_of_usage usage_fault.BadDate = []
 subject_of_usage (usage_fault.NoName name) = name
 subject_of_usage usage_fault.Memory = []
 
+-- the fault by which words are refused; where the parser refuses them, its text stands open
+abbrev pub fault_of_refusal : Refusal → UsageFault
+fault_of_refusal Parse = usage_fault.Parse []
+fault_of_refusal DashTwice = usage_fault.DashTwice
+fault_of_refusal TwoFiles = usage_fault.TwoFiles
+fault_of_refusal BadDate = usage_fault.BadDate
+fault_of_refusal (NoName name) = usage_fault.NoName name
+
+abbrev pub line_of_usage : UsageFault → List ℕ
+line_of_usage fault = error_line (words_of_usage fault) (subject_of_usage fault)
+
 -- a line of a refusal; for words that the parser refuses it is the parser's text
 abbrev pub IsLineOf : Refusal → List ℕ → Type 0
 IsLineOf Parse line = ⊤
-IsLineOf DashTwice line = line ≡ error_line (codes "- given twice") []
-IsLineOf TwoFiles line = line ≡ error_line (codes "more than one file name") []
-IsLineOf BadDate line = line ≡ error_line (codes "bad date") []
-IsLineOf (NoName name) line = line ≡ error_line (codes "no output name for ") name
+IsLineOf refusal line = line ≡ line_of_usage (fault_of_refusal refusal)
 
 -- ---- messages
-
--- a reader and a writer between two moments
-abbrev pub reader_between : {S : Type 0} → (S → List ℕ → S → Type 0) → (S → Type 0) → (S → ℕ) → (S → ℕ) → S → S → Input
-reader_between gave at_end failures ends old new = record { gave = λ given. gave old given new; at_end = at_end new; start = tally_of (failures old) (ends old); counted = tally_of (failures new) (ends new) }
-
-abbrev pub between : {S : Type 0} → (S → List ℕ → S → Type 0) → (S → ℕ) → S → S → Device
-between took failures old new = record { took = λ text. took old text new; before = failures old; after = failures new }
 
 -- a line was written to the messages, whole or as far as it went
 abbrev pub IsShown : Device → List ℕ → Type 0
@@ -97,22 +104,95 @@ IsChosen Compact None every skip choices = (date : List ℕ) × IsDefaultDate da
 IsChosen Expand None every skip choices = choices ≡ choices_of every skip []
 IsChosen Check None every skip choices = choices ≡ choices_of every skip []
 
+-- what a tool makes of an input, whole and line by line
+abbrev pub result_of : Tool → Choices → List ℕ → FilterResult
+result_of Compact choices input = compacted input choices
+result_of Expand choices input = expanded input choices
+result_of Check choices input = checked input
+
+abbrev pub filter_of : Tool → Choices → Filter
+filter_of Compact choices = compaction_filter choices
+filter_of Expand choices = expansion_filter choices
+filter_of Check choices = check_filter
+
 -- a run of a tool, by what its reader gave: what it wrote, reported and answered
 abbrev pub IsRunOf : Tool → Choices → Input → List ℕ → Device → Device → ℕ → Option At → Type 0
-IsRunOf Compact choices input given writer messages status fault = RunsAs (λ bytes. compacted bytes choices) (compaction_filter choices) input given writer messages status fault
-IsRunOf Expand choices input given writer messages status fault = RunsAs (λ bytes. expanded bytes choices) (expansion_filter choices) input given writer messages status fault
-IsRunOf Check choices input given writer messages status fault = RunsAs checked check_filter input given writer messages status fault
+IsRunOf tool choices input given writer messages status fault = RunsAs (result_of tool choices) (filter_of tool choices) input given writer messages status fault
 
 -- a tool's filter ran from a reader to a writer and messages, and the status is its own
 abbrev pub IsFiltered : Tool → Choices → Input → Device → Device → ℕ → Type 0
 IsFiltered tool choices input writer messages status = (fault : Option At) × (given : List ℕ) × input.gave given × IsRunOf tool choices input given writer messages status fault
 
--- no filter ran: no memory was left for the choices, or the date doesn't fit
-abbrev pub IsNotBegun : Device → ℕ → Type 0
-IsNotBegun messages status = (status ≡ 1) × (IsShown messages (at_start OutOfMemory) ⊎ IsShownOr messages (error_line (codes "bad date") []))
+-- ---- a job
 
--- a job over the standard streams: the filter that it names ran, with the choices that it names, and the status is the filter's
-abbrev pub IsDone : Job → Input → Device → Device → ℕ → Type 0
-IsDone job input writer messages status =
-    ((choices : Choices) × IsChosen job.tool job.date job.every job.skip choices × IsFiltered job.tool choices input writer messages status)
-    ⊎ IsNotBegun messages status
+-- why no filter ran for a job: memory ran out before it, or a file couldn't be opened or made
+pub data Hindrance : Type 0 where
+  NoMemory : Hindrance
+  CannotRead : List ℕ → Hindrance
+  FileExists : List ℕ → Hindrance
+  CannotCreate : List ℕ → Hindrance
+
+-- which jobs each can hinder: only one that reads the file, that makes it, or that may not overwrite it
+abbrev pub CanHinder : Hindrance → Job → Type 0
+CanHinder NoMemory job = ⊤
+CanHinder (CannotRead name) job = job.source ≡ Some name
+CanHinder (FileExists name) job = (job.target ≡ Some name) × (job.force ≡ false)
+CanHinder (CannotCreate name) job = job.target ≡ Some name
+
+-- the line that says so
+abbrev pub line_of_hindrance : Hindrance → List ℕ
+line_of_hindrance NoMemory = at_start OutOfMemory
+line_of_hindrance (CannotRead name) = error_line (codes "cannot read ") name
+line_of_hindrance (FileExists name) = error_line (codes "file exists: ") name
+line_of_hindrance (CannotCreate name) = error_line (codes "cannot create ") name
+
+-- no filter ran, and a line says why; what the standard streams gave and took stays
+pub record IsNotBegun (job : Job) (messages : Device) (status : ℕ) (untouched : Type 0) : Type 0 where
+  pub why : Hindrance
+  pub can : CanHinder why job
+  pub shown : IsShownOr messages (line_of_hindrance why)
+  pub status_is : status ≡ 1
+  pub same : untouched
+
+-- what was written is a front part of what some lines are due, or some whole input
+abbrev pub IsFrontOf : Filter → Device → Type 0
+IsFrontOf filter writer = (written : List ℕ) × writer.took written
+    × ((lines : List InputLine) × (Begins (filter.so_far lines).output written ⊎ Begins (filter.whole lines).output written))
+
+-- warnings were reported and then a fault, whole or, where the messages failed, as far as it went
+abbrev pub IsFaultShown : Device → Type 0
+IsFaultShown messages = (warnings : List At) × (at : At)
+    × (TookAll messages (notices_text warnings ++ error_text (Some at)) ⊎ TookPart messages (notices_text warnings ++ error_text (Some at)))
+
+-- a tool's filter ran on some input, as that of a file, of whose bytes nothing is known: a fault ended it, or all that it makes of the
+-- input was written and reported, and the status is that
+abbrev pub IsFilteredSome : Tool → Choices → Device → Device → ℕ → Type 0
+IsFilteredSome tool choices writer messages status =
+    ((status ≡ 1) × IsFrontOf (filter_of tool choices) writer × IsFaultShown messages)
+    ⊎ ((given : List ℕ) × IsResult (result_of tool choices given) writer messages status None)
+
+-- the same where the output is a file, of which nothing is known either
+abbrev pub IsFilteredUnseen : Tool → Choices → Device → ℕ → Type 0
+IsFilteredUnseen tool choices messages status =
+    ((status ≡ 1) × IsFaultShown messages)
+    ⊎ ((given : List ℕ) × messages.took (result_of tool choices given).messages × (status ≡ (result_of tool choices given).status))
+
+-- a filter ran, into a file or else into the output
+abbrev pub IsFilteredInto : Option (List ℕ) → Tool → Choices → Input → Device → Device → ℕ → Type 0
+IsFilteredInto None tool choices input output messages status = IsFiltered tool choices input output messages status
+IsFilteredInto (Some target) tool choices input output messages status = IsFilteredUnseen tool choices messages status
+
+-- a filter ran, from a file or else from the input
+abbrev pub IsFilteredFrom : Option (List ℕ) → Option (List ℕ) → Tool → Choices → Input → Device → Device → ℕ → Type 0
+IsFilteredFrom None target tool choices input output messages status = IsFilteredInto target tool choices input output messages status
+IsFilteredFrom (Some source) None tool choices input output messages status = IsFilteredSome tool choices output messages status
+IsFilteredFrom (Some source) (Some target) tool choices input output messages status = IsFilteredUnseen tool choices messages status
+
+-- the filter of a job ran with the job's choices
+abbrev pub IsBegun : Job → Input → Device → Device → ℕ → Type 0
+IsBegun job input output messages status = (choices : Choices) × IsChosen job.tool job.date job.every job.skip choices
+    × IsFilteredFrom job.source job.target job.tool choices input output messages status
+
+-- a job, done or not begun
+abbrev pub IsDone : Job → Input → Device → Device → ℕ → Type 0 → Type 0
+IsDone job input output messages status untouched = IsBegun job input output messages status ⊎ IsNotBegun job messages status untouched

@@ -26,8 +26,8 @@ Exit status: 0 all went well; 1 an error ended the run, or the words or the file
 aren't right; 2 there were warnings (with -s), or the file isn't standard (check).
 
 Examples:
-  rnxcmp rnx2crx abcd0010.24o            writes abcd0010.24d
-  rnxcmp crx2rnx - abcd0010.24d | less   shows it
+  rnxcmp rnx2crx abcd0010.24o            # writes abcd0010.24d
+  rnxcmp crx2rnx - abcd0010.24d | less   # shows it
   gzip -dc a.crx.gz | rnxcmp crx2rnx > a.rnx";
 
 const RNX2CRX_ABOUT: &str = "Compacts a RINEX 3.0x observation file";
@@ -42,7 +42,7 @@ Exit status: 0 all went well; 1 an error ended the run (what was written stays);
 2 epochs were skipped with warnings (-s).
 
 Examples:
-  rnxcmp rnx2crx abcd0010.24o            writes abcd0010.24d
+  rnxcmp rnx2crx abcd0010.24o            # writes abcd0010.24d
   rnxcmp rnx2crx -s -e 120 - a.rnx > a.crx
   rnxcmp rnx2crx --date '01-Jan-24 00:00' < a.rnx > a.crx";
 
@@ -58,16 +58,17 @@ Exit status: 0 all went well; 1 an error ended the run (what was written stays);
 2 epochs were skipped with warnings (-s).
 
 Examples:
-  rnxcmp crx2rnx abcd0010.24d            writes abcd0010.24o
+  rnxcmp crx2rnx abcd0010.24d            # writes abcd0010.24o
   gzip -dc a.crx.gz | rnxcmp crx2rnx -s > a.rnx";
 
 const CHECK_ABOUT: &str = "Reports on a RINEX 3.0x observation file";
 
 const CHECK_HELP: &str = "\
-In: a RINEX 3.0x observation file. Out, on standard output, six lines: format,
-systems with their counts of types, epochs, events, observations, and standard
-`yes` or `no` with the number of the first line that isn't. A standard file comes
-back byte for byte when it is compacted and expanded. `-` has no effect.
+In: a RINEX 3.0x observation file, FILE or else standard input. Out, on standard
+output, six lines: format, systems with their counts of types, epochs, events,
+observations, and standard `yes` or `no` with the number of the first line that
+isn't. A standard file comes back byte for byte when it is compacted and expanded.
+`-` has no effect.
 
 Exit status: 0 standard; 1 an error, and no report; 2 accepted, but not standard.
 

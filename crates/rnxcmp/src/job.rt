@@ -5,7 +5,6 @@ ghost use Rattle.rnxcmp.specs.declared.job.UsageFault.TheVariants as usage_fault
 ghost use Rattle.rnxcmp.specs.Program.{subject_of_usage, words_of_usage};
 
 use crate::word::Word;
-use crx_filter::BadDate;
 use std::alloc::AllocError;
 use thiserror::Error;
 
@@ -99,13 +98,5 @@ impl From<AllocError> for UsageFault {
 
     fn from(_error: AllocError) -> UsageFault {
         UsageFault::Memory
-    }
-}
-
-impl From<BadDate> for UsageFault {
-    ghost from_gives = { λ _ fault. fault ≡ usage_fault.BadDate };
-
-    fn from(_error: BadDate) -> UsageFault {
-        UsageFault::BadDate
     }
 }

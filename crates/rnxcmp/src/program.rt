@@ -1,17 +1,19 @@
 //! A whole run of the program: from the words of the command line to an exit status.
 
-ghost use Rattle.std.specs.Prelude.{◌≡◌, ◌⊎◌, IfErr, IfOk, None, is_some, map, string_bytes, true};
+ghost use Rattle.std.specs.Prelude.{◌≡◌, ◌⊎◌, IfOk, is_some, map, string_bytes, true};
+ghost use Rattle.std.specs.Option.{option_map_or};
+ghost use Rattle.crx_filter.specs.Choices.{choices_of, is_date};
 ghost use Rattle.rnxcmp.specs.Planning.{Help, Refusal, Refused, Run, plan_of};
-ghost use Rattle.rnxcmp.specs.Program.{IsChosen, IsDone, IsFiltered, IsHelped, IsRefused, between, reader_between};
+ghost use Rattle.rnxcmp.specs.Program.{IsChosen, IsDone, IsFiltered, IsFilteredFrom, IsFilteredInto, IsFilteredUnseen, IsHelped, IsNotBegun, IsRefused, IsShown, at_start, between, reader_between};
 
 use crate::date::default_date;
-use crate::job::{Decision, Job, Tool, UsageFault};
+use crate::job::{Decision, Job, Tool};
 use crate::plan::plan;
 use crate::refusal::{refuse, report, report_at_start};
 use crate::word::Word;
 use crx_filter::{Options, check, compact, expand};
 use crx_text::{Fault, Sink, Source, Std, write_all_counted};
-use std::alloc::Global;
+use std::alloc::{AllocError, Global};
 use std::fs::OpenOptions;
 use std::io::{BufWriter, ErrorKind, Write};
 use std::rt::{Clock, Files};
@@ -21,18 +23,26 @@ use std::{fs, io};
 /// than all other work. Input is read in pieces of that size by the reader of lines itself.
 pub const OUTPUT_BUFFER: usize = 65536;
 
+/// The job's choices, with a date that fits its columns.
+fn options_with(job: &Job, date: &str) -> Options
+    requires { is_date date.now ≡ true }
+    ensures { result ≡ choices_of job.now.every job.now.skip date.now }
+{
+    Options::new(job.every, job.skip, date.as_bytes()).unwrap()
+}
+
 /// What the user chose: the date among the words, else that of the clock's moment where one is needed.
-fn options_of<C: Clock>(clock: &C, alloc: Global, job: &Job) -> Result<Options, UsageFault>
-    ensures ok { IfOk result (λ options. IsChosen job.now.tool job.now.date job.now.every job.now.skip options) }
-    ensures err { IfErr result (λ fault. (fault ≡ UsageFault.Memory) ⊎ (fault ≡ UsageFault.BadDate)) }
+fn options_of<C: Clock>(clock: &C, alloc: Global, job: &Job) -> Result<Options, AllocError>
+    requires { option_map_or is_date job.now.date true ≡ true }
+    ensures { IfOk result (λ options. IsChosen job.now.tool job.now.date job.now.every job.now.skip options) }
 {
     match (&job.date, job.tool) {
-        (Some(date), _) => Ok(Options::new(job.every, job.skip, date.text().as_bytes())?),
+        (Some(date), _) => Ok(options_with(job, date.text())),
         (None, Tool::Compact) => {
             let date = default_date(clock, alloc)?;
-            Ok(Options::new(job.every, job.skip, date.as_str().as_bytes())?)
+            Ok(options_with(job, date.as_str()))
         }
-        (None, _) => Ok(Options::new(job.every, job.skip, b"")?),
+        (None, _) => Ok(options_with(job, "")),
     }
 }
 
@@ -64,7 +74,10 @@ fn filter_to_file<R: Source, F: Write + Drop, M: Sink>(
     reader: &mut R,
     file: F,
     messages: &mut M,
-) -> u8 {
+) -> u8
+    ensures { IsFilteredUnseen tool options (between M.took M.failures messages.old messages.new) result
+        ⊎ ((result ≡ 1) × IsShown (between M.took M.failures messages.old messages.new) (at_start Fault.OutOfMemory) × (reader.new ≡ reader.old)) }
+{
     match BufWriter::with_capacity(alloc, OUTPUT_BUFFER, file) {
         Ok(buffer) => {
             let mut writer = Std::new(buffer);
@@ -101,14 +114,15 @@ fn run_to_target<H: Files, R: Source, W: Sink, M: Sink>(
     messages: &mut M,
 ) -> u8
     ensures output { is_some job.now.target ≡ true → output.new ≡ output.old }
-    ensures filtered { job.now.target ≡ None → IsFiltered job.now.tool options (reader_between R.gave R.at_end R.failures R.ends reader.old reader.new)
-        (between W.took W.failures output.old output.new) (between M.took M.failures messages.old messages.new) result }
+    ensures done { IsFilteredInto job.now.target job.now.tool options (reader_between R.gave R.at_end R.failures R.ends reader.old reader.new)
+        (between W.took W.failures output.old output.new) (between M.took M.failures messages.old messages.new) result
+        ⊎ IsNotBegun job.now (between M.took M.failures messages.old messages.new) result ((reader.new ≡ reader.old) × (output.new ≡ output.old)) }
 {
     match &job.target {
         None => filter(alloc, job.tool, options, reader, output, messages),
         Some(name) => match create(rt, name.text(), job.force) {
             Ok(file) => filter_to_file(alloc, job.tool, options, reader, file, messages),
-            Err(error) if error.kind() == ErrorKind::AlreadyExists => {
+            Err(error) if !job.force && error.kind() == ErrorKind::AlreadyExists => {
                 report(alloc, messages, "file exists: ", name.text())
             }
             Err(_) => report(alloc, messages, "cannot create ", name.text()),
@@ -128,8 +142,9 @@ fn run_from_source<H: Files, R: Source, W: Sink, M: Sink>(
 ) -> u8
     ensures input { is_some job.now.source ≡ true → input.new ≡ input.old }
     ensures output { is_some job.now.target ≡ true → output.new ≡ output.old }
-    ensures filtered { job.now.source ≡ None → job.now.target ≡ None → IsFiltered job.now.tool options (reader_between R.gave R.at_end R.failures R.ends input.old input.new)
-        (between W.took W.failures output.old output.new) (between M.took M.failures messages.old messages.new) result }
+    ensures done { IsFilteredFrom job.now.source job.now.target job.now.tool options (reader_between R.gave R.at_end R.failures R.ends input.old input.new)
+        (between W.took W.failures output.old output.new) (between M.took M.failures messages.old messages.new) result
+        ⊎ IsNotBegun job.now (between M.took M.failures messages.old messages.new) result ((input.new ≡ input.old) × (output.new ≡ output.old)) }
 {
     match &job.source {
         None => run_to_target(rt, alloc, job, options, input, output, messages),
@@ -153,14 +168,15 @@ fn run_job<H: Files + Clock, R: Source, W: Sink, M: Sink>(
     output: &mut W,
     messages: &mut M,
 ) -> u8
+    requires { option_map_or is_date job.now.date true ≡ true }
     ensures input { is_some job.now.source ≡ true → input.new ≡ input.old }
     ensures output { is_some job.now.target ≡ true → output.new ≡ output.old }
-    ensures done { job.now.source ≡ None → job.now.target ≡ None → IsDone job.now (reader_between R.gave R.at_end R.failures R.ends input.old input.new)
-        (between W.took W.failures output.old output.new) (between M.took M.failures messages.old messages.new) result }
+    ensures done { IsDone job.now (reader_between R.gave R.at_end R.failures R.ends input.old input.new) (between W.took W.failures output.old output.new)
+        (between M.took M.failures messages.old messages.new) result ((input.new ≡ input.old) × (output.new ≡ output.old)) }
 {
     match options_of(rt, alloc, job) {
         Ok(options) => run_from_source(rt, alloc, job, options, input, output, messages),
-        Err(fault) => refuse(alloc, messages, &fault),
+        Err(_) => report_at_start(messages, Fault::OutOfMemory),
     }
 }
 
@@ -203,8 +219,9 @@ pub fn run<H: Files + Clock, R: Source, W: Sink, M: Sink>(
         → IsHelped (between W.took W.failures output.old output.new) (between M.took M.failures messages.old messages.new) result × (input.new ≡ input.old) }
     ensures input { (job : Job) → plan_of (map string_bytes words.items) ≡ Run job → is_some job.source ≡ true → input.new ≡ input.old }
     ensures output { (job : Job) → plan_of (map string_bytes words.items) ≡ Run job → is_some job.target ≡ true → output.new ≡ output.old }
-    ensures done { (job : Job) → plan_of (map string_bytes words.items) ≡ Run job → job.source ≡ None → job.target ≡ None
-        → IsDone job (reader_between R.gave R.at_end R.failures R.ends input.old input.new) (between W.took W.failures output.old output.new) (between M.took M.failures messages.old messages.new) result }
+    ensures done { (job : Job) → plan_of (map string_bytes words.items) ≡ Run job
+        → IsDone job (reader_between R.gave R.at_end R.failures R.ends input.old input.new) (between W.took W.failures output.old output.new)
+        (between M.took M.failures messages.old messages.new) result ((input.new ≡ input.old) × (output.new ≡ output.old)) }
 {
     match plan(alloc, words) {
         Ok(Decision::Help(text)) => show_help(&text, output, messages),

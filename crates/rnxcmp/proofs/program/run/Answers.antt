@@ -1,8 +1,9 @@
-use Rattle.std.proofs.Common.{◌≡◌, ◌∙◌, None, map, refl, string_bytes, subst}
+use Rattle.std.proofs.Common.{◌≡◌, ◌∙◌, map, inl, inr, refl, string_bytes, subst}
 use Rattle.rnxcmp.specs.Planning.{Run, plan_of}
-use Rattle.rnxcmp.specs.Program.{IsDone, between, reader_between}
+use Rattle.rnxcmp.specs.Program.{IsDone, NoMemory, between, reader_between}
 use Rattle.rnxcmp.specs.declared.job.Job.{Job}
-use Rattle.rnxcmp.proofs.Refusals.{refused_by}
+use Rattle.rnxcmp.proofs.JobFits.{job_fits}
+use Rattle.rnxcmp.proofs.Refusals.{not_run, refused_by}
 use Rattle.rnxcmp.proofs.program.run.Goals as goal
 
 -- a run is of one job
@@ -17,11 +18,26 @@ returns-in-Err-clause-refused g c = λ refusal e. (
   refl {a = c.args.output.now},
 )
 
-pub returns-in-Ok-Run-clause-done : goal.returns-in-Ok-Run-clause-done
-returns-in-Ok-Run-clause-done g c = λ job e source target.
+pub returns-in-Err-clause-done : goal.returns-in-Err-clause-done
+returns-in-Err-clause-done g c = λ job e. inr (record {
+  why = NoMemory;
+  can = tt;
+  shown = inl (not_run _ job (between g.M.Sink.took g.M.Sink.failures c.args.messages.now c.refuse.new.messages) c.in-Err.fault e c.refuse.ensures.memory c.in-Err.ensures);
+  status_is = c.refuse.ensures.status;
+  same = (refl, refl);
+})
+
+pub run_job-requires : goal.run_job-requires
+run_job-requires g c =
     let planned : Run c.in-Ok-Run.job ≡ plan_of (map string_bytes c.args.words.items) = rw c.in-Ok-Run.field-0-is at c.in-Ok-Run.ensures in
-    subst (λ (j : Job). j.source ≡ None → j.target ≡ None → IsDone j
+    job_fits (map string_bytes c.args.words.items) c.in-Ok-Run.job planned
+
+pub returns-in-Ok-Run-clause-done : goal.returns-in-Ok-Run-clause-done
+returns-in-Ok-Run-clause-done g c = λ job e.
+    let planned : Run c.in-Ok-Run.job ≡ plan_of (map string_bytes c.args.words.items) = rw c.in-Ok-Run.field-0-is at c.in-Ok-Run.ensures in
+    subst (λ (j : Job). IsDone j
     (reader_between g.R.Source.gave g.R.Source.at_end g.R.Source.failures g.R.Source.ends c.args.input.now c.run_job.new.input)
     (between g.W.Sink.took g.W.Sink.failures c.args.output.now c.run_job.new.output)
-    (between g.M.Sink.took g.M.Sink.failures c.args.messages.now c.run_job.new.messages) c.run_job.result)
-    (same_job c.in-Ok-Run.job job (planned ∙ e)) c.run_job.ensures.done source target
+    (between g.M.Sink.took g.M.Sink.failures c.args.messages.now c.run_job.new.messages) c.run_job.result
+    ((c.run_job.new.input ≡ c.args.input.now) × (c.run_job.new.output ≡ c.args.output.now)))
+    (same_job c.in-Ok-Run.job job (planned ∙ e)) c.run_job.ensures.done

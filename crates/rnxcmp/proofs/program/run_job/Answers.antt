@@ -1,16 +1,13 @@
-use Rattle.std.proofs.Common.{◌≡◌, [], List, ℕ, Err, ap, codes, inl, inr, subst}
-use Rattle.rnxcmp.specs.Planning.{BadDate, plan_in}
-use Rattle.rnxcmp.specs.Program.{IsShownOr, between, error_line}
-use Rattle.rnxcmp.specs.declared.job.UsageFault.{UsageFault}
+use Rattle.std.proofs.Common.{inl, inr, refl}
+use Rattle.rnxcmp.specs.Program.{NoMemory}
 use Rattle.rnxcmp.proofs.program.run_job.Goals as goal
 
-pub returns-in-Err-clause-done : goal.returns-in-Err-clause-done
-returns-in-Err-clause-done g c = λ source target. elim c.in-Err.ensures.err [
-  | inl memory ↦ inr (c.refuse.ensures.status, inl (c.refuse.ensures.memory memory))
-  | inr bad_date ↦
-      let refused = c.refuse.ensures.refused BadDate (ap (λ (fault : UsageFault). plan_in (Err fault)) bad_date) in
-      inr (
-        c.refuse.ensures.status,
-        inr (subst (λ (line : List ℕ). IsShownOr (between g.M.Sink.took g.M.Sink.failures c.args.messages.now c.refuse.new.messages) line) refused.1.1 refused.1.2),
-      )
+pub returns-in-Ok-clause-done : goal.returns-in-Ok-clause-done
+returns-in-Ok-clause-done g c = elim c.run_from_source.ensures.done [
+  | inl begun ↦ inl (c.in-Ok.options, c.in-Ok.ensures, begun)
+  | inr not_begun ↦ inr not_begun
 ]
+
+pub returns-in-Err-clause-done : goal.returns-in-Err-clause-done
+returns-in-Err-clause-done g c =
+    inr (record { why = NoMemory; can = tt; shown = inl c.report_at_start.ensures.shown; status_is = c.report_at_start.ensures.status; same = (refl, refl) })

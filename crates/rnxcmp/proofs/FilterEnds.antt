@@ -1,0 +1,89 @@
+-- What a filter's run is where nothing is known of what it read, or of where it wrote.
+use Rattle.std.proofs.Common.{◌≡◌, ◌∙◌, ◌++◌, ◌≤◌, ◌<◌, ℕ, List, [], Option, Some, None, arith, inl, inr, is_some, length, refl, subst, sym, take, true, true≢false}
+use Rattle.std.proofs.lemmas.List.{length-append, take-append-le}
+use Rattle.crx_text.specs.Lines.{lines_of}
+use Rattle.crx_text.specs.declared.fault.At.{At}
+use Rattle.crx_text.specs.declared.fault.Fault.{Fault}
+use Rattle.crx_text.specs.declared.fault.Fault.TheVariants as fault
+use Rattle.crx_filter.specs.Choices.{Choices}
+use Rattle.crx_filter.specs.Running.{Input, IsPart}
+use Rattle.crx_filter.specs.Filters.{Filter}
+use Rattle.crx_filter.specs.Messages.{error_text, notices_text}
+use Rattle.crx_filter.specs.Salvage.{AreReported, FaultFound, IsSalvaged, Stands, complete_lines}
+use Rattle.crx_filter.specs.Taking.{Device}
+use Rattle.rnxcmp.specs.Program.{IsFiltered, IsFilteredFrom, IsFilteredInto, IsFilteredSome, IsFaultShown, IsFilteredUnseen, IsFrontOf, IsNotBegun, IsRunOf, filter_of}
+use Rattle.rnxcmp.specs.declared.job.Job.{Job}
+use Rattle.rnxcmp.specs.declared.job.Tool.{Tool}
+
+module _ (messages : Device) where
+  from_reported : (warnings : List At) (at : At) → AreReported messages warnings at → IsFaultShown messages
+  from_reported warnings at (inl whole) = (warnings, at, inl whole)
+  from_reported warnings at (inr part) = (warnings, at, inr ((part.count, part.less, part.took), part.failed))
+
+  from_warnings : (before after : List At) (at : At) → IsPart messages (notices_text before) (notices_text after) → IsFaultShown messages
+  from_warnings before after at part =
+      let front = notices_text after in
+      let fault = error_text (Some at) in
+      let less = part.less in
+      let within : part.count ≤ length front = omega (arith, less) in
+      let short : part.count < length (front ++ fault) = let sum = length-append front fault in omega (arith, less, sum) in
+      let took : messages.took (take part.count (front ++ fault)) = subst messages.took (sym (take-append-le part.count front fault within)) part.took in
+      (after, at, inr ((part.count, short, took), part.failed))
+
+module _ (filter : Filter) (input : Input) (given : List ℕ) (writer messages : Device) (at : At) where
+  found : FaultFound filter input given writer messages at → IsFaultShown messages
+  found h = from_reported messages h.after.warnings at h.reported
+
+  by_fault : (f : Fault) → Stands filter input given writer messages at f → IsFaultShown messages
+  by_fault fault.ReadFailed h = from_reported messages (filter.so_far (complete_lines given)).warnings at h.stopped.reported
+  by_fault fault.InputTooLong h = from_reported messages (filter.so_far (complete_lines given)).warnings at h.stopped.reported
+  by_fault fault.OutOfMemory (inl h) = from_reported messages [] at h.reported
+  by_fault fault.OutOfMemory (inr h) = from_reported messages ((filter.so_far h.lines).warnings ++ h.notices) at h.reported
+  by_fault fault.WriteFailed (inl h) = from_reported messages h.after.warnings at h.reported
+  by_fault fault.WriteFailed (inr (inl h)) = from_warnings messages h.before.warnings h.after.warnings at h.reported
+  by_fault fault.WriteFailed (inr (inr h)) = from_reported messages (filter.whole (lines_of given)).warnings at h.reported
+  by_fault fault.LineTooLong h = found h
+  by_fault fault.MissingVersion h = found h
+  by_fault fault.UnsupportedVersion h = found h
+  by_fault fault.NotObservation h = found h
+  by_fault fault.BadTypesLine h = found h
+  by_fault fault.NoEndOfHeader h = found h
+  by_fault fault.NotCompact h = found h
+  by_fault fault.BadProgLine h = found h
+  by_fault fault.NotAnEpoch h = found h
+  by_fault fault.BadEpoch h = found h
+  by_fault fault.BadClock h = found h
+  by_fault fault.BadSatellite h = found h
+  by_fault fault.RepeatedSatellite h = found h
+  by_fault fault.BadField h = found h
+  by_fault fault.NoArc h = found h
+  by_fault fault.OutOfRange h = found h
+  by_fault fault.BadFlags h = found h
+  by_fault fault.Truncated h = found h
+
+module _ (tool : Tool) (choices : Choices) (input : Input) (writer messages : Device) (status : ℕ) where
+  front : (given : List ℕ) → IsSalvaged (filter_of tool choices) input given writer → IsFrontOf (filter_of tool choices) writer
+  front given h = (h.written, h.wrote, elim h.first [ inl so_far ↦ (complete_lines given, inl so_far) | inr all ↦ (lines_of given, inr all.1) ])
+
+  ends : (given : List ℕ) (fault : Option At) → IsRunOf tool choices input given writer messages status fault → IsFilteredSome tool choices writer messages status
+  ends given None h = inr (given, (h.good refl).5)
+  ends given (Some at) h =
+      let ended = h.ended at refl in
+      inl (ended.0, front given h.salvaged, by_fault (filter_of tool choices) input given writer messages at at.fault ended.1)
+
+  pub read_unseen : IsFiltered tool choices input writer messages status → IsFilteredSome tool choices writer messages status
+  read_unseen h = ends h.1 h.0 h.3
+
+  pub unseen : IsFiltered tool choices input writer messages status → IsFilteredUnseen tool choices messages status
+  unseen h = elim (read_unseen h) [ inl failed ↦ inl (failed.0, failed.2) | inr ran ↦ inr (ran.0, ran.1.messages_are, ran.1.status_is) ]
+
+-- a filter that ran from a file, into another or into the output
+pub from_file : (source target : Option (List ℕ)) → is_some source ≡ true → (tool : Tool) (choices : Choices) (input reader : Input) (output messages : Device) (status : ℕ)
+    → IsFilteredInto target tool choices reader output messages status → IsFilteredFrom source target tool choices input output messages status
+from_file None target e tool choices input reader output messages status h = absurd (true≢false (sym e))
+from_file (Some source) None e tool choices input reader output messages status h = read_unseen tool choices reader output messages status h
+from_file (Some source) (Some target) e tool choices input reader output messages status h = h
+
+-- a job that wasn't begun, with less that stays
+pub still_not_begun : (job : Job) (messages : Device) (status : ℕ) (P Q : Type 0) → IsNotBegun job messages status P → (P → Q) → IsNotBegun job messages status Q
+still_not_begun job messages status P Q h f = record { why = h.why; can = h.can; shown = h.shown; status_is = h.status_is; same = f h.same }
