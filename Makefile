@@ -1,7 +1,8 @@
 # make        proves and builds the program, compacts the sample with it, expands that again and compares,
 #             and shows what was written
 # make test   runs the gate: proofs from nothing, wrong bodies, the program's stored run, and tests; then
-#             the program as a process, on the cases of tests/process
+#             the built program as a process, by the recipes of docs/ARCHIVES.md, and by the commands in print
+# make trials runs the program that make built with each growth of memory refused in turn (tests/memory)
 # make install PREFIX=/usr/local
 #             puts the program that make built, its manual page, completions and other names in place
 
@@ -12,7 +13,7 @@ WORDS := rnx2crx --date "01-Jan-24 00:00"
 
 PREFIX ?= /usr/local
 
-.PHONY: all test install
+.PHONY: all test trials install
 
 all:
 	@mkdir -p out
@@ -30,7 +31,10 @@ all:
 	@wc -c $(SAMPLE) $(COMPACT) | grep -v total
 
 test:
-	tests/process/run.py $(PROGRAM) --gate
+	tests/run.py $(PROGRAM) --gate
+
+trials:
+	tests/memory/run.py $(PROGRAM)
 
 install:
 	packaging/install.sh "$(DESTDIR)$(PREFIX)" $(PROGRAM)

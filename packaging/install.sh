@@ -5,6 +5,7 @@ set -eu
 prefix=$1
 program=$2
 here=$(dirname "$0")
+[ -x "$program" ] || { echo "no program $program: run make first" >&2; exit 1; }
 install -d "$prefix/bin" "$prefix/share/man/man1" "$prefix/share/bash-completion/completions" \
     "$prefix/share/zsh/site-functions" "$prefix/share/fish/vendor_completions.d"
 install -m 755 "$program" "$prefix/bin/rnxcmp"

@@ -153,6 +153,31 @@ CASES = [
         stderr=text("ERROR line 7 code 18: bad indicator"),
         status=1,
     ),
+    # An input that ends in mid-line, as of a pipe that broke.
+    Case(
+        "a pipe that breaks in a satellite line",
+        DATED,
+        FIVE[: FIVE.index(b"20000100") + 4],
+        stdout=text(*K, *H, full(0, "G01"), "", "3&20000000000"),
+        stderr=text("ERROR line 7 code 15: bad field"),
+        status=1,
+    ),
+    Case(
+        "a pipe that breaks in an epoch line",
+        DATED,
+        FIVE[: FIVE.index(b"00  1.0") + 2],
+        stdout=text(*K, *H, full(0, "G01"), "", "3&20000000000"),
+        stderr=text("ERROR line 6 code 11: bad epoch line"),
+        status=1,
+    ),
+    Case(
+        "a pipe of compact text that breaks in an epoch line",
+        ["crx2rnx"],
+        COMPACT_FIVE[: COMPACT_FIVE.index(b" " * 20 + b"1") + 10],
+        stdout=text(*H, epoch(0, 1), "G01  20000000.000"),
+        stderr=text("ERROR line 10 code 19: truncated"),
+        status=1,
+    ),
     Case("a report that isn't written", ["check"], BAD_INDICATOR, stderr=text("ERROR line 7 code 18: bad indicator"), status=1),
     Case(
         "a skipped epoch",
@@ -226,6 +251,8 @@ CASES = [
     Case("no standard output", DATED, FIVE, stdout=SHUT, stderr=is_write_failed, status=1),
     Case("no standard error, and a fault", DATED, b"", stderr=CLOSED, status=1),
     Case("no standard error, and a warning", [*DATED, "-s"], BAD_INDICATOR, stdout=text(*K, *H, full(0, "G01"), "", "3&20000000000"), stderr=CLOSED, status=1),
+    Case("no standard error, and a warning, into a file", [*DATED, "-s", "a.rnx"], before={"a.rnx": BAD_INDICATOR}, stderr=CLOSED, status=1,
+         after={"a.crx": text(*K, *H, full(0, "G01"), "", "3&20000000000")}),
     Case("no standard error, and none needed", EACH, text(*H), stdout=text(*K, *H), stderr=CLOSED),
     Case("refused words, no standard error", ["rnx2crx", "-e", "0"], stderr=CLOSED, status=1),
 ]

@@ -1,13 +1,5 @@
-#!/usr/bin/env python3
-"""Runs the program as a process on the cases of cases.py, and compares what it does with them.
+"""The program as a process, on the cases of cases.py and streams.py: what it writes, reports, answers and leaves (see tests/run.py)."""
 
-    tests/process/run.py PROGRAM            the cases alone
-    tests/process/run.py PROGRAM --gate     after `rt ci` at the top of the repository
-
-The last line is `N passed, M failed`, of both. The exit status is 0 where nothing failed.
-"""
-
-import argparse
 import os
 import re
 import subprocess
@@ -17,24 +9,7 @@ from pathlib import Path
 
 sys.path.insert(0, str(Path(__file__).parent))
 from cases import CASES, CLOSED, COMPACT_FIVE, DATED, FIVE, FULL, SHUT  # noqa: E402
-
-TOP = Path(__file__).resolve().parents[2]
-
-
-def gate(program):
-    """Runs `rt ci`, which builds the program, shows what it prints, and gives the counts of its last line."""
-    program.unlink(missing_ok=True)
-    lines = []
-    with subprocess.Popen(["rt", "ci"], cwd=TOP, stdout=subprocess.PIPE, text=True) as process:
-        for line in process.stdout:
-            sys.stdout.write(line)
-            sys.stdout.flush()
-            lines.append(line)
-    found = re.fullmatch(r"(\d+) passed, (\d+) failed", lines[-1].strip()) if lines else None
-    if found is None:
-        return 0, 1
-    passed, failed = int(found[1]), int(found[2])
-    return passed, failed or (1 if process.returncode else 0)
+from streams import CHECKS  # noqa: E402
 
 
 def files_in(folder):
@@ -103,33 +78,9 @@ def run_short_of_memory(program, words, given, whole):
     return wrong if short else [*wrong, "no run was short of memory"]
 
 
-def main():
-    parser = argparse.ArgumentParser(description=__doc__, formatter_class=argparse.RawDescriptionHelpFormatter)
-    parser.add_argument("program", type=Path)
-    parser.add_argument("--gate", action="store_true", help="run `rt ci` first, which builds the program")
-    arguments = parser.parse_args()
-    program = arguments.program.resolve()
-    passed = failed = 0
-    if arguments.gate:
-        passed, failed = gate(program)
-        if not program.exists():
-            subprocess.run(["rt", "run", "--", "--help"], cwd=program.parent.parent, stdin=subprocess.DEVNULL)
-    if program.exists():
-        checks = [(case.name, lambda case=case: run_case(program, case)) for case in CASES]
-        checks.append(("compaction, short of memory", lambda: run_short_of_memory(program, DATED, FIVE, COMPACT_FIVE)))
-        checks.append(("expansion, short of memory", lambda: run_short_of_memory(program, ["crx2rnx"], COMPACT_FIVE, FIVE)))
-        for name, check in checks:
-            wrong = check()
-            passed, failed = (passed, failed + 1) if wrong else (passed + 1, failed)
-            print(f"process {name} ... {'FAILED' if wrong else 'ok'}")
-            for line in wrong:
-                print(f"    {line}")
-    else:
-        failed += 1
-        print(f"no program {program}")
-    print(f"{passed} passed, {failed} failed")
-    return 1 if failed else 0
-
-
-if __name__ == "__main__":
-    sys.exit(main())
+def checks(program):
+    """Each case, and runs with less and less memory."""
+    yield from ((case.name, lambda case=case: run_case(program, case)) for case in CASES)
+    yield "compaction, short of memory", lambda: run_short_of_memory(program, DATED, FIVE, COMPACT_FIVE)
+    yield "expansion, short of memory", lambda: run_short_of_memory(program, ["crx2rnx"], COMPACT_FIVE, FIVE)
+    yield from ((name, lambda check=check: check(program)) for name, check in CHECKS)

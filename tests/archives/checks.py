@@ -1,20 +1,16 @@
-#!/usr/bin/env python3
-"""Runs each recipe of docs/ARCHIVES.md as it stands there, on files that are made up here.
+"""Each recipe of docs/ARCHIVES.md as it stands there, on files that are made up here (see tests/run.py).
 
-    tests/archives/run.py [PROGRAM]
-
-Without a name the program is crates/rnxcmp/out/rnxcmp.
-A block ```sh needs=NAME is left out where there is no program NAME. The blocks are run one after another in one
-folder. The last line is `N passed, M failed`.
+The blocks are run one after another in one folder. A block that names a program which the machine lacks is left out.
 """
 
 import os
 import re
 import shutil
 import subprocess
-import sys
 import tempfile
 from pathlib import Path
+
+from checking import missing_tools
 
 TOP = Path(__file__).resolve().parents[2]
 SAMPLE = TOP / "samples/station.rnx"
@@ -45,18 +41,26 @@ def make_files(folder):
 
 
 def blocks(text):
-    """The recipes: a heading, what it needs, and its block."""
+    """The recipes: a heading and its block."""
     heading = ""
-    for part in re.finditer(r"^## ([^\n]+)$|^```sh(?: needs=(\S+))?\n(.*?)^```$", text, re.M | re.S):
+    for part in re.finditer(r"^## ([^\n]+)$|^```sh\n(.*?)^```$", text, re.M | re.S):
         if part[1]:
             heading = part[1]
         else:
-            yield heading, part[2], part[3]
+            yield heading, part[2]
 
 
-def main():
-    program = sys.argv[1] if len(sys.argv) > 1 else TOP / "crates/rnxcmp/out/rnxcmp"
-    passed = failed = 0
+def run_block(heading, block, work, environment):
+    """What is wrong, as lines, or why the block is left out."""
+    lacking = missing_tools(block)
+    if lacking:
+        return f"there is no {lacking[0]}"
+    run = subprocess.run(["sh", "-c", block], cwd=work, env=environment, capture_output=True, text=True, timeout=300)
+    missing = [line for line in WANTED[heading] if line not in run.stdout]
+    return [f"not there: {missing}", f"output: {run.stdout!r}", f"messages: {run.stderr!r}"] if missing else []
+
+
+def checks(program):
     with tempfile.TemporaryDirectory() as name:
         folder = Path(name)
         tools = folder / "bin"
@@ -66,20 +70,5 @@ def main():
         work.mkdir()
         make_files(work)
         environment = {**os.environ, "PATH": f"{tools}:{os.environ['PATH']}"}
-        for heading, needs, block in blocks((TOP / "docs/ARCHIVES.md").read_text()):
-            if needs and not shutil.which(needs):
-                print(f"recipe {heading} ... left out: there is no {needs}")
-                continue
-            run = subprocess.run(["sh", "-c", block], cwd=work, env=environment, capture_output=True, text=True, timeout=300)
-            missing = [line for line in WANTED[heading] if line not in run.stdout]
-            good = not missing
-            passed, failed = (passed + 1, failed) if good else (passed, failed + 1)
-            print(f"recipe {heading} ... {'ok' if good else 'FAILED'}")
-            if not good:
-                print(f"    not there: {missing}\n    output: {run.stdout!r}\n    messages: {run.stderr!r}")
-    print(f"{passed} passed, {failed} failed")
-    return 1 if failed else 0
-
-
-if __name__ == "__main__":
-    sys.exit(main())
+        for heading, block in blocks((TOP / "docs/ARCHIVES.md").read_text()):
+            yield heading, lambda: run_block(heading, block, work, environment)

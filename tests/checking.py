@@ -1,0 +1,28 @@
+"""What the tests of the built program share: checks that are counted, and programs that a machine may lack."""
+
+import re
+import shutil
+
+# programs that a command may need and a machine may lack
+TOOLS = ("awk", "bash", "cmp", "find", "groff", "gzip", "less", "man", "nproc", "parallel", "sort", "xargs")
+
+
+def missing_tools(command):
+    """The programs that a command names and this machine lacks."""
+    return [tool for tool in TOOLS if re.search(rf"(?<![\w./-]){tool}(?![\w./-])", command) and not shutil.which(tool)]
+
+
+def tally(kind, checks):
+    """Runs checks, each a name and a call that gives what is wrong, as lines, or a text that says why nothing was run. Prints a line
+    for each, and gives how many passed and how many failed."""
+    passed = failed = 0
+    for name, check in checks:
+        wrong = check()
+        if isinstance(wrong, str):
+            print(f"{kind} {name} ... left out: {wrong}", flush=True)
+            continue
+        passed, failed = (passed, failed + 1) if wrong else (passed + 1, failed)
+        print(f"{kind} {name} ... {'FAILED' if wrong else 'ok'}", flush=True)
+        for line in wrong:
+            print(f"    {line}", flush=True)
+    return passed, failed

@@ -1,0 +1,152 @@
+"""The commands that README.md, the manual page and the help print, run as they are printed, on files that are made up here; and the
+program as `make install` puts it in place (see tests/run.py).
+
+The commands of one place are run one after another in one folder, and each has to end well, with nothing on standard error.
+"""
+
+import gzip
+import os
+import re
+import shutil
+import subprocess
+import tempfile
+from pathlib import Path
+
+from checking import missing_tools
+
+TOP = Path(__file__).resolve().parents[2]
+SAMPLE = TOP / "samples/station.rnx"
+MANUAL = TOP / "packaging/man/rnxcmp.1"
+# two manual pages more, and the completions, by the names under which they are installed
+NAMES = ("rnxcmp", "RNX2CRX", "CRX2RNX")
+# words so far, and the words that complete them
+COMPLETIONS = (
+    ("rnxcmp ", "rnx2crx crx2rnx check -h --help"),
+    ("rnxcmp rnx2crx --", "--date --help"),
+    ("rnxcmp rnx2crx abc", "abcd0010.24o"),
+    ("rnxcmp crx2rnx ", "a.crx"),
+    ("RNX2CRX abc", "abcd0010.24o"),
+    ("CRX2RNX -f a", "a.crx"),
+)
+
+
+def run_in(folder, tools, words, **more):
+    environment = {**os.environ, "PATH": f"{tools}:{os.environ['PATH']}"}
+    return subprocess.run(words, cwd=folder, env=environment, capture_output=True, text=True, stdin=subprocess.DEVNULL, timeout=60, **more)
+
+
+def make_files(program, folder, place):
+    """The files that the commands name: one station's day under several names, compact text, and a pack of it. Where the first command
+    is to write the observation file, it isn't there; where a command reads a compact file that no other writes, that is there."""
+    compact = subprocess.run([program, "rnx2crx", SAMPLE.name, "-"], cwd=SAMPLE.parent, capture_output=True, check=True).stdout
+    (folder / "samples").mkdir()
+    shutil.copy(SAMPLE, folder / "samples")
+    for name in ("abcd0010.24o", "a.rnx", "archive/efgh0010.24o", "archive/sub/efgh0020.24o"):
+        (folder / name).parent.mkdir(parents=True, exist_ok=True)
+        shutil.copy(SAMPLE, folder / name)
+    (folder / "a.crx.gz").write_bytes(gzip.compress(compact))
+    if place in ("crx2rnx --help", "check --help"):
+        (folder / "abcd0010.24d").write_bytes(compact)
+    if place == "crx2rnx --help":
+        (folder / "abcd0010.24o").unlink()
+
+
+def commands_of_readme():
+    """The indented lines that begin with a program's name, but those of `make`; a `#` begins a comment for the shell too."""
+    blocks = re.findall(r"^    (?!make\b)((?:rnxcmp|gzip|find|set) .*)$", (TOP / "README.md").read_text(), re.M)
+    return [line for line in blocks]
+
+
+def commands_of_manual():
+    text = MANUAL.read_text()
+    examples = text[text.index(".SH EXAMPLES") : text.index(".SH COMING FROM")]
+    return [line.replace("\\-", "-").replace("\\(aq", "'") for line in re.search(r"^\.nf\n(.*?)^\.fi", examples, re.M | re.S)[1].splitlines()]
+
+
+def commands_of_help(program, words):
+    """The lines after `Examples:`."""
+    text = subprocess.run([program, *words, "--help"], capture_output=True, text=True, check=True).stdout
+    return [line.strip() for line in text[text.index("Examples:") :].splitlines()[1:] if line.strip()]
+
+
+def run_command(folder, tools, command):
+    lacking = missing_tools(command)
+    if lacking:
+        return f"there is no {lacking[0]}"
+    run = run_in(folder, tools, ["bash", "-o", "pipefail", "-c", command])
+    return [] if run.returncode == 0 and not run.stderr else [f"status {run.returncode}, messages {run.stderr!r}"]
+
+
+def file_is(path, content):
+    return [] if path.is_file() and path.read_bytes() == content else [f"{path.name} isn't what was expected"]
+
+
+def check_installed(prefix, folder):
+    """Both other names run, and what they write is right."""
+    shutil.rmtree(folder)
+    folder.mkdir()
+    shutil.copy(SAMPLE, folder / "a.rnx")
+    wrong = []
+    for words in (["RNX2CRX", "a.rnx"], ["CRX2RNX", "-f", "a.crx"]):
+        run = run_in(folder, prefix / "bin", words)
+        wrong += [] if run.returncode == 0 else [f"{words}: status {run.returncode}, {run.stderr!r}"]
+    return wrong + file_is(folder / "a.rnx", SAMPLE.read_bytes())
+
+
+def check_pages(prefix):
+    """Each manual page is there, and groff has nothing to say against it."""
+    lacking = missing_tools("groff")
+    if lacking:
+        return f"there is no {lacking[0]}"
+    wrong = []
+    for name in NAMES:
+        page = prefix / f"share/man/man1/{name}.1"
+        run = subprocess.run(["groff", "-t", "-man", "-Tascii", "-ww", "-P-cbou", str(page)], capture_output=True, text=True, timeout=60)
+        if run.returncode or run.stderr or "COMING FROM RNXCMP" not in run.stdout:
+            wrong.append(f"{name}.1: status {run.returncode}, {run.stderr!r}")
+    return wrong
+
+
+def check_completions(prefix, folder):
+    """What bash completes, by the file that is installed for each name."""
+    (folder / "abcd0010.24o").touch()
+    (folder / "a.crx").touch()
+    wrong = []
+    for line, wanted in COMPLETIONS:
+        words = line.split(" ")
+        script = prefix / f"share/bash-completion/completions/{words[0]}"
+        ask = f"""
+            . {script}
+            COMP_WORDS=({' '.join(word or "''" for word in words)})
+            COMP_CWORD={len(words) - 1}
+            handler=$(complete -p {words[0]})
+            handler=${{handler#*-F }}
+            "${{handler%% *}}" {words[0]} "{words[-1]}" "{words[-2]}"
+            echo "${{COMPREPLY[*]}}"
+        """
+        run = run_in(folder, prefix / "bin", ["bash", "--norc", "-c", ask])
+        if run.stdout.strip() != wanted or run.stderr:
+            wrong.append(f"{line!r}: {run.stdout!r}, {run.stderr!r}")
+    return wrong
+
+
+def checks(program):
+    with tempfile.TemporaryDirectory() as name:
+        top = Path(name)
+        prefix = top / "prefix"
+        install = subprocess.run([TOP / "packaging/install.sh", str(prefix), str(program)], capture_output=True, text=True, timeout=60)
+        yield "install", lambda: [] if install.returncode == 0 else [install.stderr]
+        places = [("README", commands_of_readme()), ("manual", commands_of_manual()), ("--help", commands_of_help(program, []))]
+        places += [(f"{word} --help", commands_of_help(program, [word])) for word in ("rnx2crx", "crx2rnx", "check")]
+        for place, commands in places:
+            folder = top / place.replace(" ", "_")
+            folder.mkdir()
+            make_files(program, folder, place)
+            yield f"{place}: there are examples", lambda: [] if commands else ["none"]
+            for command in commands:
+                yield f"{place}: {command}", lambda: run_command(folder, prefix / "bin", command)
+        folder = top / "installed"
+        folder.mkdir()
+        yield "installed: RNX2CRX and CRX2RNX", lambda: check_installed(prefix, folder)
+        yield "installed: manual pages", lambda: check_pages(prefix)
+        yield "installed: completions for bash", lambda: check_completions(prefix, folder)

@@ -1,0 +1,228 @@
+#!/usr/bin/env python3
+"""Refuses each growth of memory of the built program in turn, and compares what it writes, reports and answers.
+
+    tests/memory/run.py PROGRAM
+
+A growth is a call of the C library that takes memory: refusing.c stands in front of it, built by the toolchain's clang (or by CC). Of
+each run the first growth is refused, then the second, until a run meets none; first that one alone, then it and all later ones.
+Where memory ran out at line L, the output is to be that of the lines before it, the messages the warnings before it and then the
+error, the status 1. One growth of a run may be refused without harm: the list of words asks for its room beforehand, and once more
+where that is refused. A compaction and a check of more epochs like those before meet no more growths than one of a few. The last
+line counts the points and those that went wrong; the status is 0 where none did.
+"""
+
+import os
+import re
+import shutil
+import subprocess
+import sys
+import tempfile
+from dataclasses import dataclass, field, replace
+from pathlib import Path
+
+sys.path.insert(0, str(Path(__file__).parents[1] / "process"))
+from cases import BAD_INDICATOR, DATED, EVENT, FIVE, H, epoch, text  # noqa: E402
+
+SYSTEMS = "GRECJIS"
+NO_MEMORY = rb"ERROR line ([0-9]+) code 22: out of memory\n"
+DATE = slice(40, 60)  # the columns of the second line
+
+
+@dataclass
+class Run:
+    name: str
+    words: list
+    stdin: bytes = b""
+    before: dict = field(default_factory=dict)  # files of the folder that it runs in
+    written: str = ""  # the file that it writes, in place of standard output
+    filters: bool = True  # whether a filter or the check goes over lines
+
+
+@dataclass
+class Answer:
+    output: bytes
+    messages: bytes
+    status: int
+    refused: int
+
+
+def file_of(names, types, seconds):
+    """A file with epochs of these satellites, with all values and indicators."""
+    lines = [H[0], *(f"{letter}  {types:3} C1C".ljust(60) + "SYS / # / OBS TYPES" for letter in SYSTEMS), H[2]]
+    for second in range(seconds):
+        lines.append(f"> 2024 01 01 00 00  {second % 10}.0000000  0{len(names):3}")
+        cells = "".join(f"{20000000 + place + second**3:10}.00117" for place in range(types))
+        lines += [name + cells for name in names]
+    return text(*lines)
+
+
+NAMES = [letter + number for letter in SYSTEMS for number in ("01", " 2")]
+
+INPUTS = {
+    "a header": text(*H),
+    "five epochs": FIVE,
+    "types that change": EVENT,
+    "a bad indicator": BAD_INDICATOR,
+    "seven systems": file_of(NAMES, 5, 3),
+    "100 satellites": file_of([f"G{number:02}" for number in range(1, 100)] + ["E01"], 100, 1),
+}
+
+
+def library(folder):
+    """Builds refusing.c."""
+    compiler = os.environ.get("CC") or str(Path(shutil.which("rt")).resolve().parents[1] / "toolchain/bin/clang")
+    built = folder / "refusing.so"
+    source = Path(__file__).with_name("refusing.c")
+    flags = [] if os.environ.get("CC") else ["-fuse-ld=lld"]
+    subprocess.run([compiler, "-O1", "-shared", "-fPIC", "-nostdlib", *flags, "-o", built, source], check=True)
+    return built
+
+
+class Program:
+    def __init__(self, path, folder):
+        self.path, self.folder, self.library = path, folder, library(folder)
+        self.mark = (folder / "mark").open("wb", buffering=0)
+        self.points = 0
+
+    def answer(self, run, growth=0, on=False):
+        """A run, with this growth refused (0: none)."""
+        here = self.folder / "here"
+        shutil.rmtree(here, ignore_errors=True)
+        here.mkdir()
+        for name, content in run.before.items():
+            (here / name).write_bytes(content)
+        self.mark.truncate(0)
+        refusing = {"LD_PRELOAD": str(self.library), "REFUSE": str(growth), "REFUSE_ON": str(int(on)), "REFUSE_TO": str(self.mark.fileno())}
+        done = subprocess.run(
+            [self.path, *run.words],
+            input=run.stdin,
+            capture_output=True,
+            cwd=here,
+            env={**os.environ, **refusing},
+            pass_fds=[self.mark.fileno()],
+            timeout=60,
+        )
+        output = done.stdout
+        if run.written:
+            output = (here / run.written).read_bytes() if (here / run.written).exists() else b""
+        return Answer(without_date(output), done.stderr, done.returncode, os.fstat(self.mark.fileno()).st_size)
+
+
+def without_date(output):
+    """An output whose date is blank, so that it is the same at another moment."""
+    lines = output.split(b"\n", 2)
+    if len(lines) == 3 and lines[1].endswith(b"CRINEX PROG / DATE"):
+        lines[1] = lines[1][: DATE.start] + b" " * 20 + lines[1][DATE.stop :]
+    return b"\n".join(lines)
+
+
+def is_same(one, other):
+    return (one.output, one.messages, one.status) == (other.output, other.messages, other.status)
+
+
+def line_of(message):
+    return int(message.split()[2])
+
+
+def outputs_by_line(program, run):
+    """What is written once none, one, two .. lines were read: of a check nothing before the end."""
+    if not run.filters or run.words[0] == "check":
+        return [b""]
+    lines = run.stdin.splitlines(keepends=True)
+    starts = [b"".join(lines[:count]) for count in range(len(lines) + 1)]
+    return [program.answer(replace(run, stdin=start, before=dict.fromkeys(run.before, start))).output for start in starts]
+
+
+def wrong_with(run, good, outputs, got):
+    """What is wrong with a run of which a growth was refused, or nothing."""
+    *warnings, error = got.messages.splitlines(keepends=True) or [b""]
+    found = re.fullmatch(NO_MEMORY, error)
+    if found is None or got.status != 1:
+        return f"status {got.status}, messages {got.messages!r}"
+    line = int(found[1])
+    due = [one for one in good.messages.splitlines(keepends=True) if one.startswith(b"WARNING")]
+    if warnings != due[: len(warnings)] or [one for one in due if line_of(one) < line] != [one for one in warnings if line_of(one) < line]:
+        return f"messages {got.messages!r}"
+    if any(line_of(one) > line for one in warnings):
+        return f"a warning after line {line}: {got.messages!r}"
+    wanted = outputs[max(line - 1, 0)] if len(outputs) > 1 else b""
+    if not run.filters and line > 0 or line >= len(outputs) > 1:
+        return f"line {line}, after the last one"
+    return "" if got.output == wanted else f"at line {line}: output of {len(got.output)} bytes, not {len(wanted)}"
+
+
+def tried(program, run):
+    """Refuses each growth of a run in turn; how many there are, and what went wrong."""
+    good, wrong, points, spared = program.answer(run), [], 0, 0
+    outputs = outputs_by_line(program, run)
+    for on in (False, True):
+        growth = 0
+        while True:
+            growth += 1
+            got = program.answer(run, growth, on)
+            if not got.refused:
+                break
+            points += 1
+            what = wrong_with(run, good, outputs, got)
+            if what and not on and not spared and is_same(got, good):
+                spared = growth
+            elif what:
+                wrong.append(f"growth {growth}{' and later ones' if on else ''}: {what}")
+        if not is_same(got, good):
+            wrong.append("a run that met no refusal differs from the good one")
+    return points, wrong
+
+
+def growths(program, words, epochs):
+    """How many growths a run over so many epochs of seven systems meets."""
+    content = file_of(NAMES, 5, epochs)
+    if words == ["crx2rnx"]:
+        content = subprocess.run([program.path, *DATED], input=content, capture_output=True, check=True).stdout
+    run, below, above = Run("", words, content), 0, 1
+    while program.answer(run, above).refused:
+        below, above = above, 2 * above
+    while above - below > 1:
+        middle = (below + above) // 2
+        below, above = (middle, above) if program.answer(run, middle).refused else (below, middle)
+    return below
+
+
+def runs(program):
+    """All runs: both filters, the check, help, words that are refused, files."""
+    for name, content in INPUTS.items():
+        yield Run(f"compaction, {name}", DATED, content)
+        yield Run(f"compaction with -s, {name}", [*DATED, "-s"], content)
+        yield Run(f"check, {name}", ["check"], content)
+        made = subprocess.run([program.path, *DATED, "-s"], input=content, capture_output=True).stdout
+        yield Run(f"expansion, {name}", ["crx2rnx"], made)
+        yield Run(f"expansion with -s, {name}", ["crx2rnx", "-s"], made)
+    yield Run("the date of the moment", ["rnx2crx"], INPUTS["a header"])
+    yield Run("a file to a file", [*DATED, "a.rnx"], FIVE, {"a.rnx": FIVE}, "a.crx")
+    for words in (["--help"], ["rnx2crx", "-h"], ["crx2rnx", "-h"], ["check", "--help"], [], ["rnx2crx", "-e", "0"], ["check", "-", "-"],
+                  ["check", "a", "b"], ["rnx2crx", "a.txt"], ["rnx2crx", "--date", "\t"], ["check", "a.rnx"]):
+        yield Run("words: " + " ".join(words).replace("\t", "TAB"), words, filters=False)
+
+
+def main():
+    if len(sys.argv) != 2 or not Path(sys.argv[1]).exists():
+        print(__doc__ if len(sys.argv) != 2 else f"no program {sys.argv[1]}: `make` builds it")
+        return 1
+    points = failed = 0
+    with tempfile.TemporaryDirectory() as folder:
+        program = Program(Path(sys.argv[1]).resolve(), Path(folder))
+        for run in runs(program):
+            count, wrong = tried(program, run)
+            points, failed = points + count, failed + len(wrong)
+            print(f"memory {run.name}: {count} points ... {'FAILED' if wrong else 'ok'}", flush=True)
+            for line in wrong[:10]:
+                print(f"    {line}")
+        for words in (DATED, ["crx2rnx"], ["check"]):
+            few, many = growths(program, words, 20), growths(program, words, 400)
+            failed += few != many
+            print(f"memory {' '.join(words)}: {few} growths over 20 epochs, {many} over 400 ... {'ok' if few == many else 'FAILED'}", flush=True)
+    print(f"{points} points of failure tried, {failed} went wrong")
+    return 1 if failed else 0
+
+
+if __name__ == "__main__":
+    sys.exit(main())

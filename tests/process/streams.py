@@ -1,0 +1,113 @@
+"""Runs whose streams change while they are read or written: each check answers what is wrong, as lines."""
+
+import os
+import re
+import signal
+import subprocess
+import tempfile
+import time
+from pathlib import Path
+
+from cases import BAD_INDICATOR, COMPACT_FIVE, DATED, FIVE, H, K, epoch, full, text
+
+SECONDS = 60  # in which each of these runs is to end
+
+# So many epochs that neither the program's buffers nor a pipe hold their text.
+MANY = text(*H, *[line for second in range(8000) for line in (epoch(second % 10, 1), f"G01  {20000000 + second}.000")])
+
+
+def file_that_shrinks(program):
+    """A file that is cut off once its first part was read: the whole epochs before the cut are written, and no part of one."""
+    with tempfile.TemporaryDirectory() as folder:
+        path = Path(folder) / "a.rnx"
+        path.write_bytes(MANY)
+        whole = subprocess.run([program, *DATED, "-", path], capture_output=True, timeout=SECONDS).stdout
+        with subprocess.Popen([program, *DATED, "-", path], stdout=subprocess.PIPE, stderr=subprocess.PIPE) as run:
+            first = os.read(run.stdout.fileno(), 1)
+            time.sleep(0.5)  # it waits now, since nobody reads what it writes
+            os.truncate(path, 1000)
+            rest, messages = run.communicate(timeout=SECONDS)
+        output = first + rest
+        wrong = []
+        # A cut right after the identifier leaves the line of a missing value, which makes the last three lines another epoch's.
+        front = output if whole.startswith(output) or not output.endswith(b"\n\n") else b"".join(output.splitlines(keepends=True)[:-3])
+        if not whole.startswith(front) or not output.endswith(b"\n") or len(output) >= len(whole):
+            wrong.append(f"output of {len(output)} bytes, which end in {output[-60:]!r}")
+        if run.returncode == 1 and not re.fullmatch(rb"ERROR line [0-9]+ code 1[01359]: [a-z ]+\n", messages) or run.returncode == 0 and messages:
+            wrong.append(f"status {run.returncode}, messages {messages!r}")
+        return wrong
+
+
+def a_signal(program):
+    """A run that waits for input and is asked to end."""
+    with subprocess.Popen([program, *DATED], stdin=subprocess.PIPE, stdout=subprocess.PIPE, stderr=subprocess.PIPE) as run:
+        run.stdin.write(FIVE)
+        run.stdin.flush()
+        time.sleep(0.2)
+        still = run.poll() is None
+        run.send_signal(signal.SIGTERM)
+        run.wait(timeout=SECONDS)
+        return [] if still and run.returncode == -signal.SIGTERM else [f"status {run.returncode}"]
+
+
+def endless(program, words, first, repeated, lines):
+    """A run over an input without end, of whose output so many lines are read (or all): lines, messages, status."""
+    with tempfile.NamedTemporaryFile() as start:
+        start.write(first)
+        start.flush()
+        script = 'cat "$0"; exec yes "$1"'
+        with subprocess.Popen(["sh", "-c", script, start.name, repeated], stdout=subprocess.PIPE) as feed:
+            run = subprocess.Popen([program, *words], stdin=feed.stdout, stdout=subprocess.PIPE, stderr=subprocess.PIPE)
+            feed.stdout.close()
+            read = b"".join(run.stdout.readline() for _ in range(lines))
+            run.stdout.close()
+            try:
+                run.wait(timeout=SECONDS)
+                return read, run.stderr.read(), run.returncode
+            except subprocess.TimeoutExpired:
+                run.kill()
+                run.wait()
+                return read, b"it didn't end", None
+            finally:
+                run.stderr.close()
+                feed.kill()
+
+
+def endless_noise(program):
+    """Lines without end of which the first is wrong."""
+    wrong = []
+    for words, message in ((DATED, "code 3: missing version line"), (["check"], "code 3: missing version line"), (["crx2rnx"], "code 8: not compact RINEX 3.0")):
+        answer = endless(program, words, b"", "y", 1)
+        if answer != (b"", text(f"ERROR line 1 {message}"), 1):
+            wrong.append(f"{words[0]}: {answer!r}")
+    return wrong
+
+
+def endless_epochs(program):
+    """Epochs without end, whose reader ends after some lines."""
+    wrong = []
+    for words, first, repeated, wanted in (
+        (["crx2rnx"], COMPACT_FIVE, "\n\n0", FIVE),
+        (DATED, FIVE, "\n".join([epoch(5, 1), "G01  20000408.000"]), None),
+    ):
+        lines = 13
+        read, messages, status = endless(program, words, first, repeated, lines)
+        if status != 1 or not re.fullmatch(rb"ERROR line [0-9]+ code 21: write failed\n", messages) or read.count(b"\n") != lines or wanted and read != wanted:
+            wrong.append(f"{words[0]}: {read[-60:]!r}, messages {messages!r}, status {status}")
+    return wrong
+
+
+def one_stream(program):
+    """Output and messages into one stream: the message of a fault comes after all output."""
+    run = subprocess.run([program, *DATED], input=BAD_INDICATOR, stdout=subprocess.PIPE, stderr=subprocess.STDOUT, timeout=SECONDS)
+    wanted = text(*K, *H, full(0, "G01"), "", "3&20000000000", "ERROR line 7 code 18: bad indicator")
+    return [] if run.stdout == wanted else [f"{run.stdout[-120:]!r}"]
+
+
+CHECKS = [
+    ("output and messages into one stream", one_stream),
+    ("a file that shrinks while it is read", file_that_shrinks),
+    ("a signal", a_signal),
+    ("an endless input whose first line is wrong", endless_noise),
+    ("endless epochs, of which some are read", endless_epochs),
+]
