@@ -7,7 +7,8 @@ use Rattle.std.specs.Option.{option_map}
 use Rattle.std.specs.Str.{all_ascii_digits}
 use Rattle.std.specs.Str.Parse.{digits_value, starts_with_minus}
 use Rattle.crx_text.specs.Columns.{is_blank}
-use Rattle.crx_text.specs.Codes.{coded_number, counted_digits, first_cell, is_count_of_digits}
+use Rattle.crx_text.specs.Codes.{code_of, coded_number, counted_digits, first_cell, is_count_of_digits}
+use Rattle.crx_text.specs.declared.code.Code.TheVariants.{Step}
 use Rattle.crx_text.specs.Numbers.{signed_number, without_minus}
 
 pub without_minus-cell : (text : List ℕ) → without_minus (first_cell text) ≡ first_cell (without_minus text)
@@ -64,4 +65,46 @@ no_first_digit (c ∷ cs) stops =
     elim (is_blank c) as (λ b. counted_digits (if b then [] else c ∷ first_cell cs) ≡ None) [
       | true ↦ refl
       | false ↦ none_of (is_count_of_digits (length (c ∷ first_cell cs))) (all_ascii_digits (c ∷ first_cell cs)) (digits_value 10 (c ∷ first_cell cs)) digits
+    ]
+
+-- ---- a number is the code of a difference
+
+no_choice : (a b : Bool) (n : ℤ) → b ≡ false → (if a && b then Some n else None) ≡ None
+no_choice true b n e = ap (λ t. if t then Some n else None) e
+no_choice false b n e = refl
+
+no_digits : (text digits : List ℕ) → digits ≡ without_minus text → all_ascii_digits digits ≡ false → coded_number text ≡ None
+unfolding coded_number
+no_digits text digits is other =
+    rw (← is) (no_choice (is_count_of_digits (length digits)) (all_ascii_digits digits) (signed_number (starts_with_minus text) (digits_value 10 digits)) other)
+
+no_text : coded_number [] ≡ None
+unfolding coded_number
+no_text = refl
+
+stopped : (b : Bool) → (b && false) ≡ false
+stopped true = refl
+stopped false = refl
+
+after_order : (c : ℕ) (cs : List ℕ) → coded_number (c ∷ 38 ∷ cs) ≡ None
+after_order c cs =
+    elim (cases_eq c 45) [
+      | inl minus ↦ let e : c ≡ 45 = minus in rw e (no_digits (45 ∷ 38 ∷ cs) (38 ∷ cs) refl refl)
+      | inr other ↦
+          let test : (c == 45) ≡ false = grind (arith, nat_tests) in
+          no_digits (c ∷ 38 ∷ cs) (c ∷ 38 ∷ cs) (rw test refl) (stopped (is_ascii_digit c))
+    ]
+
+pub code_of-number : (text : List ℕ) (number : ℤ) → coded_number text ≡ Some number → code_of text ≡ Some (Step number)
+code_of-number [] number e = absurd (let none = no_text in cc)
+code_of-number (c ∷ []) number e = ap (option_map Step) e
+code_of-number (c ∷ d ∷ cs) number e =
+    elim (cases_eq d 38) [
+      | inl and ↦
+          let is : d ≡ 38 = and in
+          let none : coded_number (c ∷ d ∷ cs) ≡ None = rw is (after_order c cs) in
+          absurd (cc)
+      | inr other ↦
+          let test : (d == 38) ≡ false = grind (arith, nat_tests) in
+          rw test (ap (option_map Step) e)
     ]

@@ -11,7 +11,7 @@ use Rattle.std.specs.Str.{all_ascii_digits}
 use Rattle.std.specs.Str.Parse.{starts_with_minus}
 use Rattle.crx_text.specs.declared.code.Code.{Code}
 use Rattle.crx_text.specs.declared.code.Code.TheVariants.{Missing, Start, Step}
-use Rattle.crx_text.specs.declared.limits.TheConstants.{DIGITS_LIMIT, ORDER_LIMIT}
+use Rattle.crx_lines.specs.declared.limits.TheConstants.{DIGITS_LIMIT, ORDER_LIMIT}
 use Rattle.crx_text.specs.Codes.{code_of, code_text, coded_number, is_order, step_of, IsPrintable, IsShort}
 use Rattle.crx_text.specs.Numbers.{without_minus}
 use Rattle.crx_text.proofs.DigitPairs.{two_written}

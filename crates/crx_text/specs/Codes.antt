@@ -9,7 +9,7 @@ use Rattle.crx_text.specs.Columns.{is_blank}
 use Rattle.crx_text.specs.Numbers.{without_minus, signed_number}
 use Rattle.crx_text.specs.declared.code.Code.{Code}
 use Rattle.crx_text.specs.declared.code.Code.TheVariants.{Missing, Start, Step}
-use Rattle.crx_text.specs.declared.limits.TheConstants.{ORDER_LIMIT, DIGITS_LIMIT}
+use Rattle.crx_lines.specs.declared.limits.TheConstants.{ORDER_LIMIT, DIGITS_LIMIT}
 
 -- ---- printing
 

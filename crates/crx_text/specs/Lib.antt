@@ -1,16 +1,7 @@
 pub mod Codes
 pub mod Columns
-pub mod Devices
-pub mod Faults
 pub mod FirstDigits
-pub mod Lines
 pub mod FieldTexts
 pub mod Fields
 pub mod Numbers
-pub mod Progress
-pub mod Readers
-pub mod Reading
-pub mod Seeking
-pub mod Seen
 pub mod Texts
-pub mod Window

@@ -1,13 +1,15 @@
 //! Codes of numbers: Hatanaka's Compact RINEX 3.0, the codes of satellite lines and of the clock line.
 
-ghost use Rattle.std.specs.Prelude.{◌≡◌, ◌+◌, ◌<◌, ◌≤◌, [], ◌∷◌, ◌++◌, ◌↔◌, length, take, drop, IfOk, IfSome, OnOk, OnErr, IsErr};
+ghost use Rattle.std.specs.Prelude.{◌≡◌, ◌+◌, ◌<◌, ◌≤◌, [], ◌∷◌, ◌++◌, ◌↔◌, Some, length, take, drop, IfOk, IfSome, OnOk, OnErr, IsErr};
 ghost use Rattle.std.specs.Option.{option_map};
 ghost use Rattle.std.specs.Result.{result_ok};
 
-use crate::digits::{digits_before_blank, digits_read, signed, split_minus, write_signed};
-use crate::limits::{DIGITS_LIMIT, LINE_LIMIT, ORDER_LIMIT};
+use crate::digits::{
+    digits_before_blank, digits_read, few_digits_before_blank, signed, split_minus, write_signed,
+};
 use crate::number::BadField;
 use crate::text::{Text, TextFull};
+use crx_lines::limits::{DIGITS_LIMIT, LINE_LIMIT, ORDER_LIMIT};
 
 /// What stands for a value in compact text.
 #[derive(Clone, Copy, Debug, PartialEq, Eq)]
@@ -26,7 +28,8 @@ pub enum Code {
 }
 
 ghost use Rattle.crx_text.specs.Codes.{IsPrintable, IsShort, after_cell, code_of, code_text, coded_number, first_cell, is_order};
-ghost use Rattle.crx_text.specs.declared.limits.TheConstants.{LINE_LIMIT};
+ghost use Rattle.crx_text.specs.declared.code.Code.TheVariants.{Step};
+ghost use Rattle.crx_lines.specs.declared.limits.TheConstants.{LINE_LIMIT};
 
 /// The most bytes of a code's text: an order, `&`, a minus and the digits.
 const CODE_WIDTH: usize = DIGITS_LIMIT + 3;
@@ -65,6 +68,22 @@ pub fn code_print_cell(code: Code, text: &mut Text) -> Result<(), TextFull>
     Ok(())
 }
 
+/// Appends a difference as [`code_print_cell`] does.
+#[inline(always)]
+#[tactic(auto, using(crate::proofs::CodeTexts::code_text_length))]
+pub fn step_print_cell(difference: i64, text: &mut Text) -> Result<(), TextFull>
+    requires { IsShort difference }
+    ensures ok { OnOk result (text.new ≡ text.old ++ (code_text (Step difference) ++ 32 ∷ [])) }
+    ensures full { IsErr result ↔ (LINE_LIMIT < length text.old + length (code_text (Step difference)) + 1) }
+    ensures err { OnErr result (text.new ≡ text.old) }
+{
+    if LINE_LIMIT - text.len <= CODE_WIDTH {
+        return step_print_at_end(difference, text);
+    }
+    text.len = write_cell(&mut text.bytes, text.len, Code::Step(difference));
+    Ok(())
+}
+
 // The same as `code_print`, where there may be no room for every code.
 #[cold]
 #[inline(never)]
@@ -93,6 +112,18 @@ fn cell_print_at_end(code: Code, text: &mut Text) -> Result<(), TextFull>
     let mut printed = [b' '; CODE_WIDTH + 1];
     let end = write_cell(&mut printed, 0, code);
     text.extend(&printed[..end])
+}
+
+// The same as `step_print_cell`.
+#[cold]
+#[inline(never)]
+fn step_print_at_end(difference: i64, text: &mut Text) -> Result<(), TextFull>
+    requires { IsShort difference }
+    ensures ok { OnOk result (text.new ≡ text.old ++ (code_text (Step difference) ++ 32 ∷ [])) }
+    ensures full { IsErr result ↔ (LINE_LIMIT < length text.old + length (code_text (Step difference)) + 1) }
+    ensures err { OnErr result (text.new ≡ text.old) }
+{
+    cell_print_at_end(Code::Step(difference), text)
 }
 
 // Writes a code's text and a blank from an index on, and answers the index after them.
@@ -182,6 +213,21 @@ pub fn code_before_blank(line: &[u8]) -> Result<(Code, usize), BadField>
             None => Err(BadField),
         },
     }
+}
+
+/// Reads a difference up to a line's first blank, and answers it with the index after that blank. `None`
+/// comes where the cell is another code or none, and also where [`code_before_blank`] is to read it:
+/// of eight digits or more, or near the line's end.
+#[inline(always)]
+pub fn step_before_blank(line: &[u8]) -> Option<(i64, usize)>
+    ensures value { IfSome result (λ cell. code_of (first_cell line.now) ≡ Some (Step cell.0)) }
+    ensures next { IfSome result (λ cell. drop cell.1 line.now ≡ after_cell line.now) }
+    ensures within { IfSome result (λ cell. cell.1 ≤ length line.now) }
+    ensures short { IfSome result (λ cell. IsShort cell.0) }
+{
+    let (is_below, digits) = split_minus(line);
+    let (size, next) = few_digits_before_blank(digits)?;
+    Some((signed(is_below, size), next + usize::from(is_below)))
 }
 
 /// A law: what is printed of a code is read back.

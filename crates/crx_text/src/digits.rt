@@ -10,9 +10,9 @@ ghost use Rattle.std.specs.Str.Parse.{digits_value, digits_value_after, starts_w
 ghost use Rattle.crx_text.specs.Numbers.{signed_number, without_minus};
 ghost use Rattle.crx_text.specs.Codes.{after_cell, counted_digits, first_cell};
 ghost use Rattle.crx_text.specs.FirstDigits.{HasFirstDigits};
-ghost use Rattle.crx_text.specs.declared.limits.TheConstants.{DIGITS_LIMIT};
+ghost use Rattle.crx_lines.specs.declared.limits.TheConstants.{DIGITS_LIMIT};
 
-use crate::limits::DIGITS_LIMIT;
+use crx_lines::limits::DIGITS_LIMIT;
 use std::simd::prelude::*;
 
 /// The most columns of a number, its point among them, that an `i64` holds in every spelling.
@@ -42,13 +42,27 @@ pub(crate) fn digits_before_blank(text: &[u8]) -> Option<(u64, usize)>
     ensures next { IfSome result (λ cell. drop cell.1 text.now ≡ after_cell text.now) }
     ensures within { IfSome result (λ cell. (cell.0 < 10 ^ DIGITS_LIMIT) × (cell.1 ≤ length text.now)) }
 {
-    if text.len() >= ROW {
-        let (size, count) = digits_in_front(text);
-        if 0 < count && count < ROW && text[count] == b' ' {
-            return Some((size, count + 1));
-        }
+    match few_digits_before_blank(text) {
+        Some(cell) => Some(cell),
+        None => digits_before_blank_singly(text),
     }
-    digits_before_blank_singly(text)
+}
+
+// The same where fewer digits than a row has stand before a blank; else None, whatever there is.
+#[inline(always)]
+pub(crate) fn few_digits_before_blank(text: &[u8]) -> Option<(u64, usize)>
+    ensures value { IfSome result (λ cell. counted_digits (first_cell text.now) ≡ Some cell.0) }
+    ensures next { IfSome result (λ cell. drop cell.1 text.now ≡ after_cell text.now) }
+    ensures within { IfSome result (λ cell. (cell.0 < 10 ^ DIGITS_LIMIT) × (cell.1 ≤ length text.now)) }
+{
+    if text.len() < ROW {
+        return None;
+    }
+    let (size, count) = digits_in_front(text);
+    if 0 < count && count < ROW && text[count] == b' ' {
+        return Some((size, count + 1));
+    }
+    None
 }
 
 // The same, digit by digit.

@@ -1,18 +1,19 @@
 //! Numbers in columns: observations in format F14.3 and receiver clock offsets in format F15.12
 //! (RINEX 3.05, table A3). They are read leniently and printed in one spelling.
 
-ghost use Rattle.std.specs.Prelude.{◌≡◌, ◌+◌, ◌-◌, ◌*◌, ◌<◌, ◌≤◌, ◌^◌, ◌%◌, Option, length, take, drop, replicate, decimal, if◌then◌else◌, IfOk, IfSome};
+ghost use Rattle.std.specs.Prelude.{◌≡◌, ◌+◌, ◌-◌, ◌*◌, ◌<◌, ◌≤◌, ◌^◌, ◌%◌, ◌++◌, ◌∷◌, [], Option, length, take, drop, replicate, decimal, if◌then◌else◌, IfOk, IfSome, Some};
 ghost use Rattle.std.specs.Option.{ForSome};
 ghost use Rattle.std.specs.Result.{result_ok};
 ghost use Rattle.crx_text.specs.declared.digits.TheConstants.{WIDEST};
-ghost use Rattle.crx_text.specs.declared.limits.TheConstants.{OBSERVATION_WIDTH, CLOCK_WIDTH};
+ghost use Rattle.crx_lines.specs.declared.limits.TheConstants.{CELL_WIDTH, LINE_LIMIT, OBSERVATION_WIDTH, CLOCK_WIDTH};
 ghost use Rattle.crx_text.specs.Columns.{without_first_blanks};
 ghost use Rattle.crx_text.specs.Numbers.{IsWithin, IsObservation, IsClock, number_of, observation_of, clock_of, size_of, spelt_number, number_text, observation_text, clock_text, size_text, zero_padded};
 
 use crate::digits::{WIDEST, digits_read, signed, split_minus};
 use crate::field_text::size_print_by_lanes;
-use crate::limits::{CLOCK_DECIMALS, CLOCK_WIDTH, OBSERVATION_DECIMALS, OBSERVATION_WIDTH};
+use crate::text::Text;
 use crate::{clock_field, clock_text, field};
+use crx_lines::limits::{CLOCK_DECIMALS, CLOCK_WIDTH, OBSERVATION_DECIMALS, OBSERVATION_WIDTH};
 use itoa::write_digits;
 use thiserror::Error;
 
@@ -29,16 +30,30 @@ pub fn obs_read(field: &[u8]) -> Result<Option<i64>, BadField>
     ensures value { result_ok result ≡ observation_of field.now }
     ensures in_range { IfOk result (λ value. IfSome value IsObservation) }
 {
-    if field.len() == OBSERVATION_WIDTH {
-        let columns = field::columns(field);
-        if field::is_blank(columns) {
-            return Ok(None);
-        }
-        if field::is_plain(columns) {
-            return Ok(Some(field::value(columns)));
-        }
+    match obs_read_usual(field) {
+        Some(value) => Ok(value),
+        None => obs_read_any(field),
     }
-    obs_read_any(field)
+}
+
+/// Reads an observation in the spellings that files have, as [`obs_read`] does. `None` comes for every
+/// other text, also for one that `obs_read` takes.
+#[inline(always)]
+pub fn obs_read_usual(field: &[u8]) -> Option<Option<i64>>
+    ensures value { IfSome result (λ value. observation_of field.now ≡ Some value) }
+    ensures in_range { IfSome result (λ value. IfSome value IsObservation) }
+{
+    if field.len() != OBSERVATION_WIDTH {
+        return None;
+    }
+    let columns = field::columns(field);
+    if field::is_blank(columns) {
+        return Some(None);
+    }
+    if field::is_plain(columns) {
+        return Some(Some(field::value(columns)));
+    }
+    None
 }
 
 // Reads an observation in any spelling, column by column.
@@ -80,6 +95,22 @@ pub fn obs_print_into(value: Option<i64>, columns: &mut [u8])
     if number < 0 {
         columns[start - 1] = b'-';
     }
+}
+
+/// Appends an observation's cell to a text: the columns that [`obs_print`] prints, and its two
+/// indicators. It asks for room.
+#[inline(always)]
+pub fn obs_print_cell(value: Option<i64>, lock: u8, strength: u8, text: &mut Text)
+    requires in_range { ForSome value IsObservation }
+    requires room { length text.old + CELL_WIDTH ≤ LINE_LIMIT }
+    ensures value { text.new ≡ text.old ++ (observation_text value ++ lock ∷ strength ∷ []) }
+    ensures long { length text.new ≡ length text.old + CELL_WIDTH }
+{
+    let end = text.len + OBSERVATION_WIDTH;
+    obs_print_into(value, &mut text.bytes[text.len..end]);
+    text.bytes[end] = lock;
+    text.bytes[end + 1] = strength;
+    text.len = end + 2;
 }
 
 // A size below it has no digit in the first column of an observation.

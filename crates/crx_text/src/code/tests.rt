@@ -1,19 +1,40 @@
 use super::*;
 use std::process::Abort;
 
+/// Puts the code that a text spells after a text; in a cell, with a blank. Whether there was room for it.
+fn is_put(spelt: &[u8], is_cell: bool, text: &mut Text) -> Result<bool, BadField> {
+    let code = code_read(spelt)?;
+    if is_cell {
+        return Ok(code_print_cell(code, text).is_ok());
+    }
+    Ok(code_print(code, text).is_ok())
+}
+
 #[test]
 fn texts_of_codes(rt: HostRuntime) {
+    for spelt in [b"3&-12345".as_slice(), b"0", b""] {
+        let mut text = Text::new();
+        assert!(rt; is_put(spelt, false, &mut text) == Ok(true));
+        assert!(rt; is_put(b"", false, &mut text) == Ok(true));
+        assert!(rt; text.bytes() == spelt);
+    }
+}
+
+/// Expects the digits of a difference, alone and in a cell after them.
+fn expect_step(rt: &impl Abort, difference: i64, digits: &[u8]) {
+    if difference.unsigned_abs() >= 1_000_000_000_000_000_000 {
+        return;
+    }
     let mut text = Text::new();
-    let start = Code::Start {
-        order: 3,
-        value: -12_345,
-    };
-    assert!(rt; code_print(start, &mut text).is_ok());
-    assert_eq!(rt; text.bytes(), b"3&-12345".as_slice());
+    assert!(rt; code_print(Code::Step(difference), &mut text).is_ok());
+    assert!(rt; text.bytes() == digits);
+    assert!(rt; code_print_cell(Code::Step(difference), &mut text).is_ok());
+    assert!(rt; text.len() == 2 * digits.len() + 1);
+    assert!(rt; text.bytes().starts_with(digits) && text.bytes().last() == Some(&b' '));
     text.clear();
-    assert!(rt; code_print(Code::Step(0), &mut text).is_ok());
-    assert!(rt; code_print(Code::Missing, &mut text).is_ok());
-    assert_eq!(rt; text.bytes(), b"0".as_slice());
+    assert!(rt; step_print_cell(difference, &mut text).is_ok());
+    assert!(rt; text.len() == digits.len() + 1);
+    assert!(rt; text.bytes().starts_with(digits) && text.bytes().last() == Some(&b' '));
 }
 
 #[test]
@@ -32,38 +53,48 @@ fn texts_of_steps(rt: HostRuntime) {
         (20_000_304_500, b"20000304500"),
         (-999_999_999_999_999_999, b"-999999999999999999"),
     ];
-    let mut text = Text::new();
     for (difference, digits) in cases {
-        if difference.unsigned_abs() >= 1_000_000_000_000_000_000 {
-            continue;
-        }
-        text.clear();
-        assert!(rt; code_print(Code::Step(difference), &mut text).is_ok());
-        assert_eq!(rt; text.bytes(), digits);
-        assert!(rt; code_print_cell(Code::Step(difference), &mut text).is_ok());
-        assert!(rt; text.bytes().starts_with(digits));
-        assert_eq!(rt; text.len(), 2 * digits.len() + 1);
-        assert!(rt; text.bytes().last() == Some(&b' '));
+        expect_step(&rt, difference, digits);
     }
 }
 
 #[test]
+fn differences_by_the_short_way(rt: HostRuntime) {
+    assert!(rt; step_before_blank(b"-1615 142 6") == Some((-1615, 6)));
+    assert!(rt; step_before_blank(b"1234567 8") == Some((1_234_567, 8)));
+    let others: [&[u8]; 6] = [
+        b"3&123456 7",
+        b"12345678 9",
+        b" 12345678",
+        b"-- 345678",
+        b"142 6",
+        b"",
+    ];
+    for other in others {
+        assert!(rt; step_before_blank(other).is_none());
+    }
+}
+
+/// Codes at the end of a text with room for eight bytes: whether in a cell, whether there is room, and the room that is left.
+const AT_THE_END: &[(&[u8], bool, bool, usize)] = &[
+    (b"3&-12345", true, false, 8),
+    (b"3&-12345", false, true, 0),
+    (b"", true, false, 0),
+    (b"0", false, false, 0),
+    (b"", false, true, 0),
+];
+
+#[test]
 fn codes_at_the_end_of_a_text(rt: HostRuntime) {
-    let start = Code::Start {
-        order: 3,
-        value: -12_345,
-    };
     let zeros = [b'0'; LINE_LIMIT];
     let mut text = Text::new();
     assert!(rt; text.extend(&zeros[..LINE_LIMIT - 8]).is_ok());
-    assert!(rt; code_print_cell(start, &mut text).is_err());
-    assert_eq!(rt; text.len(), LINE_LIMIT - 8);
-    assert!(rt; code_print(start, &mut text).is_ok());
+    for (spelt, is_cell, has_room, left) in AT_THE_END {
+        assert!(rt; is_put(spelt, *is_cell, &mut text) == Ok(*has_room));
+        assert!(rt; text.len() + *left == LINE_LIMIT);
+    }
     assert!(rt; text.bytes().ends_with(b"03&-12345"));
-    assert!(rt; code_print_cell(Code::Missing, &mut text).is_err());
-    assert!(rt; code_print(Code::Step(0), &mut text).is_err());
-    assert!(rt; code_print(Code::Missing, &mut text).is_ok());
-    assert_eq!(rt; text.len(), LINE_LIMIT);
+    assert!(rt; step_print_cell(0, &mut text).is_err());
 }
 
 #[test]
@@ -145,45 +176,65 @@ fn spellings_that_are_no_code(rt: HostRuntime) {
     }
 }
 
-// A line that begins with a number of so many digits, and so many bytes after it, a blank first.
-fn expect_number(rt: &impl Abort, digits: usize, more: usize, is_below: bool) {
-    let all = *b"370481592637048159";
-    let mut line = Text::new();
-    if is_below {
-        assert!(rt; line.push(b'-').is_ok());
-    }
+/// The value of digits, below 0 where that is said.
+fn value_of(digits: &[u8], is_below: bool) -> i64 {
     let mut value: i64 = 0;
-    for digit in &all[..digits.min(18)] {
-        assert!(rt; line.push(*digit).is_ok());
+    for digit in digits {
         value = value
             .wrapping_mul(10)
             .wrapping_add(i64::from(*digit))
             .wrapping_sub(48);
     }
     if is_below {
-        value = value.wrapping_neg();
+        return value.wrapping_neg();
     }
-    let end = line.len();
+    value
+}
+
+/// The text of digits, with a minus where that is said.
+fn number_text(digits: &[u8], is_below: bool) -> Text {
+    let mut text = Text::new();
+    if is_below {
+        let _ = text.push(b'-');
+    }
+    let _ = text.extend(digits);
+    text
+}
+
+/// Expects that a number is read out of a line in which it stands before these bytes, the first one a blank.
+fn expect_read(rt: &impl Abort, number: &Text, value: i64, after: &[u8]) {
+    let mut line = Text::new();
+    assert!(rt; line.extend(number.bytes()).is_ok());
     assert!(rt; code_read(line.bytes()) == Ok(Code::Step(value)));
-    assert!(rt; line.extend(&b" 8 888888888"[..more.min(12)]).is_ok());
+    assert!(rt; line.extend(after).is_ok());
     let cell = code_before_blank(line.bytes());
     assert!(rt;
-        matches!(&cell, Ok((code, next)) if *code == Code::Step(value) && *next == end + more.min(1))
+        matches!(&cell, Ok((code, next)) if *code == Code::Step(value) && *next == number.len() + after.len().min(1))
     );
-    if value.unsigned_abs() < 1_000_000_000_000_000_000 {
-        let mut text = Text::new();
-        assert!(rt; code_print_cell(Code::Step(value), &mut text).is_ok());
-        assert_eq!(rt; text.len(), end + 1);
-        assert!(rt; more == 0 || text.bytes() == &line.bytes()[..(end + 1).min(line.len())]);
+}
+
+/// Expects the cell of a number: its text and a blank.
+fn expect_cell(rt: &impl Abort, number: &Text, value: i64) {
+    if value.unsigned_abs() >= 1_000_000_000_000_000_000 {
+        return;
     }
+    let mut cell = Text::new();
+    assert!(rt; code_print_cell(Code::Step(value), &mut cell).is_ok());
+    assert!(rt; cell.len() == number.len() + 1 && cell.bytes().last() == Some(&b' '));
+    assert!(rt; cell.bytes().starts_with(number.bytes()));
 }
 
 #[test]
 fn numbers_of_each_length(rt: HostRuntime) {
+    let all = *b"370481592637048159";
     for digits in 1..19 {
-        for more in 0..12 {
-            expect_number(&rt, digits, more, false);
-            expect_number(&rt, digits, more, true);
+        for is_below in [false, true] {
+            let value = value_of(&all[..digits], is_below);
+            let number = number_text(&all[..digits], is_below);
+            expect_cell(&rt, &number, value);
+            for more in 0..12 {
+                expect_read(&rt, &number, value, &b" 8 888888888"[..more]);
+            }
         }
     }
 }

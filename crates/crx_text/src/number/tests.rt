@@ -107,6 +107,35 @@ fn printed_observations(rt: HostRuntime) {
     assert_eq!(rt; field, *b"              ");
 }
 
+/// What is printed of a cell with a value in range and the indicators 1 and 8.
+fn printed_cell(value: i64) -> Text {
+    let mut text = Text::new();
+    if -1_000_000_000_000 < value && value < 10_000_000_000_000 {
+        obs_print_cell(Some(value), b'1', b'8', &mut text);
+    }
+    text
+}
+
+#[test]
+fn printed_cells(rt: HostRuntime) {
+    assert_eq!(rt; printed_cell(-1).bytes(), b"        -0.00118".as_slice());
+    assert_eq!(rt;
+        printed_cell(20_000_000_125).bytes(),
+        b"  20000000.12518".as_slice()
+    );
+    let mut text = Text::new();
+    obs_print_cell(None, b' ', b'7', &mut text);
+    assert_eq!(rt; text.bytes(), b"               7".as_slice());
+}
+
+#[test]
+fn usual_observations(rt: HostRuntime) {
+    assert!(rt; obs_read_usual(b"        -0.001") == Some(Some(-1)));
+    assert!(rt; obs_read_usual(b"              ") == Some(None));
+    assert!(rt; obs_read_usual(b"1234567890.123").is_none());
+    assert!(rt; obs_read_usual(b"0.001").is_none());
+}
+
 #[test]
 fn printed_clock_offsets(rt: HostRuntime) {
     let cases = [

@@ -1,0 +1,7 @@
+pub mod AdvanceLemmas
+pub mod DeviceLemmas
+pub mod PieceLemmas
+pub mod ProgressLemmas
+pub mod ReturnLemmas
+pub mod SeekLemmas
+pub mod WindowLemmas

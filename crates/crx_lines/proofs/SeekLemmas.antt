@@ -1,0 +1,129 @@
+-- The search for the end of a line, step by step.
+use Rattle.std.proofs.Common.{◌≡◌, ◌≢◌, ℕ, ◌+◌, ◌<◌, ◌≤◌, List, [], ◌++◌, ◌⊎◌, length, slice_index, refl, sym, ap, ◌∙◌, subst, arith, inl, inr, ⊎_elim, append-nil, append_assoc, length-append}
+use Rattle.std.specs.List.{Contains}
+use Rattle.std.proofs.lemmas.List.{get_or_append_left}
+use Rattle.std.proofs.lemmas.List.Elements.{All-append, All-from_get_or, All-contains, Contains-append_left}
+use Rattle.std.proofs.lemmas.Bool.{cases_lt}
+use Rattle.crx_lines.specs.Lines.{HasNoFeed}
+use Rattle.crx_lines.specs.Seeking.{Seeking}
+use Rattle.crx_lines.specs.declared.limits.TheConstants.{LINE_LIMIT}
+
+abbrev NoFeed : ℕ → Type 0
+NoFeed b = b ≢ 10
+
+pub Seeking-start : (gave : List ℕ → Type 0) (old : List ℕ) (room : ℕ) → gave [] → Seeking gave old old room 0 0 0
+Seeking-start gave old room lead = record {
+  given = [];
+  front = [];
+  lead = lead;
+  input = append-nil old;
+  taken_is = refl;
+  passed_is = refl;
+  far = inl refl;
+  none_passed = λ k d h. absurd (omega (arith, h));
+  none_searched = λ k h. absurd (omega (arith, h));
+  within = omega arith;
+  searched_within = omega arith;
+}
+
+-- the bytes from the searched ones up to n were searched too
+pub Seeking-searched : (gave : List ℕ → Type 0) (old held : List ℕ) (room taken passed searched n : ℕ)
+    → Seeking gave old held room taken passed searched → n ≤ length held
+    → ((k : ℕ) → searched ≤ k → k < n → slice_index held k ≢ 10) → Seeking gave old held room taken passed n
+Seeking-searched gave old held room taken passed searched n s within none = record {
+  given = s.given;
+  front = s.front;
+  lead = s.lead;
+  input = s.input;
+  taken_is = s.taken_is;
+  passed_is = s.passed_is;
+  far = s.far;
+  none_passed = s.none_passed;
+  none_searched = λ k h. ⊎_elim (λ below. s.none_searched k below) (λ above. none k above h) (cases_lt k searched);
+  within = s.within;
+  searched_within = within;
+}
+
+-- where all that is held was searched, no LF stands in what was let go and held
+pub Seeking-none : (gave : List ℕ → Type 0) (old held : List ℕ) (room taken passed : ℕ)
+    → (s : Seeking gave old held room taken passed (length held)) → HasNoFeed (s.front ++ held)
+Seeking-none gave old held room taken passed s =
+    All-append NoFeed s.front held s.none_passed (All-from_get_or NoFeed held 0 (λ k h. s.none_searched k h))
+
+pub Seeking-not_old : (gave : List ℕ → Type 0) (old held : List ℕ) (room taken passed : ℕ)
+    → Seeking gave old held room taken passed (length held) → Contains old 10 → ⊥
+Seeking-not_old gave old held room taken passed s has =
+    All-contains NoFeed (s.front ++ held) 10 (Seeking-none gave old held room taken passed s)
+    (subst (λ l. Contains l 10) s.input (Contains-append_left old s.given 10 has)) refl
+
+-- all that is held is let go
+Seeking-passed : (gave : List ℕ → Type 0) (old held : List ℕ) (room taken passed : ℕ)
+    → Seeking gave old held room taken passed (length held) → LINE_LIMIT + 1 < length held
+    → Seeking gave old [] room taken (passed + length held) 0
+Seeking-passed gave old held room taken passed s long = record {
+  given = s.given;
+  front = s.front ++ held;
+  lead = s.lead;
+  input = s.input ∙ sym (append-nil (s.front ++ held));
+  taken_is = s.taken_is;
+  passed_is = length-append s.front held ∙ ap (λ n. n + length held) s.passed_is;
+  far = inr (omega (arith, long));
+  none_passed = Seeking-none gave old held room taken passed s;
+  none_searched = λ k h. absurd (omega (arith, h));
+  within = s.within;
+  searched_within = omega arith;
+}
+
+-- what is held was searched without finding an LF; it is let go where it is too long for a line
+pub Seeking-step : (gave : List ℕ → Type 0) (old held shown after : List ℕ) (room taken passed searched n : ℕ)
+    → Seeking gave old held room taken passed searched → shown ≡ held
+    → ((k : ℕ) → searched ≤ k → k < length shown → slice_index shown k ≢ 10)
+    → ((n ≡ 0) × (after ≡ held)) ⊎ ((n ≡ length held) × (LINE_LIMIT + 1 < n) × (after ≡ []))
+    → Seeking gave old after room taken (passed + n) (length after)
+Seeking-step gave old held shown after room taken passed searched n s same none let_go =
+    let rest : (k : ℕ) → searched ≤ k → k < length held → slice_index held k ≢ 10 =
+    subst (λ l. (k : ℕ) → searched ≤ k → k < length l → slice_index l k ≢ 10) same none in
+    let all = Seeking-searched gave old held room taken passed searched (length held) s (omega arith) rest in
+    let keeps = λ (e : (n ≡ 0) × (after ≡ held)).
+    let sum : passed ≡ passed + n = omega (arith, e.0) in
+    subst (λ m. Seeking gave old after room taken m (length after)) sum (subst (λ l. Seeking gave old l room taken passed (length l)) (sym e.1) all) in
+    let goes = λ (e : (n ≡ length held) × (LINE_LIMIT + 1 < n) × (after ≡ [])).
+    let sum : passed + length held ≡ passed + n = omega (arith, e.0) in
+    subst (λ m. Seeking gave old after room taken m (length after)) sum
+    (subst (λ l. Seeking gave old l room taken (passed + length held) (length l)) (sym e.2) (Seeking-passed gave old held room taken passed all (omega (arith, e.0, e.1)))) in
+    ⊎_elim keeps goes let_go
+
+-- more was given and is held
+pub Seeking-filled : (gave then : List ℕ → Type 0) (old held after more : List ℕ) (room taken passed n m : ℕ)
+    → Seeking gave old held room taken passed (length held)
+    → ((given : List ℕ) → gave given → then (given ++ more)) → length more ≡ n → taken + n ≤ room
+    → after ≡ held ++ more → m ≡ length held → Seeking then old after room (taken + n) passed m
+Seeking-filled gave then old held after more room taken passed n m s goes count within same searched = record {
+  given = s.given ++ more;
+  front = s.front;
+  lead = goes s.given s.lead;
+  input = sym (append_assoc old s.given more) ∙ ap (λ l. l ++ more) s.input ∙ append_assoc s.front held more ∙ ap (λ l. s.front ++ l) (sym same);
+  taken_is = omega (arith, length-append s.given more, s.taken_is, count);
+  passed_is = s.passed_is;
+  far = s.far;
+  none_passed = s.none_passed;
+  none_searched = λ k h. let inside : k < length held = omega (arith, h, searched) in rw (same, get_or_append_left held more 0 k) (s.none_searched k inside);
+  within = within;
+  searched_within = omega (arith, length-append held more, ap length same, searched);
+}
+
+-- nothing more was given
+pub Seeking-same : (gave then : List ℕ → Type 0) (old held after : List ℕ) (room taken passed m : ℕ)
+    → Seeking gave old held room taken passed (length held)
+    → ((given : List ℕ) → gave given → then (given ++ [])) → after ≡ held → m ≡ length held
+    → Seeking then old after room taken passed m
+Seeking-same gave then old held after room taken passed m s goes same searched =
+    let sum : taken + 0 ≡ taken = omega arith in
+    subst (λ k. Seeking then old after room k passed m) sum
+    (Seeking-filled gave then old held after [] room taken passed 0 m s goes refl (omega (arith, s.within)) (same ∙ sym (append-nil held)) searched)
+
+-- every byte was let go or is held
+pub Seeking-sum : (gave : List ℕ → Type 0) (old held : List ℕ) (room taken passed searched : ℕ)
+    → Seeking gave old held room taken passed searched → passed + length held ≡ length old + taken
+Seeking-sum gave old held room taken passed searched s =
+    omega (arith, ap length s.input, length-append old s.given, length-append s.front held, s.taken_is, s.passed_is)

@@ -1,0 +1,39 @@
+use Rattle.std.proofs.Common.{ℕ, ◌+◌, ◌≤◌, length, arith}
+use Rattle.std.proofs.lemmas.List.{length-take, length-drop}
+use Rattle.crx_lines.proofs.ReturnLemmas.{content-cr, content-other, content-none}
+use Rattle.crx_lines.proofs.window.Window.content.Goals as goal
+use Rattle.crx_lines.proofs.window.Window.content.Goals.{else-len-gt0-via-then-len-gt0+else-self-to-eq13, else-len-gt0-via-else-len-gt0}
+
+pub returns-then-self-to-eq13-clause-value : goal.returns-then-self-to-eq13-clause-value
+returns-then-self-to-eq13-clause-value c =
+    let w = c.args.self.now in
+    let inside : w.start + c.args.len ≤ w.end = omega (arith, length-take {A = ℕ}, length-drop {A = ℕ}) in
+    let within : w.end ≤ length w.bytes = omega arith in
+    (content-cr w.bytes w.start w.end c.args.len c.if-len-gt0.true inside within c.if-self-to-eq13.true).0
+
+pub returns-then-self-to-eq13-clause-has_return : goal.returns-then-self-to-eq13-clause-has_return
+returns-then-self-to-eq13-clause-has_return c =
+    let w = c.args.self.now in
+    let inside : w.start + c.args.len ≤ w.end = omega (arith, length-take {A = ℕ}, length-drop {A = ℕ}) in
+    let within : w.end ≤ length w.bytes = omega arith in
+    (content-cr w.bytes w.start w.end c.args.len c.if-len-gt0.true inside within c.if-self-to-eq13.true).1
+
+pub returns-clause-value : goal.returns-clause-value
+returns-clause-value c =
+    let w = c.args.self.now in
+    let inside : w.start + c.args.len ≤ w.end = omega (arith, length-take {A = ℕ}, length-drop {A = ℕ}) in
+    let within : w.end ≤ length w.bytes = omega arith in
+    elim c.else-len-gt0.branch [
+      | else-len-gt0-via-then-len-gt0+else-self-to-eq13 v ↦ (content-other w.bytes w.start w.end c.args.len v.if-len-gt0.true inside within v.if-self-to-eq13.false).0
+      | else-len-gt0-via-else-len-gt0 v ↦ (content-none w.bytes w.start w.end c.args.len (omega (arith, v.if-len-gt0.false))).0
+    ]
+
+pub returns-clause-has_return : goal.returns-clause-has_return
+returns-clause-has_return c =
+    let w = c.args.self.now in
+    let inside : w.start + c.args.len ≤ w.end = omega (arith, length-take {A = ℕ}, length-drop {A = ℕ}) in
+    let within : w.end ≤ length w.bytes = omega arith in
+    elim c.else-len-gt0.branch [
+      | else-len-gt0-via-then-len-gt0+else-self-to-eq13 v ↦ (content-other w.bytes w.start w.end c.args.len v.if-len-gt0.true inside within v.if-self-to-eq13.false).1
+      | else-len-gt0-via-else-len-gt0 v ↦ (content-none w.bytes w.start w.end c.args.len (omega (arith, v.if-len-gt0.false))).1
+    ]

@@ -1,0 +1,9 @@
+pub mod Devices
+pub mod Faults
+pub mod Lines
+pub mod Progress
+pub mod Readers
+pub mod Reading
+pub mod Seeking
+pub mod Seen
+pub mod Window

@@ -1,0 +1,203 @@
+//! The devices that bytes come from and go to. Each one counts its failures, so that a contract
+//! can say of a run that none happened, and what became of the bytes where one did. A source also
+//! counts how often it reported its end, so that a read after that shows.
+ghost use Rattle.std.specs.Prelude.{◌≡◌, ℕ, List, [], ◌++◌, ◌<◌, ◌≤◌, length, take, is_ok, true, false, IfOk, OnOk, OnErr};
+ghost use Rattle.std.specs.Io.KnownBytes.{Appends, Consumes, IsAtEnd};
+ghost use Rattle.std.proofs.KnownBytes.{Appends-nil, Appends-trans, Consumes-nil, Consumes-trans};
+ghost use Rattle.crx_lines.specs.Devices.{ends_after, one_more};
+
+use std::io;
+use std::io::{Read, Write};
+use thiserror::Error;
+
+/// A read failed, an interrupted one too. It gave no byte.
+#[derive(Clone, Copy, Debug, PartialEq, Eq, Error)]
+#[error("the read failed")]
+pub struct ReadFailed;
+
+/// A write or a flush failed, an interrupted one too, or a write of at least one byte took none.
+#[derive(Clone, Copy, Debug, PartialEq, Eq, Error)]
+#[error("the write failed")]
+pub struct WriteFailed;
+
+/// What gives bytes, once, from front to back.
+pub trait Source {
+    // These bytes, in this order, lead from the first state to the second.
+    ghost gave: { Self → List ℕ → Self → Type 0 };
+
+    // No byte is left, and a read reported it.
+    ghost at_end: { Self → Type 0 };
+
+    // How many reads failed; the count stops at the greatest value of 64 bits.
+    ghost failures: { Self → ℕ };
+
+    // How many reads reported the end; the count stops at the greatest value of 64 bits.
+    ghost ends: { Self → ℕ };
+
+    /// Gives the next bytes, as many as it likes, into the front of `buffer`, and answers how
+    /// many. None into a buffer that isn't empty reports the end. What stands in the buffer after
+    /// them, or after a failure, is left open.
+    fn read(&mut self, buffer: &mut [u8]) -> Result<usize, ReadFailed>
+        ensures bound { IfOk result (λ n. n ≤ length buffer.new) }
+        ensures bytes { IfOk result (λ n. gave self.old (take n buffer.new) self.new) }
+        ensures end { IfOk result (λ n. n ≡ 0 → 0 < length buffer.new → at_end self.new) }
+        ensures good { OnOk result (failures self.new ≡ failures self.old) }
+        ensures ends { IfOk result (λ n. 0 < length buffer.new → ends self.new ≡ ends_after n (ends self.old)) }
+        ensures unasked { length buffer.new ≡ 0 → ends self.new ≡ ends self.old }
+        ensures none_lost { OnErr result (gave self.old [] self.new) }
+        ensures no_end { OnErr result (ends self.new ≡ ends self.old) }
+        ensures counted { OnErr result (failures self.new ≡ one_more (failures self.old)) };
+
+    ghost gave_none: { (s : Self) → gave s [] s };
+
+    ghost gave_both: { (a b c : Self) (xs ys : List ℕ) → gave a xs b → gave b ys c → gave a (xs ++ ys) c };
+}
+
+/// What takes bytes, in the order in which they are written.
+pub trait Sink {
+    // Taking these bytes, in this order, leads from the first state to the second.
+    ghost took: { Self → List ℕ → Self → Type 0 };
+
+    // How many writes and flushes failed; the count stops at the greatest value of 64 bits.
+    ghost failures: { Self → ℕ };
+
+    // All that was taken was handed on: a flush said so, and no write came after it.
+    ghost is_flushed: { Self → Type 0 };
+
+    /// Takes the first of `bytes`, at least one if there is one, and answers how many. Whether they were
+    /// handed on is left open until a flush.
+    fn write(&mut self, bytes: &[u8]) -> Result<usize, WriteFailed>
+        ensures bound { IfOk result (λ n. n ≤ length bytes.now) }
+        ensures bytes { IfOk result (λ n. took self.old (take n bytes.now) self.new) }
+        ensures progress { IfOk result (λ n. 0 < length bytes.now → 0 < n) }
+        ensures good { OnOk result (failures self.new ≡ failures self.old) }
+        ensures none_taken { OnErr result (took self.old [] self.new) }
+        ensures counted { OnErr result (failures self.new ≡ one_more (failures self.old)) };
+
+    /// Hands what was taken on to where it is kept. It takes no byte.
+    fn flush(&mut self) -> Result<(), WriteFailed>
+        ensures none_taken { took self.old [] self.new }
+        ensures flushed { OnOk result (is_flushed self.new) }
+        ensures good { OnOk result (failures self.new ≡ failures self.old) }
+        ensures counted { OnErr result (failures self.new ≡ one_more (failures self.old)) };
+
+    ghost took_none: { (s : Self) → took s [] s };
+
+    ghost took_both: { (a b c : Self) (xs ys : List ℕ) → took a xs b → took b ys c → took a (xs ++ ys) c };
+}
+
+/// A reader or a writer of std as a device. Of a file nothing is known but the counts.
+#[derive(Drop)]
+pub struct Std<D> {
+    inner: D,
+    failures: u64,
+    ends: u64,
+    flushed: bool,
+}
+
+impl<D> Std<D> {
+    /// The device, none of whose reads, writes and flushes failed or reported the end yet. It isn't flushed
+    /// yet.
+    pub fn new(inner: D) -> Std<D>
+        ensures inner { result.inner ≡ inner }
+        ensures failures { result.failures ≡ 0 }
+        ensures ends { result.ends ≡ 0 }
+        ensures flushed { result.flushed ≡ false }
+    {
+        Std {
+            inner,
+            failures: 0,
+            ends: 0,
+            flushed: false,
+        }
+    }
+
+    /// The reader or writer itself.
+    pub fn into_inner(self) -> D
+        ensures { result ≡ self.inner }
+    {
+        self.inner
+    }
+
+    /// Answers what a flush answered, and counts it if it failed.
+    fn counted(&mut self, flushed: io::Result<()>) -> Result<(), WriteFailed>
+        ensures ok { is_ok result ≡ is_ok flushed }
+        ensures good { OnOk result (self.new.failures ≡ self.old.failures) }
+        ensures failed { OnErr result (self.new.failures ≡ one_more self.old.failures) }
+        ensures flushed { self.new.flushed ≡ is_ok flushed }
+        ensures inner { self.new.inner ≡ self.old.inner }
+        ensures ends { self.new.ends ≡ self.old.ends }
+    {
+        self.flushed = flushed.is_ok();
+        match flushed {
+            Ok(()) => Ok(()),
+            Err(_) => {
+                self.failures = self.failures.saturating_add(1);
+                Err(WriteFailed)
+            }
+        }
+    }
+}
+
+impl<D: Read> Source for Std<D> {
+    ghost gave = { λ a bytes b. Consumes (D.remaining a.inner) (D.remaining b.inner) bytes };
+
+    ghost at_end = { λ s. IsAtEnd (D.remaining s.inner) };
+
+    ghost failures = { λ s. s.failures };
+
+    ghost ends = { λ s. s.ends };
+
+    fn read(&mut self, buffer: &mut [u8]) -> Result<usize, ReadFailed> {
+        match self.inner.read(buffer) {
+            Ok(0) if !buffer.is_empty() => {
+                self.ends = self.ends.saturating_add(1);
+                Ok(0)
+            }
+            Ok(count) => Ok(count),
+            Err(_) => {
+                self.failures = self.failures.saturating_add(1);
+                Err(ReadFailed)
+            }
+        }
+    }
+
+    ghost gave_none = { λ s. Consumes-nil (D.remaining s.inner) };
+
+    ghost gave_both = { λ a b c xs ys p q. Consumes-trans (D.remaining a.inner) (D.remaining b.inner) (D.remaining c.inner) xs ys p q };
+}
+
+impl<D: Write> Sink for Std<D> {
+    ghost took = { λ a bytes b. Appends (D.contents a.inner) (D.contents b.inner) bytes };
+
+    ghost failures = { λ s. s.failures };
+
+    ghost is_flushed = { λ s. s.flushed ≡ true };
+
+    fn write(&mut self, bytes: &[u8]) -> Result<usize, WriteFailed> {
+        self.flushed = false;
+        match self.inner.write(bytes) {
+            Ok(0) if !bytes.is_empty() => {
+                self.failures = self.failures.saturating_add(1);
+                Err(WriteFailed)
+            }
+            Ok(count) => Ok(count),
+            Err(_) => {
+                self.failures = self.failures.saturating_add(1);
+                Err(WriteFailed)
+            }
+        }
+    }
+
+    fn flush(&mut self) -> Result<(), WriteFailed> {
+        let flushed = self.inner.flush();
+        self.counted(flushed)
+    }
+
+    ghost took_none = { λ s. Appends-nil (D.contents s.inner) };
+
+    ghost took_both = { λ a b c xs ys p q. Appends-trans (D.contents a.inner) (D.contents b.inner) (D.contents c.inner) xs ys p q };
+}
+
+#[cfg(test)]
+mod tests;

@@ -1,0 +1,19 @@
+//! Lines out of any reader, counted writes to any writer, the devices that bytes come from and go to, the faults of all crates, and
+//! their limits.
+#![tactic(auto)]
+
+pub mod device;
+pub mod fault;
+mod feed;
+pub mod laws;
+pub mod limits;
+pub mod line;
+pub mod phase;
+mod seek;
+mod window;
+pub mod write;
+
+pub use device::{ReadFailed, Sink, Source, Std, WriteFailed};
+pub use fault::{At, Fault};
+pub use line::{Line, LineReader};
+pub use write::write_all_counted;

@@ -1,0 +1,215 @@
+//! Lines of an input, and what lends them one after another.
+ghost use Rattle.std.specs.Prelude.{◌≡◌, ◌≢◌, ℕ, ◌+◌, ◌-◌, ◌<◌, ◌≤◌, ◌&&◌, ◌⊎◌, not, true, false, IsTrue, List, [], ◌++◌, length, slice_range, Option, Some, None, Ok, Err, IfOk, IfSome, Contains, if◌then◌else◌};
+ghost use Rattle.crx_lines.specs.Devices.{tally_of};
+ghost use Rattle.crx_lines.specs.declared.fault.At.{At};
+ghost use Rattle.crx_lines.specs.Window.{kept};
+ghost use Rattle.crx_lines.specs.declared.limits.TheConstants.{INPUT_LIMIT, LINE_LIMIT};
+ghost use Rattle.crx_lines.specs.declared.window.TheConstants.{SIZE};
+
+use crate::device::Source;
+use crate::fault::{At, Fault};
+use crate::limits::{INPUT_LIMIT, LINE_LIMIT};
+use crate::phase::Phase;
+use crate::seek::seek;
+use crate::window::Window;
+use std::alloc::{AllocError, Global};
+
+/// A line: its content without the line end, its number and how it ends.
+#[derive(Clone, Copy)]
+pub struct Line<'a> {
+    content: &'a [u8],
+    number: u64,
+    is_plain: bool,
+    ghost short: { length content.now ≤ LINE_LIMIT },
+}
+
+impl<'a> Line<'a> {
+    ghost use Rattle.crx_lines.specs.Reading.{line_shown, line_number};
+
+    /// The line's content: at most `LINE_LIMIT` bytes, without LF and without a CR before it.
+    pub fn bytes(&self) -> &'a [u8]
+        ensures content { result.now ≡ (line_shown self.now).content }
+        ensures limit { length result.now ≤ LINE_LIMIT }
+    {
+        self.content
+    }
+
+    /// The line's number, from 1.
+    pub fn number(&self) -> u64
+        ensures { result ≡ line_number self.now }
+    {
+        self.number
+    }
+
+    /// Whether LF alone ends the line.
+    pub fn plain(&self) -> bool
+        ensures { result ≡ (line_shown self.now).is_plain }
+    {
+        self.is_plain
+    }
+}
+
+/// Where a line's content stands in the window, and whether LF alone ends the line.
+#[derive(Clone, Copy)]
+struct Part {
+    from: usize,
+    to: usize,
+    is_plain: bool,
+}
+
+/// Lines may come after a line with an end; after one without, the input is over.
+fn phase_after(is_ended: bool) -> Phase
+    ensures { result ≡ (if is_ended then Phase.Open else Phase.Ended) }
+{
+    if is_ended { Phase::Open } else { Phase::Ended }
+}
+
+/// Whether a line is too long: bytes of it were let go, or its content in the window is.
+fn is_over(passed: u64, len: usize) -> bool
+    ensures over { IsTrue result → (0 < passed) ⊎ (LINE_LIMIT < len) }
+    ensures within { result ≡ false → (passed ≡ 0) × (len ≤ LINE_LIMIT) }
+{
+    passed > 0 || len > LINE_LIMIT
+}
+
+/// Whether LF alone ends a line.
+fn is_plain(is_ended: bool, has_return: bool) -> bool
+    ensures { result ≡ (is_ended && not has_return) }
+{
+    is_ended && !has_return
+}
+
+/// Lends the lines of an input one after another, out of a buffer of its own.
+#[derive(Drop)]
+pub struct LineReader {
+    window: Box<Window>,
+    lent: u64,
+    number: u64,
+    phase: Phase,
+    ghost counted: { number ≤ lent },
+    ghost limit: { lent + length (kept window.value) ≤ INPUT_LIMIT },
+}
+
+impl LineReader {
+    ghost use Rattle.std.specs.Borrow.{sem};
+    ghost use Rattle.std.specs.Io.BufRead.{Rests};
+    ghost use Rattle.crx_lines.specs.contracts.line.LineReader.{the_row};
+    ghost use Rattle.crx_lines.specs.Reading.{Answers, AnswersAs, Reading, line_shown, line_number};
+    ghost use Rattle.crx_lines.specs.Readers.{reading, part_shown};
+
+    /// A reader before its input's first line.
+    pub fn new(alloc: Global) -> Result<LineReader, AllocError>
+        ensures { IfOk result (λ r. reading r ≡ record { rest = []; lent = 0; number = 0; phase = Phase.Open }) }
+    {
+        let window = Box::new(alloc, Window::new())?;
+        Ok(LineReader {
+            window,
+            lent: 0,
+            number: 0,
+            phase: Phase::Open,
+        })
+    }
+
+    /// The number of the last line that was read, 0 before the first.
+    pub fn number(&self) -> u64
+        ensures { result ≡ (reading self.now).number }
+    {
+        self.number
+    }
+
+    /// Takes the next line. Its content stays in the window, at the place that is answered.
+    fn advance<R: Source>(&mut self, reader: &mut R) -> Result<Option<Part>, At>
+        requires { self.old.phase ≡ Phase.Open }
+        ensures answers { (given : List ℕ) × R.gave reader.old given reader.new
+            × AnswersAs (part_shown self.new.window.value.bytes) (λ _. self.new.number)
+            (reading self.old) given (R.at_end reader.new)
+            (tally_of (R.failures reader.old) (R.ends reader.old)) (tally_of (R.failures reader.new) (R.ends reader.new)) result (reading self.new) }
+        ensures place { IfOk result (λ o. IfSome o (λ p. (p.from ≤ p.to) × (p.to ≤ SIZE) × (p.to - p.from ≤ LINE_LIMIT))) }
+        ensures unasked { Contains (kept self.old.window.value) 10 → reader.new ≡ reader.old }
+    {
+        let room = INPUT_LIMIT - self.lent - self.window.as_slice().len() as u64;
+        let sought = match seek(&mut self.window, room, reader) {
+            Ok(sought) => sought,
+            Err(fault) => {
+                let at = At {
+                    line: self.number + 1,
+                    fault,
+                };
+                self.phase = Phase::Stopped(at);
+                return Err(at);
+            }
+        };
+        if sought.is_nothing() {
+            self.phase = Phase::Ended;
+            return Ok(None);
+        }
+        let place = self.window.content(sought.len);
+        let held = sought.held();
+        self.window.pass(held);
+        self.lent += sought.passed + held as u64;
+        self.number += 1;
+        self.phase = phase_after(sought.is_ended);
+        if is_over(sought.passed, place.to - place.from) {
+            return Err(At {
+                line: self.number,
+                fault: Fault::LineTooLong,
+            });
+        }
+        Ok(Some(Part {
+            from: place.from,
+            to: place.to,
+            is_plain: is_plain(sought.is_ended, place.has_return),
+        }))
+    }
+
+    /// The line at a place of the window, as the last one.
+    fn line_at(&self, part: Part) -> Line<'_>
+        requires ordered { part.from ≤ part.to }
+        requires within { part.to ≤ SIZE }
+        requires short { part.to - part.from ≤ LINE_LIMIT }
+        ensures shown { line_shown result ≡ part_shown self.now.window.value.bytes part }
+        ensures number { line_number result ≡ self.now.number }
+    {
+        Line {
+            content: self.window.part(part.from, part.to),
+            number: self.number,
+            is_plain: part.is_plain,
+        }
+    }
+
+    /// Lends the next line of what is kept and what `reader` gives after it, until the next call.
+    /// It asks `reader` only while what is kept holds no LF, and never after `reader` reported its end.
+    ///
+    /// `LineTooLong` is the answer to a line over `LINE_LIMIT`, once its end was read; the line
+    /// counts, and the next call goes on after it. `InputTooLong` is the answer where a byte past
+    /// `INPUT_LIMIT` was given and no LF before it is left, `ReadFailed` where a read failed. Both
+    /// are repeated from then on, as None is after the end, and `reader` isn't asked again.
+    pub fn next_line<'a, R: Source>(&'a mut self, reader: &mut R) -> Result<Option<Line<'a>>, At>
+        ensures open { (reading self.old).phase ≡ Phase.Open → (given : List ℕ) × (new : Reading)
+            × R.gave reader.old given reader.new
+            × Answers (reading self.old) given (R.at_end reader.new)
+            (tally_of (R.failures reader.old) (R.ends reader.old)) (tally_of (R.failures reader.new) (R.ends reader.new)) result new }
+        ensures ended { (reading self.old).phase ≡ Phase.Ended → (result ≡ Ok None) × (reader.new ≡ reader.old) }
+        ensures stopped { (at : At) → (reading self.old).phase ≡ Phase.Stopped at → (result ≡ Err at) × (reader.new ≡ reader.old) }
+        ensures unasked { Contains (reading self.old).rest 10 → reader.new ≡ reader.old }
+        ensures* after_borrow { sem 𝓛 (Rests the_row self.entry (λ new.
+            ((reading self.old).phase ≡ Phase.Open → (given : List ℕ) × R.gave reader.old given reader.new
+            × Answers (reading self.old) given (R.at_end reader.new)
+            (tally_of (R.failures reader.old) (R.ends reader.old)) (tally_of (R.failures reader.new) (R.ends reader.new)) result (reading new))
+            × ((reading self.old).phase ≢ Phase.Open → reading new ≡ reading self.old))) }
+    {
+        match self.phase {
+            Phase::Ended => return Ok(None),
+            Phase::Stopped(at) => return Err(at),
+            Phase::Open => {}
+        }
+        match self.advance(reader) {
+            Ok(Some(part)) => Ok(Some(self.line_at(part))),
+            Ok(None) => Ok(None),
+            Err(at) => Err(at),
+        }
+    }
+}
+
+#[cfg(test)]
+mod tests;

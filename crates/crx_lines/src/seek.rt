@@ -1,0 +1,138 @@
+//! The search for the end of a line in what a reader gives.
+ghost use Rattle.std.specs.Prelude.{◌≡◌, ◌≢◌, ℕ, ◌+◌, ◌<◌, ◌≤◌, List, [], ◌∷◌, ◌++◌, length, slice_index, IfOk, IfErr, IfSome, OnOk, OnErr, IfNone, IsOk, MatchBool, Contains, IsTrue, true, false, ◌⊎◌, ◌^◌, if◌then◌else◌};
+ghost use Rattle.crx_lines.specs.Devices.{one_more};
+ghost use Rattle.crx_lines.specs.Window.{kept};
+ghost use Rattle.crx_lines.specs.Seeking.{Seeking};
+ghost use Rattle.crx_lines.specs.declared.limits.TheConstants.{INPUT_LIMIT, LINE_LIMIT};
+
+use crate::device::{ReadFailed, Source};
+use crate::fault::Fault;
+use crate::feed::feed_from;
+use crate::limits::LINE_LIMIT;
+use crate::window::{SIZE, Window};
+
+/// The first line of an input: what was let go of it, and what stands in the window.
+#[derive(Clone, Copy)]
+pub(crate) struct Sought {
+    /// How many of its bytes were let go: none, or more than a line may have.
+    pub(crate) passed: u64,
+    /// How many of its bytes stand at the front of the window.
+    pub(crate) len: usize,
+    /// Whether an LF follows them, or the end.
+    pub(crate) is_ended: bool,
+}
+
+impl Sought {
+    /// Whether there is no line, but the end.
+    pub(crate) fn is_nothing(&self) -> bool
+        ensures nothing { IsTrue result → (self.now.passed ≡ 0) × (self.now.len ≡ 0) × (self.now.is_ended ≡ false) }
+        ensures something { result ≡ false → (0 < self.now.passed + self.now.len) ⊎ (self.now.is_ended ≡ true) }
+    {
+        self.passed == 0 && self.len == 0 && !self.is_ended
+    }
+
+    /// How many of the window's bytes are the line's, with its LF.
+    pub(crate) fn held(&self) -> usize
+        requires { self.now.len < 2 ^ 63 }
+        ensures { result ≡ self.now.len + (if self.now.is_ended then 1 else 0) }
+    {
+        if self.is_ended {
+            self.len + 1
+        } else {
+            self.len
+        }
+    }
+}
+
+/// Asks for one byte, and answers whether there was one.
+fn has_more<R: Source>(reader: &mut R) -> Result<bool, ReadFailed>
+    ensures some { result ≡ Ok true → (b : ℕ) × R.gave reader.old (b ∷ []) reader.new }
+    ensures none { result ≡ Ok false → R.gave reader.old [] reader.new × R.at_end reader.new }
+    ensures ends { IfOk result (λ more. R.ends reader.new ≡ (if more then R.ends reader.old else one_more (R.ends reader.old))) }
+    ensures no_end { OnErr result (R.ends reader.new ≡ R.ends reader.old) }
+    ensures good { OnOk result (R.failures reader.new ≡ R.failures reader.old) }
+    ensures none_lost { OnErr result (R.gave reader.old [] reader.new) }
+    ensures counted { OnErr result (R.failures reader.new ≡ one_more (R.failures reader.old)) }
+{
+    let mut byte = [0];
+    let count = reader.read(&mut byte)?;
+    Ok(count > 0)
+}
+
+/// Lets go of what is longer than a line and its end, and answers how many bytes that was.
+fn let_go(window: &mut Window) -> usize
+    ensures count { ((result ≡ 0) × (kept window.new ≡ kept window.old))
+        ⊎ ((result ≡ length (kept window.old)) × (LINE_LIMIT + 1 < result) × (kept window.new ≡ [])) }
+    ensures room { length (kept window.new) ≤ LINE_LIMIT + 1 }
+{
+    let count = window.as_slice().len();
+    if count <= LINE_LIMIT + 1 {
+        return 0;
+    }
+    window.clear();
+    count
+}
+
+/// Looks for the end of the line that the window begins with, asking `reader` while there is none.
+/// What is too long for a line is let go, so the window never fills up. At most `room` bytes are
+/// held or let go; a byte past them is a fault.
+pub(crate) fn seek<R: Source>(
+    window: &mut Window,
+    room: u64,
+    reader: &mut R,
+) -> Result<Sought, Fault>
+    requires { room ≤ INPUT_LIMIT }
+    ensures ok { IfOk result (λ s. (taken : ℕ) × Seeking (λ given. R.gave reader.old given reader.new)
+        (kept window.old) (kept window.new) room taken s.passed s.len) }
+    ensures end { IfOk result (λ s. MatchBool s.is_ended
+        ((s.len < length (kept window.new)) × (slice_index (kept window.new) s.len ≡ 10))
+        ((s.len ≡ length (kept window.new)) × R.at_end reader.new)) }
+    ensures ends { IfOk result (λ s. R.ends reader.new ≡ (if s.is_ended then R.ends reader.old else one_more (R.ends reader.old))) }
+    ensures no_end { OnErr result (R.ends reader.new ≡ R.ends reader.old) }
+    ensures unasked { Contains (kept window.old) 10 → reader.new ≡ reader.old }
+    ensures good { IsOk result ⊎ (result ≡ Err Fault.InputTooLong) → R.failures reader.new ≡ R.failures reader.old }
+    ensures faults { IfErr result (λ e. (e ≡ Fault.InputTooLong) ⊎ (e ≡ Fault.ReadFailed)) }
+    ensures over { result ≡ Err Fault.InputTooLong → (b : ℕ) × (passed : ℕ)
+        × Seeking (λ given. R.gave reader.old (given ++ b ∷ []) reader.new)
+        (kept window.old) (kept window.new) room room passed (length (kept window.new)) }
+    ensures failed { result ≡ Err Fault.ReadFailed → (taken : ℕ) × (passed : ℕ)
+        × Seeking (λ given. R.gave reader.old given reader.new)
+        (kept window.old) (kept window.new) room taken passed (length (kept window.new)) }
+    ensures counted { result ≡ Err Fault.ReadFailed → R.failures reader.new ≡ one_more (R.failures reader.old) }
+{
+    let mut taken: u64 = 0;
+    let mut passed: u64 = 0;
+    let mut searched = 0;
+    'seeking: loop {
+        if let Some(len) = feed_from(window.as_slice(), searched) {
+            return Ok(Sought {
+                passed,
+                len,
+                is_ended: true,
+            });
+        }
+        passed += let_go(window) as u64;
+        searched = window.as_slice().len();
+        if taken == room {
+            return match has_more(reader) {
+                Ok(true) => Err(Fault::InputTooLong),
+                Ok(false) => Ok(Sought {
+                    passed,
+                    len: searched,
+                    is_ended: false,
+                }),
+                Err(_) => Err(Fault::ReadFailed),
+            };
+        }
+        let most = (room - taken).min(SIZE as u64) as usize;
+        match window.fill(reader, most) {
+            Ok(0) => return Ok(Sought {
+                passed,
+                len: searched,
+                is_ended: false,
+            }),
+            Ok(count) => taken += count as u64,
+            Err(_) => return Err(Fault::ReadFailed),
+        }
+    }
+}

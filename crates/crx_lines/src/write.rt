@@ -1,0 +1,27 @@
+//! Writing that counts what went out.
+ghost use Rattle.std.specs.Prelude.{◌≡◌, ◌<◌, length, take, OnOk, OnErr, IfErr};
+ghost use Rattle.crx_lines.specs.Devices.{one_more};
+
+use crate::device::{Sink, WriteFailed};
+
+/// Writes all of `bytes`, going on after a short write. A failure comes with the number of bytes
+/// that went out before it, from the front.
+pub fn write_all_counted<W: Sink>(writer: &mut W, bytes: &[u8]) -> Result<(), (usize, WriteFailed)>
+    ensures all { OnOk result (W.took writer.old bytes.now writer.new) }
+    ensures good { OnOk result (W.failures writer.new ≡ W.failures writer.old) }
+    ensures short { IfErr result (λ e. e.0 < length bytes.now) }
+    ensures part { IfErr result (λ e. W.took writer.old (take e.0 bytes.now) writer.new) }
+    ensures counted { OnErr result (W.failures writer.new ≡ one_more (W.failures writer.old)) }
+{
+    let mut written = 0;
+    while written < bytes.len() {
+        match writer.write(&bytes[written..]) {
+            Ok(count) => written += count,
+            Err(failed) => return Err((written, failed)),
+        }
+    }
+    Ok(())
+}
+
+#[cfg(test)]
+mod tests;
