@@ -8,7 +8,7 @@ use Rattle.std.proofs.lemmas.List.Elements.{filter_map-append, All-cons, All-hea
 use Rattle.std.proofs.lemmas.Map.Entries.{All-lookup}
 use Rattle.indexmap.specs.IndexMap.{insert_entry}
 use Rattle.crx_rinex.specs.ObservationTypes.{Count, AreCounts, IsAllowedCount, IsCount, letters_differ, system_letters, is_system, count_of, with_count, after_count, with_line, without, last_count, last_counts, counts_in, count_of_types_line, types_of, is_types_line, count_in, count_if_allowed}
-use Rattle.crx_text.specs.declared.limits.TheConstants.{TYPES_LIMIT}
+use Rattle.crx_lines.specs.declared.limits.TheConstants.{TYPES_LIMIT}
 use Rattle.crx_rinex.specs.Label.{number_in}
 use Rattle.crx_text.specs.Columns.{character_at, columns}
 use Rattle.std.proofs.lemmas.Option.{cond_some, option_and_then_some, none-some, same_Some}

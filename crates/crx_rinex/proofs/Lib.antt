@@ -1,3 +1,4 @@
+pub mod Apart
 pub mod Cells
 pub mod Characters
 pub mod Counts

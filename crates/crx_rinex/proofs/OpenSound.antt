@@ -1,7 +1,7 @@
 -- An epoch whose lines have come in part is sound, and wants a row more.
 use Rattle.std.proofs.Common.{◌≡◌, ℕ, ◌<◌, zero, suc, List, [], ◌∷◌, Option, Some, None, IfSome, Result, Ok, Err, refl, arith}
-use Rattle.crx_text.specs.Seen.{ReadLine, Content, Overlong}
-use Rattle.crx_text.specs.declared.fault.Fault.{Fault}
+use Rattle.crx_lines.specs.Seen.{ReadLine, Content, Overlong}
+use Rattle.crx_lines.specs.declared.fault.Fault.{Fault}
 use Rattle.crx_rinex.specs.Observations.{Row}
 use Rattle.crx_rinex.specs.ObservationTypes.{Count, AreCounts}
 use Rattle.crx_rinex.specs.EpochLines.{head_of}

@@ -12,7 +12,7 @@ use Rattle.std.proofs.lemmas.Option.{cond_some, same_Some, none-some}
 use Rattle.std.proofs.lemmas.Str.Parse.{digits_value_short, numerals_by_value, tells_all_ascii_digits}
 use Rattle.crx_text.specs.Columns.{is_blank, without_first_blanks}
 use Rattle.crx_text.specs.Numbers.{size_of, spelt_number, signed_number, missing_or_spelt, number_of, observation_of, clock_of, IsWithin}
-use Rattle.crx_text.specs.declared.limits.TheConstants.{OBSERVATION_WIDTH, OBSERVATION_DECIMALS, CLOCK_WIDTH, CLOCK_DECIMALS}
+use Rattle.crx_lines.specs.declared.limits.TheConstants.{OBSERVATION_WIDTH, OBSERVATION_DECIMALS, CLOCK_WIDTH, CLOCK_DECIMALS}
 use Rattle.crx_text.proofs.Sizes.{signed_is_within, IsWithin_more}
 use Rattle.crx_rinex.specs.EpochLines.{IsClockOffset}
 use Rattle.crx_rinex.specs.SatelliteLines.{IsValue}

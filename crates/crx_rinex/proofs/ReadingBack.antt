@@ -11,8 +11,8 @@ use Rattle.std.proofs.lemmas.List.Folds.{list_any-append}
 use Rattle.std.proofs.lemmas.Option.{none-some}
 use Rattle.crx_text.specs.Columns.{character_at, columns, is_blank, without_first_blanks}
 use Rattle.crx_text.specs.Numbers.{number_of, missing_or_spelt, observation_of, observation_text, clock_of, clock_text, IsWithin}
-use Rattle.crx_text.specs.Seen.{ReadLine, Content}
-use Rattle.crx_text.specs.declared.limits.TheConstants.{OBSERVATION_WIDTH, OBSERVATION_DECIMALS, CLOCK_WIDTH, CLOCK_DECIMALS}
+use Rattle.crx_lines.specs.Seen.{ReadLine, Content}
+use Rattle.crx_lines.specs.declared.limits.TheConstants.{OBSERVATION_WIDTH, OBSERVATION_DECIMALS, CLOCK_WIDTH, CLOCK_DECIMALS}
 use Rattle.crx_text.proofs.ReadBack.{number_of-number_text}
 use Rattle.crx_text.specs.Texts.{is_kept}
 use Rattle.crx_rinex.specs.Observations.{Row, Epoch}
@@ -25,7 +25,7 @@ use Rattle.crx_rinex.specs.Units.{Observation}
 use Rattle.crx_rinex.specs.Printing.{printed_cells, printed_row, printed_head, printed_epoch}
 use Rattle.crx_rinex.specs.SatelliteLines.{all_some, field, flags_from, flags_in, has_number, types_of_satellite, row_with, row_of_types, row_of, IsValue, IsSoundRow, HasItsTypes}
 use Rattle.crx_rinex.proofs.Characters.{at, at-without_end_blanks, at-drop, at-append, at-append_past, columns-are, list_all-from_at}
-use Rattle.crx_rinex.proofs.Rows.{other_way}
+use Rattle.crx_rinex.proofs.Apart.{other_way}
 use Rattle.crx_rinex.proofs.SoundEpochs.{name_types}
 
 -- ---- a field

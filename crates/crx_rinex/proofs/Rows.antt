@@ -1,35 +1,20 @@
 -- Rows of different satellites, one after another.
-use Rattle.std.proofs.Common.{◌≡◌, ℕ, ◌+◌, ◌<◌, ◌≤◌, Bool, true, false, not, ◌&&◌, List, [], ◌∷◌, ◌++◌, length, take, refl, ap, sym, subst, ◌∙◌, inl, inr, arith, Option, Some, None, unwrap_or, cond, leb}
+use Rattle.std.proofs.Common.{◌≡◌, ℕ, ◌+◌, ◌<◌, ◌≤◌, Bool, true, false, ◌&&◌, List, [], ◌∷◌, ◌++◌, length, take, ap, sym, subst, ◌∙◌, inl, inr, arith, Option, Some, None, unwrap_or, cond, leb}
 use Rattle.std.specs.List.{list_all}
 use Rattle.std.specs.Option.{option_and_then}
 use Rattle.crx_text.specs.Columns.{character_at, columns}
-use Rattle.crx_text.specs.declared.limits.TheConstants.{SATELLITES_LIMIT}
+use Rattle.crx_lines.specs.declared.limits.TheConstants.{SATELLITES_LIMIT}
 use Rattle.crx_rinex.specs.Label.{number_in}
-use Rattle.std.specs.Str.{bytes_eq}
-use Rattle.std.proofs.lemmas.Bool.{cases_Bool, leb-true, false≢true, eqb-false, or_parts, and_parts, not-true, false_from_ne_true}
+use Rattle.std.proofs.lemmas.Bool.{cases_Bool, leb-true, eqb-false}
 use Rattle.std.specs.Prelude.{ℤ, slice_set}
 use Rattle.std.proofs.lemmas.List.{length_push, take_all, take_more_set}
 use Rattle.std.proofs.lemmas.List.Elements.{All-push}
-use Rattle.std.proofs.lemmas.List.Folds.{list_any-append}
-use Rattle.std.proofs.lemmas.Slice.Eq.{bytes_eq-Decides}
 use Rattle.crx_text.specs.Texts.{is_kept}
 use Rattle.crx_rinex.specs.Observations.{Row, Epoch}
 use Rattle.crx_rinex.specs.EpochLines.{satellites_of, count_within_limit, begins_epoch, is_observation_flag}
-use Rattle.crx_rinex.specs.Epochs.{has_satellite, are_different, with_row, is_full_epoch, IsSoundEpoch}
+use Rattle.crx_rinex.specs.Epochs.{has_satellite, with_row, is_full_epoch, IsSoundEpoch}
 use Rattle.crx_rinex.specs.SatelliteLines.{IsSoundRow}
-
--- the test of two texts doesn't ask which is the first
-pub other_way : (xs ys : List ℕ) → bytes_eq xs ys ≡ false → bytes_eq ys xs ≡ false
-other_way xs ys h = false_from_ne_true (bytes_eq ys xs) (λ t. false≢true (sym h ∙ (bytes_eq-Decides xs ys).1 (sym ((bytes_eq-Decides ys xs).0 t))))
-
-pub different-push : (rows : List Row) (row : Row) → are_different rows ≡ true → has_satellite row.name rows ≡ false → are_different (rows ++ row ∷ []) ≡ true
-different-push [] row h new = refl
-different-push (r ∷ rows) row h new =
-    let apart = and_parts (not (has_satellite r.name rows)) (are_different rows) h in
-    let differs = or_parts (bytes_eq r.name row.name) (has_satellite row.name rows) new in
-    let old : has_satellite r.name rows ≡ false = not-true (has_satellite r.name rows) apart.0 in
-    let other : bytes_eq row.name r.name ≡ false = other_way r.name row.name differs.0 in
-    rw (list_any-append (λ (k : Row). bytes_eq k.name r.name) rows (row ∷ []), old, other) (different-push rows row apart.1 differs.1)
+use Rattle.crx_rinex.proofs.Apart.{apart-push}
 
 -- an epoch that isn't full stays sound with a new satellite's row
 pub sound-with_row : (epoch : Epoch) (row : Row) → IsSoundEpoch epoch → IsSoundRow row → is_full_epoch epoch ≡ false → has_satellite row.name epoch.rows ≡ false → IsSoundEpoch (with_row epoch row)
@@ -39,7 +24,7 @@ sound-with_row epoch row h sound room new =
     record {
       head_sound = h.head_sound;
       rows_sound = All-push IsSoundRow epoch.rows row h.rows_sound sound;
-      apart = different-push epoch.rows row h.apart new;
+      apart = apart-push (λ (r : Row). r.name) epoch.rows row h.apart new;
       within = omega (arith, length_push epoch.rows row);
     }
 

@@ -9,10 +9,10 @@ use Rattle.std.proofs.lemmas.List.FromFn.{length-range_with_len, length-map-rang
 use Rattle.std.proofs.lemmas.Option.{option_and_then_some, same_Some, none-some}
 use Rattle.crx_text.specs.Columns.{character_at, columns, is_blank}
 use Rattle.crx_text.specs.Numbers.{observation_of, clock_of}
-use Rattle.crx_text.specs.Seen.{ReadLine, Content, Overlong}
-use Rattle.crx_text.specs.declared.fault.Fault.{Fault}
-use Rattle.crx_text.specs.declared.fault.Fault.TheVariants.{NotAnEpoch, BadEpoch, RepeatedSatellite, BadField, BadFlags, Truncated}
-use Rattle.crx_text.specs.declared.limits.TheConstants.{SATELLITES_LIMIT}
+use Rattle.crx_lines.specs.Seen.{ReadLine, Content, Overlong}
+use Rattle.crx_lines.specs.declared.fault.Fault.{Fault}
+use Rattle.crx_lines.specs.declared.fault.Fault.TheVariants.{NotAnEpoch, BadEpoch, RepeatedSatellite, BadField, BadFlags, Truncated}
+use Rattle.crx_lines.specs.declared.limits.TheConstants.{SATELLITES_LIMIT}
 use Rattle.crx_text.specs.Texts.{is_kept}
 use Rattle.crx_rinex.specs.ObservationTypes.{Count, AreCounts, IsAllowedCount, is_system, count_of}
 use Rattle.crx_rinex.specs.Observations.{Row, Epoch}
@@ -25,7 +25,8 @@ use Rattle.crx_rinex.specs.EpochPlaces.{OpenEpoch, Beginning, EventBegins, Epoch
 use Rattle.crx_rinex.proofs.Cells.{identifier_columns}
 use Rattle.crx_rinex.proofs.Counts.{allowed_of, system_of}
 use Rattle.crx_rinex.proofs.Ranges.{value_fits, clock_fits}
-use Rattle.crx_rinex.proofs.Rows.{different-push, satellites_few}
+use Rattle.crx_rinex.proofs.Apart.{apart-push}
+use Rattle.crx_rinex.proofs.Rows.{satellites_few}
 
 -- ---- a row
 
@@ -198,7 +199,7 @@ sound-next_row so_far row h n =
       head = h.head;
       rows = All-push IsSoundRow so_far.rows row h.rows n.0;
       typed = All-push (HasItsTypes so_far.types) so_far.rows row h.typed n.1;
-      apart = different-push so_far.rows row h.apart n.2;
+      apart = apart-push (λ (r : Row). r.name) so_far.rows row h.apart n.2;
     }
 
 whole : (so_far : OpenEpoch) → IsSoundSoFar so_far → length so_far.rows ≡ so_far.head.count → IsWholeEpoch so_far.types (epoch_of so_far)

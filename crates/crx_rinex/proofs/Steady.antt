@@ -1,8 +1,8 @@
 -- Steady places: one after another, and their parts.
 use Rattle.std.proofs.Common.{◌≡◌, ℕ, ◌+◌, ◌<◌, suc, List, [], ◌∷◌, ◌++◌, length, drop, Result, Ok, Err, refl, ap, subst, arith}
 use Rattle.std.proofs.lemmas.List.{drop-append-le, length-drop}
-use Rattle.crx_text.specs.Seen.{ReadLine, Content, Overlong}
-use Rattle.crx_text.specs.declared.fault.Fault.{Fault}
+use Rattle.crx_lines.specs.Seen.{ReadLine, Content, Overlong}
+use Rattle.crx_lines.specs.declared.fault.Fault.{Fault}
 use Rattle.crx_rinex.specs.Places.{Place, Here, Wrong, Wanted, after_lines, then_place, one_line, first_line}
 use Rattle.crx_rinex.specs.Steady.{IsSteady, Remains, IsDecidedAfter}
 

@@ -5,9 +5,9 @@ use Rattle.std.specs.Option.{option_and_then}
 use Rattle.crx_text.specs.Columns.{columns, character_at, is_blank}
 use Rattle.crx_text.specs.Numbers.{clock_of, IsClock}
 use Rattle.crx_text.specs.Texts.{is_kept}
-use Rattle.crx_text.specs.declared.limits.TheConstants.{SATELLITES_LIMIT, HEAD_WIDTH, CLOCK_WIDTH}
-use Rattle.crx_text.specs.declared.fault.Fault.{Fault}
-use Rattle.crx_text.specs.declared.fault.Fault.TheVariants.{NotAnEpoch, BadEpoch, BadClock}
+use Rattle.crx_lines.specs.declared.limits.TheConstants.{SATELLITES_LIMIT, HEAD_WIDTH, CLOCK_WIDTH}
+use Rattle.crx_lines.specs.declared.fault.Fault.{Fault}
+use Rattle.crx_lines.specs.declared.fault.Fault.TheVariants.{NotAnEpoch, BadEpoch, BadClock}
 use Rattle.crx_rinex.specs.Label.{number_in}
 
 -- what a line that begins with > stands for: an event with its flag and the count of its records, or an observation

@@ -1,8 +1,8 @@
 -- Observation epochs among the lines of a file, and the epoch whose lines have come in part: RINEX 3.05, table A3.
 use Rattle.std.specs.Prelude.{ℕ, zero, suc, ◌-◌, List, [], ◌∷◌, ◌++◌, length, Option, Some, None, Result, Ok, Err, if◌then◌else◌}
-use Rattle.crx_text.specs.Seen.{ReadLine, Content, Overlong}
-use Rattle.crx_text.specs.declared.fault.Fault.{Fault}
-use Rattle.crx_text.specs.declared.fault.Fault.TheVariants.{LineTooLong, RepeatedSatellite, Truncated}
+use Rattle.crx_lines.specs.Seen.{ReadLine, Content, Overlong}
+use Rattle.crx_lines.specs.declared.fault.Fault.{Fault}
+use Rattle.crx_lines.specs.declared.fault.Fault.TheVariants.{LineTooLong, RepeatedSatellite, Truncated}
 use Rattle.crx_rinex.specs.Observations.{Row, Epoch}
 use Rattle.crx_rinex.specs.Units.{Unit, EventLine, Observation}
 use Rattle.crx_rinex.specs.Places.{Place, Here, Wrong, Wanted, then_place, first_line}

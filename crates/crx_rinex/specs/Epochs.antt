@@ -2,7 +2,7 @@
 use Rattle.std.specs.Prelude.{◌≡◌, ◌≤◌, ℕ, Bool, true, List, [], ◌∷◌, ◌++◌, ◌==◌, ◌&&◌, length, not, All, Result, Ok, Err}
 use Rattle.std.specs.List.{list_any}
 use Rattle.std.specs.Str.{bytes_eq}
-use Rattle.crx_text.specs.declared.fault.Fault.{Fault}
+use Rattle.crx_lines.specs.declared.fault.Fault.{Fault}
 use Rattle.crx_rinex.specs.Observations.{Row, Epoch}
 use Rattle.crx_rinex.specs.EpochLines.{ObservationHead, IsObservationHead, satellites_of}
 use Rattle.crx_rinex.specs.ObservationTypes.{Count}
@@ -12,10 +12,18 @@ use Rattle.crx_rinex.specs.SatelliteLines.{IsSoundRow, HasItsTypes}
 abbrev pub has_satellite : List ℕ → List Row → Bool
 has_satellite name rows = list_any (λ row. bytes_eq row.name name) rows
 
+-- whether some things have one of this identifier among them
+abbrev pub is_among : {X : Type 0} → (X → List ℕ) → List ℕ → List X → Bool
+is_among name_of name xs = list_any (λ x. bytes_eq (name_of x) name) xs
+
+-- whether no two of them have one identifier
+abbrev pub are_apart : {X : Type 0} → (X → List ℕ) → List X → Bool
+are_apart name_of [] = true
+are_apart name_of (x ∷ xs) = not (is_among name_of (name_of x) xs) && are_apart name_of xs
+
 -- whether no two rows are of one satellite
 abbrev pub are_different : List Row → Bool
-are_different [] = true
-are_different (row ∷ rows) = not (has_satellite row.name rows) && are_different rows
+are_different rows = are_apart (λ (row : Row). row.name) rows
 
 -- an epoch before its first row
 abbrev pub begun : ObservationHead → Epoch

@@ -1,6 +1,6 @@
 -- Worked examples: an epoch of two satellites, line by line.
 use Rattle.std.specs.Prelude.{ℕ, pos, List, [], ◌∷◌, Some, None, codes}
-use Rattle.crx_text.specs.Seen.{ReadLine, Content}
+use Rattle.crx_lines.specs.Seen.{ReadLine, Content}
 use Rattle.crx_rinex.specs.Observations.{Row, Epoch}
 use Rattle.crx_rinex.specs.EpochPlaces.{OpenEpoch}
 use Rattle.crx_rinex.specs.ObservationTypes.{Count}

@@ -1,6 +1,6 @@
 -- What the laws of this crate say, where it is long.
 use Rattle.std.specs.Prelude.{◌≡◌, ◌↔◌, ◌⊎◌, List, [], ◌∷◌, ◌++◌, length, Some}
-use Rattle.crx_text.specs.Seen.{ReadLine}
+use Rattle.crx_lines.specs.Seen.{ReadLine}
 use Rattle.crx_rinex.specs.Places.{Wanted}
 use Rattle.crx_rinex.specs.ObservationTypes.{Count}
 use Rattle.crx_rinex.specs.EpochPlaces.{OpenEpoch, epoch_place, epoch_step, open_with, place_after, still_open}

@@ -3,7 +3,7 @@ use Rattle.std.specs.Prelude.{ℕ, Bool, true, ◌≡◌, All, ◌≤◌, ◌&&�
 use Rattle.std.specs.List.{filter_map, list_any}
 use Rattle.std.specs.Option.{option_and_then}
 use Rattle.crx_text.specs.Columns.{columns, character_at, is_blank}
-use Rattle.crx_text.specs.declared.limits.TheConstants.{TYPES_LIMIT}
+use Rattle.crx_lines.specs.declared.limits.TheConstants.{TYPES_LIMIT}
 use Rattle.crx_rinex.specs.Label.{has_label, types_label, number_in}
 
 -- the letters of the systems: GPS, GLONASS, Galileo, QZSS, BDS, NavIC/IRNSS, SBAS

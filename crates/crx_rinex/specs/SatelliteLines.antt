@@ -6,9 +6,9 @@ use Rattle.std.specs.Option.{option_and_then}
 use Rattle.crx_text.specs.Columns.{columns, character_at, is_blank}
 use Rattle.crx_text.specs.Numbers.{observation_of, IsObservation}
 use Rattle.crx_rinex.specs.Observations.{Row}
-use Rattle.crx_text.specs.declared.limits.TheConstants.{OBSERVATION_WIDTH, NAME_WIDTH, CELL_WIDTH}
-use Rattle.crx_text.specs.declared.fault.Fault.{Fault}
-use Rattle.crx_text.specs.declared.fault.Fault.TheVariants.{BadSatellite, BadField, BadFlags}
+use Rattle.crx_lines.specs.declared.limits.TheConstants.{OBSERVATION_WIDTH, NAME_WIDTH, CELL_WIDTH}
+use Rattle.crx_lines.specs.declared.fault.Fault.{Fault}
+use Rattle.crx_lines.specs.declared.fault.Fault.TheVariants.{BadSatellite, BadField, BadFlags}
 use Rattle.crx_text.specs.Texts.{is_kept}
 use Rattle.crx_rinex.specs.ObservationTypes.{Count, IsAllowedCount, count_of, is_system}
 

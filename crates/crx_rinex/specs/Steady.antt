@@ -1,6 +1,6 @@
 -- When what stands at a place is certain: lines come one after another, and those to come must not change what was found.
 use Rattle.std.specs.Prelude.{◌≡◌, ◌≤◌, ◌<◌, ⊤, ℕ, List, ◌++◌, length}
-use Rattle.crx_text.specs.Seen.{ReadLine}
+use Rattle.crx_lines.specs.Seen.{ReadLine}
 use Rattle.crx_rinex.specs.Places.{Place, Here, Wrong, Wanted}
 
 -- what is found after so many lines wanted more: the thing's last line, or the fault's line, is not among them

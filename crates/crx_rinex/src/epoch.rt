@@ -1,9 +1,9 @@
 //! Observation epochs. RINEX 3.05, table A3.
 
-ghost use Rattle.std.specs.Prelude.{◌≡◌, ◌≤◌, ◌<◌, ◌+◌, ◌⊎◌, ◌-◌, ◌*◌, ◌++◌, ◌∷◌, [], length, take, is_some, true, false, Err, OnOk, OnErr, IfErr, IfSome, slice_get};
+ghost use Rattle.std.specs.Prelude.{ℕ, ◌≡◌, ◌≤◌, ◌<◌, ◌+◌, ◌⊎◌, ◌-◌, ◌*◌, ◌++◌, ◌∷◌, [], length, take, is_some, true, false, Err, OnOk, OnErr, IfErr, IfSome, slice_get, slice_set};
 ghost use Rattle.std.specs.List.{sum_by};
 ghost use Rattle.std.specs.Option.{option_copied};
-ghost use Rattle.crx_text.specs.declared.limits.TheConstants.{SATELLITES_LIMIT, TYPES_LIMIT};
+ghost use Rattle.crx_lines.specs.declared.limits.TheConstants.{SATELLITES_LIMIT, TYPES_LIMIT};
 ghost use Rattle.crx_rinex.specs.EpochLines.{satellites_of, IsObservationHead};
 ghost use Rattle.crx_rinex.specs.Epochs.{begun, has_satellite, is_full_epoch, with_row, AddsRow, IsSoundEpoch};
 ghost use Rattle.crx_rinex.specs.EpochPlaces.{row_if_new};
@@ -13,8 +13,8 @@ ghost use Rattle.crx_rinex.specs.SatelliteLines.{row_of, types_of_satellite, IsS
 use crate::epoch_line::EpochLine;
 use crate::satellite_row::SatRow;
 use crate::types::Types;
+use crx_lines::limits::NAME_WIDTH;
 use crx_text::Fault;
-use crx_text::limits::NAME_WIDTH;
 use std::alloc::Global;
 use std::marker::Model;
 use std::mem;
@@ -28,19 +28,22 @@ pub struct Epoch {
     rows: Vec<SatRow>,
     /// How many rows the epoch has.
     count: usize,
+    /// How many of the first rows, spare ones among them, are known to be of different satellites.
+    different: usize,
 }
 
 impl Model for Epoch {
     ghost use Rattle.std.specs.Prelude.{◌≤◌, length, take};
     ghost use Rattle.crx_rinex.specs.Observations.{Epoch as ObservationEpoch};
-    ghost use Rattle.crx_rinex.specs.Epochs.{IsSoundEpoch};
+    ghost use Rattle.std.specs.Prelude.{◌≡◌, true};
+    ghost use Rattle.crx_rinex.specs.Epochs.{are_different, IsSoundEpoch};
     ghost use Rattle.crx_rinex.specs.EpochLines.{IsObservationHead};
 
     ghost Value = { ObservationEpoch };
 
     ghost view = { λ epoch. record { head = epoch.head.head; clock = epoch.head.clock; rows = take epoch.count epoch.rows.items } };
 
-    ghost invariant = { λ epoch. IsSoundEpoch (record { head = epoch.head.head; clock = epoch.head.clock; rows = take epoch.count epoch.rows.items }) × (epoch.count ≤ length epoch.rows.items) × IsObservationHead epoch.head };
+    ghost invariant = { λ epoch. IsSoundEpoch (record { head = epoch.head.head; clock = epoch.head.clock; rows = take epoch.count epoch.rows.items }) × (epoch.count ≤ length epoch.rows.items) × IsObservationHead epoch.head × (epoch.different ≤ length epoch.rows.items) × (are_different (take epoch.different epoch.rows.items) ≡ true) };
 }
 
 impl Epoch {
@@ -53,6 +56,7 @@ impl Epoch {
             head,
             rows: Vec::new(alloc),
             count: 0,
+            different: 0,
         }
     }
 
@@ -69,7 +73,9 @@ impl Epoch {
         ensures { self.new ≡ self.old }
     {
         if self.count < self.rows.len() {
-            self.rows.pop()
+            let spare = self.rows.pop();
+            self.different = self.different.min(self.rows.len());
+            spare
         } else {
             None
         }
@@ -89,18 +95,27 @@ impl Epoch {
             ⊎ ((refused.1 ≡ Fault.OutOfMemory) × (has_satellite row.name self.old.rows ≡ false))) }
         ensures err { OnErr result (self.new ≡ self.old) }
     {
-        if has_satellite(&self.rows[..self.count], row.name()) {
+        let name = row.name();
+        if self.count < self.different && self.rows[self.count].name() == name {
+            put_row(&mut self.rows, self.count, row);
+            self.count += 1;
+            return Ok(());
+        }
+        self.different = self.count;
+        if has_satellite(&self.rows[..self.count], name) {
             return Err((row, Fault::RepeatedSatellite));
         }
         if self.count < self.rows.len() {
             put_row(&mut self.rows, self.count, row);
             self.count += 1;
+            self.different = self.count;
             return Ok(());
         }
         if let Err(full) = self.rows.push(row) {
             return Err((full.value, Fault::OutOfMemory));
         }
         self.count += 1;
+        self.different = self.count;
         Ok(())
     }
 
@@ -121,12 +136,20 @@ impl Epoch {
             };
         }
         let row = &mut self.rows[self.count];
+        let known = row.name();
         row.read_again(types, line)?;
         let name = row.name();
+        // Satellites mostly come in the order of the epoch before.
+        if self.count < self.different && known == name {
+            self.count += 1;
+            return Ok(());
+        }
+        self.different = self.count;
         if has_satellite(&self.rows[..self.count], name) {
             return Err(Fault::RepeatedSatellite);
         }
         self.count += 1;
+        self.different = self.count;
         Ok(())
     }
 
@@ -176,8 +199,8 @@ impl Epoch {
 /// Puts a row in the place of a spare one, which becomes the last one where there is memory for it.
 fn put_row(rows: &mut Vec<SatRow>, count: usize, row: SatRow)
     requires { count < length rows.old.items }
-    ensures rows { take (count + 1) rows.new.items ≡ take count rows.old.items ++ row ∷ [] }
-    ensures within { count < length rows.new.items }
+    ensures rows { (m : ℕ) → m ≤ length rows.old.items → take m rows.new.items ≡ take m (slice_set rows.old.items count row) }
+    ensures within { length rows.old.items ≤ length rows.new.items }
 {
     let spare = mem::replace(&mut rows[count], row);
     let _ = rows.push(spare);

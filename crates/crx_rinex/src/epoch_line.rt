@@ -5,13 +5,13 @@ ghost use Rattle.std.specs.List.{list_all};
 ghost use Rattle.std.specs.Option.{ForSome};
 ghost use Rattle.crx_text.specs.Columns.{columns};
 ghost use Rattle.crx_text.specs.Numbers.{IsClock};
-ghost use Rattle.crx_text.specs.declared.limits.TheConstants.{HEAD_WIDTH};
+ghost use Rattle.crx_lines.specs.declared.limits.TheConstants.{HEAD_WIDTH};
 ghost use Rattle.crx_text.specs.Texts.{is_kept};
 ghost use Rattle.crx_rinex.specs.EpochLines.{head_of, begins_epoch, epoch_count, epoch_head, is_event_flag, is_observation_flag, records_in, satellites_in, EpochHead, IsObservationHead};
 ghost use Rattle.crx_rinex.specs.Heads.{head_line};
 
 use crate::columns::{after_columns, all_blank, character, is_blank, number, padded};
-use crx_text::limits::{CLOCK_WIDTH, HEAD_WIDTH, SATELLITES_LIMIT};
+use crx_lines::limits::{CLOCK_WIDTH, HEAD_WIDTH, SATELLITES_LIMIT};
 use crx_text::{Fault, all_kept, clock_read};
 use std::marker::Model;
 

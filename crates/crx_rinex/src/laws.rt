@@ -2,14 +2,14 @@
 
 ghost use Rattle.std.specs.Prelude.{◌≡◌, ◌≤◌, ◌+◌, ◌∷◌, [], ℕ, List, Some, length};
 ghost use Rattle.std.specs.Prelude.{Result};
-ghost use Rattle.crx_text.specs.declared.fault.Fault.{Fault};
-ghost use Rattle.crx_text.specs.Seen.{ReadLine};
+ghost use Rattle.crx_lines.specs.declared.fault.Fault.{Fault};
+ghost use Rattle.crx_lines.specs.Seen.{ReadLine};
 ghost use Rattle.crx_rinex.specs.ObservationTypes.{Count, AreCounts};
 ghost use Rattle.crx_rinex.specs.Observations.{Epoch};
 ghost use Rattle.crx_rinex.specs.Epochs.{IsWholeEpoch};
 ghost use Rattle.crx_rinex.specs.Places.{Place, Here, Wrong, Wanted, first_line, then_place};
 ghost use Rattle.crx_rinex.specs.Examples.{one_type, first_line_of_two, g01_line, g02_line, half_open, epoch_of_two};
-ghost use Rattle.crx_text.specs.declared.fault.Fault.TheVariants.{Truncated, RepeatedSatellite};
+ghost use Rattle.crx_lines.specs.declared.fault.Fault.TheVariants.{Truncated, RepeatedSatellite};
 ghost use Rattle.crx_rinex.specs.Units.{Observation};
 ghost use Rattle.crx_rinex.specs.Steady.{IsSteady};
 ghost use Rattle.crx_rinex.specs.EpochPlaces.{OpenEpoch, epoch_place, open_with, row_at, rest_at};

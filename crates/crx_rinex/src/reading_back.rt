@@ -2,7 +2,7 @@
 //! that does nothing.
 
 ghost use Rattle.std.specs.Prelude.{◌≡◌, ◌+◌, ◌++◌, List, Ok, length, map};
-ghost use Rattle.crx_text.specs.Seen.{ReadLine, Content};
+ghost use Rattle.crx_lines.specs.Seen.{ReadLine, Content};
 ghost use Rattle.crx_rinex.specs.Observations.{Row, Epoch};
 ghost use Rattle.crx_rinex.specs.ObservationTypes.{Count};
 ghost use Rattle.crx_rinex.specs.EpochLines.{EpochHead, ObservationHead, IsObservationHead, head_of};

@@ -5,7 +5,7 @@ ghost use Rattle.std.specs.Bool.{OnTrue, OnFalse};
 ghost use Rattle.std.specs.List.{list_all};
 ghost use Rattle.std.specs.Option.{option_map, ForSome};
 ghost use Rattle.crx_text.specs.Columns.{character_at, columns};
-ghost use Rattle.crx_text.specs.declared.limits.TheConstants.{CELL_WIDTH, LINE_LIMIT, NAME_WIDTH, TYPES_LIMIT};
+ghost use Rattle.crx_lines.specs.declared.limits.TheConstants.{CELL_WIDTH, LINE_LIMIT, NAME_WIDTH, TYPES_LIMIT};
 ghost use Rattle.crx_text.specs.Numbers.{observation_of, observation_text, IsObservation};
 ghost use Rattle.crx_text.specs.Texts.{is_kept};
 ghost use Rattle.crx_rinex.specs.ObservationTypes.{IsAllowedCount};
@@ -15,8 +15,8 @@ ghost use Rattle.crx_rinex.specs.SatelliteLines.{blank_row, field, flags_in, has
 
 use crate::columns::{after_columns, all_blank, character, padded};
 use crate::types::Types;
-use crx_text::limits::{CELL_WIDTH, NAME_WIDTH, OBSERVATION_WIDTH};
-use crx_text::{Fault, Text, all_kept, obs_print_into, obs_read};
+use crx_lines::limits::{CELL_WIDTH, NAME_WIDTH, OBSERVATION_WIDTH};
+use crx_text::{Fault, Text, all_kept, obs_print_cell, obs_read, obs_read_usual};
 use std::alloc::Global;
 use std::marker::Model;
 
@@ -307,22 +307,25 @@ fn cell(line: &[u8], k: usize) -> Option<(Option<i64>, u8, u8)>
     ensures flags { IfSome result (λ cell. (cell.1 ≡ character_at line.now (CELL_WIDTH * k + 18)) × (cell.2 ≡ character_at line.now (CELL_WIDTH * k + 19))) }
 {
     let start = CELL_WIDTH * k + NAME_WIDTH;
-    if line.len() < start + CELL_WIDTH {
-        return cell_at_end(line, k);
+    if line.len() <= start {
+        return Some((None, b' ', b' '));
     }
-    match obs_read(&line[start..start + OBSERVATION_WIDTH]) {
-        Ok(value) => Some((
+    if line.len() < start + CELL_WIDTH {
+        return cell_in_any_spelling(line, k);
+    }
+    match obs_read_usual(&line[start..start + OBSERVATION_WIDTH]) {
+        Some(value) => Some((
             value,
             line[start + OBSERVATION_WIDTH],
             line[start + OBSERVATION_WIDTH + 1],
         )),
-        Err(_) => None,
+        None => cell_in_any_spelling(line, k),
     }
 }
 
-/// The same of a cell that may end after the line does.
+/// The same of a cell that may end after the line does, and in any spelling.
 #[inline(never)]
-fn cell_at_end(line: &[u8], k: usize) -> Option<(Option<i64>, u8, u8)>
+fn cell_in_any_spelling(line: &[u8], k: usize) -> Option<(Option<i64>, u8, u8)>
     requires { k < TYPES_LIMIT }
     ensures value { option_map (λ cell. cell.0) result ≡ observation_of (field line.now k) }
     ensures ranged { IfSome result (λ cell. IsValue cell.0) }
@@ -373,19 +376,6 @@ fn print_cells(values: &[Option<i64>], flags: &[u8], text: &mut Text)
     ensures value { text.new ≡ text.old ++ printed_cells values.now flags.now }
 {
     for k in 0..values.len() {
-        let _ = text.extend(&printed_cell(values[k], flags[2 * k], flags[2 * k + 1]));
+        obs_print_cell(values[k], flags[2 * k], flags[2 * k + 1], text);
     }
-}
-
-/// A cell as it is printed: the columns of its value, and its two indicators.
-#[inline(always)]
-fn printed_cell(value: Option<i64>, lock: u8, strength: u8) -> [u8; CELL_WIDTH]
-    requires { ForSome value IsObservation }
-    ensures { result ≡ observation_text value ++ lock ∷ strength ∷ [] }
-{
-    let mut columns = [b' '; CELL_WIDTH];
-    columns[OBSERVATION_WIDTH] = lock;
-    columns[OBSERVATION_WIDTH + 1] = strength;
-    obs_print_into(value, &mut columns[..OBSERVATION_WIDTH]);
-    columns
 }

@@ -1,7 +1,12 @@
 //! Values from outside: lines as files have them, and each call that takes memory, with memory at hand.
 
+ghost use Rattle.std.specs.Prelude.{◌≡◌, true};
+ghost use Rattle.crx_rinex.specs.SatelliteLines.{is_identifier};
+
 use super::*;
 use crx_text::{Fault, Text};
+use std::alloc::Global;
+use std::process::Abort;
 use std::test::Fail;
 
 const VERSION: &[u8] =
@@ -73,27 +78,43 @@ fn header_lines(rt: HostRuntime) {
     assert!(rt; !is_end(VERSION));
 }
 
+/// Expects these counts of types, by letters in their order, and no others.
+fn expect_types(rt: &impl Abort, types: &Types, entries: &[(u8, usize)]) {
+    for (place, entry) in entries.iter().enumerate() {
+        assert_eq!(rt; types.entry(place), Some(*entry));
+        assert_eq!(rt; types.count(entry.0), Some(entry.1));
+    }
+    assert_eq!(rt; types.entry(entries.len()), None);
+}
+
+/// A line, whether it is accepted, the counts of types after it, and the one of Galileo among them.
+type Accepted<'a> = (
+    &'a [u8],
+    Result<(), Fault>,
+    &'a [(u8, usize)],
+    Option<usize>,
+);
+
+/// Lines one after another.
+const TYPES_LINES: &[Accepted<'_>] = &[
+    (VERSION, Ok(()), &[], None),
+    (CONTINUATION, Ok(()), &[], None),
+    (ONE_TYPE, Ok(()), &[(b'G', 1)], None),
+    (TOO_MANY, Err(Fault::BadTypesLine), &[(b'G', 1)], None),
+    (NO_SYSTEM, Err(Fault::BadTypesLine), &[(b'G', 1)], None),
+    (TWO_TYPES, Ok(()), &[(b'G', 2)], None),
+    (OTHER_SYSTEM, Ok(()), &[(b'G', 2), (b'E', 400)], Some(400)),
+    (ONE_TYPE, Ok(()), &[(b'G', 1), (b'E', 400)], Some(400)),
+];
+
 #[test]
-fn types_by_letter(rt: HostRuntime) -> Result<(), Fail> {
+fn types_by_letter(rt: HostRuntime) {
     let mut types = Types::new(rt.alloc());
-    types.accept_line(VERSION)?;
-    types.accept_line(CONTINUATION)?;
-    assert_eq!(rt; types.entry(0), None);
-    types.accept_line(ONE_TYPE)?;
-    assert_eq!(rt; types.accept_line(TOO_MANY), Err(Fault::BadTypesLine));
-    assert_eq!(rt; types.accept_line(NO_SYSTEM), Err(Fault::BadTypesLine));
-    assert_eq!(rt; types.count(b'G'), Some(1));
-    types.accept_line(TWO_TYPES)?;
-    assert_eq!(rt; types.count(b'G'), Some(2));
-    assert_eq!(rt; types.count(b'E'), None);
-    assert_eq!(rt; types.entry(0), Some((b'G', 2)));
-    assert_eq!(rt; types.entry(1), None);
-    types.accept_line(OTHER_SYSTEM)?;
-    types.accept_line(ONE_TYPE)?;
-    assert_eq!(rt; types.count(b'E'), Some(400));
-    assert_eq!(rt; types.entry(0), Some((b'G', 1)));
-    assert_eq!(rt; types.entry(1), Some((b'E', 400)));
-    Ok(())
+    for (line, want, entries, galileo) in TYPES_LINES {
+        assert!(rt; types.accept_line(line) == *want);
+        expect_types(&rt, &types, entries);
+        assert_eq!(rt; types.count(b'E'), *galileo);
+    }
 }
 
 #[test]
@@ -111,21 +132,26 @@ fn types_lines(rt: HostRuntime) {
 }
 
 #[test]
-fn epoch_lines(rt: HostRuntime) {
-    match Head::read(CLOCK) {
-        Ok(Head::Epoch(line)) => {
-            assert_eq!(rt; line.count(), 1);
-            assert_eq!(rt; line.clock(), Some(-123456789012));
-            assert_eq!(rt; &line.columns()[..35], HEAD);
-        }
-        _ => assert!(rt; false, "no epoch line"),
+fn epoch_lines(rt: HostRuntime) -> Result<(), Fail> {
+    let Head::Epoch(line) = Head::read(CLOCK)? else {
+        return Err(Fault::NotAnEpoch.into());
+    };
+    assert_eq!(rt; line.count(), 1);
+    assert_eq!(rt; line.clock(), Some(-123456789012));
+    assert!(rt; &line.columns()[..35] == HEAD);
+    Ok(())
+}
+
+#[test]
+fn lines_of_no_epoch(rt: HostRuntime) {
+    assert!(rt; matches!(Head::read(EVENT), Ok(Head::Event { flag: 4, count: 2 })));
+    for (line, fault) in [(VERSION, Fault::NotAnEpoch), (b">", Fault::BadEpoch)] {
+        assert!(rt; matches!(Head::read(line), Err(given) if given == fault));
     }
-    match Head::read(EVENT) {
-        Ok(Head::Event { flag, count }) => assert_eq!(rt; (flag, count), (4, 2)),
-        _ => assert!(rt; false, "no event"),
-    }
-    assert!(rt; matches!(Head::read(VERSION), Err(Fault::NotAnEpoch)));
-    assert!(rt; matches!(Head::read(b">"), Err(Fault::BadEpoch)));
+}
+
+#[test]
+fn epoch_lines_made(rt: HostRuntime) {
     let mut columns = [b' '; 41];
     columns[..35].copy_from_slice(HEAD);
     assert!(rt; EpochLine::new(columns, Some(1)).is_ok());
@@ -133,164 +159,239 @@ fn epoch_lines(rt: HostRuntime) {
     assert!(rt; matches!(EpochLine::new(columns, None), Err(Fault::BadEpoch)));
 }
 
+/// Counts of types that a line declares.
+fn declared(alloc: Global, line: &[u8]) -> Result<Types, Fault> {
+    let mut types = Types::new(alloc);
+    types.accept_line(line)?;
+    Ok(types)
+}
+
+/// What a row holds.
+struct Held<'a> {
+    name: [u8; 3],
+    values: &'a [Option<i64>],
+    flags: &'a [u8],
+}
+
+fn expect_row(rt: &impl Abort, row: &SatRow, want: &Held<'_>) {
+    assert!(rt; row.name() == want.name);
+    for (place, value) in want.values.iter().enumerate() {
+        assert_eq!(rt; row.value(place), Some(*value));
+    }
+    assert_eq!(rt; row.value(want.values.len()), None);
+    assert!(rt; row.flags() == want.flags);
+}
+
+/// Lines with two types, and the rows that they are read as.
+const GOOD_LINES: &[(&[u8], Held<'_>)] = &[
+    (
+        b"G01         1.000 7         -.001",
+        Held {
+            name: *b"G01",
+            values: &[Some(1000), Some(-1)],
+            flags: b" 7  ",
+        },
+    ),
+    (
+        b"G 1          .353",
+        Held {
+            name: *b"G 1",
+            values: &[Some(353), None],
+            flags: b"    ",
+        },
+    ),
+];
+
+/// Lines that are no rows of two types.
+const BAD_LINES: &[(&[u8], Fault)] = &[
+    (
+        b"E01         1.000                    ",
+        Fault::BadSatellite,
+    ),
+    (
+        b"G1          1.000                    ",
+        Fault::BadSatellite,
+    ),
+    (b"G01        +1.000&                   ", Fault::BadField),
+    (b"G01         1.000&                  x", Fault::BadField),
+    (b"G01         1.000&                   ", Fault::BadFlags),
+];
+
 #[test]
 fn satellite_lines(rt: HostRuntime) -> Result<(), Fail> {
-    let alloc = rt.alloc();
-    let mut types = Types::new(alloc);
-    types.accept_line(TWO_TYPES)?;
-    let row = SatRow::read(alloc, &types, b"G01         1.000 7         -.001")?;
-    assert_eq!(rt; row.name(), *b"G01");
-    assert_eq!(rt; row.value(0), Some(Some(1000)));
-    assert_eq!(rt; row.value(1), Some(Some(-1)));
-    assert_eq!(rt; row.value(2), None);
-    assert_eq!(rt; row.flags(), b" 7  ".as_slice());
-    let short = SatRow::read(alloc, &types, b"G 1          .353")?;
-    assert_eq!(rt; short.value(0), Some(Some(353)));
-    assert_eq!(rt; short.value(1), Some(None));
-    for (line, want) in [
-        (
-            b"E01         1.000                    ",
-            Fault::BadSatellite,
-        ),
-        (
-            b"G1          1.000                    ",
-            Fault::BadSatellite,
-        ),
-        (b"G01        +1.000&                   ", Fault::BadField),
-        (b"G01         1.000&                  x", Fault::BadField),
-        (b"G01         1.000&                   ", Fault::BadFlags),
-    ] {
-        match SatRow::read(alloc, &types, line) {
-            Ok(_) => assert!(rt; false, "a row"),
-            Err(fault) => assert_eq!(rt; fault, want),
-        }
+    let types = declared(rt.alloc(), TWO_TYPES)?;
+    for (line, want) in GOOD_LINES {
+        expect_row(&rt, &SatRow::read(rt.alloc(), &types, line)?, want);
+    }
+    for (line, want) in BAD_LINES {
+        let read = SatRow::read(rt.alloc(), &types, line);
+        assert!(rt; matches!(read, Err(fault) if fault == *want));
     }
     Ok(())
 }
+
+/// The line that declares the types, lines that a row is read again from, and what it holds after them.
+struct Again<'a> {
+    types: &'a [u8],
+    lines: &'a [(&'a [u8], Result<(), Fault>)],
+    want: Held<'a>,
+}
+
+/// A line of more types; one of another system, with a bad field or with a bad indicator, after or before a good one.
+const READ_AGAIN: &[Again<'_>] = &[
+    Again {
+        types: MORE_TYPES,
+        lines: &[(
+            b"E 2                         2.000 1         3.000  ",
+            Ok(()),
+        )],
+        want: Held {
+            name: *b"E 2",
+            values: &[None, Some(2000), Some(3000)],
+            flags: b"   1  ",
+        },
+    },
+    Again {
+        types: TWO_TYPES,
+        lines: &[
+            (b"G01         1.000 7         -.001", Ok(())),
+            (b"R01", Err(Fault::BadSatellite)),
+        ],
+        want: Held {
+            name: *b"G01",
+            values: &[Some(1000), Some(-1)],
+            flags: b" 7  ",
+        },
+    },
+    Again {
+        types: TWO_TYPES,
+        lines: &[
+            (b"G01         1.000 7         -.001", Ok(())),
+            (b"G07         5.000 5&", Err(Fault::BadField)),
+        ],
+        want: Held {
+            name: *b"G01",
+            values: &[None, None],
+            flags: b"    ",
+        },
+    },
+    Again {
+        types: TWO_TYPES,
+        lines: &[
+            (b"G07         5.000&", Err(Fault::BadFlags)),
+            (b"G07         5.000 5", Ok(())),
+        ],
+        want: Held {
+            name: *b"G07",
+            values: &[Some(5000), None],
+            flags: b" 5  ",
+        },
+    },
+];
 
 #[test]
 fn rows_read_again(rt: HostRuntime) -> Result<(), Fail> {
-    let alloc = rt.alloc();
-    let mut types = Types::new(alloc);
-    types.accept_line(MORE_TYPES)?;
-    let mut row = SatRow::blank(alloc, *b"G01", 2)?;
-    row.read_again(
-        &types,
-        b"E 2                         2.000 1         3.000  ",
-    )?;
-    assert_eq!(rt; row.name(), *b"E 2");
-    assert_eq!(rt; row.value(0), Some(None));
-    assert_eq!(rt; row.value(1), Some(Some(2000)));
-    assert_eq!(rt; row.value(2), Some(Some(3000)));
-    assert_eq!(rt; row.value(3), None);
-    assert_eq!(rt; row.flags(), b"   1  ".as_slice());
+    for case in READ_AGAIN {
+        let types = declared(rt.alloc(), case.types)?;
+        let mut row = SatRow::blank(rt.alloc(), *b"G01", 2)?;
+        for (line, want) in case.lines {
+            assert!(rt; row.read_again(&types, line) == *want);
+        }
+        expect_row(&rt, &row, &case.want);
+    }
     Ok(())
 }
 
-#[test]
-fn rows_of_other_systems_refused(rt: HostRuntime) -> Result<(), Fail> {
-    let alloc = rt.alloc();
-    let mut types = Types::new(alloc);
-    types.accept_line(TWO_TYPES)?;
-    let mut row = SatRow::read(alloc, &types, b"G01         1.000 7         -.001")?;
-    assert_eq!(rt; row.read_again(&types, b"R01"), Err(Fault::BadSatellite));
-    assert_eq!(rt; row.name(), *b"G01");
-    assert_eq!(rt; row.value(1), Some(Some(-1)));
-    assert_eq!(rt; row.flags(), b" 7  ".as_slice());
-    Ok(())
+/// Reads rows that an epoch has room for.
+fn read_rows(
+    rt: &impl Abort,
+    epoch: &mut Epoch,
+    types: &Types,
+    lines: &[(&[u8], Result<(), Fault>)],
+) {
+    for (line, want) in lines {
+        assert!(rt; !epoch.is_full());
+        assert!(rt; epoch.read_row(types, line) == *want);
+    }
 }
 
-#[test]
-fn rows_with_bad_fields_refused(rt: HostRuntime) -> Result<(), Fail> {
-    let alloc = rt.alloc();
-    let mut types = Types::new(alloc);
-    types.accept_line(TWO_TYPES)?;
-    let mut row = SatRow::read(alloc, &types, b"G01         1.000 7         -.001")?;
-    assert_eq!(rt;
-        row.read_again(&types, b"G07         5.000 5&"),
-        Err(Fault::BadField)
-    );
-    assert_eq!(rt; row.name(), *b"G01");
-    assert_eq!(rt; row.value(0), Some(None));
-    assert_eq!(rt; row.flags(), b"    ".as_slice());
-    Ok(())
-}
-
-#[test]
-fn rows_read_after_a_refusal(rt: HostRuntime) -> Result<(), Fail> {
-    let alloc = rt.alloc();
-    let mut types = Types::new(alloc);
-    types.accept_line(TWO_TYPES)?;
-    let mut row = SatRow::blank(alloc, *b"G01", 2)?;
-    assert_eq!(rt;
-        row.read_again(&types, b"G07         5.000&"),
-        Err(Fault::BadFlags)
-    );
-    row.read_again(&types, b"G07         5.000 5")?;
-    assert_eq!(rt; row.name(), *b"G07");
-    assert_eq!(rt; row.value(0), Some(Some(5000)));
-    assert_eq!(rt; row.flags(), b" 5  ".as_slice());
-    Ok(())
-}
+/// Rows that an epoch with a row of G01 refuses, after that row.
+const REFUSED_ROWS: &[(&[u8], Result<(), Fault>)] = &[
+    (b"G01         1.000", Ok(())),
+    (b"E01         2.000", Err(Fault::BadSatellite)),
+    (b"G02         2.00", Err(Fault::BadField)),
+    (b"G02         2.000&", Err(Fault::BadFlags)),
+    (b"G01         2.000", Err(Fault::RepeatedSatellite)),
+    (b"G01         2.000&", Err(Fault::BadFlags)),
+];
 
 #[test]
 fn rows_refused_by_an_epoch(rt: HostRuntime) -> Result<(), Fail> {
-    let alloc = rt.alloc();
-    let mut types = Types::new(alloc);
-    types.accept_line(TWO_TYPES)?;
-    let mut epoch = Epoch::new(alloc, observation_line(TWO_SATELLITES)?);
-    assert!(rt; !epoch.is_full());
-    epoch.read_row(&types, b"G01         1.000")?;
-    for (line, want) in [
-        (b"E01         2.000".as_slice(), Fault::BadSatellite),
-        (b"G02         2.00", Fault::BadField),
-        (b"G02         2.000&", Fault::BadFlags),
-        (b"G01         2.000", Fault::RepeatedSatellite),
-        (b"G01         2.000&", Fault::BadFlags),
-    ] {
-        assert!(rt; !epoch.is_full());
-        assert_eq!(rt; epoch.read_row(&types, line), Err(want));
-        assert!(rt; epoch.row(1).is_none());
+    let types = declared(rt.alloc(), TWO_TYPES)?;
+    for count in 1..=REFUSED_ROWS.len() {
+        let mut epoch = Epoch::new(rt.alloc(), observation_line(TWO_SATELLITES)?);
+        read_rows(&rt, &mut epoch, &types, &REFUSED_ROWS[..count]);
+        assert!(rt; epoch.row(0).is_some() && epoch.row(1).is_none());
     }
     Ok(())
+}
+
+/// Expects that these lines are lent next.
+fn expect_lines(rt: &impl Abort, lines: &mut Printed, want: &[&[u8]]) {
+    for line in want {
+        assert!(rt; lines.next_line() == Some(*line));
+    }
 }
 
 #[test]
 fn epochs_begun_again(rt: HostRuntime) -> Result<(), Fail> {
-    let alloc = rt.alloc();
-    let mut types = Types::new(alloc);
-    types.accept_line(TWO_TYPES)?;
-    let mut epoch = Epoch::new(alloc, observation_line(HEAD)?);
-    assert!(rt; !epoch.is_full());
-    epoch.read_row(&types, b"G01         1.000")?;
+    let types = declared(rt.alloc(), TWO_TYPES)?;
+    let mut epoch = Epoch::new(rt.alloc(), observation_line(HEAD)?);
+    read_rows(&rt, &mut epoch, &types, &REFUSED_ROWS[..1]);
     assert!(rt; epoch.is_full());
     epoch.begin_again(observation_line(TWO_SATELLITES)?);
     assert!(rt; epoch.row(0).is_none());
-    for line in [b"G02          .003 3".as_slice(), b"G 3"] {
-        assert!(rt; !epoch.is_full());
-        epoch.read_row(&types, line)?;
-    }
+    let rows: [(&[u8], Result<(), Fault>); 2] = [
+        (b"G02          .003 3", Ok(())),
+        (b"G 3", Ok(())),
+    ];
+    read_rows(&rt, &mut epoch, &types, &rows);
     let mut lines = Printed::new(epoch);
-    assert_eq!(rt; lines.next_line(), Some(TWO_SATELLITES));
-    assert_eq!(rt; lines.next_line(), Some(b"G02         0.003 3".as_slice()));
+    expect_lines(&rt, &mut lines, &[TWO_SATELLITES, b"G02         0.003 3"]);
     Ok(())
+}
+
+/// Whether an epoch takes a blank row; one that is refused is handed back.
+fn pushed(rt: &impl Abort, alloc: Global, epoch: &mut Epoch, name: [u8; 3]) -> Result<(), Fault>
+    requires { is_identifier name ≡ true }
+{
+    let row = SatRow::blank(alloc, name, 2)?;
+    assert!(rt; !epoch.is_full());
+    match epoch.push(row) {
+        Ok(()) => Ok(()),
+        Err((row, fault)) => {
+            assert!(rt; row.flags().len() == 4);
+            Err(fault)
+        }
+    }
+}
+
+/// An epoch of one blank row.
+fn epoch_of(rt: &impl Abort, alloc: Global, name: [u8; 3]) -> Result<Epoch, Fault>
+    requires { is_identifier name ≡ true }
+{
+    let mut epoch = Epoch::new(alloc, observation_line(HEAD)?);
+    pushed(rt, alloc, &mut epoch, name)?;
+    Ok(epoch)
 }
 
 #[test]
 fn printing_begun_again(rt: HostRuntime) -> Result<(), Fail> {
-    let alloc = rt.alloc();
-    let mut first = Epoch::new(alloc, observation_line(HEAD)?);
-    assert!(rt; !first.is_full());
-    assert!(rt; first.push(SatRow::blank(alloc, *b"J01", 2)?).is_ok());
-    let mut second = Epoch::new(alloc, observation_line(HEAD)?);
-    assert!(rt; !second.is_full());
-    assert!(rt; second.push(SatRow::blank(alloc, *b"J02", 2)?).is_ok());
-    let mut lines = Printed::new(first);
-    assert_eq!(rt; lines.next_line(), Some(HEAD));
-    let before = lines.begin(second);
-    assert_eq!(rt; lines.next_line(), Some(HEAD));
-    assert_eq!(rt; lines.next_line(), Some(b"J02".as_slice()));
-    assert_eq!(rt; lines.next_line(), None);
+    let mut lines = Printed::new(epoch_of(&rt, rt.alloc(), *b"J01")?);
+    expect_lines(&rt, &mut lines, &[HEAD]);
+    let before = lines.begin(epoch_of(&rt, rt.alloc(), *b"J02")?);
+    expect_lines(&rt, &mut lines, &[HEAD, b"J02"]);
+    assert!(rt; lines.next_line().is_none());
     assert_eq!(rt; before.head().count(), 1);
     assert_eq!(rt; lines.into_epoch().head().count(), 1);
     Ok(())
@@ -301,50 +402,34 @@ fn rows_made_and_printed(rt: HostRuntime) -> Result<(), Fail> {
     let mut row = SatRow::blank(rt.alloc(), *b"E 5", 2)?;
     let mut text = Text::new();
     row.print(&mut text);
-    assert_eq!(rt; text.bytes(), b"E 5".as_slice());
-    assert_eq!(rt; row.flags(), b"    ".as_slice());
+    assert!(rt; text.bytes() == b"E 5".as_slice());
+    assert!(rt; row.flags() == b"    ".as_slice());
     assert!(rt; row.value(1).is_some());
     row.set(1, Some(-20));
     row.set_flags(b" 7");
     row.print(&mut text);
-    assert_eq!(rt;
-        text.bytes(),
-        b"E 5               7        -0.020".as_slice()
-    );
+    assert!(rt; text.bytes() == b"E 5               7        -0.020".as_slice());
     Ok(())
+}
+
+/// An epoch of two satellites with a clock offset, and no rows yet.
+fn epoch_with_clock(alloc: Global) -> Result<Epoch, Fault> {
+    let mut columns = [b' '; 41];
+    columns[..35].copy_from_slice(TWO_SATELLITES);
+    Ok(Epoch::new(alloc, EpochLine::new(columns, Some(3))?))
 }
 
 #[test]
 fn epochs_of_rows(rt: HostRuntime) -> Result<(), Fail> {
-    let alloc = rt.alloc();
-    let mut columns = [b' '; 41];
-    columns[..35].copy_from_slice(TWO_SATELLITES);
-    let mut epoch = Epoch::new(alloc, EpochLine::new(columns, Some(3))?);
-    assert!(rt; !epoch.is_full());
-    let first = SatRow::blank(alloc, *b"G01", 1)?;
-    assert!(rt; epoch.push(first).is_ok());
-    let again = SatRow::blank(alloc, *b"G01", 2)?;
-    assert!(rt; !epoch.is_full());
-    match epoch.push(again) {
-        Ok(()) => assert!(rt; false, "pushed twice"),
-        Err((row, fault)) => {
-            assert_eq!(rt; row.flags().len(), 4);
-            assert_eq!(rt; fault, Fault::RepeatedSatellite);
-        }
-    }
-    let second = SatRow::blank(alloc, *b"G 1", 1)?;
-    assert!(rt; !epoch.is_full());
-    assert!(rt; epoch.push(second).is_ok());
-    assert!(rt; epoch.is_full());
+    let mut epoch = epoch_with_clock(rt.alloc())?;
+    assert!(rt; pushed(&rt, rt.alloc(), &mut epoch, *b"G01") == Ok(()));
+    assert!(rt; pushed(&rt, rt.alloc(), &mut epoch, *b"G01") == Err(Fault::RepeatedSatellite));
+    assert!(rt; pushed(&rt, rt.alloc(), &mut epoch, *b"G 1") == Ok(()));
+    assert!(rt; epoch.is_full() && epoch.row(2).is_none());
     assert_eq!(rt; epoch.head().count(), 2);
-    assert!(rt; epoch.row(2).is_none());
     let mut lines = Printed::new(epoch);
-    assert_eq!(rt;
-        lines.next_line(),
-        Some(b"> 2024 01 01 00 00  0.0000000  0  2       0.000000000003".as_slice())
-    );
-    assert_eq!(rt; lines.next_line(), Some(b"G01".as_slice()));
-    assert_eq!(rt; lines.next_line(), Some(b"G 1".as_slice()));
-    assert_eq!(rt; lines.next_line(), None);
+    let first: &[u8] = b"> 2024 01 01 00 00  0.0000000  0  2       0.000000000003";
+    expect_lines(&rt, &mut lines, &[first, b"G01", b"G 1"]);
+    assert!(rt; lines.next_line().is_none());
     Ok(())
 }

@@ -4,8 +4,8 @@ ghost use Rattle.std.specs.Prelude.{◌≡◌, ◌≤◌, ◌⊎◌, ℕ, List, 
 ghost use Rattle.crx_rinex.specs.ObservationTypes.{count_of, count_in, count_of_types_line, is_bad_types_line, is_system, is_types_line, types_of, with_line, IsAllowedCount, IsCount};
 
 use crate::columns::{character, is_labelled, number};
+use crx_lines::limits::TYPES_LIMIT;
 use crx_text::Fault;
-use crx_text::limits::TYPES_LIMIT;
 use indexmap::IndexMap;
 use std::alloc::Global;
 use std::marker::Model;

@@ -1,5 +1,6 @@
-use Rattle.std.proofs.Common.{◌≡◌, refl, ◌≤◌, ◌<◌, ◌+◌, ◌++◌, ◌∷◌, [], ℕ, Bool, true, false, List, length, take, ap, sym, ◌∙◌, arith, if◌then◌else◌}
-use Rattle.std.proofs.lemmas.List.{length-set, take-append-le, take_more_set}
+use Rattle.std.proofs.Common.{◌≡◌, refl, ◌≤◌, ◌<◌, ◌++◌, ◌∷◌, [], ℕ, Bool, true, false, List, length, take, ap, ◌∙◌, arith, if◌then◌else◌}
+use Rattle.std.proofs.lemmas.List.{length-set, take-append-le}
+use Rattle.std.specs.Prelude.{slice_set}
 use Rattle.crx_rinex.specs.Observations.{Row}
 use Rattle.crx_rinex.proofs.epoch.put_row.Goals as goal
 
@@ -9,10 +10,9 @@ first-ones true n xs x h = take-append-le n xs (x ∷ []) h
 first-ones false n xs x h = refl
 
 pub returns-clause-rows : goal.returns-clause-rows
-returns-clause-rows c =
+returns-clause-rows c m fits =
     let rows = c.args.rows.now.items in
     let within : c.args.count < length rows = c.requires in
-    ap (take (c.args.count + 1)) c.push.ensures.items
-    ∙ first-ones _ (c.args.count + 1) _ _ (omega (arith, within, length-set rows c.args.count c.replace-spare.new.dest))
-    ∙ take_more_set rows c.args.count c.replace-spare.new.dest within
-    ∙ ap {B = List Row} (λ (row : Row). take c.args.count rows ++ row ∷ []) c.replace-spare.ensures.after
+    ap (take m) c.push.ensures.items
+    ∙ first-ones _ m _ _ (omega (arith, fits, length-set rows c.args.count c.replace-spare.new.dest))
+    ∙ ap {B = List Row} (λ (row : Row). take m (slice_set rows c.args.count row)) c.replace-spare.ensures.after

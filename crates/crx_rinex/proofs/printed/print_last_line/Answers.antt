@@ -1,4 +1,4 @@
-use Rattle.std.proofs.Common.{map, ap, sym, ◌∙◌}
+use Rattle.std.proofs.Common.{ap, sym, ◌∙◌}
 use Rattle.crx_rinex.specs.Printing.{printed_head}
 use Rattle.crx_rinex.proofs.LastLines.{last-of_rows, no-rows}
 use Rattle.crx_rinex.proofs.printed.print_last_line.Goals as goal
