@@ -10,12 +10,12 @@ use Rattle.std.proofs.lemmas.List.{length-map, length-append, length-take, lengt
 use Rattle.crx_text.specs.Columns.{is_blank, character_at, before_end_blanks, without_end_blanks, columns}
 use Rattle.crx_text.specs.Codes.{code_of, start_of, step_of, coded_number, is_order}
 use Rattle.crx_text.specs.Texts.{patched, by_position, character_of}
-use Rattle.crx_text.specs.Seen.{ReadLine, Content, Overlong}
+use Rattle.crx_lines.specs.Seen.{ReadLine, Content, Overlong}
 use Rattle.crx_text.specs.declared.code.Code.{Code}
 use Rattle.crx_text.specs.declared.code.Code.TheVariants.{Missing, Start, Step}
-use Rattle.crx_text.specs.declared.fault.Fault.{Fault}
-use Rattle.crx_text.specs.declared.fault.Fault.TheVariants.{BadClock, BadField, BadFlags, Truncated}
-use Rattle.crx_text.specs.declared.limits.TheConstants.{ORDER_LIMIT, TYPES_LIMIT, SATELLITES_LIMIT}
+use Rattle.crx_lines.specs.declared.fault.Fault.{Fault}
+use Rattle.crx_lines.specs.declared.fault.Fault.TheVariants.{BadClock, BadField, BadFlags, Truncated}
+use Rattle.crx_lines.specs.declared.limits.TheConstants.{NAME_WIDTH, ORDER_LIMIT, TYPES_LIMIT, SATELLITES_LIMIT}
 use Rattle.crx_rinex.specs.Places.{Place, Here, Wrong, Wanted}
 use Rattle.crx_rinex.specs.SatelliteLines.{types_of_satellite}
 use Rattle.crx_rinex.specs.ObservationTypes.{Count, AreCounts, IsAllowedCount}
@@ -27,9 +27,9 @@ use Rattle.crx_compact.specs.EpochText.{begins_epoch, Satellite}
 use Rattle.crx_compact.specs.Expansion.{code_in}
 use Rattle.crx_compact.specs.Past.{Past}
 use Rattle.crx_compact.specs.CompactPlaces.{ReadCell, ReadRow, cell_read, cells_read, cells_of, after_cells, are_marks, clock_line_read, row_of_cells, row_with_marks, row_of_line, satellite_line_read, satellites_of_line}
-use Rattle.crx_compact.specs.Tails.{ArcTail, RowTail, Tail, IsBoundedArc, IsBoundedRow, IsBoundedTail}
+use Rattle.crx_compact.specs.Tails.{ArcTail, RowTail, Tail, IsBoundedArc, IsBoundedRowTail, IsBoundedTail}
 use Rattle.crx_compact.specs.Steps.{no_tail, onto_sum, differences_by, tail_named, cell_of_tail, flags_of_tail, arc_of_code}
-use Rattle.crx_compact.specs.OpenEpochs.{past_of_tail, tail_for_line, HeldClock, HeldRow, HeldEpoch, OpenRawEpoch, RawStep, Going, Whole, Faulty, opened, opening, first_step, gone_on, held_clock, held_row, with_clock, with_row, line_step, next_step, place_of_steps, open_after, IsBoundedHeld, IsBoundedOpen, IsBoundedStep}
+use Rattle.crx_compact.specs.OpenEpochs.{past_of_tail, tail_for_line, HeldClock, HeldRow, HeldEpoch, OpenRawEpoch, RawStep, Going, Whole, Faulty, opened, opening, first_step, gone_on, held_clock, held_row, with_clock, with_row, line_step, next_step, place_of_steps, open_after, IsBoundedAwaited, IsBoundedHeld, IsBoundedOpen, IsBoundedStep}
 use Rattle.crx_compact.specs.ReadingLaws.{ReadAreBounded}
 use Rattle.crx_compact.proofs.Overlays.{same_characters, length-each_place}
 use Rattle.crx_compact.proofs.SoundTexts.{length-held}
@@ -87,6 +87,8 @@ cells-ordered value (text ∷ texts) cells e =
 
 -- what is known of a satellite's line that was read
 record RowParts (satellite : Satellite) (read : ReadRow) : Type 0 where
+  row_name : read.row.name ≡ satellite.name
+  raw_name : read.raw.name ≡ satellite.name
   codes : length read.raw.codes ≡ satellite.count
   ordered : AllByRecursion HasOrder read.raw.codes
   marks : are_marks satellite.count read.raw.marks ≡ true
@@ -108,6 +110,8 @@ row-parts past satellite line read e =
     let many : length step.from ≡ satellite.count = cells-count (past.value satellite.name) texts step.from step.first ∙ texts-count satellite.count line in
     let P : ReadRow → Type 0 = λ r. RowParts satellite r in
     subst P made (record {
+      row_name = refl;
+      raw_name = refl;
       codes = length-map step.from (λ (c : ReadCell). c.code) ∙ many;
       ordered = cells-ordered (past.value satellite.name) texts step.from step.first;
       marks = if-true (are_marks satellite.count marks) BadFlags (Ok (row_of_cells past satellite.name marks step.from)) read step.next;
@@ -165,14 +169,14 @@ cell-bounded [] place h = tt
 cell-bounded (c ∷ cs) zero h = h.0
 cell-bounded (c ∷ cs) (suc place) h = cell-bounded cs place h.1
 
-arc-kept : (place : ℕ) (row : Option RowTail) → IfSome row (IsBoundedRow ORDER_LIMIT) → IfSome (cell_of_tail place row) (IsBoundedArc ORDER_LIMIT)
+arc-kept : (place : ℕ) (row : Option RowTail) → IfSome row (IsBoundedRowTail ORDER_LIMIT) → IfSome (cell_of_tail place row) (IsBoundedArc ORDER_LIMIT)
 arc-kept place None h = tt
 arc-kept place (Some row) h = cell-bounded row.cells place h.cells
 
-named-bounded : (name : List ℕ) (rows : List RowTail) → AllByRecursion (IsBoundedRow ORDER_LIMIT) rows → IfSome (named (λ (r : RowTail). r.name) name rows) (IsBoundedRow ORDER_LIMIT)
+named-bounded : (name : List ℕ) (rows : List RowTail) → AllByRecursion (IsBoundedRowTail ORDER_LIMIT) rows → IfSome (named (λ (r : RowTail). r.name) name rows) (IsBoundedRowTail ORDER_LIMIT)
 named-bounded name [] h = tt
 named-bounded name (row ∷ rows) h =
-    chosen (λ o. IfSome o (IsBoundedRow ORDER_LIMIT)) (bytes_eq row.name name) (Some row) (named (λ (r : RowTail). r.name) name rows) h.0 (named-bounded name rows h.1)
+    chosen (λ o. IfSome o (IsBoundedRowTail ORDER_LIMIT)) (bytes_eq row.name name) (Some row) (named (λ (r : RowTail). r.name) name rows) h.0 (named-bounded name rows h.1)
 
 code-kept : (codes : List Code) (place : ℕ) → AllByRecursion HasOrder codes → HasOrder (slice_index_or codes place Missing)
 code-kept [] place h = tt
@@ -181,19 +185,22 @@ code-kept (c ∷ cs) (suc place) h = code-kept cs place h.1
 
 -- ---- rows
 
-row-read : (before : Tail) (satellite : Satellite) (read : ReadRow) → IsBoundedTail ORDER_LIMIT before → satellite.count ≤ TYPES_LIMIT → RowParts satellite read → IsBoundedHeld (held_row before read)
-row-read before satellite read h few parts =
+row-read : (before : Tail) (satellite : Satellite) (read : ReadRow) → IsBoundedTail ORDER_LIMIT before → IsBoundedAwaited satellite → RowParts satellite read → IsBoundedHeld (held_row before read)
+row-read before satellite read h waits parts =
     let kept : Option RowTail = tail_named read.raw.name before in
-    let bounded : IfSome kept (IsBoundedRow ORDER_LIMIT) = named-bounded read.raw.name before.rows h.rows in
+    let bounded : IfSome kept (IsBoundedRowTail ORDER_LIMIT) = named-bounded read.raw.name before.rows h.rows in
+    let few : satellite.count ≤ TYPES_LIMIT = waits.count in
     let codes = parts.codes in
     let values = parts.values in
     let flags = parts.flags in
     let cells : length (each_place (length read.raw.codes) (λ place. arc_of_code (code_in place read.raw) (cell_of_tail place kept))) ≡ length read.raw.codes =
     length-each_place (length read.raw.codes) (λ place. arc_of_code (code_in place read.raw) (cell_of_tail place kept)) in
     record {
+      name = ap (λ (n : List ℕ). length n) parts.row_name ∙ waits.name;
       values = omega (arith, values, few);
       flags = omega (arith, flags, few);
       tail = record {
+        name = ap (λ (n : List ℕ). length n) parts.raw_name ∙ waits.name;
         flags = omega (arith, few, codes, length-held (length read.raw.codes) (patched (flags_of_tail kept) read.raw.marks));
         few = omega (arith, cells, codes, few);
         cells = each_place-all (λ (c : Option ArcTail). IfSome c (IsBoundedArc ORDER_LIMIT)) (length read.raw.codes) (λ place. arc_of_code (code_in place read.raw) (cell_of_tail place kept))
@@ -205,14 +212,14 @@ all-append : {X : Type 0} (P : X → Type 0) (xs ys : List X) → AllByRecursion
 all-append P [] ys h k = k
 all-append P (x ∷ xs) ys h k = (h.0, all-append P xs ys h.1 k)
 
-tails-bounded : (rows : List HeldRow) → AllByRecursion IsBoundedHeld rows → AllByRecursion (IsBoundedRow ORDER_LIMIT) (map (λ (r : HeldRow). r.tail) rows)
+tails-bounded : (rows : List HeldRow) → AllByRecursion IsBoundedHeld rows → AllByRecursion (IsBoundedRowTail ORDER_LIMIT) (map (λ (r : HeldRow). r.tail) rows)
 tails-bounded [] h = tt
 tails-bounded (row ∷ rows) h = (IsBoundedHeld.tail h.0, tails-bounded rows h.1)
 
 -- ---- steps
 
 went-on : (begun : OpenRawEpoch) (clock : HeldClock) (rows : List HeldRow) (awaited : List Satellite) → IsBoundedOpen begun → IfSome clock.arc (IsBoundedArc ORDER_LIMIT) → length rows + length awaited ≤ SATELLITES_LIMIT
-    → AllByRecursion IsBoundedHeld rows → AllByRecursion (λ (satellite : Satellite). satellite.count ≤ TYPES_LIMIT) awaited → IsBoundedStep (gone_on begun clock rows awaited)
+    → AllByRecursion IsBoundedHeld rows → AllByRecursion IsBoundedAwaited awaited → IsBoundedStep (gone_on begun clock rows awaited)
 went-on begun clock rows [] h arc few held waits =
     let same : length (map (λ (r : HeldRow). r.tail) rows) ≡ length rows = length-map rows (λ (r : HeldRow). r.tail) in
     record { text = h.text; clock = arc; few = omega (arith, same, few); rows = tails-bounded rows held }
@@ -229,7 +236,7 @@ clock-came begun line (Ok cell) e h =
     h.few h.rows h.awaited
 
 row-came : (begun : OpenRawEpoch) (clock : HeldClock) (satellite : Satellite) (awaited : List Satellite) (line : List ℕ) (r : Result ReadRow Fault) → satellite_line_read (past_of_tail begun.before) satellite line ≡ r → IsBoundedOpen begun
-    → IfSome clock.arc (IsBoundedArc ORDER_LIMIT) → length begun.rows + suc (length awaited) ≤ SATELLITES_LIMIT → AllByRecursion (λ (s : Satellite). s.count ≤ TYPES_LIMIT) (satellite ∷ awaited) → IsBoundedStep (with_row begun clock awaited r)
+    → IfSome clock.arc (IsBoundedArc ORDER_LIMIT) → length begun.rows + suc (length awaited) ≤ SATELLITES_LIMIT → AllByRecursion IsBoundedAwaited (satellite ∷ awaited) → IsBoundedStep (with_row begun clock awaited r)
 row-came begun clock satellite awaited line (Err fault) e h arc few waits = tt
 row-came begun clock satellite awaited line (Ok read) e h arc few waits =
     let more : length (begun.rows ++ held_row begun.before read ∷ []) ≡ length begun.rows + 1 = length-append begun.rows (held_row begun.before read ∷ []) in
@@ -238,7 +245,7 @@ row-came begun clock satellite awaited line (Ok read) e h arc few waits =
     waits.1
 
 line-came : (begun : OpenRawEpoch) (clock : Option HeldClock) (awaited : List Satellite) (line : List ℕ) → IsBoundedOpen begun → IfSome clock (λ (c : HeldClock). IfSome c.arc (IsBoundedArc ORDER_LIMIT))
-    → length begun.rows + length awaited ≤ SATELLITES_LIMIT → AllByRecursion (λ (s : Satellite). s.count ≤ TYPES_LIMIT) awaited → IsBoundedStep (line_step begun clock awaited line)
+    → length begun.rows + length awaited ≤ SATELLITES_LIMIT → AllByRecursion IsBoundedAwaited awaited → IsBoundedStep (line_step begun clock awaited line)
 line-came begun None awaited line h arc few waits = clock-came begun line (clock_line_read (past_of_tail begun.before) line) refl h
 line-came begun (Some clock) [] line h arc few waits = went-on begun clock begun.rows [] h arc few h.rows tt
 line-came begun (Some clock) (satellite ∷ awaited) line h arc few waits =
@@ -256,13 +263,14 @@ no-tail = record { text = omega arith; clock = tt; few = omega arith; rows = tt 
 for-line : (tail : Option Tail) (line : List ℕ) → IfSome tail (IsBoundedTail ORDER_LIMIT) → IfSome (tail_for_line tail line) (IsBoundedTail ORDER_LIMIT)
 for-line tail line h = chosen (λ o. IfSome o (IsBoundedTail ORDER_LIMIT)) (begins_epoch line) (Some no_tail) tail no-tail h
 
-counts-few : (types : List Count) (satellites : List Satellite) → AreCounts types → AllByRecursion (λ (s : Satellite). types_of_satellite types s.name ≡ Some s.count) satellites → AllByRecursion (λ (s : Satellite). s.count ≤ TYPES_LIMIT) satellites
-counts-few types [] counts h = tt
-counts-few types (s ∷ ss) counts h =
+awaited-bounded : (types : List Count) (satellites : List Satellite) → AreCounts types → AllByRecursion (λ (s : Satellite). types_of_satellite types s.name ≡ Some s.count) satellites
+    → AllByRecursion (λ (name : List ℕ). length name ≡ NAME_WIDTH) (names_of satellites) → AllByRecursion IsBoundedAwaited satellites
+awaited-bounded types [] counts h k = tt
+awaited-bounded types (s ∷ ss) counts h k =
     let typed = typed-parts types s.name s.count h.0 in
     let P : Option ℕ → Type 0 = λ o. IfSome o IsAllowedCount in
     let allowed : IsAllowedCount s.count = subst P typed.found (allowed_of types (character_at s.name 1) counts) in
-    (allowed.1, counts-few types ss counts h.1)
+    (record { name = k.0; count = allowed.1 }, awaited-bounded types ss counts h.1 k.1)
 
 opened-bounded : (types : List Count) (before : Tail) (line : List ℕ) (r : Result (List Satellite) Fault) → AreCounts types → IsBoundedTail ORDER_LIMIT before → satellites_of_line types (past_of_tail before) line ≡ r
     → IsBoundedStep (opening (and_then r (λ satellites. Ok (record { before = before; text = patched before.text line; clock = None; rows = []; awaited = satellites }))))
@@ -282,7 +290,8 @@ opened-bounded types before line (Ok satellites) counts h e =
       clock = tt;
       few = omega (arith, same, many, within);
       rows = tt;
-      awaited = counts-few types satellites counts facts.named.known;
+      awaited = awaited-bounded types satellites counts facts.named.known (subst (λ (ns : List (List ℕ)). AllByRecursion (λ (name : List ℕ). length name ≡ NAME_WIDTH) ns) (sym facts.named.same)
+          (each_place-all (λ (name : List ℕ). length name ≡ NAME_WIDTH) facts.count (λ k. columns text (42 + 3 * k) 3) (λ k. length-columns text (42 + 3 * k) 3)));
     }
 
 begun-bounded : (types : List Count) (tail : Option Tail) (line : List ℕ) → AreCounts types → IfSome tail (IsBoundedTail ORDER_LIMIT) → IsBoundedStep (opening (opened types line tail))

@@ -4,13 +4,13 @@ use Rattle.std.specs.List.{AllByRecursion}
 use Rattle.std.proofs.Common.{arith}
 use Rattle.std.proofs.lemmas.List.{length-map}
 use Rattle.crx_text.specs.Columns.{without_end_blanks}
-use Rattle.crx_text.specs.declared.limits.TheConstants.{WRITTEN_ORDER, SATELLITES_LIMIT}
+use Rattle.crx_lines.specs.declared.limits.TheConstants.{WRITTEN_ORDER, SATELLITES_LIMIT}
 use Rattle.crx_rinex.specs.Observations.{Row}
 use Rattle.crx_rinex.specs.ObservationTypes.{Count}
 use Rattle.crx_compact.specs.Sequences.{each_place}
 use Rattle.crx_compact.specs.Differences.{difference}
 use Rattle.crx_compact.specs.Compaction.{Marked, epoch_text, since_full, run_of, arc_of, clock_arc}
-use Rattle.crx_compact.specs.Tails.{ArcTail, differences_of, arc_tail, row_tail, IsBoundedArc, IsBoundedRow}
+use Rattle.crx_compact.specs.Tails.{ArcTail, differences_of, arc_tail, row_tail, IsBoundedArc, IsBoundedRowTail}
 use Rattle.crx_compact.specs.Laws.{WrittenAreBounded}
 use Rattle.crx_compact.proofs.Written.{IsRow, IsEpoch}
 use Rattle.crx_compact.proofs.Facts.{length-trimmed}
@@ -26,18 +26,19 @@ arc-bounded order (a ∷ older) =
     length-each_place (suc (min (length (a ∷ older) - 1) order)) (λ i. difference i (a ∷ older)) in
     record { order = omega arith; few = omega (arith, many) }
 
-row-bounded : (types : List Count) (run : List Row) (r : Row) → IsRow types r → IsBoundedRow WRITTEN_ORDER (row_tail run r)
+row-bounded : (types : List Count) (run : List Row) (r : Row) → IsRow types r → IsBoundedRowTail WRITTEN_ORDER (row_tail run r)
 row-bounded types run r h =
     let trimmed : length (without_end_blanks r.flags) ≤ length r.flags = length-trimmed r.flags in
     let many : length (each_place (length r.values) (λ j. arc_tail WRITTEN_ORDER (arc_of j run))) ≡ length r.values = length-each_place (length r.values) (λ j. arc_tail WRITTEN_ORDER (arc_of j run)) in
     record {
+      name = h.name_length;
       flags = omega (arith, trimmed, h.flags_length, h.few_values);
       few = omega (arith, many, h.few_values);
       cells = each_place-all (λ (c : Option ArcTail). IfSome c (IsBoundedArc WRITTEN_ORDER)) (length r.values) (λ j. arc_tail WRITTEN_ORDER (arc_of j run)) (λ j. arc-bounded WRITTEN_ORDER (arc_of j run));
     }
 
 rows-bounded : (types : List Count) (ms : List Marked) (rows : List Row) → AllByRecursion (IsRow types) rows
-    → AllByRecursion (IsBoundedRow WRITTEN_ORDER) (map (λ (r : Row). row_tail (run_of r.name ms) r) rows)
+    → AllByRecursion (IsBoundedRowTail WRITTEN_ORDER) (map (λ (r : Row). row_tail (run_of r.name ms) r) rows)
 rows-bounded types ms [] h = tt
 rows-bounded types ms (r ∷ rs) h = (row-bounded types (run_of r.name ms) r h.0, rows-bounded types ms rs h.1)
 

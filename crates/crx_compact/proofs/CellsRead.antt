@@ -1,17 +1,17 @@
 -- The cells of a line, read from left to right.
-use Rattle.std.specs.Prelude.{◌≡◌, ◌≤◌, ◌<◌, refl, ℕ, suc, ◌+◌, ◌-◌, ℤ, List, [], ◌∷◌, ◌++◌, length, map, drop, replicate, slice_index_or, slice_set, Option, Some, None, Result, Ok, Err}
+use Rattle.std.specs.Prelude.{◌≡◌, ◌≤◌, ◌<◌, refl, ℕ, suc, ◌+◌, ◌-◌, ℤ, List, [], ◌∷◌, ◌++◌, length, map, take, drop, replicate, slice_index_or, slice_set, Option, Some, None, Result, Ok, Err}
 use Rattle.std.proofs.Common.{sym, ◌∙◌, ap, arith, length-append}
-use Rattle.std.proofs.lemmas.List.{append-nil}
+use Rattle.std.proofs.lemmas.List.{append-nil, drop-drop, length-drop, length-set, take_more_set}
 use Rattle.crx_text.specs.Codes.{code_of, first_cell, after_cell}
 use Rattle.crx_text.specs.declared.code.Code.{Code}
-use Rattle.crx_text.specs.declared.fault.Fault.{Fault}
-use Rattle.crx_text.specs.declared.fault.Fault.TheVariants.{BadField}
+use Rattle.crx_lines.specs.declared.fault.Fault.{Fault}
+use Rattle.crx_lines.specs.declared.fault.Fault.TheVariants.{BadField}
 use Rattle.crx_rinex.specs.Observations.{Row}
 use Rattle.crx_compact.specs.Sequences.{and_then, before_all}
 use Rattle.crx_compact.specs.CompactPlaces.{ReadCell, cell_read, cells_read, cells_of, after_cells}
 use Rattle.crx_compact.specs.Tails.{ArcTail}
 use Rattle.crx_compact.specs.Steps.{arc_of_code}
-use Rattle.crx_compact.specs.Cells.{value_at_place, arcs_of_codes, AreRead}
+use Rattle.crx_compact.specs.Cells.{value_at_place, arcs_of_codes, AreRead, IsCellRead}
 
 -- some cells before those of a good result
 abbrev pub onto : List ReadCell → Result (List ReadCell) Fault → Result (List ReadCell) Fault
@@ -100,17 +100,14 @@ at-next before count line k at arcs old new s h code e =
     (cells-same (λ p. value_at_place before (k + suc p)) (λ p. value_at_place before (k + 1 + p)) (λ p c. ap (λ m. value_at_place before m c) (omega arith)) rest)
     ∙ ap (λ (o : Option Code). onto s.cells (and_then (cell_read BadField (value_at_place before k) o) (λ cell. before_all cell (cells_read (λ p. value_at_place before (k + 1 + p)) rest)))) e
 
-pub read-misspelt : (before : List (Option ArcTail)) (count : ℕ) (line : List ℕ) (k at : ℕ) (arcs : List (Option ArcTail)) (old new : Row) → ReadSoFar before count line k at arcs old new
-    → k < count → code_of (first_cell (drop at line)) ≡ None → cells_read (value_at_place before) (cells_of count line) ≡ Err BadField
-read-misspelt before count line k at arcs old new s h e = at-next before count line k at arcs old new s h None e ∙ onto-err s.cells BadField
-
-pub read-fault : (before : List (Option ArcTail)) (count : ℕ) (line : List ℕ) (k at : ℕ) (arcs : List (Option ArcTail)) (old new : Row) (code : Code) (fault : Fault)
-    → ReadSoFar before count line k at arcs old new → k < count → code_of (first_cell (drop at line)) ≡ Some code → value_at_place before k code ≡ Err fault
+-- a fault of the next cell is that of them all
+pub read-refused : (before : List (Option ArcTail)) (count : ℕ) (line : List ℕ) (k at : ℕ) (arcs : List (Option ArcTail)) (old new : Row) (fault : Fault)
+    → ReadSoFar before count line k at arcs old new → k < count → cell_read BadField (value_at_place before k) (code_of (first_cell (drop at line))) ≡ Err fault
     → cells_read (value_at_place before) (cells_of count line) ≡ Err fault
-read-fault before count line k at arcs old new code fault s h e v =
+read-refused before count line k at arcs old new fault s h e =
     let rest : Result (List ReadCell) Fault = cells_read (λ p. value_at_place before (k + 1 + p)) (cells_of (count - (k + 1)) (after_cell (drop at line))) in
-    at-next before count line k at arcs old new s h (Some code) e
-    ∙ ap (λ (r : Result (Option ℤ) Fault). onto s.cells (and_then (and_then r (λ value. Ok (record { code = code; value = value }))) (λ cell. before_all cell rest))) v
+    at-next before count line k at arcs old new s h (code_of (first_cell (drop at line))) refl
+    ∙ ap (λ (r : Result ReadCell Fault). onto s.cells (and_then r (λ cell. before_all cell rest))) e
     ∙ onto-err s.cells fault
 
 pub read-more : (before : List (Option ArcTail)) (count : ℕ) (line : List ℕ) (k at at' : ℕ) (arcs arcs' : List (Option ArcTail)) (old new new' : Row) (code : Code) (value : Option ℤ) (arc : Option ArcTail)
@@ -145,6 +142,26 @@ read-more before count line k at at' arcs arcs' old new new' code value arc s h 
           ∙ ap {B = Row} (λ vs. record old { values = vs }) (set-next (values_in s.cells) (replicate n None) None value)
           ∙ ap {B = Row} (λ vs. record old { values = vs ++ replicate n None }) (sym (map-more (λ (q : ReadCell). q.value) s.cells c));
     }
+
+-- the next cell, with its arc in its place among others
+pub read-cell : (before : List (Option ArcTail)) (count : ℕ) (line : List ℕ) (k at at' : ℕ) (arcs arcs' made : List (Option ArcTail)) (old new new' : Row) (value : Option ℤ) (taken : ℕ)
+    → ReadSoFar before count line k at (take k arcs) old new → k < count → length arcs ≡ count
+    → IsCellRead before k (drop at line) arcs made value taken
+    → arcs' ≡ made → at' ≡ at + taken → new' ≡ record new { values = slice_set new.values k value }
+    → ReadSoFar before count line (k + 1) at' (take (k + 1) arcs') old new' × (length arcs' ≡ count)
+read-cell before count line k at at' arcs arcs' made old new new' value taken s h counted read made_is at_is r =
+    let arc : Option ArcTail = arc_of_code read.code (slice_index_or before k None) in
+    let within : taken ≤ length (drop at line) = read.within in
+    let here : at ≤ length line = s.within in
+    let left : arcs' ≡ slice_set arcs k arc = made_is ∙ read.left in (
+      read-more before count line k at at' (take k arcs) (take (k + 1) arcs') old new new' read.code value arc s h read.spelt read.given
+          (sym read.after ∙ drop-drop taken at line ∙ ap (λ n. drop n line) (sym at_is))
+          (omega (arith, within, here, at_is, length-drop at line))
+          refl
+          (ap (take (k + 1)) left ∙ take_more_set arcs k arc (omega (arith, counted, h)))
+          r,
+      ap length left ∙ length-set arcs k arc ∙ counted,
+    )
 
 pub read-none : (before : List (Option ArcTail)) (count : ℕ) (line : List ℕ) (row : Row) → row.values ≡ replicate count None → ReadSoFar before count line 0 0 [] row row
 read-none before count line row e =

@@ -14,7 +14,7 @@ use Rattle.crx_text.specs.Numbers.{without_minus, signed_number}
 use Rattle.crx_text.specs.Codes.{code_text, code_of, coded_number, step_of, start_of, is_order, is_count_of_digits, IsShort, IsPrintable}
 use Rattle.crx_text.specs.declared.code.Code.{Code}
 use Rattle.crx_text.specs.declared.code.Code.TheVariants.{Missing, Start, Step}
-use Rattle.crx_text.specs.declared.limits.TheConstants.{ORDER_LIMIT, DIGITS_LIMIT}
+use Rattle.crx_lines.specs.declared.limits.TheConstants.{ORDER_LIMIT, DIGITS_LIMIT}
 
 -- ---- characters of codes: digits, a minus and &
 

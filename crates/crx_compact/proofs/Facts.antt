@@ -7,8 +7,8 @@ use Rattle.std.proofs.lemmas.List.{length-append}
 use Rattle.crx_text.specs.Columns.{character_at, before_end_blanks, without_end_blanks, columns}
 use Rattle.crx_text.specs.Texts.{text_difference, mark_of, by_position, is_kept}
 use Rattle.crx_rinex.specs.Observations.{Row, Epoch}
-use Rattle.crx_text.specs.declared.fault.Fault.{Fault}
-use Rattle.crx_text.specs.declared.fault.Fault.TheVariants.{RepeatedSatellite}
+use Rattle.crx_lines.specs.declared.fault.Fault.{Fault}
+use Rattle.crx_lines.specs.declared.fault.Fault.TheVariants.{RepeatedSatellite}
 use Rattle.crx_compact.specs.Sequences.{each_place, before_all}
 use Rattle.crx_compact.specs.EpochText.{begins_epoch, is_observation_flag, is_printable, satellites_in, Satellite, satellite_before, satellites_named}
 use Rattle.crx_rinex.specs.ObservationTypes.{Count}

@@ -2,7 +2,7 @@
 use Rattle.std.specs.Prelude.{◌≡◌, List, [], ◌∷◌, map, drop}
 use Rattle.std.specs.List.{AllByRecursion}
 use Rattle.std.proofs.Common.{ap, subst}
-use Rattle.crx_text.specs.Seen.{ReadLine}
+use Rattle.crx_lines.specs.Seen.{ReadLine}
 use Rattle.crx_rinex.specs.ObservationTypes.{Count}
 use Rattle.crx_rinex.specs.Places.{Place, Here, then_place}
 use Rattle.crx_compact.specs.Expansion.{RawEpoch}

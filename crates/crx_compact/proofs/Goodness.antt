@@ -16,9 +16,9 @@ use Rattle.crx_rinex.proofs.Counts.{allowed_of, system_of}
 use Rattle.crx_rinex.proofs.Rows.{satellites_few}
 use Rattle.crx_text.specs.declared.code.Code.{Code}
 use Rattle.crx_text.specs.declared.code.Code.TheVariants.{Missing, Start, Step}
-use Rattle.crx_text.specs.declared.fault.Fault.{Fault}
-use Rattle.crx_text.specs.declared.fault.Fault.TheVariants.{BadField, NoArc, OutOfRange}
-use Rattle.crx_text.specs.declared.limits.TheConstants.{OBSERVATION_WIDTH, CLOCK_WIDTH}
+use Rattle.crx_lines.specs.declared.fault.Fault.{Fault}
+use Rattle.crx_lines.specs.declared.fault.Fault.TheVariants.{BadField, NoArc, OutOfRange}
+use Rattle.crx_lines.specs.declared.limits.TheConstants.{OBSERVATION_WIDTH, CLOCK_WIDTH}
 use Rattle.crx_text.specs.Texts.{is_kept}
 use Rattle.crx_compact.specs.Sequences.{stretch, each_place, before_all}
 use Rattle.crx_compact.specs.Differences.{value_at}

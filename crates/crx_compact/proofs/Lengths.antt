@@ -13,7 +13,7 @@ use Rattle.crx_text.specs.Texts.{by_position, mark_of, text_difference}
 use Rattle.crx_text.specs.Codes.{code_text}
 use Rattle.crx_rinex.specs.Observations.{Row, Epoch}
 use Rattle.crx_text.specs.declared.code.Code.{Code}
-use Rattle.crx_text.specs.declared.limits.TheConstants.{WRITTEN_ORDER, DIGITS_LIMIT, TYPES_LIMIT, SATELLITES_LIMIT, OBSERVATION_WIDTH, CLOCK_WIDTH}
+use Rattle.crx_lines.specs.declared.limits.TheConstants.{WRITTEN_ORDER, DIGITS_LIMIT, TYPES_LIMIT, SATELLITES_LIMIT, OBSERVATION_WIDTH, CLOCK_WIDTH}
 use Rattle.crx_compact.specs.Differences.{difference, code_at}
 use Rattle.crx_compact.specs.Compaction.{Marked, epoch_text, since_full, run_of, value_in, arc_of, clock_arc, newest_text, indicators_before, cell_text, codes_of, satellite_line, epoch_line, compact_epoch}
 use Rattle.crx_compact.specs.EpochText.{number_in, count_within_limit, satellites_in}

@@ -7,9 +7,9 @@ use Rattle.crx_text.specs.Columns.{columns}
 use Rattle.crx_text.specs.Texts.{by_position, character_of, patched, is_printable, is_kept}
 use Rattle.crx_text.specs.declared.code.Code.{Code}
 use Rattle.crx_text.specs.declared.code.Code.TheVariants.{Missing}
-use Rattle.crx_text.specs.declared.limits.TheConstants.{OBSERVATION_WIDTH}
-use Rattle.crx_text.specs.declared.fault.Fault.{Fault}
-use Rattle.crx_text.specs.declared.fault.Fault.TheVariants.{BadFlags, OutOfMemory, Truncated}
+use Rattle.crx_lines.specs.declared.limits.TheConstants.{OBSERVATION_WIDTH}
+use Rattle.crx_lines.specs.declared.fault.Fault.{Fault}
+use Rattle.crx_lines.specs.declared.fault.Fault.TheVariants.{BadFlags, OutOfMemory, Truncated}
 use Rattle.crx_rinex.specs.Observations.{Row}
 use Rattle.crx_rinex.specs.SatelliteLines.{with_flags}
 use Rattle.std.proofs.Math.Path.{fun_ext}

@@ -5,8 +5,8 @@ use Rattle.std.specs.Result.{is_ok}
 use Rattle.std.proofs.Common.{sym, ◌∙◌, ap, arith, inl, inr, ◌⊎◌, true≢false, add-one}
 use Rattle.std.proofs.lemmas.Option.{slice_get_within}
 use Rattle.std.proofs.lemmas.List.{length-take, length-append}
-use Rattle.crx_text.specs.declared.fault.Fault.{Fault}
-use Rattle.crx_text.specs.declared.fault.Fault.TheVariants.{BadEpoch, OutOfMemory}
+use Rattle.crx_lines.specs.declared.fault.Fault.{Fault}
+use Rattle.crx_lines.specs.declared.fault.Fault.TheVariants.{BadEpoch, OutOfMemory}
 use Rattle.crx_rinex.specs.EpochLines.{ObservationHead, satellites_of}
 use Rattle.crx_rinex.specs.Epochs.{begun, is_full_epoch}
 use Rattle.crx_compact.specs.CompactPlaces.{clock_line_read}
@@ -14,7 +14,7 @@ use Rattle.crx_compact.specs.Tails.{ArcTail}
 use Rattle.crx_compact.specs.Steps.{arc_of_code}
 use Rattle.crx_compact.specs.HeldRows.{row_after}
 use Rattle.std.specs.Prelude.{IfSome}
-use Rattle.crx_text.specs.Seen.{Content}
+use Rattle.crx_lines.specs.Seen.{Content}
 use Rattle.crx_compact.specs.OpenEpochs.{Faulty, HasMade, first_step, held_clock, is_idle, line_step, opened, opening, step_in, tail_for_line, Idle}
 use Rattle.crx_compact.specs.OpenLines.{HasClock, IsRowAfter, columns_state, step_after}
 use Rattle.crx_compact.specs.declared.incoming.Stage.TheVariants.{Clock}
@@ -24,7 +24,7 @@ use Rattle.std.proofs.lemmas.List.{length-map, length-take-le, length-drop}
 use Rattle.std.proofs.Math.ListN.{drop_of_length-le}
 use Rattle.crx_text.specs.Columns.{columns}
 use Rattle.crx_text.specs.Texts.{patched}
-use Rattle.crx_text.specs.declared.limits.TheConstants.{HEAD_WIDTH, NAME_WIDTH}
+use Rattle.crx_lines.specs.declared.limits.TheConstants.{HEAD_WIDTH, NAME_WIDTH}
 use Rattle.crx_rinex.specs.Observations.{Row, Epoch}
 use Rattle.crx_rinex.specs.ObservationTypes.{Count}
 use Rattle.crx_compact.specs.EpochText.{Satellite, epoch_count}

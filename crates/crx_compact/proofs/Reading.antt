@@ -5,14 +5,14 @@ use Rattle.std.proofs.Common.{sym, ◌∙◌, ap, subst, arith, true≢false, dr
 use Rattle.std.proofs.lemmas.List.{length-map, length-append, append_assoc}
 use Rattle.crx_text.specs.Columns.{is_blank, before_end_blanks, without_end_blanks, columns}
 use Rattle.crx_text.specs.Codes.{code_text, code_of, IsPrintable}
-use Rattle.crx_text.specs.Seen.{ReadLine, Content}
+use Rattle.crx_lines.specs.Seen.{ReadLine, Content}
 use Rattle.crx_rinex.specs.Observations.{Row, Epoch}
 use Rattle.crx_rinex.specs.ObservationTypes.{Count}
 use Rattle.crx_rinex.specs.Places.{Place, Here, then_place, after_lines, one_line}
 use Rattle.crx_text.specs.declared.code.Code.{Code}
-use Rattle.crx_text.specs.declared.fault.Fault.{Fault}
-use Rattle.crx_text.specs.declared.fault.Fault.TheVariants.{BadEpoch, BadClock, Truncated}
-use Rattle.crx_text.specs.declared.limits.TheConstants.{WRITTEN_ORDER, CLOCK_WIDTH}
+use Rattle.crx_lines.specs.declared.fault.Fault.{Fault}
+use Rattle.crx_lines.specs.declared.fault.Fault.TheVariants.{BadEpoch, BadClock, Truncated}
+use Rattle.crx_lines.specs.declared.limits.TheConstants.{WRITTEN_ORDER, CLOCK_WIDTH}
 use Rattle.crx_compact.specs.Sequences.{back_to, stretch, and_then}
 use Rattle.crx_compact.specs.Differences.{code_at}
 use Rattle.crx_compact.specs.Compaction.{Marked, epoch_text, row_named, since_full, run_of, clock_arc, newest_text, satellite_line, epoch_line, compact_epoch}

@@ -10,9 +10,9 @@ use Rattle.crx_text.specs.Codes.{code_text, code_of, IsPrintable}
 use Rattle.crx_rinex.specs.Observations.{Row, Epoch}
 use Rattle.crx_text.specs.declared.code.Code.{Code}
 use Rattle.crx_text.specs.declared.code.Code.TheVariants.{Missing}
-use Rattle.crx_text.specs.declared.fault.Fault.{Fault}
-use Rattle.crx_text.specs.declared.fault.Fault.TheVariants.{BadField, BadFlags, Truncated}
-use Rattle.crx_text.specs.declared.limits.TheConstants.{WRITTEN_ORDER, OBSERVATION_WIDTH, CLOCK_WIDTH}
+use Rattle.crx_lines.specs.declared.fault.Fault.{Fault}
+use Rattle.crx_lines.specs.declared.fault.Fault.TheVariants.{BadField, BadFlags, Truncated}
+use Rattle.crx_lines.specs.declared.limits.TheConstants.{WRITTEN_ORDER, OBSERVATION_WIDTH, CLOCK_WIDTH}
 use Rattle.crx_compact.specs.Sequences.{stretch, each_place, before_all, and_then}
 use Rattle.crx_compact.specs.Differences.{code_at}
 use Rattle.crx_compact.specs.Compaction.{Marked, run_of, since_full, row_named, value_in, arc_of, indicators_before, cell_text, codes_of, satellite_line}

@@ -1,5 +1,5 @@
 -- Running differences: their step, and their size.
-use Rattle.std.specs.Prelude.{◌≡◌, ◌≤◌, ◌<◌, refl, ℕ, zero, suc, ◌+◌, ◌-◌, ◌^◌, ℤ, pos, negsuc, ◌+ℤ◌, ◌-ℤ◌, List, [], ◌∷◌, ◌++◌, length, take, drop, min, slice_index_or, slice_set, Option, Some}
+use Rattle.std.specs.Prelude.{◌≡◌, ◌≤◌, ◌<◌, refl, ℕ, zero, suc, ◌+◌, ◌-◌, ◌^◌, ℤ, pos, negsuc, ◌+ℤ◌, ◌-ℤ◌, List, [], ◌∷◌, ◌++◌, length, take, drop, min, slice_index_or, slice_set, Bool, true, Option, Some}
 use Rattle.std.proofs.Common.{sym, ◌∙◌, ap, arith, subst, FitsSigned, w64, to_z, of_z, append_assoc, lit<, lit≤}
 use Rattle.std.proofs.Math.Nat.{pow-le-pow_right}
 use Rattle.std.proofs.lemmas.Int.{ints, to_z-of_z}
@@ -12,8 +12,8 @@ use Rattle.crx_text.specs.declared.code.Code.TheVariants.{Step}
 use Rattle.crx_compact.specs.Tails.{ArcTail}
 use Rattle.crx_compact.specs.Differences.{newest}
 use Rattle.crx_compact.specs.Steps.{differences_after, onto_sum, differences_by, highest, code_of_value, arc_of_value, value_of_code, arc_of_code}
-use Rattle.crx_compact.specs.Expansion.{in_range}
-use Rattle.crx_text.specs.declared.limits.TheConstants.{WRITTEN_ORDER}
+use Rattle.crx_compact.specs.Expansion.{in_range, is_within}
+use Rattle.crx_lines.specs.declared.limits.TheConstants.{WRITTEN_ORDER}
 
 -- ---- size
 
@@ -241,6 +241,39 @@ from-third number (a ∷ b ∷ c ∷ []) h f hs =
       value_is = sum ∙ sym (newest-by number (a ∷ b ∷ c ∷ []));
     }
 
+-- a number and the three sums that it leads to, the highest order first, are numbers of 64 bits
+pub record OntoThird (number : ℤ) (ds : List ℤ) : Type 0 where
+  pub zeroth_before : FitsSigned w64 (slice_index_or ds 0 (pos 0))
+  pub first_before : FitsSigned w64 (slice_index_or ds 1 (pos 0))
+  pub second_before : FitsSigned w64 (slice_index_or ds 2 (pos 0))
+  pub second : FitsSigned w64 (slice_index_or ds 2 (pos 0) +ℤ number)
+  pub first : FitsSigned w64 (slice_index_or ds 1 (pos 0) +ℤ (slice_index_or ds 2 (pos 0) +ℤ number))
+  pub value : FitsSigned w64 (slice_index_or ds 0 (pos 0) +ℤ (slice_index_or ds 1 (pos 0) +ℤ (slice_index_or ds 2 (pos 0) +ℤ number)))
+  pub sums :
+      (slice_index_or ds 0 (pos 0) +ℤ (slice_index_or ds 1 (pos 0) +ℤ (slice_index_or ds 2 (pos 0) +ℤ number)))
+      ∷ (slice_index_or ds 1 (pos 0) +ℤ (slice_index_or ds 2 (pos 0) +ℤ number))
+      ∷ (slice_index_or ds 2 (pos 0) +ℤ number) ∷ number ∷ []
+      ≡ differences_by number (take 3 ds)
+
+pub onto-third : (number : ℤ) (ds : List ℤ) → 3 < length ds → IsBelow (10 ^ 18) number → AreBelow value_bound (take 3 ds) → OntoThird number ds
+onto-third number [] h f hs = absurd (omega (arith, h))
+onto-third number (a ∷ []) h f hs = absurd (omega (arith, h))
+onto-third number (a ∷ b ∷ []) h f hs = absurd (omega (arith, h))
+onto-third number (a ∷ b ∷ c ∷ ds) h f hs =
+    let n : IsBelow 1000000000000000000 number = f in
+    let x : IsBelow 100000000000000 a = hs.0 in
+    let y : IsBelow 200000000000000 b = hs.1.0 in
+    let z : IsBelow 400000000000000 c = hs.1.1.0 in
+    record {
+      zeroth_before = omega (arith, ints, x.low, x.high);
+      first_before = omega (arith, ints, y.low, y.high);
+      second_before = omega (arith, ints, z.low, z.high);
+      second = omega (arith, ints, n.low, n.high, z.low, z.high);
+      first = omega (arith, ints, n.low, n.high, y.low, y.high, z.low, z.high);
+      value = omega (arith, ints, n.low, n.high, x.low, x.high, y.low, y.high, z.low, z.high);
+      sums = refl;
+    }
+
 -- one place more of the value by a number
 pub record Summed (k : ℕ) (target value : ℤ) (ds : List ℤ) : Type 0 where
   pub done : value +ℤ total (drop k ds) ≡ target
@@ -388,6 +421,17 @@ steps-on width order (suc count) last number value (d ∷ ds) e h l v =
       value_is = ap (in_range width) (v ∙ ap (λ xs. newest (differences_by number xs)) (sym lower));
       tail = sym (some-kept order value (take last (d ∷ ds))) ∙ ap {B = Option ArcTail} (λ xs. Some (record { order = order; differences = xs })) by;
     }
+
+-- what the number of a next code leads to
+pub stepped : (width order count last : ℕ) (number value : ℤ) (ds : List ℤ) → last ≡ min order count → 0 < count → length ds ≡ 10
+    → value ≡ newest (differences_by (to_z w64 (of_z w64 number)) (take last ds)) → FitsSigned w64 number → StepsOn width order count last number value ds
+stepped width order count last number value ds e h l v f =
+    steps-on width order count last number value ds (record { least = e }) h (omega arith)
+    (v ∙ ap (λ x. newest (differences_by x (take last ds))) (same-bits number f))
+
+-- a value that the code's test lets through
+pub accepted : (width : ℕ) (value : ℤ) (b : Bool) → b ≡ is_within width (to_z w64 (of_z w64 value)) → b ≡ true → FitsSigned w64 value → is_within width value ≡ true
+accepted width value b e h f = ap (is_within width) (sym (same-bits value f)) ∙ sym e ∙ h
 
 -- a number of a code is below the bound that its digits set
 pub short-below : (number : ℤ) → IsShort number → IsBelow (10 ^ 18) number

@@ -9,9 +9,9 @@ use Rattle.crx_text.specs.Texts.{text_difference, mark_of, patched, by_position,
 use Rattle.crx_rinex.specs.Observations.{Row, Epoch}
 use Rattle.crx_text.specs.declared.code.Code.{Code}
 use Rattle.crx_text.specs.declared.code.Code.TheVariants.{Missing}
-use Rattle.crx_text.specs.declared.fault.Fault.{Fault}
-use Rattle.crx_text.specs.declared.fault.Fault.TheVariants.{OutOfRange}
-use Rattle.crx_text.specs.declared.limits.TheConstants.{WRITTEN_ORDER}
+use Rattle.crx_lines.specs.declared.fault.Fault.{Fault}
+use Rattle.crx_lines.specs.declared.fault.Fault.TheVariants.{OutOfRange}
+use Rattle.crx_lines.specs.declared.limits.TheConstants.{WRITTEN_ORDER}
 use Rattle.crx_compact.specs.Sequences.{back_to, named, stretch, each_place}
 use Rattle.crx_compact.specs.Differences.{code_at, difference}
 use Rattle.crx_compact.specs.Compaction.{Marked, epoch_text, row_named, since_full, run_of, value_in, arc_of, clock_arc, codes_of, indicators_before, newest_text}

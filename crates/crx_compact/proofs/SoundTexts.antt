@@ -6,7 +6,7 @@ use Rattle.std.proofs.lemmas.Bool.Decides.{Decides-eqb}
 use Rattle.std.proofs.lemmas.List.{append-nil}
 use Rattle.std.proofs.lemmas.Slice.Eq.{bytes_eq-Decides}
 use Rattle.std.proofs.Common.{ap, arith, length-append, ◌∙◌, sym}
-use Rattle.crx_text.specs.declared.limits.TheConstants.{LINE_LIMIT}
+use Rattle.crx_lines.specs.declared.limits.TheConstants.{LINE_LIMIT}
 use Rattle.crx_text.specs.Columns.{character_at}
 use Rattle.crx_rinex.specs.Observations.{Row, Epoch}
 use Rattle.crx_rinex.specs.EpochLines.{ObservationHead, IsObservationHead, begins_epoch, is_observation_flag, satellites_in}

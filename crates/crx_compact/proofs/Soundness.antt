@@ -7,14 +7,14 @@ use Rattle.std.proofs.Common.{sym, ◌∙◌, ap, subst, arith, true≢false}
 use Rattle.std.proofs.lemmas.List.{length-map}
 use Rattle.crx_text.specs.Columns.{is_blank, columns, without_end_blanks}
 use Rattle.crx_text.specs.Codes.{code_of, after_cell}
-use Rattle.crx_text.specs.Seen.{ReadLine, Content, Overlong}
+use Rattle.crx_lines.specs.Seen.{ReadLine, Content, Overlong}
 use Rattle.crx_rinex.specs.Observations.{Row, Epoch}
 use Rattle.crx_rinex.specs.ObservationTypes.{Count}
 use Rattle.crx_rinex.specs.Places.{Place, Here, Wrong, Wanted, then_place, after_lines, first_line, one_line}
 use Rattle.crx_text.specs.declared.code.Code.{Code}
 use Rattle.crx_text.specs.declared.code.Code.TheVariants.{Missing}
-use Rattle.crx_text.specs.declared.fault.Fault.{Fault}
-use Rattle.crx_text.specs.declared.fault.Fault.TheVariants.{LineTooLong, NotAnEpoch, BadEpoch, BadClock, BadSatellite, BadField, RepeatedSatellite, BadFlags, Truncated}
+use Rattle.crx_lines.specs.declared.fault.Fault.{Fault}
+use Rattle.crx_lines.specs.declared.fault.Fault.TheVariants.{LineTooLong, NotAnEpoch, BadEpoch, BadClock, BadSatellite, BadField, RepeatedSatellite, BadFlags, Truncated}
 use Rattle.crx_compact.specs.Sequences.{stretch, each_place, all_ok, and_then, before_all}
 use Rattle.crx_compact.specs.EpochText.{begins_epoch, is_printable, epoch_count, types_of_satellite, names_in, Satellite, satellite_before, satellites_named}
 use Rattle.crx_compact.specs.Expansion.{RawRow, RawEpoch, block_of, text_of, raw_row_named, raw_run_of, marks_of, overlaid, indicators_of, row_from, rows_from, epoch_of_block, epoch_from}

@@ -6,7 +6,7 @@ use Rattle.crx_text.specs.Columns.{character_at, without_end_blanks}
 use Rattle.crx_text.specs.Texts.{text_difference, is_printable, mark_of, is_kept}
 use Rattle.crx_text.specs.Codes.{code_text}
 use Rattle.crx_text.specs.declared.code.Code.{Code}
-use Rattle.crx_text.specs.declared.limits.TheConstants.{WRITTEN_ORDER}
+use Rattle.crx_lines.specs.declared.limits.TheConstants.{WRITTEN_ORDER}
 use Rattle.crx_rinex.specs.Observations.{Row, Epoch}
 use Rattle.crx_rinex.specs.ObservationTypes.{Count}
 use Rattle.crx_rinex.specs.EpochLines.{begins_epoch, is_event_flag, is_event_line, is_observation_flag}

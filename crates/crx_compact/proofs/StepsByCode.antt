@@ -2,7 +2,7 @@
 use Rattle.std.specs.Prelude.{◌≡◌, ℕ, List, [], ◌∷◌, ◌++◌, Some, None, Result, Ok, Err}
 use Rattle.std.proofs.Common.{ap}
 use Rattle.crx_text.specs.Texts.{patched}
-use Rattle.crx_text.specs.declared.fault.Fault.{Fault}
+use Rattle.crx_lines.specs.declared.fault.Fault.{Fault}
 use Rattle.crx_rinex.specs.ObservationTypes.{Count}
 use Rattle.crx_compact.specs.EpochText.{Satellite}
 use Rattle.crx_compact.specs.CompactPlaces.{ReadCell, ReadRow, clock_line_read, satellites_of_line, satellite_line_read}

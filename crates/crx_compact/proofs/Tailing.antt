@@ -7,7 +7,7 @@ use Rattle.crx_text.specs.Columns.{without_end_blanks}
 use Rattle.crx_text.specs.Texts.{text_difference}
 use Rattle.crx_text.specs.Codes.{code_text}
 use Rattle.crx_rinex.specs.Observations.{Row, Epoch}
-use Rattle.crx_text.specs.declared.limits.TheConstants.{WRITTEN_ORDER}
+use Rattle.crx_lines.specs.declared.limits.TheConstants.{WRITTEN_ORDER}
 use Rattle.crx_compact.specs.Sequences.{back_to, stretch, each_place}
 use Rattle.crx_compact.specs.Differences.{code_at}
 use Rattle.crx_compact.specs.Compaction.{Marked, epoch_text, row_named, run_of, value_in, arc_of, clock_arc, newest_text, indicators_before, cell_text, codes_of, line_of_codes, satellite_line}

@@ -4,7 +4,7 @@ use Rattle.std.specs.List.{list_all, list_any, AllByRecursion}
 use Rattle.std.specs.Str.{bytes_eq}
 use Rattle.crx_rinex.specs.Observations.{Row, Epoch}
 use Rattle.crx_rinex.specs.ObservationTypes.{Count}
-use Rattle.crx_text.specs.declared.limits.TheConstants.{OBSERVATION_WIDTH, CLOCK_WIDTH, TYPES_LIMIT}
+use Rattle.crx_lines.specs.declared.limits.TheConstants.{OBSERVATION_WIDTH, CLOCK_WIDTH, TYPES_LIMIT}
 use Rattle.crx_text.specs.Texts.{is_kept}
 use Rattle.crx_compact.specs.EpochText.{epoch_count, types_of_satellite}
 use Rattle.crx_compact.specs.Expansion.{is_within}

@@ -1,7 +1,7 @@
 -- What is kept of an arc in code: its order and its differences, and how large they may grow.
 use Rattle.std.specs.Prelude.{◌≤◌, ℕ, suc, ◌+◌, ◌^◌, ℤ, pos, neg_ℤ, ◌<ℤ◌, List, [], ◌∷◌, Option, Some, None}
 use Rattle.crx_text.specs.Numbers.{IsWithin}
-use Rattle.crx_text.specs.declared.limits.TheConstants.{ORDER_LIMIT, CLOCK_WIDTH}
+use Rattle.crx_lines.specs.declared.limits.TheConstants.{ORDER_LIMIT, CLOCK_WIDTH}
 use Rattle.crx_compact.specs.Tails.{ArcTail}
 
 -- the tail of an arc by its differences; nothing where there are none

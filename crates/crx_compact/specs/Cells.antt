@@ -1,9 +1,10 @@
 -- A row's cells after the arcs of its satellite in the epoch before.
-use Rattle.std.specs.Prelude.{◌≡◌, ◌≤◌, ℕ, ℤ, true, List, length, map, drop, slice_index_or, Option, None, Result, Ok}
+use Rattle.std.specs.Prelude.{◌≡◌, ◌≤◌, ℕ, ℤ, true, List, length, map, drop, slice_index_or, slice_set, Option, Some, None, Result, Ok}
 use Rattle.std.specs.List.{list_all}
-use Rattle.crx_text.specs.declared.limits.TheConstants.{LINE_LIMIT, OBSERVATION_WIDTH}
+use Rattle.crx_text.specs.Codes.{code_of, first_cell, after_cell}
+use Rattle.crx_lines.specs.declared.limits.TheConstants.{LINE_LIMIT, OBSERVATION_WIDTH}
 use Rattle.crx_text.specs.declared.code.Code.TheVariants.{Missing}
-use Rattle.crx_text.specs.declared.fault.Fault.{Fault}
+use Rattle.crx_lines.specs.declared.fault.Fault.{Fault}
 use Rattle.crx_compact.specs.CompactPlaces.{ReadCell, cells_read, cells_of, after_cells}
 use Rattle.crx_rinex.specs.ObservationTypes.{IsAllowedCount}
 use Rattle.crx_rinex.specs.SatelliteLines.{is_identifier}
@@ -54,6 +55,16 @@ pub record IsAwaited (satellite : Satellite) : Type 0 where
 -- the value that a code gives at a place, the arcs before being given
 abbrev pub value_at_place : List (Option ArcTail) → ℕ → Code → Result (Option ℤ) Fault
 value_at_place before place code = value_of_code OBSERVATION_WIDTH code (slice_index_or before place None)
+
+-- the cell that a text begins with: its value, the arcs with its own in its place, and how much of the text it takes
+-- with its blank
+pub record IsCellRead (before : List (Option ArcTail)) (place : ℕ) (text : List ℕ) (old new : List (Option ArcTail)) (value : Option ℤ) (taken : ℕ) : Type 0 where
+  pub code : Code
+  pub spelt : code_of (first_cell text) ≡ Some code
+  pub given : value_at_place before place code ≡ Ok value
+  pub left : new ≡ slice_set old place (arc_of_code code (slice_index_or before place None))
+  pub after : drop taken text ≡ after_cell text
+  pub within : taken ≤ length text
 
 -- the arcs that codes leave
 abbrev pub arcs_of_codes : List (Option ArcTail) → List Code → List (Option ArcTail)

@@ -4,11 +4,11 @@ use Rattle.std.specs.Prelude.{ℕ, ℤ, zero, suc, ◌+◌, ◌*◌, Bool, not, 
 use Rattle.std.specs.List.{list_all}
 use Rattle.crx_text.specs.Columns.{columns, is_blank, without_end_blanks}
 use Rattle.crx_text.specs.Codes.{code_of, first_cell, after_cell}
-use Rattle.crx_text.specs.Seen.{ReadLine}
+use Rattle.crx_lines.specs.Seen.{ReadLine}
 use Rattle.crx_text.specs.declared.code.Code.{Code}
-use Rattle.crx_text.specs.declared.limits.TheConstants.{HEAD_WIDTH, NAME_WIDTH}
-use Rattle.crx_text.specs.declared.fault.Fault.{Fault}
-use Rattle.crx_text.specs.declared.fault.Fault.TheVariants.{NotAnEpoch, BadEpoch, BadClock, BadField, BadFlags, Truncated}
+use Rattle.crx_lines.specs.declared.limits.TheConstants.{HEAD_WIDTH, NAME_WIDTH}
+use Rattle.crx_lines.specs.declared.fault.Fault.{Fault}
+use Rattle.crx_lines.specs.declared.fault.Fault.TheVariants.{NotAnEpoch, BadEpoch, BadClock, BadField, BadFlags, Truncated}
 use Rattle.crx_rinex.specs.Observations.{Row, Epoch}
 use Rattle.crx_rinex.specs.ObservationTypes.{Count}
 use Rattle.crx_rinex.specs.Places.{Place, Here, then_place, first_line}

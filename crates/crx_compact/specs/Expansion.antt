@@ -6,9 +6,9 @@ use Rattle.crx_text.specs.Columns.{columns, is_blank, without_end_blanks}
 use Rattle.crx_rinex.specs.Observations.{Row, Epoch}
 use Rattle.crx_text.specs.declared.code.Code.{Code}
 use Rattle.crx_text.specs.declared.code.Code.TheVariants.{Missing, Start, Step}
-use Rattle.crx_text.specs.declared.fault.Fault.{Fault}
-use Rattle.crx_text.specs.declared.fault.Fault.TheVariants.{NoArc, OutOfRange}
-use Rattle.crx_text.specs.declared.limits.TheConstants.{OBSERVATION_WIDTH, CLOCK_WIDTH, HEAD_WIDTH}
+use Rattle.crx_lines.specs.declared.fault.Fault.{Fault}
+use Rattle.crx_lines.specs.declared.fault.Fault.TheVariants.{NoArc, OutOfRange}
+use Rattle.crx_lines.specs.declared.limits.TheConstants.{OBSERVATION_WIDTH, CLOCK_WIDTH, HEAD_WIDTH}
 use Rattle.crx_compact.specs.Sequences.{back_to, named, stretch, each_place, all_ok, and_then}
 use Rattle.crx_compact.specs.Differences.{value_at}
 use Rattle.crx_compact.specs.EpochText.{begins_epoch}

@@ -1,7 +1,7 @@
 -- A satellite's line read after what was kept of the satellite in the epoch before.
 use Rattle.std.specs.Prelude.{◌≡◌, ℕ, ◌+◌, ◌++◌, ◌∷◌, length, take, List, [], Option, None, Some, Result, Ok}
 use Rattle.crx_text.specs.Texts.{patched}
-use Rattle.crx_text.specs.declared.fault.Fault.{Fault}
+use Rattle.crx_lines.specs.declared.fault.Fault.{Fault}
 use Rattle.crx_rinex.specs.Observations.{Row}
 use Rattle.crx_compact.specs.Sequences.{and_then}
 use Rattle.crx_compact.specs.EpochText.{Satellite}

@@ -8,7 +8,7 @@ use Rattle.crx_text.specs.Codes.{IsPrintable}
 use Rattle.crx_rinex.specs.Observations.{Epoch}
 use Rattle.crx_rinex.specs.ObservationTypes.{Count}
 use Rattle.crx_text.specs.declared.code.Code.{Code}
-use Rattle.crx_text.specs.declared.limits.TheConstants.{WRITTEN_ORDER, TYPES_LIMIT}
+use Rattle.crx_lines.specs.declared.limits.TheConstants.{WRITTEN_ORDER, TYPES_LIMIT}
 use Rattle.crx_rinex.specs.Epochs.{IsWholeEpoch}
 use Rattle.crx_compact.specs.Differences.{code_at, value_at}
 use Rattle.crx_compact.specs.Compaction.{Marked, since_full, run_of, arc_of, clock_arc, compact_epoch, epoch_line}

@@ -1,9 +1,9 @@
 -- Compact lines that are lent one after another, as they are read.
 use Rattle.std.specs.Prelude.{◌≡◌, ◌≤◌, ℕ, false, List, map, length, Option, Some, None}
 use Rattle.std.specs.List.{AllByRecursion}
-use Rattle.crx_text.specs.Seen.{Content}
-use Rattle.crx_text.specs.declared.limits.TheConstants.{LINE_LIMIT}
-use Rattle.crx_text.specs.declared.fault.Fault.{Fault}
+use Rattle.crx_lines.specs.Seen.{Content}
+use Rattle.crx_lines.specs.declared.limits.TheConstants.{LINE_LIMIT}
+use Rattle.crx_lines.specs.declared.fault.Fault.{Fault}
 use Rattle.crx_rinex.specs.EpochLines.{is_event_line}
 use Rattle.crx_rinex.specs.Observations.{Epoch}
 use Rattle.crx_rinex.specs.Places.{Place, Here, Wrong, Wanted}

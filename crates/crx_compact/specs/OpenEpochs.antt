@@ -4,10 +4,10 @@ use Rattle.std.specs.List.{AllByRecursion}
 use Rattle.std.specs.Option.{option_map}
 use Rattle.crx_text.specs.Columns.{columns}
 use Rattle.crx_text.specs.Texts.{patched}
-use Rattle.crx_text.specs.Seen.{ReadLine, Content, Overlong}
-use Rattle.crx_text.specs.declared.limits.TheConstants.{OBSERVATION_WIDTH, CLOCK_WIDTH, HEAD_WIDTH, NAME_WIDTH, ORDER_LIMIT, TYPES_LIMIT, SATELLITES_LIMIT}
-use Rattle.crx_text.specs.declared.fault.Fault.{Fault}
-use Rattle.crx_text.specs.declared.fault.Fault.TheVariants.{LineTooLong, NotAnEpoch}
+use Rattle.crx_lines.specs.Seen.{ReadLine, Content, Overlong}
+use Rattle.crx_lines.specs.declared.limits.TheConstants.{OBSERVATION_WIDTH, CLOCK_WIDTH, HEAD_WIDTH, NAME_WIDTH, ORDER_LIMIT, TYPES_LIMIT, SATELLITES_LIMIT}
+use Rattle.crx_lines.specs.declared.fault.Fault.{Fault}
+use Rattle.crx_lines.specs.declared.fault.Fault.TheVariants.{LineTooLong, NotAnEpoch}
 use Rattle.crx_rinex.specs.Observations.{Row, Epoch}
 use Rattle.crx_rinex.specs.ObservationTypes.{Count}
 use Rattle.crx_rinex.specs.Places.{Place, Here, Wrong, Wanted}
@@ -15,7 +15,7 @@ use Rattle.crx_compact.specs.Sequences.{and_then}
 use Rattle.crx_compact.specs.EpochText.{begins_epoch, Satellite}
 use Rattle.crx_compact.specs.Past.{Past}
 use Rattle.crx_compact.specs.CompactPlaces.{ReadCell, ReadRow, ReadEpoch, satellites_of_line, clock_line_read, satellite_line_read, epoch_against}
-use Rattle.crx_compact.specs.Tails.{ArcTail, RowTail, Tail, IsBoundedArc, IsBoundedRow, IsBoundedTail}
+use Rattle.crx_compact.specs.Tails.{ArcTail, RowTail, Tail, IsBoundedArc, IsBoundedRowTail, IsBoundedTail}
 use Rattle.crx_compact.specs.Steps.{no_tail, tail_named, cell_of_tail, flags_of_tail, value_of_code, arc_of_code, raw_row_tail_after, raw_tail_after}
 
 -- ---- what a tail gives to the lines of the next epoch
@@ -204,9 +204,15 @@ HasMade step after (Some epoch) = (held : HeldEpoch) × (step ≡ Whole held) ×
 
 -- a row that is held within the limits
 pub record IsBoundedHeld (row : HeldRow) : Type 0 where
+  pub name : length row.row.name ≡ NAME_WIDTH
   pub values : length row.row.values ≤ TYPES_LIMIT
   pub flags : length row.row.flags ≤ 2 * TYPES_LIMIT
-  pub tail : IsBoundedRow ORDER_LIMIT row.tail
+  pub tail : IsBoundedRowTail ORDER_LIMIT row.tail
+
+-- a satellite whose line is awaited within the limits
+pub record IsBoundedAwaited (satellite : Satellite) : Type 0 where
+  pub name : length satellite.name ≡ NAME_WIDTH
+  pub count : satellite.count ≤ TYPES_LIMIT
 
 -- an open epoch within the limits: the tail that its lines are read after, its text, the clock's arc, and at most so many satellites
 -- as an epoch may have, those whose lines are awaited among them
@@ -216,7 +222,7 @@ pub record IsBoundedOpen (begun : OpenRawEpoch) : Type 0 where
   pub clock : IfSome begun.clock (λ (clock : HeldClock). IfSome clock.arc (IsBoundedArc ORDER_LIMIT))
   pub few : length begun.rows + length begun.awaited ≤ SATELLITES_LIMIT
   pub rows : AllByRecursion IsBoundedHeld begun.rows
-  pub awaited : AllByRecursion (λ (satellite : Satellite). satellite.count ≤ TYPES_LIMIT) begun.awaited
+  pub awaited : AllByRecursion IsBoundedAwaited begun.awaited
 
 -- what a line makes is within the limits: an open epoch, or what a whole one leaves
 abbrev pub IsBoundedStep : RawStep → Type 0

@@ -1,8 +1,8 @@
 -- What the lines of an epoch that are read so far have given, and how they are kept.
 use Rattle.std.specs.Prelude.{◌≡◌, ℕ, ◌≤◌, List, [], ◌∷◌, length, take, drop, Option, Some, None, ⊤}
 use Rattle.crx_text.specs.Columns.{columns}
-use Rattle.crx_text.specs.declared.limits.TheConstants.{HEAD_WIDTH}
-use Rattle.crx_text.specs.declared.fault.Fault.TheVariants.{NotAnEpoch}
+use Rattle.crx_lines.specs.declared.limits.TheConstants.{HEAD_WIDTH}
+use Rattle.crx_lines.specs.declared.fault.Fault.TheVariants.{NotAnEpoch}
 use Rattle.crx_rinex.specs.Observations.{Row, Epoch}
 use Rattle.crx_compact.specs.EpochText.{Satellite, epoch_count}
 use Rattle.crx_compact.specs.Tails.{RowTail, Tail}

@@ -2,8 +2,8 @@
 -- first ones stands for a change of those before it.
 use Rattle.std.specs.Prelude.{ℕ, ℤ, List, [], ◌∷◌, map, Option, Some, None, Result, if◌then◌else◌}
 use Rattle.crx_text.specs.declared.code.Code.{Code}
-use Rattle.crx_text.specs.declared.fault.Fault.{Fault}
-use Rattle.crx_text.specs.declared.limits.TheConstants.{OBSERVATION_WIDTH, CLOCK_WIDTH}
+use Rattle.crx_lines.specs.declared.fault.Fault.{Fault}
+use Rattle.crx_lines.specs.declared.limits.TheConstants.{OBSERVATION_WIDTH, CLOCK_WIDTH}
 use Rattle.crx_compact.specs.EpochText.{begins_epoch}
 use Rattle.crx_compact.specs.Expansion.{RawEpoch, block_of, overlaid, code_in, raw_run_of, marks_of, value_of}
 

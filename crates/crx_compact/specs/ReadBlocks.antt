@@ -1,6 +1,6 @@
 -- A reader of compact epochs, seen by the raw epochs that were accepted.
 use Rattle.std.specs.Prelude.{◌≡◌, List, ◌∷◌, length, Option, Some, None}
-use Rattle.crx_text.specs.Seen.{ReadLine}
+use Rattle.crx_lines.specs.Seen.{ReadLine}
 use Rattle.crx_rinex.specs.Observations.{Epoch}
 use Rattle.crx_rinex.specs.ObservationTypes.{Count}
 use Rattle.crx_rinex.specs.Places.{Here}

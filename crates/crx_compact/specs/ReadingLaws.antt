@@ -3,11 +3,11 @@ use Rattle.std.specs.Prelude.{◌≡◌, ℕ, ◌+◌, Bool, true, false, ◌||�
 use Rattle.std.specs.List.{list_all, AllByRecursion}
 use Rattle.std.specs.Option.{is_some}
 use Rattle.crx_text.specs.Texts.{text_difference}
-use Rattle.crx_text.specs.Seen.{ReadLine, Content}
+use Rattle.crx_lines.specs.Seen.{ReadLine, Content}
 use Rattle.crx_rinex.specs.Observations.{Row}
 use Rattle.crx_rinex.specs.ObservationTypes.{Count, AreCounts}
 use Rattle.crx_rinex.specs.Places.{Place, Here, Wrong, Wanted, then_place}
-use Rattle.crx_text.specs.declared.limits.TheConstants.{WRITTEN_ORDER, ORDER_LIMIT}
+use Rattle.crx_lines.specs.declared.limits.TheConstants.{WRITTEN_ORDER, ORDER_LIMIT}
 use Rattle.crx_rinex.specs.Epochs.{IsWholeEpoch}
 use Rattle.crx_compact.specs.Differences.{code_at}
 use Rattle.crx_compact.specs.EpochText.{is_printable}

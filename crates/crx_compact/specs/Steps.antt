@@ -4,11 +4,11 @@ use Rattle.crx_text.specs.Columns.{without_end_blanks}
 use Rattle.crx_text.specs.Texts.{text_difference, patched}
 use Rattle.crx_text.specs.Codes.{code_text}
 use Rattle.crx_rinex.specs.Observations.{Row, Epoch}
-use Rattle.crx_text.specs.declared.limits.TheConstants.{WRITTEN_ORDER}
+use Rattle.crx_lines.specs.declared.limits.TheConstants.{WRITTEN_ORDER}
 use Rattle.crx_text.specs.declared.code.Code.{Code}
 use Rattle.crx_text.specs.declared.code.Code.TheVariants.{Missing, Start, Step}
-use Rattle.crx_text.specs.declared.fault.Fault.{Fault}
-use Rattle.crx_text.specs.declared.fault.Fault.TheVariants.{NoArc}
+use Rattle.crx_lines.specs.declared.fault.Fault.{Fault}
+use Rattle.crx_lines.specs.declared.fault.Fault.TheVariants.{NoArc}
 use Rattle.crx_compact.specs.Sequences.{named, each_place}
 use Rattle.crx_compact.specs.Differences.{newest}
 use Rattle.crx_compact.specs.Compaction.{epoch_text, value_in, line_of_codes}

@@ -1,9 +1,9 @@
 -- What is left of the past between two epochs: all that the next epoch's codes, marks and values depend on.
-use Rattle.std.specs.Prelude.{ℕ, suc, ◌-◌, min, ℤ, List, [], ◌∷◌, map, length, Option, Some, None, ◌≤◌, ◌+◌, ◌*◌, IfSome}
+use Rattle.std.specs.Prelude.{◌≡◌, ℕ, suc, ◌-◌, min, ℤ, List, [], ◌∷◌, map, length, Option, Some, None, ◌≤◌, ◌+◌, ◌*◌, IfSome}
 use Rattle.std.specs.List.{AllByRecursion}
 use Rattle.crx_text.specs.Columns.{without_end_blanks}
 use Rattle.crx_rinex.specs.Observations.{Row}
-use Rattle.crx_text.specs.declared.limits.TheConstants.{WRITTEN_ORDER, TYPES_LIMIT, SATELLITES_LIMIT, HEAD_WIDTH, NAME_WIDTH}
+use Rattle.crx_lines.specs.declared.limits.TheConstants.{WRITTEN_ORDER, TYPES_LIMIT, SATELLITES_LIMIT, HEAD_WIDTH, NAME_WIDTH}
 use Rattle.crx_compact.specs.Sequences.{each_place}
 use Rattle.crx_compact.specs.Differences.{difference, value_at}
 use Rattle.crx_compact.specs.Compaction.{Marked, run_of, arc_of, clock_arc, newest_text}
@@ -100,8 +100,9 @@ pub record IsBoundedArc (limit : ℕ) (arc : ArcTail) : Type 0 where
   pub order : arc.order ≤ limit
   pub few : length arc.differences ≤ arc.order + 1
 
--- what is left of a satellite within the limits: two indicators and one cell for each type
-pub record IsBoundedRow (limit : ℕ) (row : RowTail) : Type 0 where
+-- what is left of a satellite within the limits: its identifier, two indicators and one cell for each type
+pub record IsBoundedRowTail (limit : ℕ) (row : RowTail) : Type 0 where
+  pub name : length row.name ≡ NAME_WIDTH
   pub flags : length row.flags ≤ 2 * TYPES_LIMIT
   pub few : length row.cells ≤ TYPES_LIMIT
   pub cells : AllByRecursion (λ (cell : Option ArcTail). IfSome cell (IsBoundedArc limit)) row.cells
@@ -111,4 +112,4 @@ pub record IsBoundedTail (limit : ℕ) (tail : Tail) : Type 0 where
   pub text : length tail.text ≤ HEAD_WIDTH + NAME_WIDTH * SATELLITES_LIMIT
   pub clock : IfSome tail.clock (IsBoundedArc limit)
   pub few : length tail.rows ≤ SATELLITES_LIMIT
-  pub rows : AllByRecursion (IsBoundedRow limit) tail.rows
+  pub rows : AllByRecursion (IsBoundedRowTail limit) tail.rows

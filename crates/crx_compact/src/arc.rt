@@ -1,18 +1,20 @@
 //! Arcs: Hatanaka's Compact RINEX 3.0, data arcs. An arc's values become codes and come back from them by running
 //! differences: what is kept is the arc's order and its latest differences of order 0, 1, .. up to it.
 
-ghost use Rattle.std.specs.Prelude.{◌≡◌, ◌≤◌, ◌<◌, ◌+◌, ◌*◌, ◌^◌, ◌++◌, ◌∷◌, [], ℕ, ℤ, List, Option, None, length, take, OnOk, OnErr, MatchResult};
-ghost use Rattle.crx_text.specs.Codes.{IsPrintable};
+ghost use Rattle.std.specs.Prelude.{◌≡◌, ◌≤◌, ◌<◌, ◌+◌, ◌*◌, ◌^◌, ◌++◌, ◌∷◌, [], ℕ, ℤ, List, Option, None, Some, Ok, length, take, IfSome, OnSome, IfNone, OnOk, OnErr, MatchResult};
+ghost use Rattle.crx_text.specs.Codes.{IsPrintable, IsShort};
+ghost use Rattle.crx_text.specs.Numbers.{IsWithin};
 ghost use Rattle.crx_compact.specs.Arcs.{AreBelow, IsBelow, IsIn, value_bound};
 ghost use Rattle.crx_compact.specs.Differences.{code_at, newest};
 ghost use Rattle.crx_compact.specs.Expansion.{is_within, value_of};
 ghost use Rattle.crx_compact.specs.Laws.{accepted, arc_of_codes, arc_of_values};
 ghost use Rattle.crx_compact.specs.Sequences.{stretch};
 ghost use Rattle.crx_text.specs.declared.code.Code.{Code};
-ghost use Rattle.crx_text.specs.declared.limits.TheConstants.{CLOCK_WIDTH, WRITTEN_ORDER};
+ghost use Rattle.crx_text.specs.declared.code.Code.TheVariants.{Step};
+ghost use Rattle.crx_lines.specs.declared.limits.TheConstants.{CLOCK_WIDTH, WRITTEN_ORDER};
 ghost use Rattle.crx_compact.specs.Steps.{arc_of_code, arc_of_value, code_of_value, differences_after, differences_by, highest, value_of_code};
 
-use crx_text::limits::{CLOCK_WIDTH, OBSERVATION_WIDTH, ORDER_LIMIT, WRITTEN_ORDER};
+use crx_lines::limits::{CLOCK_WIDTH, OBSERVATION_WIDTH, ORDER_LIMIT, WRITTEN_ORDER};
 use crx_text::{Code, Fault};
 use std::marker::Model;
 
@@ -128,6 +130,32 @@ fn value_after_three(differences: &[i64], number: i64) -> i64
     number + differences[0] + differences[1] + differences[2]
 }
 
+/// The differences of order 0, 1 and 2 after some others, by the next one of order 3.
+#[inline(always)]
+fn sums_from_third(before: &[i64], number: i64) -> (i64, i64, i64)
+    requires within { 3 < length before.now }
+    requires below { AreBelow value_bound (take 3 before.now) }
+    requires short { IsBelow (10 ^ 18) number }
+    ensures { result.0 ∷ result.1 ∷ result.2 ∷ number ∷ [] ≡ differences_by number (take 3 before.now) }
+{
+    let second = before[2] + number;
+    let first = before[1] + second;
+    let value = before[0] + first;
+    (value, first, second)
+}
+
+/// Puts the differences of order 0 to 3 in place of others.
+#[inline(always)]
+fn put_four(differences: &mut [i64], value: i64, first: i64, second: i64, third: i64)
+    requires { 3 < length differences.old }
+    ensures { take 4 differences.new ≡ value ∷ first ∷ second ∷ third ∷ [] }
+{
+    differences[0] = value;
+    differences[1] = first;
+    differences[2] = second;
+    differences[3] = third;
+}
+
 /// The value after the one that some differences of order 0, 1, .. stand at, by the difference of the next order.
 fn value_after(differences: &[i64], number: i64) -> i64
     requires few { length differences.now ≤ 9 }
@@ -213,6 +241,26 @@ impl<const WIDTH: usize> Arc<WIDTH> {
         Code::Step(highest)
     }
 
+    /// The difference that [`Arc::push_after`] gives where it is one of order 3, that of most arcs. `None` comes where the arc
+    /// before has another order or fewer values, and then this one is as it was.
+    #[inline(always)]
+    pub(crate) fn push_third(&mut self, before: &Self, value: i64) -> Option<i64>
+        requires { IsWithin WIDTH value }
+        ensures code { IfSome result (λ number. code_of_value (Some value) before.now ≡ Step number) }
+        ensures short { IfSome result IsShort }
+        ensures arc { OnSome result (self.new ≡ arc_of_value (Some value) before.now) }
+        ensures none { IfNone result (self.new ≡ self.old) }
+    {
+        let order = before.order;
+        if order != 3 || before.count < 3 {
+            return None;
+        }
+        let third = third_from(&before.differences, value, &mut self.differences);
+        self.order = order;
+        self.count = 4;
+        Some(third)
+    }
+
     /// The value that a next code gives, after which the arc goes on; `None` of `Missing`, and then the arc is over. A
     /// start begins a new arc, also in the middle of one. It asks for an order and a number within the limits.
     ///
@@ -268,6 +316,37 @@ impl<const WIDTH: usize> Arc<WIDTH> {
                 Ok(Some(value))
             }
         }
+    }
+
+    /// The step of [`Arc::apply_after`] at a difference of order 3, that of most arcs. `None` comes where the earlier arc has
+    /// another order or fewer values, or where the value doesn't fit, and then this one is as it was.
+    #[inline(always)]
+    pub(crate) fn apply_third(&mut self, earlier: &Self, number: i64) -> Option<i64>
+        requires { IsShort number }
+        ensures value { IfSome result (λ value. value_of_code WIDTH (Step number) earlier.now ≡ Ok (Some value)) }
+        ensures arc { OnSome result (self.new ≡ arc_of_code (Step number) earlier.now) }
+        ensures none { IfNone result (self.new ≡ self.old) }
+    {
+        let order = earlier.order;
+        if order != 3 || earlier.count < 3 {
+            return None;
+        }
+        let (value, first, second) = sums_from_third(&earlier.differences, number);
+        if !is_within(WIDTH, value) {
+            return None;
+        }
+        put_four(&mut self.differences, value, first, second, number);
+        self.order = order;
+        self.count = 4;
+        Some(value)
+    }
+
+    /// Ends the arc: it is one without values.
+    #[inline(always)]
+    pub(crate) fn end(&mut self)
+        ensures { self.new ≡ None }
+    {
+        self.count = 0;
     }
 }
 

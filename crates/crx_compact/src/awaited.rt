@@ -2,16 +2,20 @@
 
 ghost use Rattle.std.specs.List.{list_any};
 ghost use Rattle.std.specs.Str.{bytes_eq};
-ghost use Rattle.std.specs.Prelude.{◌≡◌, ◌≤◌, ◌⊎◌, [], true, Ok, Err, length, OnOk, IfErr};
-ghost use Rattle.crx_text.specs.declared.limits.TheConstants.{LINE_LIMIT, SATELLITES_LIMIT};
+ghost use Rattle.std.specs.Prelude.{◌≡◌, ◌≤◌, ◌⊎◌, ◌+◌, ◌++◌, ◌∷◌, [], true, false, Ok, Err, length, take, map, OnOk, IfErr};
+ghost use Rattle.std.specs.Bool.{OnTrue};
+ghost use Rattle.crx_lines.specs.declared.limits.TheConstants.{LINE_LIMIT, SATELLITES_LIMIT};
+ghost use Rattle.crx_rinex.specs.Epochs.{is_among};
 ghost use Rattle.crx_rinex.specs.ObservationTypes.{IsAllowedCount};
 ghost use Rattle.crx_rinex.specs.SatelliteLines.{is_identifier};
 ghost use Rattle.crx_compact.specs.CompactPlaces.{satellites_of_text};
+ghost use Rattle.crx_compact.specs.Tails.{RowTail};
 ghost use Rattle.crx_compact.specs.EpochText.{begins_epoch, Satellite, names_in, satellites_named};
 
+use crate::kept::KeptEpoch;
+use crx_lines::limits::{HEAD_WIDTH, NAME_WIDTH};
 use crx_rinex::{EpochLine, Types, after_columns, all_blank, padded, types_of_satellite};
 use crx_text::Fault;
-use crx_text::limits::{HEAD_WIDTH, NAME_WIDTH};
 use std::marker::Model;
 
 /// A satellite whose line is awaited: its identifier, and how many types its system has.
@@ -64,7 +68,27 @@ fn has_name(satellites: &[AwaitedSatellite], name: [u8; NAME_WIDTH]) -> bool
     satellites.iter().any(|known| known.name() == name)
 }
 
-/// Reads so many identifiers after the columns of an epoch text, from left to right.
+/// The same, where it may be known already that none has it.
+fn is_repeated(satellites: &[AwaitedSatellite], name: [u8; NAME_WIDTH], is_new: bool) -> bool
+    requires { is_new ≡ true → list_any (λ (s : Satellite). bytes_eq s.name name) satellites.now ≡ false }
+    ensures { result ≡ list_any (λ (s : Satellite). bytes_eq s.name name) satellites.now }
+{
+    if is_new {
+        return false;
+    }
+    has_name(satellites, name)
+}
+
+/// Whether the identifiers so far, and this one, are those of the epoch before, each of another satellite.
+fn keeps_step(is_in_step: bool, before: &KeptEpoch, place: usize, name: [u8; NAME_WIDTH]) -> bool
+    ensures so_far { OnTrue result (is_in_step ≡ true) }
+    ensures new { OnTrue result (is_among (λ (row : RowTail). row.name) name (take place before.now.rows) ≡ false) }
+    ensures next { OnTrue result (map (λ (row : RowTail). row.name) (take (place + 1) before.now.rows) ≡ map (λ (row : RowTail). row.name) (take place before.now.rows) ++ name ∷ []) }
+{
+    is_in_step && before.has_at(place, name)
+}
+
+/// Reads so many identifiers after the columns of an epoch text, from left to right; mostly they are those of the epoch before.
 ///
 /// `BadSatellite` comes where one is spelt as none of a system that has types, then `RepeatedSatellite` where it stands
 /// before already; `OutOfMemory` where the satellites can't grow.
@@ -72,6 +96,7 @@ fn read_names(
     types: &Types,
     text: &[u8],
     count: usize,
+    before: &KeptEpoch,
     satellites: &mut Vec<AwaitedSatellite>,
 ) -> Result<(), Fault>
     requires none { satellites.old.items ≡ [] }
@@ -80,12 +105,14 @@ fn read_names(
     ensures err { IfErr result (λ fault. (satellites_named types.now [] (names_in text.now count) ≡ Err fault)
         ⊎ (fault ≡ Fault.OutOfMemory)) }
 {
+    let mut is_in_step = true;
     for place in 0..count {
         let name = padded(text, HEAD_WIDTH + 1 + NAME_WIDTH * place);
         let Some(types) = types_of_satellite(types, &name) else {
             return Err(Fault::BadSatellite);
         };
-        if has_name(satellites, name) {
+        is_in_step = keeps_step(is_in_step, before, place, name);
+        if is_repeated(satellites, name, is_in_step) {
             return Err(Fault::RepeatedSatellite);
         }
         if satellites
@@ -105,6 +132,7 @@ fn read_names(
 pub(crate) fn read_satellites(
     types: &Types,
     text: &[u8],
+    before: &KeptEpoch,
     satellites: &mut Vec<AwaitedSatellite>,
 ) -> Result<(), Fault>
     requires { satellites.old.items ≡ [] }
@@ -118,5 +146,5 @@ pub(crate) fn read_satellites(
     if !all_blank(after_columns(text, HEAD_WIDTH + NAME_WIDTH * count)) {
         return Err(Fault::BadEpoch);
     }
-    read_names(types, text, count, satellites)
+    read_names(types, text, count, before, satellites)
 }

@@ -4,13 +4,13 @@
 ghost use Rattle.std.specs.Prelude.{◌≡◌, ◌≤◌, ◌++◌, ◌∷◌, List, if◌then◌else◌, [], Some, None, true, false, length, IfOk, IfErr, OnOk, OnErr, Err};
 ghost use Rattle.crx_rinex.specs.Epochs.{is_full_epoch};
 ghost use Rattle.std.specs.Prelude.{◌⊎◌};
-ghost use Rattle.crx_text.specs.Seen.{Content, ReadLine};
+ghost use Rattle.crx_lines.specs.Seen.{Content, ReadLine};
 ghost use Rattle.crx_rinex.specs.ObservationTypes.{Count};
 ghost use Rattle.crx_rinex.specs.Places.{Wrong};
 ghost use Rattle.crx_compact.specs.Expansion.{RawEpoch};
 ghost use Rattle.crx_compact.specs.CompactPlaces.{epoch_at};
 ghost use Rattle.crx_compact.specs.ReadBlocks.{HasReadTo, IsReading};
-ghost use Rattle.crx_text.specs.declared.limits.TheConstants.{LINE_LIMIT};
+ghost use Rattle.crx_lines.specs.declared.limits.TheConstants.{LINE_LIMIT};
 ghost use Rattle.crx_rinex.specs.EpochLines.{begins_epoch, is_event_line};
 ghost use Rattle.crx_compact.specs.OpenEpochs.{is_idle, tail_held, first_step, step_in, Faulty, HasMade};
 ghost use Rattle.crx_compact.specs.OpenEpochs.ColumnsState.{Idle};

@@ -2,7 +2,7 @@
 //! dropped.
 
 use crate::Columns;
-use crate::reading_tests::{prints, take};
+use crate::reading_tests::{prints, take_all};
 use crx_rinex::Types;
 use crx_text::Fault;
 use std::alloc::Global;
@@ -56,41 +56,36 @@ const LAST_CASE: Case<'_> = Case {
     ],
 };
 
-/// Reads the lines of a case, each but the last without an epoch.
+/// Whether the last line of a case gives its epoch.
 fn is_given(columns: &mut Columns, alloc: Global, case: &Case<'_>) -> Result<bool, Fault> {
     let mut types = Types::new(alloc);
     types.accept_line(case.types)?;
-    take(columns, &types, case.lines[0])?;
-    take(columns, &types, case.lines[1])?;
-    match take(columns, &types, case.lines[2])? {
-        Some(epoch) => Ok(prints(epoch, &case.want)),
-        None => Ok(false),
-    }
+    let given = take_all(columns, &types, &case.lines)?;
+    Ok(prints(given, &case.want))
 }
 
-/// Columns that have read the first cases, and whether these gave what they should.
-fn after_first(alloc: Global) -> Result<(Columns, bool), Fault> {
-    let mut columns = Columns::new(alloc);
-    for case in FIRST_CASES {
-        if !is_given(&mut columns, alloc, case)? {
-            return Ok((columns, false));
+/// Whether each of some cases gives its epoch, one after another.
+fn are_given(columns: &mut Columns, alloc: Global, cases: &[Case<'_>]) -> Result<bool, Fault> {
+    for case in cases {
+        if !is_given(columns, alloc, case)? {
+            return Ok(false);
         }
     }
-    Ok((columns, true))
+    Ok(true)
 }
 
 #[test]
 fn dropped_indicators(rt: HostRuntime) -> Result<(), Fail> {
-    let (mut columns, is_so) = after_first(rt.alloc())?;
-    assert!(rt; is_so);
+    let mut columns = Columns::new(rt.alloc());
+    assert!(rt; are_given(&mut columns, rt.alloc(), FIRST_CASES)?);
     assert!(rt; is_given(&mut columns, rt.alloc(), &LAST_CASE)?);
     Ok(())
 }
 
 #[test]
 fn dropped_arc(rt: HostRuntime) -> Result<(), Fail> {
-    let (mut columns, is_so) = after_first(rt.alloc())?;
-    assert!(rt; is_so);
+    let mut columns = Columns::new(rt.alloc());
+    assert!(rt; are_given(&mut columns, rt.alloc(), FIRST_CASES)?);
     let case = Case {
         lines: [LAST_CASE.lines[0], b"", b"500 5000"],
         ..LAST_CASE

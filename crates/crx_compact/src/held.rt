@@ -1,15 +1,17 @@
 //! What is kept of a satellite between two epochs: Hatanaka's Compact RINEX 3.0, satellite lines.
 
-ghost use Rattle.std.specs.Prelude.{◌≡◌, ◌≤◌, ◌<◌, ◌++◌, ◌∷◌, ◌⊎◌, ◌*◌, [], None, Ok, Err, true, false, length, replicate, slice_index_or, slice_set, take, OnOk, IfOk, IfErr, Option, ℤ};
+ghost use Rattle.std.specs.Prelude.{◌≡◌, ◌≤◌, ◌<◌, ◌++◌, ◌∷◌, ◌⊎◌, ◌*◌, [], None, Ok, Err, true, false, length, replicate, slice_index_or, slice_set, take, OnOk, IfOk, IfErr, IfSome, IfNone, OnSome, Some, Option, ℤ};
 ghost use Rattle.std.specs.List.{flat_map, list_all};
-ghost use Rattle.crx_text.specs.Codes.{code_text, IsPrintable};
+ghost use Rattle.crx_text.specs.Codes.{code_of, code_text, first_cell, IsPrintable, IsShort};
 ghost use Rattle.crx_text.specs.Texts.{is_kept, patched, text_difference};
-ghost use Rattle.crx_text.specs.declared.limits.TheConstants.{LINE_LIMIT, OBSERVATION_WIDTH};
+ghost use Rattle.crx_lines.specs.declared.limits.TheConstants.{LINE_LIMIT, OBSERVATION_WIDTH};
 ghost use Rattle.std.specs.Option.{option_copied};
 ghost use Rattle.crx_text.specs.Columns.{columns, without_end_blanks};
 ghost use Rattle.crx_compact.specs.Arcs.{IsIn};
-ghost use Rattle.crx_compact.specs.Cells.{arcs_of_row, codes_of_row, value_at_place, AreHeldFlags, AreRead};
-ghost use Rattle.crx_compact.specs.CompactPlaces.{are_marks, cells_of, cells_read};
+ghost use Rattle.crx_compact.specs.Cells.{arcs_of_row, codes_of_row, value_at_place, AreHeldFlags, AreRead, IsCellRead};
+ghost use Rattle.crx_compact.specs.CompactPlaces.{are_marks, cell_read, cells_of, cells_read};
+ghost use Rattle.crx_lines.specs.declared.fault.Fault.TheVariants.{BadField};
+ghost use Rattle.crx_text.specs.declared.code.Code.TheVariants.{Missing, Step};
 ghost use Rattle.crx_compact.specs.HeldRows.{row_held, row_held_from};
 ghost use Rattle.crx_rinex.specs.ObservationTypes.{IsAllowedCount};
 ghost use Rattle.crx_rinex.specs.SatelliteLines.{blank_row};
@@ -21,10 +23,13 @@ ghost use Rattle.crx_compact.specs.Tails.{RowTail};
 use crate::arc::ObsArc;
 use crate::awaited::{AwaitedSatellite, begins_epoch};
 use crate::lines::Lines;
+use crx_lines::limits::NAME_WIDTH;
 use crx_rinex::{SatRow, after_columns, all_blank};
 use crx_text::difference::{append_difference, patch_bytes};
-use crx_text::limits::NAME_WIDTH;
-use crx_text::{Code, Fault, Text, code_before_blank, code_print, code_print_cell, trim_end};
+use crx_text::{
+    Code, Fault, Text, code_before_blank, code_print, code_print_cell, step_before_blank,
+    step_print_cell, trim_end,
+};
 use std::alloc::{AllocError, Global};
 use std::marker::Model;
 
@@ -67,6 +72,48 @@ impl Desk {
         self.end_cells()?;
         code_print_cell(code, &mut self.part).unwrap();
         Ok(())
+    }
+
+    /// The same of a difference.
+    #[inline(always)]
+    fn push_step(&mut self, difference: i64) -> Result<(), AllocError>
+        requires { IsShort difference }
+        ensures { OnOk result (self.new.line.items ++ self.new.part ≡ (self.old.line.items ++ self.old.part) ++ cell_text (Step difference)) }
+    {
+        if step_print_cell(difference, &mut self.part).is_ok() {
+            return Ok(());
+        }
+        self.push_step_at_end(difference)
+    }
+
+    /// The same where the part may be full.
+    #[cold]
+    #[inline(never)]
+    fn push_step_at_end(&mut self, difference: i64) -> Result<(), AllocError>
+        requires { IsShort difference }
+        ensures { OnOk result (self.new.line.items ++ self.new.part ≡ (self.old.line.items ++ self.old.part) ++ cell_text (Step difference)) }
+    {
+        self.push_cell(Code::Step(difference))
+    }
+
+    /// The same of a missing value: a blank.
+    #[inline(always)]
+    fn push_missing(&mut self) -> Result<(), AllocError>
+        ensures { OnOk result (self.new.line.items ++ self.new.part ≡ (self.old.line.items ++ self.old.part) ++ cell_text Missing) }
+    {
+        if self.part.push(b' ').is_ok() {
+            return Ok(());
+        }
+        self.push_missing_at_end()
+    }
+
+    /// The same where the part is full.
+    #[cold]
+    #[inline(never)]
+    fn push_missing_at_end(&mut self) -> Result<(), AllocError>
+        ensures { OnOk result (self.new.line.items ++ self.new.part ≡ (self.old.line.items ++ self.old.part) ++ cell_text Missing) }
+    {
+        self.push_cell(Code::Missing)
     }
 
     /// Moves what the part holds to the line's end.
@@ -156,10 +203,62 @@ fn renew_arc(before: &[ObsArc], place: usize, value: Option<i64>, arc: &mut ObsA
     }
 }
 
+/// Replaces an arc by that of a row's cell after its value, and appends the value's code and a blank.
+#[inline(never)]
+fn push_any_value(
+    before: &[ObsArc],
+    place: usize,
+    value: i64,
+    arc: &mut ObsArc,
+    desk: &mut Desk,
+) -> Result<(), AllocError>
+    requires { IsIn OBSERVATION_WIDTH (Some value) }
+    ensures arc { arc.new ≡ arc_of_value (Some value) (slice_index_or before.now place None) }
+    ensures line { OnOk result (desk.new.line.items ++ desk.new.part
+        ≡ (desk.old.line.items ++ desk.old.part) ++ cell_text (code_of_value (Some value) (slice_index_or before.now place None))) }
+{
+    let code = renew_arc(before, place, Some(value), arc);
+    desk.push_cell(code)
+}
+
+/// The difference of order 3 that is the code of a cell's value, where it is one, as by [`ObsArc::push_third`].
+#[inline(always)]
+fn third_at(before: &[ObsArc], place: usize, value: i64, arc: &mut ObsArc) -> Option<i64>
+    requires { IsIn OBSERVATION_WIDTH (Some value) }
+    ensures code { IfSome result (λ number. code_of_value (Some value) (slice_index_or before.now place None) ≡ Step number) }
+    ensures short { IfSome result IsShort }
+    ensures arc { OnSome result (arc.new ≡ arc_of_value (Some value) (slice_index_or before.now place None)) }
+{
+    arc.push_third(before.get(place)?, value)
+}
+
+/// The same as [`push_any_value`] of a value that may be missing.
+#[inline(always)]
+fn push_value(
+    before: &[ObsArc],
+    place: usize,
+    value: Option<i64>,
+    arc: &mut ObsArc,
+    desk: &mut Desk,
+) -> Result<(), AllocError>
+    requires { IsIn OBSERVATION_WIDTH value }
+    ensures arc { OnOk result (arc.new ≡ arc_of_value value (slice_index_or before.now place None)) }
+    ensures line { OnOk result (desk.new.line.items ++ desk.new.part
+        ≡ (desk.old.line.items ++ desk.old.part) ++ cell_text (code_of_value value (slice_index_or before.now place None))) }
+{
+    let Some(value) = value else {
+        arc.end();
+        return desk.push_missing();
+    };
+    match third_at(before, place, value, arc) {
+        Some(difference) => desk.push_step(difference),
+        None => push_any_value(before, place, value, arc, desk),
+    }
+}
+
 /// Puts the arc of a cell after its next code in its place among others, and gives the code's value.
 ///
 /// `NoArc` and `OutOfRange` come as by [`ObsArc::apply`].
-#[inline(always)]
 fn apply_at(
     before: &[ObsArc],
     place: usize,
@@ -174,21 +273,74 @@ fn apply_at(
 {
     match before.get(place) {
         Some(arc) => arcs[place].apply_after(arc, code),
-        None => begin_at(place, code, arcs),
+        None => arcs[place].apply_after(&ObsArc::new(), code),
     }
 }
 
-/// The same of a cell that had no arc.
-#[cold]
+/// Reads the cell that a text begins with, in any spelling: puts its arc after that of the epoch before in its place among
+/// others, and gives its value, and the index after the cell and its blank.
+///
+/// `BadField` comes where the cell is no code, `NoArc` and `OutOfRange` come as by [`ObsArc::apply`].
 #[inline(never)]
-fn begin_at(place: usize, code: Code, arcs: &mut [ObsArc]) -> Result<Option<i64>, Fault>
-    requires printable { IsPrintable code }
+fn read_any_cell(
+    before: &[ObsArc],
+    place: usize,
+    text: &[u8],
+    arcs: &mut [ObsArc],
+) -> Result<(Option<i64>, usize), Fault>
     requires within { place < length arcs.old }
-    ensures value { result ≡ value_of_code OBSERVATION_WIDTH code None }
-    ensures arc { OnOk result (arcs.new ≡ slice_set arcs.old place (arc_of_code code None)) }
-    ensures counted { length arcs.new ≡ length arcs.old }
+    ensures ok { IfOk result (λ cell. IsCellRead before.now place text.now arcs.old arcs.new cell.0 cell.1) }
+    ensures err { IfErr result (λ fault. cell_read BadField (value_at_place before.now place) (code_of (first_cell text.now)) ≡ Err fault) }
 {
-    arcs[place].apply_after(&ObsArc::new(), code)
+    let Ok((code, length)) = code_before_blank(text) else {
+        return Err(Fault::BadField);
+    };
+    match apply_at(before, place, code, arcs) {
+        Ok(value) => Ok((value, length)),
+        Err(fault) => Err(fault),
+    }
+}
+
+/// The same of a difference of order 3, that of most cells; `None` where the cell is another one, or at its fault.
+#[inline(always)]
+fn read_third(
+    before: &[ObsArc],
+    place: usize,
+    text: &[u8],
+    arcs: &mut [ObsArc],
+) -> Option<(i64, usize)>
+    requires within { place < length arcs.old }
+    ensures some { IfSome result (λ cell. IsCellRead before.now place text.now arcs.old arcs.new (Some cell.0) cell.1) }
+    ensures none { IfNone result (arcs.new ≡ arcs.old) }
+{
+    let (number, length) = step_before_blank(text)?;
+    let arc = before.get(place)?;
+    let value = arcs[place].apply_third(arc, number)?;
+    Some((value, length))
+}
+
+/// The same, also of a cell without a code.
+#[inline(always)]
+fn read_usual_cell(
+    before: &[ObsArc],
+    place: usize,
+    text: &[u8],
+    arcs: &mut [ObsArc],
+) -> Option<(Option<i64>, usize)>
+    requires within { place < length arcs.old }
+    ensures some { IfSome result (λ cell. IsCellRead before.now place text.now arcs.old arcs.new cell.0 cell.1) }
+    ensures none { IfNone result (arcs.new ≡ arcs.old) }
+{
+    let Some(first) = text.first() else {
+        arcs[place].end();
+        return Some((None, 0));
+    };
+    if *first == b' ' {
+        arcs[place].end();
+        return Some((None, 1));
+    }
+    let (value, length) = read_third(before, place, text, arcs)?;
+    Some((Some(value), length))
 }
 
 /// Gives arcs the count of a row's cells; those that come are without values.
@@ -216,8 +368,7 @@ fn push_cells(
     desk.part.clear();
     let mut place = 0;
     while let Some(value) = row.value(place) {
-        let code = renew_arc(before, place, value, &mut arcs[place]);
-        desk.push_cell(code)?;
+        push_value(before, place, value, &mut arcs[place], desk)?;
         place += 1;
     }
     desk.end_cells()
@@ -447,14 +598,20 @@ fn read_cells(
 {
     let mut at = 0;
     for place in 0..count {
-        let Ok((code, length)) = code_before_blank(&line[at..]) else {
-            return Err(Fault::BadField);
-        };
-        match apply_at(before, place, code, arcs) {
-            Ok(value) => row.set(place, value),
-            Err(fault) => return Err(fault),
+        let text = &line[at..];
+        match read_usual_cell(before, place, text, arcs) {
+            Some((value, length)) => {
+                row.set(place, value);
+                at += length;
+            }
+            None => match read_any_cell(before, place, text, arcs) {
+                Ok((value, length)) => {
+                    row.set(place, value);
+                    at += length;
+                }
+                Err(fault) => return Err(fault),
+            },
         }
-        at += length;
     }
     Ok(at)
 }

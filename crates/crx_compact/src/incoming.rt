@@ -2,14 +2,14 @@
 
 ghost use Rattle.std.specs.Option.{option_copied};
 ghost use Rattle.std.specs.Prelude.{slice_get, ◌≡◌, ◌≤◌, ◌⊎◌, None, Some, Ok, Err, length, is_some, false, true, OnOk, IfOk, IfErr, IfSome, OnSome, IfNone, take};
-ghost use Rattle.crx_text.specs.declared.limits.TheConstants.{LINE_LIMIT};
+ghost use Rattle.crx_lines.specs.declared.limits.TheConstants.{LINE_LIMIT};
 ghost use Rattle.crx_rinex.specs.Observations.{Row};
 ghost use Rattle.crx_rinex.specs.Epochs.{begun, is_full_epoch, with_row};
 ghost use Rattle.crx_compact.specs.Tails.{Tail};
 ghost use Rattle.crx_compact.specs.OpenEpochs.{opened, Going, Whole, Faulty};
 ghost use Rattle.crx_compact.specs.HeldRows.{row_after, IsNextRow};
 ghost use Rattle.crx_text.specs.Columns.{columns};
-ghost use Rattle.crx_text.specs.declared.limits.TheConstants.{HEAD_WIDTH};
+ghost use Rattle.crx_lines.specs.declared.limits.TheConstants.{HEAD_WIDTH};
 ghost use Rattle.crx_compact.specs.EpochText.{epoch_count};
 ghost use Rattle.crx_compact.specs.CompactPlaces.{clock_line_read};
 ghost use Rattle.crx_compact.specs.OpenEpochs.{past_of_tail};

@@ -1,18 +1,21 @@
 //! What is kept of an epoch for the next one: Hatanaka's Compact RINEX 3.0.
 
-ghost use Rattle.std.specs.Prelude.{◌≡◌, ◌≤◌, ◌<◌, ◌++◌, ◌∷◌, [], true, Ok, Err, length, take, map, ◌⊎◌, OnOk, IfOk, IfErr};
+ghost use Rattle.std.specs.Prelude.{ℕ, min, ◌≡◌, ◌≤◌, ◌<◌, ◌+◌, false, ◌++◌, ◌∷◌, [], true, Ok, Err, length, take, map, ◌⊎◌, OnOk, IfOk, IfErr};
+ghost use Rattle.std.specs.Bool.{OnTrue};
 ghost use Rattle.std.specs.List.{list_all};
 ghost use Rattle.crx_text.specs.Columns.{without_end_blanks};
 ghost use Rattle.crx_text.specs.Texts.{is_kept};
-ghost use Rattle.crx_text.specs.declared.limits.TheConstants.{LINE_LIMIT};
-ghost use Rattle.crx_rinex.specs.Epochs.{IsSoundEpoch};
+ghost use Rattle.crx_lines.specs.declared.limits.TheConstants.{LINE_LIMIT};
+ghost use Rattle.crx_rinex.specs.Epochs.{are_apart, is_among, IsSoundEpoch};
 ghost use Rattle.crx_compact.specs.Compaction.{epoch_text};
 ghost use Rattle.crx_text.specs.Texts.{patched};
 ghost use Rattle.crx_text.specs.Numbers.{IsClock};
-ghost use Rattle.std.specs.Option.{ForSome};
+ghost use Rattle.std.specs.Option.{option_copied, ForSome};
 ghost use Rattle.crx_compact.specs.CompactPlaces.{clock_line_read, satellites_of_line};
 ghost use Rattle.crx_compact.specs.OpenEpochs.{past_of_tail};
 ghost use Rattle.crx_compact.specs.Steps.{arc_of_code, lines_after, no_tail, tail_after};
+ghost use Rattle.crx_compact.specs.Sequences.{named};
+ghost use Rattle.crx_compact.specs.Tails.{RowTail};
 ghost use Rattle.crx_compact.specs.Cells.{row_line_after, row_tail_in};
 ghost use Rattle.crx_compact.specs.HeldRows.{row_after, IsNextRow};
 
@@ -20,6 +23,7 @@ use crate::arc::ClockArc;
 use crate::awaited::{AwaitedSatellite, begins_epoch, read_satellites};
 use crate::held::{Desk, HeldSatellite, find};
 use crate::lines::Lines;
+use crx_lines::limits::NAME_WIDTH;
 use crx_rinex::{Epoch, SatRow, Types};
 use crx_text::difference::patch_bytes;
 use crx_text::{Code, Fault, Text, code_read, trim_end};
@@ -32,19 +36,23 @@ pub(crate) struct KeptEpoch {
     text: Vec<u8>,
     clock: ClockArc,
     satellites: Vec<HeldSatellite>,
+    /// How many of the first satellites are known to be different ones.
+    different: usize,
     alloc: Global,
 }
 
 impl Model for KeptEpoch {
-    ghost use Rattle.std.specs.Prelude.{◌≤◌, length};
-    ghost use Rattle.crx_text.specs.declared.limits.TheConstants.{LINE_LIMIT};
-    ghost use Rattle.crx_compact.specs.Tails.{Tail};
+    ghost use Rattle.std.specs.Prelude.{◌≡◌, ◌≤◌, length, take, true};
+    ghost use Rattle.crx_lines.specs.declared.limits.TheConstants.{LINE_LIMIT};
+    ghost use Rattle.crx_rinex.specs.Epochs.{are_apart};
+    ghost use Rattle.crx_compact.specs.Tails.{RowTail, Tail};
 
     ghost Value = { Tail };
 
     ghost view = { λ kept. record { text = kept.text.items; clock = kept.clock; rows = kept.satellites.items } };
 
-    ghost invariant = { λ kept. length kept.text.items ≤ LINE_LIMIT };
+    ghost invariant = { λ kept. (length kept.text.items ≤ LINE_LIMIT) × (kept.different ≤ length kept.satellites.items)
+        × (are_apart (λ (row : RowTail). row.name) (take kept.different kept.satellites.items) ≡ true) };
 }
 
 impl KeptEpoch {
@@ -56,6 +64,7 @@ impl KeptEpoch {
             text: Vec::new(alloc),
             clock: ClockArc::new(),
             satellites: Vec::new(alloc),
+            different: 0,
             alloc,
         }
     }
@@ -72,6 +81,34 @@ impl KeptEpoch {
         ensures { self.new ≡ record self.old { rows = take count self.old.rows } }
     {
         self.satellites.truncate(count);
+        self.different = self.different.min(count);
+    }
+
+    /// Whether a satellite of this identifier is at a place, and known to be another one than those before it.
+    pub(crate) fn has_at(&self, place: usize, name: [u8; NAME_WIDTH]) -> bool
+        ensures new { OnTrue result (is_among (λ (row : RowTail). row.name) name (take place self.now.rows) ≡ false) }
+        ensures next { OnTrue result (map (λ (row : RowTail). row.name) (take (place + 1) self.now.rows) ≡ map (λ (row : RowTail). row.name) (take place self.now.rows) ++ name ∷ []) }
+    {
+        if place < self.different {
+            let satellite = &self.satellites[place];
+            if satellite.name() == name {
+                return true;
+            }
+        }
+        false
+    }
+
+    /// What is kept of a satellite. It mostly stands at the place that it has in the next epoch.
+    fn find(&self, place: usize, name: [u8; NAME_WIDTH]) -> Option<&HeldSatellite>
+        ensures { option_copied result ≡ named (λ (row : RowTail). row.name) name self.now.rows }
+    {
+        if place < self.different {
+            let satellite = &self.satellites[place];
+            if satellite.name() == name {
+                return Some(satellite);
+            }
+        }
+        find(&self.satellites, name)
     }
 
     /// Replaces what is kept by what an epoch leaves after the one before, and puts the epoch's compact lines after
@@ -87,18 +124,13 @@ impl KeptEpoch {
         ensures after { OnOk result (self.new ≡ tail_after before.now epoch.now) }
         ensures lines { OnOk result (lines.new ≡ lines.old ++ lines_after before.now epoch.now) }
     {
+        self.different = 0;
         renew_text(&mut self.text, epoch)?;
         desk.push_line(&before.text, &self.text, lines)?;
         self.clock = before.clock.copied();
         desk.push_code_line(self.clock.push(epoch.head().clock()), lines)?;
-        encode_rows(
-            self.alloc,
-            &before.satellites,
-            epoch,
-            &mut self.satellites,
-            desk,
-            lines,
-        )?;
+        encode_rows(self.alloc, before, epoch, &mut self.satellites, desk, lines)?;
+        self.different = self.satellites.len();
         Ok(())
     }
 
@@ -128,7 +160,7 @@ impl KeptEpoch {
         if self.text.extend_from_slice(part.bytes()).is_err() {
             return Err(Fault::OutOfMemory);
         }
-        read_satellites(types, &self.text, satellites)
+        read_satellites(types, &self.text, before, satellites)
     }
 
     /// Reads a clock line after what was kept of the epoch before: replaces the clock's arc, and gives the code and its
@@ -186,9 +218,18 @@ impl KeptEpoch {
         let Ok(row) = SatRow::blank_again(self.alloc, spare, name, satellite.count()) else {
             return Err(Fault::OutOfMemory);
         };
-        let kept = find(&before.satellites, name);
+        let kept = before.find(index, name);
+        let different = self.different;
+        self.different = different.min(index);
         let next = &mut self.satellites[index];
-        next.read(row, kept, satellite, line, part)
+        let known = next.name();
+        let row = match next.read(row, kept, satellite, line, part) {
+            Ok(row) => row,
+            Err(fault) => return Err(fault),
+        };
+        let is_same = next.name() == known;
+        self.different = known_different(&self.satellites, index, different, is_same);
+        Ok(row)
     }
 }
 
@@ -235,7 +276,8 @@ fn make_room(
 ) -> Result<(), AllocError>
     requires { index ≤ length satellites.old.items }
     ensures room { OnOk result (index < length satellites.new.items) }
-    ensures same { take index satellites.new.items ≡ take index satellites.old.items }
+    ensures same { (count : ℕ) → count ≤ length satellites.old.items → take count satellites.new.items ≡ take count satellites.old.items }
+    ensures grown { length satellites.old.items ≤ length satellites.new.items }
 {
     if index < satellites.len() {
         return Ok(());
@@ -244,23 +286,54 @@ fn make_room(
     Ok(())
 }
 
+/// How many of the first satellites are known to be different, once the one at a place was replaced: by one of the same
+/// identifier, or by another.
+fn known_different(
+    satellites: &[HeldSatellite],
+    index: usize,
+    different: usize,
+    is_same: bool,
+) -> usize
+    requires place { index < length satellites.now }
+    requires within { different ≤ length satellites.now }
+    requires before { are_apart (λ (row : RowTail). row.name) (take (min different index) satellites.now) ≡ true }
+    requires same { is_same ≡ true → are_apart (λ (row : RowTail). row.name) (take different satellites.now) ≡ true }
+    ensures within { result ≤ length satellites.now }
+    ensures apart { are_apart (λ (row : RowTail). row.name) (take result satellites.now) ≡ true }
+{
+    if is_same || different < index {
+        return different;
+    }
+    if is_among(&satellites[..index], satellites[index].name()) {
+        return index;
+    }
+    index + 1
+}
+
+/// Whether some satellites have one of this identifier.
+fn is_among(satellites: &[HeldSatellite], name: [u8; NAME_WIDTH]) -> bool
+    ensures { result ≡ is_among (λ (row : RowTail). row.name) name satellites.now }
+{
+    satellites.iter().any(|known| known.name() == name)
+}
+
 /// Makes the satellite lines of an epoch, and what its satellites leave.
 fn encode_rows(
     alloc: Global,
-    before: &[HeldSatellite],
+    before: &KeptEpoch,
     epoch: &Epoch,
     satellites: &mut Vec<HeldSatellite>,
     desk: &mut Desk,
     lines: &mut Lines,
 ) -> Result<(), AllocError>
-    ensures after { OnOk result (satellites.new.items ≡ map (row_tail_in before.now) epoch.now.rows) }
-    ensures lines { OnOk result (lines.new ≡ lines.old ++ map (row_line_after before.now) epoch.now.rows) }
+    ensures after { OnOk result (satellites.new.items ≡ map (row_tail_in before.now.rows) epoch.now.rows) }
+    ensures lines { OnOk result (lines.new ≡ lines.old ++ map (row_line_after before.now.rows) epoch.now.rows) }
 {
     let mut index = 0;
     while let Some(row) = epoch.row(index) {
         make_room(alloc, satellites, index)?;
         let next = &mut satellites[index];
-        next.encode(find(before, row.name()), row, desk)?;
+        next.encode(before.find(index, row.name()), row, desk)?;
         desk.end_line(lines)?;
         index += 1;
     }

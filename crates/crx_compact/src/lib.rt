@@ -4,6 +4,8 @@
 
 pub mod arc;
 mod awaited;
+#[cfg(test)]
+mod cases;
 pub mod coded;
 pub mod columns;
 #[cfg(test)]

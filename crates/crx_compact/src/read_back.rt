@@ -1,7 +1,7 @@
 //! The way back: what one `Columns` makes of an epoch, another one reads.
 
 ghost use Rattle.std.specs.Prelude.{◌≡◌, ◌⊎◌, ◌∷◌, List, Some, true, false, map, IfOk, IfErr};
-ghost use Rattle.crx_text.specs.Seen.{Content};
+ghost use Rattle.crx_lines.specs.Seen.{Content};
 ghost use Rattle.crx_compact.specs.Compaction.{Marked, compact_epoch, since_full};
 ghost use Rattle.crx_compact.specs.Laws.{AreWhole};
 ghost use Rattle.crx_compact.specs.LentLines.{AreReadable, HasGiven, StandsAt};

@@ -2,27 +2,18 @@
 
 ghost use Rattle.std.specs.Bool.{OnTrue};
 ghost use Rattle.std.specs.Prelude.{◌≡◌, ◌≤◌, length, false};
-ghost use Rattle.crx_text.specs.declared.limits.TheConstants.{LINE_LIMIT};
+ghost use Rattle.crx_lines.specs.declared.limits.TheConstants.{LINE_LIMIT};
 ghost use Rattle.crx_rinex.specs.EpochLines.{is_event_line};
 
-use crate::Columns;
-use crx_rinex::{Epoch, Head, Printed, SatRow, Types};
+use crate::cases::{BOTH_WAYS, Case, READ_ALONE};
+use crate::tests::{begun, one_type};
+use crate::{Coded, Columns};
+use crx_lines::limits::LINE_LIMIT;
+use crx_rinex::{Epoch, Printed, SatRow, Types};
 use crx_text::Fault;
-use crx_text::limits::LINE_LIMIT;
 use std::alloc::Global;
+use std::process::Abort;
 use std::test::Fail;
-
-const ONE_TYPE: &[u8] =
-    b"G    1 C1C                                                  SYS / # / OBS TYPES";
-
-const FULL: &[u8] = b"> 2024 01 01 00 00  0.0000000  0  1      G01";
-
-/// The counts of types of these files: one type of GPS.
-fn one_type(alloc: Global) -> Result<Types, Fault> {
-    let mut types = Types::new(alloc);
-    types.accept_line(ONE_TYPE)?;
-    Ok(types)
-}
 
 /// Whether a line may be fed: it isn't too long, and begins no event.
 fn may_be_fed(line: &[u8]) -> bool
@@ -52,29 +43,27 @@ pub(crate) fn take(
     columns.feed(line)
 }
 
-/// Whether the last of some compact lines completes an epoch of these RINEX lines, and none before it does.
-fn gives(
-    alloc: Global,
+/// Takes lines one after another: the epoch that the last one completes. An epoch before the last line is a fault.
+pub(crate) fn take_all(
     columns: &mut Columns,
+    types: &Types,
     lines: &[&[u8]],
-    want: &[&[u8]],
-) -> Result<bool, Fault> {
-    let types = one_type(alloc)?;
+) -> Result<Option<Epoch>, Fault> {
     let mut given = None;
     for line in lines {
         if given.is_some() {
-            return Ok(false);
+            return Err(Fault::Truncated);
         }
-        given = take(columns, &types, line)?;
+        given = take(columns, types, line)?;
     }
-    match given {
-        Some(epoch) => Ok(prints(epoch, want)),
-        None => Ok(false),
-    }
+    Ok(given)
 }
 
-/// Whether an epoch has these RINEX lines.
-pub(crate) fn prints(epoch: Epoch, want: &[&[u8]]) -> bool {
+/// Whether an epoch was given that has these RINEX lines.
+pub(crate) fn prints(given: Option<Epoch>, want: &[&[u8]]) -> bool {
+    let Some(epoch) = given else {
+        return false;
+    };
     let mut printed = Printed::new(epoch);
     for line in want {
         if printed.next_line() != Some(*line) {
@@ -84,631 +73,107 @@ pub(crate) fn prints(epoch: Epoch, want: &[&[u8]]) -> bool {
     printed.next_line().is_none()
 }
 
-/// The fault at the last of some compact lines; `None` where there is none, or one before it.
-fn fault_at_last(
+/// Expects that the last compact line of each epoch completes it, and none before it does.
+fn expect_all_read(
+    rt: &impl Abort,
     alloc: Global,
     columns: &mut Columns,
-    lines: &[&[u8]],
-) -> Result<Option<Fault>, Fault> {
+    cases: &[Case<'_>],
+) -> Result<(), Fault> {
     let types = one_type(alloc)?;
-    let [before @ .., last] = lines else {
-        return Ok(None);
-    };
-    for line in before {
-        take(columns, &types, line)?;
+    for case in cases {
+        let given = take_all(columns, &types, case.compact)?;
+        assert!(rt; prints(given, case.rinex));
     }
-    match take(columns, &types, last) {
-        Ok(_) => Ok(None),
-        Err(fault) => Ok(Some(fault)),
-    }
+    assert!(rt; columns.is_idle());
+    Ok(())
 }
 
-/// Compact lines of an epoch, and its RINEX lines.
-type Case<'a> = (&'a [&'a [u8]], &'a [&'a [u8]]);
-
-/// Whether epochs that are read one after another are these.
-fn all_given(alloc: Global, cases: &[Case<'_>]) -> Result<bool, Fault> {
-    let mut columns = Columns::new(alloc);
-    for (lines, want) in cases {
-        if !gives(alloc, &mut columns, lines, want)? {
-            return Ok(false);
+#[test]
+fn epochs_read(rt: HostRuntime) -> Result<(), Fail> {
+    for tables in [BOTH_WAYS, READ_ALONE] {
+        for cases in tables {
+            let mut columns = Columns::new(rt.alloc());
+            expect_all_read(&rt, rt.alloc(), &mut columns, cases)?;
         }
     }
-    Ok(columns.is_idle())
+    Ok(())
 }
 
-#[test]
-fn five_values(rt: HostRuntime) -> Result<(), Fail> {
-    let cases: [Case<'_>; 5] = [
-        (
-            &[
-                b"> 2024 01 01 00 00  0.0000000  0  1      G01",
-                b"",
-                b"3&20000000000",
-            ],
-            &[b"> 2024 01 01 00 00  0.0000000  0  1", b"G01  20000000.000"],
-        ),
-        (
-            &[b"                    1", b"", b"100500"],
-            &[b"> 2024 01 01 00 00  1.0000000  0  1", b"G01  20000100.500"],
-        ),
-        (
-            &[b"                    2", b"", b"1000"],
-            &[b"> 2024 01 01 00 00  2.0000000  0  1", b"G01  20000202.000"],
-        ),
-        (
-            &[b"                    3", b"", b"0"],
-            &[b"> 2024 01 01 00 00  3.0000000  0  1", b"G01  20000304.500"],
-        ),
-        (
-            &[b"                    4", b"", b"0"],
-            &[b"> 2024 01 01 00 00  4.0000000  0  1", b"G01  20000408.000"],
-        ),
-    ];
-    assert!(rt; all_given(rt.alloc(), &cases)?);
+const FULL: &[u8] = b"> 2024 01 01 00 00  0.0000000  0  1      G01";
+
+const FULL_LATER: &[u8] = b"> 2024 01 01 00 00  1.0000000  0  1      G01";
+
+const LATER: &[u8] = b"                    1";
+
+/// Compact lines before one that has a fault, this one, and its fault.
+type Bad<'a> = (&'a [&'a [u8]], &'a [u8], Fault);
+
+/// Codes that are refused.
+const BAD_CODES: &[Bad<'_>] = &[
+    (&[FULL, b""], b"5", Fault::NoArc),
+    (
+        &[FULL, b"", b"3&9999999999999", LATER, b""],
+        b"1",
+        Fault::OutOfRange,
+    ),
+    (&[FULL, b"", b"3&1000", FULL_LATER, b""], b"5", Fault::NoArc),
+    (&[FULL, b""], b"10&1000", Fault::BadField),
+    (&[FULL, b""], b"3&9999999999999999", Fault::OutOfRange),
+    (&[FULL, b""], b"3&1000000000000000000", Fault::BadField),
+];
+
+/// Lines that are refused.
+const BAD_LINES: &[Bad<'_>] = &[
+    (&[FULL, b""], FULL_LATER, Fault::Truncated),
+    (&[FULL], FULL_LATER, Fault::Truncated),
+    (&[FULL], b"xyz", Fault::BadClock),
+    (&[], LATER, Fault::NotAnEpoch),
+    (
+        &[],
+        b"> 2024 01 01 00 00  0.0000000  0  2      G01R01",
+        Fault::BadSatellite,
+    ),
+    (
+        &[],
+        b"> 2024 01 01 00 00  0.0000000  0  2      G01G01",
+        Fault::RepeatedSatellite,
+    ),
+    (
+        &[],
+        b"> 2024 01 01 00 00  0.0000000  0  1      G01 x",
+        Fault::BadEpoch,
+    ),
+    (&[FULL, b""], b"3&1000 888", Fault::BadFlags),
+];
+
+/// Expects the fault of a line, and that nothing is kept after it.
+fn expect_refused(
+    rt: &impl Abort,
+    columns: &mut Columns,
+    types: &Types,
+    bad: &Bad<'_>,
+) -> Result<(), Fault> {
+    for line in bad.0 {
+        take(columns, types, line)?;
+    }
+    for (line, fault) in [(bad.1, bad.2), (LATER, Fault::NotAnEpoch)] {
+        assert!(rt; matches!(take(columns, types, line), Err(given) if given == fault));
+        assert!(rt; columns.is_idle());
+    }
     Ok(())
 }
 
 #[test]
-fn each_epoch_in_full(rt: HostRuntime) -> Result<(), Fail> {
-    let cases: [Case<'_>; 5] = [
-        (
-            &[
-                b"> 2024 01 01 00 00  0.0000000  0  1      G01",
-                b"",
-                b"3&20000000000",
-            ],
-            &[b"> 2024 01 01 00 00  0.0000000  0  1", b"G01  20000000.000"],
-        ),
-        (
-            &[
-                b"> 2024 01 01 00 00  1.0000000  0  1      G01",
-                b"",
-                b"3&20000100500",
-            ],
-            &[b"> 2024 01 01 00 00  1.0000000  0  1", b"G01  20000100.500"],
-        ),
-        (
-            &[
-                b"> 2024 01 01 00 00  2.0000000  0  1      G01",
-                b"",
-                b"3&20000202000",
-            ],
-            &[b"> 2024 01 01 00 00  2.0000000  0  1", b"G01  20000202.000"],
-        ),
-        (
-            &[
-                b"> 2024 01 01 00 00  3.0000000  0  1      G01",
-                b"",
-                b"3&20000304500",
-            ],
-            &[b"> 2024 01 01 00 00  3.0000000  0  1", b"G01  20000304.500"],
-        ),
-        (
-            &[
-                b"> 2024 01 01 00 00  4.0000000  0  1      G01",
-                b"",
-                b"3&20000408000",
-            ],
-            &[b"> 2024 01 01 00 00  4.0000000  0  1", b"G01  20000408.000"],
-        ),
-    ];
-    assert!(rt; all_given(rt.alloc(), &cases)?);
-    Ok(())
-}
-
-#[test]
-fn every_second_epoch_in_full(rt: HostRuntime) -> Result<(), Fail> {
-    let cases: [Case<'_>; 5] = [
-        (
-            &[
-                b"> 2024 01 01 00 00  0.0000000  0  1      G01",
-                b"",
-                b"3&20000000000",
-            ],
-            &[b"> 2024 01 01 00 00  0.0000000  0  1", b"G01  20000000.000"],
-        ),
-        (
-            &[b"                    1", b"", b"100500"],
-            &[b"> 2024 01 01 00 00  1.0000000  0  1", b"G01  20000100.500"],
-        ),
-        (
-            &[
-                b"> 2024 01 01 00 00  2.0000000  0  1      G01",
-                b"",
-                b"3&20000202000",
-            ],
-            &[b"> 2024 01 01 00 00  2.0000000  0  1", b"G01  20000202.000"],
-        ),
-        (
-            &[b"                    3", b"", b"102500"],
-            &[b"> 2024 01 01 00 00  3.0000000  0  1", b"G01  20000304.500"],
-        ),
-        (
-            &[
-                b"> 2024 01 01 00 00  4.0000000  0  1      G01",
-                b"",
-                b"3&20000408000",
-            ],
-            &[b"> 2024 01 01 00 00  4.0000000  0  1", b"G01  20000408.000"],
-        ),
-    ];
-    assert!(rt; all_given(rt.alloc(), &cases)?);
-    Ok(())
-}
-
-#[test]
-fn missing_value(rt: HostRuntime) -> Result<(), Fail> {
-    let cases: [Case<'_>; 5] = [
-        (
-            &[
-                b"> 2024 01 01 00 00  0.0000000  0  1      G01",
-                b"",
-                b"3&20000000000",
-            ],
-            &[b"> 2024 01 01 00 00  0.0000000  0  1", b"G01  20000000.000"],
-        ),
-        (
-            &[b"                    1", b"", b"100500"],
-            &[b"> 2024 01 01 00 00  1.0000000  0  1", b"G01  20000100.500"],
-        ),
-        (
-            &[b"                    2", b"", b""],
-            &[b"> 2024 01 01 00 00  2.0000000  0  1", b"G01"],
-        ),
-        (
-            &[b"                    3", b"", b"3&20000304500"],
-            &[b"> 2024 01 01 00 00  3.0000000  0  1", b"G01  20000304.500"],
-        ),
-        (
-            &[b"                    4", b"", b"103500"],
-            &[b"> 2024 01 01 00 00  4.0000000  0  1", b"G01  20000408.000"],
-        ),
-    ];
-    assert!(rt; all_given(rt.alloc(), &cases)?);
-    Ok(())
-}
-
-#[test]
-fn absent_satellite(rt: HostRuntime) -> Result<(), Fail> {
-    let cases: [Case<'_>; 3] = [
-        (
-            &[
-                b"> 2024 01 01 00 00  0.0000000  0  2      G01G02",
-                b"",
-                b"3&1000",
-                b"3&5000  7",
-            ],
-            &[
-                b"> 2024 01 01 00 00  0.0000000  0  2",
-                b"G01         1.000",
-                b"G02         5.000 7",
-            ],
-        ),
-        (
-            &[
-                b"                    1             1         &&&",
-                b"",
-                b"1000",
-            ],
-            &[b"> 2024 01 01 00 00  1.0000000  0  1", b"G01         2.000"],
-        ),
-        (
-            &[
-                b"                    2             2         G02",
-                b"",
-                b"0",
-                b"3&7000  7",
-            ],
-            &[
-                b"> 2024 01 01 00 00  2.0000000  0  2",
-                b"G01         3.000",
-                b"G02         7.000 7",
-            ],
-        ),
-    ];
-    assert!(rt; all_given(rt.alloc(), &cases)?);
-    Ok(())
-}
-
-#[test]
-fn ending_indicator(rt: HostRuntime) -> Result<(), Fail> {
-    let cases: [Case<'_>; 2] = [
-        (
-            &[
-                b"> 2024 01 01 00 00  0.0000000  0  1      G01",
-                b"",
-                b"3&5000  7",
-            ],
-            &[
-                b"> 2024 01 01 00 00  0.0000000  0  1",
-                b"G01         5.000 7",
-            ],
-        ),
-        (
-            &[b"                    1", b"", b"  &"],
-            &[b"> 2024 01 01 00 00  1.0000000  0  1", b"G01"],
-        ),
-    ];
-    assert!(rt; all_given(rt.alloc(), &cases)?);
-    Ok(())
-}
-
-#[test]
-fn clock_values(rt: HostRuntime) -> Result<(), Fail> {
-    let cases: [Case<'_>; 4] = [
-        (
-            &[
-                b"> 2024 01 01 00 00  0.0000000  0  1      G01",
-                b"3&-123456789012",
-                b"",
-            ],
-            &[
-                b"> 2024 01 01 00 00  0.0000000  0  1      -0.123456789012",
-                b"G01",
-            ],
-        ),
-        (
-            &[b"                    1", b"", b""],
-            &[b"> 2024 01 01 00 00  1.0000000  0  1", b"G01"],
-        ),
-        (
-            &[b"                    2", b"3&1", b""],
-            &[
-                b"> 2024 01 01 00 00  2.0000000  0  1       0.000000000001",
-                b"G01",
-            ],
-        ),
-        (
-            &[b"                    3", b"2", b""],
-            &[
-                b"> 2024 01 01 00 00  3.0000000  0  1       0.000000000003",
-                b"G01",
-            ],
-        ),
-    ];
-    assert!(rt; all_given(rt.alloc(), &cases)?);
-    Ok(())
-}
-
-#[test]
-fn extreme_values(rt: HostRuntime) -> Result<(), Fail> {
-    let cases: [Case<'_>; 5] = [
-        (
-            &[
-                b"> 2024 01 01 00 00  0.0000000  0  1      G01",
-                b"",
-                b"3&9999999999999",
-            ],
-            &[b"> 2024 01 01 00 00  0.0000000  0  1", b"G019999999999.999"],
-        ),
-        (
-            &[b"                    1", b"", b"-10999999999998"],
-            &[b"> 2024 01 01 00 00  1.0000000  0  1", b"G01-999999999.999"],
-        ),
-        (
-            &[b"                    2", b"", b"21999999999996"],
-            &[b"> 2024 01 01 00 00  2.0000000  0  1", b"G019999999999.999"],
-        ),
-        (
-            &[b"                    3", b"", b"-43999999999992"],
-            &[b"> 2024 01 01 00 00  3.0000000  0  1", b"G01-999999999.999"],
-        ),
-        (
-            &[b"                    4", b"", b"43999999999992"],
-            &[b"> 2024 01 01 00 00  4.0000000  0  1", b"G019999999999.999"],
-        ),
-    ];
-    assert!(rt; all_given(rt.alloc(), &cases)?);
-    Ok(())
-}
-
-#[test]
-fn no_satellites(rt: HostRuntime) -> Result<(), Fail> {
-    let cases: [Case<'_>; 2] = [
-        (
-            &[b"> 2024 01 01 00 00  0.0000000  0  0", b""],
-            &[b"> 2024 01 01 00 00  0.0000000  0  0"],
-        ),
-        (&[b"", b""], &[b"> 2024 01 01 00 00  0.0000000  0  0"]),
-    ];
-    assert!(rt; all_given(rt.alloc(), &cases)?);
-    Ok(())
-}
-
-#[test]
-fn marks_past_the_identifiers(rt: HostRuntime) -> Result<(), Fail> {
-    let cases: [Case<'_>; 3] = [
-        (
-            &[
-                b"> 2024 01 01 00 00  0.0000000  0  1      G01",
-                b"",
-                b"1&1000",
-            ],
-            &[b"> 2024 01 01 00 00  0.0000000  0  1", b"G01         1.000"],
-        ),
-        (
-            &[
-                b"                    1                              &&&",
-                b"",
-                b"500",
-            ],
-            &[b"> 2024 01 01 00 00  1.0000000  0  1", b"G01         1.500"],
-        ),
-        (
-            &[b"                    2", b"", b"500"],
-            &[b"> 2024 01 01 00 00  2.0000000  0  1", b"G01         2.000"],
-        ),
-    ];
-    assert!(rt; all_given(rt.alloc(), &cases)?);
-    Ok(())
-}
-
-#[test]
-fn order_two(rt: HostRuntime) -> Result<(), Fail> {
-    let cases: [Case<'_>; 4] = [
-        (
-            &[
-                b"> 2024 01 01 00 00  0.0000000  0  1      G01",
-                b"",
-                b"2&1000",
-            ],
-            &[b"> 2024 01 01 00 00  0.0000000  0  1", b"G01         1.000"],
-        ),
-        (
-            &[b"                    1", b"", b"500"],
-            &[b"> 2024 01 01 00 00  1.0000000  0  1", b"G01         1.500"],
-        ),
-        (
-            &[b"                    2", b"", b"100"],
-            &[b"> 2024 01 01 00 00  2.0000000  0  1", b"G01         2.100"],
-        ),
-        (
-            &[b"                    3", b"", b"100"],
-            &[b"> 2024 01 01 00 00  3.0000000  0  1", b"G01         2.800"],
-        ),
-    ];
-    assert!(rt; all_given(rt.alloc(), &cases)?);
-    Ok(())
-}
-
-#[test]
-fn order_zero(rt: HostRuntime) -> Result<(), Fail> {
-    let cases: [Case<'_>; 2] = [
-        (
-            &[
-                b"> 2024 01 01 00 00  0.0000000  0  1      G01",
-                b"",
-                b"0&1000",
-            ],
-            &[b"> 2024 01 01 00 00  0.0000000  0  1", b"G01         1.000"],
-        ),
-        (
-            &[b"                    1", b"", b"7"],
-            &[b"> 2024 01 01 00 00  1.0000000  0  1", b"G01         0.007"],
-        ),
-    ];
-    assert!(rt; all_given(rt.alloc(), &cases)?);
-    Ok(())
-}
-
-#[test]
-fn order_four(rt: HostRuntime) -> Result<(), Fail> {
-    let cases: [Case<'_>; 6] = [
-        (
-            &[
-                b"> 2024 01 01 00 00  0.0000000  0  1      G01",
-                b"",
-                b"4&1000",
-            ],
-            &[b"> 2024 01 01 00 00  0.0000000  0  1", b"G01         1.000"],
-        ),
-        (
-            &[b"                    1", b"", b"1"],
-            &[b"> 2024 01 01 00 00  1.0000000  0  1", b"G01         1.001"],
-        ),
-        (
-            &[b"                    2", b"", b"1"],
-            &[b"> 2024 01 01 00 00  2.0000000  0  1", b"G01         1.003"],
-        ),
-        (
-            &[b"                    3", b"", b"1"],
-            &[b"> 2024 01 01 00 00  3.0000000  0  1", b"G01         1.007"],
-        ),
-        (
-            &[b"                    4", b"", b"1"],
-            &[b"> 2024 01 01 00 00  4.0000000  0  1", b"G01         1.015"],
-        ),
-        (
-            &[b"                    5", b"", b"1"],
-            &[b"> 2024 01 01 00 00  5.0000000  0  1", b"G01         1.030"],
-        ),
-    ];
-    assert!(rt; all_given(rt.alloc(), &cases)?);
-    Ok(())
-}
-
-#[test]
-fn leading_zeros(rt: HostRuntime) -> Result<(), Fail> {
-    let cases: [Case<'_>; 1] = [(
-        &[
-            b"> 2024 01 01 00 00  0.0000000  0  1      G01",
-            b"",
-            b"3&0000000000001000",
-        ],
-        &[b"> 2024 01 01 00 00  0.0000000  0  1", b"G01         1.000"],
-    )];
-    assert!(rt; all_given(rt.alloc(), &cases)?);
-    Ok(())
-}
-
-#[test]
-fn order_nine(rt: HostRuntime) -> Result<(), Fail> {
-    let cases: [Case<'_>; 1] = [(
-        &[b"> 2024 01 01 00 00  0.0000000  0  1      G01", b"9&5", b""],
-        &[
-            b"> 2024 01 01 00 00  0.0000000  0  1       0.000000000005",
-            b"G01",
-        ],
-    )];
-    assert!(rt; all_given(rt.alloc(), &cases)?);
-    Ok(())
-}
-
-/// Compact lines of an epoch whose last one has a fault.
-type Bad<'a> = (&'a [&'a [u8]], Fault);
-
-/// Whether each of some epochs has this fault at its last line, and nothing is kept after it.
-fn all_refused(alloc: Global, cases: &[Bad<'_>]) -> Result<bool, Fault> {
-    for (lines, fault) in cases {
-        let mut columns = Columns::new(alloc);
-        if fault_at_last(alloc, &mut columns, lines)? != Some(*fault) || !columns.is_idle() {
-            return Ok(false);
-        }
-        if fault_at_last(alloc, &mut columns, &[b"                    1"])?
-            != Some(Fault::NotAnEpoch)
-        {
-            return Ok(false);
+fn codes_and_lines_refused(rt: HostRuntime) -> Result<(), Fail> {
+    let types = one_type(rt.alloc())?;
+    for table in [BAD_CODES, BAD_LINES] {
+        for bad in table {
+            let mut columns = Columns::new(rt.alloc());
+            expect_refused(&rt, &mut columns, &types, bad)?;
         }
     }
-    Ok(true)
-}
-
-#[test]
-fn codes_that_are_refused(rt: HostRuntime) -> Result<(), Fail> {
-    let cases: [Bad<'_>; 6] = [
-        (
-            &[b"> 2024 01 01 00 00  0.0000000  0  1      G01", b"", b"5"],
-            Fault::NoArc,
-        ),
-        (
-            &[
-                b"> 2024 01 01 00 00  0.0000000  0  1      G01",
-                b"",
-                b"3&9999999999999",
-                b"                    1",
-                b"",
-                b"1",
-            ],
-            Fault::OutOfRange,
-        ),
-        (
-            &[
-                b"> 2024 01 01 00 00  0.0000000  0  1      G01",
-                b"",
-                b"3&1000",
-                b"> 2024 01 01 00 00  1.0000000  0  1      G01",
-                b"",
-                b"5",
-            ],
-            Fault::NoArc,
-        ),
-        (
-            &[
-                b"> 2024 01 01 00 00  0.0000000  0  1      G01",
-                b"",
-                b"10&1000",
-            ],
-            Fault::BadField,
-        ),
-        (
-            &[
-                b"> 2024 01 01 00 00  0.0000000  0  1      G01",
-                b"",
-                b"3&9999999999999999",
-            ],
-            Fault::OutOfRange,
-        ),
-        (
-            &[
-                b"> 2024 01 01 00 00  0.0000000  0  1      G01",
-                b"",
-                b"3&1000000000000000000",
-            ],
-            Fault::BadField,
-        ),
-    ];
-    assert!(rt; all_refused(rt.alloc(), &cases)?);
     Ok(())
-}
-
-#[test]
-fn lines_that_are_refused(rt: HostRuntime) -> Result<(), Fail> {
-    let cases: [Bad<'_>; 8] = [
-        (
-            &[
-                b"> 2024 01 01 00 00  0.0000000  0  1      G01",
-                b"",
-                b"> 2024 01 01 00 00  1.0000000  0  1      G01",
-            ],
-            Fault::Truncated,
-        ),
-        (
-            &[
-                b"> 2024 01 01 00 00  0.0000000  0  1      G01",
-                b"> 2024 01 01 00 00  1.0000000  0  1      G01",
-            ],
-            Fault::Truncated,
-        ),
-        (
-            &[b"> 2024 01 01 00 00  0.0000000  0  1      G01", b"xyz"],
-            Fault::BadClock,
-        ),
-        (&[b"                    1"], Fault::NotAnEpoch),
-        (
-            &[b"> 2024 01 01 00 00  0.0000000  0  2      G01R01"],
-            Fault::BadSatellite,
-        ),
-        (
-            &[b"> 2024 01 01 00 00  0.0000000  0  2      G01G01"],
-            Fault::RepeatedSatellite,
-        ),
-        (
-            &[b"> 2024 01 01 00 00  0.0000000  0  1      G01 x"],
-            Fault::BadEpoch,
-        ),
-        (
-            &[
-                b"> 2024 01 01 00 00  0.0000000  0  1      G01",
-                b"",
-                b"3&1000 888",
-            ],
-            Fault::BadFlags,
-        ),
-    ];
-    assert!(rt; all_refused(rt.alloc(), &cases)?);
-    Ok(())
-}
-
-/// Makes the compact lines of an epoch with one value, reads them, and says whether the epoch comes back.
-fn comes_back(
-    alloc: Global,
-    writer: &mut Columns,
-    reader: &mut Columns,
-    value: i64,
-) -> Result<bool, Fault> {
-    let types = one_type(alloc)?;
-    let epoch = epoch_of(alloc, value)?;
-    if !epoch.is_full() || !writer.is_idle() {
-        return Ok(false);
-    }
-    let Ok(mut coded) = writer.encode(epoch, false) else {
-        return Err(Fault::OutOfMemory);
-    };
-    let mut given = None;
-    for _ in 0..3 {
-        let Some(line) = coded.next_line() else {
-            return Ok(false);
-        };
-        given = take(reader, &types, line)?;
-    }
-    writer.take_back(coded);
-    let Some(epoch) = given else {
-        return Ok(false);
-    };
-    let back = epoch.row(0).and_then(|row| row.value(0));
-    reader.take_epoch_back(epoch);
-    Ok(back == Some(Some(value)))
 }
 
 /// An epoch of one satellite with this value.
@@ -716,10 +181,7 @@ fn epoch_of(alloc: Global, value: i64) -> Result<Epoch, Fault> {
     if value < 0 || 1_000_000_000 < value {
         return Err(Fault::OutOfRange);
     }
-    let Head::Epoch(head) = Head::read(b"> 2024 01 01 00 00  0.0000000  0  1")? else {
-        return Err(Fault::NotAnEpoch);
-    };
-    let mut epoch = Epoch::new(alloc, head);
+    let mut epoch = begun(alloc, b"> 2024 01 01 00 00  0.0000000  0  1")?;
     let mut row = SatRow::blank(alloc, *b"G01", 1)?;
     row.set(0, Some(value));
     if epoch.is_full() {
@@ -731,19 +193,51 @@ fn epoch_of(alloc: Global, value: i64) -> Result<Epoch, Fault> {
     }
 }
 
+/// Reads three compact lines that are lent: the epoch that the last one completes.
+fn taken(columns: &mut Columns, types: &Types, coded: &mut Coded) -> Result<Option<Epoch>, Fault> {
+    let mut given = None;
+    for _ in 0..3 {
+        let Some(line) = coded.next_line() else {
+            return Ok(None);
+        };
+        given = take(columns, types, line)?;
+    }
+    Ok(given)
+}
+
+/// Makes the compact lines of an epoch, reads them with other columns, and gives the first value of what comes back.
+fn value_back(
+    writer: &mut Columns,
+    reader: &mut Columns,
+    types: &Types,
+    epoch: Epoch,
+) -> Result<Option<i64>, Fault> {
+    if !epoch.is_full() || !writer.is_idle() {
+        return Err(Fault::BadEpoch);
+    }
+    let Ok(mut coded) = writer.encode(epoch, false) else {
+        return Err(Fault::OutOfMemory);
+    };
+    let given = taken(reader, types, &mut coded)?;
+    writer.take_back(coded);
+    let Some(epoch) = given else {
+        return Err(Fault::Truncated);
+    };
+    let value = epoch.row(0).and_then(|row| row.value(0));
+    reader.take_epoch_back(epoch);
+    Ok(value.flatten())
+}
+
 #[test]
 fn a_thousand_epochs(rt: HostRuntime) -> Result<(), Fail> {
     let mut writer = Columns::new(rt.alloc());
     let mut reader = Columns::new(rt.alloc());
+    let types = one_type(rt.alloc())?;
     for index in 0i64..1000 {
-        assert!(rt;
-            comes_back(
-                rt.alloc(),
-                &mut writer,
-                &mut reader,
-                index.wrapping_mul(7919) % 9973
-            )?
-        );
+        let value = index.wrapping_mul(7919) % 9973;
+        let epoch = epoch_of(rt.alloc(), value)?;
+        let back = value_back(&mut writer, &mut reader, &types, epoch)?;
+        assert_eq!(rt; back, Some(value));
     }
     Ok(())
 }

@@ -1,4 +1,4 @@
-use Rattle.std.proofs.Common.{◌≡◌, ◌<◌, Option, ℕ, sym, arith, length}
+use Rattle.std.proofs.Common.{◌≡◌, ◌<◌, Option, ℕ, refl, sym, arith, length}
 use Rattle.std.proofs.lemmas.List.{take_more_set, length-set}
 use Rattle.crx_compact.specs.Tails.{ArcTail}
 use Rattle.crx_compact.proofs.Making.{cells-more, some-there}
@@ -12,7 +12,7 @@ loop-value-preserved c =
     record {
       room = omega (arith, room, length-set {A = Option ArcTail});
       made =
-          cells-more _ _ _ _ _ _ c.in-Some.value c.renew_arc-code.result _ _ _ c.loop-value.invariant.made (sym c.in-Some.ensures.value)
-          c.renew_arc-code.ensures.code c.renew_arc-code.ensures.arc
-          c.in_ok-push_cell.ensures (take_more_set c.loop-value.arcs place _ (omega (arith, there, room)));
+          cells-more _ _ _ _ _ _ c.in-Some.value _ _ _ _ c.loop-value.invariant.made (sym c.in-Some.ensures.value)
+          refl c.in_ok-push_value.ensures.arc
+          c.in_ok-push_value.ensures.line (take_more_set c.loop-value.arcs place _ (omega (arith, there, room)));
     }

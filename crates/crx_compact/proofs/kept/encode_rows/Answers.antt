@@ -17,14 +17,14 @@ pub loop-row-preserved : goal.loop-row-preserved
 loop-row-preserved c =
     let index : ℕ = c.loop-row.index in
     let row : Row = c.in-Some.row.now in
-    let before : List RowTail = c.args.before.now in
+    let before : List RowTail = c.args.before.now.rows in
     let found = c.find.ensures ∙ ap (λ (name : List ℕ). named (λ (r : RowTail). r.name) name before) c.name.ensures.value in
     let room = c.in_ok-make_room.ensures.room in
     record {
       within = omega (arith, room, length-set {A = RowTail});
       left =
           made-more (row_tail_in before) [] c.args.epoch.now.rows index row _ _ c.encode.new.self c.loop-row.invariant.left (sym c.in-Some.ensures.value)
-          (take_more_set c.make_room.new.satellites.items index c.encode.new.self room ∙ ap (λ xs. xs ++ c.encode.new.self ∷ []) c.make_room.ensures.same)
+          (take_more_set c.make_room.new.satellites.items index c.encode.new.self room ∙ ap (λ xs. xs ++ c.encode.new.self ∷ []) (c.make_room.ensures.same index c.loop-row.invariant.within))
           (c.in_ok-encode.ensures.after ∙ ap (λ (kept : Option RowTail). row_tail_after kept row) found);
       lent =
           made-more (row_line_after before) c.args.lines.now c.args.epoch.now.rows index row _ _ (without_end_blanks c.encode.new.desk.line.items) c.loop-row.invariant.lent (sym c.in-Some.ensures.value)
@@ -34,8 +34,8 @@ loop-row-preserved c =
 
 pub returns-clause-after : goal.returns-clause-after
 returns-clause-after c =
-    c.truncate.ensures.items ∙ made-all (row_tail_in c.args.before.now) [] c.args.epoch.now.rows c.loop-row.index _ c.loop-row.invariant.left (sym c.in_default.ensures.value)
+    c.truncate.ensures.items ∙ made-all (row_tail_in c.args.before.now.rows) [] c.args.epoch.now.rows c.loop-row.index _ c.loop-row.invariant.left (sym c.in_default.ensures.value)
 
 pub returns-clause-lines : goal.returns-clause-lines
 returns-clause-lines c =
-    made-all (row_line_after c.args.before.now) c.args.lines.now c.args.epoch.now.rows c.loop-row.index c.loop-row.lines c.loop-row.invariant.lent (sym c.in_default.ensures.value)
+    made-all (row_line_after c.args.before.now.rows) c.args.lines.now c.args.epoch.now.rows c.loop-row.index c.loop-row.lines c.loop-row.invariant.lent (sym c.in_default.ensures.value)

@@ -6,8 +6,8 @@ use Rattle.crx_compact.proofs.kept.encode_rows.Given as goal
 abbrev pub invariant-loop-row : goal.invariant-loop-row
 invariant-loop-row l = record {
   within : l.index ≤ length l.satellites.items;
-  left : Made (row_tail_in l.before) [] l.epoch.rows l.index (take l.index l.satellites.items);
-  lent : Made (row_line_after l.before) l.initial.lines l.epoch.rows l.index l.lines;
+  left : Made (row_tail_in l.before.rows) [] l.epoch.rows l.index (take l.index l.satellites.items);
+  lent : Made (row_line_after l.before.rows) l.initial.lines l.epoch.rows l.index l.lines;
 }
 
 abbrev pub decreases-loop-row : goal.decreases-loop-row

@@ -2,7 +2,7 @@ use Rattle.std.proofs.Common.{◌≡◌, ◌≤◌, ◌++◌, List, ℕ, true, l
 use Rattle.std.specs.List.{list_all}
 use Rattle.crx_text.specs.Columns.{without_end_blanks}
 use Rattle.crx_text.specs.Texts.{is_kept}
-use Rattle.crx_text.specs.declared.limits.TheConstants.{LINE_LIMIT}
+use Rattle.crx_lines.specs.declared.limits.TheConstants.{LINE_LIMIT}
 use Rattle.crx_compact.specs.Compaction.{epoch_text}
 use Rattle.crx_compact.proofs.SoundTexts.{beginning-trimmed, trimmed-fits, trimmed-plain}
 use Rattle.crx_compact.proofs.kept.renew_text.Goals as goal

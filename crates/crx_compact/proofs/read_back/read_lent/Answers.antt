@@ -1,5 +1,5 @@
 use Rattle.std.proofs.Common.{ap, subst, Option}
-use Rattle.crx_text.specs.Seen.{Content}
+use Rattle.crx_lines.specs.Seen.{Content}
 use Rattle.crx_rinex.specs.Observations.{Epoch}
 use Rattle.crx_compact.specs.Coded.{CodedEpoch}
 use Rattle.crx_compact.specs.OpenEpochs.{HasMade, step_in, tail_held}

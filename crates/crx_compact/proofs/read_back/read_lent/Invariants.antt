@@ -1,5 +1,5 @@
 use Rattle.std.proofs.Common.{map, length}
-use Rattle.crx_text.specs.Seen.{Content}
+use Rattle.crx_lines.specs.Seen.{Content}
 use Rattle.crx_compact.specs.LentLines.{IsMidway}
 use Rattle.crx_compact.specs.OpenEpochs.{place_by_steps, tail_held}
 use Rattle.crx_compact.proofs.read_back.read_lent.Given as goal

@@ -1,7 +1,7 @@
 use Rattle.std.proofs.Common.{rules, ◌≡◌, ℤ, ap, ◌∙◌, Option, Result, Ok, Err}
 use Rattle.std.specs.Prelude.{OnOk, OnErr, if◌then◌else◌}
 use Rattle.std.specs.Result.{is_ok}
-use Rattle.crx_text.specs.declared.fault.Fault.{Fault}
+use Rattle.crx_lines.specs.declared.fault.Fault.{Fault}
 use Rattle.crx_compact.specs.Tails.{ArcTail}
 use Rattle.crx_compact.specs.Steps.{value_of_code, arc_of_code}
 use Rattle.crx_compact.proofs.Arcs.{values-of_codes}

@@ -1,13 +1,12 @@
-use Rattle.std.proofs.Common.{rules, ◌≡◌, ◌<◌, ◌+◌, ℕ, List, ℤ, Bool, to_z, of_z, true, false, length, min, take, sym, ap, ◌∙◌, arith, FitsSigned, w64, Some, Result, Ok, Err, Option}
+use Rattle.std.proofs.Common.{rules, ◌≡◌, ◌<◌, ◌+◌, ℕ, ℤ, Bool, to_z, of_z, true, false, length, take, sym, ap, ◌∙◌, FitsSigned, w64, Some, Result, Ok, Err, Option}
 use Rattle.std.specs.Prelude.{if◌then◌else◌}
-use Rattle.crx_text.specs.declared.fault.Fault.{Fault}
-use Rattle.crx_text.specs.declared.fault.Fault.TheVariants.{OutOfRange}
-use Rattle.crx_compact.specs.Differences.{newest}
+use Rattle.crx_lines.specs.declared.fault.Fault.{Fault}
+use Rattle.crx_lines.specs.declared.fault.Fault.TheVariants.{OutOfRange}
 use Rattle.crx_compact.specs.Expansion.{is_within, in_range}
-use Rattle.crx_compact.specs.Steps.{differences_after, differences_by}
+use Rattle.crx_compact.specs.Steps.{differences_after}
 use Rattle.crx_compact.specs.Arcs.{kept_tail}
 use Rattle.crx_compact.proofs.Bounds.{within-is}
-use Rattle.crx_compact.proofs.Running.{IsLast, StepsOn, same-bits, begun-list, begun-kept, lower-below, within-below, goes-on-kept, steps-on}
+use Rattle.crx_compact.proofs.Running.{IsLast, StepsOn, accepted, stepped, same-bits, begun-list, begun-kept, lower-below, within-below, goes-on-kept}
 use Rattle.crx_compact.proofs.arc.Arc.apply_after.Goals as goal
 
 pub invariant_of-self-in-Start : goal.invariant_of-self-in-Start
@@ -29,20 +28,10 @@ value_after-value-requires-clause-below g c =
     let last : IsLast c.earlier.inside.order c.earlier.inside.count c.min-last.result = record { least = search rules } in
     lower-below c.earlier.inside.order c.earlier.inside.count c.min-last.result c.earlier.inside.differences last c.earlier.invariant.below
 
--- what the number of a next code leads to
-stepped : (width order count last : ℕ) (number value : ℤ) (ds : List ℤ) → last ≡ min order count → 0 < count → length ds ≡ 10
-    → value ≡ newest (differences_by (to_z w64 (of_z w64 number)) (take last ds)) → FitsSigned w64 number → StepsOn width order count last number value ds
-stepped width order count last number value ds e h l v f =
-    steps-on width order count last number value ds (record { least = e }) h (omega arith)
-    (v ∙ ap (λ x. newest (differences_by x (take last ds))) (same-bits number f))
-
 refused : (width : ℕ) (value : ℤ) (b : Bool) → b ≡ is_within width (to_z w64 (of_z w64 value)) → b ≡ false → FitsSigned w64 value → Err OutOfRange ≡ in_range width value
 refused width value b e h f =
     let out : is_within width value ≡ false = ap (is_within width) (sym (same-bits value f)) ∙ sym e ∙ h in
     ap {B = Result (Option ℤ) Fault} (λ t. if t then Ok (Some value) else Err OutOfRange) (sym out)
-
-accepted : (width : ℕ) (value : ℤ) (b : Bool) → b ≡ is_within width (to_z w64 (of_z w64 value)) → b ≡ true → FitsSigned w64 value → is_within width value ≡ true
-accepted width value b e h f = ap (is_within width) (sym (same-bits value f)) ∙ sym e ∙ h
 
 pub returns-then-not-is_within-2-clause-value : goal.returns-then-not-is_within-2-clause-value
 returns-then-not-is_within-2-clause-value g c =

@@ -1,5 +1,5 @@
 use Rattle.std.proofs.Common.{ap, ◌∙◌, sym, subst, ◌≡◌, Option, Some, None, if◌then◌else◌}
-use Rattle.crx_text.specs.Seen.{Content}
+use Rattle.crx_lines.specs.Seen.{Content}
 use Rattle.crx_compact.specs.Tails.{Tail}
 use Rattle.crx_compact.specs.OpenEpochs.{ColumnsState, HasMade, RawStep, is_idle, step_in}
 use Rattle.crx_compact.specs.OpenLines.{OpenLines, columns_state, made_of, step_after}

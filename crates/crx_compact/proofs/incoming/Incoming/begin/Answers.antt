@@ -1,6 +1,6 @@
 use Rattle.std.proofs.Common.{ap, ◌∙◌}
 use Rattle.crx_text.specs.Columns.{columns}
-use Rattle.crx_text.specs.declared.limits.TheConstants.{HEAD_WIDTH}
+use Rattle.crx_lines.specs.declared.limits.TheConstants.{HEAD_WIDTH}
 use Rattle.crx_compact.specs.EpochText.{epoch_count}
 use Rattle.crx_compact.specs.Tails.{Tail}
 use Rattle.crx_compact.proofs.Opening.{announced}

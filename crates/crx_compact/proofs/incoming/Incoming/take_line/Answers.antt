@@ -1,6 +1,6 @@
 use Rattle.std.proofs.Common.{ap, ◌∙◌, sym, subst, ◌≡◌, Option, Some, None, List}
 use Rattle.std.specs.Prelude.{slice_get, ◌⊎◌}
-use Rattle.crx_text.specs.declared.fault.Fault.TheVariants.{OutOfMemory}
+use Rattle.crx_lines.specs.declared.fault.Fault.TheVariants.{OutOfMemory}
 use Rattle.crx_compact.specs.EpochText.{Satellite}
 use Rattle.crx_compact.specs.OpenEpochs.{Faulty, RawStep}
 use Rattle.crx_compact.specs.OpenLines.{OpenLines, AreLinesSoFar, AreRowsSoFar, lines_so_far, step_after}

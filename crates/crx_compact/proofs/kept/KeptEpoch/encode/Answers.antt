@@ -1,4 +1,7 @@
-use Rattle.std.proofs.Common.{◌≡◌, ◌++◌, ◌∷◌, [], List, ℕ, ℤ, Option, map, ap, ◌∙◌, append_assoc}
+use Rattle.std.proofs.Common.{◌≡◌, ◌++◌, ◌∷◌, [], List, ℕ, ℤ, Option, map, ap, sym, ◌∙◌, append_assoc, true, subst, arith}
+use Rattle.std.proofs.lemmas.List.{take_all}
+use Rattle.crx_rinex.specs.Epochs.{are_apart}
+use Rattle.crx_rinex.proofs.Apart.{apart-map}
 use Rattle.crx_text.specs.Codes.{code_text}
 use Rattle.crx_text.specs.Texts.{text_difference}
 use Rattle.crx_text.specs.declared.code.Code.{Code}
@@ -28,7 +31,7 @@ returns-clause-after c =
     (c.push.ensures.arc
     ∙ ap (λ (v : Option ℤ). arc_of_value v c.copied-self-inside.result) (c.clock.ensures.value ∙ c.head.ensures.clock)
     ∙ ap (λ (arc : Option ArcTail). arc_of_value epoch.clock arc) c.copied-self-inside.ensures)
-    (c.in_ok-encode_rows.ensures.after ∙ ap (λ (kept : List RowTail). map (row_tail_in kept) epoch.rows) c.deref-3.ensures.value))
+    (c.in_ok-encode_rows.ensures.after ∙ ap (λ (t : Tail). map (row_tail_in t.rows) epoch.rows) (sym c.before-2.view_is)))
 
 pub returns-clause-lines : goal.returns-clause-lines
 returns-clause-lines c =
@@ -44,4 +47,17 @@ returns-clause-lines c =
     (c.push.ensures.code
     ∙ ap (λ (v : Option ℤ). code_of_value v c.copied-self-inside.result) (c.clock.ensures.value ∙ c.head.ensures.clock)
     ∙ ap (λ (arc : Option ArcTail). code_of_value epoch.clock arc) c.copied-self-inside.ensures))
-    (c.in_ok-encode_rows.ensures.lines ∙ ap (λ (kept : List RowTail). c.push_code_line.new.lines ++ map (row_line_after kept) epoch.rows) c.deref-3.ensures.value))
+    (c.in_ok-encode_rows.ensures.lines ∙ ap (λ (t : Tail). c.push_code_line.new.lines ++ map (row_line_after t.rows) epoch.rows) (sym c.before-2.view_is)))
+
+pub invariant_of-self-2 : goal.invariant_of-self-2
+invariant_of-self-2 c =
+    let name_of = λ (row : RowTail). row.name in
+    let items = c.encode_rows.new.satellites.items in
+    let len = c.len-self-inside.ensures in
+    let ok = c.encode_rows.new.satellites.ok.0 in
+    let after = c.in_ok-encode_rows.ensures.after in (
+      c.renew_text.ensures.within,
+      omega (arith, len, ok),
+      subst (λ (rs : List RowTail). are_apart name_of rs ≡ true) (sym (take_all c.len-self-inside.result items (omega (arith, len, ok)) ∙ after))
+          (apart-map name_of (row_tail_in c.args.before.now.rows) c.args.epoch.now.rows ∙ c.requires.apart),
+    )
