@@ -1,13 +1,13 @@
 -- A check is a run whose good status says whether the file is standard.
 use Rattle.std.proofs.Common.{ℕ, ◌≡◌, List, ◌++◌, Option, Some, None, refl, ap, sym, subst, ◌∙◌, append-nil}
-use Rattle.crx_text.specs.Lines.{lines_of}
-use Rattle.crx_text.specs.declared.fault.At.{At}
-use Rattle.crx_filter.specs.Messages.{error_text}
+use Rattle.crx_lines.specs.Lines.{lines_of}
+use Rattle.crx_lines.specs.declared.fault.At.{At}
+use Rattle.crx_engine.specs.Messages.{error_text}
 use Rattle.crx_filter.specs.Running.{Input}
 use Rattle.crx_filter.specs.Runs.{result_by, IsResult, RunsAs}
 use Rattle.crx_filter.specs.Taking.{Device}
-use Rattle.crx_filter.specs.Standard.{Findings, whole_of, findings_of, report_status, checked_by, checked}
-use Rattle.crx_filter.specs.Checking.{report_unless, check_filter}
+use Rattle.crx_engine.specs.Standard.{Findings, whole_of, findings_of, report_status, checked_by, checked}
+use Rattle.crx_engine.specs.Checking.{report_unless, check_filter}
 
 output-same : (o : Option At) (found : Findings) → report_unless o found ≡ (checked_by o found).output
 output-same None found = refl
@@ -52,8 +52,9 @@ runs-checked input given writer messages before status fault named r ended good 
       good = λ e.
           let h = r.good e in
           (h.0, h.1, h.2, h.3, h.4, as-checked given writer messages before status fault h.5 good_here bad_1);
+      flushed = r.flushed;
       ended = λ at e. (bad_1 at e, (r.ended at e).1);
       asked = r.asked;
       read = r.read;
-      salvaged = r.salvaged;
+      front = r.front;
     }

@@ -1,28 +1,29 @@
 -- What follows from how a run ended.
-use Rattle.std.proofs.Common.{◌≡◌, ◌⊎◌, inl, inr, ℕ, ◌+◌, ◌-◌, ◌^◌, ◌<◌, ◌≤◌, Bool, true, false, List, [], ◌++◌, length, Option, Some, None, refl, sym, ap, subst, ◌∙◌, arith, append-nil, length-append}
-use Rattle.crx_text.specs.Devices.{Tally, one_more}
-use Rattle.crx_text.specs.Lines.{InputLine, lines_of}
-use Rattle.crx_text.specs.Reading.{Reading}
-use Rattle.crx_text.specs.Progress.{HasRead, StandsAt, IsOpen, IsStopped}
-use Rattle.crx_text.specs.declared.limits.TheConstants.{INPUT_LIMIT}
-use Rattle.crx_text.specs.declared.fault.At.{At}
-use Rattle.crx_text.specs.declared.fault.Fault.{Fault}
-use Rattle.crx_text.specs.declared.fault.Fault.TheVariants.{InputTooLong, ReadFailed, OutOfMemory}
-use Rattle.crx_text.specs.declared.phase.Phase.{Phase}
-use Rattle.crx_text.specs.declared.phase.Phase.TheVariants.{Open, Ended}
-use Rattle.crx_text.proofs.ProgressLemmas.{HasRead-ended, HasRead-stopped}
+use Rattle.std.proofs.Common.{◌≡◌, ◌⊎◌, inl, inr, ℕ, ◌+◌, ◌-◌, ◌^◌, ◌<◌, ◌≤◌, Bool, true, List, [], ◌++◌, length, Option, Some, None, refl, sym, ap, subst, ◌∙◌, arith, append-nil, length-append}
+use Rattle.crx_lines.specs.Devices.{Tally, one_more}
+use Rattle.crx_lines.specs.Lines.{InputLine, lines_of}
+use Rattle.crx_lines.specs.Reading.{Reading}
+use Rattle.crx_lines.specs.Progress.{HasRead, StandsAt, IsOpen, IsStopped}
+use Rattle.crx_lines.specs.declared.limits.TheConstants.{INPUT_LIMIT}
+use Rattle.crx_lines.specs.declared.fault.At.{At}
+use Rattle.crx_lines.specs.declared.fault.Fault.{Fault}
+use Rattle.crx_lines.specs.declared.fault.Fault.TheVariants.{InputTooLong, ReadFailed, OutOfMemory}
+use Rattle.crx_lines.specs.declared.phase.Phase.{Phase}
+use Rattle.crx_lines.specs.declared.phase.Phase.TheVariants.{Open, Ended}
+use Rattle.crx_lines.proofs.ProgressLemmas.{HasRead-ended, HasRead-stopped}
 use Rattle.crx_filter.specs.declared.taking.Halt.{Halt}
 use Rattle.crx_filter.specs.declared.taking.Halt.TheVariants as halt
-use Rattle.crx_filter.specs.Filters.{Course, Filter}
-use Rattle.crx_filter.specs.Engines.{with_next}
-use Rattle.crx_filter.specs.Results.{FilterResult}
-use Rattle.crx_filter.specs.Messages.{error_text, notices_text}
+use Rattle.crx_engine.specs.Filters.{Course, Filter}
+use Rattle.crx_engine.specs.Engines.{with_next}
+use Rattle.crx_engine.specs.Results.{good_status, result_of_course, status_after}
+use Rattle.crx_engine.specs.Messages.{error_text, notices_text}
 use Rattle.crx_filter.specs.Taking.{Device, TookAll, are_some}
-use Rattle.crx_filter.specs.Running.{Input, WorkEnds, FaultFound, EndsAt}
-use Rattle.crx_filter.specs.Endings.{Finishes, IsReported, good_status}
+use Rattle.crx_filter.specs.Running.{Input, WorkEnds, EndedByFault, EndsAt}
+use Rattle.crx_filter.specs.Endings.{Finishes, IsReported, IsFlushed, FlushFailed}
 use Rattle.crx_filter.proofs.Salvaged.{none-failed, asked-once, asked-stopped}
-use Rattle.crx_filter.proofs.RunEndings.{line-stands, end-stands, reader-stands, start-stands, flush-stands, well-salvaged}
-use Rattle.crx_filter.specs.Runs.{IsLawful, result_by, IsResult, NoneFailed, FaultIs, RunsAs, status_of}
+use Rattle.crx_filter.proofs.RunEndings.{line-stands, end-stands, reader-stands, start-stands, flush-stands, well-front}
+use Rattle.crx_engine.specs.Lawful.{IsLawful}
+use Rattle.crx_filter.specs.Runs.{result_by, IsResult, NoneFailed, FaultIs, RunsAs}
 
 -- a count that could rise didn't
 not-raised : (before mid after : ℕ) → after ≡ before → before < 2 ^ 64 - 1 → before ≤ mid → after ≡ one_more mid → ⊥
@@ -52,26 +53,22 @@ all-lines input now lines h e rest none =
     let o = HasRead-ended input.gave input.at_end input.start input.counted now lines h e in
     ap (λ (x : List ℕ). lines_of (h.given ++ x)) (none o.reported) ∙ ap lines_of (append-nil h.given) ∙ sym o.all
 
--- what is made of a whole course
-abbrev result_of : Course → FilterResult
-result_of course = record { output = course.output; messages = notices_text course.warnings ++ error_text course.fault; status = status_of course; fault = course.fault }
+status-good : (course : Course) → course.fault ≡ None → status_after course.warnings course.fault ≡ good_status (are_some course.warnings)
+status-good course is = ap (status_after course.warnings) is
 
-status-good : (course : Course) → course.fault ≡ None → status_of course ≡ good_status (are_some course.warnings)
-status-good course is = rw is refl
-
-status-bad : (course : Course) (at : At) → course.fault ≡ Some at → status_of course ≡ 1
-status-bad course at is = rw is refl
+status-bad : (course : Course) (at : At) → course.fault ≡ Some at → status_after course.warnings course.fault ≡ 1
+status-bad course at is = ap (status_after course.warnings) is
 
 -- ---- a whole run
 
 module _ (filter : Filter) (lawful : IsLawful filter) (input : Input) (writer1 writer2 writer messages1 messages2 messages : Device)
     (wsame : writer2.before ≡ writer1.after) (wstart : writer.before ≡ writer1.before) (wend : writer.after ≡ writer2.after)
-    (wjoined : (xs ys : List ℕ) → writer1.took xs → writer2.took ys → writer.took (xs ++ ys))
+    (wjoined : (xs ys : List ℕ) → writer1.took xs → writer2.took ys → writer.took (xs ++ ys)) (wflushed : writer2.flushed → writer.flushed)
     (msame : messages2.before ≡ messages1.after) (mstart : messages.before ≡ messages1.before) (mend : messages.after ≡ messages2.after)
     (mjoined : (xs ys : List ℕ) → messages1.took xs → messages2.took ys → messages.took (xs ++ ys)) where
   -- a course with a fault that was written, flushed and reported
   whole-bad : (course : Course) (at : At) (status : ℕ) (fault : Option At) → course.fault ≡ Some at → TookAll writer1 course.output → TookAll messages1 (notices_text course.warnings)
-      → writer2.took [] → TookAll messages2 (error_text (Some at)) → fault ≡ Some at → status ≡ 1 → IsResult (result_of course) writer messages status fault
+      → writer2.took [] → TookAll messages2 (error_text (Some at)) → fault ≡ Some at → status ≡ 1 → IsResult (result_of_course course) writer messages status fault
   whole-bad course at status fault bad wrote warned flushed reported is one = record {
     output = took-still writer1 writer2 writer wjoined course.output wrote.0 flushed;
     messages_are = subst (λ (f : Option At). messages.took (notices_text course.warnings ++ error_text f)) (sym bad) (mjoined (notices_text course.warnings) (error_text (Some at)) warned.0 reported.0);
@@ -81,7 +78,7 @@ module _ (filter : Filter) (lawful : IsLawful filter) (input : Input) (writer1 w
 
   -- a course without one
   whole-good : (course : Course) (status : ℕ) (fault : Option At) → course.fault ≡ None → TookAll writer1 course.output → TookAll messages1 (notices_text course.warnings)
-      → writer2.took [] → messages2.took [] → fault ≡ None → status ≡ good_status (are_some course.warnings) → IsResult (result_of course) writer messages status fault
+      → writer2.took [] → messages2.took [] → fault ≡ None → status ≡ good_status (are_some course.warnings) → IsResult (result_of_course course) writer messages status fault
   whole-good course status fault good wrote reported flushed silent is two = record {
     output = took-still writer1 writer2 writer wjoined course.output wrote.0 flushed;
     messages_are = subst (λ (f : Option At). messages.took (notices_text course.warnings ++ error_text f)) (sym good) (mjoined (notices_text course.warnings) [] reported.0 silent);
@@ -89,8 +86,8 @@ module _ (filter : Filter) (lawful : IsLawful filter) (input : Input) (writer1 w
     fault_is = is ∙ sym good;
   }
 
-  flushed-either : (TookAll writer2 []) ⊎ (writer2.took [] × (writer2.after ≡ one_more writer2.before)) → writer2.took []
-  flushed-either (inl t) = t.0
+  flushed-either : IsFlushed writer2 ⊎ FlushFailed writer2 → writer2.took []
+  flushed-either (inl t) = t.0.0
   flushed-either (inr t) = t.0
 
   -- a message that was cut off was counted
@@ -99,17 +96,17 @@ module _ (filter : Filter) (lawful : IsLawful filter) (input : Input) (writer1 w
   reported-whole at notices reported none (inr t) = absurd (omega (arith, t.1, msame, reported.1, mstart, mend, none.0, none.1))
 
   -- a fault that was found on the way to all lines
-  found-whole : (course all : Course) (at at' : At) (status : ℕ) (fault : Option At) → all ≡ course → FaultFound writer1 messages1 course at' → at ≡ at'
-      → NoneFailed messages.before messages.after → Finishes writer2 messages2 0 true (Some (halt.Fault at)) status fault → IsResult (result_of all) writer messages status fault
+  found-whole : (course all : Course) (at at' : At) (status : ℕ) (fault : Option At) → all ≡ course → EndedByFault writer1 messages1 course at' → at ≡ at'
+      → NoneFailed messages.before messages.after → Finishes writer2 messages2 0 true (Some (halt.Fault at)) status fault → IsResult (result_of_course all) writer messages status fault
   found-whole course all at at' status fault same found is none finished =
-      subst (λ (k : Course). IsResult (result_of k) writer messages status fault) (sym same)
+      subst (λ (k : Course). IsResult (result_of_course k) writer messages status fault) (sym same)
       (whole-bad course at status fault (found.fault ∙ ap Some (sym is)) found.wrote found.reported (flushed-either finished.0)
       (reported-whole at (notices_text course.warnings) found.reported none finished.1) finished.2 finished.3)
 
   -- what a line, or the end, ended the run with, where no device failed and memory didn't run out
-  ends-whole : (can : Bool) (number : ℕ) (before course all : Course) (halt : Halt) (last : ℕ) (warned : Bool) (status : ℕ) (fault : Option At)
+  ends-whole : (can : Option (List At)) (number : ℕ) (before course all : Course) (halt : Halt) (last : ℕ) (warned : Bool) (status : ℕ) (fault : Option At)
       → ((at : At) → course.fault ≡ Some at → all ≡ course) → EndsAt can number writer1 messages1 before course halt → Finishes writer2 messages2 last warned (Some halt) status fault
-      → NoneFailed writer.before writer.after → NoneFailed messages.before messages.after → (FaultIs OutOfMemory fault → ⊥) → IsResult (result_of all) writer messages status fault
+      → NoneFailed writer.before writer.after → NoneFailed messages.before messages.after → (FaultIs OutOfMemory fault → ⊥) → IsResult (result_of_course all) writer messages status fault
   ends-whole can number before course all (halt.Fault at) last warned status fault same (inl ran) finished wnone mnone memory =
       absurd (memory (subst (FaultIs OutOfMemory) (sym finished.2) ran.fault))
   ends-whole can number before course all (halt.Fault at) last warned status fault same (inr found) finished wnone mnone memory =
@@ -159,22 +156,23 @@ module _ (filter : Filter) (lawful : IsLawful filter) (input : Input) (writer1 w
       let h = done.read in
       let over = HasRead-ended input.gave input.at_end input.start input.counted now done.lines h done.ended in
       let course = filter.whole done.lines in
-      let whole = whole-good course status None done.good done.wrote done.reported finished.0.0 finished.1.0 refl (finished.2 ∙ ap good_status done.flag) in (
+      let whole = whole-good course status None done.good done.wrote done.reported finished.0.0.0 finished.1.0 refl (finished.2 ∙ ap good_status done.flag) in (
         h.given,
         h.lead,
         record {
-          whole = λ rn wn mn memory (rest : List ℕ) none within. subst (λ (ls : List InputLine). IsResult (result_of (filter.whole ls)) writer messages status None) (sym (all-lines input now done.lines h done.ended rest none)) whole;
+          whole = λ rn wn mn memory (rest : List ℕ) none within. subst (λ (ls : List InputLine). IsResult (result_of_course (filter.whole ls)) writer messages status None) (sym (all-lines input now done.lines h done.ended rest none)) whole;
           ended = λ at is. absurd (no-fault at None is refl);
           asked = inr (ap (λ (t : Tally). t.ends) over.counts);
           read = λ other. ap (λ (t : Tally). t.failures) over.counts;
-          salvaged = well-salvaged filter lawful input writer1 writer2 writer messages1 messages2 messages wsame wstart wend wjoined msame mstart mend mjoined has_ended now last warned done finished.0.0;
+          front = well-front filter lawful input writer1 writer2 writer messages1 messages2 messages wsame wstart wend wjoined wflushed msame mstart mend mjoined has_ended now last warned done finished.0.0.0;
+          flushed = λ e. wflushed finished.0.1;
           good = λ e. (
             over.reported,
             over.within,
             ap (λ (t : Tally). t.failures) over.counts,
-            wend ∙ finished.0.1 ∙ wsame ∙ done.wrote.1 ∙ sym wstart,
+            wend ∙ finished.0.0.1 ∙ wsame ∙ done.wrote.1 ∙ sym wstart,
             mend ∙ finished.1.1 ∙ msame ∙ done.reported.1 ∙ sym mstart,
-            subst (λ (ls : List InputLine). IsResult (result_of (filter.whole ls)) writer messages status None) over.all whole,
+            subst (λ (ls : List InputLine). IsResult (result_of_course (filter.whole ls)) writer messages status None) over.all whole,
           );
         },
         (λ e. subst has_ended over.all done.engine_ended),
@@ -187,10 +185,11 @@ module _ (filter : Filter) (lawful : IsLawful filter) (input : Input) (writer1 w
         record {
           whole = λ rn wn mn memory rest none within. absurd (omega (arith, finished.0.1, done.wrote.1, wsame, wstart, wend, wn.0, wn.1));
           good = λ e. absurd (no-fault at (Some at) refl e);
-          ended = flush-stands filter lawful input writer1 writer2 writer messages1 messages2 messages wsame wstart wend wjoined msame mstart mend mjoined has_ended now last warned status at done finished;
+          flushed = λ e. absurd (no-fault at (Some at) refl e);
+          ended = flush-stands filter lawful input writer1 writer2 writer messages1 messages2 messages wsame wstart wend wjoined wflushed msame mstart mend mjoined has_ended now last warned status at done finished;
           asked = inr (ap (λ (t : Tally). t.ends) over.counts);
           read = λ other. ap (λ (t : Tally). t.failures) over.counts;
-          salvaged = well-salvaged filter lawful input writer1 writer2 writer messages1 messages2 messages wsame wstart wend wjoined msame mstart mend mjoined has_ended now last warned done finished.0.0;
+          front = well-front filter lawful input writer1 writer2 writer messages1 messages2 messages wsame wstart wend wjoined wflushed msame mstart mend mjoined has_ended now last warned done finished.0.0;
         },
         (λ e. absurd (no-fault at (Some at) refl e)),
       )
@@ -202,10 +201,11 @@ module _ (filter : Filter) (lawful : IsLawful filter) (input : Input) (writer1 w
         record {
           whole = λ rn wn mn memory (rest : List ℕ) none within. absurd (stopped-none s.at.fault h.given s.lines rest stopped.0 within rn);
           good = λ e. absurd (never-good halt last warned status fault finished e);
-          ended = (reader-stands filter lawful input writer1 writer2 writer messages1 messages2 messages wsame wstart wend wjoined msame mstart mend mjoined now last warned halt status fault s finished).0;
+          flushed = λ e. absurd (never-good halt last warned status fault finished e);
+          ended = (reader-stands filter lawful input writer1 writer2 writer messages1 messages2 messages wsame wstart wend wjoined wflushed msame mstart mend mjoined now last warned halt status fault s finished).0;
           asked = asked-stopped input s.at.fault h.given s.lines stopped.0;
           read = λ other. reader-none s.at.fault h.given s.lines stopped.0 (λ f. other (subst (FaultIs ReadFailed) (sym (reader-fault s.at halt last warned status fault s.halt_is finished)) f));
-          salvaged = (reader-stands filter lawful input writer1 writer2 writer messages1 messages2 messages wsame wstart wend wjoined msame mstart mend mjoined now last warned halt status fault s finished).1;
+          front = (reader-stands filter lawful input writer1 writer2 writer messages1 messages2 messages wsame wstart wend wjoined wflushed msame mstart mend mjoined now last warned halt status fault s finished).1;
         },
         (λ e. absurd (never-good halt last warned status fault finished e)),
       )
@@ -217,13 +217,14 @@ module _ (filter : Filter) (lawful : IsLawful filter) (input : Input) (writer1 w
         record {
           whole = λ rn wn mn memory (rest : List ℕ) none within.
               let first = first-lines input now next h s.ends.going rest none in
-              ends-whole (filter.may_take_memory s.lines s.ends.line) (length s.lines + 1) (filter.so_far s.lines) (filter.so_far next) (filter.whole (lines_of (h.given ++ rest))) halt last warned status fault
+              ends-whole (filter.memory_after s.lines s.ends.line) (length s.lines + 1) (filter.so_far s.lines) (filter.so_far next) (filter.whole (lines_of (h.given ++ rest))) halt last warned status fault
               (λ (at : At) bad. ap filter.whole first.1 ∙ lawful.decided next first.0 at bad) s.ends.ends finished wn mn memory;
           good = λ e. absurd (never-good halt last warned status fault finished e);
-          ended = (line-stands filter lawful input writer1 writer2 writer messages1 messages2 messages wsame wstart wend wjoined msame mstart mend mjoined now last warned halt status fault s finished).0;
+          flushed = λ e. absurd (never-good halt last warned status fault finished e);
+          ended = (line-stands filter lawful input writer1 writer2 writer messages1 messages2 messages wsame wstart wend wjoined wflushed msame mstart mend mjoined now last warned halt status fault s finished).0;
           asked = asked-once input now next h s.ends.going;
           read = λ other. none-failed input now next h s.ends.going;
-          salvaged = (line-stands filter lawful input writer1 writer2 writer messages1 messages2 messages wsame wstart wend wjoined msame mstart mend mjoined now last warned halt status fault s finished).1;
+          front = (line-stands filter lawful input writer1 writer2 writer messages1 messages2 messages wsame wstart wend wjoined wflushed msame mstart mend mjoined now last warned halt status fault s finished).1;
         },
         (λ e. absurd (never-good halt last warned status fault finished e)),
       )
@@ -233,13 +234,14 @@ module _ (filter : Filter) (lawful : IsLawful filter) (input : Input) (writer1 w
         h.lead,
         record {
           whole = λ rn wn mn memory (rest : List ℕ) none within.
-              ends-whole false (length s.lines) (filter.so_far s.lines) (filter.whole s.lines) (filter.whole (lines_of (h.given ++ rest))) halt last warned status fault
+              ends-whole None (length s.lines) (filter.so_far s.lines) (filter.whole s.lines) (filter.whole (lines_of (h.given ++ rest))) halt last warned status fault
               (λ (at : At) bad. ap filter.whole (all-lines input now s.lines h s.ended rest none)) s.ends finished wn mn memory;
           good = λ e. absurd (never-good halt last warned status fault finished e);
-          ended = (end-stands filter lawful input writer1 writer2 writer messages1 messages2 messages wsame wstart wend wjoined msame mstart mend mjoined now last warned halt status fault s finished).0;
+          flushed = λ e. absurd (never-good halt last warned status fault finished e);
+          ended = (end-stands filter lawful input writer1 writer2 writer messages1 messages2 messages wsame wstart wend wjoined wflushed msame mstart mend mjoined now last warned halt status fault s finished).0;
           asked = asked-once input now s.lines h (inr s.ended);
           read = λ other. none-failed input now s.lines h (inr s.ended);
-          salvaged = (end-stands filter lawful input writer1 writer2 writer messages1 messages2 messages wsame wstart wend wjoined msame mstart mend mjoined now last warned halt status fault s finished).1;
+          front = (end-stands filter lawful input writer1 writer2 writer messages1 messages2 messages wsame wstart wend wjoined wflushed msame mstart mend mjoined now last warned halt status fault s finished).1;
         },
         (λ e. absurd (never-good halt last warned status fault finished e)),
       )
@@ -249,10 +251,11 @@ module _ (filter : Filter) (lawful : IsLawful filter) (input : Input) (writer1 w
     record {
       whole = λ rn wn mn memory rest none within. absurd (memory (no-memory halt last warned status fault s.halt_is finished));
       good = λ e. absurd (never-good halt last warned status fault finished e);
-      ended = (start-stands filter lawful input writer1 writer2 writer messages1 messages2 messages wsame wstart wend wjoined msame mstart mend mjoined last warned halt status fault s finished).0;
+      flushed = λ e. absurd (never-good halt last warned status fault finished e);
+      ended = (start-stands filter lawful input writer1 writer2 writer messages1 messages2 messages wsame wstart wend wjoined wflushed msame mstart mend mjoined last warned halt status fault s finished).0;
       asked = inl (ap (λ (t : Tally). t.ends) s.counts);
       read = λ other. ap (λ (t : Tally). t.failures) s.counts;
-      salvaged = (start-stands filter lawful input writer1 writer2 writer messages1 messages2 messages wsame wstart wend wjoined msame mstart mend mjoined last warned halt status fault s finished).1;
+      front = (start-stands filter lawful input writer1 writer2 writer messages1 messages2 messages wsame wstart wend wjoined wflushed msame mstart mend mjoined last warned halt status fault s finished).1;
     },
     (λ e. absurd (never-good halt last warned status fault finished e)),
   )

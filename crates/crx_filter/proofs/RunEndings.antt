@@ -1,23 +1,23 @@
 -- What stands after a run, by how its work ended and how it was finished.
-use Rattle.std.proofs.Common.{◌≡◌, ◌⊎◌, inl, inr, ℕ, ◌+◌, Bool, true, false, List, [], ◌++◌, length, take, Option, Some, None, refl, sym, ap, subst, ◌∙◌, append-nil}
-use Rattle.crx_text.specs.Devices.{one_more}
-use Rattle.crx_text.specs.Lines.{InputLine, lines_of}
-use Rattle.crx_text.specs.Reading.{Reading}
-use Rattle.crx_text.specs.Progress.{IsStopped}
-use Rattle.crx_text.specs.declared.fault.At.{At}
-use Rattle.crx_text.specs.declared.fault.Fault.{Fault}
-use Rattle.crx_text.specs.declared.fault.Fault.TheVariants.{InputTooLong, ReadFailed, WriteFailed, OutOfMemory}
-use Rattle.crx_text.proofs.ProgressLemmas.{HasRead-stopped}
+use Rattle.std.proofs.Common.{◌≡◌, ◌⊎◌, inl, inr, ℕ, ◌+◌, Bool, true, List, [], ◌++◌, length, take, Option, Some, None, refl, sym, ap, subst, ◌∙◌, append-nil}
+use Rattle.crx_lines.specs.Devices.{one_more}
+use Rattle.crx_lines.specs.Lines.{InputLine, lines_of}
+use Rattle.crx_lines.specs.Reading.{Reading}
+use Rattle.crx_lines.specs.Progress.{IsStopped}
+use Rattle.crx_lines.specs.declared.fault.At.{At}
+use Rattle.crx_lines.specs.declared.fault.Fault.{Fault}
+use Rattle.crx_lines.specs.declared.fault.Fault.TheVariants.{InputTooLong, ReadFailed, WriteFailed, OutOfMemory}
+use Rattle.crx_lines.proofs.ProgressLemmas.{HasRead-stopped}
 use Rattle.crx_filter.specs.declared.taking.Halt.{Halt}
 use Rattle.crx_filter.specs.declared.taking.Halt.TheVariants as halt
-use Rattle.crx_filter.specs.Filters.{Course, Filter}
-use Rattle.crx_filter.specs.Engines.{with_next}
-use Rattle.crx_filter.specs.Messages.{error_text, notices_text}
+use Rattle.crx_engine.specs.Filters.{Course, Filter}
+use Rattle.crx_engine.specs.Engines.{with_next}
+use Rattle.crx_engine.specs.Messages.{error_text, notices_text}
 use Rattle.crx_filter.specs.Taking.{Device, TookAll, AreNext}
 use Rattle.crx_filter.specs.Running.{Input, IsPart, EndsAt, WellDone, StoppedByReader, StoppedByLine, StoppedByEnd, StoppedAtStart}
 use Rattle.crx_filter.specs.Endings.{Finishes, IsReported, IsFlushed, FlushFailed, write_failed_at}
-use Rattle.crx_filter.specs.Runs.{IsLawful, is_of_lines}
-use Rattle.crx_filter.specs.Salvage.{complete_lines, IsTurn, IsWritten, AreReported, NoMemoryAtLine, FaultFound, Stands, IsSalvaged}
+use Rattle.crx_engine.specs.Lawful.{IsLawful, is_of_lines}
+use Rattle.crx_filter.specs.Salvage.{complete_lines, IsTurn, IsWritten, AreReported, NoMemoryAtLine, FaultFound, Stands, IsFrontPart}
 use Rattle.crx_filter.proofs.TakingTwice.{all-all}
 use Rattle.crx_filter.proofs.RunningSteps.{took-same, took-part}
 use Rattle.crx_filter.proofs.Salvaged.{complete-stopped, all-read, all-of, taken-read, begins-itself, begins-taken, first-whole, first-after-turn, first-before-turn, first-complete}
@@ -43,7 +43,7 @@ one-fault P at other None is p same = absurd (cc)
 
 module _ (filter : Filter) (lawful : IsLawful filter) (input : Input) (writer1 writer2 writer messages1 messages2 messages : Device)
     (wsame : writer2.before ≡ writer1.after) (wstart : writer.before ≡ writer1.before) (wend : writer.after ≡ writer2.after)
-    (wjoined : (xs ys : List ℕ) → writer1.took xs → writer2.took ys → writer.took (xs ++ ys))
+    (wjoined : (xs ys : List ℕ) → writer1.took xs → writer2.took ys → writer.took (xs ++ ys)) (wflushed : writer2.flushed → writer.flushed)
     (msame : messages2.before ≡ messages1.after) (mstart : messages.before ≡ messages1.before) (mend : messages.after ≡ messages2.after)
     (mjoined : (xs ys : List ℕ) → messages1.took xs → messages2.took ys → messages.took (xs ++ ys)) where
   abbrev StandsAfter : List ℕ → ℕ → Option At → Type 0
@@ -52,11 +52,11 @@ module _ (filter : Filter) (lawful : IsLawful filter) (input : Input) (writer1 w
   -- ---- devices
 
   written : (text : List ℕ) → TookAll writer1 text → IsFlushed writer2 ⊎ FlushFailed writer2 → IsWritten writer text
-  written text a (inl b) = inl (took-same writer1 writer2 writer wsame wstart wend wjoined text text a b refl)
+  written text a (inl b) = inl (took-same writer1 writer2 writer wsame wstart wend wjoined text text a b.0 refl, wflushed b.1)
   written text a (inr b) = inr (subst writer.took (append-nil text) (wjoined text [] a.0 b.0), wend ∙ b.1 ∙ ap one_more (wsame ∙ a.1 ∙ sym wstart))
 
   was-taken : (text : List ℕ) → IsWritten writer text → writer.took text
-  was-taken text (inl a) = a.0
+  was-taken text (inl a) = a.0.0
   was-taken text (inr a) = a.0
 
   reported : (warnings : List At) (at : At) → TookAll messages1 (notices_text warnings) → IsReported messages2 at → AreReported messages warnings at
@@ -67,7 +67,7 @@ module _ (filter : Filter) (lawful : IsLawful filter) (input : Input) (writer1 w
 
   -- ---- a line, or the end
 
-  module _ (given : List ℕ) (before after : Course) (last : ℕ) (turn : IsTurn filter input given before after last) (can : Bool) (number : ℕ) where
+  module _ (given : List ℕ) (before after : Course) (last : ℕ) (turn : IsTurn filter input given before after last) (can : Option (List At)) (number : ℕ) where
     found-stands : (f : Fault) (at : At) → is_of_lines f ≡ true → FaultFound filter input given writer messages at → Stands filter input given writer messages at f
     found-stands InputTooLong at e r = absurd (cc)
     found-stands ReadFailed at e r = absurd (cc)
@@ -76,7 +76,7 @@ module _ (filter : Filter) (lawful : IsLawful filter) (input : Input) (writer1 w
     found-stands _ at e r = r
 
     pub turn-stands : (halt : Halt) (warned : Bool) (status : ℕ) (fault : Option At)
-        → ((at : At) (notices : List At) → can ≡ true → at.line ≡ number → (notices ≡ []) ⊎ AreNext before after notices → IsWritten writer before.output → AreReported messages (before.warnings ++ notices) at
+        → ((at : At) (notices : List At) → can ≡ Some notices → at.line ≡ number → (notices ≡ []) ⊎ AreNext before after notices → IsWritten writer before.output → AreReported messages (before.warnings ++ notices) at
         → NoMemoryAtLine filter input given writer messages at)
         → ((at : At) → after.fault ≡ Some at → is_of_lines at.fault ≡ true)
         → EndsAt can number writer1 messages1 before after halt → Finishes writer2 messages2 last warned (Some halt) status fault → StandsAfter given status fault
@@ -128,26 +128,26 @@ module _ (filter : Filter) (lawful : IsLawful filter) (input : Input) (writer1 w
           is,
     )
 
-    pub turn-salvaged : (halt : Halt) (warned : Bool) (status : ℕ) (fault : Option At)
-        → EndsAt can number writer1 messages1 before after halt → Finishes writer2 messages2 last warned (Some halt) status fault → IsSalvaged filter input given writer
-    turn-salvaged (halt.Fault at) warned status fault (inl ran) finished = record {
+    pub turn-front : (halt : Halt) (warned : Bool) (status : ℕ) (fault : Option At)
+        → EndsAt can number writer1 messages1 before after halt → Finishes writer2 messages2 last warned (Some halt) status fault → IsFrontPart filter input given writer
+    turn-front (halt.Fault at) warned status fault (inl ran) finished = record {
       written = before.output;
       wrote = was-taken before.output (written before.output ran.wrote finished.0);
       first = first-before-turn filter lawful input given before after last before.output turn (begins-itself before.output);
     }
-    turn-salvaged (halt.Fault at) warned status fault (inr r) finished = record {
+    turn-front (halt.Fault at) warned status fault (inr r) finished = record {
       written = after.output;
       wrote = was-taken after.output (written after.output r.wrote finished.0);
       first = first-after-turn filter lawful input given before after last after.output turn (begins-itself after.output);
     }
-    turn-salvaged halt.Unwritten warned status fault r finished =
+    turn-front halt.Unwritten warned status fault r finished =
         let part = part-still writer1 writer2 writer wsame wstart wend wjoined before.output after.output r.wrote finished.0 in
         record {
           written = take part.count after.output;
           wrote = part.took;
           first = first-after-turn filter lawful input given before after last (take part.count after.output) turn (begins-taken part.count after.output);
         }
-    turn-salvaged halt.Unreported warned status fault r finished = record {
+    turn-front halt.Unreported warned status fault r finished = record {
       written = before.output;
       wrote = (took-same writer1 writer2 writer wsame wstart wend wjoined before.output before.output r.wrote finished.0 refl).0;
       first = first-before-turn filter lawful input given before after last before.output turn (begins-itself before.output);
@@ -156,13 +156,13 @@ module _ (filter : Filter) (lawful : IsLawful filter) (input : Input) (writer1 w
   -- ---- the work of a run
 
   pub line-stands : (now : Reading) (last : ℕ) (warned : Bool) (halt : Halt) (status : ℕ) (fault : Option At) (s : StoppedByLine filter input writer1 messages1 now last halt)
-      → Finishes writer2 messages2 last warned (Some halt) status fault → StandsAfter s.ends.read.given status fault × IsSalvaged filter input s.ends.read.given writer
+      → Finishes writer2 messages2 last warned (Some halt) status fault → StandsAfter s.ends.read.given status fault × IsFrontPart filter input s.ends.read.given writer
   line-stands now last warned halt status fault s finished =
       let h = s.ends.read in
       let next = with_next s.lines s.ends.line in
       let before = filter.so_far s.lines in
       let after = filter.so_far next in
-      let can = filter.may_take_memory s.lines s.ends.line in
+      let can = filter.memory_after s.lines s.ends.line in
       let number : ℕ = length s.lines + 1 in
       let taken = taken-read input now next h s.ends.going in
       let turn : IsTurn filter input h.given before after last = inl (record { lines = s.lines; line = s.ends.line; taken = taken; before_is = refl; after_is = refl; last_is = s.last_is }) in (
@@ -179,11 +179,11 @@ module _ (filter : Filter) (lawful : IsLawful filter) (input : Input) (writer1 w
               reported = reported;
             })
             (λ at bad. lawful.found next at bad) s.ends.ends finished,
-        turn-salvaged h.given before after last turn can number halt warned status fault s.ends.ends finished,
+        turn-front h.given before after last turn can number halt warned status fault s.ends.ends finished,
       )
 
   pub end-stands : (now : Reading) (last : ℕ) (warned : Bool) (halt : Halt) (status : ℕ) (fault : Option At) (s : StoppedByEnd filter input writer1 messages1 now last halt)
-      → Finishes writer2 messages2 last warned (Some halt) status fault → StandsAfter s.read.given status fault × IsSalvaged filter input s.read.given writer
+      → Finishes writer2 messages2 last warned (Some halt) status fault → StandsAfter s.read.given status fault × IsFrontPart filter input s.read.given writer
   end-stands now last warned halt status fault s finished =
       let h = s.read in
       let before = filter.so_far s.lines in
@@ -196,10 +196,10 @@ module _ (filter : Filter) (lawful : IsLawful filter) (input : Input) (writer1 w
         after_is = ap filter.whole (sym all.same);
         last_is = s.last_is ∙ ap length (sym all.same);
       }) in (
-        turn-stands h.given before after last turn false (length s.lines) halt warned status fault
+        turn-stands h.given before after last turn None (length s.lines) halt warned status fault
             (λ at notices allowed place next-ones wrote reported. absurd (cc))
             (λ at bad. lawful.found_at_end s.lines at bad) s.ends finished,
-        turn-salvaged h.given before after last turn false (length s.lines) halt warned status fault s.ends finished,
+        turn-front h.given before after last turn None (length s.lines) halt warned status fault s.ends finished,
       )
 
   -- the reading stopped
@@ -230,7 +230,7 @@ module _ (filter : Filter) (lawful : IsLawful filter) (input : Input) (writer1 w
   stopped-stands given lines _ at s line wrote reported = absurd s
 
   pub reader-stands : (now : Reading) (last : ℕ) (warned : Bool) (stop : Halt) (status : ℕ) (fault : Option At) (s : StoppedByReader filter input writer1 messages1 now last stop)
-      → Finishes writer2 messages2 last warned (Some stop) status fault → StandsAfter s.stopped.read.given status fault × IsSalvaged filter input s.stopped.read.given writer
+      → Finishes writer2 messages2 last warned (Some stop) status fault → StandsAfter s.stopped.read.given status fault × IsFrontPart filter input s.stopped.read.given writer
   reader-stands now last warned stop status fault s finishes =
       let finished : Finishes writer2 messages2 last warned (Some (halt.Fault s.at)) status fault = subst (λ (h : Halt). Finishes writer2 messages2 last warned (Some h) status fault) s.halt_is finishes in
       let h = s.stopped.read in
@@ -252,7 +252,7 @@ module _ (filter : Filter) (lawful : IsLawful filter) (input : Input) (writer1 w
       )
 
   pub start-stands : (last : ℕ) (warned : Bool) (stop : Halt) (status : ℕ) (fault : Option At) (s : StoppedAtStart input writer1 messages1 last stop)
-      → Finishes writer2 messages2 last warned (Some stop) status fault → StandsAfter [] status fault × IsSalvaged filter input [] writer
+      → Finishes writer2 messages2 last warned (Some stop) status fault → StandsAfter [] status fault × IsFrontPart filter input [] writer
   start-stands last warned stop status fault s finishes =
       let at : At = record { line = 0; fault = OutOfMemory } in
       let finished : Finishes writer2 messages2 last warned (Some (halt.Fault at)) status fault = subst (λ (h : Halt). Finishes writer2 messages2 last warned (Some h) status fault) s.halt_is finishes in
@@ -287,8 +287,8 @@ module _ (filter : Filter) (lawful : IsLawful filter) (input : Input) (writer1 w
             }))) is,
       )
 
-  pub well-salvaged : (has_ended : List InputLine → Type 0) (now : Reading) (last : ℕ) (warned : Bool) (done : WellDone filter has_ended input writer1 messages1 now last warned) → writer2.took [] → IsSalvaged filter input done.read.given writer
-  well-salvaged has_ended now last warned done flushed =
+  pub well-front : (has_ended : List InputLine → Type 0) (now : Reading) (last : ℕ) (warned : Bool) (done : WellDone filter has_ended input writer1 messages1 now last warned) → writer2.took [] → IsFrontPart filter input done.read.given writer
+  well-front has_ended now last warned done flushed =
       let h = done.read in
       let all = all-read input now done.lines h done.ended in
       let course = filter.whole done.lines in

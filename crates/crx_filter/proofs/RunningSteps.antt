@@ -1,13 +1,13 @@
 -- A run goes on by a line, or ends at it.
-use Rattle.std.proofs.Common.{◌≡◌, inl, inr, ℕ, ◌+◌, Bool, List, [], ◌++◌, length, take, refl, sym, ap, subst, ◌∙◌, arith, append-nil, length-append}
+use Rattle.std.proofs.Common.{◌≡◌, inl, inr, ℕ, ◌+◌, List, [], ◌++◌, length, take, Option, refl, sym, ap, subst, ◌∙◌, arith, append-nil, length-append}
 use Rattle.std.proofs.Math.Seq.{take-append-add}
 use Rattle.std.proofs.lemmas.List.{take-append-le}
-use Rattle.crx_text.specs.Devices.{one_more}
-use Rattle.crx_text.specs.declared.fault.At.{At}
+use Rattle.crx_lines.specs.Devices.{one_more}
+use Rattle.crx_lines.specs.declared.fault.At.{At}
 use Rattle.crx_filter.specs.declared.taking.Halt.{Halt}
 use Rattle.crx_filter.specs.declared.taking.Halt.TheVariants.{Fault, Unwritten, Unreported}
-use Rattle.crx_filter.specs.Filters.{Course}
-use Rattle.crx_filter.specs.Messages.{notices_text}
+use Rattle.crx_engine.specs.Filters.{Course}
+use Rattle.crx_engine.specs.Messages.{notices_text}
 use Rattle.crx_filter.specs.Taking.{Device, TookAll, TookPart, IsCut}
 use Rattle.crx_filter.specs.Running.{IsPart, EndsAt}
 use Rattle.crx_filter.proofs.TakingTwice.{notices-append, all-all}
@@ -54,7 +54,7 @@ module _ (before after : Course) (writer1 writer2 writer messages1 messages2 mes
   more-reported notices all told2 is =
       took-more messages1 messages2 messages msame mstart mend mjoined (notices_text before.warnings) (notices_text notices) (notices_text all) reported told2 (warnings-text before.warnings notices all is)
 
-  pub ends-at : (memory : Bool) (number : ℕ) (halt : Halt) → IsCut before after memory number writer2 messages2 halt → EndsAt memory number writer messages before after halt
+  pub ends-at : (memory : Option (List At)) (number : ℕ) (halt : Halt) → IsCut before after memory number writer2 messages2 halt → EndsAt memory number writer messages before after halt
   ends-at memory number (Fault at) (inl r) =
       inl (record {
         allowed = r.allowed;

@@ -1,22 +1,22 @@
 -- What stands after a run, by how it ended.
 use Rattle.std.proofs.Common.{◌≡◌, ◌⊎◌, inl, inr, ℕ, ◌≤◌, List, [], ◌∷◌, ◌++◌, length, take, drop, refl, sym, ap, subst, ◌∙◌, append-nil, append_assoc}
 use Rattle.std.proofs.lemmas.List.{take_all, take-append-drop}
-use Rattle.crx_text.specs.Devices.{Tally, one_more}
-use Rattle.crx_text.specs.Lines.{InputLine, lines_of}
-use Rattle.crx_text.specs.Seen.{ended_lines_of}
-use Rattle.crx_text.specs.Reading.{Reading}
-use Rattle.crx_text.specs.Progress.{HasRead, StandsAt, IsOpen, IsStopped}
-use Rattle.crx_text.specs.declared.limits.TheConstants.{INPUT_LIMIT}
-use Rattle.crx_text.specs.declared.fault.Fault.{Fault}
-use Rattle.crx_text.specs.declared.fault.Fault.TheVariants.{InputTooLong, ReadFailed}
-use Rattle.crx_text.specs.declared.phase.Phase.{Phase}
-use Rattle.crx_text.specs.declared.phase.Phase.TheVariants.{Open, Ended}
-use Rattle.crx_text.proofs.ProgressLemmas.{HasRead-ended}
-use Rattle.crx_filter.specs.Filters.{Course, Filter}
-use Rattle.crx_filter.specs.Engines.{with_next}
-use Rattle.crx_filter.specs.Laws.{Begins}
+use Rattle.crx_lines.specs.Devices.{Tally, one_more}
+use Rattle.crx_lines.specs.Lines.{InputLine, lines_of}
+use Rattle.crx_lines.specs.Seen.{ended_lines_of}
+use Rattle.crx_lines.specs.Reading.{Reading}
+use Rattle.crx_lines.specs.Progress.{HasRead, StandsAt, IsOpen, IsStopped}
+use Rattle.crx_lines.specs.declared.limits.TheConstants.{INPUT_LIMIT}
+use Rattle.crx_lines.specs.declared.fault.Fault.{Fault}
+use Rattle.crx_lines.specs.declared.fault.Fault.TheVariants.{InputTooLong, ReadFailed}
+use Rattle.crx_lines.specs.declared.phase.Phase.{Phase}
+use Rattle.crx_lines.specs.declared.phase.Phase.TheVariants.{Open, Ended}
+use Rattle.crx_lines.proofs.ProgressLemmas.{HasRead-ended}
+use Rattle.crx_engine.specs.Filters.{Course, Filter}
+use Rattle.crx_engine.specs.Engines.{with_next}
+use Rattle.crx_engine.specs.Laws.{Begins}
 use Rattle.crx_filter.specs.Running.{Input}
-use Rattle.crx_filter.specs.Runs.{IsLawful}
+use Rattle.crx_engine.specs.Lawful.{IsLawful}
 use Rattle.crx_filter.specs.Salvage.{complete_lines, AreAll, AreTaken, IsTurn}
 
 -- ---- what was read

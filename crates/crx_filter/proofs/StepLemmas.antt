@@ -1,10 +1,10 @@
 -- A run goes on by a line that was read, or ends at it.
 use Rattle.std.proofs.Common.{◌≡◌, ℕ, ◌+◌, Bool, List, [], ◌++◌, length}
-use Rattle.crx_text.specs.Lines.{InputLine}
-use Rattle.crx_text.specs.Reading.{Reading}
+use Rattle.crx_lines.specs.Lines.{InputLine}
+use Rattle.crx_lines.specs.Reading.{Reading}
 use Rattle.crx_filter.specs.declared.taking.Halt.{Halt}
-use Rattle.crx_filter.specs.Filters.{Filter}
-use Rattle.crx_filter.specs.Engines.{Awaited, with_next}
+use Rattle.crx_engine.specs.Filters.{Filter}
+use Rattle.crx_engine.specs.Engines.{Awaited, with_next}
 use Rattle.crx_filter.specs.Taking.{Device, IsDone, IsCut}
 use Rattle.crx_filter.specs.Running.{Input, IsRunning, GoesOnBy, EndsBy}
 use Rattle.crx_filter.proofs.StepReading.{ReadsLine}
@@ -38,12 +38,12 @@ module _ (filter : Filter) (input then : Input) (old new : Reading) (lines : Lis
         flag = done.flag;
       }
 
-  pub ends-by : (halt : Halt) → IsCut (filter.so_far lines) (filter.so_far (with_next lines line)) (filter.may_take_memory lines line) (length lines + 1) writer2 messages2 halt
+  pub ends-by : (halt : Halt) → IsCut (filter.so_far lines) (filter.so_far (with_next lines line)) (filter.memory_after lines line) (length lines + 1) writer2 messages2 halt
       → EndsBy filter then writer messages new lines halt
   ends-by halt cut =
       record {
         line = line;
         read = read.read;
         going = read.going;
-        ends = ends-at (filter.so_far lines) (filter.so_far (with_next lines line)) writer1 writer2 writer messages1 messages2 messages wsame wstart wend wjoined msame mstart mend mjoined running.wrote running.reported (filter.may_take_memory lines line) (length lines + 1) halt cut;
+        ends = ends-at (filter.so_far lines) (filter.so_far (with_next lines line)) writer1 writer2 writer messages1 messages2 messages wsame wstart wend wjoined msame mstart mend mjoined running.wrote running.reported (filter.memory_after lines line) (length lines + 1) halt cut;
       }

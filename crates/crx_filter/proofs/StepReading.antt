@@ -1,19 +1,19 @@
 -- What a reader of lines answers, by the lines that were read before.
 use Rattle.std.proofs.Common.{◌≡◌, ◌⊎◌, inl, inr, ⊎_elim, ℕ, ◌+◌, ◌<◌, ◌≤◌, Bool, true, false, cond, List, ◌∷◌, ◌++◌, length, Option, Some, None, Result, Ok, Err, refl, sym, ap, subst, ◌∙◌, arith, length-append}
 use Rattle.std.proofs.lemmas.List.{length_push}
-use Rattle.crx_text.specs.Devices.{Tally}
-use Rattle.crx_text.specs.Lines.{InputLine, is_long}
-use Rattle.crx_text.specs.Reading.{Reading, Answers, FaultIs, Takes, line_shown, line_number}
-use Rattle.crx_text.specs.Progress.{HasRead, AtFault}
-use Rattle.crx_text.specs.declared.limits.TheConstants.{INPUT_LIMIT}
-use Rattle.crx_text.specs.declared.fault.At.{At}
-use Rattle.crx_text.specs.declared.fault.Fault.{Fault}
-use Rattle.crx_text.specs.declared.fault.Fault.TheVariants.{LineTooLong, InputTooLong, ReadFailed}
-use Rattle.crx_text.specs.declared.line.Line.{Line}
-use Rattle.crx_text.specs.declared.phase.Phase.{Phase}
-use Rattle.crx_text.specs.declared.phase.Phase.TheVariants.{Open, Ended, Stopped}
-use Rattle.crx_text.proofs.ProgressLemmas.{HasRead-next}
-use Rattle.crx_filter.specs.Engines.{with_next}
+use Rattle.crx_lines.specs.Devices.{Tally}
+use Rattle.crx_lines.specs.Lines.{InputLine, is_long}
+use Rattle.crx_lines.specs.Reading.{Reading, Answers, FaultIs, Takes, line_shown, line_number}
+use Rattle.crx_lines.specs.Progress.{HasRead, AtFault}
+use Rattle.crx_lines.specs.declared.limits.TheConstants.{INPUT_LIMIT}
+use Rattle.crx_lines.specs.declared.fault.At.{At}
+use Rattle.crx_lines.specs.declared.fault.Fault.{Fault}
+use Rattle.crx_lines.specs.declared.fault.Fault.TheVariants.{LineTooLong, InputTooLong, ReadFailed}
+use Rattle.crx_lines.specs.declared.line.Line.{Line}
+use Rattle.crx_lines.specs.declared.phase.Phase.{Phase}
+use Rattle.crx_lines.specs.declared.phase.Phase.TheVariants.{Open, Ended, Stopped}
+use Rattle.crx_lines.proofs.ProgressLemmas.{HasRead-next}
+use Rattle.crx_engine.specs.Engines.{with_next}
 
 -- a line was read: these lines and it
 pub record ReadsLine (gives : List ℕ → Type 0) (at_end : Type 0) (start counted : Tally) (new : Reading) (lines : List InputLine) (line : InputLine) (number : ℕ) : Type 0 where

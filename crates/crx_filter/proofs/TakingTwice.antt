@@ -1,16 +1,16 @@
 -- A line that was given once or twice.
-use Rattle.std.proofs.Common.{◌≡◌, inl, inr, ℕ, ◌+◌, Bool, true, List, [], ◌∷◌, ◌++◌, length, take, refl, sym, ap, subst, ◌∙◌, arith, append_assoc, length-append}
+use Rattle.std.proofs.Common.{◌≡◌, inl, inr, ℕ, ◌+◌, Bool, true, List, [], ◌∷◌, ◌++◌, length, take, Option, refl, sym, ap, subst, ◌∙◌, arith, append_assoc, length-append}
 use Rattle.std.proofs.Math.Seq.{take-append-add}
-use Rattle.crx_text.specs.Devices.{one_more}
-use Rattle.crx_text.specs.Lines.{InputLine}
-use Rattle.crx_text.specs.declared.fault.At.{At}
+use Rattle.crx_lines.specs.Devices.{one_more}
+use Rattle.crx_lines.specs.Lines.{InputLine}
+use Rattle.crx_lines.specs.declared.fault.At.{At}
 use Rattle.crx_filter.specs.declared.taking.Halt.{Halt}
 use Rattle.crx_filter.specs.declared.taking.Halt.TheVariants.{Fault, Unwritten, Unreported}
 use Rattle.crx_filter.specs.declared.taking.Once.{Once}
 use Rattle.crx_filter.specs.declared.taking.Once.TheVariants.{Done, Again}
-use Rattle.crx_filter.specs.Filters.{Course, Filter}
-use Rattle.crx_filter.specs.Engines.{Awaited, with_next}
-use Rattle.crx_filter.specs.Messages.{warning_text, notices_text}
+use Rattle.crx_engine.specs.Filters.{Course, Filter}
+use Rattle.crx_engine.specs.Engines.{Awaited, with_next}
+use Rattle.crx_engine.specs.Messages.{warning_text, notices_text}
 use Rattle.crx_filter.specs.Taking.{Device, TookAll, TookPart, AreNext, IsDone, IsOnce, IsHalted, IsCut}
 
 -- the messages of some warnings and of others
@@ -31,7 +31,7 @@ module _ (first second both : Device) (same : second.before ≡ first.after) (st
   )
 
 -- a line that was given once
-pub cut-once : (before after : Course) (memory : Bool) (number : ℕ) (writer messages : Device) (halt : Halt)
+pub cut-once : (before after : Course) (memory : Option (List At)) (number : ℕ) (writer messages : Device) (halt : Halt)
     → IsHalted before after memory number writer messages [] halt → IsCut before after memory number writer messages halt
 cut-once before after memory number writer messages (Fault at) (inl r) =
     inl (record { allowed = r.allowed; fault = r.fault; place = r.line; notices = []; next = inl refl; wrote = r.wrote; reported = r.reported })
@@ -67,7 +67,7 @@ module _ (before after : Course) (writer1 writer2 writer messages1 messages2 mes
     flag = refl;
   }
 
-  pub cut-twice : (memory : Bool) (number : ℕ) (halt : Halt) → IsHalted before after memory number writer2 messages2 (notice ∷ []) halt → IsCut before after memory number writer messages halt
+  pub cut-twice : (memory : Option (List At)) (number : ℕ) (halt : Halt) → IsHalted before after memory number writer2 messages2 (notice ∷ []) halt → IsCut before after memory number writer messages halt
   cut-twice memory number (Fault at) (inl r) =
       inl (record { allowed = r.allowed; fault = r.fault; place = r.line; notices = notice ∷ []; next = inr next; wrote = wrote-none r.wrote; reported = reported-none r.reported })
   cut-twice memory number (Fault at) (inr r) = inr (record { notices = notice ∷ []; ends = r.ends; wrote = wrote-none r.wrote; reported = reported-none r.reported })
@@ -101,7 +101,7 @@ module _ (filter then : Filter) (is : then ≡ filter) (lines : List InputLine) 
       (subst (λ (f : Filter). IsDone (f.so_far lines) (f.so_far (with_next lines line)) (shows (with_next lines line) []) writer2 messages2 (notice ∷ []) warned) is r)
   once-twice shows Again r = absurd (omega (arith, ap length r.none))
 
-  pub halted-twice : (number : ℕ) (halt : Halt) → IsHalted (then.so_far lines) (then.so_far (with_next lines line)) (then.may_take_memory lines line) number writer2 messages2 (notice ∷ []) halt → IsCut before after (filter.may_take_memory lines line) number writer messages halt
+  pub halted-twice : (number : ℕ) (halt : Halt) → IsHalted (then.so_far lines) (then.so_far (with_next lines line)) (then.memory_after lines line) number writer2 messages2 (notice ∷ []) halt → IsCut before after (filter.memory_after lines line) number writer messages halt
   halted-twice number halt r =
-      cut-twice before after writer1 writer2 writer messages1 messages2 messages wsame wstart wend wjoined msame mstart mend mjoined notice next wrote1 told1 (filter.may_take_memory lines line) number halt
-      (subst (λ (f : Filter). IsHalted (f.so_far lines) (f.so_far (with_next lines line)) (f.may_take_memory lines line) number writer2 messages2 (notice ∷ []) halt) is r)
+      cut-twice before after writer1 writer2 writer messages1 messages2 messages wsame wstart wend wjoined msame mstart mend mjoined notice next wrote1 told1 (filter.memory_after lines line) number halt
+      (subst (λ (f : Filter). IsHalted (f.so_far lines) (f.so_far (with_next lines line)) (f.memory_after lines line) number writer2 messages2 (notice ∷ []) halt) is r)

@@ -1,11 +1,11 @@
 -- The work of a run, from line to line and at its end.
-use Rattle.std.proofs.Common.{◌≡◌, inl, inr, ℕ, Bool, false, ◌||◌, List, [], ◌∷◌, ◌++◌, length, Some, refl, sym, ap, ◌∙◌, arith, length-append}
-use Rattle.crx_text.specs.Lines.{InputLine}
-use Rattle.crx_text.specs.Reading.{Reading}
-use Rattle.crx_text.specs.declared.fault.At.{At}
+use Rattle.std.proofs.Common.{◌≡◌, inl, inr, ℕ, Bool, ◌||◌, List, [], ◌∷◌, ◌++◌, length, Some, None, refl, sym, ap, ◌∙◌, arith, length-append}
+use Rattle.crx_lines.specs.Lines.{InputLine}
+use Rattle.crx_lines.specs.Reading.{Reading}
+use Rattle.crx_lines.specs.declared.fault.At.{At}
 use Rattle.crx_filter.specs.declared.taking.Halt.{Halt}
-use Rattle.crx_filter.specs.Filters.{Filter}
-use Rattle.crx_filter.specs.Engines.{Awaited}
+use Rattle.crx_engine.specs.Filters.{Filter}
+use Rattle.crx_engine.specs.Engines.{Awaited}
 use Rattle.crx_filter.specs.Taking.{Device, IsDone, IsHalted, are_some}
 use Rattle.crx_filter.specs.Running.{Input, IsRunning, GoesOnBy, ComesToEnd, StopsAt, WellDone, StoppedByEnd, WorkEnds}
 use Rattle.crx_filter.proofs.TakingTwice.{cut-once}
@@ -51,7 +51,7 @@ module _ (filter : Filter) (shows : List InputLine → List Awaited → Type 0) 
         last_is = last-line;
       }
 
-  pub stopped-end : (halt : Halt) → IsHalted (filter.so_far lines) (filter.whole lines) false (length lines) writer2 messages2 [] halt → StoppedByEnd filter input writer messages now last halt
+  pub stopped-end : (halt : Halt) → IsHalted (filter.so_far lines) (filter.whole lines) None (length lines) writer2 messages2 [] halt → StoppedByEnd filter input writer messages now last halt
   stopped-end halt h =
       let before = filter.so_far lines in
       let after = filter.whole lines in
@@ -59,8 +59,8 @@ module _ (filter : Filter) (shows : List InputLine → List Awaited → Type 0) 
         lines = lines;
         read = comes.running.read;
         ended = comes.ended;
-        ends = ends-at before after writer1 writer2 writer messages1 messages2 messages wsame wstart wend wjoined msame mstart mend mjoined comes.running.wrote comes.running.reported false (length lines) halt
-            (cut-once before after false (length lines) writer2 messages2 halt h);
+        ends = ends-at before after writer1 writer2 writer messages1 messages2 messages wsame wstart wend wjoined msame mstart mend mjoined comes.running.wrote comes.running.reported None (length lines) halt
+            (cut-once before after None (length lines) writer2 messages2 halt h);
         last_is = last-line;
       }
 

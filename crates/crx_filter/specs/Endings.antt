@@ -1,12 +1,13 @@
 -- How a run is finished once its work has ended: the writer is flushed, and the fault is reported.
-use Rattle.std.specs.Prelude.{◌≡◌, ◌⊎◌, ℕ, Bool, [], Option, Some, None, if◌then◌else◌}
-use Rattle.crx_text.specs.Devices.{one_more}
-use Rattle.crx_text.specs.declared.fault.At.{At}
-use Rattle.crx_text.specs.declared.fault.Fault.TheVariants.{WriteFailed}
+use Rattle.std.specs.Prelude.{◌≡◌, ◌⊎◌, ℕ, Bool, [], Option, Some, None}
+use Rattle.crx_lines.specs.Devices.{one_more}
+use Rattle.crx_lines.specs.declared.fault.At.{At}
+use Rattle.crx_lines.specs.declared.fault.Fault.TheVariants.{WriteFailed}
 use Rattle.crx_filter.specs.declared.taking.Halt.{Halt}
 use Rattle.crx_filter.specs.declared.taking.Halt.TheVariants.{Unwritten, Unreported}
 use Rattle.crx_filter.specs.declared.taking.Halt.TheVariants as halt
-use Rattle.crx_filter.specs.Messages.{error_text}
+use Rattle.crx_engine.specs.Messages.{error_text}
+use Rattle.crx_engine.specs.Results.{good_status}
 use Rattle.crx_filter.specs.Taking.{Device, TookAll, TookPart}
 
 -- a write that failed, at the last line that was read
@@ -17,16 +18,13 @@ write_failed_at last = record { line = last; fault = WriteFailed }
 abbrev pub IsReported : Device → At → Type 0
 IsReported messages at = TookAll messages (error_text (Some at)) ⊎ TookPart messages (error_text (Some at))
 
--- a flush was tried: it writes nothing, and its failure is counted
+-- all that was written was handed on, and nothing more was written
 abbrev pub IsFlushed : Device → Type 0
-IsFlushed writer = TookAll writer []
+IsFlushed writer = TookAll writer [] × writer.flushed
 
+-- a flush failed: it writes nothing, and its failure is counted
 abbrev pub FlushFailed : Device → Type 0
 FlushFailed writer = writer.took [] × (writer.after ≡ one_more writer.before)
-
--- 2 where there were warnings, else 0
-abbrev pub good_status : Bool → ℕ
-good_status warned = if warned then 2 else 0
 
 -- a run that came to the good end of its input is flushed; where that fails, the failure is its fault
 abbrev pub FinishesWell : Device → Device → ℕ → Bool → ℕ → Option At → Type 0

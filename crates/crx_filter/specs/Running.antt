@@ -1,18 +1,18 @@
 -- A run between two lines, and how it goes on or ends.
-use Rattle.std.specs.Prelude.{◌≡◌, ◌⊎◌, ◌<◌, ◌≤◌, ℕ, ◌+◌, Bool, true, false, List, [], ◌++◌, length, take, Option, Some, None}
-use Rattle.crx_text.specs.Devices.{Tally, one_more, tally_of}
-use Rattle.crx_text.specs.Lines.{InputLine}
-use Rattle.crx_text.specs.Reading.{Reading}
-use Rattle.crx_text.specs.Progress.{HasRead}
-use Rattle.crx_text.specs.declared.fault.At.{At}
-use Rattle.crx_text.specs.declared.limits.TheConstants.{INPUT_LIMIT}
-use Rattle.crx_text.specs.declared.phase.Phase.TheVariants.{Open, Ended, Stopped}
-use Rattle.crx_text.specs.declared.fault.Fault.TheVariants.{OutOfMemory}
+use Rattle.std.specs.Prelude.{◌≡◌, ◌⊎◌, ◌<◌, ◌≤◌, ℕ, ◌+◌, Bool, List, [], ◌++◌, length, take, Option, Some, None}
+use Rattle.crx_lines.specs.Devices.{Tally, one_more, tally_of}
+use Rattle.crx_lines.specs.Lines.{InputLine}
+use Rattle.crx_lines.specs.Reading.{Reading}
+use Rattle.crx_lines.specs.Progress.{HasRead}
+use Rattle.crx_lines.specs.declared.fault.At.{At}
+use Rattle.crx_lines.specs.declared.limits.TheConstants.{INPUT_LIMIT}
+use Rattle.crx_lines.specs.declared.phase.Phase.TheVariants.{Open, Ended, Stopped}
+use Rattle.crx_lines.specs.declared.fault.Fault.TheVariants.{OutOfMemory}
 use Rattle.crx_filter.specs.declared.taking.Halt.{Halt}
 use Rattle.crx_filter.specs.declared.taking.Halt.TheVariants.{Fault, Unwritten, Unreported}
-use Rattle.crx_filter.specs.Filters.{Course, Filter}
-use Rattle.crx_filter.specs.Engines.{Awaited, with_next}
-use Rattle.crx_filter.specs.Messages.{notices_text}
+use Rattle.crx_engine.specs.Filters.{Course, Filter}
+use Rattle.crx_engine.specs.Engines.{Awaited, with_next}
+use Rattle.crx_engine.specs.Messages.{notices_text}
 use Rattle.crx_filter.specs.Taking.{Device, TookAll, AreNext, are_some}
 
 -- the reader between two moments: which bytes it may have given in between, whether it stands at its end, and its counts
@@ -47,18 +47,18 @@ pub record ReaderStopped (input : Input) (writer messages : Device) (now : Readi
   pub wrote : TookAll writer course.output
   pub reported : TookAll messages (notices_text course.warnings)
 
--- memory ran out at a line that may take some: all before it was written and reported, and of its own warnings the first, if any
-pub record MemoryRanOut (memory : Bool) (number : ℕ) (writer messages : Device) (before after : Course) (at : At) : Type 0 where
-  pub allowed : memory ≡ true
+-- memory ran out at a line that may take some: all before it was written and reported, and those of its own warnings after which it may
+pub record MemoryRanOut (memory : Option (List At)) (number : ℕ) (writer messages : Device) (before after : Course) (at : At) : Type 0 where
+  pub notices : List At
+  pub allowed : memory ≡ Some notices
   pub fault : at.fault ≡ OutOfMemory
   pub place : at.line ≡ number
-  pub notices : List At
   pub next : (notices ≡ []) ⊎ AreNext before after notices
   pub wrote : TookAll writer before.output
   pub reported : TookAll messages (notices_text (before.warnings ++ notices))
 
 -- a fault ended it, and all that is due was written and reported
-pub record FaultFound (writer messages : Device) (after : Course) (at : At) : Type 0 where
+pub record EndedByFault (writer messages : Device) (after : Course) (at : At) : Type 0 where
   pub fault : after.fault ≡ Some at
   pub wrote : TookAll writer after.output
   pub reported : TookAll messages (notices_text after.warnings)
@@ -82,8 +82,8 @@ pub record ReportingFailed (writer messages : Device) (before after : Course) : 
   pub wrote : TookAll writer before.output
   pub reported : IsPart messages (notices_text before.warnings) (notices_text after.warnings)
 
-abbrev pub EndsAt : Bool → ℕ → Device → Device → Course → Course → Halt → Type 0
-EndsAt memory number writer messages before after (Fault at) = MemoryRanOut memory number writer messages before after at ⊎ FaultFound writer messages after at
+abbrev pub EndsAt : Option (List At) → ℕ → Device → Device → Course → Course → Halt → Type 0
+EndsAt memory number writer messages before after (Fault at) = MemoryRanOut memory number writer messages before after at ⊎ EndedByFault writer messages after at
 EndsAt memory number writer messages before after Unwritten = WritingFailed writer messages before after
 EndsAt memory number writer messages before after Unreported = ReportingFailed writer messages before after
 
@@ -113,7 +113,7 @@ pub record EndsBy (filter : Filter) (input : Input) (writer messages : Device) (
   pub line : InputLine
   pub read : HasRead input.gave input.at_end input.start input.counted now (with_next lines line)
   pub going : (now.phase ≡ Open) ⊎ (now.phase ≡ Ended)
-  pub ends : EndsAt (filter.may_take_memory lines line) (length lines + 1) writer messages (filter.so_far lines) (filter.so_far (with_next lines line)) halt
+  pub ends : EndsAt (filter.memory_after lines line) (length lines + 1) writer messages (filter.so_far lines) (filter.so_far (with_next lines line)) halt
 
 -- the reader's fault ended it, or a line
 abbrev pub StopsAt : Filter → Input → Device → Device → Reading → List InputLine → Halt → Type 0
@@ -154,7 +154,7 @@ pub record StoppedByEnd (filter : Filter) (input : Input) (writer messages : Dev
   pub lines : List InputLine
   pub read : HasRead input.gave input.at_end input.start input.counted now lines
   pub ended : now.phase ≡ Ended
-  pub ends : EndsAt false (length lines) writer messages (filter.so_far lines) (filter.whole lines) halt
+  pub ends : EndsAt None (length lines) writer messages (filter.so_far lines) (filter.whole lines) halt
   pub last_is : last ≡ length lines
 
 -- memory ran out before the first line was asked for

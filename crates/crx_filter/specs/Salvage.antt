@@ -1,16 +1,16 @@
 -- What stands after a run that a fault, a device or memory ended, by what its reader gave.
-use Rattle.std.specs.Prelude.{◌≡◌, ◌⊎◌, ◌<◌, ◌≤◌, ℕ, ◌+◌, true, List, [], ◌++◌, length, take, Some, None}
-use Rattle.crx_text.specs.Devices.{one_more, with_failure}
-use Rattle.crx_text.specs.Lines.{InputLine, lines_of}
-use Rattle.crx_text.specs.Seen.{ended_lines_of}
-use Rattle.crx_text.specs.declared.fault.At.{At}
-use Rattle.crx_text.specs.declared.fault.Fault.{Fault}
-use Rattle.crx_text.specs.declared.fault.Fault.TheVariants.{InputTooLong, ReadFailed, WriteFailed, OutOfMemory}
-use Rattle.crx_text.specs.declared.limits.TheConstants.{INPUT_LIMIT}
-use Rattle.crx_filter.specs.Filters.{Course, Filter}
-use Rattle.crx_filter.specs.Engines.{with_next}
-use Rattle.crx_filter.specs.Laws.{Begins}
-use Rattle.crx_filter.specs.Messages.{error_text, notices_text}
+use Rattle.std.specs.Prelude.{◌≡◌, ◌⊎◌, ◌<◌, ◌≤◌, ℕ, ◌+◌, List, [], ◌++◌, length, take, Some, None}
+use Rattle.crx_lines.specs.Devices.{one_more, with_failure}
+use Rattle.crx_lines.specs.Lines.{InputLine, lines_of}
+use Rattle.crx_lines.specs.Seen.{ended_lines_of}
+use Rattle.crx_lines.specs.declared.fault.At.{At}
+use Rattle.crx_lines.specs.declared.fault.Fault.{Fault}
+use Rattle.crx_lines.specs.declared.fault.Fault.TheVariants.{InputTooLong, ReadFailed, WriteFailed, OutOfMemory}
+use Rattle.crx_lines.specs.declared.limits.TheConstants.{INPUT_LIMIT}
+use Rattle.crx_engine.specs.Filters.{Course, Filter}
+use Rattle.crx_engine.specs.Engines.{with_next}
+use Rattle.crx_engine.specs.Laws.{Begins}
+use Rattle.crx_engine.specs.Messages.{error_text, notices_text}
 use Rattle.crx_filter.specs.Taking.{Device, TookAll, AreNext}
 use Rattle.crx_filter.specs.Running.{Input, IsPart}
 
@@ -51,9 +51,9 @@ IsTurn filter input given before after last = ByLine filter input given before a
 
 -- ---- what was written and reported
 
--- a text was written whole; the flush after it may have failed
+-- a text was written whole and handed on; or the flush after it failed, and its failure was counted
 abbrev pub IsWritten : Device → List ℕ → Type 0
-IsWritten writer text = TookAll writer text ⊎ (writer.took text × (writer.after ≡ one_more writer.before))
+IsWritten writer text = (TookAll writer text × writer.flushed) ⊎ (writer.took text × (writer.after ≡ one_more writer.before))
 
 -- these warnings were reported, whole and in order, and then the fault, whole or as far as it went until the messages failed
 abbrev pub AreReported : Device → List At → At → Type 0
@@ -87,15 +87,15 @@ pub record NoMemoryAtStart (given : List ℕ) (writer messages : Device) (at : A
   pub wrote : IsWritten writer []
   pub reported : AreReported messages [] at
 
--- memory ran out at a line that may take some: what the lines before it are due was written and reported, and of its own warnings the
--- first, if any
+-- memory ran out at a line that may take some: what the lines before it are due was written and reported, and those of its own
+-- warnings after which memory may run out there
 pub record NoMemoryAtLine (filter : Filter) (input : Input) (given : List ℕ) (writer messages : Device) (at : At) : Type 0 where
   pub lines : List InputLine
   pub line : InputLine
   pub taken : AreTaken input given (with_next lines line)
   pub place : at.line ≡ length lines + 1
-  pub allowed : filter.may_take_memory lines line ≡ true
   pub notices : List At
+  pub allowed : filter.memory_after lines line ≡ Some notices
   pub next : (notices ≡ []) ⊎ AreNext (filter.so_far lines) (filter.so_far (with_next lines line)) notices
   pub wrote : IsWritten writer (filter.so_far lines).output
   pub reported : AreReported messages ((filter.so_far lines).warnings ++ notices) at
@@ -149,7 +149,7 @@ Stands filter input given writer messages at _ = FaultFound filter input given w
 
 -- what was written is a prefix of what the complete lines are due, or where the end was reported, of the whole output for what was
 -- given
-pub record IsSalvaged (filter : Filter) (input : Input) (given : List ℕ) (writer : Device) : Type 0 where
+pub record IsFrontPart (filter : Filter) (input : Input) (given : List ℕ) (writer : Device) : Type 0 where
   pub written : List ℕ
   pub wrote : writer.took written
   pub first : Begins (filter.so_far (complete_lines given)).output written ⊎ (input.at_end × Begins (filter.whole (lines_of given)).output written)

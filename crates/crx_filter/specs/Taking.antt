@@ -1,21 +1,22 @@
 -- What becomes of one line of the input.
-use Rattle.std.specs.Prelude.{◌≡◌, ◌⊎◌, ◌<◌, ℕ, Bool, true, false, List, [], ◌∷◌, ◌++◌, length, take, None}
-use Rattle.crx_text.specs.Devices.{one_more}
-use Rattle.crx_text.specs.Lines.{InputLine, is_long}
-use Rattle.crx_text.specs.Reading.{line_shown, line_number}
-use Rattle.crx_text.specs.declared.fault.At.{At}
-use Rattle.crx_text.specs.declared.fault.Fault.TheVariants.{OutOfMemory}
-use Rattle.crx_filter.specs.declared.engine.Step.{Step}
-use Rattle.crx_filter.specs.declared.engine.Step.TheVariants.{Quiet, Ready, Warned}
+use Rattle.std.specs.Prelude.{◌≡◌, ◌⊎◌, ◌<◌, ℕ, Bool, true, false, List, [], ◌∷◌, ◌++◌, length, take, Option, Some, None}
+use Rattle.crx_lines.specs.Devices.{one_more}
+use Rattle.crx_lines.specs.Lines.{InputLine, is_long}
+use Rattle.crx_lines.specs.Reading.{line_shown, line_number}
+use Rattle.crx_lines.specs.declared.fault.At.{At}
+use Rattle.crx_lines.specs.declared.fault.Fault.TheVariants.{OutOfMemory}
+use Rattle.crx_engine.specs.declared.engine.Step.{Step}
+use Rattle.crx_engine.specs.declared.engine.Step.TheVariants.{Quiet, Ready, Warned}
 use Rattle.crx_filter.specs.declared.taking.Halt.{Halt}
 use Rattle.crx_filter.specs.declared.taking.Halt.TheVariants.{Fault, Unwritten, Unreported}
 use Rattle.crx_filter.specs.declared.taking.Taken.{Taken}
 use Rattle.crx_filter.specs.declared.taking.Taken.TheVariants.{Line, Overlong}
 use Rattle.crx_filter.specs.declared.taking.Once.{Once}
 use Rattle.crx_filter.specs.declared.taking.Once.TheVariants.{Done, Again}
-use Rattle.crx_filter.specs.Filters.{Course, Filter}
-use Rattle.crx_filter.specs.Engines.{Awaited, notices_of as warnings_awaited, with_next, EndsWith}
-use Rattle.crx_filter.specs.Messages.{notices_text}
+use Rattle.crx_engine.specs.Filters.{Course, Filter}
+use Rattle.crx_engine.specs.Engines.{Awaited, notices_of as warnings_awaited, with_next, EndsWith}
+use Rattle.crx_engine.specs.Messages.{notices_text}
+pub use Rattle.crx_engine.specs.Results.{are_some}
 
 -- the line that was taken is this one
 abbrev pub TakenIs : Taken → InputLine → Type 0
@@ -37,22 +38,19 @@ notices_of Quiet = []
 notices_of Ready = []
 notices_of (Warned notice again) = notice ∷ []
 
--- whether there are any
-abbrev pub are_some : List At → Bool
-are_some [] = false
-are_some (notice ∷ notices) = true
-
 -- ---- devices
 
--- a writer between two moments: which texts it may have taken in between, and the counts of its failures
+-- a writer between two moments: which texts it may have taken in between, whether all that it took was handed on by then, and the
+-- counts of its failures
 pub record Device : Type 1 where
   pub took : List ℕ → Type 0
+  pub flushed : Type 0
   pub before : ℕ
   pub after : ℕ
 
--- a writer between two states, by what it took and by its counts
-abbrev pub between : {S : Type 0} → (S → List ℕ → S → Type 0) → (S → ℕ) → S → S → Device
-between took failures old new = record { took = λ text. took old text new; before = failures old; after = failures new }
+-- a writer between two states, by what it took, whether it was flushed last, and its counts
+abbrev pub between : {S : Type 0} → (S → List ℕ → S → Type 0) → (S → Type 0) → (S → ℕ) → S → S → Device
+between took is_flushed failures old new = record { took = λ text. took old text new; flushed = is_flushed new; before = failures old; after = failures new }
 
 -- it took a text whole, and counted no failure
 abbrev pub TookAll : Device → List ℕ → Type 0
@@ -107,9 +105,9 @@ IsOnce filter shows writer messages lines earlier line (Done warned) =
 IsOnce filter shows writer messages lines earlier line Again =
     IsAgain (filter.so_far lines) (filter.so_far (with_next lines line)) line (shows lines) writer messages (warnings_awaited earlier)
 
--- memory ran out at a line that may take some
-pub record RunsOut (memory : Bool) (writer messages : Device) (number : ℕ) (at : At) : Type 0 where
-  pub allowed : memory ≡ true
+-- memory ran out at a line that may take some, after its earlier warnings
+pub record RunsOut (memory : Option (List At)) (writer messages : Device) (number : ℕ) (earlier : List At) (at : At) : Type 0 where
+  pub allowed : memory ≡ Some earlier
   pub fault : at.fault ≡ OutOfMemory
   pub line : at.line ≡ number
   pub wrote : TookAll writer []
@@ -132,20 +130,20 @@ pub record IsUnreported (before after : Course) (writer messages : Device) (earl
   pub wrote : TookAll writer []
   pub reported : TookPart messages (notices_text (notice ∷ []))
 
--- a line that was given once, and may take memory or not, ended the run
-abbrev pub IsHalted : Course → Course → Bool → ℕ → Device → Device → List At → Halt → Type 0
-IsHalted before after memory number writer messages earlier (Fault at) = RunsOut memory writer messages number at ⊎ IsFaulty before after writer messages earlier at
+-- a line that was given once ended the run; memory may have run out at it, or not
+abbrev pub IsHalted : Course → Course → Option (List At) → ℕ → Device → Device → List At → Halt → Type 0
+IsHalted before after memory number writer messages earlier (Fault at) = RunsOut memory writer messages number earlier at ⊎ IsFaulty before after writer messages earlier at
 IsHalted before after memory number writer messages earlier Unwritten = IsUnwritten before after writer messages earlier
 IsHalted before after memory number writer messages earlier Unreported = IsUnreported before after writer messages earlier
 
 -- ---- a line that may come twice
 
--- memory ran out for a line, after the first warnings that it adds, if any
-pub record IsOutOfMemory (before after : Course) (memory : Bool) (number : ℕ) (writer messages : Device) (at : At) : Type 0 where
-  pub allowed : memory ≡ true
+-- memory ran out for a line, after those of its warnings after which it may
+pub record IsOutOfMemory (before after : Course) (memory : Option (List At)) (number : ℕ) (writer messages : Device) (at : At) : Type 0 where
+  pub notices : List At
+  pub allowed : memory ≡ Some notices
   pub fault : at.fault ≡ OutOfMemory
   pub place : at.line ≡ number
-  pub notices : List At
   pub next : (notices ≡ []) ⊎ AreNext before after notices
   pub wrote : TookAll writer []
   pub reported : TookAll messages (notices_text notices)
@@ -173,7 +171,7 @@ pub record IsCutNotice (before after : Course) (writer messages : Device) : Type
   pub reported : TookPart messages (notices_text notices)
 
 -- a line, or the end, ended the run
-abbrev pub IsCut : Course → Course → Bool → ℕ → Device → Device → Halt → Type 0
+abbrev pub IsCut : Course → Course → Option (List At) → ℕ → Device → Device → Halt → Type 0
 IsCut before after memory number writer messages (Fault at) = IsOutOfMemory before after memory number writer messages at ⊎ IsEnded before after writer messages at
 IsCut before after memory number writer messages Unwritten = IsCutText before after writer messages
 IsCut before after memory number writer messages Unreported = IsCutNotice before after writer messages

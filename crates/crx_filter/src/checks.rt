@@ -1,17 +1,18 @@
 //! The check of a RINEX file.
 
 ghost use Rattle.std.specs.Prelude.{◌≡◌, ℕ, List, [], None, Some};
-ghost use Rattle.crx_text.specs.declared.fault.At.{At};
-ghost use Rattle.crx_filter.specs.Checkers.{HasTaken, IsOpen, ready_lines};
-ghost use Rattle.crx_filter.specs.Checking.{check_filter};
+ghost use Rattle.crx_lines.specs.declared.fault.At.{At};
+ghost use Rattle.crx_engine.specs.Checkers.{HasTaken, IsOpen, ready_lines};
+ghost use Rattle.crx_engine.specs.Checking.{check_filter};
+ghost use Rattle.crx_filter.specs.Promises.{JudgesStandard, Keeps};
 ghost use Rattle.crx_filter.specs.Runs.{Runs};
-ghost use Rattle.crx_filter.specs.Standard.{checked, report_status};
+ghost use Rattle.crx_engine.specs.Standard.{checked, report_status};
 ghost use Rattle.crx_filter.specs.Taking.{between};
 ghost use Rattle.crx_filter.specs.Running.{reader_between};
 
-use crate::checker::Checker;
 use crate::outcome::Outcome;
 use crate::run::run;
+use crx_engine::checker::Checker;
 use crx_text::{Sink, Source};
 use std::alloc::Global;
 
@@ -45,7 +46,7 @@ fn check_by<R: Source, W: Sink, M: Sink>(
     requires drained { ready_lines checker.old ≡ [] }
     ensures runs { Runs checked check_filter
         (reader_between R.gave R.at_end R.failures R.ends reader.old reader.new)
-        (between W.took W.failures writer.old writer.new) (between M.took M.failures messages.old messages.new) result.status result.fault }
+        (between W.took W.is_flushed W.failures writer.old writer.new) (between M.took M.is_flushed M.failures messages.old messages.new) result.status result.fault }
 {
     let outcome = run(alloc, checker, reader, writer, messages);
     judged(outcome, checker.not_standard())
@@ -62,7 +63,10 @@ pub fn check<R: Source, W: Sink, M: Sink>(
 ) -> Outcome
     ensures runs { Runs checked check_filter
         (reader_between R.gave R.at_end R.failures R.ends reader.old reader.new)
-        (between W.took W.failures writer.old writer.new) (between M.took M.failures messages.old messages.new) result.status result.fault }
+        (between W.took W.is_flushed W.failures writer.old writer.new) (between M.took M.is_flushed M.failures messages.old messages.new) result.status result.fault }
+    ensures standard { Keeps (JudgesStandard (between W.took W.is_flushed W.failures writer.old writer.new) result.status)
+        (reader_between R.gave R.at_end R.failures R.ends reader.old reader.new)
+        (between W.took W.is_flushed W.failures writer.old writer.new) (between M.took M.is_flushed M.failures messages.old messages.new) result.fault }
 {
     let mut checker = Checker::new(alloc);
     check_by(alloc, &mut checker, reader, writer, messages)

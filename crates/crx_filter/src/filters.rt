@@ -1,18 +1,17 @@
 //! Both filters over a whole input.
 
 ghost use Rattle.std.specs.Prelude.{◌≡◌, ℕ, List};
-ghost use Rattle.crx_filter.specs.Compacted.{compacted};
-ghost use Rattle.crx_filter.specs.Directions.{compaction_filter, expansion_filter};
-ghost use Rattle.crx_filter.specs.Expanded.{expanded};
+ghost use Rattle.crx_engine.specs.Compacted.{compacted};
+ghost use Rattle.crx_engine.specs.Directions.{compaction_filter, expansion_filter};
+ghost use Rattle.crx_engine.specs.Expanded.{expanded};
+ghost use Rattle.crx_filter.specs.Promises.{BringsBackWhatWasCompacted, Keeps, SavesAllElse};
 ghost use Rattle.crx_filter.specs.Runs.{Runs};
 ghost use Rattle.crx_filter.specs.Taking.{between};
 ghost use Rattle.crx_filter.specs.Running.{reader_between};
 
-use crate::compactor::Compactor;
-use crate::expander::Expander;
-use crate::options::Options;
 use crate::outcome::Outcome;
 use crate::start::start;
+use crx_engine::{Compactor, Expander, Options};
 use crx_text::{Sink, Source};
 use std::alloc::Global;
 
@@ -20,7 +19,7 @@ use std::alloc::Global;
 /// is ready, and reports warnings and the fault that ends the run, one line each.
 ///
 /// Where no device failed and memory didn't run out, the output, the messages, the status and the fault are those of the compaction of
-/// the whole input, of at most [`INPUT_LIMIT`](crx_text::limits::INPUT_LIMIT) bytes. `ReadFailed`, `WriteFailed`, `InputTooLong` and
+/// the whole input, of at most [`INPUT_LIMIT`](crx_lines::limits::INPUT_LIMIT) bytes. `ReadFailed`, `WriteFailed`, `InputTooLong` and
 /// `OutOfMemory` come where a device or memory failed or the input is longer; what was written by then is a prefix of what is due.
 pub fn compact<R: Source, W: Sink, M: Sink>(
     alloc: Global,
@@ -31,7 +30,7 @@ pub fn compact<R: Source, W: Sink, M: Sink>(
 ) -> Outcome
     ensures runs { Runs (λ input. compacted input options) (compaction_filter options)
         (reader_between R.gave R.at_end R.failures R.ends reader.old reader.new)
-        (between W.took W.failures writer.old writer.new) (between M.took M.failures messages.old messages.new) result.status result.fault }
+        (between W.took W.is_flushed W.failures writer.old writer.new) (between M.took M.is_flushed M.failures messages.old messages.new) result.status result.fault }
 {
     start(
         alloc,
@@ -45,7 +44,7 @@ pub fn compact<R: Source, W: Sink, M: Sink>(
 /// Expands Compact RINEX 3.0 into RINEX 3.0x, in the same way; of the options it uses alone whether faults are skipped.
 ///
 /// Where no device failed and memory didn't run out, the output, the messages, the status and the fault are those of the expansion of
-/// the whole input, of at most [`INPUT_LIMIT`](crx_text::limits::INPUT_LIMIT) bytes. `ReadFailed`, `WriteFailed`, `InputTooLong` and
+/// the whole input, of at most [`INPUT_LIMIT`](crx_lines::limits::INPUT_LIMIT) bytes. `ReadFailed`, `WriteFailed`, `InputTooLong` and
 /// `OutOfMemory` come where a device or memory failed or the input is longer; what was written by then is a prefix of what is due.
 pub fn expand<R: Source, W: Sink, M: Sink>(
     alloc: Global,
@@ -56,7 +55,13 @@ pub fn expand<R: Source, W: Sink, M: Sink>(
 ) -> Outcome
     ensures runs { Runs (λ input. expanded input options) (expansion_filter options)
         (reader_between R.gave R.at_end R.failures R.ends reader.old reader.new)
-        (between W.took W.failures writer.old writer.new) (between M.took M.failures messages.old messages.new) result.status result.fault }
+        (between W.took W.is_flushed W.failures writer.old writer.new) (between M.took M.is_flushed M.failures messages.old messages.new) result.status result.fault }
+    ensures way_back { Keeps (BringsBackWhatWasCompacted (between W.took W.is_flushed W.failures writer.old writer.new) (between M.took M.is_flushed M.failures messages.old messages.new) result.status result.fault)
+        (reader_between R.gave R.at_end R.failures R.ends reader.old reader.new)
+        (between W.took W.is_flushed W.failures writer.old writer.new) (between M.took M.is_flushed M.failures messages.old messages.new) result.fault }
+    ensures salvage { Keeps (SavesAllElse options (between W.took W.is_flushed W.failures writer.old writer.new) (between M.took M.is_flushed M.failures messages.old messages.new) result.status result.fault)
+        (reader_between R.gave R.at_end R.failures R.ends reader.old reader.new)
+        (between W.took W.is_flushed W.failures writer.old writer.new) (between M.took M.is_flushed M.failures messages.old messages.new) result.fault }
 {
     start(
         alloc,

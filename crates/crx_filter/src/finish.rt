@@ -4,7 +4,7 @@ ghost use Rattle.std.specs.Prelude.{◌≡◌, ◌⊎◌, Some};
 ghost use Rattle.crx_filter.specs.Endings.{Finishes, IsReported};
 ghost use Rattle.crx_filter.specs.Taking.{between};
 
-use crate::message::message;
+use crate::message::{Severity, message};
 use crate::outcome::Outcome;
 use crate::taking::Halt;
 use crate::work::Work;
@@ -12,7 +12,7 @@ use crx_text::{At, Fault, Sink, write_all_counted};
 
 /// Reports a fault; a failure ends its message where it comes.
 fn report<M: Sink>(messages: &mut M, at: At) -> Outcome
-    ensures reported { IsReported (between M.took M.failures messages.old messages.new) at }
+    ensures reported { IsReported (between M.took M.is_flushed M.failures messages.old messages.new) at }
     ensures fault { result.fault ≡ Some at }
     ensures status { result.status ≡ 1 }
 {
@@ -20,7 +20,7 @@ fn report<M: Sink>(messages: &mut M, at: At) -> Outcome
         status: 1,
         fault: Some(at),
     };
-    match write_all_counted(messages, message(b"ERROR", at).bytes()) {
+    match write_all_counted(messages, message(Severity::Error, at).bytes()) {
         Ok(()) => outcome,
         Err(_) => outcome,
     }
@@ -30,8 +30,8 @@ fn report<M: Sink>(messages: &mut M, at: At) -> Outcome
 /// last line that was read, unless a fault stands. Then the fault is reported, but for a warning that couldn't be.
 pub(crate) fn finish<W: Sink, M: Sink>(writer: &mut W, messages: &mut M, work: Work) -> Outcome
     ensures { Finishes
-        (between W.took W.failures writer.old writer.new)
-        (between M.took M.failures messages.old messages.new)
+        (between W.took W.is_flushed W.failures writer.old writer.new)
+        (between M.took M.is_flushed M.failures messages.old messages.new)
         work.last work.warned work.halt result.status result.fault }
 {
     let unwritten = At {

@@ -1,28 +1,41 @@
 //! Messages about faults.
 
-ghost use Rattle.std.specs.Prelude.{◌≡◌, ◌+◌, ◌≤◌, ◌++◌, length};
-ghost use Rattle.crx_text.specs.declared.limits.TheConstants.{LINE_LIMIT};
-ghost use Rattle.crx_filter.specs.Messages.{message_text};
+ghost use Rattle.std.specs.Prelude.{◌≡◌, ◌≤◌, length};
+ghost use Rattle.crx_engine.specs.Messages.{message_text};
+ghost use Rattle.crx_filter.specs.Severities.{word_of};
 
+use crx_engine::appending::append;
 use crx_text::{At, Text};
 use itoa::Buffer;
 
-/// Appends bytes that fit.
-pub(crate) fn append(text: &mut Text, bytes: &[u8])
-    requires { length text.old + length bytes.now ≤ LINE_LIMIT }
-    ensures { text.new ≡ text.old ++ bytes.now }
-{
-    let _ = text.extend(bytes);
+/// How grave a fault is.
+#[derive(Clone, Copy, Debug, PartialEq, Eq)]
+pub enum Severity {
+    /// It ended the run.
+    Error,
+    /// What it was found in was skipped.
+    Warning,
 }
 
-/// The line of a fault, as `ERROR line 7 code 18: bad indicator`, with its LF; the first word is
-/// `word`. It takes no memory.
-pub fn message(word: &[u8], at: At) -> Text
-    requires { length word.now ≤ 10 }
-    ensures { result ≡ message_text word.now at }
+impl Severity {
+    /// The word that a message begins with.
+    fn word(self) -> &'static str
+        ensures word { result.now ≡ word_of self }
+        ensures short { length result.now ≤ 10 }
+    {
+        match self {
+            Severity::Error => "ERROR",
+            Severity::Warning => "WARNING",
+        }
+    }
+}
+
+/// The line of a fault, as `ERROR line 7 code 18: bad indicator`, with its LF. It takes no memory.
+pub fn message(severity: Severity, at: At) -> Text
+    ensures { result ≡ message_text (word_of severity) at }
 {
     let mut text = Text::new();
-    append(&mut text, word);
+    append(&mut text, severity.word().as_bytes());
     append(&mut text, b" line ");
     append(&mut text, Buffer::new().format(at.line).as_bytes());
     append(&mut text, b" code ");

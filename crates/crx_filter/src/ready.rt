@@ -1,13 +1,13 @@
 //! Writing the lines that an engine has ready.
 
 ghost use Rattle.std.specs.Prelude.{◌≡◌, ◌<◌, ℕ, List, [], length, take, IfErr, OnOk, OnErr};
-ghost use Rattle.crx_text.specs.Lines.{InputLine};
-ghost use Rattle.crx_text.specs.Devices.{one_more};
-ghost use Rattle.crx_text.specs.declared.fault.At.{At};
-ghost use Rattle.crx_filter.specs.Engines.{Awaited};
-ghost use Rattle.crx_filter.specs.Filters.{lines_text};
+ghost use Rattle.crx_lines.specs.Lines.{InputLine};
+ghost use Rattle.crx_lines.specs.Devices.{one_more};
+ghost use Rattle.crx_lines.specs.declared.fault.At.{At};
+ghost use Rattle.crx_engine.specs.Engines.{Awaited};
+ghost use Rattle.crx_engine.specs.Filters.{lines_text};
 
-use crate::engine::Engine;
+use crx_engine::engine::Engine;
 use crx_text::{Sink, WriteFailed, write_all_counted};
 
 /// Writes the lines that an engine has ready, each with LF.

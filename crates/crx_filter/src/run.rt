@@ -1,22 +1,24 @@
 //! A whole run: an input through an engine to a writer and its messages.
 
-ghost use Rattle.std.specs.Prelude.{◌≡◌, ℕ, List, [], Some, None};
-ghost use Rattle.crx_text.specs.Lines.{lines_of};
-ghost use Rattle.crx_filter.specs.Runs.{IsLawful, result_by, RunsAs};
+ghost use Rattle.std.specs.Prelude.{◌≡◌, ℕ, List, [], Some, None, false};
+ghost use Rattle.crx_lines.specs.Lines.{lines_of};
+ghost use Rattle.crx_engine.specs.Lawful.{IsLawful};
+ghost use Rattle.crx_filter.specs.Runs.{result_by, RunsAs};
 ghost use Rattle.crx_filter.specs.Taking.{between};
 ghost use Rattle.crx_filter.specs.Running.{reader_between};
 
-use crate::engine::Engine;
 use crate::finish::finish;
 use crate::outcome::Outcome;
 use crate::taking::Halt;
 use crate::work::{Work, take_all};
+use crx_engine::engine::Engine;
 use crx_text::{At, Fault, LineReader, Sink, Source};
 use std::alloc::Global;
 
 /// Memory ran out before the first line was asked for.
 pub(crate) fn no_memory() -> Work
     ensures last { result.last ≡ 0 }
+    ensures warned { result.warned ≡ false }
     ensures halt { result.halt ≡ Some (Halt.Fault (record { line = 0; fault = Fault.OutOfMemory })) }
 {
     Work {
@@ -43,7 +45,7 @@ pub(crate) fn run<E: Engine, R: Source, W: Sink, M: Sink>(
     requires lawful { IsLawful (E.filter engine.old) }
     ensures runs { (given : List ℕ) × R.gave reader.old given reader.new × RunsAs (result_by (E.filter engine.old)) (E.filter engine.old)
         (reader_between R.gave R.at_end R.failures R.ends reader.old reader.new) given
-        (between W.took W.failures writer.old writer.new) (between M.took M.failures messages.old messages.new) result.status result.fault
+        (between W.took W.is_flushed W.failures writer.old writer.new) (between M.took M.is_flushed M.failures messages.old messages.new) result.status result.fault
         × (result.fault ≡ None → E.has_ended engine.new (lines_of given)) }
 {
     match LineReader::new(alloc) {

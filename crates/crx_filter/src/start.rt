@@ -1,15 +1,16 @@
 //! The start of a run: an engine that was made, or couldn't be since memory ran out.
 
 ghost use Rattle.std.specs.Prelude.{◌≡◌, ℕ, List, [], IfOk};
-ghost use Rattle.crx_filter.specs.Filters.{Filter};
-ghost use Rattle.crx_filter.specs.Runs.{IsLawful, result_by, Runs};
+ghost use Rattle.crx_engine.specs.Filters.{Filter};
+ghost use Rattle.crx_engine.specs.Lawful.{IsLawful};
+ghost use Rattle.crx_filter.specs.Runs.{result_by, Runs};
 ghost use Rattle.crx_filter.specs.Taking.{between};
 ghost use Rattle.crx_filter.specs.Running.{reader_between};
 
-use crate::engine::Engine;
 use crate::finish::finish;
 use crate::outcome::Outcome;
 use crate::run::{no_memory, run};
+use crx_engine::engine::Engine;
 use crx_text::{Sink, Source};
 use std::alloc::{AllocError, Global};
 
@@ -26,7 +27,7 @@ pub(crate) fn start<E: Engine + Drop, R: Source, W: Sink, M: Sink>(
     ensures runs { (filter : Filter) → IsLawful filter → IfOk engine (λ e. E.filter e ≡ filter)
         → Runs (result_by filter) filter
         (reader_between R.gave R.at_end R.failures R.ends reader.old reader.new)
-        (between W.took W.failures writer.old writer.new) (between M.took M.failures messages.old messages.new) result.status result.fault }
+        (between W.took W.is_flushed W.failures writer.old writer.new) (between M.took M.is_flushed M.failures messages.old messages.new) result.status result.fault }
 {
     match engine {
         Ok(mut engine) => run(alloc, &mut engine, reader, writer, messages),

@@ -1,15 +1,15 @@
 //! One step of a run: the next line of the input, or its end.
 
 ghost use Rattle.std.specs.Prelude.{◌≡◌, ◌⊎◌, ◌+◌, ℕ, List, [], IfOk, IfErr, IfSome, OnOk, ◌<◌, ◌≤◌};
-ghost use Rattle.crx_text.specs.Devices.{tally_of};
-ghost use Rattle.crx_text.specs.Lines.{InputLine};
-ghost use Rattle.crx_text.specs.Readers.{reading};
-ghost use Rattle.crx_text.specs.declared.limits.TheConstants.{INPUT_LIMIT};
-ghost use Rattle.crx_filter.specs.Running.{IsWithinLimit, IsRunning, Goes, StopsAt};
+ghost use Rattle.crx_lines.specs.Lines.{InputLine};
+ghost use Rattle.crx_lines.specs.Readers.{reading};
+ghost use Rattle.crx_lines.specs.declared.limits.TheConstants.{INPUT_LIMIT};
+ghost use Rattle.crx_filter.specs.Running.{IsWithinLimit, IsRunning, Goes, StopsAt, reader_between};
+ghost use Rattle.crx_filter.specs.Taking.{between};
 
-use crate::engine::Engine;
 use crate::taking::{Halt, Taken, take_line};
-use crx_text::phase::Phase;
+use crx_engine::engine::Engine;
+use crx_lines::phase::Phase;
 use crx_text::{Fault, LineReader, Sink, Source};
 
 /// Reads the next line and takes it; whether a warning was reported, or `None` at the end of the input.
@@ -32,25 +32,25 @@ pub(crate) fn step<E: Engine, R: Source, W: Sink, M: Sink>(
     ensures farther { IfOk result (λ o. IfSome o (λ _. ((reading input.old).lent < (reading input.new).lent) × ((reading input.new).lent ≤ INPUT_LIMIT))) }
     ensures goes { (r0 : R) (w0 : W) (m0 : M) (lines : List InputLine) → E.shows engine.old lines []
         → IsRunning
-        (record { gave = λ given. R.gave r0 given reader.old; at_end = R.at_end reader.old; start = tally_of (R.failures r0) (R.ends r0); counted = tally_of (R.failures reader.old) (R.ends reader.old) })
-        (record { took = λ text. W.took w0 text writer.old; before = W.failures w0; after = W.failures writer.old })
-        (record { took = λ text. M.took m0 text messages.old; before = M.failures m0; after = M.failures messages.old })
+        (reader_between R.gave R.at_end R.failures R.ends r0 reader.old)
+        (between W.took W.is_flushed W.failures w0 writer.old)
+        (between M.took M.is_flushed M.failures m0 messages.old)
         (reading input.old) lines ((E.filter engine.old).so_far lines)
         → IfOk result (λ progress. Goes (E.filter engine.old) (E.shows engine.new)
-        (record { gave = λ given. R.gave r0 given reader.new; at_end = R.at_end reader.new; start = tally_of (R.failures r0) (R.ends r0); counted = tally_of (R.failures reader.new) (R.ends reader.new) })
-        (record { took = λ text. W.took w0 text writer.new; before = W.failures w0; after = W.failures writer.new })
-        (record { took = λ text. M.took m0 text messages.new; before = M.failures m0; after = M.failures messages.new })
+        (reader_between R.gave R.at_end R.failures R.ends r0 reader.new)
+        (between W.took W.is_flushed W.failures w0 writer.new)
+        (between M.took M.is_flushed M.failures m0 messages.new)
         (reading input.new) lines progress) }
     ensures stops { (r0 : R) (w0 : W) (m0 : M) (lines : List InputLine) → E.shows engine.old lines []
         → IsRunning
-        (record { gave = λ given. R.gave r0 given reader.old; at_end = R.at_end reader.old; start = tally_of (R.failures r0) (R.ends r0); counted = tally_of (R.failures reader.old) (R.ends reader.old) })
-        (record { took = λ text. W.took w0 text writer.old; before = W.failures w0; after = W.failures writer.old })
-        (record { took = λ text. M.took m0 text messages.old; before = M.failures m0; after = M.failures messages.old })
+        (reader_between R.gave R.at_end R.failures R.ends r0 reader.old)
+        (between W.took W.is_flushed W.failures w0 writer.old)
+        (between M.took M.is_flushed M.failures m0 messages.old)
         (reading input.old) lines ((E.filter engine.old).so_far lines)
         → IfErr result (λ halt. StopsAt (E.filter engine.old)
-        (record { gave = λ given. R.gave r0 given reader.new; at_end = R.at_end reader.new; start = tally_of (R.failures r0) (R.ends r0); counted = tally_of (R.failures reader.new) (R.ends reader.new) })
-        (record { took = λ text. W.took w0 text writer.new; before = W.failures w0; after = W.failures writer.new })
-        (record { took = λ text. M.took m0 text messages.new; before = M.failures m0; after = M.failures messages.new })
+        (reader_between R.gave R.at_end R.failures R.ends r0 reader.new)
+        (between W.took W.is_flushed W.failures w0 writer.new)
+        (between M.took M.is_flushed M.failures m0 messages.new)
         (reading input.new) lines halt) }
 {
     match input.next_line(reader) {

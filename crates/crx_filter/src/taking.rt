@@ -1,18 +1,18 @@
 //! One line of the input, through an engine to the writer and the messages.
 
-ghost use Rattle.std.specs.Prelude.{◌≡◌, ◌+◌, ◌<◌, ◌≤◌, ℕ, List, [], ◌∷◌, length, take, IfOk, IfErr, OnOk, OnErr, true, false};
-ghost use Rattle.crx_text.specs.Lines.{InputLine};
-ghost use Rattle.crx_text.specs.Devices.{one_more};
-ghost use Rattle.crx_text.specs.declared.fault.At.{At};
-ghost use Rattle.crx_text.specs.declared.limits.TheConstants.{INPUT_LIMIT};
-ghost use Rattle.crx_filter.specs.Filters.{lines_text};
-ghost use Rattle.crx_filter.specs.Messages.{warning_text, notices_text};
-ghost use Rattle.crx_filter.specs.Engines.{Answers, Awaited, IsAwaited, notices_of as warnings_awaited, Concludes, IsDrainedAfter, taken_after, with_next};
+ghost use Rattle.std.specs.Prelude.{◌≡◌, ◌+◌, ◌<◌, ◌≤◌, ℕ, List, [], ◌∷◌, length, take, IfOk, IfErr, OnOk, OnErr, None};
+ghost use Rattle.crx_lines.specs.Lines.{InputLine};
+ghost use Rattle.crx_lines.specs.Devices.{one_more};
+ghost use Rattle.crx_lines.specs.declared.fault.At.{At};
+ghost use Rattle.crx_lines.specs.declared.limits.TheConstants.{INPUT_LIMIT};
+ghost use Rattle.crx_engine.specs.Filters.{lines_text};
+ghost use Rattle.crx_engine.specs.Messages.{warning_text, notices_text};
+ghost use Rattle.crx_engine.specs.Engines.{Answers, Awaited, IsAwaited, notices_of as warnings_awaited, Concludes, IsDrainedAfter, taken_after, with_next};
 ghost use Rattle.crx_filter.specs.Taking.{TakenIs, number_taken, is_warning, notices_of, Unsettled, IsOnce, IsHalted, IsDone, IsCut, between};
 
-use crate::engine::{Engine, Step};
-use crate::message::message;
+use crate::message::{Severity, message};
 use crate::ready::write_ready;
+use crx_engine::engine::{Engine, Step};
 use crx_text::{At, Line, Sink, write_all_counted};
 
 /// What ended a run.
@@ -73,7 +73,7 @@ fn warn<M: Sink>(messages: &mut M, notice: At) -> Result<(), Halt>
     ensures part { OnErr result ((n : ℕ) × (n < length (warning_text notice)) × M.took messages.old (take n (warning_text notice)) messages.new) }
     ensures counted { OnErr result (M.failures messages.new ≡ one_more (M.failures messages.old)) }
 {
-    match write_all_counted(messages, message(b"WARNING", notice).bytes()) {
+    match write_all_counted(messages, message(Severity::Warning, notice).bytes()) {
         Ok(()) => Ok(()),
         Err(_) => Err(Halt::Unreported),
     }
@@ -97,8 +97,8 @@ fn settle<E: Engine, W: Sink, M: Sink>(
     ensures reported { OnOk result (M.took messages.old (notices_text (notices_of step)) messages.new) }
     ensures good { OnOk result ((W.failures writer.new ≡ W.failures writer.old) × (M.failures messages.new ≡ M.failures messages.old)) }
     ensures halted { IfErr result (λ halt. Unsettled
-        (between W.took W.failures writer.old writer.new)
-        (between M.took M.failures messages.old messages.new)
+        (between W.took W.is_flushed W.failures writer.old writer.new)
+        (between M.took M.is_flushed M.failures messages.old messages.new)
         (lines_text (E.ready engine.old)) (notices_of step) halt) }
 {
     match step {
@@ -131,13 +131,13 @@ fn take_once<E: Engine, W: Sink, M: Sink>(
     ensures again { IfOk result (λ once. once ≡ Once.Again → E.taken engine.new ≡ E.taken engine.old) }
     ensures once { (lines : List InputLine) (earlier : List Awaited) (line : InputLine) → E.shows engine.old lines earlier → IsAwaited earlier line → TakenIs taken.entry line
         → IfOk result (λ once. IsOnce (E.filter engine.old) (E.shows engine.new)
-        (between W.took W.failures writer.old writer.new)
-        (between M.took M.failures messages.old messages.new)
+        (between W.took W.is_flushed W.failures writer.old writer.new)
+        (between M.took M.is_flushed M.failures messages.old messages.new)
         lines earlier line once) }
     ensures halted { (lines : List InputLine) (earlier : List Awaited) (line : InputLine) → E.shows engine.old lines earlier → IsAwaited earlier line → TakenIs taken.entry line
-        → IfErr result (λ halt. IsHalted ((E.filter engine.old).so_far lines) ((E.filter engine.old).so_far (with_next lines line)) ((E.filter engine.old).may_take_memory lines line) (length lines + 1)
-        (between W.took W.failures writer.old writer.new)
-        (between M.took M.failures messages.old messages.new)
+        → IfErr result (λ halt. IsHalted ((E.filter engine.old).so_far lines) ((E.filter engine.old).so_far (with_next lines line)) ((E.filter engine.old).memory_after lines line) (length lines + 1)
+        (between W.took W.is_flushed W.failures writer.old writer.new)
+        (between M.took M.is_flushed M.failures messages.old messages.new)
         (warnings_awaited earlier) halt) }
 {
     let step = match give(engine, taken) {
@@ -173,13 +173,13 @@ pub(crate) fn take_line<E: Engine, W: Sink, M: Sink>(
     ensures drained { OnOk result (E.ready engine.new ≡ []) }
     ensures done { (lines : List InputLine) (line : InputLine) → E.shows engine.old lines [] → TakenIs taken.entry line
         → IfOk result (λ warned. IsDone ((E.filter engine.old).so_far lines) ((E.filter engine.old).so_far (with_next lines line)) (E.shows engine.new (with_next lines line) [])
-        (between W.took W.failures writer.old writer.new)
-        (between M.took M.failures messages.old messages.new)
+        (between W.took W.is_flushed W.failures writer.old writer.new)
+        (between M.took M.is_flushed M.failures messages.old messages.new)
         [] warned) }
     ensures cut { (lines : List InputLine) (line : InputLine) → E.shows engine.old lines [] → TakenIs taken.entry line
-        → IfErr result (λ halt. IsCut ((E.filter engine.old).so_far lines) ((E.filter engine.old).so_far (with_next lines line)) ((E.filter engine.old).may_take_memory lines line) (length lines + 1)
-        (between W.took W.failures writer.old writer.new)
-        (between M.took M.failures messages.old messages.new)
+        → IfErr result (λ halt. IsCut ((E.filter engine.old).so_far lines) ((E.filter engine.old).so_far (with_next lines line)) ((E.filter engine.old).memory_after lines line) (length lines + 1)
+        (between W.took W.is_flushed W.failures writer.old writer.new)
+        (between M.took M.is_flushed M.failures messages.old messages.new)
         halt) }
 {
     match take_once(engine, writer, messages, taken) {
@@ -204,13 +204,13 @@ pub(crate) fn take_end<E: Engine, W: Sink, M: Sink>(
     ensures filter { E.filter engine.new ≡ E.filter engine.old }
     ensures done { (lines : List InputLine) → E.shows engine.old lines []
         → IfOk result (λ warned. IsDone ((E.filter engine.old).so_far lines) ((E.filter engine.old).whole lines) (E.has_ended engine.new lines)
-        (between W.took W.failures writer.old writer.new)
-        (between M.took M.failures messages.old messages.new)
+        (between W.took W.is_flushed W.failures writer.old writer.new)
+        (between M.took M.is_flushed M.failures messages.old messages.new)
         [] warned) }
     ensures cut { (lines : List InputLine) → E.shows engine.old lines []
-        → IfErr result (λ halt. IsHalted ((E.filter engine.old).so_far lines) ((E.filter engine.old).whole lines) false (length lines)
-        (between W.took W.failures writer.old writer.new)
-        (between M.took M.failures messages.old messages.new)
+        → IfErr result (λ halt. IsHalted ((E.filter engine.old).so_far lines) ((E.filter engine.old).whole lines) None (length lines)
+        (between W.took W.is_flushed W.failures writer.old writer.new)
+        (between M.took M.is_flushed M.failures messages.old messages.new)
         [] halt) }
 {
     match engine.end() {

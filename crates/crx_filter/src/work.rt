@@ -1,15 +1,15 @@
 //! The work of a run: each line of the input, and its end.
 
 ghost use Rattle.std.specs.Prelude.{◌≡◌, ◌⊎◌, ◌+◌, ℕ, List, [], None};
-ghost use Rattle.crx_text.specs.Devices.{tally_of};
-ghost use Rattle.crx_text.specs.Lines.{InputLine};
-ghost use Rattle.crx_text.specs.Readers.{reading};
-ghost use Rattle.crx_filter.specs.Running.{WorkEnds};
+ghost use Rattle.crx_lines.specs.Lines.{InputLine};
+ghost use Rattle.crx_lines.specs.Readers.{reading};
+ghost use Rattle.crx_filter.specs.Running.{WorkEnds, reader_between};
+ghost use Rattle.crx_filter.specs.Taking.{between};
 
-use crate::engine::Engine;
 use crate::step::step;
 use crate::taking::{Halt, take_end};
-use crx_text::phase::Phase;
+use crx_engine::engine::Engine;
+use crx_lines::phase::Phase;
 use crx_text::{LineReader, Sink, Source};
 
 /// Where the work of a run ended.
@@ -37,9 +37,9 @@ pub(crate) fn take_all<E: Engine, R: Source, W: Sink, M: Sink>(
     requires first { reading input.old ≡ record { rest = []; lent = 0; number = 0; phase = Phase.Open } }
     requires nothing { (E.filter engine.old).so_far [] ≡ record { output = []; warnings = []; fault = None } }
     ensures { WorkEnds (E.filter engine.old) (E.has_ended engine.new)
-        (record { gave = λ given. R.gave reader.old given reader.new; at_end = R.at_end reader.new; start = tally_of (R.failures reader.old) (R.ends reader.old); counted = tally_of (R.failures reader.new) (R.ends reader.new) })
-        (record { took = λ text. W.took writer.old text writer.new; before = W.failures writer.old; after = W.failures writer.new })
-        (record { took = λ text. M.took messages.old text messages.new; before = M.failures messages.old; after = M.failures messages.new })
+        (reader_between R.gave R.at_end R.failures R.ends reader.old reader.new)
+        (between W.took W.is_flushed W.failures writer.old writer.new)
+        (between M.took M.is_flushed M.failures messages.old messages.new)
         (reading input.new) result.last result.warned result.halt }
 {
     let mut warned = false;

@@ -5,22 +5,22 @@ use Rattle.std.specs.Prelude.{⊤, ◌&&◌, ◌==◌}
 use Rattle.std.specs.List.{AllByRecursion}
 use Rattle.std.proofs.lemmas.List.{length-drop}
 use Rattle.crx_text.specs.Columns.{character_at}
-use Rattle.crx_text.specs.Seen.{ReadLine, Content, Overlong}
-use Rattle.crx_text.specs.declared.fault.At.{At}
-use Rattle.crx_text.specs.declared.fault.Fault.{Fault}
-use Rattle.crx_text.specs.declared.fault.Fault.TheVariants.{Truncated}
+use Rattle.crx_lines.specs.Seen.{ReadLine, Content, Overlong}
+use Rattle.crx_lines.specs.declared.fault.At.{At}
+use Rattle.crx_lines.specs.declared.fault.Fault.{Fault}
+use Rattle.crx_lines.specs.declared.fault.Fault.TheVariants.{Truncated}
 use Rattle.crx_rinex.specs.EpochLines.{begins_epoch, is_event_flag, is_event_line}
 use Rattle.crx_rinex.specs.Places.{Place, Here, Wrong, Wanted, one_line}
 use Rattle.crx_rinex.specs.Units.{Unit as FileUnit, Observation}
 use Rattle.crx_compact.specs.CompactPlaces.{ReadEpoch, epoch_at}
-use Rattle.crx_filter.specs.Items.{Item, Accepted, Warned, records_left, types_in_force}
-use Rattle.crx_filter.specs.Reading.{Reading, AtLines, Looking, is_skippable, is_skipped, looked_for, reading_within, reading_from}
-use Rattle.crx_filter.specs.Expanded.{raws_kept, event_line, as_observation, compact_epoch_place, compact_place}
-use Rattle.crx_filter.specs.Anew.{IsBetweenUnits}
-use Rattle.crx_filter.proofs.Resuming.{by_place, here-within, wrong-stays, within-here, within-wrong, within-wanted, fault-skipped, looked-on}
-use Rattle.crx_filter.proofs.Following.{body-place}
-use Rattle.crx_filter.proofs.ForwardCompact.{compact-forward}
-use Rattle.crx_filter.proofs.EpochFaults.{IsSkippableAt, epoch-skippable}
+use Rattle.crx_engine.specs.Items.{Item, Accepted, Warned, records_left, types_in_force}
+use Rattle.crx_engine.specs.Reading.{Reading, AtLines, Looking, is_skippable, is_skipped, looked_for, reading_within, reading_from}
+use Rattle.crx_engine.specs.Expanded.{raws_kept, event_line, as_observation, compact_epoch_place, compact_place}
+use Rattle.crx_engine.specs.Anew.{IsBetweenUnits}
+use Rattle.crx_engine.proofs.Resuming.{by_place, here-within, wrong-stays, within-here, within-wrong, within-wanted, fault-skipped, looked-on}
+use Rattle.crx_engine.proofs.Following.{body-place}
+use Rattle.crx_engine.proofs.ForwardCompact.{compact-forward}
+use Rattle.crx_engine.proofs.EpochFaults.{IsSkippableAt, epoch-skippable}
 use Rattle.crx_laws.proofs.CutOff.{epoch-cut}
 
 -- ---- the lines of a block

@@ -1,30 +1,30 @@
 -- What is read after a damaged block is what the undamaged text has there.
 use Rattle.std.proofs.Common.{ℕ, ◌≡◌, ◌+◌, ◌≤◌, true, false, cond, List, [], ◌∷◌, ◌++◌, map, length, Option, None, refl, ap, sym, ◌∙◌, subst, append_assoc, append-nil}
-use Rattle.crx_text.specs.Lines.{InputLine, pieces_of, lines_of}
-use Rattle.crx_text.specs.Seen.{ReadLine, Content, Overlong, seen}
-use Rattle.crx_text.specs.declared.fault.At.{At}
+use Rattle.crx_lines.specs.Lines.{InputLine, pieces_of, lines_of}
+use Rattle.crx_lines.specs.Seen.{ReadLine, Content, Overlong, seen}
+use Rattle.crx_lines.specs.declared.fault.At.{At}
 use Rattle.crx_rinex.specs.Observations.{Epoch}
 use Rattle.crx_rinex.specs.EpochLines.{begins_epoch, is_event_line}
 use Rattle.crx_rinex.specs.Units.{Observation}
 use Rattle.crx_compact.specs.CompactPlaces.{ReadEpoch}
-use Rattle.crx_filter.specs.Choices.{Choices}
-use Rattle.crx_filter.specs.Items.{Item, Accepted, Warned, header_has_ended, records_announced, records_left, types_in_force}
-use Rattle.crx_filter.specs.Reading.{Reading, WholeReading, AtLines, reading_from, gone_on, ended}
-use Rattle.crx_filter.specs.Compacted.{version_line, program_line, compact_unit, compact_lines}
-use Rattle.crx_filter.specs.Expanded.{compact_place}
-use Rattle.crx_filter.specs.Laws.{AreInPlace}
-use Rattle.crx_filter.specs.WayBack.{HaveNoReturns}
-use Rattle.crx_filter.specs.Anew.{IsBetweenUnits, GoOnAlike, starts_anew}
-use Rattle.crx_filter.specs.Damage.{lines_of_epochs, with_epochs, IsDamaged}
-use Rattle.crx_filter.proofs.Resuming.{within-wanted, resumed}
-use Rattle.crx_filter.proofs.Stopping.{first-true}
-use Rattle.crx_filter.proofs.Anew.{depends-on_types}
-use Rattle.crx_filter.proofs.ForwardCompact.{compact-forward}
-use Rattle.crx_filter.proofs.Carried.{started, header-same, left-same, types-same, reads-again}
-use Rattle.crx_filter.proofs.WayBackItems.{body_unit, known_back, read_back, unit-here}
-use Rattle.crx_filter.proofs.WayBackReading.{lines_back}
-use Rattle.crx_filter.proofs.WayBack.{IsSettled, whole-settled, lines-same}
-use Rattle.crx_filter.proofs.WayBackStandard.{NoReturn, whole-copied, plain-no_return}
+use Rattle.crx_engine.specs.Choices.{Choices}
+use Rattle.crx_engine.specs.Items.{Item, Accepted, Warned, header_has_ended, records_announced, records_left, types_in_force}
+use Rattle.crx_engine.specs.Reading.{Reading, WholeReading, AtLines, reading_from, gone_on, ended}
+use Rattle.crx_engine.specs.Compacted.{version_line, program_line, compact_unit, compact_lines}
+use Rattle.crx_engine.specs.Expanded.{compact_place}
+use Rattle.crx_engine.specs.Laws.{AreInPlace}
+use Rattle.crx_engine.specs.WayBack.{HaveNoReturns}
+use Rattle.crx_engine.specs.Anew.{IsBetweenUnits, GoOnAlike, starts_anew}
+use Rattle.crx_engine.specs.Damage.{lines_of_epochs, with_epochs, IsDamaged}
+use Rattle.crx_engine.proofs.Resuming.{within-wanted, resumed}
+use Rattle.crx_engine.proofs.Stopping.{first-true}
+use Rattle.crx_engine.proofs.Anew.{depends-on_types}
+use Rattle.crx_engine.proofs.ForwardCompact.{compact-forward}
+use Rattle.crx_engine.proofs.Carried.{started, header-same, left-same, types-same, reads-again}
+use Rattle.crx_engine.proofs.WayBackItems.{body_unit, known_back, read_back, unit-here}
+use Rattle.crx_engine.proofs.WayBackReading.{lines_back}
+use Rattle.crx_engine.proofs.WayBack.{IsSettled, whole-settled, lines-same}
+use Rattle.crx_engine.proofs.WayBackStandard.{NoReturn, whole-copied, plain-no_return}
 use Rattle.crx_laws.proofs.BlockReading.{IsBlockRead, with_reads, reads-between, reads-types}
 use Rattle.crx_laws.proofs.GoingOn.{with_warnings, warned-between, warned-types, GoesOnAt, EndsAfter, block-goes_on, block-ends, ends-well}
 use Rattle.crx_laws.proofs.TextAfter.{lines_on, written-on, reads-on}

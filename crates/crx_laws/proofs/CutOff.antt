@@ -3,9 +3,9 @@ use Rattle.std.proofs.Common.{ℕ, suc, ◌≡◌, ◌+◌, ◌-◌, true, cond,
 use Rattle.std.proofs.lemmas.List.{drop-append-le, length-drop}
 use Rattle.crx_text.specs.Columns.{without_end_blanks}
 use Rattle.crx_text.specs.Codes.{code_of}
-use Rattle.crx_text.specs.Seen.{ReadLine, Content, Overlong}
-use Rattle.crx_text.specs.declared.fault.Fault.{Fault}
-use Rattle.crx_text.specs.declared.fault.Fault.TheVariants.{BadClock, Truncated}
+use Rattle.crx_lines.specs.Seen.{ReadLine, Content, Overlong}
+use Rattle.crx_lines.specs.declared.fault.Fault.{Fault}
+use Rattle.crx_lines.specs.declared.fault.Fault.TheVariants.{BadClock, Truncated}
 use Rattle.crx_rinex.specs.EpochLines.{begins_epoch}
 use Rattle.crx_rinex.specs.ObservationTypes.{Count}
 use Rattle.crx_rinex.specs.Places.{Place, Here, Wrong, Wanted, after_lines, then_place, one_line, first_line}

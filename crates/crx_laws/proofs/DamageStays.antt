@@ -1,11 +1,11 @@
 -- Damage to compact text stays in its block: what an expansion writes and reports, from the lines of the damaged text on.
-use Rattle.std.proofs.Common.{ℕ, suc, ◌≡◌, ◌+◌, ◌⊎◌, inl, inr, true, List, [], ◌∷◌, ◌++◌, map, length, drop, take, reverse, Option, None, codes, refl, ap, sym, ◌∙◌, subst, append_assoc, append-nil}
+use Rattle.std.proofs.Common.{ℕ, suc, ◌≡◌, ◌+◌, ◌⊎◌, inl, inr, true, List, [], ◌∷◌, ◌++◌, map, length, drop, take, reverse, Option, None, refl, ap, sym, ◌∙◌, subst, append_assoc, append-nil}
 use Rattle.std.specs.List.{AllByRecursion, flat_map, list_all}
 use Rattle.std.proofs.lemmas.List.{append_cancel_left, map-append, take-append-drop}
 use Rattle.std.proofs.Math.Seq.{drop-append_seam}
-use Rattle.crx_text.specs.Lines.{Piece, pieces_of, lines_of}
-use Rattle.crx_text.specs.Seen.{ReadLine, Content, seen}
-use Rattle.crx_text.specs.declared.fault.At.{At}
+use Rattle.crx_lines.specs.Lines.{Piece, pieces_of, lines_of}
+use Rattle.crx_lines.specs.Seen.{ReadLine, Content, seen}
+use Rattle.crx_lines.specs.declared.fault.At.{At}
 use Rattle.crx_rinex.specs.Observations.{Epoch}
 use Rattle.crx_rinex.specs.Epochs.{IsWholeEpoch}
 use Rattle.crx_rinex.specs.Printing.{printed_epoch}
@@ -13,25 +13,25 @@ use Rattle.crx_rinex.specs.Units.{Observation}
 use Rattle.crx_compact.specs.Compaction.{epoch_line}
 use Rattle.crx_compact.specs.CompactPlaces.{ReadEpoch}
 use Rattle.crx_compact.specs.Laws.{LinesCanStand}
-use Rattle.crx_filter.specs.Choices.{Choices, is_date}
-use Rattle.crx_filter.specs.Items.{Item, Accepted, header_has_ended, records_left, types_in_force}
-use Rattle.crx_filter.specs.Reading.{Reading, WholeReading, reading_from, ended}
-use Rattle.crx_filter.specs.Messages.{message_text, warnings_in}
-use Rattle.crx_filter.specs.Results.{lines_text, status_after, result_of}
-use Rattle.crx_filter.specs.Compacted.{marked_epochs, version_line, program_line, compact_unit, compact_lines, whole_rinex}
-use Rattle.crx_filter.specs.Expanded.{compact_place, expanded_unit, expanded_lines, whole_compact, expanded}
-use Rattle.crx_filter.specs.Standard.{whole_of, printed_items}
-use Rattle.crx_filter.specs.Laws.{AreInPlace, AreRead}
-use Rattle.crx_filter.specs.Anew.{IsBetweenUnits}
-use Rattle.crx_filter.specs.Damage.{lines_of_epochs, with_epochs, lines_after, IsDamaged, IsSalvaged, IsOfCompaction}
-use Rattle.crx_filter.proofs.WhatWasRead.{items-read}
-use Rattle.crx_filter.proofs.Carried.{started, types-same}
-use Rattle.crx_filter.proofs.WayBackCut.{IsClean}
-use Rattle.crx_filter.proofs.WayBackFirst.{version-clean, program-clean}
-use Rattle.crx_filter.proofs.WayBackItems.{marked_now, read_back, epoch-stands}
-use Rattle.crx_filter.proofs.WayBackReading.{lines_back}
-use Rattle.crx_filter.proofs.WayBack.{lines-same, lines-clean, printed-same, no-warnings, whole-after}
-use Rattle.crx_filter.proofs.WayBackStandard.{same-reading}
+use Rattle.crx_engine.specs.Choices.{Choices, is_date}
+use Rattle.crx_engine.specs.Items.{Item, Accepted, header_has_ended, records_left, types_in_force}
+use Rattle.crx_engine.specs.Reading.{Reading, WholeReading, reading_from, ended}
+use Rattle.crx_engine.specs.Messages.{notices_text, warnings_in}
+use Rattle.crx_engine.specs.Results.{lines_text, status_after, result_of}
+use Rattle.crx_engine.specs.Compacted.{marked_epochs, version_line, program_line, compact_unit, compact_lines, whole_rinex}
+use Rattle.crx_engine.specs.Expanded.{compact_place, expanded_unit, expanded_lines, whole_compact, expanded}
+use Rattle.crx_engine.specs.Standard.{whole_of, printed_items}
+use Rattle.crx_engine.specs.Laws.{AreInPlace, AreRead}
+use Rattle.crx_engine.specs.Anew.{IsBetweenUnits}
+use Rattle.crx_engine.specs.Damage.{lines_of_epochs, with_epochs, lines_after, IsDamaged, IsSalvaged, IsOfCompaction}
+use Rattle.crx_engine.proofs.WhatWasRead.{items-read}
+use Rattle.crx_engine.proofs.Carried.{started, types-same}
+use Rattle.crx_engine.proofs.WayBackCut.{IsClean}
+use Rattle.crx_engine.proofs.WayBackFirst.{version-clean, program-clean}
+use Rattle.crx_engine.proofs.WayBackItems.{marked_now, read_back, epoch-stands}
+use Rattle.crx_engine.proofs.WayBackReading.{lines_back}
+use Rattle.crx_engine.proofs.WayBack.{lines-same, lines-clean, printed-same, no-warnings, whole-after}
+use Rattle.crx_engine.proofs.WayBackStandard.{same-reading}
 use Rattle.crx_laws.proofs.BlockReading.{IsInside, IsBlockText, IsBlockRead, inside-text, with_reads, block-read}
 use Rattle.crx_laws.proofs.GoingOn.{with_warnings}
 use Rattle.crx_laws.proofs.TextAfter.{lines_on, written-on, one-more, text-anew}
@@ -262,6 +262,7 @@ saved-lines input choices expanding damaged dated skips d =
     let text : expanded_lines (s.more ++ last) ≡ (printed_items d.before ++ flat_map printed_epoch (epochs_in b.reads)) ++ drop (length (printed_items block)) (printed_items whole_items) =
     output-same choices.every d.before block whole_items b.reads s.warnings s.more s.rest in
     let warned : warnings_in (s.more ++ last) ≡ s.warnings = warnings-same choices.every d.before block whole_items b.reads s.warnings s.more s.rest in
+    let once : reverse (warnings_in (s.more ++ last)) ≡ s.warnings = ap reverse warned ∙ few-reversed s.warnings s.few in
     subst (IsSalvaged input choices damaged d) (sym (ap (result_of expanded_unit) whole))
     (record {
       epochs = epochs_in b.reads;
@@ -269,10 +270,8 @@ saved-lines input choices expanding damaged dated skips d =
       warnings = s.warnings;
       few = s.few;
       output = ap lines_text text ∙ ap (λ all. lines_text ((printed_items d.before ++ flat_map printed_epoch (epochs_in b.reads)) ++ drop (length (printed_items block)) (printed_items all))) (sym d.parts);
-      messages = append-nil (flat_map (message_text (codes "WARNING")) (reverse (warnings_in (s.more ++ last))))
-          ∙ ap (λ w. flat_map (message_text (codes "WARNING")) (reverse w)) warned
-          ∙ ap (flat_map (message_text (codes "WARNING"))) (few-reversed s.warnings s.few);
-      status = ap (λ w. status_after w None) warned;
+      messages = append-nil (notices_text (reverse (warnings_in (s.more ++ last)))) ∙ ap notices_text once;
+      status = ap (λ w. status_after w None) once;
       fault = refl;
       own = λ count rest e. own-epochs choices d.before d.first d.others d.after p cs b inside.1 count rest e;
     })

@@ -5,14 +5,14 @@ use Rattle.std.specs.List.{AllByRecursion, list_all}
 use Rattle.std.proofs.lemmas.Bool.Decides.{eqb_tells}
 use Rattle.std.proofs.lemmas.List.{map-append}
 use Rattle.std.proofs.lemmas.Grind.{flat_map-append}
-use Rattle.crx_text.specs.Lines.{Piece, InputLine, pieces_of, onto_first, line_of, lines_of, is_long}
-use Rattle.crx_text.specs.Seen.{Content, Overlong, seen}
-use Rattle.crx_text.proofs.PieceLemmas.{EachEnded, pieces-first}
+use Rattle.crx_lines.specs.Lines.{Piece, InputLine, pieces_of, onto_first, line_of, lines_of, is_long}
+use Rattle.crx_lines.specs.Seen.{Content, Overlong, seen}
+use Rattle.crx_lines.proofs.PieceLemmas.{EachEnded, pieces-first}
 use Rattle.crx_rinex.specs.EpochLines.{begins_epoch}
-use Rattle.crx_filter.specs.Results.{lines_text}
-use Rattle.crx_filter.specs.Damage.{may_replace}
-use Rattle.crx_filter.proofs.Stopping.{first-true, second-true}
-use Rattle.crx_filter.proofs.WayBackCut.{IsClean, seen-clean}
+use Rattle.crx_engine.specs.Results.{lines_text}
+use Rattle.crx_engine.specs.Damage.{may_replace}
+use Rattle.crx_engine.proofs.Stopping.{first-true, second-true}
+use Rattle.crx_engine.proofs.WayBackCut.{IsClean, seen-clean}
 use Rattle.crx_laws.proofs.BlockReading.{IsInside}
 
 -- ---- pieces of two texts, one after the other

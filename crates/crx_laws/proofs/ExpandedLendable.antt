@@ -5,11 +5,11 @@ use Rattle.std.specs.List.{AllByRecursion}
 use Rattle.std.proofs.lemmas.List.{length-map}
 use Rattle.std.proofs.lemmas.List.Elements.{All-head, All-tail}
 use Rattle.crx_text.specs.Numbers.{clock_text}
-use Rattle.crx_text.specs.Seen.{ReadLine, Content, Overlong}
-use Rattle.crx_text.specs.declared.fault.At.{At}
-use Rattle.crx_text.specs.declared.fault.Fault.{Fault}
-use Rattle.crx_text.specs.declared.fault.Fault.TheVariants.{BadEpoch}
-use Rattle.crx_text.specs.declared.limits.TheConstants.{LINE_LIMIT, NAME_WIDTH, CELL_WIDTH, TYPES_LIMIT}
+use Rattle.crx_lines.specs.Seen.{ReadLine, Content, Overlong}
+use Rattle.crx_lines.specs.declared.fault.At.{At}
+use Rattle.crx_lines.specs.declared.fault.Fault.{Fault}
+use Rattle.crx_lines.specs.declared.fault.Fault.TheVariants.{BadEpoch}
+use Rattle.crx_lines.specs.declared.limits.TheConstants.{LINE_LIMIT, NAME_WIDTH, CELL_WIDTH, TYPES_LIMIT}
 use Rattle.crx_rinex.specs.Observations.{Row, Epoch}
 use Rattle.crx_rinex.specs.EpochLines.{is_event_line, records_in, satellites_of}
 use Rattle.crx_rinex.specs.Epochs.{IsWholeEpoch}
@@ -22,15 +22,15 @@ use Rattle.crx_rinex.proofs.ReadingBack.{length-row, length-head}
 use Rattle.crx_compact.specs.CompactPlaces.{ReadEpoch, epoch_at}
 use Rattle.crx_compact.specs.ReadingLaws.{IsGood}
 use Rattle.crx_compact.proofs.Facts.{length-trimmed}
-use Rattle.crx_filter.specs.Choices.{Choices}
-use Rattle.crx_filter.specs.Items.{Item, Accepted, Warned, is_at_start, header_has_ended, records_left, records_count_types, types_in_force}
-use Rattle.crx_filter.specs.UnitPlaces.{unless_wrong, types_fault, header_line_fault, header_line, event_record}
-use Rattle.crx_filter.specs.Reading.{Reading, AtFault, AtLines, is_skipped, can_go_on, looked_for, reading_within, reading_from}
-use Rattle.crx_filter.specs.Expanded.{raws_kept, event_line, as_observation, compact_epoch_place, compact_place, first_lines, expanded_unit, compact_reading}
-use Rattle.crx_filter.specs.Bounds.{AreLendable, OfUnits, longest_printed, IsNotTooLong, ExpandedIsLendable}
-use Rattle.crx_filter.proofs.Resuming.{by_bool, by_place, within-here, within-wrong, within-wanted, fault-skipped, fault-ends, looked-here, looked-on}
-use Rattle.crx_filter.proofs.WhatWasRead.{compact-items-read}
-use Rattle.crx_filter.proofs.ExpandedWhole.{AreGoodEpochs, epochs-good}
+use Rattle.crx_engine.specs.Choices.{Choices}
+use Rattle.crx_engine.specs.Items.{Item, Accepted, Warned, is_at_start, header_has_ended, records_left, records_count_types, types_in_force}
+use Rattle.crx_engine.specs.UnitPlaces.{unless_wrong, types_fault, header_line_fault, header_line, event_record}
+use Rattle.crx_engine.specs.Reading.{Reading, AtFault, AtLines, is_skipped, can_go_on, looked_for, reading_within, reading_from}
+use Rattle.crx_engine.specs.Expanded.{raws_kept, event_line, as_observation, compact_epoch_place, compact_place, first_lines, expanded_unit, compact_reading}
+use Rattle.crx_engine.specs.Bounds.{AreLendable, OfUnits, longest_printed, IsNotTooLong, ExpandedIsLendable}
+use Rattle.crx_engine.proofs.Resuming.{by_bool, by_place, within-here, within-wrong, within-wanted, fault-skipped, fault-ends, looked-here, looked-on}
+use Rattle.crx_engine.proofs.WhatWasRead.{compact-items-read}
+use Rattle.crx_engine.proofs.ExpandedWhole.{AreGoodEpochs, epochs-good}
 
 -- ---- lines that are copied are lines that were read
 

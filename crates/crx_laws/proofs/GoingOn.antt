@@ -1,18 +1,18 @@
 -- After a damaged block: reading goes on at the next line that begins with >, with at most one warning before it.
 use Rattle.std.proofs.Common.{ℕ, suc, ◌≡◌, ◌+◌, ◌≤◌, max, inl, inr, true, List, [], ◌∷◌, ◌++◌, length, drop, Some, None, refl, ap, sym, ◌∙◌, subst, arith, length-append}
 use Rattle.std.proofs.Math.Seq.{drop-append_seam}
-use Rattle.crx_text.specs.Seen.{ReadLine, Content, Overlong}
-use Rattle.crx_text.specs.declared.fault.At.{At}
-use Rattle.crx_text.specs.declared.fault.Fault.TheVariants.{Truncated}
+use Rattle.crx_lines.specs.Seen.{ReadLine, Content, Overlong}
+use Rattle.crx_lines.specs.declared.fault.At.{At}
+use Rattle.crx_lines.specs.declared.fault.Fault.TheVariants.{Truncated}
 use Rattle.crx_rinex.specs.EpochLines.{begins_epoch}
 use Rattle.crx_rinex.specs.Places.{Wanted}
 use Rattle.crx_compact.specs.CompactPlaces.{ReadEpoch}
-use Rattle.crx_filter.specs.Items.{Item, Warned, header_has_ended, records_left, types_in_force}
-use Rattle.crx_filter.specs.Reading.{Reading, WholeReading, AtLines, is_skipped, looked_for, reading_within, reading_from, gone_on, fault_at_end, ended_with, ended}
-use Rattle.crx_filter.specs.Expanded.{compact_place}
-use Rattle.crx_filter.specs.Anew.{IsBetweenUnits}
-use Rattle.crx_filter.proofs.Resuming.{enough-units, within-wrong, fault-skipped, looked-here}
-use Rattle.crx_filter.proofs.ForwardCompact.{compact-forward}
+use Rattle.crx_engine.specs.Items.{Item, Warned, header_has_ended, records_left, types_in_force}
+use Rattle.crx_engine.specs.Reading.{Reading, WholeReading, AtLines, is_skipped, looked_for, reading_within, reading_from, gone_on, fault_at_end, ended_with, ended}
+use Rattle.crx_engine.specs.Expanded.{compact_place}
+use Rattle.crx_engine.specs.Anew.{IsBetweenUnits}
+use Rattle.crx_engine.proofs.Resuming.{enough-units, within-wrong, fault-skipped, looked-here}
+use Rattle.crx_engine.proofs.ForwardCompact.{compact-forward}
 use Rattle.crx_laws.proofs.BlockReading.{IsBlockText, EndsBlock, IsBlockRead, with_reads, reads-between, skipped-here, place-cut}
 
 -- some warnings after these items, the newest first

@@ -2,21 +2,21 @@
 use Rattle.std.proofs.Common.{ℕ, ◌≡◌, ◌≤◌, ◌-◌, inl, inr, Bool, true, false, List, [], ◌∷◌, ◌++◌, map, length, reverse, Option, refl, ap, sym, ◌∙◌, arith, subst, append_assoc, append-nil}
 use Rattle.std.specs.Prelude.{◌||◌}
 use Rattle.std.specs.List.{AllByRecursion, flat_map}
-use Rattle.crx_text.specs.declared.fault.At.{At}
+use Rattle.crx_lines.specs.declared.fault.At.{At}
 use Rattle.crx_rinex.specs.Observations.{Epoch}
 use Rattle.crx_rinex.specs.Epochs.{IsWholeEpoch}
 use Rattle.crx_rinex.specs.Printing.{printed_epoch}
 use Rattle.crx_rinex.specs.Units.{HeaderLine, EventLine, EventRecord, Observation}
 use Rattle.crx_compact.specs.CompactPlaces.{ReadEpoch}
 use Rattle.crx_compact.specs.ReadingLaws.{IsGood}
-use Rattle.crx_filter.specs.Items.{Item, Accepted, Warned, ends_header, header_has_ended, records_left, types_in_force}
-use Rattle.crx_filter.specs.Reading.{Reading}
-use Rattle.crx_filter.specs.Messages.{warnings_in}
-use Rattle.crx_filter.specs.Expanded.{compact_place, expanded_unit, expanded_lines}
-use Rattle.crx_filter.specs.Laws.{AreRead}
-use Rattle.crx_filter.specs.Damage.{with_epochs}
-use Rattle.crx_filter.proofs.ExpandedWhole.{AreGoodEpochs, epochs-good}
-use Rattle.crx_filter.proofs.WayBackItems.{read_back}
+use Rattle.crx_engine.specs.Items.{Item, Accepted, Warned, ends_header, header_has_ended, records_left, types_in_force}
+use Rattle.crx_engine.specs.Reading.{Reading}
+use Rattle.crx_engine.specs.Messages.{warnings_in}
+use Rattle.crx_engine.specs.Expanded.{compact_place, expanded_unit, expanded_lines}
+use Rattle.crx_engine.specs.Laws.{AreRead}
+use Rattle.crx_engine.specs.Damage.{with_epochs}
+use Rattle.crx_engine.proofs.ExpandedWhole.{AreGoodEpochs, epochs-good}
+use Rattle.crx_engine.proofs.WayBackItems.{read_back}
 use Rattle.crx_laws.proofs.BlockReading.{EndsBlock, with_reads}
 use Rattle.crx_laws.proofs.GoingOn.{with_warnings}
 

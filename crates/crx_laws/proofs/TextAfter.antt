@@ -4,27 +4,27 @@ use Rattle.std.proofs.Common.{ℕ, zero, suc, ◌≡◌, ◌+◌, ◌-◌, ◌<�
 use Rattle.std.specs.Prelude.{◌&&◌, ◌||◌}
 use Rattle.std.proofs.lemmas.List.{map-append, length-map}
 use Rattle.crx_text.specs.Columns.{character_at}
-use Rattle.crx_text.specs.Seen.{ReadLine, Content}
+use Rattle.crx_lines.specs.Seen.{ReadLine, Content}
 use Rattle.crx_rinex.specs.Observations.{Epoch}
 use Rattle.crx_rinex.specs.EpochLines.{begins_epoch, is_event_flag, is_event_line}
 use Rattle.crx_rinex.specs.Places.{Here}
 use Rattle.crx_rinex.specs.Units.{HeaderLine, EventLine, EventRecord, Observation}
 use Rattle.crx_compact.specs.Compaction.{Marked, compact_epoch, epoch_line}
 use Rattle.crx_compact.specs.Laws.{LinesCanStand, has_no_epochs}
-use Rattle.crx_filter.specs.Choices.{Choices}
-use Rattle.crx_filter.specs.Items.{Item, Accepted, Warned, ends_header, header_has_ended, records_announced, records_left}
-use Rattle.crx_filter.specs.Reading.{AtLines, reading_from, gone_on}
-use Rattle.crx_filter.specs.Results.{written_lines}
-use Rattle.crx_filter.specs.Compacted.{is_interrupted, is_at_every, is_in_full, marked_epochs, epochs_accepted}
-use Rattle.crx_filter.specs.Expanded.{compact_place}
-use Rattle.crx_filter.specs.Laws.{AreInPlace}
-use Rattle.crx_filter.specs.Anew.{starts_anew}
-use Rattle.crx_filter.specs.Damage.{BeginsAnew}
-use Rattle.crx_filter.proofs.Resuming.{within-wanted, resumed}
-use Rattle.crx_filter.proofs.Stopping.{first-true}
-use Rattle.crx_filter.proofs.ForwardCompact.{compact-forward}
-use Rattle.crx_filter.proofs.Carried.{one-unit, at-line}
-use Rattle.crx_filter.proofs.WayBackItems.{marked_now, body_unit, unit_back, read_back, unit-here, epoch-stands}
+use Rattle.crx_engine.specs.Choices.{Choices}
+use Rattle.crx_engine.specs.Items.{Item, Accepted, Warned, ends_header, header_has_ended, records_announced, records_left}
+use Rattle.crx_engine.specs.Reading.{AtLines, reading_from, gone_on}
+use Rattle.crx_engine.specs.Results.{written_lines}
+use Rattle.crx_engine.specs.Compacted.{is_interrupted, is_at_every, is_in_full, marked_epochs, epochs_accepted}
+use Rattle.crx_engine.specs.Expanded.{compact_place}
+use Rattle.crx_engine.specs.Laws.{AreInPlace}
+use Rattle.crx_engine.specs.Anew.{starts_anew}
+use Rattle.crx_engine.specs.Damage.{BeginsAnew}
+use Rattle.crx_engine.proofs.Resuming.{within-wanted, resumed}
+use Rattle.crx_engine.proofs.Stopping.{first-true}
+use Rattle.crx_engine.proofs.ForwardCompact.{compact-forward}
+use Rattle.crx_engine.proofs.Carried.{one-unit, at-line}
+use Rattle.crx_engine.proofs.WayBackItems.{marked_now, body_unit, unit_back, read_back, unit-here, epoch-stands}
 
 -- the lines of some items after others
 abbrev pub lines_on : Option ℕ → List (Item Epoch) → List (Item Epoch) → List (List ℕ)

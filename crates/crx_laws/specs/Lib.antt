@@ -1,2 +1,1 @@
-pub mod CompactExamples
-pub mod FilterExamples
+pub mod SmallFiles

@@ -1,7 +1,7 @@
 //! Laws of reading compact text: each is the contract of a function that does nothing.
 
 ghost use Rattle.std.specs.Prelude.{◌≡◌, ◌∷◌, [], true, ℕ, List, Option};
-ghost use Rattle.crx_text.specs.Seen.{ReadLine};
+ghost use Rattle.crx_lines.specs.Seen.{ReadLine};
 ghost use Rattle.crx_rinex.specs.ObservationTypes.{Count};
 ghost use Rattle.crx_compact.specs.Expansion.{RawEpoch};
 ghost use Rattle.crx_compact.specs.ReadingLaws.{EachReadsBack, ReadsBack, ReadsSoundly, HasSingleLines, RawByTail, TailDecides, StepsAgree, WantedWhereOpen, StepsFromOpen, Forgets, OneTail, ReadsWholeEpochs, StepsReadBack, ReadsWholeLists, ReadAreBounded};

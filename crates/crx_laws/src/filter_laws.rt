@@ -1,19 +1,22 @@
 //! Laws over the definitions of both filters: each is the contract of a function that does nothing.
 
-ghost use Rattle.std.specs.Prelude.{◌≡◌, ◌∷◌, [], List, Bool, true, false, Some, codes, map};
-ghost use Rattle.crx_text.specs.Seen.{ReadLine, Content};
-ghost use Rattle.crx_text.specs.declared.fault.At.{At};
-ghost use Rattle.crx_filter.specs.Anew.{starts_anew, DependsOnTypes};
-ghost use Rattle.crx_filter.specs.Bounds.{IsBoundedCompaction, IsBoundedExpansion, CompactIsLendable, ExpandedIsLendable};
-ghost use Rattle.crx_filter.specs.Choices.{Choices};
-ghost use Rattle.crx_filter.specs.Compactor.{compaction, compaction_seen};
-ghost use Rattle.crx_laws.specs.FilterExamples.{line_at, one_type, full_line_at, second_changed};
-ghost use Rattle.crx_filter.specs.Expander.{expansion, expansion_seen};
-ghost use Rattle.crx_filter.specs.Compacted.{rinex_place, rinex_reading, whole_rinex, compacted, compacted_so_far};
-ghost use Rattle.crx_filter.specs.Directions.{compaction_filter, expansion_filter};
-ghost use Rattle.crx_filter.specs.Runs.{IsLawful};
-ghost use Rattle.crx_filter.specs.Expanded.{compact_place, compact_reading, whole_compact, expanded, expanded_so_far};
-ghost use Rattle.crx_filter.specs.Laws.{IsReadForward, IsResumed, IsWrittenFirst, IsCompactedOn, IsExpandedOn, IsCompactionEnded, IsExpansionEnded, StaysEnded, AreRead, AreInPlace, IsReadyWhereLent, fault_of_stop};
+ghost use Rattle.std.specs.Prelude.{◌≡◌, ◌∷◌, ◌++◌, [], List, Bool, true, false, Some, codes, map, take, drop};
+ghost use Rattle.crx_lines.specs.Seen.{ReadLine, Content, seen};
+ghost use Rattle.crx_lines.specs.Lines.{lines_of};
+ghost use Rattle.crx_lines.specs.declared.fault.Fault.TheVariants.{NotAnEpoch, NotCompact};
+ghost use Rattle.crx_lines.specs.declared.fault.At.{At};
+ghost use Rattle.crx_engine.specs.Anew.{starts_anew, DependsOnTypes};
+ghost use Rattle.crx_engine.specs.Bounds.{IsBoundedCompaction, IsBoundedExpansion, CompactIsLendable, ExpandedIsLendable};
+ghost use Rattle.crx_engine.specs.Choices.{Choices};
+ghost use Rattle.crx_engine.specs.Compactor.{compaction, compaction_seen};
+ghost use Rattle.crx_laws.specs.SmallFiles.{header, line_at, one_type, full_line_at, second_changed};
+ghost use Rattle.crx_engine.specs.Expander.{expansion, expansion_seen};
+ghost use Rattle.crx_engine.specs.Compacted.{rinex_place, rinex_reading, whole_rinex, compacted, compacted_so_far};
+ghost use Rattle.crx_engine.specs.Directions.{compaction_filter, expansion_filter};
+ghost use Rattle.crx_engine.specs.Lawful.{IsLawful};
+ghost use Rattle.crx_engine.specs.Expanded.{compact_place, compact_reading, whole_compact, expanded, expanded_so_far};
+ghost use Rattle.crx_engine.specs.Results.{lines_text};
+ghost use Rattle.crx_engine.specs.Laws.{IsReadForward, IsResumed, IsWrittenFirst, IsCompactedOn, IsExpandedOn, IsCompactionEnded, IsExpansionEnded, StaysEnded, AreRead, AreInPlace, IsReadyWhereLent, fault_of_stop};
 
 /// What stands at a line of a RINEX file is certain as soon as its last line has come; so the reading of some lines and more goes on
 /// from where the reading of the first lines stopped.
@@ -123,4 +126,11 @@ pub fn ready_where_lent()
 pub fn lawful_directions()
     ensures compaction { (choices : Choices) → IsLawful (compaction_filter choices) }
     ensures expansion { (choices : Choices) → IsLawful (expansion_filter choices) }
+{}
+
+/// What the laws ask for can be met: some lines at the beginning of an input, and a fault that ends a run.
+pub fn premises()
+    ensures lines_first { map seen (lines_of (lines_text header)) ≡ map Content (take 1 header) ++ map Content (drop 1 header) }
+    ensures ended { fault_of_stop (rinex_reading false (map Content (header ++ codes "x" ∷ []))).stop ≡ Some (record { line = 4; fault = NotAnEpoch }) }
+    ensures ended_compact { fault_of_stop (compact_reading true (map Content (codes "x" ∷ []))).stop ≡ Some (record { line = 1; fault = NotCompact }) }
 {}

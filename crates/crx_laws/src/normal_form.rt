@@ -3,10 +3,10 @@
 //! It is had by every file that is read to its good end and has no header line, event line or record whose content ends in CR.
 
 ghost use Rattle.std.specs.Prelude.{◌≡◌, ◌∷◌, ◌++◌, [], List, ℕ, codes};
-ghost use Rattle.crx_laws.specs.FilterExamples.{header, epoch_line_at, observed};
-ghost use Rattle.crx_filter.specs.NormalForm.{HasNormalForm, IsReadAsNormal, IsStandardAsNormal, IsNormalForGood};
-ghost use Rattle.crx_filter.specs.Results.{lines_text};
-ghost use Rattle.crx_filter.specs.Standard.{normal_form};
+ghost use Rattle.crx_laws.specs.SmallFiles.{header, epoch_line_at, observed};
+ghost use Rattle.crx_engine.specs.NormalForm.{HasNormalForm, IsReadAsNormal, IsStandardAsNormal, IsNormalForGood};
+ghost use Rattle.crx_engine.specs.Results.{lines_text};
+ghost use Rattle.crx_engine.specs.Standard.{normal_form};
 
 /// The normal form is read as the very same units as the file: each header line, event line and record, and each epoch with its clock
 /// offset, values and indicators.

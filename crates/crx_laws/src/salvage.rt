@@ -1,10 +1,10 @@
 //! What is saved of damaged compact text: each law is the contract of a function that does nothing.
 
 ghost use Rattle.std.specs.Prelude.{◌≡◌, ◌∷◌, ◌++◌, [], List, ℕ, true, codes, drop};
-ghost use Rattle.crx_filter.specs.Choices.{Choices, is_date};
-ghost use Rattle.crx_filter.specs.Damage.{lines_of_epochs, IsDamaged, IsOfCompaction, StaysInItsBlock};
-ghost use Rattle.crx_filter.specs.Results.{lines_text};
-ghost use Rattle.crx_laws.specs.FilterExamples.{five_epochs, every_second, with_skip, epoch_at_second, first_block, damaged_by};
+ghost use Rattle.crx_engine.specs.Choices.{Choices, is_date};
+ghost use Rattle.crx_engine.specs.Damage.{lines_of_epochs, IsDamaged, IsOfCompaction, StaysInItsBlock};
+ghost use Rattle.crx_engine.specs.Results.{lines_text};
+ghost use Rattle.crx_laws.specs.SmallFiles.{five_epochs, with_event, no_choices, every_second, with_skip, epoch_at_second, first_block, damaged_by, other_block, last_damaged_by, damaged_before_event};
 
 /// Damage to compact text stays in its block. Of the compact text of a standard file, the lines of one block of epochs, from an epoch in
 /// full up to the next line that begins with `>` or the end, are replaced but for the first, by any lines of at most 8192 bytes that don't begin
@@ -21,12 +21,17 @@ pub fn undamaged_text_is_the_compaction()
 {}
 
 /// What these laws ask for can be met: a date; an expansion that skips faults; and a block of two epochs of which a line that is no clock,
-/// nothing at all, or the rest of its first epoch is left. Of the last the lines are those of the block's first epoch.
+/// nothing at all, or the rest of its first epoch is left. Of the last the lines are those of the block's first epoch. Also where other
+/// epochs can be read in place of the block's; where an event comes after the block; and where the block is the last, and what is left of
+/// its lines ends without LF.
 pub fn premises()
     ensures date { is_date every_second.date ≡ true }
     ensures skips { with_skip.skip ≡ true }
     ensures replaced { IsDamaged (lines_text (five_epochs [])) every_second (damaged_by (codes "xyz" ∷ [])) }
     ensures removed { IsDamaged (lines_text (five_epochs [])) every_second (damaged_by []) }
     ensures shortened { IsDamaged (lines_text (five_epochs [])) every_second (damaged_by ([] ∷ codes "3&20000202000" ∷ [])) }
+    ensures other_epochs { IsDamaged (lines_text (five_epochs [])) every_second (damaged_by other_block) }
+    ensures before_event { IsDamaged (lines_text with_event) no_choices (damaged_before_event (codes "xyz" ∷ [])) }
+    ensures last { IsDamaged (lines_text (five_epochs [])) every_second (last_damaged_by (codes "\n3&2000")) }
     ensures own { drop 1 (lines_of_epochs every_second first_block (epoch_at_second 2 20000202000 ∷ [])) ≡ [] ∷ codes "3&20000202000" ∷ [] }
 {}

@@ -1,15 +1,15 @@
 //! The way back: each law is the contract of a function that does nothing.
 
 ghost use Rattle.std.specs.Prelude.{◌≡◌, ◌∷◌, ◌++◌, [], List, ℕ, None, true, codes, map};
-ghost use Rattle.crx_text.specs.Seen.{seen};
-ghost use Rattle.crx_text.specs.Lines.{lines_of};
-ghost use Rattle.crx_filter.specs.Choices.{Choices, is_date};
-ghost use Rattle.crx_filter.specs.Compacted.{whole_rinex, compacted};
-ghost use Rattle.crx_filter.specs.Expanded.{expanded};
-ghost use Rattle.crx_laws.specs.FilterExamples.{blanks, header, epoch_line_at, observed, line_at, no_choices};
-ghost use Rattle.crx_filter.specs.Results.{lines_text};
-ghost use Rattle.crx_filter.specs.Standard.{whole_of, IsStandard};
-ghost use Rattle.crx_filter.specs.WayBack.{ComesBack, NormalFormComesBack, StandardComesBack, IsStandardWhereSame, HaveNoReturns};
+ghost use Rattle.crx_lines.specs.Seen.{seen};
+ghost use Rattle.crx_lines.specs.Lines.{lines_of};
+ghost use Rattle.crx_engine.specs.Choices.{Choices, is_date};
+ghost use Rattle.crx_engine.specs.Compacted.{whole_rinex, compacted};
+ghost use Rattle.crx_engine.specs.Expanded.{expanded};
+ghost use Rattle.crx_laws.specs.SmallFiles.{blanks, header, epoch_line_at, observed, line_at, no_choices};
+ghost use Rattle.crx_engine.specs.Results.{lines_text};
+ghost use Rattle.crx_engine.specs.Standard.{whole_of, IsStandard};
+ghost use Rattle.crx_engine.specs.WayBack.{ComesBack, NormalFormComesBack, StandardComesBack, IsStandardWhereSame, HaveNoReturns};
 
 /// Whatever was compacted comes back: where the compaction isn't ended by a fault, the expansion of its compact text writes each
 /// accepted unit as RINEX prints it, reports nothing, and ends with status 0. Faults may be skipped or not, on both ways, and epochs

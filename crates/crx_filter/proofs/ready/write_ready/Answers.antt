@@ -1,8 +1,8 @@
 use Rattle.std.proofs.Common.{◌≡◌, ℕ, ◌+◌, List, [], ◌∷◌, ◌++◌, length, take, drop, sym, ap, subst, ◌∙◌, append_assoc}
-use Rattle.crx_text.specs.Lines.{InputLine}
-use Rattle.crx_filter.specs.Engines.{Awaited}
-use Rattle.crx_filter.specs.Filters.{lines_text}
-use Rattle.crx_filter.proofs.ReadyLines.{first-and-rest, one-written, part-written}
+use Rattle.crx_lines.specs.Lines.{InputLine}
+use Rattle.crx_engine.specs.Engines.{Awaited}
+use Rattle.crx_engine.specs.Filters.{lines_text}
+use Rattle.crx_engine.proofs.ReadyLines.{first-and-rest, one-written, part-written}
 use Rattle.crx_filter.proofs.ready.write_ready.Goals as goal
 
 pub returns-in-Err-clause-part : goal.returns-in-Err-clause-part

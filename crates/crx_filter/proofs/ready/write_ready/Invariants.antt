@@ -1,7 +1,7 @@
 use Rattle.std.proofs.Common.{◌≡◌, ℕ, List, ◌++◌, length}
-use Rattle.crx_text.specs.Lines.{InputLine}
-use Rattle.crx_filter.specs.Engines.{Awaited}
-use Rattle.crx_filter.specs.Filters.{lines_text}
+use Rattle.crx_lines.specs.Lines.{InputLine}
+use Rattle.crx_engine.specs.Engines.{Awaited}
+use Rattle.crx_engine.specs.Filters.{lines_text}
 use Rattle.crx_filter.proofs.ready.write_ready.Given as goal
 
 abbrev pub invariant-loop-line : goal.invariant-loop-line

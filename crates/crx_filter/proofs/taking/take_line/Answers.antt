@@ -1,8 +1,8 @@
 use Rattle.std.proofs.Common.{◌+◌, length, List, [], ◌∷◌, refl, subst}
-use Rattle.crx_text.specs.Lines.{InputLine}
+use Rattle.crx_lines.specs.Lines.{InputLine}
 use Rattle.crx_filter.specs.declared.taking.Once.{Once}
-use Rattle.crx_filter.specs.Engines.{with_next}
-use Rattle.crx_filter.specs.Taking.{Device, IsAgain, IsOnce}
+use Rattle.crx_engine.specs.Engines.{with_next}
+use Rattle.crx_filter.specs.Taking.{Device, between, IsAgain, IsOnce}
 use Rattle.crx_filter.proofs.TakingTwice.{cut-once, once-twice, halted-twice}
 use Rattle.crx_filter.proofs.taking.take_line.Goals as goal
 
@@ -20,12 +20,12 @@ returns-in-Ok-clause-done g c =
     let filter = g.E.Engine.filter c.args.engine.now in
     let then = g.E.Engine.filter c.take_once.new.engine in
     let shows = g.E.Engine.shows c.take_once.new.engine in
-    let writer1 : Device = record { took = λ text. took w0 text w1; before = g.W.Sink.failures w0; after = g.W.Sink.failures w1 } in
-    let writer2 : Device = record { took = λ text. took w1 text w2; before = g.W.Sink.failures w1; after = g.W.Sink.failures w2 } in
-    let writer : Device = record { took = λ text. took w0 text w2; before = g.W.Sink.failures w0; after = g.W.Sink.failures w2 } in
-    let messages1 : Device = record { took = λ text. reported m0 text m1; before = g.M.Sink.failures m0; after = g.M.Sink.failures m1 } in
-    let messages2 : Device = record { took = λ text. reported m1 text m2; before = g.M.Sink.failures m1; after = g.M.Sink.failures m2 } in
-    let messages : Device = record { took = λ text. reported m0 text m2; before = g.M.Sink.failures m0; after = g.M.Sink.failures m2 } in
+    let writer1 : Device = between took g.W.Sink.is_flushed g.W.Sink.failures w0 w1 in
+    let writer2 : Device = between took g.W.Sink.is_flushed g.W.Sink.failures w1 w2 in
+    let writer : Device = between took g.W.Sink.is_flushed g.W.Sink.failures w0 w2 in
+    let messages1 : Device = between reported g.M.Sink.is_flushed g.M.Sink.failures m0 m1 in
+    let messages2 : Device = between reported g.M.Sink.is_flushed g.M.Sink.failures m1 m2 in
+    let messages : Device = between reported g.M.Sink.is_flushed g.M.Sink.failures m0 m2 in
     let first : IsAgain (filter.so_far lines) (filter.so_far (with_next lines line)) line (shows lines) writer1 messages1 [] = subst (λ (once : Once). IsOnce filter shows writer1 messages1 lines [] line once) c.in-Ok-Again.field-0-is (c.in-Ok-Again.ensures.once lines [] line shown tt taken) in
     once-twice filter then c.take_once.ensures.filter lines line writer1 writer2 writer messages1 messages2 messages
     refl refl refl (λ xs ys a b. g.met.W.Sink.took_both w0 w1 w2 xs ys a b)
@@ -46,12 +46,12 @@ returns-in-Err-take_once-clause-cut g c =
     let filter = g.E.Engine.filter c.args.engine.now in
     let then = g.E.Engine.filter c.take_once.new.engine in
     let shows = g.E.Engine.shows c.take_once.new.engine in
-    let writer1 : Device = record { took = λ text. took w0 text w1; before = g.W.Sink.failures w0; after = g.W.Sink.failures w1 } in
-    let writer2 : Device = record { took = λ text. took w1 text w2; before = g.W.Sink.failures w1; after = g.W.Sink.failures w2 } in
-    let writer : Device = record { took = λ text. took w0 text w2; before = g.W.Sink.failures w0; after = g.W.Sink.failures w2 } in
-    let messages1 : Device = record { took = λ text. reported m0 text m1; before = g.M.Sink.failures m0; after = g.M.Sink.failures m1 } in
-    let messages2 : Device = record { took = λ text. reported m1 text m2; before = g.M.Sink.failures m1; after = g.M.Sink.failures m2 } in
-    let messages : Device = record { took = λ text. reported m0 text m2; before = g.M.Sink.failures m0; after = g.M.Sink.failures m2 } in
+    let writer1 : Device = between took g.W.Sink.is_flushed g.W.Sink.failures w0 w1 in
+    let writer2 : Device = between took g.W.Sink.is_flushed g.W.Sink.failures w1 w2 in
+    let writer : Device = between took g.W.Sink.is_flushed g.W.Sink.failures w0 w2 in
+    let messages1 : Device = between reported g.M.Sink.is_flushed g.M.Sink.failures m0 m1 in
+    let messages2 : Device = between reported g.M.Sink.is_flushed g.M.Sink.failures m1 m2 in
+    let messages : Device = between reported g.M.Sink.is_flushed g.M.Sink.failures m0 m2 in
     let first : IsAgain (filter.so_far lines) (filter.so_far (with_next lines line)) line (shows lines) writer1 messages1 [] = subst (λ (once : Once). IsOnce filter shows writer1 messages1 lines [] line once) c.in-Ok-Again.field-0-is (c.in-Ok-Again.ensures.once lines [] line shown tt taken) in
     halted-twice filter then c.take_once.ensures.filter lines line writer1 writer2 writer messages1 messages2 messages
     refl refl refl (λ xs ys a b. g.met.W.Sink.took_both w0 w1 w2 xs ys a b)
@@ -62,15 +62,15 @@ pub returns-in-Ok-Done-clause-done : goal.returns-in-Ok-Done-clause-done
 returns-in-Ok-Done-clause-done g c =
     λ (lines : List InputLine) (line : InputLine) shown taken.
     subst (λ (once : Once). IsOnce (g.E.Engine.filter c.args.engine.now) (g.E.Engine.shows c.take_once.new.engine)
-    (record { took = λ text. g.W.Sink.took c.args.writer.now text c.take_once.new.writer; before = g.W.Sink.failures c.args.writer.now; after = g.W.Sink.failures c.take_once.new.writer })
-    (record { took = λ text. g.M.Sink.took c.args.messages.now text c.take_once.new.messages; before = g.M.Sink.failures c.args.messages.now; after = g.M.Sink.failures c.take_once.new.messages })
+    (between g.W.Sink.took g.W.Sink.is_flushed g.W.Sink.failures c.args.writer.now c.take_once.new.writer)
+    (between g.M.Sink.took g.M.Sink.is_flushed g.M.Sink.failures c.args.messages.now c.take_once.new.messages)
     lines [] line once) c.in-Ok-Done.field-0-is (c.in-Ok-Done.ensures.once lines [] line shown tt taken)
 
 pub returns-in-Err-clause-cut : goal.returns-in-Err-clause-cut
 returns-in-Err-clause-cut g c =
     λ (lines : List InputLine) (line : InputLine) shown taken.
     let filter = g.E.Engine.filter c.args.engine.now in
-    cut-once (filter.so_far lines) (filter.so_far (with_next lines line)) (filter.may_take_memory lines line) (length lines + 1)
-    (record { took = λ text. g.W.Sink.took c.args.writer.now text c.take_once.new.writer; before = g.W.Sink.failures c.args.writer.now; after = g.W.Sink.failures c.take_once.new.writer })
-    (record { took = λ text. g.M.Sink.took c.args.messages.now text c.take_once.new.messages; before = g.M.Sink.failures c.args.messages.now; after = g.M.Sink.failures c.take_once.new.messages })
+    cut-once (filter.so_far lines) (filter.so_far (with_next lines line)) (filter.memory_after lines line) (length lines + 1)
+    (between g.W.Sink.took g.W.Sink.is_flushed g.W.Sink.failures c.args.writer.now c.take_once.new.writer)
+    (between g.M.Sink.took g.M.Sink.is_flushed g.M.Sink.failures c.args.messages.now c.take_once.new.messages)
     c.in-Err.halt (c.in-Err.ensures.halted lines [] line shown tt taken)

@@ -1,9 +1,8 @@
-use Rattle.std.proofs.Common.{◌≡◌, inl, inr, Bool, false, ◌||◌, [], length, Option, refl, sym, ap, subst, ◌∙◌}
-use Rattle.crx_text.specs.Devices.{tally_of}
-use Rattle.crx_text.specs.Readers.{reading}
-use Rattle.crx_filter.specs.Filters.{Filter}
-use Rattle.crx_filter.specs.Running.{Input, IsRunning, Goes, GoesOnBy, ComesToEnd, StopsAt}
-use Rattle.crx_filter.specs.Taking.{Device, IsDone, IsHalted}
+use Rattle.std.proofs.Common.{◌≡◌, inl, inr, Bool, ◌||◌, [], length, Option, None, refl, sym, ap, arith, subst, ◌∙◌}
+use Rattle.crx_lines.specs.Readers.{reading}
+use Rattle.crx_engine.specs.Filters.{Filter}
+use Rattle.crx_filter.specs.Running.{Input, IsRunning, Goes, GoesOnBy, ComesToEnd, StopsAt, reader_between}
+use Rattle.crx_filter.specs.Taking.{Device, between, IsDone, IsHalted}
 use Rattle.crx_filter.proofs.WorkLemmas.{go-on, well-done, stopped-end, stopped-on}
 use Rattle.crx_filter.proofs.work.take_all.Goals as goal
 
@@ -13,7 +12,6 @@ lines-preserved-then-warned g c =
     let w0 = c.args.writer.now in
     let m0 = c.args.messages.now in
     let r2 = c.step.new.reader in
-    let counts = λ (r : g.row.R.Denot). tally_of (g.R.Source.failures r) (g.R.Source.ends r) in
     let filter = g.E.Engine.filter c.args.engine.now in
     let i = c.lines.invariant in
     let lines = i.0.0 in
@@ -21,18 +19,18 @@ lines-preserved-then-warned g c =
     let m2 = c.step.new.messages in
     let now = reading c.step.new.input in
     let start : IsRunning
-    (record { gave = λ given. g.R.Source.gave r0 given c.lines.reader; at_end = g.R.Source.at_end c.lines.reader; start = counts r0; counted = counts c.lines.reader })
-    (record { took = λ text. g.W.Sink.took w0 text c.lines.writer; before = g.W.Sink.failures w0; after = g.W.Sink.failures c.lines.writer })
-    (record { took = λ text. g.M.Sink.took m0 text c.lines.messages; before = g.M.Sink.failures m0; after = g.M.Sink.failures c.lines.messages })
+    (reader_between g.R.Source.gave g.R.Source.at_end g.R.Source.failures g.R.Source.ends r0 c.lines.reader)
+    (between g.W.Sink.took g.W.Sink.is_flushed g.W.Sink.failures w0 c.lines.writer)
+    (between g.M.Sink.took g.M.Sink.is_flushed g.M.Sink.failures m0 c.lines.messages)
     (reading c.lines.input) lines ((g.E.Engine.filter c.lines.engine).so_far lines) =
     subst (λ (f : Filter). IsRunning
-    (record { gave = λ given. g.R.Source.gave r0 given c.lines.reader; at_end = g.R.Source.at_end c.lines.reader; start = counts r0; counted = counts c.lines.reader })
-    (record { took = λ text. g.W.Sink.took w0 text c.lines.writer; before = g.W.Sink.failures w0; after = g.W.Sink.failures c.lines.writer })
-    (record { took = λ text. g.M.Sink.took m0 text c.lines.messages; before = g.M.Sink.failures m0; after = g.M.Sink.failures c.lines.messages })
+    (reader_between g.R.Source.gave g.R.Source.at_end g.R.Source.failures g.R.Source.ends r0 c.lines.reader)
+    (between g.W.Sink.took g.W.Sink.is_flushed g.W.Sink.failures w0 c.lines.writer)
+    (between g.M.Sink.took g.M.Sink.is_flushed g.M.Sink.failures m0 c.lines.messages)
     (reading c.lines.input) lines (f.so_far lines)) (sym i.3) i.0.2 in
-    let input : Input = record { gave = λ given. g.R.Source.gave r0 given r2; at_end = g.R.Source.at_end r2; start = counts r0; counted = counts r2 } in
-    let writer1 : Device = record { took = λ text. g.W.Sink.took w0 text w2; before = g.W.Sink.failures w0; after = g.W.Sink.failures w2 } in
-    let messages1 : Device = record { took = λ text. g.M.Sink.took m0 text m2; before = g.M.Sink.failures m0; after = g.M.Sink.failures m2 } in
+    let input : Input = reader_between g.R.Source.gave g.R.Source.at_end g.R.Source.failures g.R.Source.ends r0 r2 in
+    let writer1 : Device = between g.W.Sink.took g.W.Sink.is_flushed g.W.Sink.failures w0 w2 in
+    let messages1 : Device = between g.M.Sink.took g.M.Sink.is_flushed g.M.Sink.failures m0 m2 in
     let shows = g.E.Engine.shows c.step.new.engine in
     let by : GoesOnBy filter shows input writer1 messages1 now lines c.in-Ok-Some.warning =
     subst (λ (f : Filter). GoesOnBy f shows input writer1 messages1 now lines c.in-Ok-Some.warning) i.3
@@ -45,7 +43,6 @@ lines-preserved g c =
     let w0 = c.args.writer.now in
     let m0 = c.args.messages.now in
     let r2 = c.step.new.reader in
-    let counts = λ (r : g.row.R.Denot). tally_of (g.R.Source.failures r) (g.R.Source.ends r) in
     let filter = g.E.Engine.filter c.args.engine.now in
     let i = c.lines.invariant in
     let lines = i.0.0 in
@@ -53,18 +50,18 @@ lines-preserved g c =
     let m2 = c.step.new.messages in
     let now = reading c.step.new.input in
     let start : IsRunning
-    (record { gave = λ given. g.R.Source.gave r0 given c.lines.reader; at_end = g.R.Source.at_end c.lines.reader; start = counts r0; counted = counts c.lines.reader })
-    (record { took = λ text. g.W.Sink.took w0 text c.lines.writer; before = g.W.Sink.failures w0; after = g.W.Sink.failures c.lines.writer })
-    (record { took = λ text. g.M.Sink.took m0 text c.lines.messages; before = g.M.Sink.failures m0; after = g.M.Sink.failures c.lines.messages })
+    (reader_between g.R.Source.gave g.R.Source.at_end g.R.Source.failures g.R.Source.ends r0 c.lines.reader)
+    (between g.W.Sink.took g.W.Sink.is_flushed g.W.Sink.failures w0 c.lines.writer)
+    (between g.M.Sink.took g.M.Sink.is_flushed g.M.Sink.failures m0 c.lines.messages)
     (reading c.lines.input) lines ((g.E.Engine.filter c.lines.engine).so_far lines) =
     subst (λ (f : Filter). IsRunning
-    (record { gave = λ given. g.R.Source.gave r0 given c.lines.reader; at_end = g.R.Source.at_end c.lines.reader; start = counts r0; counted = counts c.lines.reader })
-    (record { took = λ text. g.W.Sink.took w0 text c.lines.writer; before = g.W.Sink.failures w0; after = g.W.Sink.failures c.lines.writer })
-    (record { took = λ text. g.M.Sink.took m0 text c.lines.messages; before = g.M.Sink.failures m0; after = g.M.Sink.failures c.lines.messages })
+    (reader_between g.R.Source.gave g.R.Source.at_end g.R.Source.failures g.R.Source.ends r0 c.lines.reader)
+    (between g.W.Sink.took g.W.Sink.is_flushed g.W.Sink.failures w0 c.lines.writer)
+    (between g.M.Sink.took g.M.Sink.is_flushed g.M.Sink.failures m0 c.lines.messages)
     (reading c.lines.input) lines (f.so_far lines)) (sym i.3) i.0.2 in
-    let input : Input = record { gave = λ given. g.R.Source.gave r0 given r2; at_end = g.R.Source.at_end r2; start = counts r0; counted = counts r2 } in
-    let writer1 : Device = record { took = λ text. g.W.Sink.took w0 text w2; before = g.W.Sink.failures w0; after = g.W.Sink.failures w2 } in
-    let messages1 : Device = record { took = λ text. g.M.Sink.took m0 text m2; before = g.M.Sink.failures m0; after = g.M.Sink.failures m2 } in
+    let input : Input = reader_between g.R.Source.gave g.R.Source.at_end g.R.Source.failures g.R.Source.ends r0 r2 in
+    let writer1 : Device = between g.W.Sink.took g.W.Sink.is_flushed g.W.Sink.failures w0 w2 in
+    let messages1 : Device = between g.M.Sink.took g.M.Sink.is_flushed g.M.Sink.failures m0 m2 in
     let shows = g.E.Engine.shows c.step.new.engine in
     let by : GoesOnBy filter shows input writer1 messages1 now lines c.in-Ok-Some.warning =
     subst (λ (f : Filter). GoesOnBy f shows input writer1 messages1 now lines c.in-Ok-Some.warning) i.3
@@ -77,7 +74,6 @@ returns-then-warned-2 g c =
     let w0 = c.args.writer.now in
     let m0 = c.args.messages.now in
     let r2 = c.step.new.reader in
-    let counts = λ (r : g.row.R.Denot). tally_of (g.R.Source.failures r) (g.R.Source.ends r) in
     let filter = g.E.Engine.filter c.args.engine.now in
     let i = c.lines.invariant in
     let lines = i.0.0 in
@@ -85,18 +81,18 @@ returns-then-warned-2 g c =
     let m2 = c.step.new.messages in
     let now = reading c.step.new.input in
     let start : IsRunning
-    (record { gave = λ given. g.R.Source.gave r0 given c.lines.reader; at_end = g.R.Source.at_end c.lines.reader; start = counts r0; counted = counts c.lines.reader })
-    (record { took = λ text. g.W.Sink.took w0 text c.lines.writer; before = g.W.Sink.failures w0; after = g.W.Sink.failures c.lines.writer })
-    (record { took = λ text. g.M.Sink.took m0 text c.lines.messages; before = g.M.Sink.failures m0; after = g.M.Sink.failures c.lines.messages })
+    (reader_between g.R.Source.gave g.R.Source.at_end g.R.Source.failures g.R.Source.ends r0 c.lines.reader)
+    (between g.W.Sink.took g.W.Sink.is_flushed g.W.Sink.failures w0 c.lines.writer)
+    (between g.M.Sink.took g.M.Sink.is_flushed g.M.Sink.failures m0 c.lines.messages)
     (reading c.lines.input) lines ((g.E.Engine.filter c.lines.engine).so_far lines) =
     subst (λ (f : Filter). IsRunning
-    (record { gave = λ given. g.R.Source.gave r0 given c.lines.reader; at_end = g.R.Source.at_end c.lines.reader; start = counts r0; counted = counts c.lines.reader })
-    (record { took = λ text. g.W.Sink.took w0 text c.lines.writer; before = g.W.Sink.failures w0; after = g.W.Sink.failures c.lines.writer })
-    (record { took = λ text. g.M.Sink.took m0 text c.lines.messages; before = g.M.Sink.failures m0; after = g.M.Sink.failures c.lines.messages })
+    (reader_between g.R.Source.gave g.R.Source.at_end g.R.Source.failures g.R.Source.ends r0 c.lines.reader)
+    (between g.W.Sink.took g.W.Sink.is_flushed g.W.Sink.failures w0 c.lines.writer)
+    (between g.M.Sink.took g.M.Sink.is_flushed g.M.Sink.failures m0 c.lines.messages)
     (reading c.lines.input) lines (f.so_far lines)) (sym i.3) i.0.2 in
-    let input : Input = record { gave = λ given. g.R.Source.gave r0 given r2; at_end = g.R.Source.at_end r2; start = counts r0; counted = counts r2 } in
-    let writer1 : Device = record { took = λ text. g.W.Sink.took w0 text w2; before = g.W.Sink.failures w0; after = g.W.Sink.failures w2 } in
-    let messages1 : Device = record { took = λ text. g.M.Sink.took m0 text m2; before = g.M.Sink.failures m0; after = g.M.Sink.failures m2 } in
+    let input : Input = reader_between g.R.Source.gave g.R.Source.at_end g.R.Source.failures g.R.Source.ends r0 r2 in
+    let writer1 : Device = between g.W.Sink.took g.W.Sink.is_flushed g.W.Sink.failures w0 w2 in
+    let messages1 : Device = between g.M.Sink.took g.M.Sink.is_flushed g.M.Sink.failures m0 m2 in
     let shows = g.E.Engine.shows c.step.new.engine in
     let comes : ComesToEnd filter shows input writer1 messages1 now lines =
     subst (λ (f : Filter). ComesToEnd f shows input writer1 messages1 now lines) i.3
@@ -104,10 +100,10 @@ returns-then-warned-2 g c =
     let same : g.E.Engine.filter c.step.new.engine ≡ filter = c.step.ensures.filter ∙ i.3 in
     let w3 = c.take_end.new.writer in
     let m3 = c.take_end.new.messages in
-    let writer2 : Device = record { took = λ text. g.W.Sink.took w2 text w3; before = g.W.Sink.failures w2; after = g.W.Sink.failures w3 } in
-    let writer : Device = record { took = λ text. g.W.Sink.took w0 text w3; before = g.W.Sink.failures w0; after = g.W.Sink.failures w3 } in
-    let messages2 : Device = record { took = λ text. g.M.Sink.took m2 text m3; before = g.M.Sink.failures m2; after = g.M.Sink.failures m3 } in
-    let messages : Device = record { took = λ text. g.M.Sink.took m0 text m3; before = g.M.Sink.failures m0; after = g.M.Sink.failures m3 } in
+    let writer2 : Device = between g.W.Sink.took g.W.Sink.is_flushed g.W.Sink.failures w2 w3 in
+    let writer : Device = between g.W.Sink.took g.W.Sink.is_flushed g.W.Sink.failures w0 w3 in
+    let messages2 : Device = between g.M.Sink.took g.M.Sink.is_flushed g.M.Sink.failures m2 m3 in
+    let messages : Device = between g.M.Sink.took g.M.Sink.is_flushed g.M.Sink.failures m0 m3 in
     let ended = g.E.Engine.has_ended c.take_end.new.engine in
     let done : IsDone (filter.so_far lines) (filter.whole lines) (ended lines) writer2 messages2 [] c.in-Ok.warning =
     subst (λ (f : Filter). IsDone (f.so_far lines) (f.whole lines) (ended lines) writer2 messages2 [] c.in-Ok.warning) same (c.in-Ok.ensures.done lines comes.shown) in
@@ -122,7 +118,6 @@ returns-else-warned-2 g c =
     let w0 = c.args.writer.now in
     let m0 = c.args.messages.now in
     let r2 = c.step.new.reader in
-    let counts = λ (r : g.row.R.Denot). tally_of (g.R.Source.failures r) (g.R.Source.ends r) in
     let filter = g.E.Engine.filter c.args.engine.now in
     let i = c.lines.invariant in
     let lines = i.0.0 in
@@ -130,18 +125,18 @@ returns-else-warned-2 g c =
     let m2 = c.step.new.messages in
     let now = reading c.step.new.input in
     let start : IsRunning
-    (record { gave = λ given. g.R.Source.gave r0 given c.lines.reader; at_end = g.R.Source.at_end c.lines.reader; start = counts r0; counted = counts c.lines.reader })
-    (record { took = λ text. g.W.Sink.took w0 text c.lines.writer; before = g.W.Sink.failures w0; after = g.W.Sink.failures c.lines.writer })
-    (record { took = λ text. g.M.Sink.took m0 text c.lines.messages; before = g.M.Sink.failures m0; after = g.M.Sink.failures c.lines.messages })
+    (reader_between g.R.Source.gave g.R.Source.at_end g.R.Source.failures g.R.Source.ends r0 c.lines.reader)
+    (between g.W.Sink.took g.W.Sink.is_flushed g.W.Sink.failures w0 c.lines.writer)
+    (between g.M.Sink.took g.M.Sink.is_flushed g.M.Sink.failures m0 c.lines.messages)
     (reading c.lines.input) lines ((g.E.Engine.filter c.lines.engine).so_far lines) =
     subst (λ (f : Filter). IsRunning
-    (record { gave = λ given. g.R.Source.gave r0 given c.lines.reader; at_end = g.R.Source.at_end c.lines.reader; start = counts r0; counted = counts c.lines.reader })
-    (record { took = λ text. g.W.Sink.took w0 text c.lines.writer; before = g.W.Sink.failures w0; after = g.W.Sink.failures c.lines.writer })
-    (record { took = λ text. g.M.Sink.took m0 text c.lines.messages; before = g.M.Sink.failures m0; after = g.M.Sink.failures c.lines.messages })
+    (reader_between g.R.Source.gave g.R.Source.at_end g.R.Source.failures g.R.Source.ends r0 c.lines.reader)
+    (between g.W.Sink.took g.W.Sink.is_flushed g.W.Sink.failures w0 c.lines.writer)
+    (between g.M.Sink.took g.M.Sink.is_flushed g.M.Sink.failures m0 c.lines.messages)
     (reading c.lines.input) lines (f.so_far lines)) (sym i.3) i.0.2 in
-    let input : Input = record { gave = λ given. g.R.Source.gave r0 given r2; at_end = g.R.Source.at_end r2; start = counts r0; counted = counts r2 } in
-    let writer1 : Device = record { took = λ text. g.W.Sink.took w0 text w2; before = g.W.Sink.failures w0; after = g.W.Sink.failures w2 } in
-    let messages1 : Device = record { took = λ text. g.M.Sink.took m0 text m2; before = g.M.Sink.failures m0; after = g.M.Sink.failures m2 } in
+    let input : Input = reader_between g.R.Source.gave g.R.Source.at_end g.R.Source.failures g.R.Source.ends r0 r2 in
+    let writer1 : Device = between g.W.Sink.took g.W.Sink.is_flushed g.W.Sink.failures w0 w2 in
+    let messages1 : Device = between g.M.Sink.took g.M.Sink.is_flushed g.M.Sink.failures m0 m2 in
     let shows = g.E.Engine.shows c.step.new.engine in
     let comes : ComesToEnd filter shows input writer1 messages1 now lines =
     subst (λ (f : Filter). ComesToEnd f shows input writer1 messages1 now lines) i.3
@@ -149,10 +144,10 @@ returns-else-warned-2 g c =
     let same : g.E.Engine.filter c.step.new.engine ≡ filter = c.step.ensures.filter ∙ i.3 in
     let w3 = c.take_end.new.writer in
     let m3 = c.take_end.new.messages in
-    let writer2 : Device = record { took = λ text. g.W.Sink.took w2 text w3; before = g.W.Sink.failures w2; after = g.W.Sink.failures w3 } in
-    let writer : Device = record { took = λ text. g.W.Sink.took w0 text w3; before = g.W.Sink.failures w0; after = g.W.Sink.failures w3 } in
-    let messages2 : Device = record { took = λ text. g.M.Sink.took m2 text m3; before = g.M.Sink.failures m2; after = g.M.Sink.failures m3 } in
-    let messages : Device = record { took = λ text. g.M.Sink.took m0 text m3; before = g.M.Sink.failures m0; after = g.M.Sink.failures m3 } in
+    let writer2 : Device = between g.W.Sink.took g.W.Sink.is_flushed g.W.Sink.failures w2 w3 in
+    let writer : Device = between g.W.Sink.took g.W.Sink.is_flushed g.W.Sink.failures w0 w3 in
+    let messages2 : Device = between g.M.Sink.took g.M.Sink.is_flushed g.M.Sink.failures m2 m3 in
+    let messages : Device = between g.M.Sink.took g.M.Sink.is_flushed g.M.Sink.failures m0 m3 in
     let ended = g.E.Engine.has_ended c.take_end.new.engine in
     let done : IsDone (filter.so_far lines) (filter.whole lines) (ended lines) writer2 messages2 [] c.in-Ok.warning =
     subst (λ (f : Filter). IsDone (f.so_far lines) (f.whole lines) (ended lines) writer2 messages2 [] c.in-Ok.warning) same (c.in-Ok.ensures.done lines comes.shown) in
@@ -161,13 +156,12 @@ returns-else-warned-2 g c =
     refl refl refl (λ xs ys a b. g.met.M.Sink.took_both m0 m2 m3 xs ys a b)
     comes c.number-last.result c.number-last.ensures ended c.lines.warned c.in-Ok.warning _ i.0.3 (ap (λ (b : Bool). b || c.in-Ok.warning) (sym c.if-warned-2.false)) done
 
-pub returns-in-Err-take_end : goal.returns-in-Err-take_end
-returns-in-Err-take_end g c =
+pub take_end-requires-clause-within : goal.take_end-requires-clause-within
+take_end-requires-clause-within g c =
     let r0 = c.args.reader.now in
     let w0 = c.args.writer.now in
     let m0 = c.args.messages.now in
     let r2 = c.step.new.reader in
-    let counts = λ (r : g.row.R.Denot). tally_of (g.R.Source.failures r) (g.R.Source.ends r) in
     let filter = g.E.Engine.filter c.args.engine.now in
     let i = c.lines.invariant in
     let lines = i.0.0 in
@@ -175,18 +169,53 @@ returns-in-Err-take_end g c =
     let m2 = c.step.new.messages in
     let now = reading c.step.new.input in
     let start : IsRunning
-    (record { gave = λ given. g.R.Source.gave r0 given c.lines.reader; at_end = g.R.Source.at_end c.lines.reader; start = counts r0; counted = counts c.lines.reader })
-    (record { took = λ text. g.W.Sink.took w0 text c.lines.writer; before = g.W.Sink.failures w0; after = g.W.Sink.failures c.lines.writer })
-    (record { took = λ text. g.M.Sink.took m0 text c.lines.messages; before = g.M.Sink.failures m0; after = g.M.Sink.failures c.lines.messages })
+    (reader_between g.R.Source.gave g.R.Source.at_end g.R.Source.failures g.R.Source.ends r0 c.lines.reader)
+    (between g.W.Sink.took g.W.Sink.is_flushed g.W.Sink.failures w0 c.lines.writer)
+    (between g.M.Sink.took g.M.Sink.is_flushed g.M.Sink.failures m0 c.lines.messages)
     (reading c.lines.input) lines ((g.E.Engine.filter c.lines.engine).so_far lines) =
     subst (λ (f : Filter). IsRunning
-    (record { gave = λ given. g.R.Source.gave r0 given c.lines.reader; at_end = g.R.Source.at_end c.lines.reader; start = counts r0; counted = counts c.lines.reader })
-    (record { took = λ text. g.W.Sink.took w0 text c.lines.writer; before = g.W.Sink.failures w0; after = g.W.Sink.failures c.lines.writer })
-    (record { took = λ text. g.M.Sink.took m0 text c.lines.messages; before = g.M.Sink.failures m0; after = g.M.Sink.failures c.lines.messages })
+    (reader_between g.R.Source.gave g.R.Source.at_end g.R.Source.failures g.R.Source.ends r0 c.lines.reader)
+    (between g.W.Sink.took g.W.Sink.is_flushed g.W.Sink.failures w0 c.lines.writer)
+    (between g.M.Sink.took g.M.Sink.is_flushed g.M.Sink.failures m0 c.lines.messages)
     (reading c.lines.input) lines (f.so_far lines)) (sym i.3) i.0.2 in
-    let input : Input = record { gave = λ given. g.R.Source.gave r0 given r2; at_end = g.R.Source.at_end r2; start = counts r0; counted = counts r2 } in
-    let writer1 : Device = record { took = λ text. g.W.Sink.took w0 text w2; before = g.W.Sink.failures w0; after = g.W.Sink.failures w2 } in
-    let messages1 : Device = record { took = λ text. g.M.Sink.took m0 text m2; before = g.M.Sink.failures m0; after = g.M.Sink.failures m2 } in
+    let input : Input = reader_between g.R.Source.gave g.R.Source.at_end g.R.Source.failures g.R.Source.ends r0 r2 in
+    let writer1 : Device = between g.W.Sink.took g.W.Sink.is_flushed g.W.Sink.failures w0 w2 in
+    let messages1 : Device = between g.M.Sink.took g.M.Sink.is_flushed g.M.Sink.failures m0 m2 in
+    let shows = g.E.Engine.shows c.step.new.engine in
+    let comes : ComesToEnd filter shows input writer1 messages1 now lines =
+    subst (λ (f : Filter). ComesToEnd f shows input writer1 messages1 now lines) i.3
+    (subst (λ (p : Option Bool). Goes (g.E.Engine.filter c.lines.engine) shows input writer1 messages1 now lines p) c.in-Ok-None.field-0-is (c.in-Ok-None.ensures.goes r0 w0 m0 lines i.0.1 start)) in
+    let taken = g.met.E.Engine.counted c.step.new.engine lines [] comes.shown in
+    let number = comes.running.read.number in
+    let few = c.in-Ok-None.ensures.counted.0 in
+    let within = c.in-Ok-None.ensures.counted.1 in
+    omega (arith, taken, number, few, within)
+
+pub returns-in-Err-take_end : goal.returns-in-Err-take_end
+returns-in-Err-take_end g c =
+    let r0 = c.args.reader.now in
+    let w0 = c.args.writer.now in
+    let m0 = c.args.messages.now in
+    let r2 = c.step.new.reader in
+    let filter = g.E.Engine.filter c.args.engine.now in
+    let i = c.lines.invariant in
+    let lines = i.0.0 in
+    let w2 = c.step.new.writer in
+    let m2 = c.step.new.messages in
+    let now = reading c.step.new.input in
+    let start : IsRunning
+    (reader_between g.R.Source.gave g.R.Source.at_end g.R.Source.failures g.R.Source.ends r0 c.lines.reader)
+    (between g.W.Sink.took g.W.Sink.is_flushed g.W.Sink.failures w0 c.lines.writer)
+    (between g.M.Sink.took g.M.Sink.is_flushed g.M.Sink.failures m0 c.lines.messages)
+    (reading c.lines.input) lines ((g.E.Engine.filter c.lines.engine).so_far lines) =
+    subst (λ (f : Filter). IsRunning
+    (reader_between g.R.Source.gave g.R.Source.at_end g.R.Source.failures g.R.Source.ends r0 c.lines.reader)
+    (between g.W.Sink.took g.W.Sink.is_flushed g.W.Sink.failures w0 c.lines.writer)
+    (between g.M.Sink.took g.M.Sink.is_flushed g.M.Sink.failures m0 c.lines.messages)
+    (reading c.lines.input) lines (f.so_far lines)) (sym i.3) i.0.2 in
+    let input : Input = reader_between g.R.Source.gave g.R.Source.at_end g.R.Source.failures g.R.Source.ends r0 r2 in
+    let writer1 : Device = between g.W.Sink.took g.W.Sink.is_flushed g.W.Sink.failures w0 w2 in
+    let messages1 : Device = between g.M.Sink.took g.M.Sink.is_flushed g.M.Sink.failures m0 m2 in
     let shows = g.E.Engine.shows c.step.new.engine in
     let comes : ComesToEnd filter shows input writer1 messages1 now lines =
     subst (λ (f : Filter). ComesToEnd f shows input writer1 messages1 now lines) i.3
@@ -194,12 +223,12 @@ returns-in-Err-take_end g c =
     let same : g.E.Engine.filter c.step.new.engine ≡ filter = c.step.ensures.filter ∙ i.3 in
     let w3 = c.take_end.new.writer in
     let m3 = c.take_end.new.messages in
-    let writer2 : Device = record { took = λ text. g.W.Sink.took w2 text w3; before = g.W.Sink.failures w2; after = g.W.Sink.failures w3 } in
-    let writer : Device = record { took = λ text. g.W.Sink.took w0 text w3; before = g.W.Sink.failures w0; after = g.W.Sink.failures w3 } in
-    let messages2 : Device = record { took = λ text. g.M.Sink.took m2 text m3; before = g.M.Sink.failures m2; after = g.M.Sink.failures m3 } in
-    let messages : Device = record { took = λ text. g.M.Sink.took m0 text m3; before = g.M.Sink.failures m0; after = g.M.Sink.failures m3 } in
-    let halted : IsHalted (filter.so_far lines) (filter.whole lines) false (length lines) writer2 messages2 [] c.in-Err-take_end.halt =
-    subst (λ (f : Filter). IsHalted (f.so_far lines) (f.whole lines) false (length lines) writer2 messages2 [] c.in-Err-take_end.halt) same (c.in-Err-take_end.ensures.cut lines comes.shown) in
+    let writer2 : Device = between g.W.Sink.took g.W.Sink.is_flushed g.W.Sink.failures w2 w3 in
+    let writer : Device = between g.W.Sink.took g.W.Sink.is_flushed g.W.Sink.failures w0 w3 in
+    let messages2 : Device = between g.M.Sink.took g.M.Sink.is_flushed g.M.Sink.failures m2 m3 in
+    let messages : Device = between g.M.Sink.took g.M.Sink.is_flushed g.M.Sink.failures m0 m3 in
+    let halted : IsHalted (filter.so_far lines) (filter.whole lines) None (length lines) writer2 messages2 [] c.in-Err-take_end.halt =
+    subst (λ (f : Filter). IsHalted (f.so_far lines) (f.whole lines) None (length lines) writer2 messages2 [] c.in-Err-take_end.halt) same (c.in-Err-take_end.ensures.cut lines comes.shown) in
     inr (inr (inl (stopped-end filter shows input now lines writer1 writer2 writer messages1 messages2 messages
     refl refl refl (λ xs ys a b. g.met.W.Sink.took_both w0 w2 w3 xs ys a b)
     refl refl refl (λ xs ys a b. g.met.M.Sink.took_both m0 m2 m3 xs ys a b)
@@ -211,7 +240,6 @@ returns-in-Err g c =
     let w0 = c.args.writer.now in
     let m0 = c.args.messages.now in
     let r2 = c.step.new.reader in
-    let counts = λ (r : g.row.R.Denot). tally_of (g.R.Source.failures r) (g.R.Source.ends r) in
     let filter = g.E.Engine.filter c.args.engine.now in
     let i = c.lines.invariant in
     let lines = i.0.0 in
@@ -219,18 +247,18 @@ returns-in-Err g c =
     let m2 = c.step.new.messages in
     let now = reading c.step.new.input in
     let start : IsRunning
-    (record { gave = λ given. g.R.Source.gave r0 given c.lines.reader; at_end = g.R.Source.at_end c.lines.reader; start = counts r0; counted = counts c.lines.reader })
-    (record { took = λ text. g.W.Sink.took w0 text c.lines.writer; before = g.W.Sink.failures w0; after = g.W.Sink.failures c.lines.writer })
-    (record { took = λ text. g.M.Sink.took m0 text c.lines.messages; before = g.M.Sink.failures m0; after = g.M.Sink.failures c.lines.messages })
+    (reader_between g.R.Source.gave g.R.Source.at_end g.R.Source.failures g.R.Source.ends r0 c.lines.reader)
+    (between g.W.Sink.took g.W.Sink.is_flushed g.W.Sink.failures w0 c.lines.writer)
+    (between g.M.Sink.took g.M.Sink.is_flushed g.M.Sink.failures m0 c.lines.messages)
     (reading c.lines.input) lines ((g.E.Engine.filter c.lines.engine).so_far lines) =
     subst (λ (f : Filter). IsRunning
-    (record { gave = λ given. g.R.Source.gave r0 given c.lines.reader; at_end = g.R.Source.at_end c.lines.reader; start = counts r0; counted = counts c.lines.reader })
-    (record { took = λ text. g.W.Sink.took w0 text c.lines.writer; before = g.W.Sink.failures w0; after = g.W.Sink.failures c.lines.writer })
-    (record { took = λ text. g.M.Sink.took m0 text c.lines.messages; before = g.M.Sink.failures m0; after = g.M.Sink.failures c.lines.messages })
+    (reader_between g.R.Source.gave g.R.Source.at_end g.R.Source.failures g.R.Source.ends r0 c.lines.reader)
+    (between g.W.Sink.took g.W.Sink.is_flushed g.W.Sink.failures w0 c.lines.writer)
+    (between g.M.Sink.took g.M.Sink.is_flushed g.M.Sink.failures m0 c.lines.messages)
     (reading c.lines.input) lines (f.so_far lines)) (sym i.3) i.0.2 in
-    let input : Input = record { gave = λ given. g.R.Source.gave r0 given r2; at_end = g.R.Source.at_end r2; start = counts r0; counted = counts r2 } in
-    let writer1 : Device = record { took = λ text. g.W.Sink.took w0 text w2; before = g.W.Sink.failures w0; after = g.W.Sink.failures w2 } in
-    let messages1 : Device = record { took = λ text. g.M.Sink.took m0 text m2; before = g.M.Sink.failures m0; after = g.M.Sink.failures m2 } in
+    let input : Input = reader_between g.R.Source.gave g.R.Source.at_end g.R.Source.failures g.R.Source.ends r0 r2 in
+    let writer1 : Device = between g.W.Sink.took g.W.Sink.is_flushed g.W.Sink.failures w0 w2 in
+    let messages1 : Device = between g.M.Sink.took g.M.Sink.is_flushed g.M.Sink.failures m0 m2 in
     let stops : StopsAt filter input writer1 messages1 now lines c.in-Err.halt =
     subst (λ (f : Filter). StopsAt f input writer1 messages1 now lines c.in-Err.halt) i.3 (c.in-Err.ensures.stops r0 w0 m0 lines i.0.1 start) in
     stopped-on filter (g.E.Engine.has_ended c.step.new.engine) input writer1 messages1 now lines c.number.result c.lines.warned c.in-Err.halt c.number.ensures stops

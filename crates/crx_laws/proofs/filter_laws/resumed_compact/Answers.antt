@@ -1,6 +1,6 @@
-use Rattle.crx_filter.proofs.Resuming.{resumed}
-use Rattle.crx_filter.proofs.ForwardCompact.{compact-forward}
-use Rattle.crx_filter.specs.Expanded.{compact_place}
+use Rattle.crx_engine.proofs.Resuming.{resumed}
+use Rattle.crx_engine.proofs.ForwardCompact.{compact-forward}
+use Rattle.crx_engine.specs.Expanded.{compact_place}
 use Rattle.crx_laws.proofs.filter_laws.resumed_compact.Goals as goal
 
 pub returns : goal.returns

@@ -1,6 +1,6 @@
-use Rattle.crx_filter.specs.Compacted.{rinex_place, rinex_reading}
-use Rattle.crx_filter.proofs.WhatWasRead.{items-read}
-use Rattle.crx_filter.proofs.InPlace.{items-in_place}
+use Rattle.crx_engine.specs.Compacted.{rinex_place, rinex_reading}
+use Rattle.crx_engine.proofs.WhatWasRead.{items-read}
+use Rattle.crx_engine.proofs.InPlace.{items-in_place}
 use Rattle.crx_laws.proofs.filter_laws.what_was_accepted.Goals as goal
 
 pub returns : goal.returns

@@ -1,16 +1,16 @@
 -- by computation
-use Rattle.std.proofs.Common.{ℕ, refl, List, [], ◌∷◌, codes, inr, ◌≡◌, true}
+use Rattle.std.proofs.Common.{ℕ, refl, List, [], ◌∷◌, ◌++◌, codes, inl, inr, ◌≡◌, true}
 use Rattle.std.specs.List.{list_all}
 use Rattle.std.specs.Fmt.{digits}
 use Rattle.crx_text.specs.Codes.{coded_number}
-use Rattle.crx_text.specs.Lines.{Piece, lines_of, pieces_of}
+use Rattle.crx_lines.specs.Lines.{Piece, lines_of, pieces_of}
 use Rattle.crx_text.specs.Numbers.{size_of, number_of, number_text}
-use Rattle.crx_rinex.specs.Units.{Observation}
-use Rattle.crx_filter.specs.Items.{Accepted}
-use Rattle.crx_filter.specs.Results.{lines_text}
-use Rattle.crx_filter.specs.Standard.{IsStandard}
-use Rattle.crx_filter.specs.Damage.{may_replace, IsDamaged}
-use Rattle.crx_laws.specs.FilterExamples.{five_epochs, every_second, epoch_at_second, first_block, damaged_by}
+use Rattle.crx_rinex.specs.Units.{EventLine, EventRecord, Observation}
+use Rattle.crx_engine.specs.Items.{Accepted}
+use Rattle.crx_engine.specs.Results.{lines_text}
+use Rattle.crx_engine.specs.Standard.{IsStandard}
+use Rattle.crx_engine.specs.Damage.{may_replace, IsDamaged}
+use Rattle.crx_laws.specs.SmallFiles.{blanks, line_at, five_epochs, with_event, no_choices, every_second, epoch_at_second, header_items, first_block, damaged_by, other_block, last_damaged_by, damaged_before_event}
 use Rattle.crx_laws.proofs.salvage.premises.Goals as goal
 
 standard : IsStandard (lines_text (five_epochs []))
@@ -37,6 +37,44 @@ damaged lines allowed ended = record {
   text = refl;
 }
 
+-- the first block of a file, an event after it
+before-event : IsDamaged (lines_text with_event) no_choices (damaged_before_event (codes "xyz" ∷ []))
+unfolding digits coded_number size_of number_of number_text
+before-event = record {
+  standard = record { good = refl; plain = refl; spelt = refl };
+  before = header_items;
+  first = epoch_at_second 0 20000000000;
+  others = epoch_at_second 1 20000100500 ∷ [];
+  after = Accepted (Observation (epoch_at_second 2 20000202000)) ∷ Accepted (EventRecord (blanks 60 ++ codes "COMMENT")) ∷ Accepted (EventLine (line_at 2 4 1)) ∷ [];
+  instead = lines_text (codes "xyz" ∷ []);
+  parts = refl;
+  starts = refl;
+  continued = (refl, tt);
+  anew = tt;
+  allowed = refl;
+  ended = inr refl;
+  text = refl;
+}
+
+-- the last block, without LF at the end
+last-damaged : IsDamaged (lines_text (five_epochs [])) every_second (last_damaged_by (codes "\n3&2000"))
+unfolding digits coded_number size_of number_of number_text
+last-damaged = record {
+  standard = standard;
+  before = Accepted (Observation (epoch_at_second 3 20000304500)) ∷ Accepted (Observation (epoch_at_second 2 20000202000)) ∷ first_block;
+  first = epoch_at_second 4 20000408000;
+  others = [];
+  after = [];
+  instead = codes "\n3&2000";
+  parts = refl;
+  starts = refl;
+  continued = tt;
+  anew = tt;
+  allowed = refl;
+  ended = inl refl;
+  text = refl;
+}
+
 pub returns : goal.returns
 unfolding digits coded_number size_of number_of number_text
 returns c = record {
@@ -45,5 +83,8 @@ returns c = record {
   replaced = damaged (codes "xyz" ∷ []) refl refl;
   removed = damaged [] refl refl;
   shortened = damaged ([] ∷ codes "3&20000202000" ∷ []) refl refl;
+  other_epochs = damaged other_block refl refl;
+  before_event = before-event;
+  last = last-damaged;
   own = refl;
 }

@@ -1,0 +1,63 @@
+-- What a compaction makes of a line that has a fault, is too long, or completes an epoch.
+use Rattle.std.proofs.Common.{◌≡◌, ◌⊎◌, inl, inr, ℕ, ◌+◌, true, false, List, Option, Some, None, Result, Err, refl, sym, ap, subst, ◌∙◌}
+use Rattle.crx_lines.specs.Seen.{ReadLine, Overlong}
+use Rattle.crx_lines.specs.declared.fault.At.{At}
+use Rattle.crx_lines.specs.declared.fault.Fault.{Fault}
+use Rattle.crx_lines.specs.declared.fault.Fault.TheVariants.{OutOfMemory, LineTooLong}
+use Rattle.crx_rinex.specs.Observations.{Epoch as ObservationEpoch}
+use Rattle.crx_rinex.specs.EpochPlaces.{OpenEpoch}
+use Rattle.crx_rinex.specs.ObservationTypes.{Count}
+use Rattle.crx_engine.specs.Choices.{Choices}
+use Rattle.crx_engine.specs.Compactor.{Written, compaction}
+use Rattle.crx_engine.specs.LineByLine.{Seen, Made, Fails, made_in, failed_step, step_of}
+use Rattle.crx_engine.specs.Memory.{takes_memory}
+use Rattle.crx_engine.specs.Reading.{is_skippable}
+use Rattle.crx_engine.specs.EngineSteps.{seen_stage, step_made, Steps}
+use Rattle.crx_engine.specs.RinexStages.{open_epoch, is_whole}
+use Rattle.crx_engine.specs.RinexReaders.{Takes, CompletedEpoch}
+use Rattle.crx_engine.specs.declared.engine.Step.{Step}
+use Rattle.crx_engine.specs.declared.rinex_reader.RinexReader.{RinexReader}
+use Rattle.crx_engine.specs.declared.rinex_reader.RinexStep.{RinexStep}
+use Rattle.crx_engine.specs.declared.rinex_reader.RinexStep.TheVariants.{Epoch}
+use Rattle.crx_engine.specs.declared.stage.Stage.{Stage}
+use Rattle.crx_engine.specs.declared.stage.Stage.TheVariants.{FirstLines, Header, Between, Event, Open, Looking, Closed, Ended}
+use Rattle.crx_engine.proofs.EngineLemmas.{out-fatal, fatal-counts, ran-out}
+
+-- an epoch that was completed is whole
+pub whole-held : (made : Made ObservationEpoch OpenEpoch) (before after : RinexReader) (line : List ℕ) (step : RinexStep) → Takes made before line step after → step ≡ Epoch → is_whole after.epoch ≡ true
+whole-held made before after line step taken is = at-epoch (subst (λ s. Takes made before line s after) is taken)
+  where
+    at-epoch : CompletedEpoch made line before after → is_whole after.epoch ≡ true
+    at-epoch done = ap is_whole done.held ∙ done.full
+
+-- a line with a fault
+pub refused-step : (before now : Seen OpenEpoch Written) (line : ReadLine) (result : Result Step At) (ready : List (List ℕ)) (after : Seen OpenEpoch Written) (fault : Fault)
+    → now ≡ before → step_made result ready after ≡ failed_step compaction now line fault
+    → (made_in compaction before.phase before.types before.kept line ≡ Fails fault) ⊎ ((fault ≡ OutOfMemory) × (takes_memory compaction before line ≡ true))
+    → (is_skippable fault ≡ false → result ≡ Err (record { line = before.number + 1; fault = fault }))
+    → Steps compaction before line result ready after
+refused-step before now line result ready after fault same step (inl made) fatal =
+    inl (step ∙ ap (λ (s : Seen OpenEpoch Written). failed_step compaction s line fault) same ∙ sym (ap (λ (m : Made ObservationEpoch OpenEpoch). step_of compaction before line m) made))
+refused-step before now line result ready after fault same step (inr out) fatal =
+    let counted = fatal-counts compaction now after line fault result ready step (out-fatal fault out.0) ∙ ap (λ (s : Seen OpenEpoch Written). s.number + 1) same in
+    inr (ran-out compaction before after line result fault out.0 (fatal (out-fatal fault out.0)) out.1 counted)
+
+-- what is seen of a reader that is as it was
+pub seen-again : (choices : Choices) (number : ℕ) (kept : Written) (types now_types : List Count) (epoch now_epoch : Option ObservationEpoch) (stage now_stage : Stage)
+    → now_stage ≡ stage → now_types ≡ types → now_epoch ≡ epoch
+    → ◌≡◌ {A = Seen OpenEpoch Written} (record { choices = choices; number = number; phase = seen_stage (open_epoch now_types now_epoch) now_stage; types = now_types; kept = kept })
+    (record { choices = choices; number = number; phase = seen_stage (open_epoch types epoch) stage; types = types; kept = kept })
+seen-again choices number kept types now_types epoch now_epoch stage now_stage a b d = rw (a, b, d) refl
+
+-- a line that is too long
+pub overlong-made : (held : Option OpenEpoch) (stage : Stage) (types : List Count) (kept : Written) → (stage ≡ Looking → ⊥) → (stage ≡ Closed → ⊥) → ((at : At) → stage ≡ Ended at → ⊥)
+    → made_in compaction (seen_stage held stage) types kept Overlong ≡ Fails LineTooLong
+overlong-made held (FirstLines count) types kept looks closes ends = refl
+overlong-made held (Header is_first) types kept looks closes ends = refl
+overlong-made held Between types kept looks closes ends = refl
+overlong-made held (Event left counted) types kept looks closes ends = refl
+overlong-made None Open types kept looks closes ends = refl
+overlong-made (Some so_far) Open types kept looks closes ends = refl
+overlong-made held Looking types kept looks closes ends = absurd (looks refl)
+overlong-made held Closed types kept looks closes ends = absurd (closes refl)
+overlong-made held (Ended at) types kept looks closes ends = absurd (ends at refl)

@@ -1,0 +1,89 @@
+-- The two lines that compact text begins with are read, and can be cut off again.
+use Rattle.std.proofs.Common.{ℕ, zero, suc, ◌≡◌, ◌≢◌, ◌+◌, Bool, true, false, List, [], ◌∷◌, ◌++◌, take, drop, replicate, length, refl, ap, arith, subst, length-append, codes, Ok}
+use Rattle.std.specs.Prelude.{◌&&◌, nat_le}
+use Rattle.std.specs.List.{list_all}
+use Rattle.std.specs.Str.{bytes_eq}
+use Rattle.std.proofs.Math.Seq.{drop-append_seam}
+use Rattle.std.proofs.lemmas.List.{length-take-le}
+use Rattle.std.proofs.lemmas.List.Elements.{All-cons, All-nil}
+use Rattle.std.proofs.lemmas.Bool.{ne_eqb}
+use Rattle.crx_lines.specs.Lines.{HasNoFeed, ends_with_return}
+use Rattle.crx_text.specs.Columns.{without_end_blanks}
+use Rattle.crx_lines.specs.Seen.{ReadLine, Content}
+use Rattle.crx_text.specs.Texts.{is_printable}
+use Rattle.crx_lines.specs.declared.limits.TheConstants.{DATE_LIMIT}
+use Rattle.crx_rinex.specs.Places.{Here}
+use Rattle.crx_rinex.specs.Label.{label_of}
+use Rattle.crx_engine.specs.Choices.{is_date}
+use Rattle.crx_engine.specs.Compacted.{left_justified, version_line, program_line}
+use Rattle.crx_engine.specs.Expanded.{crinex_program, first_lines}
+use Rattle.crx_engine.proofs.Stopping.{second-true, first-true}
+use Rattle.crx_engine.proofs.WayBackCut.{IsClean, NoFeed}
+
+-- ---- the date's columns
+
+date-width : (date : List ℕ) → length (left_justified 20 date) ≡ 20
+date-width date =
+    let all : length (date ++ replicate 20 32) ≡ length date + 20 = length-append date (replicate 20 32) in
+    length-take-le 20 (date ++ replicate 20 32) (omega (arith, all))
+
+drop-exact : (n : ℕ) (xs ys : List ℕ) → length xs ≡ n → drop n (xs ++ ys) ≡ ys
+drop-exact n xs ys e = subst (λ k. drop k (xs ++ ys) ≡ ys) e (drop-append_seam xs ys)
+
+program-label : (date : List ℕ) → label_of (program_line date) ≡ codes "CRINEX PROG / DATE"
+program-label date = ap (λ (t : List ℕ). without_end_blanks (take 20 (t ++ replicate 20 32))) (drop-exact 20 (left_justified 20 date) (codes "CRINEX PROG / DATE") (date-width date))
+
+program-read : (date : List ℕ) → crinex_program (program_line date) ≡ Ok (program_line date)
+program-read date =
+    let label : bytes_eq (label_of (program_line date)) (codes "CRINEX PROG / DATE") ≡ true = ap (λ t. bytes_eq t (codes "CRINEX PROG / DATE")) (program-label date) in
+    rw label refl
+
+pub first-lines_read : (date : List ℕ) (rest : List ReadLine) → first_lines (Content version_line ∷ Content (program_line date) ∷ rest) ≡ Here (version_line ∷ program_line date ∷ []) 2
+first-lines_read date rest = rw (program-read date) refl
+
+-- ---- each is cut off again
+
+-- a printable character is none that isn't
+pub printable-other : (c d : ℕ) → is_printable d ≡ false → is_printable c ≡ true → c ≢ d
+printable-other c d isn_t is_so is = let same : is_printable c ≡ is_printable d = ap is_printable is in absurd (cc)
+
+pub printable-no_feed : (line : List ℕ) → list_all is_printable line ≡ true → HasNoFeed line
+printable-no_feed [] h = All-nil NoFeed
+printable-no_feed (c ∷ cs) h =
+    All-cons NoFeed c cs (printable-other c 10 refl (first-true (is_printable c) (list_all is_printable cs) h)) (printable-no_feed cs (second-true (is_printable c) (list_all is_printable cs) h))
+
+pub printable-no_return : (line : List ℕ) → list_all is_printable line ≡ true → ends_with_return line ≡ false
+printable-no_return [] h = refl
+printable-no_return (c ∷ []) h = ne_eqb c 13 (printable-other c 13 refl (first-true (is_printable c) true h))
+printable-no_return (c ∷ d ∷ ds) h = printable-no_return (d ∷ ds) (second-true (is_printable c) (list_all is_printable (d ∷ ds)) h)
+
+pub both-true : (a b : Bool) → a ≡ true → b ≡ true → (a && b) ≡ true
+both-true true b h k = k
+both-true false b h k = absurd (cc)
+
+pub append-printable : (a b : List ℕ) → list_all is_printable a ≡ true → list_all is_printable b ≡ true → list_all is_printable (a ++ b) ≡ true
+append-printable [] b h k = k
+append-printable (c ∷ cs) b h k = both-true (is_printable c) (list_all is_printable (cs ++ b)) (first-true (is_printable c) (list_all is_printable cs) h) (append-printable cs b (second-true (is_printable c) (list_all is_printable cs) h) k)
+
+pub take-printable : (n : ℕ) (a : List ℕ) → list_all is_printable a ≡ true → list_all is_printable (take n a) ≡ true
+take-printable zero a h = refl
+take-printable (suc n) [] h = refl
+take-printable (suc n) (c ∷ cs) h = both-true (is_printable c) (list_all is_printable (take n cs)) (first-true (is_printable c) (list_all is_printable cs) h) (take-printable n cs (second-true (is_printable c) (list_all is_printable cs) h))
+
+pub program-printable : (date : List ℕ) → is_date date ≡ true → list_all is_printable (program_line date) ≡ true
+program-printable date h =
+    let good : list_all is_printable date ≡ true = second-true (nat_le (length date) DATE_LIMIT) (list_all is_printable date) h in
+    let columns : list_all is_printable (left_justified 20 date) ≡ true = take-printable 20 (date ++ replicate 20 32) (append-printable date (replicate 20 32) good refl) in
+    let after : list_all is_printable (left_justified 20 date ++ codes "CRINEX PROG / DATE") ≡ true = append-printable (left_justified 20 date) (codes "CRINEX PROG / DATE") columns refl in
+    append-printable (left_justified 40 (codes "RNX2CRX profile 1.0")) (left_justified 20 date ++ codes "CRINEX PROG / DATE") refl after
+
+pub program-clean : (date : List ℕ) → is_date date ≡ true → IsClean (program_line date)
+program-clean date h =
+    let all : list_all is_printable (program_line date) ≡ true = program-printable date h in
+    let width : length (left_justified 20 date) ≡ 20 = date-width date in
+    let two : length (left_justified 20 date ++ codes "CRINEX PROG / DATE") ≡ length (left_justified 20 date) + 18 = length-append (left_justified 20 date) (codes "CRINEX PROG / DATE") in
+    let three : length (program_line date) ≡ 40 + length (left_justified 20 date ++ codes "CRINEX PROG / DATE") = length-append (left_justified 40 (codes "RNX2CRX profile 1.0")) (left_justified 20 date ++ codes "CRINEX PROG / DATE") in
+    record { one_line = printable-no_feed (program_line date) all; no_return = printable-no_return (program_line date) all; short = omega (arith, width, two, three) }
+
+pub version-clean : IsClean version_line
+version-clean = record { one_line = printable-no_feed version_line refl; no_return = refl; short = omega arith }

@@ -1,0 +1,29 @@
+use Rattle.std.proofs.Common.{sym, rules}
+use Rattle.crx_lines.specs.Seen.{Content}
+use Rattle.crx_engine.specs.Compacting.{seen_by}
+use Rattle.crx_engine.specs.RinexReaders.{made_at}
+use Rattle.crx_engine.proofs.CompactionSteps.{refused-step, seen-again, whole-held}
+use Rattle.crx_engine.proofs.compaction.Compaction.feed.Goals as goal
+
+pub accept-requires : goal.accept-requires
+accept-requires c =
+    let self = c.args.self.now in
+    record {
+      within = c.requires.within;
+      short = c.requires.short;
+      drained = c.requires.drained;
+      whole = λ is. whole-held (made_at self.reader c.args.line.now (seen_by self).kept) self.reader c.take.new.self c.args.line.now c.in-Ok.step (c.in-Ok.ensures.takes (seen_by self).kept) is;
+    }
+
+pub returns-in-Err : goal.returns-in-Err
+returns-in-Err c =
+    let self = c.args.self.now in
+    let line = c.args.line.now in
+    let now = c.take.new.self in
+    let same = seen-again self.options self.number (seen_by self).kept self.reader.types now.types self.reader.epoch now.epoch self.reader.stage now.stage c.in-Err.ensures.same_stage c.in-Err.ensures.same_types c.in-Err.ensures.same_epoch in
+    record {
+      steps = refused-step (seen_by self) _ (Content line) c.fail.result _ (seen_by c.fail.new.self) c.in-Err.fault same (c.fail.ensures.fails (Content line) (sym c.begins_epoch.ensures)) (c.in-Err.ensures.refuses (seen_by self).kept) c.fail.ensures.fatal;
+      ended = c.fail.ensures.ended;
+      nothing = search rules;
+      choices = c.fail.ensures.choices;
+    }

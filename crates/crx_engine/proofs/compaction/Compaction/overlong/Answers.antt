@@ -1,0 +1,20 @@
+use Rattle.std.proofs.Common.{sym, refl, ap, ◌∙◌}
+use Rattle.crx_lines.specs.Seen.{Overlong}
+use Rattle.crx_engine.specs.Compactor.{compaction}
+use Rattle.crx_engine.specs.Compacting.{seen_by}
+use Rattle.crx_engine.specs.LineByLine.{step_of}
+use Rattle.crx_engine.specs.RinexStages.{open_epoch}
+use Rattle.crx_engine.proofs.CompactionSteps.{overlong-made}
+use Rattle.crx_engine.proofs.compaction.Compaction.overlong.Goals as goal
+
+pub returns-in_default : goal.returns-in_default
+returns-in_default c =
+    let self = c.args.self.now in
+    let held = open_epoch self.reader.types self.reader.epoch in
+    record {
+      steps = c.fail.ensures.fails Overlong refl
+          ∙ sym (ap (λ made. step_of compaction (seen_by self) Overlong made) (overlong-made held self.reader.stage self.reader.types (seen_by self).kept c.in_default.not-Looking c.in_default.not-Closed c.in_default.not-Ended));
+      ended = c.fail.ensures.ended;
+      drained = c.fail.ensures.drained;
+      choices = c.fail.ensures.choices;
+    }

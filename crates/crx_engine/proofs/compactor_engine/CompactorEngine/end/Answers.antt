@@ -1,0 +1,19 @@
+use Rattle.std.proofs.Common.{ap, ◌∙◌}
+use Rattle.crx_engine.specs.EngineSteps.{step_made}
+use Rattle.crx_engine.specs.Directions.{compaction_filter}
+use Rattle.crx_engine.specs.Compactor.{compaction, compaction_seen}
+use Rattle.crx_engine.specs.Compactors.{compactor_seen, compactor_ready}
+use Rattle.crx_engine.proofs.DirectionSteps.{compaction-goes}
+use Rattle.crx_engine.proofs.EngineAnswers.{concludes}
+use Rattle.crx_engine.proofs.StepCounts.{none-drained}
+use Rattle.crx_engine.proofs.compactor_engine.CompactorEngine.end.Goals as goal
+
+pub returns-clause-drained : goal.returns-clause-drained
+returns-clause-drained c = none-drained (compactor_ready c.end.new.self) c.end.result c.end.ensures.drained
+
+pub returns-clause-concludes : goal.returns-clause-concludes
+returns-clause-concludes c = λ lines shown.
+    let self = c.args.self.now in
+    let new = c.end.new.self in
+    let choices = (compactor_seen self).choices in
+    concludes compaction (compaction_seen choices) (compaction_filter choices) (compaction-goes choices) (compactor_seen self) (compactor_seen new) lines (compactor_ready new) c.end.result shown.0 (ap (λ ready. step_made c.end.result ready (compactor_seen new)) c.end.ensures.drained ∙ c.end.ensures.steps)

@@ -1,0 +1,34 @@
+-- The epoch that a reader of compact text holds open.
+use Rattle.std.specs.Prelude.{Bool, true, false, List, [], ◌∷◌, Option, Some, None}
+use Rattle.crx_compact.specs.EpochText.{Satellite}
+use Rattle.crx_compact.specs.OpenEpochs.{OpenRawEpoch, HeldClock, ColumnsState, is_idle}
+use Rattle.crx_compact.specs.OpenEpochs.ColumnsState.{Idle, Reading}
+use Rattle.crx_engine.specs.declared.stage.Stage.{Stage}
+use Rattle.crx_engine.specs.declared.stage.Stage.TheVariants.{FirstLines, Header, Between, Event, Open, Looking, Closed, Ended}
+
+-- the epoch whose lines have come in part
+abbrev pub open_in : ColumnsState → Option OpenRawEpoch
+open_in (Idle tail) = None
+open_in (Reading begun) = Some begun
+
+-- whether a line is still to come, by the clock and the satellites whose lines are awaited
+abbrev pub wants_line : Option HeldClock → List Satellite → Bool
+wants_line None awaited = true
+wants_line (Some clock) [] = false
+wants_line (Some clock) (satellite ∷ awaited) = true
+
+-- an epoch is open, and wants lines
+abbrev pub wants_lines : ColumnsState → Bool
+wants_lines (Idle tail) = false
+wants_lines (Reading begun) = wants_line begun.clock begun.awaited
+
+-- an epoch is open in the stage of one alone, and it wants lines
+abbrev pub is_consistent : Stage → ColumnsState → Bool
+is_consistent Open columns = wants_lines columns
+is_consistent (FirstLines count) columns = is_idle columns
+is_consistent (Header is_first) columns = is_idle columns
+is_consistent Between columns = is_idle columns
+is_consistent (Event left counted) columns = is_idle columns
+is_consistent Looking columns = is_idle columns
+is_consistent Closed columns = is_idle columns
+is_consistent (Ended at) columns = is_idle columns

@@ -1,0 +1,40 @@
+-- At which lines memory may run out.
+use Rattle.std.specs.Prelude.{Bool, true, false, not, ◌&&◌, ◌||◌, List, [], ◌∷◌, Option, Some, None, if◌then◌else◌}
+use Rattle.crx_lines.specs.Seen.{ReadLine, Content, Overlong}
+use Rattle.crx_lines.specs.declared.fault.At.{At}
+use Rattle.crx_rinex.specs.EpochLines.{begins_epoch, is_event_line}
+use Rattle.crx_rinex.specs.ObservationTypes.{is_types_line}
+use Rattle.crx_engine.specs.LineByLine.{Phase, InFirstLines, InHeader, BetweenUnits, InEvent, InEpoch, LookingOn, Closed, Ended, Seen, Direction, Answer, Quiet, Ready, Notice, Failed, seen_next}
+
+-- whether a line may take memory in a phase: a types line where these count, and a line that is read as one of an observation epoch;
+-- no other does. Where an epoch or an event may begin, an epoch's line begins with >, or goes on from what is kept of the epoch before
+-- (`goes_on`, whether one may); in an epoch none of its lines begins with >
+abbrev pub may_take_memory : {O : Type 0} → Bool → Phase O → ReadLine → Bool
+may_take_memory goes_on phase Overlong = false
+may_take_memory goes_on (InFirstLines count) (Content line) = false
+may_take_memory goes_on (InHeader is_first) (Content line) = is_types_line line
+may_take_memory goes_on BetweenUnits (Content line) = (goes_on || begins_epoch line) && not (is_event_line line)
+may_take_memory goes_on (InEvent left counted) (Content line) = counted && is_types_line line
+may_take_memory goes_on (InEpoch so_far) (Content line) = not (begins_epoch line)
+may_take_memory goes_on LookingOn (Content line) = begins_epoch line && not (is_event_line line)
+may_take_memory goes_on Closed (Content line) = false
+may_take_memory goes_on (Ended at) (Content line) = false
+
+-- whether a line may take memory, by what is seen before it
+abbrev pub takes_memory : {U O K : Type 0} → Direction U O K → Seen O K → ReadLine → Bool
+takes_memory direction before line = may_take_memory (direction.goes_on before.kept) before.phase line
+
+-- the same of a line that comes again after a warning: memory may run out after that warning, where the line may take memory then
+abbrev pub memory_again : {U O K : Type 0} → Direction U O K → ReadLine → Answer → Seen O K → Option (List At)
+memory_again direction line Quiet next = None
+memory_again direction line Ready next = None
+memory_again direction line (Notice notice true) next = if takes_memory direction next line then Some (notice ∷ []) else None
+memory_again direction line (Notice notice false) next = None
+memory_again direction line (Failed at) next = None
+
+-- the warnings of a line after which memory may run out at it, where it may at all: none, for a line that may take memory at once; or
+-- the first one, where faults are skipped and the line, which begins with >, cuts an epoch off and comes again. No line may take
+-- memory both times
+abbrev pub memory_after : {U O K : Type 0} → Direction U O K → Seen O K → ReadLine → Option (List At)
+memory_after direction before line =
+    if takes_memory direction before line then Some [] else memory_again direction line (seen_next direction before line).answer (seen_next direction before line).next

@@ -1,0 +1,21 @@
+-- The normal form of a file: what a file that is read to its good end, and has no copied line that ends in CR, is read as again.
+use Rattle.std.specs.Prelude.{◌≡◌, ℕ, List, None}
+use Rattle.crx_engine.specs.Standard.{whole_of, normal_form, IsStandard}
+use Rattle.crx_engine.specs.WayBack.{HaveNoReturns}
+
+-- a file that is read to its good end, and has no header line, event line or record whose content ends in CR
+pub record HasNormalForm (input : List ℕ) : Type 0 where
+  pub good : (whole_of input).fault ≡ None
+  pub no_returns : HaveNoReturns (whole_of input).items
+
+-- its normal form is read as the very same units
+abbrev pub IsReadAsNormal : List ℕ → Type 0
+IsReadAsNormal input = HasNormalForm input → whole_of (normal_form input) ≡ whole_of input
+
+-- its normal form is a standard file
+abbrev pub IsStandardAsNormal : List ℕ → Type 0
+IsStandardAsNormal input = HasNormalForm input → IsStandard (normal_form input)
+
+-- its normal form is its own normal form
+abbrev pub IsNormalForGood : List ℕ → Type 0
+IsNormalForGood input = HasNormalForm input → normal_form (normal_form input) ≡ normal_form input

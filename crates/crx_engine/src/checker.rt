@@ -1,0 +1,186 @@
+//! The check of a RINEX file, one line at a time.
+
+ghost use Rattle.std.specs.Prelude.{◌≡◌, ◌≤◌, ◌<◌, ◌+◌, ◌⊎◌, ℕ, List, [], None, Some, true, false, drop, slice_get, OnErr, OnOk, IfErr, IfOk};
+ghost use Rattle.crx_lines.specs.declared.limits.TheConstants.{INPUT_LIMIT};
+ghost use Rattle.crx_rinex.specs.EpochPlaces.{OpenEpoch};
+ghost use Rattle.crx_rinex.specs.Observations.{Epoch as ObservationEpoch};
+ghost use Rattle.crx_lines.specs.Lines.{InputLine};
+ghost use Rattle.crx_lines.specs.Reading.{line_shown, line_number};
+ghost use Rattle.crx_engine.specs.Checking.{check_filter, check_seen, earliest, fault_so_far, printed_made, totals_made};
+ghost use Rattle.crx_engine.specs.Checkers.{AreBounded, HasEnded, HasPrinted, HasTaken, IsOpen, ready_lines, seen_by, totals_held};
+ghost use Rattle.crx_engine.specs.Compactor.{is_before_header};
+ghost use Rattle.crx_engine.specs.Engines.{RunsOutAt, with_next};
+ghost use Rattle.crx_engine.specs.LineByLine.{Made};
+ghost use Rattle.crx_engine.specs.RinexReaders.{reader_phase, Takes};
+ghost use Rattle.crx_engine.specs.Standard.{is_standard_line};
+ghost use Rattle.crx_engine.specs.declared.rinex_reader.RinexReader.{RinexReader};
+ghost use Rattle.crx_rinex.specs.Printing.{last_line};
+
+use crate::engine::{Engine, Step};
+use crate::report::{Totals, VERSION_WIDTH, print_report_line};
+use crate::rinex_reader::{RinexReader, RinexStep};
+use crate::settled::after_end;
+use crate::stage::Stage;
+use crate::totals::{counted, is_given_back};
+use crx_text::{At, Fault, Line, Text};
+use std::alloc::Global;
+
+/// Checks a RINEX file, whose lines it takes one at a time; once the whole input was accepted, it lends the six lines of the report.
+#[derive(Drop)]
+pub struct Checker {
+    reader: RinexReader,
+    /// The number of the last line.
+    number: u64,
+    totals: Totals,
+    /// The number of the first line that isn't standard.
+    not_standard: Option<u64>,
+    /// How many lines of the report were lent; none before the end.
+    lent: Option<usize>,
+    /// A printed line.
+    text: Text,
+}
+
+impl Checker {
+    /// A checker before the first line of its input.
+    pub fn new(alloc: Global) -> Checker
+        ensures taken { HasTaken result [] [] }
+        ensures running { IsOpen result }
+        ensures drained { ready_lines result ≡ [] }
+    {
+        Checker {
+            reader: RinexReader::new(alloc),
+            number: 0,
+            totals: Totals {
+                version: [b' '; VERSION_WIDTH],
+                epochs: 0,
+                events: 0,
+                observations: 0,
+            },
+            not_standard: None,
+            lent: None,
+            text: Text::new(),
+        }
+    }
+
+    /// The number of the first line that isn't standard, among the lines so far.
+    pub fn not_standard(&self) -> Option<u64>
+        ensures { result ≡ self.now.not_standard }
+    {
+        self.not_standard
+    }
+
+    /// Counts a line that the reader has taken, and looks whether it is standard.
+    fn count(&mut self, step: RinexStep, line: Line<'_>)
+        requires bounded { AreBounded self.old.totals self.old.number }
+        requires within { self.old.number < INPUT_LIMIT }
+        ensures totals { (before : RinexReader) (made : Made ObservationEpoch OpenEpoch) → Takes made before (line_shown line.entry).content step self.old.reader
+            → totals_held self.new.totals ≡ totals_made (totals_held self.old.totals) (is_before_header (reader_phase before)) made }
+        ensures standard { (before : RinexReader) (made : Made ObservationEpoch OpenEpoch) → Takes made before (line_shown line.entry).content step self.old.reader → HasPrinted made
+            → self.new.not_standard ≡ earliest self.old.not_standard (is_standard_line (line_shown line.entry) (last_line (printed_made made))) (self.old.number + 1) }
+        ensures bounded { AreBounded self.new.totals self.new.number }
+        ensures number { self.new.number ≡ self.old.number + 1 }
+        ensures reader { self.new.reader ≡ self.old.reader }
+        ensures lent { self.new.lent ≡ self.old.lent }
+    {
+        let is_same = is_given_back(&self.reader, step, line.bytes(), &mut self.text);
+        self.totals = counted(self.totals, &self.reader, step, line.bytes());
+        self.number += 1;
+        if self.not_standard.is_none() && !(line.plain() && is_same) {
+            self.not_standard = Some(self.number);
+        }
+    }
+
+    /// Ends the check by a fault of the next line.
+    fn fail(&mut self, fault: Fault) -> At
+        requires within { self.old.number < INPUT_LIMIT }
+        ensures value { result ≡ record { line = self.old.number + 1; fault = fault } }
+        ensures lent { self.new.lent ≡ self.old.lent }
+    {
+        let at = At {
+            line: self.number + 1,
+            fault,
+        };
+        self.reader.stage = Stage::Ended(at);
+        at
+    }
+
+    /// Takes a line of the file. `OutOfMemory` comes only at a line that may take some; any other fault is that of the reading.
+    fn take(&mut self, line: Line<'_>) -> Result<(), At>
+        requires open { IsOpen self.old }
+        requires within { self.old.number < INPUT_LIMIT }
+        ensures open { OnOk result (IsOpen self.new) }
+        ensures number { OnOk result (self.new.number ≡ self.old.number + 1) }
+        ensures nothing { OnErr result (ready_lines self.new ≡ []) }
+        ensures good { (lines : List InputLine) → seen_by self.old ≡ check_seen lines
+            → OnOk result ((fault_so_far (with_next lines (line_shown line.entry)) ≡ None) × (seen_by self.new ≡ check_seen (with_next lines (line_shown line.entry)))) }
+        ensures faulty { (lines : List InputLine) → seen_by self.old ≡ check_seen lines
+            → IfErr result (λ at. RunsOutAt check_filter lines (line_shown line.entry) [] at ⊎ (fault_so_far (with_next lines (line_shown line.entry)) ≡ Some at)) }
+    {
+        match self.reader.take(line.bytes()) {
+            Ok(step) => {
+                self.count(step, line);
+                Ok(())
+            }
+            Err(fault) => Err(self.fail(fault)),
+        }
+    }
+}
+
+impl Engine for Checker {
+    ghost use Rattle.std.specs.Borrow.{sem};
+    ghost use Rattle.std.specs.Io.BufRead.{Rests};
+    ghost use Rattle.crx_engine.specs.Checkers.{taken_counted};
+
+    ghost filter = { λ c. check_filter };
+
+    ghost shows = { λ c lines notices. HasTaken c lines notices };
+
+    ghost ready = { λ c. ready_lines c };
+
+    ghost taken = { λ c. c.number };
+
+    ghost is_open = { λ c. IsOpen c };
+
+    ghost has_ended = { λ c lines. HasEnded c lines };
+
+    ghost counted = { λ c lines notices h. taken_counted c lines h.1 };
+
+    fn feed(&mut self, line: Line<'_>) -> Result<Step, At> {
+        match self.take(line) {
+            Ok(()) => Ok(Step::Quiet),
+            Err(at) => Err(at),
+        }
+    }
+
+    fn overlong(&mut self, _number: u64) -> Result<Step, At> {
+        Err(self.fail(Fault::LineTooLong))
+    }
+
+    fn end(&mut self) -> Result<Step, At> {
+        match after_end(self.reader.stage, self.number, false).answer {
+            Ok(_) => {
+                self.lent = Some(0);
+                Ok(Step::Ready)
+            }
+            Err(at) => {
+                self.reader.stage = Stage::Ended(at);
+                Err(at)
+            }
+        }
+    }
+
+    fn next_line(&mut self) -> Option<&[u8]> {
+        let lent = self.lent?;
+        if print_report_line(
+            lent,
+            &self.totals,
+            self.reader.types(),
+            self.not_standard,
+            &mut self.text,
+        ) {
+            self.lent = Some(lent + 1);
+            return Some(self.text.bytes());
+        }
+        None
+    }
+}

@@ -1,0 +1,237 @@
+//! Compact RINEX 3.0, one line at a time: what each line is, the types in force, and the epoch whose lines come.
+
+ghost use Rattle.std.specs.Prelude.{◌≡◌, ◌≤◌, ℕ, if◌then◌else◌, [], None, true, false, length, IfOk, IfErr, OnErr};
+ghost use Rattle.crx_lines.specs.declared.limits.TheConstants.{LINE_LIMIT};
+ghost use Rattle.crx_lines.specs.Seen.{Content};
+ghost use Rattle.crx_compact.specs.OpenEpochs.{is_idle, tail_held};
+ghost use Rattle.crx_compact.specs.OpenEpochs.ColumnsState.{Idle};
+ghost use Rattle.crx_engine.specs.Choices.{Choices};
+ghost use Rattle.crx_engine.specs.CompactStages.{is_consistent, open_in, wants_lines};
+ghost use Rattle.crx_engine.specs.EngineSteps.{is_ended, is_settled, seen_stage};
+ghost use Rattle.crx_engine.specs.Expanded.{empties_state};
+ghost use Rattle.crx_engine.specs.Expander.{expansion, compact_begins};
+ghost use Rattle.crx_engine.specs.LineByLine.{BetweenUnits, made_in, made_of_first_lines, made_of_unit};
+ghost use Rattle.crx_engine.specs.UnitPlaces.{event_record, header_line};
+ghost use Rattle.crx_engine.specs.declared.stage.Stage.{Stage};
+ghost use Rattle.crx_engine.specs.declared.stage.Stage.TheVariants.{FirstLines, Header, Event, Looking, Open};
+
+use crate::event_lines::{is_event_line, records_announced};
+use crate::first_lines::{check_program, check_version};
+use crate::stage::{Stage, after_header_line, begins_epoch, counts_types, with_records_left};
+use crate::types_lines::{accept_header_line, accept_record};
+use crx_compact::Columns;
+use crx_rinex::{Epoch, Types, is_types};
+use crx_text::Fault;
+use std::alloc::Global;
+
+/// What a line of compact text is, where it has no fault.
+#[derive(Drop)]
+pub(crate) enum CompactStep {
+    /// A line after which no unit is complete: one of the first two, one of an epoch with lines still to come, or one that
+    /// was passed over.
+    Nothing,
+    /// A header line, an event's first line or a record, which stands in RINEX as it is.
+    Copied,
+    /// The last line of this epoch.
+    Whole(Epoch),
+}
+
+/// Reads compact text one line at a time.
+#[derive(Drop)]
+pub(crate) struct CompactReader {
+    pub(crate) stage: Stage,
+    types: Types,
+    columns: Columns,
+    ghost consistent: { is_consistent stage columns ≡ true },
+}
+
+impl CompactReader {
+    ghost use Rattle.crx_engine.specs.CompactReaders.{Refuses, Takes, made_next, phase_of, seen_in, seen_with};
+    ghost use Rattle.crx_engine.specs.Expander.{expansion_seen};
+
+    /// A reader before the first line.
+    pub(crate) fn new(alloc: Global) -> CompactReader
+        ensures { (choices : Choices) → seen_with choices 0 result ≡ expansion_seen choices [] }
+    {
+        CompactReader {
+            stage: Stage::FirstLines { count: 0 },
+            types: Types::new(alloc),
+            columns: Columns::new(alloc),
+        }
+    }
+
+    /// Takes one of the first two lines of compact text.
+    ///
+    /// `NotCompact` comes where the first one isn't that of Compact RINEX 3.0, `BadProgLine` where the second one has another
+    /// label.
+    fn first_line(&mut self, count: usize, line: &[u8]) -> Result<CompactStep, Fault>
+        requires idle { is_idle self.old.columns ≡ true }
+        ensures takes { (choices : Choices) (number : ℕ) → IfOk result (Takes (made_of_first_lines count line.now) line.now (seen_in choices number self.old (FirstLines count)) (seen_with choices number self.new)) }
+        ensures refuses { IfErr result (Refuses (tail_held self.old.columns) (made_of_first_lines count line.now) (seen_stage (open_in self.old.columns) (FirstLines count)) line.now) }
+        ensures types { OnErr result (self.new.types ≡ self.old.types) }
+    {
+        if count == 0 {
+            check_version(line)?;
+            self.stage = Stage::FirstLines { count: 1 };
+        } else {
+            check_program(line)?;
+            self.stage = Stage::Header { is_first: true };
+        }
+        Ok(CompactStep::Nothing)
+    }
+
+    /// Takes a header line.
+    ///
+    /// The faults of the first header line come first, then `BadTypesLine`; `OutOfMemory` at a types line alone.
+    fn header_line(&mut self, is_first: bool, line: &[u8]) -> Result<CompactStep, Fault>
+        requires idle { is_idle self.old.columns ≡ true }
+        ensures takes { (choices : Choices) (number : ℕ) → IfOk result (Takes (made_of_unit (header_line is_first line.now)) line.now (seen_in choices number self.old (Header is_first)) (seen_with choices number self.new)) }
+        ensures refuses { IfErr result (Refuses (tail_held self.old.columns) (made_of_unit (header_line is_first line.now)) (seen_stage (open_in self.old.columns) (Header is_first)) line.now) }
+        ensures types { OnErr result (self.new.types ≡ self.old.types) }
+    {
+        accept_header_line(&mut self.types, is_first, line)?;
+        self.columns.reset();
+        self.stage = after_header_line(line);
+        Ok(CompactStep::Copied)
+    }
+
+    /// Takes a record of an event: a types line among those of flags 2 to 5 empties the columns.
+    ///
+    /// `BadTypesLine` comes where types lines count and the letter or the count of one is wrong; `OutOfMemory` at a types line
+    /// that counts alone.
+    fn record(&mut self, left: usize, counted: bool, line: &[u8]) -> Result<CompactStep, Fault>
+        requires idle { is_idle self.old.columns ≡ true }
+        ensures takes { (choices : Choices) (number : ℕ) → IfOk result (Takes (made_of_unit (event_record counted line.now)) line.now (seen_in choices number self.old (Event left counted)) (seen_with choices number self.new)) }
+        ensures refuses { IfErr result (Refuses (tail_held self.old.columns) (made_of_unit (event_record counted line.now)) (seen_stage (open_in self.old.columns) (Event left counted)) line.now) }
+        ensures types { OnErr result (self.new.types ≡ self.old.types) }
+    {
+        accept_record(&mut self.types, counted, line)?;
+        reset_if(&mut self.columns, empties_columns(counted, line));
+        self.stage = with_records_left(left.saturating_sub(1), counted);
+        Ok(CompactStep::Copied)
+    }
+
+    /// Takes a line where an epoch or an event may begin.
+    ///
+    /// `BadEpoch` comes where an event's count is none; then the refusals of [`Columns::begin`].
+    fn begin(&mut self, line: &[u8]) -> Result<CompactStep, Fault>
+        requires idle { is_idle self.old.columns ≡ true }
+        requires short { length line.now ≤ LINE_LIMIT }
+        ensures takes { (choices : Choices) (number : ℕ) (stage : Stage) → IfOk result (Takes (compact_begins self.old.types (tail_held self.old.columns) (Content line.now)) line.now (seen_in choices number self.old stage) (seen_with choices number self.new)) }
+        ensures refuses { IfErr result (λ fault. Refuses (tail_held self.old.columns) (compact_begins self.old.types (tail_held self.old.columns) (Content line.now)) BetweenUnits line.now fault) }
+        ensures types { OnErr result (self.new.types ≡ self.old.types) }
+    {
+        if is_event_line(line) {
+            let count = records_announced(line)?;
+            self.stage = with_records_left(count, counts_types(line));
+            return Ok(CompactStep::Copied);
+        }
+        self.columns.begin(&self.types, line)?;
+        self.stage = Stage::Open;
+        Ok(CompactStep::Nothing)
+    }
+
+    /// Takes a line of the epoch that is open.
+    ///
+    /// The refusals are those of [`Columns::feed`].
+    fn go_on(&mut self, line: &[u8]) -> Result<CompactStep, Fault>
+        requires open { wants_lines self.old.columns ≡ true }
+        requires short { length line.now ≤ LINE_LIMIT }
+        ensures takes { (choices : Choices) (number : ℕ) → IfOk result (Takes (made_in expansion (seen_stage (open_in self.old.columns) Open) self.old.types None (Content line.now)) line.now (seen_in choices number self.old Open) (seen_with choices number self.new)) }
+        ensures refuses { IfErr result (Refuses (tail_held self.old.columns) (made_in expansion (seen_stage (open_in self.old.columns) Open) self.old.types None (Content line.now)) (seen_stage (open_in self.old.columns) Open) line.now) }
+        ensures types { OnErr result (self.new.types ≡ self.old.types) }
+    {
+        if begins_epoch(line) {
+            self.columns.reset();
+            self.stage = Stage::Between;
+            return Err(Fault::Truncated);
+        }
+        match self.columns.feed(line) {
+            Ok(None) => Ok(CompactStep::Nothing),
+            Ok(Some(epoch)) => {
+                self.stage = Stage::Between;
+                Ok(CompactStep::Whole(epoch))
+            }
+            Err(fault) => {
+                self.stage = Stage::Between;
+                Err(fault)
+            }
+        }
+    }
+
+    /// Takes the next line of the input: what it is, or its first fault.
+    ///
+    /// `OutOfMemory` comes at a types line that counts, and at a line that is read as one of an observation epoch.
+    pub(crate) fn read(&mut self, line: &[u8]) -> Result<CompactStep, Fault>
+        requires running { is_ended self.old.stage ≡ false }
+        requires short { length line.now ≤ LINE_LIMIT }
+        ensures takes { (choices : Choices) (number : ℕ) → IfOk result (Takes (made_next self.old line.now) line.now (seen_with choices number self.old) (seen_with choices number self.new)) }
+        ensures refuses { IfErr result (Refuses (tail_held self.old.columns) (made_next self.old line.now) (phase_of self.old) line.now) }
+        ensures types { OnErr result (self.new.types ≡ self.old.types) }
+    {
+        match self.stage {
+            Stage::FirstLines { count } => self.first_line(count, line),
+            Stage::Header { is_first } => self.header_line(is_first, line),
+            Stage::Event { left, counted } => self.record(left, counted, line),
+            Stage::Between => self.begin(line),
+            Stage::Open => self.go_on(line),
+            Stage::Looking => self.look(line),
+            Stage::Closed | Stage::Ended(_) => Ok(CompactStep::Nothing),
+        }
+    }
+
+    /// Takes back an epoch that [`CompactReader::read`] gave, where there is one: its memory serves the epochs after it.
+    pub(crate) fn take_back(&mut self, epoch: Option<Epoch>)
+        ensures same { (choices : Choices) (number : ℕ) → seen_with choices number self.new ≡ seen_with choices number self.old }
+    {
+        if let Some(epoch) = epoch {
+            self.columns.take_epoch_back(epoch);
+        }
+    }
+
+    /// Takes a line where one that begins with `>` is looked for.
+    fn look(&mut self, line: &[u8]) -> Result<CompactStep, Fault>
+        requires looking { self.old.stage ≡ Looking }
+        requires short { length line.now ≤ LINE_LIMIT }
+        ensures takes { (choices : Choices) (number : ℕ) → IfOk result (Takes (made_next self.old line.now) line.now (seen_with choices number self.old) (seen_with choices number self.new)) }
+        ensures refuses { IfErr result (Refuses (tail_held self.old.columns) (made_next self.old line.now) (phase_of self.old) line.now) }
+        ensures types { OnErr result (self.new.types ≡ self.old.types) }
+    {
+        if begins_epoch(line) {
+            return self.begin(line);
+        }
+        Ok(CompactStep::Nothing)
+    }
+
+    /// Goes to the stage after a fault or after the end of the input, where no epoch is open; nothing is kept of the epochs
+    /// before where that is said.
+    pub(crate) fn settle(&mut self, stage: Stage, is_emptied: bool)
+        requires settled { is_settled stage ≡ true }
+        ensures stage { self.new.stage ≡ stage }
+        ensures types { self.new.types ≡ self.old.types }
+        ensures tail { tail_held self.new.columns ≡ (if is_emptied then None else tail_held self.old.columns) }
+    {
+        if is_emptied || !self.columns.is_idle() {
+            self.columns.reset();
+        }
+        self.stage = stage;
+    }
+}
+
+/// Whether a record that was accepted empties the columns: a types line does, where types lines count.
+fn empties_columns(counted: bool, line: &[u8]) -> bool
+    ensures { result ≡ empties_state counted line.now }
+{
+    counted && is_types(line)
+}
+
+/// Empties columns between two epochs, where that is wanted.
+fn reset_if(columns: &mut Columns, is_emptied: bool)
+    requires idle { is_idle columns.old ≡ true }
+    ensures tail { tail_held columns.new ≡ (if is_emptied then None else tail_held columns.old) }
+    ensures idle { is_idle columns.new ≡ true }
+{
+    if is_emptied {
+        columns.reset();
+    }
+}

@@ -1,0 +1,239 @@
+//! What a compaction keeps between two lines of RINEX, and what it does with the next one.
+
+ghost use Rattle.std.specs.Prelude.{◌≡◌, ◌≤◌, true};
+ghost use Rattle.crx_lines.specs.declared.limits.TheConstants.{INPUT_LIMIT};
+ghost use Rattle.crx_compact.specs.OpenEpochs.{is_idle};
+ghost use Rattle.crx_engine.specs.Compacted.{is_at_every};
+
+use crate::engine::Step;
+use crate::options::Options;
+use crate::ready_lines::ReadyLines;
+use crate::rinex_reader::{RinexReader, RinexStep};
+use crate::settled::{Settled, after_end, after_fault};
+use crate::stage::{Stage, begins_epoch};
+use crx_compact::Columns;
+use crx_text::{At, Fault};
+use std::alloc::{AllocError, Global};
+
+/// What a compaction keeps between two lines.
+#[derive(Drop)]
+pub(crate) struct Compaction {
+    options: Options,
+    /// The number of the last line that counts.
+    number: u64,
+    /// How many epochs were accepted.
+    index: u64,
+    reader: RinexReader,
+    columns: Columns,
+    ghost idle: { is_idle columns ≡ true },
+    ghost counted: { index ≤ number },
+    ghost within: { number ≤ INPUT_LIMIT },
+}
+
+/// Whether an epoch of this index, from 0, stands in full because the user wants one at every so many.
+fn is_at_every(every: Option<u32>, index: u64) -> bool
+    ensures { result ≡ is_at_every every index }
+{
+    match every {
+        None => false,
+        Some(count) => count > 0 && index % u64::from(count) == 0,
+    }
+}
+
+impl Compaction {
+    ghost use Rattle.std.specs.Prelude.{◌+◌, ◌<◌, ◌⊎◌, [], length, OnOk, OnErr, IfOk, IfErr, Ok, Err, Some, None, false};
+    ghost use Rattle.crx_lines.specs.Seen.{ReadLine, Content, Overlong};
+    ghost use Rattle.crx_lines.specs.declared.limits.TheConstants.{LINE_LIMIT};
+    ghost use Rattle.crx_rinex.specs.Observations.{Epoch as ObservationEpoch};
+    ghost use Rattle.crx_rinex.specs.Units.{Observation};
+    ghost use Rattle.crx_engine.specs.Compactor.{compact_written, compaction, compaction_seen, written_kept};
+    ghost use Rattle.crx_engine.specs.RinexReaders.{made_at, Takes};
+    ghost use Rattle.crx_engine.specs.declared.rinex_reader.RinexReader.{RinexReader};
+    ghost use Rattle.crx_engine.specs.LineByLine.{Ended, failed_step, seen_end, seen_next};
+    ghost use Rattle.crx_engine.specs.Reading.{can_go_on, is_skippable};
+    ghost use Rattle.crx_engine.specs.ReadyLines.{ready_lines};
+    ghost use Rattle.crx_engine.specs.RinexStages.{is_whole, open_epoch};
+    ghost use Rattle.crx_engine.specs.EngineSteps.{Steps, step_made, is_ended, is_settled, settled_seen};
+    ghost use Rattle.crx_engine.specs.Compacting.{seen_by, seen_with};
+
+    /// A compaction before the first line of its input.
+    pub(crate) fn new(alloc: Global, options: Options) -> Compaction
+        ensures { seen_by result ≡ compaction_seen options [] }
+    {
+        Compaction {
+            options,
+            number: 0,
+            index: 0,
+            reader: RinexReader::new(alloc),
+            columns: Columns::new(alloc),
+        }
+    }
+
+    /// The number of the last line that counts.
+    #[cfg(test)]
+    pub(crate) fn number(&self) -> u64
+        ensures { result ≡ (seen_by self.now).number }
+    {
+        self.number
+    }
+
+    /// The run has settled.
+    fn settle(&mut self, settled: Settled) -> Result<Step, At>
+        requires settled { is_settled settled.stage ≡ true }
+        requires within { settled.number ≤ INPUT_LIMIT }
+        requires counted { self.old.index ≤ settled.number }
+        ensures value { result ≡ settled.answer }
+        ensures seen { seen_by self.new ≡ settled_seen compaction (seen_by self.old) (open_epoch self.old.reader.types self.old.reader.epoch) settled }
+    {
+        if settled.is_emptied {
+            self.columns.reset();
+        }
+        self.reader.stage = settled.stage;
+        self.number = settled.number;
+        settled.answer
+    }
+
+    /// The next line has a fault; whether reading may go on at it. Nothing is ready then.
+    fn fail(&mut self, fault: Fault, goes_on: bool, ready: &mut ReadyLines) -> Result<Step, At>
+        requires within { self.old.number < INPUT_LIMIT }
+        ensures fails { (line : ReadLine) → can_go_on line ≡ goes_on → step_made result (ready_lines ready.new) (seen_by self.new) ≡ failed_step compaction (seen_by self.old) line fault }
+        ensures drained { ready_lines ready.new ≡ [] }
+        ensures ended { IfErr result (λ at. (seen_by self.new).phase ≡ Ended at) }
+        ensures fatal { is_skippable fault ≡ false → result ≡ Err (record { line = self.old.number + 1; fault = fault }) }
+        ensures counts { is_skippable fault ≡ false → (seen_by self.new).number ≡ self.old.number + 1 }
+        ensures choices { (seen_by self.new).choices ≡ (seen_by self.old).choices }
+    {
+        ready.clear();
+        let settled = after_fault(
+            self.reader.stage,
+            self.number,
+            self.options.skip(),
+            fault,
+            goes_on,
+        );
+        self.settle(settled)
+    }
+
+    /// A line that is copied: the next epoch stands in full.
+    fn copy(&mut self) -> Step
+        requires within { self.old.number < INPUT_LIMIT }
+        ensures value { result ≡ Step.Ready }
+        ensures seen { seen_by self.new ≡ record (seen_by self.old) { number = self.old.number + 1; kept = record { index = self.old.index; tail = None } } }
+    {
+        self.columns.reset();
+        self.number += 1;
+        Step::Ready
+    }
+
+    /// Makes the lines of the epoch that the reader holds, and counts it. After `AllocError` nothing is counted.
+    fn encode(&mut self, ready: &mut ReadyLines) -> Result<Step, AllocError>
+        requires within { self.old.number < INPUT_LIMIT }
+        requires whole { is_whole self.old.reader.epoch ≡ true }
+        ensures value { OnOk result (result ≡ Ok Step.Ready) }
+        ensures lines { (epoch : ObservationEpoch) → self.old.reader.epoch ≡ Some epoch
+            → OnOk result (ready_lines ready.new ≡ compact_written (seen_by self.old) (Observation epoch)) }
+        ensures seen { (epoch : ObservationEpoch) → self.old.reader.epoch ≡ Some epoch
+            → OnOk result (seen_by self.new ≡ record (seen_by self.old) { number = self.old.number + 1; kept = written_kept (seen_by self.old) (Observation epoch) }) }
+        ensures number { OnErr result (self.new.number ≡ self.old.number) }
+        ensures choices { (seen_by self.new).choices ≡ (seen_by self.old).choices }
+    {
+        let Some(epoch) = self.reader.epoch() else {
+            unreachable!()
+        };
+        let full = is_at_every(self.options.every(), self.index);
+        if ready.encode(&mut self.columns, epoch, full).is_err() {
+            return Err(AllocError);
+        }
+        self.number += 1;
+        self.index += 1;
+        Ok(Step::Ready)
+    }
+
+    /// The reader took a line, and it is counted.
+    fn accept(&mut self, step: RinexStep, line: &[u8], ready: &mut ReadyLines) -> Result<Step, At>
+        requires within { self.old.number < INPUT_LIMIT }
+        requires short { length line.now ≤ LINE_LIMIT }
+        requires drained { ready_lines ready.old ≡ [] }
+        requires whole { step ≡ RinexStep.Epoch → is_whole self.old.reader.epoch ≡ true }
+        ensures steps { (reader : RinexReader) → Takes (made_at reader line.now (seen_by self.old).kept) reader line.now step self.old.reader
+            → Steps compaction (seen_with reader self.old) (Content line.now) result (ready_lines ready.new) (seen_by self.new) }
+        ensures ended { IfErr result (λ at. (seen_by self.new).phase ≡ Ended at) }
+        ensures nothing { OnErr result (ready_lines ready.new ≡ []) }
+        ensures choices { (seen_by self.new).choices ≡ (seen_by self.old).choices }
+    {
+        match step {
+            RinexStep::Nothing => {
+                self.number += 1;
+                Ok(Step::Quiet)
+            }
+            RinexStep::Header { is_first } => {
+                ready.copy_header(self.options.date(), is_first, line);
+                Ok(self.copy())
+            }
+            RinexStep::Event => {
+                ready.copy(line);
+                Ok(self.copy())
+            }
+            RinexStep::Record => {
+                ready.copy(line);
+                Ok(self.copy())
+            }
+            RinexStep::Epoch => match self.encode(ready) {
+                Ok(step) => Ok(step),
+                Err(_) => self.fail(Fault::OutOfMemory, false, ready),
+            },
+        }
+    }
+
+    /// Takes the next line: see [`Compactor::feed`](crate::compactor::Compactor::feed).
+    pub(crate) fn feed(&mut self, line: &[u8], ready: &mut ReadyLines) -> Result<Step, At>
+        requires within { self.old.number < INPUT_LIMIT }
+        requires short { length line.now ≤ LINE_LIMIT }
+        requires drained { ready_lines ready.old ≡ [] }
+        ensures steps { Steps compaction (seen_by self.old) (Content line.now) result (ready_lines ready.new) (seen_by self.new) }
+        ensures ended { IfErr result (λ at. (seen_by self.new).phase ≡ Ended at) }
+        ensures nothing { OnErr result (ready_lines ready.new ≡ []) }
+        ensures choices { (seen_by self.new).choices ≡ (seen_by self.old).choices }
+    {
+        if let Stage::Ended(at) = self.reader.stage {
+            self.number += 1;
+            return Err(at);
+        }
+        match self.reader.take(line) {
+            Ok(step) => self.accept(step, line, ready),
+            Err(fault) => self.fail(fault, begins_epoch(line), ready),
+        }
+    }
+
+    /// Takes the next line, which is too long: see [`Compactor::overlong`](crate::compactor::Compactor::overlong).
+    pub(crate) fn overlong(&mut self, ready: &mut ReadyLines) -> Result<Step, At>
+        requires within { self.old.number < INPUT_LIMIT }
+        requires drained { ready_lines ready.old ≡ [] }
+        ensures steps { step_made result (ready_lines ready.new) (seen_by self.new) ≡ seen_next compaction (seen_by self.old) Overlong }
+        ensures ended { IfErr result (λ at. (seen_by self.new).phase ≡ Ended at) }
+        ensures drained { ready_lines ready.new ≡ [] }
+        ensures choices { (seen_by self.new).choices ≡ (seen_by self.old).choices }
+    {
+        match self.reader.stage {
+            Stage::Ended(at) => {
+                self.number += 1;
+                Err(at)
+            }
+            Stage::Looking | Stage::Closed => {
+                self.number += 1;
+                Ok(Step::Quiet)
+            }
+            _ => self.fail(Fault::LineTooLong, false, ready),
+        }
+    }
+
+    /// Takes the end of the input: see [`Compactor::end`](crate::compactor::Compactor::end).
+    pub(crate) fn end(&mut self) -> Result<Step, At>
+        ensures steps { step_made result [] (seen_by self.new) ≡ seen_end compaction (seen_by self.old) }
+        ensures ended { IfErr result (λ at. (seen_by self.new).phase ≡ Ended at) }
+        ensures choices { (seen_by self.new).choices ≡ (seen_by self.old).choices }
+    {
+        let settled = after_end(self.reader.stage, self.number, self.options.skip());
+        self.settle(settled)
+    }
+}

@@ -1,0 +1,105 @@
+//! Engines: what takes the lines of an input one at a time, and lends what is to be written.
+
+ghost use Rattle.std.specs.Prelude.{◌≡◌, ◌≤◌, ◌+◌, ℕ, List, [], drop, length, slice_get, IfOk, IsTrue, OnErr, true};
+ghost use Rattle.std.specs.Borrow.{sem};
+ghost use Rattle.std.specs.Io.BufRead.{Rests};
+ghost use Rattle.std.specs.Option.{option_copied};
+ghost use Rattle.crx_lines.specs.Lines.{InputLine, is_long};
+ghost use Rattle.crx_lines.specs.Reading.{line_shown, line_number};
+ghost use Rattle.crx_lines.specs.declared.fault.At.{At};
+ghost use Rattle.crx_lines.specs.declared.limits.TheConstants.{INPUT_LIMIT};
+ghost use Rattle.crx_engine.specs.Filters.{Filter};
+ghost use Rattle.crx_engine.specs.Engines.{Answers, Awaited, IsAwaited, Concludes, IsDrainedAfter, taken_after};
+
+use crx_text::{At, Line};
+
+/// What an engine answers to a line.
+#[derive(Clone, Copy, Debug, PartialEq, Eq)]
+pub enum Step {
+    /// Nothing is to be written yet.
+    Quiet,
+    /// Lines are to be lent.
+    Ready,
+    /// A fault is skipped.
+    Warned {
+        /// The fault and its line.
+        notice: At,
+        /// Whether the line that was fed is to be fed once more: reading goes on at it.
+        again: bool,
+    },
+}
+
+/// A filter that takes the lines of an input one at a time, and lends the lines that are to be written.
+pub trait Engine {
+    // What it is to write and to report.
+    ghost filter: { Self → Filter };
+
+    // These lines were taken, and where a line is to come a second time, the warning that was answered to it.
+    ghost shows: { Self → List InputLine → List Awaited → Type 0 };
+
+    // The lines that are still to be lent.
+    ghost ready: { Self → List (List ℕ) };
+
+    // The number of the last line that was taken, 0 before the first.
+    ghost taken: { Self → ℕ };
+
+    // The end of the input wasn't answered yet.
+    ghost is_open: { Self → Type 0 };
+
+    // The end of the input was taken after these lines.
+    ghost has_ended: { Self → List InputLine → Type 0 };
+
+    /// Takes a line.
+    fn feed(&mut self, line: Line<'_>) -> Result<Step, At>
+        requires drained { ready self.old ≡ [] }
+        requires running { is_open self.old }
+        requires next { line_number line ≡ taken self.old + 1 }
+        requires within { line_number line ≤ INPUT_LIMIT }
+        ensures filter { filter self.new ≡ filter self.old }
+        ensures running { IfOk result (λ _. is_open self.new) }
+        ensures drained { IfOk result (λ step. IsDrainedAfter step (ready self.new)) }
+        ensures nothing { OnErr result (ready self.new ≡ []) }
+        ensures count { IfOk result (λ step. taken self.new ≡ taken_after step (taken self.old)) }
+        ensures answers { (lines : List InputLine) (notices : List Awaited) → shows self.old lines notices
+            → IsAwaited notices (line_shown line.entry)
+            → Answers (filter self.old) (shows self.new) (ready self.new) lines notices (line_shown line.entry) result };
+
+    /// Takes a line that is too long, by its number.
+    fn overlong(&mut self, number: u64) -> Result<Step, At>
+        requires drained { ready self.old ≡ [] }
+        requires running { is_open self.old }
+        requires next { number ≡ taken self.old + 1 }
+        requires within { number ≤ INPUT_LIMIT }
+        ensures filter { filter self.new ≡ filter self.old }
+        ensures running { IfOk result (λ _. is_open self.new) }
+        ensures drained { IfOk result (λ step. IsDrainedAfter step (ready self.new)) }
+        ensures nothing { OnErr result (ready self.new ≡ []) }
+        ensures count { IfOk result (λ step. taken self.new ≡ taken_after step (taken self.old)) }
+        ensures answers { (lines : List InputLine) (notices : List Awaited) (line : InputLine) → shows self.old lines notices
+            → IsAwaited notices line
+            → is_long line ≡ true
+            → Answers (filter self.old) (shows self.new) (ready self.new) lines notices line result };
+
+    /// Takes the end of the input.
+    fn end(&mut self) -> Result<Step, At>
+        requires drained { ready self.old ≡ [] }
+        requires running { is_open self.old }
+        requires within { taken self.old ≤ INPUT_LIMIT }
+        ensures filter { filter self.new ≡ filter self.old }
+        ensures drained { IfOk result (λ step. IsDrainedAfter step (ready self.new)) }
+        ensures nothing { OnErr result (ready self.new ≡ []) }
+        ensures concludes { (lines : List InputLine) → shows self.old lines []
+            → Concludes (filter self.old) (ready self.new) lines result }
+        ensures ended { (lines : List InputLine) → shows self.old lines [] → IfOk result (λ _. has_ended self.new lines) };
+
+    /// Lends the next of the lines that are ready, without its line end; `None` once all were lent.
+    fn next_line(&mut self) -> Option<&[u8]>
+        ensures value { option_copied result ≡ slice_get (ready self.old) 0 }
+        ensures* after_borrow { sem 𝓛 (Rests Self.row self.entry (λ new.
+            (ready new ≡ drop 1 (ready self.old)) × (filter new ≡ filter self.old)
+            × ((lines : List InputLine) (notices : List Awaited) → shows self.old lines notices → shows new lines notices)
+            × (is_open self.old → is_open new)
+            × ((lines : List InputLine) → has_ended self.old lines → has_ended new lines))) };
+
+    ghost counted: { (e : Self) (lines : List InputLine) (notices : List Awaited) → shows e lines notices → taken e ≡ length lines };
+}

@@ -1,0 +1,238 @@
+//! Expansion, one line of compact text at a time.
+
+ghost use Rattle.std.specs.Prelude.{◌≡◌, ℕ, ◌+◌, ◌≤◌, ◌<◌, ◌↔◌, List, [], IsTrue, IfOk, IfErr, OnErr, Err, Ok, true, false, drop, length, slice_get};
+ghost use Rattle.crx_lines.specs.Lines.{InputLine, is_long};
+ghost use Rattle.crx_lines.specs.Seen.{Content, Overlong};
+ghost use Rattle.crx_lines.specs.Reading.{line_number, line_shown};
+ghost use Rattle.crx_lines.specs.declared.fault.At.{At};
+ghost use Rattle.crx_lines.specs.declared.limits.TheConstants.{INPUT_LIMIT, LINE_LIMIT};
+ghost use Rattle.crx_engine.specs.Choices.{Choices};
+ghost use Rattle.crx_engine.specs.CompactReaders.{answer_for, lent_for, seen_with};
+ghost use Rattle.crx_engine.specs.Directions.{expansion_filter};
+ghost use Rattle.crx_engine.specs.Engines.{Answers, Awaited, Concludes, IsAwaited};
+ghost use Rattle.crx_engine.specs.EngineSteps.{Steps, answer_of, step_made};
+ghost use Rattle.crx_engine.specs.LineByLine.{seen_end, seen_next};
+ghost use Rattle.crx_engine.specs.Expander.{expansion, expansion_seen};
+ghost use Rattle.crx_engine.specs.Reading.{is_skippable};
+ghost use Rattle.crx_engine.specs.declared.stage.Stage.TheVariants.{Ended};
+
+use crate::compact_reader::{CompactReader, CompactStep};
+use crate::engine::Step;
+use crate::expanded_lines::ExpandedLines;
+use crate::line_number::LineNumber;
+use crate::options::Options;
+use crate::settled::{after_end, after_fault};
+use crate::stage::{Stage, begins_epoch};
+use crx_text::{At, Fault, Line};
+use std::alloc::{AllocError, Global};
+
+/// Makes RINEX of the lines of Compact RINEX 3.0, which it takes one at a time; it lends the lines to be written.
+#[derive(Drop)]
+pub struct Expander {
+    options: Options,
+    /// The number of the last line that counts.
+    number: LineNumber,
+    reader: CompactReader,
+    lines: ExpandedLines,
+}
+
+impl Expander {
+    ghost use Rattle.std.specs.Borrow.{sem};
+    ghost use Rattle.std.specs.Io.BufRead.{Rests};
+    ghost use Rattle.std.specs.Option.{option_copied};
+    ghost use Rattle.crx_engine.specs.contracts.expander.Expander.{the_row};
+    ghost use Rattle.crx_engine.specs.Expanding.{Fails, expander_took, seen_by};
+
+    /// An expansion before the first line of its input. Of the options it uses alone whether faults are skipped.
+    ///
+    /// `AllocError` comes where there is no memory for a line.
+    pub fn new(alloc: Global, options: Options) -> Result<Expander, AllocError>
+        ensures seen { IfOk result (λ e. seen_by e ≡ expansion_seen options []) }
+        ensures drained { IfOk result (λ e. e.lines ≡ []) }
+    {
+        let lines = ExpandedLines::new(alloc)?;
+        Ok(Expander {
+            options,
+            number: LineNumber::of(0),
+            reader: CompactReader::new(alloc),
+            lines,
+        })
+    }
+
+    /// Whether all ready lines were lent.
+    pub fn is_drained(&self) -> bool
+        ensures { IsTrue result ↔ (self.now.lines ≡ []) }
+    {
+        self.lines.is_drained()
+    }
+
+    /// Lends the next of the lines that are ready, without its line end; `None` once all were lent.
+    pub fn next_line(&mut self) -> Option<&[u8]>
+        ensures value { option_copied result ≡ slice_get self.old.lines 0 }
+        // That line is no longer among those to be lent.
+        ensures* after_borrow { sem 𝓛 (Rests the_row self.entry (λ new. new ≡ record self.old { lines = drop 1 self.old.lines })) }
+    {
+        self.lines.next_line()
+    }
+
+    /// Takes the next line of the input.
+    ///
+    /// `Ready` says that lines are to be lent, `Warned` that a fault is skipped, and `Err` that a fault has ended the run; it is
+    /// answered again from then on: `NotCompact` and `BadProgLine` at the first two lines; `MissingVersion`, `UnsupportedVersion`,
+    /// `NotObservation` and `BadTypesLine` in the header; `BadTypesLine` among an event's records, where types lines count; and where
+    /// faults aren't skipped those of an event's first line and of [`Columns::begin`](crx_compact::Columns::begin) and
+    /// [`Columns::feed`](crx_compact::Columns::feed). `OutOfMemory` comes only at a types line that counts, and at a line that is read
+    /// as one of an observation epoch.
+    pub fn feed(&mut self, line: Line<'_>) -> Result<Step, At>
+        requires drained { self.old.lines ≡ [] }
+        requires next { line_number line ≡ self.old.number + 1 }
+        requires within { line_number line ≤ INPUT_LIMIT }
+        ensures steps { Steps expansion (seen_by self.old) (Content (line_shown line.entry).content) result self.new.lines (seen_by self.new) }
+        ensures options { self.new.options ≡ self.old.options }
+        // After a fault that ends the run, or where memory ran out, no line is lent, and the same is answered from then on.
+        ensures drained { OnErr result (self.new.lines ≡ []) }
+        ensures ended { IfErr result (λ at. self.new.reader.stage ≡ Ended at) }
+        ensures repeated { (at : At) → self.old.reader.stage ≡ Ended at → result ≡ Err at }
+        // After the lines that it has taken, the answer, and the lines that are ready, are what the expansion of these and the next one adds.
+        ensures answers { (lines : List InputLine) (notices : List Awaited) → expander_took self.old lines notices → IsAwaited notices (line_shown line.entry)
+            → Answers (expansion_filter self.old.options) (expander_took self.new) self.new.lines lines notices (line_shown line.entry) result }
+    {
+        self.take(line.bytes())
+    }
+
+    /// Takes a line that is too long, by its number.
+    ///
+    /// It is [`Expander::feed`] with the fault `LineTooLong`, unless a line that begins with `>` is looked for: then it is passed over.
+    pub fn overlong(&mut self, number: u64) -> Result<Step, At>
+        requires drained { self.old.lines ≡ [] }
+        requires next { number ≡ self.old.number + 1 }
+        requires within { number ≤ INPUT_LIMIT }
+        ensures steps { step_made result self.new.lines (seen_by self.new) ≡ seen_next expansion (seen_by self.old) Overlong }
+        ensures options { self.new.options ≡ self.old.options }
+        // After a fault that ends the run no line is lent, and the same is answered from then on.
+        ensures drained { OnErr result (self.new.lines ≡ []) }
+        ensures ended { IfErr result (λ at. self.new.reader.stage ≡ Ended at) }
+        ensures repeated { (at : At) → self.old.reader.stage ≡ Ended at → result ≡ Err at }
+        ensures answers { (lines : List InputLine) (notices : List Awaited) (line : InputLine) → expander_took self.old lines notices → IsAwaited notices line → is_long line ≡ true
+            → Answers (expansion_filter self.old.options) (expander_took self.new) self.new.lines lines notices line result }
+    {
+        self.pass(number)
+    }
+
+    /// Takes the end of the input.
+    ///
+    /// No lines are ready then. The fault is `NotCompact` before the first line, `BadProgLine` before the second, `MissingVersion` before
+    /// the header, `NoEndOfHeader` in it, `Truncated` among an event's records, and in an epoch where faults aren't skipped. An error
+    /// that ended the run comes again.
+    pub fn end(&mut self) -> Result<Step, At>
+        requires drained { self.old.lines ≡ [] }
+        ensures drained { self.new.lines ≡ [] }
+        ensures ends { step_made result self.new.lines (seen_by self.new) ≡ seen_end expansion (seen_by self.old) }
+        ensures options { self.new.options ≡ self.old.options }
+        ensures ended { IfErr result (λ at. self.new.reader.stage ≡ Ended at) }
+        ensures repeated { (at : At) → self.old.reader.stage ≡ Ended at → result ≡ Err at }
+        // After the lines that it has taken, the answer is what the expansion of them all adds.
+        ensures concludes { (lines : List InputLine) → expander_took self.old lines [] → Concludes (expansion_filter self.old.options) self.new.lines lines result }
+    {
+        let number = self.number.value();
+        let settled = after_end(self.reader.stage, number, self.options.skip());
+        self.reader.settle(settled.stage, settled.is_emptied);
+        self.number = LineNumber::of(settled.number);
+        settled.answer
+    }
+
+    /// Takes a line that is too long: see [`Expander::overlong`].
+    fn pass(&mut self, number: u64) -> Result<Step, At>
+        requires drained { self.old.lines ≡ [] }
+        requires next { number ≡ self.old.number + 1 }
+        requires within { number ≤ INPUT_LIMIT }
+        ensures steps { step_made result self.new.lines (seen_by self.new) ≡ seen_next expansion (seen_by self.old) Overlong }
+        ensures options { self.new.options ≡ self.old.options }
+        ensures drained { OnErr result (self.new.lines ≡ []) }
+        ensures ended { IfErr result (λ at. self.new.reader.stage ≡ Ended at) }
+        ensures repeated { (at : At) → self.old.reader.stage ≡ Ended at → result ≡ Err at }
+    {
+        let stage = self.reader.stage;
+        if let Stage::Ended(at) = stage {
+            self.number = LineNumber::of(number);
+            return Err(at);
+        }
+        if stage.is_settled() {
+            self.number = LineNumber::of(number);
+            return Ok(Step::Quiet);
+        }
+        self.fail(stage, Fault::LineTooLong, false)
+    }
+
+    /// Takes the content of a line: see [`Expander::feed`].
+    fn take(&mut self, line: &[u8]) -> Result<Step, At>
+        requires drained { self.old.lines ≡ [] }
+        requires short { length line.now ≤ LINE_LIMIT }
+        requires within { self.old.number < INPUT_LIMIT }
+        ensures steps { Steps expansion (seen_by self.old) (Content line.now) result self.new.lines (seen_by self.new) }
+        ensures options { self.new.options ≡ self.old.options }
+        ensures drained { OnErr result (self.new.lines ≡ []) }
+        ensures ended { IfErr result (λ at. self.new.reader.stage ≡ Ended at) }
+        ensures repeated { (at : At) → self.old.reader.stage ≡ Ended at → result ≡ Err at }
+    {
+        let stage = self.reader.stage;
+        if let Stage::Ended(at) = stage {
+            self.number.go_on();
+            return Err(at);
+        }
+        match self.reader.read(line) {
+            Ok(step) => {
+                self.number.go_on();
+                Ok(make_ready(&mut self.lines, &mut self.reader, step, line))
+            }
+            Err(fault) => self.fail(stage, fault, begins_epoch(line)),
+        }
+    }
+
+    /// Answers to a fault of the next line, which reading may go on at or not.
+    fn fail(&mut self, stage: Stage, fault: Fault, goes_on: bool) -> Result<Step, At>
+        requires within { self.old.number < INPUT_LIMIT }
+        requires drained { self.old.lines ≡ [] }
+        ensures fails { Fails self.old stage fault goes_on result self.new }
+        ensures drained { self.new.lines ≡ [] }
+        ensures options { self.new.options ≡ self.old.options }
+        ensures ended { IfErr result (λ at. self.new.reader.stage ≡ Ended at) }
+        ensures fatal { is_skippable fault ≡ false → result ≡ Err (record { line = self.old.number + 1; fault = fault }) }
+    {
+        let number = self.number.value();
+        let settled = after_fault(stage, number, self.options.skip(), fault, goes_on);
+        self.reader.settle(settled.stage, true);
+        self.number = LineNumber::of(settled.number);
+        settled.answer
+    }
+}
+
+/// Makes ready what a line gives; the reader gets the epoch back that was lent before.
+fn make_ready(
+    lines: &mut ExpandedLines,
+    reader: &mut CompactReader,
+    step: CompactStep,
+    line: &[u8],
+) -> Step
+    requires drained { lines.old ≡ [] }
+    requires short { length line.now ≤ LINE_LIMIT }
+    ensures lent { lines.new ≡ lent_for line.now step }
+    ensures answer { answer_of (Ok result) ≡ answer_for step }
+    ensures same { (choices : Choices) (number : ℕ) → seen_with choices number reader.new ≡ seen_with choices number reader.old }
+{
+    match step {
+        CompactStep::Nothing => Step::Quiet,
+        CompactStep::Copied => {
+            lines.copy(line);
+            Step::Ready
+        }
+        CompactStep::Whole(epoch) => {
+            let earlier = lines.print(epoch);
+            reader.take_back(earlier);
+            Step::Ready
+        }
+    }
+}
+
+#[cfg(test)]
+mod tests;

@@ -1,0 +1,43 @@
+//! The expander as an engine.
+
+ghost use Rattle.std.specs.Prelude.{◌≡◌, ⊤, length};
+ghost use Rattle.crx_engine.specs.Directions.{expansion_filter};
+ghost use Rattle.crx_engine.specs.EngineLines.{HasTaken};
+ghost use Rattle.crx_engine.specs.Expander.{expansion, expansion_seen};
+ghost use Rattle.crx_engine.specs.Expanding.{seen_by};
+
+use crate::engine::{Engine, Step};
+use crate::expander::Expander;
+use crx_text::{At, Line};
+
+impl Engine for Expander {
+    ghost filter = { λ e. expansion_filter e.options };
+
+    ghost shows = { λ e lines notices. HasTaken expansion (expansion_seen e.options) (seen_by e) lines notices × (e.number ≡ length lines) };
+
+    ghost ready = { λ e. e.lines };
+
+    ghost taken = { λ e. e.number };
+
+    ghost is_open = { λ e. ⊤ };
+
+    ghost has_ended = { λ e lines. ⊤ };
+
+    ghost counted = { λ e lines notices shown. shown.1 };
+
+    fn feed(&mut self, line: Line<'_>) -> Result<Step, At> {
+        Expander::feed(self, line)
+    }
+
+    fn overlong(&mut self, number: u64) -> Result<Step, At> {
+        Expander::overlong(self, number)
+    }
+
+    fn end(&mut self) -> Result<Step, At> {
+        Expander::end(self)
+    }
+
+    fn next_line(&mut self) -> Option<&[u8]> {
+        Expander::next_line(self)
+    }
+}

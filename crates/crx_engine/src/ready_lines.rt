@@ -1,0 +1,180 @@
+//! The lines that a compaction has ready to be lent.
+
+ghost use Rattle.std.specs.Prelude.{◌≡◌, ◌≤◌, ◌++◌, ◌∷◌, ◌↔◌, [], drop, length, slice_get, IfOk, IsTrue, OnOk, OnErr, Some, true};
+ghost use Rattle.crx_lines.specs.declared.limits.TheConstants.{DATE_LIMIT, LINE_LIMIT};
+ghost use Rattle.crx_rinex.specs.Epochs.{is_full_epoch};
+ghost use Rattle.crx_compact.specs.OpenEpochs.{is_idle, tail_held};
+ghost use Rattle.crx_compact.specs.OpenEpochs.ColumnsState.{Idle};
+ghost use Rattle.crx_compact.specs.Steps.{lines_after, tail_after, tail_written_after};
+ghost use Rattle.crx_engine.specs.Compacted.{program_line, lines_before_header};
+
+use crate::appending::append;
+use crate::options::in_columns;
+use crx_compact::Columns;
+use crx_compact::lines::Lines;
+use crx_rinex::Epoch;
+use crx_text::Text;
+use std::alloc::{AllocError, Global};
+
+/// The first line of compact text: the version of Compact RINEX.
+const VERSION_LINE: &[u8] =
+    b"3.0                 COMPACT RINEX FORMAT                    CRINEX VERS   / TYPE";
+
+/// The beginning of its second line: the program, in 40 columns.
+const PROGRAM: &[u8; 40] = b"RNX2CRX profile 1.0                     ";
+
+/// The end of its second line.
+const PROGRAM_LABEL: &[u8; 18] = b"CRINEX PROG / DATE";
+
+/// Which of the lines comes next.
+#[derive(Clone, Copy)]
+pub(crate) enum Turn {
+    /// The first line of compact text, then the others.
+    Version,
+    /// Its second line, then the others.
+    Program,
+    /// The line that is copied, then those that were made.
+    Copied,
+    /// Those that were made.
+    Made,
+}
+
+/// The lines that a compaction has ready: the two before the header, a line that is copied, and those that are made of an
+/// epoch. All but the last stand in memory that is held from the beginning.
+#[derive(Drop)]
+pub(crate) struct ReadyLines {
+    turn: Turn,
+    program: Box<Text>,
+    copied: Box<Text>,
+    made: Lines,
+}
+
+/// Writes the second line of compact text: the program, the date in its columns, and the label.
+fn write_program_line(line: &mut Text, date: &[u8])
+    requires short { length date.now ≤ DATE_LIMIT }
+    ensures { line.new ≡ program_line date.now }
+{
+    line.clear();
+    append(line, PROGRAM);
+    append(line, &in_columns(date));
+    append(line, PROGRAM_LABEL);
+}
+
+impl ReadyLines {
+    ghost use Rattle.std.specs.Borrow.{sem};
+    ghost use Rattle.std.specs.Io.BufRead.{Rests};
+    ghost use Rattle.std.specs.Option.{option_copied};
+    ghost use Rattle.crx_engine.specs.contracts.ready_lines.ReadyLines.{the_row};
+    ghost use Rattle.crx_engine.specs.ReadyLines.{ready_lines};
+
+    /// No lines.
+    pub(crate) fn new(alloc: Global) -> Result<ReadyLines, AllocError>
+        ensures { IfOk result (λ r. ready_lines r ≡ []) }
+    {
+        let program = Box::new(alloc, Text::new())?;
+        let copied = Box::new(alloc, Text::new())?;
+        Ok(ReadyLines {
+            turn: Turn::Made,
+            program,
+            copied,
+            made: Lines::new(alloc),
+        })
+    }
+
+    /// Whether no line is ready.
+    pub(crate) fn is_empty(&self) -> bool
+        ensures { IsTrue result ↔ (ready_lines self.now ≡ []) }
+    {
+        match self.turn {
+            Turn::Made => self.made.is_empty(),
+            _ => false,
+        }
+    }
+
+    /// Drops all lines.
+    pub(crate) fn clear(&mut self)
+        ensures { ready_lines self.new ≡ [] }
+    {
+        self.turn = Turn::Made;
+        self.made.clear();
+    }
+
+    /// Holds a line that is copied, and no lines that were made.
+    fn hold(&mut self, line: &[u8], turn: Turn)
+        requires short { length line.now ≤ LINE_LIMIT }
+        ensures turn { self.new.turn ≡ turn }
+        ensures copied { self.new.copied.value ≡ line.now }
+        ensures made { self.new.made ≡ [] }
+        ensures program { self.new.program ≡ self.old.program }
+    {
+        self.made.clear();
+        self.copied.clear();
+        let _ = self.copied.extend(line);
+        self.turn = turn;
+    }
+
+    /// A line that is copied, in place of all others.
+    pub(crate) fn copy(&mut self, line: &[u8])
+        requires short { length line.now ≤ LINE_LIMIT }
+        ensures { ready_lines self.new ≡ line.now ∷ [] }
+    {
+        self.hold(line, Turn::Copied);
+    }
+
+    /// A header line, in place of all others: before the first one the two lines of compact text.
+    pub(crate) fn copy_header(&mut self, date: &[u8], is_first: bool, line: &[u8])
+        requires dated { length date.now ≤ DATE_LIMIT }
+        requires short { length line.now ≤ LINE_LIMIT }
+        ensures { ready_lines self.new ≡ lines_before_header date.now is_first ++ line.now ∷ [] }
+    {
+        if is_first {
+            write_program_line(&mut self.program, date);
+            self.hold(line, Turn::Version);
+            return;
+        }
+        self.hold(line, Turn::Copied);
+    }
+
+    /// The compact lines of an epoch that has all its rows, in place of all others: in full, or after the epoch before.
+    ///
+    /// After `AllocError` the columns are as they were.
+    pub(crate) fn encode(
+        &mut self,
+        columns: &mut Columns,
+        epoch: &Epoch,
+        full: bool,
+    ) -> Result<(), AllocError>
+        requires whole { is_full_epoch epoch.now ≡ true }
+        requires idle { is_idle columns.old ≡ true }
+        ensures lines { OnOk result (ready_lines self.new ≡ lines_after (tail_written_after full (tail_held columns.old)) epoch.now) }
+        ensures kept { OnOk result (columns.new ≡ Idle (Some (tail_after (tail_written_after full (tail_held columns.old)) epoch.now))) }
+        ensures err { OnErr result (columns.new ≡ columns.old) }
+    {
+        self.turn = Turn::Made;
+        self.made.clear();
+        columns.encode_into(epoch, full, &mut self.made)
+    }
+
+    /// Lends the next line, without its line end; `None` once all were lent.
+    pub(crate) fn next_line(&mut self) -> Option<&[u8]>
+        ensures value { option_copied result ≡ slice_get (ready_lines self.old) 0 }
+        // That line is no longer among those to be lent.
+        ensures* after_borrow { sem 𝓛 (Rests the_row self.entry (λ new. ready_lines new ≡ drop 1 (ready_lines self.old))) }
+    {
+        match self.turn {
+            Turn::Version => {
+                self.turn = Turn::Program;
+                Some(VERSION_LINE)
+            }
+            Turn::Program => {
+                self.turn = Turn::Copied;
+                Some(self.program.bytes())
+            }
+            Turn::Copied => {
+                self.turn = Turn::Made;
+                Some(self.copied.bytes())
+            }
+            Turn::Made => self.made.next_line(),
+        }
+    }
+}

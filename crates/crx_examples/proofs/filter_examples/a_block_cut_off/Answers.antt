@@ -1,0 +1,46 @@
+-- by computation
+use Rattle.std.proofs.Common.{refl, arith, [], ◌∷◌, ◌++◌, codes, inl}
+use Rattle.std.specs.Fmt.{digits}
+use Rattle.crx_text.specs.Codes.{coded_number}
+use Rattle.crx_text.specs.Numbers.{size_of, number_of, number_text}
+use Rattle.crx_lines.specs.declared.fault.Fault.TheVariants.{Truncated}
+use Rattle.crx_laws.specs.SmallFiles.{header, header_items, first_two, epoch_at_second, epoch_line_at, full_line_at, observed, no_choices}
+use Rattle.crx_engine.specs.Results.{lines_text}
+use Rattle.crx_engine.specs.Damage.{IsDamaged}
+use Rattle.crx_engine.specs.Messages.{warning_text}
+use Rattle.crx_examples.proofs.filter_examples.a_block_cut_off.Goals as goal
+
+cut : IsDamaged (lines_text (header ++ epoch_line_at 0 1 ∷ observed (codes "1.000") ∷ [])) no_choices (lines_text (first_two ++ header ++ full_line_at 0 1 (codes "G01") ∷ []))
+unfolding digits coded_number size_of number_of number_text
+cut = record {
+  standard = record { good = refl; plain = refl; spelt = refl };
+  before = header_items;
+  first = epoch_at_second 0 1000;
+  others = [];
+  after = [];
+  instead = [];
+  parts = refl;
+  starts = refl;
+  continued = tt;
+  anew = tt;
+  allowed = refl;
+  ended = inl refl;
+  text = refl;
+}
+
+pub returns : goal.returns
+unfolding warning_text digits coded_number size_of number_of number_text cut
+returns c = (
+  cut,
+  record {
+    epochs = [];
+    whole = tt;
+    warnings = record { line = 7; fault = Truncated } ∷ [];
+    few = omega arith;
+    output = refl;
+    messages = refl;
+    status = refl;
+    fault = refl;
+    own = λ count rest e. absurd (cc);
+  },
+)

@@ -1,0 +1,2 @@
+pub mod CompactExamples
+pub mod FilterExamples
