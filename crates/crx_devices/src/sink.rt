@@ -1,11 +1,11 @@
 //! A sink over memory that fails where its plans say.
-ghost use Rattle.std.specs.Prelude.{◌≡◌, ℕ, List, [], ◌++◌, ◌+◌, ◌-◌, ◌<◌, ◌≤◌, length, take, min, is_err, false, ◌||◌, IfOk, OnOk, OnErr};
+ghost use Rattle.std.specs.Prelude.{◌≡◌, ℕ, List, [], ◌++◌, ◌+◌, ◌-◌, ◌<◌, ◌≤◌, length, take, min, is_err, true, false, ◌||◌, IfOk, OnOk, OnErr};
 ghost use Rattle.std.specs.Vec.{vec_len};
 ghost use Rattle.crx_devices.specs.Joining.{taken_both, taken_none};
-ghost use Rattle.crx_text.specs.Devices.{one_more};
+ghost use Rattle.crx_lines.specs.Devices.{one_more};
 
 use crate::plan::{Plan, Watch};
-use crx_text::{Sink, WriteFailed};
+use crx_lines::{Sink, WriteFailed};
 use std::alloc::{AllocError, Global};
 
 /// Takes as many bytes as it has room for, and fails where its plans say.
@@ -17,6 +17,7 @@ pub struct FailingSink {
     writes: Watch,
     flushes: Watch,
     failures: u64,
+    flushed: bool,
     ghost within: { len ≤ length memory.items },
 }
 
@@ -42,6 +43,7 @@ impl FailingSink {
         ensures no_flush { IfOk result (λ s. s.flushes.calls ≡ 0) }
         ensures no_struck_flush { IfOk result (λ s. s.flushes.struck ≡ false) }
         ensures failures { IfOk result (λ s. s.failures ≡ 0) }
+        ensures flushed { IfOk result (λ s. s.flushed ≡ false) }
     {
         Ok(FailingSink {
             memory: vec![in alloc; 0; room]?,
@@ -50,6 +52,7 @@ impl FailingSink {
             writes: Watch::new(writes),
             flushes: Watch::new(flushes),
             failures: 0,
+            flushed: false,
         })
     }
 
@@ -80,12 +83,21 @@ impl FailingSink {
     {
         self.failures
     }
+
+    /// Whether the last call was a flush that succeeded.
+    pub fn is_flushed(&self) -> bool
+        ensures { result ≡ self.now.flushed }
+    {
+        self.flushed
+    }
 }
 
 impl Sink for FailingSink {
     ghost took = { λ a bytes b. take b.len b.memory.items ≡ take a.len a.memory.items ++ bytes };
 
     ghost failures = { λ s. s.failures };
+
+    ghost is_flushed = { λ s. s.flushed ≡ true };
 
     fn write(&mut self, bytes: &[u8]) -> Result<usize, WriteFailed>
         ensures bound { IfOk result (λ n. n ≤ length bytes.now) }
@@ -99,9 +111,11 @@ impl Sink for FailingSink {
         ensures len { IfOk result (λ n. self.new.len ≡ self.old.len + n) }
         ensures writes { self.new.writes ≡ after_call self.old.writes self.old.len }
         ensures flushes { self.new.flushes ≡ self.old.flushes }
+        ensures flushed { self.new.flushed ≡ false }
         ensures at_most { self.new.at_most ≡ self.old.at_most }
         ensures room { length self.new.memory.items ≡ length self.old.memory.items }
     {
+        self.flushed = false;
         let room = self.memory.len() - self.len;
         let wanted = bytes.len().min(self.at_most).min(room);
         match self.writes.next_call(self.len, wanted) {
@@ -121,14 +135,17 @@ impl Sink for FailingSink {
     fn flush(&mut self) -> Result<(), WriteFailed>
         ensures none_taken { take self.new.len self.new.memory.items ≡ take self.old.len self.old.memory.items ++ [] }
         ensures good { OnOk result (self.new.failures ≡ self.old.failures) }
+        ensures flushed { OnOk result (self.new.flushed ≡ true) }
         ensures counted { OnErr result (self.new.failures ≡ one_more self.old.failures) }
+        ensures not_flushed { OnErr result (self.new.flushed ≡ false) }
         ensures fails { is_err result ≡ fails self.old.flushes self.old.len }
         ensures flushes { self.new.flushes ≡ after_call self.old.flushes self.old.len }
         ensures writes { self.new.writes ≡ self.old.writes }
         ensures at_most { self.new.at_most ≡ self.old.at_most }
         ensures room { length self.new.memory.items ≡ length self.old.memory.items }
     {
-        if self.flushes.next_call(self.len, 0).is_none() {
+        self.flushed = self.flushes.next_call(self.len, 0).is_some();
+        if !self.flushed {
             self.failures = self.failures.saturating_add(1);
             return Err(WriteFailed);
         }

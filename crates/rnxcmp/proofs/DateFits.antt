@@ -7,7 +7,7 @@ use Rattle.clap.proofs.WalkLemmas.{both}
 use Rattle.jiff.specs.Types.{DateTime}
 use Rattle.jiff.specs.Words.{days_in_month}
 use Rattle.crx_text.specs.Texts.{is_printable}
-use Rattle.crx_filter.specs.Choices.{is_date}
+use Rattle.crx_engine.specs.Choices.{is_date}
 use Rattle.rnxcmp.specs.Dates.{IsDateText, date_text_of, months, two_digits}
 use Rattle.rnxcmp.specs.Program.{IsDefaultDate}
 

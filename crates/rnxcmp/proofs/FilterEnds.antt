@@ -1,17 +1,17 @@
 -- What a filter's run is where nothing is known of what it read, or of where it wrote.
 use Rattle.std.proofs.Common.{◌≡◌, ◌∙◌, ◌++◌, ◌≤◌, ◌<◌, ℕ, List, [], Option, Some, None, arith, inl, inr, is_some, length, refl, subst, sym, take, true, true≢false}
 use Rattle.std.proofs.lemmas.List.{length-append, take-append-le}
-use Rattle.crx_text.specs.Lines.{lines_of}
-use Rattle.crx_text.specs.declared.fault.At.{At}
-use Rattle.crx_text.specs.declared.fault.Fault.{Fault}
-use Rattle.crx_text.specs.declared.fault.Fault.TheVariants as fault
-use Rattle.crx_filter.specs.Choices.{Choices}
+use Rattle.crx_lines.specs.Lines.{lines_of}
+use Rattle.crx_lines.specs.declared.fault.At.{At}
+use Rattle.crx_lines.specs.declared.fault.Fault.{Fault}
+use Rattle.crx_lines.specs.declared.fault.Fault.TheVariants as fault
+use Rattle.crx_engine.specs.Choices.{Choices}
 use Rattle.crx_filter.specs.Running.{Input, IsPart}
-use Rattle.crx_filter.specs.Filters.{Filter}
-use Rattle.crx_filter.specs.Messages.{error_text, notices_text}
-use Rattle.crx_filter.specs.Salvage.{AreReported, FaultFound, IsSalvaged, Stands, complete_lines}
+use Rattle.crx_engine.specs.Filters.{Filter}
+use Rattle.crx_engine.specs.Messages.{error_text, notices_text}
+use Rattle.crx_filter.specs.Salvage.{AreReported, FaultFound, IsFrontPart, IsWritten, Stands, complete_lines}
 use Rattle.crx_filter.specs.Taking.{Device}
-use Rattle.rnxcmp.specs.Program.{IsFiltered, IsFilteredFrom, IsFilteredInto, IsFilteredSome, IsFaultShown, IsFilteredUnseen, IsFrontOf, IsNotBegun, IsRunOf, filter_of}
+use Rattle.rnxcmp.specs.Program.{IsFiltered, IsFilteredFrom, IsFilteredInto, IsFilteredSome, IsFaultShown, IsFilteredUnseen, IsFrontOf, IsHandedOn, IsNotBegun, IsRunOf, filter_of}
 use Rattle.rnxcmp.specs.declared.job.Job.{Job}
 use Rattle.rnxcmp.specs.declared.job.Tool.{Tool}
 
@@ -61,21 +61,57 @@ module _ (filter : Filter) (input : Input) (given : List ℕ) (writer messages :
   by_fault fault.BadFlags h = found h
   by_fault fault.Truncated h = found h
 
+module _ (filter : Filter) (input : Input) (given : List ℕ) (writer messages : Device) (at : At) where
+  by_flush : (text : List ℕ) → IsWritten writer text → IsHandedOn writer messages
+  by_flush text (inl whole) = inl whole.1
+  by_flush text (inr failed) = inr (inl failed.1)
+
+  found_handed : FaultFound filter input given writer messages at → IsHandedOn writer messages
+  found_handed h = by_flush h.after.output h.wrote
+
+  handed : (f : Fault) → Stands filter input given writer messages at f → IsHandedOn writer messages
+  handed fault.ReadFailed h = by_flush _ h.stopped.wrote
+  handed fault.InputTooLong h = by_flush _ h.stopped.wrote
+  handed fault.OutOfMemory (inl h) = by_flush [] h.wrote
+  handed fault.OutOfMemory (inr h) = by_flush _ h.wrote
+  handed fault.WriteFailed (inl h) = inr (inl h.wrote.failed)
+  handed fault.WriteFailed (inr (inl h)) = inr (inr h.reported.failed)
+  handed fault.WriteFailed (inr (inr h)) = inr (inl h.counted)
+  handed fault.LineTooLong h = found_handed h
+  handed fault.MissingVersion h = found_handed h
+  handed fault.UnsupportedVersion h = found_handed h
+  handed fault.NotObservation h = found_handed h
+  handed fault.BadTypesLine h = found_handed h
+  handed fault.NoEndOfHeader h = found_handed h
+  handed fault.NotCompact h = found_handed h
+  handed fault.BadProgLine h = found_handed h
+  handed fault.NotAnEpoch h = found_handed h
+  handed fault.BadEpoch h = found_handed h
+  handed fault.BadClock h = found_handed h
+  handed fault.BadSatellite h = found_handed h
+  handed fault.RepeatedSatellite h = found_handed h
+  handed fault.BadField h = found_handed h
+  handed fault.NoArc h = found_handed h
+  handed fault.OutOfRange h = found_handed h
+  handed fault.BadFlags h = found_handed h
+  handed fault.Truncated h = found_handed h
+
 module _ (tool : Tool) (choices : Choices) (input : Input) (writer messages : Device) (status : ℕ) where
-  front : (given : List ℕ) → IsSalvaged (filter_of tool choices) input given writer → IsFrontOf (filter_of tool choices) writer
+  front : (given : List ℕ) → IsFrontPart (filter_of tool choices) input given writer → IsFrontOf (filter_of tool choices) writer
   front given h = (h.written, h.wrote, elim h.first [ inl so_far ↦ (complete_lines given, inl so_far) | inr all ↦ (lines_of given, inr all.1) ])
 
   ends : (given : List ℕ) (fault : Option At) → IsRunOf tool choices input given writer messages status fault → IsFilteredSome tool choices writer messages status
-  ends given None h = inr (given, (h.good refl).5)
+  ends given None h = inr (given, h.flushed refl, (h.good refl).5)
   ends given (Some at) h =
       let ended = h.ended at refl in
-      inl (ended.0, front given h.salvaged, by_fault (filter_of tool choices) input given writer messages at at.fault ended.1)
+      let filter = filter_of tool choices in
+      inl (ended.0, front given h.front, handed filter input given writer messages at at.fault ended.1, by_fault filter input given writer messages at at.fault ended.1)
 
   pub read_unseen : IsFiltered tool choices input writer messages status → IsFilteredSome tool choices writer messages status
   read_unseen h = ends h.1 h.0 h.3
 
   pub unseen : IsFiltered tool choices input writer messages status → IsFilteredUnseen tool choices messages status
-  unseen h = elim (read_unseen h) [ inl failed ↦ inl (failed.0, failed.2) | inr ran ↦ inr (ran.0, ran.1.messages_are, ran.1.status_is) ]
+  unseen h = elim (read_unseen h) [ inl failed ↦ inl (failed.0, failed.3) | inr ran ↦ inr (ran.0, ran.2.messages_are, ran.2.status_is) ]
 
 -- a filter that ran from a file, into another or into the output
 pub from_file : (source target : Option (List ℕ)) → is_some source ≡ true → (tool : Tool) (choices : Choices) (input reader : Input) (output messages : Device) (status : ℕ)

@@ -7,7 +7,7 @@ use Rattle.clap.specs.Simple.{subcommand_of}
 use Rattle.clap.specs.Walk.{Row}
 use Rattle.clap.specs.declared.error.ErrorKind.{ErrorKind}
 use Rattle.clap.specs.declared.error.ErrorKind.TheVariants as kind
-use Rattle.crx_filter.specs.Choices.{is_date}
+use Rattle.crx_engine.specs.Choices.{is_date}
 use Rattle.rnxcmp.specs.Commands.{program}
 use Rattle.rnxcmp.specs.Names.{output_name}
 use Rattle.rnxcmp.specs.Planning.{Given, Plan, Help, Run, Refused, by_kind, by_kinds, given_in, job_of, judged, of_subcommand, plan_of, tool_named, with_source, with_target, writes_file}

@@ -2,7 +2,7 @@
 use Rattle.std.proofs.Common.{◌≡◌, ◌∙◌, List, [], ℕ, Err, Some, inr, ap, refl, Bool, true, false, true≢false}
 use Rattle.std.specs.Option.{IfSome}
 use Rattle.crx_filter.specs.Taking.{Device}
-use Rattle.crx_text.specs.declared.fault.Fault.TheVariants.{OutOfMemory}
+use Rattle.crx_lines.specs.declared.fault.Fault.TheVariants.{OutOfMemory}
 use Rattle.rnxcmp.specs.Planning.{Plan, Help, Run, Refused, Refusal, Parse, DashTwice, TwoFiles, BadDate, NoName, plan_in}
 use Rattle.rnxcmp.specs.Program.{IsLineOf, IsRefused, IsShown, at_start, error_line}
 use Rattle.rnxcmp.specs.declared.job.Job.{Job}

@@ -11,7 +11,7 @@ use Rattle.clap.specs.Kinds.{Kinds}
 use Rattle.clap.specs.Faults.{fault_of}
 use Rattle.clap.specs.declared.error.ErrorKind.{ErrorKind}
 use Rattle.clap.specs.declared.error.ErrorKind.TheVariants.{DisplayHelp}
-use Rattle.crx_filter.specs.Choices.{is_date}
+use Rattle.crx_engine.specs.Choices.{is_date}
 use Rattle.rnxcmp.specs.Commands.{program}
 use Rattle.rnxcmp.specs.Names.{output_name}
 use Rattle.rnxcmp.specs.declared.job.Tool.{Tool}

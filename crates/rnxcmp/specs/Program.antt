@@ -1,23 +1,23 @@
 -- What a user reads where nothing is run, and what a run of the program leaves.
 use Rattle.std.specs.Prelude.{◌≡◌, ◌⊎◌, ⊤, ℕ, ℤ, Bool, false, List, [], ◌++◌, Option, Some, None, codes}
-use Rattle.crx_text.specs.Devices.{one_more}
-use Rattle.crx_text.specs.Lines.{InputLine}
-use Rattle.crx_text.specs.declared.fault.Fault.{Fault}
-use Rattle.crx_text.specs.declared.fault.Fault.TheVariants.{OutOfMemory, WriteFailed}
-use Rattle.crx_text.specs.declared.fault.At.{At}
-use Rattle.crx_filter.specs.Checking.{check_filter}
-use Rattle.crx_filter.specs.Choices.{Choices, choices_of}
-use Rattle.crx_filter.specs.Compacted.{compacted}
-use Rattle.crx_filter.specs.Directions.{compaction_filter, expansion_filter}
-use Rattle.crx_filter.specs.Expanded.{expanded}
-use Rattle.crx_filter.specs.Messages.{error_text, notices_text}
+use Rattle.crx_lines.specs.Devices.{one_more}
+use Rattle.crx_lines.specs.Lines.{InputLine}
+use Rattle.crx_lines.specs.declared.fault.Fault.{Fault}
+use Rattle.crx_lines.specs.declared.fault.Fault.TheVariants.{OutOfMemory, WriteFailed}
+use Rattle.crx_lines.specs.declared.fault.At.{At}
+use Rattle.crx_engine.specs.Checking.{check_filter}
+use Rattle.crx_engine.specs.Choices.{Choices, choices_of}
+use Rattle.crx_engine.specs.Compacted.{compacted}
+use Rattle.crx_engine.specs.Directions.{compaction_filter, expansion_filter}
+use Rattle.crx_engine.specs.Expanded.{expanded}
+use Rattle.crx_engine.specs.Messages.{error_text, notices_text}
 use Rattle.crx_filter.specs.Running.{Input}
 pub use Rattle.crx_filter.specs.Running.{reader_between}
-use Rattle.crx_filter.specs.Filters.{Filter}
-use Rattle.crx_filter.specs.Laws.{Begins}
-use Rattle.crx_filter.specs.Results.{FilterResult}
+use Rattle.crx_engine.specs.Filters.{Filter}
+use Rattle.crx_engine.specs.Laws.{Begins}
+use Rattle.crx_engine.specs.Results.{FilterResult}
 use Rattle.crx_filter.specs.Runs.{IsResult, RunsAs}
-use Rattle.crx_filter.specs.Standard.{checked}
+use Rattle.crx_engine.specs.Standard.{checked}
 use Rattle.crx_filter.specs.Taking.{Device, TookAll, TookPart}
 pub use Rattle.crx_filter.specs.Taking.{between}
 use Rattle.rnxcmp.specs.Dates.{IsDateText}
@@ -89,7 +89,7 @@ IsRefused messages refusal status = (status ≡ 1) × ((line : List ℕ) × IsLi
 -- the help was written and flushed; or the writer failed, which is fault 21 at line 0; or no memory was left for it
 abbrev pub IsHelped : Device → Device → ℕ → Type 0
 IsHelped writer messages status =
-    ((status ≡ 0) × ((text : List ℕ) × TookAll writer text) × TookAll messages [])
+    ((status ≡ 0) × ((text : List ℕ) × TookAll writer text) × writer.flushed × TookAll messages [])
     ⊎ (((status ≡ 1) × (writer.after ≡ one_more writer.before) × IsShown messages (at_start WriteFailed))
     ⊎ ((status ≡ 1) × TookAll writer [] × IsShown messages (at_start OutOfMemory)))
 
@@ -164,12 +164,16 @@ abbrev pub IsFaultShown : Device → Type 0
 IsFaultShown messages = (warnings : List At) × (at : At)
     × (TookAll messages (notices_text warnings ++ error_text (Some at)) ⊎ TookPart messages (notices_text warnings ++ error_text (Some at)))
 
+-- what was written was handed on, or a device failed and counted it: the writer, or the messages
+abbrev pub IsHandedOn : Device → Device → Type 0
+IsHandedOn writer messages = writer.flushed ⊎ ((writer.after ≡ one_more writer.before) ⊎ (messages.after ≡ one_more messages.before))
+
 -- a tool's filter ran on some input, as that of a file, of whose bytes nothing is known: a fault ended it, or all that it makes of the
--- input was written and reported, and the status is that
+-- input was written, handed on and reported, and the status is that
 abbrev pub IsFilteredSome : Tool → Choices → Device → Device → ℕ → Type 0
 IsFilteredSome tool choices writer messages status =
-    ((status ≡ 1) × IsFrontOf (filter_of tool choices) writer × IsFaultShown messages)
-    ⊎ ((given : List ℕ) × IsResult (result_of tool choices given) writer messages status None)
+    ((status ≡ 1) × IsFrontOf (filter_of tool choices) writer × IsHandedOn writer messages × IsFaultShown messages)
+    ⊎ ((given : List ℕ) × writer.flushed × IsResult (result_of tool choices given) writer messages status None)
 
 -- the same where the output is a file, of which nothing is known either
 abbrev pub IsFilteredUnseen : Tool → Choices → Device → ℕ → Type 0

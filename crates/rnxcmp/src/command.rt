@@ -76,11 +76,11 @@ Examples:
   rnxcmp check abcd0010.24o
   rnxcmp crx2rnx - abcd0010.24d | rnxcmp check";
 
-const OBSERVATION_FILE: &str = "`-` and the observation file, in any order";
+const OBSERVATION_FILE: &str = "At most one observation file, and `-`, in any order";
 
-const COMPACT_FILE: &str = "`-` and the compact file, in any order";
+const COMPACT_FILE: &str = "At most one compact file, and `-`, in any order";
 
-const CHECKED_FILE: &str = "The observation file";
+const CHECKED_FILE: &str = "At most one observation file, and `-`, which changes nothing";
 
 /// `-e N`, N from 1 to 1000000.
 fn every_option<'a>(alloc: Global) -> Arg<'a>

@@ -3,7 +3,7 @@
 ghost use Rattle.std.specs.Prelude.{◌≡◌, ◌≢◌, IfOk, IfSome, codes, count_by, find, map, option_and_then, option_map, string_bytes, true};
 ghost use Rattle.std.specs.Option.{option_map_or};
 ghost use Rattle.clap.specs.Words.{found_of, kind_of, one_of, rows_of, subcommand_rows_of};
-ghost use Rattle.crx_filter.specs.Choices.{is_date};
+ghost use Rattle.crx_engine.specs.Choices.{is_date};
 ghost use Rattle.rnxcmp.specs.Planning.{by_kind, given_in, given_of, is_dash, is_file, is_set, job_of, judged, names_in, number_in, of_subcommand, plan_in, plan_of, tool_named, with_source, writes_file};
 
 use crate::command::command;

@@ -40,6 +40,11 @@ fn expect_rows(rt: &impl Abort, alloc: Global, rows: &[Row<'_>]) -> Result<(), F
         expect_calls(rt, &mut sink, row.calls, row.taken);
         assert!(rt; sink.contents() == row.contents);
         assert!(rt; sink.failures() == row.failures);
+        let flushed_last = matches!(
+            (row.calls.last(), row.taken.last()),
+            (Some(None), Some(Some(_)))
+        );
+        assert!(rt; sink.is_flushed() == flushed_last);
         assert!(rt; sink.writes().saturating_add(sink.flushes()) == row.calls.len() as u64);
     }
     Ok(())

@@ -1,5 +1,5 @@
 use Rattle.std.proofs.Common.{◌∙◌, ap, string_bytes}
-use Rattle.crx_filter.specs.Choices.{is_date}
+use Rattle.crx_engine.specs.Choices.{is_date}
 use Rattle.rnxcmp.proofs.DateFits.{default_fits}
 use Rattle.rnxcmp.proofs.program.options_of.Goals as goal
 

@@ -8,5 +8,6 @@ returns-in-Ok-flush g c =
     inl (
       refl,
       (text ++ [], (took, c.in-Ok-flush.ensures.good ∙ c.in-Ok.ensures.good)),
+      c.in-Ok-flush.ensures.flushed,
       (g.met.M.Sink.took_none c.args.messages.now, refl),
     )

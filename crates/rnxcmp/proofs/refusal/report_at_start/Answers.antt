@@ -4,4 +4,4 @@ use Rattle.rnxcmp.proofs.refusal.report_at_start.Goals as goal
 
 pub returns-clause-shown : goal.returns-clause-shown
 returns-clause-shown g c =
-    subst (λ (line : List ℕ). IsShown (between g.M.Sink.took g.M.Sink.failures c.args.messages.now c.show.new.messages) line) (c.bytes.ensures.value ∙ c.message.ensures) c.show.ensures
+    subst (λ (line : List ℕ). IsShown (between g.M.Sink.took g.M.Sink.is_flushed g.M.Sink.failures c.args.messages.now c.show.new.messages) line) (c.bytes.ensures.value ∙ c.message.ensures) c.show.ensures
