@@ -19,16 +19,16 @@ all:
 	@mkdir -p out
 	cd crates/rnxcmp && rt run -- $(WORDS) < ../../$(SAMPLE) > ../../$(COMPACT)
 	$(PROGRAM) crx2rnx < $(COMPACT) | cmp - $(SAMPLE)
-	@echo "the sample comes back byte for byte"
-	@echo
 	$(PROGRAM) check $(SAMPLE)
 	@echo
 	@echo "$(COMPACT), its first three lines, and its first two epochs (columns 1 to 100):"
 	@head -n 3 $(COMPACT) | cut -c 1-100
 	@echo ...
-	@grep -A 54 -m 1 'END OF HEADER' $(COMPACT) | tail -n +2 | cut -c 1-100
+	@grep -A 18 -m 1 'END OF HEADER' $(COMPACT) | tail -n +2 | cut -c 1-100
 	@echo ...
 	@wc -c $(SAMPLE) $(COMPACT) | grep -v total
+	@echo
+	@echo "the sample comes back byte for byte; the program is $(PROGRAM)"
 
 test:
 	tests/run.py $(PROGRAM) --gate

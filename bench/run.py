@@ -81,11 +81,20 @@ def instructions(command, path):
 
 
 def greatest_memory(command, path):
-    """The greatest resident size of a command on a file, in kilobytes."""
+    """The greatest resident size of a command on a file, in kilobytes, as it stands shortly before the file's end."""
     with open(path, "rb") as source, open(os.devnull, "wb") as nothing:
-        child = subprocess.Popen(command, stdin=source, stdout=nothing)
-        _, _, usage = os.wait4(child.pid, 0)
-    return usage.ru_maxrss
+        child = subprocess.Popen(command, stdin=subprocess.PIPE, stdout=nothing)
+        last = source.read(1 << 16)
+        while piece := source.read(1 << 16):
+            child.stdin.write(last)
+            last = piece
+        child.stdin.flush()
+        with open("/proc/%d/status" % child.pid) as status:
+            size = next(int(line.split()[1]) for line in status if line.startswith("VmHWM:"))
+        child.stdin.write(last)
+        child.stdin.close()
+        child.wait()
+    return size
 
 
 def filters(args):

@@ -8,7 +8,7 @@ between, is printed. So what the program does once isn't counted; the loop aroun
 "nothing" says what it takes.
 
 The repository's check reads every .rt file below it, so the program stands here as main.rt.in, and is proved and
-built in a folder of its own (--folder), beside a copy of crates/crx_text. Examples:
+built in a folder of its own (--folder), beside copies of crates/crx_lines and crates/crx_text. Examples:
 
     bench/leaves/count.py
     bench/leaves/count.py obs_read obs_print
@@ -102,21 +102,25 @@ CASES = [
     ("patch_text, 1000 columns, a byte", "patch_text", [flags(k) * 25 for k in range(LINES)], 1000),
 ]
 
+# The crates that hold the leaves.
+CRATES = ("crx_lines", "crx_text")
+
 
 def built(folder):
-    """Copies the crate and the program to the folder, and builds it there; the path of the program."""
+    """Copies the crates and the program to the folder, and builds it there; the path of the program."""
     crates = os.path.join(folder, "crates")
-    for part in ("src", "specs", "proofs"):
-        target = os.path.join(crates, "crx_text", part)
-        shutil.rmtree(target, ignore_errors=True)
-        shutil.copytree(os.path.join(TOP, "crates", "crx_text", part), target)
+    for crate in CRATES:
+        for part in ("src", "specs", "proofs"):
+            target = os.path.join(crates, crate, part)
+            shutil.rmtree(target, ignore_errors=True)
+            shutil.copytree(os.path.join(TOP, "crates", crate, part), target)
     leaves = os.path.join(crates, "leaves")
     os.makedirs(os.path.join(leaves, "src"), exist_ok=True)
     shutil.copy(os.path.join(HERE, "main.rt.in"), os.path.join(leaves, "src", "main.rt"))
     with open(os.path.join(TOP, "crates.txt")) as lines:
-        line = next(line for line in lines if line.startswith("crx_text:"))
+        edges = [line for line in lines if line.split(":")[0] in CRATES]
     with open(os.path.join(folder, "crates.txt"), "w") as crates_file:
-        crates_file.write(line + "leaves: crx_text\n")
+        crates_file.write("".join(edges) + "leaves: " + " ".join(CRATES) + "\n")
     subprocess.run(["rt", "run"], cwd=leaves, stdin=subprocess.DEVNULL, stdout=subprocess.DEVNULL, check=True)
     return os.path.join(leaves, "out", "leaves")
 

@@ -17,12 +17,14 @@ def files_in(folder):
 
 
 def command_of(program, case):
-    """The case's command: through a shell where a stream is closed, or the output goes through another program."""
+    """The case's command: through a shell where a stream is closed, the open files are limited, or the output goes through another
+    program."""
     words = [str(program), *case.words]
     shut = "".join((" <&-" if case.stdin == CLOSED else "", " >&-" if case.stdout == SHUT else "", " 2>&-" if case.stderr == CLOSED else ""))
     if case.through:
         return ["bash", "-o", "pipefail", "-c", f'"$@"{shut} | {case.through}', "bash", *words]
-    return ["sh", "-c", f'exec "$@"{shut}', "sh", *words] if shut else words
+    limit = f"ulimit -n {case.open_files} && " if case.open_files else ""
+    return ["sh", "-c", f'{limit}exec "$@"{shut}', "sh", *words] if limit or shut else words
 
 
 def run_case(program, case):
