@@ -6,7 +6,7 @@ use Rattle.std.proofs.lemmas.Bool.Decides.{eqb_tells}
 use Rattle.crx_lines.specs.Lines.{Piece, HasNoFeed, pieces_of, onto_first}
 use Rattle.crx_lines.specs.Seen.{ended}
 
-abbrev NoFeed : ℕ → Type 0
+abbrev pub NoFeed : ℕ → Type 0
 NoFeed b = b ≢ 10
 
 -- an input's first piece, where an LF ends it
@@ -36,10 +36,6 @@ ended-none (b ∷ bs) none = rw (pieces-last (b ∷ bs) none (omega arith)) refl
 abbrev pub EachEnded : List Piece → Type 0
 EachEnded [] = Unit {0}
 EachEnded (p ∷ ps) = (p.is_ended ≡ true) × EachEnded ps
-
-pub EachEnded-push : (ps : List Piece) (p : Piece) → EachEnded ps → p.is_ended ≡ true → EachEnded (ps ++ p ∷ [])
-EachEnded-push [] p all is = (is, tt)
-EachEnded-push (q ∷ qs) p all is = (all.0, EachEnded-push qs p all.1 is)
 
 pub ended-append : (ps qs : List Piece) → EachEnded ps → ended (ps ++ qs) ≡ ps ++ ended qs
 ended-append [] qs all = refl

@@ -7,9 +7,7 @@ use Rattle.std.proofs.lemmas.Bool.{cases_lt}
 use Rattle.crx_lines.specs.Lines.{HasNoFeed}
 use Rattle.crx_lines.specs.Seeking.{Seeking}
 use Rattle.crx_lines.specs.declared.limits.TheConstants.{LINE_LIMIT}
-
-abbrev NoFeed : ℕ → Type 0
-NoFeed b = b ≢ 10
+use Rattle.crx_lines.proofs.PieceLemmas.{NoFeed}
 
 pub Seeking-start : (gave : List ℕ → Type 0) (old : List ℕ) (room : ℕ) → gave [] → Seeking gave old old room 0 0 0
 Seeking-start gave old room lead = record {

@@ -198,6 +198,3 @@ impl<D: Write> Sink for Std<D> {
 
     ghost took_both = { λ a b c xs ys p q. Appends-trans (D.contents a.inner) (D.contents b.inner) (D.contents c.inner) xs ys p q };
 }
-
-#[cfg(test)]
-mod tests;

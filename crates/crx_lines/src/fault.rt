@@ -127,6 +127,3 @@ pub struct At {
     /// The fault.
     pub fault: Fault,
 }
-
-#[cfg(test)]
-mod tests;

@@ -56,6 +56,3 @@ pub(crate) fn feed_from(bytes: &[u8], from: usize) -> Option<usize>
     }
     feed_in_rest(bytes, at)
 }
-
-#[cfg(test)]
-mod tests;

@@ -21,6 +21,9 @@ pub const DIGITS_LIMIT: usize = 18;
 /// The order of the differences of an arc that is written.
 pub const WRITTEN_ORDER: u8 = 3;
 
+/// The columns of the version in a header's first line.
+pub const VERSION_WIDTH: usize = 9;
+
 /// The columns of an epoch line before the receiver clock offset.
 pub const HEAD_WIDTH: usize = 41;
 

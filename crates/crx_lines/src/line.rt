@@ -8,6 +8,7 @@ ghost use Rattle.crx_lines.specs.declared.window.TheConstants.{SIZE};
 
 use crate::device::Source;
 use crate::fault::{At, Fault};
+use crate::feed::feed_from;
 use crate::limits::{INPUT_LIMIT, LINE_LIMIT};
 use crate::phase::Phase;
 use crate::seek::seek;
@@ -118,7 +119,39 @@ impl LineReader {
     }
 
     /// Takes the next line. Its content stays in the window, at the place that is answered.
+    #[inline(always)]
     fn advance<R: Source>(&mut self, reader: &mut R) -> Result<Option<Part>, At>
+        requires { self.old.phase ≡ Phase.Open }
+        ensures answers { (given : List ℕ) × R.gave reader.old given reader.new
+            × AnswersAs (part_shown self.new.window.value.bytes) (λ _. self.new.number)
+            (reading self.old) given (R.at_end reader.new)
+            (tally_of (R.failures reader.old) (R.ends reader.old)) (tally_of (R.failures reader.new) (R.ends reader.new)) result (reading self.new) }
+        ensures place { IfOk result (λ o. IfSome o (λ p. (p.from ≤ p.to) × (p.to ≤ SIZE) × (p.to - p.from ≤ LINE_LIMIT))) }
+        ensures unasked { Contains (kept self.old.window.value) 10 → reader.new ≡ reader.old }
+    {
+        let Some(len) = feed_from(self.window.as_slice(), 0) else {
+            return self.advance_by_reading(reader);
+        };
+        let place = self.window.content(len);
+        self.window.pass(len + 1);
+        self.lent += len as u64 + 1;
+        self.number += 1;
+        if place.to - place.from > LINE_LIMIT {
+            return Err(At {
+                line: self.number,
+                fault: Fault::LineTooLong,
+            });
+        }
+        Ok(Some(Part {
+            from: place.from,
+            to: place.to,
+            is_plain: !place.has_return,
+        }))
+    }
+
+    /// The same where the line's end may be still to be read.
+    #[inline(never)]
+    fn advance_by_reading<R: Source>(&mut self, reader: &mut R) -> Result<Option<Part>, At>
         requires { self.old.phase ≡ Phase.Open }
         ensures answers { (given : List ℕ) × R.gave reader.old given reader.new
             × AnswersAs (part_shown self.new.window.value.bytes) (λ _. self.new.number)
@@ -210,6 +243,3 @@ impl LineReader {
         }
     }
 }
-
-#[cfg(test)]
-mod tests;

@@ -22,6 +22,3 @@ pub fn write_all_counted<W: Sink>(writer: &mut W, bytes: &[u8]) -> Result<(), (u
     }
     Ok(())
 }
-
-#[cfg(test)]
-mod tests;

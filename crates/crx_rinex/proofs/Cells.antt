@@ -1,21 +1,20 @@
 -- The cells of a satellite line, taken one by one.
-use Rattle.std.proofs.Common.{◌≡◌, ℕ, ℤ, ◌+◌, ◌-◌, ◌*◌, ◌<◌, ◌≤◌, true, ◌&&◌, All, List, [], ◌∷◌, ◌++◌, Option, Some, None, Result, Ok, Err, length, take, drop, replicate, map, get_or, refl, ap, sym, subst, ◌∙◌, arith, suc, zero}
-use Rattle.std.specs.List.{range_with_len, list_all}
-use Rattle.std.specs.Result.{IsErr, OnOk}
+use Rattle.std.proofs.Common.{◌≡◌, ℕ, ℤ, ◌+◌, ◌-◌, ◌*◌, ◌<◌, ◌≤◌, true, ◌&&◌, All, List, [], ◌∷◌, ◌++◌, Option, Some, None, length, take, drop, replicate, get_or, refl, ap, sym, subst, ◌∙◌, arith, suc, zero}
+use Rattle.std.specs.List.{concat, list_all}
 use Rattle.std.proofs.lemmas.Bool.{and_from}
 use Rattle.std.proofs.lemmas.List.Elements.{All-replicate}
-use Rattle.std.proofs.lemmas.List.Folds.{list_all-append}
+use Rattle.std.proofs.lemmas.List.Folds.{concat-append, list_all-append}
 use Rattle.std.specs.Prelude.{slice_set}
-use Rattle.std.proofs.lemmas.List.{take_more_set, length-set, take_at, map-id, take-append-le, drop_all, drop_more, drop-drop, length-drop, length-append, length-replicate, append_assoc}
-use Rattle.std.proofs.lemmas.List.FromFn.{map-range_with_len_more, get_or-map-range_with_len, length-map-range_with_len}
+use Rattle.std.proofs.lemmas.List.{take_more_set, length-set, take_at, take-append-le, drop_all, length-drop, length-append, length-replicate, append_assoc}
 use Rattle.std.proofs.lemmas.Option.{option_and_then_some, same_Some, none-some}
 use Rattle.crx_text.specs.Columns.{character_at, columns}
+use Rattle.crx_rinex.specs.EachPlace.{each_place}
 use Rattle.crx_rinex.specs.Observations.{Row}
-use Rattle.crx_text.specs.Numbers.{observation_of, observation_text, number_of}
+use Rattle.crx_text.specs.Numbers.{observation_of, number_of}
 use Rattle.crx_text.specs.Texts.{is_kept}
-use Rattle.crx_rinex.specs.Printing.{printed_cells}
 use Rattle.crx_rinex.specs.ObservationTypes.{is_system, IsAllowedCount}
-use Rattle.crx_rinex.specs.SatelliteLines.{all_some, values_in, flags_from, flags_in, field, has_number, is_identifier, blank_row, with_flags, IsSoundRow, IsValue}
+use Rattle.crx_rinex.specs.SatelliteLines.{all_some, values_in, flags_at, flags_in, field, has_number, is_identifier, blank_row, with_flags, IsSoundRow, IsValue}
+use Rattle.crx_rinex.proofs.EachPlace.{each_place-more, index-each_place, length-each_place}
 
 -- one value more
 pub all_some-push : (xs : List (Option (Option ℤ))) (vs : List (Option ℤ)) (v : Option ℤ) → all_some xs ≡ Some vs → all_some (xs ++ Some v ∷ []) ≡ Some (vs ++ v ∷ [])
@@ -34,26 +33,18 @@ all_some_at (Some x ∷ xs) (suc k) h e = rw (all_some_at xs k (omega arith) e) 
 
 pub values_in_more : (line : List ℕ) (k : ℕ) (vs : List (Option ℤ)) (v : Option ℤ) → values_in k line ≡ Some vs → observation_of (field line k) ≡ Some v → values_in (k + 1) line ≡ Some (vs ++ v ∷ [])
 values_in_more line k vs v h e =
-    ap all_some (map-range_with_len_more (λ j. observation_of (field line j)) 0 k k (omega arith))
-    ∙ ap (λ (o : Option (Option ℤ)). all_some (map (λ j. observation_of (field line j)) (range_with_len 0 k) ++ o ∷ [])) e
-    ∙ all_some-push (map (λ j. observation_of (field line j)) (range_with_len 0 k)) vs v h
+    ap all_some (each_place-more k (λ j. observation_of (field line j)))
+    ∙ ap (λ (o : Option (Option ℤ)). all_some (each_place k (λ j. observation_of (field line j)) ++ o ∷ [])) e
+    ∙ all_some-push (each_place k (λ j. observation_of (field line j))) vs v h
 
 pub values_in_none : (line : List ℕ) (k m : ℕ) → k < m → observation_of (field line k) ≡ None → values_in m line ≡ None
 values_in_none line k m h e =
-    all_some_at (map (λ j. observation_of (field line j)) (range_with_len 0 m)) k
-    (omega (arith, length-map-range_with_len (λ j. observation_of (field line j)) 0 m))
-    (get_or-map-range_with_len (λ j. observation_of (field line j)) 0 m k k None h (omega arith) ∙ e)
+    all_some_at (each_place m (λ j. observation_of (field line j))) k
+    (omega (arith, length-each_place m (λ j. observation_of (field line j))))
+    (index-each_place m k (λ j. observation_of (field line j)) None (λ past. absurd (omega (arith, past))) ∙ e)
 
-range_more : (k : ℕ) → range_with_len 0 (k + 1) ≡ range_with_len 0 k ++ k ∷ []
-range_more k =
-    sym (map-id (range_with_len 0 (k + 1))) ∙ map-range_with_len_more (λ (j : ℕ). j) 0 k k (omega arith) ∙ ap (λ (js : List ℕ). js ++ k ∷ []) (map-id (range_with_len 0 k))
-
-flags_from-push : (line js : List ℕ) (k : ℕ) → flags_from line (js ++ k ∷ []) ≡ flags_from line js ++ character_at line (16 * k + 18) ∷ character_at line (16 * k + 19) ∷ []
-flags_from-push line [] k = refl
-flags_from-push line (j ∷ js) k = ap (λ (fs : List ℕ). character_at line (16 * j + 18) ∷ character_at line (16 * j + 19) ∷ fs) (flags_from-push line js k)
-
-pub flags_in_more : (line : List ℕ) (k : ℕ) → flags_in (k + 1) line ≡ flags_in k line ++ character_at line (16 * k + 18) ∷ character_at line (16 * k + 19) ∷ []
-flags_in_more line k = ap (flags_from line) (range_more k) ∙ flags_from-push line (range_with_len 0 k) k
+pub flags_in_more : (line : List ℕ) (k : ℕ) → flags_in (k + 1) line ≡ flags_in k line ++ flags_at line k
+flags_in_more line k = ap concat (each_place-more k (flags_at line)) ∙ concat-append (each_place k (flags_at line)) (flags_at line k ∷ [])
 
 -- a field past the line's end is blank, and so missing
 pub field_past : (line : List ℕ) (k : ℕ) → length line ≤ 16 * k + 3 → observation_of (field line k) ≡ Some None
@@ -88,20 +79,6 @@ pair_pushed line k flags a b room h ha hb =
     ∙ append_assoc (take (2 * k) flags) (a ∷ []) (b ∷ [])
     ∙ ap (λ (fs : List ℕ). fs ++ a ∷ b ∷ []) h ∙ ap (λ (x : ℕ). flags_in k line ++ x ∷ b ∷ []) ha ∙ ap (λ (x : ℕ). flags_in k line ++ character_at line (16 * k + 18) ∷ x ∷ []) hb
     ∙ sym (flags_in_more line k)
-
--- a call that could refuse only where there is no room, and has it
-pub ok_unless : {T E P : Type 0} (r : Result T E) → OnOk r P → (IsErr r → ⊥) → P
-ok_unless (Ok x) h n = h
-ok_unless (Err e) h n = absurd (n refl)
-
--- the cell at a place, and those after it
-pub printed_more : (values : List (Option ℤ)) (flags : List ℕ) (k : ℕ) → k < length values →
-    printed_cells (drop k values) (drop (2 * k) flags) ≡ observation_text (get_or values k None) ++ take 2 (drop (2 * k) flags) ++ printed_cells (drop (k + 1) values) (drop (2 * (k + 1)) flags)
-printed_more values flags k h =
-    let e : 2 * k + 2 ≡ 2 * (k + 1) = omega arith in
-    let f : drop 2 (drop (2 * k) flags) ≡ drop (2 * (k + 1)) flags = drop-drop 2 (2 * k) flags ∙ ap (λ (n : ℕ). drop n flags) e in
-    ap (λ (vs : List (Option ℤ)). printed_cells vs (drop (2 * k) flags)) (drop_more values k None h)
-    ∙ ap (λ (fs : List ℕ). observation_text (get_or values k None) ++ take 2 (drop (2 * k) flags) ++ printed_cells (drop (k + 1) values) fs) f
 
 all_kept_blanks : (n : ℕ) → list_all is_kept (replicate n 32) ≡ true
 all_kept_blanks zero = refl

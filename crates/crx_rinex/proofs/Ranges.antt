@@ -1,5 +1,5 @@
 -- What is read out of columns fits them.
-use Rattle.std.proofs.Common.{◌≡◌, ℕ, ◌+◌, ◌-◌, ◌<◌, ◌≤◌, ◌^◌, Bool, true, false, cond, eqb, ◌&&◌, List, [], ◌∷◌, ◌++◌, length, take, drop, Option, Some, None, IfSome, refl, subst, inl, inr, arith}
+use Rattle.std.proofs.Common.{◌≡◌, ℕ, ◌+◌, ◌-◌, ◌<◌, ◌≤◌, ◌^◌, Bool, true, false, cond, eqb, ◌&&◌, List, [], ◌∷◌, ◌++◌, length, take, drop, Option, Some, None, refl, subst, inl, inr, arith}
 use Rattle.std.specs.Prelude.{ℤ, slice_index}
 use Rattle.std.specs.Bool.{nat_lt}
 use Rattle.std.specs.Option.{option_map}
@@ -11,7 +11,7 @@ use Rattle.std.proofs.lemmas.List.{length-append, length-take, length-drop}
 use Rattle.std.proofs.lemmas.Option.{cond_some, same_Some, none-some}
 use Rattle.std.proofs.lemmas.Str.Parse.{digits_value_short, numerals_by_value, tells_all_ascii_digits}
 use Rattle.crx_text.specs.Columns.{is_blank, without_first_blanks}
-use Rattle.crx_text.specs.Numbers.{size_of, spelt_number, signed_number, missing_or_spelt, number_of, observation_of, clock_of, IsWithin}
+use Rattle.crx_text.specs.Numbers.{size_of, spelt_number, signed_number, missing_or_spelt, number_of, observation_of, clock_of, IsWithin, IsMissingOrWithin}
 use Rattle.crx_lines.specs.declared.limits.TheConstants.{OBSERVATION_WIDTH, OBSERVATION_DECIMALS, CLOCK_WIDTH, CLOCK_DECIMALS}
 use Rattle.crx_text.proofs.Sizes.{signed_is_within, IsWithin_more}
 use Rattle.crx_rinex.specs.EpochLines.{IsClockOffset}
@@ -64,23 +64,23 @@ first_blanks_shorter (c ∷ cs) =
       | false ↦ omega arith
     ]
 
-found_within : (decimals : ℕ) (text : List ℕ) (s : Option ℤ) (o : Option ℤ) → spelt_number decimals text ≡ s → option_map Some s ≡ Some o → IfSome o (IsWithin (length text))
+found_within : (decimals : ℕ) (text : List ℕ) (s : Option ℤ) (o : Option ℤ) → spelt_number decimals text ≡ s → option_map Some s ≡ Some o → IsMissingOrWithin (length text) o
 found_within decimals text None o e h = absurd (none-some o h)
-found_within decimals text (Some v) o e h = subst (λ (p : Option ℤ). IfSome p (IsWithin (length text))) (same_Some (Some v) o h) (spelt_within decimals text v e)
+found_within decimals text (Some v) o e h = subst (λ (p : Option ℤ). IsMissingOrWithin (length text) p) (same_Some (Some v) o h) (spelt_within decimals text v e)
 
-missing_within : (decimals : ℕ) (text : List ℕ) (o : Option ℤ) → missing_or_spelt decimals text ≡ Some o → IfSome o (IsWithin (length text))
-missing_within decimals [] o h = subst (λ (p : Option ℤ). IfSome p (IsWithin 0)) (same_Some None o h) tt
+missing_within : (decimals : ℕ) (text : List ℕ) (o : Option ℤ) → missing_or_spelt decimals text ≡ Some o → IsMissingOrWithin (length text) o
+missing_within decimals [] o h = subst (λ (p : Option ℤ). IsMissingOrWithin 0 p) (same_Some None o h) tt
 missing_within decimals (c ∷ cs) o h = found_within decimals (c ∷ cs) (spelt_number decimals (c ∷ cs)) o refl h
 
-within_more : (columns width : ℕ) (o : Option ℤ) → columns ≤ width → IfSome o (IsWithin columns) → IfSome o (IsWithin width)
+within_more : (columns width : ℕ) (o : Option ℤ) → columns ≤ width → IsMissingOrWithin columns o → IsMissingOrWithin width o
 within_more columns width None fewer h = tt
 within_more columns width (Some v) fewer h = IsWithin_more columns width v fewer h
 
-tested : {A : Type 0} (b : Bool) (o : Option A) (y : A) → cond b o None ≡ Some y → (b ≡ true) × (o ≡ Some y)
+pub tested : {A : Type 0} (b : Bool) (o : Option A) (y : A) → cond b o None ≡ Some y → (b ≡ true) × (o ≡ Some y)
 tested true o y h = (refl, h)
 tested false o y h = absurd (none-some y h)
 
-number_within : (width decimals : ℕ) (text : List ℕ) (o : Option ℤ) → number_of width decimals text ≡ Some o → IfSome o (IsWithin width)
+number_within : (width decimals : ℕ) (text : List ℕ) (o : Option ℤ) → number_of width decimals text ≡ Some o → IsMissingOrWithin width o
 unfolding number_of
 number_within width decimals text o h =
     let parts = tested (eqb (length text) width) (missing_or_spelt decimals (without_first_blanks text)) o h in

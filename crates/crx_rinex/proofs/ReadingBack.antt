@@ -1,7 +1,7 @@
 -- What is printed of rows, epoch lines and epochs is read back.
 use Rattle.std.proofs.Common.{◌≡◌, ◌≢◌, ℕ, ℤ, ◌+◌, ◌-◌, ◌*◌, ◌<◌, suc, Bool, true, false, not, cond, eqb, ◌&&◌, List, [], ◌∷◌, ◌++◌, length, drop, map, Option, Some, None, IfSome, Ok, refl, ap, sym, subst, ◌∙◌, ◌⊎◌, inl, inr, arith, append-nil, append_assoc, length-append}
 use Rattle.std.specs.Prelude.{All, ◌==◌}
-use Rattle.std.specs.List.{list_all, range_with_len}
+use Rattle.std.specs.List.{concat, list_all}
 use Rattle.std.specs.Option.{option_and_then, ForSome}
 use Rattle.std.specs.Str.{bytes_eq}
 use Rattle.std.proofs.lemmas.Bool.{and_parts, or_parts, eqb-true, not-true}
@@ -23,7 +23,9 @@ use Rattle.crx_rinex.specs.EpochPlaces.{OpenEpoch, EpochBegins, opened, rows_wan
 use Rattle.crx_rinex.specs.Places.{Here, after_lines, then_place, one_line}
 use Rattle.crx_rinex.specs.Units.{Observation}
 use Rattle.crx_rinex.specs.Printing.{printed_cells, printed_row, printed_head, printed_epoch}
-use Rattle.crx_rinex.specs.SatelliteLines.{all_some, field, flags_from, flags_in, has_number, types_of_satellite, row_with, row_of_types, row_of, IsValue, IsSoundRow, HasItsTypes}
+use Rattle.crx_rinex.specs.SatelliteLines.{all_some, field, flags_at, flags_in, has_number, types_of_satellite, row_with, row_of_types, row_of, IsValue, IsSoundRow, HasItsTypes}
+use Rattle.crx_rinex.specs.EachPlace.{each_place}
+use Rattle.crx_rinex.proofs.EachPlace.{each_place-same}
 use Rattle.crx_rinex.proofs.Characters.{at, at-without_end_blanks, at-drop, at-append, at-append_past, columns-are, list_all-from_at}
 use Rattle.crx_rinex.proofs.Apart.{other_way}
 use Rattle.crx_rinex.proofs.SoundEpochs.{name_types}
@@ -56,8 +58,8 @@ value-width value h = spelt-width OBSERVATION_WIDTH OBSERVATION_DECIMALS (observ
 
 -- the values and indicators of the cells from one on
 record AreCells (line : List ℕ) (k : ℕ) (values : List (Option ℤ)) (flags : List ℕ) : Type 0 where
-  values_read : all_some (map (λ j. observation_of (field line j)) (range_with_len k (length values))) ≡ Some values
-  flags_read : flags_from line (range_with_len k (length values)) ≡ flags
+  values_read : all_some (each_place (length values) (λ j. observation_of (field line (k + j)))) ≡ Some values
+  flags_read : concat (each_place (length values) (λ j. flags_at line (k + j))) ≡ flags
 
 first-cell : (line rest : List ℕ) (k : ℕ) (value : Option ℤ) (a b : ℕ) → IsValue value
     → ((p : ℕ) → at line (16 * k + 3 + p) ≡ at (observation_text value ++ a ∷ b ∷ rest) p)
@@ -78,6 +80,17 @@ first-cell line rest k value a b fits same =
 cells-are : (values : List (Option ℤ)) (flags : List ℕ) (value : Option ℤ) (a b : ℕ) → printed_cells (value ∷ values) (a ∷ b ∷ flags) ≡ observation_text value ++ a ∷ b ∷ printed_cells values flags
 cells-are values flags value a b = append_assoc (observation_text value) (a ∷ b ∷ []) (printed_cells values flags)
 
+-- the place that is counted from, and those after it
+from-next : {X : Type 0} (n k : ℕ) (f : ℕ → X) → each_place (suc n) (λ j. f (k + j)) ≡ f k ∷ each_place n (λ j. f (k + 1 + j))
+from-next n k f =
+    let here : k + 0 ≡ k = omega arith in
+    ap (λ p. f p ∷ each_place n (λ i. f (k + suc i))) here
+    ∙ ap (λ xs. f k ∷ xs) (each_place-same n (λ i. f (k + suc i)) (λ i. f (k + 1 + i)) (λ i. let next : k + suc i ≡ k + 1 + i = omega arith in ap f next))
+
+-- places that are counted from 0
+from-none : {X : Type 0} (n : ℕ) (f : ℕ → X) → each_place n f ≡ each_place n (λ j. f (0 + j))
+from-none n f = each_place-same n f (λ j. f (0 + j)) (λ j. let same : j ≡ 0 + j = omega arith in ap f same)
+
 cells-read : (line : List ℕ) (k : ℕ) (values : List (Option ℤ)) (flags : List ℕ) → ((p : ℕ) → at line (16 * k + 3 + p) ≡ at (printed_cells values flags) p)
     → length flags ≡ 2 * length values → All IsValue values → AreCells line k values flags
 cells-read line k [] [] same pairs fit = record { values_read = refl; flags_read = refl }
@@ -95,10 +108,12 @@ cells-read line k (value ∷ values) (a ∷ b ∷ flags) same pairs fit =
     ap (at line) place ∙ now (14 + suc (suc p)) ∙ at-append_past (observation_text value) (a ∷ b ∷ printed_cells values flags) 14 (suc (suc p)) width)
     (omega (arith, pairs)) (All-tail IsValue value values fit) in
     record {
-      values_read = ap (λ o. all_some (o ∷ map (λ j. observation_of (field line j)) (range_with_len (k + 1) (length values)))) first.0
+      values_read = ap all_some (from-next (length values) k (λ j. observation_of (field line j)))
+          ∙ ap (λ o. all_some (o ∷ each_place (length values) (λ j. observation_of (field line (k + 1 + j))))) first.0
           ∙ ap (option_and_then (λ (vs : List (Option ℤ)). Some (value ∷ vs))) rest.values_read;
-      flags_read = ap (λ c. c ∷ character_at line (16 * k + 19) ∷ flags_from line (range_with_len (k + 1) (length values))) first.1
-          ∙ ap (λ c. a ∷ c ∷ flags_from line (range_with_len (k + 1) (length values))) first.2
+      flags_read = ap concat (from-next (length values) k (flags_at line))
+          ∙ ap (λ c. c ∷ character_at line (16 * k + 19) ∷ concat (each_place (length values) (λ j. flags_at line (k + 1 + j)))) first.1
+          ∙ ap (λ c. a ∷ c ∷ concat (each_place (length values) (λ j. flags_at line (k + 1 + j)))) first.2
           ∙ ap (λ fs. a ∷ b ∷ fs) rest.flags_read;
     }
 
@@ -149,8 +164,9 @@ row-of_text types row line h typed same =
     ap (at line) place ∙ same (3 + p) ∙ at-append_past row.name (printed_cells row.values row.flags) 3 p three) h.paired h.ranged in
     let wide : length (row.name ++ printed_cells row.values row.flags) ≡ 16 * length row.values + 3 = length-row row h in
     ap (row_of_types line) counted
-    ∙ ap (row_with (length row.values) line) read.values_read
-    ∙ row-chosen (length row.values) line row.name row.flags row.values (after-text line (row.name ++ printed_cells row.values row.flags) (16 * length row.values + 3) wide same) read.flags_read h.kept named
+    ∙ ap (row_with (length row.values) line) (ap all_some (from-none (length row.values) (λ j. observation_of (field line j))) ∙ read.values_read)
+    ∙ row-chosen (length row.values) line row.name row.flags row.values (after-text line (row.name ++ printed_cells row.values row.flags) (16 * length row.values + 3) wide same)
+    (ap concat (from-none (length row.values) (flags_at line)) ∙ read.flags_read) h.kept named
 
 pub row-back : (types : List Count) (row : Row) → IsSoundRow row → HasItsTypes types row → row_of types (printed_row row) ≡ Ok row
 row-back types row h typed = row-of_text types row (printed_row row) h typed (λ p. at-without_end_blanks (row.name ++ printed_cells row.values row.flags) p)

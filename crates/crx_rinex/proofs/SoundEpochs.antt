@@ -1,11 +1,10 @@
 -- What is read of an observation epoch is sound.
-use Rattle.std.proofs.Common.{◌≡◌, ℕ, ℤ, ◌+◌, ◌-◌, ◌*◌, ◌≤◌, zero, suc, Bool, true, false, not, cond, List, [], ◌∷◌, ◌++◌, length, drop, replicate, map, Option, Some, None, IfSome, OnSome, unwrap_or, Result, Ok, Err, refl, ap, sym, subst, ◌∙◌, arith}
+use Rattle.std.proofs.Common.{◌≡◌, ℕ, ℤ, ◌+◌, ◌-◌, ◌*◌, ◌≤◌, zero, suc, Bool, true, false, not, cond, List, [], ◌∷◌, ◌++◌, length, drop, replicate, Option, Some, None, IfSome, OnSome, unwrap_or, Result, Ok, Err, refl, ap, sym, subst, ◌∙◌, arith}
 use Rattle.std.specs.Prelude.{⊤, All}
-use Rattle.std.specs.List.{list_all, range_with_len, AllByRecursion}
+use Rattle.std.specs.List.{list_all, AllByRecursion}
 use Rattle.std.proofs.lemmas.Bool.{and_from}
 use Rattle.std.proofs.lemmas.List.{length_push, length-append, length-take, length-replicate}
 use Rattle.std.proofs.lemmas.List.Elements.{All-cons, All-nil, All-push}
-use Rattle.std.proofs.lemmas.List.FromFn.{length-range_with_len, length-map-range_with_len}
 use Rattle.std.proofs.lemmas.Option.{option_and_then_some, same_Some, none-some}
 use Rattle.crx_text.specs.Columns.{character_at, columns, is_blank}
 use Rattle.crx_text.specs.Numbers.{observation_of, clock_of}
@@ -19,12 +18,14 @@ use Rattle.crx_rinex.specs.Observations.{Row, Epoch}
 use Rattle.crx_rinex.specs.Units.{Unit, Observation}
 use Rattle.crx_rinex.specs.Places.{Place, Here, Wrong, Wanted, after_lines, then_place, one_line}
 use Rattle.crx_rinex.specs.EpochLines.{HeadLine, EventHead, EpochHead, ObservationHead, IsObservationHead, is_event_flag, begins_epoch, epoch_count, epoch_head, event_head, with_clock, head_of, records_in, satellites_of}
-use Rattle.crx_rinex.specs.SatelliteLines.{row_of, row_of_types, row_with, values_in, flags_in, flags_from, field, all_some, types_of_satellite, has_number, is_identifier, IsSoundRow, IsValue, HasItsTypes}
+use Rattle.crx_rinex.specs.SatelliteLines.{row_of, row_of_types, row_with, values_in, flags_in, flags_at, field, all_some, types_of_satellite, has_number, is_identifier, IsSoundRow, IsValue, HasItsTypes}
 use Rattle.crx_rinex.specs.Epochs.{has_satellite, are_different, IsWholeEpoch}
 use Rattle.crx_rinex.specs.EpochPlaces.{OpenEpoch, Beginning, EventBegins, EpochBegins, opened, rows_wanted, epoch_of, with_next_row, row_if_new, next_row, rows_at, rest_at, begun_by, beginning_of, unit_begun, epoch_place}
-use Rattle.crx_rinex.proofs.Cells.{identifier_columns}
+use Rattle.crx_rinex.specs.EachPlace.{each_place}
+use Rattle.crx_rinex.proofs.EachPlace.{each_place-all, length-each_place}
+use Rattle.crx_rinex.proofs.Cells.{flags_in_more, identifier_columns}
 use Rattle.crx_rinex.proofs.Counts.{allowed_of, system_of}
-use Rattle.crx_rinex.proofs.Ranges.{value_fits, clock_fits}
+use Rattle.crx_rinex.proofs.Ranges.{value_fits, clock_fits, tested}
 use Rattle.crx_rinex.proofs.Apart.{apart-push}
 use Rattle.crx_rinex.proofs.Rows.{satellites_few}
 
@@ -42,10 +43,6 @@ if_some : (o : Option (Option ℤ)) → ((value : Option ℤ) → o ≡ Some val
 if_some None h = tt
 if_some (Some value) h = h value refl
 
-fields_sound : (line ks : List ℕ) → AllByRecursion (λ (o : Option (Option ℤ)). IfSome o IsValue) (map (λ k. observation_of (field line k)) ks)
-fields_sound line [] = tt
-fields_sound line (k ∷ ks) = (if_some (observation_of (field line k)) (value_fits (field line k)), fields_sound line ks)
-
 record AreValues (count : ℕ) (values : List (Option ℤ)) : Type 0 where
   long : length values ≡ count
   ranged : All IsValue values
@@ -58,18 +55,19 @@ values_sound (Some x ∷ xs) values h e =
     (λ vs some same. let ih = values_sound xs vs h.1 some in
     subst (AreValues (suc (length xs))) (same_Some (x ∷ vs) values same) (record { long = ap suc ih.long; ranged = All-cons IsValue x vs h.0 ih.ranged }))
 
-flags_long : (line ks : List ℕ) → length (flags_from line ks) ≡ 2 * length ks
-flags_long line [] = refl
-flags_long line (k ∷ ks) = let e = flags_long line ks in omega (arith, e)
+flags_long : (line : List ℕ) (m : ℕ) → length (flags_in m line) ≡ 2 * m
+flags_long line zero = refl
+flags_long line (suc m) =
+    let ih = flags_long line m in
+    let one : suc m ≡ m + 1 = omega arith in
+    let more : length (flags_in (m + 1) line) ≡ length (flags_in m line) + 2 = ap (λ (fs : List ℕ). length fs) (flags_in_more line m) ∙ length-append (flags_in m line) (flags_at line m) in
+    let same = ap (λ n. length (flags_in n line)) one in
+    omega (arith, ih, more, same)
 
 -- what a satellite line is read as
 abbrev IsSoundRead : List Count → Result Row Fault → Type 0
 IsSoundRead types (Ok row) = IsSoundRow row × HasItsTypes types row
 IsSoundRead types (Err fault) = ⊤
-
-tested : {A : Type 0} (b : Bool) (o : Option A) (y : A) → cond b o None ≡ Some y → (b ≡ true) × (o ≡ Some y)
-tested true o y h = (refl, h)
-tested false o y h = absurd (none-some y h)
 
 -- the count of types of a line's satellite
 record IsTyped (line : List ℕ) (m : ℕ) : Type 0 where
@@ -89,14 +87,13 @@ flags_case : (types : List Count) (line : List ℕ) (m : ℕ) (values : List (Op
     → (b : Bool) → list_all is_kept (flags_in m line) ≡ b → IsSoundRead types (cond (not b) (Err BadFlags) (Ok (record { name = columns line 1 3; values = values; flags = flags_in m line })))
 flags_case types line m values e t v false k = tt
 flags_case types line m values e t v true k =
-    let pairs = flags_long line (range_with_len 0 m) in
-    let long = length-range_with_len 0 m in
+    let pairs = flags_long line m in
     let same = v.long in (
       record {
         named = t.named;
         counted = subst IsAllowedCount (sym same) t.counted;
         ranged = v.ranged;
-        paired = omega (arith, pairs, long, same);
+        paired = omega (arith, pairs, same);
         kept = k;
       },
       name_types types line ∙ e ∙ ap (λ n. Some n) (sym same),
@@ -106,7 +103,8 @@ values_case : (types : List Count) (line : List ℕ) (m : ℕ) → types_of_sate
 values_case types line m e t None h = tt
 values_case types line m e t (Some values) h =
     let f : ℕ → Option (Option ℤ) = λ k. observation_of (field line k) in
-    let v : AreValues m values = subst (λ n. AreValues n values) (length-map-range_with_len f 0 m) (values_sound (map f (range_with_len 0 m)) values (fields_sound line (range_with_len 0 m)) h) in
+    let v : AreValues m values = subst (λ n. AreValues n values) (length-each_place m f)
+    (values_sound (each_place m f) values (each_place-all (λ (o : Option (Option ℤ)). IfSome o IsValue) m f (λ k. if_some (f k) (value_fits (field line k)))) h) in
     elim (list_all is_blank (drop (16 * m + 3) line)) as (λ b. IsSoundRead types (cond (not b) (Err BadField) (cond (not (list_all is_kept (flags_in m line))) (Err BadFlags) (Ok (record { name = columns line 1 3; values = values; flags = flags_in m line }))))) [
       | true ↦ flags_case types line m values e t v (list_all is_kept (flags_in m line)) refl
       | false ↦ tt
@@ -121,7 +119,7 @@ sound-row_of types line counts = types_case types line counts (types_of_satellit
 
 -- ---- an epoch line
 
-length-columns : (line : List ℕ) (first width : ℕ) → length (columns line first width) ≡ width
+pub length-columns : (line : List ℕ) (first width : ℕ) → length (columns line first width) ≡ width
 length-columns line first width =
     omega (arith, length-take width (drop (first - 1) line ++ replicate width 32), length-append (drop (first - 1) line) (replicate width 32), length-replicate {A = ℕ} width 32)
 

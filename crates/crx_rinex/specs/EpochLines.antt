@@ -1,9 +1,9 @@
 -- Epoch lines: RINEX 3.05, table A3, EPOCH record.
-use Rattle.std.specs.Prelude.{◌≡◌, ◌≤◌, ◌+◌, ℕ, ℤ, Bool, length, ◌||◌, ◌&&◌, ◌-◌, List, ◌==◌, Option, Some, None, IfSome, Result, Ok, Err, if◌then◌else◌, nat_le, unwrap_or, not, drop}
+use Rattle.std.specs.Prelude.{◌≡◌, ◌≤◌, ◌+◌, ℕ, ℤ, Bool, length, ◌||◌, ◌&&◌, ◌-◌, List, ◌==◌, Option, Some, None, Result, Ok, Err, if◌then◌else◌, nat_le, unwrap_or, not, drop}
 use Rattle.std.specs.List.{list_all}
 use Rattle.std.specs.Option.{option_and_then}
 use Rattle.crx_text.specs.Columns.{columns, character_at, is_blank}
-use Rattle.crx_text.specs.Numbers.{clock_of, IsClock}
+use Rattle.crx_text.specs.Numbers.{clock_of, IsMissingOrWithin}
 use Rattle.crx_text.specs.Texts.{is_kept}
 use Rattle.crx_lines.specs.declared.limits.TheConstants.{SATELLITES_LIMIT, HEAD_WIDTH, CLOCK_WIDTH}
 use Rattle.crx_lines.specs.declared.fault.Fault.{Fault}
@@ -81,7 +81,7 @@ satellites_of head = unwrap_or (epoch_count head) 0
 
 -- a clock that fits its columns, or none
 abbrev pub IsClockOffset : Option ℤ → Type 0
-IsClockOffset clock = IfSome clock IsClock
+IsClockOffset clock = IsMissingOrWithin CLOCK_WIDTH clock
 
 -- what is true of every observation epoch's line: its columns are those of one, and its clock fits its columns
 pub record IsObservationHead (line : ObservationHead) : Type 0 where

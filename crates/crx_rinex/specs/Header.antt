@@ -3,6 +3,7 @@ use Rattle.std.specs.Prelude.{ℕ, Bool, false, ◌||◌, ◌&&◌, List, [], �
 use Rattle.std.specs.Char.{is_ascii_digit}
 use Rattle.std.specs.Str.{bytes_eq}
 use Rattle.crx_text.specs.Columns.{columns, character_at, without_blanks}
+use Rattle.crx_lines.specs.declared.limits.TheConstants.{VERSION_WIDTH}
 use Rattle.crx_lines.specs.declared.fault.Fault.{Fault}
 use Rattle.crx_lines.specs.declared.fault.Fault.TheVariants.{MissingVersion, UnsupportedVersion, NotObservation}
 use Rattle.crx_rinex.specs.Label.{has_label, version_label, end_label}
@@ -20,7 +21,7 @@ is_supported version = bytes_eq version (codes "3") || (bytes_eq version (codes 
 abbrev pub first_header_fault : List ℕ → Option Fault
 first_header_fault line =
     if not (has_label version_label line) then Some MissingVersion
-    else if not (is_supported (without_blanks (columns line 1 9))) then Some UnsupportedVersion
+    else if not (is_supported (without_blanks (columns line 1 VERSION_WIDTH))) then Some UnsupportedVersion
     else if not (character_at line 21 == 79) then Some NotObservation
     else None
 

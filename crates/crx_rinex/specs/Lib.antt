@@ -3,6 +3,7 @@ pub mod ObservationTypes
 pub mod Header
 pub mod EpochLines
 pub mod Heads
+pub mod EachPlace
 pub mod SatelliteLines
 pub mod Observations
 pub mod Epochs

@@ -1,10 +1,11 @@
 -- Satellite lines: RINEX 3.05, table A3, OBSERVATION record, A1,I2.2,m(F14.3,I1,I1).
-use Rattle.std.specs.Prelude.{◌≡◌, ℕ, ℤ, Bool, true, ◌==◌, ◌||◌, ◌&&◌, ◌+◌, ◌*◌, ◌-◌, List, [], ◌∷◌, ◌++◌, Option, Some, None, IfSome, Result, Ok, Err, if◌then◌else◌, not, drop, map, length, replicate, slice_set, All}
+use Rattle.std.specs.Prelude.{◌≡◌, ℕ, ℤ, Bool, true, ◌==◌, ◌||◌, ◌&&◌, ◌+◌, ◌*◌, ◌-◌, List, [], ◌∷◌, ◌++◌, Option, Some, None, Result, Ok, Err, if◌then◌else◌, not, drop, length, replicate, slice_set, All}
 use Rattle.std.specs.Char.{is_ascii_digit}
-use Rattle.std.specs.List.{list_all, range_with_len}
+use Rattle.std.specs.List.{list_all, concat}
 use Rattle.std.specs.Option.{option_and_then}
 use Rattle.crx_text.specs.Columns.{columns, character_at, is_blank}
-use Rattle.crx_text.specs.Numbers.{observation_of, IsObservation}
+use Rattle.crx_text.specs.Numbers.{observation_of, IsMissingOrWithin}
+use Rattle.crx_rinex.specs.EachPlace.{each_place}
 use Rattle.crx_rinex.specs.Observations.{Row}
 use Rattle.crx_lines.specs.declared.limits.TheConstants.{OBSERVATION_WIDTH, NAME_WIDTH, CELL_WIDTH}
 use Rattle.crx_lines.specs.declared.fault.Fault.{Fault}
@@ -32,15 +33,15 @@ all_some (Some value ∷ rest) = option_and_then (λ values. Some (value ∷ val
 
 -- the values of m types, if each field is a number or blank
 abbrev pub values_in : ℕ → List ℕ → Option (List (Option ℤ))
-values_in m line = all_some (map (λ k. observation_of (field line k)) (range_with_len 0 m))
+values_in m line = all_some (each_place m (λ k. observation_of (field line k)))
 
--- the two indicators of each of m types, loss of lock and signal strength
-abbrev pub flags_from : List ℕ → List ℕ → List ℕ
-flags_from line [] = []
-flags_from line (k ∷ ks) = character_at line (16 * k + 18) ∷ character_at line (16 * k + 19) ∷ flags_from line ks
+-- the two indicators of type k, from 0: loss of lock and signal strength
+abbrev pub flags_at : List ℕ → ℕ → List ℕ
+flags_at line k = character_at line (CELL_WIDTH * k + (NAME_WIDTH + OBSERVATION_WIDTH + 1)) ∷ character_at line (CELL_WIDTH * k + (NAME_WIDTH + OBSERVATION_WIDTH + 2)) ∷ []
 
+-- those of each of m types
 abbrev pub flags_in : ℕ → List ℕ → List ℕ
-flags_in m line = flags_from line (range_with_len 0 m)
+flags_in m line = concat (each_place m (flags_at line))
 
 -- a row of m types, or its first fault: a field that is no number, or text after the last cell; then an indicator
 abbrev pub row_with : ℕ → List ℕ → Option (List (Option ℤ)) → Result Row Fault
@@ -64,7 +65,7 @@ is_identifier name = (length name == NAME_WIDTH) && (is_system (character_at nam
 
 -- a value that fits its columns, or none
 abbrev pub IsValue : Option ℤ → Type 0
-IsValue value = IfSome value IsObservation
+IsValue value = IsMissingOrWithin OBSERVATION_WIDTH value
 
 -- what is true of every row: its identifier is spelt as one; it has as many values as a system may have types, each within
 -- its columns; and two indicators for each, of the characters that may stand there

@@ -1,6 +1,7 @@
 //! Observation epochs. RINEX 3.05, table A3.
 
 ghost use Rattle.std.specs.Prelude.{ℕ, ◌≡◌, ◌≤◌, ◌<◌, ◌+◌, ◌⊎◌, ◌-◌, ◌*◌, ◌++◌, ◌∷◌, [], length, take, is_some, true, false, Err, OnOk, OnErr, IfErr, IfSome, slice_get, slice_set};
+ghost use Rattle.std.specs.Bool.{OnFalse, OnTrue};
 ghost use Rattle.std.specs.List.{sum_by};
 ghost use Rattle.std.specs.Option.{option_copied};
 ghost use Rattle.crx_lines.specs.declared.limits.TheConstants.{SATELLITES_LIMIT, TYPES_LIMIT};
@@ -117,6 +118,25 @@ impl Epoch {
         self.count += 1;
         self.different = self.count;
         Ok(())
+    }
+
+    /// Puts a row after the others where a spare one of the same satellite stands at its place, which is handed back for it;
+    /// `false` where there is none, and then nothing changes.
+    pub fn exchange(&mut self, row: &mut SatRow) -> bool
+        requires { is_full_epoch self.old ≡ false }
+        ensures put { OnTrue result (self.new ≡ with_row self.old row.old) }
+        ensures same { OnFalse result ((self.new ≡ self.old) × (row.new ≡ row.old)) }
+    {
+        let name = row.name();
+        if self.count < self.different {
+            let spare = &mut self.rows[self.count];
+            if spare.name() == name {
+                mem::swap(spare, row);
+                self.count += 1;
+                return true;
+            }
+        }
+        false
     }
 
     /// Reads a satellite line and puts its row after the others, into the memory of an earlier row where there is one:

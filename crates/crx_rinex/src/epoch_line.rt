@@ -7,7 +7,7 @@ ghost use Rattle.crx_text.specs.Columns.{columns};
 ghost use Rattle.crx_text.specs.Numbers.{IsClock};
 ghost use Rattle.crx_lines.specs.declared.limits.TheConstants.{HEAD_WIDTH};
 ghost use Rattle.crx_text.specs.Texts.{is_kept};
-ghost use Rattle.crx_rinex.specs.EpochLines.{head_of, begins_epoch, epoch_count, epoch_head, is_event_flag, is_observation_flag, records_in, satellites_in, EpochHead, IsObservationHead};
+ghost use Rattle.crx_rinex.specs.EpochLines.{head_of, begins_epoch, epoch_count, epoch_head, is_event_flag, is_event_line, is_observation_flag, records_in, satellites_in, EpochHead, IsObservationHead};
 ghost use Rattle.crx_rinex.specs.Heads.{head_line};
 
 use crate::columns::{after_columns, all_blank, character, is_blank, number, padded};
@@ -79,6 +79,21 @@ impl EpochLine {
     {
         self.clock
     }
+}
+
+/// Whether a line begins an epoch or an event: its first character is `>`.
+#[inline(always)]
+pub fn begins_epoch(line: &[u8]) -> bool
+    ensures { result ≡ begins_epoch line.now }
+{
+    matches!(line, [b'>', ..])
+}
+
+/// Whether a line is an event's first one, by its own bytes: it begins with `>` and has a flag from 2 to 6 in column 32.
+pub fn is_event_line(line: &[u8]) -> bool
+    ensures { result ≡ is_event_line line.now }
+{
+    begins_epoch(line) && is_event_flag(character(line, 32))
 }
 
 /// What stands in a line where an epoch may begin.

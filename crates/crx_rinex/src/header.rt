@@ -4,6 +4,7 @@ ghost use Rattle.std.specs.Prelude.{◌≡◌, None, Some, MatchResult};
 ghost use Rattle.crx_rinex.specs.Header.{first_header_fault, is_end_of_header, is_supported};
 
 use crate::columns::{character, is_labelled, trimmed};
+use crx_lines::limits::VERSION_WIDTH;
 use crx_text::Fault;
 
 /// Checks the first line of a header, `RINEX VERSION / TYPE` (RINEX 3.05, table A2).
@@ -19,7 +20,7 @@ pub fn header_first(line: &[u8]) -> Result<(), Fault>
     if !is_labelled(line, b"RINEX VERSION / TYPE") {
         return Err(Fault::MissingVersion);
     }
-    if !is_supported(trimmed(line, 1, 9)) {
+    if !is_supported(trimmed(line, 1, VERSION_WIDTH)) {
         return Err(Fault::UnsupportedVersion);
     }
     if character(line, 21) != b'O' {

@@ -9,13 +9,11 @@ pub mod laws;
 pub mod printed;
 pub mod reading_back;
 pub mod satellite_row;
-#[cfg(test)]
-mod tests;
 pub mod types;
 
 pub use columns::{after_columns, all_blank, is_labelled, padded};
 pub use epoch::Epoch;
-pub use epoch_line::{EpochLine, Head};
+pub use epoch_line::{EpochLine, Head, begins_epoch, is_event_line};
 pub use header::{header_first, is_end};
 pub use printed::{Printed, print_last_line};
 pub use satellite_row::{SatRow, types_of_satellite};

@@ -5,7 +5,7 @@ ghost use Rattle.std.specs.Bool.{OnTrue, OnFalse};
 ghost use Rattle.std.specs.List.{list_all};
 ghost use Rattle.std.specs.Option.{option_map, ForSome};
 ghost use Rattle.crx_text.specs.Columns.{character_at, columns};
-ghost use Rattle.crx_lines.specs.declared.limits.TheConstants.{CELL_WIDTH, LINE_LIMIT, NAME_WIDTH, TYPES_LIMIT};
+ghost use Rattle.crx_lines.specs.declared.limits.TheConstants.{CELL_WIDTH, LINE_LIMIT, NAME_WIDTH, OBSERVATION_WIDTH, TYPES_LIMIT};
 ghost use Rattle.crx_text.specs.Numbers.{observation_of, observation_text, IsObservation};
 ghost use Rattle.crx_text.specs.Texts.{is_kept};
 ghost use Rattle.crx_rinex.specs.ObservationTypes.{IsAllowedCount};
@@ -133,6 +133,22 @@ impl SatRow {
         };
         row.begin_again(name, m)?;
         Ok(row)
+    }
+
+    /// Makes the row one of another satellite with so many types, whose values and indicators are still to be replaced.
+    /// `OutOfMemory` is its one refusal.
+    pub fn begin_for(&mut self, identifier: [u8; NAME_WIDTH], m: usize) -> Result<(), Fault>
+        requires named { is_identifier identifier ≡ true }
+        requires allowed { IsAllowedCount m }
+        ensures name { OnOk result (self.new.name ≡ identifier) }
+        ensures sized { OnOk result (length self.new.values ≡ m) }
+        ensures err { IfErr result (λ fault. fault ≡ Fault.OutOfMemory) }
+    {
+        if self.values.len() == m {
+            self.name = identifier;
+            return Ok(());
+        }
+        self.begin_again(identifier, m)
     }
 
     /// Makes the row that of [`SatRow::blank`].
@@ -281,7 +297,7 @@ fn split_cells(line: &[u8], values: &mut [Option<i64>], flags: &mut [u8]) -> boo
 pub fn types_of_satellite(types: &Types, line: &[u8]) -> Option<usize>
     ensures value { result ≡ types_of_satellite types.now line.now }
     ensures allowed { IfSome result IsAllowedCount }
-    ensures named { OnSome result (is_identifier (columns line.now 1 3) ≡ true) }
+    ensures named { OnSome result (is_identifier (columns line.now 1 NAME_WIDTH) ≡ true) }
 {
     if has_number(line) {
         types.count(character(line, 1))
@@ -304,41 +320,57 @@ fn cell(line: &[u8], k: usize) -> Option<(Option<i64>, u8, u8)>
     requires { k < TYPES_LIMIT }
     ensures value { option_map (λ cell. cell.0) result ≡ observation_of (field line.now k) }
     ensures ranged { IfSome result (λ cell. IsValue cell.0) }
-    ensures flags { IfSome result (λ cell. (cell.1 ≡ character_at line.now (CELL_WIDTH * k + 18)) × (cell.2 ≡ character_at line.now (CELL_WIDTH * k + 19))) }
+    ensures flags { IfSome result (λ cell. (cell.1 ≡ character_at line.now (CELL_WIDTH * k + (NAME_WIDTH + OBSERVATION_WIDTH + 1))) × (cell.2 ≡ character_at line.now (CELL_WIDTH * k + (NAME_WIDTH + OBSERVATION_WIDTH + 2)))) }
 {
     let start = CELL_WIDTH * k + NAME_WIDTH;
-    if line.len() <= start {
-        return Some((None, b' ', b' '));
-    }
-    if line.len() < start + CELL_WIDTH {
+    let end = start + OBSERVATION_WIDTH;
+    if line.len() < end {
+        if line.len() <= start {
+            return Some((None, b' ', b' '));
+        }
         return cell_in_any_spelling(line, k);
     }
-    match obs_read_usual(&line[start..start + OBSERVATION_WIDTH]) {
-        Some(value) => Some((
-            value,
-            line[start + OBSERVATION_WIDTH],
-            line[start + OBSERVATION_WIDTH + 1],
-        )),
+    match obs_read_usual(&line[start..end]) {
+        Some(value) => {
+            let (lock, strength) = indicators(line, k);
+            Some((value, lock, strength))
+        }
         None => cell_in_any_spelling(line, k),
     }
 }
 
-/// The same of a cell that may end after the line does, and in any spelling.
+/// The same of a cell whose field may end after the line does, and in any spelling.
 #[inline(never)]
 fn cell_in_any_spelling(line: &[u8], k: usize) -> Option<(Option<i64>, u8, u8)>
     requires { k < TYPES_LIMIT }
     ensures value { option_map (λ cell. cell.0) result ≡ observation_of (field line.now k) }
     ensures ranged { IfSome result (λ cell. IsValue cell.0) }
-    ensures flags { IfSome result (λ cell. (cell.1 ≡ character_at line.now (CELL_WIDTH * k + 18)) × (cell.2 ≡ character_at line.now (CELL_WIDTH * k + 19))) }
+    ensures flags { IfSome result (λ cell. (cell.1 ≡ character_at line.now (CELL_WIDTH * k + (NAME_WIDTH + OBSERVATION_WIDTH + 1))) × (cell.2 ≡ character_at line.now (CELL_WIDTH * k + (NAME_WIDTH + OBSERVATION_WIDTH + 2)))) }
 {
     match observation(line, k) {
-        Some(value) => Some((
-            value,
-            character(line, CELL_WIDTH * k + 18),
-            character(line, CELL_WIDTH * k + 19),
-        )),
+        Some(value) => {
+            let (lock, strength) = indicators(line, k);
+            Some((value, lock, strength))
+        }
         None => None,
     }
+}
+
+/// The two indicators of type k, from 0: blanks at a line's end are mostly cut.
+#[inline(always)]
+fn indicators(line: &[u8], k: usize) -> (u8, u8)
+    requires { k < TYPES_LIMIT }
+    ensures lock { result.0 ≡ character_at line.now (CELL_WIDTH * k + (NAME_WIDTH + OBSERVATION_WIDTH + 1)) }
+    ensures strength { result.1 ≡ character_at line.now (CELL_WIDTH * k + (NAME_WIDTH + OBSERVATION_WIDTH + 2)) }
+{
+    let end = CELL_WIDTH * k + NAME_WIDTH + CELL_WIDTH;
+    if end <= line.len() {
+        return (line[end - 2], line[end - 1]);
+    }
+    (
+        character(line, CELL_WIDTH * k + (NAME_WIDTH + OBSERVATION_WIDTH + 1)),
+        character(line, CELL_WIDTH * k + (NAME_WIDTH + OBSERVATION_WIDTH + 2)),
+    )
 }
 
 /// The value of type k, from 0; `None` where its field is neither blank nor a number of format F14.3.

@@ -1,13 +1,8 @@
 -- Blanks at the ends of texts, and the columns of a line that ends before them.
-use Rattle.std.proofs.Common.{◌≡◌, ℕ, ◌+◌, ◌-◌, ◌≤◌, Bool, true, false, List, [], ◌∷◌, ◌++◌, length, take, drop, replicate, refl, ap, sym, ◌∙◌, arith, suc, zero, cond, get_or, ◌&&◌}
+use Rattle.std.proofs.Common.{◌≡◌, ℕ, ◌+◌, ◌-◌, ◌≤◌, Bool, true, false, List, [], ◌∷◌, ◌++◌, length, take, drop, replicate, refl, ap, ◌∙◌, arith, suc, zero, cond, ◌&&◌}
 use Rattle.std.specs.List.{list_all}
-use Rattle.std.proofs.lemmas.List.{take-replicate, take_more, take_all}
+use Rattle.std.proofs.lemmas.List.{take-replicate}
 use Rattle.crx_text.specs.Columns.{is_blank, columns, before_end_blanks, without_end_blanks, without_first_blanks, without_blanks}
-
--- one blank more at the end is no matter
-pub end_blanks-push : (xs : List ℕ) → without_end_blanks (xs ++ 32 ∷ []) ≡ without_end_blanks xs
-end_blanks-push [] = refl
-end_blanks-push (x ∷ xs) = ap (before_end_blanks x) (end_blanks-push xs)
 
 end_blanks_none : (n : ℕ) → without_end_blanks (replicate n 32) ≡ []
 end_blanks_none zero = refl
@@ -17,7 +12,7 @@ first_blanks_none : (n : ℕ) → without_first_blanks (replicate n 32) ≡ []
 first_blanks_none zero = refl
 first_blanks_none (suc n) = first_blanks_none n
 
--- nor are more
+-- more blanks at the end are no matter
 pub end_blanks-more : (xs : List ℕ) (n : ℕ) → without_end_blanks (xs ++ replicate n 32) ≡ without_end_blanks xs
 end_blanks-more [] n = end_blanks_none n
 end_blanks-more (x ∷ xs) n = ap (before_end_blanks x) (end_blanks-more xs n)
@@ -27,29 +22,6 @@ blanks-more [] n = ap without_end_blanks (first_blanks_none n)
 blanks-more (x ∷ xs) n =
     elim (is_blank x) as (λ b. without_end_blanks (cond b (without_first_blanks (xs ++ replicate n 32)) (x ∷ (xs ++ replicate n 32))) ≡ without_end_blanks (cond b (without_first_blanks xs) (x ∷ xs)))
     [ true ↦ blanks-more xs n | false ↦ end_blanks-more (x ∷ xs) n ]
-
-before_some : (x : ℕ) (xs : List ℕ) (c : ℕ) → before_end_blanks x (xs ++ c ∷ []) ≡ x ∷ (xs ++ c ∷ [])
-before_some x [] c = refl
-before_some x (y ∷ ys) c = refl
-
--- a text that ends with another character stays
-pub end_blanks_end : (xs : List ℕ) (c : ℕ) → is_blank c ≡ false → without_end_blanks (xs ++ c ∷ []) ≡ xs ++ c ∷ []
-end_blanks_end [] c h = rw h refl
-end_blanks_end (x ∷ xs) c h = ap (before_end_blanks x) (end_blanks_end xs c h) ∙ before_some x xs c
-
--- a text by its last character
-by_last : (xs : List ℕ) → 1 ≤ length xs → take (length xs - 1) xs ++ get_or xs (length xs - 1) 0 ∷ [] ≡ xs
-by_last xs h =
-    let e : length xs - 1 + 1 ≡ length xs = omega arith in
-    sym (take_more xs (length xs - 1) 0 (omega arith)) ∙ ap (λ n. take n xs) e ∙ take_all (length xs) xs (omega arith)
-
-pub end_blanks_last : (xs : List ℕ) → 1 ≤ length xs → get_or xs (length xs - 1) 0 ≡ 32 → without_end_blanks (take (length xs - 1) xs) ≡ without_end_blanks xs
-end_blanks_last xs h e =
-    sym (end_blanks-push (take (length xs - 1) xs)) ∙ ap (λ c. without_end_blanks (take (length xs - 1) xs ++ c ∷ [])) (sym e) ∙ ap without_end_blanks (by_last xs h)
-
-pub end_blanks_stop : (xs : List ℕ) → 1 ≤ length xs → is_blank (get_or xs (length xs - 1) 0) ≡ false → without_end_blanks xs ≡ xs
-end_blanks_stop xs h e =
-    ap without_end_blanks (sym (by_last xs h)) ∙ end_blanks_end (take (length xs - 1) xs) (get_or xs (length xs - 1) 0) e ∙ by_last xs h
 
 padded_more : (w n : ℕ) (s : List ℕ) → w ≤ n → take w (s ++ replicate n 32) ≡ take w s ++ replicate (w - length (take w s)) 32
 padded_more zero n s h = refl

@@ -2,7 +2,7 @@
 use Rattle.std.proofs.Common.{◌≡◌, ℕ, suc, ◌+◌, ◌-◌, ◌*◌, ◌/◌, ◌%◌, ◌^◌, ◌<◌, List, [], ◌∷◌, ◌++◌, length, replicate, take, set, subst, refl, sym, ap, ◌∙◌, arith}
 use Rattle.std.proofs.lemmas.Fmt.{decimal_digit}
 use Rattle.std.specs.List.{range_with_len}
-use lib.Lanes.{pick_l, put_chunk, zip2}
+use lib.Lanes.{pick_l, put_chunk}
 use Rattle.crx_text.specs.FieldTexts.{group_digits, side_by_side}
 use Rattle.crx_text.specs.Numbers.{size_text, zero_padded}
 use Rattle.crx_text.proofs.ClockColumns.{fifteen}

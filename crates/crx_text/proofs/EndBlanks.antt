@@ -1,9 +1,9 @@
--- The blanks at the end of a text, 32 characters at a time.
-use Rattle.std.proofs.Common.{true, false, not, Bool, cond, if◌then◌else◌, eqb, ℕ, suc, zero, ◌≡◌, ◌+◌, ◌-◌, ◌*◌, ◌/◌, ◌%◌, ◌^◌, ◌<◌, ◌≤◌, List, [], ◌∷◌, ◌++◌, length, drop, take, map, replicate, w8, arith, refl, ap, sym, ◌∙◌}
+-- The blanks at the end of a text, 16 characters at a time.
+use Rattle.std.proofs.Common.{true, false, not, cond, if◌then◌else◌, eqb, ℕ, suc, zero, ◌≡◌, ◌+◌, ◌-◌, ◌*◌, ◌/◌, ◌%◌, ◌^◌, ◌<◌, ◌≤◌, List, [], ◌∷◌, ◌++◌, length, drop, take, map, replicate, w8, arith, refl, ap, sym, ◌∙◌}
 use Rattle.std.proofs.Math.Nat.{pow-le-pow_right}
 use Rattle.std.proofs.Math.Seq.{take-add, take-take}
 use Rattle.std.proofs.lemmas.List.{length-append, take-append-drop, length-map}
-use Rattle.std.proofs.lemmas.Nat.{leading_le, leading_top}
+use Rattle.std.proofs.lemmas.Nat.{leading_top}
 use Rattle.std.proofs.lemmas.Simd.{bitmask_splat, chunk-drop, mask_l-lt}
 use Rattle.std.specs.Int.Count.{count_leading_zeros, leading_of_zero}
 use lib.Lanes.{chunk, mask_l, top, zip2}
@@ -44,33 +44,33 @@ module _ (text : List ℕ) (end : ℕ) (within : end ≤ length text) (none : wi
   kept_before = sym (none_append (take end text) (drop end text) none) ∙ ap without_end_blanks (take-append-drop end text)
 
   -- a piece that keeps something decides
-  pub kept_in_piece : (start count : ℕ) → start + 32 ≡ end → 0 < count → count ≤ 32 → take count (chunk start 32 text) ≡ without_end_blanks (chunk start 32 text) → length (without_end_blanks (chunk start 32 text)) ≡ count
+  pub kept_in_piece : (start count : ℕ) → start + 16 ≡ end → 0 < count → count ≤ 16 → take count (chunk start 16 text) ≡ without_end_blanks (chunk start 16 text) → length (without_end_blanks (chunk start 16 text)) ≡ count
       → take (start + count) text ≡ without_end_blanks text
   kept_in_piece start count sum some few kept long =
-      let piece : List ℕ = chunk start 32 text in
+      let piece : List ℕ = chunk start 16 text in
       let front : take (start + count) text ≡ take start text ++ take count piece =
-      take-add start count text ∙ ap (λ (t : List ℕ). take start text ++ t) (sym (take-take count 32 (drop start text) few)) in
+      take-add start count text ∙ ap (λ (t : List ℕ). take start text ++ t) (sym (take-take count 16 (drop start text) few)) in
       let whole : without_end_blanks text ≡ take start text ++ without_end_blanks piece =
-      sym kept_before ∙ (ap (λ (k : ℕ). without_end_blanks (take k text)) (sym sum) ∙ (ap without_end_blanks (take-add start 32 text) ∙ kept_append (take start text) piece (omega (arith, long, some)))) in
+      sym kept_before ∙ (ap (λ (k : ℕ). without_end_blanks (take k text)) (sym sum) ∙ (ap without_end_blanks (take-add start 16 text) ∙ kept_append (take start text) piece (omega (arith, long, some)))) in
       front ∙ (ap (λ (t : List ℕ). take start text ++ t) kept ∙ sym whole)
 
   -- one that keeps nothing goes with the blanks after it
-  pub none_in_piece : (start : ℕ) → start + 32 ≡ end → length (without_end_blanks (chunk start 32 text)) ≡ 0 → without_end_blanks (drop start text) ≡ []
+  pub none_in_piece : (start : ℕ) → start + 16 ≡ end → length (without_end_blanks (chunk start 16 text)) ≡ 0 → without_end_blanks (drop start text) ≡ []
   none_in_piece start sum long =
-      ap without_end_blanks (chunk-drop start 32 text)
-      ∙ (none_append (chunk start 32 text) (drop (start + 32) text) (ap (λ (k : ℕ). without_end_blanks (drop k text)) sum ∙ none)
-      ∙ nothing (without_end_blanks (chunk start 32 text)) long)
+      ap without_end_blanks (chunk-drop start 16 text)
+      ∙ (none_append (chunk start 16 text) (drop (start + 16) text) (ap (λ (k : ℕ). without_end_blanks (drop k text)) sum ∙ none)
+      ∙ nothing (without_end_blanks (chunk start 16 text)) long)
 
   -- the first piece decides where only blanks stand after it
-  pub kept_in_first : (count : ℕ) → end < 32 → count ≤ 32 → take count (chunk 0 32 text) ≡ without_end_blanks (chunk 0 32 text) → take count text ≡ without_end_blanks text
+  pub kept_in_first : (count : ℕ) → end < 16 → count ≤ 16 → take count (chunk 0 16 text) ≡ without_end_blanks (chunk 0 16 text) → take count text ≡ without_end_blanks text
   kept_in_first count few small kept =
-      let sum : end + (32 - end) ≡ 32 = omega (arith, few) in
-      let blank : without_end_blanks (drop 32 text) ≡ [] =
-      ap (λ (k : ℕ). without_end_blanks (drop k text)) (sym sum) ∙ none_after (chunk end (32 - end) text) (drop (end + (32 - end)) text) (ap without_end_blanks (sym (chunk-drop end (32 - end) text)) ∙ none) in
-      let whole : without_end_blanks (take 32 text) ≡ without_end_blanks text = sym (none_append (take 32 text) (drop 32 text) blank) ∙ ap without_end_blanks (take-append-drop 32 text) in
-      sym (take-take count 32 text small) ∙ (kept ∙ whole)
+      let sum : end + (16 - end) ≡ 16 = omega (arith, few) in
+      let blank : without_end_blanks (drop 16 text) ≡ [] =
+      ap (λ (k : ℕ). without_end_blanks (drop k text)) (sym sum) ∙ none_after (chunk end (16 - end) text) (drop (end + (16 - end)) text) (ap without_end_blanks (sym (chunk-drop end (16 - end) text)) ∙ none) in
+      let whole : without_end_blanks (take 16 text) ≡ without_end_blanks text = sym (none_append (take 16 text) (drop 16 text) blank) ∙ ap without_end_blanks (take-append-drop 16 text) in
+      sym (take-take count 16 text small) ∙ (kept ∙ whole)
 
--- ---- the mask of 32 characters
+-- ---- the mask of 16 characters
 
 leading_double : (k b m : ℕ) → b ≤ 1 → 0 < m → count_leading_zeros (suc k) (b + 2 * m) ≡ count_leading_zeros k m
 unfolding count_leading_zeros
@@ -116,9 +116,9 @@ bits_kept k [] few = omega (arith, leading_of_zero k)
 bits_kept zero (x ∷ xs) few = absurd (omega (arith, few))
 bits_kept (suc k) (x ∷ xs) few = next_bit k x (others xs) xs (omega (arith, few)) (bits_kept k xs (omega (arith, few))) refl
 
-pub lanes_kept : (v : List ℕ) → length v ≡ 32 → 64 - count_leading_zeros 64 (mask_l (map (top 7) (zip2 (λ a b. cond (not (eqb a b)) 255 0) v (replicate 32 32))) % 2 ^ 64) ≡ length (without_end_blanks v)
+pub lanes_kept : (v : List ℕ) → length v ≡ 16 → 64 - count_leading_zeros 64 (mask_l (map (top 7) (zip2 (λ a b. cond (not (eqb a b)) 255 0) v (replicate 16 32))) % 2 ^ 64) ≡ length (without_end_blanks v)
 lanes_kept v long =
-    ap (λ m. 64 - count_leading_zeros 64 m) (bitmask_splat w8 (λ a b. not (eqb a b)) v 32 32 long (omega arith)) ∙ bits_kept 64 v (omega (arith, long))
+    ap (λ m. 64 - count_leading_zeros 64 m) (bitmask_splat w8 (λ a b. not (eqb a b)) v 16 32 long (omega arith)) ∙ bits_kept 64 v (omega (arith, long))
 
 pub take_kept : (xs : List ℕ) → take (length (without_end_blanks xs)) xs ≡ without_end_blanks xs
 take_kept [] = refl

@@ -1,14 +1,20 @@
--- Texts in pieces of 32 characters and a rest.
+-- Texts in pieces of 16 characters and a rest.
 use Rattle.std.proofs.Common.{true, false, ℕ, ◌≡◌, ◌+◌, ◌-◌, ◌<◌, ◌≤◌, ◌&&◌, Bool, List, [], ◌∷◌, ◌++◌, length, drop, take, get_or, arith, refl, ap, sym, ◌∙◌}
 use Rattle.std.proofs.Math.Seq.{take-add, take-take}
-use Rattle.std.proofs.lemmas.List.{take-append-drop, length-take-le, take_more, take_at, length-drop, take_all}
+use Rattle.std.proofs.lemmas.List.{take-append-drop, drop-drop, length-take-le, take_more, take_at, length-drop, take_all}
 use Rattle.std.proofs.lemmas.List.Folds.{list_all-append}
 use Rattle.std.proofs.lemmas.Bool.{and_parts}
-use Rattle.std.proofs.lemmas.Simd.{chunk-drop, length-zip2}
+use Rattle.std.proofs.lemmas.Simd.{chunk-drop, length-chunk, length-zip2}
 use Rattle.std.specs.List.{list_all}
 use Rattle.std.specs.Simd.Lanes.{zip2, chunk}
 
 -- ---- tests
+
+-- two pieces, one after the other
+pub list_all-pieces : (p : ℕ → Bool) (i n m : ℕ) (xs : List ℕ) → (list_all p (chunk i n xs) && list_all p (chunk (i + n) m xs)) ≡ list_all p (chunk i (n + m) xs)
+list_all-pieces p i n m xs =
+    ap (λ (t : List ℕ). list_all p (chunk i n xs) && list_all p (take m t)) (sym (drop-drop n i xs))
+    ∙ (sym (list_all-append p (chunk i n xs) (chunk n m (drop i xs))) ∙ ap (list_all p) (sym (take-add n m (drop i xs))))
 
 module _ (p : ℕ → Bool) (xs : List ℕ) (i n : ℕ) (before : list_all p (take i xs) ≡ true) where
   -- one more piece that passes
@@ -47,6 +53,15 @@ zip2-piece f xs ys i n within same =
     let first = length-take-le i xs within in
     let second : length (take i ys) ≡ i = length-take-le i ys (omega arith) in
     rw (take-add i n xs, take-add i n ys) (zip2-append f (take i xs) (chunk i n xs) (take i ys) (chunk i n ys) (omega (arith, first, second)))
+
+-- two pieces, one after the other
+pub zip2-pieces : (f : ℕ → ℕ → ℕ) (xs ys : List ℕ) (i n m : ℕ) → i + n ≤ length xs → length ys ≡ length xs
+    → zip2 f (chunk i n xs) (chunk i n ys) ++ zip2 f (chunk (i + n) m xs) (chunk (i + n) m ys) ≡ zip2 f (chunk i (n + m) xs) (chunk i (n + m) ys)
+zip2-pieces f xs ys i n m within same =
+    let first = length-chunk i n xs within in
+    let second : length (chunk i n ys) ≡ n = length-chunk i n ys (omega (arith, within, same)) in
+    sym (rw (take-add n m (drop i xs), take-add n m (drop i ys), drop-drop n i xs, drop-drop n i ys)
+    (zip2-append f (chunk i n xs) (chunk (i + n) m xs) (chunk i n ys) (chunk (i + n) m ys) (omega (arith, first, second))))
 
 -- one more character
 pub zip2-next : (f : ℕ → ℕ → ℕ) (xs ys : List ℕ) (i : ℕ) → i < length xs → length ys ≡ length xs → zip2 f (take (i + 1) xs) (take (i + 1) ys) ≡ zip2 f (take i xs) (take i ys) ++ f (get_or xs i 0) (get_or ys i 0) ∷ []

@@ -1,9 +1,9 @@
 -- Texts by position, and the blanks at their ends.
-use Rattle.std.proofs.Common.{true, false, Bool, if◌then◌else◌, ℕ, suc, zero, ◌≡◌, ◌≢◌, ◌==◌, ◌+◌, ◌-◌, ◌<◌, ◌≤◌, List, [], ◌∷◌, ◌++◌, length, drop, take, get_or, replicate, arith, refl, ap, sym, ◌∙◌}
+use Rattle.std.proofs.Common.{false, ℕ, suc, zero, ◌≡◌, ◌≢◌, ◌==◌, ◌+◌, ◌-◌, ◌<◌, ◌≤◌, List, [], ◌∷◌, ◌++◌, length, drop, take, get_or, replicate, arith, refl, ap, sym, ◌∙◌}
 use Rattle.std.proofs.lemmas.Bool.Decides.{nat_tests}
 use Rattle.std.proofs.lemmas.List.{take_more}
 use Rattle.std.specs.Simd.Lanes.{zip2}
-use Rattle.crx_text.specs.Columns.{is_blank, before_end_blanks, without_end_blanks}
+use Rattle.crx_text.specs.Columns.{before_end_blanks, without_end_blanks}
 use Rattle.crx_text.specs.Texts.{by_position}
 
 pub without_end_blanks-blank : (xs : List ℕ) → without_end_blanks (xs ++ 32 ∷ []) ≡ without_end_blanks xs

@@ -1,7 +1,7 @@
 -- The two ends of a text, which are the whole of it where they meet.
 use Rattle.std.proofs.Common.{true, false, ℕ, ◌≡◌, ◌+◌, ◌-◌, ◌≤◌, ◌&&◌, Bool, List, [], ◌++◌, length, drop, take, arith, refl, ap, sym, ◌∙◌}
 use Rattle.std.proofs.Math.Seq.{take-add}
-use Rattle.std.proofs.lemmas.List.{append_assoc, append-nil, drop_all, drop_at, length-append, length-drop, length-take-le, take_all, take_at, take-append-drop}
+use Rattle.std.proofs.lemmas.List.{append_assoc, append-nil, drop-drop, drop_all, drop_at, length-append, length-drop, length-take-le, take_all, take_at, take-append-drop}
 use Rattle.std.proofs.lemmas.List.Folds.{list_all-append}
 use Rattle.std.proofs.lemmas.Simd.{chunk-drop, length-chunk, length-put_chunk, length-zip2, pick_l_whole, pick_l-range_with_len, put_chunk_is}
 use Rattle.std.specs.List.{list_all, range_with_len}
@@ -22,11 +22,8 @@ loaded_length : (n : ℕ) (text : List ℕ) → n ≤ length text → length (lo
 loaded_length n text long =
     omega (arith, length-append (take n text) (chunk (length text - n) n text), length-take-le n text long, length-chunk (length text - n) n text (omega (arith, long)))
 
-pub sixteen_ends : (text : List ℕ) → 16 ≤ length text → pick_l 0 (loaded 16 text) (range_with_len 0 32) ≡ ends 16 text
-sixteen_ends text long = pick_l_whole 0 (loaded 16 text) 32 (loaded_length 16 text long) ∙ loaded_is 16 text long
-
-pub eight_ends : (text : List ℕ) → 8 ≤ length text → pick_l 0 (loaded 8 text) (range_with_len 0 16) ++ pick_l 0 (loaded 8 text) (range_with_len 0 16) ≡ ends 8 text ++ ends 8 text
-eight_ends text long = ap (λ (t : List ℕ). t ++ t) (pick_l_whole 0 (loaded 8 text) 16 (loaded_length 8 text long) ∙ loaded_is 8 text long)
+pub eight_ends : (text : List ℕ) → 8 ≤ length text → pick_l 0 (loaded 8 text) (range_with_len 0 16) ≡ ends 8 text
+eight_ends text long = pick_l_whole 0 (loaded 8 text) 16 (loaded_length 8 text long) ∙ loaded_is 8 text long
 
 -- ---- a test
 
@@ -34,10 +31,6 @@ twice_between : (a b c : Bool) → ((a && b) && (b && c)) ≡ (a && (b && c))
 twice_between false b c = refl
 twice_between true false c = refl
 twice_between true true c = refl
-
-twice : (a : Bool) → (a && a) ≡ a
-twice true = refl
-twice false = refl
 
 module _ (p : ℕ → Bool) (n : ℕ) (text : List ℕ) (some : n ≤ length text) (few : length text ≤ n + n) where
   pub list_all-ends : list_all p (ends n text) ≡ list_all p text
@@ -52,8 +45,29 @@ module _ (p : ℕ → Bool) (n : ℕ) (text : List ℕ) (some : n ≤ length tex
       let whole : list_all p text ≡ (a && (b && c)) = ap (list_all p) (sym (take-append-drop m text)) ∙ list_all-append p (take m text) (drop m text) ∙ ap (λ (t : Bool). a && t) back in
       list_all-append p (take n text) (drop m text) ∙ (rw (front, back) (twice_between a b c ∙ sym whole))
 
-  pub list_all-ends_twice : list_all p (ends n text ++ ends n text) ≡ list_all p text
-  list_all-ends_twice = list_all-append p (ends n text) (ends n text) ∙ (twice (list_all p (ends n text)) ∙ list_all-ends)
+-- the two ends of a text of two pieces at most, as they are loaded
+pub list_all-two : (p : ℕ → Bool) (n : ℕ) (text : List ℕ) → n ≤ length text → length text ≤ n + n → (list_all p (take n text) && list_all p (chunk (length text - n) n text)) ≡ list_all p text
+list_all-two p n text some few =
+    sym (list_all-append p (take n text) (chunk (length text - n) n text)) ∙ (ap (list_all p) (loaded_is n text some) ∙ list_all-ends p n text some few)
+
+and_assoc : (a b c : Bool) → ((a && b) && c) ≡ (a && (b && c))
+and_assoc true b c = refl
+and_assoc false b c = refl
+
+-- the same of three pieces at most
+pub list_all-three : (p : ℕ → Bool) (n : ℕ) (text : List ℕ) → n + n ≤ length text → length text ≤ n + n + n
+    → ((list_all p (take n text) && list_all p (chunk n n text)) && list_all p (chunk (length text - n) n text)) ≡ list_all p text
+list_all-three p n text some few =
+    let a : Bool = list_all p (take n text) in
+    let b : Bool = list_all p (chunk n n text) in
+    let rest : List ℕ = drop n text in
+    let long = length-drop n text in
+    let same : drop (length rest - n) rest ≡ drop (length text - n) text = drop-drop (length rest - n) n text ∙ ap (λ (k : ℕ). drop k text) (omega (arith, long, some)) in
+    let last : list_all p (chunk (length rest - n) n rest) ≡ list_all p (chunk (length text - n) n text) = ap (λ (t : List ℕ). list_all p (take n t)) same in
+    let two : (b && list_all p (chunk (length text - n) n text)) ≡ list_all p rest =
+    ap (λ (t : Bool). b && t) (sym last) ∙ list_all-two p n rest (omega (arith, long, some)) (omega (arith, long, few)) in
+    and_assoc a b (list_all p (chunk (length text - n) n text))
+    ∙ (ap (λ (t : Bool). a && t) two ∙ (sym (list_all-append p (take n text) rest) ∙ ap (list_all p) (take-append-drop n text)))
 
 -- ---- a rule
 
@@ -115,10 +129,3 @@ module _ (f : ℕ → ℕ → ℕ) (n : ℕ) (old other out : List ℕ) (some : 
   pub stored_ends : (made : List ℕ) → made ≡ zip2 f (ends n old) (ends n other) →
       put_chunk (length old - n) (put_chunk 0 out (pick_l 0 (made ++ made) (range_with_len 0 n))) (pick_l 0 (made ++ made) (range_with_len n n)) ≡ zip2 f old other
   stored_ends made made_is = stored made [] (made_is ∙ sym (append-nil (zip2 f (ends n old) (ends n other))))
-
-  pub stored_ends_twice : (made : List ℕ) → made ≡ zip2 f (ends n old ++ ends n old) (ends n other ++ ends n other) →
-      put_chunk (length old - n) (put_chunk 0 out (pick_l 0 (made ++ made) (range_with_len 0 n))) (pick_l 0 (made ++ made) (range_with_len n n)) ≡ zip2 f old other
-  stored_ends_twice made made_is =
-      let olds : length (ends n old) ≡ n + n = omega (arith, length-append (take n old) (drop (length old - n) old), length-take-le n old some, length-drop (length old - n) old) in
-      let others : length (ends n other) ≡ n + n = omega (arith, length-append (take n other) (drop (length other - n) other), length-take-le n other (omega (arith, some, same)), length-drop (length other - n) other, same) in
-      stored made (zip2 f (ends n old) (ends n other)) (made_is ∙ zip2-append f (ends n old) (ends n old) (ends n other) (ends n other) (olds ∙ sym others))

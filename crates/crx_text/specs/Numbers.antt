@@ -1,7 +1,7 @@
 -- Numbers in columns: RINEX 3.05, table A3, an observation in format F14.3 (it counts
 -- thousandths) and the receiver clock offset in format F15.12 (it counts units of 10^-12 s).
 -- A number here is what stands in the columns without its point.
-use Rattle.std.specs.Prelude.{ℕ, ℤ, pos, negsuc, neg_ℤ, Bool, ◌&&◌, ◌<ℤ◌, ◌+◌, ◌-◌, ◌/◌, ◌%◌, ◌^◌, ◌==◌, nat_lt, if◌then◌else◌, List, [], ◌∷◌, ◌++◌, length, take, drop, replicate, slice_index, Option, Some, None, decimal}
+use Rattle.std.specs.Prelude.{ℕ, ℤ, pos, negsuc, neg_ℤ, Bool, ◌&&◌, ◌<ℤ◌, ◌+◌, ◌-◌, ◌/◌, ◌%◌, ◌^◌, ◌==◌, nat_lt, if◌then◌else◌, List, [], ◌∷◌, ◌++◌, length, take, drop, replicate, slice_index, Option, Some, None, IfSome, decimal}
 use Rattle.std.specs.Option.{option_map}
 use Rattle.std.specs.Str.{all_ascii_digits}
 use Rattle.std.specs.Str.Parse.{digits_value, starts_with_minus}
@@ -58,6 +58,10 @@ clock_of text = number_of CLOCK_WIDTH CLOCK_DECIMALS text
 pub record IsWithin (width : ℕ) (number : ℤ) : Type 0 where
   pub low : neg_ℤ (pos (10 ^ (width - 2))) <ℤ number
   pub high : number <ℤ pos (10 ^ (width - 1))
+
+-- a number that is missing or fits so many columns
+abbrev pub IsMissingOrWithin : ℕ → Option ℤ → Type 0
+IsMissingOrWithin width number = IfSome number (IsWithin width)
 
 abbrev pub IsObservation : ℤ → Type 0
 IsObservation number = IsWithin OBSERVATION_WIDTH number

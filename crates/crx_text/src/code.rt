@@ -268,6 +268,3 @@ fn number_before_blank(text: &[u8]) -> Option<(i64, usize)>
     let (size, next) = digits_before_blank(digits)?;
     Some((signed(is_below, size), next + usize::from(is_below)))
 }
-
-#[cfg(test)]
-mod tests;

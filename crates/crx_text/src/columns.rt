@@ -4,7 +4,7 @@ ghost use Rattle.std.specs.Prelude.{◌≡◌, ◌≤◌, ◌-◌, take, drop, l
 ghost use Rattle.std.specs.List.{list_all};
 ghost use Rattle.crx_text.specs.Columns.{character_at, columns, is_blank, without_blanks, without_end_blanks, without_first_blanks};
 
-use crate::text::Text;
+use crate::text::{Text, trim_end};
 
 /// The character in a column, from 1: a blank after the line's end.
 pub fn character(line: &[u8], column: usize) -> u8
@@ -29,23 +29,8 @@ fn part(line: &[u8], first: usize, width: usize) -> &[u8]
     }
 }
 
-/// A text without the blanks at its end.
-fn trim_end(text: &[u8]) -> &[u8]
-    ensures value { result.now ≡ without_end_blanks text.now }
-    ensures shorter { length result.now ≤ length text.now }
-{
-    let mut rest = text;
-    while let [front @ .., last] = rest {
-        if *last != b' ' {
-            return rest;
-        }
-        rest = front;
-    }
-    rest
-}
-
 /// A text without the blanks at its beginning.
-fn trim_start(text: &[u8]) -> &[u8]
+pub(crate) fn trim_start(text: &[u8]) -> &[u8]
     ensures value { result.now ≡ without_first_blanks text.now }
     ensures shorter { length result.now ≤ length text.now }
 {
@@ -111,6 +96,7 @@ pub fn padded<const N: usize>(line: &[u8], first: usize) -> [u8; N]
 }
 
 /// Replaces a text by a line without the blanks at its end.
+#[tactic(auto, using(crate::proofs::EndBlanks::few_kept))]
 pub fn put_trimmed(text: &mut Text, line: &Text)
     ensures { text.new ≡ without_end_blanks line.now }
 {

@@ -112,11 +112,12 @@ impl Kind for Kept {
         32 <= character && character <= 126 && character != b'&'
     }
 
-    fn holds_in(characters: u8x32) -> bool {
-        let others = characters.simd_lt(u8x32::splat(32))
-            | characters.simd_gt(u8x32::splat(126))
-            | characters.simd_eq(u8x32::splat(b'&'));
-        others.to_bitmask() == 0
+    fn with_others(others: u8x16, characters: u8x16) -> u8x16 {
+        let unprintable = (characters - u8x16::splat(32)).saturating_sub(u8x16::splat(94));
+        let ampersands = characters
+            .simd_eq(u8x16::splat(b'&'))
+            .select(u8x16::splat(255), u8x16::splat(0));
+        others | (unprintable | ampersands)
     }
 }
 
@@ -130,9 +131,8 @@ impl Kind for Printable {
         32 <= character && character <= 126
     }
 
-    fn holds_in(characters: u8x32) -> bool {
-        let others = characters.simd_lt(u8x32::splat(32)) | characters.simd_gt(u8x32::splat(126));
-        others.to_bitmask() == 0
+    fn with_others(others: u8x16, characters: u8x16) -> u8x16 {
+        others | (characters - u8x16::splat(32)).saturating_sub(u8x16::splat(94))
     }
 }
 
@@ -152,9 +152,9 @@ impl Rule for Marks {
         }
     }
 
-    fn apply_to(old: u8x32, new: u8x32) -> u8x32 {
-        let blank = u8x32::splat(b' ');
-        let other = new.simd_eq(blank).select(u8x32::splat(b'&'), new);
+    fn apply_to(old: u8x16, new: u8x16) -> u8x16 {
+        let blank = u8x16::splat(b' ');
+        let other = new.simd_eq(blank).select(u8x16::splat(b'&'), new);
         old.simd_eq(new).select(blank, other)
     }
 }
@@ -175,9 +175,9 @@ impl Rule for Characters {
         }
     }
 
-    fn apply_to(old: u8x32, mark: u8x32) -> u8x32 {
-        let blank = u8x32::splat(b' ');
-        let other = mark.simd_eq(u8x32::splat(b'&')).select(blank, mark);
+    fn apply_to(old: u8x16, mark: u8x16) -> u8x16 {
+        let blank = u8x16::splat(b' ');
+        let other = mark.simd_eq(u8x16::splat(b'&')).select(blank, mark);
         mark.simd_eq(blank).select(old, other)
     }
 }
@@ -211,6 +211,3 @@ fn write_by_position<R: Rule>(old: &[u8], other: &[u8], out: &mut [u8]) -> usize
     );
     end
 }
-
-#[cfg(test)]
-mod tests;

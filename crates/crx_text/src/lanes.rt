@@ -1,13 +1,13 @@
-//! Texts read and written 32 characters at a time; the last 32 may overlap those before.
+//! Texts read and written 16 characters at a time; the last 16 may overlap those before.
 
-ghost use Rattle.std.specs.Prelude.{◌≡◌, ℕ, ◌+◌, ◌-◌, ◌<◌, ◌≤◌, Bool, ◌++◌, length, take, drop};
+ghost use Rattle.std.specs.Prelude.{◌≡◌, ℕ, ◌+◌, ◌-◌, ◌<◌, ◌≤◌, Bool, ◌++◌, ◌==◌, ◌&&◌, length, take, drop};
 ghost use Rattle.std.specs.List.{list_all};
 ghost use Rattle.std.specs.Simd.Lanes.{chunk, zip2};
 
 use std::simd::prelude::*;
 
 /// How many characters a vector holds.
-pub(crate) const LANES: usize = 32;
+pub(crate) const LANES: usize = 16;
 
 /// A kind of characters.
 pub(crate) trait Kind {
@@ -17,9 +17,17 @@ pub(crate) trait Kind {
     fn holds(character: u8) -> bool
         ensures { result ≡ is_of_kind character };
 
-    /// Whether 32 characters are.
-    fn holds_in(characters: u8x32) -> bool
-        ensures { result ≡ list_all is_of_kind characters };
+    /// Lanes with those set whose characters aren't of the kind; those that are set stay so.
+    fn with_others(others: u8x16, characters: u8x16) -> u8x16
+        ensures { list_all (λ lane. lane == 0) result ≡ (list_all (λ lane. lane == 0) others && list_all is_of_kind characters) };
+}
+
+// Whether no lane is set.
+#[inline(always)]
+fn none_set(lanes: u8x16) -> bool
+    ensures { result ≡ list_all (λ lane. lane == 0) lanes }
+{
+    lanes.reduce_or() == 0
 }
 
 /// Whether all characters of a text are of the kind.
@@ -29,63 +37,67 @@ pub(crate) fn all_of<K: Kind>(text: &[u8]) -> bool
     if text.len() < LANES {
         return all_of_few::<K>(text);
     }
-    let last = text.len() - LANES;
+    if text.len() <= 3 * LANES {
+        return all_of_some::<K>(text);
+    }
+    let last = text.len() - 2 * LANES;
     let mut at = 0;
     while at < last {
-        if !K::holds_in(u8x32::from_slice(&text[at..])) {
+        if !holds_in_two::<K>(text, at) {
             return false;
         }
-        at += LANES;
+        at += 2 * LANES;
     }
-    K::holds_in(u8x32::from_slice(&text[last..]))
+    holds_in_two::<K>(text, last)
+}
+
+// Whether 32 characters from an index on are.
+#[inline(always)]
+fn holds_in_two<K: Kind>(text: &[u8], at: usize) -> bool
+    requires { at + 32 ≤ length text.now }
+    ensures { result ≡ list_all K.is_of_kind (chunk at 32 text.now) }
+{
+    let others = K::with_others(u8x16::splat(0), u8x16::from_slice(&text[at..]));
+    none_set(K::with_others(others, u8x16::from_slice(&text[at + LANES..])))
+}
+
+// The same of a text of three vectors at most: its two ends, and the characters between.
+#[inline(always)]
+fn all_of_some<K: Kind>(text: &[u8]) -> bool
+    requires some { 16 ≤ length text.now }
+    requires few { length text.now ≤ 48 }
+    ensures { result ≡ list_all K.is_of_kind text.now }
+{
+    let last = text.len() - LANES;
+    let first = K::with_others(u8x16::splat(0), u8x16::from_slice(text));
+    if last > LANES {
+        let two = K::with_others(first, u8x16::from_slice(&text[LANES..]));
+        return none_set(K::with_others(two, u8x16::from_slice(&text[last..])));
+    }
+    none_set(K::with_others(first, u8x16::from_slice(&text[last..])))
 }
 
 // The same of a text that is shorter than a vector: its two ends in one vector, where these are
 // lanes enough.
 #[inline(always)]
 fn all_of_few<K: Kind>(text: &[u8]) -> bool
-    requires { length text.now < 32 }
+    requires { length text.now < 16 }
     ensures { result ≡ list_all K.is_of_kind text.now }
 {
-    if text.len() >= 16 {
-        return K::holds_in(ends_of_sixteen(text));
-    }
     if text.len() >= 8 {
-        return K::holds_in(ends_of_eight(text));
+        return none_set(K::with_others(u8x16::splat(0), ends_of_eight(text)));
     }
     all_of_singly::<K>(text)
 }
 
-/// The first 16 characters of a text, and the last 16.
+/// The first 8 characters of a text and the last 8.
 #[inline(always)]
-fn ends_of_sixteen(text: &[u8]) -> u8x32
-    requires { 16 ≤ length text.now }
-    ensures { result ≡ take 16 text.now ++ drop (length text.now - 16) text.now }
-{
-    let last = u8x16::from_slice(&text[text.len() - 16..]);
-    u8x16::from_slice(text).shuffle(
-        last,
-        [
-            0, 1, 2, 3, 4, 5, 6, 7, 8, 9, 10, 11, 12, 13, 14, 15, 16, 17, 18, 19, 20, 21, 22, 23,
-            24, 25, 26, 27, 28, 29, 30, 31,
-        ],
-    )
-}
-
-/// The first 8 characters of a text and the last 8, twice.
-#[inline(always)]
-fn ends_of_eight(text: &[u8]) -> u8x32
+fn ends_of_eight(text: &[u8]) -> u8x16
     requires { 8 ≤ length text.now }
-    ensures { result ≡ (take 8 text.now ++ drop (length text.now - 8) text.now) ++ (take 8 text.now ++ drop (length text.now - 8) text.now) }
+    ensures { result ≡ take 8 text.now ++ drop (length text.now - 8) text.now }
 {
     let last = u8x8::from_slice(&text[text.len() - 8..]);
-    u8x8::from_slice(text).shuffle(
-        last,
-        [
-            0, 1, 2, 3, 4, 5, 6, 7, 8, 9, 10, 11, 12, 13, 14, 15, 0, 1, 2, 3, 4, 5, 6, 7, 8, 9, 10,
-            11, 12, 13, 14, 15,
-        ],
-    )
+    u8x8::from_slice(text).shuffle(last, [0, 1, 2, 3, 4, 5, 6, 7, 8, 9, 10, 11, 12, 13, 14, 15])
 }
 
 fn all_of_singly<K: Kind>(text: &[u8]) -> bool
@@ -107,8 +119,8 @@ pub(crate) trait Rule {
     fn apply(old: u8, other: u8) -> u8
         ensures { result ≡ rule old other };
 
-    /// The 32 characters that are made of 32 pairs.
-    fn apply_to(old: u8x32, other: u8x32) -> u8x32
+    /// The 16 characters that are made of 16 pairs.
+    fn apply_to(old: u8x16, other: u8x16) -> u8x16
         ensures { result ≡ zip2 rule old other };
 }
 
@@ -121,43 +133,70 @@ pub(crate) fn write_by_rule<R: Rule>(old: &[u8], other: &[u8], out: &mut [u8])
         write_few::<R>(old, other, out);
         return;
     }
-    let last = old.len() - LANES;
+    if old.len() <= 3 * LANES {
+        write_some::<R>(old, other, out);
+        return;
+    }
+    let last = old.len() - 2 * LANES;
     let mut at = 0;
     while at < last {
-        write_lanes::<R>(old, other, out, at);
-        at += LANES;
+        write_two::<R>(old, other, out, at);
+        at += 2 * LANES;
     }
-    write_lanes::<R>(old, other, out, last);
+    write_two::<R>(old, other, out, last);
 }
 
 // The same of 32 characters from an index on.
 #[inline(always)]
-fn write_lanes<R: Rule>(old: &[u8], other: &[u8], out: &mut [u8], at: usize)
+fn write_two<R: Rule>(old: &[u8], other: &[u8], out: &mut [u8], at: usize)
     requires room { at + 32 ≤ length old.now }
     requires same_length { (length other.now ≡ length old.now) × (length out.old ≡ length old.now) }
     ensures written { take (at + 32) out.new ≡ take at out.old ++ zip2 R.rule (chunk at 32 old.now) (chunk at 32 other.now) }
     ensures long { length out.new ≡ length out.old }
 {
-    let olds = u8x32::from_slice(&old[at..]);
-    let others = u8x32::from_slice(&other[at..]);
+    write_lanes::<R>(old, other, out, at);
+    write_lanes::<R>(old, other, out, at + LANES);
+}
+
+// The same of 16 characters from an index on.
+#[inline(always)]
+fn write_lanes<R: Rule>(old: &[u8], other: &[u8], out: &mut [u8], at: usize)
+    requires room { at + 16 ≤ length old.now }
+    requires same_length { (length other.now ≡ length old.now) × (length out.old ≡ length old.now) }
+    ensures written { take (at + 16) out.new ≡ take at out.old ++ zip2 R.rule (chunk at 16 old.now) (chunk at 16 other.now) }
+    ensures long { length out.new ≡ length out.old }
+{
+    let olds = u8x16::from_slice(&old[at..]);
+    let others = u8x16::from_slice(&other[at..]);
     R::apply_to(olds, others).copy_to_slice(&mut out[at..]);
+}
+
+// The same of texts of three vectors at most.
+#[inline(always)]
+fn write_some<R: Rule>(old: &[u8], other: &[u8], out: &mut [u8])
+    requires some { 16 ≤ length old.now }
+    requires few { length old.now ≤ 48 }
+    requires same_length { (length other.now ≡ length old.now) × (length out.old ≡ length old.now) }
+    ensures { out.new ≡ zip2 R.rule old.now other.now }
+{
+    let last = old.len() - LANES;
+    write_lanes::<R>(old, other, out, 0);
+    if last > LANES {
+        write_lanes::<R>(old, other, out, LANES);
+        write_lanes::<R>(old, other, out, last);
+        return;
+    }
+    write_lanes::<R>(old, other, out, last);
 }
 
 // The same of texts that are shorter than a vector.
 #[inline(always)]
 fn write_few<R: Rule>(old: &[u8], other: &[u8], out: &mut [u8])
-    requires few { length old.now < 32 }
+    requires few { length old.now < 16 }
     requires same_length { (length other.now ≡ length old.now) × (length out.old ≡ length old.now) }
     ensures { out.new ≡ zip2 R.rule old.now other.now }
 {
     let count = old.len();
-    if count >= 16 {
-        let made = R::apply_to(ends_of_sixteen(old), ends_of_sixteen(other));
-        made.extract::<0, 16>().copy_to_slice(out);
-        made.extract::<16, 16>()
-            .copy_to_slice(&mut out[count - 16..]);
-        return;
-    }
     if count >= 8 {
         let made = R::apply_to(ends_of_eight(old), ends_of_eight(other));
         made.extract::<0, 8>().copy_to_slice(out);

@@ -8,8 +8,6 @@ pub mod code;
 pub mod columns;
 pub mod difference;
 mod digits;
-#[cfg(test)]
-mod error_texts;
 mod field;
 mod field_text;
 mod lanes;

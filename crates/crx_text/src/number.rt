@@ -9,6 +9,7 @@ ghost use Rattle.crx_lines.specs.declared.limits.TheConstants.{CELL_WIDTH, LINE_
 ghost use Rattle.crx_text.specs.Columns.{without_first_blanks};
 ghost use Rattle.crx_text.specs.Numbers.{IsWithin, IsObservation, IsClock, number_of, observation_of, clock_of, size_of, spelt_number, number_text, observation_text, clock_text, size_text, zero_padded};
 
+use crate::columns::trim_start;
 use crate::digits::{WIDEST, digits_read, signed, split_minus};
 use crate::field_text::size_print_by_lanes;
 use crate::text::Text;
@@ -197,7 +198,7 @@ fn number_read(field: &[u8], width: usize, decimals: usize) -> Result<Option<i64
     if field.len() != width {
         return Err(BadField);
     }
-    let text = trim_first_blanks(field);
+    let text = trim_start(field);
     if text.is_empty() {
         return Ok(None);
     }
@@ -205,18 +206,6 @@ fn number_read(field: &[u8], width: usize, decimals: usize) -> Result<Option<i64
         Some(number) => Ok(Some(number)),
         None => Err(BadField),
     }
-}
-
-// The text without the blanks at its beginning.
-fn trim_first_blanks(field: &[u8]) -> &[u8]
-    ensures value { result.now ≡ without_first_blanks field.now }
-    ensures shorter { length result.now ≤ length field.now }
-{
-    let mut text = field;
-    while let [b' ', rest @ ..] = text {
-        text = rest;
-    }
-    text
 }
 
 // A number after its blanks; None where the text spells none.
@@ -286,6 +275,3 @@ fn padded_print(number: u64, columns: &mut [u8])
     let width = columns.len();
     write_digits(number, columns, width);
 }
-
-#[cfg(test)]
-mod tests;

@@ -124,28 +124,31 @@ fn end_blanks(text: &[u8]) -> usize
     ensures within { result ≤ length text.now }
 {
     let mut end = text.len();
+    if end > 0 && text[end - 1] != b' ' {
+        return end;
+    }
     while end >= LANES {
         let start = end - LANES;
-        let count = kept_in(u8x32::from_slice(&text[start..]));
+        let count = kept_in(u8x16::from_slice(&text[start..]));
         if count > 0 {
             return start + count;
         }
         end = start;
     }
     if text.len() >= LANES {
-        return kept_in(u8x32::from_slice(text));
+        return kept_in(u8x16::from_slice(text));
     }
     end_blanks_singly(text, end)
 }
 
-// How many of 32 characters stand before the blanks at their end.
+// How many of 16 characters stand before the blanks at their end.
 #[inline(always)]
-fn kept_in(characters: u8x32) -> usize
+fn kept_in(characters: u8x16) -> usize
     ensures kept { take result characters ≡ without_end_blanks characters }
     ensures long { length (without_end_blanks characters) ≡ result }
-    ensures within { result ≤ 32 }
+    ensures within { result ≤ 16 }
 {
-    let others = characters.simd_ne(u8x32::splat(b' ')).to_bitmask();
+    let others = characters.simd_ne(u8x16::splat(b' ')).to_bitmask();
     64 - others.leading_zeros() as usize
 }
 

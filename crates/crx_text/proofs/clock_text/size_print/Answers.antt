@@ -1,4 +1,4 @@
-use Rattle.std.proofs.Common.{◌-◌, ◌*◌, ◌/◌, ◌%◌, ◌^◌, ℕ, List, ap, ◌∙◌, replicate}
+use Rattle.std.proofs.Common.{ℕ, List, ap, ◌∙◌, replicate}
 use Rattle.crx_text.specs.FieldTexts.{side_by_side, group_digits}
 use Rattle.crx_text.proofs.ClockTexts.{clock_written}
 use Rattle.crx_text.proofs.PrintedTexts.{plus}

@@ -5,4 +5,4 @@ use Rattle.crx_text.proofs.columns.end_trimmed.Goals as goal
 
 pub returns : goal.returns
 returns c =
-    c.trim_end.ensures.value ∙ ap without_end_blanks c.part.ensures.value ∙ sym (end_blanks-columns c.args.line.now c.args.first c.args.width)
+    c.trim_end.ensures ∙ ap without_end_blanks c.part.ensures.value ∙ sym (end_blanks-columns c.args.line.now c.args.first c.args.width)

@@ -1,6 +1,6 @@
-use Rattle.std.proofs.Common.{◌≡◌, ◌+◌, ◌≤◌, ◌++◌, ℕ, List, length, take, ap, sym, ◌∙◌, arith}
+use Rattle.std.proofs.Common.{◌≡◌, ◌+◌, ◌++◌, ℕ, List, length, take, ap, sym, ◌∙◌, arith}
 use Rattle.std.proofs.lemmas.Simd.{take_more_put_chunk, length-zip2, length-chunk}
-use Rattle.std.specs.Simd.Lanes.{chunk, zip2}
+use Rattle.std.specs.Simd.Lanes.{chunk}
 use Rattle.crx_text.proofs.lanes.write_lanes.Goals as goal
 
 pub returns-clause-written : goal.returns-clause-written
@@ -10,8 +10,8 @@ returns-clause-written g c =
     let old = c.args.old.now in
     let other = c.args.other.now in
     let rule = g.R.Rule.rule in
-    let olds = length-chunk i 32 old c.requires.room in
-    let others = length-chunk i 32 other (omega (arith, c.requires.room, c.requires.same_length.0)) in
-    let long : length c.apply_to.result ≡ 32 = ap length c.apply_to.ensures ∙ length-zip2 rule (chunk i 32 old) (chunk i 32 other) (olds ∙ sym others) ∙ olds in
-    take_more_put_chunk i out c.apply_to.result (i + 32) (omega (arith, long)) (omega (arith, c.requires.room, c.requires.same_length.1))
+    let olds = length-chunk i 16 old c.requires.room in
+    let others = length-chunk i 16 other (omega (arith, c.requires.room, c.requires.same_length.0)) in
+    let long : length c.apply_to.result ≡ 16 = ap length c.apply_to.ensures ∙ length-zip2 rule (chunk i 16 old) (chunk i 16 other) (olds ∙ sym others) ∙ olds in
+    take_more_put_chunk i out c.apply_to.result (i + 16) (omega (arith, long)) (omega (arith, c.requires.room, c.requires.same_length.1))
     ∙ ap (λ (t : List ℕ). take i out ++ t) c.apply_to.ensures

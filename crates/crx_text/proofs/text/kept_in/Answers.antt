@@ -1,5 +1,4 @@
-use Rattle.std.proofs.Common.{◌≡◌, ℕ, take, ap, sym, ◌∙◌, length, arith}
-use Rattle.crx_text.specs.Columns.{without_end_blanks}
+use Rattle.std.proofs.Common.{ℕ, take, ap, sym, ◌∙◌, arith}
 use Rattle.crx_text.proofs.EndBlanks.{lanes_kept, take_kept, few_kept}
 use Rattle.crx_text.proofs.text.kept_in.Goals as goal
 
