@@ -1,6 +1,5 @@
 -- What was written, read back line by line.
 use Rattle.std.specs.Prelude.{◌≡◌, refl, ◌+◌, Bool, true, false, List, [], ◌∷◌, drop, length, Option, Some, if◌then◌else◌, unwrap_or}
-use Rattle.std.specs.List.{AllByRecursion}
 use Rattle.std.proofs.Common.{sym, ◌∙◌, ap}
 use Rattle.std.proofs.lemmas.List.{append-nil}
 use Rattle.crx_lines.specs.Seen.{ReadLine}
@@ -15,10 +14,8 @@ use Rattle.crx_compact.specs.OpenEpochs.{tail_for_line, epoch_after, HeldEpoch, 
 use Rattle.crx_compact.specs.CompactPlaces.{epoch_at}
 use Rattle.crx_compact.specs.Laws.{AreWhole}
 use Rattle.crx_compact.specs.ReadingLaws.{raw_of, raws_of, read_of, lines_of_epoch, StepsReadBack}
-use Rattle.crx_compact.proofs.Written.{IsEpoch}
 use Rattle.crx_compact.proofs.Runs.{marked, begins_full}
 use Rattle.crx_compact.proofs.Facts.{text-begins}
-use Rattle.crx_compact.proofs.Writable.{all-whole}
 use Rattle.crx_compact.proofs.Reading.{each-reads_back}
 use Rattle.crx_compact.proofs.Soundness.{reads-soundly}
 use Rattle.crx_compact.proofs.RawTailing.{place-by_tail, left-by_tail}
@@ -48,8 +45,7 @@ full-after : (types : List Count) (e : Epoch) (older : List Marked) (tail other 
     → placed_as (held_after tail) (epoch_after types tail (lines_of_epoch (marked true e ∷ older)))
     ≡ placed_as (held_after other) (epoch_after types other (lines_of_epoch (marked true e ∷ older)))
 full-after types e older tail other h =
-    let all : AllByRecursion (IsEpoch types) (since_full (marked true e ∷ older)) = all-whole types (since_full (marked true e ∷ older)) h in
-    let begins : begins_epoch (epoch_line (marked true e) older) ≡ true = begins_full (epoch_text e) (text-begins types e all.0) in
+    let begins : begins_epoch (epoch_line (marked true e) older) ≡ true = begins_full (epoch_text e) (text-begins types e h.0) in
     let lines : List ReadLine = lines_of_epoch (marked true e ∷ older) in
     let new : (t : Option Tail) → tail_for_line t (epoch_line (marked true e) older) ≡ Some no_tail = λ t. ap {B = Option Tail} (λ b. if b then Some no_tail else t) begins in
     steps-agree types tail lines

@@ -1,12 +1,13 @@
 -- What is held of epochs that are read is within the limits.
-use Rattle.std.specs.Prelude.{◌≡◌, refl, ℕ, zero, suc, ◌+◌, ◌-◌, ◌*◌, ◌≤◌, ℤ, Bool, true, false, List, [], ◌∷◌, ◌++◌, length, map, take, drop, Option, Some, None, Result, Ok, Err, IfSome, ⊤, slice_index_or, if◌then◌else◌, nat_le, nat_eq, unwrap_or, replicate}
+use Rattle.std.specs.Prelude.{◌≡◌, refl, ℕ, zero, suc, ◌+◌, ◌-◌, ◌*◌, ◌≤◌, ℤ, Bool, true, false, List, [], ◌∷◌, ◌++◌, length, map, take, drop, Option, Some, None, Result, Ok, Err, IfSome, ⊤, slice_index_or, if◌then◌else◌, nat_le, nat_eq, unwrap_or}
 use Rattle.std.specs.List.{list_all, AllByRecursion}
 use Rattle.std.specs.Char.{is_ascii_digit}
 use Rattle.std.specs.Option.{option_map}
 use Rattle.std.specs.Str.{bytes_eq}
 use Rattle.std.proofs.Common.{sym, ◌∙◌, ap, subst, arith}
-use Rattle.std.proofs.lemmas.Bool.{leb-true}
-use Rattle.std.proofs.lemmas.List.{length-map, length-append, length-take, length-replicate}
+use Rattle.std.proofs.lemmas.Bool.{leb-true, and_parts}
+use Rattle.std.proofs.lemmas.List.{length-map, length-append, length-take}
+use Rattle.crx_rinex.proofs.SoundEpochs.{length-columns}
 use Rattle.crx_text.specs.Columns.{is_blank, character_at, before_end_blanks, without_end_blanks, columns}
 use Rattle.crx_text.specs.Codes.{code_of, start_of, step_of, coded_number, is_order}
 use Rattle.crx_text.specs.Texts.{patched, by_position, character_of}
@@ -22,7 +23,8 @@ use Rattle.crx_rinex.specs.ObservationTypes.{Count, AreCounts, IsAllowedCount}
 use Rattle.crx_rinex.proofs.Characters.{at, at-without_end_blanks, at-drop}
 use Rattle.crx_rinex.proofs.Counts.{allowed_of}
 use Rattle.crx_rinex.proofs.Rows.{satellites_few}
-use Rattle.crx_compact.specs.Sequences.{each_place, and_then, before_all, named}
+use Rattle.crx_rinex.specs.EachPlace.{each_place}
+use Rattle.crx_compact.specs.Sequences.{and_then, before_all, named}
 use Rattle.crx_compact.specs.EpochText.{begins_epoch, Satellite}
 use Rattle.crx_compact.specs.Expansion.{code_in}
 use Rattle.crx_compact.specs.Past.{Past}
@@ -31,11 +33,11 @@ use Rattle.crx_compact.specs.Tails.{ArcTail, RowTail, Tail, IsBoundedArc, IsBoun
 use Rattle.crx_compact.specs.Steps.{no_tail, onto_sum, differences_by, tail_named, cell_of_tail, flags_of_tail, arc_of_code}
 use Rattle.crx_compact.specs.OpenEpochs.{past_of_tail, tail_for_line, HeldClock, HeldRow, HeldEpoch, OpenRawEpoch, RawStep, Going, Whole, Faulty, opened, opening, first_step, gone_on, held_clock, held_row, with_clock, with_row, line_step, next_step, place_of_steps, open_after, IsBoundedAwaited, IsBoundedHeld, IsBoundedOpen, IsBoundedStep}
 use Rattle.crx_compact.specs.ReadingLaws.{ReadAreBounded}
-use Rattle.crx_compact.proofs.Overlays.{same_characters, length-each_place}
+use Rattle.crx_rinex.proofs.EachPlace.{each_place-all, length-each_place}
+use Rattle.crx_compact.proofs.Overlays.{same_characters}
 use Rattle.crx_compact.proofs.SoundTexts.{length-held}
-use Rattle.crx_compact.proofs.Facts.{and_right, list_all-at}
+use Rattle.crx_compact.proofs.Facts.{list_all-at}
 use Rattle.crx_compact.proofs.Goodness.{typed-parts}
-use Rattle.crx_compact.proofs.Rows.{each_place-all}
 use Rattle.crx_compact.proofs.Soundness.{no-err, ok-same, Follows, and_then-ok, if-err, if-ok, if-true, before-ok, cells-count, texts-count, LineFacts, line-facts_of, names_of}
 
 -- ---- orders of codes that are read
@@ -54,7 +56,7 @@ step-ordered None = tt
 step-ordered (Some number) = tt
 
 start-ordered : (c : ℕ) (text : List ℕ) (b : Bool) → is_order c ≡ b → IfSome (if b then option_map (Start (c - 48)) (coded_number text) else None) HasOrder
-start-ordered c text true e = number-ordered (c - 48) (coded_number text) (leb-true (c - 48) ORDER_LIMIT (and_right (is_ascii_digit c) (nat_le (c - 48) ORDER_LIMIT) e))
+start-ordered c text true e = number-ordered (c - 48) (coded_number text) (leb-true (c - 48) ORDER_LIMIT (and_parts (is_ascii_digit c) (nat_le (c - 48) ORDER_LIMIT) e).1)
 start-ordered c text false e = tt
 
 chosen : {A : Type 0} (P : A → Type 0) (b : Bool) (x y : A) → P x → P y → P (if b then x else y)
@@ -94,9 +96,6 @@ record RowParts (satellite : Satellite) (read : ReadRow) : Type 0 where
   marks : are_marks satellite.count read.raw.marks ≡ true
   values : length read.row.values ≡ satellite.count
   flags : length read.row.flags ≡ 2 * satellite.count
-
-length-columns : (line : List ℕ) (first width : ℕ) → length (columns line first width) ≡ width
-length-columns line first width = omega (arith, length-take width (drop (first - 1) line ++ replicate width 32), length-append (drop (first - 1) line) (replicate width 32), length-replicate {A = ℕ} width 32)
 
 row-parts : (past : Past) (satellite : Satellite) (line : List ℕ) (read : ReadRow) → satellite_line_read past satellite line ≡ Ok read → RowParts satellite read
 row-parts past satellite line read e =

@@ -63,16 +63,14 @@ code-printable b (x ∷ y ∷ ys) h k =
     short (doubled WRITTEN_ORDER b) (difference order (x ∷ y ∷ ys)) h
     (near-more (doubled order b) (doubled WRITTEN_ORDER b) (difference order (x ∷ y ∷ ys)) le (difference-near order b (x ∷ y ∷ ys) k))
 
+pub ten-more : (a b : ℕ) → a ≤ b → 10 ^ a ≤ 10 ^ b
+ten-more a b h = pow-le-pow_right (omega arith) h
+
 -- a value within its columns
-pub near-within : (width : ℕ) (z : ℤ) → is_within width z ≡ true → IsNear (10 ^ (width - 1)) z
+pub near-within : (width : ℕ) (z : ℤ) → IsWithin width z → IsNear (10 ^ (width - 1)) z
 near-within width z h =
-    let low : neg_ℤ (pos (10 ^ (width - 2))) <ℤ z = grind (arith, ints, h) in
-    let high : z <ℤ pos (10 ^ (width - 1)) = grind (arith, ints, h) in
-    let more : 10 ^ (width - 2) ≤ 10 ^ (width - 1) = pow-more (width - 2) (width - 1) (omega arith) in
-    record { low = omega (arith, ints, low, more); high = omega (arith, ints, high) }
-  where
-    pow-more : (a b : ℕ) → a ≤ b → 10 ^ a ≤ 10 ^ b
-    pow-more a b h = pow-le-pow_right (omega arith) h
+    let more : 10 ^ (width - 2) ≤ 10 ^ (width - 1) = ten-more (width - 2) (width - 1) (omega arith) in
+    record { low = omega (arith, ints, h.low, more); high = omega (arith, ints, h.high) }
 
 -- the test of a value's columns and the fact
 pub within-is : (width : ℕ) (z : ℤ) → (is_within width z ≡ true) ↔ IsWithin width z

@@ -3,6 +3,7 @@ use Rattle.std.specs.Prelude.{◌≡◌, refl, ℕ, Bool, true, false, ◌&&◌,
 use Rattle.std.specs.List.{list_all, AllByRecursion}
 use Rattle.std.proofs.Common.{sym, ◌∙◌, ap, arith}
 use Rattle.std.proofs.lemmas.List.{append_assoc}
+use Rattle.std.proofs.lemmas.Bool.{and_parts}
 use Rattle.crx_text.specs.Columns.{is_blank, before_end_blanks, without_end_blanks}
 use Rattle.crx_text.specs.declared.code.Code.{Code}
 use Rattle.crx_text.specs.Codes.{code_text, first_cell, after_cell}
@@ -63,21 +64,17 @@ after_cell-trimmed (c ∷ cs) =
 not_blank : (c : ℕ) (b : Bool) → (is_code_character c && b) ≡ true → is_blank c ≡ false
 not_blank c b h = grind (arith, h)
 
-rest_of : (a b : Bool) → (a && b) ≡ true → b ≡ true
-rest_of true b h = h
-rest_of false b h = grind (arith, h)
-
 first_cell-text : (text rest : List ℕ) → list_all is_code_character text ≡ true → first_cell (text ++ 32 ∷ rest) ≡ text
 first_cell-text [] rest h = refl
 first_cell-text (c ∷ cs) rest h =
     first_cell-other c (cs ++ 32 ∷ rest) (not_blank c (list_all is_code_character cs) h)
-    ∙ ap (λ r. c ∷ r) (first_cell-text cs rest (rest_of (is_code_character c) (list_all is_code_character cs) h))
+    ∙ ap (λ r. c ∷ r) (first_cell-text cs rest (and_parts (is_code_character c) (list_all is_code_character cs) h).1)
 
 after_cell-text : (text rest : List ℕ) → list_all is_code_character text ≡ true → after_cell (text ++ 32 ∷ rest) ≡ rest
 after_cell-text [] rest h = refl
 after_cell-text (c ∷ cs) rest h =
     after_cell-other c (cs ++ 32 ∷ rest) (not_blank c (list_all is_code_character cs) h)
-    ∙ after_cell-text cs rest (rest_of (is_code_character c) (list_all is_code_character cs) h)
+    ∙ after_cell-text cs rest (and_parts (is_code_character c) (list_all is_code_character cs) h).1
 
 -- the texts of codes hold no blanks
 abbrev pub AreWritten : List Code → Type 0

@@ -1,7 +1,9 @@
 -- The cells of a line, read from left to right.
-use Rattle.std.specs.Prelude.{◌≡◌, ◌≤◌, ◌<◌, refl, ℕ, suc, ◌+◌, ◌-◌, ℤ, List, [], ◌∷◌, ◌++◌, length, map, take, drop, replicate, slice_index_or, slice_set, Option, Some, None, Result, Ok, Err}
+use Rattle.std.specs.Prelude.{◌≡◌, ◌≤◌, ◌<◌, refl, ℕ, suc, zero, ◌+◌, ◌-◌, ℤ, List, [], ◌∷◌, ◌++◌, length, map, take, drop, slice_index_or, slice_set, Option, Some, None, Result, Ok, Err}
 use Rattle.std.proofs.Common.{sym, ◌∙◌, ap, arith, length-append}
 use Rattle.std.proofs.lemmas.List.{append-nil, drop-drop, length-drop, length-set, take_more_set}
+use Rattle.std.proofs.lemmas.List.{map-append}
+use Rattle.std.proofs.Math.ListN.{drop_of_length-le}
 use Rattle.crx_text.specs.Codes.{code_of, first_cell, after_cell}
 use Rattle.crx_text.specs.declared.code.Code.{Code}
 use Rattle.crx_lines.specs.declared.fault.Fault.{Fault}
@@ -53,15 +55,19 @@ arcs-more before [] code = refl
 arcs-more [] (c ∷ cs) code = ap {B = List (Option ArcTail)} (λ r. arc_of_code c None ∷ r) (arcs-more [] cs code)
 arcs-more (b ∷ bs) (c ∷ cs) code = ap {B = List (Option ArcTail)} (λ r. arc_of_code c b ∷ r) (arcs-more bs cs code)
 
-map-more : {X Y : Type 0} (f : X → Y) (xs : List X) (x : X) → map f (xs ++ x ∷ []) ≡ map f xs ++ f x ∷ []
-map-more f [] x = refl
-map-more f (y ∷ ys) x = ap (λ zs. f y ∷ zs) (map-more f ys x)
-
 length-map : {X Y : Type 0} (f : X → Y) (xs : List X) → length (map f xs) ≡ length xs
 length-map f [] = refl
 length-map f (x ∷ xs) = ap suc (length-map f xs)
 
--- the next of some values that are missing so far
+-- the values from a place on
+from-next : (k : ℕ) (xs : List (Option ℤ)) → k < length xs → drop k xs ≡ slice_index_or xs k None ∷ drop (k + 1) xs
+from-next k [] h = absurd (omega (arith, h))
+from-next zero (x ∷ xs) h = refl
+from-next (suc k) (x ∷ xs) h =
+    let next : suc k + 1 ≡ suc (k + 1) = omega arith in
+    from-next k xs (omega (arith, h)) ∙ ap {B = List (Option ℤ)} (λ n. slice_index_or xs k None ∷ drop n (x ∷ xs)) (sym next)
+
+-- the next of some values
 set-next : (xs ys : List (Option ℤ)) (d v : Option ℤ) → slice_set (xs ++ d ∷ ys) (length xs) v ≡ (xs ++ v ∷ []) ++ ys
 set-next [] ys d v = refl
 set-next (x ∷ xs) ys d v = ap {B = List (Option ℤ)} (λ r. x ∷ r) (set-next xs ys d v)
@@ -80,7 +86,8 @@ pub record ReadSoFar (before : List (Option ArcTail)) (count : ℕ) (line : List
   pub marks : after_cells count line ≡ after_cells (count - k) (drop at line)
   pub within : at ≤ length line
   pub left : arcs ≡ arcs_of_codes before (map (λ (c : ReadCell). c.code) cells)
-  pub shown : new ≡ record old { values = map (λ (c : ReadCell). c.value) cells ++ replicate (count - k) None }
+  pub sized : length old.values ≡ count
+  pub shown : new ≡ record old { values = map (λ (c : ReadCell). c.value) cells ++ drop k old.values }
 
 -- what stands at a place: the text of its cell, and the rest
 at-next : (before : List (Option ArcTail)) (count : ℕ) (line : List ℕ) (k at : ℕ) (arcs : List (Option ArcTail)) (old new : Row) (s : ReadSoFar before count line k at arcs old new)
@@ -134,13 +141,14 @@ read-more before count line k at at' arcs arcs' old new new' code value arc s h 
           l ∙ ap (λ xs. xs ++ arc ∷ []) s.left
           ∙ ap {B = List (Option ArcTail)} (λ x. arcs_of_codes before (codes_in s.cells) ++ x ∷ []) (a ∙ ap (λ m. arc_of_code code (slice_index_or before m None)) (sym s.counted ∙ sym (length-map (λ (q : ReadCell). q.code) s.cells)))
           ∙ sym (arcs-more before (codes_in s.cells) code)
-          ∙ ap (arcs_of_codes before) (sym (map-more (λ (q : ReadCell). q.code) s.cells c));
+          ∙ ap (arcs_of_codes before) (sym (map-append (λ (q : ReadCell). q.code) s.cells (c ∷ [])));
       shown =
           r ∙ ap {B = Row} (λ (q : Row). record q { values = slice_set q.values k value }) s.shown
-          ∙ ap {B = Row} (λ m. record old { values = slice_set (values_in s.cells ++ replicate m None) k value }) more
-          ∙ ap {B = Row} (λ m. record old { values = slice_set (values_in s.cells ++ replicate (suc n) None) m value }) (sym s.counted ∙ sym (length-map (λ (q : ReadCell). q.value) s.cells))
-          ∙ ap {B = Row} (λ vs. record old { values = vs }) (set-next (values_in s.cells) (replicate n None) None value)
-          ∙ ap {B = Row} (λ vs. record old { values = vs ++ replicate n None }) (sym (map-more (λ (q : ReadCell). q.value) s.cells c));
+          ∙ ap {B = Row} (λ vs. record old { values = slice_set (values_in s.cells ++ vs) k value }) (from-next k old.values (let sized = s.sized in omega (arith, h, sized)))
+          ∙ ap {B = Row} (λ m. record old { values = slice_set (values_in s.cells ++ slice_index_or old.values k None ∷ drop (k + 1) old.values) m value }) (sym s.counted ∙ sym (length-map (λ (q : ReadCell). q.value) s.cells))
+          ∙ ap {B = Row} (λ vs. record old { values = vs }) (set-next (values_in s.cells) (drop (k + 1) old.values) (slice_index_or old.values k None) value)
+          ∙ ap {B = Row} (λ vs. record old { values = vs ++ drop (k + 1) old.values }) (sym (map-append (λ (q : ReadCell). q.value) s.cells (c ∷ [])));
+      sized = s.sized;
     }
 
 -- the next cell, with its arc in its place among others
@@ -163,7 +171,7 @@ read-cell before count line k at at' arcs arcs' made old new new' value taken s 
       ap length left ∙ length-set arcs k arc ∙ counted,
     )
 
-pub read-none : (before : List (Option ArcTail)) (count : ℕ) (line : List ℕ) (row : Row) → row.values ≡ replicate count None → ReadSoFar before count line 0 0 [] row row
+pub read-none : (before : List (Option ArcTail)) (count : ℕ) (line : List ℕ) (row : Row) → length row.values ≡ count → ReadSoFar before count line 0 0 [] row row
 read-none before count line row e =
     let all : count - 0 ≡ count = omega arith in
     record {
@@ -175,7 +183,8 @@ read-none before count line row e =
       marks = ap (λ m. after_cells m line) (sym all);
       within = omega arith;
       left = refl;
-      shown = ap {B = Row} (λ vs. record row { values = vs }) (e ∙ ap {B = List (Option ℤ)} (λ m. replicate m None) (sym all));
+      sized = e;
+      shown = refl;
     }
 
 pub read-all : (before : List (Option ArcTail)) (count : ℕ) (line : List ℕ) (k at : ℕ) (arcs : List (Option ArcTail)) (old new : Row) → ReadSoFar before count line k at arcs old new
@@ -188,5 +197,5 @@ read-all before count line k at arcs old new s e =
       marks = s.marks ∙ ap (λ m. after_cells m (drop at line)) none;
       within = s.within;
       left = s.left;
-      shown = s.shown ∙ ap {B = Row} (λ m. record old { values = values_in s.cells ++ replicate m None }) none ∙ ap {B = Row} (λ vs. record old { values = vs }) (append-nil (values_in s.cells));
+      shown = s.shown ∙ ap {B = Row} (λ vs. record old { values = values_in s.cells ++ vs }) (drop_of_length-le old.values (let sized = s.sized in omega (arith, sized, e))) ∙ ap {B = Row} (λ vs. record old { values = vs }) (append-nil (values_in s.cells));
     }

@@ -1,8 +1,9 @@
 -- Texts and marks that are cut at a width.
-use Rattle.std.specs.Prelude.{◌≡◌, refl, ℕ, zero, suc, ◌+◌, ◌-◌, ◌<◌, ◌≤◌, ◌⊎◌, List, [], ◌∷◌, ◌++◌, length, map, take, drop, replicate, if◌then◌else◌}
+use Rattle.std.specs.Prelude.{◌≡◌, refl, ℕ, zero, suc, ◌+◌, ◌-◌, ◌<◌, ◌≤◌, ◌⊎◌, List, [], ◌∷◌, ◌++◌, length, map, take, replicate, if◌then◌else◌}
 use Rattle.std.proofs.Common.{sym, ◌∙◌, ap, arith, inl, inr, not-suc-le-zero, le_of_suc-le-suc}
+use Rattle.crx_rinex.proofs.SoundEpochs.{length-columns}
 use Rattle.crx_text.specs.Columns.{columns, is_blank, without_end_blanks}
-use Rattle.crx_compact.specs.Sequences.{each_place}
+use Rattle.crx_rinex.specs.EachPlace.{each_place}
 use Rattle.crx_compact.specs.Expansion.{latest_mark, shown, longest, overlaid}
 use Rattle.crx_compact.proofs.Overlays.{at_past, at-longest, at-overlaid, same_characters}
 use Rattle.crx_rinex.proofs.Characters.{at, at-without_end_blanks, columns-are}
@@ -62,15 +63,6 @@ trimmed-within n text few = same_characters (take n (without_end_blanks text)) t
     cut p (inr h) = at-take_past n (without_end_blanks text) p h ∙ sym (at_past text p (omega (arith, few, h)))
 
 -- ---- columns
-
-pub length-columns : (text : List ℕ) (first width : ℕ) → length (columns text first width) ≡ width
-length-columns text first width = padded width (drop (first - 1) text) width (omega arith)
-  where
-    padded : (n : ℕ) (xs : List ℕ) (k : ℕ) → n ≤ k → length (take n (xs ++ replicate k 32)) ≡ n
-    padded zero xs k h = refl
-    padded (suc n) [] zero h = absurd (omega (arith, h))
-    padded (suc n) [] (suc k) h = ap suc (padded n [] k (omega (arith, h)))
-    padded (suc n) (x ∷ xs) k h = ap suc (padded n xs k (omega (arith, h)))
 
 at-padded : (k : ℕ) (text : List ℕ) (p : ℕ) → at (text ++ replicate k 32) p ≡ at text p
 at-padded zero [] p = refl

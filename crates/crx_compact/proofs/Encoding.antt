@@ -8,7 +8,6 @@ use Rattle.crx_compact.specs.Tails.{Tail, tail_of, tail_or_nothing}
 use Rattle.crx_compact.specs.Steps.{lines_after, tail_after, tail_written_after}
 use Rattle.crx_compact.specs.Laws.{tail_before, EpochByTail}
 use Rattle.crx_compact.proofs.Tailing.{epoch-by_tail}
-use Rattle.crx_compact.proofs.Writable.{rows-differ}
 
 abbrev pub marked : Bool → Epoch → Marked
 marked full epoch = record { in_full = full; epoch = epoch }
@@ -19,7 +18,7 @@ written-before false epoch [] = refl
 written-before false epoch (m ∷ older) = refl
 
 by-tail : (full : Bool) (epoch : Epoch) (epochs : List Marked) → IsSoundEpoch epoch → EpochByTail (marked full epoch) epochs
-by-tail full epoch epochs h = epoch-by_tail (marked full epoch) epochs (rows-differ epoch.rows h.apart)
+by-tail full epoch epochs h = epoch-by_tail (marked full epoch) epochs h.apart
 
 pub lines-coded : (full : Bool) (epoch : Epoch) (held : Option Tail) (epochs : List Marked) → IsSoundEpoch epoch → held ≡ tail_or_nothing epochs
     → lines_after (tail_written_after full held) epoch ≡ compact_epoch (marked full epoch ∷ epochs)

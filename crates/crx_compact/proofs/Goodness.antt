@@ -1,17 +1,20 @@
 -- An epoch that was read is whole, and its marks can stand before others.
-use Rattle.std.specs.Prelude.{◌≡◌, refl, ℕ, zero, suc, ◌+◌, ◌-◌, ◌*◌, ℤ, Bool, true, false, not, ◌&&◌, ◌||◌, nat_eq, List, [], ◌∷◌, ◌++◌, map, length, take, drop, replicate, Option, Some, None, Result, Ok, Err, IfSome, OnSome, if◌then◌else◌, unwrap_or}
-use Rattle.std.specs.List.{list_all, list_any, AllByRecursion}
+use Rattle.std.specs.Prelude.{◌≡◌, refl, ℕ, zero, suc, ◌+◌, ◌-◌, ◌*◌, ℤ, Bool, true, false, ◌&&◌, nat_eq, List, [], ◌∷◌, ◌++◌, map, length, take, drop, replicate, Option, Some, None, Result, Ok, Err, IfSome, OnSome, if◌then◌else◌, unwrap_or}
+use Rattle.std.specs.List.{list_all, AllByRecursion}
 use Rattle.std.specs.Str.{bytes_eq}
 use Rattle.std.proofs.Common.{sym, ◌∙◌, ap, subst, arith, true≢false}
 use Rattle.std.proofs.lemmas.List.{length-map}
 use Rattle.std.proofs.lemmas.List.Elements.{All-from_recursion}
+use Rattle.std.proofs.lemmas.Bool.{and_parts, and_from}
 use Rattle.crx_text.specs.Columns.{columns, character_at, is_blank}
 use Rattle.crx_text.specs.Codes.{code_of}
+use Rattle.crx_text.specs.Numbers.{IsMissingOrWithin}
 use Rattle.crx_rinex.specs.Observations.{Row}
 use Rattle.crx_rinex.specs.ObservationTypes.{Count, AreCounts, is_system, count_of, IsAllowedCount}
 use Rattle.crx_rinex.specs.EpochLines.{IsClockOffset, satellites_of}
 use Rattle.crx_rinex.specs.SatelliteLines.{has_number, IsValue, IsSoundRow, HasItsTypes}
-use Rattle.crx_rinex.specs.Epochs.{are_different, has_satellite}
+use Rattle.crx_rinex.specs.Epochs.{are_different}
+use Rattle.crx_rinex.proofs.Apart.{apart-map}
 use Rattle.crx_rinex.proofs.Counts.{allowed_of, system_of}
 use Rattle.crx_rinex.proofs.Rows.{satellites_few}
 use Rattle.crx_text.specs.declared.code.Code.{Code}
@@ -20,19 +23,18 @@ use Rattle.crx_lines.specs.declared.fault.Fault.{Fault}
 use Rattle.crx_lines.specs.declared.fault.Fault.TheVariants.{BadField, NoArc, OutOfRange}
 use Rattle.crx_lines.specs.declared.limits.TheConstants.{OBSERVATION_WIDTH, CLOCK_WIDTH}
 use Rattle.crx_text.specs.Texts.{is_kept}
-use Rattle.crx_compact.specs.Sequences.{stretch, each_place, before_all}
+use Rattle.crx_compact.specs.Sequences.{stretch, before_all}
 use Rattle.crx_compact.specs.Differences.{value_at}
 use Rattle.crx_compact.specs.EpochText.{begins_epoch, is_printable, names_in, types_of_satellite, Satellite}
 use Rattle.crx_compact.specs.Expansion.{RawRow, RawEpoch, Started, block_of, latest_mark, shown, overlaid, raw_row_named, raw_run_of, marks_of, code_in, since_start, is_within, value_since, value_of}
 use Rattle.crx_compact.specs.Past.{past_of_block}
 use Rattle.crx_compact.specs.CompactPlaces.{ReadCell, cell_read, cells_read, ReadRow, ReadEpoch}
 use Rattle.crx_compact.specs.ReadingLaws.{HasPrintableMarks, IsGood, ReadsWholeEpochs}
-use Rattle.crx_compact.proofs.Written.{fits}
+use Rattle.crx_rinex.proofs.EachPlace.{each_place-all, length-each_place}
 use Rattle.crx_compact.proofs.Bounds.{within-is}
 use Rattle.crx_compact.proofs.Overlays.{at-overlaid}
-use Rattle.crx_compact.proofs.Cuts.{length-columns}
-use Rattle.crx_compact.proofs.Rows.{or-left, or-right, each_place-all}
-use Rattle.crx_compact.proofs.Facts.{and_left, and_right, both, all-take, list_all-at, list_all-append, not_true}
+use Rattle.crx_rinex.proofs.SoundEpochs.{length-columns}
+use Rattle.crx_compact.proofs.Facts.{all-take, list_all-at, list_all-append}
 use Rattle.crx_compact.proofs.Soundness.{no-err, ok-same, Follows, and_then-ok, before-ok, RowFacts, Paired, names_of, differ, block_for, EpochFacts, epoch-facts}
 use Rattle.crx_rinex.proofs.Characters.{at, list_all-from_at}
 
@@ -41,11 +43,11 @@ use Rattle.crx_rinex.proofs.Characters.{at, list_all-from_at}
 all-drop : (p : ℕ → Bool) (n : ℕ) (xs : List ℕ) → list_all p xs ≡ true → list_all p (drop n xs) ≡ true
 all-drop p zero xs h = h
 all-drop p (suc n) [] h = refl
-all-drop p (suc n) (x ∷ xs) h = all-drop p n xs (and_right (p x) (list_all p xs) h)
+all-drop p (suc n) (x ∷ xs) h = all-drop p n xs (and_parts (p x) (list_all p xs) h).1
 
 all-blanks : (p : ℕ → Bool) (n : ℕ) → p 32 ≡ true → list_all p (replicate n 32) ≡ true
 all-blanks p zero e = refl
-all-blanks p (suc n) e = both (p 32) (list_all p (replicate n 32)) e (all-blanks p n e)
+all-blanks p (suc n) e = and_from (p 32) (list_all p (replicate n 32)) e (all-blanks p n e)
 
 all-columns : (p : ℕ → Bool) (text : List ℕ) (first width : ℕ) → p 32 ≡ true → list_all p text ≡ true → list_all p (columns text first width) ≡ true
 all-columns p text first width e h =
@@ -114,27 +116,19 @@ run-printable name (e ∷ es) h = choose (raw_row_named name e.rows) (found-prin
 
 -- ---- values
 
-range-fits : (width : ℕ) (b : Bool) (x : ℤ) (v : Option ℤ) → is_within width x ≡ b → (if b then Ok (Some x) else Err OutOfRange) ≡ Ok v → fits width v ≡ true
-range-fits width true x v h e = ap (fits width) (sym (ok-same (Some x) v e)) ∙ h
+range-fits : (width : ℕ) (b : Bool) (x : ℤ) (v : Option ℤ) → is_within width x ≡ b → (if b then Ok (Some x) else Err OutOfRange) ≡ Ok v → IsMissingOrWithin width v
+range-fits width true x v h e = subst (IsMissingOrWithin width) (ok-same (Some x) v e) ((within-is width x).0 h)
 range-fits width false x v h e = absurd (no-err OutOfRange v e)
 
-since-fits : (width : ℕ) (o : Option Started) (v : Option ℤ) → value_since width o ≡ Ok v → fits width v ≡ true
+since-fits : (width : ℕ) (o : Option Started) (v : Option ℤ) → value_since width o ≡ Ok v → IsMissingOrWithin width v
 since-fits width None v e = absurd (no-err NoArc v e)
 since-fits width (Some arc) v e = range-fits width (is_within width (value_at arc.order arc.numbers)) (value_at arc.order arc.numbers) v refl e
 
-value-fits : (width : ℕ) (codes : List Code) (v : Option ℤ) → value_of width codes ≡ Ok v → fits width v ≡ true
-value-fits width [] v e = ap (fits width) (sym (ok-same None v e))
-value-fits width (Missing ∷ cs) v e = ap (fits width) (sym (ok-same None v e))
+value-fits : (width : ℕ) (codes : List Code) (v : Option ℤ) → value_of width codes ≡ Ok v → IsMissingOrWithin width v
+value-fits width [] v e = subst (IsMissingOrWithin width) (ok-same None v e) tt
+value-fits width (Missing ∷ cs) v e = subst (IsMissingOrWithin width) (ok-same None v e) tt
 value-fits width (Start n x ∷ cs) v e = since-fits width (since_start (Start n x ∷ cs)) v e
 value-fits width (Step d ∷ cs) v e = since-fits width (since_start (Step d ∷ cs)) v e
-
-fits-value : (v : Option ℤ) → fits OBSERVATION_WIDTH v ≡ true → IsValue v
-fits-value None h = tt
-fits-value (Some x) h = (within-is OBSERVATION_WIDTH x).0 h
-
-fits-clock : (v : Option ℤ) → fits CLOCK_WIDTH v ≡ true → IsClockOffset v
-fits-clock None h = tt
-fits-clock (Some x) h = (within-is CLOCK_WIDTH x).0 h
 
 -- every value of some cells fits
 cells-fit : (value : ℕ → Code → Result (Option ℤ) Fault) → ((j : ℕ) (c : Code) (v : Option ℤ) → value j c ≡ Ok v → IsValue v)
@@ -191,15 +185,15 @@ row-sound types block satellite read counts printable known h =
     let Q : Option ℕ → Type 0 = λ o. OnSome o (is_system (character_at name 1) ≡ true) in
     let system : is_system (character_at name 1) ≡ true = subst Q typed.found (system_of types (character_at name 1) counts) in
     let three : nat_eq (length name) 3 ≡ true = ap (λ n. nat_eq n 3) known.short in
-    let marks : list_all is_printable read.raw.marks ≡ true = and_left (list_all is_printable read.raw.marks) (list_all is_blank (drop (2 * satellite.count) read.raw.marks)) h.marks_ok in
+    let marks : list_all is_printable read.raw.marks ≡ true = (and_parts (list_all is_printable read.raw.marks) (list_all is_blank (drop (2 * satellite.count) read.raw.marks)) h.marks_ok).0 in
     let wide : length flags ≡ 2 * length h.cells = length-columns ((past_of_block block).flags name read.raw.marks) 1 (2 * length h.cells) in
     let R : ℕ → Type 0 = λ n. IsAllowedCount n in
     let S : ReadRow → Type 0 = λ r. IsSoundRow r.row × HasItsTypes types r.row in
     subst S h.is_read (
       record {
-        named = both (nat_eq (length name) 3) (is_system (character_at name 1) && has_number name) three (both (is_system (character_at name 1)) (has_number name) system typed.number);
+        named = and_from (nat_eq (length name) 3) (is_system (character_at name 1) && has_number name) three (and_from (is_system (character_at name 1)) (has_number name) system typed.number);
         counted = subst R (sym count) allowed;
-        ranged = All-from_recursion IsValue values (cells-fit ((past_of_block block).value name) (λ j c v e. fits-value v (value-fits OBSERVATION_WIDTH (c ∷ map (code_in j) (raw_run_of name block)) v e)) h.texts h.cells h.cells_ok);
+        ranged = All-from_recursion IsValue values (cells-fit ((past_of_block block).value name) (λ j c v e. value-fits OBSERVATION_WIDTH (c ∷ map (code_in j) (raw_run_of name block)) v e) h.texts h.cells h.cells_ok);
         paired = omega (arith, wide, many);
         kept = all-columns is_kept ((past_of_block block).flags name read.raw.marks) 1 (2 * length h.cells) refl
             (overlaid-kept (read.raw.marks ∷ marks_of (raw_run_of name block)) (marks, run-printable name block printable));
@@ -230,7 +224,7 @@ rows-marks block [] [] h = tt
 rows-marks block [] (r ∷ rs) h = absurd h
 rows-marks block (s ∷ ss) [] h = absurd h
 rows-marks block (s ∷ ss) (r ∷ rs) h =
-    (and_left (list_all is_printable r.raw.marks) (list_all is_blank (drop (2 * s.count) r.raw.marks)) h.0.marks_ok, rows-marks block ss rs h.1)
+    ((and_parts (list_all is_printable r.raw.marks) (list_all is_blank (drop (2 * s.count) r.raw.marks)) h.0.marks_ok).0, rows-marks block ss rs h.1)
 
 row-names : (block : List RawEpoch) (satellites : List Satellite) (rows : List ReadRow) → Paired (RowFacts block) satellites rows
     → map (λ (r : Row). r.name) (map (λ (r : ReadRow). r.row) rows) ≡ names_of satellites
@@ -239,27 +233,6 @@ row-names block [] (r ∷ rs) h = absurd h
 row-names block (s ∷ ss) [] h = absurd h
 row-names block (s ∷ ss) (r ∷ rs) h =
     ap (λ n. n ∷ map (λ (q : Row). q.name) (map (λ (q : ReadRow). q.row) rs)) (sym (ap (λ (q : ReadRow). q.row.name) h.0.is_read)) ∙ ap (λ ns. s.name ∷ ns) (row-names block ss rs h.1)
-
--- ---- no satellite twice
-
-absent : (name : List ℕ) (earlier : List (List ℕ)) (rows : List Row) → ((m : List ℕ) → list_any (bytes_eq m) earlier ≡ false → bytes_eq m name ≡ false)
-    → differ earlier (map (λ (r : Row). r.name) rows) ≡ true → has_satellite name rows ≡ false
-absent name earlier [] h k = refl
-absent name earlier (r ∷ rs) h k =
-    let names : List (List ℕ) = map (λ (q : Row). q.name) rs in
-    let new : list_any (bytes_eq r.name) earlier ≡ false = not_true (list_any (bytes_eq r.name) earlier) (and_left (not (list_any (bytes_eq r.name) earlier)) (differ (r.name ∷ earlier) names) k) in
-    let rest : has_satellite name rs ≡ false =
-    absent name (r.name ∷ earlier) rs (λ m other. h m (or-right (bytes_eq m r.name) (list_any (bytes_eq m) earlier) other))
-    (and_right (not (list_any (bytes_eq r.name) earlier)) (differ (r.name ∷ earlier) names) k) in
-    ap (λ b. b || has_satellite name rs) (h r.name new) ∙ rest
-
-rows-different : (earlier : List (List ℕ)) (rows : List Row) → differ earlier (map (λ (r : Row). r.name) rows) ≡ true → are_different rows ≡ true
-rows-different earlier [] h = refl
-rows-different earlier (r ∷ rs) h =
-    let names : List (List ℕ) = map (λ (q : Row). q.name) rs in
-    let next : differ (r.name ∷ earlier) names ≡ true = and_right (not (list_any (bytes_eq r.name) earlier)) (differ (r.name ∷ earlier) names) h in
-    let alone : has_satellite r.name rs ≡ false = absent r.name (r.name ∷ earlier) rs (λ m other. or-left (bytes_eq m r.name) (list_any (bytes_eq m) earlier) other) next in
-    both (not (has_satellite r.name rs)) (are_different rs) (ap not alone) (rows-different (r.name ∷ earlier) rs next)
 
 -- ---- the epoch
 
@@ -277,10 +250,6 @@ satellites-count types block [] (r ∷ rs) h = absurd h
 satellites-count types block (s ∷ ss) [] h = absurd h
 satellites-count types block (s ∷ ss) (r ∷ rs) h = ap suc (satellites-count types block ss rs h.1)
 
-length-each : {X : Type 0} (n : ℕ) (f : ℕ → X) → length (each_place n f) ≡ n
-length-each zero f = refl
-length-each (suc n) f = ap suc (length-each n (λ i. f (suc i)))
-
 pub reads-whole : ReadsWholeEpochs
 reads-whole types older lines read count counts printable e =
     let facts : EpochFacts types older read count = epoch-facts types older lines read count e in
@@ -295,13 +264,12 @@ reads-whole types older lines read count counts printable e =
     let N : List (List ℕ) → Type 0 = λ ns. AllByRecursion (λ (m : List ℕ). length m ≡ 3) ns in
     let known : Known types facts.satellites = known-all types facts.satellites facts.line_ok.named.known (subst N (sym facts.line_ok.named.same) three) in
     let all : AllByRecursion (λ (r : Row). IsSoundRow r × HasItsTypes types r) rows = rows-sound types block facts.satellites facts.rows counts sound_block known facts.rows_ok in
-    let D : List (List ℕ) → Type 0 = λ ns. differ [] ns ≡ true in
     let apart : are_different rows ≡ true =
-    rows-different [] rows (subst D (sym (row-names block facts.satellites facts.rows facts.rows_ok ∙ facts.line_ok.named.same)) facts.line_ok.named.apart) in
+    sym (apart-map (λ (n : List ℕ). n) (λ (r : Row). r.name) rows) ∙ ap differ (row-names block facts.satellites facts.rows facts.rows_ok ∙ facts.line_ok.named.same) ∙ facts.line_ok.named.apart in
     let many : length rows ≡ n =
-    length-map facts.rows (λ (r : ReadRow). r.row) ∙ satellites-count types block facts.satellites facts.rows facts.rows_ok ∙ ap length facts.line_ok.named.same ∙ length-each n (λ k. columns text (42 + 3 * k) 3) in
+    length-map facts.rows (λ (r : ReadRow). r.row) ∙ satellites-count types block facts.satellites facts.rows facts.rows_ok ∙ ap length facts.line_ok.named.same ∙ length-each_place n (λ k. columns text (42 + 3 * k) 3) in
     let announced : satellites_of head ≡ n = ap (λ o. unwrap_or o 0) facts.line_ok.counted in
-    let clock : fits CLOCK_WIDTH facts.clock.value ≡ true = value-fits CLOCK_WIDTH (facts.clock.code ∷ map (λ (q : RawEpoch). q.clock) block) facts.clock.value facts.clock_ok in
+    let clock : IsClockOffset facts.clock.value = value-fits CLOCK_WIDTH (facts.clock.code ∷ map (λ (q : RawEpoch). q.clock) block) facts.clock.value facts.clock_ok in
     let G : ReadEpoch → Type 0 = λ r. IsGood types r in
     subst G facts.is_read (record {
       whole = record {
@@ -310,7 +278,7 @@ reads-whole types older lines read count counts printable e =
             width = length-columns text 1 41;
             counted = facts.line_ok.counted ∙ ap (λ m. Some m) (sym announced);
             within = satellites_few head;
-            ranged = fits-clock facts.clock.value clock;
+            ranged = clock;
           };
           rows_sound = All-from_recursion IsSoundRow rows (firsts IsSoundRow (HasItsTypes types) rows all);
           apart = apart;

@@ -18,16 +18,18 @@ use Rattle.crx_compact.specs.Differences.{difference, code_at}
 use Rattle.crx_compact.specs.Compaction.{Marked, epoch_text, since_full, run_of, value_in, arc_of, clock_arc, newest_text, indicators_before, cell_text, codes_of, satellite_line, epoch_line, compact_epoch}
 use Rattle.crx_compact.specs.EpochText.{number_in, count_within_limit, satellites_in}
 use Rattle.crx_rinex.specs.ObservationTypes.{Count}
-use Rattle.crx_text.specs.Numbers.{IsWithin}
+use Rattle.crx_text.specs.Numbers.{IsWithin, IsMissingOrWithin}
 use Rattle.crx_compact.specs.Sequences.{stretch}
-use Rattle.crx_compact.specs.Expansion.{is_within}
-use Rattle.crx_compact.proofs.Written.{fits, IsRow, IsEpoch}
+use Rattle.crx_compact.specs.Laws.{AreWhole}
+use Rattle.crx_rinex.proofs.EachPlace.{each_place-all, length-each_place}
+use Rattle.crx_rinex.specs.Epochs.{IsWholeEpoch}
+use Rattle.crx_compact.proofs.Writable.{IsTypedRow, head-counted, typed-rows}
 use Rattle.crx_compact.proofs.CodeTexts.{order-text}
-use Rattle.crx_compact.proofs.Bounds.{IsNear, doubled, doubled-more, difference-near, near-more, near-within, within-is}
+use Rattle.crx_compact.proofs.Bounds.{IsNear, doubled, doubled-more, difference-near, near-more, near-within, ten-more}
 use Rattle.crx_compact.proofs.Runs.{marked}
-use Rattle.crx_compact.proofs.Overlays.{length-each_place}
-use Rattle.crx_compact.proofs.Rows.{IsRowOf, run-rows, values-fit, clocks-fit, each_place-all}
-use Rattle.crx_compact.proofs.Facts.{length-trimmed, length-text, head_tests}
+use Rattle.crx_compact.proofs.Rows.{IsRowOf, run-rows, values-fit, clocks-fit}
+use Rattle.crx_compact.proofs.Facts.{length-text, head_tests}
+use Rattle.crx_text.proofs.EndBlanks.{few_kept}
 
 -- ---- numbers and codes
 
@@ -43,24 +45,19 @@ signed-length k b (negsuc n) some few h near =
     let len : length (decimal (suc n)) ≤ k = length-decimal-le k (suc n) some less (omega (arith, less, wide)) in
     omega (arith, len)
 
-ten-more : (a b : ℕ) → a ≤ b → 10 ^ a ≤ 10 ^ b
-ten-more a b h = pow-le-pow_right (omega arith) h
-
 -- a number that fits its columns: a minus takes the place of a digit
-within-length : (j : ℕ) (z : ℤ) → 0 < j → j + 1 ≤ DIGITS_LIMIT → is_within (j + 2) z ≡ true → length (signed_decimal z) ≤ j + 1
+within-length : (j : ℕ) (z : ℤ) → 0 < j → j + 1 ≤ DIGITS_LIMIT → IsWithin (j + 2) z → length (signed_decimal z) ≤ j + 1
 within-length j (pos n) some few h =
-    let in_range : IsWithin (j + 2) (pos n) = (within-is (j + 2) (pos n)).0 h in
     let same : j + 2 - 1 ≡ j + 1 = omega arith in
     let P : ℕ → Type 0 = λ m. pos n <ℤ pos (10 ^ m) in
-    let high : pos n <ℤ pos (10 ^ (j + 1)) = subst P same in_range.high in
+    let high : pos n <ℤ pos (10 ^ (j + 1)) = subst P same h.high in
     let less : n < 10 ^ (j + 1) = omega (arith, ints, high) in
     let wide : 10 ^ (j + 1) ≤ 10 ^ DIGITS_LIMIT = ten-more (j + 1) DIGITS_LIMIT few in
     length-decimal-le (j + 1) n (omega arith) less (omega (arith, less, wide))
 within-length j (negsuc n) some few h =
-    let in_range : IsWithin (j + 2) (negsuc n) = (within-is (j + 2) (negsuc n)).0 h in
     let same : j + 2 - 2 ≡ j = omega arith in
     let P : ℕ → Type 0 = λ m. neg_ℤ (pos (10 ^ m)) <ℤ negsuc n in
-    let low : neg_ℤ (pos (10 ^ j)) <ℤ negsuc n = subst P same in_range.low in
+    let low : neg_ℤ (pos (10 ^ j)) <ℤ negsuc n = subst P same h.low in
     let less : suc n < 10 ^ j = omega (arith, ints, low) in
     let fewer : j ≤ DIGITS_LIMIT = omega (arith, few) in
     let wide : 10 ^ j ≤ 10 ^ DIGITS_LIMIT = ten-more j DIGITS_LIMIT fewer in
@@ -68,9 +65,9 @@ within-length j (negsuc n) some few h =
     omega (arith, len)
 
 abbrev pub AreWithin : ℕ → List ℤ → Type 0
-AreWithin width xs = AllByRecursion (λ x. is_within width x ≡ true) xs
+AreWithin width xs = AllByRecursion (IsWithin width) xs
 
-pub stretch-within : (width : ℕ) (os : List (Option ℤ)) → AllByRecursion (λ (o : Option ℤ). fits width o ≡ true) os → AreWithin width (stretch os)
+pub stretch-within : (width : ℕ) (os : List (Option ℤ)) → AllByRecursion (IsMissingOrWithin width) os → AreWithin width (stretch os)
 stretch-within width [] h = tt
 stretch-within width (None ∷ os) h = tt
 stretch-within width (Some x ∷ os) h = (h.0, stretch-within width os h.1)
@@ -114,7 +111,7 @@ by_position-length f (suc n) (a ∷ as') (b ∷ bs) h k = let le : length (by_po
 
 pub difference-length : (n : ℕ) (old new : List ℕ) → length old ≤ n → length new ≤ n → length (text_difference old new) ≤ n
 difference-length n old new h k =
-    let trimmed : length (text_difference old new) ≤ length (by_position mark_of old new) = length-trimmed (by_position mark_of old new) in
+    let trimmed : length (text_difference old new) ≤ length (by_position mark_of old new) = few_kept (by_position mark_of old new) in
     let whole : length (by_position mark_of old new) ≤ n = by_position-length mark_of n old new h k in
     omega (arith, trimmed, whole)
 
@@ -139,12 +136,12 @@ within_limit (Some k) n h = limited (nat_le k SATELLITES_LIMIT) k n refl h
         omega (arith, same, less)
     limited false k n e h = absurd (true≢false (sym (ap is_some h)))
 
-pub few-satellites : (types : List Count) (e : Epoch) → IsEpoch types e → length e.rows ≤ SATELLITES_LIMIT
+pub few-satellites : (types : List Count) (e : Epoch) → IsWholeEpoch types e → length e.rows ≤ SATELLITES_LIMIT
 few-satellites types e h =
     within_limit (number_in (columns e.head 33 3)) (length e.rows)
-    (sym (ap {B = Option ℕ} (λ b. if b then satellites_in e.head else None) (head_tests types e h)) ∙ h.head_counted)
+    (sym (ap {B = Option ℕ} (λ b. if b then satellites_in e.head else None) (head_tests types e h)) ∙ head-counted types e h)
 
-pub text-short : (types : List Count) (e : Epoch) → IsEpoch types e → length (epoch_text e) ≤ 41 + 3 * SATELLITES_LIMIT
+pub text-short : (types : List Count) (e : Epoch) → IsWholeEpoch types e → length (epoch_text e) ≤ 41 + 3 * SATELLITES_LIMIT
 text-short types e h =
     let all : length (epoch_text e) ≡ 41 + 3 * length e.rows = length-text types e h in
     let few : length e.rows ≤ SATELLITES_LIMIT = few-satellites types e h in
@@ -159,9 +156,9 @@ most = 18 * TYPES_LIMIT
 before-length : (types : List Count) (name : List ℕ) (run : List Row) → AllByRecursion (IsRowOf types name) run → length (indicators_before run) ≤ 2 * TYPES_LIMIT
 before-length types name [] h = omega arith
 before-length types name (r ∷ []) h = omega arith
-before-length types name (r ∷ q ∷ qs) h = omega (arith, h.1.0.is_row.flags_length, h.1.0.is_row.few_values)
+before-length types name (r ∷ q ∷ qs) h = omega (arith, h.1.0.is_row.0.paired, h.1.0.is_row.0.counted.1)
 
-row-short : (types : List Count) (name : List ℕ) (run : List Row) (r : Row) → AllByRecursion (IsRowOf types name) run → IsRow types r
+row-short : (types : List Count) (name : List ℕ) (run : List Row) (r : Row) → AllByRecursion (IsRowOf types name) run → IsTypedRow types r
     → length (satellite_line run r) ≤ most
 row-short types name run r h k =
     let codes : List Code = codes_of (length r.values) run in
@@ -173,12 +170,12 @@ row-short types name run r h k =
     let count : length codes ≡ length r.values = length-each_place (length r.values) (λ j. code_at WRITTEN_ORDER (arc_of j run)) in
     let cells : length (flat_map cell_text codes) ≤ (15 + 1) * length codes = cells-length 15 codes each in
     let tail : length marks ≤ 2 * TYPES_LIMIT =
-    difference-length (2 * TYPES_LIMIT) (indicators_before run) r.flags (before-length types name run h) (omega (arith, k.flags_length, k.few_values)) in
+    difference-length (2 * TYPES_LIMIT) (indicators_before run) r.flags (before-length types name run h) (omega (arith, k.0.paired, k.0.counted.1)) in
     let all : length (flat_map cell_text codes ++ marks) ≡ length (flat_map cell_text codes) + length marks = length-append (flat_map cell_text codes) marks in
-    let trimmed : length (without_end_blanks (flat_map cell_text codes ++ marks)) ≤ length (flat_map cell_text codes ++ marks) = length-trimmed (flat_map cell_text codes ++ marks) in
-    omega (arith, count, cells, tail, all, trimmed, k.few_values)
+    let trimmed : length (without_end_blanks (flat_map cell_text codes ++ marks)) ≤ length (flat_map cell_text codes ++ marks) = few_kept (flat_map cell_text codes ++ marks) in
+    omega (arith, count, cells, tail, all, trimmed, k.0.counted.1)
 
-rows-short : (types : List Count) (ms : List Marked) (rows : List Row) → AllByRecursion (IsEpoch types) (since_full ms) → AllByRecursion (IsRow types) rows
+rows-short : (types : List Count) (ms : List Marked) (rows : List Row) → AreWhole types (since_full ms) → AllByRecursion (IsTypedRow types) rows
     → AllByRecursion (λ (line : List ℕ). length line ≤ most) (map (λ (r : Row). satellite_line (run_of r.name ms) r) rows)
 rows-short types ms [] h k = tt
 rows-short types ms (r ∷ rs) h k = (
@@ -186,24 +183,24 @@ rows-short types ms (r ∷ rs) h k = (
   rows-short types ms rs h k.1,
 )
 
-clock-short : (types : List Count) (ms : List Marked) → AllByRecursion (IsEpoch types) (since_full ms)
+clock-short : (types : List Count) (ms : List Marked) → AreWhole types (since_full ms)
     → length (code_text (code_at WRITTEN_ORDER (clock_arc ms))) ≤ 16
 clock-short types ms h =
     code-length 13 (clock_arc ms) (omega arith) (omega arith) (omega arith)
     (stretch-within CLOCK_WIDTH (map (λ (e : Epoch). e.clock) (since_full ms)) (clocks-fit types (since_full ms) h))
 
-old-short : (types : List Count) (full : Bool) (e : Epoch) (older : List Marked) → AllByRecursion (IsEpoch types) (since_full (marked full e ∷ older))
+old-short : (types : List Count) (full : Bool) (e : Epoch) (older : List Marked) → AreWhole types (since_full (marked full e ∷ older))
     → length (if full then [] else newest_text older) ≤ 41 + 3 * SATELLITES_LIMIT
 old-short types true e older h = omega arith
 old-short types false e [] h = omega arith
 old-short types false e (m ∷ older) h = text-short types m.epoch h.1.0
 
 -- none of the compact lines of an epoch is too long
-pub lines-short : (types : List Count) (full : Bool) (e : Epoch) (older : List Marked) → AllByRecursion (IsEpoch types) (since_full (marked full e ∷ older))
+pub lines-short : (types : List Count) (full : Bool) (e : Epoch) (older : List Marked) → AreWhole types (since_full (marked full e ∷ older))
     → AllByRecursion (λ (line : List ℕ). length line ≤ 18 * TYPES_LIMIT) (compact_epoch (marked full e ∷ older))
 lines-short types full e older h =
     let ms : List Marked = marked full e ∷ older in
     let line : length (epoch_line (marked full e) older) ≤ 41 + 3 * SATELLITES_LIMIT =
     difference-length (41 + 3 * SATELLITES_LIMIT) (if full then [] else newest_text older) (epoch_text e) (old-short types full e older h) (text-short types e h.0) in
     let clock : length (code_text (code_at WRITTEN_ORDER (clock_arc (marked full e ∷ older)))) ≤ 16 = clock-short types (marked full e ∷ older) h in
-    (omega (arith, line), (omega (arith, clock), rows-short types ms e.rows h h.0.rows_are))
+    (omega (arith, line), (omega (arith, clock), rows-short types ms e.rows h (typed-rows types e h.0)))

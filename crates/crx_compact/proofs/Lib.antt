@@ -1,5 +1,4 @@
-pub mod Places
-pub mod Written
+pub mod Identifiers
 pub mod Weights
 pub mod Inversion
 pub mod Overlays

@@ -1,14 +1,11 @@
 -- Lines that are made one after another, and cells that are made place by place.
-use Rattle.std.specs.Prelude.{◌≡◌, ◌≤◌, ◌<◌, refl, ℕ, zero, suc, ◌+◌, ℤ, pos, negsuc, List, [], ◌∷◌, ◌++◌, length, take, drop, sum, flat_map, map, decimal, slice_get, slice_index_or, slice_set, Option, Some, None, Result, Ok, Err, IsOk, IsErr}
-use Rattle.std.specs.Fmt.{signed_decimal}
-use Rattle.std.proofs.Common.{sym, ◌∙◌, ap, arith, subst, append_assoc, length-append, add-one}
-use Rattle.std.proofs.lemmas.Fmt.{length-decimal-le}
+use Rattle.std.specs.Prelude.{◌≡◌, ◌≤◌, ◌<◌, refl, ℕ, zero, suc, ◌+◌, ℤ, List, [], ◌∷◌, ◌++◌, length, take, drop, sum, flat_map, map, slice_get, slice_index_or, Option, Some, None, Result, Ok, Err, IsOk, IsErr}
+use Rattle.std.proofs.Common.{sym, ◌∙◌, ap, arith, append_assoc, add-one}
 use Rattle.std.proofs.lemmas.List.{drop-append-le, take-append-le, length-drop, flat_map_more}
 use Rattle.std.proofs.lemmas.Grind.{common_steps}
-use Rattle.crx_text.specs.Codes.{code_text, IsPrintable, IsShort}
+use Rattle.std.proofs.lemmas.List.{map-append}
 use Rattle.crx_text.specs.declared.code.Code.{Code}
-use Rattle.crx_text.specs.declared.code.Code.TheVariants.{Missing, Start, Step}
-use Rattle.crx_compact.specs.Sequences.{each_place}
+use Rattle.crx_rinex.specs.EachPlace.{each_place}
 use Rattle.std.proofs.lemmas.Option.{same_Some, slice_get_within}
 use Rattle.crx_rinex.specs.Observations.{Row}
 use Rattle.crx_compact.specs.Tails.{ArcTail}
@@ -16,21 +13,7 @@ use Rattle.crx_compact.specs.Compaction.{cell_text, value_in}
 use Rattle.crx_compact.specs.Steps.{arc_of_value, code_of_value}
 use Rattle.crx_compact.specs.Cells.{arc_at_place, code_at_place}
 use Rattle.crx_compact.specs.LineLists.{cut}
-
--- ---- codes
-
--- a number of at most 18 digits has at most 19 characters
-length-signed_decimal : (z : ℤ) → IsShort z → length (signed_decimal z) ≤ 19
-length-signed_decimal (pos n) short = let digits = length-decimal-le 18 n (omega arith) short (omega arith) in omega (arith, digits)
-length-signed_decimal (negsuc n) short = let digits = length-decimal-le 18 (suc n) (omega arith) short (omega arith) in omega (arith, digits)
-
-pub length-code_text : (code : Code) → IsPrintable code → length (code_text code) ≤ 21
-length-code_text Missing printable = omega arith
-length-code_text (Start order value) printable =
-    let first = length-decimal-le 1 order (omega arith) (omega (arith, printable.0)) (omega (arith, printable.0)) in
-    let second = length-signed_decimal value printable.1 in
-    omega (arith, first, second, length-append (decimal order) (38 ∷ signed_decimal value))
-length-code_text (Step difference) printable = let number = length-signed_decimal difference printable in omega (arith, number)
+use Rattle.crx_rinex.proofs.EachPlace.{each_place-more}
 
 -- a result that is no Err is an Ok
 pub ok-unless : {X E : Type 0} (r : Result X E) → (IsErr r → ⊥) → IsOk r
@@ -60,22 +43,10 @@ cut-more (count ∷ counts) text line e =
 
 -- ---- places
 
--- one place more
-pub each_place-more : {X : Type 0} (n : ℕ) (f : ℕ → X) → each_place (n + 1) f ≡ each_place n f ++ f n ∷ []
-each_place-more zero f = refl
-each_place-more (suc n) f =
-    let more : suc n + 1 ≡ suc (n + 1) = omega arith in
-    ap (λ k. each_place k f) more ∙ ap (λ r. f zero ∷ r) (each_place-more n (λ i. f (suc i)))
-
 pub value-there : {X : Type 0} (xs : List X) (k : ℕ) (x d : X) → slice_get xs k ≡ Some x → slice_index_or xs k d ≡ x
 value-there [] k x d h = absurd (cc)
 value-there (y ∷ ys) zero x d h = same_Some y x h
 value-there (y ∷ ys) (suc k) x d h = value-there ys k x d h
-
-pub none-there : {X : Type 0} (xs : List X) (k : ℕ) → slice_get xs k ≡ None → length xs ≤ k
-none-there [] k h = omega arith
-none-there (y ∷ ys) zero h = absurd (cc)
-none-there (y ∷ ys) (suc k) h = let rest : length ys ≤ k = none-there ys k h in omega (arith, rest)
 
 pub some-there : {X : Type 0} (xs : List X) (k : ℕ) (x : X) → slice_get xs k ≡ Some x → k < length xs
 some-there xs k x h = slice_get_within xs k x h
@@ -109,26 +80,6 @@ pub texts_all : {X : Type 0} (f : X → List ℕ) (before : List ℕ) (xs : List
     → new ≡ before ++ flat_map f (take i xs) → slice_get xs i ≡ None → new ≡ before ++ flat_map f xs
 texts_all f before xs i new so_far none = so_far ∙ ap (λ zs. before ++ flat_map f zs) (taken_all xs i none)
 
-map-more : {X Y : Type 0} (f : X → Y) (xs : List X) (x : X) → map f (xs ++ x ∷ []) ≡ map f xs ++ f x ∷ []
-map-more f [] x = refl
-map-more f (y ∷ ys) x = ap (λ zs. f y ∷ zs) (map-more f ys x)
-
--- another item in place of the last one
-pub set-last : {X : Type 0} (xs ys : List X) (k : ℕ) (a b : X) → ys ≡ xs ++ a ∷ [] → k ≡ length xs → slice_set ys k b ≡ xs ++ b ∷ []
-set-last xs ys k a b e l = ap (λ zs. slice_set zs k b) e ∙ ap (λ n. slice_set (xs ++ a ∷ []) n b) l ∙ set xs a b
-  where
-    set : {X : Type 0} (xs : List X) (a b : X) → slice_set (xs ++ a ∷ []) (length xs) b ≡ xs ++ b ∷ []
-    set [] a b = refl
-    set (x ∷ xs) a b = ap (λ zs. x ∷ zs) (set xs a b)
-
--- the last item
-pub last-there : {X : Type 0} (xs ys : List X) (k : ℕ) (a b : X) → ys ≡ xs ++ a ∷ [] → k ≡ length xs → b ≡ slice_index_or ys k b → b ≡ a
-last-there xs ys k a b e l h = h ∙ ap (λ zs. slice_index_or zs k b) e ∙ ap (λ n. slice_index_or (xs ++ a ∷ []) n b) l ∙ there xs a b
-  where
-    there : {X : Type 0} (xs : List X) (a b : X) → slice_index_or (xs ++ a ∷ []) (length xs) b ≡ a
-    there [] a b = refl
-    there (x ∷ xs) a b = there xs a b
-
 -- what is made of the items up to a place
 pub record Made {X Y : Type 0} (f : X → Y) (before : List Y) (xs : List X) (i : ℕ) (made : List Y) : Type 0 where
   pub is : made ≡ before ++ map f (take i xs)
@@ -139,7 +90,7 @@ made-more f before xs i x made more y m here e v = record {
   is =
       e ∙ ap (λ zs. zs ++ y ∷ []) m.is ∙ ap (λ z. (before ++ map f (take i xs)) ++ z ∷ []) v
       ∙ append_assoc before (map f (take i xs)) (f x ∷ [])
-      ∙ ap (λ zs. before ++ zs) (sym (map-more f (take i xs) x) ∙ ap (map f) (sym (taken_more xs i x here)));
+      ∙ ap (λ zs. before ++ zs) (sym (map-append f (take i xs) (x ∷ [])) ∙ ap (map f) (sym (taken_more xs i x here)));
 }
 
 pub made-all : {X Y : Type 0} (f : X → Y) (before : List Y) (xs : List X) (i : ℕ) (made : List Y)
@@ -175,13 +126,3 @@ cells-more before row place line line' arcs value code arc newer more m here c a
           ∙ ap (λ ks. line ++ flat_map cell_text ks) (sym (each_place-more place (code_at_place before row)));
       within = omega arith;
     }
-
--- all cells of a row
-pub cells-all : (before : List (Option ArcTail)) (row : Row) (place : ℕ) (line line' : List ℕ) (arcs : List (Option ArcTail))
-    → CellsMade before row place line line' arcs → slice_get row.values place ≡ None → CellsMade before row (length row.values) line line' arcs
-cells-all before row place line line' arcs m none =
-    let past : length row.values ≤ place = none-there row.values place none in
-    let within : place ≤ length row.values = m.within in
-    let end : place ≡ length row.values = omega arith in
-    let P : ℕ → Type 0 = λ n. CellsMade before row n line line' arcs in
-    subst P end m

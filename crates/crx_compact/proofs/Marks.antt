@@ -14,7 +14,8 @@ use Rattle.crx_rinex.specs.Observations.{Row}
 use Rattle.crx_rinex.specs.SatelliteLines.{with_flags}
 use Rattle.std.proofs.Math.Path.{fun_ext}
 use Rattle.crx_text.proofs.Blanks.{columns_are}
-use Rattle.crx_compact.specs.Sequences.{and_then, each_place}
+use Rattle.crx_rinex.specs.EachPlace.{each_place}
+use Rattle.crx_compact.specs.Sequences.{and_then}
 use Rattle.crx_compact.specs.EpochText.{begins_epoch, Satellite}
 use Rattle.crx_compact.specs.CompactPlaces.{ReadCell, are_marks, after_cells, cells_of, cells_read, row_of_cells, row_of_line, row_with_marks}
 use Rattle.crx_compact.specs.Past.{Past}

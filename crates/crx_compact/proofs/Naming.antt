@@ -1,12 +1,12 @@
 -- The identifiers of an epoch text, read from left to right.
-use Rattle.std.specs.Prelude.{◌≡◌, refl, ℕ, zero, suc, ◌+◌, ◌<◌, Bool, true, false, ◌||◌, List, [], ◌∷◌, ◌++◌, drop, Option, Some, None, Result, Ok, Err, if◌then◌else◌}
+use Rattle.std.specs.Prelude.{◌≡◌, refl, ℕ, ◌+◌, Bool, true, false, ◌||◌, List, [], ◌∷◌, ◌++◌, drop, Option, Some, None, Result, Ok, Err, if◌then◌else◌}
 use Rattle.std.specs.List.{list_any}
 use Rattle.std.specs.Str.{bytes_eq}
-use Rattle.std.proofs.Common.{sym, ◌∙◌, ap, arith, add-one}
+use Rattle.std.proofs.Common.{sym, ◌∙◌, ap}
 use Rattle.crx_lines.specs.declared.fault.Fault.{Fault}
 use Rattle.crx_lines.specs.declared.fault.Fault.TheVariants.{BadSatellite, RepeatedSatellite}
 use Rattle.crx_rinex.specs.ObservationTypes.{Count}
-use Rattle.crx_compact.specs.Sequences.{before_all, each_place}
+use Rattle.crx_compact.specs.Sequences.{before_all}
 use Rattle.crx_compact.specs.EpochText.{Satellite, satellite_before, satellites_named, types_of_satellite}
 use Rattle.crx_compact.proofs.Runs.{bytes_eq-same, bytes_eq-is}
 
@@ -71,9 +71,6 @@ any-after name (s ∷ ss) earlier =
 pub record NamedSoFar (types : List Count) (all : List (List ℕ)) (place : ℕ) (found : List Satellite) : Type 0 where
   pub so_far : satellites_named types [] all ≡ onto found (satellites_named types (names_after found []) (drop place all))
 
-pub named-none : (types : List Count) (all : List (List ℕ)) → NamedSoFar types all 0 []
-named-none types all = record { so_far = refl }
-
 at-next : (types : List Count) (all : List (List ℕ)) (place : ℕ) (found : List Satellite) (name : List ℕ)
     → NamedSoFar types all place found → drop place all ≡ name ∷ drop (place + 1) all
     → satellites_named types [] all ≡ onto found (satellite_before (names_after found []) name (types_of_satellite types name) (satellites_named types (name ∷ names_after found []) (drop (place + 1) all)))
@@ -124,17 +121,3 @@ named-more types all place found more name count n e some once m =
 pub named-all : (types : List Count) (all : List (List ℕ)) (place : ℕ) (found : List Satellite) → NamedSoFar types all place found → drop place all ≡ []
     → satellites_named types [] all ≡ Ok found
 named-all types all place found n e = n.so_far ∙ ap (λ names. onto found (satellites_named types (names_after found []) names)) e ∙ onto-ok found
-
--- ---- places
-
-pub drop-each : {X : Type 0} (n k : ℕ) (f : ℕ → X) → k < n → drop k (each_place n f) ≡ f k ∷ drop (k + 1) (each_place n f)
-drop-each n k f h = next n k f h ∙ ap (λ m. f k ∷ drop m (each_place n f)) (sym (add-one k))
-  where
-    next : {X : Type 0} (n k : ℕ) (f : ℕ → X) → k < n → drop k (each_place n f) ≡ f k ∷ drop (suc k) (each_place n f)
-    next zero k f h = absurd (omega arith)
-    next (suc n) zero f h = refl
-    next (suc n) (suc k) f h = next n k (λ i. f (suc i)) (omega arith)
-
-pub drop-each_all : {X : Type 0} (n : ℕ) (f : ℕ → X) → drop n (each_place n f) ≡ []
-drop-each_all zero f = refl
-drop-each_all (suc n) f = drop-each_all n (λ i. f (suc i))

@@ -6,20 +6,20 @@ use Rattle.crx_text.specs.Columns.{without_end_blanks}
 use Rattle.crx_lines.specs.declared.limits.TheConstants.{WRITTEN_ORDER}
 use Rattle.crx_rinex.specs.Observations.{Row, Epoch}
 use Rattle.crx_rinex.specs.ObservationTypes.{Count}
-use Rattle.crx_compact.specs.Sequences.{back_to, stretch, each_place}
+use Rattle.crx_rinex.specs.EachPlace.{each_place}
+use Rattle.crx_compact.specs.Sequences.{back_to, stretch}
 use Rattle.crx_compact.specs.Differences.{code_at}
 use Rattle.crx_compact.specs.Compaction.{epoch_text, Marked, row_named, since_full, run_of, value_in, arc_of, clock_arc, codes_of}
 use Rattle.crx_compact.specs.Expansion.{RawRow, RawEpoch, overlaid, raw_run_of, code_in, since_start}
 use Rattle.crx_compact.specs.Tails.{RowTail, Tail, arc_tail, row_tail, tail_of, values_of, started_tail, raw_row_tail, raw_row_tails, tail_of_block}
 use Rattle.crx_compact.specs.ReadingLaws.{raw_row, OneTail}
-use Rattle.crx_compact.proofs.Written.{IsEpoch}
+use Rattle.crx_compact.specs.Laws.{AreWhole}
+use Rattle.crx_rinex.proofs.EachPlace.{each_place-same, length-each_place}
 use Rattle.crx_compact.proofs.Inversion.{numbers_of, value-numbers, started-codes}
-use Rattle.crx_compact.proofs.Runs.{raw_block, marked, block-raws, raw_run, runs-read, codes_of_values, clocks-read, codes-read, started-values, text-read, marks-read}
-use Rattle.crx_compact.proofs.Facts.{each_place-same}
-use Rattle.crx_compact.proofs.Overlays.{length-each_place}
-use Rattle.crx_compact.proofs.Rows.{IsRowOf, run-rows, flags-run, each-own}
+use Rattle.crx_compact.proofs.Runs.{raw_block, marked, block-raws, raw_run, runs-read, codes_of_values, clocks-read, codes-read, started-values, text-read, marks-read, rows_before}
+use Rattle.crx_compact.proofs.Identifiers.{each-own}
+use Rattle.crx_compact.proofs.Rows.{IsRowOf, run-rows, flags-run}
 use Rattle.crx_compact.proofs.Reading.{epochs-begin, epochs-unmarked}
-use Rattle.crx_compact.proofs.Writable.{all-whole}
 
 -- ---- arcs
 
@@ -51,11 +51,7 @@ row-same types r rs h =
     ∙ ap {B = RowTail} (λ cs. record { name = r.name; flags = without_end_blanks r.flags; cells = cs }) cells
     ∙ ap {B = RowTail} (λ k. record { name = r.name; flags = without_end_blanks r.flags; cells = each_place k (λ j. arc_tail WRITTEN_ORDER (arc_of j (r ∷ rs))) }) count
 
--- the run before the newest epoch
-abbrev rows_before : Bool → List ℕ → List Marked → List Row
-rows_before full name older = stretch (map (λ (q : Epoch). row_named name q.rows) (map (λ (m : Marked). m.epoch) (if full then [] else back_to (λ (m : Marked). m.in_full) older)))
-
-row-left : (types : List Count) (full : Bool) (e : Epoch) (older : List Marked) → AllByRecursion (IsEpoch types) (since_full (marked full e ∷ older))
+row-left : (types : List Count) (full : Bool) (e : Epoch) (older : List Marked) → AreWhole types (since_full (marked full e ∷ older))
     → (r : Row) → row_named r.name e.rows ≡ Some r
     → raw_row_tail (raw_run_of r.name (raw_block (marked full e ∷ older))) (raw_row (run_of r.name (marked full e ∷ older)) r) ≡ row_tail (run_of r.name (marked full e ∷ older)) r
 row-left types full e older h r own =
@@ -68,7 +64,7 @@ row-left types full e older h r own =
     ap (λ q. raw_row_tail q (raw_row (run_of r.name ms) r)) (runs-read r.name (marked full e ∷ older))
     ∙ subst Q (sym run) (row-same types r (rows_before full r.name older) rows)
 
-rows-left : (types : List Count) (full : Bool) (e : Epoch) (older : List Marked) → AllByRecursion (IsEpoch types) (since_full (marked full e ∷ older))
+rows-left : (types : List Count) (full : Bool) (e : Epoch) (older : List Marked) → AreWhole types (since_full (marked full e ∷ older))
     → (rows : List Row) → AllByRecursion (λ (r : Row). row_named r.name e.rows ≡ Some r) rows
     → map (λ (q : RawRow). raw_row_tail (raw_run_of q.name (raw_block (marked full e ∷ older))) q) (map (λ (r : Row). raw_row (run_of r.name (marked full e ∷ older)) r) rows)
     ≡ map (λ (r : Row). row_tail (run_of r.name (marked full e ∷ older)) r) rows
@@ -79,7 +75,7 @@ rows-left types full e older h (r ∷ rs) own =
 
 -- ---- the tail
 
-tail-same : (types : List Count) (full : Bool) (e : Epoch) (older : List Marked) → AllByRecursion (IsEpoch types) (since_full (marked full e ∷ older))
+tail-same : (types : List Count) (full : Bool) (e : Epoch) (older : List Marked) → AreWhole types (since_full (marked full e ∷ older))
     → tail_of_block (raw_block (marked full e ∷ older)) ≡ tail_of (marked full e ∷ older)
 tail-same types full e older h =
     let ms : List Marked = marked full e ∷ older in
@@ -89,10 +85,9 @@ tail-same types full e older h =
     ap {B = Tail} (λ t. record { text = t; clock = started_tail (since_start (map (λ (q : RawEpoch). q.clock) (raw_block ms))); rows = raw_row_tails (raw_block ms) }) text
     ∙ ap {B = Tail} (λ c. record { text = without_end_blanks (epoch_text e); clock = c; rows = raw_row_tails (raw_block ms) }) clock
     ∙ ap {B = Tail} (λ rs. record { text = without_end_blanks (epoch_text e); clock = arc_tail WRITTEN_ORDER (clock_arc (marked full e ∷ older)); rows = rs })
-    (rows-left types full e older h e.rows (each-own e.rows h.0.rows_differ))
+    (rows-left types full e older h e.rows (each-own (λ (r : Row). r.name) e.rows h.0.sound.apart))
 
 pub one-tail : OneTail
 one-tail types m older h =
-    let all : AllByRecursion (IsEpoch types) (since_full (m ∷ older)) = all-whole types (since_full (m ∷ older)) h in
-    ap {B = Option Tail} (λ b. Some (tail_of_block b)) (block-raws (m ∷ older) (epochs-begin types (since_full (m ∷ older)) all))
-    ∙ ap {B = Option Tail} Some (tail-same types m.in_full m.epoch older all)
+    ap {B = Option Tail} (λ b. Some (tail_of_block b)) (block-raws (m ∷ older) (epochs-begin types (since_full (m ∷ older)) h))
+    ∙ ap {B = Option Tail} Some (tail-same types m.in_full m.epoch older h)

@@ -2,52 +2,57 @@
 use Rattle.std.specs.Prelude.{◌≡◌, refl, ℕ, suc, zero, ◌+◌, ◌-◌, ◌*◌, ◌≤◌, ◌<◌, List, [], ◌∷◌, ◌++◌, length, map, take, drop, Option, Some, None, Ok, unwrap_or}
 use Rattle.std.specs.Prelude.{ℤ, Bool, true, false, ◌==◌, Result, Err, MatchResult, slice_get, is_some, min}
 use Rattle.std.specs.Result.{is_ok}
-use Rattle.std.proofs.Common.{sym, ◌∙◌, ap, arith, inl, inr, ◌⊎◌, true≢false, add-one}
+use Rattle.std.proofs.Common.{sym, ◌∙◌, ap, subst, arith, inl, inr, ◌⊎◌, true≢false, add-one, get_or}
 use Rattle.std.proofs.lemmas.Option.{slice_get_within}
 use Rattle.std.proofs.lemmas.List.{length-take, length-append}
 use Rattle.crx_lines.specs.declared.fault.Fault.{Fault}
-use Rattle.crx_lines.specs.declared.fault.Fault.TheVariants.{BadEpoch, OutOfMemory}
+use Rattle.crx_lines.specs.declared.fault.Fault.TheVariants.{BadEpoch, BadFlags, OutOfMemory, Truncated}
 use Rattle.crx_rinex.specs.EpochLines.{ObservationHead, satellites_of}
-use Rattle.crx_rinex.specs.Epochs.{begun, is_full_epoch}
-use Rattle.crx_compact.specs.CompactPlaces.{clock_line_read}
+use Rattle.crx_rinex.specs.Epochs.{begun, has_satellite, is_among, is_full_epoch, are_apart}
+use Rattle.crx_rinex.proofs.Apart.{among-names, apart-map, new_at}
+use Rattle.crx_compact.specs.CompactPlaces.{ReadCell, ReadRow, after_cells, are_marks, cells_of, cells_read, row_of_cells, row_of_line, row_with_marks, satellite_line_read}
 use Rattle.crx_compact.specs.Tails.{ArcTail}
-use Rattle.crx_compact.specs.Steps.{arc_of_code}
 use Rattle.crx_compact.specs.HeldRows.{row_after}
-use Rattle.std.specs.Prelude.{IfSome}
+use Rattle.std.specs.Prelude.{IfOk, IfSome, if◌then◌else◌}
 use Rattle.crx_lines.specs.Seen.{Content}
-use Rattle.crx_compact.specs.OpenEpochs.{Faulty, HasMade, first_step, held_clock, is_idle, line_step, opened, opening, step_in, tail_for_line, Idle}
-use Rattle.crx_compact.specs.OpenLines.{HasClock, IsRowAfter, columns_state, step_after}
-use Rattle.crx_compact.specs.declared.incoming.Stage.TheVariants.{Clock}
-use Rattle.crx_compact.proofs.StepsByCode.{clock-ok, clock-err, row-ok, row-err}
+use Rattle.crx_compact.specs.OpenEpochs.{Faulty, HasMade, first_step, held_row, is_idle, line_step, opened, opening, step_in, tail_for_line, Idle}
+use Rattle.crx_compact.specs.OpenLines.{IsRowAfter, columns_state, step_after}
+use Rattle.crx_rinex.proofs.EachPlace.{length-each_place}
+use Rattle.crx_compact.proofs.StepsByCode.{row-ok, row-err}
 use Rattle.crx_compact.proofs.Soundness.{ok-same, no-err}
-use Rattle.std.proofs.lemmas.List.{length-map, length-take-le, length-drop}
+use Rattle.std.proofs.lemmas.List.{length-map, length-take-le, length-drop, map-append, take_all}
 use Rattle.std.proofs.Math.ListN.{drop_of_length-le}
 use Rattle.crx_text.specs.Columns.{columns}
 use Rattle.crx_text.specs.Texts.{patched}
 use Rattle.crx_lines.specs.declared.limits.TheConstants.{HEAD_WIDTH, NAME_WIDTH}
 use Rattle.crx_rinex.specs.Observations.{Row, Epoch}
 use Rattle.crx_rinex.specs.ObservationTypes.{Count}
-use Rattle.crx_compact.specs.EpochText.{Satellite, epoch_count}
+use Rattle.crx_compact.specs.EpochText.{Satellite, begins_epoch, epoch_count}
+use Rattle.crx_compact.specs.Sequences.{and_then}
 use Rattle.crx_compact.specs.CompactPlaces.{satellites_of_line}
 use Rattle.crx_compact.specs.Tails.{RowTail, Tail}
-use Rattle.crx_compact.specs.OpenEpochs.{HeldClock, HeldRow, OpenRawEpoch, RawStep, Going, Whole, gone_on, past_of_tail}
-use Rattle.crx_compact.specs.OpenLines.{AreRowsSoFar, OpenLines, held_rows, lines_so_far, made_of, open_raw}
+use Rattle.crx_compact.specs.OpenEpochs.{HeldClock, HeldEpoch, HeldRow, OpenRawEpoch, RawStep, Going, Whole, gone_on, past_of_tail, with_row}
+use Rattle.crx_compact.specs.OpenLines.{AreAnnounced, AreRowsSoFar, OpenLines, held_rows, lines_so_far, made_of, open_raw}
 use Rattle.crx_compact.specs.declared.incoming.Stage.TheVariants.{Rows}
-use Rattle.crx_compact.proofs.Overlays.{length-each_place}
-use Rattle.crx_compact.proofs.Soundness.{LineFacts, line-facts_of}
+use Rattle.crx_compact.proofs.Soundness.{LineFacts, differ, line-facts_of}
+use Rattle.crx_compact.proofs.Making.{taken_more, value-there}
 
 -- ---- the epoch line
 
--- an epoch line that was read announces its satellites
-pub announced : (types : List Count) (before : Tail) (line : List ℕ) (satellites : List Satellite) → satellites_of_line types (past_of_tail before) line ≡ Ok satellites
-    → epoch_count (columns (patched before.text line) 1 HEAD_WIDTH) ≡ Some (length satellites)
-announced types before line satellites e =
+-- an epoch line that was read announces its satellites, and names no two of them alike
+pub announced : (types : List Count) (before old new : Tail) (line : List ℕ) (satellites : List Satellite) → satellites_of_line types (past_of_tail before) line ≡ Ok satellites
+    → new ≡ record old { text = patched before.text line } → AreAnnounced new.text satellites
+announced types before old new line satellites e left =
     let facts : LineFacts types (past_of_tail before) line satellites = line-facts_of types (past_of_tail before) line satellites e in
     let text : List ℕ = patched before.text line in
     let names : length satellites ≡ facts.count =
     sym (length-map satellites (λ (s : Satellite). s.name)) ∙ ap length facts.named.same
     ∙ length-each_place facts.count (λ k. columns text (HEAD_WIDTH + 1 + NAME_WIDTH * k) NAME_WIDTH) in
-    facts.counted ∙ ap {B = Option ℕ} Some (sym names)
+    let A : Tail → Type 0 = λ t. AreAnnounced t.text satellites in
+    subst A (sym left) (record {
+      counted = facts.counted ∙ ap {B = Option ℕ} Some (sym names);
+      apart = sym (apart-map (λ (n : List ℕ). n) (λ (s : Satellite). s.name) satellites) ∙ ap differ facts.named.same ∙ facts.named.apart;
+    })
 
 -- ---- rows with what is left
 
@@ -122,32 +127,6 @@ made-line (Ok k) head clock l h e =
     ap begun (sym (ok-same k l e)) ∙ ap {B = Epoch} (λ (hs : List ℕ). record { head = hs; clock = k.clock; rows = [] }) h.1 ∙ ap {B = Epoch} (λ (q : Option ℤ). record { head = head; clock = q; rows = [] }) h.2
 made-line (Err fault) head clock l h e = absurd (no-err fault l e)
 
-pub clock-taken : (before next after : Tail) (line : List ℕ) (satellites : List Satellite) (epoch : Epoch) → HasClock before line next after epoch
-    → step_after before (lines_so_far Clock next 0 satellites) line ≡ made_of before (lines_so_far (Rows epoch) after 0 satellites)
-clock-taken before next after line satellites epoch h =
-    let so_far : OpenRawEpoch = record { before = before; text = next.text; clock = None; rows = []; awaited = satellites } in
-    clock-ok so_far satellites line h.cell h.read
-    ∙ gone-same before next.text None [] satellites (Some (held_clock before h.cell)) [] satellites (held_clock before h.cell) [] satellites
-    ∙ ap {B = RawStep} (λ (e : Epoch). made_of before (lines_so_far (Rows e) (record next { clock = arc_of_code h.cell.code before.clock }) 0 satellites)) (sym h.begun)
-    ∙ ap {B = RawStep} (λ (t : Tail). made_of before (lines_so_far (Rows epoch) t 0 satellites)) (sym h.left)
-
-pub clock-refused : (before next : Tail) (line : List ℕ) (satellites : List Satellite) (fault : Fault) → clock_line_read (past_of_tail before) line ≡ Err fault
-    → step_after before (lines_so_far Clock next 0 satellites) line ≡ Faulty fault
-clock-refused before next line satellites fault e = clock-err (record { before = before; text = next.text; clock = None; rows = []; awaited = satellites }) satellites line fault e
-
-pub rows-begun : (before next after : Tail) (line : List ℕ) (satellites : List Satellite) (epoch : Epoch) → HasClock before line next after epoch
-    → epoch_count (columns next.text 1 HEAD_WIDTH) ≡ Some (length satellites) → AreRowsSoFar epoch after 0 satellites
-rows-begun before next after line satellites epoch h e =
-    let text : after.text ≡ next.text = ap (λ (t : Tail). t.text) h.left in
-    let made : epoch ≡ record { head = columns next.text 1 HEAD_WIDTH; clock = h.cell.value; rows = [] } = h.begun in
-    record {
-      head = ap (λ (q : Epoch). q.head) made ∙ ap (λ t. columns t 1 HEAD_WIDTH) (sym text);
-      announced = ap (λ t. epoch_count (columns t 1 HEAD_WIDTH)) text ∙ e;
-      counted = ap (λ (q : Epoch). length q.rows) made;
-      within = omega arith;
-      left = omega arith;
-    }
-
 -- ---- satellite lines
 
 pub satellite-here : (satellites : List Satellite) (count : ℕ) (s : Satellite) → slice_get satellites count ≡ Some s → drop count satellites ≡ s ∷ drop (count + 1) satellites
@@ -199,6 +178,39 @@ row-refused before next line count satellites epoch s fault e (inl h) =
     inl (ap {B = RawStep} (λ (ss : List Satellite). line_step so_far (Some clock) ss line) (satellite-here satellites count s e)
     ∙ row-err so_far clock s (drop (count + 1) satellites) line fault h)
 
+-- a satellite's row has its identifier
+named-by_marks : (before : Tail) (s : Satellite) (marks : List ℕ) (cells : List ReadCell) (b : Bool) → are_marks s.count marks ≡ b
+    → IfOk (and_then (if b then Ok (row_of_cells (past_of_tail before) s.name marks cells) else Err BadFlags) (λ read. Ok (held_row before read))) (λ (held : HeldRow). held.row.name ≡ s.name)
+named-by_marks before s marks cells true e = refl
+named-by_marks before s marks cells false e = tt
+
+named-by_cells : (before : Tail) (s : Satellite) (marks : List ℕ) (cells : Result (List ReadCell) Fault)
+    → IfOk (and_then (and_then cells (λ cs. row_with_marks (past_of_tail before) s marks cs)) (λ read. Ok (held_row before read))) (λ (held : HeldRow). held.row.name ≡ s.name)
+named-by_cells before s marks (Err fault) = tt
+named-by_cells before s marks (Ok cells) = named-by_marks before s marks cells (are_marks s.count marks) refl
+
+named-by_line : (before : Tail) (s : Satellite) (line : List ℕ) (b : Bool)
+    → IfOk (and_then (if b then Err Truncated else row_of_line (past_of_tail before) s line) (λ read. Ok (held_row before read))) (λ (held : HeldRow). held.row.name ≡ s.name)
+named-by_line before s line true = tt
+named-by_line before s line false = named-by_cells before s (after_cells s.count line) (cells_read ((past_of_tail before).value s.name) (cells_of s.count line))
+
+pub name-read : (before : Tail) (s : Satellite) (line : List ℕ) (held : HeldRow) → row_after before s line ≡ Ok held → held.row.name ≡ s.name
+name-read before s line held e =
+    let P : Result HeldRow Fault → Type 0 = λ r. IfOk r (λ (q : HeldRow). q.row.name ≡ s.name) in
+    subst P e (named-by_line before s line (begins_epoch line))
+
+-- the next satellite is none of those before it
+pub next-new : (next : Tail) (count : ℕ) (satellites : List Satellite) (epoch : Epoch) (s : Satellite) → AreRowsSoFar epoch next count satellites → slice_get satellites count ≡ Some s
+    → has_satellite s.name epoch.rows ≡ false
+next-new next count satellites epoch s h e =
+    let inside : count < length satellites = slice_get_within satellites count s e in
+    let all : take (length satellites) satellites ≡ satellites = take_all (length satellites) satellites (omega arith) in
+    let there : get_or satellites count s ≡ s = value-there satellites count s s e in
+    among-names (λ (r : Row). r.name) (λ (q : Satellite). q.name) s.name epoch.rows (take count satellites) h.named
+    ∙ ap (λ (q : Satellite). is_among (λ (w : Satellite). w.name) q.name (take count satellites)) (sym there)
+    ∙ new_at (λ (q : Satellite). q.name) (length satellites) satellites count s
+    (ap (λ (ss : List Satellite). are_apart (λ (q : Satellite). q.name) ss) all ∙ h.announced.apart) inside inside
+
 pub rows-more : (before next later : Tail) (line : List ℕ) (count : ℕ) (satellites : List Satellite) (epoch after : Epoch) (s : Satellite) → AreRowsSoFar epoch next count satellites
     → slice_get satellites count ≡ Some s → IsRowAfter before s line count epoch after next later → AreRowsSoFar after later (count + 1) satellites
 rows-more before next later line count satellites epoch after s h e r =
@@ -207,8 +219,14 @@ rows-more before next later line count satellites epoch after s h e r =
     let least : length (take (count + 1) later.rows) ≡ min (count + 1) (length later.rows) = length-take (count + 1) later.rows in
     record {
       head = ap (λ (q : Epoch). q.head) r.with ∙ h.head ∙ ap (λ t. columns t 1 HEAD_WIDTH) (sym r.next.text);
-      announced = ap (λ t. epoch_count (columns t 1 HEAD_WIDTH)) r.next.text ∙ h.announced;
+      announced = let A : List ℕ → Type 0 = λ t. AreAnnounced t satellites in subst A (sym r.next.text) h.announced;
       counted = ap (λ (q : Epoch). length q.rows) r.with ∙ length-append epoch.rows (r.row ∷ []) ∙ ap (λ n. n + 1) h.counted;
+      named =
+          ap (λ (q : Epoch). map (λ (w : Row). w.name) q.rows) r.with
+          ∙ map-append (λ (w : Row). w.name) epoch.rows (r.row ∷ [])
+          ∙ ap (λ (n : List ℕ). map (λ (w : Row). w.name) epoch.rows ++ n ∷ []) (name-read before s line (record { row = r.row; tail = r.next.left }) r.next.read)
+          ∙ ap (λ (ns : List (List ℕ)). ns ++ s.name ∷ []) h.named
+          ∙ sym (ap (map (λ (w : Satellite). w.name)) (taken_more satellites count s e) ∙ map-append (λ (w : Satellite). w.name) (take count satellites) (s ∷ []));
       within = let inside : count < length satellites = slice_get_within satellites count s e in omega (arith, inside);
       left = omega (arith, kept, least);
     }
@@ -218,7 +236,7 @@ pub not-full : (next : Tail) (count : ℕ) (satellites : List Satellite) (epoch 
     → is_full_epoch epoch ≡ false
 not-full next count satellites epoch s h e =
     let inside : count < length satellites = slice_get_within satellites count s e in
-    let many : satellites_of epoch.head ≡ length satellites = ap (λ (n : Option ℕ). unwrap_or n 0) (ap epoch_count h.head ∙ h.announced) in
+    let many : satellites_of epoch.head ≡ length satellites = ap (λ (n : Option ℕ). unwrap_or n 0) (ap epoch_count h.head ∙ h.announced.counted) in
     ap (λ n. n == satellites_of epoch.head) h.counted ∙ ap (λ n. count == n) many ∙ differ_nat count (length satellites) inside
   where
     differ_nat : (a b : ℕ) → a < b → (a == b) ≡ false
@@ -250,11 +268,6 @@ begun-state types line tail held before None e h k = absurd (true≢false (sym k
 begun-state types line tail held before (Some lines) e h k =
     (open_raw before lines, ap {B = RawStep} (λ (t : Option Tail). opening (opened types line t)) e ∙ ap {B = RawStep} (λ (r : Result OpenRawEpoch Fault). opening r) h, refl)
 
-pub begun-fault : (types : List Count) (line : List ℕ) (held : Option Tail) (before : Tail) (fault : Fault) → tail_for_line held line ≡ Some before
-    → (opened types line (Some before) ≡ Err fault) ⊎ (fault ≡ OutOfMemory) → (first_step types held (Content line) ≡ Faulty fault) ⊎ (fault ≡ OutOfMemory)
-begun-fault types line held before fault e (inl h) = inl (ap {B = RawStep} (λ (t : Option Tail). opening (opened types line t)) e ∙ ap {B = RawStep} (λ (r : Result OpenRawEpoch Fault). opening r) h)
-begun-fault types line held before fault e (inr h) = inr h
-
 -- what a line makes in an open epoch
 pub step-in : (tail : Option Tail) (before : Tail) (incoming : Option OpenLines) (line : List ℕ) → is_some incoming ≡ true
     → step_in (columns_state tail before incoming) (Content line) ≡ step_after before incoming line
@@ -279,3 +292,41 @@ still-made step tail before (Some lines) e k h = (open_raw before lines, e ∙ h
 pub whole-made : (step : RawStep) (before left : Tail) (taken : Option OpenLines) (epoch : Epoch) → step ≡ made_of before taken
     → ((t : Tail) → made_of t taken ≡ Whole (record { epoch = epoch; tail = left })) → HasMade step (Idle (Some left)) (Some epoch)
 whole-made step before left taken epoch e h = (record { epoch = epoch; tail = left }, e ∙ h before, refl, refl)
+
+-- ---- a line after which another one is awaited
+
+abbrev is_whole : RawStep → Bool
+is_whole (Going begun) = false
+is_whole (Whole held) = true
+is_whole (Faulty fault) = false
+
+row-not-whole : (begun : OpenRawEpoch) (clock : HeldClock) (s : Satellite) (awaited : List Satellite) (read : Result ReadRow Fault) (held : HeldEpoch)
+    → with_row begun clock (s ∷ awaited) read ≡ Whole held → ⊥
+row-not-whole begun clock s awaited (Ok read) held e = absurd (true≢false (sym (ap is_whole e)))
+row-not-whole begun clock s awaited (Err fault) held e = absurd (true≢false (sym (ap is_whole e)))
+
+not-whole : (begun : OpenRawEpoch) (clock : Option HeldClock) (awaited : List Satellite) (line : List ℕ) (held : HeldEpoch) → is_some clock ≡ true → 1 < length awaited
+    → line_step begun clock awaited line ≡ Whole held → ⊥
+not-whole begun None awaited line held k l e = absurd (true≢false (sym k))
+not-whole begun (Some clock) [] line held k l e = absurd (omega (arith, l))
+not-whole begun (Some clock) (s ∷ []) line held k l e = absurd (omega (arith, l))
+not-whole begun (Some clock) (s ∷ t ∷ awaited) line held k l e = row-not-whole begun clock t awaited (satellite_line_read (past_of_tail begun.before) s line) held e
+
+goes-on : (before : Tail) (text : List ℕ) (clock : Option HeldClock) (rows : List HeldRow) (awaited : List Satellite) (step : RawStep) → ((held : HeldEpoch) → step ≡ Whole held → ⊥)
+    → step ≡ made_of before (Some (record { text = text; clock = clock; rows = rows; awaited = awaited }))
+    → made_of before (Some (record { text = text; clock = clock; rows = rows; awaited = awaited })) ≡ Going (record { before = before; text = text; clock = clock; rows = rows; awaited = awaited })
+goes-on before text None rows awaited step n e = refl
+goes-on before text (Some clock) rows [] step n e = absurd (n _ e)
+goes-on before text (Some clock) rows (s ∷ awaited) step n e = refl
+
+-- where the clock has come and more than one satellite is awaited, a line that is taken leaves an open epoch
+pub early-made : (step : RawStep) (tail : Option Tail) (before : Tail) (old taken : Option OpenLines) (line : List ℕ) → step ≡ step_after before old line → is_some old ≡ true
+    → IfSome old (λ lines. (is_some lines.clock ≡ true) × (1 < length lines.awaited)) → step ≡ made_of before taken → is_some taken ≡ true
+    → HasMade step (columns_state tail before taken) None
+early-made step tail before None taken line d k h e m = absurd (true≢false (sym k))
+early-made step tail before (Some lines) None line d k h e m = absurd (true≢false (sym m))
+early-made step tail before (Some lines) (Some later) line d k h e m = (
+  open_raw before later,
+  e ∙ goes-on before later.text later.clock later.rows later.awaited step (λ held w. not-whole (open_raw before lines) lines.clock lines.awaited line held h.0 h.1 (sym d ∙ w)) e,
+  refl,
+)

@@ -3,10 +3,11 @@ use Rattle.std.specs.Prelude.{◌≡◌, refl, ◌≢◌, ℕ, zero, suc, ◌≤
 use Rattle.std.proofs.Common.{sym, ◌∙◌, ap, arith, not-suc-le-zero, le_of_suc-le-suc}
 use Rattle.crx_text.specs.Columns.{is_blank, before_end_blanks, without_end_blanks}
 use Rattle.crx_text.specs.Texts.{by_position, mark_of, text_difference, character_of, patched}
-use Rattle.crx_compact.specs.Sequences.{each_place}
+use Rattle.crx_rinex.specs.EachPlace.{each_place}
 use Rattle.crx_compact.specs.Expansion.{latest_mark, shown, longest, overlaid}
 use Rattle.crx_compact.specs.Laws.{patched_in_turn}
 use Rattle.crx_rinex.proofs.Characters.{at, at-without_end_blanks}
+use Rattle.crx_rinex.proofs.EachPlace.{index-each_place}
 
 -- ---- characters, blanks standing after a text
 
@@ -54,15 +55,6 @@ patched-difference old new h =
 
 -- ---- marks over one another
 
-pub length-each_place : {X : Type 0} (n : ℕ) (f : ℕ → X) → length (each_place n f) ≡ n
-length-each_place zero f = refl
-length-each_place (suc n) f = ap suc (length-each_place n (λ i. f (suc i)))
-
-at-each_place : (n : ℕ) (f : ℕ → ℕ) (p : ℕ) → (n ≤ p → f p ≡ 32) → at (each_place n f) p ≡ f p
-at-each_place zero f p h = sym (h (omega arith))
-at-each_place (suc n) f zero h = refl
-at-each_place (suc n) f (suc p) h = at-each_place n (λ i. f (suc i)) p (λ le. h (omega (arith, le)))
-
 pub at_past : (text : List ℕ) (p : ℕ) → length text ≤ p → at text p ≡ 32
 at_past [] p h = refl
 at_past (c ∷ cs) zero h = absurd (not-suc-le-zero h)
@@ -75,7 +67,7 @@ past_longest (w ∷ ws) p h =
     ap (λ (c : ℕ). if is_blank c then latest_mark ws p else at w p) blank ∙ past_longest ws p (omega (arith, h))
 
 pub at-longest : (marks : List (List ℕ)) (p : ℕ) → at (each_place (longest marks) (λ q. shown (latest_mark marks q))) p ≡ shown (latest_mark marks p)
-at-longest marks p = at-each_place (longest marks) (λ q. shown (latest_mark marks q)) p (λ h. ap shown (past_longest marks p h))
+at-longest marks p = index-each_place (longest marks) p (λ q. shown (latest_mark marks q)) 32 (λ h. ap shown (past_longest marks p h))
 
 pub at-overlaid : (marks : List (List ℕ)) (p : ℕ) → at (overlaid marks) p ≡ shown (latest_mark marks p)
 at-overlaid marks p =

@@ -4,13 +4,15 @@ use Rattle.std.specs.List.{AllByRecursion}
 use Rattle.std.specs.Option.{option_map}
 use Rattle.std.proofs.Common.{sym, ◌∙◌, ap, arith, not-suc-le-zero}
 use Rattle.std.proofs.Math.Path.{fun_ext}
+use Rattle.std.proofs.lemmas.List.{get_or_past}
 use Rattle.crx_text.specs.Texts.{patched}
 use Rattle.crx_lines.specs.Seen.{ReadLine}
 use Rattle.crx_text.specs.declared.code.Code.{Code}
 use Rattle.crx_text.specs.declared.code.Code.TheVariants.{Missing, Start, Step}
 use Rattle.crx_lines.specs.declared.limits.TheConstants.{OBSERVATION_WIDTH, CLOCK_WIDTH}
 use Rattle.crx_rinex.specs.ObservationTypes.{Count}
-use Rattle.crx_compact.specs.Sequences.{stretch, each_place}
+use Rattle.crx_rinex.specs.EachPlace.{each_place}
+use Rattle.crx_compact.specs.Sequences.{stretch}
 use Rattle.crx_compact.specs.Differences.{value_at}
 use Rattle.crx_compact.specs.EpochText.{begins_epoch}
 use Rattle.crx_compact.specs.Expansion.{RawRow, RawEpoch, Started, onto_started, since_start, block_of, overlaid, text_of, raw_row_named, raw_run_of, marks_of, code_in, in_range, value_since, value_of}
@@ -20,12 +22,12 @@ use Rattle.crx_compact.specs.Tails.{ArcTail, RowTail, Tail, started_tail, raw_ro
 use Rattle.crx_compact.specs.Steps.{no_tail, tail_named, cell_of_tail, flags_of_tail, flags_held, value_of_code, arc_of_code, raw_row_tail_after, raw_tail_after}
 use Rattle.crx_compact.specs.OpenEpochs.{past_of_tail, tail_for_line, epoch_after}
 use Rattle.crx_compact.specs.ReadingLaws.{HasSingleLines, RawByTail}
+use Rattle.crx_rinex.proofs.EachPlace.{each_place-same, index-each_place}
 use Rattle.crx_compact.proofs.Inversion.{value-first}
 use Rattle.crx_compact.proofs.Stepping.{values-by_tail, first-differences}
 use Rattle.crx_compact.proofs.Overlays.{overlaid-patched}
 use Rattle.crx_compact.proofs.Cuts.{overlaid-take}
-use Rattle.crx_compact.proofs.Runs.{named-made, place-each, index_past}
-use Rattle.crx_compact.proofs.Facts.{each_place-same}
+use Rattle.crx_compact.proofs.Runs.{named-made}
 
 -- ---- one code more
 
@@ -84,8 +86,8 @@ cell-found : (rest : List (Option RawRow)) (found : Option RawRow) (j : ℕ)
     → cell_of_tail j (option_map (raw_row_tail (stretch (found ∷ rest))) found) ≡ started_tail (since_start (map (code_in j) (stretch (found ∷ rest))))
 cell-found rest None j = refl
 cell-found rest (Some r) j =
-    place-each (length r.codes) j (λ i. started_tail (since_start (map (code_in i) (r ∷ stretch rest)))) None (λ le.
-    ap (λ c. started_tail (since_start (c ∷ map (code_in j) (stretch rest)))) (index_past r.codes j Missing le))
+    index-each_place (length r.codes) j (λ i. started_tail (since_start (map (code_in i) (r ∷ stretch rest)))) None (λ le.
+    ap (λ c. started_tail (since_start (c ∷ map (code_in j) (stretch rest)))) (get_or_past r.codes j Missing le))
 
 flags-found : (rest : List (Option RawRow)) (found : Option RawRow)
     → flags_of_tail (option_map (raw_row_tail (stretch (found ∷ rest))) found) ≡ overlaid (marks_of (stretch (found ∷ rest)))

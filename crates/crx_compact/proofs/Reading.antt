@@ -3,6 +3,7 @@ use Rattle.std.specs.Prelude.{◌≡◌, refl, ◌≢◌, ℕ, suc, ◌+◌, ◌
 use Rattle.std.specs.List.{list_all, AllByRecursion}
 use Rattle.std.proofs.Common.{sym, ◌∙◌, ap, subst, arith, true≢false, drop_of_length-le}
 use Rattle.std.proofs.lemmas.List.{length-map, length-append, append_assoc}
+use Rattle.std.proofs.lemmas.Bool.{and_parts}
 use Rattle.crx_text.specs.Columns.{is_blank, before_end_blanks, without_end_blanks, columns}
 use Rattle.crx_text.specs.Codes.{code_text, code_of, IsPrintable}
 use Rattle.crx_lines.specs.Seen.{ReadLine, Content}
@@ -20,25 +21,26 @@ use Rattle.crx_compact.specs.EpochText.{is_printable, begins_epoch, epoch_count,
 use Rattle.crx_compact.specs.Expansion.{RawEpoch, block_of, raw_run_of, value_of, overlaid}
 use Rattle.crx_compact.specs.Past.{Past, past_of_block, past_of_epochs, past_of_line}
 use Rattle.crx_compact.specs.CompactPlaces.{satellites_counted, satellites_of_text, satellites_of_line, BegunEpoch, epoch_begun, ReadCell, cell_read, clock_line_read, ReadRow, satellite_line_read, rows_read, ReadEpoch, epoch_of_rows, epoch_after_line, epoch_at}
-use Rattle.crx_compact.proofs.Written.{IsEpoch}
+use Rattle.crx_rinex.specs.Epochs.{IsWholeEpoch}
 use Rattle.crx_compact.specs.ReadingLaws.{EpochReadsBack, raw_row, raw_of, raws_of, read_of, lines_of_epoch, EachReadsBack, text_lines, epochs_at, marked_of, counts_of, reads_of, ReadsBack}
-use Rattle.crx_compact.proofs.Writable.{all-whole}
-use Rattle.crx_compact.proofs.CodeTexts.{is_code_character, code-characters, code-read}
-use Rattle.crx_compact.proofs.Runs.{raw_block, marked, Begins, begins_full, begins_later, block-raws, raw_run, runs-read, clocks-read, value-back, text-read}
-use Rattle.crx_compact.proofs.Facts.{and_left, and_right, text-kept, text-head, text-begins, length-text, text-names, length-trimmed, names-read, satellites_of, satellites-good, unmarked, difference-printable}
-use Rattle.crx_compact.proofs.Rows.{IsRowOf, run-rows, clock-printable, satellite_of, row-read, each-own}
+use Rattle.crx_compact.specs.Laws.{AreWhole}
+use Rattle.crx_compact.proofs.Writable.{head-counted, typed-rows}
+use Rattle.crx_text.proofs.CodeTexts.{code_of-code_text}
+use Rattle.crx_text.proofs.EndBlanks.{few_kept}
+use Rattle.crx_compact.proofs.CodeTexts.{is_code_character, code-characters}
+use Rattle.crx_compact.proofs.Runs.{raw_block, marked, Begins, begins_full, begins_later, block-raws, raw_run, runs-read, clocks-read, value-back, text-read, rows_before}
+use Rattle.crx_compact.proofs.Facts.{text-kept, text-head, text-begins, length-text, text-names, names-read, satellites_of, satellites-good, unmarked, difference-printable}
+use Rattle.crx_compact.proofs.Rows.{IsRowOf, run-rows, clock-printable, satellite_of, row-read}
+use Rattle.crx_compact.proofs.Identifiers.{each-own, none-earlier}
 use Rattle.crx_rinex.proofs.Characters.{at, at-without_end_blanks, columns-are}
 
 -- ---- the epochs of a block
 
-abbrev pub Epochs : List Count → List Epoch → Type 0
-Epochs types epochs = AllByRecursion (IsEpoch types) epochs
-
-pub epochs-begin : (types : List Count) (epochs : List Epoch) → Epochs types epochs → AllByRecursion (λ (e : Epoch). at (epoch_text e) 0 ≡ 62) epochs
+pub epochs-begin : (types : List Count) (epochs : List Epoch) → AreWhole types epochs → AllByRecursion (λ (e : Epoch). at (epoch_text e) 0 ≡ 62) epochs
 epochs-begin types [] h = tt
 epochs-begin types (e ∷ es) h = (text-begins types e h.0, epochs-begin types es h.1)
 
-pub epochs-unmarked : (types : List Count) (epochs : List Epoch) → Epochs types epochs → AllByRecursion (λ (e : Epoch). (p : ℕ) → at (epoch_text e) p ≢ 38) epochs
+pub epochs-unmarked : (types : List Count) (epochs : List Epoch) → AreWhole types epochs → AllByRecursion (λ (e : Epoch). (p : ℕ) → at (epoch_text e) p ≢ 38) epochs
 epochs-unmarked types [] h = tt
 epochs-unmarked types (e ∷ es) h = (unmarked (epoch_text e) (text-kept types e h.0), epochs-unmarked types es h.1)
 
@@ -77,32 +79,32 @@ block-found false e older raws h k =
 
 -- ---- the epoch line
 
-text-columns : (types : List Count) (e : Epoch) → IsEpoch types e → columns (without_end_blanks (epoch_text e)) 1 41 ≡ e.head
+text-columns : (types : List Count) (e : Epoch) → IsWholeEpoch types e → columns (without_end_blanks (epoch_text e)) 1 41 ≡ e.head
 text-columns types e h =
-    columns-are (without_end_blanks (epoch_text e)) 1 41 e.head h.head_length (λ p less.
+    columns-are (without_end_blanks (epoch_text e)) 1 41 e.head h.sound.head_sound.width (λ p less.
     let place : 1 - 1 + p ≡ p = omega arith in
     ap (at (without_end_blanks (epoch_text e))) place ∙ at-without_end_blanks (epoch_text e) p ∙ text-head types e h p less)
 
-text-good : (types : List Count) (e : Epoch) → IsEpoch types e → satellites_of_text types (without_end_blanks (epoch_text e)) ≡ Ok (satellites_of e.rows)
+text-good : (types : List Count) (e : Epoch) → IsWholeEpoch types e → satellites_of_text types (without_end_blanks (epoch_text e)) ≡ Ok (satellites_of e.rows)
 text-good types e h =
     let text : List ℕ = without_end_blanks (epoch_text e) in
-    let count : epoch_count (columns (without_end_blanks (epoch_text e)) 1 41) ≡ Some (length e.rows) = ap epoch_count (text-columns types e h) ∙ h.head_counted in
-    let long : length (without_end_blanks (epoch_text e)) ≤ length (epoch_text e) = length-trimmed (epoch_text e) in
+    let count : epoch_count (columns (without_end_blanks (epoch_text e)) 1 41) ≡ Some (length e.rows) = ap epoch_count (text-columns types e h) ∙ head-counted types e h in
+    let long : length (without_end_blanks (epoch_text e)) ≤ length (epoch_text e) = few_kept (epoch_text e) in
     let whole : length (epoch_text e) ≡ 41 + 3 * length e.rows = length-text types e h in
     let rest : drop (41 + 3 * length e.rows) (without_end_blanks (epoch_text e)) ≡ [] =
     drop_of_length-le (without_end_blanks (epoch_text e)) (omega (arith, long, whole)) in
     let names : names_in (without_end_blanks (epoch_text e)) (length e.rows) ≡ map (λ (r : Row). r.name) e.rows =
-    names-read types (without_end_blanks (epoch_text e)) 41 e.rows h.rows_are (λ p. at-without_end_blanks (epoch_text e) (41 + p) ∙ text-names types e h p) in
+    names-read types (without_end_blanks (epoch_text e)) 41 e.rows (typed-rows types e h) (λ p. at-without_end_blanks (epoch_text e) (41 + p) ∙ text-names types e h p) in
     ap (satellites_counted types text) count
     ∙ ap {B = Result (List Satellite) Fault} (λ r. if list_all is_blank r then satellites_named types [] (names_in text (length e.rows)) else Err BadEpoch) rest
     ∙ ap (satellites_named types []) names
-    ∙ satellites-good types [] e.rows h.rows_are h.rows_differ
+    ∙ satellites-good types [] e.rows (typed-rows types e h) (none-earlier (λ (r : Row). r.name) e.rows) h.sound.apart
 
-text-good_line : (types : List Count) (full : Bool) (e : Epoch) (older : List Marked) → Epochs types (since_full (marked full e ∷ older))
+text-good_line : (types : List Count) (full : Bool) (e : Epoch) (older : List Marked) → AreWhole types (since_full (marked full e ∷ older))
     → overlaid (epoch_line (marked full e) older ∷ map (λ (q : RawEpoch). q.line) (before full older)) ≡ without_end_blanks (epoch_text e)
 text-good_line types full e older h = text-read (marked full e ∷ older) (epochs-unmarked types (since_full (marked full e ∷ older)) h)
 
-line-good : (types : List Count) (full : Bool) (e : Epoch) (older : List Marked) → Epochs types (since_full (marked full e ∷ older))
+line-good : (types : List Count) (full : Bool) (e : Epoch) (older : List Marked) → AreWhole types (since_full (marked full e ∷ older))
     → satellites_of_line types (past_of_block (before full older)) (epoch_line (marked full e) older) ≡ Ok (satellites_of e.rows)
 line-good types full e older h =
     let line : List ℕ = epoch_line (marked full e) older in
@@ -117,20 +119,20 @@ line-good types full e older h =
 pub text-other : (text : List ℕ) → list_all is_code_character text ≡ true → begins_epoch text ≡ false
 text-other [] h = refl
 text-other (c ∷ cs) h =
-    let ok : is_code_character c ≡ true = and_left (is_code_character c) (list_all is_code_character cs) h in
+    let ok : is_code_character c ≡ true = (and_parts (is_code_character c) (list_all is_code_character cs) h).0 in
     grind (arith, ok)
 
 no-end_blanks : (text : List ℕ) → list_all is_code_character text ≡ true → without_end_blanks text ≡ text
 no-end_blanks [] h = refl
 no-end_blanks (c ∷ cs) h =
-    ap (before_end_blanks c) (no-end_blanks cs (and_right (is_code_character c) (list_all is_code_character cs) h))
-    ∙ kept_first c cs (and_left (is_code_character c) (list_all is_code_character cs) h)
+    ap (before_end_blanks c) (no-end_blanks cs (and_parts (is_code_character c) (list_all is_code_character cs) h).1)
+    ∙ kept_first c cs (and_parts (is_code_character c) (list_all is_code_character cs) h).0
   where
     kept_first : (c : ℕ) (cs : List ℕ) → is_code_character c ≡ true → before_end_blanks c cs ≡ c ∷ cs
     kept_first c [] h = grind (arith, h)
     kept_first c (d ∷ ds) h = refl
 
-clock-good : (types : List Count) (full : Bool) (e : Epoch) (older : List Marked) → Epochs types (since_full (marked full e ∷ older))
+clock-good : (types : List Count) (full : Bool) (e : Epoch) (older : List Marked) → AreWhole types (since_full (marked full e ∷ older))
     → clock_line_read (past_of_block (before full older)) (code_text (code_at WRITTEN_ORDER (clock_arc (marked full e ∷ older))))
     ≡ Ok (record { code = code_at WRITTEN_ORDER (clock_arc (marked full e ∷ older)); value = e.clock })
 clock-good types full e older h =
@@ -140,17 +142,13 @@ clock-good types full e older h =
     let characters : list_all is_code_character (code_text code) ≡ true = code-characters code printable in
     let value : past.clock code ≡ Ok e.clock =
     ap (value_of CLOCK_WIDTH) (clocks-read (marked full e ∷ older))
-    ∙ value-back CLOCK_WIDTH e.clock (map (λ (q : Epoch). q.clock) (map (λ (m : Marked). m.epoch) (if full then [] else back_to (λ (m : Marked). m.in_full) older))) h.0.clock_fits in
+    ∙ value-back CLOCK_WIDTH e.clock (map (λ (q : Epoch). q.clock) (map (λ (m : Marked). m.epoch) (if full then [] else back_to (λ (m : Marked). m.in_full) older))) h.0.sound.head_sound.ranged in
     ap {B = Result ReadCell Fault} (λ b. if b then Err Truncated else cell_read BadClock past.clock (code_of (without_end_blanks (code_text code)))) (text-other (code_text code) characters)
     ∙ ap (λ t. cell_read BadClock past.clock (code_of t)) (no-end_blanks (code_text code) characters)
-    ∙ ap (cell_read BadClock past.clock) (code-read code printable)
+    ∙ ap (cell_read BadClock past.clock) (code_of-code_text code printable)
     ∙ ap {B = Result ReadCell Fault} (λ r. and_then r (λ value. Ok (record { code = code; value = value }))) value
 
 -- ---- the satellite lines
-
--- the run before the newest epoch
-abbrev rows_before : Bool → List ℕ → List Marked → List Row
-rows_before full name older = stretch (map (λ (q : Epoch). row_named name q.rows) (map (λ (m : Marked). m.epoch) (if full then [] else back_to (λ (m : Marked). m.in_full) older)))
 
 run-before : (full : Bool) (name : List ℕ) (older : List Marked) → raw_run_of name (before full older) ≡ raw_run (rows_before full name older)
 run-before true name older = refl
@@ -165,7 +163,7 @@ read_in ms r = record { raw = raw_row (run_of r.name ms) r; row = r }
 abbrev RowReads : Past → List Marked → Row → Type 0
 RowReads past ms r = satellite_line_read past (satellite_of r) (line_in ms r) ≡ Ok (read_in ms r)
 
-row-reads : (types : List Count) (full : Bool) (e : Epoch) (older : List Marked) → Epochs types (since_full (marked full e ∷ older))
+row-reads : (types : List Count) (full : Bool) (e : Epoch) (older : List Marked) → AreWhole types (since_full (marked full e ∷ older))
     → (r : Row) → row_named r.name e.rows ≡ Some r → RowReads (past_of_block (before full older)) (marked full e ∷ older) r
 row-reads types full e older h r own =
     let run : run_of r.name (marked full e ∷ older) ≡ r ∷ rows_before full r.name older =
@@ -175,7 +173,7 @@ row-reads types full e older h r own =
     let Q : List Row → Type 0 = λ q. satellite_line_read (past_of_block (before full older)) (satellite_of r) (satellite_line q r) ≡ Ok (record { raw = raw_row q r; row = r }) in
     subst Q (sym run) (row-read types (before full older) r (rows_before full r.name older) rows (run-before full r.name older))
 
-all-reads : (types : List Count) (full : Bool) (e : Epoch) (older : List Marked) → Epochs types (since_full (marked full e ∷ older))
+all-reads : (types : List Count) (full : Bool) (e : Epoch) (older : List Marked) → AreWhole types (since_full (marked full e ∷ older))
     → (rows : List Row) → AllByRecursion (λ (r : Row). row_named r.name e.rows ≡ Some r) rows
     → AllByRecursion (RowReads (past_of_block (before full older)) (marked full e ∷ older)) rows
 all-reads types full e older h [] own = tt
@@ -204,7 +202,7 @@ map-row ms [] = refl
 map-row ms (r ∷ rs) = ap (λ q. r ∷ q) (map-row ms rs)
 
 epoch-good : (types : List Count) (full : Bool) (e : Epoch) (older : List Marked) (raws : List RawEpoch) (rest : List ReadLine)
-    → Epochs types (since_full (marked full e ∷ older))
+    → AreWhole types (since_full (marked full e ∷ older))
     → (full ≡ false → block_of raws ≡ block_of (raws_of older))
     → epoch_at types raws (lines_of_epoch (marked full e ∷ older) ++ rest) ≡ Here (read_of (marked full e) older) (2 + length e.rows)
 epoch-good types full e older raws rest h k =
@@ -219,7 +217,7 @@ epoch-good types full e older raws rest h k =
     let first : epoch_begun types line (past_of_line raws line) ≡ Ok begun =
     ap (epoch_begun types line) (past-found full e older raws (epochs-begin types (since_full (marked full e ∷ older)) h) k)
     ∙ ap {B = Result BegunEpoch Fault} (λ r. and_then r (λ satellites. Ok (record { line = line; past = past; satellites = satellites }))) (line-good types full e older h) in
-    let reads : AllByRecursion (RowReads past (marked full e ∷ older)) e.rows = all-reads types full e older h e.rows (each-own e.rows h.0.rows_differ) in
+    let reads : AllByRecursion (RowReads past (marked full e ∷ older)) e.rows = all-reads types full e older h e.rows (each-own (λ (r : Row). r.name) e.rows h.0.sound.apart) in
     let same : epoch_of_rows begun clock (map (read_in ms) e.rows) ≡ read_of (marked full e) older =
     ap {B = ReadEpoch} (λ rs. record { raw = record { line = line; clock = code; rows = rs }; epoch = record { head = columns (past.text line) 1 41; clock = e.clock; rows = map (λ (r : ReadRow). r.row) (map (read_in ms) e.rows) } }) (map-raw ms e.rows)
     ∙ ap {B = ReadEpoch} (λ rs. record { raw = raw_of (marked full e) older; epoch = record { head = columns (past.text line) 1 41; clock = e.clock; rows = rs } }) (map-row ms e.rows)
@@ -234,7 +232,7 @@ epoch-good types full e older raws rest h k =
     counted : (n : ℕ) → 1 + (1 + (n + 0)) ≡ 2 + n
     counted n = omega arith
 
-each-reads : (types : List Count) (m : Marked) (older : List Marked) (raws : List RawEpoch) → Epochs types (since_full (m ∷ older))
+each-reads : (types : List Count) (m : Marked) (older : List Marked) (raws : List RawEpoch) → AreWhole types (since_full (m ∷ older))
     → (m.in_full ≡ false → block_of raws ≡ block_of (raws_of older)) → EpochReadsBack types m older raws
 each-reads types m older raws h k = record {
   reads = λ rest. epoch-good types m.in_full m.epoch older raws rest h k;
@@ -242,7 +240,7 @@ each-reads types m older raws h k = record {
 }
 
 pub each-reads_back : EachReadsBack
-each-reads_back types m older raws h k = each-reads types m older raws (all-whole types (since_full (m ∷ older)) h) k
+each-reads_back types m older raws h k = each-reads types m older raws h k
 
 -- ---- the epochs of a list
 

@@ -433,11 +433,6 @@ stepped width order count last number value ds e h l v f =
 pub accepted : (width : ℕ) (value : ℤ) (b : Bool) → b ≡ is_within width (to_z w64 (of_z w64 value)) → b ≡ true → FitsSigned w64 value → is_within width value ≡ true
 accepted width value b e h f = ap (is_within width) (sym (same-bits value f)) ∙ sym e ∙ h
 
--- a number of a code is below the bound that its digits set
-pub short-below : (number : ℤ) → IsShort number → IsBelow (10 ^ 18) number
-short-below (pos n) h = record { low = omega (arith, ints); high = omega (arith, ints) }
-short-below (negsuc n) h = record { low = omega (arith, ints); high = omega (arith, ints) }
-
 -- the highest difference at a next value in range is a number that a code may have
 highest-below : (k : ℕ) (ds : List ℤ) → length ds + k ≤ 10 → AreBelow (order_bound k) ds → IsShort (highest ds)
 highest-below k [] few h = omega arith

@@ -1,9 +1,10 @@
 -- Runs and arcs of what was written, as a reader finds them.
-use Rattle.std.specs.Prelude.{◌≡◌, refl, ◌≢◌, ℕ, zero, suc, ◌≤◌, ◌*◌, min, ℤ, Bool, true, false, cond, ◌&&◌, nat_eq, List, [], ◌∷◌, length, map, take, slice_index_or, Option, Some, None, Result, Ok, Err, if◌then◌else◌}
+use Rattle.std.specs.Prelude.{◌≡◌, refl, ◌≢◌, ℕ, ◌*◌, min, ℤ, Bool, true, false, cond, ◌&&◌, nat_eq, List, [], ◌∷◌, length, map, take, Option, Some, None, Result, Ok, Err, if◌then◌else◌}
 use Rattle.std.specs.List.{AllByRecursion}
 use Rattle.std.specs.Option.{option_map}
 use Rattle.std.specs.Str.{bytes_eq}
-use Rattle.std.proofs.Common.{sym, ◌∙◌, ap, arith, not-suc-le-zero}
+use Rattle.std.proofs.Common.{sym, ◌∙◌, ap, arith}
+use Rattle.std.proofs.lemmas.List.{get_or_past}
 use Rattle.crx_text.specs.Columns.{without_end_blanks}
 use Rattle.crx_text.specs.Texts.{text_difference, mark_of, patched, by_position, character_of}
 use Rattle.crx_rinex.specs.Observations.{Row, Epoch}
@@ -12,15 +13,17 @@ use Rattle.crx_text.specs.declared.code.Code.TheVariants.{Missing}
 use Rattle.crx_lines.specs.declared.fault.Fault.{Fault}
 use Rattle.crx_lines.specs.declared.fault.Fault.TheVariants.{OutOfRange}
 use Rattle.crx_lines.specs.declared.limits.TheConstants.{WRITTEN_ORDER}
-use Rattle.crx_compact.specs.Sequences.{back_to, named, stretch, each_place}
+use Rattle.crx_compact.specs.Sequences.{back_to, named, stretch}
 use Rattle.crx_compact.specs.Differences.{code_at, difference}
 use Rattle.crx_compact.specs.Compaction.{Marked, epoch_text, row_named, since_full, run_of, value_in, arc_of, clock_arc, codes_of, indicators_before, newest_text}
 use Rattle.crx_compact.specs.Expansion.{RawRow, RawEpoch, block_of, raw_row_named, raw_run_of, marks_of, code_in, since_start, onto_started, in_range, value_since, value_of, overlaid}
 use Rattle.crx_compact.specs.Laws.{codes_of_arc}
-use Rattle.crx_compact.proofs.Written.{fits}
+use Rattle.crx_rinex.proofs.EachPlace.{index-each_place, length-each_place}
+use Rattle.crx_text.specs.Numbers.{IsMissingOrWithin}
+use Rattle.crx_compact.proofs.Bounds.{within-is}
 use Rattle.crx_compact.specs.ReadingLaws.{raw_row, raw_of, raws_of}
 use Rattle.crx_compact.proofs.Inversion.{value-numbers, started-codes}
-use Rattle.crx_compact.proofs.Overlays.{at-by_position, same_characters, character-mark, overlaid-patched, length-each_place}
+use Rattle.crx_compact.proofs.Overlays.{at-by_position, same_characters, character-mark, overlaid-patched}
 use Rattle.crx_compact.proofs.Cuts.{overlaid-take, trimmed-within}
 use Rattle.crx_rinex.proofs.Characters.{at, at-without_end_blanks}
 
@@ -100,6 +103,10 @@ named-made name_x name_y make h name (x ∷ xs) =
     step true e next = ap (λ n. Some (make n x)) (bytes_eq-is (name_x x) name e)
     step false e next = next
 
+-- the rows of a satellite in the epochs before one, back to the latest in full; none before one in full
+abbrev pub rows_before : Bool → List ℕ → List Marked → List Row
+rows_before full name older = stretch (map (λ (q : Epoch). row_named name q.rows) (map (λ (m : Marked). m.epoch) (if full then [] else back_to (λ (m : Marked). m.in_full) older)))
+
 abbrev rows_of : List ℕ → List Epoch → List Row
 rows_of name epochs = stretch (map (λ (e : Epoch). row_named name e.rows) epochs)
 
@@ -145,23 +152,12 @@ pub clocks-read : (ms : List Marked) → map (λ (q : RawEpoch). q.clock) (raw_b
 clocks-read [] = refl
 clocks-read (m ∷ older) = clock-step m.in_full m.epoch older (clocks-read older)
 
--- what stands at a place of a list of so many
-pub place-each : {X : Type 0} (n j : ℕ) (f : ℕ → X) (d : X) → (n ≤ j → f j ≡ d) → slice_index_or (each_place n f) j d ≡ f j
-place-each zero j f d h = sym (h (omega arith))
-place-each (suc n) zero f d h = refl
-place-each (suc n) (suc j) f d h = place-each n j (λ i. f (suc i)) d (λ le. h (omega (arith, le)))
-
-pub index_past : {X : Type 0} (xs : List X) (j : ℕ) (d : X) → length xs ≤ j → slice_index_or xs j d ≡ d
-index_past [] j d h = refl
-index_past (x ∷ xs) zero d h = absurd (not-suc-le-zero h)
-index_past (x ∷ xs) (suc j) d h = index_past xs j d (omega (arith, h))
-
 pub codes-read : (j : ℕ) (run : List Row) → map (code_in j) (raw_run run) ≡ codes_of_values (map (value_in j) run)
 codes-read j [] = refl
 codes-read j (r ∷ rs) =
     let here : code_in j (raw_row (r ∷ rs) r) ≡ code_at WRITTEN_ORDER (arc_of j (r ∷ rs)) =
-    place-each (length r.values) j (λ i. code_at WRITTEN_ORDER (arc_of i (r ∷ rs))) Missing (λ le.
-    ap (λ (o : Option ℤ). code_at WRITTEN_ORDER (stretch (o ∷ map (value_in j) rs))) (index_past r.values j None le)) in
+    index-each_place (length r.values) j (λ i. code_at WRITTEN_ORDER (arc_of i (r ∷ rs))) Missing (λ le.
+    ap (λ (o : Option ℤ). code_at WRITTEN_ORDER (stretch (o ∷ map (value_in j) rs))) (get_or_past r.values j None le)) in
     ap (λ c. c ∷ map (code_in j) (raw_run rs)) here
     ∙ ap (λ cs. code_at WRITTEN_ORDER (arc_of j (r ∷ rs)) ∷ cs) (codes-read j rs)
 
@@ -178,13 +174,13 @@ value-present width x [] cs = refl
 value-present width x (y ∷ ys) cs = refl
 
 -- a value within its columns comes back from its code and those before it
-pub value-back : (width : ℕ) (o : Option ℤ) (os : List (Option ℤ)) → fits width o ≡ true → value_of width (codes_of_values (o ∷ os)) ≡ Ok o
+pub value-back : (width : ℕ) (o : Option ℤ) (os : List (Option ℤ)) → IsMissingOrWithin width o → value_of width (codes_of_values (o ∷ os)) ≡ Ok o
 value-back width None os h = refl
 value-back width (Some x) os h =
     value-present width x (stretch os) (codes_of_values os)
     ∙ ap (value_since width) (started-values x os ∙ started-codes WRITTEN_ORDER (stretch os) x)
     ∙ ap (in_range width) (value-numbers WRITTEN_ORDER (stretch os) x)
-    ∙ ap {B = Result (Option ℤ) Fault} (λ b. if b then Ok (Some x) else Err OutOfRange) h
+    ∙ ap {B = Result (Option ℤ) Fault} (λ b. if b then Ok (Some x) else Err OutOfRange) ((within-is width x).1 h)
 
 -- ---- texts
 
@@ -253,9 +249,3 @@ pub marks-read : (r : Row) (rs : List Row) → AllByRecursion HasFlags (r ∷ rs
 marks-read r rs h = marks-cut r rs h.0 (marks-new r rs h)
 
 -- ---- columns
-
-not-suc-zero : (n : ℕ) → suc n ≡ 0 → ⊥
-not-suc-zero n e = omega (arith, e)
-
-not-zero-suc : (n : ℕ) → 0 ≡ suc n → ⊥
-not-zero-suc n e = omega (arith, e)

@@ -1,10 +1,11 @@
 -- The text of an epoch as the reader of RINEX makes it: how long it is, and of which characters.
-use Rattle.std.specs.Prelude.{◌≡◌, ◌≤◌, refl, ℕ, zero, suc, ◌*◌, true, false, ◌&&◌, if◌then◌else◌, List, [], ◌∷◌, ◌++◌, length, take, flat_map, All}
+use Rattle.std.specs.Prelude.{◌≡◌, ◌≤◌, refl, ℕ, zero, suc, ◌*◌, true, ◌&&◌, if◌then◌else◌, List, [], ◌∷◌, ◌++◌, length, take, flat_map, All}
 use Rattle.std.specs.List.{list_all}
 use Rattle.std.specs.Str.{bytes_eq}
 use Rattle.std.proofs.lemmas.Bool.Decides.{Decides-eqb}
 use Rattle.std.proofs.lemmas.List.{append-nil}
 use Rattle.std.proofs.lemmas.Slice.Eq.{bytes_eq-Decides}
+use Rattle.std.proofs.lemmas.Bool.{and_parts}
 use Rattle.std.proofs.Common.{ap, arith, length-append, ◌∙◌, sym}
 use Rattle.crx_lines.specs.declared.limits.TheConstants.{LINE_LIMIT}
 use Rattle.crx_text.specs.Columns.{character_at}
@@ -15,12 +16,13 @@ use Rattle.crx_rinex.specs.SatelliteLines.{IsSoundRow}
 use Rattle.crx_compact.specs.Cells.{AreHeldFlags}
 use Rattle.crx_compact.specs.Compaction.{epoch_text}
 use Rattle.crx_compact.specs.Steps.{flags_held}
-use Rattle.crx_compact.proofs.Facts.{all-take, and_right, if_some, list_all-append, list_all-at, length-trimmed}
+use Rattle.crx_compact.proofs.Facts.{all-take, if_some, list_all-append, list_all-at}
 use Rattle.crx_compact.proofs.Overlays.{at-by_position, same_characters}
 use Rattle.crx_text.specs.Columns.{is_blank, without_end_blanks, before_end_blanks}
 use Rattle.crx_text.specs.Texts.{by_position, mark_of, text_difference, is_kept}
 use Rattle.crx_compact.proofs.Writable.{length-is, name-kept}
 use Rattle.crx_rinex.proofs.Characters.{at, at-without_end_blanks, list_all-from_at}
+use Rattle.crx_text.proofs.EndBlanks.{few_kept}
 
 abbrev names : List Row → List ℕ
 names rows = flat_map (λ (r : Row). r.name) rows
@@ -47,25 +49,16 @@ text-fits e h =
 
 head-kept : (head : ObservationHead) → IsObservationHead head → list_all is_kept head.head ≡ true
 head-kept head h =
-    and_right (begins_epoch head.head && is_observation_flag (character_at head.head 32)) (list_all is_kept head.head)
-    (if_some (begins_epoch head.head && is_observation_flag (character_at head.head 32) && list_all is_kept head.head) (satellites_in head.head) head.count h.counted)
+    (and_parts (begins_epoch head.head && is_observation_flag (character_at head.head 32)) (list_all is_kept head.head)
+    (if_some (begins_epoch head.head && is_observation_flag (character_at head.head 32) && list_all is_kept head.head) (satellites_in head.head) head.count h.counted)).1
 
 pub text-plain : (e : Epoch) → IsSoundEpoch e → list_all is_kept (epoch_text e) ≡ true
 text-plain e h = list_all-append is_kept e.head (names e.rows) (head-kept _ h.head_sound) (names-kept e.rows h.rows_sound)
 
 -- ---- blanks at the end
 
--- a text without the blanks at its end is its beginning
-pub beginning-trimmed : (text : List ℕ) → take (length (without_end_blanks text)) text ≡ without_end_blanks text
-beginning-trimmed [] = refl
-beginning-trimmed (c ∷ cs) = begun c (without_end_blanks cs) cs (beginning-trimmed cs)
-  where
-    begun : (c : ℕ) (front cs : List ℕ) → take (length front) cs ≡ front → take (length (before_end_blanks c front)) (c ∷ cs) ≡ before_end_blanks c front
-    begun c [] cs e = elim (is_blank c) as (λ b. take (length (if b then [] else c ∷ [])) (c ∷ cs) ≡ (if b then [] else c ∷ [])) [ true ↦ refl | false ↦ refl ]
-    begun c (d ∷ ds) cs e = ap (λ r. c ∷ r) e
-
 pub trimmed-fits : (e : Epoch) → IsSoundEpoch e → length (without_end_blanks (epoch_text e)) ≤ LINE_LIMIT
-trimmed-fits e h = omega (arith, length-trimmed (epoch_text e), text-fits e h)
+trimmed-fits e h = omega (arith, few_kept (epoch_text e), text-fits e h)
 
 pub trimmed-plain : (e : Epoch) → IsSoundEpoch e → list_all is_kept (without_end_blanks (epoch_text e)) ≡ true
 trimmed-plain e h = list_all-from_at is_kept (without_end_blanks (epoch_text e)) (λ k. ap is_kept (at-without_end_blanks (epoch_text e) k) ∙ list_all-at is_kept refl (epoch_text e) (text-plain e h) k)
@@ -95,7 +88,7 @@ pub flags-held : (row : Row) → IsSoundRow row → AreHeldFlags (without_end_bl
 flags-held row h =
     let few = h.counted.1 in
     record {
-      within = omega (arith, length-trimmed row.flags, h.paired, few);
+      within = omega (arith, few_kept row.flags, h.paired, few);
       kept = list_all-from_at is_kept (without_end_blanks row.flags) (λ k. ap is_kept (at-without_end_blanks row.flags k) ∙ list_all-at is_kept refl row.flags h.kept k);
     }
 
@@ -107,7 +100,7 @@ length-cut (suc n) [] = omega arith
 length-cut (suc n) (c ∷ cs) = omega (arith, length-cut n cs)
 
 pub length-held : (count : ℕ) (flags : List ℕ) → length (flags_held count flags) ≤ 2 * count
-length-held count flags = omega (arith, length-trimmed (take (2 * count) flags), length-cut (2 * count) flags)
+length-held count flags = omega (arith, few_kept (take (2 * count) flags), length-cut (2 * count) flags)
 
 no-longer : (n : ℕ) (text : List ℕ) → length (take n text) ≤ length text
 no-longer zero text = omega arith
@@ -117,7 +110,7 @@ no-longer (suc n) (c ∷ cs) = omega (arith, no-longer n cs)
 pub cut-held : (count : ℕ) (flags : List ℕ) → AreHeldFlags flags → AreHeldFlags (flags_held count flags)
 cut-held count flags h =
     record {
-      within = omega (arith, length-trimmed (take (2 * count) flags), no-longer (2 * count) flags, h.within);
+      within = omega (arith, few_kept (take (2 * count) flags), no-longer (2 * count) flags, h.within);
       kept = list_all-from_at is_kept (flags_held count flags) (λ k.
           ap is_kept (at-without_end_blanks (take (2 * count) flags) k) ∙ list_all-at is_kept refl (take (2 * count) flags) (all-take is_kept (2 * count) flags h.kept) k);
     }

@@ -1,30 +1,32 @@
 -- What follows of an epoch from its having been read.
-use Rattle.std.specs.Prelude.{◌≡◌, refl, ℕ, zero, suc, ◌+◌, ◌*◌, Bool, true, false, cond, not, ◌&&◌, ℤ, List, [], ◌∷◌, map, length, slice_index_or, drop, Option, Some, None, Result, Ok, Err, ⊤, if◌then◌else◌}
+use Rattle.std.specs.Prelude.{◌≡◌, refl, ℕ, zero, suc, ◌+◌, ◌*◌, Bool, true, false, not, ℤ, List, [], ◌∷◌, map, length, slice_index_or, drop, Option, Some, None, Result, Ok, Err, ⊤, if◌then◌else◌}
 use Rattle.std.specs.List.{list_all, list_any, AllByRecursion}
 use Rattle.std.specs.Result.{is_ok}
 use Rattle.std.specs.Str.{bytes_eq}
 use Rattle.std.proofs.Common.{sym, ◌∙◌, ap, subst, arith, true≢false}
 use Rattle.std.proofs.lemmas.List.{length-map}
+use Rattle.std.proofs.lemmas.Bool.{and_from}
 use Rattle.crx_text.specs.Columns.{is_blank, columns, without_end_blanks}
 use Rattle.crx_text.specs.Codes.{code_of, after_cell}
 use Rattle.crx_lines.specs.Seen.{ReadLine, Content, Overlong}
 use Rattle.crx_rinex.specs.Observations.{Row, Epoch}
 use Rattle.crx_rinex.specs.ObservationTypes.{Count}
+use Rattle.crx_rinex.specs.Epochs.{is_among, are_apart}
+use Rattle.crx_rinex.proofs.Apart.{apart-map}
 use Rattle.crx_rinex.specs.Places.{Place, Here, Wrong, Wanted, then_place, after_lines, first_line, one_line}
 use Rattle.crx_text.specs.declared.code.Code.{Code}
 use Rattle.crx_text.specs.declared.code.Code.TheVariants.{Missing}
 use Rattle.crx_lines.specs.declared.fault.Fault.{Fault}
 use Rattle.crx_lines.specs.declared.fault.Fault.TheVariants.{LineTooLong, NotAnEpoch, BadEpoch, BadClock, BadSatellite, BadField, RepeatedSatellite, BadFlags, Truncated}
-use Rattle.crx_compact.specs.Sequences.{stretch, each_place, all_ok, and_then, before_all}
+use Rattle.crx_rinex.specs.EachPlace.{each_place}
+use Rattle.crx_compact.specs.Sequences.{stretch, all_ok, and_then, before_all}
 use Rattle.crx_compact.specs.EpochText.{begins_epoch, is_printable, epoch_count, types_of_satellite, names_in, Satellite, satellite_before, satellites_named}
 use Rattle.crx_compact.specs.Expansion.{RawRow, RawEpoch, block_of, text_of, raw_row_named, raw_run_of, marks_of, overlaid, indicators_of, row_from, rows_from, epoch_of_block, epoch_from}
 use Rattle.crx_compact.specs.Past.{Past, past_of_block, past_of_epochs, past_of_line}
 use Rattle.crx_compact.proofs.Cuts.{columns-cut}
 use Rattle.crx_compact.specs.CompactPlaces.{satellites_counted, satellites_of_text, satellites_of_line, BegunEpoch, epoch_begun, ReadCell, cell_read, cells_read, clock_line_read, cells_of, after_cells, are_marks, ReadRow, row_of_cells, row_with_marks, row_of_line, satellite_line_read, rows_read, ReadEpoch, epoch_of_rows, epoch_after_line, epoch_at}
 use Rattle.crx_compact.specs.ReadingLaws.{HasSingleLines, ReadsSoundly}
-use Rattle.crx_compact.proofs.Runs.{bytes_eq-same}
-use Rattle.crx_compact.proofs.Rows.{or-left, or-right, eq-other}
-use Rattle.crx_compact.proofs.Facts.{both, and_left, and_right, not_true}
+use Rattle.crx_compact.proofs.Identifiers.{AreNew, each-own, new-before, not-among}
 
 -- ---- good answers come from good answers
 
@@ -262,10 +264,9 @@ rows-facts block (s ∷ ss) lines rows count e =
 
 -- ---- identifiers
 
--- whether none of some identifiers stands twice, nor among earlier ones
-abbrev pub differ : List (List ℕ) → List (List ℕ) → Bool
-differ earlier [] = true
-differ earlier (n ∷ ns) = not (list_any (bytes_eq n) earlier) && differ (n ∷ earlier) ns
+-- whether no identifier stands twice
+abbrev pub differ : List (List ℕ) → Bool
+differ names = are_apart (λ (n : List ℕ). n) names
 
 abbrev pub names_of : List Satellite → List (List ℕ)
 names_of satellites = map (λ (s : Satellite). s.name) satellites
@@ -273,7 +274,8 @@ names_of satellites = map (λ (s : Satellite). s.name) satellites
 -- what is known of satellites whose identifiers were checked
 pub record SatellitesFacts (types : List Count) (earlier names : List (List ℕ)) (satellites : List Satellite) : Type 0 where
   pub same : names_of satellites ≡ names
-  pub apart : differ earlier names ≡ true
+  pub new : AreNew (λ (n : List ℕ). n) earlier names
+  pub apart : differ names ≡ true
   pub known : AllByRecursion (λ (s : Satellite). types_of_satellite types s.name ≡ Some s.count) satellites
 
 record Before (types : List Count) (earlier : List (List ℕ)) (name : List ℕ) (others : Result (List Satellite) Fault) (given : List Satellite) : Type 0 where
@@ -304,7 +306,7 @@ pub satellites-facts : (types : List Count) (earlier names : List (List ℕ)) (g
     → SatellitesFacts types earlier names given
 satellites-facts types earlier [] given e =
     let P : List Satellite → Type 0 = λ ss. SatellitesFacts types earlier [] ss in
-    subst P (ok-same [] given e) (record { same = refl; apart = refl; known = tt })
+    subst P (ok-same [] given e) (record { same = refl; new = tt; apart = refl; known = tt })
 satellites-facts types earlier (n ∷ ns) given e =
     let others : Result (List Satellite) Fault = satellites_named types (n ∷ earlier) ns in
     let step : Before types earlier n others given = satellite-before types earlier n (types_of_satellite types n) others given refl e in
@@ -312,7 +314,8 @@ satellites-facts types earlier (n ∷ ns) given e =
     let P : List Satellite → Type 0 = λ ss. SatellitesFacts types earlier (n ∷ ns) ss in
     subst P step.made (record {
       same = ap (λ q. n ∷ q) rest.same;
-      apart = both (not (list_any (bytes_eq n) earlier)) (differ (n ∷ earlier) ns) (ap not step.new) rest.apart;
+      new = (step.new, new-before (λ (m : List ℕ). m) n earlier ns rest.new);
+      apart = and_from (not (is_among (λ (m : List ℕ). m) n ns)) (differ ns) (ap not (not-among (λ (m : List ℕ). m) n earlier ns rest.new)) rest.apart;
       known = (step.known, rest.known);
     })
 
@@ -323,22 +326,6 @@ raw-names block [] (r ∷ rs) h = absurd h
 raw-names block (s ∷ ss) [] h = absurd h
 raw-names block (s ∷ ss) (r ∷ rs) h =
     ap (λ n. n ∷ map (λ (q : RawRow). q.name) (map (λ (q : ReadRow). q.raw) rs)) (raw-name block s r h.0) ∙ ap (λ ns. s.name ∷ ns) (raw-names block ss rs h.1)
-
-own-rows : (earlier : List (List ℕ)) (rows : List RawRow) (look : List ℕ → Option RawRow)
-    → ((name : List ℕ) → list_any (bytes_eq name) earlier ≡ false → look name ≡ raw_row_named name rows)
-    → differ earlier (map (λ (r : RawRow). r.name) rows) ≡ true → AllByRecursion (λ (r : RawRow). look r.name ≡ Some r) rows
-own-rows earlier [] look h k = tt
-own-rows earlier (r ∷ rs) look h k =
-    let names : List (List ℕ) = map (λ (q : RawRow). q.name) rs in
-    let new : list_any (bytes_eq r.name) earlier ≡ false =
-    not_true (list_any (bytes_eq r.name) earlier) (and_left (not (list_any (bytes_eq r.name) earlier)) (differ (r.name ∷ earlier) names) k) in (
-      h r.name new ∙ ap {B = Option RawRow} (λ b. cond b (Some r) (raw_row_named r.name rs)) (bytes_eq-same r.name),
-      own-rows (r.name ∷ earlier) rs look (λ name other.
-          let apart : bytes_eq r.name name ≡ false = eq-other name r.name (or-left (bytes_eq name r.name) (list_any (bytes_eq name) earlier) other) in
-          h name (or-right (bytes_eq name r.name) (list_any (bytes_eq name) earlier) other)
-          ∙ ap {B = Option RawRow} (λ b. cond b (Some r) (raw_row_named name rs)) apart)
-          (and_right (not (list_any (bytes_eq r.name) earlier)) (differ (r.name ∷ earlier) names) k),
-    )
 
 -- ---- the epoch
 
@@ -482,8 +469,8 @@ rows-single types older read count h =
     let raws : List RawRow = map (λ (r : ReadRow). r.raw) h.rows in
     let names : map (λ (r : RawRow). r.name) raws ≡ names_in ((past_of_block (block_for read.raw.line older)).text read.raw.line) h.line_ok.count =
     raw-names (block_for read.raw.line older) h.satellites h.rows h.rows_ok ∙ h.line_ok.named.same in
-    let D : List (List ℕ) → Type 0 = λ ns. differ [] ns ≡ true in
-    subst P h.is_read (own-rows [] raws (λ name. raw_row_named name raws) (λ name other. refl) (subst D (sym names) h.line_ok.named.apart))
+    let apart : are_apart (λ (r : RawRow). r.name) raws ≡ true = sym (apart-map (λ (n : List ℕ). n) (λ (r : RawRow). r.name) raws) ∙ ap differ names ∙ h.line_ok.named.apart in
+    subst P h.is_read (each-own (λ (r : RawRow). r.name) raws apart)
 
 rows-meant : (block : List RawEpoch) (raw : RawEpoch) (satellites : List Satellite) (rows : List ReadRow) → Paired (RowFacts block) satellites rows
     → AllByRecursion (λ (r : RawRow). raw_row_named r.name raw.rows ≡ Some r) (map (λ (r : ReadRow). r.raw) rows)

@@ -2,6 +2,7 @@
 use Rattle.std.specs.Prelude.{◌≡◌, refl, ℕ, Bool, true, false, ◌&&◌, ◌||◌, List, [], ◌∷◌, ◌++◌, length, map, flat_map, if◌then◌else◌}
 use Rattle.std.specs.List.{list_all, AllByRecursion}
 use Rattle.std.proofs.Common.{◌∙◌, ap, arith}
+use Rattle.std.proofs.lemmas.Bool.{and_parts, and_from}
 use Rattle.crx_text.specs.Columns.{character_at, without_end_blanks}
 use Rattle.crx_text.specs.Texts.{text_difference, is_printable, mark_of, is_kept}
 use Rattle.crx_text.specs.Codes.{code_text}
@@ -12,13 +13,14 @@ use Rattle.crx_rinex.specs.ObservationTypes.{Count}
 use Rattle.crx_rinex.specs.EpochLines.{begins_epoch, is_event_flag, is_event_line, is_observation_flag}
 use Rattle.crx_compact.specs.Compaction.{Marked, epoch_text, since_full, run_of, arc_of, clock_arc, newest_text, indicators_before, cell_text, codes_of, satellite_line, epoch_line}
 use Rattle.crx_compact.specs.Differences.{code_at}
-use Rattle.crx_compact.specs.Laws.{has_no_epochs, LinesCanStand}
-use Rattle.crx_compact.proofs.Written.{IsRow, IsEpoch}
+use Rattle.crx_compact.specs.Laws.{AreWhole, has_no_epochs, LinesCanStand}
+use Rattle.crx_rinex.proofs.EachPlace.{length-each_place}
+use Rattle.crx_rinex.specs.Epochs.{IsWholeEpoch}
+use Rattle.crx_compact.proofs.Writable.{IsTypedRow, typed-rows}
 use Rattle.crx_compact.proofs.CodeTexts.{is_code_character, code-characters}
 use Rattle.crx_compact.proofs.Cells.{AreWritten}
 use Rattle.crx_compact.proofs.Runs.{marked, begins_full, begins_later}
-use Rattle.crx_compact.proofs.Facts.{and_left, and_right, both, list_all-at, list_all-append, head_tests, text-kept, text-head, text-begins, at-difference, difference-printable}
-use Rattle.crx_compact.proofs.Overlays.{length-each_place}
+use Rattle.crx_compact.proofs.Facts.{list_all-at, list_all-append, head_tests, text-kept, text-head, text-begins, at-difference, difference-printable}
 use Rattle.crx_compact.proofs.Rows.{IsRowOf, run-rows, clock-printable, written-codes, line-begins}
 use Rattle.crx_compact.proofs.Reading.{text-other}
 use Rattle.crx_rinex.proofs.Characters.{at, at-without_end_blanks, list_all-from_at}
@@ -28,8 +30,8 @@ use Rattle.crx_rinex.proofs.Characters.{at, at-without_end_blanks, list_all-from
 code-printable : (text : List ℕ) → list_all is_code_character text ≡ true → list_all is_printable text ≡ true
 code-printable [] h = refl
 code-printable (c ∷ cs) h =
-    let first : is_code_character c ≡ true = and_left (is_code_character c) (list_all is_code_character cs) h in
-    both (is_printable c) (list_all is_printable cs) (and_left (is_printable c) _ first) (code-printable cs (and_right (is_code_character c) (list_all is_code_character cs) h))
+    let first : is_code_character c ≡ true = (and_parts (is_code_character c) (list_all is_code_character cs) h).0 in
+    and_from (is_printable c) (list_all is_printable cs) (and_parts (is_printable c) _ first).0 (code-printable cs (and_parts (is_code_character c) (list_all is_code_character cs) h).1)
 
 cells-printable : (codes : List Code) → AreWritten codes → list_all is_printable (flat_map cell_text codes) ≡ true
 cells-printable [] h = refl
@@ -43,27 +45,27 @@ trimmed-printable text h =
 
 -- ---- satellite lines
 
-row-printable : (types : List Count) (name : List ℕ) (run : List Row) (r : Row) → AllByRecursion (IsRowOf types name) run → IsRow types r
+row-printable : (types : List Count) (name : List ℕ) (run : List Row) (r : Row) → AllByRecursion (IsRowOf types name) run → IsTypedRow types r
     → list_all is_printable (satellite_line run r) ≡ true
 row-printable types name run r h k =
     trimmed-printable (flat_map cell_text (codes_of (length r.values) run) ++ text_difference (indicators_before run) r.flags)
     (list_all-append is_printable (flat_map cell_text (codes_of (length r.values) run)) (text_difference (indicators_before run) r.flags)
     (cells-printable (codes_of (length r.values) run) (written-codes types name (length r.values) run h))
-    (difference-printable (indicators_before run) r.flags k.flags_kept))
+    (difference-printable (indicators_before run) r.flags k.0.kept))
 
-row-begins : (types : List Count) (name : List ℕ) (run : List Row) (r : Row) → AllByRecursion (IsRowOf types name) run → IsRow types r
+row-begins : (types : List Count) (name : List ℕ) (run : List Row) (r : Row) → AllByRecursion (IsRowOf types name) run → IsTypedRow types r
     → begins_epoch (satellite_line run r) ≡ false
 row-begins types name run r h k =
     let count : length (codes_of (length r.values) run) ≡ length r.values = length-each_place (length r.values) (λ j. code_at WRITTEN_ORDER (arc_of j run)) in
-    line-begins (codes_of (length r.values) run) (text_difference (indicators_before run) r.flags) (omega (arith, count, k.has_values)) (written-codes types name (length r.values) run h)
+    line-begins (codes_of (length r.values) run) (text_difference (indicators_before run) r.flags) (omega (arith, count, k.0.counted.0)) (written-codes types name (length r.values) run h)
 
-rows-printable : (types : List Count) (ms : List Marked) (rows : List Row) → AllByRecursion (IsEpoch types) (since_full ms) → AllByRecursion (IsRow types) rows
+rows-printable : (types : List Count) (ms : List Marked) (rows : List Row) → AreWhole types (since_full ms) → AllByRecursion (IsTypedRow types) rows
     → AllByRecursion (λ (line : List ℕ). list_all is_printable line ≡ true) (map (λ (r : Row). satellite_line (run_of r.name ms) r) rows)
 rows-printable types ms [] h k = tt
 rows-printable types ms (r ∷ rs) h k =
     (row-printable types r.name (run_of r.name ms) r (run-rows types r.name (since_full ms) h) k.0, rows-printable types ms rs h k.1)
 
-rows-begin : (types : List Count) (ms : List Marked) (rows : List Row) → AllByRecursion (IsEpoch types) (since_full ms) → AllByRecursion (IsRow types) rows
+rows-begin : (types : List Count) (ms : List Marked) (rows : List Row) → AreWhole types (since_full ms) → AllByRecursion (IsTypedRow types) rows
     → AllByRecursion (λ (line : List ℕ). begins_epoch line ≡ false) (map (λ (r : Row). satellite_line (run_of r.name ms) r) rows)
 rows-begin types ms [] h k = tt
 rows-begin types ms (r ∷ rs) h k =
@@ -75,7 +77,7 @@ no-event (l ∷ ls) h = (ap (λ b. b && is_event_flag (character_at l 32)) h.0, 
 
 -- ---- the epoch line
 
-line-begins_epoch : (types : List Count) (full : Bool) (e : Epoch) (older : List Marked) → AllByRecursion (IsEpoch types) (since_full (marked full e ∷ older))
+line-begins_epoch : (types : List Count) (full : Bool) (e : Epoch) (older : List Marked) → AreWhole types (since_full (marked full e ∷ older))
     → begins_epoch (epoch_line (marked full e) older) ≡ (full || has_no_epochs older)
 line-begins_epoch types true e older h = begins_full (epoch_text e) (text-begins types e h.0)
 line-begins_epoch types false e [] h = begins_full (epoch_text e) (text-begins types e h.0)
@@ -85,12 +87,12 @@ line-begins_epoch types false e (m ∷ older) h = begins_later (epoch_text m.epo
 flag-mark : (c : ℕ) → is_observation_flag c ≡ true → is_event_flag (mark_of 32 c) ≡ false
 flag-mark c h = grind (arith, h)
 
-full-no_event : (types : List Count) (e : Epoch) → IsEpoch types e → is_event_line (text_difference [] (epoch_text e)) ≡ false
+full-no_event : (types : List Count) (e : Epoch) → IsWholeEpoch types e → is_event_line (text_difference [] (epoch_text e)) ≡ false
 full-no_event types e h =
     let line : List ℕ = text_difference [] (epoch_text e) in
     let flag : is_observation_flag (at e.head 31) ≡ true =
-    and_right (begins_epoch e.head) (is_observation_flag (character_at e.head 32))
-    (and_left (begins_epoch e.head && is_observation_flag (character_at e.head 32)) (list_all is_kept e.head) (head_tests types e h)) in
+    (and_parts (begins_epoch e.head) (is_observation_flag (character_at e.head 32))
+    (and_parts (begins_epoch e.head && is_observation_flag (character_at e.head 32)) (list_all is_kept e.head) (head_tests types e h)).0).1 in
     let none : is_event_flag (at line 31) ≡ false =
     ap is_event_flag (at-difference [] (epoch_text e) 31 ∙ ap (mark_of 32) (text-head types e h 31 (omega arith))) ∙ flag-mark (at e.head 31) flag in
     ap (λ b. begins_epoch line && b) none ∙ false-right (begins_epoch line)
@@ -99,7 +101,7 @@ full-no_event types e h =
     false-right true = refl
     false-right false = refl
 
-line-no_event : (types : List Count) (full : Bool) (e : Epoch) (older : List Marked) → AllByRecursion (IsEpoch types) (since_full (marked full e ∷ older))
+line-no_event : (types : List Count) (full : Bool) (e : Epoch) (older : List Marked) → AreWhole types (since_full (marked full e ∷ older))
     → is_event_line (epoch_line (marked full e) older) ≡ false
 line-no_event types true e older h = full-no_event types e h.0
 line-no_event types false e [] h = full-no_event types e h.0
@@ -108,18 +110,18 @@ line-no_event types false e (m ∷ older) h =
 
 -- ---- all lines
 
-pub lines-stand : (types : List Count) (full : Bool) (e : Epoch) (older : List Marked) → AllByRecursion (IsEpoch types) (since_full (marked full e ∷ older))
+pub lines-stand : (types : List Count) (full : Bool) (e : Epoch) (older : List Marked) → AreWhole types (since_full (marked full e ∷ older))
     → LinesCanStand (marked full e) older
 lines-stand types full e older h =
     let ms : List Marked = marked full e ∷ older in
     let clock : list_all is_code_character (code_text (code_at WRITTEN_ORDER (clock_arc (marked full e ∷ older)))) ≡ true =
     code-characters (code_at WRITTEN_ORDER (clock_arc (marked full e ∷ older))) (clock-printable types (since_full (marked full e ∷ older)) h) in
     let others : AllByRecursion (λ (line : List ℕ). begins_epoch line ≡ false) (code_text (code_at WRITTEN_ORDER (clock_arc ms)) ∷ map (λ (r : Row). satellite_line (run_of r.name ms) r) e.rows) =
-    (text-other (code_text (code_at WRITTEN_ORDER (clock_arc ms))) clock, rows-begin types ms e.rows h h.0.rows_are) in
+    (text-other (code_text (code_at WRITTEN_ORDER (clock_arc ms))) clock, rows-begin types ms e.rows h (typed-rows types e h.0)) in
     record {
       printable = (
         difference-printable (if full then [] else newest_text older) (epoch_text e) (text-kept types e h.0),
-        (code-printable (code_text (code_at WRITTEN_ORDER (clock_arc ms))) clock, rows-printable types ms e.rows h h.0.rows_are),
+        (code-printable (code_text (code_at WRITTEN_ORDER (clock_arc ms))) clock, rows-printable types ms e.rows h (typed-rows types e h.0)),
       );
       no_event = (line-no_event types full e older h, no-event (code_text (code_at WRITTEN_ORDER (clock_arc ms)) ∷ map (λ (r : Row). satellite_line (run_of r.name ms) r) e.rows) others);
       first = line-begins_epoch types full e older h;

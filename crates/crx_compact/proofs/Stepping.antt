@@ -3,26 +3,14 @@ use Rattle.std.specs.Prelude.{◌≡◌, refl, ℕ, zero, suc, ◌-◌, min, ℤ
 use Rattle.std.proofs.Common.{sym, ◌∙◌, ap, arith}
 use Rattle.std.proofs.lemmas.Int.{ints}
 use Rattle.crx_text.specs.declared.code.Code.TheVariants.{Step}
-use Rattle.crx_compact.specs.Sequences.{each_place}
+use Rattle.crx_rinex.specs.EachPlace.{each_place}
 use Rattle.crx_compact.specs.Differences.{difference, value_at, newest}
 use Rattle.crx_compact.specs.Tails.{ArcTail, differences_of, values_of}
 use Rattle.crx_compact.specs.Steps.{differences_after, highest, onto_sum, differences_by}
 use Rattle.crx_compact.specs.Laws.{CodesByTail, ValuesByTail}
+use Rattle.crx_rinex.proofs.EachPlace.{take-each_place}
 use Rattle.crx_compact.proofs.Weights.{difference-suc, difference-zero}
 use Rattle.crx_compact.proofs.Inversion.{numbers_of, value-numbers, value-first, value-step, without_oldest}
-
--- ---- values place by place
-
-pub take-each_place : {X : Type 0} (k m : ℕ) (f : ℕ → X) → take k (each_place m f) ≡ each_place (min k m) f
-take-each_place zero m f =
-    let none : min 0 m ≡ 0 = omega arith in
-    sym (ap (λ n. each_place n f) none)
-take-each_place (suc k) zero f =
-    let none : min (suc k) 0 ≡ 0 = omega arith in
-    sym (ap (λ n. each_place n f) none)
-take-each_place (suc k) (suc m) f =
-    let more : min (suc k) (suc m) ≡ suc (min k m) = omega arith in
-    ap (λ r. f zero ∷ r) (take-each_place k m (λ i. f (suc i))) ∙ sym (ap (λ n. each_place n f) more)
 
 -- ---- in compaction
 

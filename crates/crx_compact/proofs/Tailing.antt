@@ -3,22 +3,25 @@ use Rattle.std.specs.Prelude.{◌≡◌, refl, ℕ, ℤ, Bool, true, false, List
 use Rattle.std.specs.List.{AllByRecursion}
 use Rattle.std.specs.Option.{option_map}
 use Rattle.std.proofs.Common.{sym, ◌∙◌, ap}
+use Rattle.std.proofs.lemmas.List.{get_or_past}
 use Rattle.crx_text.specs.Columns.{without_end_blanks}
 use Rattle.crx_text.specs.Texts.{text_difference}
 use Rattle.crx_text.specs.Codes.{code_text}
 use Rattle.crx_rinex.specs.Observations.{Row, Epoch}
 use Rattle.crx_lines.specs.declared.limits.TheConstants.{WRITTEN_ORDER}
-use Rattle.crx_compact.specs.Sequences.{back_to, stretch, each_place}
+use Rattle.crx_rinex.specs.EachPlace.{each_place}
+use Rattle.crx_compact.specs.Sequences.{back_to, stretch}
 use Rattle.crx_compact.specs.Differences.{code_at}
-use Rattle.crx_compact.specs.Compaction.{Marked, epoch_text, row_named, run_of, value_in, arc_of, clock_arc, newest_text, indicators_before, cell_text, codes_of, line_of_codes, satellite_line}
+use Rattle.crx_compact.specs.Compaction.{Marked, epoch_text, row_named, run_of, value_in, arc_of, clock_arc, newest_text, indicators_before, cell_text, codes_of, satellite_line}
 use Rattle.crx_compact.specs.Tails.{RowTail, Tail, arc_tail, row_tail, row_tails, tail_of}
-use Rattle.crx_compact.specs.Steps.{no_tail, tail_named, cell_of_tail, flags_of_tail, code_of_value, arc_of_value, codes_after, row_tail_after}
+use Rattle.crx_compact.specs.Steps.{no_tail, tail_named, cell_of_tail, flags_of_tail, code_of_value, arc_of_value, row_line_in, row_tail_in}
 use Rattle.crx_compact.specs.Laws.{EpochByTail}
-use Rattle.crx_compact.proofs.Written.{are_new}
+use Rattle.crx_rinex.proofs.EachPlace.{each_place-same, index-each_place}
+use Rattle.crx_rinex.specs.Epochs.{are_different}
 use Rattle.crx_compact.proofs.Stepping.{codes-by_tail}
-use Rattle.crx_compact.proofs.Runs.{marked, named-made, place-each, index_past}
-use Rattle.crx_compact.proofs.Facts.{each_place-same, difference-trimmed}
-use Rattle.crx_compact.proofs.Rows.{each-own}
+use Rattle.crx_compact.proofs.Runs.{marked, named-made, rows_before}
+use Rattle.crx_compact.proofs.Facts.{difference-trimmed}
+use Rattle.crx_compact.proofs.Identifiers.{each-own}
 
 -- ---- what a tail holds of a satellite
 
@@ -27,10 +30,6 @@ abbrev head_flags : List Row → List ℕ
 head_flags [] = []
 head_flags (r ∷ rs) = without_end_blanks r.flags
 
--- the rows of a satellite before the newest epoch, in its run
-abbrev rows_before : Bool → List ℕ → List Marked → List Row
-rows_before full name older = stretch (map (λ (q : Epoch). row_named name q.rows) (map (λ (m : Marked). m.epoch) (if full then [] else back_to (λ (m : Marked). m.in_full) older)))
-
 abbrev start : Bool → List Marked → Tail
 start full older = if full then no_tail else tail_of older
 
@@ -38,8 +37,8 @@ cell-found : (name : List ℕ) (rest : List (Option Row)) (found : Option Row) (
     → cell_of_tail j (option_map (row_tail (stretch (found ∷ rest))) found) ≡ arc_tail WRITTEN_ORDER (arc_of j (stretch (found ∷ rest)))
 cell-found name rest None j = refl
 cell-found name rest (Some r) j =
-    place-each (length r.values) j (λ i. arc_tail WRITTEN_ORDER (arc_of i (r ∷ stretch rest))) None (λ le.
-    ap (λ (o : Option ℤ). arc_tail WRITTEN_ORDER (stretch (o ∷ map (value_in j) (stretch rest)))) (index_past r.values j None le))
+    index-each_place (length r.values) j (λ i. arc_tail WRITTEN_ORDER (arc_of i (r ∷ stretch rest))) None (λ le.
+    ap (λ (o : Option ℤ). arc_tail WRITTEN_ORDER (stretch (o ∷ map (value_in j) (stretch rest)))) (get_or_past r.values j None le))
 
 flags-found : (rest : List (Option Row)) (found : Option Row)
     → flags_of_tail (option_map (row_tail (stretch (found ∷ rest))) found) ≡ head_flags (stretch (found ∷ rest))
@@ -77,12 +76,9 @@ before-flags : (r : Row) (rs : List Row) → text_difference (indicators_before 
 before-flags r [] = refl
 before-flags r (q ∷ qs) = sym (difference-trimmed q.flags r.flags)
 
-abbrev line_after : Tail → Row → List ℕ
-line_after tail row = line_of_codes (codes_after (tail_named row.name tail) row) (flags_of_tail (tail_named row.name tail)) row.flags
-
 record RowByTail (full : Bool) (ms older : List Marked) (r : Row) : Type 0 where
-  line : satellite_line (run_of r.name ms) r ≡ line_after (start full older) r
-  tail : row_tail (run_of r.name ms) r ≡ row_tail_after (tail_named r.name (start full older)) r
+  line : satellite_line (run_of r.name ms) r ≡ row_line_in (start full older).rows r
+  tail : row_tail (run_of r.name ms) r ≡ row_tail_in (start full older).rows r
 
 row-by_tail : (full : Bool) (e : Epoch) (older : List Marked) (r : Row) → row_named r.name e.rows ≡ Some r → RowByTail full (marked full e ∷ older) older r
 row-by_tail full e older r own =
@@ -111,18 +107,18 @@ row-by_tail full e older r own =
 -- ---- one epoch more
 
 lines-rows : (full : Bool) (e : Epoch) (older : List Marked) (rows : List Row) → AllByRecursion (λ (r : Row). row_named r.name e.rows ≡ Some r) rows
-    → map (λ (r : Row). satellite_line (run_of r.name (marked full e ∷ older)) r) rows ≡ map (λ (r : Row). line_after (start full older) r) rows
+    → map (λ (r : Row). satellite_line (run_of r.name (marked full e ∷ older)) r) rows ≡ map (row_line_in (start full older).rows) rows
 lines-rows full e older [] own = refl
 lines-rows full e older (r ∷ rs) own =
     ap (λ l. l ∷ map (λ (q : Row). satellite_line (run_of q.name (marked full e ∷ older)) q) rs) (row-by_tail full e older r own.0).line
-    ∙ ap (λ ls. line_after (start full older) r ∷ ls) (lines-rows full e older rs own.1)
+    ∙ ap (λ ls. row_line_in (start full older).rows r ∷ ls) (lines-rows full e older rs own.1)
 
 tails-rows : (full : Bool) (e : Epoch) (older : List Marked) (rows : List Row) → AllByRecursion (λ (r : Row). row_named r.name e.rows ≡ Some r) rows
-    → map (λ (r : Row). row_tail (run_of r.name (marked full e ∷ older)) r) rows ≡ map (λ (r : Row). row_tail_after (tail_named r.name (start full older)) r) rows
+    → map (λ (r : Row). row_tail (run_of r.name (marked full e ∷ older)) r) rows ≡ map (row_tail_in (start full older).rows) rows
 tails-rows full e older [] own = refl
 tails-rows full e older (r ∷ rs) own =
     ap (λ t. t ∷ map (λ (q : Row). row_tail (run_of q.name (marked full e ∷ older)) q) rs) (row-by_tail full e older r own.0).tail
-    ∙ ap (λ ts. row_tail_after (tail_named r.name (start full older)) r ∷ ts) (tails-rows full e older rs own.1)
+    ∙ ap (λ ts. row_tail_in (start full older).rows r ∷ ts) (tails-rows full e older rs own.1)
 
 abbrev clocks_before : Bool → List Marked → List (Option ℤ)
 clocks_before full older = map (λ (q : Epoch). q.clock) (map (λ (m : Marked). m.epoch) (if full then [] else back_to (λ (m : Marked). m.in_full) older))
@@ -135,9 +131,9 @@ text-left : (full : Bool) (older : List Marked) (new : List ℕ) → text_differ
 text-left true older new = refl
 text-left false older new = sym (difference-trimmed (newest_text older) new)
 
-epoch-by : (full : Bool) (e : Epoch) (older : List Marked) → are_new [] e.rows ≡ true → EpochByTail (marked full e) older
+epoch-by : (full : Bool) (e : Epoch) (older : List Marked) → are_different e.rows ≡ true → EpochByTail (marked full e) older
 epoch-by full e older h =
-    let own : AllByRecursion (λ (r : Row). row_named r.name e.rows ≡ Some r) e.rows = each-own e.rows h in
+    let own : AllByRecursion (λ (r : Row). row_named r.name e.rows ≡ Some r) e.rows = each-own (λ (r : Row). r.name) e.rows h in
     let ms : List Marked = marked full e ∷ older in
     let code : code_at WRITTEN_ORDER (clock_arc (marked full e ∷ older)) ≡ code_of_value e.clock (start full older).clock =
     code-next e.clock (clocks_before full older) ∙ ap (code_of_value e.clock) (clock-left full older) in
@@ -153,5 +149,5 @@ epoch-by full e older h =
           ∙ ap {B = Tail} (λ rs. record { text = without_end_blanks (epoch_text e); clock = arc_of_value e.clock (start full older).clock; rows = rs }) (tails-rows full e older e.rows own);
     }
 
-pub epoch-by_tail : (m : Marked) (older : List Marked) → are_new [] m.epoch.rows ≡ true → EpochByTail m older
+pub epoch-by_tail : (m : Marked) (older : List Marked) → are_different m.epoch.rows ≡ true → EpochByTail m older
 epoch-by_tail m older h = epoch-by m.in_full m.epoch older h

@@ -1,6 +1,5 @@
 -- What is kept of an arc in code: its order and its differences, and how large they may grow.
 use Rattle.std.specs.Prelude.{◌≤◌, ℕ, suc, ◌+◌, ◌^◌, ℤ, pos, neg_ℤ, ◌<ℤ◌, List, [], ◌∷◌, Option, Some, None}
-use Rattle.crx_text.specs.Numbers.{IsWithin}
 use Rattle.crx_lines.specs.declared.limits.TheConstants.{ORDER_LIMIT, CLOCK_WIDTH}
 use Rattle.crx_compact.specs.Tails.{ArcTail}
 
@@ -29,8 +28,3 @@ pub record IsKept (width order count : ℕ) (differences : List ℤ) : Type 0 wh
   pub order_within : order ≤ ORDER_LIMIT
   pub counted : count ≤ suc order
   pub below : AreBelow value_bound differences
-
--- a value that may stand in an arc of so many columns, or none
-abbrev pub IsIn : ℕ → Option ℤ → Type 0
-IsIn width None = Unit {0}
-IsIn width (Some value) = IsWithin width value

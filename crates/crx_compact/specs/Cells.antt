@@ -12,10 +12,10 @@ use Rattle.crx_compact.specs.EpochText.{Satellite}
 use Rattle.crx_rinex.specs.Observations.{Row}
 use Rattle.crx_text.specs.declared.code.Code.{Code}
 use Rattle.crx_text.specs.Texts.{is_kept}
-use Rattle.crx_compact.specs.Sequences.{each_place, named}
-use Rattle.crx_compact.specs.Tails.{ArcTail, RowTail}
-use Rattle.crx_compact.specs.Compaction.{value_in, line_of_codes}
-use Rattle.crx_compact.specs.Steps.{arc_of_code, arc_of_value, code_of_value, value_of_code, codes_after, flags_of_tail, row_tail_after}
+use Rattle.crx_rinex.specs.EachPlace.{each_place}
+use Rattle.crx_compact.specs.Tails.{ArcTail}
+use Rattle.crx_compact.specs.Compaction.{value_in}
+use Rattle.crx_compact.specs.Steps.{arc_of_code, arc_of_value, code_of_value, value_of_code}
 
 -- the arc and the code of the cell at a place, the arcs before being given; a place past them has none
 abbrev pub arc_at_place : List (Option ArcTail) → Row → ℕ → Option ArcTail
@@ -30,15 +30,6 @@ arcs_of_row before row = each_place (length row.values) (arc_at_place before row
 
 abbrev pub codes_of_row : List (Option ArcTail) → Row → List Code
 codes_of_row before row = each_place (length row.values) (code_at_place before row)
-
--- what a row leaves, and its line, what was kept of the satellites before being given
-abbrev pub row_tail_in : List RowTail → Row → RowTail
-row_tail_in before row = row_tail_after (named (λ (r : RowTail). r.name) row.name before) row
-
-abbrev pub row_line_after : List RowTail → Row → List ℕ
-row_line_after before row =
-    let kept : Option RowTail = named (λ (r : RowTail). r.name) row.name before in
-    line_of_codes (codes_after kept row) (flags_of_tail kept) row.flags
 
 -- indicators that may be kept: no more than a line holds, of the characters that may stand there
 pub record AreHeldFlags (flags : List ℕ) : Type 0 where
@@ -70,7 +61,7 @@ pub record IsCellRead (before : List (Option ArcTail)) (place : ℕ) (text : Lis
 abbrev pub arcs_of_codes : List (Option ArcTail) → List Code → List (Option ArcTail)
 arcs_of_codes before codes = each_place (length codes) (λ place. arc_of_code (slice_index_or codes place Missing) (slice_index_or before place None))
 
--- the cells of a line for so many types: their values in a row that had none, the arcs that they leave, and where the marks
+-- the cells of a line for so many types: their values in place of those of the row, the arcs that they leave, and where the marks
 -- begin
 pub record AreRead (before : List (Option ArcTail)) (count : ℕ) (line : List ℕ) (arcs : List (Option ArcTail)) (old new : Row) (at : ℕ) : Type 0 where
   pub cells : List ReadCell

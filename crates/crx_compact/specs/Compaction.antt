@@ -7,7 +7,8 @@ use Rattle.crx_text.specs.Codes.{code_text}
 use Rattle.crx_rinex.specs.Observations.{Row, Epoch}
 use Rattle.crx_text.specs.declared.code.Code.{Code}
 use Rattle.crx_lines.specs.declared.limits.TheConstants.{WRITTEN_ORDER}
-use Rattle.crx_compact.specs.Sequences.{back_to, named, stretch, each_place}
+use Rattle.crx_rinex.specs.EachPlace.{each_place}
+use Rattle.crx_compact.specs.Sequences.{back_to, named, stretch}
 use Rattle.crx_compact.specs.Differences.{code_at}
 
 -- an epoch, and whether it stands in full: its line begins with >, and everything starts anew

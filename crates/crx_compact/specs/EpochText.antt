@@ -6,7 +6,8 @@ use Rattle.crx_text.specs.Columns.{columns}
 use Rattle.crx_lines.specs.declared.limits.TheConstants.{HEAD_WIDTH, NAME_WIDTH}
 use Rattle.crx_lines.specs.declared.fault.Fault.{Fault}
 use Rattle.crx_lines.specs.declared.fault.Fault.TheVariants.{BadSatellite, RepeatedSatellite}
-use Rattle.crx_compact.specs.Sequences.{each_place, before_all}
+use Rattle.crx_rinex.specs.EachPlace.{each_place}
+use Rattle.crx_compact.specs.Sequences.{before_all}
 pub use Rattle.crx_text.specs.Texts.{is_printable}
 pub use Rattle.crx_rinex.specs.Label.{number_in}
 pub use Rattle.crx_rinex.specs.EpochLines.{begins_epoch, is_observation_flag, count_within_limit, satellites_in, epoch_count}

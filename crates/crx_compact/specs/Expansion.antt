@@ -9,7 +9,8 @@ use Rattle.crx_text.specs.declared.code.Code.TheVariants.{Missing, Start, Step}
 use Rattle.crx_lines.specs.declared.fault.Fault.{Fault}
 use Rattle.crx_lines.specs.declared.fault.Fault.TheVariants.{NoArc, OutOfRange}
 use Rattle.crx_lines.specs.declared.limits.TheConstants.{OBSERVATION_WIDTH, CLOCK_WIDTH, HEAD_WIDTH}
-use Rattle.crx_compact.specs.Sequences.{back_to, named, stretch, each_place, all_ok, and_then}
+use Rattle.crx_rinex.specs.EachPlace.{each_place}
+use Rattle.crx_compact.specs.Sequences.{back_to, named, stretch, all_ok, and_then}
 use Rattle.crx_compact.specs.Differences.{value_at}
 use Rattle.crx_compact.specs.EpochText.{begins_epoch}
 

@@ -1,13 +1,12 @@
 -- Compact lines that are lent one after another, as they are read.
-use Rattle.std.specs.Prelude.{◌≡◌, ◌≤◌, ℕ, false, List, map, length, Option, Some, None}
+use Rattle.std.specs.Prelude.{◌≡◌, ◌≤◌, ℕ, false, List, length, Option, Some, None}
 use Rattle.std.specs.List.{AllByRecursion}
-use Rattle.crx_lines.specs.Seen.{Content}
 use Rattle.crx_lines.specs.declared.limits.TheConstants.{LINE_LIMIT}
 use Rattle.crx_lines.specs.declared.fault.Fault.{Fault}
 use Rattle.crx_rinex.specs.EpochLines.{is_event_line}
 use Rattle.crx_rinex.specs.Observations.{Epoch}
 use Rattle.crx_rinex.specs.Places.{Place, Here, Wrong, Wanted}
-use Rattle.crx_compact.specs.OpenEpochs.{ColumnsState, Going, HeldEpoch, Idle, OpenRawEpoch, Reading, place_of_steps}
+use Rattle.crx_compact.specs.OpenEpochs.{ColumnsState, HeldEpoch, Idle}
 
 -- a line that may be read as one of an observation epoch
 pub record IsReadable (line : List ℕ) : Type 0 where
@@ -25,11 +24,3 @@ HasGiven place after (Some epoch) = (held : HeldEpoch) × (count : ℕ) × (plac
 -- a fault that stands there
 abbrev pub StandsAt : Place HeldEpoch → Fault → Type 0
 StandsAt place fault = (offset : ℕ) × (place ≡ Wrong offset fault)
-
--- an epoch is open, and what stands at all lines is what those that are left make of it
-pub record IsMidway (place : Place HeldEpoch) (state : ColumnsState) (lines : List (List ℕ)) : Type 0 where
-  pub begun : OpenRawEpoch
-  pub count : ℕ
-  pub reading : state ≡ Reading begun
-  pub left : place ≡ place_of_steps count (Going begun) (map Content lines)
-  pub readable : AreReadable lines

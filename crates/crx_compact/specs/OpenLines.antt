@@ -1,5 +1,5 @@
 -- What the lines of an epoch that are read so far have given, and how they are kept.
-use Rattle.std.specs.Prelude.{◌≡◌, ℕ, ◌≤◌, List, [], ◌∷◌, length, take, drop, Option, Some, None, ⊤}
+use Rattle.std.specs.Prelude.{◌≡◌, ℕ, ◌≤◌, List, [], ◌∷◌, length, map, take, drop, true, Option, Some, None, ⊤}
 use Rattle.crx_text.specs.Columns.{columns}
 use Rattle.crx_lines.specs.declared.limits.TheConstants.{HEAD_WIDTH}
 use Rattle.crx_lines.specs.declared.fault.Fault.TheVariants.{NotAnEpoch}
@@ -8,7 +8,7 @@ use Rattle.crx_compact.specs.EpochText.{Satellite, epoch_count}
 use Rattle.crx_compact.specs.Tails.{RowTail, Tail}
 use Rattle.crx_compact.specs.OpenEpochs.{HeldClock, HeldRow, OpenRawEpoch, RawStep, Going, Faulty, gone_on, line_step, ColumnsState, Idle, Reading}
 use Rattle.std.specs.Prelude.{Ok}
-use Rattle.crx_rinex.specs.Epochs.{with_row}
+use Rattle.crx_rinex.specs.Epochs.{are_apart, with_row}
 use Rattle.crx_compact.specs.CompactPlaces.{ReadCell, clock_line_read}
 use Rattle.crx_compact.specs.OpenEpochs.{past_of_tail}
 use Rattle.crx_compact.specs.Steps.{arc_of_code}
@@ -45,17 +45,24 @@ lines_so_far (Rows epoch) next count satellites =
       awaited = drop count satellites;
     })
 
--- the epoch of the rows so far: it has the columns of the text, which announce the satellites, and so many rows
+-- the satellites of an epoch text: as many as its columns announce, and no two of one identifier
+pub record AreAnnounced (text : List ℕ) (satellites : List Satellite) : Type 0 where
+  pub counted : epoch_count (columns text 1 HEAD_WIDTH) ≡ Some (length satellites)
+  pub apart : are_apart (λ (s : Satellite). s.name) satellites ≡ true
+
+-- the epoch of the rows so far: it has the columns of the text, which announce the satellites, and the rows of the first so many
+-- of these
 pub record AreRowsSoFar (epoch : Epoch) (next : Tail) (count : ℕ) (satellites : List Satellite) : Type 0 where
   pub head : epoch.head ≡ columns next.text 1 HEAD_WIDTH
-  pub announced : epoch_count (columns next.text 1 HEAD_WIDTH) ≡ Some (length satellites)
+  pub announced : AreAnnounced next.text satellites
   pub counted : length epoch.rows ≡ count
+  pub named : map (λ (r : Row). r.name) epoch.rows ≡ map (λ (s : Satellite). s.name) (take count satellites)
   pub within : count ≤ length satellites
   pub left : count ≤ length next.rows
 
 abbrev pub AreLinesSoFar : Stage → Tail → ℕ → List Satellite → Type 0
 AreLinesSoFar Unbegun next count satellites = ⊤
-AreLinesSoFar Clock next count satellites = epoch_count (columns next.text 1 HEAD_WIDTH) ≡ Some (length satellites)
+AreLinesSoFar Clock next count satellites = AreAnnounced next.text satellites
 AreLinesSoFar (Rows epoch) next count satellites = AreRowsSoFar epoch next count satellites
 
 -- ---- steps

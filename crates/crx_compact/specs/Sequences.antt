@@ -1,5 +1,5 @@
 -- Words on sequences. Lists of epochs, and the values and codes of an arc, stand newest first.
-use Rattle.std.specs.Prelude.{ℕ, zero, suc, Bool, List, [], ◌∷◌, Option, Some, None, Result, Ok, Err, if◌then◌else◌, find}
+use Rattle.std.specs.Prelude.{ℕ, Bool, List, [], ◌∷◌, Option, Some, None, Result, Ok, Err, if◌then◌else◌, find}
 use Rattle.std.specs.Str.{bytes_eq}
 
 -- the items from the newest back to the first that passes the test, it too; all of them where none passes
@@ -16,11 +16,6 @@ abbrev pub stretch : {X : Type 0} → List (Option X) → List X
 stretch [] = []
 stretch (None ∷ xs) = []
 stretch (Some x ∷ xs) = x ∷ stretch xs
-
--- what f gives at 0, 1, .. for so many places
-abbrev pub each_place : {X : Type 0} → ℕ → (ℕ → X) → List X
-each_place zero f = []
-each_place (suc n) f = f zero ∷ each_place n (λ i. f (suc i))
 
 -- an item before those of a good result
 abbrev pub before_all : {X E : Type 0} → X → Result (List X) E → Result (List X) E

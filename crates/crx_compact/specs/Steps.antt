@@ -9,7 +9,8 @@ use Rattle.crx_text.specs.declared.code.Code.{Code}
 use Rattle.crx_text.specs.declared.code.Code.TheVariants.{Missing, Start, Step}
 use Rattle.crx_lines.specs.declared.fault.Fault.{Fault}
 use Rattle.crx_lines.specs.declared.fault.Fault.TheVariants.{NoArc}
-use Rattle.crx_compact.specs.Sequences.{named, each_place}
+use Rattle.crx_rinex.specs.EachPlace.{each_place}
+use Rattle.crx_compact.specs.Sequences.{named}
 use Rattle.crx_compact.specs.Differences.{newest}
 use Rattle.crx_compact.specs.Compaction.{epoch_text, value_in, line_of_codes}
 use Rattle.crx_compact.specs.Expansion.{RawRow, RawEpoch, code_in, in_range}
@@ -109,12 +110,23 @@ row_tail_after tail row =
       cells = each_place (length row.values) (λ place. arc_of_value (value_in place row) (cell_of_tail place tail));
     }
 
+-- a row's line, what is kept of its satellite being given
+abbrev pub row_line_after : Option RowTail → Row → List ℕ
+row_line_after tail row = line_of_codes (codes_after tail row) (flags_of_tail tail) row.flags
+
+-- what a row leaves, and its line, what is kept of all satellites being given
+abbrev pub row_tail_in : List RowTail → Row → RowTail
+row_tail_in before row = row_tail_after (named (λ (r : RowTail). r.name) row.name before) row
+
+abbrev pub row_line_in : List RowTail → Row → List ℕ
+row_line_in before row = row_line_after (named (λ (r : RowTail). r.name) row.name before) row
+
 -- the compact lines of an epoch after a tail
 abbrev pub lines_after : Tail → Epoch → List (List ℕ)
 lines_after tail epoch =
     text_difference tail.text (epoch_text epoch)
     ∷ code_text (code_of_value epoch.clock tail.clock)
-    ∷ map (λ (r : Row). line_of_codes (codes_after (tail_named r.name tail) r) (flags_of_tail (tail_named r.name tail)) r.flags) epoch.rows
+    ∷ map (row_line_in tail.rows) epoch.rows
 
 -- the tail after an epoch
 abbrev pub tail_after : Tail → Epoch → Tail
@@ -122,7 +134,7 @@ tail_after tail epoch =
     record {
       text = without_end_blanks (epoch_text epoch);
       clock = arc_of_value epoch.clock tail.clock;
-      rows = map (λ (r : Row). row_tail_after (tail_named r.name tail) r) epoch.rows;
+      rows = map (row_tail_in tail.rows) epoch.rows;
     }
 
 -- what an epoch is written after, where a tail is held or nothing: an epoch in full starts everything anew

@@ -4,7 +4,7 @@ use Rattle.std.specs.List.{AllByRecursion}
 use Rattle.crx_text.specs.Columns.{without_end_blanks}
 use Rattle.crx_rinex.specs.Observations.{Row}
 use Rattle.crx_lines.specs.declared.limits.TheConstants.{WRITTEN_ORDER, TYPES_LIMIT, SATELLITES_LIMIT, HEAD_WIDTH, NAME_WIDTH}
-use Rattle.crx_compact.specs.Sequences.{each_place}
+use Rattle.crx_rinex.specs.EachPlace.{each_place}
 use Rattle.crx_compact.specs.Differences.{difference, value_at}
 use Rattle.crx_compact.specs.Compaction.{Marked, run_of, arc_of, clock_arc, newest_text}
 use Rattle.crx_compact.specs.Expansion.{RawEpoch, RawRow, Started, block_of, text_of, raw_run_of, marks_of, overlaid, code_in, since_start}

@@ -3,15 +3,15 @@
 
 ghost use Rattle.std.specs.Prelude.{◌≡◌, ◌≤◌, ◌<◌, ◌+◌, ◌*◌, ◌^◌, ◌++◌, ◌∷◌, [], ℕ, ℤ, List, Option, None, Some, Ok, length, take, IfSome, OnSome, IfNone, OnOk, OnErr, MatchResult};
 ghost use Rattle.crx_text.specs.Codes.{IsPrintable, IsShort};
-ghost use Rattle.crx_text.specs.Numbers.{IsWithin};
-ghost use Rattle.crx_compact.specs.Arcs.{AreBelow, IsBelow, IsIn, value_bound};
+ghost use Rattle.crx_text.specs.Numbers.{IsMissingOrWithin, IsWithin};
+ghost use Rattle.crx_compact.specs.Arcs.{AreBelow, IsBelow, value_bound};
 ghost use Rattle.crx_compact.specs.Differences.{code_at, newest};
 ghost use Rattle.crx_compact.specs.Expansion.{is_within, value_of};
 ghost use Rattle.crx_compact.specs.Laws.{accepted, arc_of_codes, arc_of_values};
 ghost use Rattle.crx_compact.specs.Sequences.{stretch};
 ghost use Rattle.crx_text.specs.declared.code.Code.{Code};
 ghost use Rattle.crx_text.specs.declared.code.Code.TheVariants.{Step};
-ghost use Rattle.crx_lines.specs.declared.limits.TheConstants.{CLOCK_WIDTH, WRITTEN_ORDER};
+ghost use Rattle.crx_lines.specs.declared.limits.TheConstants.{CLOCK_WIDTH, DIGITS_LIMIT, ORDER_LIMIT, WRITTEN_ORDER};
 ghost use Rattle.crx_compact.specs.Steps.{arc_of_code, arc_of_value, code_of_value, differences_after, differences_by, highest, value_of_code};
 
 use crx_lines::limits::{CLOCK_WIDTH, OBSERVATION_WIDTH, ORDER_LIMIT, WRITTEN_ORDER};
@@ -51,7 +51,7 @@ impl<const WIDTH: usize> Model for Arc<WIDTH> {
 /// Puts the differences of order 0, 1, .. at a next value in place of those at the value before it, and gives the
 /// difference of the next order.
 fn advance(differences: &mut [i64], value: i64) -> i64
-    requires few { length differences.old ≤ 9 }
+    requires few { length differences.old ≤ ORDER_LIMIT }
     requires below { AreBelow value_bound differences.old }
     requires next { IsBelow value_bound value }
     ensures { differences.new ++ result ∷ [] ≡ differences_after value differences.old }
@@ -69,7 +69,7 @@ fn advance(differences: &mut [i64], value: i64) -> i64
 /// gives the difference of that order.
 fn go_on(differences: &mut [i64], order: usize, value: i64) -> i64
     requires within { order < length differences.old }
-    requires few { order ≤ 9 }
+    requires few { order ≤ ORDER_LIMIT }
     requires below { AreBelow value_bound (take order differences.old) }
     requires next { IsBelow value_bound value }
     ensures after { take (order + 1) differences.new ≡ differences_after value (take order differences.old) }
@@ -106,7 +106,7 @@ fn third_from(before: &[i64], value: i64, differences: &mut [i64]) -> i64
 fn go_on_from(before: &[i64], order: usize, value: i64, differences: &mut [i64]) -> i64
     requires room { length differences.old ≡ length before.now }
     requires within { order < length before.now }
-    requires few { order ≤ 9 }
+    requires few { order ≤ ORDER_LIMIT }
     requires below { AreBelow value_bound (take order before.now) }
     requires next { IsBelow value_bound value }
     ensures after { take (order + 1) differences.new ≡ differences_after value (take order before.now) }
@@ -124,7 +124,7 @@ fn go_on_from(before: &[i64], order: usize, value: i64, differences: &mut [i64])
 fn value_after_three(differences: &[i64], number: i64) -> i64
     requires three { length differences.now ≡ 3 }
     requires below { AreBelow value_bound differences.now }
-    requires short { IsBelow (10 ^ 18) number }
+    requires short { IsBelow (10 ^ DIGITS_LIMIT) number }
     ensures { result ≡ newest (differences_by number differences.now) }
 {
     number + differences[0] + differences[1] + differences[2]
@@ -135,7 +135,7 @@ fn value_after_three(differences: &[i64], number: i64) -> i64
 fn sums_from_third(before: &[i64], number: i64) -> (i64, i64, i64)
     requires within { 3 < length before.now }
     requires below { AreBelow value_bound (take 3 before.now) }
-    requires short { IsBelow (10 ^ 18) number }
+    requires short { IsBelow (10 ^ DIGITS_LIMIT) number }
     ensures { result.0 ∷ result.1 ∷ result.2 ∷ number ∷ [] ≡ differences_by number (take 3 before.now) }
 {
     let second = before[2] + number;
@@ -158,9 +158,9 @@ fn put_four(differences: &mut [i64], value: i64, first: i64, second: i64, third:
 
 /// The value after the one that some differences of order 0, 1, .. stand at, by the difference of the next order.
 fn value_after(differences: &[i64], number: i64) -> i64
-    requires few { length differences.now ≤ 9 }
+    requires few { length differences.now ≤ ORDER_LIMIT }
     requires below { AreBelow value_bound differences.now }
-    requires short { IsBelow (10 ^ 18) number }
+    requires short { IsBelow (10 ^ DIGITS_LIMIT) number }
     ensures { result ≡ newest (differences_by number differences.now) }
 {
     if differences.len() == 3 {
@@ -201,7 +201,7 @@ impl<const WIDTH: usize> Arc<WIDTH> {
     /// a first value the value itself and the order [`WRITTEN_ORDER`]; else the next difference of the arc's order, or
     /// of a lower one while it has too few values. It asks for a value that fits the columns.
     pub fn push(&mut self, value: Option<i64>) -> Code
-        requires { IsIn WIDTH value }
+        requires { IsMissingOrWithin WIDTH value }
         ensures code { result ≡ code_of_value value self.old }
         ensures printable { IsPrintable result }
         ensures arc { self.new ≡ arc_of_value value self.old }
@@ -216,7 +216,7 @@ impl<const WIDTH: usize> Arc<WIDTH> {
     /// The code of a next value of another arc, which this one replaces as it goes on: that of [`Arc::push`] on a copy.
     #[inline(always)]
     pub(crate) fn push_after(&mut self, before: &Self, value: Option<i64>) -> Code
-        requires { IsIn WIDTH value }
+        requires { IsMissingOrWithin WIDTH value }
         ensures code { result ≡ code_of_value value before.now }
         ensures printable { IsPrintable result }
         ensures arc { self.new ≡ arc_of_value value before.now }

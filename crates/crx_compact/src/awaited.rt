@@ -10,7 +10,7 @@ ghost use Rattle.crx_rinex.specs.ObservationTypes.{IsAllowedCount};
 ghost use Rattle.crx_rinex.specs.SatelliteLines.{is_identifier};
 ghost use Rattle.crx_compact.specs.CompactPlaces.{satellites_of_text};
 ghost use Rattle.crx_compact.specs.Tails.{RowTail};
-ghost use Rattle.crx_compact.specs.EpochText.{begins_epoch, Satellite, names_in, satellites_named};
+ghost use Rattle.crx_compact.specs.EpochText.{Satellite, names_in, satellites_named};
 
 use crate::kept::KeptEpoch;
 use crx_lines::limits::{HEAD_WIDTH, NAME_WIDTH};
@@ -52,13 +52,6 @@ impl AwaitedSatellite {
     {
         self.count
     }
-}
-
-/// Whether a line begins an epoch: its first character is `>`.
-pub(crate) fn begins_epoch(line: &[u8]) -> bool
-    ensures { result ≡ begins_epoch line.now }
-{
-    matches!(line, [b'>', ..])
 }
 
 /// Whether some satellites have one of this identifier.

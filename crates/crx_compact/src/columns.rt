@@ -18,13 +18,12 @@ ghost use Rattle.crx_compact.specs.Compaction.{Marked, compact_epoch};
 ghost use Rattle.crx_compact.specs.Tails.{tail_left, tail_or_nothing};
 ghost use Rattle.crx_compact.specs.Steps.{lines_after, no_tail, tail_after, tail_written_after};
 
-use crate::awaited::begins_epoch;
 use crate::coded::Coded;
 use crate::held::Desk;
 use crate::incoming::Incoming;
 use crate::kept::KeptEpoch;
 use crate::lines::Lines;
-use crx_rinex::{Epoch, Types};
+use crx_rinex::{Epoch, Types, begins_epoch};
 use crx_text::Fault;
 use std::alloc::{AllocError, Global};
 use std::marker::Model;
@@ -252,6 +251,27 @@ impl Columns {
                 Err(fault)
             }
         }
+    }
+
+    /// Takes the next line of the epoch that was begun as [`Columns::feed`] does, with its refusals, where it is a satellite line that
+    /// isn't the last one of the epoch; else `false` comes, and nothing changes.
+    pub fn feed_early(&mut self, line: &[u8]) -> Result<bool, Fault>
+        requires open { is_idle self.old ≡ false }
+        requires short { length line.now ≤ LINE_LIMIT }
+        ensures made { IfOk result (λ is_taken. is_taken ≡ true → HasMade (step_in self.old (Content line.now)) self.new None) }
+        ensures same { IfOk result (λ is_taken. is_taken ≡ false → self.new ≡ self.old) }
+        ensures refused { IfErr result (λ fault. (step_in self.old (Content line.now) ≡ Faulty fault) ⊎ (fault ≡ Fault.OutOfMemory)) }
+        ensures emptied { OnErr result (self.new ≡ Idle None) }
+    {
+        if !self.incoming.is_early() {
+            return Ok(false);
+        }
+        let before = stands_after(&self.nothing, &self.kept, self.goes_on);
+        if let Err(fault) = self.incoming.take_line(before, line) {
+            self.reset();
+            return Err(fault);
+        }
+        Ok(true)
     }
 
     /// Takes back an epoch that [`Columns::feed`] gave: its memory serves the epochs after it.

@@ -1,30 +1,30 @@
 //! What is kept of a satellite between two epochs: Hatanaka's Compact RINEX 3.0, satellite lines.
 
-ghost use Rattle.std.specs.Prelude.{◌≡◌, ◌≤◌, ◌<◌, ◌++◌, ◌∷◌, ◌⊎◌, ◌*◌, [], None, Ok, Err, true, false, length, replicate, slice_index_or, slice_set, take, OnOk, IfOk, IfErr, IfSome, IfNone, OnSome, Some, Option, ℤ};
+ghost use Rattle.std.specs.Prelude.{◌≡◌, ◌≤◌, ◌<◌, ◌++◌, ◌∷◌, ◌⊎◌, ◌*◌, [], None, Ok, Err, true, false, length, slice_index_or, slice_set, take, OnOk, IfOk, IfErr, IfSome, IfNone, OnSome, Some, Option, ℤ};
 ghost use Rattle.std.specs.List.{flat_map, list_all};
+ghost use Rattle.crx_text.specs.Numbers.{IsObservation};
+ghost use Rattle.crx_rinex.specs.SatelliteLines.{IsValue};
 ghost use Rattle.crx_text.specs.Codes.{code_of, code_text, first_cell, IsPrintable, IsShort};
 ghost use Rattle.crx_text.specs.Texts.{is_kept, patched, text_difference};
-ghost use Rattle.crx_lines.specs.declared.limits.TheConstants.{LINE_LIMIT, OBSERVATION_WIDTH};
+ghost use Rattle.crx_lines.specs.declared.limits.TheConstants.{LINE_LIMIT};
 ghost use Rattle.std.specs.Option.{option_copied};
 ghost use Rattle.crx_text.specs.Columns.{columns, without_end_blanks};
-ghost use Rattle.crx_compact.specs.Arcs.{IsIn};
 ghost use Rattle.crx_compact.specs.Cells.{arcs_of_row, codes_of_row, value_at_place, AreHeldFlags, AreRead, IsCellRead};
 ghost use Rattle.crx_compact.specs.CompactPlaces.{are_marks, cell_read, cells_of, cells_read};
 ghost use Rattle.crx_lines.specs.declared.fault.Fault.TheVariants.{BadField};
 ghost use Rattle.crx_text.specs.declared.code.Code.TheVariants.{Missing, Step};
 ghost use Rattle.crx_compact.specs.HeldRows.{row_held, row_held_from};
 ghost use Rattle.crx_rinex.specs.ObservationTypes.{IsAllowedCount};
-ghost use Rattle.crx_rinex.specs.SatelliteLines.{blank_row};
 ghost use Rattle.crx_compact.specs.Compaction.{cell_text, line_of_codes};
 ghost use Rattle.crx_compact.specs.Sequences.{named};
-ghost use Rattle.crx_compact.specs.Steps.{arc_of_code, arc_of_value, code_of_value, codes_after, flags_held, flags_of_tail, row_tail_after, value_of_code};
+ghost use Rattle.crx_compact.specs.Steps.{arc_of_code, arc_of_value, code_of_value, flags_held, row_line_after, row_tail_after, value_of_code};
 ghost use Rattle.crx_compact.specs.Tails.{RowTail};
 
 use crate::arc::ObsArc;
-use crate::awaited::{AwaitedSatellite, begins_epoch};
+use crate::awaited::AwaitedSatellite;
 use crate::lines::Lines;
 use crx_lines::limits::NAME_WIDTH;
-use crx_rinex::{SatRow, after_columns, all_blank};
+use crx_rinex::{SatRow, after_columns, all_blank, begins_epoch};
 use crx_text::difference::{append_difference, patch_bytes};
 use crx_text::{
     Code, Fault, Text, code_before_blank, code_print, code_print_cell, step_before_blank,
@@ -189,7 +189,7 @@ impl Desk {
 /// Replaces an arc by that of a cell after its next value, and gives the value's code.
 #[inline(always)]
 fn renew_arc(before: &[ObsArc], place: usize, value: Option<i64>, arc: &mut ObsArc) -> Code
-    requires { IsIn OBSERVATION_WIDTH value }
+    requires { IsValue value }
     ensures code { result ≡ code_of_value value (slice_index_or before.now place None) }
     ensures printable { IsPrintable result }
     ensures arc { arc.new ≡ arc_of_value value (slice_index_or before.now place None) }
@@ -212,7 +212,7 @@ fn push_any_value(
     arc: &mut ObsArc,
     desk: &mut Desk,
 ) -> Result<(), AllocError>
-    requires { IsIn OBSERVATION_WIDTH (Some value) }
+    requires { IsObservation value }
     ensures arc { arc.new ≡ arc_of_value (Some value) (slice_index_or before.now place None) }
     ensures line { OnOk result (desk.new.line.items ++ desk.new.part
         ≡ (desk.old.line.items ++ desk.old.part) ++ cell_text (code_of_value (Some value) (slice_index_or before.now place None))) }
@@ -224,7 +224,7 @@ fn push_any_value(
 /// The difference of order 3 that is the code of a cell's value, where it is one, as by [`ObsArc::push_third`].
 #[inline(always)]
 fn third_at(before: &[ObsArc], place: usize, value: i64, arc: &mut ObsArc) -> Option<i64>
-    requires { IsIn OBSERVATION_WIDTH (Some value) }
+    requires { IsObservation value }
     ensures code { IfSome result (λ number. code_of_value (Some value) (slice_index_or before.now place None) ≡ Step number) }
     ensures short { IfSome result IsShort }
     ensures arc { OnSome result (arc.new ≡ arc_of_value (Some value) (slice_index_or before.now place None)) }
@@ -241,7 +241,7 @@ fn push_value(
     arc: &mut ObsArc,
     desk: &mut Desk,
 ) -> Result<(), AllocError>
-    requires { IsIn OBSERVATION_WIDTH value }
+    requires { IsValue value }
     ensures arc { OnOk result (arc.new ≡ arc_of_value value (slice_index_or before.now place None)) }
     ensures line { OnOk result (desk.new.line.items ++ desk.new.part
         ≡ (desk.old.line.items ++ desk.old.part) ++ cell_text (code_of_value value (slice_index_or before.now place None))) }
@@ -420,7 +420,7 @@ impl HeldSatellite {
     ) -> Result<(), AllocError>
         ensures after { OnOk result (self.new ≡ row_tail_after (option_copied before.entry) row.now) }
         ensures line { OnOk result (without_end_blanks desk.new.line.items
-            ≡ line_of_codes (codes_after (option_copied before.entry) row.now) (flags_of_tail (option_copied before.entry)) row.now.flags) }
+            ≡ row_line_after (option_copied before.entry) row.now) }
     {
         match before {
             Some(held) => self.go_on(&held.arcs, &held.flags, row, desk),
@@ -451,23 +451,24 @@ impl HeldSatellite {
         Ok(())
     }
 
-    /// Reads a satellite's line after what was kept of it in the epoch before: replaces what is kept, and gives the row, which
-    /// was blank. What was kept of cells and indicators past the satellite's count of types is dropped.
+    /// Reads a satellite's line after what was kept of it in the epoch before: replaces what is kept, and fills the row, which
+    /// has its identifier and its size. What was kept of cells and indicators past the satellite's count of types is dropped.
     ///
     /// `Truncated` comes where the line begins another epoch; then the first cell with a fault decides: `BadField` where its
     /// text is no code, then `NoArc` and `OutOfRange` as by [`ObsArc::apply`]; then `BadFlags` where the marks hold a character
     /// outside 32 to 126, or anything but blanks past two for each type. `OutOfMemory` comes where something can't grow.
     pub(crate) fn read(
         &mut self,
-        row: SatRow,
+        row: &mut SatRow,
         before: Option<&HeldSatellite>,
         satellite: &AwaitedSatellite,
         line: &[u8],
         part: &mut Text,
-    ) -> Result<SatRow, Fault>
+    ) -> Result<(), Fault>
         requires short { length line.now ≤ LINE_LIMIT }
-        requires blank { row ≡ blank_row satellite.now.name satellite.now.count }
-        ensures ok { IfOk result (λ row. row_held (option_copied before.entry) satellite.now line.now ≡ Ok (record { row = row; tail = self.new })) }
+        requires named { row.old.name ≡ satellite.now.name }
+        requires sized { length row.old.values ≡ satellite.now.count }
+        ensures ok { OnOk result (row_held (option_copied before.entry) satellite.now line.now ≡ Ok (record { row = row.new; tail = self.new })) }
         ensures err { IfErr result (λ fault. (row_held (option_copied before.entry) satellite.now line.now ≡ Err fault)
             ⊎ (fault ≡ Fault.OutOfMemory)) }
     {
@@ -480,17 +481,18 @@ impl HeldSatellite {
     /// The same, from the arcs and the indicators of the epoch before.
     fn read_from(
         &mut self,
-        mut row: SatRow,
+        row: &mut SatRow,
         arcs: &[ObsArc],
         flags: &[u8],
         satellite: &AwaitedSatellite,
         line: &[u8],
         part: &mut Text,
-    ) -> Result<SatRow, Fault>
+    ) -> Result<(), Fault>
         requires flags { AreHeldFlags flags.now }
         requires short { length line.now ≤ LINE_LIMIT }
-        requires blank { row ≡ blank_row satellite.now.name satellite.now.count }
-        ensures ok { IfOk result (λ row. row_held_from arcs.now flags.now satellite.now line.now ≡ Ok (record { row = row; tail = self.new })) }
+        requires named { row.old.name ≡ satellite.now.name }
+        requires sized { length row.old.values ≡ satellite.now.count }
+        ensures ok { OnOk result (row_held_from arcs.now flags.now satellite.now line.now ≡ Ok (record { row = row.new; tail = self.new })) }
         ensures err { IfErr result (λ fault. (row_held_from arcs.now flags.now satellite.now line.now ≡ Err fault)
             ⊎ (fault ≡ Fault.OutOfMemory)) }
     {
@@ -501,11 +503,11 @@ impl HeldSatellite {
         let Ok(()) = resize_arcs(&mut self.arcs, count) else {
             return Err(Fault::OutOfMemory);
         };
-        let at = match read_cells(arcs, count, line, &mut self.arcs, &mut row) {
+        let at = match read_cells(arcs, count, line, &mut self.arcs, row) {
             Ok(at) => at,
             Err(fault) => return Err(fault),
         };
-        match read_marks(flags, count, &line[at..], &mut row, part) {
+        match read_marks(flags, count, &line[at..], row, part) {
             Ok(()) => {}
             Err(fault) => return Err(fault),
         }
@@ -517,7 +519,7 @@ impl HeldSatellite {
         else {
             return Err(Fault::OutOfMemory);
         };
-        Ok(row)
+        Ok(())
     }
 }
 
@@ -579,7 +581,7 @@ pub(crate) fn find<'a>(
     held.iter().find(|satellite| satellite.name() == name)
 }
 
-/// Reads the cells of a line for as many types as a row without values has, after the arcs of the epoch before: puts their
+/// Reads the cells of a line for as many types as a row has, after the arcs of the epoch before: puts their
 /// values into the row, and the arcs after them in place of others, and gives the index at which the marks begin.
 ///
 /// The first cell with a fault decides: `BadField` where its text is no code, then `NoArc` and `OutOfRange` as by
@@ -592,7 +594,7 @@ fn read_cells(
     row: &mut SatRow,
 ) -> Result<usize, Fault>
     requires counted { length arcs.old ≡ count }
-    requires blank { row.old.values ≡ replicate count None }
+    requires sized { length row.old.values ≡ count }
     ensures ok { IfOk result (λ at. AreRead before.now count line.now arcs.new row.old row.new at) }
     ensures err { IfErr result (λ fault. cells_read (value_at_place before.now) (cells_of count line.now) ≡ Err fault) }
 {

@@ -1,10 +1,11 @@
 //! An epoch whose compact lines come one by one: Hatanaka's Compact RINEX 3.0.
 
+ghost use Rattle.std.specs.Bool.{OnTrue};
 ghost use Rattle.std.specs.Option.{option_copied};
-ghost use Rattle.std.specs.Prelude.{slice_get, ◌≡◌, ◌≤◌, ◌⊎◌, None, Some, Ok, Err, length, is_some, false, true, OnOk, IfOk, IfErr, IfSome, OnSome, IfNone, take};
+ghost use Rattle.std.specs.Prelude.{slice_get, ◌≡◌, ◌≤◌, ◌<◌, ◌⊎◌, None, Some, Ok, Err, length, is_some, false, true, OnOk, OnErr, IfOk, IfErr, IfSome, OnSome, IfNone, take};
 ghost use Rattle.crx_lines.specs.declared.limits.TheConstants.{LINE_LIMIT};
-ghost use Rattle.crx_rinex.specs.Observations.{Row};
-ghost use Rattle.crx_rinex.specs.Epochs.{begun, is_full_epoch, with_row};
+ghost use Rattle.crx_rinex.specs.Observations.{Row, Epoch as ObservationEpoch};
+ghost use Rattle.crx_rinex.specs.Epochs.{begun, has_satellite, is_full_epoch, with_row};
 ghost use Rattle.crx_compact.specs.Tails.{Tail};
 ghost use Rattle.crx_compact.specs.OpenEpochs.{opened, Going, Whole, Faulty};
 ghost use Rattle.crx_compact.specs.HeldRows.{row_after, IsNextRow};
@@ -17,7 +18,7 @@ ghost use Rattle.crx_compact.specs.OpenLines.{open_raw, made_of, step_after, Has
 
 use crate::awaited::AwaitedSatellite;
 use crate::kept::KeptEpoch;
-use crx_rinex::{Epoch, EpochLine, Types, padded};
+use crx_rinex::{Epoch, EpochLine, SatRow, Types, padded};
 use crx_text::{Fault, Text};
 use std::alloc::Global;
 use std::marker::Model;
@@ -42,6 +43,8 @@ pub(crate) struct Incoming {
     count: usize,
     satellites: Vec<AwaitedSatellite>,
     part: Text,
+    /// The row that a line is read into, before it is put into the epoch.
+    row: Option<SatRow>,
     /// An epoch that was given out and handed back, whose memory serves the next one.
     spare: Option<Epoch>,
     alloc: Global,
@@ -69,6 +72,7 @@ impl Incoming {
             count: 0,
             satellites: Vec::new(alloc),
             part: Text::new(),
+            row: None,
             spare: None,
             alloc,
         }
@@ -133,17 +137,24 @@ impl Incoming {
             Stage::Unbegun => Err(Fault::NotAnEpoch),
             Stage::Clock => {
                 self.stage = Stage::Unbegun;
-                let epoch = begun_epoch(self.alloc, &mut self.spare, &mut self.next, before, line)?;
                 self.count = 0;
-                self.stage = Stage::Rows(epoch);
-                Ok(())
+                begin_rows(
+                    self.alloc,
+                    &mut self.stage,
+                    &mut self.spare,
+                    &mut self.next,
+                    before,
+                    line,
+                )
             }
             Stage::Rows(epoch) => {
                 let Some(satellite) = satellite_at(&self.satellites, self.count) else {
                     return Ok(());
                 };
                 match next_row(
+                    self.alloc,
                     epoch,
+                    &mut self.row,
                     &mut self.next,
                     before,
                     self.count,
@@ -161,6 +172,16 @@ impl Incoming {
                     }
                 }
             }
+        }
+    }
+
+    /// Whether the line after the next one is one of the epoch too: the clock line has come, and more than one satellite is awaited.
+    pub(crate) fn is_early(&self) -> bool
+        ensures { OnTrue result (IfSome self.now (λ lines. (is_some lines.clock ≡ true) × (1 < length lines.awaited))) }
+    {
+        match &self.stage {
+            Stage::Rows(_) => self.satellites.len() - self.count > 1,
+            _ => false,
         }
     }
 
@@ -192,6 +213,26 @@ fn satellite_at(satellites: &[AwaitedSatellite], index: usize) -> Option<&Awaite
     ensures { option_copied result ≡ slice_get satellites.now index }
 {
     satellites.get(index)
+}
+
+/// Reads a clock line after what was kept of the epoch before: from then on satellite lines are awaited.
+#[inline(never)]
+fn begin_rows(
+    alloc: Global,
+    stage: &mut Stage,
+    spare: &mut Option<Epoch>,
+    next: &mut KeptEpoch,
+    before: &KeptEpoch,
+    line: &[u8],
+) -> Result<(), Fault>
+    requires { is_some (epoch_count (columns next.old.text 1 HEAD_WIDTH)) ≡ true }
+    ensures ok { OnOk result ((epoch : ObservationEpoch) × (stage.new ≡ Stage.Rows epoch) × HasClock before.now line.now next.old next.new epoch) }
+    ensures err { IfErr result (λ fault. clock_line_read (past_of_tail before.now) line.now ≡ Err fault) }
+    ensures same { OnErr result (stage.new ≡ stage.old) }
+{
+    let epoch = begun_epoch(alloc, spare, next, before, line)?;
+    *stage = Stage::Rows(epoch);
+    Ok(())
 }
 
 /// Reads a clock line after what was kept of the epoch before, and begins the epoch of an epoch text with its clock.
@@ -227,9 +268,12 @@ fn epoch_with(alloc: Global, spare: &mut Option<Epoch>, head: EpochLine) -> Epoc
     }
 }
 
-/// Reads the next satellite line of an epoch after what was kept of the epoch before, and puts its row after the others.
+/// Reads the next satellite line of an epoch after what was kept of the epoch before, and puts its row after the others. Their
+/// satellites are others, so that only `OutOfMemory` is left to refuse the row.
 fn next_row(
+    alloc: Global,
     epoch: &mut Epoch,
+    held: &mut Option<SatRow>,
     next: &mut KeptEpoch,
     before: &KeptEpoch,
     count: usize,
@@ -238,19 +282,75 @@ fn next_row(
     part: &mut Text,
 ) -> Result<(), Fault>
     requires wanted { is_full_epoch epoch.old ≡ false }
+    requires new { has_satellite satellite.now.name epoch.old.rows ≡ false }
     requires left { count ≤ length next.old.rows }
     requires short { length line.now ≤ LINE_LIMIT }
     ensures ok { OnOk result (IsRowAfter before.now satellite.now line.now count epoch.old epoch.new next.old next.new) }
     ensures err { IfErr result (λ fault. (row_after before.now satellite.now line.now ≡ Err fault) ⊎ (fault ≡ Fault.OutOfMemory)) }
 {
-    let spare = epoch.take_spare();
-    let row = match next.read_row(before, count, satellite, line, spare, part) {
-        Ok(row) => row,
-        Err(fault) => return Err(fault),
+    let Ok(()) = renew_row(alloc, epoch, held, satellite) else {
+        return Err(Fault::OutOfMemory);
     };
-    // No satellite is awaited twice, so that a row is refused for its memory alone.
+    let Some(row) = held else {
+        return Err(Fault::OutOfMemory);
+    };
+    match next.read_row(before, count, satellite, line, row, part) {
+        Ok(()) => {}
+        Err(fault) => return Err(fault),
+    }
+    if epoch.exchange(row) {
+        return Ok(());
+    }
+    push_held(epoch, held)
+}
+
+/// Holds a row for a satellite: in the memory of the one that is held, else of a spare one of the epoch.
+fn renew_row(
+    alloc: Global,
+    epoch: &mut Epoch,
+    held: &mut Option<SatRow>,
+    satellite: &AwaitedSatellite,
+) -> Result<(), Fault>
+    ensures ready { OnOk result (IfSome held.new (λ row. (row.name ≡ satellite.now.name) × (length row.values ≡ satellite.now.count))) }
+    ensures same { epoch.new ≡ epoch.old }
+{
+    if let Some(row) = held {
+        return row.begin_for(satellite.name(), satellite.count());
+    }
+    hold_row(alloc, epoch, held, satellite)
+}
+
+/// The same where no row is held.
+#[inline(never)]
+fn hold_row(
+    alloc: Global,
+    epoch: &mut Epoch,
+    held: &mut Option<SatRow>,
+    satellite: &AwaitedSatellite,
+) -> Result<(), Fault>
+    ensures ready { OnOk result (IfSome held.new (λ row. (row.name ≡ satellite.now.name) × (length row.values ≡ satellite.now.count))) }
+    ensures same { epoch.new ≡ epoch.old }
+{
+    let spare = epoch.take_spare();
+    let row = SatRow::blank_again(alloc, spare, satellite.name(), satellite.count())?;
+    *held = Some(row);
+    Ok(())
+}
+
+/// Puts the row that is held after the others of an epoch. No satellite is awaited twice, so that it is refused for its memory
+/// alone.
+#[inline(never)]
+fn push_held(epoch: &mut Epoch, held: &mut Option<SatRow>) -> Result<(), Fault>
+    requires wanted { is_full_epoch epoch.old ≡ false }
+    requires new { IfSome held.old (λ row. has_satellite row.name epoch.old.rows ≡ false) }
+    ensures ok { OnOk result (IfSome held.old (λ row. epoch.new ≡ with_row epoch.old row)) }
+    ensures err { IfErr result (λ fault. fault ≡ Fault.OutOfMemory) }
+{
+    let Some(row) = held.take() else {
+        return Err(Fault::OutOfMemory);
+    };
     match epoch.push(row) {
         Ok(()) => Ok(()),
-        Err(_) => Err(Fault::OutOfMemory),
+        Err((_, fault)) => Err(fault),
     }
 }

@@ -1,6 +1,6 @@
 //! What is kept of an epoch for the next one: Hatanaka's Compact RINEX 3.0.
 
-ghost use Rattle.std.specs.Prelude.{ℕ, min, ◌≡◌, ◌≤◌, ◌<◌, ◌+◌, false, ◌++◌, ◌∷◌, [], true, Ok, Err, length, take, map, ◌⊎◌, OnOk, IfOk, IfErr};
+ghost use Rattle.std.specs.Prelude.{ℕ, min, ◌≡◌, ◌≤◌, ◌<◌, ◌+◌, false, ◌++◌, ◌∷◌, [], true, Ok, Err, length, take, map, ◌⊎◌, OnOk, OnSome, IfOk, IfErr};
 ghost use Rattle.std.specs.Bool.{OnTrue};
 ghost use Rattle.std.specs.List.{list_all};
 ghost use Rattle.crx_text.specs.Columns.{without_end_blanks};
@@ -13,18 +13,17 @@ ghost use Rattle.crx_text.specs.Numbers.{IsClock};
 ghost use Rattle.std.specs.Option.{option_copied, ForSome};
 ghost use Rattle.crx_compact.specs.CompactPlaces.{clock_line_read, satellites_of_line};
 ghost use Rattle.crx_compact.specs.OpenEpochs.{past_of_tail};
-ghost use Rattle.crx_compact.specs.Steps.{arc_of_code, lines_after, no_tail, tail_after};
+ghost use Rattle.crx_compact.specs.Steps.{arc_of_code, lines_after, no_tail, row_line_in, row_tail_in, tail_after};
 ghost use Rattle.crx_compact.specs.Sequences.{named};
 ghost use Rattle.crx_compact.specs.Tails.{RowTail};
-ghost use Rattle.crx_compact.specs.Cells.{row_line_after, row_tail_in};
 ghost use Rattle.crx_compact.specs.HeldRows.{row_after, IsNextRow};
 
 use crate::arc::ClockArc;
-use crate::awaited::{AwaitedSatellite, begins_epoch, read_satellites};
+use crate::awaited::{AwaitedSatellite, read_satellites};
 use crate::held::{Desk, HeldSatellite, find};
 use crate::lines::Lines;
 use crx_lines::limits::NAME_WIDTH;
-use crx_rinex::{Epoch, SatRow, Types};
+use crx_rinex::{Epoch, SatRow, Types, begins_epoch};
 use crx_text::difference::patch_bytes;
 use crx_text::{Code, Fault, Text, code_read, trim_end};
 use std::alloc::{AllocError, Global};
@@ -98,15 +97,32 @@ impl KeptEpoch {
         false
     }
 
-    /// What is kept of a satellite. It mostly stands at the place that it has in the next epoch.
-    fn find(&self, place: usize, name: [u8; NAME_WIDTH]) -> Option<&HeldSatellite>
-        ensures { option_copied result ≡ named (λ (row : RowTail). row.name) name self.now.rows }
+    /// What is kept of a satellite at a place, where it is this satellite.
+    #[inline(always)]
+    fn find_at(&self, place: usize, name: [u8; NAME_WIDTH]) -> Option<&HeldSatellite>
+        ensures { OnSome result (option_copied result ≡ named (λ (row : RowTail). row.name) name self.now.rows) }
     {
         if place < self.different {
             let satellite = &self.satellites[place];
             if satellite.name() == name {
                 return Some(satellite);
             }
+        }
+        None
+    }
+
+    /// What is kept of a satellite. It mostly stands at the place that it has in the next epoch, or beside it.
+    fn find(&self, place: usize, name: [u8; NAME_WIDTH]) -> Option<&HeldSatellite>
+        ensures { option_copied result ≡ named (λ (row : RowTail). row.name) name self.now.rows }
+    {
+        if let Some(satellite) = self.find_at(place, name) {
+            return Some(satellite);
+        }
+        if let Some(satellite) = self.find_at(place.saturating_add(1), name) {
+            return Some(satellite);
+        }
+        if let Some(satellite) = self.find_at(place.saturating_sub(1), name) {
+            return Some(satellite);
         }
         find(&self.satellites, name)
     }
@@ -195,41 +211,39 @@ impl KeptEpoch {
     }
 
     /// Reads the satellite line of the row at a place after what was kept of the epoch before: puts what it leaves after
-    /// what the rows before it left, and gives the row, in the memory of a spare one where there is one. The faults are those
-    /// of [`HeldSatellite::read`].
+    /// what the rows before it left, and fills the row, which has its identifier and size. The faults are those of [`HeldSatellite::read`].
     pub(crate) fn read_row(
         &mut self,
         before: &KeptEpoch,
         index: usize,
         satellite: &AwaitedSatellite,
         line: &[u8],
-        spare: Option<SatRow>,
+        row: &mut SatRow,
         part: &mut Text,
-    ) -> Result<SatRow, Fault>
+    ) -> Result<(), Fault>
         requires short { length line.now ≤ LINE_LIMIT }
         requires next { index ≤ length self.old.rows }
-        ensures ok { IfOk result (λ row. IsNextRow before.now satellite.now line.now index row self.old self.new) }
+        requires named { row.old.name ≡ satellite.now.name }
+        requires sized { length row.old.values ≡ satellite.now.count }
+        ensures ok { OnOk result (IsNextRow before.now satellite.now line.now index row.new self.old self.new) }
         ensures err { IfErr result (λ fault. (row_after before.now satellite.now line.now ≡ Err fault) ⊎ (fault ≡ Fault.OutOfMemory)) }
     {
         let Ok(()) = make_room(self.alloc, &mut self.satellites, index) else {
             return Err(Fault::OutOfMemory);
         };
         let name = satellite.name();
-        let Ok(row) = SatRow::blank_again(self.alloc, spare, name, satellite.count()) else {
-            return Err(Fault::OutOfMemory);
-        };
         let kept = before.find(index, name);
         let different = self.different;
         self.different = different.min(index);
         let next = &mut self.satellites[index];
         let known = next.name();
-        let row = match next.read(row, kept, satellite, line, part) {
-            Ok(row) => row,
+        match next.read(row, kept, satellite, line, part) {
+            Ok(()) => {}
             Err(fault) => return Err(fault),
-        };
+        }
         let is_same = next.name() == known;
         self.different = known_different(&self.satellites, index, different, is_same);
-        Ok(row)
+        Ok(())
     }
 }
 
@@ -327,7 +341,7 @@ fn encode_rows(
     lines: &mut Lines,
 ) -> Result<(), AllocError>
     ensures after { OnOk result (satellites.new.items ≡ map (row_tail_in before.now.rows) epoch.now.rows) }
-    ensures lines { OnOk result (lines.new ≡ lines.old ++ map (row_line_after before.now.rows) epoch.now.rows) }
+    ensures lines { OnOk result (lines.new ≡ lines.old ++ map (row_line_in before.now.rows) epoch.now.rows) }
 {
     let mut index = 0;
     while let Some(row) = epoch.row(index) {

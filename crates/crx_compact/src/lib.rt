@@ -4,21 +4,13 @@
 
 pub mod arc;
 mod awaited;
-#[cfg(test)]
-mod cases;
 pub mod coded;
 pub mod columns;
-#[cfg(test)]
-mod count_tests;
 mod held;
 mod incoming;
 mod kept;
 pub mod lines;
 pub mod read_back;
-#[cfg(test)]
-mod reading_tests;
-#[cfg(test)]
-mod tests;
 
 pub use arc::{ClockArc, ObsArc};
 pub use coded::Coded;

@@ -1,38 +1,53 @@
 //! The way back: what one `Columns` makes of an epoch, another one reads.
 
-ghost use Rattle.std.specs.Prelude.{◌≡◌, ◌⊎◌, ◌∷◌, List, Some, true, false, map, IfOk, IfErr};
+ghost use Rattle.std.specs.Prelude.{◌≡◌, ◌⊎◌, ◌↔◌, ◌∷◌, List, Some, true, false, map, IfOk, IfErr, IsTrue};
 ghost use Rattle.crx_lines.specs.Seen.{Content};
 ghost use Rattle.crx_compact.specs.Compaction.{Marked, compact_epoch, since_full};
 ghost use Rattle.crx_compact.specs.Laws.{AreWhole};
-ghost use Rattle.crx_compact.specs.LentLines.{AreReadable, HasGiven, StandsAt};
+ghost use Rattle.crx_compact.specs.LentLines.{AreReadable, HasGiven, IsReadable, StandsAt};
 ghost use Rattle.crx_compact.specs.OpenEpochs.{is_idle, place_by_steps, tail_held};
 ghost use Rattle.crx_compact.specs.OpenEpochs.ColumnsState.{Idle};
 ghost use Rattle.crx_compact.specs.Tails.{tail_or_nothing};
 
 use crate::{Coded, Columns};
-use crx_rinex::{Epoch, Types};
+use crx_lines::limits::LINE_LIMIT;
+use crx_rinex::{Epoch, Types, is_event_line};
 use crx_text::Fault;
+
+/// Whether a line may be one of an observation epoch: it is no longer than a line may be, and begins no event.
+fn is_readable(line: &[u8]) -> bool
+    ensures { IsTrue result ↔ IsReadable line.now }
+{
+    line.len() <= LINE_LIMIT && !is_event_line(line)
+}
 
 /// Reads compact lines that are lent one after another, up to the epoch that they make; `None` where they want more.
 ///
-/// The faults are those of [`Columns::begin`] and [`Columns::feed`].
+/// The faults are those of [`Columns::begin`] and [`Columns::feed`]; `NotAnEpoch` comes at an event's line too, and at one that
+/// is longer than a line may be.
 fn read_lent(
     columns: &mut Columns,
     types: &Types,
     coded: &mut Coded,
 ) -> Result<Option<Epoch>, Fault>
     requires idle { is_idle columns.old ≡ true }
-    requires readable { AreReadable coded.old.lines }
     ensures given { IfOk result (λ given. HasGiven (place_by_steps types.now (tail_held columns.old) (map Content coded.old.lines)) columns.new given) }
-    ensures refused { IfErr result (λ fault. StandsAt (place_by_steps types.now (tail_held columns.old) (map Content coded.old.lines)) fault ⊎ (fault ≡ Fault.OutOfMemory)) }
+    ensures refused { AreReadable coded.old.lines
+        → IfErr result (λ fault. StandsAt (place_by_steps types.now (tail_held columns.old) (map Content coded.old.lines)) fault ⊎ (fault ≡ Fault.OutOfMemory)) }
 {
     let Some(first) = coded.next_line() else {
         return Ok(None);
     };
+    if !is_readable(first) {
+        return Err(Fault::NotAnEpoch);
+    }
     if let Err(fault) = columns.begin(types, first) {
         return Err(fault);
     }
     while let Some(line) = coded.next_line() {
+        if !is_readable(line) {
+            return Err(Fault::NotAnEpoch);
+        }
         match columns.feed(line) {
             Ok(Some(epoch)) => return Ok(Some(epoch)),
             Ok(None) => {}
@@ -45,14 +60,14 @@ fn read_lent(
 /// Reads the compact lines of an epoch that was coded, by the counts of types that its rows have: gives the epoch back.
 ///
 /// Only `OutOfMemory` is left to refuse it, where the columns hold what is left of the epochs before, or the epoch stands in
-/// full.
+/// full. Else there are the faults of [`Columns::begin`] and [`Columns::feed`]. `NotAnEpoch` comes also at an event's line and at
+/// one that is longer than a line may be; where that isn't the first line, the columns stay in the midst of an epoch.
 pub fn read_back(
     columns: &mut Columns,
     types: &Types,
     coded: &mut Coded,
 ) -> Result<Option<Epoch>, Fault>
     requires idle { is_idle columns.old ≡ true }
-    requires readable { AreReadable coded.old.lines }
     // After any epochs at all, written so that they can be read: the lines give the newest of them, and what is held then is
     // what the writer holds.
     ensures epoch { (m : Marked) (older : List Marked) → AreWhole types.now (since_full (m ∷ older)) → coded.old.lines ≡ compact_epoch (m ∷ older)

@@ -8,14 +8,15 @@ use Rattle.std.specs.List.{list_any}
 use Rattle.std.specs.Str.{bytes_eq}
 use Rattle.crx_text.specs.Columns.{columns}
 use Rattle.crx_compact.specs.EpochText.{Satellite, names_in}
-use Rattle.crx_compact.proofs.Naming.{named-bad, named-twice, named-more, named-all, drop-each, drop-each_all}
+use Rattle.crx_rinex.proofs.EachPlace.{drop-each_place, drop_all-each_place}
+use Rattle.crx_compact.proofs.Naming.{named-bad, named-twice, named-more, named-all}
 use Rattle.crx_compact.proofs.awaited.read_names.Goals as goal
 
 -- the identifier at a place, which was read
 next : (text : List ℕ) (count place : ℕ) (name : List ℕ) → place < count → name ≡ columns text (42 + 3 * place) 3
     → drop place (names_in text count) ≡ name ∷ drop (place + 1) (names_in text count)
 next text count place name h e =
-    drop-each count place (λ k. columns text (42 + 3 * k) 3) h ∙ ap (λ n. n ∷ drop (place + 1) (names_in text count)) (sym e)
+    drop-each_place count place (λ k. columns text (42 + 3 * k) 3) h ∙ ap (λ n. n ∷ drop (place + 1) (names_in text count)) (sym e)
 
 pub returns-in_default-clause-err : goal.returns-in_default-clause-err
 returns-in_default-clause-err c =
@@ -58,4 +59,4 @@ pub returns-clause-ok : goal.returns-clause-ok
 returns-clause-ok c =
     let end : c.loop-place.place ≡ c.args.count = omega arith in
     named-all c.args.types.now (names_in c.args.text.now c.args.count) c.loop-place.place c.loop-place.satellites.items c.loop-place.invariant.so_far
-    (ap (λ n. drop n (names_in c.args.text.now c.args.count)) end ∙ drop-each_all c.args.count (λ k. columns c.args.text.now (42 + 3 * k) 3))
+    (ap (λ n. drop n (names_in c.args.text.now c.args.count)) end ∙ drop_all-each_place c.args.count (λ k. columns c.args.text.now (42 + 3 * k) 3))

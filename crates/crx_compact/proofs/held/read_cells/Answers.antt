@@ -14,7 +14,7 @@ from line at = ap (λ n. take n (drop at line)) (sym (length-drop at line)) ∙ 
 
 pub loop-place-init : goal.loop-place-init
 loop-place-init c =
-    (read-none c.args.before.now c.args.count c.args.line.now c.args.row.now c.requires.blank, c.requires.counted)
+    (read-none c.args.before.now c.args.count c.args.line.now c.args.row.now c.requires.sized, c.requires.counted)
 
 pub returns-in-Err-clause-err : goal.returns-in-Err-clause-err
 returns-in-Err-clause-err c =

@@ -4,14 +4,9 @@ use Rattle.crx_text.specs.Columns.{without_end_blanks}
 use Rattle.crx_rinex.specs.Observations.{Row}
 use Rattle.crx_compact.specs.Tails.{RowTail}
 use Rattle.crx_compact.specs.Sequences.{named}
-use Rattle.crx_compact.specs.Compaction.{line_of_codes}
-use Rattle.crx_compact.specs.Steps.{codes_after, flags_of_tail, row_tail_after}
-use Rattle.crx_compact.specs.Cells.{row_line_after, row_tail_in}
+use Rattle.crx_compact.specs.Steps.{row_line_after, row_line_in, row_tail_after, row_tail_in}
 use Rattle.crx_compact.proofs.Making.{made-more, made-all}
 use Rattle.crx_compact.proofs.kept.encode_rows.Goals as goal
-
-abbrev line_after : Option RowTail → Row → List ℕ
-line_after before row = line_of_codes (codes_after before row) (flags_of_tail before) row.flags
 
 pub loop-row-preserved : goal.loop-row-preserved
 loop-row-preserved c =
@@ -27,9 +22,9 @@ loop-row-preserved c =
           (take_more_set c.make_room.new.satellites.items index c.encode.new.self room ∙ ap (λ xs. xs ++ c.encode.new.self ∷ []) (c.make_room.ensures.same index c.loop-row.invariant.within))
           (c.in_ok-encode.ensures.after ∙ ap (λ (kept : Option RowTail). row_tail_after kept row) found);
       lent =
-          made-more (row_line_after before) c.args.lines.now c.args.epoch.now.rows index row _ _ (without_end_blanks c.encode.new.desk.line.items) c.loop-row.invariant.lent (sym c.in-Some.ensures.value)
+          made-more (row_line_in before) c.args.lines.now c.args.epoch.now.rows index row _ _ (without_end_blanks c.encode.new.desk.line.items) c.loop-row.invariant.lent (sym c.in-Some.ensures.value)
           c.in_ok-end_line.ensures
-          (c.in_ok-encode.ensures.line ∙ ap (λ (kept : Option RowTail). line_after kept row) found);
+          (c.in_ok-encode.ensures.line ∙ ap (λ (kept : Option RowTail). row_line_after kept row) found);
     }
 
 pub returns-clause-after : goal.returns-clause-after
@@ -38,4 +33,4 @@ returns-clause-after c =
 
 pub returns-clause-lines : goal.returns-clause-lines
 returns-clause-lines c =
-    made-all (row_line_after c.args.before.now.rows) c.args.lines.now c.args.epoch.now.rows c.loop-row.index c.loop-row.lines c.loop-row.invariant.lent (sym c.in_default.ensures.value)
+    made-all (row_line_in c.args.before.now.rows) c.args.lines.now c.args.epoch.now.rows c.loop-row.index c.loop-row.lines c.loop-row.invariant.lent (sym c.in_default.ensures.value)

@@ -1,5 +1,5 @@
 use Rattle.std.proofs.Common.{◌≤◌, ◌-◌, [], take, length}
-use Rattle.crx_compact.specs.Cells.{row_line_after, row_tail_in}
+use Rattle.crx_compact.specs.Steps.{row_line_in, row_tail_in}
 use Rattle.crx_compact.proofs.Making.{Made}
 use Rattle.crx_compact.proofs.kept.encode_rows.Given as goal
 
@@ -7,7 +7,7 @@ abbrev pub invariant-loop-row : goal.invariant-loop-row
 invariant-loop-row l = record {
   within : l.index ≤ length l.satellites.items;
   left : Made (row_tail_in l.before.rows) [] l.epoch.rows l.index (take l.index l.satellites.items);
-  lent : Made (row_line_after l.before.rows) l.initial.lines l.epoch.rows l.index l.lines;
+  lent : Made (row_line_in l.before.rows) l.initial.lines l.epoch.rows l.index l.lines;
 }
 
 abbrev pub decreases-loop-row : goal.decreases-loop-row

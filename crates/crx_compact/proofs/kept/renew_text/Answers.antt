@@ -4,14 +4,15 @@ use Rattle.crx_text.specs.Columns.{without_end_blanks}
 use Rattle.crx_text.specs.Texts.{is_kept}
 use Rattle.crx_lines.specs.declared.limits.TheConstants.{LINE_LIMIT}
 use Rattle.crx_compact.specs.Compaction.{epoch_text}
-use Rattle.crx_compact.proofs.SoundTexts.{beginning-trimmed, trimmed-fits, trimmed-plain}
+use Rattle.crx_compact.proofs.SoundTexts.{trimmed-fits, trimmed-plain}
 use Rattle.crx_compact.proofs.kept.renew_text.Goals as goal
+use Rattle.crx_text.proofs.EndBlanks.{take_kept}
 
 -- what is left of a text by the count of its characters without the blanks at its end
 left : (text whole two : List ℕ) (trimmed : List ℕ) (count : ℕ) → text ≡ whole → trimmed ≡ without_end_blanks text → count ≡ length trimmed
     → two ≡ take count text → two ≡ without_end_blanks whole
 left text whole two trimmed count a b e f =
-    f ∙ ap (λ n. take n text) (e ∙ ap length b) ∙ beginning-trimmed text ∙ ap without_end_blanks a
+    f ∙ ap (λ n. take n text) (e ∙ ap length b) ∙ take_kept text ∙ ap without_end_blanks a
 
 pub returns-in-Ok-clause-ok : goal.returns-in-Ok-clause-ok
 returns-in-Ok-clause-ok c =

@@ -3,8 +3,7 @@ use Rattle.std.proofs.lemmas.List.{take_at}
 use Rattle.crx_text.specs.Texts.{patched}
 use Rattle.crx_compact.specs.CompactPlaces.{are_marks}
 use Rattle.crx_compact.specs.Steps.{flags_held}
-use Rattle.crx_rinex.specs.Observations.{Row}
-use Rattle.crx_compact.proofs.Marks.{cells-refused, line-bad_marks, line-from, line-held}
+use Rattle.crx_compact.proofs.Marks.{cells-refused, line-bad_marks, line-from, line-held, still-counted}
 use Rattle.crx_compact.proofs.held.HeldSatellite.read_from.Goals as goal
 
 pub returns-in-Err-clause-err : goal.returns-in-Err-clause-err
@@ -35,4 +34,8 @@ returns-clause-ok c =
     let long : length arcs ≡ c.resize_arcs.new.arcs.len = let a = c.read_cells.auto.arcs in let b = c.deref_mut.ensures.len in omega (arith, a, b) in
     rw (take_at arcs (drop (length arcs) c.resize_arcs.new.arcs.items) c.resize_arcs.new.arcs.len long)
     (line-held c.args.arcs.now c.args.flags.now c.args.satellite.now c.args.line.now arcs _ c.read_cells.new.row c.read_marks.new.row c.in-Ok-read_cells.at _ _ (sym c.begins_epoch.ensures ∙ c.if-begins_epoch.false)
-    (ap (λ (q : Row). q.name) c.requires.blank) (rw (c.count-count.ensures.value) at c.in-Ok-read_cells.ensures.ok) good row c.name-self-inside.ensures.value text)
+    c.requires.named (rw (c.count-count.ensures.value) at c.in-Ok-read_cells.ensures.ok) good row c.name-self-inside.ensures.value text)
+
+pub read_marks-requires-clause-counted : goal.read_marks-requires-clause-counted
+read_marks-requires-clause-counted c =
+    still-counted c.args.arcs.now c.count-count.result c.args.line.now _ _ c.read_cells.new.row c.in-Ok-read_cells.at c.in-Ok-read_cells.ensures.ok

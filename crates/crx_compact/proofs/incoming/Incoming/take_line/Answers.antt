@@ -6,7 +6,7 @@ use Rattle.crx_compact.specs.OpenEpochs.{Faulty, RawStep}
 use Rattle.crx_compact.specs.OpenLines.{OpenLines, AreLinesSoFar, AreRowsSoFar, lines_so_far, step_after}
 use Rattle.crx_compact.specs.declared.incoming.Stage.{Stage}
 use Rattle.crx_compact.specs.declared.incoming.Stage.TheVariants.{Rows}
-use Rattle.crx_compact.proofs.Opening.{all-taken, not-full, row-refused, row-taken, rows-more}
+use Rattle.crx_compact.proofs.Opening.{all-taken, next-new, not-full, row-refused, row-taken, rows-more}
 use Rattle.crx_compact.proofs.incoming.Incoming.take_line.Goals as goal
 
 pub returns-in_default-clause-ok : goal.returns-in_default-clause-ok
@@ -27,6 +27,15 @@ next_row-requires-clause-wanted c =
     let here : slice_get self.satellites.items self.count ≡ Some c.in-Some.satellite.now =
     ap {B = Option Satellite} (λ (ss : List Satellite). slice_get ss self.count) (sym c.deref.ensures.value) ∙ sym c.in-Some.ensures in
     not-full self.next self.count self.satellites.items c.in-Rows.epoch c.in-Some.satellite.now rows here
+
+pub next_row-requires-clause-new : goal.next_row-requires-clause-new
+next_row-requires-clause-new c =
+    let self = c.self.inside in
+    let P : Stage → Type 0 = λ (s : Stage). AreLinesSoFar s self.next self.count self.satellites.items in
+    let rows : AreRowsSoFar c.in-Rows.epoch self.next self.count self.satellites.items = subst P c.in-Rows.is c.self.invariant in
+    let here : slice_get self.satellites.items self.count ≡ Some c.in-Some.satellite.now =
+    ap {B = Option Satellite} (λ (ss : List Satellite). slice_get ss self.count) (sym c.deref.ensures.value) ∙ sym c.in-Some.ensures in
+    next-new self.next self.count self.satellites.items c.in-Rows.epoch c.in-Some.satellite.now rows here
 
 pub invariant_of-self-in-Ok : goal.invariant_of-self-in-Ok
 invariant_of-self-in-Ok c =

@@ -7,8 +7,7 @@ use Rattle.crx_text.specs.Texts.{text_difference}
 use Rattle.crx_text.specs.declared.code.Code.{Code}
 use Rattle.crx_compact.specs.Tails.{ArcTail, RowTail, Tail}
 use Rattle.crx_compact.specs.Compaction.{epoch_text}
-use Rattle.crx_compact.specs.Steps.{arc_of_value, code_of_value}
-use Rattle.crx_compact.specs.Cells.{row_line_after, row_tail_in}
+use Rattle.crx_compact.specs.Steps.{arc_of_value, code_of_value, row_line_in, row_tail_in}
 use Rattle.crx_compact.proofs.SoundTexts.{difference-trimmed}
 use Rattle.crx_compact.proofs.kept.KeptEpoch.encode.Goals as goal
 
@@ -47,7 +46,7 @@ returns-clause-lines c =
     (c.push.ensures.code
     ∙ ap (λ (v : Option ℤ). code_of_value v c.copied-self-inside.result) (c.clock.ensures.value ∙ c.head.ensures.clock)
     ∙ ap (λ (arc : Option ArcTail). code_of_value epoch.clock arc) c.copied-self-inside.ensures))
-    (c.in_ok-encode_rows.ensures.lines ∙ ap (λ (t : Tail). c.push_code_line.new.lines ++ map (row_line_after t.rows) epoch.rows) (sym c.before-2.view_is)))
+    (c.in_ok-encode_rows.ensures.lines ∙ ap (λ (t : Tail). c.push_code_line.new.lines ++ map (row_line_in t.rows) epoch.rows) (sym c.before-2.view_is)))
 
 pub invariant_of-self-2 : goal.invariant_of-self-2
 invariant_of-self-2 c =

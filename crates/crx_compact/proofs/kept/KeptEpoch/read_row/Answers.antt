@@ -23,7 +23,7 @@ returns-clause-ok c =
     ∙ ap (λ xs. xs ++ c.read.new.self ∷ []) (c.in-Ok.ensures.same index (omega (arith, next, seen)) ∙ ap (λ (t : Tail). take index t.rows) c.self.view_is))
     (ap (λ (t : Tail). t.text) c.self.view_is)
     (ap (λ (t : Tail). t.clock) c.self.view_is)
-    c.in-Ok-read.row c.in-Ok-read.ensures.ok
+    c.read.new.row c.in-Ok-read.ensures.ok
 
 pub returns-in-Err-clause-err : goal.returns-in-Err-clause-err
 returns-in-Err-clause-err c =
