@@ -1,5 +1,6 @@
 -- Where the reading of compact text starts anew, it depends on the types in force alone.
 use Rattle.std.proofs.Common.{ℕ, zero, suc, ◌≡◌, ◌+◌, ◌-◌, ◌<◌, max, Bool, true, false, cond, List, [], ◌∷◌, ◌++◌, length, drop, Option, Some, None, Ok, Err, refl, ap, sym, ◌∙◌, arith, subst, append_assoc}
+use Rattle.std.proofs.lemmas.Bool.{and_parts}
 use Rattle.std.specs.Prelude.{⊤, ◌&&◌, ◌==◌}
 use Rattle.crx_lines.specs.Seen.{ReadLine, Content, Overlong}
 use Rattle.crx_lines.specs.declared.fault.Fault.{Fault}
@@ -23,7 +24,6 @@ use Rattle.crx_engine.specs.Anew.{starts_anew, GoOnAlike, DependsOnTypes}
 use Rattle.crx_engine.proofs.Resuming.{by_bool, by_place, within-here, within-wrong, within-wanted, fault-skipped, fault-ends, looked-here, looked-on}
 use Rattle.crx_engine.proofs.Following.{body-place}
 use Rattle.crx_engine.proofs.FollowingLines.{record-place}
-use Rattle.crx_engine.proofs.Stopping.{first-true, second-true}
 
 -- ---- the types after a record
 
@@ -326,8 +326,8 @@ reads-anew skip (suc units) a b number [] zero h e anew =
     alike-step skip units a b number [] Wanted h (place-between a [] h.one e) (place-between b [] h.two (sym h.left ∙ e)) tt
 reads-anew skip (suc units) a b number (Overlong ∷ lines) zero h e anew = absurd (cc)
 reads-anew skip (suc units) a b number (Content line ∷ lines) zero h e anew =
-    anew-line skip units (reads-anew skip units) a b number line lines h e (first-true (begins_epoch line) (cond (is_event_line line) (starts_anew (records_announced line) lines) true) anew) (is_event_line line) refl
-    (second-true (begins_epoch line) (cond (is_event_line line) (starts_anew (records_announced line) lines) true) anew)
+    anew-line skip units (reads-anew skip units) a b number line lines h e (and_parts (begins_epoch line) (cond (is_event_line line) (starts_anew (records_announced line) lines) true) anew).0 (is_event_line line) refl
+    (and_parts (begins_epoch line) (cond (is_event_line line) (starts_anew (records_announced line) lines) true) anew).1
 reads-anew skip (suc units) a b number [] (suc left) h e anew =
     alike-step skip units a b number [] Wanted h (place-in_event a left [] h.one e) (place-in_event b left [] h.two (sym h.left ∙ e)) tt
 reads-anew skip (suc units) a b number (Overlong ∷ lines) (suc left) h e anew =

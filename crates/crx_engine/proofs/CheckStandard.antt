@@ -4,6 +4,7 @@ use Rattle.std.specs.Prelude.{◌&&◌}
 use Rattle.std.specs.List.{list_all}
 use Rattle.std.specs.Str.{bytes_eq}
 use Rattle.std.proofs.lemmas.Option.{none-some}
+use Rattle.std.proofs.lemmas.Bool.{and_parts}
 use Rattle.crx_compact.proofs.Runs.{bytes_eq-same, bytes_eq-is}
 use Rattle.crx_lines.specs.Lines.{InputLine, lines_of}
 use Rattle.crx_engine.specs.Choices.{Choices}
@@ -11,7 +12,6 @@ use Rattle.crx_engine.specs.Results.{FilterResult}
 use Rattle.crx_engine.specs.Standard.{printed_items, whole_of, is_standard_line, first_not_standard, findings_of, report_status, checked_by, checked, IsStandard}
 use Rattle.crx_engine.specs.CheckingLaws.{IsNamedWhereNot, IsStandardExactlyWhereSame}
 use Rattle.crx_engine.proofs.Resuming.{by_bool}
-use Rattle.crx_engine.proofs.Stopping.{first-true, second-true}
 use Rattle.crx_engine.proofs.WayBackStandard.{standard-comes_back}
 use Rattle.crx_engine.proofs.ReturnsLost.{standard-where_same}
 use Rattle.crx_engine.proofs.CheckEnded.{whole-many}
@@ -30,8 +30,8 @@ none-named number (line ∷ lines) [] many e = absurd (cc)
 none-named number (line ∷ lines) (text ∷ texts) many e = by_bool (is_standard_line line text)
     (λ on.
     let rest = none-named (number + 1) lines texts (omega (arith, many)) (sym (ap (λ b. cond b (first_not_standard (number + 1) lines texts) (Some number)) on) ∙ e) in
-    let plain : line.is_plain ≡ true = first-true line.is_plain (bytes_eq line.content text) on in
-    let same : line.content ≡ text = bytes_eq-is line.content text (second-true line.is_plain (bytes_eq line.content text) on) in
+    let plain : line.is_plain ≡ true = (and_parts line.is_plain (bytes_eq line.content text) on).0 in
+    let same : line.content ≡ text = bytes_eq-is line.content text (and_parts line.is_plain (bytes_eq line.content text) on).1 in
     (ap (λ b. b && are_plain lines) plain ∙ rest.0, ap (λ t. t ∷ contents lines) same ∙ ap (λ ts. text ∷ ts) rest.1))
     (λ off. absurd (none-some number (sym e ∙ ap (λ b. cond b (first_not_standard (number + 1) lines texts) (Some number)) off)))
 
@@ -39,8 +39,8 @@ none-named number (line ∷ lines) (text ∷ texts) many e = by_bool (is_standar
 all-standard : (number : ℕ) (lines : List InputLine) → are_plain lines ≡ true → first_not_standard number lines (contents lines) ≡ None
 all-standard number [] e = refl
 all-standard number (line ∷ lines) e =
-    let on : is_standard_line line line.content ≡ true = ap (λ b. b && bytes_eq line.content line.content) (first-true line.is_plain (are_plain lines) e) ∙ bytes_eq-same line.content in
-    ap (λ b. cond b (first_not_standard (number + 1) lines (contents lines)) (Some number)) on ∙ all-standard (number + 1) lines (second-true line.is_plain (are_plain lines) e)
+    let on : is_standard_line line line.content ≡ true = ap (λ b. b && bytes_eq line.content line.content) (and_parts line.is_plain (are_plain lines) e).0 ∙ bytes_eq-same line.content in
+    ap (λ b. cond b (first_not_standard (number + 1) lines (contents lines)) (Some number)) on ∙ all-standard (number + 1) lines (and_parts line.is_plain (are_plain lines) e).1
 
 pub named-where_not : (input : List ℕ) → IsNamedWhereNot input
 named-where_not input good = (

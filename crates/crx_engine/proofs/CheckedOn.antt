@@ -26,10 +26,6 @@ use Rattle.crx_engine.proofs.CheckLines.{phase-reached, line-grows, never-again}
 abbrev pub reading_seen : List ReadLine → Seen OpenEpoch Totals
 reading_seen lines = seen_of checking rinex_open totals_of no_choices (length lines) (rinex_reading false lines)
 
--- the lines so far, by what is seen of them
-abbrev seen_lines : List InputLine → List ReadLine
-seen_lines lines = map seen lines
-
 pub same-seen : (lines : List InputLine) → CheckSeen.reading (check_seen lines) ≡ reading_seen (map seen lines)
 same-seen lines = ap (λ n. seen_of checking rinex_open totals_of no_choices n (rinex_reading false (map seen lines))) (sym (length-map lines seen))
 

@@ -23,9 +23,7 @@ use Rattle.crx_engine.specs.declared.stage.Stage.{Stage}
 use Rattle.crx_engine.specs.declared.stage.Stage.TheVariants.{FirstLines, Header, Between, Event, Open, Looking, Closed, Ended}
 use Rattle.crx_engine.proofs.CheckEnded.{check-ended}
 use Rattle.crx_engine.proofs.Following.{seen_in}
-
-false-true : {X : Type 0} → false ≡ true → X
-false-true e = absurd (cc)
+use Rattle.crx_engine.proofs.FollowingLines.{false-true}
 
 -- the end is the same whatever is kept of the epochs
 end-same : (number : ℕ) (phase : Phase OpenEpoch) (types : List Count) (totals : Totals) (kept : Written) → (seen_end checking (seen_in no_choices number phase types totals)).answer ≡ (seen_end compaction (seen_in no_choices number phase types kept)).answer

@@ -32,6 +32,7 @@ use Rattle.crx_engine.proofs.CheckLines.{IsReached, Grows, line-grows}
 use Rattle.crx_engine.proofs.CheckedOn.{checked-on}
 use Rattle.crx_engine.proofs.CheckEnded.{kept-always}
 use Rattle.crx_engine.proofs.Checkers.{not-none}
+use Rattle.crx_engine.proofs.FollowingLines.{false-true}
 
 -- a check keeps nothing of the epochs: what a line makes does not hang on it
 
@@ -75,9 +76,6 @@ steps-to number totals line content before after made Record h = completed-steps
 steps-to number totals line content before after made Epoch h = completed-steps number totals line before after made (Observation h.epoch) h.is
 
 -- ---- lines can come on
-
-false-true : {X : Type 0} → false ≡ true → X
-false-true e = absurd (cc)
 
 reached : (phase : Phase OpenEpoch) → is_reading phase ≡ true → IsReached phase
 reached (InFirstLines count) e = false-true e

@@ -1,6 +1,7 @@
 -- What a reader of compact text holds after a line.
 use Rattle.std.proofs.Common.{◌≡◌, inl, inr, Bool, true, false, List, [], ℕ, Option, Some, None, Result, Ok, Err, refl, sym, ap, ◌∙◌, true≢false, if◌then◌else◌, not}
-use Rattle.std.specs.Prelude.{◌&&◌, ◌||◌, IfErr}
+use Rattle.std.proofs.lemmas.Bool.{and_parts, and_from}
+use Rattle.std.specs.Prelude.{◌||◌, IfErr}
 use Rattle.std.specs.Option.{is_some}
 use Rattle.crx_lines.specs.Seen.{Content}
 use Rattle.crx_lines.specs.declared.fault.Fault.{Fault}
@@ -51,14 +52,6 @@ opened-wants types line (Some before) = satellites-wanted line before (satellite
 pub begun-wants : (types : List Count) (tail : Option Tail) (line : List ℕ) (after : ColumnsState) → HasMade (first_step types tail (Content line)) after None → wants_lines after ≡ true
 begun-wants types tail line after (begun, going, is) = ap wants_lines is ∙ (ap wants_more (sym going) ∙ opened-wants types line (tail_for_line tail line))
 
--- a refusal at a line that begins with >, where one is looked for
-last-true : (a b : Bool) → (a && b) ≡ true → b ≡ true
-last-true true b e = e
-last-true false b e = absurd (true≢false (sym e))
-
-both-true : (a b : Bool) → a ≡ true → b ≡ true → (a && b) ≡ true
-both-true a b one two = rw (one, two) refl
-
 pub look-refused : (types : List Count) (tail : Option Tail) (line : List ℕ) (result : Result CompactStep Fault) → begins_epoch line ≡ true
     → IfErr result (λ fault. Refuses tail (compact_begins types tail (Content line)) BetweenUnits line fault)
     → IfErr result (λ fault. Refuses tail (made_in expansion LookingOn types tail (Content line)) LookingOn line fault)
@@ -70,4 +63,4 @@ look-refused types tail line (Err fault) begins (inl fails) =
     if-true : {X : Type 0} (b : Bool) (x y : X) → b ≡ true → (if b then x else y) ≡ x
     if-true b x y e = rw e refl
 look-refused types tail line (Err fault) begins (inr out) =
-    inr (out.0, both-true (begins_epoch line) (not (is_event_line line)) begins (last-true (is_some tail || begins_epoch line) (not (is_event_line line)) out.1))
+    inr (out.0, and_from (begins_epoch line) (not (is_event_line line)) begins (and_parts (is_some tail || begins_epoch line) (not (is_event_line line)) out.1).1)

@@ -72,13 +72,6 @@ pub record IsCarriedOut {E U O K : Type 0} (beginning : List (Item E) → List R
 
 -- ---- what follows from tests that are known
 
-and-false : (b : Bool) → (b && false) ≡ false
-and-false true = refl
-and-false false = refl
-
-false-if : (b : Bool) → b ≡ false → (b ≡ true) → ⊥
-false-if b h k = absurd (cc)
-
 -- where an epoch or an event may begin
 pub body-place : {E : Type 0} (beginning : List (Item E) → List ReadLine → Place (FileUnit E)) (items : List (Item E)) (lines : List ReadLine)
     → header_has_ended items ≡ true → records_left items ≡ 0 → unit_place beginning items lines ≡ beginning items lines
@@ -201,10 +194,6 @@ last-skipped place h skip units items number count rest line offset fault wanted
     ∙ fault-skipped skip (reading_within place skip units) items number (rest ++ line ∷ []) offset fault on
     ∙ ap (λ (n : ℕ). looked_for (reading_within place skip units (Warned (record { line = n; fault = fault }) ∷ items)) (Warned (record { line = n; fault = fault }) ∷ items) (number + max offset 1) (drop (max offset 1) (rest ++ line ∷ []))) same
     ∙ ap (λ (k : ℕ). looked_for (reading_within place skip units (Warned (record { line = count + 1; fault = fault }) ∷ items)) (Warned (record { line = count + 1; fault = fault }) ∷ items) (number + max k 1) (drop (max k 1) (rest ++ line ∷ []))) last
-
--- what is looked through then: nothing after a unit's own first line, else the fault's line
-looked-through-first : (line : ReadLine) → drop (max (length {A = ReadLine} []) 1) ([] ++ line ∷ []) ≡ []
-looked-through-first line = refl
 
 looked-through-later : (first : ReadLine) (rest : List ReadLine) (line : ReadLine) → drop (max (length (first ∷ rest)) 1) ((first ∷ rest) ++ line ∷ []) ≡ line ∷ []
 looked-through-later first rest line =

@@ -11,7 +11,6 @@ use Rattle.crx_compact.specs.Laws.{tail_before}
 use Rattle.crx_compact.specs.Tails.{Tail}
 use Rattle.crx_compact.specs.Steps.{no_tail, lines_after, tail_after, tail_written_after}
 use Rattle.crx_compact.proofs.Tailing.{epoch-by_tail}
-use Rattle.crx_compact.proofs.Writable.{rows-differ}
 use Rattle.crx_engine.specs.Choices.{Choices}
 use Rattle.crx_engine.specs.Items.{Item, Accepted, Warned, types_in_force}
 use Rattle.crx_engine.specs.Compacted.{epochs_accepted, is_at_every, is_in_full, marked_epochs, compact_unit}
@@ -50,7 +49,7 @@ same-epoch : (choices : Choices) (items : List (Item Epoch)) (lines : List ReadL
     → IsSameEpoch compaction (written_of choices.every) (compact_unit choices) choices items epoch epoch
 same-epoch choices items lines epoch count here =
     let whole = sound-epoch_place (types_in_force items) lines epoch count (counts-in_force items) here in
-    let by_tail = epoch-by_tail (marked choices items epoch) (marked_epochs choices.every items) (rows-differ epoch.rows whole.0.sound.apart) in
+    let by_tail = epoch-by_tail (marked choices items epoch) (marked_epochs choices.every items) whole.0.sound.apart in
     record {
       kept = λ number phase types kept either.
           ap (λ (k : Written). compaction.kept_after (seen_in choices number phase types k) (Observation epoch)) (kept-either kept (written_of choices.every items) either)

@@ -6,9 +6,8 @@ use Rattle.crx_lines.specs.Seen.{ReadLine, Content, Overlong}
 use Rattle.crx_lines.specs.declared.limits.TheConstants.{LINE_LIMIT}
 use Rattle.crx_rinex.specs.Observations.{Row, Epoch}
 use Rattle.crx_rinex.specs.Units.{Unit as FileUnit, HeaderLine, EventLine, EventRecord, Observation}
-use Rattle.crx_compact.specs.Compaction.{Marked, since_full, run_of, satellite_line}
+use Rattle.crx_compact.specs.Compaction.{Marked, run_of, satellite_line}
 use Rattle.crx_compact.proofs.Lengths.{lines-short}
-use Rattle.crx_compact.proofs.Writable.{all-whole}
 use Rattle.crx_engine.specs.Choices.{Choices, is_date}
 use Rattle.crx_engine.specs.Items.{Item, Accepted, Warned, is_at_start, types_in_force}
 use Rattle.crx_engine.specs.Compacted.{lines_before_header, marked_epochs, compact_unit, rinex_place, rinex_reading}
@@ -44,7 +43,7 @@ unit-lendable choices before (Observation epoch) dated h k =
     let within = (h.0).2.sound.head_sound.within in
     record {
       few = omega (arith, kept, full, within);
-      short = lines-short (types_in_force before) m.in_full m.epoch older (all-whole (types_in_force before) (since_full (m ∷ older)) (whole-next choices.every before epoch h));
+      short = lines-short (types_in_force before) m.in_full m.epoch older (whole-next choices.every before epoch h);
     }
 
 units-lendable : (choices : Choices) (items : List (Item Epoch)) → is_date choices.date ≡ true → AreInPlace items → OfCopiedLines IsShort items → OfUnits (λ before unit. AreLendable (longest_of unit) (compact_unit choices before unit)) items

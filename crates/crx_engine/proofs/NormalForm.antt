@@ -5,6 +5,7 @@ use Rattle.std.specs.List.{AllByRecursion, list_all}
 use Rattle.std.specs.Option.{is_some}
 use Rattle.std.proofs.lemmas.List.{length-map}
 use Rattle.std.proofs.lemmas.List.Elements.{All-head, All-tail}
+use Rattle.std.proofs.lemmas.Bool.{and_parts}
 use Rattle.crx_lines.specs.Lines.{InputLine, lines_of}
 use Rattle.crx_lines.specs.Seen.{ReadLine, Content, seen}
 use Rattle.crx_text.specs.Numbers.{clock_text}
@@ -21,7 +22,6 @@ use Rattle.crx_rinex.specs.Places.{Place, Here, then_place, one_line}
 use Rattle.crx_rinex.specs.Printing.{printed_cells, printed_row, printed_epoch}
 use Rattle.crx_rinex.specs.Units.{Unit as FileUnit, HeaderLine, EventLine, EventRecord, Observation, printed_unit}
 use Rattle.crx_rinex.proofs.ReadingBack.{epoch-back, length-row, length-head}
-use Rattle.crx_compact.proofs.Facts.{length-trimmed}
 use Rattle.crx_engine.specs.Items.{Item, Accepted, Warned, records_left, types_in_force}
 use Rattle.crx_engine.specs.UnitPlaces.{types_fault, header_line_fault}
 use Rattle.crx_engine.specs.Reading.{Reading, WholeReading, Stop, AtFault, AtLines, Looking, reading_within, fault_at_end, ended_with, ended}
@@ -35,11 +35,11 @@ use Rattle.crx_engine.specs.NormalForm.{IsReadAsNormal, IsStandardAsNormal, IsNo
 use Rattle.crx_engine.proofs.Resuming.{by_place, within-here, within-wrong, within-wanted, fault-ends}
 use Rattle.crx_engine.proofs.Forward.{rinex-forward}
 use Rattle.crx_engine.proofs.Following.{body-place}
-use Rattle.crx_engine.proofs.Stopping.{first-true, second-true}
 use Rattle.crx_engine.proofs.Carried.{carried_unit, carried, header-same, start-same, left-same, count-same, types-same, header-here, record-here, StandsAgain, whole-again}
 use Rattle.crx_engine.proofs.WayBack.{IsSettled, whole-settled}
 use Rattle.crx_engine.proofs.WayBackCut.{IsClean, CanStand, lines-cut}
 use Rattle.crx_engine.proofs.WayBackConverse.{IsPlainLine, plain, lines-plain, printed-plain, all-plain, contents-plain}
+use Rattle.crx_text.proofs.EndBlanks.{few_kept}
 
 -- ---- what stands at a unit's printed lines
 
@@ -55,8 +55,8 @@ beginning items = epoch_place (types_in_force items)
 event-stands : (types : List Count) (line : List ℕ) (o : Option ℕ) → records_in line ≡ o → is_some o ≡ true → is_event_line line ≡ true → epoch_place types (Content line ∷ []) ≡ Here (EventLine line) 1
 event-stands types line None e h event = absurd (cc)
 event-stands types line (Some n) e h event =
-    let begins : begins_epoch line ≡ true = first-true (begins_epoch line) (is_event_flag (character_at line 32)) event in
-    let flag : is_event_flag (character_at line 32) ≡ true = second-true (begins_epoch line) (is_event_flag (character_at line 32)) event in
+    let begins : begins_epoch line ≡ true = (and_parts (begins_epoch line) (is_event_flag (character_at line 32)) event).0 in
+    let flag : is_event_flag (character_at line 32) ≡ true = (and_parts (begins_epoch line) (is_event_flag (character_at line 32)) event).1 in
     let head : head_of line ≡ event_head (character_at line 32) (records_in line) = rw (begins, flag) refl in
     ap (λ r. then_place (one_line (begun_by line r)) (Content line ∷ []) (unit_begun types)) (head ∙ ap (event_head (character_at line 32)) e)
 
@@ -127,14 +127,14 @@ rows-short [] h = tt
 rows-short (row ∷ rows) h =
     let sound : IsSoundRow row = All-head IsSoundRow row rows h in
     let all : length (row.name ++ printed_cells row.values row.flags) ≡ 16 * length row.values + 3 = length-row row sound in
-    let fewer : length (printed_row row) ≤ length (row.name ++ printed_cells row.values row.flags) = length-trimmed (row.name ++ printed_cells row.values row.flags) in
+    let fewer : length (printed_row row) ≤ length (row.name ++ printed_cells row.values row.flags) = few_kept (row.name ++ printed_cells row.values row.flags) in
     let few : length row.values ≤ TYPES_LIMIT = sound.counted.1 in
     (omega (arith, all, fewer, few), rows-short rows (All-tail IsSoundRow row rows h))
 
 epoch-short : (types : List Count) (epoch : Epoch) → IsWholeEpoch types epoch → AllByRecursion IsShort (printed_epoch epoch)
 epoch-short types epoch h =
     let all : length (epoch.head ++ clock_text epoch.clock) ≡ 56 = length-head (record { head = epoch.head; count = satellites_of epoch.head; clock = epoch.clock }) h.sound.head_sound in
-    let fewer : length (without_end_blanks (epoch.head ++ clock_text epoch.clock)) ≤ length (epoch.head ++ clock_text epoch.clock) = length-trimmed (epoch.head ++ clock_text epoch.clock) in
+    let fewer : length (without_end_blanks (epoch.head ++ clock_text epoch.clock)) ≤ length (epoch.head ++ clock_text epoch.clock) = few_kept (epoch.head ++ clock_text epoch.clock) in
     (omega (arith, all, fewer), rows-short epoch.rows h.sound.rows_sound)
 
 printed-short : (items : List (Item Epoch)) → AreInPlace items → OfCopiedLines CanStand items → AllByRecursion IsShort (printed_items items)

@@ -3,14 +3,13 @@
 use Rattle.std.proofs.Common.{ℕ, zero, suc, ◌≡◌, ◌+◌, ◌<◌, ◌≤◌, true, false, cond, List, [], ◌∷◌, ◌++◌, map, take, drop, refl, ap, sym, ◌∙◌, arith, subst, append_assoc}
 use Rattle.std.specs.Prelude.{◌==◌}
 use Rattle.std.specs.List.{AllByRecursion, list_all}
-use Rattle.std.proofs.lemmas.Bool.{ne_eqb}
+use Rattle.std.proofs.lemmas.Bool.{ne_eqb, and_parts}
 use Rattle.crx_lines.specs.Lines.{Piece, InputLine, HasNoFeed, pieces_of, onto_first, ends_with_return, without_return, line_of, lines_of, is_long}
 use Rattle.crx_lines.specs.Seen.{ReadLine, Content, Overlong, seen}
 use Rattle.crx_text.specs.Texts.{is_printable}
 use Rattle.crx_lines.proofs.PieceLemmas.{pieces-first}
 use Rattle.crx_engine.specs.Results.{lines_text}
 use Rattle.crx_engine.proofs.Resuming.{by_bool}
-use Rattle.crx_engine.proofs.Stopping.{first-true, second-true}
 use Rattle.crx_engine.proofs.WayBackFirst.{printable-other}
 
 -- ---- of a text
@@ -37,8 +36,8 @@ returns-fewer (b ∷ c ∷ bs) e = let rest : returns (without_return (c ∷ bs)
 pub printable-none : (text : List ℕ) → list_all is_printable text ≡ true → returns text ≡ 0
 printable-none [] h = refl
 printable-none (c ∷ cs) h =
-    let other : (c == 13) ≡ false = ne_eqb c 13 (printable-other c 13 refl (first-true (is_printable c) (list_all is_printable cs) h)) in
-    let rest : returns cs ≡ 0 = printable-none cs (second-true (is_printable c) (list_all is_printable cs) h) in
+    let other : (c == 13) ≡ false = ne_eqb c 13 (printable-other c 13 refl (and_parts (is_printable c) (list_all is_printable cs) h).0) in
+    let rest : returns cs ≡ 0 = printable-none cs (and_parts (is_printable c) (list_all is_printable cs) h).1 in
     rw (other, rest) refl
 
 -- ---- of lines that are written

@@ -115,9 +115,6 @@ compact-lines items lines = unit-lines ReadEpoch (λ (before : List (Item ReadEp
 
 -- ---- nor have all units
 
-Within : {E : Type 0} → ℕ → List ReadLine → Reading E → Type 0
-Within n lines r = returns_copied r.items ≤ n + returns_read lines
-
 within-drop : {E : Type 0} (n k : ℕ) (lines : List ReadLine) (r : Reading E) → returns_copied r.items ≤ n + returns_read (drop k lines) → returns_copied r.items ≤ n + returns_read lines
 within-drop n k lines r h = let cut : returns_read lines ≡ returns_read (take k lines) + returns_read (drop k lines) = read-cut k lines in omega (arith, h, cut)
 

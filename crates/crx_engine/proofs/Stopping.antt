@@ -1,7 +1,8 @@
 -- Where a reading stops: more lines are wanted there, or a line is looked for after the last.
-use Rattle.std.proofs.Common.{ℕ, zero, suc, ◌≡◌, ◌+◌, ◌-◌, max, ◌<◌, Bool, true, false, List, [], ◌∷◌, length, drop, refl, sym, subst, arith}
+use Rattle.std.proofs.Common.{ℕ, zero, suc, ◌≡◌, ◌+◌, ◌-◌, max, ◌<◌, Bool, true, List, [], ◌∷◌, length, drop, refl, sym, subst, arith}
 use Rattle.std.specs.Prelude.{◌&&◌, ◌==◌}
 use Rattle.std.proofs.lemmas.List.{length-drop}
+use Rattle.std.proofs.lemmas.Bool.{and_parts}
 use Rattle.crx_lines.specs.Seen.{ReadLine}
 use Rattle.crx_lines.specs.declared.fault.Fault.{Fault}
 use Rattle.crx_lines.specs.declared.fault.At.{At}
@@ -13,18 +14,10 @@ use Rattle.crx_engine.specs.Laws.{IsReadForward}
 use Rattle.crx_engine.proofs.Resuming.{by_bool, by_place, here-within, wrong-within, within-here, within-wrong, within-wanted, fault-skipped, fault-ends, looked-here, looked-on}
 use Rattle.crx_engine.proofs.FollowingLines.{IsStopped}
 
-pub second-true : (a b : Bool) → (a && b) ≡ true → b ≡ true
-second-true true b e = e
-second-true false b e = absurd (cc)
-
-pub first-true : (a b : Bool) → (a && b) ≡ true → a ≡ true
-first-true true b e = refl
-first-true false b e = absurd (cc)
-
 -- a fault is skipped only after the header
 skipped-after_header : {E : Type 0} (skip : Bool) (items : List (Item E)) (fault : Fault) → is_skipped skip items fault ≡ true → header_has_ended items ≡ true
 skipped-after_header skip items fault e =
-    first-true (header_has_ended items) ((records_left items == 0) && is_skippable fault) (second-true skip (header_has_ended items && ((records_left items == 0) && is_skippable fault)) e)
+    (and_parts (header_has_ended items) ((records_left items == 0) && is_skippable fault) (and_parts skip (header_has_ended items && ((records_left items == 0) && is_skippable fault)) e).1).0
 
 looked-stopped : {E : Type 0} (place : List (Item E) → List ReadLine → Place (FileUnit E)) (items : List (Item E)) (read : ℕ → List ReadLine → Reading E) (bound number next : ℕ) (lines : List ReadLine)
     → header_has_ended items ≡ true → records_left items ≡ 0

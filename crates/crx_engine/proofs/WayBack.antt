@@ -12,11 +12,10 @@ use Rattle.crx_lines.specs.declared.limits.TheConstants.{TYPES_LIMIT, LINE_LIMIT
 use Rattle.crx_rinex.specs.Observations.{Epoch}
 use Rattle.crx_rinex.specs.Printing.{printed_epoch}
 use Rattle.crx_rinex.specs.Units.{Unit as FileUnit, HeaderLine, EventLine, EventRecord, Observation}
-use Rattle.crx_compact.specs.Compaction.{Marked, since_full, compact_epoch}
+use Rattle.crx_compact.specs.Compaction.{Marked, compact_epoch}
 use Rattle.crx_compact.specs.CompactPlaces.{ReadEpoch}
 use Rattle.crx_compact.specs.Laws.{LinesCanStand}
 use Rattle.crx_compact.proofs.Lengths.{lines-short}
-use Rattle.crx_compact.proofs.Writable.{all-whole}
 use Rattle.crx_engine.specs.Choices.{Choices}
 use Rattle.crx_engine.specs.Items.{Item, Accepted, Warned, is_at_start, header_has_ended, records_left, types_in_force}
 use Rattle.crx_engine.specs.Reading.{Reading, WholeReading, Stop, AtFault, AtLines, Looking, is_skipped, reading_from, fault_at_end, ended_with, ended}
@@ -48,10 +47,6 @@ pub record IsSettled (items : List (Item Epoch)) : Type 0 where
   pub copied : OfCopiedLines CanStand items
   pub header : header_has_ended items ≡ true
   pub none : records_left items ≡ 0
-
-by_option : {A X : Type 0} (o : Option A) → (o ≡ None → X) → ((a : A) → o ≡ Some a → X) → X
-by_option None none some = none refl
-by_option (Some a) none some = some a refl
 
 lt-none : (n : ℕ) → nat_lt 0 n ≡ false → n ≡ 0
 lt-none n e = let h = ltb-false 0 n e in omega (arith, h)
@@ -136,7 +131,7 @@ unit-clean every before (Observation epoch) h k e =
     let older : List Marked = marked_epochs every before in
     let stands : LinesCanStand m older = epoch-stands every before epoch h in
     epoch-clean (compact_epoch (m ∷ older)) stands.printable
-    (lines-short (types_in_force before) m.in_full m.epoch older (all-whole (types_in_force before) (since_full (m ∷ older)) (whole-next every before epoch h)))
+    (lines-short (types_in_force before) m.in_full m.epoch older (whole-next every before epoch h))
 
 pub lines-clean : (every : Option ℕ) (items : List (Item Epoch)) → AreInPlace items → OfCopiedLines CanStand items → HaveNoReturns items → AllByRecursion IsClean (lines_back every items)
 lines-clean every [] h k e = tt

@@ -4,16 +4,16 @@ use Rattle.std.specs.Prelude.{◌==◌, not}
 use Rattle.std.specs.List.{AllByRecursion, list_all}
 use Rattle.std.specs.Str.{all_ascii_digits}
 use Rattle.std.specs.Char.{is_ascii_digit}
-use Rattle.std.specs.Prelude.{All, IfSome}
+use Rattle.std.specs.Prelude.{All}
 use Rattle.std.proofs.Math.Nat.{pow-le-pow_right}
 use Rattle.std.proofs.lemmas.List.Elements.{All-head, All-tail}
-use Rattle.crx_text.specs.Numbers.{IsWithin}
+use Rattle.std.proofs.lemmas.Bool.{and_parts, and_from}
+use Rattle.crx_text.specs.Numbers.{IsMissingOrWithin}
 use Rattle.crx_text.proofs.Spellings.{abs_within}
 use Rattle.crx_rinex.specs.SatelliteLines.{IsSoundRow, IsValue}
 use Rattle.crx_rinex.specs.Epochs.{IsWholeEpoch}
 use Rattle.crx_rinex.specs.ObservationTypes.{Count}
-use Rattle.crx_compact.proofs.Written.{IsRow, IsEpoch}
-use Rattle.crx_compact.proofs.Writable.{all-whole}
+use Rattle.crx_compact.proofs.Writable.{sound-name_kept}
 use Rattle.crx_compact.proofs.Facts.{head-kept}
 use Rattle.crx_lines.specs.declared.limits.TheConstants.{OBSERVATION_WIDTH, OBSERVATION_DECIMALS, CLOCK_WIDTH, CLOCK_DECIMALS}
 use Rattle.crx_lines.specs.Lines.{InputLine, HasNoFeed, pieces_of, ends_with_return, line_of, lines_of}
@@ -37,9 +37,8 @@ use Rattle.crx_engine.specs.WayBack.{OfCopiedLines, HaveNoReturns}
 use Rattle.crx_engine.proofs.WayBack.{IsSettled, whole-settled}
 use Rattle.crx_engine.proofs.WayBackCut.{CanStand}
 use Rattle.crx_engine.proofs.WayBackStandard.{normal-comes_back}
-use Rattle.crx_engine.proofs.Stopping.{first-true, second-true}
 use Rattle.crx_engine.proofs.WayBackCut.{return-kept}
-use Rattle.crx_engine.proofs.WayBackFirst.{both-true, append-printable, take-printable, printable-no_feed, printable-no_return}
+use Rattle.crx_engine.proofs.WayBackFirst.{append-printable, take-printable, printable-no_feed, printable-no_return}
 
 -- a line that is plain wherever it is written
 pub record IsPlainLine (line : List ℕ) : Type 0 where
@@ -65,32 +64,32 @@ lines-plain (line ∷ lines) h =
 
 replicate-text : (n c : ℕ) → is_printable c ≡ true → list_all is_printable (replicate n c) ≡ true
 replicate-text zero c h = refl
-replicate-text (suc n) c h = both-true (is_printable c) (list_all is_printable (replicate n c)) h (replicate-text n c h)
+replicate-text (suc n) c h = and_from (is_printable c) (list_all is_printable (replicate n c)) h (replicate-text n c h)
 
 kept-text : (text : List ℕ) → list_all is_kept text ≡ true → list_all is_printable text ≡ true
 kept-text [] h = refl
 kept-text (c ∷ cs) h =
-    both-true (is_printable c) (list_all is_printable cs) (first-true (is_printable c) (not (c == 38)) (first-true (is_kept c) (list_all is_kept cs) h)) (kept-text cs (second-true (is_kept c) (list_all is_kept cs) h))
+    and_from (is_printable c) (list_all is_printable cs) (and_parts (is_printable c) (not (c == 38)) (and_parts (is_kept c) (list_all is_kept cs) h).0).0 (kept-text cs (and_parts (is_kept c) (list_all is_kept cs) h).1)
 
 digit-printable : (c : ℕ) → is_ascii_digit c ≡ true → is_printable c ≡ true
 digit-printable c h = grind (arith, h)
 
 digits-text : (text : List ℕ) → all_ascii_digits text ≡ true → list_all is_printable text ≡ true
 digits-text [] h = refl
-digits-text (c ∷ cs) h = both-true (is_printable c) (list_all is_printable cs) (digit-printable c (first-true (is_ascii_digit c) (all_ascii_digits cs) h)) (digits-text cs (second-true (is_ascii_digit c) (all_ascii_digits cs) h))
+digits-text (c ∷ cs) h = and_from (is_printable c) (list_all is_printable cs) (digit-printable c (and_parts (is_ascii_digit c) (all_ascii_digits cs) h).0) (digits-text cs (and_parts (is_ascii_digit c) (all_ascii_digits cs) h).1)
 
 before-text : (c : ℕ) (text : List ℕ) → is_printable c ≡ true → list_all is_printable text ≡ true → list_all is_printable (before_end_blanks c text) ≡ true
-before-text c [] h k = elim (is_blank c) as (λ b. list_all is_printable (cond b [] (c ∷ [])) ≡ true) [ true ↦ refl | false ↦ both-true (is_printable c) true h refl ]
-before-text c (d ∷ ds) h k = both-true (is_printable c) (list_all is_printable (d ∷ ds)) h k
+before-text c [] h k = elim (is_blank c) as (λ b. list_all is_printable (cond b [] (c ∷ [])) ≡ true) [ true ↦ refl | false ↦ and_from (is_printable c) true h refl ]
+before-text c (d ∷ ds) h k = and_from (is_printable c) (list_all is_printable (d ∷ ds)) h k
 
 without_blanks-text : (text : List ℕ) → list_all is_printable text ≡ true → list_all is_printable (without_end_blanks text) ≡ true
 without_blanks-text [] h = refl
-without_blanks-text (c ∷ cs) h = before-text c (without_end_blanks cs) (first-true (is_printable c) (list_all is_printable cs) h) (without_blanks-text cs (second-true (is_printable c) (list_all is_printable cs) h))
+without_blanks-text (c ∷ cs) h = before-text c (without_end_blanks cs) (and_parts (is_printable c) (list_all is_printable cs) h).0 (without_blanks-text cs (and_parts (is_printable c) (list_all is_printable cs) h).1)
 
 drop-text : (n : ℕ) (text : List ℕ) → list_all is_printable text ≡ true → list_all is_printable (drop n text) ≡ true
 drop-text zero text h = h
 drop-text (suc n) [] h = refl
-drop-text (suc n) (c ∷ cs) h = drop-text n cs (second-true (is_printable c) (list_all is_printable cs) h)
+drop-text (suc n) (c ∷ cs) h = drop-text n cs (and_parts (is_printable c) (list_all is_printable cs) h).1
 
 -- a number's digits
 small-size : (width size : ℕ) → width ≤ 19 → size < 10 ^ (width - 1) → size < 2 ^ 64
@@ -106,7 +105,7 @@ size-printable decimals size h =
     append-printable (decimal (size / 10 ^ decimals)) (46 ∷ zero_padded decimals (size % 10 ^ decimals)) whole
     (append-printable (replicate (decimals - length (decimal (size % 10 ^ decimals))) 48) (decimal (size % 10 ^ decimals)) (replicate-text (decimals - length (decimal (size % 10 ^ decimals))) 48 refl) part)
 
-number-printable : (width decimals : ℕ) (value : Option ℤ) → width ≤ 19 → IfSome value (IsWithin width) → list_all is_printable (number_text width decimals value) ≡ true
+number-printable : (width decimals : ℕ) (value : Option ℤ) → width ≤ 19 → IsMissingOrWithin width value → list_all is_printable (number_text width decimals value) ≡ true
 unfolding number_text
 number-printable width decimals None h within = replicate-text width 32 refl
 number-printable width decimals (Some (pos n)) h within =
@@ -124,23 +123,22 @@ cells-printable (value ∷ values) flags h k =
     (append-printable (observation_text value) (take 2 flags) (number-printable OBSERVATION_WIDTH OBSERVATION_DECIMALS value (omega arith) (All-head IsValue value values h)) (take-printable 2 flags k))
     (cells-printable values (drop 2 flags) (All-tail IsValue value values h) (drop-text 2 flags k))
 
-rows-printable : (types : List Count) (rows : List Row) → AllByRecursion (IsRow types) rows → All IsSoundRow rows → AllByRecursion (λ (line : List ℕ). list_all is_printable line ≡ true) (map printed_row rows)
-rows-printable types [] h k = tt
-rows-printable types (row ∷ rows) h k = (
+rows-printable : (rows : List Row) → All IsSoundRow rows → AllByRecursion (λ (line : List ℕ). list_all is_printable line ≡ true) (map printed_row rows)
+rows-printable [] k = tt
+rows-printable (row ∷ rows) k = (
   without_blanks-text (row.name ++ printed_cells row.values row.flags)
-      (append-printable row.name (printed_cells row.values row.flags) (kept-text row.name (IsRow.name_kept h.0))
-      (cells-printable row.values row.flags (IsSoundRow.ranged (All-head IsSoundRow row rows k)) (kept-text row.flags (IsRow.flags_kept h.0)))),
-  rows-printable types rows h.1 (All-tail IsSoundRow row rows k),
+      (append-printable row.name (printed_cells row.values row.flags) (kept-text row.name (sound-name_kept row (All-head IsSoundRow row rows k)))
+      (cells-printable row.values row.flags (IsSoundRow.ranged (All-head IsSoundRow row rows k)) (kept-text row.flags (IsSoundRow.kept (All-head IsSoundRow row rows k))))),
+  rows-printable rows (All-tail IsSoundRow row rows k),
 )
 
 -- the lines of a whole epoch are printable
 pub epoch-printable : (types : List Count) (epoch : Epoch) → IsWholeEpoch types epoch → AllByRecursion (λ (line : List ℕ). list_all is_printable line ≡ true) (printed_epoch epoch)
-epoch-printable types epoch h =
-    let writable : IsEpoch types epoch = (all-whole types (epoch ∷ []) (h, tt)).0 in (
-      without_blanks-text (epoch.head ++ clock_text epoch.clock)
-          (append-printable epoch.head (clock_text epoch.clock) (kept-text epoch.head (head-kept types epoch writable)) (number-printable CLOCK_WIDTH CLOCK_DECIMALS epoch.clock (omega arith) h.sound.head_sound.ranged)),
-      rows-printable types epoch.rows writable.rows_are h.sound.rows_sound,
-    )
+epoch-printable types epoch h = (
+  without_blanks-text (epoch.head ++ clock_text epoch.clock)
+      (append-printable epoch.head (clock_text epoch.clock) (kept-text epoch.head (head-kept types epoch h)) (number-printable CLOCK_WIDTH CLOCK_DECIMALS epoch.clock (omega arith) h.sound.head_sound.ranged)),
+  rows-printable epoch.rows h.sound.rows_sound,
+)
 
 -- ---- the lines of all units
 

@@ -8,12 +8,9 @@ use Rattle.std.proofs.lemmas.Bool.Decides.{eqb_tells}
 use Rattle.crx_lines.specs.Lines.{Piece, InputLine, HasNoFeed, pieces_of, onto_first, ends_with_return, without_return, line_of, lines_of, is_long}
 use Rattle.crx_lines.specs.Seen.{ReadLine, Content, Overlong, seen}
 use Rattle.crx_lines.specs.declared.limits.TheConstants.{LINE_LIMIT}
-use Rattle.crx_lines.proofs.PieceLemmas.{pieces-first}
+use Rattle.crx_lines.proofs.PieceLemmas.{pieces-first, NoFeed}
 use Rattle.crx_engine.specs.Results.{lines_text}
 use Rattle.crx_engine.proofs.Resuming.{by_bool}
-
-abbrev pub NoFeed : ℕ → Type 0
-NoFeed b = b ≢ 10
 
 -- a line that is read as it was written
 pub record IsClean (line : List ℕ) : Type 0 where

@@ -1,12 +1,12 @@
 -- The two lines that compact text begins with are read, and can be cut off again.
-use Rattle.std.proofs.Common.{ℕ, zero, suc, ◌≡◌, ◌≢◌, ◌+◌, Bool, true, false, List, [], ◌∷◌, ◌++◌, take, drop, replicate, length, refl, ap, arith, subst, length-append, codes, Ok}
-use Rattle.std.specs.Prelude.{◌&&◌, nat_le}
+use Rattle.std.proofs.Common.{ℕ, zero, suc, ◌≡◌, ◌≢◌, ◌+◌, true, false, List, [], ◌∷◌, ◌++◌, take, drop, replicate, length, refl, ap, arith, subst, length-append, codes, Ok}
+use Rattle.std.specs.Prelude.{nat_le}
 use Rattle.std.specs.List.{list_all}
 use Rattle.std.specs.Str.{bytes_eq}
 use Rattle.std.proofs.Math.Seq.{drop-append_seam}
 use Rattle.std.proofs.lemmas.List.{length-take-le}
 use Rattle.std.proofs.lemmas.List.Elements.{All-cons, All-nil}
-use Rattle.std.proofs.lemmas.Bool.{ne_eqb}
+use Rattle.std.proofs.lemmas.Bool.{ne_eqb, and_parts, and_from}
 use Rattle.crx_lines.specs.Lines.{HasNoFeed, ends_with_return}
 use Rattle.crx_text.specs.Columns.{without_end_blanks}
 use Rattle.crx_lines.specs.Seen.{ReadLine, Content}
@@ -17,8 +17,8 @@ use Rattle.crx_rinex.specs.Label.{label_of}
 use Rattle.crx_engine.specs.Choices.{is_date}
 use Rattle.crx_engine.specs.Compacted.{left_justified, version_line, program_line}
 use Rattle.crx_engine.specs.Expanded.{crinex_program, first_lines}
-use Rattle.crx_engine.proofs.Stopping.{second-true, first-true}
-use Rattle.crx_engine.proofs.WayBackCut.{IsClean, NoFeed}
+use Rattle.crx_engine.proofs.WayBackCut.{IsClean}
+use Rattle.crx_lines.proofs.PieceLemmas.{NoFeed}
 
 -- ---- the date's columns
 
@@ -50,29 +50,25 @@ printable-other c d isn_t is_so is = let same : is_printable c ≡ is_printable 
 pub printable-no_feed : (line : List ℕ) → list_all is_printable line ≡ true → HasNoFeed line
 printable-no_feed [] h = All-nil NoFeed
 printable-no_feed (c ∷ cs) h =
-    All-cons NoFeed c cs (printable-other c 10 refl (first-true (is_printable c) (list_all is_printable cs) h)) (printable-no_feed cs (second-true (is_printable c) (list_all is_printable cs) h))
+    All-cons NoFeed c cs (printable-other c 10 refl (and_parts (is_printable c) (list_all is_printable cs) h).0) (printable-no_feed cs (and_parts (is_printable c) (list_all is_printable cs) h).1)
 
 pub printable-no_return : (line : List ℕ) → list_all is_printable line ≡ true → ends_with_return line ≡ false
 printable-no_return [] h = refl
-printable-no_return (c ∷ []) h = ne_eqb c 13 (printable-other c 13 refl (first-true (is_printable c) true h))
-printable-no_return (c ∷ d ∷ ds) h = printable-no_return (d ∷ ds) (second-true (is_printable c) (list_all is_printable (d ∷ ds)) h)
-
-pub both-true : (a b : Bool) → a ≡ true → b ≡ true → (a && b) ≡ true
-both-true true b h k = k
-both-true false b h k = absurd (cc)
+printable-no_return (c ∷ []) h = ne_eqb c 13 (printable-other c 13 refl (and_parts (is_printable c) true h).0)
+printable-no_return (c ∷ d ∷ ds) h = printable-no_return (d ∷ ds) (and_parts (is_printable c) (list_all is_printable (d ∷ ds)) h).1
 
 pub append-printable : (a b : List ℕ) → list_all is_printable a ≡ true → list_all is_printable b ≡ true → list_all is_printable (a ++ b) ≡ true
 append-printable [] b h k = k
-append-printable (c ∷ cs) b h k = both-true (is_printable c) (list_all is_printable (cs ++ b)) (first-true (is_printable c) (list_all is_printable cs) h) (append-printable cs b (second-true (is_printable c) (list_all is_printable cs) h) k)
+append-printable (c ∷ cs) b h k = and_from (is_printable c) (list_all is_printable (cs ++ b)) (and_parts (is_printable c) (list_all is_printable cs) h).0 (append-printable cs b (and_parts (is_printable c) (list_all is_printable cs) h).1 k)
 
 pub take-printable : (n : ℕ) (a : List ℕ) → list_all is_printable a ≡ true → list_all is_printable (take n a) ≡ true
 take-printable zero a h = refl
 take-printable (suc n) [] h = refl
-take-printable (suc n) (c ∷ cs) h = both-true (is_printable c) (list_all is_printable (take n cs)) (first-true (is_printable c) (list_all is_printable cs) h) (take-printable n cs (second-true (is_printable c) (list_all is_printable cs) h))
+take-printable (suc n) (c ∷ cs) h = and_from (is_printable c) (list_all is_printable (take n cs)) (and_parts (is_printable c) (list_all is_printable cs) h).0 (take-printable n cs (and_parts (is_printable c) (list_all is_printable cs) h).1)
 
 pub program-printable : (date : List ℕ) → is_date date ≡ true → list_all is_printable (program_line date) ≡ true
 program-printable date h =
-    let good : list_all is_printable date ≡ true = second-true (nat_le (length date) DATE_LIMIT) (list_all is_printable date) h in
+    let good : list_all is_printable date ≡ true = (and_parts (nat_le (length date) DATE_LIMIT) (list_all is_printable date) h).1 in
     let columns : list_all is_printable (left_justified 20 date) ≡ true = take-printable 20 (date ++ replicate 20 32) (append-printable date (replicate 20 32) good refl) in
     let after : list_all is_printable (left_justified 20 date ++ codes "CRINEX PROG / DATE") ≡ true = append-printable (left_justified 20 date) (codes "CRINEX PROG / DATE") columns refl in
     append-printable (left_justified 40 (codes "RNX2CRX profile 1.0")) (left_justified 20 date ++ codes "CRINEX PROG / DATE") refl after

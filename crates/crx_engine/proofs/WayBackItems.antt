@@ -17,7 +17,6 @@ use Rattle.crx_compact.specs.Laws.{AreWhole, LinesCanStand}
 use Rattle.crx_compact.specs.ReadingLaws.{raws_of, read_of, lines_of_epoch, EpochReadsBack}
 use Rattle.crx_compact.proofs.Reading.{each-reads_back}
 use Rattle.crx_compact.proofs.Standing.{lines-stand}
-use Rattle.crx_compact.proofs.Writable.{all-whole}
 use Rattle.crx_engine.specs.Items.{Item, Accepted, Warned, records_left, types_in_force}
 use Rattle.crx_engine.specs.UnitPlaces.{types_fault, header_line_fault}
 use Rattle.crx_engine.specs.Compacted.{is_interrupted, is_at_every, is_in_full, marked_epochs, epochs_accepted}
@@ -98,7 +97,7 @@ pub epoch-stands : (every : Option ℕ) (before : List (Item Epoch)) (epoch : Ep
 epoch-stands every before epoch h =
     let m : Marked = marked_now every before epoch in
     let older : List Marked = marked_epochs every before in
-    lines-stand (types_in_force before) m.in_full m.epoch older (all-whole (types_in_force before) (since_full (m ∷ older)) (whole-next every before epoch h))
+    lines-stand (types_in_force before) m.in_full m.epoch older (whole-next every before epoch h)
 
 -- ---- what stands at a unit's lines
 

@@ -3,6 +3,7 @@ use Rattle.std.proofs.Common.{ℕ, zero, suc, ◌≡◌, ◌≢◌, ◌+◌, Boo
 use Rattle.std.specs.Prelude.{◌==◌, not}
 use Rattle.std.specs.List.{AllByRecursion, list_all}
 use Rattle.std.proofs.lemmas.Bool.Decides.{eqb_tells}
+use Rattle.std.proofs.lemmas.Bool.{and_parts}
 use Rattle.crx_lines.specs.Lines.{Piece, InputLine, pieces_of, onto_first, ends_with_return, without_return, line_of, lines_of, is_long}
 use Rattle.crx_lines.proofs.PieceLemmas.{EachEnded}
 use Rattle.crx_lines.specs.Seen.{ReadLine, Content, Overlong, seen}
@@ -19,7 +20,6 @@ use Rattle.crx_engine.specs.Compacted.{rinex_place, rinex_reading, whole_rinex}
 use Rattle.crx_engine.specs.Standard.{printed_items, whole_of}
 use Rattle.crx_engine.specs.WayBack.{OfCopiedLines, HaveNoReturns, written_well, NormalFormComesBack, StandardComesBack}
 use Rattle.crx_engine.proofs.Resuming.{by_place, within-here, within-wrong, within-wanted, fault-ends}
-use Rattle.crx_engine.proofs.Stopping.{first-true, second-true}
 use Rattle.crx_engine.proofs.WayBackCut.{OfContent, return-kept}
 use Rattle.crx_engine.proofs.WayBackReading.{items-copied}
 use Rattle.crx_engine.proofs.WayBack.{comes-back}
@@ -77,7 +77,7 @@ not-true false e = refl
 
 -- the bytes of a plain line, which no CR ends
 plain-piece : (p : Piece) → InputLine.is_plain (line_of p) ≡ true → (p.is_ended ≡ true) × NoReturn p.bytes
-plain-piece p e = (first-true p.is_ended (not (ends_with_return p.bytes)) e, not-true (ends_with_return p.bytes) (second-true p.is_ended (not (ends_with_return p.bytes)) e))
+plain-piece p e = ((and_parts p.is_ended (not (ends_with_return p.bytes)) e).0, not-true (ends_with_return p.bytes) (and_parts p.is_ended (not (ends_with_return p.bytes)) e).1)
 
 seen-no_return : (l : InputLine) → NoReturn l.content → OfContent NoReturn (seen l)
 seen-no_return l h = elim (is_long l) as (λ b. OfContent NoReturn (cond b Overlong (Content l.content))) [ true ↦ tt | false ↦ h ]
@@ -85,9 +85,9 @@ seen-no_return l h = elim (is_long l) as (λ b. OfContent NoReturn (cond b Overl
 pub plain-no_return : (ps : List Piece) → list_all (λ (line : InputLine). line.is_plain) (map line_of ps) ≡ true → AllByRecursion (OfContent NoReturn) (map seen (map line_of ps))
 plain-no_return [] e = tt
 plain-no_return (p ∷ ps) e =
-    let plain = plain-piece p (first-true (InputLine.is_plain (line_of p)) (list_all (λ (line : InputLine). line.is_plain) (map line_of ps)) e) in
+    let plain = plain-piece p (and_parts (InputLine.is_plain (line_of p)) (list_all (λ (line : InputLine). line.is_plain) (map line_of ps)) e).0 in
     let kept : without_return p.bytes ≡ p.bytes = return-kept p.bytes plain.1 in
-    (seen-no_return (line_of p) (subst NoReturn (sym kept) plain.1), plain-no_return ps (second-true (InputLine.is_plain (line_of p)) (list_all (λ (line : InputLine). line.is_plain) (map line_of ps)) e))
+    (seen-no_return (line_of p) (subst NoReturn (sym kept) plain.1), plain-no_return ps (and_parts (InputLine.is_plain (line_of p)) (list_all (λ (line : InputLine). line.is_plain) (map line_of ps)) e).1)
 
 -- ---- the text of an input's plain lines is the input
 
@@ -113,15 +113,15 @@ pieces-text (b ∷ bs) e = byte-text b bs (pieces_of bs) (pieces-text bs) (eqb_t
 plain-ended : (ps : List Piece) → list_all (λ (line : InputLine). line.is_plain) (map line_of ps) ≡ true → EachEnded ps
 plain-ended [] e = tt
 plain-ended (p ∷ ps) e =
-    let plain = plain-piece p (first-true (InputLine.is_plain (line_of p)) (list_all (λ (line : InputLine). line.is_plain) (map line_of ps)) e) in
-    (plain.0, plain-ended ps (second-true (InputLine.is_plain (line_of p)) (list_all (λ (line : InputLine). line.is_plain) (map line_of ps)) e))
+    let plain = plain-piece p (and_parts (InputLine.is_plain (line_of p)) (list_all (λ (line : InputLine). line.is_plain) (map line_of ps)) e).0 in
+    (plain.0, plain-ended ps (and_parts (InputLine.is_plain (line_of p)) (list_all (λ (line : InputLine). line.is_plain) (map line_of ps)) e).1)
 
 plain-contents : (ps : List Piece) → list_all (λ (line : InputLine). line.is_plain) (map line_of ps) ≡ true → map (λ (line : InputLine). line.content) (map line_of ps) ≡ map (λ (p : Piece). p.bytes) ps
 plain-contents [] e = refl
 plain-contents (p ∷ ps) e =
-    let plain = plain-piece p (first-true (InputLine.is_plain (line_of p)) (list_all (λ (line : InputLine). line.is_plain) (map line_of ps)) e) in
+    let plain = plain-piece p (and_parts (InputLine.is_plain (line_of p)) (list_all (λ (line : InputLine). line.is_plain) (map line_of ps)) e).0 in
     ap (λ l. l ∷ map (λ (line : InputLine). line.content) (map line_of ps)) (return-kept p.bytes plain.1)
-    ∙ ap (λ ls. p.bytes ∷ ls) (plain-contents ps (second-true (InputLine.is_plain (line_of p)) (list_all (λ (line : InputLine). line.is_plain) (map line_of ps)) e))
+    ∙ ap (λ ls. p.bytes ∷ ls) (plain-contents ps (and_parts (InputLine.is_plain (line_of p)) (list_all (λ (line : InputLine). line.is_plain) (map line_of ps)) e).1)
 
 pub plain-text : (input : List ℕ) → list_all (λ (line : InputLine). line.is_plain) (lines_of input) ≡ true → lines_text (map (λ (line : InputLine). line.content) (lines_of input)) ≡ input
 plain-text input e = ap lines_text (plain-contents (pieces_of input) e) ∙ pieces-text input (plain-ended (pieces_of input) e)

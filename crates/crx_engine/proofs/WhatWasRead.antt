@@ -1,5 +1,6 @@
 -- What was accepted stood where it was read.
 use Rattle.std.proofs.Common.{ℕ, zero, suc, ◌≡◌, ◌+◌, max, Bool, true, List, [], ◌∷◌, length, drop, sym, subst, rules}
+use Rattle.std.proofs.lemmas.Bool.{and_parts}
 use Rattle.std.specs.Prelude.{◌&&◌, ◌==◌}
 use Rattle.crx_lines.specs.Seen.{ReadLine}
 use Rattle.crx_lines.specs.declared.fault.Fault.{Fault}
@@ -11,16 +12,15 @@ use Rattle.crx_engine.specs.Reading.{Reading, AtFault, AtLines, is_skippable, is
 use Rattle.crx_engine.specs.Expanded.{compact_place, first_lines, compact_reading}
 use Rattle.crx_engine.specs.Laws.{AreRead}
 use Rattle.crx_engine.proofs.Resuming.{by_bool, by_place, within-here, within-wrong, within-wanted, fault-skipped, fault-ends, looked-here, looked-on}
-use Rattle.crx_engine.proofs.Stopping.{first-true, second-true}
 
 equal-zero : (n : ℕ) → (n == 0) ≡ true → n ≡ 0
 equal-zero n e = search rules
 
 pub allowed : {E : Type 0} (skip : Bool) (items : List (Item E)) (fault : Fault) → is_skipped skip items fault ≡ true → (header_has_ended items ≡ true) × (records_left items ≡ 0) × (is_skippable fault ≡ true)
 allowed skip items fault e =
-    let rest = second-true skip (header_has_ended items && ((records_left items == 0) && is_skippable fault)) e in
-    let both = second-true (header_has_ended items) ((records_left items == 0) && is_skippable fault) rest in
-    (first-true (header_has_ended items) ((records_left items == 0) && is_skippable fault) rest, equal-zero (records_left items) (first-true (records_left items == 0) (is_skippable fault) both), second-true (records_left items == 0) (is_skippable fault) both)
+    let rest = (and_parts skip (header_has_ended items && ((records_left items == 0) && is_skippable fault)) e).1 in
+    let both = (and_parts (header_has_ended items) ((records_left items == 0) && is_skippable fault) rest).1 in
+    ((and_parts (header_has_ended items) ((records_left items == 0) && is_skippable fault) rest).0, equal-zero (records_left items) (and_parts (records_left items == 0) (is_skippable fault) both).0, (and_parts (records_left items == 0) (is_skippable fault) both).1)
 
 looked-read : {E : Type 0} (place : List (Item E) → List ReadLine → Place (FileUnit E)) (items : List (Item E)) (read : ℕ → List ReadLine → Reading E) (number : ℕ) (lines : List ReadLine)
     → AreRead place items → ((n : ℕ) (ls : List ReadLine) → AreRead place (read n ls).items) → AreRead place (looked_for read items number lines).items

@@ -7,6 +7,7 @@ use Rattle.crx_text.specs.Columns.{columns, without_blanks}
 use Rattle.crx_lines.specs.Lines.{InputLine, lines_of}
 use Rattle.crx_lines.specs.Seen.{seen}
 use Rattle.crx_lines.specs.declared.fault.At.{At}
+use Rattle.crx_lines.specs.declared.limits.TheConstants.{VERSION_WIDTH}
 use Rattle.crx_rinex.specs.Observations.{Epoch, observations_in}
 use Rattle.crx_rinex.specs.Units.{HeaderLine, EventLine, EventRecord, Observation, printed_unit}
 use Rattle.crx_rinex.specs.ObservationTypes.{Count}
@@ -49,7 +50,7 @@ first_header_line (line ∷ lines) = line
 
 -- the version in columns 1 to 9 of that line, without the blanks at both ends
 abbrev pub version_in : List ℕ → List ℕ
-version_in line = without_blanks (columns line 1 9)
+version_in line = without_blanks (columns line 1 VERSION_WIDTH)
 
 -- a system's letter and its count of types
 abbrev pub count_text : Count → List ℕ

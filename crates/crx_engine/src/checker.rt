@@ -17,11 +17,12 @@ ghost use Rattle.crx_engine.specs.declared.rinex_reader.RinexReader.{RinexReader
 ghost use Rattle.crx_rinex.specs.Printing.{last_line};
 
 use crate::engine::{Engine, Step};
-use crate::report::{Totals, VERSION_WIDTH, print_report_line};
+use crate::report::{Totals, print_report_line};
 use crate::rinex_reader::{RinexReader, RinexStep};
 use crate::settled::after_end;
 use crate::stage::Stage;
 use crate::totals::{counted, is_given_back};
+use crx_lines::limits::VERSION_WIDTH;
 use crx_text::{At, Fault, Line, Text};
 use std::alloc::Global;
 

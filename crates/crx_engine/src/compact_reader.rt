@@ -7,6 +7,7 @@ ghost use Rattle.crx_compact.specs.OpenEpochs.{is_idle, tail_held};
 ghost use Rattle.crx_compact.specs.OpenEpochs.ColumnsState.{Idle};
 ghost use Rattle.crx_engine.specs.Choices.{Choices};
 ghost use Rattle.crx_engine.specs.CompactStages.{is_consistent, open_in, wants_lines};
+ghost use Rattle.crx_engine.specs.declared.compact_reader.CompactStep.TheVariants.{Nothing};
 ghost use Rattle.crx_engine.specs.EngineSteps.{is_ended, is_settled, seen_stage};
 ghost use Rattle.crx_engine.specs.Expanded.{empties_state};
 ghost use Rattle.crx_engine.specs.Expander.{expansion, compact_begins};
@@ -15,12 +16,12 @@ ghost use Rattle.crx_engine.specs.UnitPlaces.{event_record, header_line};
 ghost use Rattle.crx_engine.specs.declared.stage.Stage.{Stage};
 ghost use Rattle.crx_engine.specs.declared.stage.Stage.TheVariants.{FirstLines, Header, Event, Looking, Open};
 
-use crate::event_lines::{is_event_line, records_announced};
+use crate::event_lines::records_announced;
 use crate::first_lines::{check_program, check_version};
-use crate::stage::{Stage, after_header_line, begins_epoch, counts_types, with_records_left};
+use crate::stage::{Stage, after_header_line, counts_types, with_records_left};
 use crate::types_lines::{accept_header_line, accept_record};
 use crx_compact::Columns;
-use crx_rinex::{Epoch, Types, is_types};
+use crx_rinex::{Epoch, Types, begins_epoch, is_event_line, is_types};
 use crx_text::Fault;
 use std::alloc::Global;
 
@@ -114,6 +115,7 @@ impl CompactReader {
     /// Takes a line where an epoch or an event may begin.
     ///
     /// `BadEpoch` comes where an event's count is none; then the refusals of [`Columns::begin`].
+    #[inline(never)]
     fn begin(&mut self, line: &[u8]) -> Result<CompactStep, Fault>
         requires idle { is_idle self.old.columns ≡ true }
         requires short { length line.now ≤ LINE_LIMIT }
@@ -152,6 +154,31 @@ impl CompactReader {
                 self.stage = Stage::Between;
                 Ok(CompactStep::Whole(epoch))
             }
+            Err(fault) => {
+                self.stage = Stage::Between;
+                Err(fault)
+            }
+        }
+    }
+
+    /// Takes the next line of the input as [`CompactReader::read`] does, with its refusals, where it is a satellite line that isn't the
+    /// last one of its epoch; else `false` comes, and nothing changes.
+    pub(crate) fn read_early(&mut self, line: &[u8]) -> Result<bool, Fault>
+        requires short { length line.now ≤ LINE_LIMIT }
+        ensures takes { (choices : Choices) (number : ℕ) → IfOk result (λ is_taken. is_taken ≡ true → Takes (made_next self.old line.now) line.now (seen_with choices number self.old) (seen_with choices number self.new) Nothing) }
+        ensures open { IfOk result (λ is_taken. is_taken ≡ true → self.old.stage ≡ Open) }
+        ensures same { IfOk result (λ is_taken. is_taken ≡ false → self.new ≡ self.old) }
+        ensures refuses { IfErr result (Refuses (tail_held self.old.columns) (made_next self.old line.now) (phase_of self.old) line.now) }
+        ensures types { OnErr result (self.new.types ≡ self.old.types) }
+    {
+        let Stage::Open = self.stage else {
+            return Ok(false);
+        };
+        if begins_epoch(line) {
+            return Ok(false);
+        }
+        match self.columns.feed_early(line) {
+            Ok(is_taken) => Ok(is_taken),
             Err(fault) => {
                 self.stage = Stage::Between;
                 Err(fault)

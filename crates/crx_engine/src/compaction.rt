@@ -10,8 +10,9 @@ use crate::options::Options;
 use crate::ready_lines::ReadyLines;
 use crate::rinex_reader::{RinexReader, RinexStep};
 use crate::settled::{Settled, after_end, after_fault};
-use crate::stage::{Stage, begins_epoch};
+use crate::stage::Stage;
 use crx_compact::Columns;
+use crx_rinex::begins_epoch;
 use crx_text::{At, Fault};
 use std::alloc::{AllocError, Global};
 
@@ -67,14 +68,6 @@ impl Compaction {
             reader: RinexReader::new(alloc),
             columns: Columns::new(alloc),
         }
-    }
-
-    /// The number of the last line that counts.
-    #[cfg(test)]
-    pub(crate) fn number(&self) -> u64
-        ensures { result ≡ (seen_by self.now).number }
-    {
-        self.number
     }
 
     /// The run has settled.

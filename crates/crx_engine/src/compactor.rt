@@ -7,9 +7,6 @@ use crate::ready_lines::ReadyLines;
 use crx_text::{At, Line};
 use std::alloc::{AllocError, Global};
 
-#[cfg(test)]
-mod tests;
-
 /// Makes Compact RINEX 3.0 of the lines of a RINEX file, which it takes one at a time; it lends the lines to be written.
 #[derive(Drop)]
 pub struct Compactor {
@@ -46,14 +43,6 @@ impl Compactor {
             compaction: Compaction::new(alloc, options),
             ready,
         })
-    }
-
-    /// The number of the last line that counts.
-    #[cfg(test)]
-    fn number(&self) -> u64
-        ensures { result ≡ (compactor_seen self.now).number }
-    {
-        self.compaction.number()
     }
 
     /// Whether all lines that were ready were lent.

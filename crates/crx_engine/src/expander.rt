@@ -22,7 +22,8 @@ use crate::expanded_lines::ExpandedLines;
 use crate::line_number::LineNumber;
 use crate::options::Options;
 use crate::settled::{after_end, after_fault};
-use crate::stage::{Stage, begins_epoch};
+use crate::stage::Stage;
+use crx_rinex::begins_epoch;
 use crx_text::{At, Fault, Line};
 use std::alloc::{AllocError, Global};
 
@@ -176,6 +177,29 @@ impl Expander {
         ensures repeated { (at : At) → self.old.reader.stage ≡ Ended at → result ≡ Err at }
     {
         let stage = self.reader.stage;
+        match self.reader.read_early(line) {
+            Ok(true) => {
+                self.number.go_on();
+                Ok(Step::Quiet)
+            }
+            Ok(false) => self.take_any(line),
+            Err(fault) => self.fail(stage, fault, begins_epoch(line)),
+        }
+    }
+
+    /// The same of a line of any kind.
+    #[inline(never)]
+    fn take_any(&mut self, line: &[u8]) -> Result<Step, At>
+        requires drained { self.old.lines ≡ [] }
+        requires short { length line.now ≤ LINE_LIMIT }
+        requires within { self.old.number < INPUT_LIMIT }
+        ensures steps { Steps expansion (seen_by self.old) (Content line.now) result self.new.lines (seen_by self.new) }
+        ensures options { self.new.options ≡ self.old.options }
+        ensures drained { OnErr result (self.new.lines ≡ []) }
+        ensures ended { IfErr result (λ at. self.new.reader.stage ≡ Ended at) }
+        ensures repeated { (at : At) → self.old.reader.stage ≡ Ended at → result ≡ Err at }
+    {
+        let stage = self.reader.stage;
         if let Stage::Ended(at) = stage {
             self.number.go_on();
             return Err(at);
@@ -190,6 +214,7 @@ impl Expander {
     }
 
     /// Answers to a fault of the next line, which reading may go on at or not.
+    #[inline(never)]
     fn fail(&mut self, stage: Stage, fault: Fault, goes_on: bool) -> Result<Step, At>
         requires within { self.old.number < INPUT_LIMIT }
         requires drained { self.old.lines ≡ [] }
@@ -233,6 +258,3 @@ fn make_ready(
         }
     }
 }
-
-#[cfg(test)]
-mod tests;

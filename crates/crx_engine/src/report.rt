@@ -6,13 +6,11 @@ ghost use Rattle.crx_engine.specs.Standard.{standard_text, systems_text, count_t
 ghost use Rattle.crx_engine.specs.Checkers.{totals_held, found_held};
 
 use crate::appending::append;
+use crx_lines::limits::VERSION_WIDTH;
 use crx_rinex::{Epoch, Types};
 use crx_text::Text;
 use crx_text::columns::trimmed;
 use itoa::Buffer;
-
-/// The columns of the version in a header's first line.
-pub(crate) const VERSION_WIDTH: usize = 9;
 
 /// What a check counts.
 #[derive(Clone, Copy)]

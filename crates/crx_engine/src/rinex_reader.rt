@@ -5,9 +5,9 @@ ghost use Rattle.crx_rinex.specs.EpochLines.{satellites_of};
 ghost use Rattle.crx_rinex.specs.Epochs.{begun};
 ghost use Rattle.crx_engine.specs.RinexStages.{is_consistent};
 
-use crate::stage::{Stage, after_header_line, begins_epoch, counts_types, with_records_left};
+use crate::stage::{Stage, after_header_line, counts_types, with_records_left};
 use crate::types_lines::{accept_header_line, accept_record};
-use crx_rinex::{Epoch, EpochLine, Head, Types};
+use crx_rinex::{Epoch, EpochLine, Head, Types, begins_epoch};
 use crx_text::Fault;
 use std::alloc::Global;
 

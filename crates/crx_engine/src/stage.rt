@@ -1,7 +1,6 @@
 //! Where a run is between two lines, in either direction.
 
 ghost use Rattle.std.specs.Prelude.{◌≡◌, List, Option, Bool, true, false, if◌then◌else◌};
-ghost use Rattle.crx_rinex.specs.EpochLines.{begins_epoch};
 ghost use Rattle.crx_rinex.specs.EpochPlaces.{OpenEpoch};
 ghost use Rattle.crx_compact.specs.OpenEpochs.{OpenRawEpoch};
 ghost use Rattle.crx_engine.specs.LineByLine.{is_in_epoch, may_skip, with_records_left, InHeader, BetweenUnits};
@@ -96,13 +95,6 @@ pub(crate) fn with_records_left(left: usize, counted: bool) -> Stage
     } else {
         Stage::Event { left, counted }
     }
-}
-
-/// Whether a line begins an epoch or an event: its first character is `>`.
-pub(crate) fn begins_epoch(line: &[u8]) -> bool
-    ensures { result ≡ begins_epoch line.now }
-{
-    matches!(line, [b'>', ..])
 }
 
 /// Whether types lines count among the records of an event: the flag in column 32 of its line is from 2 to 5.

@@ -1,6 +1,6 @@
 -- What follows from how a run ended.
-use Rattle.std.proofs.Common.{◌≡◌, ◌⊎◌, inl, inr, ℕ, ◌+◌, ◌-◌, ◌^◌, ◌<◌, ◌≤◌, Bool, true, List, [], ◌++◌, length, Option, Some, None, refl, sym, ap, subst, ◌∙◌, arith, append-nil, length-append}
-use Rattle.crx_lines.specs.Devices.{Tally, one_more}
+use Rattle.std.proofs.Common.{◌≡◌, ◌⊎◌, inl, inr, ℕ, ◌+◌, ◌-◌, ◌≤◌, Bool, true, List, [], ◌++◌, length, Option, Some, None, refl, sym, ap, subst, ◌∙◌, arith, append-nil, length-append}
+use Rattle.crx_lines.specs.Devices.{Tally}
 use Rattle.crx_lines.specs.Lines.{InputLine, lines_of}
 use Rattle.crx_lines.specs.Reading.{Reading}
 use Rattle.crx_lines.specs.Progress.{HasRead, StandsAt, IsOpen, IsStopped}
@@ -24,10 +24,6 @@ use Rattle.crx_filter.proofs.Salvaged.{none-failed, asked-once, asked-stopped}
 use Rattle.crx_filter.proofs.RunEndings.{line-stands, end-stands, reader-stands, start-stands, flush-stands, well-front}
 use Rattle.crx_engine.specs.Lawful.{IsLawful}
 use Rattle.crx_filter.specs.Runs.{result_by, IsResult, NoneFailed, FaultIs, RunsAs}
-
--- a count that could rise didn't
-not-raised : (before mid after : ℕ) → after ≡ before → before < 2 ^ 64 - 1 → before ≤ mid → after ≡ one_more mid → ⊥
-not-raised before mid after same room le rose = omega (arith, same, room, le, rose)
 
 -- what a device took before the end and at it
 module _ (first second both : Device) (joined : (xs ys : List ℕ) → first.took xs → second.took ys → both.took (xs ++ ys)) where

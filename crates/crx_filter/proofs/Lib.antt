@@ -6,5 +6,4 @@ pub mod WorkLemmas
 pub mod Salvaged
 pub mod RunEndings
 pub mod Conclusions
-pub mod CheckRuns
 pub mod Kept

@@ -204,30 +204,32 @@ module _ (filter : Filter) (lawful : IsLawful filter) (input : Input) (writer1 w
 
   -- the reading stopped
   stopped-stands : (given : List ℕ) (lines : List InputLine) (f : Fault) (at : At) → IsStopped f input.start input.counted given lines → at.line ≡ length lines + 1
-      → IsWritten writer (filter.so_far lines).output → AreReported messages (filter.so_far lines).warnings at → Stands filter input given writer messages at f
-  stopped-stands given lines InputTooLong at s line wrote reported =
+      → (filter.so_far lines).fault ≡ None → IsWritten writer (filter.so_far lines).output → AreReported messages (filter.so_far lines).warnings at → Stands filter input given writer messages at f
+  stopped-stands given lines InputTooLong at s line good wrote reported =
       let same : lines ≡ complete_lines given = s.1 in
       record {
         past = s.0;
         counted = s.2;
         stopped = record {
           line = line ∙ ap (λ (ls : List InputLine). length ls + 1) same;
+          good = subst (λ (ls : List InputLine). (filter.so_far ls).fault ≡ None) same good;
           wrote = subst (λ (ls : List InputLine). IsWritten writer (filter.so_far ls).output) same wrote;
           reported = subst (λ (ls : List InputLine). AreReported messages (filter.so_far ls).warnings at) same reported;
         };
       }
-  stopped-stands given lines ReadFailed at s line wrote reported =
+  stopped-stands given lines ReadFailed at s line good wrote reported =
       let same : lines ≡ complete_lines given = complete-stopped given lines ReadFailed input.start input.counted s in
       record {
         counted = s.2;
         within = s.0;
         stopped = record {
           line = line ∙ ap (λ (ls : List InputLine). length ls + 1) same;
+          good = subst (λ (ls : List InputLine). (filter.so_far ls).fault ≡ None) same good;
           wrote = subst (λ (ls : List InputLine). IsWritten writer (filter.so_far ls).output) same wrote;
           reported = subst (λ (ls : List InputLine). AreReported messages (filter.so_far ls).warnings at) same reported;
         };
       }
-  stopped-stands given lines _ at s line wrote reported = absurd s
+  stopped-stands given lines _ at s line good wrote reported = absurd s
 
   pub reader-stands : (now : Reading) (last : ℕ) (warned : Bool) (stop : Halt) (status : ℕ) (fault : Option At) (s : StoppedByReader filter input writer1 messages1 now last stop)
       → Finishes writer2 messages2 last warned (Some stop) status fault → StandsAfter s.stopped.read.given status fault × IsFrontPart filter input s.stopped.read.given writer
@@ -242,7 +244,7 @@ module _ (filter : Filter) (lawful : IsLawful filter) (input : Input) (writer1 w
         (λ (other : At) is. (
           finished.3,
           one-fault (λ (a : At). Stands filter input h.given writer messages a a.fault) s.at other fault finished.2
-              (stopped-stands h.given s.lines s.at.fault s.at stopped.0 stopped.1 wrote reported) is,
+              (stopped-stands h.given s.lines s.at.fault s.at stopped.0 stopped.1 s.stopped.good wrote reported) is,
         )),
         record {
           written = course.output;

@@ -40,10 +40,11 @@ IsWithinLimit now = (now.number ≤ now.lent) × (now.lent ≤ INPUT_LIMIT)
 
 -- ---- how a run ends
 
--- the reader stopped: its fault, after the lines whose LF was given
+-- the reader stopped: its fault, after the lines whose LF was given, none of which had a fault that ended the run
 pub record ReaderStopped (input : Input) (writer messages : Device) (now : Reading) (lines : List InputLine) (course : Course) (at : At) : Type 0 where
   pub read : HasRead input.gave input.at_end input.start input.counted now lines
   pub stopped : now.phase ≡ Stopped at
+  pub good : course.fault ≡ None
   pub wrote : TookAll writer course.output
   pub reported : TookAll messages (notices_text course.warnings)
 

@@ -62,9 +62,11 @@ AreReported messages warnings at =
 
 -- ---- by the fault that ended the run
 
--- the reading of the input stopped in the line after those that were complete: what these are due was written and reported
+-- the reading of the input stopped in the line after those that were complete: none of these had a fault that ended the run, and what
+-- they are due was written and reported
 pub record ReadingStopped (filter : Filter) (given : List ℕ) (writer messages : Device) (at : At) : Type 0 where
   pub line : at.line ≡ length (complete_lines given) + 1
+  pub good : (filter.so_far (complete_lines given)).fault ≡ None
   pub wrote : IsWritten writer (filter.so_far (complete_lines given)).output
   pub reported : AreReported messages (filter.so_far (complete_lines given)).warnings at
 

@@ -66,6 +66,7 @@ fn give<E: Engine>(engine: &mut E, taken: Taken<'_>) -> Result<Step, At>
 }
 
 /// Reports a warning.
+#[inline(never)]
 fn warn<M: Sink>(messages: &mut M, notice: At) -> Result<(), Halt>
     ensures all { OnOk result (M.took messages.old (warning_text notice) messages.new) }
     ensures good { OnOk result (M.failures messages.new ≡ M.failures messages.old) }
@@ -144,6 +145,9 @@ fn take_once<E: Engine, W: Sink, M: Sink>(
         Ok(step) => step,
         Err(at) => return Err(Halt::Fault(at)),
     };
+    if let Step::Quiet = step {
+        return Ok(Once::Done(false));
+    }
     if let Step::Warned {
         notice,
         again: true,

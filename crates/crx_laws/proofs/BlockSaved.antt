@@ -1,5 +1,6 @@
 -- What is read after a damaged block is what the undamaged text has there.
 use Rattle.std.proofs.Common.{ℕ, ◌≡◌, ◌+◌, ◌≤◌, true, false, cond, List, [], ◌∷◌, ◌++◌, map, length, Option, None, refl, ap, sym, ◌∙◌, subst, append_assoc, append-nil}
+use Rattle.std.proofs.lemmas.Bool.{and_parts}
 use Rattle.crx_lines.specs.Lines.{InputLine, pieces_of, lines_of}
 use Rattle.crx_lines.specs.Seen.{ReadLine, Content, Overlong, seen}
 use Rattle.crx_lines.specs.declared.fault.At.{At}
@@ -17,7 +18,6 @@ use Rattle.crx_engine.specs.WayBack.{HaveNoReturns}
 use Rattle.crx_engine.specs.Anew.{IsBetweenUnits, GoOnAlike, starts_anew}
 use Rattle.crx_engine.specs.Damage.{lines_of_epochs, with_epochs, IsDamaged}
 use Rattle.crx_engine.proofs.Resuming.{within-wanted, resumed}
-use Rattle.crx_engine.proofs.Stopping.{first-true}
 use Rattle.crx_engine.proofs.Anew.{depends-on_types}
 use Rattle.crx_engine.proofs.ForwardCompact.{compact-forward}
 use Rattle.crx_engine.proofs.Carried.{started, header-same, left-same, types-same, reads-again}
@@ -138,7 +138,7 @@ tail-saved every after block before number lines [] b h e anew between types =
 tail-saved every after block before number lines (Overlong ∷ tail) b h e anew between types = absurd (cc)
 tail-saved every after block before number lines (Content line ∷ tail) b h e anew between types =
     let r : Reading ReadEpoch = reading_from compact_place true before number lines in
-    let begins : begins_epoch line ≡ true = first-true (begins_epoch line) (cond (is_event_line line) (starts_anew (records_announced line) tail) true) anew in
+    let begins : begins_epoch line ≡ true = (and_parts (begins_epoch line) (cond (is_event_line line) (starts_anew (records_announced line) tail) true) anew).0 in
     subst (λ (s : Reading ReadEpoch). IsSaved (with_reads before b.reads) (read_back every block) (read_back every (after ++ block)) (ended true s)) (sym (resumed compact_place compact-forward true before number lines (Content line ∷ tail)))
     (anew-saved every after block (with_reads before b.reads) (gone_on compact_place true r (Content line ∷ tail)) line tail h e anew (reads-between before b.reads between) (reads-types before b.reads ∙ types)
     (block-goes_on before r b line tail between begins))

@@ -5,13 +5,13 @@ use Rattle.std.specs.List.{AllByRecursion, list_all}
 use Rattle.std.proofs.lemmas.Bool.Decides.{eqb_tells}
 use Rattle.std.proofs.lemmas.List.{map-append}
 use Rattle.std.proofs.lemmas.Grind.{flat_map-append}
+use Rattle.std.proofs.lemmas.Bool.{and_parts}
 use Rattle.crx_lines.specs.Lines.{Piece, InputLine, pieces_of, onto_first, line_of, lines_of, is_long}
 use Rattle.crx_lines.specs.Seen.{Content, Overlong, seen}
 use Rattle.crx_lines.proofs.PieceLemmas.{EachEnded, pieces-first}
 use Rattle.crx_rinex.specs.EpochLines.{begins_epoch}
 use Rattle.crx_engine.specs.Results.{lines_text}
 use Rattle.crx_engine.specs.Damage.{may_replace}
-use Rattle.crx_engine.proofs.Stopping.{first-true, second-true}
 use Rattle.crx_engine.proofs.WayBackCut.{IsClean, seen-clean}
 use Rattle.crx_laws.proofs.BlockReading.{IsInside}
 
@@ -23,7 +23,7 @@ contents lines = map (λ (line : InputLine). line.content) lines
 each-ended : (ps : List Piece) → list_all (λ (piece : Piece). piece.is_ended) ps ≡ true → EachEnded ps
 each-ended [] e = tt
 each-ended (p ∷ ps) e =
-    (first-true p.is_ended (list_all (λ (piece : Piece). piece.is_ended) ps) e, each-ended ps (second-true p.is_ended (list_all (λ (piece : Piece). piece.is_ended) ps) e))
+    ((and_parts p.is_ended (list_all (λ (piece : Piece). piece.is_ended) ps) e).0, each-ended ps (and_parts p.is_ended (list_all (λ (piece : Piece). piece.is_ended) ps) e).1)
 
 onto-append : (b : ℕ) (ps qs : List Piece) → EachEnded (onto_first b ps) → EachEnded ps × (onto_first b (ps ++ qs) ≡ onto_first b ps ++ qs)
 onto-append b [] qs e = let never = e.0 in absurd (cc)
@@ -96,10 +96,10 @@ not-true false e = refl
 pub instead-inside : (lines : List InputLine) → list_all may_replace lines ≡ true → (map seen lines ≡ map Content (contents lines)) × AllByRecursion IsInside (map Content (contents lines))
 instead-inside [] e = (refl, tt)
 instead-inside (line ∷ lines) e =
-    let one : may_replace line ≡ true = first-true (may_replace line) (list_all may_replace lines) e in
-    let rest = instead-inside lines (second-true (may_replace line) (list_all may_replace lines) e) in
-    let short : is_long line ≡ false = not-true (is_long line) (first-true (not (is_long line)) (not (begins_epoch line.content)) one) in
-    let inside : begins_epoch line.content ≡ false = not-true (begins_epoch line.content) (second-true (not (is_long line)) (not (begins_epoch line.content)) one) in (
+    let one : may_replace line ≡ true = (and_parts (may_replace line) (list_all may_replace lines) e).0 in
+    let rest = instead-inside lines (and_parts (may_replace line) (list_all may_replace lines) e).1 in
+    let short : is_long line ≡ false = not-true (is_long line) (and_parts (not (is_long line)) (not (begins_epoch line.content)) one).0 in
+    let inside : begins_epoch line.content ≡ false = not-true (begins_epoch line.content) (and_parts (not (is_long line)) (not (begins_epoch line.content)) one).1 in (
       ap (λ b. cond b Overlong (Content line.content) ∷ map seen lines) short ∙ ap (λ ls. Content line.content ∷ ls) rest.0,
       (inside, rest.1),
     )

@@ -21,7 +21,6 @@ use Rattle.crx_rinex.specs.Units.{Unit as FileUnit, HeaderLine, EventLine, Event
 use Rattle.crx_rinex.proofs.ReadingBack.{length-row, length-head}
 use Rattle.crx_compact.specs.CompactPlaces.{ReadEpoch, epoch_at}
 use Rattle.crx_compact.specs.ReadingLaws.{IsGood}
-use Rattle.crx_compact.proofs.Facts.{length-trimmed}
 use Rattle.crx_engine.specs.Choices.{Choices}
 use Rattle.crx_engine.specs.Items.{Item, Accepted, Warned, is_at_start, header_has_ended, records_left, records_count_types, types_in_force}
 use Rattle.crx_engine.specs.UnitPlaces.{unless_wrong, types_fault, header_line_fault, header_line, event_record}
@@ -31,6 +30,7 @@ use Rattle.crx_engine.specs.Bounds.{AreLendable, OfUnits, longest_printed, IsNot
 use Rattle.crx_engine.proofs.Resuming.{by_bool, by_place, within-here, within-wrong, within-wanted, fault-skipped, fault-ends, looked-here, looked-on}
 use Rattle.crx_engine.proofs.WhatWasRead.{compact-items-read}
 use Rattle.crx_engine.proofs.ExpandedWhole.{AreGoodEpochs, epochs-good}
+use Rattle.crx_text.proofs.EndBlanks.{few_kept}
 
 -- ---- lines that are copied are lines that were read
 
@@ -136,7 +136,7 @@ longest = NAME_WIDTH + CELL_WIDTH * TYPES_LIMIT
 
 row-short : (row : Row) → IsSoundRow row → length (printed_row row) ≤ longest
 row-short row h =
-    let trimmed : length (printed_row row) ≤ length (row.name ++ printed_cells row.values row.flags) = length-trimmed (row.name ++ printed_cells row.values row.flags) in
+    let trimmed : length (printed_row row) ≤ length (row.name ++ printed_cells row.values row.flags) = few_kept (row.name ++ printed_cells row.values row.flags) in
     let wide = length-row row h in
     let few = (h.counted).1 in
     omega (arith, trimmed, wide, few)
@@ -147,7 +147,7 @@ rows-short (row ∷ rows) h = (row-short row (All-head IsSoundRow row rows h), r
 
 epoch-lendable : (types : List Count) (epoch : Epoch) → IsWholeEpoch types epoch → AreLendable longest (printed_epoch epoch)
 epoch-lendable types epoch h =
-    let trimmed : length (printed_head epoch.head epoch.clock) ≤ length (epoch.head ++ clock_text epoch.clock) = length-trimmed (epoch.head ++ clock_text epoch.clock) in
+    let trimmed : length (printed_head epoch.head epoch.clock) ≤ length (epoch.head ++ clock_text epoch.clock) = few_kept (epoch.head ++ clock_text epoch.clock) in
     let wide = length-head (record { head = epoch.head; count = satellites_of epoch.head; clock = epoch.clock }) h.sound.head_sound in
     let kept : length (map printed_row epoch.rows) ≡ length epoch.rows = length-map epoch.rows printed_row in
     let full = h.full in

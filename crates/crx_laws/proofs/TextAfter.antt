@@ -3,6 +3,7 @@
 use Rattle.std.proofs.Common.{ℕ, zero, suc, ◌≡◌, ◌+◌, ◌-◌, ◌<◌, Bool, true, false, cond, List, [], ◌∷◌, ◌++◌, map, length, Option, refl, ap, sym, ◌∙◌, arith, length-append, append-nil, append_assoc}
 use Rattle.std.specs.Prelude.{◌&&◌, ◌||◌}
 use Rattle.std.proofs.lemmas.List.{map-append, length-map}
+use Rattle.std.proofs.lemmas.Bool.{and_parts}
 use Rattle.crx_text.specs.Columns.{character_at}
 use Rattle.crx_lines.specs.Seen.{ReadLine, Content}
 use Rattle.crx_rinex.specs.Observations.{Epoch}
@@ -21,7 +22,6 @@ use Rattle.crx_engine.specs.Laws.{AreInPlace}
 use Rattle.crx_engine.specs.Anew.{starts_anew}
 use Rattle.crx_engine.specs.Damage.{BeginsAnew}
 use Rattle.crx_engine.proofs.Resuming.{within-wanted, resumed}
-use Rattle.crx_engine.proofs.Stopping.{first-true}
 use Rattle.crx_engine.proofs.ForwardCompact.{compact-forward}
 use Rattle.crx_engine.proofs.Carried.{one-unit, at-line}
 use Rattle.crx_engine.proofs.WayBackItems.{marked_now, body_unit, unit_back, read_back, unit-here, epoch-stands}
@@ -102,7 +102,7 @@ pub one-more : (first : List (List ℕ)) (line : List ℕ) (more : List ReadLine
 one-more first line more = ap (λ ls. ls ++ more) (map-append Content first (line ∷ [])) ∙ append_assoc (map Content first) (Content line ∷ []) more
 
 event-begins : (line : List ℕ) → is_event_line line ≡ true → begins_epoch line ≡ true
-event-begins line e = first-true (begins_epoch line) (is_event_flag (character_at line 32)) e
+event-begins line e = (and_parts (begins_epoch line) (is_event_flag (character_at line 32)) e).0
 
 anew-event : (line : List ℕ) (more : List ReadLine) → is_event_line line ≡ true → starts_anew 0 (Content line ∷ more) ≡ starts_anew (records_announced line) more
 anew-event line more e =

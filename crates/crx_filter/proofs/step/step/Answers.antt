@@ -202,7 +202,7 @@ returns-in_default-clause-stops g c = λ r0 w0 m0 (lines : List InputLine) shown
     let goes = λ (given more : List ℕ) (a : gave given) (b : step more). g.met.R.Source.gave_both r0 r1 r2 given more a b in
     let stopped = stop-read gave gives step (g.R.Source.at_end r1) (g.R.Source.at_end r2) (counts r0) (counts r1) (counts r2) old new lines running.read goes c.next_line.result c.requires.going
     c.next_line.follows.holds-at-none.0 (λ e. (c.next_line.ensures.ended e).0) c.in-Err.at c.in-Err.is c.in_default.not-LineTooLong in
-    inl (c.in-Err.at, refl, record { read = stopped.0; stopped = stopped.1; wrote = running.wrote; reported = running.reported })
+    inl (c.in-Err.at, refl, record { read = stopped.0; stopped = stopped.1; good = running.good; wrote = running.wrote; reported = running.reported })
 
 pub returns-in-Ok-clause-farther : goal.returns-in-Ok-clause-farther
 returns-in-Ok-clause-farther g c =

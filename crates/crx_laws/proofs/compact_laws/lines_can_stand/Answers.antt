@@ -1,8 +1,5 @@
-use Rattle.std.specs.Prelude.{◌∷◌}
-use Rattle.crx_compact.specs.Compaction.{since_full}
 use Rattle.crx_compact.proofs.Standing.{lines-stand}
-use Rattle.crx_compact.proofs.Writable.{all-whole}
 use Rattle.crx_laws.proofs.compact_laws.lines_can_stand.Goals as goal
 
 pub returns : goal.returns
-returns c = λ types m older h. lines-stand types m.in_full m.epoch older (all-whole types (since_full (m ∷ older)) h)
+returns c = λ types m older h. lines-stand types m.in_full m.epoch older h

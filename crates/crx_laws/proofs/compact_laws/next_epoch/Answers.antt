@@ -1,6 +1,5 @@
 use Rattle.crx_compact.proofs.Tailing.{epoch-by_tail}
-use Rattle.crx_compact.proofs.Writable.{rows-differ}
 use Rattle.crx_laws.proofs.compact_laws.next_epoch.Goals as goal
 
 pub returns : goal.returns
-returns c = λ m older h. epoch-by_tail m older (rows-differ m.epoch.rows h)
+returns c = λ m older h. epoch-by_tail m older h
