@@ -6,6 +6,8 @@ mod checks;
 #[cfg(test)]
 mod failures;
 #[cfg(test)]
+mod options;
+#[cfg(test)]
 mod runs;
 #[cfg(test)]
 mod texts;

@@ -8,7 +8,10 @@ use crx_text::{Fault, Std};
 use std::alloc::Global;
 use std::io::{BufWriter, Write};
 use std::process::ExitCode;
-use std::{env, io};
+use std::{env, fs, io};
+
+/// What can be opened on each machine, and neither read nor written: the folder of all others.
+const NO_STREAM: &str = "/";
 
 /// Why there are no words: no memory was left for them, or they aren't text.
 fn no_words(alloc: Global, error: &io::Error) -> UsageFault {
@@ -31,8 +34,15 @@ fn words_given(rt: &HostRuntime) -> Result<Vec<String>, UsageFault> {
 /// answers the exit status. The output goes through a buffer.
 ///
 /// Where no memory is left for the words or the buffer, that is fault 22 at line 0, status 1. Words
-/// that aren't text are refused as such.
+/// that aren't text are refused as such. A standard stream that was closed before the program began stays closed: a file
+/// that the words name doesn't take its place.
 pub fn run_host(rt: &HostRuntime) -> ExitCode {
+    // The system gives the lowest number that is free, and numbers 0 to 2 are the standard streams.
+    let _places = [
+        fs::open(rt, NO_STREAM),
+        fs::open(rt, NO_STREAM),
+        fs::open(rt, NO_STREAM),
+    ];
     let mut messages = Std::new(rt.stderr());
     let words = match words_given(rt) {
         Ok(words) => words,

@@ -2,7 +2,7 @@
 
 use super::*;
 
-pub const TRIALS: [Trial; 9] = [
+pub const TRIALS: [Trial; 13] = [
     // Third differences
     Trial {
         tool: Tool::Compact,
@@ -62,6 +62,34 @@ pub const TRIALS: [Trial; 9] = [
             fault: None,
         },
     },
+    // An epoch without satellites
+    Trial {
+        tool: Tool::Compact,
+        skip: false,
+        input: "H|> 2024 01 01 00 00  0.0000000  0  0",
+        output: "K|H|> 2024 01 01 00 00  0.0000000  0  0|",
+        messages: "",
+        after: &[0, 3, 4, 5, 7],
+        warned_at: None,
+        outcome: Outcome {
+            status: 0,
+            fault: None,
+        },
+    },
+    // A line that gives two warnings
+    Trial {
+        tool: Tool::Compact,
+        skip: true,
+        input: "H|> 2024 01 01 00 00  0.0000000  0  1|>|> 2024 01 01 00 00  1.0000000  0  1|G01         1.000",
+        output: "K|H|> 2024 01 01 00 00  1.0000000  0  1      G01||3&1000",
+        messages: "WARNING line 5 code 19: truncated|WARNING line 5 code 11: bad epoch line",
+        after: &[0, 3, 4, 5, 5, 5, 5, 8],
+        warned_at: Some(5),
+        outcome: Outcome {
+            status: 2,
+            fault: None,
+        },
+    },
     // Third differences, back
     Trial {
         tool: Tool::Expand,
@@ -100,6 +128,34 @@ pub const TRIALS: [Trial; 9] = [
         output: "H|> 2024 01 01 00 00  0.0000000  0  1|G01  20000000.000|> 2024 01 01 00 00  2.0000000  0  1|G01  20000202.000|> 2024 01 01 00 00  3.0000000  0  1|G01  20000304.500|> 2024 01 01 00 00  4.0000000  0  1|G01  20000408.000",
         messages: "",
         after: &[0, 0, 0, 1, 2, 3, 3, 3, 5, 5, 5, 7, 7, 7, 9, 9, 9, 11],
+        warned_at: None,
+        outcome: Outcome {
+            status: 0,
+            fault: None,
+        },
+    },
+    // Epochs without satellites, back
+    Trial {
+        tool: Tool::Expand,
+        skip: false,
+        input: "K|H|> 2024 01 01 00 00  0.0000000  0  0|||",
+        output: "H|> 2024 01 01 00 00  0.0000000  0  0|> 2024 01 01 00 00  0.0000000  0  0",
+        messages: "",
+        after: &[0, 0, 0, 1, 2, 3, 3, 4, 4, 5],
+        warned_at: None,
+        outcome: Outcome {
+            status: 0,
+            fault: None,
+        },
+    },
+    // An arc across an event, back
+    Trial {
+        tool: Tool::Expand,
+        skip: false,
+        input: "K|H|> 2024 01 01 00 00  0.0000000  0  1      G01||3&1000|> 2024 01 01 00 00  1.0000000  4  1|                                                            COMMENT|                    2||500",
+        output: "H|> 2024 01 01 00 00  0.0000000  0  1|G01         1.000|> 2024 01 01 00 00  1.0000000  4  1|                                                            COMMENT|> 2024 01 01 00 00  2.0000000  0  1|G01         1.500",
+        messages: "",
+        after: &[0, 0, 0, 1, 2, 3, 3, 3, 5, 6, 7, 7, 7, 9],
         warned_at: None,
         outcome: Outcome {
             status: 0,
