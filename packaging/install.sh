@@ -1,6 +1,8 @@
 #!/bin/sh
-# Puts the program, its two other names, the manual page and the completions below a folder:
+# Puts the program, its other names, the manual page and the completions below a folder:
 #     packaging/install.sh FOLDER PROGRAM
+# The lower-case names are further copies. Each file is put in place by itself, so that where the file system takes both spellings of
+# a name for one file the second copy takes the place of the first, with the same content.
 set -eu
 prefix=$1
 program=$2
@@ -9,10 +11,15 @@ here=$(dirname "$0")
 install -d "$prefix/bin" "$prefix/share/man/man1" "$prefix/share/bash-completion/completions" \
     "$prefix/share/zsh/site-functions" "$prefix/share/fish/vendor_completions.d"
 install -m 755 "$program" "$prefix/bin/rnxcmp"
-install -m 755 "$here/bin/RNX2CRX" "$here/bin/CRX2RNX" "$prefix/bin/"
-for name in rnxcmp RNX2CRX CRX2RNX; do
+for name in RNX2CRX rnx2crx; do
+    install -m 755 "$here/bin/RNX2CRX" "$prefix/bin/$name"
+done
+for name in CRX2RNX crx2rnx; do
+    install -m 755 "$here/bin/CRX2RNX" "$prefix/bin/$name"
+done
+for name in rnxcmp RNX2CRX CRX2RNX rnx2crx crx2rnx; do
     install -m 644 "$here/man/rnxcmp.1" "$prefix/share/man/man1/$name.1"
     install -m 644 "$here/completions/rnxcmp.bash" "$prefix/share/bash-completion/completions/$name"
+    install -m 644 "$here/completions/rnxcmp.fish" "$prefix/share/fish/vendor_completions.d/$name.fish"
 done
 install -m 644 "$here/completions/_rnxcmp" "$prefix/share/zsh/site-functions/_rnxcmp"
-install -m 644 "$here/completions/rnxcmp.fish" "$prefix/share/fish/vendor_completions.d/rnxcmp.fish"

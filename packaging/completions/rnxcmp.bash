@@ -1,11 +1,11 @@
-# Completion of rnxcmp, RNX2CRX and CRX2RNX for bash.
+# Completion of rnxcmp, RNX2CRX, CRX2RNX, rnx2crx and crx2rnx for bash.
 
 _rnxcmp_files() {
     # $1: an extended pattern of names, $2: the word so far
     local shopts
     shopts=$(shopt -p extglob)
     shopt -s extglob
-    COMPREPLY+=($(compgen -o plusdirs -f -X "!$1" -- "$2"))
+    mapfile -t COMPREPLY < <(compgen -o plusdirs -f -X "!$1" -- "$2")
     eval "$shopts"
 }
 
@@ -16,16 +16,16 @@ _rnxcmp_words() {
     esac
     case $1 in
         rnx2crx)
-            [[ $2 == -* ]] && COMPREPLY=($(compgen -W '-e -s -f --date -h --help -' -- "$2"))
+            [[ $2 == -* ]] && mapfile -t COMPREPLY < <(compgen -W '-e -s -f --date -h --help -' -- "$2")
             [[ $2 == -* ]] || _rnxcmp_files '*.@(rnx|RNX|[0-9][0-9][oO])' "$2"
             ;;
         crx2rnx)
-            [[ $2 == -* ]] && COMPREPLY=($(compgen -W '-s -f -h --help -' -- "$2"))
+            [[ $2 == -* ]] && mapfile -t COMPREPLY < <(compgen -W '-s -f -h --help -' -- "$2")
             [[ $2 == -* ]] || _rnxcmp_files '*.@(crx|CRX|[0-9][0-9][dD])' "$2"
             ;;
         check)
-            [[ $2 == -* ]] && COMPREPLY=($(compgen -W '-h --help -' -- "$2"))
-            [[ $2 == -* ]] || COMPREPLY=($(compgen -o plusdirs -f -- "$2"))
+            [[ $2 == -* ]] && mapfile -t COMPREPLY < <(compgen -W '-h --help -' -- "$2")
+            [[ $2 == -* ]] || mapfile -t COMPREPLY < <(compgen -o plusdirs -f -- "$2")
             ;;
     esac
 }
@@ -33,7 +33,7 @@ _rnxcmp_words() {
 _rnxcmp() {
     COMPREPLY=()
     if [[ $COMP_CWORD -eq 1 ]]; then
-        COMPREPLY=($(compgen -W 'rnx2crx crx2rnx check -h --help' -- "$2"))
+        mapfile -t COMPREPLY < <(compgen -W 'rnx2crx crx2rnx check -h --help' -- "$2")
     else
         _rnxcmp_words "${COMP_WORDS[1]}" "$2" "$3"
     fi
@@ -50,5 +50,5 @@ _CRX2RNX() {
 }
 
 complete -o filenames -F _rnxcmp rnxcmp
-complete -o filenames -F _RNX2CRX RNX2CRX
-complete -o filenames -F _CRX2RNX CRX2RNX
+complete -o filenames -F _RNX2CRX RNX2CRX rnx2crx
+complete -o filenames -F _CRX2RNX CRX2RNX crx2rnx

@@ -18,15 +18,22 @@ WANTED = {
     "find and xargs": ["0 archive/a.rnx", "0 archive/sub/b.rnx"],
     "Statuses into a report": ["well 2, warnings 1, errors 1", "archive/bad.rnx: ERROR line", "archive/strange.rnx: WARNING line"],
     "Compact files that are packed too": ["archive/a.back.rnx"],
-    "GNU parallel, with a job log": ["rnxcmp rnx2crx -f archive/abcd0010.24o"],
+    "GNU parallel, with a job log": ["rnxcmp rnx2crx - archive/abcd0010.24o"],
     "An array job of a batch system": ["0 archive/abcd0010.24o", "0 archive/abcd0020.24o"],
-    "A check every night": ["archive/bad.rnx: ERROR line"],
-    "Is anything lost?": ["archive/abcd0010.24o comes back", "archive/abcd0020.24o comes back"],
+    "A check every night": [
+        "archive/bad.rnx: ERROR line",
+        "archive/faulty.24o: ERROR line",
+        "archive/padded.24o: standard no",
+        "reports/archive/padded.24o.txt:standard no",
+    ],
+    "Is anything lost?": ["archive/abcd0010.24o comes back", "archive/abcd0020.24o comes back", "archive/padded.24o does not"],
+    "Files with blanks at line ends": ["archive/abcd0010.24o holds the same", "archive/padded.24o holds the same", "archive/faulty.24o does not"],
 }
 
 
 def make_files(folder):
-    """Two good files, one with a strange epoch, one that is no observation file, and two with a year's ending."""
+    """Two good files, one with a strange epoch, one that is no observation file, and with a year's ending two good ones, one with blanks
+    at the ends of all epochs' lines, and one with a blank line at its end. Half files of an earlier run are there too."""
     good = SAMPLE.read_bytes()
     lines = good.split(b"\n")
     first = next(k for k, line in enumerate(lines) if line.startswith(b">"))
@@ -38,6 +45,10 @@ def make_files(folder):
         (archive / name).write_bytes(good)
     (archive / "strange.rnx").write_bytes(b"\n".join(strange))
     (archive / "bad.rnx").write_bytes(b"not RINEX\n")
+    (archive / "padded.24o").write_bytes(b"\n".join(lines[:first] + [line + b"  " for line in lines[first:-1]] + [b""]))
+    (archive / "faulty.24o").write_bytes(good + b"\n")
+    for name in ("a.rnx", "bad.rnx", "abcd0010.24o"):
+        (archive / f"{name}.part").write_bytes(b"half\n")
 
 
 def blocks(text):
@@ -60,6 +71,32 @@ def run_block(heading, block, work, environment):
     return [f"not there: {missing}", f"output: {run.stdout!r}", f"messages: {run.stderr!r}"] if missing else []
 
 
+def check_compacted(work):
+    """What the recipe for `.rnx` files left: compact files that come back, none of a file with an error, and no half file."""
+    archive = work / "archive"
+    back = subprocess.run([work.parent / "bin/rnxcmp", "crx2rnx", "-", archive / "a.crx"], capture_output=True, timeout=60)
+    wrong = [] if back.returncode == 0 and back.stdout == SAMPLE.read_bytes() else ["a.crx doesn't come back"]
+    wrong += [f"{name} is there" for name in ("bad.crx", "a.rnx.part", "bad.rnx.part") if (archive / name).exists()]
+    return wrong
+
+
+def check_next_nights(work, environment):
+    """What stands as it was isn't said again, but for what isn't accepted; where the first line that isn't standard is another one,
+    that is said."""
+    padded = work / "archive/padded.24o"
+    wrong = []
+    lines = padded.read_bytes().split(b"\n")
+    first = next(k for k, line in enumerate(lines) if line.startswith(b">"))
+    changed = b"\n".join([*lines[:first], lines[first].rstrip(), *lines[first + 1 :]])
+    for content, more in ((padded.read_bytes(), []), (changed, ["padded.24o"])):
+        padded.write_bytes(content)
+        run = subprocess.run(["sh", "nightly.sh"], cwd=work, env=environment, capture_output=True, text=True, timeout=300)
+        said = [line.partition(": ")[0] for line in run.stdout.splitlines()]
+        wanted = [f"archive/{name}" for name in sorted(["bad.rnx", "faulty.24o", "strange.rnx", *more])]
+        wrong += [] if said == wanted and not run.stderr else [f"said: {run.stdout!r}", f"messages: {run.stderr!r}"]
+    return wrong
+
+
 def checks(program):
     with tempfile.TemporaryDirectory() as name:
         folder = Path(name)
@@ -72,3 +109,5 @@ def checks(program):
         environment = {**os.environ, "PATH": f"{tools}:{os.environ['PATH']}"}
         for heading, block in blocks((TOP / "docs/ARCHIVES.md").read_text()):
             yield heading, lambda: run_block(heading, block, work, environment)
+        yield "what find and xargs left", lambda: check_compacted(work)
+        yield "the next nights", lambda: check_next_nights(work, environment)

@@ -17,16 +17,21 @@ from checking import missing_tools
 TOP = Path(__file__).resolve().parents[2]
 SAMPLE = TOP / "samples/station.rnx"
 MANUAL = TOP / "packaging/man/rnxcmp.1"
-# two manual pages more, and the completions, by the names under which they are installed
-NAMES = ("rnxcmp", "RNX2CRX", "CRX2RNX")
+# the names under which the program, the manual page and the completions are installed
+NAMES = ("rnxcmp", "RNX2CRX", "CRX2RNX", "rnx2crx", "crx2rnx")
 # words so far, and the words that complete them
 COMPLETIONS = (
-    ("rnxcmp ", "rnx2crx crx2rnx check -h --help"),
-    ("rnxcmp rnx2crx --", "--date --help"),
-    ("rnxcmp rnx2crx abc", "abcd0010.24o"),
-    ("rnxcmp crx2rnx ", "a.crx"),
-    ("RNX2CRX abc", "abcd0010.24o"),
-    ("CRX2RNX -f a", "a.crx"),
+    ("rnxcmp ", ["rnx2crx", "crx2rnx", "check", "-h", "--help"]),
+    ("rnxcmp rnx2crx --", ["--date", "--help"]),
+    ("rnxcmp rnx2crx abc", ["abcd0010.24o"]),
+    ("rnxcmp crx2rnx ", ["a.crx"]),
+    ("rnxcmp check b", ["b c.rnx"]),
+    ("rnxcmp other a", []),
+    ("RNX2CRX abc", ["abcd0010.24o"]),
+    ("RNX2CRX -s b", ["b c.rnx"]),
+    ("CRX2RNX -f a", ["a.crx"]),
+    ("rnx2crx b", ["b c.rnx"]),
+    ("crx2rnx -", ["-s", "-f", "-h", "--help", "-"]),
 )
 
 
@@ -82,14 +87,22 @@ def file_is(path, content):
 
 
 def check_installed(prefix, folder):
-    """Both other names run, and what they write is right."""
+    """The other names run, over the path and by their own, and what they write is right."""
     shutil.rmtree(folder)
     folder.mkdir()
     shutil.copy(SAMPLE, folder / "a.rnx")
-    wrong = []
-    for words in (["RNX2CRX", "a.rnx"], ["CRX2RNX", "-f", "a.crx"]):
-        run = run_in(folder, prefix / "bin", words)
-        wrong += [] if run.returncode == 0 else [f"{words}: status {run.returncode}, {run.stderr!r}"]
+    wrong = [f"{name} isn't there" for name in NAMES if not (prefix / "bin" / name).is_file()]
+    if wrong:
+        return wrong
+    for compacting, expanding in (("RNX2CRX", "CRX2RNX"), ("rnx2crx", "crx2rnx")):
+        for tools, words in (
+            (prefix / "bin", [compacting, "-f", "a.rnx"]),
+            (prefix / "bin", [expanding, "-f", "a.crx"]),
+            ("/usr/bin", [str(prefix / "bin" / compacting), "-f", "a.rnx"]),
+            ("/usr/bin", [str(prefix / "bin" / expanding), "-f", "a.crx"]),
+        ):
+            run = run_in(folder, tools, words)
+            wrong += [] if run.returncode == 0 else [f"{words}: status {run.returncode}, {run.stderr!r}"]
     return wrong + file_is(folder / "a.rnx", SAMPLE.read_bytes())
 
 
@@ -108,10 +121,11 @@ def check_pages(prefix):
 
 
 def check_completions(prefix, folder):
-    """What bash completes, by the file that is installed for each name."""
-    (folder / "abcd0010.24o").touch()
-    (folder / "a.crx").touch()
-    wrong = []
+    """What bash completes, by the file that is installed for each name; and that fish finds a file for each."""
+    for name in ("abcd0010.24o", "a.crx", "b c.rnx"):
+        (folder / name).touch()
+    fish = [prefix / f"share/fish/vendor_completions.d/{name}.fish" for name in NAMES]
+    wrong = [f"{path.name} isn't there" for path in fish if not path.is_file()]
     for line, wanted in COMPLETIONS:
         words = line.split(" ")
         script = prefix / f"share/bash-completion/completions/{words[0]}"
@@ -122,10 +136,10 @@ def check_completions(prefix, folder):
             handler=$(complete -p {words[0]})
             handler=${{handler#*-F }}
             "${{handler%% *}}" {words[0]} "{words[-1]}" "{words[-2]}"
-            echo "${{COMPREPLY[*]}}"
+            [[ ${{#COMPREPLY[@]}} -eq 0 ]] || printf '%s\n' "${{COMPREPLY[@]}}"
         """
         run = run_in(folder, prefix / "bin", ["bash", "--norc", "-c", ask])
-        if run.stdout.strip() != wanted or run.stderr:
+        if run.stdout.splitlines() != wanted or run.stderr:
             wrong.append(f"{line!r}: {run.stdout!r}, {run.stderr!r}")
     return wrong
 
@@ -147,6 +161,6 @@ def checks(program):
                 yield f"{place}: {command}", lambda: run_command(folder, prefix / "bin", command)
         folder = top / "installed"
         folder.mkdir()
-        yield "installed: RNX2CRX and CRX2RNX", lambda: check_installed(prefix, folder)
+        yield "installed: the other names", lambda: check_installed(prefix, folder)
         yield "installed: manual pages", lambda: check_pages(prefix)
-        yield "installed: completions for bash", lambda: check_completions(prefix, folder)
+        yield "installed: completions", lambda: check_completions(prefix, folder)

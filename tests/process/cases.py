@@ -22,7 +22,7 @@ class Case:
     status: int = 0
     after: dict = field(default_factory=dict)  # files that are new or changed
     through: str = ""  # what the shell pipes the output through
-    open_files: int = 0  # how many files the system lets it have open, where that is limited; the three streams count
+    open_files: int = 0  # how many files the system lets it have open, where that is limited; the three streams and three places count
 
 
 def text(*lines):
@@ -227,8 +227,8 @@ CASES = [
     refused("a folder as the input", ["check", "a.rnx"], "ERROR line 1 code 20: read failed", {"a.rnx/x": b""}),
     refused("an output that can't be made", [*DATED, "a.rnx", "-f"], "ERROR: cannot create a.crx", {"a.rnx": FIVE, "a.crx/x": b""}),
     refused("a folder of the output's name", [*DATED, "a.rnx"], "ERROR: file exists: a.crx", {"a.rnx": FIVE, "a.crx/x": b""}),
-    refused("an output that can't be made, without -f", [*DATED, "a.rnx"], "ERROR: cannot create a.crx", {"a.rnx": FIVE}, open_files=4),
-    refused("an output that can't be made, backwards", ["crx2rnx", "a.crx"], "ERROR: cannot create a.rnx", {"a.crx": COMPACT_FIVE}, open_files=4),
+    refused("an output that can't be made, without -f", [*DATED, "a.rnx"], "ERROR: cannot create a.crx", {"a.rnx": FIVE}, open_files=7),
+    refused("an output that can't be made, backwards", ["crx2rnx", "a.crx"], "ERROR: cannot create a.rnx", {"a.crx": COMPACT_FIVE}, open_files=7),
     refused("a file in place of the input's folder", ["check", "a.rnx/b.rnx"], "ERROR: cannot read a.rnx/b.rnx", {"a.rnx": FIVE}),
     # Words that are refused.
     refused("no output name", ["rnx2crx", "a.txt"], "ERROR: no output name for a.txt", {"a.txt": FIVE}),

@@ -104,7 +104,45 @@ def one_stream(program):
     return [] if run.stdout == wanted else [f"{run.stdout[-120:]!r}"]
 
 
+def closed_streams(program):
+    """Files by name, where standard streams were closed before: no message goes into the output file."""
+    wrong = []
+    for words, closed, status, lines in (
+        (["-s"], "<&- 2>&-", 1, [*K, *H, full(0, "G01"), ""]),
+        ([], "<&- >&- 2>&-", 1, [*K, *H, full(0, "G01"), ""]),
+        (["-s"], "<&- >&-", 2, None),
+    ):
+        with tempfile.TemporaryDirectory() as folder:
+            (Path(folder) / "a.rnx").write_bytes(BAD_INDICATOR)
+            script = f'exec "$0" "$@" {closed}'
+            run = subprocess.run(["sh", "-c", script, program, *DATED, *words, "a.rnx"], cwd=folder, stderr=subprocess.PIPE, timeout=SECONDS)
+            output = (Path(folder) / "a.crx").read_bytes()
+            if run.returncode != status or b"WARNING" in output or b"ERROR" in output or lines and not output.startswith(text(*lines)):
+                wrong.append(f"{words} {closed}: status {run.returncode}, output {output[-120:]!r}, messages {run.stderr!r}")
+    return wrong
+
+
+def counts_by_system(program):
+    """Satellites of systems with other counts of types, in another order in each epoch: a file comes back."""
+    types = {"G": ["C1C", "L1C"], "R": ["C1C"], "E": ["C1X", "L1X", "S1X"]}
+    header = [H[0].replace("DATA    G", "DATA    M"),
+              *[f"{letter}  {len(names):3} {' '.join(names)}".ljust(60) + "SYS / # / OBS TYPES" for letter, names in types.items()], H[2]]
+    orders = [["G01", "R01", "E01"], ["R01", "G01", "E01"], ["E01", "G01", "R01"], ["E01", "R01"], ["R01", "E01", "G01", "R02"]]
+    rows = [[epoch(second, len(names)), *[name + "".join(f"{20000000 + 7 * second * second + place:14.3f}  " for place in range(len(types[name[0]]))).rstrip()
+                                           for name in names]] for second, names in enumerate(orders * 2)]
+    standard = text(*header, *[line for lines in rows for line in lines])
+    wrong = []
+    for words in ([], ["-s"], ["-e", "2"]):
+        compact = subprocess.run([program, *DATED, *words], input=standard, capture_output=True, timeout=SECONDS)
+        back = subprocess.run([program, "crx2rnx", *(words if words == ["-s"] else [])], input=compact.stdout, capture_output=True, timeout=SECONDS)
+        if (compact.returncode, compact.stderr, back.returncode, back.stderr, back.stdout) != (0, b"", 0, b"", standard):
+            wrong.append(f"{words}: status {compact.returncode}, {back.returncode}, messages {compact.stderr!r}, {back.stderr!r}, {back.stdout[-200:]!r}")
+    return wrong
+
+
 CHECKS = [
+    ("systems with other counts of types", counts_by_system),
+    ("files by name, and closed streams", closed_streams),
     ("output and messages into one stream", one_stream),
     ("a file that shrinks while it is read", file_that_shrinks),
     ("a signal", a_signal),
