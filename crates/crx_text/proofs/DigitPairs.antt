@@ -1,10 +1,14 @@
 -- Two digits at a time.
-use Rattle.std.proofs.Common.{◌≡◌, ℕ, ℤ, pos, negsuc, w64, zero, suc, ◌+◌, ◌-◌, ◌*◌, ◌/◌, ◌%◌, ◌<◌, ◌≤◌, Bool, true, ◌&&◌, T, eqb, List, [], ◌∷◌, ◌++◌, length, take, get_or, slice_set, inl, inr, arith, eq-zero-or-pos, eqb→eq, append_assoc, decimal, ◌^◌, ap, sym, ◌∙◌}
-use Rattle.std.proofs.lemmas.List.{take_more_set, length-set}
+use Rattle.std.proofs.Common.{◌≡◌, ℕ, ℤ, pos, negsuc, w64, zero, suc, ◌+◌, ◌-◌, ◌*◌, ◌/◌, ◌%◌, ◌<◌, ◌≤◌, Bool, true, ◌&&◌, T, eqb, List, [], ◌∷◌, ◌++◌, length, take, drop, get_or, slice_set, inl, inr, arith, eq-zero-or-pos, eqb→eq, append_assoc, decimal, ◌^◌, ap, sym, ◌∙◌, refl}
+use Rattle.std.proofs.lemmas.List.{take_more_set, length-set, length-take-le, take-take}
+use Rattle.std.proofs.Math.Dec.{ltb}
+use Rattle.std.proofs.Math.Seq.{take-append-add}
+use Rattle.std.proofs.lemmas.Bool.{cases_lt, le-ltb, lt-ltb}
+use Rattle.std.proofs.lemmas.Fmt.{decimal_digit, decimal_nonempty}
 use lib.Ieee.Fits.{and_l, and_r}
-use mir.Val.{SFits}
-use Rattle.itoa.proofs.Decimal.{decimal_four}
-use Rattle.std.proofs.lemmas.Fmt.{decimal_nonempty}
+use mir.Val.{SFits, bool_byte}
+use Rattle.itoa.proofs.Decimal.{decimal_four, decimal_pair, decimal_two, length_one, length_pair, length_two, pair}
+use Rattle.std.specs.Int.{to_le_bytes, w32}
 use Rattle.std.specs.Fmt.{signed_decimal}
 use Rattle.crx_text.specs.declared.digits.TheConstants.{PAIRS}
 
@@ -38,8 +42,79 @@ pub signed_decimal-some : (z : ℤ) → SFits w64 z → 0 < length (signed_decim
 signed_decimal-some (pos n) fits = let small = fits.sfits in decimal_nonempty n (omega (arith, small))
 signed_decimal-some (negsuc n) fits = omega arith
 
-abbrev four : ℕ → List ℕ
-four low = (48 + low / 100 / 10) ∷ (48 + low / 100 % 10) ∷ (48 + low % 100 / 10) ∷ (48 + low % 100 % 10) ∷ []
+-- ---- four digits in a word
+
+abbrev pub four : ℕ → List ℕ
+four n = (48 + n / 100 / 10) ∷ (48 + n / 100 % 10) ∷ (48 + n % 100 / 10) ∷ (48 + n % 100 % 10) ∷ []
+
+pub four_small : (n i : ℕ) → n < 10000 → get_or (four n) i 0 < 256
+four_small n zero small = omega arith
+four_small n (suc zero) small = omega arith
+four_small n (suc (suc zero)) small = omega arith
+four_small n (suc (suc (suc zero))) small = omega arith
+four_small n (suc (suc (suc (suc i)))) small = omega arith
+
+-- how many zeros stand before a number's digits in four columns
+pub zeros_counted : (n : ℕ) → n < 10000 → bool_byte (ltb n 10) + bool_byte (ltb n 100) + bool_byte (ltb n 1000) + length (decimal n) ≡ 4
+zeros_counted n small =
+    elim (cases_lt n 10) [
+      | inl one ↦ rw (lt-ltb n 10 one, lt-ltb n 100 (omega arith), lt-ltb n 1000 (omega arith), length_one n one) refl
+      | inr two_at_least ↦ elim (cases_lt n 100) [
+        | inl two ↦ rw (le-ltb n 10 two_at_least, lt-ltb n 100 two, lt-ltb n 1000 (omega arith), length_two n two_at_least two) refl
+        | inr three_at_least ↦ elim (cases_lt n 1000) [
+          | inl three ↦ rw (le-ltb n 10 two_at_least, le-ltb n 100 three_at_least, lt-ltb n 1000 three, length_pair n three_at_least (omega arith), length_one (n / 100) (omega arith)) refl
+          | inr four_at_least ↦ rw (le-ltb n 10 two_at_least, le-ltb n 100 three_at_least, le-ltb n 1000 four_at_least, length_pair n three_at_least (omega arith), length_two (n / 100) (omega arith) (omega arith)) refl
+        ]
+      ]
+    ]
+
+digits_at : (n z k : ℕ) (ds : List ℕ) → decimal n ≡ ds → z + length (decimal n) ≡ 4 → length ds + k ≡ 4 → z ≡ k
+digits_at n z k ds is count long = let same = ap length is in omega (arith, same)
+
+-- a number's own digits stand after those zeros
+pub digits_last : (n z : ℕ) → n < 10000 → z + length (decimal n) ≡ 4 → drop z (four n) ≡ decimal n
+digits_last n z small count =
+    elim (cases_lt n 10) [
+      | inl one ↦
+          let own : n % 100 % 10 ≡ n = omega arith in
+          rw (digits_at n z 3 _ (decimal_digit n one) count refl, decimal_digit n one, own) refl
+      | inr two_at_least ↦ elim (cases_lt n 100) [
+        | inl two ↦
+            let own : n % 100 ≡ n = omega arith in
+            rw (digits_at n z 2 _ (decimal_two n two_at_least two) count refl, decimal_two n two_at_least two, own) refl
+        | inr three_at_least ↦ elim (cases_lt n 1000) [
+          | inl three ↦
+              let own : n / 100 % 10 ≡ n / 100 = omega arith in
+              let whole : decimal n ≡ (48 + n / 100) ∷ pair (n % 100) = decimal_pair n three_at_least (omega arith) ∙ ap (λ (t : List ℕ). t ++ pair (n % 100)) (decimal_digit (n / 100) (omega arith)) in
+              rw (digits_at n z 1 _ whole count refl, whole, own) refl
+          | inr four_at_least ↦
+              let whole : decimal n ≡ four n = decimal_pair n three_at_least (omega arith) ∙ ap (λ (t : List ℕ). t ++ pair (n % 100)) (decimal_two (n / 100) (omega arith) (omega arith)) in
+              rw (digits_at n z 0 _ whole count refl, whole) refl
+        ]
+      ]
+    ]
+
+-- the bytes of a word that is shifted by whole bytes
+pub bytes_shifted : (word z : ℕ) → z ≤ 3 → word < 2 ^ 32 → take (4 - z) (to_le_bytes w32 (word / 2 ^ (8 * z))) ≡ drop z (to_le_bytes w32 word)
+bytes_shifted word zero few fits =
+    let own : word / 1 ≡ word = omega arith in
+    rw own refl
+bytes_shifted word (suc zero) few fits =
+    let second : word / 256 / 256 % 256 ≡ word / 65536 % 256 = omega arith in
+    let third : word / 256 / 65536 % 256 ≡ word / 16777216 % 256 = omega arith in
+    rw (second, third) refl
+bytes_shifted word (suc (suc zero)) few fits =
+    let second : word / 65536 / 256 % 256 ≡ word / 16777216 % 256 = omega arith in
+    rw second refl
+bytes_shifted word (suc (suc (suc zero))) few fits = refl
+bytes_shifted word (suc (suc (suc (suc z)))) few fits = absurd (omega arith)
+
+-- the first bytes of what was written
+pub first_written : (old new bytes : List ℕ) (at n k : ℕ) → at ≤ length old → k ≤ n → take (at + n) new ≡ take at old ++ bytes → take (at + k) new ≡ take at old ++ take k bytes
+first_written old new bytes at n k within few whole =
+    sym (take-take (at + k) (at + n) new (omega arith)) ∙ ap (take (at + k)) whole
+    ∙ ap (λ (i : ℕ). take (i + k) (take at old ++ bytes)) (sym (length-take-le at old within))
+    ∙ take-append-add (take at old) bytes k
 
 -- a number's last four digits, after those before them
 pub four_written : (first second third : List ℕ) (size at middle : ℕ) → 10000 ≤ size → size < 2 ^ 64 → take middle second ≡ take at first ++ decimal (size / 10000) →

@@ -31,8 +31,9 @@ ghost use Rattle.crx_text.specs.Codes.{IsPrintable, IsShort, after_cell, code_of
 ghost use Rattle.crx_text.specs.declared.code.Code.TheVariants.{Step};
 ghost use Rattle.crx_lines.specs.declared.limits.TheConstants.{LINE_LIMIT};
 
-/// The most bytes of a code's text: an order, `&`, a minus and the digits.
-const CODE_WIDTH: usize = DIGITS_LIMIT + 3;
+/// The most bytes that are written with a code: an order, `&`, a minus, the digits, and three more, since digits
+/// are written four at a time.
+const CODE_WIDTH: usize = DIGITS_LIMIT + 6;
 
 /// Appends a code's printed text: an order is one digit, and `&` stands after it. It asks for an
 /// order and numbers within the limits. `TextFull` comes only where the text would pass
@@ -61,7 +62,7 @@ pub fn code_print_cell(code: Code, text: &mut Text) -> Result<(), TextFull>
     ensures full { IsErr result ↔ (LINE_LIMIT < length text.old + length (code_text code) + 1) }
     ensures err { OnErr result (text.new ≡ text.old) }
 {
-    if LINE_LIMIT - text.len <= CODE_WIDTH {
+    if LINE_LIMIT - text.len < CODE_WIDTH {
         return cell_print_at_end(code, text);
     }
     text.len = write_cell(&mut text.bytes, text.len, code);
@@ -77,7 +78,7 @@ pub fn step_print_cell(difference: i64, text: &mut Text) -> Result<(), TextFull>
     ensures full { IsErr result ↔ (LINE_LIMIT < length text.old + length (code_text (Step difference)) + 1) }
     ensures err { OnErr result (text.new ≡ text.old) }
 {
-    if LINE_LIMIT - text.len <= CODE_WIDTH {
+    if LINE_LIMIT - text.len < CODE_WIDTH {
         return step_print_at_end(difference, text);
     }
     text.len = write_cell(&mut text.bytes, text.len, Code::Step(difference));
@@ -109,7 +110,7 @@ fn cell_print_at_end(code: Code, text: &mut Text) -> Result<(), TextFull>
     ensures full { IsErr result ↔ (LINE_LIMIT < length text.old + length (code_text code) + 1) }
     ensures err { OnErr result (text.new ≡ text.old) }
 {
-    let mut printed = [b' '; CODE_WIDTH + 1];
+    let mut printed = [b' '; CODE_WIDTH];
     let end = write_cell(&mut printed, 0, code);
     text.extend(&printed[..end])
 }
@@ -130,7 +131,7 @@ fn step_print_at_end(difference: i64, text: &mut Text) -> Result<(), TextFull>
 #[inline(always)]
 fn write_cell(buffer: &mut [u8], at: usize, code: Code) -> usize
     requires printable { IsPrintable code }
-    requires room { at + length (code_text code) < length buffer.old }
+    requires room { at + length (code_text code) + 3 ≤ length buffer.old }
     ensures written { take result buffer.new ≡ take at buffer.old ++ (code_text code ++ 32 ∷ []) }
     ensures within { result ≡ at + length (code_text code) + 1 }
 {
@@ -143,7 +144,7 @@ fn write_cell(buffer: &mut [u8], at: usize, code: Code) -> usize
 #[inline(always)]
 fn write_code(buffer: &mut [u8], at: usize, code: Code) -> usize
     requires printable { IsPrintable code }
-    requires room { at + length (code_text code) ≤ length buffer.old }
+    requires room { at + length (code_text code) + 3 ≤ length buffer.old }
     ensures written { take result buffer.new ≡ take at buffer.old ++ code_text code }
     ensures within { result ≡ at + length (code_text code) }
 {

