@@ -38,3 +38,4 @@ pub mod StepsByCode
 pub mod Opening
 pub mod Blocks
 pub mod LentLines
+pub mod LineTexts

@@ -1,8 +1,7 @@
 -- Lines that are made one after another, and cells that are made place by place.
-use Rattle.std.specs.Prelude.{◌≡◌, ◌≤◌, ◌<◌, refl, ℕ, zero, suc, ◌+◌, ℤ, List, [], ◌∷◌, ◌++◌, length, take, drop, sum, flat_map, map, slice_get, slice_index_or, Option, Some, None, Result, Ok, Err, IsOk, IsErr}
+use Rattle.std.specs.Prelude.{◌≡◌, ◌≤◌, ◌<◌, refl, ℕ, zero, suc, ◌+◌, ℤ, List, [], ◌∷◌, ◌++◌, length, take, flat_map, map, slice_get, slice_index_or, Option, Some, None, Result, Ok, Err, IsOk, IsErr}
 use Rattle.std.proofs.Common.{sym, ◌∙◌, ap, arith, append_assoc, add-one}
-use Rattle.std.proofs.lemmas.List.{drop-append-le, take-append-le, length-drop, flat_map_more}
-use Rattle.std.proofs.lemmas.Grind.{common_steps}
+use Rattle.std.proofs.lemmas.List.{flat_map_more}
 use Rattle.std.proofs.lemmas.List.{map-append}
 use Rattle.crx_text.specs.declared.code.Code.{Code}
 use Rattle.crx_rinex.specs.EachPlace.{each_place}
@@ -12,34 +11,12 @@ use Rattle.crx_compact.specs.Tails.{ArcTail}
 use Rattle.crx_compact.specs.Compaction.{cell_text, value_in}
 use Rattle.crx_compact.specs.Steps.{arc_of_value, code_of_value}
 use Rattle.crx_compact.specs.Cells.{arc_at_place, code_at_place}
-use Rattle.crx_compact.specs.LineLists.{cut}
 use Rattle.crx_rinex.proofs.EachPlace.{each_place-more}
 
 -- a result that is no Err is an Ok
 pub ok-unless : {X E : Type 0} (r : Result X E) → (IsErr r → ⊥) → IsOk r
 ok-unless (Ok x) good = refl
 ok-unless (Err e) good = absurd (good refl)
-
--- ---- lines
-
-sum_first : (n : ℕ) (ns : List ℕ) → sum (n ∷ ns) ≡ n + sum ns
-sum_first n ns = grind (arith, common_steps)
-
--- a line after those that a text is cut into
-pub cut-more : (counts text line : List ℕ) → sum counts ≡ length text → cut (counts ++ length line ∷ []) (text ++ line) ≡ cut counts text ++ line ∷ []
-cut-more [] [] line e = ap (λ l. l ∷ []) (ap (λ n. take n line) refl ∙ all line)
-  where
-    all : (l : List ℕ) → take (length l) l ≡ l
-    all [] = refl
-    all (c ∷ cs) = ap (λ r. c ∷ r) (all cs)
-cut-more [] (c ∷ cs) line e = absurd (omega (arith, e))
-cut-more (count ∷ counts) text line e =
-    let first : sum (count ∷ counts) ≡ count + sum counts = sum_first count counts in
-    let within : count ≤ length text = omega (arith, e, first) in
-    let rest : sum counts ≡ length (drop count text) = omega (arith, e, first, length-drop count text) in
-    ap (λ l. l ∷ cut (counts ++ length line ∷ []) (drop count (text ++ line))) (take-append-le count text line within)
-    ∙ ap (λ t. take count text ∷ cut (counts ++ length line ∷ []) t) (drop-append-le count text line within)
-    ∙ ap (λ ls. take count text ∷ ls) (cut-more counts (drop count text) line rest)
 
 -- ---- places
 

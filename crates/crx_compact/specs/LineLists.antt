@@ -1,13 +1,18 @@
--- Lines one after another in one text.
-use Rattle.std.specs.Prelude.{◌≡◌, ◌≤◌, ℕ, List, [], ◌∷◌, length, take, drop, sum}
+-- Lines one after another in one text, each followed by LF.
+use Rattle.std.specs.Prelude.{◌≡◌, ◌≤◌, ℕ, suc, List, [], ◌∷◌, ◌++◌, length, take, drop}
+use Rattle.std.specs.List.{flat_map}
 
--- the pieces of a text that have these lengths
+-- lines, each followed by LF
+abbrev pub lines_text : List (List ℕ) → List ℕ
+lines_text lines = flat_map (λ (line : List ℕ). line ++ 10 ∷ []) lines
+
+-- the lines of these lengths in a text in which one character follows each of them
 abbrev pub cut : List ℕ → List ℕ → List (List ℕ)
 cut [] text = []
-cut (count ∷ counts) text = take count text ∷ cut counts (drop count text)
+cut (count ∷ counts) text = take count text ∷ cut counts (drop (suc count) text)
 
--- lengths and a text that belong together, of which so many pieces, and with them so many bytes, are past
+-- lengths and a text that belong together, of which so many lines, and with them so many bytes, are past
 pub record AreCut (lengths text : List ℕ) (past past_bytes : ℕ) : Type 0 where
   pub past_within : past ≤ length lengths
   pub bytes_within : past_bytes ≤ length text
-  pub whole : sum (drop past lengths) ≡ length (drop past_bytes text)
+  pub whole : lines_text (cut (drop past lengths) (drop past_bytes text)) ≡ drop past_bytes text

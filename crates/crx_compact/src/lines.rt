@@ -1,32 +1,40 @@
-//! Lines that are made one after another and lent in that order.
+//! Lines that are made one after another and lent in that order, one by one or as one text.
 
-ghost use Rattle.std.specs.Prelude.{◌≡◌, ◌++◌, ◌∷◌, [], drop, slice_get, OnOk, OnErr, IsTrue, ◌↔◌};
+ghost use Rattle.std.specs.Prelude.{ℕ, ◌≡◌, ◌≤◌, ◌<◌, ◌+◌, ◌++◌, ◌∷◌, [], drop, length, slice_get, take, OnOk, OnErr, IsTrue, ◌↔◌};
 ghost use Rattle.std.specs.Borrow.{sem};
 ghost use Rattle.std.specs.Io.BufRead.{Rests};
 ghost use Rattle.std.specs.Option.{option_copied};
+ghost use Rattle.crx_compact.specs.LineLists.{lines_text};
 ghost use Rattle.crx_compact.specs.contracts.lines.Lines.{the_row};
 
 use std::alloc::{AllocError, Global};
 use std::marker::Model;
 
-/// Lines that are still to be lent, in one buffer that is kept for those after them.
+/// What bytes grow by: they keep it for later lines.
+const GROWTH: [u8; 1024] = [b'\n'; 1024];
+
+/// Lines that are still to be lent, each followed by LF, in memory that is kept for those after them.
 #[derive(Drop)]
 pub struct Lines {
+    /// The lines, and after them what is left of longer ones.
     bytes: Vec<u8>,
+    /// How many of the bytes are lines.
+    filled: usize,
     lengths: Vec<usize>,
     lent: usize,
     lent_bytes: usize,
 }
 
 impl Model for Lines {
-    ghost use Rattle.std.specs.Prelude.{ℕ, List, drop};
+    ghost use Rattle.std.specs.Prelude.{ℕ, List, ◌≤◌, drop, length, take};
     ghost use Rattle.crx_compact.specs.LineLists.{cut, AreCut};
 
     ghost Value = { List (List ℕ) };
 
-    ghost view = { λ lines. cut (drop lines.lent lines.lengths.items) (drop lines.lent_bytes lines.bytes.items) };
+    ghost view = { λ lines. cut (drop lines.lent lines.lengths.items) (drop lines.lent_bytes (take lines.filled lines.bytes.items)) };
 
-    ghost invariant = { λ lines. AreCut lines.lengths.items lines.bytes.items lines.lent lines.lent_bytes };
+    ghost invariant = { λ lines. AreCut lines.lengths.items (take lines.filled lines.bytes.items) lines.lent lines.lent_bytes
+        × (lines.filled ≤ length lines.bytes.items) };
 }
 
 impl Lines {
@@ -36,6 +44,7 @@ impl Lines {
     {
         Lines {
             bytes: Vec::new(alloc),
+            filled: 0,
             lengths: Vec::new(alloc),
             lent: 0,
             lent_bytes: 0,
@@ -46,7 +55,7 @@ impl Lines {
     pub fn clear(&mut self)
         ensures { self.new ≡ [] }
     {
-        self.bytes.clear();
+        self.filled = 0;
         self.lengths.clear();
         self.lent = 0;
         self.lent_bytes = 0;
@@ -57,13 +66,14 @@ impl Lines {
         ensures ok { OnOk result (self.new ≡ self.old ++ line.now ∷ []) }
         ensures err { OnErr result (self.new ≡ self.old) }
     {
+        let start = self.filled;
+        let end = start + line.len();
+        grow(&mut self.bytes, end + 1)?;
         if self.lengths.push(line.len()).is_err() {
             return Err(AllocError);
         }
-        if self.bytes.extend_from_slice(line).is_err() {
-            self.lengths.pop();
-            return Err(AllocError);
-        }
+        put_line(&mut self.bytes, start, line);
+        self.filled = end + 1;
         Ok(())
     }
 
@@ -86,7 +96,41 @@ impl Lines {
         let start = self.lent_bytes;
         let end = start + self.lengths[self.lent];
         self.lent += 1;
-        self.lent_bytes = end;
+        self.lent_bytes = end + 1;
         Some(&self.bytes[start..end])
     }
+
+    /// Lends the text of all lines that are still to be lent, each followed by LF.
+    pub fn take_text(&mut self) -> &[u8]
+        ensures value { result.now ≡ lines_text self.old }
+        // No line is left to be lent.
+        ensures* after_borrow { sem 𝓛 (Rests the_row self.entry (λ new. new ≡ [])) }
+    {
+        let start = self.lent_bytes;
+        self.lent = self.lengths.len();
+        self.lent_bytes = self.filled;
+        &self.bytes[start..self.filled]
+    }
+}
+
+/// Makes some bytes at least so many; those that are there stay.
+fn grow(bytes: &mut Vec<u8>, count: usize) -> Result<(), AllocError>
+    ensures room { OnOk result (count ≤ length bytes.new.items) }
+    ensures longer { length bytes.old.items ≤ length bytes.new.items }
+    ensures same { (n : ℕ) → n ≤ length bytes.old.items → take n bytes.new.items ≡ take n bytes.old.items }
+{
+    while bytes.len() < count {
+        bytes.extend_from_slice(&GROWTH)?;
+    }
+    Ok(())
+}
+
+/// Puts a line and its LF in place of the bytes from an index on.
+fn put_line(bytes: &mut [u8], start: usize, line: &[u8])
+    requires { start + length line.now < length bytes.old }
+    ensures { take (start + length line.now + 1) bytes.new ≡ take start bytes.old ++ (line.now ++ 10 ∷ []) }
+{
+    let end = start + line.len();
+    bytes[start..end].copy_from_slice(line);
+    bytes[end] = b'\n';
 }

@@ -1,15 +1,11 @@
 -- What a run writes, and how it ends. Lists of items have the newest first.
 use Rattle.std.specs.Prelude.{ℕ, Bool, true, false, List, [], ◌∷◌, ◌++◌, Option, Some, None, if◌then◌else◌, reverse}
-use Rattle.std.specs.List.{flat_map}
 use Rattle.crx_lines.specs.declared.fault.At.{At}
 use Rattle.crx_rinex.specs.Units.{Unit}
 use Rattle.crx_engine.specs.Items.{Item, Accepted, Warned}
 use Rattle.crx_engine.specs.Reading.{WholeReading}
 use Rattle.crx_engine.specs.Messages.{warnings_in, notices_text, error_text}
-
--- lines, each followed by LF
-abbrev pub lines_text : List (List ℕ) → List ℕ
-lines_text lines = flat_map (λ (line : List ℕ). line ++ 10 ∷ []) lines
+pub use Rattle.crx_compact.specs.LineLists.{lines_text}
 
 -- the lines that are written for some items, by what is written for each unit after those before it
 abbrev pub written_lines : {E : Type 0} → (List (Item E) → Unit E → List (List ℕ)) → List (Item E) → List (List ℕ)

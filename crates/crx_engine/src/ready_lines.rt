@@ -1,12 +1,13 @@
 //! The lines that a compaction has ready to be lent.
 
-ghost use Rattle.std.specs.Prelude.{◌≡◌, ◌≤◌, ◌++◌, ◌∷◌, ◌↔◌, [], drop, length, slice_get, IfOk, IsTrue, OnOk, OnErr, Some, true};
+ghost use Rattle.std.specs.Prelude.{◌≡◌, ◌≤◌, ◌++◌, ◌∷◌, ◌↔◌, if◌then◌else◌, [], drop, length, slice_get, is_some, IfOk, IfSome, IsSome, IsTrue, OnOk, OnErr, Some, true};
 ghost use Rattle.crx_lines.specs.declared.limits.TheConstants.{DATE_LIMIT, LINE_LIMIT};
 ghost use Rattle.crx_rinex.specs.Epochs.{is_full_epoch};
 ghost use Rattle.crx_compact.specs.OpenEpochs.{is_idle, tail_held};
 ghost use Rattle.crx_compact.specs.OpenEpochs.ColumnsState.{Idle};
 ghost use Rattle.crx_compact.specs.Steps.{lines_after, tail_after, tail_written_after};
 ghost use Rattle.crx_engine.specs.Compacted.{program_line, lines_before_header};
+ghost use Rattle.crx_engine.specs.Results.{lines_text};
 
 use crate::appending::append;
 use crate::options::in_columns;
@@ -175,6 +176,19 @@ impl ReadyLines {
                 Some(self.copied.bytes())
             }
             Turn::Made => self.made.next_line(),
+        }
+    }
+
+    /// Lends all lines as one text, each followed by LF, after which none is left. `None` comes where one that is held
+    /// elsewhere is the next, and then they stay as they are.
+    pub(crate) fn take_text(&mut self) -> Option<&[u8]>
+        ensures value { IfSome result (λ text. text.now ≡ lines_text (ready_lines self.old)) }
+        ensures made { self.old.turn ≡ Turn.Made → IsSome result }
+        ensures* after_borrow { sem 𝓛 (Rests the_row self.entry (λ new. ready_lines new ≡ (if is_some result then [] else ready_lines self.old))) }
+    {
+        match self.turn {
+            Turn::Made => Some(self.made.take_text()),
+            _ => None,
         }
     }
 }

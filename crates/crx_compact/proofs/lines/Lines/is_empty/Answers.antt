@@ -1,4 +1,4 @@
-use Rattle.std.proofs.Common.{◌≡◌, ◌≤◌, ℕ, zero, suc, List, [], ◌∷◌, drop, length, ap, true, nat_eq, arith, rules}
+use Rattle.std.proofs.Common.{◌≡◌, ◌≤◌, ℕ, zero, suc, List, [], ◌∷◌, drop, take, length, ap, true, nat_eq, arith, rules}
 use Rattle.std.proofs.Math.ListN.{drop_of_length-le}
 use Rattle.std.proofs.lemmas.Bool.Decides.{nat_tests}
 use Rattle.crx_compact.specs.LineLists.{cut}
@@ -22,8 +22,8 @@ pub returns : goal.returns
 returns c =
     let inside = c.self.inside in
     let count : c.len.result ≡ length inside.lengths.items = search rules in
-    let text = drop inside.lent_bytes inside.bytes.items in
+    let text = drop inside.lent_bytes (take inside.filled inside.bytes.items) in
     rw (← c.self.view_is, count) (
       λ same. all-past inside.lengths.items text inside.lent (at-end inside.lent (length inside.lengths.items) same),
-      λ none. at-end-is inside.lent (length inside.lengths.items) c.self.invariant.past_within (none-left inside.lengths.items text inside.lent none),
+      λ none. at-end-is inside.lent (length inside.lengths.items) c.self.invariant.0.past_within (none-left inside.lengths.items text inside.lent none),
     )
