@@ -74,7 +74,7 @@ apart-fewer f (suc m) (suc n) (x ∷ xs) e h =
     let apart = and_parts (not (is_among f (f x) (take n xs))) (are_apart f (take n xs)) h in
     rw (among-fewer f (f x) m n xs (omega (arith, e)) (not-true (is_among f (f x) (take n xs)) apart.0)) (apart-fewer f m n xs (omega (arith, e)) apart.1)
 
-among-map : {X Y : Type 0} (f : Y → List ℕ) (g : X → Y) (name : List ℕ) (xs : List X) → is_among f name (map g xs) ≡ is_among (λ x. f (g x)) name xs
+pub among-map : {X Y : Type 0} (f : Y → List ℕ) (g : X → Y) (name : List ℕ) (xs : List X) → is_among f name (map g xs) ≡ is_among (λ x. f (g x)) name xs
 among-map f g name [] = refl
 among-map f g name (x ∷ xs) = ap (λ (b : Bool). bytes_eq (f (g x)) name || b) (among-map f g name xs)
 

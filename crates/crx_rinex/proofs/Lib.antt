@@ -1,4 +1,5 @@
 pub mod Apart
+pub mod Finding
 pub mod EachPlace
 pub mod Cells
 pub mod Characters

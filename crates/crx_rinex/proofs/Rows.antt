@@ -1,5 +1,5 @@
 -- Rows of different satellites, one after another.
-use Rattle.std.proofs.Common.{◌≡◌, ℕ, ◌+◌, ◌<◌, ◌≤◌, Bool, true, false, ◌&&◌, List, [], ◌∷◌, ◌++◌, length, take, ap, sym, subst, ◌∙◌, inl, inr, arith, Option, Some, None, unwrap_or, cond, leb}
+use Rattle.std.proofs.Common.{◌≡◌, ℕ, ◌+◌, ◌<◌, ◌≤◌, Bool, true, false, ◌&&◌, List, [], ◌∷◌, ◌++◌, length, take, map, ap, sym, subst, ◌∙◌, inl, inr, arith, Option, Some, None, unwrap_or, cond, leb}
 use Rattle.std.specs.List.{list_all}
 use Rattle.std.specs.Option.{option_and_then}
 use Rattle.crx_text.specs.Columns.{character_at, columns}
@@ -7,14 +7,14 @@ use Rattle.crx_lines.specs.declared.limits.TheConstants.{SATELLITES_LIMIT}
 use Rattle.crx_rinex.specs.Label.{number_in}
 use Rattle.std.proofs.lemmas.Bool.{cases_Bool, leb-true, eqb-false}
 use Rattle.std.specs.Prelude.{ℤ, slice_set}
-use Rattle.std.proofs.lemmas.List.{length_push, take_all, take_more_set}
+use Rattle.std.proofs.lemmas.List.{length-take, length_push, map-append, take_all, take_more_set}
 use Rattle.std.proofs.lemmas.List.Elements.{All-push}
 use Rattle.crx_text.specs.Texts.{is_kept}
 use Rattle.crx_rinex.specs.Observations.{Row, Epoch}
 use Rattle.crx_rinex.specs.EpochLines.{satellites_of, count_within_limit, begins_epoch, is_observation_flag}
-use Rattle.crx_rinex.specs.Epochs.{has_satellite, with_row, is_full_epoch, IsSoundEpoch}
+use Rattle.crx_rinex.specs.Epochs.{has_satellite, with_row, is_among, is_full_epoch, IsSoundEpoch}
 use Rattle.crx_rinex.specs.SatelliteLines.{IsSoundRow}
-use Rattle.crx_rinex.proofs.Apart.{apart-push}
+use Rattle.crx_rinex.proofs.Apart.{among-map, apart-push}
 
 -- an epoch that isn't full stays sound with a new satellite's row
 pub sound-with_row : (epoch : Epoch) (row : Row) → IsSoundEpoch epoch → IsSoundRow row → is_full_epoch epoch ≡ false → has_satellite row.name epoch.rows ≡ false → IsSoundEpoch (with_row epoch row)
@@ -57,3 +57,21 @@ few false o = omega arith
 -- columns announce no more satellites than the limit
 pub satellites_few : (head : List ℕ) → satellites_of head ≤ SATELLITES_LIMIT
 satellites_few head = few (begins_epoch head && is_observation_flag (character_at head 32) && list_all is_kept head) (number_in (columns head 33 3))
+
+-- the identifiers of the first of some rows say which satellites they have
+pub named_rows : (names : List (List ℕ)) (rows : List Row) (count : ℕ) (name : List ℕ) → take count names ≡ map (λ (row : Row). row.name) (take count rows)
+    → is_among (λ (n : List ℕ). n) name (take count names) ≡ has_satellite name (take count rows)
+named_rows names rows count name h =
+    ap (is_among (λ (n : List ℕ). n) name) h ∙ among-map (λ (n : List ℕ). n) (λ (row : Row). row.name) name (take count rows)
+
+-- and so they do with the next row's
+pub names-next : (names next : List (List ℕ)) (rows more : List Row) (count : ℕ) (row : Row) (name : List ℕ) → name ≡ row.name → take count names ≡ map (λ (r : Row). r.name) (take count rows)
+    → take (count + 1) next ≡ take count names ++ name ∷ [] → take (count + 1) more ≡ take count rows ++ row ∷ [] → take (count + 1) next ≡ map (λ (r : Row). r.name) (take (count + 1) more)
+names-next names next rows more count row name is h e f =
+    e ∙ ap (λ (ns : List (List ℕ)). ns ++ name ∷ []) h ∙ ap (λ (n : List ℕ). map (λ (r : Row). r.name) (take count rows) ++ n ∷ []) is
+    ∙ sym (map-append (λ (r : Row). r.name) (take count rows) (row ∷ [])) ∙ ap (map (λ (r : Row). r.name)) (sym f)
+
+pub names-long : (names next : List (List ℕ)) (count : ℕ) (name : List ℕ) → count ≤ length names → take (count + 1) next ≡ take count names ++ name ∷ [] → count + 1 ≤ length next
+names-long names next count name h e =
+    let long : length (take (count + 1) next) ≡ length (take count names) + 1 = ap (λ (ns : List (List ℕ)). length ns) e ∙ length_push (take count names) name in
+    omega (arith, h, long, length-take count names, length-take (count + 1) next)

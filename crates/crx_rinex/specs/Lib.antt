@@ -7,6 +7,7 @@ pub mod EachPlace
 pub mod SatelliteLines
 pub mod Observations
 pub mod Epochs
+pub mod Identifiers
 pub mod Printing
 pub mod Places
 pub mod Units

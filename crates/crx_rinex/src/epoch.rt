@@ -12,9 +12,9 @@ ghost use Rattle.crx_rinex.specs.Observations.{observations_in, observations_of}
 ghost use Rattle.crx_rinex.specs.SatelliteLines.{row_of, types_of_satellite, IsSoundRow};
 
 use crate::epoch_line::EpochLine;
+use crate::identifiers::Identifiers;
 use crate::satellite_row::SatRow;
 use crate::types::Types;
-use crx_lines::limits::NAME_WIDTH;
 use crx_text::Fault;
 use std::alloc::Global;
 use std::marker::Model;
@@ -29,22 +29,21 @@ pub struct Epoch {
     rows: Vec<SatRow>,
     /// How many rows the epoch has.
     count: usize,
-    /// How many of the first rows, spare ones among them, are known to be of different satellites.
-    different: usize,
+    /// The identifiers of the rows, and after them those of an earlier epoch.
+    names: Identifiers,
 }
 
 impl Model for Epoch {
-    ghost use Rattle.std.specs.Prelude.{◌≤◌, length, take};
-    ghost use Rattle.crx_rinex.specs.Observations.{Epoch as ObservationEpoch};
-    ghost use Rattle.std.specs.Prelude.{◌≡◌, true};
-    ghost use Rattle.crx_rinex.specs.Epochs.{are_different, IsSoundEpoch};
+    ghost use Rattle.std.specs.Prelude.{◌≡◌, ◌≤◌, length, map, take};
+    ghost use Rattle.crx_rinex.specs.Observations.{Row, Epoch as ObservationEpoch};
+    ghost use Rattle.crx_rinex.specs.Epochs.{IsSoundEpoch};
     ghost use Rattle.crx_rinex.specs.EpochLines.{IsObservationHead};
 
     ghost Value = { ObservationEpoch };
 
     ghost view = { λ epoch. record { head = epoch.head.head; clock = epoch.head.clock; rows = take epoch.count epoch.rows.items } };
 
-    ghost invariant = { λ epoch. IsSoundEpoch (record { head = epoch.head.head; clock = epoch.head.clock; rows = take epoch.count epoch.rows.items }) × (epoch.count ≤ length epoch.rows.items) × IsObservationHead epoch.head × (epoch.different ≤ length epoch.rows.items) × (are_different (take epoch.different epoch.rows.items) ≡ true) };
+    ghost invariant = { λ epoch. IsSoundEpoch (record { head = epoch.head.head; clock = epoch.head.clock; rows = take epoch.count epoch.rows.items }) × (epoch.count ≤ length epoch.rows.items) × IsObservationHead epoch.head × (epoch.count ≤ length epoch.names) × (take epoch.count epoch.names ≡ map (λ (row : Row). row.name) (take epoch.count epoch.rows.items)) };
 }
 
 impl Epoch {
@@ -57,7 +56,7 @@ impl Epoch {
             head,
             rows: Vec::new(alloc),
             count: 0,
-            different: 0,
+            names: Identifiers::new(alloc),
         }
     }
 
@@ -74,9 +73,7 @@ impl Epoch {
         ensures { self.new ≡ self.old }
     {
         if self.count < self.rows.len() {
-            let spare = self.rows.pop();
-            self.different = self.different.min(self.rows.len());
-            spare
+            self.rows.pop()
         } else {
             None
         }
@@ -96,47 +93,39 @@ impl Epoch {
             ⊎ ((refused.1 ≡ Fault.OutOfMemory) × (has_satellite row.name self.old.rows ≡ false))) }
         ensures err { OnErr result (self.new ≡ self.old) }
     {
-        let name = row.name();
-        if self.count < self.different && self.rows[self.count].name() == name {
-            put_row(&mut self.rows, self.count, row);
-            self.count += 1;
-            return Ok(());
-        }
-        self.different = self.count;
-        if has_satellite(&self.rows[..self.count], name) {
-            return Err((row, Fault::RepeatedSatellite));
+        match self.names.put(self.count, row.name()) {
+            Ok(true) => {}
+            Ok(false) => return Err((row, Fault::RepeatedSatellite)),
+            Err(_) => return Err((row, Fault::OutOfMemory)),
         }
         if self.count < self.rows.len() {
             put_row(&mut self.rows, self.count, row);
             self.count += 1;
-            self.different = self.count;
             return Ok(());
         }
         if let Err(full) = self.rows.push(row) {
             return Err((full.value, Fault::OutOfMemory));
         }
         self.count += 1;
-        self.different = self.count;
         Ok(())
     }
 
-    /// Puts a row after the others where a spare one of the same satellite stands at its place, which is handed back for it;
-    /// `false` where there is none, and then nothing changes.
+    /// Puts a row after the others in the place of a spare one, which is handed back for it; `false` where there is none, or
+    /// [`Epoch::push`] may refuse the row, and then nothing changes.
     pub fn exchange(&mut self, row: &mut SatRow) -> bool
         requires { is_full_epoch self.old ≡ false }
         ensures put { OnTrue result (self.new ≡ with_row self.old row.old) }
         ensures same { OnFalse result ((self.new ≡ self.old) × (row.new ≡ row.old)) }
     {
-        let name = row.name();
-        if self.count < self.different {
-            let spare = &mut self.rows[self.count];
-            if spare.name() == name {
-                mem::swap(spare, row);
-                self.count += 1;
-                return true;
-            }
+        if self.count >= self.rows.len() {
+            return false;
         }
-        false
+        let Ok(true) = self.names.put(self.count, row.name()) else {
+            return false;
+        };
+        mem::swap(&mut self.rows[self.count], row);
+        self.count += 1;
+        true
     }
 
     /// Reads a satellite line and puts its row after the others, into the memory of an earlier row where there is one:
@@ -156,21 +145,15 @@ impl Epoch {
             };
         }
         let row = &mut self.rows[self.count];
-        let known = row.name();
         row.read_again(types, line)?;
-        let name = row.name();
-        // Satellites mostly come in the order of the epoch before.
-        if self.count < self.different && known == name {
-            self.count += 1;
-            return Ok(());
+        match self.names.put(self.count, row.name()) {
+            Ok(true) => {
+                self.count += 1;
+                Ok(())
+            }
+            Ok(false) => Err(Fault::RepeatedSatellite),
+            Err(_) => Err(Fault::OutOfMemory),
         }
-        self.different = self.count;
-        if has_satellite(&self.rows[..self.count], name) {
-            return Err(Fault::RepeatedSatellite);
-        }
-        self.count += 1;
-        self.different = self.count;
-        Ok(())
     }
 
     /// Whether the epoch has as many rows as its line announces.
@@ -237,11 +220,4 @@ fn observations_in(rows: &[SatRow]) -> usize
         count += rows[k].observations();
     }
     count
-}
-
-/// Whether some rows have the satellite of this identifier.
-fn has_satellite(rows: &[SatRow], name: [u8; NAME_WIDTH]) -> bool
-    ensures { result ≡ has_satellite name rows.now }
-{
-    rows.iter().any(|known| known.name() == name)
 }
