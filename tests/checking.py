@@ -2,6 +2,7 @@
 
 import re
 import shutil
+import subprocess
 
 # programs that a command may need and a machine may lack
 TOOLS = ("awk", "bash", "cmp", "find", "groff", "gzip", "less", "man", "nproc", "parallel", "sort", "xargs")
@@ -17,7 +18,10 @@ def tally(kind, checks):
     for each, and gives how many passed and how many failed."""
     passed = failed = 0
     for name, check in checks:
-        wrong = check()
+        try:
+            wrong = check()
+        except subprocess.TimeoutExpired as late:
+            wrong = [f"it didn't end within {late.timeout:.0f} seconds"]
         if isinstance(wrong, str):
             print(f"{kind} {name} ... left out: {wrong}", flush=True)
             continue

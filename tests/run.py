@@ -4,9 +4,9 @@
     tests/run.py PROGRAM            the program alone
     tests/run.py PROGRAM --gate     after `rt ci`, which builds it
 
-The program runs as a process (tests/process), by the recipes of docs/ARCHIVES.md (tests/archives), and by the commands that README.md,
-the manual page and the help print, and as it is installed (tests/commands). The last line is `N passed, M failed`, of all. The exit
-status is 0 where nothing failed.
+The program runs over whole texts (tests/cases), as a process whose streams fail or change (tests/process), by the recipes of
+docs/ARCHIVES.md (tests/archives), and by the commands that README.md, the manual page and the help print, and as it is installed
+(tests/commands). The last line is `N passed, M failed`, of all. The exit status is 0 where nothing failed.
 """
 
 import argparse
@@ -20,6 +20,14 @@ HERE = Path(__file__).resolve().parent
 TOP = HERE.parent
 sys.path.insert(0, str(HERE))
 from checking import tally  # noqa: E402
+
+# What is run of the built program: the word that its lines begin with, and the folder of its checks.py.
+KINDS = (
+    ("case", "cases"),
+    ("process", "process"),
+    ("recipe", "archives"),
+    ("command", "commands"),
+)
 
 
 def checks_of(name, program):
@@ -56,7 +64,7 @@ def main():
     program = arguments.program.resolve()
     counts = [gate(program)] if arguments.gate else []
     if program.exists():
-        counts += [tally(kind, checks_of(name, program)) for kind, name in (("process", "process"), ("recipe", "archives"), ("command", "commands"))]
+        counts += [tally(kind, checks_of(name, program)) for kind, name in KINDS]
     else:
         print(f"no program {program}")
         counts.append((0, 1))
