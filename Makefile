@@ -1,7 +1,9 @@
 # make        proves and builds the program, compacts the sample with it, expands that again and compares,
 #             and shows what was written
-# make test   runs the gate: proofs from nothing, wrong bodies, the program's stored run, and tests; then
-#             the built program as a process, by the recipes of docs/ARCHIVES.md, and by the commands in print
+# make test   runs the gate: proofs from nothing, wrong bodies, the program's stored run, and tests; then the
+#             built program over whole texts, as a process, by the recipes of docs/ARCHIVES.md, and by the commands in print
+# make quick  the same for one who works on it: proofs and tests of what changed since all passed, no wrong bodies
+#             (what the prover prints goes into out/gate.log)
 # make trials runs the program that make built with each growth of memory refused in turn (tests/memory)
 # make install PREFIX=/usr/local
 #             puts the program that make built, its manual page, completions and other names in place
@@ -13,11 +15,11 @@ WORDS := rnx2crx --date "01-Jan-24 00:00"
 
 PREFIX ?= /usr/local
 
-.PHONY: all test trials install
+.PHONY: all test quick trials install
 
 all:
-	@mkdir -p out
-	cd crates/rnxcmp && rt run -- $(WORDS) < ../../$(SAMPLE) > ../../$(COMPACT)
+	@tests/gate.py
+	$(PROGRAM) $(WORDS) < $(SAMPLE) > $(COMPACT)
 	$(PROGRAM) crx2rnx < $(COMPACT) | cmp - $(SAMPLE)
 	$(PROGRAM) check $(SAMPLE)
 	@echo
@@ -31,7 +33,10 @@ all:
 	@echo "the sample comes back byte for byte; the program is $(PROGRAM)"
 
 test:
-	tests/run.py $(PROGRAM) --gate
+	@tests/run.py $(PROGRAM) --gate
+
+quick:
+	@tests/run.py $(PROGRAM) --quick
 
 trials:
 	tests/memory/run.py $(PROGRAM)

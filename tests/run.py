@@ -3,6 +3,9 @@
 
     tests/run.py PROGRAM            the program alone
     tests/run.py PROGRAM --gate     after `rt ci`, which builds it
+    tests/run.py PROGRAM --quick    after the proofs and tests of the crates that changed since all passed (`rt check`, `rt test`)
+
+What the prover prints goes into out/gate.log; here it is a line a crate, with the minutes so far.
 
 The program runs over whole texts (tests/cases), as a process whose streams fail or change (tests/process), by the recipes of
 docs/ARCHIVES.md (tests/archives), and by the commands that README.md, the manual page and the help print, and as it is installed
@@ -10,8 +13,7 @@ docs/ARCHIVES.md (tests/archives), and by the commands that README.md, the manua
 """
 
 import argparse
-import re
-import subprocess
+import shutil
 import sys
 from importlib import util
 from pathlib import Path
@@ -19,7 +21,8 @@ from pathlib import Path
 HERE = Path(__file__).resolve().parent
 TOP = HERE.parent
 sys.path.insert(0, str(HERE))
-from checking import tally  # noqa: E402
+import gate  # noqa: E402
+from checking import LIKED, tally  # noqa: E402
 
 # What is run of the built program: the word that its lines begin with, and the folder of its checks.py.
 KINDS = (
@@ -38,37 +41,31 @@ def checks_of(name, program):
     return module.checks(program)
 
 
-def gate(program):
-    """Runs `rt ci`, which builds the program, shows what it prints, and gives the counts of its last line."""
-    program.unlink(missing_ok=True)
-    last = ""
-    with subprocess.Popen(["rt", "ci"], cwd=TOP, stdout=subprocess.PIPE, text=True) as process:
-        for line in process.stdout:
-            sys.stdout.write(line)
-            sys.stdout.flush()
-            last = line
-    if not program.exists():
-        subprocess.run(["rt", "run", "--", "--help"], cwd=program.parent.parent, stdin=subprocess.DEVNULL)
-    found = re.fullmatch(r"(\d+) passed, (\d+) failed", last.strip())
-    if found is None:
-        return 0, 1
-    passed, failed = int(found[1]), int(found[2])
-    return passed, failed or (1 if process.returncode else 0)
-
-
 def main():
     parser = argparse.ArgumentParser(description=__doc__, formatter_class=argparse.RawDescriptionHelpFormatter)
     parser.add_argument("program", type=Path)
     parser.add_argument("--gate", action="store_true", help="run `rt ci` first, which builds the program")
+    parser.add_argument("--quick", action="store_true", help="prove and test first what changed since all passed, and build the program")
     arguments = parser.parse_args()
     program = arguments.program.resolve()
-    counts = [gate(program)] if arguments.gate else []
+    counts = []
+    if arguments.gate or arguments.quick:
+        if not gate.began():
+            print("0 passed, 1 failed")
+            return 1
+        standing = gate.digests()
+        counts = [gate.ci(program) if arguments.gate else gate.quick()]
+    lacking = [tool for tool in LIKED if not shutil.which(tool)]
+    if lacking:
+        print(f"not found here: {', '.join(lacking)}; what needs them is left out")
     if program.exists():
         counts += [tally(kind, checks_of(name, program)) for kind, name in KINDS]
     else:
         print(f"no program {program}")
         counts.append((0, 1))
     passed, failed = (sum(column) for column in zip(*counts))
+    if failed == 0 and (arguments.gate or arguments.quick):
+        gate.stamp(standing)
     print(f"{passed} passed, {failed} failed")
     return 1 if failed else 0
 

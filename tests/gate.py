@@ -1,0 +1,230 @@
+#!/usr/bin/env python3
+"""The prover at work, a line a crate: what it prints goes into out/gate.log.
+
+    tests/gate.py       proves and builds the program, as `make` does
+
+tests/run.py uses the same for the whole gate and for what changed.
+"""
+
+import hashlib
+import json
+import re
+import shutil
+import subprocess
+import sys
+import time
+from pathlib import Path
+
+TOP = Path(__file__).resolve().parent.parent
+CRATES = TOP / "crates"
+LOG = TOP / "out/gate.log"
+STAMP = TOP / "out/green.json"  # what stood where all passed: a digest of each crate's files
+SHOWN = 20  # lines of the log that are shown after a failure
+
+
+def lacking():
+    """What is missing of the toolchain, in a line that is printed, and whether nothing can be done without it."""
+    named = re.search(r"`rt version` prints `([^`]+)`", (TOP / "README.md").read_text())
+    wanted = named[1] if named else ""
+    if not shutil.which("rt"):
+        return f"there is no command rt on the path: README.md names the Rattle toolchain that it belongs to ({wanted})", True
+    version = subprocess.run(["rt", "version"], capture_output=True, text=True, stdin=subprocess.DEVNULL).stdout.strip()
+    if wanted and version != wanted:
+        return f"rt version prints {version}, and README.md names {wanted}: proofs may fail", False
+    return "", False
+
+
+class Progress:
+    """Reads what the prover prints, and says it in a line a crate, with the minutes so far."""
+
+    def __init__(self):
+        self.began = time.monotonic()
+        self.section = []  # what was printed since the last title of a crate
+        self.functions = ""
+        self.crate = ""
+        self.refused = {}  # edits that the prover refused, by crate
+        self.tests = ""
+
+    def say(self, crate, what):
+        print(f"{(time.monotonic() - self.began) / 60:5.1f} min  {crate:20} {what}", flush=True)
+
+    def say_failure(self, crate, what):
+        self.say(crate, what)
+        for line in self.section[-SHOWN:]:
+            print(f"    {line}", flush=True)
+
+    def of_a_proof(self, line):
+        """Lines of the prover on a crate of its own."""
+        if line.startswith("== "):
+            self.section = []
+        self.section.append(line)
+        if found := re.match(r"crate (\S+): modules ", line):
+            self.crate = found[1]
+        if found := re.match(r"logic=proved functions=(\d+)", line):
+            self.functions = found[1]
+            return True
+        return False
+
+    def of_a_build(self, line):
+        if self.of_a_proof(line):
+            self.say(self.crate, f"proved, {self.functions} functions")
+        elif line.startswith("logic=not-proved"):
+            self.say_failure(self.crate, "NOT PROVED")
+
+    def of_the_gate(self, line):
+        self.of_a_proof(line)
+        if found := re.match(r"rt: (\S+?)(: its tests are)? (proved|NOT PROVED)", line):
+            good = found[3] == "proved"
+            tests = "its tests are " if found[2] else ""
+            count = f", {self.functions} functions" if good and not tests and self.functions else ""
+            (self.say if good else self.say_failure)(found[1], f"{tests}{found[3]}{count}")
+            self.functions = ""
+        elif found := re.match(r"rt: (\S+): trying its must-fail edits \((\d+)\)", line):
+            self.say(found[1], f"wrong bodies that are being tried: {found[2]}")
+        elif found := re.match(r"rt: must-fail ([^/]+)/\S+ refused", line):
+            self.refused[found[1]] = self.refused.get(found[1], 0) + 1
+        elif line.startswith("rt: must-fail "):
+            self.say(line.split()[2].partition("/")[0], line.removeprefix("rt: "))
+        elif found := re.match(r"test result: (.*)", line):
+            self.tests = found[1]
+        elif found := re.match(r"rt: (\S+): its tests (passed|FAILED)", line):
+            self.say_edits()
+            (self.say if found[2] == "passed" else self.say_failure)(found[1], f"tests: {self.tests or found[2]}")
+            self.section, self.tests = [], ""
+        elif found := re.match(r"rt: (\S+?) (ran\b.*)", line):
+            self.say_edits()
+            self.say(found[1], found[2])
+        elif line.startswith(("rt: FAILED", "rt: ok;")):
+            self.say_edits()
+            self.say("all crates", line.removeprefix("rt: "))
+
+    def say_edits(self):
+        """The wrong bodies that were refused: the prover says it of all crates at once, before it runs the tests."""
+        for crate, count in self.refused.items():
+            self.say(crate, f"wrong bodies refused: {count}")
+        self.refused = {}
+
+
+def followed(command, folder, each):
+    """Runs a command, with what it prints into the log and line by line to a call: the exit status and the last line."""
+    LOG.parent.mkdir(exist_ok=True)
+    last = ""
+    with LOG.open("a") as log:
+        print(f"$ {' '.join(command)} (in {folder})", file=log, flush=True)
+        streams = {"stdin": subprocess.DEVNULL, "stdout": subprocess.PIPE, "stderr": subprocess.STDOUT}
+        with subprocess.Popen(command, cwd=folder, text=True, errors="replace", **streams) as process:
+            for line in process.stdout:
+                log.write(line)
+                log.flush()
+                each(line.rstrip("\n"))
+                last = line if line.strip() else last
+    return process.returncode, last.strip()
+
+
+def show_log():
+    """The last lines of the log, after a failure."""
+    print(f"the last lines of {LOG.relative_to(TOP)}:")
+    for line in LOG.read_text(errors="replace").splitlines()[-SHOWN:]:
+        print(f"    {line}")
+
+
+def began():
+    """Says what is missing of the toolchain, and begins a log; whether there is a toolchain."""
+    line, ends = lacking()
+    if line:
+        print(line, flush=True)
+    LOG.parent.mkdir(exist_ok=True)
+    LOG.write_text("")
+    return not ends
+
+
+def build():
+    """Proves and builds the program; whether that went well."""
+    status, _ = followed(["rt", "run", "--", "--help"], CRATES / "rnxcmp", Progress().of_a_build)
+    if status:
+        show_log()
+    return status == 0
+
+
+def ci(program):
+    """Runs `rt ci`, which builds the program: how many things passed and how many failed, of its last line."""
+    program.unlink(missing_ok=True)
+    status, last = followed(["rt", "ci"], TOP, Progress().of_the_gate)
+    found = re.fullmatch(r"(\d+) passed, (\d+) failed", last)
+    passed, failed = (int(found[1]), int(found[2])) if found else (0, 1)
+    failed = failed or (1 if status else 0)
+    if failed:
+        show_log()
+    if not program.exists():
+        build()
+    return passed, failed
+
+
+def crates():
+    """The crates and the libraries of this repository that each stands on, each after these."""
+    lines = [line.split(":") for line in (TOP / "crates.txt").read_text().splitlines() if line and not line.startswith("#")]
+    names = {name for name, _ in lines}
+    below = {name: [it for it in libraries.split() if it in names] for name, libraries in lines}
+    ordered = []
+    while len(ordered) < len(below):
+        ordered += [name for name in below if name not in ordered and all(it in ordered for it in below[name])]
+    return {name: below[name] for name in ordered}
+
+
+def digest(name, below):
+    """A digest of a crate's files, and of the crates that it stands on."""
+    made = hashlib.sha256()
+    folder = CRATES / name
+    for path in sorted(path for path in folder.rglob("*") if path.is_file() and path.relative_to(folder).parts[0] != "out"):
+        made.update(str(path.relative_to(folder)).encode() + b"\0" + path.read_bytes() + b"\0")
+    made.update(" ".join(below).encode())
+    return made.hexdigest()
+
+
+def digests():
+    return {name: digest(name, below) for name, below in crates().items()}
+
+
+def stamp(standing):
+    """Keeps what stood there at the start as what passed."""
+    STAMP.write_text(json.dumps(standing, indent=1) + "\n")
+
+
+def changed():
+    """The crates that changed since all passed, and those that stand on one."""
+    kept = json.loads(STAMP.read_text()) if STAMP.exists() else {}
+    found = []
+    for name, below in crates().items():
+        if kept.get(name) != digest(name, below) or any(it in found for it in below):
+            found.append(name)
+    return found
+
+
+def has_tests(name):
+    return any("#[test]" in path.read_text() for path in (CRATES / name / "src").rglob("*.rt"))
+
+
+def quick():
+    """Proves what changed, runs its tests, and builds the program, without wrong bodies: how many of these passed and how many failed."""
+    names = changed()
+    print(f"changed since all passed: {' '.join(names) or 'no crate'}" if STAMP.exists() else "nothing has passed here yet: all crates count as changed")
+    passed = failed = 0
+    for name in names:
+        for verb in ("check", "test") if has_tests(name) else ("check",):
+            progress = Progress()
+            status, last = followed(["rt", verb], CRATES / name, progress.of_a_proof)
+            good = not status
+            passed, failed = passed + good, failed + (not good)
+            said = ("proved" if verb == "check" else last) if good else f"FAILED (rt {verb})"
+            (progress.say if good else progress.say_failure)(name, said)
+    if not failed and not build():
+        failed += 1
+    return passed, failed
+
+
+def main():
+    return 0 if began() and build() else 1
+
+
+if __name__ == "__main__":
+    sys.exit(main())
