@@ -262,6 +262,16 @@ def a_thousand_epochs(program):
 LONG = [the_greatest_epoch, a_hundred_satellites_of_a_hundred_types, one_satellite_more_than_there_are, a_thousand_epochs]
 
 
+def named_in_the_list():
+    """Each case is named in the list by subject, and nothing else is."""
+    page = (HERE.parent / "README.md").read_text()
+    named = re.findall(r"`([^`]+)`", page.partition("## The cases, by subject")[2].partition("\n## ")[0])
+    there = [path.stem for path in HERE.glob("*.case")] + [check.__name__ for check in LONG]
+    wrong = [f"{name} isn't named in tests/README.md" for name in sorted({*there} - {*named})]
+    return wrong + [f"tests/README.md names {name}, which isn't there" for name in sorted({*named} - {*there, "check"})]
+
+
 def checks(program):
+    yield "the list by subject", named_in_the_list
     yield from ((path.stem, lambda path=path: run_file(program, path)) for path in sorted(HERE.glob("*.case")))
     yield from ((check.__name__, lambda check=check: check(program)) for check in LONG)
