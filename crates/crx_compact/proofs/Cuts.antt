@@ -10,19 +10,19 @@ use Rattle.crx_rinex.proofs.Characters.{at, at-without_end_blanks, columns-are}
 
 -- ---- characters of a cut text
 
-at-take : (n : ℕ) (text : List ℕ) (p : ℕ) → p < n → at (take n text) p ≡ at text p
+pub at-take : (n : ℕ) (text : List ℕ) (p : ℕ) → p < n → at (take n text) p ≡ at text p
 at-take zero text p h = absurd (not-suc-le-zero h)
 at-take (suc n) [] p h = refl
 at-take (suc n) (c ∷ cs) zero h = refl
 at-take (suc n) (c ∷ cs) (suc p) h = at-take n cs p (le_of_suc-le-suc h)
 
-at-take_past : (n : ℕ) (text : List ℕ) (p : ℕ) → n ≤ p → at (take n text) p ≡ 32
+pub at-take_past : (n : ℕ) (text : List ℕ) (p : ℕ) → n ≤ p → at (take n text) p ≡ 32
 at-take_past zero text p h = refl
 at-take_past (suc n) [] p h = refl
 at-take_past (suc n) (c ∷ cs) zero h = absurd (not-suc-le-zero h)
 at-take_past (suc n) (c ∷ cs) (suc p) h = at-take_past n cs p (le_of_suc-le-suc h)
 
-within-or_past : (n p : ℕ) → (p < n) ⊎ (n ≤ p)
+pub within-or_past : (n p : ℕ) → (p < n) ⊎ (n ≤ p)
 within-or_past zero p = inr (omega arith)
 within-or_past (suc n) zero = inl (omega arith)
 within-or_past (suc n) (suc p) = step (within-or_past n p)
@@ -64,7 +64,7 @@ trimmed-within n text few = same_characters (take n (without_end_blanks text)) t
 
 -- ---- columns
 
-at-padded : (k : ℕ) (text : List ℕ) (p : ℕ) → at (text ++ replicate k 32) p ≡ at text p
+pub at-padded : (k : ℕ) (text : List ℕ) (p : ℕ) → at (text ++ replicate k 32) p ≡ at text p
 at-padded zero [] p = refl
 at-padded (suc k) [] zero = refl
 at-padded (suc k) [] (suc p) = at-padded k [] p

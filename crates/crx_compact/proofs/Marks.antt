@@ -1,9 +1,9 @@
 -- The marks of a satellite line, and the row that its cells and marks make.
-use Rattle.std.specs.Prelude.{◌≡◌, refl, ℕ, suc, ◌+◌, ◌-◌, ◌*◌, Bool, true, false, List, [], ◌∷◌, ◌++◌, length, map, take, drop, replicate, slice_index_or, Option, None, Some, Result, Ok, Err, IfOk, IfErr, if◌then◌else◌}
+use Rattle.std.specs.Prelude.{◌≡◌, refl, ℕ, suc, ◌+◌, ◌-◌, ◌*◌, ◌<◌, ◌≤◌, Bool, true, false, List, [], ◌∷◌, ◌++◌, length, map, take, drop, replicate, slice_index_or, Option, None, Some, Result, Ok, Err, IfOk, IfErr, OnOk, if◌then◌else◌}
 use Rattle.std.specs.List.{list_all}
 use Rattle.std.proofs.Common.{sym, ◌∙◌, ap, arith, inl, inr, ◌⊎◌}
 use Rattle.std.proofs.lemmas.List.{length-drop, length-map}
-use Rattle.crx_text.specs.Columns.{columns}
+use Rattle.crx_text.specs.Columns.{columns, is_blank}
 use Rattle.crx_text.specs.Texts.{by_position, character_of, patched, is_printable, is_kept}
 use Rattle.crx_text.specs.declared.code.Code.{Code}
 use Rattle.crx_text.specs.declared.code.Code.TheVariants.{Missing}
@@ -27,8 +27,13 @@ use Rattle.crx_compact.specs.Cells.{arcs_of_codes, value_at_place, AreRead}
 use Rattle.crx_compact.specs.HeldRows.{arcs_of_tail, held_from, past_of_row, row_after, row_held, row_held_from, IsNextRow}
 use Rattle.crx_compact.proofs.Facts.{list_all-at}
 use Rattle.crx_compact.proofs.Soundness.{cells-count, texts-count}
-use Rattle.crx_compact.proofs.Overlays.{at-by_position}
-use Rattle.crx_rinex.proofs.Characters.{at, at-without_end_blanks, list_all-from_at}
+use Rattle.crx_compact.proofs.Overlays.{at-by_position, same_characters}
+use Rattle.crx_rinex.proofs.Characters.{at, at-without_end_blanks, columns-are, list_all-from_at}
+use Rattle.crx_rinex.proofs.SoundEpochs.{length-columns}
+use Rattle.crx_compact.proofs.Cuts.{at-padded, at-take, at-take_past, within-or_past}
+use Rattle.crx_compact.proofs.SoundTexts.{length-held}
+use Rattle.std.proofs.Math.Seq.{drop-nil}
+use Rattle.std.proofs.lemmas.List.{take_all}
 
 -- ---- the characters of patched indicators
 
@@ -46,6 +51,39 @@ pub flags-set : (row : Row) (flags : List ℕ) (count : ℕ) → length row.valu
 flags-set row flags count e =
     ap {B = Row} (λ n. record row { flags = take (2 * count) flags ++ replicate (2 * n - length (take (2 * count) flags)) 32 }) e
     ∙ ap {B = Row} (λ fs. record row { flags = fs }) (sym (columns_are flags 1 (2 * count)))
+
+-- ---- no marks
+
+pub no_marks : (count : ℕ) → are_marks count [] ≡ true
+no_marks count = ap (list_all is_blank) (drop-nil {A = ℕ} (2 * count))
+
+at-unmarked : (flags : List ℕ) (p : ℕ) → at (patched flags []) p ≡ at flags p
+at-unmarked flags p = at-without_end_blanks (by_position character_of flags []) p ∙ at-by_position character_of refl flags [] p
+
+-- what is held of indicators that no marks change
+pub held-left : (count : ℕ) (flags : List ℕ) → flags_held count flags ≡ flags_held count (patched flags [])
+held-left count flags = same_characters (take (2 * count) flags) (take (2 * count) (patched flags [])) (λ p. cut p (within-or_past (2 * count) p))
+  where
+    cut : (p : ℕ) → (p < 2 * count) ⊎ (2 * count ≤ p) → at (take (2 * count) flags) p ≡ at (take (2 * count) (patched flags [])) p
+    cut p (inl h) = at-take (2 * count) flags p h ∙ sym (at-take (2 * count) (patched flags []) p h ∙ at-unmarked flags p)
+    cut p (inr h) = at-take_past (2 * count) flags p h ∙ sym (at-take_past (2 * count) (patched flags []) p h)
+
+columns-left : (count : ℕ) (flags : List ℕ) → columns (flags_held count flags) 1 (2 * count) ≡ columns (patched flags []) 1 (2 * count)
+columns-left count flags =
+    columns-are (flags_held count flags) 1 (2 * count) (columns (patched flags []) 1 (2 * count)) (length-columns (patched flags []) 1 (2 * count)) (λ p less.
+    let place : 1 - 1 + p ≡ p = omega arith in
+    ap (at (flags_held count flags)) place
+    ∙ at-without_end_blanks (take (2 * count) flags) p
+    ∙ at-take (2 * count) flags p less
+    ∙ sym (at-take (2 * count) (patched flags [] ++ replicate (2 * count) 32) p less ∙ at-padded (2 * count) (patched flags []) p ∙ at-unmarked flags p))
+
+-- the row that they are put into
+pub flags-left : (row : Row) (flags : List ℕ) (count : ℕ) → length row.values ≡ count
+    → with_flags row (flags_held count flags) ≡ record row { flags = columns (patched flags []) 1 (2 * count) }
+flags-left row flags count e =
+    ap (with_flags row) (sym (take_all (2 * count) (flags_held count flags) (length-held count flags)))
+    ∙ flags-set row (flags_held count flags) count e
+    ∙ ap {B = Row} (λ fs. record row { flags = fs }) (columns-left count flags)
 
 -- ---- a satellite's line
 
@@ -130,6 +168,13 @@ pub cells-refused : (arcs : List (Option ArcTail)) (flags : List ℕ) (satellite
 cells-refused arcs flags satellite line fault h (inl e) = inl (line-fault arcs flags satellite line fault h e)
 cells-refused arcs flags satellite line fault h (inr e) = inr e
 
+pub marks-refused : (arcs : List (Option ArcTail)) (flags : List ℕ) (satellite : Satellite) (line : List ℕ) (left : List (Option ArcTail)) (old new : Row) (at : ℕ) (fault : Fault)
+    → begins_epoch line ≡ false → AreRead arcs satellite.count line left old new at
+    → ((are_marks satellite.count (drop at line) ≡ false) × (fault ≡ BadFlags)) ⊎ (fault ≡ OutOfMemory)
+    → (row_held_from arcs flags satellite line ≡ Err fault) ⊎ (fault ≡ OutOfMemory)
+marks-refused arcs flags satellite line left old new at fault h read (inl e) = inl (line-bad_marks arcs flags satellite line left old new at h read e.0 ∙ ap Err (sym e.1))
+marks-refused arcs flags satellite line left old new at fault h read (inr e) = inr e
+
 -- ---- by what was kept of the whole epoch before
 
 cell-by_kept : (kept : Option RowTail) (place : ℕ) → slice_index_or (arcs_of_tail kept) place None ≡ cell_of_tail place kept
@@ -173,6 +218,18 @@ if-ok (Err e) P Q f h = h
 pub if-err : {X E : Type 0} (r : Result X E) (P Q : E → Type 0) → ((e : E) → P e → Q e) → IfErr r P → IfErr r Q
 if-err (Ok x) P Q f h = h
 if-err (Err e) P Q f h = f e h
+
+pub on-ok : {X E : Type 0} (r : Result X E) {P Q : Type 0} → (P → Q) → OnOk r P → OnOk r Q
+on-ok (Ok x) f h = f h
+on-ok (Err e) f h = h
+
+pub on-all : {X E : Type 0} (r : Result X E) {P Q R S : Type 0} → (P → Q → R → S) → OnOk r P → OnOk r Q → OnOk r R → OnOk r S
+on-all (Ok x) f p q s = f p q s
+on-all (Err e) f p q s = tt
+
+pub in-any : {X E : Type 0} (r : Result X E) {P : Type 0} → P → OnOk r P
+in-any (Ok x) h = h
+in-any (Err e) h = tt
 
 -- the same fault of two results that are equal
 pub same-fault : {X : Type 0} (r s : Result X Fault) → r ≡ s → (fault : Fault) → (r ≡ Err fault) ⊎ (fault ≡ OutOfMemory) → (s ≡ Err fault) ⊎ (fault ≡ OutOfMemory)

@@ -343,8 +343,20 @@ fn read_usual_cell(
     Some((Some(value), length))
 }
 
-/// Gives arcs the count of a row's cells; those that come are without values.
+/// Gives arcs the count of a row's cells, which they mostly have; those that come are without values.
+#[inline(always)]
 fn resize_arcs(arcs: &mut Vec<ObsArc>, count: usize) -> Result<(), AllocError>
+    ensures { OnOk result (length arcs.new.items ≡ count) }
+{
+    if arcs.len() == count {
+        return Ok(());
+    }
+    resize_other_arcs(arcs, count)
+}
+
+/// The same where the count is another one.
+#[inline(never)]
+fn resize_other_arcs(arcs: &mut Vec<ObsArc>, count: usize) -> Result<(), AllocError>
     ensures { OnOk result (length arcs.new.items ≡ count) }
 {
     arcs.truncate(count);
@@ -507,19 +519,8 @@ impl HeldSatellite {
             Ok(at) => at,
             Err(fault) => return Err(fault),
         };
-        match read_marks(flags, count, &line[at..], row, part) {
-            Ok(()) => {}
-            Err(fault) => return Err(fault),
-        }
         self.name = satellite.name();
-        self.flags.clear();
-        let Ok(()) = self
-            .flags
-            .extend_from_slice(held_flags(part.bytes(), count))
-        else {
-            return Err(Fault::OutOfMemory);
-        };
-        Ok(())
+        renew_flags(flags, count, &line[at..], row, &mut self.flags, part)
     }
 }
 
@@ -538,6 +539,99 @@ fn held_flags(flags: &[u8], count: usize) -> &[u8]
     ensures held { AreHeldFlags result.now }
 {
     trim_end(first_bytes(flags, 2 * count))
+}
+
+/// Reads a line's marks after a satellite's indicators in the epoch before: puts the indicators that they make into the row, and
+/// what is held of them in place of others. Most lines have no marks.
+///
+/// `BadFlags` comes as by [`read_marks`], then `OutOfMemory` where something can't grow.
+#[inline(always)]
+fn renew_flags(
+    before: &[u8],
+    count: usize,
+    marks: &[u8],
+    row: &mut SatRow,
+    held: &mut Vec<u8>,
+    part: &mut Text,
+) -> Result<(), Fault>
+    requires before { AreHeldFlags before.now }
+    requires short { length marks.now ≤ LINE_LIMIT }
+    requires allowed { IsAllowedCount count }
+    requires counted { length row.old.values ≡ count }
+    requires held { AreHeldFlags held.old.items }
+    ensures marks { OnOk result (are_marks count marks.now ≡ true) }
+    ensures row { OnOk result (row.new ≡ record row.old { flags = columns (patched before.now marks.now) 1 (2 * count) }) }
+    ensures held { OnOk result (held.new.items ≡ flags_held count (patched before.now marks.now)) }
+    ensures kept { AreHeldFlags held.new.items }
+    ensures err { IfErr result (λ fault. ((are_marks count marks.now ≡ false) × (fault ≡ Fault.BadFlags)) ⊎ (fault ≡ Fault.OutOfMemory)) }
+{
+    if marks.is_empty() {
+        return keep_flags(before, count, row, held);
+    }
+    patch_flags(before, count, marks, row, held, part)
+}
+
+/// The same where there are no marks: the indicators stay.
+#[inline(always)]
+fn keep_flags(
+    before: &[u8],
+    count: usize,
+    row: &mut SatRow,
+    held: &mut Vec<u8>,
+) -> Result<(), Fault>
+    requires before { AreHeldFlags before.now }
+    requires allowed { IsAllowedCount count }
+    requires counted { length row.old.values ≡ count }
+    ensures row { OnOk result (row.new ≡ record row.old { flags = columns (patched before.now []) 1 (2 * count) }) }
+    ensures held { OnOk result (held.new.items ≡ flags_held count (patched before.now [])) }
+    ensures kept { AreHeldFlags held.new.items }
+    ensures err { IfErr result (λ fault. fault ≡ Fault.OutOfMemory) }
+{
+    let flags = held_flags(before, count);
+    row.set_flags(flags);
+    hold_flags(flags, held)
+}
+
+/// The same where there are marks.
+#[inline(never)]
+fn patch_flags(
+    before: &[u8],
+    count: usize,
+    marks: &[u8],
+    row: &mut SatRow,
+    held: &mut Vec<u8>,
+    part: &mut Text,
+) -> Result<(), Fault>
+    requires before { AreHeldFlags before.now }
+    requires short { length marks.now ≤ LINE_LIMIT }
+    requires allowed { IsAllowedCount count }
+    requires counted { length row.old.values ≡ count }
+    requires held { AreHeldFlags held.old.items }
+    ensures marks { OnOk result (are_marks count marks.now ≡ true) }
+    ensures row { OnOk result (row.new ≡ record row.old { flags = columns (patched before.now marks.now) 1 (2 * count) }) }
+    ensures held { OnOk result (held.new.items ≡ flags_held count (patched before.now marks.now)) }
+    ensures kept { AreHeldFlags held.new.items }
+    ensures err { IfErr result (λ fault. ((are_marks count marks.now ≡ false) × (fault ≡ Fault.BadFlags)) ⊎ (fault ≡ Fault.OutOfMemory)) }
+{
+    match read_marks(before, count, marks, row, part) {
+        Ok(()) => hold_flags(held_flags(part.bytes(), count), held),
+        Err(fault) => Err(fault),
+    }
+}
+
+/// Holds indicators in place of others. `OutOfMemory` comes where there is no room for them.
+#[inline(always)]
+fn hold_flags(flags: &[u8], held: &mut Vec<u8>) -> Result<(), Fault>
+    requires { AreHeldFlags flags.now }
+    ensures ok { OnOk result (held.new.items ≡ flags.now) }
+    ensures kept { AreHeldFlags held.new.items }
+    ensures err { IfErr result (λ fault. fault ≡ Fault.OutOfMemory) }
+{
+    held.clear();
+    match held.extend_from_slice(flags) {
+        Ok(()) => Ok(()),
+        Err(_) => Err(Fault::OutOfMemory),
+    }
 }
 
 /// Reads a line's marks after a satellite's indicators in the epoch before: leaves the indicators that they make in a text,

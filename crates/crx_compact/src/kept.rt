@@ -283,6 +283,7 @@ fn push_epoch_text(text: &mut Vec<u8>, epoch: &Epoch) -> Result<(), AllocError>
 }
 
 /// Makes sure that some satellites have one at a place, which may be right after the last one.
+#[inline(always)]
 fn make_room(
     alloc: Global,
     satellites: &mut Vec<HeldSatellite>,
@@ -296,6 +297,16 @@ fn make_room(
     if index < satellites.len() {
         return Ok(());
     }
+    add_room(alloc, satellites)
+}
+
+/// Puts a satellite without a name after some others.
+#[inline(never)]
+fn add_room(alloc: Global, satellites: &mut Vec<HeldSatellite>) -> Result<(), AllocError>
+    ensures room { OnOk result (length satellites.new.items ≡ length satellites.old.items + 1) }
+    ensures same { (count : ℕ) → count ≤ length satellites.old.items → take count satellites.new.items ≡ take count satellites.old.items }
+    ensures grown { length satellites.old.items ≤ length satellites.new.items }
+{
     satellites.push(HeldSatellite::new(alloc))?;
     Ok(())
 }
