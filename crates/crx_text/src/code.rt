@@ -216,9 +216,9 @@ pub fn code_before_blank(line: &[u8]) -> Result<(Code, usize), BadField>
     }
 }
 
-/// Reads a difference up to a line's first blank, and answers it with the index after that blank. `None`
-/// comes where the cell is another code or none, and also where [`code_before_blank`] is to read it:
-/// of eight digits or more, or near the line's end.
+/// Reads a difference up to a line's first blank, or up to its end, and answers it with the index after that blank, or of
+/// the line's end. `None` comes where the cell is another code or none, and also where [`code_before_blank`] is to read it:
+/// of eight digits or more.
 #[inline(always)]
 pub fn step_before_blank(line: &[u8]) -> Option<(i64, usize)>
     ensures value { IfSome result (λ cell. code_of (first_cell line.now) ≡ Some (Step cell.0)) }

@@ -49,21 +49,18 @@ pub(crate) fn digits_before_blank(text: &[u8]) -> Option<(u64, usize)>
     }
 }
 
-// The same where fewer digits than a row has stand before a blank; else None, whatever there is.
+// The same where fewer digits than a row has stand before a blank, or before the text's end; else None, whatever there is.
 #[inline(always)]
 pub(crate) fn few_digits_before_blank(text: &[u8]) -> Option<(u64, usize)>
     ensures value { IfSome result (λ cell. counted_digits (first_cell text.now) ≡ Some cell.0) }
     ensures next { IfSome result (λ cell. drop cell.1 text.now ≡ after_cell text.now) }
     ensures within { IfSome result (λ cell. (cell.0 < 10 ^ DIGITS_LIMIT) × (cell.1 ≤ length text.now)) }
 {
-    if text.len() < ROW {
+    let (size, count) = digits_in_front(text);
+    if count == 0 || count >= ROW {
         return None;
     }
-    let (size, count) = digits_in_front(text);
-    if 0 < count && count < ROW && text[count] == b' ' {
-        return Some((size, count + 1));
-    }
-    None
+    ended_digits(text, size, count)
 }
 
 // The same, digit by digit.
@@ -80,6 +77,20 @@ fn digits_before_blank_singly(text: &[u8]) -> Option<(u64, usize)>
     if count > DIGITS_LIMIT {
         return None;
     }
+    ended_digits(text, size, count)
+}
+
+// The number of so many first digits, and the index after its blank or of the text's end; None where something else stands
+// after them.
+#[inline(always)]
+fn ended_digits(text: &[u8], size: u64, count: usize) -> Option<(u64, usize)>
+    requires digits { HasFirstDigits text.now size count }
+    requires some { 0 < count }
+    requires few { count ≤ DIGITS_LIMIT }
+    ensures value { option_map (λ cell. cell.0) result ≡ counted_digits (first_cell text.now) }
+    ensures next { IfSome result (λ cell. drop cell.1 text.now ≡ after_cell text.now) }
+    ensures within { IfSome result (λ cell. (cell.0 < 10 ^ DIGITS_LIMIT) × (cell.1 ≤ length text.now)) }
+{
     if count == text.len() {
         return Some((size, count));
     }
@@ -91,7 +102,7 @@ fn digits_before_blank_singly(text: &[u8]) -> Option<(u64, usize)>
 
 // The number that the digits at a text's beginning write, and how many they are; no more of them
 // than one too many are read.
-#[inline(always)]
+#[inline(never)]
 fn first_digits(text: &[u8]) -> (u64, usize)
     ensures { HasFirstDigits text.now result.0 result.1 }
 {
@@ -113,12 +124,15 @@ fn first_digits(text: &[u8]) -> (u64, usize)
 const ROW: usize = 8;
 
 // The number that the digits at a text's beginning write, and how many they are, where these are
-// fewer than a row has; else any number, and how many a row has.
+// fewer than a row has; else any number, and how many a row has. Where fewer characters than a row has are left of a
+// line, the digits are read one by one: they are few, and no other function has to be asked for a line's last code.
 #[inline(always)]
 fn digits_in_front(text: &[u8]) -> (u64, usize)
-    requires { ROW ≤ length text.now }
     ensures { result.1 < ROW → HasFirstDigits text.now result.0 result.1 }
 {
+    if text.len() < ROW {
+        return first_digits(text);
+    }
     let row = u8x8::from_slice(text);
     let count = digits_in_row(row);
     if count >= ROW {

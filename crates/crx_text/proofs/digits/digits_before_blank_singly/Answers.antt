@@ -1,7 +1,6 @@
 use Rattle.std.proofs.Common.{ℕ, get_or, ap, sym, ◌∙◌, arith}
 use Rattle.std.specs.Char.{is_ascii_digit}
 use Rattle.crx_text.proofs.CellReads.{no_first_digit}
-use Rattle.crx_text.proofs.PowersOfTen.{small_number}
 use Rattle.crx_text.proofs.digits.digits_before_blank_singly.Goals as goal
 
 pub returns-then-count-eq0-clause-value : goal.returns-then-count-eq0-clause-value
@@ -11,15 +10,3 @@ returns-then-count-eq0-clause-value c =
     let none = c.if-count-eq0.true in
     sym (no_first_digit text (λ some.
     ap (λ (i : ℕ). is_ascii_digit (get_or text i 0)) (sym none) ∙ read.stops (omega (arith, none)) (omega (arith, none, some))))
-
-pub returns-then-count-text-clause-within : goal.returns-then-count-text-clause-within
-returns-then-count-text-clause-within c =
-    let read = c.first_digits-size.ensures in
-    let small = small_number c.first_digits-size.result.0 c.first_digits-size.result.1 18 c.if-count-gt-DIGITS_LIMIT.false read.small in
-    (omega (arith, small), read.within)
-
-pub returns-then-text-count-eq32-clause-within : goal.returns-then-text-count-eq32-clause-within
-returns-then-text-count-eq32-clause-within c =
-    let read = c.first_digits-size.ensures in
-    let small = small_number c.first_digits-size.result.0 c.first_digits-size.result.1 18 c.if-count-gt-DIGITS_LIMIT.false read.small in
-    (omega (arith, small), omega (arith, read.within, c.if-count-text.false))
