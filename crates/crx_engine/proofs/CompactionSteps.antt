@@ -1,6 +1,6 @@
 -- What a compaction makes of a line that has a fault, is too long, or completes an epoch.
-use Rattle.std.proofs.Common.{◌≡◌, ◌⊎◌, inl, inr, ℕ, ◌+◌, true, false, List, Option, Some, None, Result, Err, refl, sym, ap, subst, ◌∙◌}
-use Rattle.crx_lines.specs.Seen.{ReadLine, Overlong}
+use Rattle.std.proofs.Common.{◌≡◌, ◌⊎◌, inl, inr, ℕ, ◌+◌, true, false, List, [], Option, Some, None, Result, Ok, Err, refl, sym, ap, subst, ◌∙◌}
+use Rattle.crx_lines.specs.Seen.{ReadLine, Content, Overlong}
 use Rattle.crx_lines.specs.declared.fault.At.{At}
 use Rattle.crx_lines.specs.declared.fault.Fault.{Fault}
 use Rattle.crx_lines.specs.declared.fault.Fault.TheVariants.{OutOfMemory, LineTooLong}
@@ -9,16 +9,17 @@ use Rattle.crx_rinex.specs.EpochPlaces.{OpenEpoch}
 use Rattle.crx_rinex.specs.ObservationTypes.{Count}
 use Rattle.crx_engine.specs.Choices.{Choices}
 use Rattle.crx_engine.specs.Compactor.{Written, compaction}
-use Rattle.crx_engine.specs.LineByLine.{Seen, Made, Fails, made_in, failed_step, step_of}
+use Rattle.crx_engine.specs.LineByLine.{Seen, Made, Fails, made_in, kept_in, failed_step, step_of}
 use Rattle.crx_engine.specs.Memory.{takes_memory}
 use Rattle.crx_engine.specs.Reading.{is_skippable}
-use Rattle.crx_engine.specs.EngineSteps.{seen_stage, step_made, Steps}
+use Rattle.crx_engine.specs.EngineSteps.{is_ended, seen_stage, step_made, Steps}
 use Rattle.crx_engine.specs.RinexStages.{open_epoch, is_whole}
-use Rattle.crx_engine.specs.RinexReaders.{Takes, CompletedEpoch}
+use Rattle.crx_engine.specs.RinexReaders.{made_at, reader_phase, Takes, CompletedEpoch}
 use Rattle.crx_engine.specs.declared.engine.Step.{Step}
+use Rattle.crx_engine.specs.declared.engine.Step.TheVariants.{Quiet}
 use Rattle.crx_engine.specs.declared.rinex_reader.RinexReader.{RinexReader}
 use Rattle.crx_engine.specs.declared.rinex_reader.RinexStep.{RinexStep}
-use Rattle.crx_engine.specs.declared.rinex_reader.RinexStep.TheVariants.{Epoch}
+use Rattle.crx_engine.specs.declared.rinex_reader.RinexStep.TheVariants.{Nothing, Epoch}
 use Rattle.crx_engine.specs.declared.stage.Stage.{Stage}
 use Rattle.crx_engine.specs.declared.stage.Stage.TheVariants.{FirstLines, Header, Between, Event, Open, Looking, Closed, Ended}
 use Rattle.crx_engine.proofs.EngineLemmas.{out-fatal, fatal-counts, ran-out}
@@ -29,6 +30,31 @@ whole-held made before after line step taken is = at-epoch (subst (λ s. Takes m
   where
     at-epoch : CompletedEpoch made line before after → is_whole after.epoch ≡ true
     at-epoch done = ap is_whole done.held ∙ done.full
+
+-- what is kept in a phase that no fault has ended
+kept-going : (held : Option OpenEpoch) (stage : Stage) (kept : Written) → is_ended stage ≡ false → kept_in compaction (seen_stage held stage) kept ≡ kept
+kept-going held (FirstLines count) kept e = refl
+kept-going held (Header is_first) kept e = refl
+kept-going held Between kept e = refl
+kept-going held (Event left counted) kept e = refl
+kept-going None Open kept e = refl
+kept-going (Some so_far) Open kept e = refl
+kept-going held Looking kept e = refl
+kept-going held Closed kept e = refl
+kept-going held (Ended at) kept e = absurd (cc)
+
+-- a line after which nothing is to be written
+pub quiet-step : (choices : Choices) (number : ℕ) (kept : Written) (before after : RinexReader) (line : List ℕ) (ready : List (List ℕ)) → ready ≡ []
+    → Takes (made_at before line kept) before line Nothing after
+    → Steps compaction (record { choices = choices; number = number; phase = reader_phase before; types = before.types; kept = kept }) (Content line) (Ok Quiet) ready
+    (record { choices = choices; number = number + 1; phase = reader_phase after; types = after.types; kept = kept })
+quiet-step choices number kept before after line ready none taken =
+    let phase = reader_phase after in
+    let going = kept-going (open_epoch after.types after.epoch) after.stage kept taken.2 in
+    inl (ap (λ (ls : List (List ℕ)). step_made (Ok Quiet) ls (record { choices = choices; number = number + 1; phase = phase; types = after.types; kept = kept })) none
+        ∙ ap (λ (ts : List Count). step_made (Ok Quiet) [] (record { choices = choices; number = number + 1; phase = phase; types = ts; kept = kept })) taken.1
+        ∙ ap (λ (k : Written). step_made (Ok Quiet) [] (record { choices = choices; number = number + 1; phase = phase; types = before.types; kept = k })) (sym going)
+        ∙ sym (ap (λ (m : Made ObservationEpoch OpenEpoch). step_of compaction (record { choices = choices; number = number; phase = reader_phase before; types = before.types; kept = kept }) (Content line) m) taken.0))
 
 -- a line with a fault
 pub refused-step : (before now : Seen OpenEpoch Written) (line : ReadLine) (result : Result Step At) (ready : List (List ℕ)) (after : Seen OpenEpoch Written) (fault : Fault)

@@ -1,5 +1,5 @@
 -- What an engine answers, line by line.
-use Rattle.std.specs.Prelude.{◌≡◌, ◌⊎◌, ℕ, ◌+◌, ⊤, true, false, List, [], ◌∷◌, ◌++◌, length, Some, None, Result, Ok, Err}
+use Rattle.std.specs.Prelude.{◌≡◌, ◌⊎◌, ℕ, ◌+◌, ⊤, Bool, true, false, List, [], ◌∷◌, ◌++◌, length, Some, None, Result, Ok, Err}
 use Rattle.crx_lines.specs.Lines.{InputLine}
 use Rattle.crx_lines.specs.declared.fault.At.{At}
 use Rattle.crx_lines.specs.declared.fault.Fault.TheVariants.{OutOfMemory}
@@ -19,6 +19,11 @@ abbrev pub IsDrainedAfter : Step → List (List ℕ) → Type 0
 IsDrainedAfter Ready ready = ⊤
 IsDrainedAfter Quiet ready = ready ≡ []
 IsDrainedAfter (Warned notice again) ready = ready ≡ []
+
+-- the answer to a line: that nothing is to be done, or the one that is kept
+abbrev pub answer_given : Bool → Result Step At → Result Step At
+answer_given true kept = Ok Quiet
+answer_given false kept = kept
 
 -- a course goes on: these lines are written then, these warnings are reported, and no fault ends it
 pub record GoesOn (before after : Course) (texts : List (List ℕ)) (notices : List At) : Type 0 where

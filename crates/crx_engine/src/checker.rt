@@ -39,6 +39,8 @@ pub struct Checker {
     lent: Option<usize>,
     /// A printed line.
     text: Text,
+    /// The answer to the line that was taken last, where a fault has ended the check.
+    answer: Result<Step, At>,
 }
 
 impl Checker {
@@ -60,6 +62,7 @@ impl Checker {
             not_standard: None,
             lent: None,
             text: Text::new(),
+            answer: Ok(Step::Quiet),
         }
     }
 
@@ -105,8 +108,8 @@ impl Checker {
         at
     }
 
-    /// Takes a line of the file. `OutOfMemory` comes only at a line that may take some; any other fault is that of the reading.
-    fn take(&mut self, line: Line<'_>) -> Result<(), At>
+    /// Reads a line of the file. `OutOfMemory` comes only at a line that may take some; any other fault is that of the reading.
+    fn read(&mut self, line: Line<'_>) -> Result<(), At>
         requires open { IsOpen self.old }
         requires within { self.old.number < INPUT_LIMIT }
         ensures open { OnOk result (IsOpen self.new) }
@@ -146,11 +149,20 @@ impl Engine for Checker {
 
     ghost counted = { λ c lines notices h. taken_counted c lines h.1 };
 
-    fn feed(&mut self, line: Line<'_>) -> Result<Step, At> {
-        match self.take(line) {
-            Ok(()) => Ok(Step::Quiet),
-            Err(at) => Err(at),
+    ghost answer = { λ c. c.answer };
+
+    fn take(&mut self, line: Line<'_>) -> bool {
+        match self.read(line) {
+            Ok(()) => true,
+            Err(at) => {
+                self.answer = Err(at);
+                false
+            }
         }
+    }
+
+    fn answer(&self) -> Result<Step, At> {
+        self.answer
     }
 
     fn overlong(&mut self, _number: u64) -> Result<Step, At> {

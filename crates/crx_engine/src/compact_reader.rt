@@ -167,6 +167,7 @@ impl CompactReader {
         requires short { length line.now ≤ LINE_LIMIT }
         ensures takes { (choices : Choices) (number : ℕ) → IfOk result (λ is_taken. is_taken ≡ true → Takes (made_next self.old line.now) line.now (seen_with choices number self.old) (seen_with choices number self.new) Nothing) }
         ensures open { IfOk result (λ is_taken. is_taken ≡ true → self.old.stage ≡ Open) }
+        ensures refused_open { OnErr result (self.old.stage ≡ Open) }
         ensures same { IfOk result (λ is_taken. is_taken ≡ false → self.new ≡ self.old) }
         ensures refuses { IfErr result (Refuses (tail_held self.old.columns) (made_next self.old line.now) (phase_of self.old) line.now) }
         ensures types { OnErr result (self.new.types ≡ self.old.types) }

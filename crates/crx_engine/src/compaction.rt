@@ -42,7 +42,7 @@ fn is_at_every(every: Option<u32>, index: u64) -> bool
 }
 
 impl Compaction {
-    ghost use Rattle.std.specs.Prelude.{◌+◌, ◌<◌, ◌⊎◌, [], length, OnOk, OnErr, IfOk, IfErr, Ok, Err, Some, None, false};
+    ghost use Rattle.std.specs.Prelude.{◌+◌, ◌<◌, ◌⊎◌, ◌≢◌, [], length, OnOk, OnErr, IfOk, IfErr, Ok, Err, Some, None, false};
     ghost use Rattle.crx_lines.specs.Seen.{ReadLine, Content, Overlong};
     ghost use Rattle.crx_lines.specs.declared.limits.TheConstants.{LINE_LIMIT};
     ghost use Rattle.crx_rinex.specs.Observations.{Epoch as ObservationEpoch};
@@ -50,6 +50,7 @@ impl Compaction {
     ghost use Rattle.crx_engine.specs.Compactor.{compact_written, compaction, compaction_seen, written_kept};
     ghost use Rattle.crx_engine.specs.RinexReaders.{made_at, Takes};
     ghost use Rattle.crx_engine.specs.declared.rinex_reader.RinexReader.{RinexReader};
+    ghost use Rattle.crx_engine.specs.Engines.{answer_given};
     ghost use Rattle.crx_engine.specs.LineByLine.{Ended, failed_step, seen_end, seen_next};
     ghost use Rattle.crx_engine.specs.Reading.{can_go_on, is_skippable};
     ghost use Rattle.crx_engine.specs.ReadyLines.{ready_lines};
@@ -87,6 +88,7 @@ impl Compaction {
     }
 
     /// The next line has a fault; whether reading may go on at it. Nothing is ready then.
+    #[inline(never)]
     fn fail(&mut self, fault: Fault, goes_on: bool, ready: &mut ReadyLines) -> Result<Step, At>
         requires within { self.old.number < INPUT_LIMIT }
         ensures fails { (line : ReadLine) → can_go_on line ≡ goes_on → step_made result (ready_lines ready.new) (seen_by self.new) ≡ failed_step compaction (seen_by self.old) line fault }
@@ -142,11 +144,13 @@ impl Compaction {
         Ok(Step::Ready)
     }
 
-    /// The reader took a line, and it is counted.
+    /// The reader took a line after which something is to be written, and it is counted.
+    #[inline(never)]
     fn accept(&mut self, step: RinexStep, line: &[u8], ready: &mut ReadyLines) -> Result<Step, At>
         requires within { self.old.number < INPUT_LIMIT }
         requires short { length line.now ≤ LINE_LIMIT }
         requires drained { ready_lines ready.old ≡ [] }
+        requires some { step ≢ RinexStep.Nothing }
         requires whole { step ≡ RinexStep.Epoch → is_whole self.old.reader.epoch ≡ true }
         ensures steps { (reader : RinexReader) → Takes (made_at reader line.now (seen_by self.old).kept) reader line.now step self.old.reader
             → Steps compaction (seen_with reader self.old) (Content line.now) result (ready_lines ready.new) (seen_by self.new) }
@@ -155,10 +159,7 @@ impl Compaction {
         ensures choices { (seen_by self.new).choices ≡ (seen_by self.old).choices }
     {
         match step {
-            RinexStep::Nothing => {
-                self.number += 1;
-                Ok(Step::Quiet)
-            }
+            RinexStep::Nothing => unreachable!(),
             RinexStep::Header { is_first } => {
                 ready.copy_header(self.options.date(), is_first, line);
                 Ok(self.copy())
@@ -178,23 +179,41 @@ impl Compaction {
         }
     }
 
-    /// Takes the next line: see [`Compactor::feed`](crate::compactor::Compactor::feed).
-    pub(crate) fn feed(&mut self, line: &[u8], ready: &mut ReadyLines) -> Result<Step, At>
+    /// Takes the next line: see [`Compactor::feed`](crate::compactor::Compactor::feed). `true` says that nothing is to be written or
+    /// reported after it; else the answer is put into its place.
+    #[inline]
+    pub(crate) fn feed(
+        &mut self,
+        line: &[u8],
+        ready: &mut ReadyLines,
+        answer: &mut Result<Step, At>,
+    ) -> bool
         requires within { self.old.number < INPUT_LIMIT }
         requires short { length line.now ≤ LINE_LIMIT }
         requires drained { ready_lines ready.old ≡ [] }
-        ensures steps { Steps compaction (seen_by self.old) (Content line.now) result (ready_lines ready.new) (seen_by self.new) }
-        ensures ended { IfErr result (λ at. (seen_by self.new).phase ≡ Ended at) }
-        ensures nothing { OnErr result (ready_lines ready.new ≡ []) }
+        ensures steps { Steps compaction (seen_by self.old) (Content line.now) (answer_given result answer.new) (ready_lines ready.new) (seen_by self.new) }
+        ensures ended { IfErr (answer_given result answer.new) (λ at. (seen_by self.new).phase ≡ Ended at) }
+        ensures nothing { OnErr (answer_given result answer.new) (ready_lines ready.new ≡ []) }
         ensures choices { (seen_by self.new).choices ≡ (seen_by self.old).choices }
     {
         if let Stage::Ended(at) = self.reader.stage {
             self.number += 1;
-            return Err(at);
+            *answer = Err(at);
+            return false;
         }
         match self.reader.take(line) {
-            Ok(step) => self.accept(step, line, ready),
-            Err(fault) => self.fail(fault, begins_epoch(line), ready),
+            Ok(step) => {
+                if let RinexStep::Nothing = step {
+                    self.number += 1;
+                    return true;
+                }
+                *answer = self.accept(step, line, ready);
+                false
+            }
+            Err(fault) => {
+                *answer = self.fail(fault, begins_epoch(line), ready);
+                false
+            }
         }
     }
 

@@ -1,7 +1,7 @@
 //! The engine that compacts RINEX one line at a time.
 
 use crate::compaction::Compaction;
-use crate::engine::Step;
+use crate::engine::{Step, answer_given};
 use crate::options::Options;
 use crate::ready_lines::ReadyLines;
 use crx_text::{At, Line};
@@ -12,10 +12,12 @@ use std::alloc::{AllocError, Global};
 pub struct Compactor {
     compaction: Compaction,
     ready: ReadyLines,
+    /// The answer to the line that was taken last, where something was to be written or reported.
+    pub(crate) answer: Result<Step, At>,
 }
 
 impl Compactor {
-    ghost use Rattle.std.specs.Prelude.{◌≡◌, ◌+◌, ◌≤◌, ◌⊎◌, ◌↔◌, List, [], drop, slice_get, OnOk, OnErr, IfOk, IfErr, Err, IsTrue, true, false};
+    ghost use Rattle.std.specs.Prelude.{◌≡◌, ◌+◌, ◌≤◌, ◌<◌, ◌⊎◌, ◌↔◌, List, [], drop, length, slice_get, OnOk, OnErr, IfOk, IfErr, Err, IsTrue, true, false};
     ghost use Rattle.std.specs.Borrow.{sem};
     ghost use Rattle.std.specs.Io.BufRead.{Rests};
     ghost use Rattle.std.specs.Option.{option_copied};
@@ -23,13 +25,13 @@ impl Compactor {
     ghost use Rattle.crx_lines.specs.Reading.{line_shown, line_number};
     ghost use Rattle.crx_lines.specs.Seen.{Content, Overlong};
     ghost use Rattle.crx_lines.specs.declared.fault.At.{At};
-    ghost use Rattle.crx_lines.specs.declared.limits.TheConstants.{INPUT_LIMIT};
+    ghost use Rattle.crx_lines.specs.declared.limits.TheConstants.{INPUT_LIMIT, LINE_LIMIT};
     ghost use Rattle.crx_engine.specs.Compactor.{compaction, compaction_seen};
     ghost use Rattle.crx_engine.specs.LineByLine.{Ended, seen_next, seen_end};
     ghost use Rattle.crx_engine.specs.EngineSteps.{Steps, step_made};
     ghost use Rattle.crx_engine.specs.Compactors.{compactor_seen, compactor_ready, compactor_took};
     ghost use Rattle.crx_engine.specs.Directions.{compaction_filter};
-    ghost use Rattle.crx_engine.specs.Engines.{Answers, Awaited, Concludes, IsAwaited};
+    ghost use Rattle.crx_engine.specs.Engines.{Answers, answer_given, Awaited, Concludes, IsAwaited};
     ghost use Rattle.crx_engine.specs.contracts.compactor.Compactor.{the_row};
 
     /// A compaction before the first line of its input. It takes the memory for the lines that are copied; `AllocError` comes
@@ -42,6 +44,7 @@ impl Compactor {
         Ok(Compactor {
             compaction: Compaction::new(alloc, options),
             ready,
+            answer: Ok(Step::Quiet),
         })
     }
 
@@ -82,7 +85,23 @@ impl Compactor {
             → Answers (compaction_filter (compactor_seen self.old).choices) (compactor_took self.new) (compactor_ready self.new) lines notices (line_shown line.entry) result }
         ensures repeated { (at : At) → (compactor_seen self.old).phase ≡ Ended at → result ≡ Err at }
     {
-        self.compaction.feed(line.bytes(), &mut self.ready)
+        let is_quiet = self.take_line(line.bytes());
+        answer_given(is_quiet, self.answer)
+    }
+
+    /// Takes the content of a line. `true` says that nothing is to be written or reported after it; else the answer is kept.
+    #[inline]
+    pub(crate) fn take_line(&mut self, line: &[u8]) -> bool
+        requires drained { compactor_ready self.old ≡ [] }
+        requires short { length line.now ≤ LINE_LIMIT }
+        requires within { (compactor_seen self.old).number < INPUT_LIMIT }
+        ensures steps { Steps compaction (compactor_seen self.old) (Content line.now) (answer_given result self.new.answer) (compactor_ready self.new) (compactor_seen self.new) }
+        ensures ended { IfErr (answer_given result self.new.answer) (λ at. (compactor_seen self.new).phase ≡ Ended at) }
+        ensures nothing { OnErr (answer_given result self.new.answer) (compactor_ready self.new ≡ []) }
+        ensures choices { (compactor_seen self.new).choices ≡ (compactor_seen self.old).choices }
+    {
+        self.compaction
+            .feed(line, &mut self.ready, &mut self.answer)
     }
 
     /// Takes the next line where it is too long, by its number: [`Compactor::feed`] with the fault `LineTooLong`, unless a line that

@@ -25,8 +25,14 @@ impl Engine for Compactor {
 
     ghost counted = { λ c lines notices shown. shown.1 };
 
-    fn feed(&mut self, line: Line<'_>) -> Result<Step, At> {
-        Compactor::feed(self, line)
+    ghost answer = { λ c. c.answer };
+
+    fn take(&mut self, line: Line<'_>) -> bool {
+        self.take_line(line.bytes())
+    }
+
+    fn answer(&self) -> Result<Step, At> {
+        self.answer
     }
 
     fn overlong(&mut self, number: u64) -> Result<Step, At> {

@@ -1,6 +1,6 @@
 //! Engines: what takes the lines of an input one at a time, and lends what is to be written.
 
-ghost use Rattle.std.specs.Prelude.{◌≡◌, ◌≤◌, ◌+◌, ℕ, List, [], drop, length, slice_get, IfOk, IsTrue, OnErr, true};
+ghost use Rattle.std.specs.Prelude.{◌≡◌, ◌≤◌, ◌+◌, ℕ, List, [], drop, length, slice_get, Result, IfOk, IsTrue, OnErr, true};
 ghost use Rattle.std.specs.Borrow.{sem};
 ghost use Rattle.std.specs.Io.BufRead.{Rests};
 ghost use Rattle.std.specs.Option.{option_copied};
@@ -9,7 +9,7 @@ ghost use Rattle.crx_lines.specs.Reading.{line_shown, line_number};
 ghost use Rattle.crx_lines.specs.declared.fault.At.{At};
 ghost use Rattle.crx_lines.specs.declared.limits.TheConstants.{INPUT_LIMIT};
 ghost use Rattle.crx_engine.specs.Filters.{Filter};
-ghost use Rattle.crx_engine.specs.Engines.{Answers, Awaited, IsAwaited, Concludes, IsDrainedAfter, taken_after};
+ghost use Rattle.crx_engine.specs.Engines.{Answers, answer_given, Awaited, IsAwaited, Concludes, IsDrainedAfter, taken_after};
 
 use crx_text::{At, Line};
 
@@ -29,8 +29,17 @@ pub enum Step {
     },
 }
 
+/// The answer to a line: that nothing is to be done, or the one that is kept.
+pub fn answer_given(is_quiet: bool, kept: Result<Step, At>) -> Result<Step, At>
+    ensures { result ≡ answer_given is_quiet kept }
+{
+    if is_quiet { Ok(Step::Quiet) } else { kept }
+}
+
 /// A filter that takes the lines of an input one at a time, and lends the lines that are to be written.
 pub trait Engine {
+    ghost use Rattle.crx_engine.specs.declared.engine.Step.{Step};
+
     // What it is to write and to report.
     ghost filter: { Self → Filter };
 
@@ -46,23 +55,31 @@ pub trait Engine {
     // The end of the input wasn't answered yet.
     ghost is_open: { Self → Type 0 };
 
+    // The answer to the line that was taken last, where something was to be written or reported.
+    ghost answer: { Self → Result Step At };
+
     // The end of the input was taken after these lines.
     ghost has_ended: { Self → List InputLine → Type 0 };
 
-    /// Takes a line.
-    fn feed(&mut self, line: Line<'_>) -> Result<Step, At>
+    /// Takes a line. `true` says that nothing is to be written yet and nothing to be reported; after `false`
+    /// [`Engine::answer`] says what is.
+    fn take(&mut self, line: Line<'_>) -> bool
         requires drained { ready self.old ≡ [] }
         requires running { is_open self.old }
         requires next { line_number line ≡ taken self.old + 1 }
         requires within { line_number line ≤ INPUT_LIMIT }
         ensures filter { filter self.new ≡ filter self.old }
-        ensures running { IfOk result (λ _. is_open self.new) }
-        ensures drained { IfOk result (λ step. IsDrainedAfter step (ready self.new)) }
-        ensures nothing { OnErr result (ready self.new ≡ []) }
-        ensures count { IfOk result (λ step. taken self.new ≡ taken_after step (taken self.old)) }
+        ensures running { IfOk (answer_given result (answer self.new)) (λ _. is_open self.new) }
+        ensures drained { IfOk (answer_given result (answer self.new)) (λ step. IsDrainedAfter step (ready self.new)) }
+        ensures nothing { OnErr (answer_given result (answer self.new)) (ready self.new ≡ []) }
+        ensures count { IfOk (answer_given result (answer self.new)) (λ step. taken self.new ≡ taken_after step (taken self.old)) }
         ensures answers { (lines : List InputLine) (notices : List Awaited) → shows self.old lines notices
             → IsAwaited notices (line_shown line.entry)
-            → Answers (filter self.old) (shows self.new) (ready self.new) lines notices (line_shown line.entry) result };
+            → Answers (filter self.old) (shows self.new) (ready self.new) lines notices (line_shown line.entry) (answer_given result (answer self.new)) };
+
+    /// The answer to the line that was taken last, where something was to be written or reported.
+    fn answer(&self) -> Result<Step, At>
+        ensures { result ≡ answer self.now };
 
     /// Takes a line that is too long, by its number.
     fn overlong(&mut self, number: u64) -> Result<Step, At>

@@ -9,7 +9,7 @@ ghost use Rattle.crx_lines.specs.declared.limits.TheConstants.{INPUT_LIMIT, LINE
 ghost use Rattle.crx_engine.specs.Choices.{Choices};
 ghost use Rattle.crx_engine.specs.CompactReaders.{answer_for, lent_for, seen_with};
 ghost use Rattle.crx_engine.specs.Directions.{expansion_filter};
-ghost use Rattle.crx_engine.specs.Engines.{Answers, Awaited, Concludes, IsAwaited};
+ghost use Rattle.crx_engine.specs.Engines.{Answers, answer_given, Awaited, Concludes, IsAwaited};
 ghost use Rattle.crx_engine.specs.EngineSteps.{Steps, answer_of, step_made};
 ghost use Rattle.crx_engine.specs.LineByLine.{seen_end, seen_next};
 ghost use Rattle.crx_engine.specs.Expander.{expansion, expansion_seen};
@@ -17,7 +17,7 @@ ghost use Rattle.crx_engine.specs.Reading.{is_skippable};
 ghost use Rattle.crx_engine.specs.declared.stage.Stage.TheVariants.{Ended};
 
 use crate::compact_reader::{CompactReader, CompactStep};
-use crate::engine::Step;
+use crate::engine::{Step, answer_given};
 use crate::expanded_lines::ExpandedLines;
 use crate::line_number::LineNumber;
 use crate::options::Options;
@@ -35,6 +35,8 @@ pub struct Expander {
     number: LineNumber,
     reader: CompactReader,
     lines: ExpandedLines,
+    /// The answer to the line that was taken last, where something was to be written or reported.
+    pub(crate) answer: Result<Step, At>,
 }
 
 impl Expander {
@@ -57,6 +59,7 @@ impl Expander {
             number: LineNumber::of(0),
             reader: CompactReader::new(alloc),
             lines,
+            answer: Ok(Step::Quiet),
         })
     }
 
@@ -98,7 +101,8 @@ impl Expander {
         ensures answers { (lines : List InputLine) (notices : List Awaited) → expander_took self.old lines notices → IsAwaited notices (line_shown line.entry)
             → Answers (expansion_filter self.old.options) (expander_took self.new) self.new.lines lines notices (line_shown line.entry) result }
     {
-        self.take(line.bytes())
+        let is_quiet = self.take_line(line.bytes());
+        answer_given(is_quiet, self.answer)
     }
 
     /// Takes a line that is too long, by its number.
@@ -165,25 +169,32 @@ impl Expander {
         self.fail(stage, Fault::LineTooLong, false)
     }
 
-    /// Takes the content of a line: see [`Expander::feed`].
-    fn take(&mut self, line: &[u8]) -> Result<Step, At>
+    /// Takes the content of a line: see [`Expander::feed`]. `true` says that nothing is to be written or reported after it; else the
+    /// answer is kept.
+    #[inline]
+    pub(crate) fn take_line(&mut self, line: &[u8]) -> bool
         requires drained { self.old.lines ≡ [] }
         requires short { length line.now ≤ LINE_LIMIT }
         requires within { self.old.number < INPUT_LIMIT }
-        ensures steps { Steps expansion (seen_by self.old) (Content line.now) result self.new.lines (seen_by self.new) }
+        ensures steps { Steps expansion (seen_by self.old) (Content line.now) (answer_given result self.new.answer) self.new.lines (seen_by self.new) }
         ensures options { self.new.options ≡ self.old.options }
-        ensures drained { OnErr result (self.new.lines ≡ []) }
-        ensures ended { IfErr result (λ at. self.new.reader.stage ≡ Ended at) }
-        ensures repeated { (at : At) → self.old.reader.stage ≡ Ended at → result ≡ Err at }
+        ensures drained { OnErr (answer_given result self.new.answer) (self.new.lines ≡ []) }
+        ensures ended { IfErr (answer_given result self.new.answer) (λ at. self.new.reader.stage ≡ Ended at) }
+        ensures repeated { (at : At) → self.old.reader.stage ≡ Ended at → answer_given result self.new.answer ≡ Err at }
     {
-        let stage = self.reader.stage;
         match self.reader.read_early(line) {
             Ok(true) => {
                 self.number.go_on();
-                Ok(Step::Quiet)
+                true
             }
-            Ok(false) => self.take_any(line),
-            Err(fault) => self.fail(stage, fault, begins_epoch(line)),
+            Ok(false) => {
+                self.answer = self.take_any(line);
+                false
+            }
+            Err(fault) => {
+                self.answer = self.fail(Stage::Open, fault, begins_epoch(line));
+                false
+            }
         }
     }
 

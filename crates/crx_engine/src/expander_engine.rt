@@ -25,8 +25,14 @@ impl Engine for Expander {
 
     ghost counted = { λ e lines notices shown. shown.1 };
 
-    fn feed(&mut self, line: Line<'_>) -> Result<Step, At> {
-        Expander::feed(self, line)
+    ghost answer = { λ e. e.answer };
+
+    fn take(&mut self, line: Line<'_>) -> bool {
+        self.take_line(line.bytes())
+    }
+
+    fn answer(&self) -> Result<Step, At> {
+        self.answer
     }
 
     fn overlong(&mut self, number: u64) -> Result<Step, At> {

@@ -7,7 +7,7 @@ ghost use Rattle.crx_lines.specs.declared.limits.TheConstants.{INPUT_LIMIT};
 ghost use Rattle.crx_filter.specs.Running.{IsWithinLimit, IsRunning, Goes, StopsAt, reader_between};
 ghost use Rattle.crx_filter.specs.Taking.{between};
 
-use crate::taking::{Halt, Taken, take_line};
+use crate::taking::{Halt, take_line, take_overlong};
 use crx_engine::engine::Engine;
 use crx_lines::phase::Phase;
 use crx_text::{Fault, LineReader, Sink, Source};
@@ -54,18 +54,16 @@ pub(crate) fn step<E: Engine, R: Source, W: Sink, M: Sink>(
         (reading input.new) lines halt) }
 {
     match input.next_line(reader) {
-        Ok(Some(line)) => match take_line(engine, writer, messages, Taken::Line(line)) {
+        Ok(Some(line)) => match take_line(engine, writer, messages, line) {
             Ok(warned) => Ok(Some(warned)),
             Err(halt) => Err(halt),
         },
         Ok(None) => Ok(None),
         Err(at) => match at.fault {
-            Fault::LineTooLong => {
-                match take_line(engine, writer, messages, Taken::Overlong(at.line)) {
-                    Ok(warned) => Ok(Some(warned)),
-                    Err(halt) => Err(halt),
-                }
-            }
+            Fault::LineTooLong => match take_overlong(engine, writer, messages, at.line) {
+                Ok(warned) => Ok(Some(warned)),
+                Err(halt) => Err(halt),
+            },
             _ => Err(Halt::Fault(at)),
         },
     }

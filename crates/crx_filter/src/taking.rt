@@ -1,18 +1,19 @@
 //! One line of the input, through an engine to the writer and the messages.
 
-ghost use Rattle.std.specs.Prelude.{◌≡◌, ◌+◌, ◌<◌, ◌≤◌, ℕ, List, [], ◌∷◌, length, take, IfOk, IfErr, OnOk, OnErr, None};
-ghost use Rattle.crx_lines.specs.Lines.{InputLine};
+ghost use Rattle.std.specs.Prelude.{◌≡◌, ◌+◌, ◌<◌, ◌≤◌, ℕ, List, [], ◌∷◌, length, take, IfOk, IfErr, OnOk, OnErr, None, true};
+ghost use Rattle.crx_lines.specs.Lines.{InputLine, is_long};
+ghost use Rattle.crx_lines.specs.Reading.{line_shown, line_number};
 ghost use Rattle.crx_lines.specs.Devices.{one_more};
 ghost use Rattle.crx_lines.specs.declared.fault.At.{At};
 ghost use Rattle.crx_lines.specs.declared.limits.TheConstants.{INPUT_LIMIT};
-ghost use Rattle.crx_engine.specs.Filters.{lines_text};
+ghost use Rattle.crx_engine.specs.Filters.{Filter, lines_text};
 ghost use Rattle.crx_engine.specs.Messages.{warning_text, notices_text};
 ghost use Rattle.crx_engine.specs.Engines.{Answers, Awaited, IsAwaited, notices_of as warnings_awaited, Concludes, IsDrainedAfter, taken_after, with_next};
 ghost use Rattle.crx_filter.specs.Taking.{TakenIs, number_taken, is_warning, notices_of, Unsettled, IsOnce, IsHalted, IsDone, IsCut, between};
 
 use crate::message::{Severity, message};
 use crate::ready::write_ready;
-use crx_engine::engine::{Engine, Step};
+use crx_engine::engine::{Engine, Step, answer_given};
 use crx_text::{At, Line, Sink, write_all_counted};
 
 /// What ended a run.
@@ -60,7 +61,10 @@ fn give<E: Engine>(engine: &mut E, taken: Taken<'_>) -> Result<Step, At>
         → Answers (E.filter engine.old) (E.shows engine.new) (E.ready engine.new) lines notices line result }
 {
     match taken {
-        Taken::Line(line) => engine.feed(line),
+        Taken::Line(line) => {
+            let is_quiet = engine.take(line);
+            answer_given(is_quiet, engine.answer())
+        }
         Taken::Overlong(number) => engine.overlong(number),
     }
 }
@@ -115,33 +119,33 @@ fn settle<E: Engine, W: Sink, M: Sink>(
     }
 }
 
-/// Gives a line to the engine, writes what it makes ready, and reports its warning.
-fn take_once<E: Engine, W: Sink, M: Sink>(
+/// Does what an engine answered to a line: writes what it made ready, and reports its warning.
+fn respond<E: Engine, W: Sink, M: Sink>(
     engine: &mut E,
     writer: &mut W,
     messages: &mut M,
-    taken: Taken<'_>,
+    answer: Result<Step, At>,
 ) -> Result<Once, Halt>
-    requires drained { E.ready engine.old ≡ [] }
-    requires running { E.is_open engine.old }
-    requires next { number_taken taken ≡ E.taken engine.old + 1 }
-    requires within { number_taken taken ≤ INPUT_LIMIT }
+    requires running { IfOk answer (λ _. E.is_open engine.old) }
+    requires drained { IfOk answer (λ step. IsDrainedAfter step (E.ready engine.old)) }
     ensures filter { E.filter engine.new ≡ E.filter engine.old }
     ensures running { OnOk result (E.is_open engine.new) }
     ensures drained { OnOk result (E.ready engine.new ≡ []) }
-    ensures again { IfOk result (λ once. once ≡ Once.Again → E.taken engine.new ≡ E.taken engine.old) }
-    ensures once { (lines : List InputLine) (earlier : List Awaited) (line : InputLine) → E.shows engine.old lines earlier → IsAwaited earlier line → TakenIs taken.entry line
-        → IfOk result (λ once. IsOnce (E.filter engine.old) (E.shows engine.new)
+    ensures again { (count : ℕ) → IfOk answer (λ step. E.taken engine.old ≡ taken_after step count) → IfOk result (λ once. once ≡ Once.Again → E.taken engine.new ≡ count) }
+    ensures once { (filter : Filter) (lines : List InputLine) (earlier : List Awaited) (line : InputLine)
+        → Answers filter (E.shows engine.old) (E.ready engine.old) lines earlier line answer
+        → IfOk result (λ once. IsOnce filter (E.shows engine.new)
         (between W.took W.is_flushed W.failures writer.old writer.new)
         (between M.took M.is_flushed M.failures messages.old messages.new)
         lines earlier line once) }
-    ensures halted { (lines : List InputLine) (earlier : List Awaited) (line : InputLine) → E.shows engine.old lines earlier → IsAwaited earlier line → TakenIs taken.entry line
-        → IfErr result (λ halt. IsHalted ((E.filter engine.old).so_far lines) ((E.filter engine.old).so_far (with_next lines line)) ((E.filter engine.old).memory_after lines line) (length lines + 1)
+    ensures halted { (filter : Filter) (lines : List InputLine) (earlier : List Awaited) (line : InputLine)
+        → Answers filter (E.shows engine.old) (E.ready engine.old) lines earlier line answer
+        → IfErr result (λ halt. IsHalted (filter.so_far lines) (filter.so_far (with_next lines line)) (filter.memory_after lines line) (length lines + 1)
         (between W.took W.is_flushed W.failures writer.old writer.new)
         (between M.took M.is_flushed M.failures messages.old messages.new)
         (warnings_awaited earlier) halt) }
 {
-    let step = match give(engine, taken) {
+    let step = match answer {
         Ok(step) => step,
         Err(at) => return Err(Halt::Fault(at)),
     };
@@ -160,14 +164,13 @@ fn take_once<E: Engine, W: Sink, M: Sink>(
     Ok(Once::Done(warned))
 }
 
-/// Takes a line of the input: gives it to the engine, a second time where reading goes on at it, writes what it makes
-/// ready, and reports its warnings; whether there was one.
-pub(crate) fn take_line<E: Engine, W: Sink, M: Sink>(
+/// Gives a line to the engine, and does what it answers.
+fn take_once<E: Engine, W: Sink, M: Sink>(
     engine: &mut E,
     writer: &mut W,
     messages: &mut M,
     taken: Taken<'_>,
-) -> Result<bool, Halt>
+) -> Result<Once, Halt>
     requires drained { E.ready engine.old ≡ [] }
     requires running { E.is_open engine.old }
     requires next { number_taken taken ≡ E.taken engine.old + 1 }
@@ -175,18 +178,51 @@ pub(crate) fn take_line<E: Engine, W: Sink, M: Sink>(
     ensures filter { E.filter engine.new ≡ E.filter engine.old }
     ensures running { OnOk result (E.is_open engine.new) }
     ensures drained { OnOk result (E.ready engine.new ≡ []) }
-    ensures done { (lines : List InputLine) (line : InputLine) → E.shows engine.old lines [] → TakenIs taken.entry line
-        → IfOk result (λ warned. IsDone ((E.filter engine.old).so_far lines) ((E.filter engine.old).so_far (with_next lines line)) (E.shows engine.new (with_next lines line) [])
+    ensures once { (lines : List InputLine) (earlier : List Awaited) (line : InputLine) → E.shows engine.old lines earlier → IsAwaited earlier line → TakenIs taken.entry line
+        → IfOk result (λ once. IsOnce (E.filter engine.old) (E.shows engine.new)
+        (between W.took W.is_flushed W.failures writer.old writer.new)
+        (between M.took M.is_flushed M.failures messages.old messages.new)
+        lines earlier line once) }
+    ensures halted { (lines : List InputLine) (earlier : List Awaited) (line : InputLine) → E.shows engine.old lines earlier → IsAwaited earlier line → TakenIs taken.entry line
+        → IfErr result (λ halt. IsHalted ((E.filter engine.old).so_far lines) ((E.filter engine.old).so_far (with_next lines line)) ((E.filter engine.old).memory_after lines line) (length lines + 1)
+        (between W.took W.is_flushed W.failures writer.old writer.new)
+        (between M.took M.is_flushed M.failures messages.old messages.new)
+        (warnings_awaited earlier) halt) }
+{
+    let answer = give(engine, taken);
+    respond(engine, writer, messages, answer)
+}
+
+/// Does what an engine answered to a line, which is given a second time where reading goes on at it; whether there was a warning.
+#[inline(never)]
+fn take_answered<E: Engine, W: Sink, M: Sink>(
+    engine: &mut E,
+    writer: &mut W,
+    messages: &mut M,
+    taken: Taken<'_>,
+    answer: Result<Step, At>,
+) -> Result<bool, Halt>
+    requires running { IfOk answer (λ _. E.is_open engine.old) }
+    requires drained { IfOk answer (λ step. IsDrainedAfter step (E.ready engine.old)) }
+    requires next { (count : ℕ) × IfOk answer (λ step. E.taken engine.old ≡ taken_after step count) × (number_taken taken ≡ count + 1) }
+    requires within { number_taken taken ≤ INPUT_LIMIT }
+    ensures filter { E.filter engine.new ≡ E.filter engine.old }
+    ensures running { OnOk result (E.is_open engine.new) }
+    ensures drained { OnOk result (E.ready engine.new ≡ []) }
+    ensures done { (filter : Filter) (lines : List InputLine) (line : InputLine) → E.filter engine.old ≡ filter
+        → Answers filter (E.shows engine.old) (E.ready engine.old) lines [] line answer → TakenIs taken.entry line
+        → IfOk result (λ warned. IsDone (filter.so_far lines) (filter.so_far (with_next lines line)) (E.shows engine.new (with_next lines line) [])
         (between W.took W.is_flushed W.failures writer.old writer.new)
         (between M.took M.is_flushed M.failures messages.old messages.new)
         [] warned) }
-    ensures cut { (lines : List InputLine) (line : InputLine) → E.shows engine.old lines [] → TakenIs taken.entry line
-        → IfErr result (λ halt. IsCut ((E.filter engine.old).so_far lines) ((E.filter engine.old).so_far (with_next lines line)) ((E.filter engine.old).memory_after lines line) (length lines + 1)
+    ensures cut { (filter : Filter) (lines : List InputLine) (line : InputLine) → E.filter engine.old ≡ filter
+        → Answers filter (E.shows engine.old) (E.ready engine.old) lines [] line answer → TakenIs taken.entry line
+        → IfErr result (λ halt. IsCut (filter.so_far lines) (filter.so_far (with_next lines line)) (filter.memory_after lines line) (length lines + 1)
         (between W.took W.is_flushed W.failures writer.old writer.new)
         (between M.took M.is_flushed M.failures messages.old messages.new)
         halt) }
 {
-    match take_once(engine, writer, messages, taken) {
+    match respond(engine, writer, messages, answer) {
         Ok(Once::Done(warned)) => Ok(warned),
         Ok(Once::Again) => match take_once(engine, writer, messages, taken) {
             Ok(_) => Ok(true),
@@ -194,6 +230,69 @@ pub(crate) fn take_line<E: Engine, W: Sink, M: Sink>(
         },
         Err(halt) => Err(halt),
     }
+}
+
+/// Takes a line of the input: gives it to the engine, a second time where reading goes on at it, writes what it makes
+/// ready, and reports its warnings; whether there was one.
+#[inline]
+pub(crate) fn take_line<E: Engine, W: Sink, M: Sink>(
+    engine: &mut E,
+    writer: &mut W,
+    messages: &mut M,
+    line: Line<'_>,
+) -> Result<bool, Halt>
+    requires drained { E.ready engine.old ≡ [] }
+    requires running { E.is_open engine.old }
+    requires next { line_number line ≡ E.taken engine.old + 1 }
+    requires within { line_number line ≤ INPUT_LIMIT }
+    ensures filter { E.filter engine.new ≡ E.filter engine.old }
+    ensures running { OnOk result (E.is_open engine.new) }
+    ensures drained { OnOk result (E.ready engine.new ≡ []) }
+    ensures done { (lines : List InputLine) → E.shows engine.old lines []
+        → IfOk result (λ warned. IsDone ((E.filter engine.old).so_far lines) ((E.filter engine.old).so_far (with_next lines (line_shown line.entry))) (E.shows engine.new (with_next lines (line_shown line.entry)) [])
+        (between W.took W.is_flushed W.failures writer.old writer.new)
+        (between M.took M.is_flushed M.failures messages.old messages.new)
+        [] warned) }
+    ensures cut { (lines : List InputLine) → E.shows engine.old lines []
+        → IfErr result (λ halt. IsCut ((E.filter engine.old).so_far lines) ((E.filter engine.old).so_far (with_next lines (line_shown line.entry))) ((E.filter engine.old).memory_after lines (line_shown line.entry)) (length lines + 1)
+        (between W.took W.is_flushed W.failures writer.old writer.new)
+        (between M.took M.is_flushed M.failures messages.old messages.new)
+        halt) }
+{
+    if engine.take(line) {
+        return Ok(false);
+    }
+    let answer = engine.answer();
+    take_answered(engine, writer, messages, Taken::Line(line), answer)
+}
+
+/// Takes a line of the input that is too long, by its number, in the same way.
+pub(crate) fn take_overlong<E: Engine, W: Sink, M: Sink>(
+    engine: &mut E,
+    writer: &mut W,
+    messages: &mut M,
+    number: u64,
+) -> Result<bool, Halt>
+    requires drained { E.ready engine.old ≡ [] }
+    requires running { E.is_open engine.old }
+    requires next { number ≡ E.taken engine.old + 1 }
+    requires within { number ≤ INPUT_LIMIT }
+    ensures filter { E.filter engine.new ≡ E.filter engine.old }
+    ensures running { OnOk result (E.is_open engine.new) }
+    ensures drained { OnOk result (E.ready engine.new ≡ []) }
+    ensures done { (lines : List InputLine) (line : InputLine) → E.shows engine.old lines [] → is_long line ≡ true
+        → IfOk result (λ warned. IsDone ((E.filter engine.old).so_far lines) ((E.filter engine.old).so_far (with_next lines line)) (E.shows engine.new (with_next lines line) [])
+        (between W.took W.is_flushed W.failures writer.old writer.new)
+        (between M.took M.is_flushed M.failures messages.old messages.new)
+        [] warned) }
+    ensures cut { (lines : List InputLine) (line : InputLine) → E.shows engine.old lines [] → is_long line ≡ true
+        → IfErr result (λ halt. IsCut ((E.filter engine.old).so_far lines) ((E.filter engine.old).so_far (with_next lines line)) ((E.filter engine.old).memory_after lines line) (length lines + 1)
+        (between W.took W.is_flushed W.failures writer.old writer.new)
+        (between M.took M.is_flushed M.failures messages.old messages.new)
+        halt) }
+{
+    let answer = engine.overlong(number);
+    take_answered(engine, writer, messages, Taken::Overlong(number), answer)
 }
 
 /// Takes the end of the input: writes what it makes ready, and reports its warning; whether there was one.

@@ -11,9 +11,9 @@ use Rattle.crx_filter.proofs.StepReading.{line-read, overlong-read, stop-read, e
 use Rattle.crx_filter.proofs.StepLemmas.{goes-by, ends-by}
 use Rattle.crx_filter.proofs.step.step.Goals as goal
 
-pub take_line-requires-in-LineTooLong-clause-next :
-    goal.take_line-requires-in-LineTooLong-clause-next
-take_line-requires-in-LineTooLong-clause-next g c =
+pub take_overlong-requires-clause-next :
+    goal.take_overlong-requires-clause-next
+take_overlong-requires-clause-next g c =
     let counts = λ (r : g.row.R.Denot). tally_of (g.R.Source.failures r) (g.R.Source.ends r) in
     overlong-number (λ given. g.R.Source.gave c.args.reader.now given c.next_line.new.reader) (g.R.Source.at_end c.next_line.new.reader) (counts c.args.reader.now) (counts c.next_line.new.reader)
     (reading c.args.input.now) (reading c.next_line.follows.lender-at-none) c.next_line.result c.requires.going c.next_line.follows.holds-at-none.0 (λ e. (c.next_line.ensures.ended e).0) c.in-Err.at c.in-Err.is c.in-LineTooLong.is
@@ -39,7 +39,6 @@ returns-in-Ok-clause-goes g c = λ r0 w0 m0 (lines : List InputLine) shown runni
     let line = line_shown c.in-Ok-Some.line in
     let number = line_number c.in-Ok-Some.line in
     let read = line-read gave gives step (g.R.Source.at_end r1) (g.R.Source.at_end r2) (counts r0) (counts r1) (counts r2) old new lines running.read goes c.next_line.result c.requires.going at-open at-ended c.in-Ok-Some.line is in
-    let taken = refl in
     let w2 = c.take_line.new.writer in
     let m2 = c.take_line.new.messages in
     let input : Input = record { gave = gave; at_end = g.R.Source.at_end r1; start = counts r0; counted = counts r1 } in
@@ -53,7 +52,7 @@ returns-in-Ok-clause-goes g c = λ r0 w0 m0 (lines : List InputLine) shown runni
     goes-by filter input then old new lines writer1 writer2 writer messages1 messages2 messages
     refl refl refl (λ xs ys a b. g.met.W.Sink.took_both w0 w1 w2 xs ys a b)
     refl refl refl (λ xs ys a b. g.met.M.Sink.took_both m0 m1 m2 xs ys a b)
-    running line number read (g.E.Engine.shows c.take_line.new.engine) c.in-Ok.warned (c.in-Ok.ensures.done lines line shown taken)
+    running line number read (g.E.Engine.shows c.take_line.new.engine) c.in-Ok.warned (c.in-Ok.ensures.done lines shown)
 
 pub returns-in-Err-take_line-clause-stops : goal.returns-in-Err-take_line-clause-stops
 returns-in-Err-take_line-clause-stops g c = λ r0 w0 m0 (lines : List InputLine) shown running.
@@ -75,7 +74,6 @@ returns-in-Err-take_line-clause-stops g c = λ r0 w0 m0 (lines : List InputLine)
     let line = line_shown c.in-Ok-Some.line in
     let number = line_number c.in-Ok-Some.line in
     let read = line-read gave gives step (g.R.Source.at_end r1) (g.R.Source.at_end r2) (counts r0) (counts r1) (counts r2) old new lines running.read goes c.next_line.result c.requires.going at-open at-ended c.in-Ok-Some.line is in
-    let taken = refl in
     let w2 = c.take_line.new.writer in
     let m2 = c.take_line.new.messages in
     let input : Input = record { gave = gave; at_end = g.R.Source.at_end r1; start = counts r0; counted = counts r1 } in
@@ -89,7 +87,7 @@ returns-in-Err-take_line-clause-stops g c = λ r0 w0 m0 (lines : List InputLine)
     inr (ends-by filter input then old new lines writer1 writer2 writer messages1 messages2 messages
     refl refl refl (λ xs ys a b. g.met.W.Sink.took_both w0 w1 w2 xs ys a b)
     refl refl refl (λ xs ys a b. g.met.M.Sink.took_both m0 m1 m2 xs ys a b)
-    running line number read c.in-Err-take_line.halt (c.in-Err-take_line.ensures.cut lines line shown taken))
+    running line number read c.in-Err-take_line.halt (c.in-Err-take_line.ensures.cut lines shown))
 
 pub returns-in-Ok-None-clause-goes : goal.returns-in-Ok-None-clause-goes
 returns-in-Ok-None-clause-goes g c = λ r0 w0 m0 (lines : List InputLine) shown running.
@@ -117,8 +115,8 @@ returns-in-Ok-None-clause-goes g c = λ r0 w0 m0 (lines : List InputLine) shown 
       ended = over.1;
     }
 
-pub returns-in-Ok-take_line-clause-goes : goal.returns-in-Ok-take_line-clause-goes
-returns-in-Ok-take_line-clause-goes g c = λ r0 w0 m0 (lines : List InputLine) shown running.
+pub returns-in-Ok-take_overlong-clause-goes : goal.returns-in-Ok-take_overlong-clause-goes
+returns-in-Ok-take_overlong-clause-goes g c = λ r0 w0 m0 (lines : List InputLine) shown running.
     let filter = g.E.Engine.filter c.args.engine.now in
     let r1 = c.args.reader.now in
     let r2 = c.next_line.new.reader in
@@ -138,8 +136,8 @@ returns-in-Ok-take_line-clause-goes g c = λ r0 w0 m0 (lines : List InputLine) s
     let number = c.in-Err.at.line in
     let read = over.2 in
     let taken = over.1 in
-    let w2 = c.take_line-in-LineTooLong.new.writer in
-    let m2 = c.take_line-in-LineTooLong.new.messages in
+    let w2 = c.take_overlong.new.writer in
+    let m2 = c.take_overlong.new.messages in
     let input : Input = record { gave = gave; at_end = g.R.Source.at_end r1; start = counts r0; counted = counts r1 } in
     let then : Input = record { gave = gives; at_end = g.R.Source.at_end r2; start = counts r0; counted = counts r2 } in
     let writer1 : Device = between g.W.Sink.took g.W.Sink.is_flushed g.W.Sink.failures w0 w1 in
@@ -151,10 +149,10 @@ returns-in-Ok-take_line-clause-goes g c = λ r0 w0 m0 (lines : List InputLine) s
     goes-by filter input then old new lines writer1 writer2 writer messages1 messages2 messages
     refl refl refl (λ xs ys a b. g.met.W.Sink.took_both w0 w1 w2 xs ys a b)
     refl refl refl (λ xs ys a b. g.met.M.Sink.took_both m0 m1 m2 xs ys a b)
-    running line number read (g.E.Engine.shows c.take_line-in-LineTooLong.new.engine) c.in-Ok-take_line.warned (c.in-Ok-take_line.ensures.done lines line shown taken)
+    running line number read (g.E.Engine.shows c.take_overlong.new.engine) c.in-Ok-take_overlong.warned (c.in-Ok-take_overlong.ensures.done lines line shown taken)
 
-pub returns-in-Err-take_line-2-clause-stops : goal.returns-in-Err-take_line-2-clause-stops
-returns-in-Err-take_line-2-clause-stops g c = λ r0 w0 m0 (lines : List InputLine) shown running.
+pub returns-in-Err-take_overlong-clause-stops : goal.returns-in-Err-take_overlong-clause-stops
+returns-in-Err-take_overlong-clause-stops g c = λ r0 w0 m0 (lines : List InputLine) shown running.
     let filter = g.E.Engine.filter c.args.engine.now in
     let r1 = c.args.reader.now in
     let r2 = c.next_line.new.reader in
@@ -174,8 +172,8 @@ returns-in-Err-take_line-2-clause-stops g c = λ r0 w0 m0 (lines : List InputLin
     let number = c.in-Err.at.line in
     let read = over.2 in
     let taken = over.1 in
-    let w2 = c.take_line-in-LineTooLong.new.writer in
-    let m2 = c.take_line-in-LineTooLong.new.messages in
+    let w2 = c.take_overlong.new.writer in
+    let m2 = c.take_overlong.new.messages in
     let input : Input = record { gave = gave; at_end = g.R.Source.at_end r1; start = counts r0; counted = counts r1 } in
     let then : Input = record { gave = gives; at_end = g.R.Source.at_end r2; start = counts r0; counted = counts r2 } in
     let writer1 : Device = between g.W.Sink.took g.W.Sink.is_flushed g.W.Sink.failures w0 w1 in
@@ -187,7 +185,7 @@ returns-in-Err-take_line-2-clause-stops g c = λ r0 w0 m0 (lines : List InputLin
     inr (ends-by filter input then old new lines writer1 writer2 writer messages1 messages2 messages
     refl refl refl (λ xs ys a b. g.met.W.Sink.took_both w0 w1 w2 xs ys a b)
     refl refl refl (λ xs ys a b. g.met.M.Sink.took_both m0 m1 m2 xs ys a b)
-    running line number read c.in-Err-take_line-2.halt (c.in-Err-take_line-2.ensures.cut lines line shown taken))
+    running line number read c.in-Err-take_overlong.halt (c.in-Err-take_overlong.ensures.cut lines line shown taken))
 
 pub returns-in_default-clause-stops : goal.returns-in_default-clause-stops
 returns-in_default-clause-stops g c = λ r0 w0 m0 (lines : List InputLine) shown running.
@@ -210,8 +208,8 @@ returns-in-Ok-clause-farther g c =
     line-lent (λ given. g.R.Source.gave c.args.reader.now given c.next_line.new.reader) (g.R.Source.at_end c.next_line.new.reader) (counts c.args.reader.now) (counts c.next_line.new.reader)
     (reading c.args.input.now) (reading c.next_line.follows.lender-at-none) c.next_line.result c.requires.going c.next_line.follows.holds-at-none.0 (λ e. (c.next_line.ensures.ended e).0) c.in-Ok-Some.line (c.in-Ok-Some.is ∙ ap Ok c.in-Ok-Some.field-0-is)
 
-pub returns-in-Ok-take_line-clause-farther : goal.returns-in-Ok-take_line-clause-farther
-returns-in-Ok-take_line-clause-farther g c =
+pub returns-in-Ok-take_overlong-clause-farther : goal.returns-in-Ok-take_overlong-clause-farther
+returns-in-Ok-take_overlong-clause-farther g c =
     let counts = λ (r : g.row.R.Denot). tally_of (g.R.Source.failures r) (g.R.Source.ends r) in
     overlong-lent (λ given. g.R.Source.gave c.args.reader.now given c.next_line.new.reader) (g.R.Source.at_end c.next_line.new.reader) (counts c.args.reader.now) (counts c.next_line.new.reader)
     (reading c.args.input.now) (reading c.next_line.follows.lender-at-none) c.next_line.result c.requires.going c.next_line.follows.holds-at-none.0 (λ e. (c.next_line.ensures.ended e).0) c.in-Err.at c.in-Err.is c.in-LineTooLong.is

@@ -1,76 +1,50 @@
-use Rattle.std.proofs.Common.{◌+◌, length, List, [], ◌∷◌, refl, subst}
+use Rattle.std.proofs.Common.{◌≡◌, ◌+◌, Bool, false, true, List, [], Result, IfOk, refl, sym, ap, subst}
 use Rattle.crx_lines.specs.Lines.{InputLine}
-use Rattle.crx_filter.specs.declared.taking.Once.{Once}
-use Rattle.crx_engine.specs.Engines.{with_next}
-use Rattle.crx_filter.specs.Taking.{Device, between, IsAgain, IsOnce}
-use Rattle.crx_filter.proofs.TakingTwice.{cut-once, once-twice, halted-twice}
+use Rattle.crx_lines.specs.Reading.{line_shown}
+use Rattle.crx_lines.specs.declared.fault.At.{At}
+use Rattle.crx_engine.specs.declared.engine.Step.{Step}
+use Rattle.crx_engine.specs.Engines.{Answers, IsDrainedAfter, answer_given, taken_after}
 use Rattle.crx_filter.proofs.taking.take_line.Goals as goal
 
-pub returns-in-Ok-clause-done : goal.returns-in-Ok-clause-done
-returns-in-Ok-clause-done g c =
-    λ (lines : List InputLine) (line : InputLine) shown taken.
-    let took = g.W.Sink.took in
-    let w0 = c.args.writer.now in
-    let w1 = c.take_once.new.writer in
-    let w2 = c.take_once-in-Ok-Again.new.writer in
-    let reported = g.M.Sink.took in
-    let m0 = c.args.messages.now in
-    let m1 = c.take_once.new.messages in
-    let m2 = c.take_once-in-Ok-Again.new.messages in
-    let filter = g.E.Engine.filter c.args.engine.now in
-    let then = g.E.Engine.filter c.take_once.new.engine in
-    let shows = g.E.Engine.shows c.take_once.new.engine in
-    let writer1 : Device = between took g.W.Sink.is_flushed g.W.Sink.failures w0 w1 in
-    let writer2 : Device = between took g.W.Sink.is_flushed g.W.Sink.failures w1 w2 in
-    let writer : Device = between took g.W.Sink.is_flushed g.W.Sink.failures w0 w2 in
-    let messages1 : Device = between reported g.M.Sink.is_flushed g.M.Sink.failures m0 m1 in
-    let messages2 : Device = between reported g.M.Sink.is_flushed g.M.Sink.failures m1 m2 in
-    let messages : Device = between reported g.M.Sink.is_flushed g.M.Sink.failures m0 m2 in
-    let first : IsAgain (filter.so_far lines) (filter.so_far (with_next lines line)) line (shows lines) writer1 messages1 [] = subst (λ (once : Once). IsOnce filter shows writer1 messages1 lines [] line once) c.in-Ok-Again.field-0-is (c.in-Ok-Again.ensures.once lines [] line shown tt taken) in
-    once-twice filter then c.take_once.ensures.filter lines line writer1 writer2 writer messages1 messages2 messages
-    refl refl refl (λ xs ys a b. g.met.W.Sink.took_both w0 w1 w2 xs ys a b)
-    refl refl refl (λ xs ys a b. g.met.M.Sink.took_both m0 m1 m2 xs ys a b)
-    first.notice first.next first.wrote first.reported (g.E.Engine.shows c.take_once-in-Ok-Again.new.engine) c.in-Ok.field-0 (c.in-Ok.ensures.once lines (record { notice = first.notice; line = line } ∷ []) line first.shown refl taken)
+pub returns-then-take-clause-done : goal.returns-then-take-clause-done
+returns-then-take-clause-done g c = λ (lines : List InputLine) shown.
+    let engine = c.take.new.engine in
+    let line = line_shown c.args.line in
+    let goes = subst (λ (b : Bool). Answers (g.E.Engine.filter c.args.engine.now) (g.E.Engine.shows engine) (g.E.Engine.ready engine) lines [] line (answer_given b (g.E.Engine.answer engine))) c.if-take.true (c.take.ensures.answers lines [] shown tt) in
+    record {
+      is_shown = goes.0;
+      text = [];
+      notices = [];
+      adds = record { output = goes.1.output; warnings = goes.1.warnings; good = goes.1.good };
+      wrote = (g.met.W.Sink.took_none c.args.writer.now, refl);
+      reported = (g.met.M.Sink.took_none c.args.messages.now, refl);
+      flag = refl;
+    }
 
-pub returns-in-Err-take_once-clause-cut : goal.returns-in-Err-take_once-clause-cut
-returns-in-Err-take_once-clause-cut g c =
-    λ (lines : List InputLine) (line : InputLine) shown taken.
-    let took = g.W.Sink.took in
-    let w0 = c.args.writer.now in
-    let w1 = c.take_once.new.writer in
-    let w2 = c.take_once-in-Ok-Again.new.writer in
-    let reported = g.M.Sink.took in
-    let m0 = c.args.messages.now in
-    let m1 = c.take_once.new.messages in
-    let m2 = c.take_once-in-Ok-Again.new.messages in
-    let filter = g.E.Engine.filter c.args.engine.now in
-    let then = g.E.Engine.filter c.take_once.new.engine in
-    let shows = g.E.Engine.shows c.take_once.new.engine in
-    let writer1 : Device = between took g.W.Sink.is_flushed g.W.Sink.failures w0 w1 in
-    let writer2 : Device = between took g.W.Sink.is_flushed g.W.Sink.failures w1 w2 in
-    let writer : Device = between took g.W.Sink.is_flushed g.W.Sink.failures w0 w2 in
-    let messages1 : Device = between reported g.M.Sink.is_flushed g.M.Sink.failures m0 m1 in
-    let messages2 : Device = between reported g.M.Sink.is_flushed g.M.Sink.failures m1 m2 in
-    let messages : Device = between reported g.M.Sink.is_flushed g.M.Sink.failures m0 m2 in
-    let first : IsAgain (filter.so_far lines) (filter.so_far (with_next lines line)) line (shows lines) writer1 messages1 [] = subst (λ (once : Once). IsOnce filter shows writer1 messages1 lines [] line once) c.in-Ok-Again.field-0-is (c.in-Ok-Again.ensures.once lines [] line shown tt taken) in
-    halted-twice filter then c.take_once.ensures.filter lines line writer1 writer2 writer messages1 messages2 messages
-    refl refl refl (λ xs ys a b. g.met.W.Sink.took_both w0 w1 w2 xs ys a b)
-    refl refl refl (λ xs ys a b. g.met.M.Sink.took_both m0 m1 m2 xs ys a b)
-    first.notice first.next first.wrote first.reported (length lines + 1) c.in-Err-take_once.halt (c.in-Err-take_once.ensures.halted lines (record { notice = first.notice; line = line } ∷ []) line first.shown refl taken)
+pub take_answered-requires : goal.take_answered-requires
+take_answered-requires g c =
+    let engine = c.take.new.engine in
+    record {
+      running = rw (c.answer.ensures, sym c.if-take.false) c.take.ensures.running;
+      drained = rw (c.answer.ensures, sym c.if-take.false) c.take.ensures.drained;
+      next = (g.E.Engine.taken c.args.engine.now, rw (c.answer.ensures, sym c.if-take.false) c.take.ensures.count, c.requires.next);
+      within = c.requires.within;
+    }
 
-pub returns-in-Ok-Done-clause-done : goal.returns-in-Ok-Done-clause-done
-returns-in-Ok-Done-clause-done g c =
-    λ (lines : List InputLine) (line : InputLine) shown taken.
-    subst (λ (once : Once). IsOnce (g.E.Engine.filter c.args.engine.now) (g.E.Engine.shows c.take_once.new.engine)
-    (between g.W.Sink.took g.W.Sink.is_flushed g.W.Sink.failures c.args.writer.now c.take_once.new.writer)
-    (between g.M.Sink.took g.M.Sink.is_flushed g.M.Sink.failures c.args.messages.now c.take_once.new.messages)
-    lines [] line once) c.in-Ok-Done.field-0-is (c.in-Ok-Done.ensures.once lines [] line shown tt taken)
-
-pub returns-in-Err-clause-cut : goal.returns-in-Err-clause-cut
-returns-in-Err-clause-cut g c =
-    λ (lines : List InputLine) (line : InputLine) shown taken.
+pub returns-clause-done : goal.returns-clause-done
+returns-clause-done g c = λ (lines : List InputLine) shown.
+    let engine = c.take.new.engine in
     let filter = g.E.Engine.filter c.args.engine.now in
-    cut-once (filter.so_far lines) (filter.so_far (with_next lines line)) (filter.memory_after lines line) (length lines + 1)
-    (between g.W.Sink.took g.W.Sink.is_flushed g.W.Sink.failures c.args.writer.now c.take_once.new.writer)
-    (between g.M.Sink.took g.M.Sink.is_flushed g.M.Sink.failures c.args.messages.now c.take_once.new.messages)
-    c.in-Err.halt (c.in-Err.ensures.halted lines [] line shown tt taken)
+    let line = line_shown c.args.line in
+    let quiet = subst (λ (b : Bool). Answers filter (g.E.Engine.shows engine) (g.E.Engine.ready engine) lines [] line (answer_given b (g.E.Engine.answer engine))) c.if-take.false (c.take.ensures.answers lines [] shown tt) in
+    let answers = subst (λ (r : Result Step At). Answers filter (g.E.Engine.shows engine) (g.E.Engine.ready engine) lines [] line r) (sym c.answer.ensures) quiet in
+    c.take_answered.ensures.done filter lines line c.take.ensures.filter answers refl
+
+pub returns-clause-cut : goal.returns-clause-cut
+returns-clause-cut g c = λ (lines : List InputLine) shown.
+    let engine = c.take.new.engine in
+    let filter = g.E.Engine.filter c.args.engine.now in
+    let line = line_shown c.args.line in
+    let quiet = subst (λ (b : Bool). Answers filter (g.E.Engine.shows engine) (g.E.Engine.ready engine) lines [] line (answer_given b (g.E.Engine.answer engine))) c.if-take.false (c.take.ensures.answers lines [] shown tt) in
+    let answers = subst (λ (r : Result Step At). Answers filter (g.E.Engine.shows engine) (g.E.Engine.ready engine) lines [] line r) (sym c.answer.ensures) quiet in
+    c.take_answered.ensures.cut filter lines line c.take.ensures.filter answers refl

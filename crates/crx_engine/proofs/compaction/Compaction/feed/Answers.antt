@@ -1,8 +1,9 @@
-use Rattle.std.proofs.Common.{sym, rules}
+use Rattle.std.proofs.Common.{refl, sym, subst, rules}
 use Rattle.crx_lines.specs.Seen.{Content}
 use Rattle.crx_engine.specs.Compacting.{seen_by}
-use Rattle.crx_engine.specs.RinexReaders.{made_at}
-use Rattle.crx_engine.proofs.CompactionSteps.{refused-step, seen-again, whole-held}
+use Rattle.crx_engine.specs.RinexReaders.{made_at, Takes}
+use Rattle.crx_engine.specs.declared.rinex_reader.RinexStep.{RinexStep}
+use Rattle.crx_engine.proofs.CompactionSteps.{quiet-step, refused-step, seen-again, whole-held}
 use Rattle.crx_engine.proofs.compaction.Compaction.feed.Goals as goal
 
 pub accept-requires : goal.accept-requires
@@ -12,7 +13,21 @@ accept-requires c =
       within = c.requires.within;
       short = c.requires.short;
       drained = c.requires.drained;
+      some = c.in_default-step.not-Nothing;
       whole = λ is. whole-held (made_at self.reader c.args.line.now (seen_by self).kept) self.reader c.take.new.self c.args.line.now c.in-Ok.step (c.in-Ok.ensures.takes (seen_by self).kept) is;
+    }
+
+pub returns-in-Nothing : goal.returns-in-Nothing
+returns-in-Nothing c =
+    let self = c.args.self.now in
+    let kept = (seen_by self).kept in
+    let line = c.args.line.now in
+    record {
+      steps = quiet-step self.options self.number kept self.reader c.take.new.self line _ c.requires.drained
+      (subst (λ (step : RinexStep). Takes (made_at self.reader line kept) self.reader line step c.take.new.self) c.in-Nothing.is (c.in-Ok.ensures.takes kept));
+      ended = search rules;
+      nothing = search rules;
+      choices = refl;
     }
 
 pub returns-in-Err : goal.returns-in-Err

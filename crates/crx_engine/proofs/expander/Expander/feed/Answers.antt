@@ -1,4 +1,6 @@
-use Rattle.std.proofs.Common.{ℕ, List, sym, subst}
+use Rattle.std.proofs.Common.{ℕ, List, Result, sym, subst}
+use Rattle.crx_lines.specs.declared.fault.At.{At}
+use Rattle.crx_engine.specs.declared.engine.Step.{Step}
 use Rattle.crx_lines.specs.Reading.{line_shown}
 use Rattle.crx_lines.specs.Seen.{ReadLine, Content}
 use Rattle.crx_engine.specs.Directions.{expansion_filter}
@@ -13,10 +15,12 @@ use Rattle.crx_engine.proofs.expander.Expander.feed.Goals as goal
 pub returns-clause-answers : goal.returns-clause-answers
 returns-clause-answers c = λ lines notices taken awaited.
     let self = c.args.self.now in
-    let new = c.take.new.self in
+    let new = c.take_line-is_quiet.new.self in
     let line = line_shown c.args.line in
     let choices = self.options in
-    let own = subst (λ (bytes : List ℕ). Steps expansion (seen_by self) (Content bytes) c.take.result new.lines (seen_by new)) c.bytes.ensures.content c.take.ensures.steps in
-    let steps = subst (λ (l : ReadLine). Steps expansion (seen_by self) l c.take.result new.lines (seen_by new)) (sym (seen-short line (not-long line c.args.line.short))) own in
-    answers-line expansion (expansion_seen choices) (expansion_filter choices) (expansion-goes choices) _ (seen_by self) (seen_by new) lines notices line new.lines c.take.result
-    (λ ls ns now. (shown-lines choices new.options (seen_by new) ls ns c.take.ensures.options now).0) taken awaited steps
+    let answer = c.answer_given.result in
+    let given = subst (λ (r : Result Step At). Steps expansion (seen_by self) (Content c.bytes.result.now) r new.lines (seen_by new)) (sym c.answer_given.ensures) c.take_line-is_quiet.ensures.steps in
+    let own = subst (λ (bytes : List ℕ). Steps expansion (seen_by self) (Content bytes) answer new.lines (seen_by new)) c.bytes.ensures.content given in
+    let steps = subst (λ (l : ReadLine). Steps expansion (seen_by self) l answer new.lines (seen_by new)) (sym (seen-short line (not-long line c.args.line.short))) own in
+    answers-line expansion (expansion_seen choices) (expansion_filter choices) (expansion-goes choices) _ (seen_by self) (seen_by new) lines notices line new.lines answer
+    (λ ls ns now. (shown-lines choices new.options (seen_by new) ls ns c.take_line-is_quiet.ensures.options now).0) taken awaited steps

@@ -7,7 +7,7 @@ use Rattle.crx_engine.specs.Checkers.{is_reading, seen_with}
 use Rattle.crx_engine.specs.Engines.{RunsOutAt, with_next}
 use Rattle.crx_engine.specs.RinexReaders.{reader_phase, made_at, Takes, Refuses}
 use Rattle.crx_engine.proofs.CheckerSteps.{has-printed, still-reading, took-line, refused-line, short-line}
-use Rattle.crx_engine.proofs.checker.Checker.take.Goals as goal
+use Rattle.crx_engine.proofs.checker.Checker.read.Goals as goal
 
 pub returns-in-Ok-clause-open : goal.returns-in-Ok-clause-open
 returns-in-Ok-clause-open c =
