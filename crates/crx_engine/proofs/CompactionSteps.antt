@@ -52,9 +52,9 @@ quiet-step choices number kept before after line ready none taken =
     let phase = reader_phase after in
     let going = kept-going (open_epoch after.types after.epoch) after.stage kept taken.2 in
     inl (ap (λ (ls : List (List ℕ)). step_made (Ok Quiet) ls (record { choices = choices; number = number + 1; phase = phase; types = after.types; kept = kept })) none
-        ∙ ap (λ (ts : List Count). step_made (Ok Quiet) [] (record { choices = choices; number = number + 1; phase = phase; types = ts; kept = kept })) taken.1
-        ∙ ap (λ (k : Written). step_made (Ok Quiet) [] (record { choices = choices; number = number + 1; phase = phase; types = before.types; kept = k })) (sym going)
-        ∙ sym (ap (λ (m : Made ObservationEpoch OpenEpoch). step_of compaction (record { choices = choices; number = number; phase = reader_phase before; types = before.types; kept = kept }) (Content line) m) taken.0))
+    ∙ ap (λ (ts : List Count). step_made (Ok Quiet) [] (record { choices = choices; number = number + 1; phase = phase; types = ts; kept = kept })) taken.1
+    ∙ ap (λ (k : Written). step_made (Ok Quiet) [] (record { choices = choices; number = number + 1; phase = phase; types = before.types; kept = k })) (sym going)
+    ∙ sym (ap (λ (m : Made ObservationEpoch OpenEpoch). step_of compaction (record { choices = choices; number = number; phase = reader_phase before; types = before.types; kept = kept }) (Content line) m) taken.0))
 
 -- a line with a fault
 pub refused-step : (before now : Seen OpenEpoch Written) (line : ReadLine) (result : Result Step At) (ready : List (List ℕ)) (after : Seen OpenEpoch Written) (fault : Fault)

@@ -24,7 +24,7 @@ returns-in-Nothing c =
     let line = c.args.line.now in
     record {
       steps = quiet-step self.options self.number kept self.reader c.take.new.self line _ c.requires.drained
-      (subst (λ (step : RinexStep). Takes (made_at self.reader line kept) self.reader line step c.take.new.self) c.in-Nothing.is (c.in-Ok.ensures.takes kept));
+          (subst (λ (step : RinexStep). Takes (made_at self.reader line kept) self.reader line step c.take.new.self) c.in-Nothing.is (c.in-Ok.ensures.takes kept));
       ended = search rules;
       nothing = search rules;
       choices = refl;
