@@ -7,6 +7,9 @@
 # make trials runs the program that make built with each growth of memory refused in turn (tests/memory)
 # make install PREFIX=/usr/local
 #             puts the program that make built, its manual page, completions and other names in place
+# make library
+#             proves and builds the library for C, C++ and Fortran, into out/library (docs/LIBRARY.md)
+# make python does that and makes the package for Python of it, into out/python
 
 SAMPLE := samples/station.rnx
 COMPACT := out/station.crx
@@ -43,3 +46,13 @@ trials:
 
 install:
 	packaging/install.sh "$(DESTDIR)$(PREFIX)" $(PROGRAM)
+
+.PHONY: library python
+
+library:
+	cd crates/rnxcmp_c && rt lib
+	library/build.sh crates/rnxcmp_c/out/librnxcmp_c.a out/library
+
+python: library
+	rm -rf out/python
+	python3 python/build_wheel.py out/library out/python

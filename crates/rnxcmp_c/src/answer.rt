@@ -1,0 +1,93 @@
+//! What a call answers, and how its texts come into the caller's memory.
+
+ghost use Rattle.std.specs.Prelude.{◌≡◌};
+ghost use Rattle.crx_engine.specs.Results.{FilterResult};
+ghost use Rattle.crx_lines.specs.declared.fault.Fault.TheVariants.{InputTooLong, OutOfMemory};
+ghost use Rattle.crx_lines.specs.Faults.{code_of_fault};
+ghost use Rattle.rnxcmp_c.specs.Answers.{answer_of, code_in, line_in, placed};
+
+use crx_text::{At, Fault};
+
+/// The status where the output doesn't fit into the caller's room.
+pub const NO_ROOM: u32 = 3;
+
+/// The status where the date is refused.
+pub const BAD_DATE: u32 = 4;
+
+/// What a call answers.
+#[repr(C)]
+#[derive(Clone, Copy, Debug, PartialEq, Eq)]
+pub struct Answer {
+    /// The line of the fault that ended the run, from 1; 0 where no line was read, or no fault ended it.
+    pub line: u64,
+    /// How many bytes the whole output has.
+    pub output_length: usize,
+    /// How many bytes all messages have.
+    pub messages_length: usize,
+    /// 0, 1 or 2, as the exit status of the program; [`NO_ROOM`]; or [`BAD_DATE`].
+    pub status: u32,
+    /// The number of the fault that ended the run, from 1 to 22; 0 where none did.
+    pub code: u32,
+}
+
+/// An answer without texts.
+fn bare(status: u32, line: u64, code: u32) -> Answer
+    ensures { result ≡ answer_of status line code }
+{
+    Answer {
+        line,
+        output_length: 0,
+        messages_length: 0,
+        status,
+        code,
+    }
+}
+
+/// The date is refused.
+pub(crate) fn date_refused() -> Answer
+    ensures { result ≡ answer_of BAD_DATE 0 0 }
+{
+    bare(BAD_DATE, 0, 0)
+}
+
+/// The input is longer than the limit.
+pub(crate) fn too_long() -> Answer
+    ensures { result ≡ answer_of 1 0 (code_of_fault InputTooLong) }
+{
+    bare(1, 0, u32::from(Fault::InputTooLong.code()))
+}
+
+/// Memory ran out at this line.
+pub(crate) fn out_of_memory(line: u64) -> Answer
+    ensures { result ≡ answer_of 1 line (code_of_fault OutOfMemory) }
+{
+    bare(1, line, u32::from(Fault::OutOfMemory.code()))
+}
+
+/// The number of the fault that ended a run, 0 where none did.
+pub(crate) fn code_in(fault: Option<At>) -> u32
+    ensures { result ≡ code_in fault }
+{
+    match fault {
+        None => 0,
+        Some(at) => u32::from(at.fault.code()),
+    }
+}
+
+/// The line of the fault that ended a run, 0 where none did.
+pub(crate) fn line_in(fault: Option<At>) -> u64
+    ensures { result ≡ line_in fault }
+{
+    match fault {
+        None => 0,
+        Some(at) => at.line,
+    }
+}
+
+/// Puts a text at the front of the caller's room, as far as it fits.
+pub(crate) fn place(text: &[u8], room: &mut [u8])
+    ensures { room.new ≡ placed text.now room.old }
+{
+    let count = text.len().min(room.len());
+    room[..count].copy_from_slice(&text[..count]);
+}

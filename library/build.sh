@@ -1,0 +1,33 @@
+#!/bin/sh
+# Makes the library for C of the archive that `rt lib` left, in a folder: build.sh crates/rnxcmp_c/out/librnxcmp_c.a FOLDER
+# The folder gets rnxcmp.h, librnxcmp.a, librnxcmp.so.1 with the name librnxcmp.so, rnxcmp.pc, and rnxcmp.f90.
+set -eu
+proved=$1
+folder=$2
+top=$(cd "$(dirname "$0")/.." && pwd)
+version=$(cat "$top/VERSION")
+work=$(mktemp -d)
+trap 'rm -rf "$work"' EXIT
+CC=${CC:-cc}
+
+mkdir -p "$folder"
+python3 "$top/library/words.py" "$top/crates/crx_lines/src/fault.rt" > "$work/words.inc"
+flags="-std=c11 -O2 -Wall -Wextra -Werror -fPIC -ffile-prefix-map=$top=. -ffile-prefix-map=$work=."
+$CC $flags -c "$top/library/heap.c" -o "$work/heap.o"
+$CC $flags -I "$top/include" -I "$work" -DRNXCMP_VERSION="\"$version\"" -c "$top/library/rnxcmp.c" -o "$work/rnxcmp.o"
+
+# the archive holds one object, in which the header's names alone are global
+ld -r -o "$work/all.o" "$work/rnxcmp.o" "$work/heap.o" --whole-archive "$proved" --no-whole-archive
+names=$(sed -n 's/^ *\(rnxcmp_[a-z]*\);$/\1/p' "$top/library/symbols.map")
+for name in $names; do
+    echo "$name"
+done > "$work/names"
+objcopy --keep-global-symbols="$work/names" "$work/all.o" "$work/librnxcmp.o"
+rm -f "$folder/librnxcmp.a"
+ar rcD "$folder/librnxcmp.a" "$work/librnxcmp.o"
+
+$CC -shared -o "$folder/librnxcmp.so.1" "$work/librnxcmp.o" -Wl,-soname,librnxcmp.so.1 -Wl,--version-script="$top/library/symbols.map" \
+    -Wl,-z,defs -Wl,-z,text -Wl,-z,noexecstack -Wl,-z,relro -Wl,-z,now
+ln -sf librnxcmp.so.1 "$folder/librnxcmp.so"
+cp "$top/include/rnxcmp.h" "$top/include/rnxcmp.f90" "$folder/"
+sed "s/@VERSION@/$version/" "$top/library/rnxcmp.pc.in" > "$folder/rnxcmp.pc"
