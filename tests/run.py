@@ -30,6 +30,7 @@ KINDS = (
     ("process", "process"),
     ("recipe", "archives"),
     ("command", "commands"),
+    ("fault", "faults"),
 )
 
 

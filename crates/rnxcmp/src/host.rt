@@ -1,6 +1,7 @@
 //! The program's words and its standard streams.
 
 use crate::job::UsageFault;
+use crate::output::UntilFailure;
 use crate::program::{OUTPUT_BUFFER, run};
 use crate::refusal::{refuse, report_at_start};
 use crate::word::Word;
@@ -48,7 +49,8 @@ pub fn run_host(rt: &HostRuntime) -> ExitCode {
         Ok(words) => words,
         Err(fault) => return ExitCode::from(refuse(rt.alloc(), &mut messages, &fault)),
     };
-    let Ok(buffer) = BufWriter::with_capacity(rt.alloc(), OUTPUT_BUFFER, rt.stdout()) else {
+    let stdout = UntilFailure::new(rt.stdout());
+    let Ok(buffer) = BufWriter::with_capacity(rt.alloc(), OUTPUT_BUFFER, stdout) else {
         return ExitCode::from(report_at_start(&mut messages, Fault::OutOfMemory));
     };
     let mut input = Std::new(rt.stdin());
@@ -61,7 +63,8 @@ pub fn run_host(rt: &HostRuntime) -> ExitCode {
         &mut output,
         &mut messages,
     );
-    // A run that ended since a message couldn't be written hasn't flushed what it wrote before.
+    // A run that ended since a message couldn't be written hasn't flushed what it wrote before. After a
+    // write that failed nothing is written here.
     let mut buffer = output.into_inner();
     let _ = buffer.flush();
     let _ = buffer.into_parts();

@@ -6,6 +6,7 @@ pub mod date;
 pub mod host;
 pub mod job;
 pub mod names;
+pub mod output;
 pub mod plan;
 pub mod program;
 pub mod refusal;

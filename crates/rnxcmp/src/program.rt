@@ -8,6 +8,7 @@ ghost use Rattle.rnxcmp.specs.Program.{IsChosen, IsDone, IsFiltered, IsFilteredF
 
 use crate::date::default_date;
 use crate::job::{Decision, Job, Tool};
+use crate::output::UntilFailure;
 use crate::plan::plan;
 use crate::refusal::{refuse, report, report_at_start};
 use crate::word::Word;
@@ -66,7 +67,8 @@ fn filter<R: Source, W: Sink, M: Sink>(
 }
 
 /// Runs a filter that writes to a file, through a buffer. A run that ended since a message couldn't be written hasn't
-/// flushed what it wrote before, so the buffer is flushed once more; the status is that of the run.
+/// flushed what it wrote before, so the buffer is flushed once more, which writes nothing where a write failed; the status
+/// is that of the run.
 fn filter_to_file<R: Source, F: Write + Drop, M: Sink>(
     alloc: Global,
     tool: Tool,
@@ -78,7 +80,7 @@ fn filter_to_file<R: Source, F: Write + Drop, M: Sink>(
     ensures { IsFilteredUnseen tool options (between M.took M.is_flushed M.failures messages.old messages.new) result
         ⊎ ((result ≡ 1) × IsShown (between M.took M.is_flushed M.failures messages.old messages.new) (at_start Fault.OutOfMemory) × (reader.new ≡ reader.old)) }
 {
-    match BufWriter::with_capacity(alloc, OUTPUT_BUFFER, file) {
+    match BufWriter::with_capacity(alloc, OUTPUT_BUFFER, UntilFailure::new(file)) {
         Ok(buffer) => {
             let mut writer = Std::new(buffer);
             let status = filter(alloc, tool, options, reader, &mut writer, messages);

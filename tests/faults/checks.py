@@ -1,0 +1,148 @@
+"""The program where a system call fails: strace makes each of its reads and writes fail in turn (see tests/run.py).
+
+What is looked for: a message, the status, the text that was written before, and that nothing is written after a write that failed.
+"""
+
+import re
+import shutil
+import subprocess
+import sys
+import tempfile
+from pathlib import Path
+
+sys.path.insert(0, str(Path(__file__).resolve().parents[1] / "process"))
+from cases import BAD_INDICATOR, COMPACT_FIVE, DATED, FIVE, H, epoch, text  # noqa: E402
+
+SECONDS = 60  # in which each run is to end
+WRITE_FAILED = rb"ERROR line [0-9]+ code 21: write failed\n"
+READ_FAILED = rb"ERROR line [0-9]+ code 20: read failed\n"
+CALL = re.compile(r"(?P<name>read|write)\((?P<stream>\d+)<[^>]*>.*?\) += (?P<answer>.*)")
+
+# So many epochs that the output is written several times.
+MANY = text(*H, *[line for second in range(9000) for line in (epoch(second % 10, 1), f"G01{20000000 + second * second:10}.{second % 1000:03}")])
+
+
+class Run:
+    """A run below strace: its calls on open files in order, each a name, a stream and an answer; what it wrote, and how it ended."""
+
+    def __init__(self, program, words, given, fault=None):
+        with tempfile.TemporaryDirectory() as name:
+            folder = Path(name)
+            trace = folder / "trace"
+            command = ["strace", "-y", "-o", trace, "-e", "trace=read,write", *(["-e", f"inject={fault}"] if fault else []), program, *words]
+            (folder / "a.rnx").write_bytes(given)
+            run = subprocess.run(command, cwd=folder, input=given, capture_output=True, timeout=SECONDS)
+            self.status, self.output, self.messages = run.returncode, run.stdout, run.stderr
+            written = folder / "a.crx"
+            self.file = written.read_bytes() if written.exists() else None
+            found = (CALL.match(line) for line in trace.read_text().splitlines())
+            self.calls = [(call["name"], int(call["stream"]), call["answer"]) for call in found if call]
+
+    def places(self, name, stream):
+        """Which of all calls of a name, from 1, are those of a stream."""
+        return [k for k, call in enumerate([call for call in self.calls if call[0] == name], 1) if call[1] == stream]
+
+    def after_fault(self, stream):
+        """The calls on a stream after the one that was made to fail."""
+        names = [k for k, call in enumerate(self.calls) if "INJECTED" in call[2]]
+        return [call for call in self.calls[names[-1] + 1 :] if call[:2] == ("write", stream)] if names else ["no call was made to fail"]
+
+
+def differs(run, where, messages, wrote, whole, stream=1):
+    """What is wrong with a run in which a write failed: these messages, status 1, what was written before, and no write after it."""
+    wrong = [] if run.status == 1 else [f"{where}: status {run.status}"]
+    wrong += [] if re.fullmatch(messages, run.messages) else [f"{where}: messages {run.messages!r}"]
+    wrong += [] if whole.startswith(wrote) and len(wrote) < len(whole) else [f"{where}: {len(wrote)} bytes are written, of {len(whole)}"]
+    after = run.after_fault(stream)
+    return wrong + ([f"{where}: written after the failure: {after}"] if after else [])
+
+
+def failed_writes(program, words, given, least):
+    """Each write of the output fails in turn, for want of room and otherwise."""
+    good = Run(program, words, given)
+    places = good.places("write", 1)
+    if good.status not in (0, 2) or len(places) < least:
+        return [f"without a fault: status {good.status}, {len(places)} writes"]
+    wrong = []
+    for place in places:
+        for error in ("EIO", "ENOSPC"):
+            run = Run(program, words, given, f"write:error={error}:when={place}")
+            wrong += differs(run, f"write {place}, {error}", WRITE_FAILED, run.output, good.output)
+    return wrong
+
+
+def failed_writes_to_a_file(program):
+    """The same of a file that the program makes."""
+    good = Run(program, [*DATED, "a.rnx"], MANY)
+    stream = max((call[1] for call in good.calls if call[0] == "write"), default=1)
+    places = good.places("write", stream)
+    if good.status or good.file is None or len(places) < 3:
+        return [f"without a fault: status {good.status}, {len(places)} writes"]
+    wrong = []
+    for place in places:
+        run = Run(program, [*DATED, "a.rnx"], MANY, f"write:error=EIO:when={place}")
+        wrong += differs(run, f"write {place}", WRITE_FAILED, run.file or b"", good.file, stream)
+    return wrong
+
+
+def failed_reads(program, words, given):
+    """Each read of the input fails in turn: a message, and what was written is a prefix."""
+    good = Run(program, words, given)
+    wrong = []
+    for place in good.places("read", 0):
+        run = Run(program, words, given, f"read:error=EIO:when={place}")
+        if run.status != 1 or not re.fullmatch(READ_FAILED, run.messages) or not good.output.startswith(run.output):
+            wrong.append(f"read {place}: status {run.status}, messages {run.messages!r}, {len(run.output)} bytes")
+    return wrong if good.places("read", 0) else ["no read of the input"]
+
+
+def failed_messages(program, words, given):
+    """Each message fails in turn: the status is 1, no other message is tried, and what was written before it is all there."""
+    good = Run(program, words, given)
+    places = good.places("write", 2)
+    wrong = [] if places else ["no message"]
+    for place in places:
+        run = Run(program, words, given, f"write:error=EIO:when={place}")
+        before = good.messages.splitlines(keepends=True)[: places.index(place)]
+        if run.status != 1 or run.messages != b"".join(before) or not run.output or not good.output.startswith(run.output) or run.after_fault(2):
+            wrong.append(f"message {place}: status {run.status}, messages {run.messages!r}, output {run.output!r}")
+    return wrong
+
+
+def interrupted_writes(program):
+    """A write that was interrupted is repeated."""
+    good = Run(program, DATED, MANY)
+    wrong = []
+    for place in good.places("write", 1):
+        run = Run(program, DATED, MANY, f"write:error=EINTR:when={place}")
+        if (run.status, run.output, run.messages) != (0, good.output, b""):
+            wrong.append(f"write {place}: status {run.status}, messages {run.messages!r}, {len(run.output)} bytes of {len(good.output)}")
+    return wrong
+
+
+def where_traced(check):
+    """The check, or why it isn't made: strace may be missing, or not be allowed."""
+
+    def run():
+        if not shutil.which("strace"):
+            return "there is no strace"
+        allowed = subprocess.run(["strace", "-o", "/dev/null", "true"], capture_output=True, timeout=SECONDS)
+        return check() if allowed.returncode == 0 else "strace may not trace here"
+
+    return run
+
+
+def checks(program):
+    for name, check in (
+        ("writes of a compaction", lambda: failed_writes(program, DATED, MANY, 3)),
+        ("writes of an expansion", lambda: failed_writes(program, ["crx2rnx"], COMPACT_FIVE, 1)),
+        ("writes of a check", lambda: failed_writes(program, ["check"], FIVE, 1)),
+        ("writes to a file", lambda: failed_writes_to_a_file(program)),
+        ("reads of a compaction", lambda: failed_reads(program, DATED, MANY)),
+        ("reads of an expansion", lambda: failed_reads(program, ["crx2rnx"], COMPACT_FIVE)),
+        ("reads of a check", lambda: failed_reads(program, ["check"], FIVE)),
+        ("messages of warnings", lambda: failed_messages(program, [*DATED, "-s"], BAD_INDICATOR)),
+        ("a message of an error", lambda: failed_messages(program, DATED, BAD_INDICATOR)),
+        ("interrupted writes", lambda: interrupted_writes(program)),
+    ):
+        yield name, where_traced(check)
