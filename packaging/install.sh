@@ -11,6 +11,7 @@ here=$(dirname "$0")
 install -d "$prefix/bin" "$prefix/share/man/man1" "$prefix/share/bash-completion/completions" \
     "$prefix/share/zsh/site-functions" "$prefix/share/fish/vendor_completions.d"
 install -m 755 "$program" "$prefix/bin/rnxcmp"
+install -m 755 "$here/bin/rnxcmp-file" "$prefix/bin/rnxcmp-file"
 for name in RNX2CRX rnx2crx; do
     install -m 755 "$here/bin/RNX2CRX" "$prefix/bin/$name"
 done

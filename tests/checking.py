@@ -5,7 +5,7 @@ import shutil
 import subprocess
 
 # programs that a command may need and a machine may lack
-TOOLS = ("awk", "bash", "cmp", "find", "groff", "gzip", "less", "man", "nproc", "parallel", "sort", "xargs")
+TOOLS = ("awk", "bash", "cmp", "find", "groff", "gzip", "less", "make", "man", "mandoc", "nproc", "parallel", "sort", "xargs")
 # programs that some tests use, and are left out without
 LIKED = ("strace", "valgrind", "parallel", "mandoc", "gfortran")
 

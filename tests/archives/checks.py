@@ -1,39 +1,54 @@
-"""Each recipe of docs/ARCHIVES.md as it stands there, on files that are made up here (see tests/run.py).
+"""Each recipe of docs/ARCHIVES.md as it stands there, on files that are made up here, and the script that they call (see tests/run.py).
 
 The blocks are run one after another in one folder. A block that names a program which the machine lacks is left out.
 """
 
+import gzip
 import os
 import re
 import shutil
 import subprocess
+import sys
 import tempfile
 from pathlib import Path
 
 from checking import missing_tools
 
+sys.path.insert(0, str(Path(__file__).parent))
+import script  # noqa: E402
+
 TOP = Path(__file__).resolve().parents[2]
 SAMPLE = TOP / "samples/station.rnx"
+OLD = 1704067200  # the time of all files, in 2024
+# what a recipe prints, among other things
 WANTED = {
-    "find and xargs": ["0 archive/a.rnx", "0 archive/sub/b.rnx"],
-    "Statuses into a report": ["well 2, warnings 1, errors 1", "archive/bad.rnx: ERROR line", "archive/strange.rnx: WARNING line"],
-    "Compact files that are packed too": ["archive/a.back.rnx"],
-    "GNU parallel, with a job log": ["rnxcmp rnx2crx - archive/abcd0010.24o"],
-    "An array job of a batch system": ["0 archive/abcd0010.24o", "0 archive/abcd0020.24o"],
+    "find and xargs": ["see messages.txt", "archive/bad.rnx: ERROR line 1 code 3", "archive/strange.rnx: WARNING line"],
+    "GNU parallel, with a job log": ["0\trnxcmp-file rnx2crx --gzip archive/abcd0010.24o", "1\trnxcmp-file rnx2crx --gzip archive/faulty.24o"],
+    "make": ["some files failed"],
+    "An array job of a batch system": ["job 0: status", "job 1: status", "status 123"],
+    "RINEX 2 and 4 beside RINEX 3": ["archive/two.24o\n", "some files failed"],
+    "A compaction every night": ["the messages say which files stay"],
     "A check every night": [
         "archive/bad.rnx: ERROR line",
         "archive/faulty.24o: ERROR line",
         "archive/padded.24o: standard no",
         "reports/archive/padded.24o.txt:standard no",
     ],
-    "Is anything lost?": ["archive/abcd0010.24o comes back", "archive/abcd0020.24o comes back", "archive/padded.24o does not"],
-    "Files with blanks at line ends": ["archive/abcd0010.24o holds the same", "archive/padded.24o holds the same", "archive/faulty.24o does not"],
+    "Is anything lost?": ["the messages say which"],
+    "Other programs that read the files": ["the same"],
+}
+# what stands after a recipe, and what doesn't
+LEFT = {
+    "find and xargs": (["a.crx", "sub/b.crx", "packed.crx.gz", "strange.crx"], ["bad.crx"]),
+    "GNU parallel, with a job log": (["abcd0010.24d.gz", "padded.24d.gz"], ["faulty.24d.gz"]),
+    "make": (["abcd0010.24d", "abcd0020.24d", "padded.24d"], ["faulty.24d", "two.24d"]),
+    "A compaction every night": (["a.crx.gz", "sub/b.crx.gz", "bad.rnx", "strange.rnx"], ["a.rnx", "sub/b.rnx", "bad.crx.gz", "strange.crx.gz"]),
 }
 
 
 def make_files(folder):
-    """Two good files, one with a strange epoch, one that is no observation file, and with a year's ending two good ones, one with blanks
-    at the ends of all epochs' lines, and one with a blank line at its end. Half files of an earlier run are there too."""
+    """Good files, one of them packed; one with a strange epoch, and one that is no observation file; and with a year's ending two good
+    ones, one with blanks at the ends of all epochs' lines, one with a blank line at its end, and one of RINEX 2. All are hours old."""
     good = SAMPLE.read_bytes()
     lines = good.split(b"\n")
     first = next(k for k, line in enumerate(lines) if line.startswith(b">"))
@@ -43,12 +58,14 @@ def make_files(folder):
     (archive / "sub").mkdir(parents=True)
     for name in ("a.rnx", "sub/b.rnx", "abcd0010.24o", "abcd0020.24o"):
         (archive / name).write_bytes(good)
+    (archive / "packed.rnx.gz").write_bytes(gzip.compress(good))
     (archive / "strange.rnx").write_bytes(b"\n".join(strange))
     (archive / "bad.rnx").write_bytes(b"not RINEX\n")
     (archive / "padded.24o").write_bytes(b"\n".join(lines[:first] + [line + b"  " for line in lines[first:-1]] + [b""]))
     (archive / "faulty.24o").write_bytes(good + b"\n")
-    for name in ("a.rnx", "bad.rnx", "abcd0010.24o"):
-        (archive / f"{name}.part").write_bytes(b"half\n")
+    (archive / "two.24o").write_bytes(good.replace(b"     3.05", b"     2.11", 1))
+    for path in archive.rglob("*.*"):
+        os.utime(path, (OLD, OLD))
 
 
 def blocks(text):
@@ -67,17 +84,11 @@ def run_block(heading, block, work, environment):
     if lacking:
         return f"there is no {lacking[0]}"
     run = subprocess.run(["sh", "-c", block], cwd=work, env=environment, capture_output=True, text=True, timeout=300)
-    missing = [line for line in WANTED[heading] if line not in run.stdout]
-    return [f"not there: {missing}", f"output: {run.stdout!r}", f"messages: {run.stderr!r}"] if missing else []
-
-
-def check_compacted(work):
-    """What the recipe for `.rnx` files left: compact files that come back, none of a file with an error, and no half file."""
-    archive = work / "archive"
-    back = subprocess.run([work.parent / "bin/rnxcmp", "crx2rnx", "-", archive / "a.crx"], capture_output=True, timeout=60)
-    wrong = [] if back.returncode == 0 and back.stdout == SAMPLE.read_bytes() else ["a.crx doesn't come back"]
-    wrong += [f"{name} is there" for name in ("bad.crx", "a.rnx.part", "bad.rnx.part") if (archive / name).exists()]
-    return wrong
+    there, absent = LEFT.get(heading, ([], []))
+    missing = [line for line in WANTED[heading] if line not in run.stdout] + [name for name in there if not (work / "archive" / name).exists()]
+    surplus = [name for name in absent if (work / "archive" / name).exists()] + [str(path) for path in work.rglob("*.part*")]
+    wrong = [f"not there: {missing}"] * bool(missing) + [f"there: {surplus}"] * bool(surplus)
+    return [*wrong, f"output: {run.stdout!r}", f"messages: {run.stderr!r}"] if wrong else []
 
 
 def check_next_nights(work, environment):
@@ -92,7 +103,7 @@ def check_next_nights(work, environment):
         padded.write_bytes(content)
         run = subprocess.run(["sh", "nightly.sh"], cwd=work, env=environment, capture_output=True, text=True, timeout=300)
         said = [line.partition(": ")[0] for line in run.stdout.splitlines()]
-        wanted = [f"archive/{name}" for name in sorted(["bad.rnx", "faulty.24o", "strange.rnx", *more])]
+        wanted = [f"archive/{name}" for name in sorted(["bad.rnx", "faulty.24o", "strange.rnx", "two.24o", *more])]
         wrong += [] if said == wanted and not run.stderr else [f"said: {run.stdout!r}", f"messages: {run.stderr!r}"]
     return wrong
 
@@ -103,11 +114,14 @@ def checks(program):
         tools = folder / "bin"
         tools.mkdir()
         shutil.copy(program, tools / "rnxcmp")
+        for path in (TOP / "packaging/bin").iterdir():
+            shutil.copy(path, tools)
+        shutil.copy(TOP / "packaging/bin/CRX2RNX", tools / "crx2rnx")
         work = folder / "work"
         work.mkdir()
         make_files(work)
         environment = {**os.environ, "PATH": f"{tools}:{os.environ['PATH']}"}
         for heading, block in blocks((TOP / "docs/ARCHIVES.md").read_text()):
             yield heading, lambda: run_block(heading, block, work, environment)
-        yield "what find and xargs left", lambda: check_compacted(work)
         yield "the next nights", lambda: check_next_nights(work, environment)
+    yield from script.checks(program)

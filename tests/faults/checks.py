@@ -1,6 +1,7 @@
-"""The program where a system call fails: strace makes each of its reads and writes fail in turn (see tests/run.py).
+"""The program, and the script rnxcmp-file, where a system call fails: strace makes one after another fail (see tests/run.py).
 
-What is looked for: a message, the status, the text that was written before, and that nothing is written after a write that failed.
+What is looked for in the program: a message, the status, the text that was written before, and that nothing is written after a write that
+failed. And in the script: that nothing is lost.
 """
 
 import re
@@ -8,9 +9,12 @@ import shutil
 import subprocess
 import sys
 import tempfile
+from concurrent.futures import ThreadPoolExecutor
 from pathlib import Path
 
-sys.path.insert(0, str(Path(__file__).resolve().parents[1] / "process"))
+TESTS = Path(__file__).resolve().parents[1]
+sys.path[:0] = [str(TESTS / "process"), str(TESTS / "archives")]
+from script import GOOD, Place  # noqa: E402
 from cases import BAD_INDICATOR, COMPACT_FIVE, DATED, FIVE, H, epoch, text  # noqa: E402
 
 SECONDS = 60  # in which each run is to end
@@ -120,6 +124,43 @@ def interrupted_writes(program):
     return wrong
 
 
+def traced(program, fault, words, through=("strace", "-f", "-qq", "-o", "/dev/null")):
+    """The script below strace with a fault in each of its processes, and what it lost, as lines: where the status is 0, or the input is gone,
+    the output is whole; and what has the output's name always is."""
+    with Place(program, "a.rnx", GOOD) as place:
+        run = place.run(*words, through=(*through, "-e", f"trace={fault.partition(':')[0]}", "-e", f"inject={fault}"))
+        source, target = place.work / "a.rnx", place.work / "a.crx"
+        there = target.exists()
+        whole = there and place.expanded("a.crx") == GOOD
+        wrong = [f"{fault}: a half output"] if there and not whole else []
+        wrong += [f"{fault}: the input is lost"] if not whole and not (source.exists() and source.read_bytes() == GOOD) else []
+        wrong += [f"{fault}: status 0 without an output"] if run.returncode == 0 and not whole else []
+        return run, wrong
+
+
+def script_sync_and_move(program):
+    """The output can't be brought onto the disk, or not be moved: status 1, a message, the input alone is left."""
+    wrong = []
+    for fault, said in (("fsync:error=EIO", "not on the disk"), ("rename,renameat,renameat2:error=EIO", "cannot move"), ("rename,renameat,renameat2:error=EXDEV", "")):
+        run, lost = traced(program, fault, ("rnx2crx", "--delete", "a.rnx"))
+        wrong += lost
+        if said and (run.returncode != 1 or said not in run.stderr or any(not line.startswith("a.rnx: ") for line in run.stderr.splitlines())):
+            wrong.append(f"{fault}: status {run.returncode}, messages {run.stderr!r}")
+    return wrong
+
+
+def script_loses_nothing(program):
+    """The first, second, .. call of a kind fails in every process that the script starts. Not `close`: a pipe that stays open has no end.
+    Nor `read`: a shell that can't read the script's first bytes ends with status 0."""
+    wrong = []
+    calls = [("write", "ENOSPC"), ("openat", "EACCES"), ("utimensat", "EPERM"), ("newfstatat", "EIO"), ("clone,clone3,fork,vfork", "EAGAIN")]
+    faults = [f"{call}:error={error}:when={place}" for call, error in calls for place in (1, 2, 4, 7)]
+    with ThreadPoolExecutor() as workers:
+        for _, lost in workers.map(lambda fault: traced(program, fault, ("rnx2crx", "--delete", "a.rnx")), faults):
+            wrong += lost
+    return wrong
+
+
 def where_traced(check):
     """The check, or why it isn't made: strace may be missing, or not be allowed."""
 
@@ -144,5 +185,7 @@ def checks(program):
         ("messages of warnings", lambda: failed_messages(program, [*DATED, "-s"], BAD_INDICATOR)),
         ("a message of an error", lambda: failed_messages(program, DATED, BAD_INDICATOR)),
         ("interrupted writes", lambda: interrupted_writes(program)),
+        ("rnxcmp-file: sync and move", lambda: script_sync_and_move(program)),
+        ("rnxcmp-file: any call", lambda: script_loses_nothing(program)),
     ):
         yield name, where_traced(check)
