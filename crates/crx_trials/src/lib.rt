@@ -1,13 +1,10 @@
-//! Tests of whole runs of both filters: what is written and reported of typed files, and over devices that fail, at each point in turn.
+//! Tests of whole runs over devices that fail, at each point in turn, and of the choices of a run. What runs write and report of whole
+//! files is shown by the program itself (tests/cases).
 #![tactic(auto)]
 
-#[cfg(test)]
-mod checks;
 #[cfg(test)]
 mod failures;
 #[cfg(test)]
 mod options;
-#[cfg(test)]
-mod runs;
 #[cfg(test)]
 mod texts;

@@ -3,23 +3,20 @@
 use std::alloc::{AllocError, Global};
 
 /// A header of one system and one type.
-pub const HEADER: [&str; 3] = [
+const HEADER: [&str; 3] = [
     "     3.04           OBSERVATION DATA    G                   RINEX VERSION / TYPE",
     "G    1 C1C                                                  SYS / # / OBS TYPES",
     "                                                            END OF HEADER",
 ];
 
 /// The two lines before it in compact text, with the date `D`.
-pub const FIRST_LINES: [&str; 2] = [
+const FIRST_LINES: [&str; 2] = [
     "3.0                 COMPACT RINEX FORMAT                    CRINEX VERS   / TYPE",
     "RNX2CRX profile 1.0                     D                   CRINEX PROG / DATE",
 ];
 
-/// A comment in the header.
-const COMMENT: &str = "                                                            COMMENT";
-
 /// Puts lines after a text, LF after each.
-pub fn push_lines(text: &mut Vec<u8>, lines: &[&str]) -> Result<(), AllocError> {
+fn push_lines(text: &mut Vec<u8>, lines: &[&str]) -> Result<(), AllocError> {
     for line in lines {
         text.extend_from_slice(line.as_bytes())?;
         text.push(b'\n')?;
@@ -27,19 +24,8 @@ pub fn push_lines(text: &mut Vec<u8>, lines: &[&str]) -> Result<(), AllocError> 
     Ok(())
 }
 
-/// Puts a line after a text, with blanks after it up to so many bytes, and LF.
-fn push_filled(text: &mut Vec<u8>, line: &str, length: usize) -> Result<(), AllocError> {
-    text.extend_from_slice(line.as_bytes())?;
-    for _ in line.len()..length {
-        text.push(b' ')?;
-    }
-    text.push(b'\n')?;
-    Ok(())
-}
-
 /// The text of lines that are separated by `|`: each ends with LF, and no lines are no text. `H` stands for the header, `K` for the
-/// two lines before it, `comment 8192` and `comment 8193` for a comment with blanks after it up to so many bytes, `x long` and
-/// `> long` for a line of 8193 bytes: that character and blanks.
+/// two lines before it.
 pub fn text(alloc: Global, lines: &str) -> Result<Vec<u8>, AllocError> {
     let mut text = Vec::new(alloc);
     if lines.is_empty() {
@@ -49,10 +35,6 @@ pub fn text(alloc: Global, lines: &str) -> Result<Vec<u8>, AllocError> {
         match line {
             "H" => push_lines(&mut text, &HEADER)?,
             "K" => push_lines(&mut text, &FIRST_LINES)?,
-            "comment 8192" => push_filled(&mut text, COMMENT, 8192)?,
-            "comment 8193" => push_filled(&mut text, COMMENT, 8193)?,
-            "x long" => push_filled(&mut text, "x", 8193)?,
-            "> long" => push_filled(&mut text, ">", 8193)?,
             _ => push_lines(&mut text, &[line])?,
         }
     }

@@ -2,7 +2,28 @@
 
 use super::cases::TRIALS;
 use super::*;
-use crate::runs::{Run, expanded};
+use crx_text::Std;
+
+/// What a run wrote, reported and answered.
+#[derive(Drop)]
+struct Run {
+    outcome: Outcome,
+    output: Vec<u8>,
+    messages: Vec<u8>,
+}
+
+/// Expands an input.
+fn expanded(alloc: Global, input: &[u8], options: Options) -> Run {
+    let mut reader = Std::new(input);
+    let mut writer = Std::new(Vec::new(alloc));
+    let mut messages = Std::new(Vec::new(alloc));
+    let outcome = expand(alloc, &mut reader, &mut writer, &mut messages, options);
+    Run {
+        outcome,
+        output: writer.into_inner(),
+        messages: messages.into_inner(),
+    }
+}
 
 /// How many lines stand before the last line of a text.
 fn lines_before_last(text: &[u8]) -> usize {
