@@ -2,6 +2,7 @@
 
 import ctypes
 import re
+import sys
 import warnings
 from dataclasses import dataclass
 from datetime import datetime, timezone
@@ -85,14 +86,24 @@ def _filled(call: Callable[..., int], arguments: List[object], output: int) -> _
     return rooms
 
 
-def _output_of(rooms: _Rooms, stacklevel: int = 4) -> bytes:
+def _level_outside() -> int:
+    """The ``stacklevel`` at which a warning that the caller issues names code outside this package."""
+    level = 1
+    frame = sys._getframe(1)
+    while frame.f_back is not None and frame.f_globals.get("__package__") == __package__:
+        frame = frame.f_back
+        level += 1
+    return level
+
+
+def _output_of(rooms: _Rooms) -> bytes:
     """The output; raises the error and issues the warnings of a call."""
     answer = rooms.answer
     output = bytes(memoryview(rooms.output)[: answer.output_length])
     lines = bytes(memoryview(rooms.messages)[: answer.messages_length]).decode("ascii").splitlines()
     for line in lines:
         if line.startswith("WARNING "):
-            warnings.warn(line[len("WARNING ") :], RnxcmpWarning, stacklevel=stacklevel)
+            warnings.warn(line[len("WARNING ") :], RnxcmpWarning, stacklevel=_level_outside())
     if answer.status == FAULT:
         words = LIBRARY.rnxcmp_words(answer.code).decode("ascii")
         if answer.code == 22:

@@ -65,6 +65,10 @@ def check_faults(data, compact):
         expect("warnings", "".join(f"WARNING {w.message}\n" for w in caught).encode(), program.stderr)
         expect("their kind", {w.category for w in caught}, {rnxcmp.RnxcmpWarning})
         expect("their place", {w.filename for w in caught}, {__file__})
+        with warnings.catch_warnings(record=True) as caught:
+            warnings.simplefilter("always")
+            (rnxcmp.compress if "rnx2crx" in words else rnxcmp.decompress)(text, skip_strange_epochs=True)
+        expect("the place out of another call", {w.filename for w in caught}, {__file__})
     raised(ValueError, lambda: rnxcmp.rnx2crx(data, date="x" * 21))
     raised(ValueError, lambda: rnxcmp.rnx2crx(data, date="\u00e9"))
     raised(ValueError, lambda: rnxcmp.rnx2crx(data, date="a\0b"))
