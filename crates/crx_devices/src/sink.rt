@@ -99,10 +99,14 @@ impl Sink for FailingSink {
 
     ghost is_flushed = { λ s. s.flushed ≡ true };
 
+    ghost flushes = { λ s. s.flushes.calls };
+
     fn write(&mut self, bytes: &[u8]) -> Result<usize, WriteFailed>
         ensures bound { IfOk result (λ n. n ≤ length bytes.now) }
         ensures bytes { IfOk result (λ n. take self.new.len self.new.memory.items ≡ take self.old.len self.old.memory.items ++ take n bytes.now) }
         ensures progress { IfOk result (λ n. 0 < length bytes.now → 0 < n) }
+        ensures unflushed { self.new.flushed ≡ true → ⊥ }
+        ensures unasked { self.new.flushes.calls ≡ self.old.flushes.calls }
         ensures good { OnOk result (self.new.failures ≡ self.old.failures) }
         ensures none_taken { OnErr result (take self.new.len self.new.memory.items ≡ take self.old.len self.old.memory.items ++ []) }
         ensures counted { OnErr result (self.new.failures ≡ one_more self.old.failures) }
@@ -136,6 +140,7 @@ impl Sink for FailingSink {
         ensures none_taken { take self.new.len self.new.memory.items ≡ take self.old.len self.old.memory.items ++ [] }
         ensures good { OnOk result (self.new.failures ≡ self.old.failures) }
         ensures flushed { OnOk result (self.new.flushed ≡ true) }
+        ensures asked { self.new.flushes.calls ≡ one_more self.old.flushes.calls }
         ensures counted { OnErr result (self.new.failures ≡ one_more self.old.failures) }
         ensures not_flushed { OnErr result (self.new.flushed ≡ false) }
         ensures fails { is_err result ≡ fails self.old.flushes self.old.len }

@@ -1,6 +1,7 @@
 -- What follows from how a run ended.
 use Rattle.std.proofs.Common.{◌≡◌, ◌⊎◌, inl, inr, ℕ, ◌+◌, ◌-◌, ◌≤◌, Bool, true, List, [], ◌++◌, length, Option, Some, None, refl, sym, ap, subst, ◌∙◌, arith, append-nil, length-append}
-use Rattle.crx_lines.specs.Devices.{Tally}
+use Rattle.crx_lines.proofs.DeviceLemmas.{failures-of}
+use Rattle.crx_lines.specs.Devices.{Tally, with_flush}
 use Rattle.crx_lines.specs.Lines.{InputLine, lines_of}
 use Rattle.crx_lines.specs.Reading.{Reading}
 use Rattle.crx_lines.specs.Progress.{HasRead, StandsAt, IsOpen, IsStopped}
@@ -83,17 +84,17 @@ module _ (filter : Filter) (lawful : IsLawful filter) (input : Input) (writer1 w
   }
 
   flushed-either : IsFlushed writer2 ⊎ FlushFailed writer2 → writer2.took []
-  flushed-either (inl t) = t.0.0
+  flushed-either (inl t) = t.0
   flushed-either (inr t) = t.0
 
   -- a message that was cut off was counted
-  reported-whole : (at : At) (notices : List ℕ) → TookAll messages1 notices → NoneFailed messages.before messages.after → IsReported messages2 at → TookAll messages2 (error_text (Some at))
+  reported-whole : (at : At) (notices : List ℕ) → TookAll messages1 notices → NoneFailed messages.before.failures messages.after.failures → IsReported messages2 at → TookAll messages2 (error_text (Some at))
   reported-whole at notices reported none (inl t) = t
-  reported-whole at notices reported none (inr t) = absurd (omega (arith, t.1, msame, reported.1, mstart, mend, none.0, none.1))
+  reported-whole at notices reported none (inr t) = absurd (omega (arith, failures-of t.1, failures-of msame, failures-of reported.1, failures-of mstart, failures-of mend, none.0, none.1))
 
   -- a fault that was found on the way to all lines
   found-whole : (course all : Course) (at at' : At) (status : ℕ) (fault : Option At) → all ≡ course → EndedByFault writer1 messages1 course at' → at ≡ at'
-      → NoneFailed messages.before messages.after → Finishes writer2 messages2 0 true (Some (halt.Fault at)) status fault → IsResult (result_of_course all) writer messages status fault
+      → NoneFailed messages.before.failures messages.after.failures → Finishes writer2 messages2 0 true (Some (halt.Fault at)) status fault → IsResult (result_of_course all) writer messages status fault
   found-whole course all at at' status fault same found is none finished =
       subst (λ (k : Course). IsResult (result_of_course k) writer messages status fault) (sym same)
       (whole-bad course at status fault (found.fault ∙ ap Some (sym is)) found.wrote found.reported (flushed-either finished.0)
@@ -102,15 +103,15 @@ module _ (filter : Filter) (lawful : IsLawful filter) (input : Input) (writer1 w
   -- what a line, or the end, ended the run with, where no device failed and memory didn't run out
   ends-whole : (can : Option (List At)) (number : ℕ) (before course all : Course) (halt : Halt) (last : ℕ) (warned : Bool) (status : ℕ) (fault : Option At)
       → ((at : At) → course.fault ≡ Some at → all ≡ course) → EndsAt can number writer1 messages1 before course halt → Finishes writer2 messages2 last warned (Some halt) status fault
-      → NoneFailed writer.before writer.after → NoneFailed messages.before messages.after → (FaultIs OutOfMemory fault → ⊥) → IsResult (result_of_course all) writer messages status fault
+      → NoneFailed writer.before.failures writer.after.failures → NoneFailed messages.before.failures messages.after.failures → (FaultIs OutOfMemory fault → ⊥) → IsResult (result_of_course all) writer messages status fault
   ends-whole can number before course all (halt.Fault at) last warned status fault same (inl ran) finished wnone mnone memory =
       absurd (memory (subst (FaultIs OutOfMemory) (sym finished.2) ran.fault))
   ends-whole can number before course all (halt.Fault at) last warned status fault same (inr found) finished wnone mnone memory =
       found-whole course all at at status fault (same at found.fault) found refl mnone finished
   ends-whole can number before course all halt.Unwritten last warned status fault same failed finished wnone mnone memory =
-      absurd (omega (arith, failed.wrote.failed, finished.0.1, wsame, wstart, wend, wnone.0, wnone.1))
+      absurd (omega (arith, failures-of failed.wrote.failed, failures-of finished.0.1, failures-of wsame, failures-of wstart, failures-of wend, wnone.0, wnone.1))
   ends-whole can number before course all halt.Unreported last warned status fault same failed finished wnone mnone memory =
-      absurd (omega (arith, failed.reported.failed, finished.1.1, msame, mstart, mend, mnone.0, mnone.1))
+      absurd (omega (arith, failures-of failed.reported.failed, failures-of finished.1.1, failures-of msame, failures-of mstart, failures-of mend, mnone.0, mnone.1))
 
   stopped-none : (f : Fault) (given : List ℕ) (lines : List InputLine) (rest : List ℕ) → IsStopped f input.start input.counted given lines → length (given ++ rest) ≤ INPUT_LIMIT
       → NoneFailed input.start.failures input.counted.failures → ⊥
@@ -152,7 +153,7 @@ module _ (filter : Filter) (lawful : IsLawful filter) (input : Input) (writer1 w
       let h = done.read in
       let over = HasRead-ended input.gave input.at_end input.start input.counted now done.lines h done.ended in
       let course = filter.whole done.lines in
-      let whole = whole-good course status None done.good done.wrote done.reported finished.0.0.0 finished.1.0 refl (finished.2 ∙ ap good_status done.flag) in (
+      let whole = whole-good course status None done.good done.wrote done.reported finished.0.0 finished.1.0 refl (finished.2 ∙ ap good_status done.flag) in (
         h.given,
         h.lead,
         record {
@@ -160,13 +161,13 @@ module _ (filter : Filter) (lawful : IsLawful filter) (input : Input) (writer1 w
           ended = λ at is. absurd (no-fault at None is refl);
           asked = inr (ap (λ (t : Tally). t.ends) over.counts);
           read = λ other. ap (λ (t : Tally). t.failures) over.counts;
-          front = well-front filter lawful input writer1 writer2 writer messages1 messages2 messages wsame wstart wend wjoined wflushed msame mstart mend mjoined has_ended now last warned done finished.0.0.0;
-          flushed = λ e. wflushed finished.0.1;
+          front = well-front filter lawful input writer1 writer2 writer messages1 messages2 messages wsame wstart wend wjoined wflushed msame mstart mend mjoined has_ended now last warned done finished.0.0;
+          flushed = λ e. wflushed finished.0.2;
           good = λ e. (
             over.reported,
             over.within,
             ap (λ (t : Tally). t.failures) over.counts,
-            wend ∙ finished.0.0.1 ∙ wsame ∙ done.wrote.1 ∙ sym wstart,
+            wend ∙ finished.0.1 ∙ ap with_flush (wsame ∙ done.wrote.1 ∙ sym wstart),
             mend ∙ finished.1.1 ∙ msame ∙ done.reported.1 ∙ sym mstart,
             subst (λ (ls : List InputLine). IsResult (result_of_course (filter.whole ls)) writer messages status None) over.all whole,
           );
@@ -179,7 +180,7 @@ module _ (filter : Filter) (lawful : IsLawful filter) (input : Input) (writer1 w
         h.given,
         h.lead,
         record {
-          whole = λ rn wn mn memory rest none within. absurd (omega (arith, finished.0.1, done.wrote.1, wsame, wstart, wend, wn.0, wn.1));
+          whole = λ rn wn mn memory rest none within. absurd (omega (arith, failures-of finished.0.1, failures-of done.wrote.1, failures-of wsame, failures-of wstart, failures-of wend, wn.0, wn.1));
           good = λ e. absurd (no-fault at (Some at) refl e);
           flushed = λ e. absurd (no-fault at (Some at) refl e);
           ended = flush-stands filter lawful input writer1 writer2 writer messages1 messages2 messages wsame wstart wend wjoined wflushed msame mstart mend mjoined has_ended now last warned status at done finished;

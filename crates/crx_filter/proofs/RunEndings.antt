@@ -1,6 +1,6 @@
 -- What stands after a run, by how its work ended and how it was finished.
 use Rattle.std.proofs.Common.{◌≡◌, ◌⊎◌, inl, inr, ℕ, ◌+◌, Bool, true, List, [], ◌++◌, length, take, Option, Some, None, refl, sym, ap, subst, ◌∙◌, append-nil}
-use Rattle.crx_lines.specs.Devices.{one_more}
+use Rattle.crx_lines.specs.Devices.{with_failed_flush, with_failed_write, with_flush}
 use Rattle.crx_lines.specs.Lines.{InputLine, lines_of}
 use Rattle.crx_lines.specs.Reading.{Reading}
 use Rattle.crx_lines.specs.Progress.{IsStopped}
@@ -31,7 +31,7 @@ part-still first second both same start end joined xs all a b = record {
   some = a.some;
   less = a.less;
   took = subst both.took (append-nil (take a.count all)) (joined (take a.count all) [] a.took b.0);
-  failed = end ∙ b.1 ∙ same ∙ a.failed ∙ ap one_more (sym start);
+  failed = end ∙ b.1 ∙ same ∙ a.failed ∙ ap with_failed_write (sym start);
 }
 
 -- the one fault of a run
@@ -52,12 +52,17 @@ module _ (filter : Filter) (lawful : IsLawful filter) (input : Input) (writer1 w
   -- ---- devices
 
   written : (text : List ℕ) → TookAll writer1 text → IsFlushed writer2 ⊎ FlushFailed writer2 → IsWritten writer text
-  written text a (inl b) = inl (took-same writer1 writer2 writer wsame wstart wend wjoined text text a b.0 refl, wflushed b.1)
-  written text a (inr b) = inr (subst writer.took (append-nil text) (wjoined text [] a.0 b.0), wend ∙ b.1 ∙ ap one_more (wsame ∙ a.1 ∙ sym wstart))
+  written text a (inl b) = (
+    subst writer.took (append-nil text) (wjoined text [] a.0 b.0),
+    inl (wend ∙ b.1 ∙ ap with_flush (wsame ∙ a.1 ∙ sym wstart), wflushed b.2),
+  )
+  written text a (inr b) = (
+    subst writer.took (append-nil text) (wjoined text [] a.0 b.0),
+    inr (wend ∙ b.1 ∙ ap with_failed_flush (wsame ∙ a.1 ∙ sym wstart)),
+  )
 
   was-taken : (text : List ℕ) → IsWritten writer text → writer.took text
-  was-taken text (inl a) = a.0.0
-  was-taken text (inr a) = a.0
+  was-taken text a = a.0
 
   reported : (warnings : List At) (at : At) → TookAll messages1 (notices_text warnings) → IsReported messages2 at → AreReported messages warnings at
   reported warnings at a (inl b) = inl (all-all messages1 messages2 messages msame mstart mend mjoined (notices_text warnings) (error_text (Some at)) a b)
@@ -284,7 +289,7 @@ module _ (filter : Filter) (lawful : IsLawful filter) (input : Input) (writer1 w
               line = done.last_is ∙ ap length same;
               good = ap (λ (ls : List InputLine). (filter.whole ls).fault) (sym same) ∙ done.good;
               wrote = subst (λ (ls : List InputLine). writer.took (filter.whole ls).output) same (subst writer.took (append-nil course.output) (wjoined course.output [] done.wrote.0 flushed.0));
-              counted = wend ∙ flushed.1 ∙ ap one_more (wsame ∙ done.wrote.1 ∙ sym wstart);
+              counted = wend ∙ flushed.1 ∙ ap with_failed_flush (wsame ∙ done.wrote.1 ∙ sym wstart);
               reported = subst (λ (ls : List InputLine). AreReported messages (filter.whole ls).warnings (write_failed_at last)) same reported;
             }))) is,
       )

@@ -2,7 +2,7 @@
 use Rattle.std.proofs.Common.{◌≡◌, inl, inr, ℕ, ◌+◌, List, [], ◌++◌, length, take, Option, refl, sym, ap, subst, ◌∙◌, arith, append-nil, length-append}
 use Rattle.std.proofs.Math.Seq.{take-append-add}
 use Rattle.std.proofs.lemmas.List.{take-append-le}
-use Rattle.crx_lines.specs.Devices.{one_more}
+use Rattle.crx_lines.specs.Devices.{with_failed_write}
 use Rattle.crx_lines.specs.declared.fault.At.{At}
 use Rattle.crx_filter.specs.declared.taking.Halt.{Halt}
 use Rattle.crx_filter.specs.declared.taking.Halt.TheVariants.{Fault, Unwritten, Unreported}
@@ -32,7 +32,7 @@ module _ (first second both : Device) (same : second.before ≡ first.after) (st
         some = omega arith;
         less = omega (arith, b.0.1, ap length is, length-append (xs ++ ys) more, length-append xs ys);
         took = subst both.took (sym front) (joined xs (take n ys) a.0 b.0.2);
-        failed = end ∙ b.1 ∙ ap one_more (same ∙ a.1 ∙ sym start);
+        failed = end ∙ b.1 ∙ ap with_failed_write (same ∙ a.1 ∙ sym start);
       }
 
 warnings-text : (xs ys zs : List At) → zs ≡ xs ++ ys → notices_text zs ≡ notices_text xs ++ notices_text ys

@@ -1,7 +1,7 @@
 -- A line that was given once or twice.
 use Rattle.std.proofs.Common.{◌≡◌, inl, inr, ℕ, ◌+◌, Bool, true, List, [], ◌∷◌, ◌++◌, length, take, Option, refl, sym, ap, subst, ◌∙◌, arith, append_assoc, length-append}
 use Rattle.std.proofs.Math.Seq.{take-append-add}
-use Rattle.crx_lines.specs.Devices.{one_more}
+use Rattle.crx_lines.specs.Devices.{with_failed_write}
 use Rattle.crx_lines.specs.Lines.{InputLine}
 use Rattle.crx_lines.specs.declared.fault.At.{At}
 use Rattle.crx_filter.specs.declared.taking.Halt.{Halt}
@@ -27,7 +27,7 @@ module _ (first second both : Device) (same : second.before ≡ first.after) (st
   pub all-part : (xs ys : List ℕ) → TookAll first xs → TookPart second ys → TookPart both (xs ++ ys)
   all-part xs ys a b = (
     (length xs + b.0.0, omega (arith, b.0.1, length-append xs ys), subst both.took (sym (take-append-add xs ys b.0.0)) (joined xs (take b.0.0 ys) a.0 b.0.2)),
-    end ∙ b.1 ∙ ap one_more (same ∙ a.1 ∙ sym start),
+    end ∙ b.1 ∙ ap with_failed_write (same ∙ a.1 ∙ sym start),
   )
 
 -- a line that was given once

@@ -1,6 +1,6 @@
 -- How a run is finished once its work has ended: the writer is flushed, and the fault is reported.
 use Rattle.std.specs.Prelude.{◌≡◌, ◌⊎◌, ℕ, Bool, [], Option, Some, None}
-use Rattle.crx_lines.specs.Devices.{one_more}
+use Rattle.crx_lines.specs.Devices.{with_failed_flush, with_flush}
 use Rattle.crx_lines.specs.declared.fault.At.{At}
 use Rattle.crx_lines.specs.declared.fault.Fault.TheVariants.{WriteFailed}
 use Rattle.crx_filter.specs.declared.taking.Halt.{Halt}
@@ -18,13 +18,13 @@ write_failed_at last = record { line = last; fault = WriteFailed }
 abbrev pub IsReported : Device → At → Type 0
 IsReported messages at = TookAll messages (error_text (Some at)) ⊎ TookPart messages (error_text (Some at))
 
--- all that was written was handed on, and nothing more was written
+-- all that was written was handed on by one flush, and nothing more was written
 abbrev pub IsFlushed : Device → Type 0
-IsFlushed writer = TookAll writer [] × writer.flushed
+IsFlushed writer = writer.took [] × (writer.after ≡ with_flush writer.before) × writer.flushed
 
--- a flush failed: it writes nothing, and its failure is counted
+-- one flush was asked for and failed: it writes nothing, and its failure is counted
 abbrev pub FlushFailed : Device → Type 0
-FlushFailed writer = writer.took [] × (writer.after ≡ one_more writer.before)
+FlushFailed writer = writer.took [] × (writer.after ≡ with_failed_flush writer.before)
 
 -- a run that came to the good end of its input is flushed; where that fails, the failure is its fault
 abbrev pub FinishesWell : Device → Device → ℕ → Bool → ℕ → Option At → Type 0

@@ -23,7 +23,7 @@ use Rattle.crx_filter.specs.Taking.{Device}
 pub record IsKept (promise : List ℕ → Type 0) (input : Input) (given : List ℕ) (writer messages : Device) (fault : Option At) : Type 0 where
   -- where no device failed and memory didn't run out: for every input within the limit that begins with these bytes, and is these bytes
   -- where its end was reported
-  pub whole : NoneFailed input.start.failures input.counted.failures → NoneFailed writer.before writer.after → NoneFailed messages.before messages.after → (FaultIs OutOfMemory fault → ⊥)
+  pub whole : NoneFailed input.start.failures input.counted.failures → NoneFailed writer.before.failures writer.after.failures → NoneFailed messages.before.failures messages.after.failures → (FaultIs OutOfMemory fault → ⊥)
       → (rest : List ℕ) → (input.at_end → rest ≡ []) → length (given ++ rest) ≤ INPUT_LIMIT → promise (given ++ rest)
   -- where no fault stands: for these bytes
   pub good : fault ≡ None → promise given

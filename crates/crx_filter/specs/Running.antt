@@ -1,6 +1,7 @@
 -- A run between two lines, and how it goes on or ends.
 use Rattle.std.specs.Prelude.{◌≡◌, ◌⊎◌, ◌<◌, ◌≤◌, ℕ, ◌+◌, Bool, List, [], ◌++◌, length, take, Option, Some, None}
-use Rattle.crx_lines.specs.Devices.{Tally, one_more, tally_of}
+use Rattle.crx_lines.specs.Devices.{Tally, tally_of, with_failed_write}
+use Rattle.crx_lines.specs.declared.device.Source.{Ghosts}
 use Rattle.crx_lines.specs.Lines.{InputLine}
 use Rattle.crx_lines.specs.Reading.{Reading}
 use Rattle.crx_lines.specs.Progress.{HasRead}
@@ -22,9 +23,14 @@ pub record Input : Type 1 where
   pub start : Tally
   pub counted : Tally
 
--- a reader between two states, by what it gave, its end and its counts
-abbrev pub reader_between : {S : Type 0} → (S → List ℕ → S → Type 0) → (S → Type 0) → (S → ℕ) → (S → ℕ) → S → S → Input
-reader_between gave at_end failures ends old new = record { gave = λ given. gave old given new; at_end = at_end new; start = tally_of (failures old) (ends old); counted = tally_of (failures new) (ends new) }
+-- a reader between two states
+abbrev pub reader_span : {S : Type 0} → Ghosts S → S → S → Input
+reader_span source old new = record {
+  gave = λ given. source.gave old given new;
+  at_end = source.at_end new;
+  start = tally_of (source.failures old) (source.ends old);
+  counted = tally_of (source.failures new) (source.ends new);
+}
 
 -- these lines were read of an input, and what they make was written and reported
 pub record IsRunning (input : Input) (writer messages : Device) (now : Reading) (lines : List InputLine) (course : Course) : Type 0 where
@@ -70,7 +76,7 @@ pub record IsPart (device : Device) (before after : List ℕ) : Type 0 where
   pub some : length before ≤ count
   pub less : count < length after
   pub took : device.took (take count after)
-  pub failed : device.after ≡ one_more device.before
+  pub failed : device.after ≡ with_failed_write device.before
 
 -- what a line makes couldn't be written whole
 pub record WritingFailed (writer messages : Device) (before after : Course) : Type 0 where

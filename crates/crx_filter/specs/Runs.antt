@@ -1,6 +1,6 @@
 -- What a whole run writes, reports and answers, by what its reader gave; and how it ended.
 use Rattle.std.specs.Prelude.{◌≡◌, ◌⊎◌, ◌<◌, ◌≤◌, ◌-◌, ◌^◌, ℕ, List, [], ◌++◌, length, Option, Some, None}
-use Rattle.crx_lines.specs.Devices.{one_more}
+use Rattle.crx_lines.specs.Devices.{one_more, with_flush}
 use Rattle.crx_lines.specs.Lines.{lines_of}
 use Rattle.crx_lines.specs.declared.fault.At.{At}
 use Rattle.crx_lines.specs.declared.fault.Fault.{Fault}
@@ -38,10 +38,11 @@ FaultIs fault (Some at) = at.fault ≡ fault
 pub record RunsAs (result_of : List ℕ → FilterResult) (filter : Filter) (input : Input) (given : List ℕ) (writer messages : Device) (status : ℕ) (fault : Option At) : Type 0 where
   -- where no device failed and memory didn't run out, the run is that of every input within the limit that begins with these
   -- bytes, and is these bytes where its end was reported
-  pub whole : NoneFailed input.start.failures input.counted.failures → NoneFailed writer.before writer.after → NoneFailed messages.before messages.after → (FaultIs OutOfMemory fault → ⊥)
+  pub whole : NoneFailed input.start.failures input.counted.failures → NoneFailed writer.before.failures writer.after.failures → NoneFailed messages.before.failures messages.after.failures → (FaultIs OutOfMemory fault → ⊥)
       → (rest : List ℕ) → (input.at_end → rest ≡ []) → length (given ++ rest) ≤ INPUT_LIMIT → IsResult (result_of (given ++ rest)) writer messages status fault
-  -- where no fault stands, the end of the input was reported, no device failed, and the run is that of these bytes
-  pub good : fault ≡ None → input.at_end × (length given ≤ INPUT_LIMIT) × (input.counted.failures ≡ input.start.failures) × (writer.after ≡ writer.before) × (messages.after ≡ messages.before)
+  -- where no fault stands, the end of the input was reported, no device failed, the writer was flushed once and the messages never,
+  -- and the run is that of these bytes
+  pub good : fault ≡ None → input.at_end × (length given ≤ INPUT_LIMIT) × (input.counted.failures ≡ input.start.failures) × (writer.after ≡ with_flush writer.before) × (messages.after ≡ messages.before)
       × IsResult (result_of given) writer messages status fault
   -- where no fault stands, all that was written was handed on: the writer was flushed last
   pub flushed : fault ≡ None → writer.flushed

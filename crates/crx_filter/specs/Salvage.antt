@@ -1,6 +1,6 @@
 -- What stands after a run that a fault, a device or memory ended, by what its reader gave.
 use Rattle.std.specs.Prelude.{◌≡◌, ◌⊎◌, ◌<◌, ◌≤◌, ℕ, ◌+◌, List, [], ◌++◌, length, take, Some, None}
-use Rattle.crx_lines.specs.Devices.{one_more, with_failure}
+use Rattle.crx_lines.specs.Devices.{with_failed_flush, with_failure, with_flush}
 use Rattle.crx_lines.specs.Lines.{InputLine, lines_of}
 use Rattle.crx_lines.specs.Seen.{ended_lines_of}
 use Rattle.crx_lines.specs.declared.fault.At.{At}
@@ -51,9 +51,9 @@ IsTurn filter input given before after last = ByLine filter input given before a
 
 -- ---- what was written and reported
 
--- a text was written whole and handed on; or the flush after it failed, and its failure was counted
+-- a text was written whole and handed on by one flush; or that flush failed, and its failure was counted
 abbrev pub IsWritten : Device → List ℕ → Type 0
-IsWritten writer text = (TookAll writer text × writer.flushed) ⊎ (writer.took text × (writer.after ≡ one_more writer.before))
+IsWritten writer text = writer.took text × (((writer.after ≡ with_flush writer.before) × writer.flushed) ⊎ (writer.after ≡ with_failed_flush writer.before))
 
 -- these warnings were reported, whole and in order, and then the fault, whole or as far as it went until the messages failed
 abbrev pub AreReported : Device → List At → At → Type 0
@@ -125,7 +125,7 @@ pub record FlushFailedAlone (filter : Filter) (input : Input) (given : List ℕ)
   pub line : at.line ≡ length (lines_of given)
   pub good : (filter.whole (lines_of given)).fault ≡ None
   pub wrote : writer.took (filter.whole (lines_of given)).output
-  pub counted : writer.after ≡ one_more writer.before
+  pub counted : writer.after ≡ with_failed_flush writer.before
   pub reported : AreReported messages (filter.whole (lines_of given)).warnings at
 
 -- the filter found a fault in a line, or at the end: all that is due before it was written and reported

@@ -1,6 +1,7 @@
 -- What becomes of one line of the input.
 use Rattle.std.specs.Prelude.{◌≡◌, ◌⊎◌, ◌<◌, ℕ, Bool, true, false, List, [], ◌∷◌, ◌++◌, length, take, Option, Some, None}
-use Rattle.crx_lines.specs.Devices.{one_more}
+use Rattle.crx_lines.specs.Devices.{SinkTally, with_failed_write}
+use Rattle.crx_lines.specs.declared.device.Sink.{Ghosts}
 use Rattle.crx_lines.specs.Lines.{InputLine, is_long}
 use Rattle.crx_lines.specs.Reading.{line_shown, line_number}
 use Rattle.crx_lines.specs.declared.fault.At.{At}
@@ -40,17 +41,22 @@ notices_of (Warned notice again) = notice ∷ []
 
 -- ---- devices
 
--- a writer between two moments: which texts it may have taken in between, whether all that it took was handed on by then, and the
--- counts of its failures
+-- a writer between two moments: which texts it may have taken in between, whether all that it took was handed on by then, and what
+-- was counted of it
 pub record Device : Type 1 where
   pub took : List ℕ → Type 0
   pub flushed : Type 0
-  pub before : ℕ
-  pub after : ℕ
+  pub before : SinkTally
+  pub after : SinkTally
 
--- a writer between two states, by what it took, whether it was flushed last, and its counts
-abbrev pub between : {S : Type 0} → (S → List ℕ → S → Type 0) → (S → Type 0) → (S → ℕ) → S → S → Device
-between took is_flushed failures old new = record { took = λ text. took old text new; flushed = is_flushed new; before = failures old; after = failures new }
+-- a writer between two states
+abbrev pub span : {S : Type 0} → Ghosts S → S → S → Device
+span sink old new = record {
+  took = λ text. sink.took old text new;
+  flushed = sink.is_flushed new;
+  before = record { failures = sink.failures old; flushes = sink.flushes old };
+  after = record { failures = sink.failures new; flushes = sink.flushes new };
+}
 
 -- it took a text whole, and counted no failure
 abbrev pub TookAll : Device → List ℕ → Type 0
@@ -58,7 +64,7 @@ TookAll device text = device.took text × (device.after ≡ device.before)
 
 -- it took less than a text, from its front, and counted one failure more
 abbrev pub TookPart : Device → List ℕ → Type 0
-TookPart device text = ((n : ℕ) × (n < length text) × device.took (take n text)) × (device.after ≡ one_more device.before)
+TookPart device text = ((n : ℕ) × (n < length text) × device.took (take n text)) × (device.after ≡ with_failed_write device.before)
 
 -- ---- one step
 

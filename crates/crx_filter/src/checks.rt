@@ -7,8 +7,8 @@ ghost use Rattle.crx_engine.specs.Checking.{check_filter};
 ghost use Rattle.crx_filter.specs.Promises.{JudgesStandard, Keeps};
 ghost use Rattle.crx_filter.specs.Runs.{Runs};
 ghost use Rattle.crx_engine.specs.Standard.{checked, report_status};
-ghost use Rattle.crx_filter.specs.Taking.{between};
-ghost use Rattle.crx_filter.specs.Running.{reader_between};
+ghost use Rattle.crx_filter.specs.Taking.{span};
+ghost use Rattle.crx_filter.specs.Running.{reader_span};
 
 use crate::outcome::Outcome;
 use crate::run::run;
@@ -45,8 +45,8 @@ fn check_by<R: Source, W: Sink, M: Sink>(
     requires open { IsOpen checker.old }
     requires drained { ready_lines checker.old ≡ [] }
     ensures runs { Runs checked check_filter
-        (reader_between R.gave R.at_end R.failures R.ends reader.old reader.new)
-        (between W.took W.is_flushed W.failures writer.old writer.new) (between M.took M.is_flushed M.failures messages.old messages.new) result.status result.fault }
+        (reader_span R.Source reader.old reader.new)
+        (span W.Sink writer.old writer.new) (span M.Sink messages.old messages.new) result.status result.fault }
 {
     let outcome = run(alloc, checker, reader, writer, messages);
     judged(outcome, checker.not_standard())
@@ -62,11 +62,11 @@ pub fn check<R: Source, W: Sink, M: Sink>(
     messages: &mut M,
 ) -> Outcome
     ensures runs { Runs checked check_filter
-        (reader_between R.gave R.at_end R.failures R.ends reader.old reader.new)
-        (between W.took W.is_flushed W.failures writer.old writer.new) (between M.took M.is_flushed M.failures messages.old messages.new) result.status result.fault }
-    ensures standard { Keeps (JudgesStandard (between W.took W.is_flushed W.failures writer.old writer.new) result.status)
-        (reader_between R.gave R.at_end R.failures R.ends reader.old reader.new)
-        (between W.took W.is_flushed W.failures writer.old writer.new) (between M.took M.is_flushed M.failures messages.old messages.new) result.fault }
+        (reader_span R.Source reader.old reader.new)
+        (span W.Sink writer.old writer.new) (span M.Sink messages.old messages.new) result.status result.fault }
+    ensures standard { Keeps (JudgesStandard (span W.Sink writer.old writer.new) result.status)
+        (reader_span R.Source reader.old reader.new)
+        (span W.Sink writer.old writer.new) (span M.Sink messages.old messages.new) result.fault }
 {
     let mut checker = Checker::new(alloc);
     check_by(alloc, &mut checker, reader, writer, messages)

@@ -6,8 +6,8 @@ ghost use Rattle.crx_engine.specs.Directions.{compaction_filter, expansion_filte
 ghost use Rattle.crx_engine.specs.Expanded.{expanded};
 ghost use Rattle.crx_filter.specs.Promises.{BringsBackWhatWasCompacted, Keeps, SavesAllElse};
 ghost use Rattle.crx_filter.specs.Runs.{Runs};
-ghost use Rattle.crx_filter.specs.Taking.{between};
-ghost use Rattle.crx_filter.specs.Running.{reader_between};
+ghost use Rattle.crx_filter.specs.Taking.{span};
+ghost use Rattle.crx_filter.specs.Running.{reader_span};
 
 use crate::outcome::Outcome;
 use crate::start::start;
@@ -29,8 +29,8 @@ pub fn compact<R: Source, W: Sink, M: Sink>(
     options: Options,
 ) -> Outcome
     ensures runs { Runs (λ input. compacted input options) (compaction_filter options)
-        (reader_between R.gave R.at_end R.failures R.ends reader.old reader.new)
-        (between W.took W.is_flushed W.failures writer.old writer.new) (between M.took M.is_flushed M.failures messages.old messages.new) result.status result.fault }
+        (reader_span R.Source reader.old reader.new)
+        (span W.Sink writer.old writer.new) (span M.Sink messages.old messages.new) result.status result.fault }
 {
     start(
         alloc,
@@ -54,14 +54,14 @@ pub fn expand<R: Source, W: Sink, M: Sink>(
     options: Options,
 ) -> Outcome
     ensures runs { Runs (λ input. expanded input options) (expansion_filter options)
-        (reader_between R.gave R.at_end R.failures R.ends reader.old reader.new)
-        (between W.took W.is_flushed W.failures writer.old writer.new) (between M.took M.is_flushed M.failures messages.old messages.new) result.status result.fault }
-    ensures way_back { Keeps (BringsBackWhatWasCompacted (between W.took W.is_flushed W.failures writer.old writer.new) (between M.took M.is_flushed M.failures messages.old messages.new) result.status result.fault)
-        (reader_between R.gave R.at_end R.failures R.ends reader.old reader.new)
-        (between W.took W.is_flushed W.failures writer.old writer.new) (between M.took M.is_flushed M.failures messages.old messages.new) result.fault }
-    ensures salvage { Keeps (SavesAllElse options (between W.took W.is_flushed W.failures writer.old writer.new) (between M.took M.is_flushed M.failures messages.old messages.new) result.status result.fault)
-        (reader_between R.gave R.at_end R.failures R.ends reader.old reader.new)
-        (between W.took W.is_flushed W.failures writer.old writer.new) (between M.took M.is_flushed M.failures messages.old messages.new) result.fault }
+        (reader_span R.Source reader.old reader.new)
+        (span W.Sink writer.old writer.new) (span M.Sink messages.old messages.new) result.status result.fault }
+    ensures way_back { Keeps (BringsBackWhatWasCompacted (span W.Sink writer.old writer.new) (span M.Sink messages.old messages.new) result.status result.fault)
+        (reader_span R.Source reader.old reader.new)
+        (span W.Sink writer.old writer.new) (span M.Sink messages.old messages.new) result.fault }
+    ensures salvage { Keeps (SavesAllElse options (span W.Sink writer.old writer.new) (span M.Sink messages.old messages.new) result.status result.fault)
+        (reader_span R.Source reader.old reader.new)
+        (span W.Sink writer.old writer.new) (span M.Sink messages.old messages.new) result.fault }
 {
     start(
         alloc,

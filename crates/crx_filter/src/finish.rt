@@ -1,8 +1,9 @@
 //! The end of a run: the writer is flushed, and the fault is reported.
 
-ghost use Rattle.std.specs.Prelude.{◌≡◌, ◌⊎◌, Some};
+ghost use Rattle.std.specs.Prelude.{◌≡◌, ◌⊎◌, [], Some};
+ghost use Rattle.crx_lines.specs.Devices.{one_more};
 ghost use Rattle.crx_filter.specs.Endings.{Finishes, IsReported};
-ghost use Rattle.crx_filter.specs.Taking.{between};
+ghost use Rattle.crx_filter.specs.Taking.{span};
 
 use crate::message::{Severity, message};
 use crate::outcome::Outcome;
@@ -12,7 +13,7 @@ use crx_text::{At, Fault, Sink, write_all_counted};
 
 /// Reports a fault; a failure ends its message where it comes.
 fn report<M: Sink>(messages: &mut M, at: At) -> Outcome
-    ensures reported { IsReported (between M.took M.is_flushed M.failures messages.old messages.new) at }
+    ensures reported { IsReported (span M.Sink messages.old messages.new) at }
     ensures fault { result.fault ≡ Some at }
     ensures status { result.status ≡ 1 }
 {
@@ -26,12 +27,23 @@ fn report<M: Sink>(messages: &mut M, at: At) -> Outcome
     }
 }
 
+/// Reports a fault once the writer was flushed, well or not: the writer is there for the contract alone, so that no message comes
+/// before the flush.
+fn report_after_flush<W: Sink, M: Sink>(_writer: &W, messages: &mut M, at: At) -> Outcome
+    requires flushed { (before : W) × W.took before [] _writer.now × (W.flushes _writer.now ≡ one_more (W.flushes before)) }
+    ensures reported { IsReported (span M.Sink messages.old messages.new) at }
+    ensures fault { result.fault ≡ Some at }
+    ensures status { result.status ≡ 1 }
+{
+    report(messages, at)
+}
+
 /// Finishes a run whose work has ended. A writer that failed isn't flushed; a flush that fails is `WriteFailed` at the
 /// last line that was read, unless a fault stands. Then the fault is reported, but for a warning that couldn't be.
 pub(crate) fn finish<W: Sink, M: Sink>(writer: &mut W, messages: &mut M, work: Work) -> Outcome
     ensures { Finishes
-        (between W.took W.is_flushed W.failures writer.old writer.new)
-        (between M.took M.is_flushed M.failures messages.old messages.new)
+        (span W.Sink writer.old writer.new)
+        (span M.Sink messages.old messages.new)
         work.last work.warned work.halt result.status result.fault }
 {
     let unwritten = At {
@@ -44,11 +56,11 @@ pub(crate) fn finish<W: Sink, M: Sink>(writer: &mut W, messages: &mut M, work: W
                 status: if work.warned { 2 } else { 0 },
                 fault: None,
             },
-            Err(_) => report(messages, unwritten),
+            Err(_) => report_after_flush(writer, messages, unwritten),
         },
         Some(Halt::Fault(at)) => {
             let _ = writer.flush();
-            report(messages, at)
+            report_after_flush(writer, messages, at)
         }
         Some(Halt::Unwritten) => report(messages, unwritten),
         Some(Halt::Unreported) => Outcome {

@@ -4,8 +4,8 @@ ghost use Rattle.std.specs.Prelude.{◌≡◌, ℕ, List, [], Some, None, false}
 ghost use Rattle.crx_lines.specs.Lines.{lines_of};
 ghost use Rattle.crx_engine.specs.Lawful.{IsLawful};
 ghost use Rattle.crx_filter.specs.Runs.{result_by, RunsAs};
-ghost use Rattle.crx_filter.specs.Taking.{between};
-ghost use Rattle.crx_filter.specs.Running.{reader_between};
+ghost use Rattle.crx_filter.specs.Taking.{span};
+ghost use Rattle.crx_filter.specs.Running.{reader_span};
 
 use crate::finish::finish;
 use crate::outcome::Outcome;
@@ -44,8 +44,8 @@ pub(crate) fn run<E: Engine, R: Source, W: Sink, M: Sink>(
     requires shown { E.shows engine.old [] [] }
     requires lawful { IsLawful (E.filter engine.old) }
     ensures runs { (given : List ℕ) × R.gave reader.old given reader.new × RunsAs (result_by (E.filter engine.old)) (E.filter engine.old)
-        (reader_between R.gave R.at_end R.failures R.ends reader.old reader.new) given
-        (between W.took W.is_flushed W.failures writer.old writer.new) (between M.took M.is_flushed M.failures messages.old messages.new) result.status result.fault
+        (reader_span R.Source reader.old reader.new) given
+        (span W.Sink writer.old writer.new) (span M.Sink messages.old messages.new) result.status result.fault
         × (result.fault ≡ None → E.has_ended engine.new (lines_of given)) }
 {
     match LineReader::new(alloc) {

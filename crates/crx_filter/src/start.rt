@@ -4,8 +4,8 @@ ghost use Rattle.std.specs.Prelude.{◌≡◌, ℕ, List, [], IfOk};
 ghost use Rattle.crx_engine.specs.Filters.{Filter};
 ghost use Rattle.crx_engine.specs.Lawful.{IsLawful};
 ghost use Rattle.crx_filter.specs.Runs.{result_by, Runs};
-ghost use Rattle.crx_filter.specs.Taking.{between};
-ghost use Rattle.crx_filter.specs.Running.{reader_between};
+ghost use Rattle.crx_filter.specs.Taking.{span};
+ghost use Rattle.crx_filter.specs.Running.{reader_span};
 
 use crate::finish::finish;
 use crate::outcome::Outcome;
@@ -26,8 +26,8 @@ pub(crate) fn start<E: Engine + Drop, R: Source, W: Sink, M: Sink>(
     requires lawful { IfOk engine (λ e. IsLawful (E.filter e)) }
     ensures runs { (filter : Filter) → IsLawful filter → IfOk engine (λ e. E.filter e ≡ filter)
         → Runs (result_by filter) filter
-        (reader_between R.gave R.at_end R.failures R.ends reader.old reader.new)
-        (between W.took W.is_flushed W.failures writer.old writer.new) (between M.took M.is_flushed M.failures messages.old messages.new) result.status result.fault }
+        (reader_span R.Source reader.old reader.new)
+        (span W.Sink writer.old writer.new) (span M.Sink messages.old messages.new) result.status result.fault }
 {
     match engine {
         Ok(mut engine) => run(alloc, &mut engine, reader, writer, messages),

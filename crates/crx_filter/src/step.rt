@@ -4,8 +4,8 @@ ghost use Rattle.std.specs.Prelude.{◌≡◌, ◌⊎◌, ◌+◌, ℕ, List, []
 ghost use Rattle.crx_lines.specs.Lines.{InputLine};
 ghost use Rattle.crx_lines.specs.Readers.{reading};
 ghost use Rattle.crx_lines.specs.declared.limits.TheConstants.{INPUT_LIMIT};
-ghost use Rattle.crx_filter.specs.Running.{IsWithinLimit, IsRunning, Goes, StopsAt, reader_between};
-ghost use Rattle.crx_filter.specs.Taking.{between};
+ghost use Rattle.crx_filter.specs.Running.{IsWithinLimit, IsRunning, Goes, StopsAt, reader_span};
+ghost use Rattle.crx_filter.specs.Taking.{span};
 
 use crate::taking::{Halt, take_line, take_overlong};
 use crx_engine::engine::Engine;
@@ -32,25 +32,25 @@ pub(crate) fn step<E: Engine, R: Source, W: Sink, M: Sink>(
     ensures farther { IfOk result (λ o. IfSome o (λ _. ((reading input.old).lent < (reading input.new).lent) × ((reading input.new).lent ≤ INPUT_LIMIT))) }
     ensures goes { (r0 : R) (w0 : W) (m0 : M) (lines : List InputLine) → E.shows engine.old lines []
         → IsRunning
-        (reader_between R.gave R.at_end R.failures R.ends r0 reader.old)
-        (between W.took W.is_flushed W.failures w0 writer.old)
-        (between M.took M.is_flushed M.failures m0 messages.old)
+        (reader_span R.Source r0 reader.old)
+        (span W.Sink w0 writer.old)
+        (span M.Sink m0 messages.old)
         (reading input.old) lines ((E.filter engine.old).so_far lines)
         → IfOk result (λ progress. Goes (E.filter engine.old) (E.shows engine.new)
-        (reader_between R.gave R.at_end R.failures R.ends r0 reader.new)
-        (between W.took W.is_flushed W.failures w0 writer.new)
-        (between M.took M.is_flushed M.failures m0 messages.new)
+        (reader_span R.Source r0 reader.new)
+        (span W.Sink w0 writer.new)
+        (span M.Sink m0 messages.new)
         (reading input.new) lines progress) }
     ensures stops { (r0 : R) (w0 : W) (m0 : M) (lines : List InputLine) → E.shows engine.old lines []
         → IsRunning
-        (reader_between R.gave R.at_end R.failures R.ends r0 reader.old)
-        (between W.took W.is_flushed W.failures w0 writer.old)
-        (between M.took M.is_flushed M.failures m0 messages.old)
+        (reader_span R.Source r0 reader.old)
+        (span W.Sink w0 writer.old)
+        (span M.Sink m0 messages.old)
         (reading input.old) lines ((E.filter engine.old).so_far lines)
         → IfErr result (λ halt. StopsAt (E.filter engine.old)
-        (reader_between R.gave R.at_end R.failures R.ends r0 reader.new)
-        (between W.took W.is_flushed W.failures w0 writer.new)
-        (between M.took M.is_flushed M.failures m0 messages.new)
+        (reader_span R.Source r0 reader.new)
+        (span W.Sink w0 writer.new)
+        (span M.Sink m0 messages.new)
         (reading input.new) lines halt) }
 {
     match input.next_line(reader) {

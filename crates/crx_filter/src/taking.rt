@@ -9,7 +9,7 @@ ghost use Rattle.crx_lines.specs.declared.limits.TheConstants.{INPUT_LIMIT};
 ghost use Rattle.crx_engine.specs.Filters.{Filter, lines_text};
 ghost use Rattle.crx_engine.specs.Messages.{warning_text, notices_text};
 ghost use Rattle.crx_engine.specs.Engines.{Answers, Awaited, IsAwaited, notices_of as warnings_awaited, Concludes, IsDrainedAfter, taken_after, with_next};
-ghost use Rattle.crx_filter.specs.Taking.{TakenIs, number_taken, is_warning, notices_of, Unsettled, IsOnce, IsHalted, IsDone, IsCut, between};
+ghost use Rattle.crx_filter.specs.Taking.{TakenIs, number_taken, is_warning, notices_of, Unsettled, IsOnce, IsHalted, IsDone, IsCut, span};
 
 use crate::message::{Severity, message};
 use crate::ready::write_ready;
@@ -77,6 +77,7 @@ fn warn<M: Sink>(messages: &mut M, notice: At) -> Result<(), Halt>
     ensures halt { OnErr result (result ≡ Err Halt.Unreported) }
     ensures part { OnErr result ((n : ℕ) × (n < length (warning_text notice)) × M.took messages.old (take n (warning_text notice)) messages.new) }
     ensures counted { OnErr result (M.failures messages.new ≡ one_more (M.failures messages.old)) }
+    ensures unasked { M.flushes messages.new ≡ M.flushes messages.old }
 {
     match write_all_counted(messages, message(Severity::Warning, notice).bytes()) {
         Ok(()) => Ok(()),
@@ -101,9 +102,10 @@ fn settle<E: Engine, W: Sink, M: Sink>(
     ensures written { OnOk result (W.took writer.old (lines_text (E.ready engine.old)) writer.new) }
     ensures reported { OnOk result (M.took messages.old (notices_text (notices_of step)) messages.new) }
     ensures good { OnOk result ((W.failures writer.new ≡ W.failures writer.old) × (M.failures messages.new ≡ M.failures messages.old)) }
+    ensures unasked { (W.flushes writer.new ≡ W.flushes writer.old) × (M.flushes messages.new ≡ M.flushes messages.old) }
     ensures halted { IfErr result (λ halt. Unsettled
-        (between W.took W.is_flushed W.failures writer.old writer.new)
-        (between M.took M.is_flushed M.failures messages.old messages.new)
+        (span W.Sink writer.old writer.new)
+        (span M.Sink messages.old messages.new)
         (lines_text (E.ready engine.old)) (notices_of step) halt) }
 {
     match step {
@@ -135,14 +137,14 @@ fn respond<E: Engine, W: Sink, M: Sink>(
     ensures once { (filter : Filter) (lines : List InputLine) (earlier : List Awaited) (line : InputLine)
         → Answers filter (E.shows engine.old) (E.ready engine.old) lines earlier line answer
         → IfOk result (λ once. IsOnce filter (E.shows engine.new)
-        (between W.took W.is_flushed W.failures writer.old writer.new)
-        (between M.took M.is_flushed M.failures messages.old messages.new)
+        (span W.Sink writer.old writer.new)
+        (span M.Sink messages.old messages.new)
         lines earlier line once) }
     ensures halted { (filter : Filter) (lines : List InputLine) (earlier : List Awaited) (line : InputLine)
         → Answers filter (E.shows engine.old) (E.ready engine.old) lines earlier line answer
         → IfErr result (λ halt. IsHalted (filter.so_far lines) (filter.so_far (with_next lines line)) (filter.memory_after lines line) (length lines + 1)
-        (between W.took W.is_flushed W.failures writer.old writer.new)
-        (between M.took M.is_flushed M.failures messages.old messages.new)
+        (span W.Sink writer.old writer.new)
+        (span M.Sink messages.old messages.new)
         (warnings_awaited earlier) halt) }
 {
     let step = match answer {
@@ -180,13 +182,13 @@ fn take_once<E: Engine, W: Sink, M: Sink>(
     ensures drained { OnOk result (E.ready engine.new ≡ []) }
     ensures once { (lines : List InputLine) (earlier : List Awaited) (line : InputLine) → E.shows engine.old lines earlier → IsAwaited earlier line → TakenIs taken.entry line
         → IfOk result (λ once. IsOnce (E.filter engine.old) (E.shows engine.new)
-        (between W.took W.is_flushed W.failures writer.old writer.new)
-        (between M.took M.is_flushed M.failures messages.old messages.new)
+        (span W.Sink writer.old writer.new)
+        (span M.Sink messages.old messages.new)
         lines earlier line once) }
     ensures halted { (lines : List InputLine) (earlier : List Awaited) (line : InputLine) → E.shows engine.old lines earlier → IsAwaited earlier line → TakenIs taken.entry line
         → IfErr result (λ halt. IsHalted ((E.filter engine.old).so_far lines) ((E.filter engine.old).so_far (with_next lines line)) ((E.filter engine.old).memory_after lines line) (length lines + 1)
-        (between W.took W.is_flushed W.failures writer.old writer.new)
-        (between M.took M.is_flushed M.failures messages.old messages.new)
+        (span W.Sink writer.old writer.new)
+        (span M.Sink messages.old messages.new)
         (warnings_awaited earlier) halt) }
 {
     let answer = give(engine, taken);
@@ -212,14 +214,14 @@ fn take_answered<E: Engine, W: Sink, M: Sink>(
     ensures done { (filter : Filter) (lines : List InputLine) (line : InputLine) → E.filter engine.old ≡ filter
         → Answers filter (E.shows engine.old) (E.ready engine.old) lines [] line answer → TakenIs taken.entry line
         → IfOk result (λ warned. IsDone (filter.so_far lines) (filter.so_far (with_next lines line)) (E.shows engine.new (with_next lines line) [])
-        (between W.took W.is_flushed W.failures writer.old writer.new)
-        (between M.took M.is_flushed M.failures messages.old messages.new)
+        (span W.Sink writer.old writer.new)
+        (span M.Sink messages.old messages.new)
         [] warned) }
     ensures cut { (filter : Filter) (lines : List InputLine) (line : InputLine) → E.filter engine.old ≡ filter
         → Answers filter (E.shows engine.old) (E.ready engine.old) lines [] line answer → TakenIs taken.entry line
         → IfErr result (λ halt. IsCut (filter.so_far lines) (filter.so_far (with_next lines line)) (filter.memory_after lines line) (length lines + 1)
-        (between W.took W.is_flushed W.failures writer.old writer.new)
-        (between M.took M.is_flushed M.failures messages.old messages.new)
+        (span W.Sink writer.old writer.new)
+        (span M.Sink messages.old messages.new)
         halt) }
 {
     match respond(engine, writer, messages, answer) {
@@ -250,13 +252,13 @@ pub(crate) fn take_line<E: Engine, W: Sink, M: Sink>(
     ensures drained { OnOk result (E.ready engine.new ≡ []) }
     ensures done { (lines : List InputLine) → E.shows engine.old lines []
         → IfOk result (λ warned. IsDone ((E.filter engine.old).so_far lines) ((E.filter engine.old).so_far (with_next lines (line_shown line.entry))) (E.shows engine.new (with_next lines (line_shown line.entry)) [])
-        (between W.took W.is_flushed W.failures writer.old writer.new)
-        (between M.took M.is_flushed M.failures messages.old messages.new)
+        (span W.Sink writer.old writer.new)
+        (span M.Sink messages.old messages.new)
         [] warned) }
     ensures cut { (lines : List InputLine) → E.shows engine.old lines []
         → IfErr result (λ halt. IsCut ((E.filter engine.old).so_far lines) ((E.filter engine.old).so_far (with_next lines (line_shown line.entry))) ((E.filter engine.old).memory_after lines (line_shown line.entry)) (length lines + 1)
-        (between W.took W.is_flushed W.failures writer.old writer.new)
-        (between M.took M.is_flushed M.failures messages.old messages.new)
+        (span W.Sink writer.old writer.new)
+        (span M.Sink messages.old messages.new)
         halt) }
 {
     if engine.take(line) {
@@ -282,13 +284,13 @@ pub(crate) fn take_overlong<E: Engine, W: Sink, M: Sink>(
     ensures drained { OnOk result (E.ready engine.new ≡ []) }
     ensures done { (lines : List InputLine) (line : InputLine) → E.shows engine.old lines [] → is_long line ≡ true
         → IfOk result (λ warned. IsDone ((E.filter engine.old).so_far lines) ((E.filter engine.old).so_far (with_next lines line)) (E.shows engine.new (with_next lines line) [])
-        (between W.took W.is_flushed W.failures writer.old writer.new)
-        (between M.took M.is_flushed M.failures messages.old messages.new)
+        (span W.Sink writer.old writer.new)
+        (span M.Sink messages.old messages.new)
         [] warned) }
     ensures cut { (lines : List InputLine) (line : InputLine) → E.shows engine.old lines [] → is_long line ≡ true
         → IfErr result (λ halt. IsCut ((E.filter engine.old).so_far lines) ((E.filter engine.old).so_far (with_next lines line)) ((E.filter engine.old).memory_after lines line) (length lines + 1)
-        (between W.took W.is_flushed W.failures writer.old writer.new)
-        (between M.took M.is_flushed M.failures messages.old messages.new)
+        (span W.Sink writer.old writer.new)
+        (span M.Sink messages.old messages.new)
         halt) }
 {
     let answer = engine.overlong(number);
@@ -307,13 +309,13 @@ pub(crate) fn take_end<E: Engine, W: Sink, M: Sink>(
     ensures filter { E.filter engine.new ≡ E.filter engine.old }
     ensures done { (lines : List InputLine) → E.shows engine.old lines []
         → IfOk result (λ warned. IsDone ((E.filter engine.old).so_far lines) ((E.filter engine.old).whole lines) (E.has_ended engine.new lines)
-        (between W.took W.is_flushed W.failures writer.old writer.new)
-        (between M.took M.is_flushed M.failures messages.old messages.new)
+        (span W.Sink writer.old writer.new)
+        (span M.Sink messages.old messages.new)
         [] warned) }
     ensures cut { (lines : List InputLine) → E.shows engine.old lines []
         → IfErr result (λ halt. IsHalted ((E.filter engine.old).so_far lines) ((E.filter engine.old).whole lines) None (length lines)
-        (between W.took W.is_flushed W.failures writer.old writer.new)
-        (between M.took M.is_flushed M.failures messages.old messages.new)
+        (span W.Sink writer.old writer.new)
+        (span M.Sink messages.old messages.new)
         [] halt) }
 {
     match engine.end() {

@@ -3,8 +3,8 @@
 ghost use Rattle.std.specs.Prelude.{◌≡◌, ◌⊎◌, ◌+◌, ℕ, List, [], None};
 ghost use Rattle.crx_lines.specs.Lines.{InputLine};
 ghost use Rattle.crx_lines.specs.Readers.{reading};
-ghost use Rattle.crx_filter.specs.Running.{WorkEnds, reader_between};
-ghost use Rattle.crx_filter.specs.Taking.{between};
+ghost use Rattle.crx_filter.specs.Running.{WorkEnds, reader_span};
+ghost use Rattle.crx_filter.specs.Taking.{span};
 
 use crate::step::step;
 use crate::taking::{Halt, take_end};
@@ -37,9 +37,9 @@ pub(crate) fn take_all<E: Engine, R: Source, W: Sink, M: Sink>(
     requires first { reading input.old ≡ record { rest = []; lent = 0; number = 0; phase = Phase.Open } }
     requires nothing { (E.filter engine.old).so_far [] ≡ record { output = []; warnings = []; fault = None } }
     ensures { WorkEnds (E.filter engine.old) (E.has_ended engine.new)
-        (reader_between R.gave R.at_end R.failures R.ends reader.old reader.new)
-        (between W.took W.is_flushed W.failures writer.old writer.new)
-        (between M.took M.is_flushed M.failures messages.old messages.new)
+        (reader_span R.Source reader.old reader.new)
+        (span W.Sink writer.old writer.new)
+        (span M.Sink messages.old messages.new)
         (reading input.new) result.last result.warned result.halt }
 {
     let mut warned = false;

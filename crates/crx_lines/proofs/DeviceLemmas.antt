@@ -1,7 +1,7 @@
--- What a step of a reader adds to the counts of its source.
+-- What a step of a reader adds to the counts of its source, and what the tallies of a sink have in common.
 use Rattle.std.proofs.Common.{◌≡◌, ◌≢◌, ℕ, Bool, true, false, cond, ap, ap₂, ◌∙◌}
 use Rattle.std.proofs.lemmas.Bool.{ne_eqb}
-use Rattle.crx_lines.specs.Devices.{one_more, ends_after, tally_of, tally_after_line}
+use Rattle.crx_lines.specs.Devices.{SinkTally, one_more, ends_after, tally_of, tally_after_line}
 
 -- a read that gave a byte didn't report the end
 pub ends-some : (given before after : ℕ) → given ≢ 0 → after ≡ ends_after given before → after ≡ before
@@ -14,3 +14,7 @@ pub tally-line : (is_ended : Bool) (failures ends failures' ends' : ℕ) → fai
     → tally_of failures' ends' ≡ tally_after_line is_ended (tally_of failures ends)
 tally-line true failures ends failures' ends' f e = ap₂ tally_of f e
 tally-line false failures ends failures' ends' f e = ap₂ tally_of f e
+
+-- the failures of equal tallies
+pub failures-of : {a b : SinkTally} → a ≡ b → a.failures ≡ b.failures
+failures-of same = ap (λ (t : SinkTally). t.failures) same

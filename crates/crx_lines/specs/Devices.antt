@@ -25,6 +25,26 @@ with_failure t = record { failures = one_more t.failures; ends = t.ends }
 abbrev pub with_end : Tally → Tally
 with_end t = record { failures = t.failures; ends = one_more t.ends }
 
+-- what was counted of a sink: the writes and flushes that failed, and the flushes that were asked for
+pub record SinkTally : Type 0 where
+  pub failures : ℕ
+  pub flushes : ℕ
+
+abbrev pub sink_tally_of : ℕ → ℕ → SinkTally
+sink_tally_of failures flushes = record { failures = failures; flushes = flushes }
+
+-- a sink's tally after one more write that failed
+abbrev pub with_failed_write : SinkTally → SinkTally
+with_failed_write t = record { failures = one_more t.failures; flushes = t.flushes }
+
+-- a sink's tally after one more flush that was good
+abbrev pub with_flush : SinkTally → SinkTally
+with_flush t = record { failures = t.failures; flushes = one_more t.flushes }
+
+-- a sink's tally after one more flush that failed
+abbrev pub with_failed_flush : SinkTally → SinkTally
+with_failed_flush t = record { failures = one_more t.failures; flushes = one_more t.flushes }
+
 -- a tally after a line: one that no LF ends was ended by a report of the end
 abbrev pub tally_after_line : Bool → Tally → Tally
 tally_after_line is_ended t = if is_ended then t else with_end t

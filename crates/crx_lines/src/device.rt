@@ -64,12 +64,17 @@ pub trait Sink {
     // All that was taken was handed on: a flush said so, and no write came after it.
     ghost is_flushed: { Self → Type 0 };
 
-    /// Takes the first of `bytes`, at least one if there is one, and answers how many. Whether they were
-    /// handed on is left open until a flush.
+    // How many flushes were asked for; the count stops at the greatest value of 64 bits.
+    ghost flushes: { Self → ℕ };
+
+    /// Takes the first of `bytes`, at least one if there is one, and answers how many. They count as
+    /// handed on only once a flush said so.
     fn write(&mut self, bytes: &[u8]) -> Result<usize, WriteFailed>
         ensures bound { IfOk result (λ n. n ≤ length bytes.now) }
         ensures bytes { IfOk result (λ n. took self.old (take n bytes.now) self.new) }
         ensures progress { IfOk result (λ n. 0 < length bytes.now → 0 < n) }
+        ensures unflushed { is_flushed self.new → ⊥ }
+        ensures unasked { flushes self.new ≡ flushes self.old }
         ensures good { OnOk result (failures self.new ≡ failures self.old) }
         ensures none_taken { OnErr result (took self.old [] self.new) }
         ensures counted { OnErr result (failures self.new ≡ one_more (failures self.old)) };
@@ -78,6 +83,7 @@ pub trait Sink {
     fn flush(&mut self) -> Result<(), WriteFailed>
         ensures none_taken { took self.old [] self.new }
         ensures flushed { OnOk result (is_flushed self.new) }
+        ensures asked { flushes self.new ≡ one_more (flushes self.old) }
         ensures good { OnOk result (failures self.new ≡ failures self.old) }
         ensures counted { OnErr result (failures self.new ≡ one_more (failures self.old)) };
 
@@ -93,6 +99,7 @@ pub struct Std<D> {
     failures: u64,
     ends: u64,
     flushed: bool,
+    flushes: u64,
 }
 
 impl<D> Std<D> {
@@ -103,12 +110,14 @@ impl<D> Std<D> {
         ensures failures { result.failures ≡ 0 }
         ensures ends { result.ends ≡ 0 }
         ensures flushed { result.flushed ≡ false }
+        ensures flushes { result.flushes ≡ 0 }
     {
         Std {
             inner,
             failures: 0,
             ends: 0,
             flushed: false,
+            flushes: 0,
         }
     }
 
@@ -119,16 +128,18 @@ impl<D> Std<D> {
         self.inner
     }
 
-    /// Answers what a flush answered, and counts it if it failed.
+    /// Answers what a flush answered, and counts it, also among the failures if it failed.
     fn counted(&mut self, flushed: io::Result<()>) -> Result<(), WriteFailed>
         ensures ok { is_ok result ≡ is_ok flushed }
         ensures good { OnOk result (self.new.failures ≡ self.old.failures) }
         ensures failed { OnErr result (self.new.failures ≡ one_more self.old.failures) }
         ensures flushed { self.new.flushed ≡ is_ok flushed }
+        ensures asked { self.new.flushes ≡ one_more self.old.flushes }
         ensures inner { self.new.inner ≡ self.old.inner }
         ensures ends { self.new.ends ≡ self.old.ends }
     {
         self.flushed = flushed.is_ok();
+        self.flushes = self.flushes.saturating_add(1);
         match flushed {
             Ok(()) => Ok(()),
             Err(_) => {
@@ -173,6 +184,8 @@ impl<D: Write> Sink for Std<D> {
     ghost failures = { λ s. s.failures };
 
     ghost is_flushed = { λ s. s.flushed ≡ true };
+
+    ghost flushes = { λ s. s.flushes };
 
     fn write(&mut self, bytes: &[u8]) -> Result<usize, WriteFailed> {
         self.flushed = false;

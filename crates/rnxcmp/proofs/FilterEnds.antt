@@ -1,6 +1,7 @@
 -- What a filter's run is where nothing is known of what it read, or of where it wrote.
 use Rattle.std.proofs.Common.{◌≡◌, ◌∙◌, ◌++◌, ◌≤◌, ◌<◌, ℕ, List, [], Option, Some, None, arith, inl, inr, is_some, length, refl, subst, sym, take, true, true≢false}
 use Rattle.std.proofs.lemmas.List.{length-append, take-append-le}
+use Rattle.crx_lines.proofs.DeviceLemmas.{failures-of}
 use Rattle.crx_lines.specs.Lines.{lines_of}
 use Rattle.crx_lines.specs.declared.fault.At.{At}
 use Rattle.crx_lines.specs.declared.fault.Fault.{Fault}
@@ -63,8 +64,7 @@ module _ (filter : Filter) (input : Input) (given : List ℕ) (writer messages :
 
 module _ (filter : Filter) (input : Input) (given : List ℕ) (writer messages : Device) (at : At) where
   by_flush : (text : List ℕ) → IsWritten writer text → IsHandedOn writer messages
-  by_flush text (inl whole) = inl whole.1
-  by_flush text (inr failed) = inr (inl failed.1)
+  by_flush text h = elim h.1 [ inl whole ↦ inl whole.1 | inr failed ↦ inr (inl (failures-of failed)) ]
 
   found_handed : FaultFound filter input given writer messages at → IsHandedOn writer messages
   found_handed h = by_flush h.after.output h.wrote
@@ -74,9 +74,9 @@ module _ (filter : Filter) (input : Input) (given : List ℕ) (writer messages :
   handed fault.InputTooLong h = by_flush _ h.stopped.wrote
   handed fault.OutOfMemory (inl h) = by_flush [] h.wrote
   handed fault.OutOfMemory (inr h) = by_flush _ h.wrote
-  handed fault.WriteFailed (inl h) = inr (inl h.wrote.failed)
-  handed fault.WriteFailed (inr (inl h)) = inr (inr h.reported.failed)
-  handed fault.WriteFailed (inr (inr h)) = inr (inl h.counted)
+  handed fault.WriteFailed (inl h) = inr (inl (failures-of h.wrote.failed))
+  handed fault.WriteFailed (inr (inl h)) = inr (inr (failures-of h.reported.failed))
+  handed fault.WriteFailed (inr (inr h)) = inr (inl (failures-of h.counted))
   handed fault.LineTooLong h = found_handed h
   handed fault.MissingVersion h = found_handed h
   handed fault.UnsupportedVersion h = found_handed h

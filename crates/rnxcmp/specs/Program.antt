@@ -1,6 +1,6 @@
 -- What a user reads where nothing is run, and what a run of the program leaves.
 use Rattle.std.specs.Prelude.{◌≡◌, ◌⊎◌, ⊤, ℕ, ℤ, Bool, false, List, [], ◌++◌, Option, Some, None, codes}
-use Rattle.crx_lines.specs.Devices.{one_more}
+use Rattle.crx_lines.specs.Devices.{one_more, with_flush}
 use Rattle.crx_lines.specs.Lines.{InputLine}
 use Rattle.crx_lines.specs.declared.fault.Fault.{Fault}
 use Rattle.crx_lines.specs.declared.fault.Fault.TheVariants.{OutOfMemory, WriteFailed}
@@ -12,14 +12,14 @@ use Rattle.crx_engine.specs.Directions.{compaction_filter, expansion_filter}
 use Rattle.crx_engine.specs.Expanded.{expanded}
 use Rattle.crx_engine.specs.Messages.{error_text, notices_text}
 use Rattle.crx_filter.specs.Running.{Input}
-pub use Rattle.crx_filter.specs.Running.{reader_between}
+pub use Rattle.crx_filter.specs.Running.{reader_span}
 use Rattle.crx_engine.specs.Filters.{Filter}
 use Rattle.crx_engine.specs.Laws.{Begins}
 use Rattle.crx_engine.specs.Results.{FilterResult}
 use Rattle.crx_filter.specs.Runs.{IsResult, RunsAs}
 use Rattle.crx_engine.specs.Standard.{checked}
 use Rattle.crx_filter.specs.Taking.{Device, TookAll, TookPart}
-pub use Rattle.crx_filter.specs.Taking.{between}
+pub use Rattle.crx_filter.specs.Taking.{span}
 use Rattle.rnxcmp.specs.Dates.{IsDateText}
 use Rattle.rnxcmp.specs.Planning.{Refusal, Parse, DashTwice, TwoFiles, BadDate, NoName}
 use Rattle.rnxcmp.specs.declared.job.Job.{Job}
@@ -86,11 +86,11 @@ IsShownOr messages line = IsShown messages line ⊎ IsShown messages (at_start O
 abbrev pub IsRefused : Device → Refusal → ℕ → Type 0
 IsRefused messages refusal status = (status ≡ 1) × ((line : List ℕ) × IsLineOf refusal line × IsShownOr messages line)
 
--- the help was written and flushed; or the writer failed, which is fault 21 at line 0; or no memory was left for it
+-- the help was written and flushed once; or the writer failed, which is fault 21 at line 0; or no memory was left for it
 abbrev pub IsHelped : Device → Device → ℕ → Type 0
 IsHelped writer messages status =
-    ((status ≡ 0) × ((text : List ℕ) × TookAll writer text) × writer.flushed × TookAll messages [])
-    ⊎ (((status ≡ 1) × (writer.after ≡ one_more writer.before) × IsShown messages (at_start WriteFailed))
+    ((status ≡ 0) × ((text : List ℕ) × writer.took text) × (writer.after ≡ with_flush writer.before) × writer.flushed × TookAll messages [])
+    ⊎ (((status ≡ 1) × (writer.after.failures ≡ one_more writer.before.failures) × IsShown messages (at_start WriteFailed))
     ⊎ ((status ≡ 1) × TookAll writer [] × IsShown messages (at_start OutOfMemory)))
 
 -- the date of a run that has none among its words: the moment's, or none where no clock gives one
@@ -166,7 +166,9 @@ IsFaultShown messages = (warnings : List At) × (at : At)
 
 -- what was written was handed on, or a device failed and counted it: the writer, or the messages
 abbrev pub IsHandedOn : Device → Device → Type 0
-IsHandedOn writer messages = writer.flushed ⊎ ((writer.after ≡ one_more writer.before) ⊎ (messages.after ≡ one_more messages.before))
+IsHandedOn writer messages =
+    writer.flushed
+    ⊎ ((writer.after.failures ≡ one_more writer.before.failures) ⊎ (messages.after.failures ≡ one_more messages.before.failures))
 
 -- a tool's filter ran on some input, as that of a file, of whose bytes nothing is known: a fault ended it, or all that it makes of the
 -- input was written, handed on and reported, and the status is that

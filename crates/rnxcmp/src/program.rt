@@ -4,7 +4,7 @@ ghost use Rattle.std.specs.Prelude.{◌≡◌, ◌⊎◌, IfOk, is_some, map, st
 ghost use Rattle.std.specs.Option.{option_map_or};
 ghost use Rattle.crx_engine.specs.Choices.{choices_of, is_date};
 ghost use Rattle.rnxcmp.specs.Planning.{Help, Refusal, Refused, Run, plan_of};
-ghost use Rattle.rnxcmp.specs.Program.{IsChosen, IsDone, IsFiltered, IsFilteredFrom, IsFilteredInto, IsFilteredUnseen, IsHelped, IsNotBegun, IsRefused, IsShown, at_start, between, reader_between};
+ghost use Rattle.rnxcmp.specs.Program.{IsChosen, IsDone, IsFiltered, IsFilteredFrom, IsFilteredInto, IsFilteredUnseen, IsHelped, IsNotBegun, IsRefused, IsShown, at_start, span, reader_span};
 
 use crate::date::default_date;
 use crate::job::{Decision, Job, Tool};
@@ -56,8 +56,8 @@ fn filter<R: Source, W: Sink, M: Sink>(
     writer: &mut W,
     messages: &mut M,
 ) -> u8
-    ensures { IsFiltered tool options (reader_between R.gave R.at_end R.failures R.ends reader.old reader.new)
-        (between W.took W.is_flushed W.failures writer.old writer.new) (between M.took M.is_flushed M.failures messages.old messages.new) result }
+    ensures { IsFiltered tool options (reader_span R.Source reader.old reader.new)
+        (span W.Sink writer.old writer.new) (span M.Sink messages.old messages.new) result }
 {
     match tool {
         Tool::Compact => compact(alloc, reader, writer, messages, options).status,
@@ -77,8 +77,8 @@ fn filter_to_file<R: Source, F: Write + Drop, M: Sink>(
     file: F,
     messages: &mut M,
 ) -> u8
-    ensures { IsFilteredUnseen tool options (between M.took M.is_flushed M.failures messages.old messages.new) result
-        ⊎ ((result ≡ 1) × IsShown (between M.took M.is_flushed M.failures messages.old messages.new) (at_start Fault.OutOfMemory) × (reader.new ≡ reader.old)) }
+    ensures { IsFilteredUnseen tool options (span M.Sink messages.old messages.new) result
+        ⊎ ((result ≡ 1) × IsShown (span M.Sink messages.old messages.new) (at_start Fault.OutOfMemory) × (reader.new ≡ reader.old)) }
 {
     match BufWriter::with_capacity(alloc, OUTPUT_BUFFER, UntilFailure::new(file)) {
         Ok(buffer) => {
@@ -116,9 +116,9 @@ fn run_to_target<H: Files, R: Source, W: Sink, M: Sink>(
     messages: &mut M,
 ) -> u8
     ensures output { is_some job.now.target ≡ true → output.new ≡ output.old }
-    ensures done { IsFilteredInto job.now.target job.now.tool options (reader_between R.gave R.at_end R.failures R.ends reader.old reader.new)
-        (between W.took W.is_flushed W.failures output.old output.new) (between M.took M.is_flushed M.failures messages.old messages.new) result
-        ⊎ IsNotBegun job.now (between M.took M.is_flushed M.failures messages.old messages.new) result ((reader.new ≡ reader.old) × (output.new ≡ output.old)) }
+    ensures done { IsFilteredInto job.now.target job.now.tool options (reader_span R.Source reader.old reader.new)
+        (span W.Sink output.old output.new) (span M.Sink messages.old messages.new) result
+        ⊎ IsNotBegun job.now (span M.Sink messages.old messages.new) result ((reader.new ≡ reader.old) × (output.new ≡ output.old)) }
 {
     match &job.target {
         None => filter(alloc, job.tool, options, reader, output, messages),
@@ -144,9 +144,9 @@ fn run_from_source<H: Files, R: Source, W: Sink, M: Sink>(
 ) -> u8
     ensures input { is_some job.now.source ≡ true → input.new ≡ input.old }
     ensures output { is_some job.now.target ≡ true → output.new ≡ output.old }
-    ensures done { IsFilteredFrom job.now.source job.now.target job.now.tool options (reader_between R.gave R.at_end R.failures R.ends input.old input.new)
-        (between W.took W.is_flushed W.failures output.old output.new) (between M.took M.is_flushed M.failures messages.old messages.new) result
-        ⊎ IsNotBegun job.now (between M.took M.is_flushed M.failures messages.old messages.new) result ((input.new ≡ input.old) × (output.new ≡ output.old)) }
+    ensures done { IsFilteredFrom job.now.source job.now.target job.now.tool options (reader_span R.Source input.old input.new)
+        (span W.Sink output.old output.new) (span M.Sink messages.old messages.new) result
+        ⊎ IsNotBegun job.now (span M.Sink messages.old messages.new) result ((input.new ≡ input.old) × (output.new ≡ output.old)) }
 {
     match &job.source {
         None => run_to_target(rt, alloc, job, options, input, output, messages),
@@ -173,8 +173,8 @@ fn run_job<H: Files + Clock, R: Source, W: Sink, M: Sink>(
     requires { option_map_or is_date job.now.date true ≡ true }
     ensures input { is_some job.now.source ≡ true → input.new ≡ input.old }
     ensures output { is_some job.now.target ≡ true → output.new ≡ output.old }
-    ensures done { IsDone job.now (reader_between R.gave R.at_end R.failures R.ends input.old input.new) (between W.took W.is_flushed W.failures output.old output.new)
-        (between M.took M.is_flushed M.failures messages.old messages.new) result ((input.new ≡ input.old) × (output.new ≡ output.old)) }
+    ensures done { IsDone job.now (reader_span R.Source input.old input.new) (span W.Sink output.old output.new)
+        (span M.Sink messages.old messages.new) result ((input.new ≡ input.old) × (output.new ≡ output.old)) }
 {
     match options_of(rt, alloc, job) {
         Ok(options) => run_from_source(rt, alloc, job, options, input, output, messages),
@@ -184,7 +184,7 @@ fn run_job<H: Files + Clock, R: Source, W: Sink, M: Sink>(
 
 /// Writes the help and flushes it.
 fn show_help<W: Sink, M: Sink>(text: &Word, output: &mut W, messages: &mut M) -> u8
-    ensures { IsHelped (between W.took W.is_flushed W.failures output.old output.new) (between M.took M.is_flushed M.failures messages.old messages.new) result }
+    ensures { IsHelped (span W.Sink output.old output.new) (span M.Sink messages.old messages.new) result }
 {
     match write_all_counted(output, text.text().as_bytes()) {
         Ok(()) => match output.flush() {
@@ -216,14 +216,14 @@ pub fn run<H: Files + Clock, R: Source, W: Sink, M: Sink>(
     messages: &mut M,
 ) -> u8
     ensures refused { (refusal : Refusal) → plan_of (map string_bytes words.items) ≡ Refused refusal
-        → IsRefused (between M.took M.is_flushed M.failures messages.old messages.new) refusal result × (input.new ≡ input.old) × (output.new ≡ output.old) }
+        → IsRefused (span M.Sink messages.old messages.new) refusal result × (input.new ≡ input.old) × (output.new ≡ output.old) }
     ensures help { plan_of (map string_bytes words.items) ≡ Help
-        → IsHelped (between W.took W.is_flushed W.failures output.old output.new) (between M.took M.is_flushed M.failures messages.old messages.new) result × (input.new ≡ input.old) }
+        → IsHelped (span W.Sink output.old output.new) (span M.Sink messages.old messages.new) result × (input.new ≡ input.old) }
     ensures input { (job : Job) → plan_of (map string_bytes words.items) ≡ Run job → is_some job.source ≡ true → input.new ≡ input.old }
     ensures output { (job : Job) → plan_of (map string_bytes words.items) ≡ Run job → is_some job.target ≡ true → output.new ≡ output.old }
     ensures done { (job : Job) → plan_of (map string_bytes words.items) ≡ Run job
-        → IsDone job (reader_between R.gave R.at_end R.failures R.ends input.old input.new) (between W.took W.is_flushed W.failures output.old output.new)
-        (between M.took M.is_flushed M.failures messages.old messages.new) result ((input.new ≡ input.old) × (output.new ≡ output.old)) }
+        → IsDone job (reader_span R.Source input.old input.new) (span W.Sink output.old output.new)
+        (span M.Sink messages.old messages.new) result ((input.new ≡ input.old) × (output.new ≡ output.old)) }
 {
     match plan(alloc, words) {
         Ok(Decision::Help(text)) => show_help(&text, output, messages),

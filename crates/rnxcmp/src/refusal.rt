@@ -2,7 +2,7 @@
 
 ghost use Rattle.std.specs.Prelude.{◌≡◌, Some, Err};
 ghost use Rattle.rnxcmp.specs.Planning.{Refusal, Refused, plan_in};
-ghost use Rattle.rnxcmp.specs.Program.{IsRefused, IsShown, IsShownOr, at_start, between, error_line};
+ghost use Rattle.rnxcmp.specs.Program.{IsRefused, IsShown, IsShownOr, at_start, span, error_line};
 
 use crate::job::UsageFault;
 use crate::word::Word;
@@ -15,7 +15,7 @@ pub const FAILED: u8 = 1;
 
 /// Writes a line of the messages; a failure ends it where it comes.
 fn show<M: Sink>(messages: &mut M, line: &[u8])
-    ensures { IsShown (between M.took M.is_flushed M.failures messages.old messages.new) line.now }
+    ensures { IsShown (span M.Sink messages.old messages.new) line.now }
 {
     match write_all_counted(messages, line) {
         Ok(()) => {}
@@ -25,7 +25,7 @@ fn show<M: Sink>(messages: &mut M, line: &[u8])
 
 /// Reports a fault that came before the first line was read, and answers the exit status.
 pub fn report_at_start<M: Sink>(messages: &mut M, fault: Fault) -> u8
-    ensures shown { IsShown (between M.took M.is_flushed M.failures messages.old messages.new) (at_start fault) }
+    ensures shown { IsShown (span M.Sink messages.old messages.new) (at_start fault) }
     ensures status { result ≡ 1 }
 {
     show(
@@ -38,7 +38,7 @@ pub fn report_at_start<M: Sink>(messages: &mut M, fault: Fault) -> u8
 /// Reports what is wrong in words and a name, as `ERROR: file exists: a.crx`, and answers the exit
 /// status. Where no memory is left for the line, it reports that.
 pub fn report<M: Sink>(alloc: Global, messages: &mut M, words: &str, name: &str) -> u8
-    ensures shown { IsShownOr (between M.took M.is_flushed M.failures messages.old messages.new) (error_line words.now name.now) }
+    ensures shown { IsShownOr (span M.Sink messages.old messages.new) (error_line words.now name.now) }
     ensures status { result ≡ 1 }
 {
     match Word::error_line(alloc, words, name) {
@@ -52,8 +52,8 @@ pub fn report<M: Sink>(alloc: Global, messages: &mut M, words: &str, name: &str)
 
 /// Reports why the words ask for nothing that can be done, and answers the exit status.
 pub fn refuse<M: Sink>(alloc: Global, messages: &mut M, fault: &UsageFault) -> u8
-    ensures memory { fault.now ≡ UsageFault.Memory → IsShown (between M.took M.is_flushed M.failures messages.old messages.new) (at_start Fault.OutOfMemory) }
-    ensures refused { (refusal : Refusal) → plan_in (Err fault.now) ≡ Some (Refused refusal) → IsRefused (between M.took M.is_flushed M.failures messages.old messages.new) refusal result }
+    ensures memory { fault.now ≡ UsageFault.Memory → IsShown (span M.Sink messages.old messages.new) (at_start Fault.OutOfMemory) }
+    ensures refused { (refusal : Refusal) → plan_in (Err fault.now) ≡ Some (Refused refusal) → IsRefused (span M.Sink messages.old messages.new) refusal result }
     ensures status { result ≡ 1 }
 {
     match fault {

@@ -1,6 +1,6 @@
 //! The devices of a run over memory: what gives the caller's input, and what collects the output or the messages.
 
-ghost use Rattle.std.specs.Prelude.{◌≡◌, ◌++◌, [], Some, false, ⊤};
+ghost use Rattle.std.specs.Prelude.{◌≡◌, ◌++◌, [], Some, false, true};
 ghost use Rattle.std.proofs.KnownBytes.{Appends-nil, Appends-trans, Consumes-nil, Consumes-trans};
 
 use crx_text::{ReadFailed, Sink, Source, WriteFailed};
@@ -54,6 +54,8 @@ impl Source for Given<'_> {
 pub struct Collected {
     bytes: Vec<u8>,
     failures: u64,
+    flushes: u64,
+    flushed: bool,
 }
 
 impl Collected {
@@ -65,6 +67,8 @@ impl Collected {
         Collected {
             bytes: Vec::new(alloc),
             failures: 0,
+            flushes: 0,
+            flushed: false,
         }
     }
 
@@ -88,9 +92,12 @@ impl Sink for Collected {
 
     ghost failures = { λ s. s.failures };
 
-    ghost is_flushed = { λ s. ⊤ };
+    ghost is_flushed = { λ s. s.flushed ≡ true };
+
+    ghost flushes = { λ s. s.flushes };
 
     fn write(&mut self, bytes: &[u8]) -> Result<usize, WriteFailed> {
+        self.flushed = false;
         match self.bytes.extend_from_slice(bytes) {
             Ok(()) => Ok(bytes.len()),
             Err(_) => {
@@ -101,6 +108,8 @@ impl Sink for Collected {
     }
 
     fn flush(&mut self) -> Result<(), WriteFailed> {
+        self.flushed = true;
+        self.flushes = self.flushes.saturating_add(1);
         Ok(())
     }
 

@@ -7,8 +7,8 @@ use Rattle.crx_engine.specs.LineByLine.{Seen}
 use Rattle.crx_engine.specs.Expanded.{expanded}
 use Rattle.crx_engine.specs.Expanding.{seen_by}
 use Rattle.crx_engine.specs.Directions.{expansion_filter}
-use Rattle.crx_filter.specs.Running.{Input, reader_between}
-use Rattle.crx_filter.specs.Taking.{Device, between}
+use Rattle.crx_filter.specs.Running.{Input, reader_span}
+use Rattle.crx_filter.specs.Taking.{Device, span}
 use Rattle.std.proofs.lemmas.Result.{IfOk-weaker}
 use Rattle.crx_engine.proofs.Lawful.{expansion-lawful}
 use Rattle.crx_filter.specs.Promises.{BringsBackWhatWasCompacted, SavesAllElse}
@@ -20,11 +20,11 @@ returns g c =
     let choices = c.args.options in
     let r = c.args.reader.now in
     let then = c.start.new.reader in
-    let input : Input = reader_between g.R.Source.gave g.R.Source.at_end g.R.Source.failures g.R.Source.ends r then in
+    let input : Input = reader_span g.R.Source r then in
     let w0 = c.args.writer.now in
     let m0 = c.args.messages.now in
-    let writer : Device = between g.W.Sink.took g.W.Sink.is_flushed g.W.Sink.failures w0 c.start.new.writer in
-    let messages : Device = between g.M.Sink.took g.M.Sink.is_flushed g.M.Sink.failures m0 c.start.new.messages in
+    let writer : Device = span g.W.Sink w0 c.start.new.writer in
+    let messages : Device = span g.M.Sink m0 c.start.new.messages in
     let status = c.start.result.status in
     let fault = c.start.result.fault in
     let same : (e : Expander) → seen_by e ≡ expansion_seen choices [] → e.options ≡ choices = λ e is. ap (λ (s : Seen OpenRawEpoch (Option Tail)). s.choices) is in

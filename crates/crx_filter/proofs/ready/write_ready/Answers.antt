@@ -56,8 +56,9 @@ loop-line-preserved g c =
     let whole = one-written all so_far.0 line lines so_far.2 (first-and-rest lines line c.in-Some.ensures.value) ∙ ap (λ (ls : List (List ℕ)). (so_far.0 ++ line ++ 10 ∷ []) ++ lines_text ls) (sym kept.0) in (
       (so_far.0 ++ line ++ 10 ∷ [], took_both, whole),
       c.in_default-write_all_counted-2.ensures.good ∙ c.in_default-write_all_counted.ensures.good ∙ i.1,
-      kept.1 ∙ i.2,
-      (λ (ls : List InputLine) (notices : List Awaited) h. kept.2 ls notices (i.3 ls notices h)),
-      (λ h. kept.3 (i.4 h)),
-      (λ (ls : List InputLine) h. kept.4 ls (i.5 ls h)),
+      c.in_default-write_all_counted-2.ensures.unasked ∙ c.in_default-write_all_counted.ensures.unasked ∙ i.2,
+      kept.1 ∙ i.3,
+      (λ (ls : List InputLine) (notices : List Awaited) h. kept.2 ls notices (i.4 ls notices h)),
+      (λ h. kept.3 (i.5 h)),
+      (λ (ls : List InputLine) h. kept.4 ls (i.6 ls h)),
     )

@@ -1,7 +1,7 @@
 use Rattle.std.proofs.Common.{refl}
 use Rattle.crx_lines.specs.Readers.{reading}
-use Rattle.crx_filter.specs.Running.{Input, reader_between}
-use Rattle.crx_filter.specs.Taking.{Device, between}
+use Rattle.crx_filter.specs.Running.{Input, reader_span}
+use Rattle.crx_filter.specs.Taking.{Device, span}
 use Rattle.crx_filter.proofs.Conclusions.{runs-as, runs-nothing}
 use Rattle.crx_filter.proofs.run.run.Goals as goal
 
@@ -11,15 +11,15 @@ returns-in-Err g c =
     let r = c.args.reader.now in
     let w = c.args.writer.now in
     let m = c.args.messages.now in
-    let input : Input = reader_between g.R.Source.gave g.R.Source.at_end g.R.Source.failures g.R.Source.ends r r in
+    let input : Input = reader_span g.R.Source r r in
     let w0 = c.args.writer.now in
     let m0 = c.args.messages.now in
-    let writer1 : Device = between g.W.Sink.took g.W.Sink.is_flushed g.W.Sink.failures w0 w in
-    let writer2 : Device = between g.W.Sink.took g.W.Sink.is_flushed g.W.Sink.failures w c.finish.new.writer in
-    let writer3 : Device = between g.W.Sink.took g.W.Sink.is_flushed g.W.Sink.failures w0 c.finish.new.writer in
-    let messages1 : Device = between g.M.Sink.took g.M.Sink.is_flushed g.M.Sink.failures m0 m in
-    let messages2 : Device = between g.M.Sink.took g.M.Sink.is_flushed g.M.Sink.failures m c.finish.new.messages in
-    let messages3 : Device = between g.M.Sink.took g.M.Sink.is_flushed g.M.Sink.failures m0 c.finish.new.messages in
+    let writer1 : Device = span g.W.Sink w0 w in
+    let writer2 : Device = span g.W.Sink w c.finish.new.writer in
+    let writer3 : Device = span g.W.Sink w0 c.finish.new.writer in
+    let messages1 : Device = span g.M.Sink m0 m in
+    let messages2 : Device = span g.M.Sink m c.finish.new.messages in
+    let messages3 : Device = span g.M.Sink m0 c.finish.new.messages in
     record {
       runs = runs-nothing (g.E.Engine.filter c.args.engine.now) c.requires.lawful input writer1 writer2 writer3 messages1 messages2 messages3
           refl refl refl (λ xs ys a b. g.met.W.Sink.took_both w0 w c.finish.new.writer xs ys a b) (λ f. f)
@@ -35,15 +35,15 @@ returns-in-Ok g c =
     let then = c.take_all-work.new.reader in
     let w = c.take_all-work.new.writer in
     let m = c.take_all-work.new.messages in
-    let input : Input = reader_between g.R.Source.gave g.R.Source.at_end g.R.Source.failures g.R.Source.ends r then in
+    let input : Input = reader_span g.R.Source r then in
     let w0 = c.args.writer.now in
     let m0 = c.args.messages.now in
-    let writer1 : Device = between g.W.Sink.took g.W.Sink.is_flushed g.W.Sink.failures w0 w in
-    let writer2 : Device = between g.W.Sink.took g.W.Sink.is_flushed g.W.Sink.failures w c.finish-in-Ok.new.writer in
-    let writer3 : Device = between g.W.Sink.took g.W.Sink.is_flushed g.W.Sink.failures w0 c.finish-in-Ok.new.writer in
-    let messages1 : Device = between g.M.Sink.took g.M.Sink.is_flushed g.M.Sink.failures m0 m in
-    let messages2 : Device = between g.M.Sink.took g.M.Sink.is_flushed g.M.Sink.failures m c.finish-in-Ok.new.messages in
-    let messages3 : Device = between g.M.Sink.took g.M.Sink.is_flushed g.M.Sink.failures m0 c.finish-in-Ok.new.messages in
+    let writer1 : Device = span g.W.Sink w0 w in
+    let writer2 : Device = span g.W.Sink w c.finish-in-Ok.new.writer in
+    let writer3 : Device = span g.W.Sink w0 c.finish-in-Ok.new.writer in
+    let messages1 : Device = span g.M.Sink m0 m in
+    let messages2 : Device = span g.M.Sink m c.finish-in-Ok.new.messages in
+    let messages3 : Device = span g.M.Sink m0 c.finish-in-Ok.new.messages in
     record {
       runs = runs-as (g.E.Engine.filter c.args.engine.now) c.requires.lawful input writer1 writer2 writer3 messages1 messages2 messages3
           refl refl refl (λ xs ys a b. g.met.W.Sink.took_both w0 w c.finish-in-Ok.new.writer xs ys a b) (λ f. f)

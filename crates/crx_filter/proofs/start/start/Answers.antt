@@ -1,9 +1,9 @@
 use Rattle.std.proofs.Common.{◌≡◌, IfOk, refl, subst}
 use Rattle.std.specs.Prelude.{⊤}
 use Rattle.crx_engine.specs.Filters.{Filter}
-use Rattle.crx_filter.specs.Running.{Input, reader_between}
+use Rattle.crx_filter.specs.Running.{Input, reader_span}
 use Rattle.crx_filter.specs.Runs.{result_by, RunsAs}
-use Rattle.crx_filter.specs.Taking.{Device, between}
+use Rattle.crx_filter.specs.Taking.{Device, span}
 use Rattle.crx_filter.proofs.Conclusions.{runs-nothing}
 use Rattle.crx_filter.proofs.start.start.Goals as goal
 
@@ -12,11 +12,11 @@ returns-in-Ok g c = record {
   runs = λ (filter : Filter) lawful same.
       let r = c.args.reader.now in
       let then = c.run.new.reader in
-      let input : Input = reader_between g.R.Source.gave g.R.Source.at_end g.R.Source.failures g.R.Source.ends r then in
+      let input : Input = reader_span g.R.Source r then in
       let w0 = c.args.writer.now in
       let m0 = c.args.messages.now in
-      let writer : Device = between g.W.Sink.took g.W.Sink.is_flushed g.W.Sink.failures w0 c.run.new.writer in
-      let messages : Device = between g.M.Sink.took g.M.Sink.is_flushed g.M.Sink.failures m0 c.run.new.messages in
+      let writer : Device = span g.W.Sink w0 c.run.new.writer in
+      let messages : Device = span g.M.Sink m0 c.run.new.messages in
       let ran = c.run.ensures.runs in
       let is : g.E.Engine.filter c.in-Ok.engine ≡ filter = subst (λ x. IfOk x (λ e. g.E.Engine.filter e ≡ filter)) c.in-Ok.is same in
       (ran.0, ran.1, subst (λ (f : Filter). RunsAs (result_by f) f input ran.0 writer messages c.run.result.status c.run.result.fault) is ran.2);
@@ -29,11 +29,11 @@ returns-in-Err g c = record {
       let r = c.args.reader.now in
       let w = c.args.writer.now in
       let m = c.args.messages.now in
-      let input : Input = reader_between g.R.Source.gave g.R.Source.at_end g.R.Source.failures g.R.Source.ends r r in
-      let writer1 : Device = between g.W.Sink.took g.W.Sink.is_flushed g.W.Sink.failures w w in
-      let writer2 : Device = between g.W.Sink.took g.W.Sink.is_flushed g.W.Sink.failures w c.finish.new.writer in
-      let messages1 : Device = between g.M.Sink.took g.M.Sink.is_flushed g.M.Sink.failures m m in
-      let messages2 : Device = between g.M.Sink.took g.M.Sink.is_flushed g.M.Sink.failures m c.finish.new.messages in
+      let input : Input = reader_span g.R.Source r r in
+      let writer1 : Device = span g.W.Sink w w in
+      let writer2 : Device = span g.W.Sink w c.finish.new.writer in
+      let messages1 : Device = span g.M.Sink m m in
+      let messages2 : Device = span g.M.Sink m c.finish.new.messages in
       let ran = runs-nothing filter lawful input writer1 writer2 writer2 messages1 messages2 messages2
       refl refl refl (λ xs ys a b. g.met.W.Sink.took_both w w c.finish.new.writer xs ys a b) (λ f. f)
       refl refl refl (λ xs ys a b. g.met.M.Sink.took_both m m c.finish.new.messages xs ys a b)

@@ -6,7 +6,7 @@ use Rattle.crx_lines.specs.Reading.{Reading, line_shown, line_number}
 use Rattle.crx_lines.specs.Progress.{HasRead}
 use Rattle.crx_lines.specs.declared.phase.Phase.TheVariants.{Ended}
 use Rattle.crx_filter.specs.Running.{Input}
-use Rattle.crx_filter.specs.Taking.{Device, between}
+use Rattle.crx_filter.specs.Taking.{Device, span}
 use Rattle.crx_filter.proofs.StepReading.{line-read, overlong-read, stop-read, end-read, overlong-number, line-lent, overlong-lent, ended-not-open}
 use Rattle.crx_filter.proofs.StepLemmas.{goes-by, ends-by}
 use Rattle.crx_filter.proofs.step.step.Goals as goal
@@ -43,12 +43,12 @@ returns-in-Ok-clause-goes g c = λ r0 w0 m0 (lines : List InputLine) shown runni
     let m2 = c.take_line.new.messages in
     let input : Input = record { gave = gave; at_end = g.R.Source.at_end r1; start = counts r0; counted = counts r1 } in
     let then : Input = record { gave = gives; at_end = g.R.Source.at_end r2; start = counts r0; counted = counts r2 } in
-    let writer1 : Device = between g.W.Sink.took g.W.Sink.is_flushed g.W.Sink.failures w0 w1 in
-    let writer2 : Device = between g.W.Sink.took g.W.Sink.is_flushed g.W.Sink.failures w1 w2 in
-    let writer : Device = between g.W.Sink.took g.W.Sink.is_flushed g.W.Sink.failures w0 w2 in
-    let messages1 : Device = between g.M.Sink.took g.M.Sink.is_flushed g.M.Sink.failures m0 m1 in
-    let messages2 : Device = between g.M.Sink.took g.M.Sink.is_flushed g.M.Sink.failures m1 m2 in
-    let messages : Device = between g.M.Sink.took g.M.Sink.is_flushed g.M.Sink.failures m0 m2 in
+    let writer1 : Device = span g.W.Sink w0 w1 in
+    let writer2 : Device = span g.W.Sink w1 w2 in
+    let writer : Device = span g.W.Sink w0 w2 in
+    let messages1 : Device = span g.M.Sink m0 m1 in
+    let messages2 : Device = span g.M.Sink m1 m2 in
+    let messages : Device = span g.M.Sink m0 m2 in
     goes-by filter input then old new lines writer1 writer2 writer messages1 messages2 messages
     refl refl refl (λ xs ys a b. g.met.W.Sink.took_both w0 w1 w2 xs ys a b)
     refl refl refl (λ xs ys a b. g.met.M.Sink.took_both m0 m1 m2 xs ys a b)
@@ -78,12 +78,12 @@ returns-in-Err-take_line-clause-stops g c = λ r0 w0 m0 (lines : List InputLine)
     let m2 = c.take_line.new.messages in
     let input : Input = record { gave = gave; at_end = g.R.Source.at_end r1; start = counts r0; counted = counts r1 } in
     let then : Input = record { gave = gives; at_end = g.R.Source.at_end r2; start = counts r0; counted = counts r2 } in
-    let writer1 : Device = between g.W.Sink.took g.W.Sink.is_flushed g.W.Sink.failures w0 w1 in
-    let writer2 : Device = between g.W.Sink.took g.W.Sink.is_flushed g.W.Sink.failures w1 w2 in
-    let writer : Device = between g.W.Sink.took g.W.Sink.is_flushed g.W.Sink.failures w0 w2 in
-    let messages1 : Device = between g.M.Sink.took g.M.Sink.is_flushed g.M.Sink.failures m0 m1 in
-    let messages2 : Device = between g.M.Sink.took g.M.Sink.is_flushed g.M.Sink.failures m1 m2 in
-    let messages : Device = between g.M.Sink.took g.M.Sink.is_flushed g.M.Sink.failures m0 m2 in
+    let writer1 : Device = span g.W.Sink w0 w1 in
+    let writer2 : Device = span g.W.Sink w1 w2 in
+    let writer : Device = span g.W.Sink w0 w2 in
+    let messages1 : Device = span g.M.Sink m0 m1 in
+    let messages2 : Device = span g.M.Sink m1 m2 in
+    let messages : Device = span g.M.Sink m0 m2 in
     inr (ends-by filter input then old new lines writer1 writer2 writer messages1 messages2 messages
     refl refl refl (λ xs ys a b. g.met.W.Sink.took_both w0 w1 w2 xs ys a b)
     refl refl refl (λ xs ys a b. g.met.M.Sink.took_both m0 m1 m2 xs ys a b)
@@ -140,12 +140,12 @@ returns-in-Ok-take_overlong-clause-goes g c = λ r0 w0 m0 (lines : List InputLin
     let m2 = c.take_overlong.new.messages in
     let input : Input = record { gave = gave; at_end = g.R.Source.at_end r1; start = counts r0; counted = counts r1 } in
     let then : Input = record { gave = gives; at_end = g.R.Source.at_end r2; start = counts r0; counted = counts r2 } in
-    let writer1 : Device = between g.W.Sink.took g.W.Sink.is_flushed g.W.Sink.failures w0 w1 in
-    let writer2 : Device = between g.W.Sink.took g.W.Sink.is_flushed g.W.Sink.failures w1 w2 in
-    let writer : Device = between g.W.Sink.took g.W.Sink.is_flushed g.W.Sink.failures w0 w2 in
-    let messages1 : Device = between g.M.Sink.took g.M.Sink.is_flushed g.M.Sink.failures m0 m1 in
-    let messages2 : Device = between g.M.Sink.took g.M.Sink.is_flushed g.M.Sink.failures m1 m2 in
-    let messages : Device = between g.M.Sink.took g.M.Sink.is_flushed g.M.Sink.failures m0 m2 in
+    let writer1 : Device = span g.W.Sink w0 w1 in
+    let writer2 : Device = span g.W.Sink w1 w2 in
+    let writer : Device = span g.W.Sink w0 w2 in
+    let messages1 : Device = span g.M.Sink m0 m1 in
+    let messages2 : Device = span g.M.Sink m1 m2 in
+    let messages : Device = span g.M.Sink m0 m2 in
     goes-by filter input then old new lines writer1 writer2 writer messages1 messages2 messages
     refl refl refl (λ xs ys a b. g.met.W.Sink.took_both w0 w1 w2 xs ys a b)
     refl refl refl (λ xs ys a b. g.met.M.Sink.took_both m0 m1 m2 xs ys a b)
@@ -176,12 +176,12 @@ returns-in-Err-take_overlong-clause-stops g c = λ r0 w0 m0 (lines : List InputL
     let m2 = c.take_overlong.new.messages in
     let input : Input = record { gave = gave; at_end = g.R.Source.at_end r1; start = counts r0; counted = counts r1 } in
     let then : Input = record { gave = gives; at_end = g.R.Source.at_end r2; start = counts r0; counted = counts r2 } in
-    let writer1 : Device = between g.W.Sink.took g.W.Sink.is_flushed g.W.Sink.failures w0 w1 in
-    let writer2 : Device = between g.W.Sink.took g.W.Sink.is_flushed g.W.Sink.failures w1 w2 in
-    let writer : Device = between g.W.Sink.took g.W.Sink.is_flushed g.W.Sink.failures w0 w2 in
-    let messages1 : Device = between g.M.Sink.took g.M.Sink.is_flushed g.M.Sink.failures m0 m1 in
-    let messages2 : Device = between g.M.Sink.took g.M.Sink.is_flushed g.M.Sink.failures m1 m2 in
-    let messages : Device = between g.M.Sink.took g.M.Sink.is_flushed g.M.Sink.failures m0 m2 in
+    let writer1 : Device = span g.W.Sink w0 w1 in
+    let writer2 : Device = span g.W.Sink w1 w2 in
+    let writer : Device = span g.W.Sink w0 w2 in
+    let messages1 : Device = span g.M.Sink m0 m1 in
+    let messages2 : Device = span g.M.Sink m1 m2 in
+    let messages : Device = span g.M.Sink m0 m2 in
     inr (ends-by filter input then old new lines writer1 writer2 writer messages1 messages2 messages
     refl refl refl (λ xs ys a b. g.met.W.Sink.took_both w0 w1 w2 xs ys a b)
     refl refl refl (λ xs ys a b. g.met.M.Sink.took_both m0 m1 m2 xs ys a b)

@@ -2,7 +2,7 @@ use Rattle.std.proofs.Common.{◌+◌, length, List, [], ◌∷◌, refl, ap, sy
 use Rattle.crx_lines.specs.Lines.{InputLine}
 use Rattle.crx_filter.specs.declared.taking.Once.{Once}
 use Rattle.crx_engine.specs.Engines.{with_next}
-use Rattle.crx_filter.specs.Taking.{Device, between, IsAgain, IsOnce}
+use Rattle.crx_filter.specs.Taking.{Device, span, IsAgain, IsOnce}
 use Rattle.crx_filter.proofs.TakingTwice.{cut-once, once-twice, halted-twice}
 use Rattle.crx_filter.proofs.taking.take_answered.Goals as goal
 
@@ -18,22 +18,20 @@ take_once-requires g c =
 pub returns-in-Ok-clause-done : goal.returns-in-Ok-clause-done
 returns-in-Ok-clause-done g c =
     λ filter (lines : List InputLine) (line : InputLine) same answers taken.
-    let took = g.W.Sink.took in
     let w0 = c.args.writer.now in
     let w1 = c.respond.new.writer in
     let w2 = c.take_once.new.writer in
-    let reported = g.M.Sink.took in
     let m0 = c.args.messages.now in
     let m1 = c.respond.new.messages in
     let m2 = c.take_once.new.messages in
     let then = g.E.Engine.filter c.respond.new.engine in
     let shows = g.E.Engine.shows c.respond.new.engine in
-    let writer1 : Device = between took g.W.Sink.is_flushed g.W.Sink.failures w0 w1 in
-    let writer2 : Device = between took g.W.Sink.is_flushed g.W.Sink.failures w1 w2 in
-    let writer : Device = between took g.W.Sink.is_flushed g.W.Sink.failures w0 w2 in
-    let messages1 : Device = between reported g.M.Sink.is_flushed g.M.Sink.failures m0 m1 in
-    let messages2 : Device = between reported g.M.Sink.is_flushed g.M.Sink.failures m1 m2 in
-    let messages : Device = between reported g.M.Sink.is_flushed g.M.Sink.failures m0 m2 in
+    let writer1 : Device = span g.W.Sink w0 w1 in
+    let writer2 : Device = span g.W.Sink w1 w2 in
+    let writer : Device = span g.W.Sink w0 w2 in
+    let messages1 : Device = span g.M.Sink m0 m1 in
+    let messages2 : Device = span g.M.Sink m1 m2 in
+    let messages : Device = span g.M.Sink m0 m2 in
     let first : IsAgain (filter.so_far lines) (filter.so_far (with_next lines line)) line (shows lines) writer1 messages1 [] = subst (λ (once : Once). IsOnce filter shows writer1 messages1 lines [] line once) c.in-Ok-Again.field-0-is (c.in-Ok-Again.ensures.once filter lines [] line answers) in
     once-twice filter then (c.respond.ensures.filter ∙ same) lines line writer1 writer2 writer messages1 messages2 messages
     refl refl refl (λ xs ys a b. g.met.W.Sink.took_both w0 w1 w2 xs ys a b)
@@ -43,22 +41,20 @@ returns-in-Ok-clause-done g c =
 pub returns-in-Err-take_once-clause-cut : goal.returns-in-Err-take_once-clause-cut
 returns-in-Err-take_once-clause-cut g c =
     λ filter (lines : List InputLine) (line : InputLine) same answers taken.
-    let took = g.W.Sink.took in
     let w0 = c.args.writer.now in
     let w1 = c.respond.new.writer in
     let w2 = c.take_once.new.writer in
-    let reported = g.M.Sink.took in
     let m0 = c.args.messages.now in
     let m1 = c.respond.new.messages in
     let m2 = c.take_once.new.messages in
     let then = g.E.Engine.filter c.respond.new.engine in
     let shows = g.E.Engine.shows c.respond.new.engine in
-    let writer1 : Device = between took g.W.Sink.is_flushed g.W.Sink.failures w0 w1 in
-    let writer2 : Device = between took g.W.Sink.is_flushed g.W.Sink.failures w1 w2 in
-    let writer : Device = between took g.W.Sink.is_flushed g.W.Sink.failures w0 w2 in
-    let messages1 : Device = between reported g.M.Sink.is_flushed g.M.Sink.failures m0 m1 in
-    let messages2 : Device = between reported g.M.Sink.is_flushed g.M.Sink.failures m1 m2 in
-    let messages : Device = between reported g.M.Sink.is_flushed g.M.Sink.failures m0 m2 in
+    let writer1 : Device = span g.W.Sink w0 w1 in
+    let writer2 : Device = span g.W.Sink w1 w2 in
+    let writer : Device = span g.W.Sink w0 w2 in
+    let messages1 : Device = span g.M.Sink m0 m1 in
+    let messages2 : Device = span g.M.Sink m1 m2 in
+    let messages : Device = span g.M.Sink m0 m2 in
     let first : IsAgain (filter.so_far lines) (filter.so_far (with_next lines line)) line (shows lines) writer1 messages1 [] = subst (λ (once : Once). IsOnce filter shows writer1 messages1 lines [] line once) c.in-Ok-Again.field-0-is (c.in-Ok-Again.ensures.once filter lines [] line answers) in
     halted-twice filter then (c.respond.ensures.filter ∙ same) lines line writer1 writer2 writer messages1 messages2 messages
     refl refl refl (λ xs ys a b. g.met.W.Sink.took_both w0 w1 w2 xs ys a b)
@@ -69,14 +65,14 @@ pub returns-in-Ok-Done-clause-done : goal.returns-in-Ok-Done-clause-done
 returns-in-Ok-Done-clause-done g c =
     λ filter (lines : List InputLine) (line : InputLine) same answers taken.
     subst (λ (once : Once). IsOnce filter (g.E.Engine.shows c.respond.new.engine)
-    (between g.W.Sink.took g.W.Sink.is_flushed g.W.Sink.failures c.args.writer.now c.respond.new.writer)
-    (between g.M.Sink.took g.M.Sink.is_flushed g.M.Sink.failures c.args.messages.now c.respond.new.messages)
+    (span g.W.Sink c.args.writer.now c.respond.new.writer)
+    (span g.M.Sink c.args.messages.now c.respond.new.messages)
     lines [] line once) c.in-Ok-Done.field-0-is (c.in-Ok-Done.ensures.once filter lines [] line answers)
 
 pub returns-in-Err-clause-cut : goal.returns-in-Err-clause-cut
 returns-in-Err-clause-cut g c =
     λ filter (lines : List InputLine) (line : InputLine) same answers taken.
     cut-once (filter.so_far lines) (filter.so_far (with_next lines line)) (filter.memory_after lines line) (length lines + 1)
-    (between g.W.Sink.took g.W.Sink.is_flushed g.W.Sink.failures c.args.writer.now c.respond.new.writer)
-    (between g.M.Sink.took g.M.Sink.is_flushed g.M.Sink.failures c.args.messages.now c.respond.new.messages)
+    (span g.W.Sink c.args.writer.now c.respond.new.writer)
+    (span g.M.Sink c.args.messages.now c.respond.new.messages)
     c.in-Err.halt (c.in-Err.ensures.halted filter lines [] line answers)

@@ -1,8 +1,8 @@
 use Rattle.std.proofs.Common.{◌≡◌, inl, inr, Bool, ◌||◌, [], length, Option, None, refl, sym, ap, arith, subst, ◌∙◌}
 use Rattle.crx_lines.specs.Readers.{reading}
 use Rattle.crx_engine.specs.Filters.{Filter}
-use Rattle.crx_filter.specs.Running.{Input, IsRunning, Goes, GoesOnBy, ComesToEnd, StopsAt, reader_between}
-use Rattle.crx_filter.specs.Taking.{Device, between, IsDone, IsHalted}
+use Rattle.crx_filter.specs.Running.{Input, IsRunning, Goes, GoesOnBy, ComesToEnd, StopsAt, reader_span}
+use Rattle.crx_filter.specs.Taking.{Device, span, IsDone, IsHalted}
 use Rattle.crx_filter.proofs.WorkLemmas.{go-on, well-done, stopped-end, stopped-on}
 use Rattle.crx_filter.proofs.work.take_all.Goals as goal
 
@@ -19,18 +19,18 @@ lines-preserved-then-warned g c =
     let m2 = c.step.new.messages in
     let now = reading c.step.new.input in
     let start : IsRunning
-    (reader_between g.R.Source.gave g.R.Source.at_end g.R.Source.failures g.R.Source.ends r0 c.lines.reader)
-    (between g.W.Sink.took g.W.Sink.is_flushed g.W.Sink.failures w0 c.lines.writer)
-    (between g.M.Sink.took g.M.Sink.is_flushed g.M.Sink.failures m0 c.lines.messages)
+    (reader_span g.R.Source r0 c.lines.reader)
+    (span g.W.Sink w0 c.lines.writer)
+    (span g.M.Sink m0 c.lines.messages)
     (reading c.lines.input) lines ((g.E.Engine.filter c.lines.engine).so_far lines) =
     subst (λ (f : Filter). IsRunning
-    (reader_between g.R.Source.gave g.R.Source.at_end g.R.Source.failures g.R.Source.ends r0 c.lines.reader)
-    (between g.W.Sink.took g.W.Sink.is_flushed g.W.Sink.failures w0 c.lines.writer)
-    (between g.M.Sink.took g.M.Sink.is_flushed g.M.Sink.failures m0 c.lines.messages)
+    (reader_span g.R.Source r0 c.lines.reader)
+    (span g.W.Sink w0 c.lines.writer)
+    (span g.M.Sink m0 c.lines.messages)
     (reading c.lines.input) lines (f.so_far lines)) (sym i.3) i.0.2 in
-    let input : Input = reader_between g.R.Source.gave g.R.Source.at_end g.R.Source.failures g.R.Source.ends r0 r2 in
-    let writer1 : Device = between g.W.Sink.took g.W.Sink.is_flushed g.W.Sink.failures w0 w2 in
-    let messages1 : Device = between g.M.Sink.took g.M.Sink.is_flushed g.M.Sink.failures m0 m2 in
+    let input : Input = reader_span g.R.Source r0 r2 in
+    let writer1 : Device = span g.W.Sink w0 w2 in
+    let messages1 : Device = span g.M.Sink m0 m2 in
     let shows = g.E.Engine.shows c.step.new.engine in
     let by : GoesOnBy filter shows input writer1 messages1 now lines c.in-Ok-Some.warning =
     subst (λ (f : Filter). GoesOnBy f shows input writer1 messages1 now lines c.in-Ok-Some.warning) i.3
@@ -50,18 +50,18 @@ lines-preserved g c =
     let m2 = c.step.new.messages in
     let now = reading c.step.new.input in
     let start : IsRunning
-    (reader_between g.R.Source.gave g.R.Source.at_end g.R.Source.failures g.R.Source.ends r0 c.lines.reader)
-    (between g.W.Sink.took g.W.Sink.is_flushed g.W.Sink.failures w0 c.lines.writer)
-    (between g.M.Sink.took g.M.Sink.is_flushed g.M.Sink.failures m0 c.lines.messages)
+    (reader_span g.R.Source r0 c.lines.reader)
+    (span g.W.Sink w0 c.lines.writer)
+    (span g.M.Sink m0 c.lines.messages)
     (reading c.lines.input) lines ((g.E.Engine.filter c.lines.engine).so_far lines) =
     subst (λ (f : Filter). IsRunning
-    (reader_between g.R.Source.gave g.R.Source.at_end g.R.Source.failures g.R.Source.ends r0 c.lines.reader)
-    (between g.W.Sink.took g.W.Sink.is_flushed g.W.Sink.failures w0 c.lines.writer)
-    (between g.M.Sink.took g.M.Sink.is_flushed g.M.Sink.failures m0 c.lines.messages)
+    (reader_span g.R.Source r0 c.lines.reader)
+    (span g.W.Sink w0 c.lines.writer)
+    (span g.M.Sink m0 c.lines.messages)
     (reading c.lines.input) lines (f.so_far lines)) (sym i.3) i.0.2 in
-    let input : Input = reader_between g.R.Source.gave g.R.Source.at_end g.R.Source.failures g.R.Source.ends r0 r2 in
-    let writer1 : Device = between g.W.Sink.took g.W.Sink.is_flushed g.W.Sink.failures w0 w2 in
-    let messages1 : Device = between g.M.Sink.took g.M.Sink.is_flushed g.M.Sink.failures m0 m2 in
+    let input : Input = reader_span g.R.Source r0 r2 in
+    let writer1 : Device = span g.W.Sink w0 w2 in
+    let messages1 : Device = span g.M.Sink m0 m2 in
     let shows = g.E.Engine.shows c.step.new.engine in
     let by : GoesOnBy filter shows input writer1 messages1 now lines c.in-Ok-Some.warning =
     subst (λ (f : Filter). GoesOnBy f shows input writer1 messages1 now lines c.in-Ok-Some.warning) i.3
@@ -81,18 +81,18 @@ returns-then-warned-2 g c =
     let m2 = c.step.new.messages in
     let now = reading c.step.new.input in
     let start : IsRunning
-    (reader_between g.R.Source.gave g.R.Source.at_end g.R.Source.failures g.R.Source.ends r0 c.lines.reader)
-    (between g.W.Sink.took g.W.Sink.is_flushed g.W.Sink.failures w0 c.lines.writer)
-    (between g.M.Sink.took g.M.Sink.is_flushed g.M.Sink.failures m0 c.lines.messages)
+    (reader_span g.R.Source r0 c.lines.reader)
+    (span g.W.Sink w0 c.lines.writer)
+    (span g.M.Sink m0 c.lines.messages)
     (reading c.lines.input) lines ((g.E.Engine.filter c.lines.engine).so_far lines) =
     subst (λ (f : Filter). IsRunning
-    (reader_between g.R.Source.gave g.R.Source.at_end g.R.Source.failures g.R.Source.ends r0 c.lines.reader)
-    (between g.W.Sink.took g.W.Sink.is_flushed g.W.Sink.failures w0 c.lines.writer)
-    (between g.M.Sink.took g.M.Sink.is_flushed g.M.Sink.failures m0 c.lines.messages)
+    (reader_span g.R.Source r0 c.lines.reader)
+    (span g.W.Sink w0 c.lines.writer)
+    (span g.M.Sink m0 c.lines.messages)
     (reading c.lines.input) lines (f.so_far lines)) (sym i.3) i.0.2 in
-    let input : Input = reader_between g.R.Source.gave g.R.Source.at_end g.R.Source.failures g.R.Source.ends r0 r2 in
-    let writer1 : Device = between g.W.Sink.took g.W.Sink.is_flushed g.W.Sink.failures w0 w2 in
-    let messages1 : Device = between g.M.Sink.took g.M.Sink.is_flushed g.M.Sink.failures m0 m2 in
+    let input : Input = reader_span g.R.Source r0 r2 in
+    let writer1 : Device = span g.W.Sink w0 w2 in
+    let messages1 : Device = span g.M.Sink m0 m2 in
     let shows = g.E.Engine.shows c.step.new.engine in
     let comes : ComesToEnd filter shows input writer1 messages1 now lines =
     subst (λ (f : Filter). ComesToEnd f shows input writer1 messages1 now lines) i.3
@@ -100,10 +100,10 @@ returns-then-warned-2 g c =
     let same : g.E.Engine.filter c.step.new.engine ≡ filter = c.step.ensures.filter ∙ i.3 in
     let w3 = c.take_end.new.writer in
     let m3 = c.take_end.new.messages in
-    let writer2 : Device = between g.W.Sink.took g.W.Sink.is_flushed g.W.Sink.failures w2 w3 in
-    let writer : Device = between g.W.Sink.took g.W.Sink.is_flushed g.W.Sink.failures w0 w3 in
-    let messages2 : Device = between g.M.Sink.took g.M.Sink.is_flushed g.M.Sink.failures m2 m3 in
-    let messages : Device = between g.M.Sink.took g.M.Sink.is_flushed g.M.Sink.failures m0 m3 in
+    let writer2 : Device = span g.W.Sink w2 w3 in
+    let writer : Device = span g.W.Sink w0 w3 in
+    let messages2 : Device = span g.M.Sink m2 m3 in
+    let messages : Device = span g.M.Sink m0 m3 in
     let ended = g.E.Engine.has_ended c.take_end.new.engine in
     let done : IsDone (filter.so_far lines) (filter.whole lines) (ended lines) writer2 messages2 [] c.in-Ok.warning =
     subst (λ (f : Filter). IsDone (f.so_far lines) (f.whole lines) (ended lines) writer2 messages2 [] c.in-Ok.warning) same (c.in-Ok.ensures.done lines comes.shown) in
@@ -125,18 +125,18 @@ returns-else-warned-2 g c =
     let m2 = c.step.new.messages in
     let now = reading c.step.new.input in
     let start : IsRunning
-    (reader_between g.R.Source.gave g.R.Source.at_end g.R.Source.failures g.R.Source.ends r0 c.lines.reader)
-    (between g.W.Sink.took g.W.Sink.is_flushed g.W.Sink.failures w0 c.lines.writer)
-    (between g.M.Sink.took g.M.Sink.is_flushed g.M.Sink.failures m0 c.lines.messages)
+    (reader_span g.R.Source r0 c.lines.reader)
+    (span g.W.Sink w0 c.lines.writer)
+    (span g.M.Sink m0 c.lines.messages)
     (reading c.lines.input) lines ((g.E.Engine.filter c.lines.engine).so_far lines) =
     subst (λ (f : Filter). IsRunning
-    (reader_between g.R.Source.gave g.R.Source.at_end g.R.Source.failures g.R.Source.ends r0 c.lines.reader)
-    (between g.W.Sink.took g.W.Sink.is_flushed g.W.Sink.failures w0 c.lines.writer)
-    (between g.M.Sink.took g.M.Sink.is_flushed g.M.Sink.failures m0 c.lines.messages)
+    (reader_span g.R.Source r0 c.lines.reader)
+    (span g.W.Sink w0 c.lines.writer)
+    (span g.M.Sink m0 c.lines.messages)
     (reading c.lines.input) lines (f.so_far lines)) (sym i.3) i.0.2 in
-    let input : Input = reader_between g.R.Source.gave g.R.Source.at_end g.R.Source.failures g.R.Source.ends r0 r2 in
-    let writer1 : Device = between g.W.Sink.took g.W.Sink.is_flushed g.W.Sink.failures w0 w2 in
-    let messages1 : Device = between g.M.Sink.took g.M.Sink.is_flushed g.M.Sink.failures m0 m2 in
+    let input : Input = reader_span g.R.Source r0 r2 in
+    let writer1 : Device = span g.W.Sink w0 w2 in
+    let messages1 : Device = span g.M.Sink m0 m2 in
     let shows = g.E.Engine.shows c.step.new.engine in
     let comes : ComesToEnd filter shows input writer1 messages1 now lines =
     subst (λ (f : Filter). ComesToEnd f shows input writer1 messages1 now lines) i.3
@@ -144,10 +144,10 @@ returns-else-warned-2 g c =
     let same : g.E.Engine.filter c.step.new.engine ≡ filter = c.step.ensures.filter ∙ i.3 in
     let w3 = c.take_end.new.writer in
     let m3 = c.take_end.new.messages in
-    let writer2 : Device = between g.W.Sink.took g.W.Sink.is_flushed g.W.Sink.failures w2 w3 in
-    let writer : Device = between g.W.Sink.took g.W.Sink.is_flushed g.W.Sink.failures w0 w3 in
-    let messages2 : Device = between g.M.Sink.took g.M.Sink.is_flushed g.M.Sink.failures m2 m3 in
-    let messages : Device = between g.M.Sink.took g.M.Sink.is_flushed g.M.Sink.failures m0 m3 in
+    let writer2 : Device = span g.W.Sink w2 w3 in
+    let writer : Device = span g.W.Sink w0 w3 in
+    let messages2 : Device = span g.M.Sink m2 m3 in
+    let messages : Device = span g.M.Sink m0 m3 in
     let ended = g.E.Engine.has_ended c.take_end.new.engine in
     let done : IsDone (filter.so_far lines) (filter.whole lines) (ended lines) writer2 messages2 [] c.in-Ok.warning =
     subst (λ (f : Filter). IsDone (f.so_far lines) (f.whole lines) (ended lines) writer2 messages2 [] c.in-Ok.warning) same (c.in-Ok.ensures.done lines comes.shown) in
@@ -169,18 +169,18 @@ take_end-requires-clause-within g c =
     let m2 = c.step.new.messages in
     let now = reading c.step.new.input in
     let start : IsRunning
-    (reader_between g.R.Source.gave g.R.Source.at_end g.R.Source.failures g.R.Source.ends r0 c.lines.reader)
-    (between g.W.Sink.took g.W.Sink.is_flushed g.W.Sink.failures w0 c.lines.writer)
-    (between g.M.Sink.took g.M.Sink.is_flushed g.M.Sink.failures m0 c.lines.messages)
+    (reader_span g.R.Source r0 c.lines.reader)
+    (span g.W.Sink w0 c.lines.writer)
+    (span g.M.Sink m0 c.lines.messages)
     (reading c.lines.input) lines ((g.E.Engine.filter c.lines.engine).so_far lines) =
     subst (λ (f : Filter). IsRunning
-    (reader_between g.R.Source.gave g.R.Source.at_end g.R.Source.failures g.R.Source.ends r0 c.lines.reader)
-    (between g.W.Sink.took g.W.Sink.is_flushed g.W.Sink.failures w0 c.lines.writer)
-    (between g.M.Sink.took g.M.Sink.is_flushed g.M.Sink.failures m0 c.lines.messages)
+    (reader_span g.R.Source r0 c.lines.reader)
+    (span g.W.Sink w0 c.lines.writer)
+    (span g.M.Sink m0 c.lines.messages)
     (reading c.lines.input) lines (f.so_far lines)) (sym i.3) i.0.2 in
-    let input : Input = reader_between g.R.Source.gave g.R.Source.at_end g.R.Source.failures g.R.Source.ends r0 r2 in
-    let writer1 : Device = between g.W.Sink.took g.W.Sink.is_flushed g.W.Sink.failures w0 w2 in
-    let messages1 : Device = between g.M.Sink.took g.M.Sink.is_flushed g.M.Sink.failures m0 m2 in
+    let input : Input = reader_span g.R.Source r0 r2 in
+    let writer1 : Device = span g.W.Sink w0 w2 in
+    let messages1 : Device = span g.M.Sink m0 m2 in
     let shows = g.E.Engine.shows c.step.new.engine in
     let comes : ComesToEnd filter shows input writer1 messages1 now lines =
     subst (λ (f : Filter). ComesToEnd f shows input writer1 messages1 now lines) i.3
@@ -204,18 +204,18 @@ returns-in-Err-take_end g c =
     let m2 = c.step.new.messages in
     let now = reading c.step.new.input in
     let start : IsRunning
-    (reader_between g.R.Source.gave g.R.Source.at_end g.R.Source.failures g.R.Source.ends r0 c.lines.reader)
-    (between g.W.Sink.took g.W.Sink.is_flushed g.W.Sink.failures w0 c.lines.writer)
-    (between g.M.Sink.took g.M.Sink.is_flushed g.M.Sink.failures m0 c.lines.messages)
+    (reader_span g.R.Source r0 c.lines.reader)
+    (span g.W.Sink w0 c.lines.writer)
+    (span g.M.Sink m0 c.lines.messages)
     (reading c.lines.input) lines ((g.E.Engine.filter c.lines.engine).so_far lines) =
     subst (λ (f : Filter). IsRunning
-    (reader_between g.R.Source.gave g.R.Source.at_end g.R.Source.failures g.R.Source.ends r0 c.lines.reader)
-    (between g.W.Sink.took g.W.Sink.is_flushed g.W.Sink.failures w0 c.lines.writer)
-    (between g.M.Sink.took g.M.Sink.is_flushed g.M.Sink.failures m0 c.lines.messages)
+    (reader_span g.R.Source r0 c.lines.reader)
+    (span g.W.Sink w0 c.lines.writer)
+    (span g.M.Sink m0 c.lines.messages)
     (reading c.lines.input) lines (f.so_far lines)) (sym i.3) i.0.2 in
-    let input : Input = reader_between g.R.Source.gave g.R.Source.at_end g.R.Source.failures g.R.Source.ends r0 r2 in
-    let writer1 : Device = between g.W.Sink.took g.W.Sink.is_flushed g.W.Sink.failures w0 w2 in
-    let messages1 : Device = between g.M.Sink.took g.M.Sink.is_flushed g.M.Sink.failures m0 m2 in
+    let input : Input = reader_span g.R.Source r0 r2 in
+    let writer1 : Device = span g.W.Sink w0 w2 in
+    let messages1 : Device = span g.M.Sink m0 m2 in
     let shows = g.E.Engine.shows c.step.new.engine in
     let comes : ComesToEnd filter shows input writer1 messages1 now lines =
     subst (λ (f : Filter). ComesToEnd f shows input writer1 messages1 now lines) i.3
@@ -223,10 +223,10 @@ returns-in-Err-take_end g c =
     let same : g.E.Engine.filter c.step.new.engine ≡ filter = c.step.ensures.filter ∙ i.3 in
     let w3 = c.take_end.new.writer in
     let m3 = c.take_end.new.messages in
-    let writer2 : Device = between g.W.Sink.took g.W.Sink.is_flushed g.W.Sink.failures w2 w3 in
-    let writer : Device = between g.W.Sink.took g.W.Sink.is_flushed g.W.Sink.failures w0 w3 in
-    let messages2 : Device = between g.M.Sink.took g.M.Sink.is_flushed g.M.Sink.failures m2 m3 in
-    let messages : Device = between g.M.Sink.took g.M.Sink.is_flushed g.M.Sink.failures m0 m3 in
+    let writer2 : Device = span g.W.Sink w2 w3 in
+    let writer : Device = span g.W.Sink w0 w3 in
+    let messages2 : Device = span g.M.Sink m2 m3 in
+    let messages : Device = span g.M.Sink m0 m3 in
     let halted : IsHalted (filter.so_far lines) (filter.whole lines) None (length lines) writer2 messages2 [] c.in-Err-take_end.halt =
     subst (λ (f : Filter). IsHalted (f.so_far lines) (f.whole lines) None (length lines) writer2 messages2 [] c.in-Err-take_end.halt) same (c.in-Err-take_end.ensures.cut lines comes.shown) in
     inr (inr (inl (stopped-end filter shows input now lines writer1 writer2 writer messages1 messages2 messages
@@ -247,18 +247,18 @@ returns-in-Err g c =
     let m2 = c.step.new.messages in
     let now = reading c.step.new.input in
     let start : IsRunning
-    (reader_between g.R.Source.gave g.R.Source.at_end g.R.Source.failures g.R.Source.ends r0 c.lines.reader)
-    (between g.W.Sink.took g.W.Sink.is_flushed g.W.Sink.failures w0 c.lines.writer)
-    (between g.M.Sink.took g.M.Sink.is_flushed g.M.Sink.failures m0 c.lines.messages)
+    (reader_span g.R.Source r0 c.lines.reader)
+    (span g.W.Sink w0 c.lines.writer)
+    (span g.M.Sink m0 c.lines.messages)
     (reading c.lines.input) lines ((g.E.Engine.filter c.lines.engine).so_far lines) =
     subst (λ (f : Filter). IsRunning
-    (reader_between g.R.Source.gave g.R.Source.at_end g.R.Source.failures g.R.Source.ends r0 c.lines.reader)
-    (between g.W.Sink.took g.W.Sink.is_flushed g.W.Sink.failures w0 c.lines.writer)
-    (between g.M.Sink.took g.M.Sink.is_flushed g.M.Sink.failures m0 c.lines.messages)
+    (reader_span g.R.Source r0 c.lines.reader)
+    (span g.W.Sink w0 c.lines.writer)
+    (span g.M.Sink m0 c.lines.messages)
     (reading c.lines.input) lines (f.so_far lines)) (sym i.3) i.0.2 in
-    let input : Input = reader_between g.R.Source.gave g.R.Source.at_end g.R.Source.failures g.R.Source.ends r0 r2 in
-    let writer1 : Device = between g.W.Sink.took g.W.Sink.is_flushed g.W.Sink.failures w0 w2 in
-    let messages1 : Device = between g.M.Sink.took g.M.Sink.is_flushed g.M.Sink.failures m0 m2 in
+    let input : Input = reader_span g.R.Source r0 r2 in
+    let writer1 : Device = span g.W.Sink w0 w2 in
+    let messages1 : Device = span g.M.Sink m0 m2 in
     let stops : StopsAt filter input writer1 messages1 now lines c.in-Err.halt =
     subst (λ (f : Filter). StopsAt f input writer1 messages1 now lines c.in-Err.halt) i.3 (c.in-Err.ensures.stops r0 w0 m0 lines i.0.1 start) in
     stopped-on filter (g.E.Engine.has_ended c.step.new.engine) input writer1 messages1 now lines c.number.result c.lines.warned c.in-Err.halt c.number.ensures stops

@@ -18,6 +18,7 @@ loop-written-preserved g c =
       omega (arith, c.in-Ok.ensures.bound, length-take (length bytes - c.loop-written.written) (drop c.loop-written.written bytes), length-drop c.loop-written.written bytes),
       subst (λ l. g.W.Sink.took old l new) (take-rest bytes c.loop-written.written c.in-Ok.count) (g.met.W.Sink.took_both old now new _ _ before.1 c.in-Ok.ensures.bytes),
       c.in-Ok.ensures.good ∙ before.2,
+      c.in-Ok.ensures.unasked ∙ before.3,
     )
 
 pub returns-in-Err-clause-part : goal.returns-in-Err-clause-part

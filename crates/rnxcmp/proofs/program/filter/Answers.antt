@@ -1,28 +1,28 @@
 use Rattle.std.proofs.Common.{subst, sym}
-use Rattle.rnxcmp.specs.Program.{IsFiltered, between, reader_between}
+use Rattle.rnxcmp.specs.Program.{IsFiltered, span, reader_span}
 use Rattle.rnxcmp.specs.declared.job.Tool.{Tool}
 use Rattle.rnxcmp.proofs.program.filter.Goals as goal
 
 pub returns-in-Compact : goal.returns-in-Compact
 returns-in-Compact g c =
     subst (λ (tool : Tool). IsFiltered tool c.args.options
-    (reader_between g.R.Source.gave g.R.Source.at_end g.R.Source.failures g.R.Source.ends c.args.reader.now c.compact.new.reader)
-    (between g.W.Sink.took g.W.Sink.is_flushed g.W.Sink.failures c.args.writer.now c.compact.new.writer)
-    (between g.M.Sink.took g.M.Sink.is_flushed g.M.Sink.failures c.args.messages.now c.compact.new.messages) c.compact.result.status)
+    (reader_span g.R.Source c.args.reader.now c.compact.new.reader)
+    (span g.W.Sink c.args.writer.now c.compact.new.writer)
+    (span g.M.Sink c.args.messages.now c.compact.new.messages) c.compact.result.status)
     (sym c.in-Compact.is) (c.compact.result.fault, c.compact.ensures.runs.0, c.compact.ensures.runs.1, c.compact.ensures.runs.2)
 
 pub returns-in-Expand : goal.returns-in-Expand
 returns-in-Expand g c =
     subst (λ (tool : Tool). IsFiltered tool c.args.options
-    (reader_between g.R.Source.gave g.R.Source.at_end g.R.Source.failures g.R.Source.ends c.args.reader.now c.expand.new.reader)
-    (between g.W.Sink.took g.W.Sink.is_flushed g.W.Sink.failures c.args.writer.now c.expand.new.writer)
-    (between g.M.Sink.took g.M.Sink.is_flushed g.M.Sink.failures c.args.messages.now c.expand.new.messages) c.expand.result.status)
+    (reader_span g.R.Source c.args.reader.now c.expand.new.reader)
+    (span g.W.Sink c.args.writer.now c.expand.new.writer)
+    (span g.M.Sink c.args.messages.now c.expand.new.messages) c.expand.result.status)
     (sym c.in-Expand.is) (c.expand.result.fault, c.expand.ensures.runs.0, c.expand.ensures.runs.1, c.expand.ensures.runs.2)
 
 pub returns-in-Check : goal.returns-in-Check
 returns-in-Check g c =
     subst (λ (tool : Tool). IsFiltered tool c.args.options
-    (reader_between g.R.Source.gave g.R.Source.at_end g.R.Source.failures g.R.Source.ends c.args.reader.now c.check.new.reader)
-    (between g.W.Sink.took g.W.Sink.is_flushed g.W.Sink.failures c.args.writer.now c.check.new.writer)
-    (between g.M.Sink.took g.M.Sink.is_flushed g.M.Sink.failures c.args.messages.now c.check.new.messages) c.check.result.status)
+    (reader_span g.R.Source c.args.reader.now c.check.new.reader)
+    (span g.W.Sink c.args.writer.now c.check.new.writer)
+    (span g.M.Sink c.args.messages.now c.check.new.messages) c.check.result.status)
     (sym c.in-Check.is) (c.check.result.fault, c.check.ensures.runs.0, c.check.ensures.runs.1, c.check.ensures.runs.2)

@@ -1,6 +1,6 @@
 use Rattle.std.proofs.Common.{◌≡◌, ◌∙◌, map, inl, inr, refl, string_bytes, subst}
 use Rattle.rnxcmp.specs.Planning.{Run, plan_of}
-use Rattle.rnxcmp.specs.Program.{IsDone, NoMemory, between, reader_between}
+use Rattle.rnxcmp.specs.Program.{IsDone, NoMemory, span, reader_span}
 use Rattle.rnxcmp.specs.declared.job.Job.{Job}
 use Rattle.rnxcmp.proofs.JobFits.{job_fits}
 use Rattle.rnxcmp.proofs.Refusals.{not_run, refused_by}
@@ -12,7 +12,7 @@ same_job a b e = cc
 
 pub returns-in-Err-clause-refused : goal.returns-in-Err-clause-refused
 returns-in-Err-clause-refused g c = λ refusal e. (
-  refused_by _ refusal (between g.M.Sink.took g.M.Sink.is_flushed g.M.Sink.failures c.args.messages.now c.refuse.new.messages) c.refuse.result c.in-Err.fault e c.refuse.ensures.status
+  refused_by _ refusal (span g.M.Sink c.args.messages.now c.refuse.new.messages) c.refuse.result c.in-Err.fault e c.refuse.ensures.status
       c.refuse.ensures.memory (c.refuse.ensures.refused refusal) c.in-Err.ensures,
   refl {a = c.args.input.now},
   refl {a = c.args.output.now},
@@ -22,7 +22,7 @@ pub returns-in-Err-clause-done : goal.returns-in-Err-clause-done
 returns-in-Err-clause-done g c = λ job e. inr (record {
   why = NoMemory;
   can = tt;
-  shown = inl (not_run _ job (between g.M.Sink.took g.M.Sink.is_flushed g.M.Sink.failures c.args.messages.now c.refuse.new.messages) c.in-Err.fault e c.refuse.ensures.memory c.in-Err.ensures);
+  shown = inl (not_run _ job (span g.M.Sink c.args.messages.now c.refuse.new.messages) c.in-Err.fault e c.refuse.ensures.memory c.in-Err.ensures);
   status_is = c.refuse.ensures.status;
   same = (refl, refl);
 })
@@ -36,8 +36,8 @@ pub returns-in-Ok-Run-clause-done : goal.returns-in-Ok-Run-clause-done
 returns-in-Ok-Run-clause-done g c = λ job e.
     let planned : Run c.in-Ok-Run.job ≡ plan_of (map string_bytes c.args.words.items) = rw c.in-Ok-Run.field-0-is at c.in-Ok-Run.ensures in
     subst (λ (j : Job). IsDone j
-    (reader_between g.R.Source.gave g.R.Source.at_end g.R.Source.failures g.R.Source.ends c.args.input.now c.run_job.new.input)
-    (between g.W.Sink.took g.W.Sink.is_flushed g.W.Sink.failures c.args.output.now c.run_job.new.output)
-    (between g.M.Sink.took g.M.Sink.is_flushed g.M.Sink.failures c.args.messages.now c.run_job.new.messages) c.run_job.result
+    (reader_span g.R.Source c.args.input.now c.run_job.new.input)
+    (span g.W.Sink c.args.output.now c.run_job.new.output)
+    (span g.M.Sink c.args.messages.now c.run_job.new.messages) c.run_job.result
     ((c.run_job.new.input ≡ c.args.input.now) × (c.run_job.new.output ≡ c.args.output.now)))
     (same_job c.in-Ok-Run.job job (planned ∙ e)) c.run_job.ensures.done
