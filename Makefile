@@ -4,12 +4,13 @@
 #             built program over whole texts, as a process, by the recipes of docs/ARCHIVES.md, and by the commands in print
 # make quick  the same for one who works on it: proofs and tests of what changed since all passed, no wrong bodies
 #             (what the prover prints goes into out/gate.log)
-# make trials runs the program that make built with each growth of memory refused in turn (tests/memory)
+# make memory-test runs the program that make built with each growth of memory refused in turn (tests/memory)
 # make install PREFIX=/usr/local
-#             puts the program that make built, its manual page, completions and other names in place
+#             puts the program that make built, its manual pages, completions and other names in place
 # make library
 #             proves and builds the library for C, C++ and Fortran, into out/library (docs/LIBRARY.md)
 # make python does that and makes the package for Python of it, into out/python
+# make dist   makes a release of what make built, in out/dist: an archive with a static program, a Debian package, a source archive
 
 SAMPLE := samples/station.rnx
 COMPACT := out/station.crx
@@ -18,7 +19,7 @@ WORDS := rnx2crx --date "01-Jan-24 00:00"
 
 PREFIX ?= /usr/local
 
-.PHONY: all test quick trials install
+.PHONY: all test quick memory-test install dist
 
 all:
 	@tests/gate.py
@@ -41,7 +42,7 @@ test:
 quick:
 	@tests/run.py $(PROGRAM) --quick
 
-trials:
+memory-test:
 	tests/memory/run.py $(PROGRAM)
 
 install:
@@ -56,3 +57,7 @@ library:
 python: library
 	rm -rf out/python
 	python3 python/build_wheel.py out/library out/python
+
+dist:
+	packaging/dist.sh $(PROGRAM).o out/dist
+	@cat out/dist/SHA256SUMS

@@ -1,15 +1,22 @@
 #!/bin/sh
-# Puts the program, its other names, the manual page and the completions below a folder:
-#     packaging/install.sh FOLDER PROGRAM
-# The lower-case names are further copies. Each file is put in place by itself, so that where the file system takes both spellings of
-# a name for one file the second copy takes the place of the first, with the same content.
+# Puts the program, its other names, the manual pages, the completions and the notices below a folder:
+#     packaging/install.sh FOLDER PROGRAM [ZSH]
+# ZSH is where below FOLDER zsh looks for completions, if not in share/zsh/site-functions. The lower-case names are further copies. Each
+# file is put in place by itself, so that where the file system takes both spellings of a name for one file the second copy takes the
+# place of the first, with the same content.
 set -eu
 prefix=$1
 program=$2
+zsh=${3:-share/zsh/site-functions}
 here=$(dirname "$0")
+version=$(cat "$here/../VERSION")
 [ -x "$program" ] || { echo "no program $program: run make first" >&2; exit 1; }
-install -d "$prefix/bin" "$prefix/share/man/man1" "$prefix/share/bash-completion/completions" \
-    "$prefix/share/zsh/site-functions" "$prefix/share/fish/vendor_completions.d"
+install -d "$prefix/bin" "$prefix/share/man/man1" "$prefix/share/bash-completion/completions" "$prefix/$zsh" \
+    "$prefix/share/fish/vendor_completions.d" "$prefix/share/doc/rnxcmp"
+page() { # page SOURCE NAME: a manual page, with the version in it
+    sed "s/@VERSION@/$version/" "$here/man/$1.1" > "$prefix/share/man/man1/$2.1"
+    chmod 644 "$prefix/share/man/man1/$2.1"
+}
 install -m 755 "$program" "$prefix/bin/rnxcmp"
 install -m 755 "$here/bin/rnxcmp-file" "$prefix/bin/rnxcmp-file"
 for name in RNX2CRX rnx2crx; do
@@ -18,9 +25,11 @@ done
 for name in CRX2RNX crx2rnx; do
     install -m 755 "$here/bin/CRX2RNX" "$prefix/bin/$name"
 done
+page rnxcmp-file rnxcmp-file
 for name in rnxcmp RNX2CRX CRX2RNX rnx2crx crx2rnx; do
-    install -m 644 "$here/man/rnxcmp.1" "$prefix/share/man/man1/$name.1"
+    page rnxcmp "$name"
     install -m 644 "$here/completions/rnxcmp.bash" "$prefix/share/bash-completion/completions/$name"
     install -m 644 "$here/completions/rnxcmp.fish" "$prefix/share/fish/vendor_completions.d/$name.fish"
 done
-install -m 644 "$here/completions/_rnxcmp" "$prefix/share/zsh/site-functions/_rnxcmp"
+install -m 644 "$here/completions/_rnxcmp" "$prefix/$zsh/_rnxcmp"
+install -m 644 "$here/../NOTICES" "$here/../CHANGELOG.md" "$here/../docs/ARCHIVES.md" "$prefix/share/doc/rnxcmp"

@@ -33,6 +33,7 @@ KINDS = (
     ("command", "commands"),
     ("fault", "faults"),
     ("library", "library"),
+    ("release", "release"),
 )
 
 

@@ -19,6 +19,8 @@ SAMPLE = TOP / "samples/station.rnx"
 MANUAL = TOP / "packaging/man/rnxcmp.1"
 # the names under which the program, the manual page and the completions are installed
 NAMES = ("rnxcmp", "RNX2CRX", "CRX2RNX", "rnx2crx", "crx2rnx")
+PAGES = (*NAMES, "rnxcmp-file")
+WIDTH = 80  # of a terminal, for help and manual
 # words so far, and the words that complete them
 COMPLETIONS = (
     ("rnxcmp ", ["rnx2crx", "crx2rnx", "check", "-h", "--help"]),
@@ -112,11 +114,27 @@ def check_pages(prefix):
     if lacking:
         return f"there is no {lacking[0]}"
     wrong = []
-    for name in NAMES:
+    for name in PAGES:
         page = prefix / f"share/man/man1/{name}.1"
         run = subprocess.run(["groff", "-t", "-man", "-Tascii", "-ww", "-P-cbou", str(page)], capture_output=True, text=True, timeout=60)
-        if run.returncode or run.stderr or "COMING FROM RNXCMP" not in run.stdout:
+        if run.returncode or run.stderr or "EXIT STATUS" not in run.stdout:
             wrong.append(f"{name}.1: status {run.returncode}, {run.stderr!r}")
+        wrong += [f"{name}.1: wide: {line!r}" for line in run.stdout.splitlines() if len(line) > WIDTH]
+    return wrong
+
+
+def check_pages_strictly(prefix):
+    """mandoc has nothing to say against a manual page, which has a date and a version."""
+    lacking = missing_tools("mandoc")
+    if lacking:
+        return f"there is no {lacking[0]}"
+    wrong = []
+    for name in PAGES:
+        page = prefix / f"share/man/man1/{name}.1"
+        run = subprocess.run(["mandoc", "-Tlint", page], capture_output=True, text=True, timeout=60)
+        wrong += [] if run.returncode == 0 and not run.stdout + run.stderr else [f"{name}.1: {run.stdout}{run.stderr}"]
+        title = re.search(r"^\.TH (\S+) 1 \d{4}-\d\d-\d\d \"rnxcmp (\S+)\"", page.read_text(), re.M)
+        wrong += [] if title and title[2] == (TOP / "VERSION").read_text().strip() else [f"{name}.1: no date or another version"]
     return wrong
 
 
@@ -163,4 +181,5 @@ def checks(program):
         folder.mkdir()
         yield "installed: the other names", lambda: check_installed(prefix, folder)
         yield "installed: manual pages", lambda: check_pages(prefix)
+        yield "installed: manual pages, by mandoc", lambda: check_pages_strictly(prefix)
         yield "installed: completions", lambda: check_completions(prefix, folder)

@@ -1,0 +1,62 @@
+#!/bin/sh
+# Makes what a release consists of, from the object file that rt leaves:
+#     packaging/dist.sh OBJECT FOLDER
+# An archive with a static program, a Debian package, a source archive of the last commit, and SHA256SUMS. Each is the same bytes
+# wherever and whenever it is made, with the same compiler and C library: all times are SOURCE_DATE_EPOCH, the last commit's if not set.
+set -eu
+umask 022
+export LC_ALL=C TZ=UTC
+object=$1
+to=$2
+top=$(cd "$(dirname "$0")/.." && pwd)
+[ -f "$object" ] || { echo "no object file $object: run make first" >&2; exit 1; }
+: "${SOURCE_DATE_EPOCH:=$(git -C "$top" log -1 --format=%ct)}"
+export SOURCE_DATE_EPOCH
+version=$(cat "$top/VERSION")
+kit=$(dirname "$(dirname "$(readlink -f "$(command -v rt)")")")
+rm -rf "$to"
+mkdir -p "$to"
+work=$(mktemp -d "$to/work.XXXXXX")
+trap 'rm -rf "$work"' EXIT
+
+# the static program
+gcc -static -s -Wl,--build-id=none -o "$work/rnxcmp" "$object" "$kit/c/libos_c.a" "$kit/c/liblibc_c.a"
+
+# the archive
+name=rnxcmp-$version-linux-x86_64
+"$top/packaging/install.sh" "$work/$name" "$work/rnxcmp"
+"$top/packaging/parts.py" "$SOURCE_DATE_EPOCH" > "$work/$name/share/doc/rnxcmp/parts.spdx.json"
+tar -C "$work" --sort=name --mtime="@$SOURCE_DATE_EPOCH" --owner=0 --group=0 --numeric-owner --format=gnu -cf - "$name" |
+    gzip -9n > "$to/$name.tar.gz"
+
+# the Debian package
+root=$work/root
+"$top/packaging/install.sh" "$root/usr" "$work/rnxcmp" share/zsh/vendor-completions
+doc=$root/usr/share/doc/rnxcmp
+mv "$doc/NOTICES" "$doc/copyright"
+gzip -9nc "$doc/CHANGELOG.md" > "$doc/changelog.gz"
+rm "$doc/CHANGELOG.md"
+cp "$work/$name/share/doc/rnxcmp/parts.spdx.json" "$doc"
+for page in "$root"/usr/share/man/man1/*.1; do
+    gzip -9n "$page"
+done
+mkdir "$root/DEBIAN"
+cat > "$root/DEBIAN/control" <<END
+Package: rnxcmp
+Version: $version
+Architecture: amd64
+Section: science
+Priority: optional
+Maintainer: ${MAINTAINER:-the administrator of this machine <root@localhost>}
+Installed-Size: $(find "$root/usr" -type f -printf '%s\n' | awk '{ n += int(($1 + 1023) / 1024) } END { print n }')
+Description: compact, expand and check RINEX 3.0x observation files
+ RINEX 3.0x observation files to Compact RINEX 3.0 (Hatanaka) and back, by a
+ proved program; and a script that does the files of an archive, one at a time.
+END
+find "$root" -exec touch -h -d "@$SOURCE_DATE_EPOCH" {} +
+dpkg-deb --root-owner-group -Zgzip -z9 --build "$root" "$to/rnxcmp_${version}_amd64.deb" > /dev/null
+
+# the source archive
+git -C "$top" archive --format=tar --prefix="rnxcmp-$version/" HEAD | gzip -9n > "$to/rnxcmp-$version.tar.gz"
+
+(cd "$to" && sha256sum -- *.tar.gz *.deb > SHA256SUMS)

@@ -1,0 +1,135 @@
+"""What `make dist` makes: the same bytes twice, packages that unpack into an empty folder, a static program that works there; and the
+version, which stands in VERSION alone (see tests/run.py)."""
+
+import json
+import re
+import shutil
+import struct
+import subprocess
+import tempfile
+from pathlib import Path
+
+TOP = Path(__file__).resolve().parents[2]
+SAMPLE = TOP / "samples/station.rnx"
+VERSION = (TOP / "VERSION").read_text().strip()
+SECONDS = 100  # in which each step is to end
+INTERPRETER = 3  # what says in a program's table that it needs the system's loader
+FILES = ("bin/rnxcmp", "bin/rnxcmp-file", "bin/RNX2CRX", "bin/crx2rnx", "share/man/man1/rnxcmp.1", "share/man/man1/rnxcmp-file.1")
+
+
+def lacking(program):
+    """What the machine lacks for a release, or nothing."""
+    for tool in ("gcc", "git", "dpkg-deb", "rt", "sha256sum"):
+        if not shutil.which(tool):
+            return f"there is no {tool}"
+    if subprocess.run(["git", "log", "-1"], cwd=TOP, capture_output=True).returncode:
+        return "this is no checkout of git"
+    if not Path(f"{program}.o").exists():
+        return f"there is no object file {program.name}.o beside the program"
+    static = subprocess.run(["gcc", "-static", "-x", "c", "-o", "/dev/null", "-"], input=b"int main(void) { return 0; }", capture_output=True)
+    return "there is no static C library" if static.returncode else None
+
+
+def made(program, folder):
+    """Makes a release: what went wrong, as lines."""
+    run = subprocess.run([TOP / "packaging/dist.sh", f"{program}.o", folder], capture_output=True, text=True, timeout=SECONDS)
+    return [] if run.returncode == 0 and not run.stderr else [f"status {run.returncode}, {run.stderr!r}"]
+
+
+def check_twice(program, one, two):
+    wrong = made(program, one) + made(program, two)
+    if wrong:
+        return wrong
+    names = sorted(path.name for path in one.iterdir())
+    wanted = sorted([f"rnxcmp-{VERSION}-linux-x86_64.tar.gz", f"rnxcmp-{VERSION}.tar.gz", f"rnxcmp_{VERSION}_amd64.deb", "SHA256SUMS"])
+    wrong += [] if names == wanted else [f"files {names}"]
+    wrong += [f"{name} differs" for name in names if (one / name).read_bytes() != (two / name).read_bytes()]
+    sums = subprocess.run(["sha256sum", "-c", "SHA256SUMS"], cwd=one, capture_output=True, text=True, timeout=SECONDS)
+    return wrong + ([] if sums.returncode == 0 else [sums.stdout])
+
+
+def needs_loader(program):
+    """Whether an ELF file of 64 bits asks for the system's loader, and so for shared libraries."""
+    content = program.read_bytes()
+    start, size, count = struct.unpack_from("<Q", content, 32)[0], *struct.unpack_from("<HH", content, 54)
+    return any(struct.unpack_from("<I", content, start + size * k)[0] == INTERPRETER for k in range(count))
+
+
+def check_unpacked(prefix, doc):
+    """What stands below a folder: the files, a static program, a round trip with it and with the script, and the list of parts."""
+    wrong = [f"{name} isn't there" for name in FILES if not (prefix / name).exists() and not (prefix / f"{name}.gz").exists()]
+    wrong += [f"share/doc/rnxcmp/{name} isn't there" for name in doc if not (prefix / "share/doc/rnxcmp" / name).exists()]
+    if wrong:
+        return wrong
+    program = prefix / "bin/rnxcmp"
+    wrong += ["the program isn't static"] if needs_loader(program) else []
+    compact = subprocess.run([program, "rnx2crx"], stdin=SAMPLE.open(), capture_output=True, timeout=SECONDS)
+    back = subprocess.run([program, "crx2rnx"], input=compact.stdout, capture_output=True, timeout=SECONDS)
+    if (compact.returncode, back.returncode, back.stdout) != (0, 0, SAMPLE.read_bytes()):
+        wrong.append(f"the sample doesn't come back: {compact.stderr!r}, {back.stderr!r}")
+    shutil.copy(SAMPLE, prefix / "a.rnx")
+    run = subprocess.run([prefix / "bin/rnxcmp-file", "rnx2crx", "--delete", "--gzip", "a.rnx"], cwd=prefix, capture_output=True, text=True, timeout=SECONDS)
+    if run.returncode or run.stderr or not (prefix / "a.crx.gz").exists() or (prefix / "a.rnx").exists():
+        wrong.append(f"rnxcmp-file: status {run.returncode}, {run.stderr!r}")
+    parts = json.loads((prefix / "share/doc/rnxcmp/parts.spdx.json").read_text())
+    found = {part["name"]: part["versionInfo"] for part in parts["packages"]}
+    return wrong + ([] if found.get("rnxcmp") == VERSION and found.get("glibc") else [f"parts {found}"])
+
+
+def check_archive(made_in, folder):
+    folder.mkdir()
+    name = f"rnxcmp-{VERSION}-linux-x86_64"
+    subprocess.run(["tar", "-xzf", made_in / f"{name}.tar.gz", "-C", folder], check=True, timeout=SECONDS)
+    return check_unpacked(folder / name, ["NOTICES", "CHANGELOG.md"])
+
+
+def check_package(made_in, folder):
+    package = made_in / f"rnxcmp_{VERSION}_amd64.deb"
+    subprocess.run(["dpkg-deb", "-x", package, folder], check=True, timeout=SECONDS)
+    fields = subprocess.run(["dpkg-deb", "-f", package, "Package", "Version", "Depends"], capture_output=True, text=True, timeout=SECONDS).stdout
+    wrong = [] if fields == f"Package: rnxcmp\nVersion: {VERSION}\n" else [f"fields {fields!r}"]
+    return wrong + check_unpacked(folder / "usr", ["copyright", "changelog.gz"])
+
+
+def check_source(made_in, folder):
+    """The source archive holds what the last commit does."""
+    folder.mkdir()
+    subprocess.run(["tar", "-xzf", made_in / f"rnxcmp-{VERSION}.tar.gz", "-C", folder], check=True, timeout=SECONDS)
+    listed = subprocess.run(["git", "ls-tree", "-r", "--name-only", "-z", "HEAD"], cwd=TOP, capture_output=True, text=True, check=True).stdout
+    top = folder / f"rnxcmp-{VERSION}"
+    found = {str(path.relative_to(top)) for path in top.rglob("*") if path.is_file()}
+    return [] if found == set(listed.split("\0")) - {""} else ["other files than those of the commit"]
+
+
+def check_version():
+    """The manual pages and the list of changes say the version that stands in VERSION."""
+    wrong = [] if re.fullmatch(r"[0-9]+\.[0-9]+\.[0-9]+", VERSION) else [f"VERSION: {VERSION!r}"]
+    for page in sorted((TOP / "packaging/man").glob("*.1")):
+        wrong += [] if '"rnxcmp @VERSION@"' in page.read_text() and VERSION not in page.read_text() else [f"{page.name} has a version of its own"]
+    newest = re.search(r"^## (.*)$", (TOP / "CHANGELOG.md").read_text(), re.M)[1]
+    return wrong + ([] if newest == VERSION else [f"CHANGELOG.md: {newest}"])
+
+
+def check_notices():
+    """Each library of the kit that the crates stand on is named in NOTICES."""
+    lines = [line.split(":") for line in (TOP / "crates.txt").read_text().splitlines() if line and not line.startswith("#")]
+    own = {line[0].split()[0] for line in lines}
+    used = {name for line in lines for name in line[1].split()} - own
+    notices = (TOP / "NOTICES").read_text()
+    return [f"{name} isn't named in NOTICES" for name in sorted(used) if not re.search(rf"^{name} ", notices, re.M)]
+
+
+def checks(program):
+    yield "the version", check_version
+    yield "the notices", check_notices
+    with tempfile.TemporaryDirectory() as name:
+        folder = Path(name)
+        reason = lacking(program)
+        one = folder / "one"
+        for title, check in (
+            ("made twice", lambda: check_twice(program, one, folder / "two")),
+            ("the archive", lambda: check_archive(one, folder / "archive")),
+            ("the package", lambda: check_package(one, folder / "package")),
+            ("the source archive", lambda: check_source(one, folder / "source")),
+        ):
+            yield title, (lambda check=check: reason or check())
