@@ -1,0 +1,142 @@
+#!/usr/bin/env python3
+"""Writes docs/READING.md: which definitions one has to trust for the main promises, file by file, lowest first.
+
+    docs/reading.py            writes the page
+    docs/reading.py --check    says whether the page that stands is the one that would be written (exit status 1 if not)
+"""
+
+import re
+import sys
+from pathlib import Path
+
+TOP = Path(__file__).resolve().parent.parent
+PAGE = TOP / "docs" / "READING.md"
+
+# the promises, each with the definitions that say it, and what it is in words
+PROMISES = (
+    ("Compaction", ("compacted",), "what `compact` writes, reports and answers, for a whole input"),
+    ("Expansion", ("expanded",), "the same of `expand`"),
+    ("The report", ("checked",), "the same of `check`, with what a standard file is"),
+    ("Failing devices and memory", ("Runs",), "what a run is where a reader, a writer or memory fails: the clause `runs`"),
+    ("The way back", ("BringsBackWhatWasCompacted",), "the clause `way_back` of `expand`"),
+    ("Damage", ("SavesAllElse",), "the clause `salvage` of `expand`"),
+    ("Standard files", ("JudgesStandard",), "the clause `standard` of `check`"),
+)
+
+HEAD = """# Reading
+
+What has to be read, and believed, to know what is claimed. A proof can be wrong in one place that no prover sees: the definitions may
+say something else than RINEX 3.05 and Compact RINEX 3.0 do. They stand in `crates/*/specs`. This page lists those that the main
+promises stand on, file by file, each file after those that it uses; every other file of `specs` says how code and proofs see things,
+and need not be believed. `docs/reading.py` writes this page from the sources, and the gate compares it.
+
+Beside the definitions: the four public calls `compact`, `expand` and `check` (`crates/crx_filter/src`) and `run`
+(`crates/rnxcmp/src/program.rt`) with their clauses, docs/FORMATS.md for the formats in words, and README.md for what else is trusted.
+
+## How to read a definition
+
+A definition is one or more equations. `x ∷ rest` is a list with the first element x, `[]` the empty list, `++` joins lists, `λ x. ..` is a
+function, `record { .. }` a value with named fields, `A × B` is *A and B*, `A ⊎ B` is *A or B*, `(x : T) → P x` is *for every x*,
+`(x : T) × P x` is *there is an x*, `⊥` is *false*, `≡` is *equals*. Lists of units, epochs and values have the newest first, where the
+definition doesn't say otherwise.
+"""
+
+
+def sources():
+    """The definitions: (file, name) to text; and for each file what it takes from others."""
+    texts, taken, modules = {}, {}, {}
+    files = sorted((TOP / "crates").glob("*/specs/**/*.antt"))
+    for path in files:
+        crate = path.relative_to(TOP / "crates").parts[0]
+        inside = path.relative_to(TOP / "crates" / crate / "specs").with_suffix("")
+        modules["Rattle." + crate + ".specs." + ".".join(inside.parts)] = path
+    for path in files:
+        text = path.read_text(encoding="utf-8")
+        heads = [(m.start(), m[1] or m[2]) for m in re.finditer(
+            r"^(?:abbrev|unfoldable|def)\s+(?:pub\s+)?([A-Za-z_]\w*)|^(?:pub\s+)?(?:record|data)\s+(?:pub\s+)?([A-Za-z_]\w*)", text, re.M)]
+        for k, (at, name) in enumerate(heads):
+            end = heads[k + 1][0] if k + 1 < len(heads) else len(text)
+            texts[path, name] = text[at:end]
+        taken[path] = {}
+        for use in re.finditer(r"^(?:pub )?use (Rattle[\w.]+)\.\{([^}]*)\}", text, re.M):
+            if use[1] in modules:
+                for word in use[2].split(","):
+                    pair = word.strip().split(" as ")
+                    taken[path][pair[-1].strip()] = (modules[use[1]], pair[0].strip())
+    return texts, taken
+
+
+def closure(names, texts, taken):
+    """All definitions that some of these names stand on."""
+    seen, todo = set(), [key for key in texts if key[1] in names]
+    while todo:
+        key = todo.pop()
+        if key in seen or key not in texts:
+            continue
+        seen.add(key)
+        path = key[0]
+        for word in set(re.findall(r"[A-Za-z_]\w*", re.sub(r"--.*", "", texts[key]))):
+            if (path, word) in texts:
+                todo.append((path, word))
+            elif word in taken[path]:
+                todo.append(taken[path][word])
+    return seen
+
+
+def lines_of(keys, texts):
+    """How many lines these definitions have, with the comments above the next ones left out."""
+    return sum(len([l for l in texts[key].strip().split("\n") if l.strip() and not l.startswith("--")]) for key in keys)
+
+
+def depth_of(files, taken):
+    depths = {}
+
+    def depth(path, above=()):
+        if path in above:
+            return 0
+        if path not in depths:
+            below = {found for found, _ in taken[path].values() if found in files and found != path}
+            depths[path] = 1 + max([depth(it, above + (path,)) for it in below] or [0])
+        return depths[path]
+
+    return {path: depth(path) for path in files}
+
+
+def page():
+    texts, taken = sources()
+    out, read = [HEAD], set()
+    out.append("\n## How much it is\n\n| Promise | Definitions | Lines | New beside those above |\n|---|---|---|---|\n")
+    parts = []
+    for title, names, words in PROMISES:
+        keys = closure(names, texts, taken)
+        fresh = keys - read
+        out.append(f"| {title}: {words} | {len(keys)} | {lines_of(keys, texts)} | {len(fresh)} |\n")
+        parts.append((title, words, fresh))
+        read |= keys
+    out.append(f"\nAll of them are {len(read)} definitions of {lines_of(read, texts)} lines, in {len({k[0] for k in read})} files.\n")
+    depths = depth_of({key[0] for key in read}, taken)
+    for title, words, fresh in parts:
+        if not fresh:
+            continue
+        out.append(f"\n## {title}\n\nTo know {words}, read in this order:\n\n")
+        for path in sorted({key[0] for key in fresh}, key=lambda it: (depths[it], str(it))):
+            keys = [key for key in fresh if key[0] == path]
+            at = {name: texts_at for texts_at, (_, name) in enumerate(k for k in texts if k[0] == path)}
+            names = sorted((name for _, name in keys), key=lambda name: at[name])
+            out.append(f"- `{path.relative_to(TOP)}` ({lines_of(keys, texts)} lines): " + ", ".join(f"`{it}`" for it in names) + "\n")
+    return "".join(out)
+
+
+def main():
+    text = page()
+    if "--check" in sys.argv[1:]:
+        same = PAGE.exists() and PAGE.read_text(encoding="utf-8") == text
+        if not same:
+            print("docs/READING.md isn't what docs/reading.py writes: run it")
+        return 0 if same else 1
+    PAGE.write_text(text, encoding="utf-8")
+    return 0
+
+
+if __name__ == "__main__":
+    sys.exit(main())

@@ -1,0 +1,76 @@
+"""The documents against the sources: the pages that scripts write are those that they would write today, and each clause, file and make
+target that a document names is there (see tests/run.py)."""
+
+import re
+import subprocess
+from pathlib import Path
+
+TOP = Path(__file__).resolve().parents[2]
+PAGES = ("README.md", "CONTRIBUTING.md", "tests/README.md", "bench/README.md", "samples/README.md") + tuple(
+    str(path.relative_to(TOP)) for path in sorted((TOP / "docs").glob("*.md")))
+
+
+def written(script):
+    """What is wrong with the page that a script writes."""
+    run = subprocess.run([TOP / "docs" / script, "--check"], capture_output=True, text=True, timeout=60)
+    return [] if run.returncode == 0 else [(run.stdout + run.stderr).strip()]
+
+
+def contracts():
+    """The clauses of each public function, by docs/CONTRACTS.md: under its name, and under that of its type and it."""
+    found = {}
+    for name, rest in re.findall(r"^- `([\w:]+)`(.*)$", (TOP / "docs/CONTRACTS.md").read_text(encoding="utf-8"), re.M):
+        promises = re.search(r"Promises (.*)\.$", rest)
+        clauses = set(re.findall(r"`(\w+)`", promises[1])) if promises else set()
+        for key in (name, name.split("::")[-1]):
+            found.setdefault(key, set()).update(clauses)
+    return found
+
+
+def clauses_named(page, known):
+    """The clauses that docs/GUARANTEES.md and README.md name and no function has."""
+    wrong = []
+    text = re.sub(r"\s+", " ", (TOP / page).read_text(encoding="utf-8"))
+    for group in re.findall(r"\(([^()]*`: `[^()]*)\)", text):
+        for part in group.split(";"):
+            names, _, clauses = part.partition("`: `")
+            functions = re.findall(r"`([\w:]+)`?", names + "`")
+            for function in functions:
+                if function not in known:
+                    wrong.append(f"{page}: there is no public function {function}")
+                    continue
+                for clause in re.findall(r"(\w+)`", clauses):
+                    if clause not in known[function]:
+                        wrong.append(f"{page}: {function} has no clause {clause}")
+    return wrong
+
+
+def files_named(page):
+    """The files below the usual folders that a document names and that aren't there."""
+    wrong = []
+    for name in re.findall(r"(?<![\w/.*-])((?:crates|docs|tests|bench|packaging|samples|include|library|python|examples)/[\w./*-]*\w)", (TOP / page).read_text(encoding="utf-8")):
+        if "/out/" in name or "NAME" in name or "VERSION" in name:
+            continue
+        if not any(TOP.glob(name)):
+            wrong.append(f"{page}: there is no {name}")
+    return wrong
+
+
+def targets_named(page):
+    """The targets that a document tells to make and the Makefile doesn't have."""
+    targets = set(re.findall(r"^([\w-]+):", (TOP / "Makefile").read_text(encoding="utf-8"), re.M))
+    named = re.findall(r"`make ([a-z][\w-]*)|^    make ([a-z][\w-]*)", (TOP / page).read_text(encoding="utf-8"), re.M)
+    return [f"{page}: make has no target {it}" for it in {a or b for a, b in named} - targets]
+
+
+def checks(_program):
+    yield "docs/CONTRACTS.md", lambda: written("contracts.py")
+    yield "docs/READING.md", lambda: written("reading.py")
+    known = contracts()
+    for page in PAGES:
+        if not (TOP / page).exists():
+            continue
+        yield f"{page}: files", lambda page=page: files_named(page)
+        yield f"{page}: targets", lambda page=page: targets_named(page)
+    for page in ("README.md", "docs/GUARANTEES.md"):
+        yield f"{page}: clauses", lambda page=page: clauses_named(page, known)
