@@ -19,12 +19,11 @@ ghost use Rattle.crx_compact.specs.Tails.{tail_left, tail_or_nothing};
 ghost use Rattle.crx_compact.specs.Steps.{lines_after, no_tail, tail_after, tail_written_after};
 
 use crate::coded::Coded;
-use crate::held::Desk;
 use crate::incoming::Incoming;
 use crate::kept::KeptEpoch;
 use crate::lines::Lines;
 use crx_rinex::{Epoch, Types, begins_epoch};
-use crx_text::Fault;
+use crx_text::{Fault, Text};
 use std::alloc::{AllocError, Global};
 use std::marker::Model;
 use std::mem;
@@ -41,7 +40,7 @@ pub struct Columns {
     incoming: Incoming,
     goes_on: bool,
     lines: Lines,
-    desk: Desk,
+    part: Text,
     alloc: Global,
 }
 
@@ -72,7 +71,7 @@ impl Columns {
             incoming: Incoming::new(alloc),
             goes_on: false,
             lines: Lines::new(alloc),
-            desk: Desk::new(alloc),
+            part: Text::new(),
             alloc,
         }
     }
@@ -151,7 +150,7 @@ impl Columns {
         // What holds of every epoch is known by its line.
         let _ = epoch.is_full();
         let before = stands_after(&self.nothing, &self.kept, self.is_kept && !full);
-        self.next.encode(before, epoch, &mut self.desk, lines)?;
+        self.next.encode(before, epoch, &mut self.part, lines)?;
         mem::swap(&mut self.kept, &mut self.next);
         self.is_kept = true;
         Ok(())

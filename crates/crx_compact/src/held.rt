@@ -1,12 +1,13 @@
 //! What is kept of a satellite between two epochs: Hatanaka's Compact RINEX 3.0, satellite lines.
 
-ghost use Rattle.std.specs.Prelude.{◌≡◌, ◌≤◌, ◌<◌, ◌++◌, ◌∷◌, ◌⊎◌, ◌*◌, [], None, Ok, Err, true, false, length, slice_index_or, slice_set, take, OnOk, IfOk, IfErr, IfSome, IfNone, OnSome, Some, Option, ℤ};
+ghost use Rattle.std.specs.Prelude.{◌≡◌, ◌≤◌, ◌<◌, ◌+◌, OnErr, ◌++◌, ◌∷◌, ◌⊎◌, ◌*◌, [], None, Ok, Err, true, false, length, slice_index_or, slice_set, take, OnOk, IfOk, IfErr, IfSome, IfNone, OnSome, Some, Option, ℤ};
 ghost use Rattle.std.specs.List.{flat_map, list_all};
 ghost use Rattle.crx_text.specs.Numbers.{IsObservation};
 ghost use Rattle.crx_rinex.specs.SatelliteLines.{IsValue};
 ghost use Rattle.crx_text.specs.Codes.{code_of, code_text, first_cell, IsPrintable, IsShort};
 ghost use Rattle.crx_text.specs.Texts.{is_kept, patched, text_difference};
-ghost use Rattle.crx_lines.specs.declared.limits.TheConstants.{LINE_LIMIT};
+ghost use Rattle.crx_lines.specs.declared.limits.TheConstants.{LINE_LIMIT, TYPES_LIMIT};
+ghost use Rattle.crx_compact.specs.declared.held.TheConstants.{CELL_ROOM};
 ghost use Rattle.std.specs.Option.{option_copied};
 ghost use Rattle.crx_text.specs.Columns.{columns, without_end_blanks};
 ghost use Rattle.crx_compact.specs.Cells.{arcs_of_row, codes_of_row, value_at_place, AreHeldFlags, AreRead, IsCellRead};
@@ -22,168 +23,56 @@ ghost use Rattle.crx_compact.specs.Tails.{RowTail};
 
 use crate::arc::ObsArc;
 use crate::awaited::AwaitedSatellite;
-use crate::lines::Lines;
+use crate::lines::{Lines, put_text};
 use crx_lines::limits::NAME_WIDTH;
 use crx_rinex::{SatRow, after_columns, all_blank, begins_epoch};
 use crx_text::difference::{append_difference, patch_bytes};
 use crx_text::{
-    Code, Fault, Text, code_before_blank, code_print, code_print_cell, step_before_blank,
-    step_print_cell, trim_end,
+    Code, Fault, Text, code_before_blank, code_print, step_before_blank, trim_end, write_cell,
 };
 use std::alloc::{AllocError, Global};
 use std::marker::Model;
 
-/// What lines are made with: the line, and a text that holds a part of it for a moment.
-#[derive(Drop)]
-pub(crate) struct Desk {
-    pub(crate) line: Vec<u8>,
-    part: Text,
+/// The most bytes of a cell in a satellite line: a code and a blank.
+pub(crate) const CELL_ROOM: usize = 22;
+
+/// Leaves in a text what changes from a text to another one.
+#[inline]
+pub(crate) fn mark_change(old: &[u8], new: &[u8], part: &mut Text)
+    requires old_short { length old.now ≤ LINE_LIMIT }
+    requires new_short { length new.now ≤ LINE_LIMIT }
+    ensures { part.new ≡ text_difference old.now new.now }
+{
+    part.clear();
+    if old != new {
+        append_difference(old, new, part);
+        part.trim_end_blanks();
+    }
 }
 
-impl Desk {
-    /// A desk with an empty line.
-    pub(crate) fn new(alloc: Global) -> Desk
-        ensures { result.line.items ≡ [] }
-    {
-        Desk {
-            line: Vec::new(alloc),
-            part: Text::new(),
-        }
-    }
+/// Puts the line of what changes from a text to another one after other lines.
+pub(crate) fn push_change(
+    old: &[u8],
+    new: &[u8],
+    part: &mut Text,
+    lines: &mut Lines,
+) -> Result<(), AllocError>
+    requires old_short { length old.now ≤ LINE_LIMIT }
+    requires new_short { length new.now ≤ LINE_LIMIT }
+    ensures { OnOk result (lines.new ≡ lines.old ++ text_difference old.now new.now ∷ []) }
+{
+    mark_change(old, new, part);
+    lines.push(part.bytes())
+}
 
-    /// Appends a code to the line.
-    pub(crate) fn push_code(&mut self, code: Code) -> Result<(), AllocError>
-        requires { IsPrintable code }
-        ensures { OnOk result (self.new.line.items ≡ self.old.line.items ++ code_text code) }
-    {
-        self.part.clear();
-        code_print(code, &mut self.part).unwrap();
-        self.line.extend_from_slice(self.part.bytes())
-    }
-
-    /// Appends a code and one blank to the line and its part: to the part, as long as there is room.
-    fn push_cell(&mut self, code: Code) -> Result<(), AllocError>
-        requires { IsPrintable code }
-        ensures { OnOk result (self.new.line.items ++ self.new.part ≡ (self.old.line.items ++ self.old.part) ++ cell_text code) }
-    {
-        if code_print_cell(code, &mut self.part).is_ok() {
-            return Ok(());
-        }
-        self.end_cells()?;
-        code_print_cell(code, &mut self.part).unwrap();
-        Ok(())
-    }
-
-    /// The same of a difference.
-    #[inline(always)]
-    fn push_step(&mut self, difference: i64) -> Result<(), AllocError>
-        requires { IsShort difference }
-        ensures { OnOk result (self.new.line.items ++ self.new.part ≡ (self.old.line.items ++ self.old.part) ++ cell_text (Step difference)) }
-    {
-        if step_print_cell(difference, &mut self.part).is_ok() {
-            return Ok(());
-        }
-        self.push_step_at_end(difference)
-    }
-
-    /// The same where the part may be full.
-    #[cold]
-    #[inline(never)]
-    fn push_step_at_end(&mut self, difference: i64) -> Result<(), AllocError>
-        requires { IsShort difference }
-        ensures { OnOk result (self.new.line.items ++ self.new.part ≡ (self.old.line.items ++ self.old.part) ++ cell_text (Step difference)) }
-    {
-        self.push_cell(Code::Step(difference))
-    }
-
-    /// The same of a missing value: a blank.
-    #[inline(always)]
-    fn push_missing(&mut self) -> Result<(), AllocError>
-        ensures { OnOk result (self.new.line.items ++ self.new.part ≡ (self.old.line.items ++ self.old.part) ++ cell_text Missing) }
-    {
-        if self.part.push(b' ').is_ok() {
-            return Ok(());
-        }
-        self.push_missing_at_end()
-    }
-
-    /// The same where the part is full.
-    #[cold]
-    #[inline(never)]
-    fn push_missing_at_end(&mut self) -> Result<(), AllocError>
-        ensures { OnOk result (self.new.line.items ++ self.new.part ≡ (self.old.line.items ++ self.old.part) ++ cell_text Missing) }
-    {
-        self.push_cell(Code::Missing)
-    }
-
-    /// Moves what the part holds to the line's end.
-    fn end_cells(&mut self) -> Result<(), AllocError>
-        ensures line { OnOk result (self.new.line.items ≡ self.old.line.items ++ self.old.part) }
-        ensures part { OnOk result (self.new.part ≡ []) }
-    {
-        self.line.extend_from_slice(self.part.bytes())?;
-        self.part.clear();
-        Ok(())
-    }
-
-    /// Puts what changes from a text to another one into the part.
-    fn mark(&mut self, old: &[u8], new: &[u8])
-        requires old_short { length old.now ≤ LINE_LIMIT }
-        requires new_short { length new.now ≤ LINE_LIMIT }
-        ensures part { self.new.part ≡ text_difference old.now new.now }
-        ensures line { self.new.line ≡ self.old.line }
-    {
-        self.part.clear();
-        append_difference(old, new, &mut self.part);
-        self.part.trim_end_blanks();
-    }
-
-    /// Appends to the line what changes from a text to another one.
-    pub(crate) fn push_difference(&mut self, old: &[u8], new: &[u8]) -> Result<(), AllocError>
-        requires old_short { length old.now ≤ LINE_LIMIT }
-        requires new_short { length new.now ≤ LINE_LIMIT }
-        requires plain { list_all is_kept new.now ≡ true }
-        ensures { OnOk result (self.new.line.items ≡ self.old.line.items ++ text_difference old.now new.now) }
-    {
-        if old == new {
-            return Ok(());
-        }
-        self.mark(old, new);
-        self.line.extend_from_slice(self.part.bytes())
-    }
-
-    /// Puts the line, without the blanks at its end, after others.
-    pub(crate) fn end_line(&self, lines: &mut Lines) -> Result<(), AllocError>
-        ensures { OnOk result (lines.new ≡ lines.old ++ without_end_blanks self.now.line.items ∷ []) }
-    {
-        lines.push(trim_end(&self.line))
-    }
-
-    /// Puts the line of what changes from a text to another one after other lines.
-    pub(crate) fn push_line(
-        &mut self,
-        old: &[u8],
-        new: &[u8],
-        lines: &mut Lines,
-    ) -> Result<(), AllocError>
-        requires old_short { length old.now ≤ LINE_LIMIT }
-        requires new_short { length new.now ≤ LINE_LIMIT }
-        requires plain { list_all is_kept new.now ≡ true }
-        ensures { OnOk result (lines.new ≡ lines.old ++ text_difference old.now new.now ∷ []) }
-    {
-        self.mark(old, new);
-        lines.push(self.part.bytes())
-    }
-
-    /// Puts the line of a code after other lines.
-    pub(crate) fn push_code_line(&mut self, code: Code, lines: &mut Lines) -> Result<(), AllocError>
-        requires { IsPrintable code }
-        ensures { OnOk result (lines.new ≡ lines.old ++ code_text code ∷ []) }
-    {
-        self.part.clear();
-        code_print(code, &mut self.part).unwrap();
-        lines.push(self.part.bytes())
-    }
+/// Puts the line of a code after other lines.
+pub(crate) fn push_code(code: Code, part: &mut Text, lines: &mut Lines) -> Result<(), AllocError>
+    requires { IsPrintable code }
+    ensures { OnOk result (lines.new ≡ lines.old ++ code_text code ∷ []) }
+{
+    part.clear();
+    code_print(code, part).unwrap();
+    lines.push(part.bytes())
 }
 
 /// Replaces an arc by that of a cell after its next value, and gives the value's code.
@@ -203,24 +92,6 @@ fn renew_arc(before: &[ObsArc], place: usize, value: Option<i64>, arc: &mut ObsA
     }
 }
 
-/// Replaces an arc by that of a row's cell after its value, and appends the value's code and a blank.
-#[inline(never)]
-fn push_any_value(
-    before: &[ObsArc],
-    place: usize,
-    value: i64,
-    arc: &mut ObsArc,
-    desk: &mut Desk,
-) -> Result<(), AllocError>
-    requires { IsObservation value }
-    ensures arc { arc.new ≡ arc_of_value (Some value) (slice_index_or before.now place None) }
-    ensures line { OnOk result (desk.new.line.items ++ desk.new.part
-        ≡ (desk.old.line.items ++ desk.old.part) ++ cell_text (code_of_value (Some value) (slice_index_or before.now place None))) }
-{
-    let code = renew_arc(before, place, Some(value), arc);
-    desk.push_cell(code)
-}
-
 /// The difference of order 3 that is the code of a cell's value, where it is one, as by [`ObsArc::push_third`].
 #[inline(always)]
 fn third_at(before: &[ObsArc], place: usize, value: i64, arc: &mut ObsArc) -> Option<i64>
@@ -232,27 +103,52 @@ fn third_at(before: &[ObsArc], place: usize, value: i64, arc: &mut ObsArc) -> Op
     arc.push_third(before.get(place)?, value)
 }
 
-/// The same as [`push_any_value`] of a value that may be missing.
-#[inline(always)]
-fn push_value(
+/// Writes the code of a cell's next value and a blank from an index on, gives the index after them, and replaces an arc by the
+/// one after the value.
+#[inline(never)]
+fn write_any_value(
     before: &[ObsArc],
     place: usize,
     value: Option<i64>,
     arc: &mut ObsArc,
-    desk: &mut Desk,
-) -> Result<(), AllocError>
-    requires { IsValue value }
-    ensures arc { OnOk result (arc.new ≡ arc_of_value value (slice_index_or before.now place None)) }
-    ensures line { OnOk result (desk.new.line.items ++ desk.new.part
-        ≡ (desk.old.line.items ++ desk.old.part) ++ cell_text (code_of_value value (slice_index_or before.now place None))) }
+    bytes: &mut [u8],
+    at: usize,
+) -> usize
+    requires value { IsValue value }
+    requires room { at + CELL_ROOM ≤ length bytes.old }
+    ensures arc { arc.new ≡ arc_of_value value (slice_index_or before.now place None) }
+    ensures written { take result bytes.new ≡ take at bytes.old ++ cell_text (code_of_value value (slice_index_or before.now place None)) }
+    ensures from { at ≤ result }
+    ensures within { result ≤ at + CELL_ROOM }
 {
-    let Some(value) = value else {
+    let code = renew_arc(before, place, value, arc);
+    write_cell(bytes, at, code)
+}
+
+/// The same as [`write_any_value`], quicker where the value is missing, and where its code is a difference of order 3.
+#[inline(always)]
+fn write_value(
+    before: &[ObsArc],
+    place: usize,
+    value: Option<i64>,
+    arc: &mut ObsArc,
+    bytes: &mut [u8],
+    at: usize,
+) -> usize
+    requires value { IsValue value }
+    requires room { at + CELL_ROOM ≤ length bytes.old }
+    ensures arc { arc.new ≡ arc_of_value value (slice_index_or before.now place None) }
+    ensures written { take result bytes.new ≡ take at bytes.old ++ cell_text (code_of_value value (slice_index_or before.now place None)) }
+    ensures from { at ≤ result }
+    ensures within { result ≤ at + CELL_ROOM }
+{
+    let Some(present) = value else {
         arc.end();
-        return desk.push_missing();
+        return write_cell(bytes, at, Code::Missing);
     };
-    match third_at(before, place, value, arc) {
-        Some(difference) => desk.push_step(difference),
-        None => push_any_value(before, place, value, arc, desk),
+    match third_at(before, place, present, arc) {
+        Some(difference) => write_cell(bytes, at, Code::Step(difference)),
+        None => write_any_value(before, place, value, arc, bytes, at),
     }
 }
 
@@ -366,24 +262,29 @@ fn resize_other_arcs(arcs: &mut Vec<ObsArc>, count: usize) -> Result<(), AllocEr
     Ok(())
 }
 
-/// Appends the codes of a row's values, each followed by a blank, and puts the arcs after them in place of as many others.
-fn push_cells(
+/// Writes the codes of a row's values, each followed by a blank, from an index on, gives the index after them, and puts the arcs
+/// after the values in place of as many others.
+fn write_cells(
     before: &[ObsArc],
     row: &SatRow,
     arcs: &mut [ObsArc],
-    desk: &mut Desk,
-) -> Result<(), AllocError>
-    requires { length arcs.old ≡ length row.now.values }
-    ensures arcs { OnOk result (arcs.new ≡ arcs_of_row before.now row.now) }
-    ensures line { OnOk result (desk.new.line.items ≡ desk.old.line.items ++ flat_map cell_text (codes_of_row before.now row.now)) }
+    bytes: &mut [u8],
+    at: usize,
+) -> usize
+    requires counted { length arcs.old ≡ length row.now.values }
+    requires room { at + CELL_ROOM * length row.now.values ≤ length bytes.old }
+    ensures arcs { arcs.new ≡ arcs_of_row before.now row.now }
+    ensures written { take result bytes.new ≡ take at bytes.old ++ flat_map cell_text (codes_of_row before.now row.now) }
+    ensures from { at ≤ result }
+    ensures within { result ≤ at + CELL_ROOM * length row.now.values }
 {
-    desk.part.clear();
+    let mut end = at;
     let mut place = 0;
     while let Some(value) = row.value(place) {
-        push_value(before, place, value, &mut arcs[place], desk)?;
+        end = write_value(before, place, value, &mut arcs[place], bytes, end);
         place += 1;
     }
-    desk.end_cells()
+    end
 }
 
 /// What is kept of a satellite: its identifier, its indicators, and an arc for each cell.
@@ -422,45 +323,71 @@ impl HeldSatellite {
         self.name
     }
 
-    /// Replaces what is kept by what a row leaves after what was kept of its satellite in the epoch before, and makes
-    /// the row's line, whose blanks at the end are still to be dropped.
+    /// The indicators, without the blanks at their end.
+    pub(crate) fn flags(&self) -> &[u8]
+        ensures value { result.now ≡ self.now.flags }
+        ensures held { AreHeldFlags self.now.flags }
+    {
+        &self.flags
+    }
+
+    /// How many cells there are.
+    pub(crate) fn count(&self) -> usize
+        ensures { result ≡ length self.now.cells }
+    {
+        self.arcs.len()
+    }
+
+    /// Replaces what is kept by what a row leaves after what was kept of its satellite in the epoch before, and puts the
+    /// row's line after others.
     pub(crate) fn encode(
         &mut self,
         before: Option<&HeldSatellite>,
         row: &SatRow,
-        desk: &mut Desk,
+        part: &mut Text,
+        lines: &mut Lines,
     ) -> Result<(), AllocError>
         ensures after { OnOk result (self.new ≡ row_tail_after (option_copied before.entry) row.now) }
-        ensures line { OnOk result (without_end_blanks desk.new.line.items
-            ≡ row_line_after (option_copied before.entry) row.now) }
+        ensures line { OnOk result (lines.new ≡ lines.old ++ row_line_after (option_copied before.entry) row.now ∷ []) }
     {
         match before {
-            Some(held) => self.go_on(&held.arcs, &held.flags, row, desk),
-            None => self.go_on(&[], &[], row, desk),
+            Some(held) => lines.push_row(self, &held.arcs, &held.flags, row, part),
+            None => lines.push_row(self, &[], &[], row, part),
         }
     }
 
-    /// The same, from the arcs and the indicators of the epoch before.
-    fn go_on(
+    /// Replaces the identifier and the indicators by those of a row, and makes the arcs as many as its values.
+    pub(crate) fn begin(&mut self, row: &SatRow) -> Result<(), AllocError>
+        ensures name { OnOk result (self.new.name ≡ row.now.name) }
+        ensures flags { OnOk result (self.new.flags ≡ without_end_blanks row.now.flags) }
+        ensures counted { OnOk result (length self.new.cells ≡ length row.now.values) }
+        ensures few { OnOk result (length self.new.cells ≤ TYPES_LIMIT) }
+    {
+        resize_arcs(&mut self.arcs, row.flags().len() / 2)?;
+        self.name = row.name();
+        renew_flags(&mut self.flags, trim_end(row.flags()))
+    }
+
+    /// Replaces the arcs by those that a row leaves after others, and writes the row's line from an index on, of which the marks
+    /// are given: gives its length.
+    pub(crate) fn write_line(
         &mut self,
         arcs: &[ObsArc],
-        flags: &[u8],
         row: &SatRow,
-        desk: &mut Desk,
-    ) -> Result<(), AllocError>
-        requires { length flags.now ≤ LINE_LIMIT }
-        ensures after { OnOk result (self.new ≡ record { name = row.now.name; flags = without_end_blanks row.now.flags; cells = arcs_of_row arcs.now row.now }) }
-        ensures line { OnOk result (without_end_blanks desk.new.line.items ≡ line_of_codes (codes_of_row arcs.now row.now) flags.now row.now.flags) }
+        marks: &[u8],
+        bytes: &mut [u8],
+        at: usize,
+    ) -> usize
+        requires counted { length self.old.cells ≡ length row.now.values }
+        requires room { at + (CELL_ROOM * length row.now.values + length marks.now) < length bytes.old }
+        ensures after { self.new ≡ record self.old { cells = arcs_of_row arcs.now row.now } }
+        ensures line { take (at + result) bytes.new
+            ≡ take at bytes.old ++ without_end_blanks (flat_map cell_text (codes_of_row arcs.now row.now) ++ marks.now) }
+        ensures within { at + result < length bytes.new }
     {
-        desk.line.clear();
-        resize_arcs(&mut self.arcs, row.flags().len() / 2)?;
-        push_cells(arcs, row, &mut self.arcs, desk)?;
-        let next_flags = trim_end(row.flags());
-        desk.push_difference(flags, next_flags)?;
-        self.name = row.name();
-        self.flags.clear();
-        self.flags.extend_from_slice(next_flags)?;
-        Ok(())
+        let end = write_cells(arcs, row, &mut self.arcs, bytes, at);
+        let end = put_text(bytes, end, marks);
+        trim_end(&bytes[at..end]).len()
     }
 
     /// Reads a satellite's line after what was kept of it in the epoch before: replaces what is kept, and fills the row, which
@@ -522,6 +449,19 @@ impl HeldSatellite {
         self.name = satellite.name();
         renew_flags(flags, count, &line[at..], row, &mut self.flags, part)
     }
+}
+
+/// Replaces indicators by others, which mostly are the same.
+#[inline]
+fn renew_flags(flags: &mut Vec<u8>, next: &[u8]) -> Result<(), AllocError>
+    ensures ok { OnOk result (flags.new.items ≡ next.now) }
+    ensures err { OnErr result (flags.new.items ≡ []) }
+{
+    if flags.as_slice() != next {
+        flags.clear();
+        flags.extend_from_slice(next)?;
+    }
+    Ok(())
 }
 
 /// At most so many bytes of a text, from its first on.

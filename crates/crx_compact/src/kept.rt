@@ -20,7 +20,7 @@ ghost use Rattle.crx_compact.specs.HeldRows.{row_after, IsNextRow};
 
 use crate::arc::ClockArc;
 use crate::awaited::{AwaitedSatellite, read_satellites};
-use crate::held::{Desk, HeldSatellite, find};
+use crate::held::{HeldSatellite, find, push_change, push_code};
 use crate::lines::Lines;
 use crx_lines::limits::NAME_WIDTH;
 use crx_rinex::{Epoch, SatRow, Types, begins_epoch};
@@ -133,7 +133,7 @@ impl KeptEpoch {
         &mut self,
         before: &KeptEpoch,
         epoch: &Epoch,
-        desk: &mut Desk,
+        part: &mut Text,
         lines: &mut Lines,
     ) -> Result<(), AllocError>
         requires { IsSoundEpoch epoch.now }
@@ -142,10 +142,10 @@ impl KeptEpoch {
     {
         self.different = 0;
         renew_text(&mut self.text, epoch)?;
-        desk.push_line(&before.text, &self.text, lines)?;
+        push_change(&before.text, &self.text, part, lines)?;
         self.clock = before.clock.copied();
-        desk.push_code_line(self.clock.push(epoch.head().clock()), lines)?;
-        encode_rows(self.alloc, before, epoch, &mut self.satellites, desk, lines)?;
+        push_code(self.clock.push(epoch.head().clock()), part, lines)?;
+        encode_rows(self.alloc, before, epoch, &mut self.satellites, part, lines)?;
         self.different = self.satellites.len();
         Ok(())
     }
@@ -348,7 +348,7 @@ fn encode_rows(
     before: &KeptEpoch,
     epoch: &Epoch,
     satellites: &mut Vec<HeldSatellite>,
-    desk: &mut Desk,
+    part: &mut Text,
     lines: &mut Lines,
 ) -> Result<(), AllocError>
     ensures after { OnOk result (satellites.new.items ≡ map (row_tail_in before.now.rows) epoch.now.rows) }
@@ -358,8 +358,7 @@ fn encode_rows(
     while let Some(row) = epoch.row(index) {
         make_room(alloc, satellites, index)?;
         let next = &mut satellites[index];
-        next.encode(before.find(index, row.name()), row, desk)?;
-        desk.end_line(lines)?;
+        next.encode(before.find(index, row.name()), row, part, lines)?;
         index += 1;
     }
     satellites.truncate(index);

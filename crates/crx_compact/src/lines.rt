@@ -4,9 +4,17 @@ ghost use Rattle.std.specs.Prelude.{ℕ, ◌≡◌, ◌≤◌, ◌<◌, ◌+◌,
 ghost use Rattle.std.specs.Borrow.{sem};
 ghost use Rattle.std.specs.Io.BufRead.{Rests};
 ghost use Rattle.std.specs.Option.{option_copied};
+ghost use Rattle.crx_lines.specs.declared.limits.TheConstants.{LINE_LIMIT};
+ghost use Rattle.crx_text.specs.Columns.{without_end_blanks};
+ghost use Rattle.crx_compact.specs.Cells.{arcs_of_row, codes_of_row};
+ghost use Rattle.crx_compact.specs.Compaction.{line_of_codes};
 ghost use Rattle.crx_compact.specs.LineLists.{lines_text};
 ghost use Rattle.crx_compact.specs.contracts.lines.Lines.{the_row};
 
+use crate::arc::ObsArc;
+use crate::held::{CELL_ROOM, HeldSatellite, mark_change};
+use crx_rinex::SatRow;
+use crx_text::Text;
 use std::alloc::{AllocError, Global};
 use std::marker::Model;
 
@@ -77,6 +85,34 @@ impl Lines {
         Ok(())
     }
 
+    /// Puts a row's line after the others, as its satellite's arcs and indicators in the epoch before make it, and replaces
+    /// what is kept of a satellite by what the row leaves.
+    pub(crate) fn push_row(
+        &mut self,
+        satellite: &mut HeldSatellite,
+        arcs: &[ObsArc],
+        flags: &[u8],
+        row: &SatRow,
+        part: &mut Text,
+    ) -> Result<(), AllocError>
+        requires { length flags.now ≤ LINE_LIMIT }
+        ensures after { OnOk result (satellite.new ≡ record { name = row.now.name; flags = without_end_blanks row.now.flags; cells = arcs_of_row arcs.now row.now }) }
+        ensures line { OnOk result (self.new ≡ self.old ++ line_of_codes (codes_of_row arcs.now row.now) flags.now row.now.flags ∷ []) }
+    {
+        satellite.begin(row)?;
+        mark_change(flags, satellite.flags(), part);
+        let start = self.filled;
+        let room = CELL_ROOM * satellite.count() + part.len();
+        grow(&mut self.bytes, start + room + 1)?;
+        let length = satellite.write_line(arcs, row, part.bytes(), &mut self.bytes, start);
+        if self.lengths.push(length).is_err() {
+            return Err(AllocError);
+        }
+        self.bytes[start + length] = b'\n';
+        self.filled = start + length + 1;
+        Ok(())
+    }
+
     /// Whether all lines were lent.
     pub fn is_empty(&self) -> bool
         ensures { IsTrue result ↔ (self.now ≡ []) }
@@ -130,7 +166,17 @@ fn put_line(bytes: &mut [u8], start: usize, line: &[u8])
     requires { start + length line.now < length bytes.old }
     ensures { take (start + length line.now + 1) bytes.new ≡ take start bytes.old ++ (line.now ++ 10 ∷ []) }
 {
-    let end = start + line.len();
-    bytes[start..end].copy_from_slice(line);
+    let end = put_text(bytes, start, line);
     bytes[end] = b'\n';
+}
+
+/// Puts a text in place of the bytes from an index on, and gives the index after it.
+pub(crate) fn put_text(bytes: &mut [u8], start: usize, text: &[u8]) -> usize
+    requires { start + length text.now ≤ length bytes.old }
+    ensures put { take result bytes.new ≡ take start bytes.old ++ text.now }
+    ensures end { result ≡ start + length text.now }
+{
+    let end = start + text.len();
+    bytes[start..end].copy_from_slice(text);
+    end
 }

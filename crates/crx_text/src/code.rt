@@ -127,9 +127,10 @@ fn step_print_at_end(difference: i64, text: &mut Text) -> Result<(), TextFull>
     cell_print_at_end(Code::Step(difference), text)
 }
 
-// Writes a code's text and a blank from an index on, and answers the index after them.
+/// Writes a code's printed text and a blank from an index on, and answers the index after them. What stands before them stays.
+/// It asks for an order and numbers within the limits, and for room.
 #[inline(always)]
-fn write_cell(buffer: &mut [u8], at: usize, code: Code) -> usize
+pub fn write_cell(buffer: &mut [u8], at: usize, code: Code) -> usize
     requires printable { IsPrintable code }
     requires room { at + length (code_text code) + 3 ≤ length buffer.old }
     ensures written { take result buffer.new ≡ take at buffer.old ++ (code_text code ++ 32 ∷ []) }

@@ -16,7 +16,7 @@ pub mod text;
 
 pub use code::{
     Code, code_before_blank, code_print, code_print_cell, code_read, step_before_blank,
-    step_print_cell,
+    step_print_cell, write_cell,
 };
 pub use crx_lines::{
     At, Fault, Line, LineReader, ReadFailed, Sink, Source, Std, WriteFailed, write_all_counted,

@@ -1,6 +1,5 @@
 use Rattle.std.proofs.Common.{◌++◌, ◌∷◌, [], List, ℕ, Option, sym, ap, ◌∙◌, arith}
 use Rattle.std.proofs.lemmas.List.{take_more_set, length-set}
-use Rattle.crx_text.specs.Columns.{without_end_blanks}
 use Rattle.crx_rinex.specs.Observations.{Row}
 use Rattle.crx_compact.specs.Tails.{RowTail}
 use Rattle.crx_compact.specs.Sequences.{named}
@@ -22,9 +21,9 @@ loop-row-preserved c =
           (take_more_set c.make_room.new.satellites.items index c.encode.new.self room ∙ ap (λ xs. xs ++ c.encode.new.self ∷ []) (c.make_room.ensures.same index c.loop-row.invariant.within))
           (c.in_ok-encode.ensures.after ∙ ap (λ (kept : Option RowTail). row_tail_after kept row) found);
       lent =
-          made-more (row_line_in before) c.args.lines.now c.args.epoch.now.rows index row _ _ (without_end_blanks c.encode.new.desk.line.items) c.loop-row.invariant.lent (sym c.in-Some.ensures.value)
-          c.in_ok-end_line.ensures
-          (c.in_ok-encode.ensures.line ∙ ap (λ (kept : Option RowTail). row_line_after kept row) found);
+          made-more (row_line_in before) c.args.lines.now c.args.epoch.now.rows index row _ _ _ c.loop-row.invariant.lent (sym c.in-Some.ensures.value)
+          c.in_ok-encode.ensures.line
+          (ap (λ (kept : Option RowTail). row_line_after kept row) found);
     }
 
 pub returns-clause-after : goal.returns-clause-after

@@ -36,17 +36,17 @@ pub returns-clause-lines : goal.returns-clause-lines
 returns-clause-lines c =
     let epoch = c.args.epoch.now in
     rw (← c.before-2.view_is)
-    (lines-one-by_one c.args.lines.now c.push_line.new.lines c.push_code_line.new.lines c.encode_rows.new.lines _ _ _
-    (c.in_ok-push_line.ensures
+    (lines-one-by_one c.args.lines.now c.push_change.new.lines c.push_code.new.lines c.encode_rows.new.lines _ _ _
+    (c.in_ok-push_change.ensures
     ∙ ap (λ t. c.args.lines.now ++ text_difference t c.deref-2.result.now ∷ []) c.deref.ensures.value
     ∙ ap (λ t. c.args.lines.now ++ text_difference c.before-2.inside.text.items t ∷ []) (c.deref-2.ensures.value ∙ c.in_ok-renew_text.ensures.ok)
     ∙ ap (λ t. c.args.lines.now ++ t ∷ []) (difference-trimmed c.before-2.inside.text.items (epoch_text epoch)))
-    (c.in_ok-push_code_line.ensures
-    ∙ ap (λ (k : Code). c.push_line.new.lines ++ code_text k ∷ [])
+    (c.in_ok-push_code.ensures
+    ∙ ap (λ (k : Code). c.push_change.new.lines ++ code_text k ∷ [])
     (c.push.ensures.code
     ∙ ap (λ (v : Option ℤ). code_of_value v c.copied-self-inside.result) (c.clock.ensures.value ∙ c.head.ensures.clock)
     ∙ ap (λ (arc : Option ArcTail). code_of_value epoch.clock arc) c.copied-self-inside.ensures))
-    (c.in_ok-encode_rows.ensures.lines ∙ ap (λ (t : Tail). c.push_code_line.new.lines ++ map (row_line_in t.rows) epoch.rows) (sym c.before-2.view_is)))
+    (c.in_ok-encode_rows.ensures.lines ∙ ap (λ (t : Tail). c.push_code.new.lines ++ map (row_line_in t.rows) epoch.rows) (sym c.before-2.view_is)))
 
 pub invariant_of-self-2 : goal.invariant_of-self-2
 invariant_of-self-2 c =

@@ -1,9 +1,9 @@
 use Rattle.std.proofs.Common.{arith, ap, length}
 use Rattle.crx_compact.proofs.Making.{ok-unless}
-use Rattle.crx_compact.proofs.held.Desk.push_code_line.Goals as goal
+use Rattle.crx_compact.proofs.held.push_code.Goals as goal
 use Rattle.crx_text.proofs.CodeTexts.{code_text_length}
 
--- a line has room for a code
+-- an empty text has room for a code
 pub unwrap-requires : goal.unwrap-requires
 unwrap-requires c =
     let short = code_text_length c.args.code c.requires in
