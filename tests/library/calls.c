@@ -3,6 +3,7 @@
  *
  *     calls            takes calls from standard input, and writes their answers to standard output
  *     calls THREADS N  compacts and expands the bytes of standard input N times in each of so many threads
+ *     calls limit      calls with an input that is a byte longer than the limit, of which no byte can be read
  *
  * A call is its kind (0 compact, 1 expand, 2 check), whether faults are skipped, whether pointers to rooms of length 0 are NULL (a byte
  * each), the number of epochs, the lengths of the two rooms, of the date and of the input (8 bytes each), the date and the input. An
@@ -152,7 +153,36 @@ static int in_threads(int count) {
     return wrong != 0;
 }
 
+/* ---- an input over the limit */
+
+static int over_the_limit(void) {
+    const size_t length = ((size_t)1 << 40) + 1;
+    const rnxcmp_options bad_date = {0, 0, "a date of more than 20 bytes"};
+    void *input = mmap(NULL, length, PROT_NONE, MAP_PRIVATE | MAP_ANONYMOUS | MAP_NORESERVE, -1, 0);
+    if (input == MAP_FAILED) {
+        return 77;
+    }
+    int wrong = 0;
+    for (int kind = 0; kind < 4; kind++) {
+        guarded output = guard(100), messages = guard(100);
+        rnxcmp_answer answer;
+        int status = called(kind % 3, input, length, kind == 3 ? &bad_date : NULL, output, 100, messages, 100, 0, &answer);
+        wrong += status != (kind == 3 ? RNXCMP_BAD_DATE : RNXCMP_FAULT) || answer.code != (kind == 3 ? 0 : RNXCMP_INPUT_TOO_LONG);
+        wrong += answer.line != 0 || answer.output_length != 0 || answer.messages_length != 0;
+        for (int k = 0; k < 100; k++) {
+            wrong += output.start[k] != '#' || messages.start[k] != '#';
+        }
+        release(output);
+        release(messages);
+    }
+    munmap(input, length);
+    return wrong != 0;
+}
+
 int main(int count, char **words) {
+    if (count == 2) {
+        return over_the_limit();
+    }
     if (count == 3) {
         rounds = atoi(words[2]);
         return in_threads(atoi(words[1]));

@@ -398,6 +398,12 @@ def build_calls(work):
     return None, [built.stderr[-2000:]]
 
 
+def check_limit(calls):
+    """An input over the limit is refused before any byte of it is read."""
+    status = subprocess.run([calls, "limit"], timeout=100).returncode
+    return "there is no such address space" if status == 77 else [f"status {status}"] if status else []
+
+
 def checks_of_c(program, work, count):
     calls, lacking = build_calls(work)
     if calls is None:
@@ -408,6 +414,7 @@ def checks_of_c(program, work, count):
     yield "refused dates", lambda: check_date(server)
     yield f"{count} random and damaged inputs", lambda: check_random(program, server, count)
     yield "no leak", server.close
+    yield "an input over the limit", lambda: check_limit(calls)
     yield "four threads", lambda: [] if subprocess.run([calls, "4", "20"], input=SAMPLE.read_bytes(), timeout=100).returncode == 0 else ["a thread got something else"]
 
 
