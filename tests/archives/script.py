@@ -3,8 +3,10 @@
 import gzip
 import os
 import shutil
+import signal
 import subprocess
 import tempfile
+import time
 from pathlib import Path
 
 TOP = Path(__file__).resolve().parents[2]
@@ -169,6 +171,20 @@ def full_disk(program, words):
         return place.differs(run, 1, ["a.rnx"], ["ERROR: cannot write"])
 
 
+def asked_to_end(program):
+    """A batch system asks all processes of a run to end: the input stays, and nothing else is left."""
+    with Place(program, "a.rnx", GOOD, {"rnxcmp": "#!/bin/sh\ntouch begun\nexec sleep 50\n"}) as place:
+        command = [place.bin / "rnxcmp-file", "rnx2crx", "--delete", "a.rnx"]
+        with subprocess.Popen(command, cwd=place.work, stdin=subprocess.DEVNULL, stderr=subprocess.DEVNULL, start_new_session=True) as run:
+            until = time.monotonic() + SECONDS
+            while not (place.work / "begun").exists() and time.monotonic() < until:
+                time.sleep(0.05)
+            os.killpg(run.pid, signal.SIGTERM)
+            run.wait(timeout=SECONDS)
+        left = place.files() - {"begun"}
+        return [] if run.returncode == 143 and left == {"a.rnx"} else [f"status {run.returncode}, files {sorted(left)}"]
+
+
 def failing(name, exit_status):
     return f"#!/bin/sh\necho '{name}: it fails' >&2\nexit {exit_status}\n"
 
@@ -211,6 +227,7 @@ def checks(program):
         ("rm fails", lambda: fails(program, "rm", '#!/bin/sh\ncase "$*" in *a.rnx) exit 1 ;; esac\nexec /bin/rm "$@"\n', delete, files=("a.rnx", "a.crx"), messages=["cannot remove"])),
         ("the program can't be started", lambda: fails(program, "rnxcmp", failing("rnxcmp", 127), delete, 127, messages=["127"])),
         ("the program is killed", lambda: fails(program, "rnxcmp", "#!/bin/sh\nkill -9 $$\n", delete, 137, messages=["137"])),
+        ("a run that is asked to end", lambda: asked_to_end(program)),
         ("the program writes something else", lambda: fails(program, "rnxcmp", '#!/bin/sh\n[ "$1" = check ] && exit 0\nhead -c 500\n', delete, messages=["not verified"])),
     ):
         yield f"rnxcmp-file: {name}", check
