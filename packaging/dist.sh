@@ -10,7 +10,11 @@ object=$1
 to=$2
 top=$(cd "$(dirname "$0")/.." && pwd)
 [ -f "$object" ] || { echo "no object file $object: run make first" >&2; exit 1; }
-: "${SOURCE_DATE_EPOCH:=$(git -C "$top" log -1 --format=%ct)}"
+if [ -e "$top/.git" ]; then
+    : "${SOURCE_DATE_EPOCH:=$(git -C "$top" log -1 --format=%ct)}"
+else # unpacked from a source archive, whose files have the commit's time
+    : "${SOURCE_DATE_EPOCH:=$(stat -c %Y "$top/VERSION")}"
+fi
 export SOURCE_DATE_EPOCH
 version=$(cat "$top/VERSION")
 kit=$(dirname "$(dirname "$(readlink -f "$(command -v rt)")")")
@@ -57,6 +61,8 @@ find "$root" -exec touch -h -d "@$SOURCE_DATE_EPOCH" {} +
 dpkg-deb --root-owner-group -Zgzip -z9 --build "$root" "$to/rnxcmp_${version}_amd64.deb" > /dev/null
 
 # the source archive
-git -C "$top" archive --format=tar --prefix="rnxcmp-$version/" HEAD | gzip -9n > "$to/rnxcmp-$version.tar.gz"
+if [ -e "$top/.git" ]; then
+    git -C "$top" archive --format=tar --prefix="rnxcmp-$version/" HEAD | gzip -9n > "$to/rnxcmp-$version.tar.gz"
+fi
 
 (cd "$to" && sha256sum -- *.tar.gz *.deb > SHA256SUMS)

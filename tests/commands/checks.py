@@ -138,6 +138,14 @@ def check_pages_strictly(prefix):
     return wrong
 
 
+def check_help(program):
+    """Each page of the help fits a terminal, that of the script too."""
+    calls = [[program, *words, "--help"] for words in ([], ["rnx2crx"], ["crx2rnx"], ["check"])] + [[TOP / "packaging/bin/rnxcmp-file", "--help"]]
+    texts = [subprocess.run(call, capture_output=True, text=True, timeout=60).stdout for call in calls]
+    wide = [f"wide: {line!r}" for text in texts for line in text.splitlines() if len(line) > WIDTH]
+    return wide + ["no help" for text in texts if not text]
+
+
 def check_completions(prefix, folder):
     """What bash completes, by the file that is installed for each name; and that fish finds a file for each."""
     for name in ("abcd0010.24o", "a.crx", "b c.rnx"):
@@ -182,4 +190,5 @@ def checks(program):
         yield "installed: the other names", lambda: check_installed(prefix, folder)
         yield "installed: manual pages", lambda: check_pages(prefix)
         yield "installed: manual pages, by mandoc", lambda: check_pages_strictly(prefix)
+        yield "help: 80 columns", lambda: check_help(program)
         yield "installed: completions", lambda: check_completions(prefix, folder)

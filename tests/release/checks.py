@@ -30,9 +30,9 @@ def lacking(program):
     return "there is no static C library" if static.returncode else None
 
 
-def made(program, folder):
+def made(program, folder, top=TOP):
     """Makes a release: what went wrong, as lines."""
-    run = subprocess.run([TOP / "packaging/dist.sh", f"{program}.o", folder], capture_output=True, text=True, timeout=SECONDS)
+    run = subprocess.run([top / "packaging/dist.sh", f"{program}.o", folder], capture_output=True, text=True, timeout=SECONDS)
     return [] if run.returncode == 0 and not run.stderr else [f"status {run.returncode}, {run.stderr!r}"]
 
 
@@ -101,9 +101,22 @@ def check_source(made_in, folder):
     return [] if found == set(listed.split("\0")) - {""} else ["other files than those of the commit"]
 
 
-def check_version():
-    """The manual pages and the list of changes say the version that stands in VERSION."""
+def check_made_from_source(program, made_in, folder):
+    """The unpacked source archive, in another folder and without git, makes the same archive and package."""
+    changed = subprocess.run(["git", "status", "--porcelain"], cwd=TOP, capture_output=True, text=True, check=True).stdout
+    if changed:
+        return "there are changes that aren't committed"
+    again = folder / "again"
+    wrong = made(program, again, folder / f"rnxcmp-{VERSION}")
+    names = (f"rnxcmp-{VERSION}-linux-x86_64.tar.gz", f"rnxcmp_{VERSION}_amd64.deb")
+    return wrong or [f"{name} differs" for name in names if (again / name).read_bytes() != (made_in / name).read_bytes()]
+
+
+def check_version(program):
+    """The help, the manual pages and the list of changes say the version that stands in VERSION."""
     wrong = [] if re.fullmatch(r"[0-9]+\.[0-9]+\.[0-9]+", VERSION) else [f"VERSION: {VERSION!r}"]
+    text = subprocess.run([program, "--help"], capture_output=True, text=True, timeout=SECONDS).stdout
+    wrong += [] if text.startswith(f"rnxcmp {VERSION}: ") else [f"help: {text[:40]!r}"]
     for page in sorted((TOP / "packaging/man").glob("*.1")):
         wrong += [] if '"rnxcmp @VERSION@"' in page.read_text() and VERSION not in page.read_text() else [f"{page.name} has a version of its own"]
     newest = re.search(r"^## (.*)$", (TOP / "CHANGELOG.md").read_text(), re.M)[1]
@@ -120,7 +133,7 @@ def check_notices():
 
 
 def checks(program):
-    yield "the version", check_version
+    yield "the version", lambda: check_version(program)
     yield "the notices", check_notices
     with tempfile.TemporaryDirectory() as name:
         folder = Path(name)
@@ -131,5 +144,6 @@ def checks(program):
             ("the archive", lambda: check_archive(one, folder / "archive")),
             ("the package", lambda: check_package(one, folder / "package")),
             ("the source archive", lambda: check_source(one, folder / "source")),
+            ("made from the source archive", lambda: check_made_from_source(program, one, folder / "source")),
         ):
             yield title, (lambda check=check: reason or check())

@@ -7,7 +7,8 @@ ghost use Rattle.rnxcmp.specs.Commands.{checker, crx2rnx, date_rule, every_rule,
 use clap::{Arg, ArgAction, Command, value_parser};
 use std::alloc::{AllocError, Global};
 
-const ABOUT: &str = "Compacts and expands RINEX 3.0x observation files, and checks them";
+// The version is that of the file VERSION; tests/release compares.
+const ABOUT: &str = "rnxcmp 1.0.0: compacts, expands and checks RINEX 3.0x observation files";
 
 const HELP: &str = "\
 What goes in and out:
@@ -19,11 +20,15 @@ Names: without a file name standard input is read, and without one or with `-`
 standard output is written. Else the output file is named after the input file:
   .rnx <-> .crx   .RNX <-> .CRX   .24o <-> .24d   .24O <-> .24D   (any year)
 
+Whole folders: see rnxcmp-file --help, which does one file and loses nothing.
+
 Messages go to standard error, one line each:
   ERROR line 7 code 18: bad indicator
 
-Exit status: 0 all went well; 1 an error ended the run, or the words or the files
-aren't right; 2 there were warnings (with -s), or the file isn't standard (check).
+Exit status: 0 all went well; 1 an error ended the run, or the words or files
+aren't right; 2 there were warnings (-s), or the file isn't standard (check);
+126, 127 the program can't be started (127 too where the processor is older than
+x86-64-v2); 137 it was killed, as where a job has too little memory.
 
 Examples:
   rnxcmp rnx2crx abcd0010.24o            # writes abcd0010.24d
@@ -34,9 +39,10 @@ const RNX2CRX_ABOUT: &str = "Compacts a RINEX 3.0x observation file";
 
 const RNX2CRX_HELP: &str = "\
 In: a RINEX 3.0x observation file. Out: Compact RINEX 3.0.
-Without FILE standard input is read. Without FILE, or with `-`, standard output is
-written; else the output is FILE with another ending: .rnx becomes .crx, .RNX .CRX,
-.24o .24d and .24O .24D (any year). A file that exists is overwritten only with -f.
+Without FILE standard input is read. Without FILE, or with `-`, standard output
+is written; else the output is FILE with another ending: .rnx becomes .crx, .RNX
+.CRX, .24o .24d and .24O .24D (any year). A file that exists is overwritten only
+with -f.
 
 Exit status: 0 all went well; 1 an error ended the run (what was written stays);
 2 epochs were skipped with warnings (-s).
@@ -50,9 +56,10 @@ const CRX2RNX_ABOUT: &str = "Expands Compact RINEX 3.0";
 
 const CRX2RNX_HELP: &str = "\
 In: Compact RINEX 3.0. Out: the RINEX 3.0x observation file that it stands for.
-Without FILE standard input is read. Without FILE, or with `-`, standard output is
-written; else the output is FILE with another ending: .crx becomes .rnx, .CRX .RNX,
-.24d .24o and .24D .24O (any year). A file that exists is overwritten only with -f.
+Without FILE standard input is read. Without FILE, or with `-`, standard output
+is written; else the output is FILE with another ending: .crx becomes .rnx, .CRX
+.RNX, .24d .24o and .24D .24O (any year). A file that exists is overwritten only
+with -f.
 
 Exit status: 0 all went well; 1 an error ended the run (what was written stays);
 2 epochs were skipped with warnings (-s).
@@ -67,10 +74,11 @@ const CHECK_HELP: &str = "\
 In: a RINEX 3.0x observation file, FILE or else standard input. Out, on standard
 output, six lines: format, systems with their counts of types, epochs, events,
 observations, and standard `yes` or `no` with the number of the first line that
-isn't. A standard file comes back byte for byte when it is compacted and expanded.
+isn't. A standard file comes back byte for byte when it is compacted and
+expanded.
 `-` has no effect.
 
-Exit status: 0 standard; 1 an error, and no report; 2 accepted, but not standard.
+Exit status: 0 standard; 1 an error, no report; 2 accepted, but not standard.
 
 Examples:
   rnxcmp check abcd0010.24o
@@ -91,7 +99,7 @@ fn every_option<'a>(alloc: Global) -> Arg<'a>
         .short('e')
         .value_name("N")
         .value_parser(value_parser!(u32).range(1..=1_000_000))
-        .help("Start everything anew at every N epochs, N from 1 to 1000000")
+        .help("Start everything anew at every N epochs, at most 1000000")
 }
 
 /// `--date TEXT`.
@@ -99,9 +107,10 @@ fn date_option<'a>(alloc: Global) -> Arg<'a>
     ensures rule { rule_of result ≡ date_rule }
     ensures local { result.global ≡ false }
 {
-    Arg::new(alloc, "date").long("date").value_name("TEXT").help(
-        "The date in line 2 of the output, at most 20 bytes [default: now]",
-    )
+    Arg::new(alloc, "date")
+        .long("date")
+        .value_name("TEXT")
+        .help("The date in line 2, at most 20 bytes [default: now]")
 }
 
 /// A flag of one letter.
@@ -238,7 +247,7 @@ mod tests {
             assert!(rt; text.contains(*part), "{part}: {text}");
         }
         for line in text.lines() {
-            assert!(rt; line.len() <= 90, "{line}");
+            assert!(rt; line.len() <= 80, "{line}");
         }
     }
 
