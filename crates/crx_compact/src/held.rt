@@ -447,7 +447,7 @@ impl HeldSatellite {
             Err(fault) => return Err(fault),
         };
         self.name = satellite.name();
-        renew_flags(flags, count, &line[at..], row, &mut self.flags, part)
+        read_indicators(flags, count, &line[at..], row, &mut self.flags, part)
     }
 }
 
@@ -486,7 +486,7 @@ fn held_flags(flags: &[u8], count: usize) -> &[u8]
 ///
 /// `BadFlags` comes as by [`read_marks`], then `OutOfMemory` where something can't grow.
 #[inline(always)]
-fn renew_flags(
+fn read_indicators(
     before: &[u8],
     count: usize,
     marks: &[u8],
