@@ -163,6 +163,7 @@ def ci(program):
 def crates():
     """The crates and the libraries of this repository that each stands on, each after these."""
     lines = [line.split(":") for line in (TOP / "crates.txt").read_text().splitlines() if line and not line.startswith("#")]
+    lines = [(first.split()[0], libraries) for first, libraries in lines]  # `staticlib` may stand after a name
     names = {name for name, _ in lines}
     below = {name: [it for it in libraries.split() if it in names] for name, libraries in lines}
     ordered = []
