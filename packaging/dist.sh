@@ -10,6 +10,9 @@ object=$1
 to=$2
 top=$(cd "$(dirname "$0")/.." && pwd)
 [ -f "$object" ] || { echo "no object file $object: run make first" >&2; exit 1; }
+for tool in rt gcc dpkg-deb python3; do
+    command -v "$tool" > /dev/null || { echo "there is no $tool, which a release needs" >&2; exit 1; }
+done
 if [ -e "$top/.git" ]; then
     : "${SOURCE_DATE_EPOCH:=$(git -C "$top" log -1 --format=%ct)}"
 else # unpacked from a source archive, whose files have the commit's time
