@@ -24,7 +24,7 @@ ghost use Rattle.crx_compact.specs.Tails.{RowTail};
 use crate::arc::ObsArc;
 use crate::awaited::AwaitedSatellite;
 use crate::lines::{Lines, put_text};
-use crx_lines::limits::NAME_WIDTH;
+use crx_lines::limits::{DIGITS_LIMIT, NAME_WIDTH};
 use crx_rinex::{SatRow, after_columns, all_blank, begins_epoch};
 use crx_text::difference::{append_difference, patch_bytes};
 use crx_text::{
@@ -33,8 +33,8 @@ use crx_text::{
 use std::alloc::{AllocError, Global};
 use std::marker::Model;
 
-/// The most bytes of a cell in a satellite line: a code and a blank.
-pub(crate) const CELL_ROOM: usize = 22;
+/// The room for a cell in a satellite line: a code, with its sign, order and `&`, its blank, and what its digits are written with.
+pub(crate) const CELL_ROOM: usize = DIGITS_LIMIT + 6;
 
 /// Leaves in a text what changes from a text to another one.
 #[inline]

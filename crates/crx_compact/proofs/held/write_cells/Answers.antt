@@ -2,13 +2,14 @@ use Rattle.std.proofs.Common.{◌≡◌, ◌<◌, ◌≤◌, ◌+◌, ◌*◌, O
 use Rattle.std.proofs.lemmas.List.{take_more_set, length-set}
 use Rattle.crx_compact.specs.Tails.{ArcTail}
 use Rattle.crx_compact.proofs.Making.{cells-more, some-there}
+use Rattle.crx_compact.specs.declared.held.TheConstants.{CELL_ROOM}
 use Rattle.crx_compact.proofs.held.write_cells.Goals as goal
 
 pub write_value-end-requires-clause-room : goal.write_value-end-requires-clause-room
 write_value-end-requires-clause-room c =
     let there : c.loop-value.place < length c.args.row.now.values = some-there _ _ _ (sym c.in-Some.ensures.value) in
     let long : length c.loop-value.bytes ≡ length c.args.bytes.now = c.loop-value.invariant.long in
-    let within : c.loop-value.end ≤ c.args.at + 22 * c.loop-value.place = c.loop-value.invariant.within in
+    let within : c.loop-value.end ≤ c.args.at + CELL_ROOM * c.loop-value.place = c.loop-value.invariant.within in
     let room = c.requires.room in
     omega (arith, there, long, within, room)
 
@@ -18,7 +19,7 @@ loop-value-preserved c =
     let there : place < length c.args.row.now.values = some-there _ _ _ (sym c.in-Some.ensures.value) in
     let counted : length c.loop-value.arcs ≡ length c.args.row.now.values = c.loop-value.invariant.counted in
     let long : length c.loop-value.bytes ≡ length c.args.bytes.now = c.loop-value.invariant.long in
-    let within : c.loop-value.end ≤ c.args.at + 22 * place = c.loop-value.invariant.within in
+    let within : c.loop-value.end ≤ c.args.at + CELL_ROOM * place = c.loop-value.invariant.within in
     let same = c.write_value-end.auto.bytes in
     let next = c.write_value-end.ensures.within in
     let on = c.write_value-end.ensures.from in
