@@ -196,4 +196,8 @@ impl Engine for Checker {
         }
         None
     }
+
+    fn take_text(&mut self) -> Option<&[u8]> {
+        None
+    }
 }

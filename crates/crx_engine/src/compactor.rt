@@ -17,7 +17,7 @@ pub struct Compactor {
 }
 
 impl Compactor {
-    ghost use Rattle.std.specs.Prelude.{◌≡◌, ◌+◌, ◌≤◌, ◌<◌, ◌⊎◌, ◌↔◌, List, [], drop, length, slice_get, OnOk, OnErr, IfOk, IfErr, Err, IsTrue, true, false};
+    ghost use Rattle.std.specs.Prelude.{◌≡◌, ◌+◌, ◌≤◌, ◌<◌, ◌⊎◌, ◌↔◌, List, [], drop, length, slice_get, if◌then◌else◌, is_some, OnOk, OnErr, IfSome, IfOk, IfErr, Err, IsTrue, true, false};
     ghost use Rattle.std.specs.Borrow.{sem};
     ghost use Rattle.std.specs.Io.BufRead.{Rests};
     ghost use Rattle.std.specs.Option.{option_copied};
@@ -31,6 +31,7 @@ impl Compactor {
     ghost use Rattle.crx_engine.specs.EngineSteps.{Steps, step_made};
     ghost use Rattle.crx_engine.specs.Compactors.{compactor_seen, compactor_ready, compactor_took};
     ghost use Rattle.crx_engine.specs.Directions.{compaction_filter};
+    ghost use Rattle.crx_engine.specs.Results.{lines_text};
     ghost use Rattle.crx_engine.specs.Engines.{Answers, answer_given, Awaited, Concludes, IsAwaited};
     ghost use Rattle.crx_engine.specs.contracts.compactor.Compactor.{the_row};
 
@@ -62,6 +63,14 @@ impl Compactor {
         ensures* after_borrow { sem 𝓛 (Rests the_row self.entry (λ new. (compactor_ready new ≡ drop 1 (compactor_ready self.old)) × (compactor_seen new ≡ compactor_seen self.old))) }
     {
         self.ready.next_line()
+    }
+
+    /// Lends all lines that are ready as one text, each followed by LF; `None` where the next one is copied, and then they stay.
+    pub(crate) fn take_text(&mut self) -> Option<&[u8]>
+        ensures value { IfSome result (λ text. text.now ≡ lines_text (compactor_ready self.old)) }
+        ensures* after_borrow { sem 𝓛 (Rests the_row self.entry (λ new. (compactor_ready new ≡ (if is_some result then [] else compactor_ready self.old)) × (compactor_seen new ≡ compactor_seen self.old))) }
+    {
+        self.ready.take_text()
     }
 
     /// Takes the next line. `Quiet`: nothing is to be written yet; `Ready`: [`Compactor::next_line`] lends the lines; `Warned`: a fault is

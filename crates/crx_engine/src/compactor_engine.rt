@@ -46,4 +46,8 @@ impl Engine for Compactor {
     fn next_line(&mut self) -> Option<&[u8]> {
         Compactor::next_line(self)
     }
+
+    fn take_text(&mut self) -> Option<&[u8]> {
+        Compactor::take_text(self)
+    }
 }

@@ -1,6 +1,6 @@
 //! Engines: what takes the lines of an input one at a time, and lends what is to be written.
 
-ghost use Rattle.std.specs.Prelude.{◌≡◌, ◌≤◌, ◌+◌, ℕ, List, [], drop, length, slice_get, Result, IfOk, IsTrue, OnErr, true};
+ghost use Rattle.std.specs.Prelude.{◌≡◌, ◌≤◌, ◌+◌, ℕ, List, [], drop, length, slice_get, Result, if◌then◌else◌, is_some, IfOk, IfSome, IsTrue, OnErr, true};
 ghost use Rattle.std.specs.Borrow.{sem};
 ghost use Rattle.std.specs.Io.BufRead.{Rests};
 ghost use Rattle.std.specs.Option.{option_copied};
@@ -8,7 +8,7 @@ ghost use Rattle.crx_lines.specs.Lines.{InputLine, is_long};
 ghost use Rattle.crx_lines.specs.Reading.{line_shown, line_number};
 ghost use Rattle.crx_lines.specs.declared.fault.At.{At};
 ghost use Rattle.crx_lines.specs.declared.limits.TheConstants.{INPUT_LIMIT};
-ghost use Rattle.crx_engine.specs.Filters.{Filter};
+ghost use Rattle.crx_engine.specs.Filters.{Filter, lines_text};
 ghost use Rattle.crx_engine.specs.Engines.{Answers, answer_given, Awaited, IsAwaited, Concludes, IsDrainedAfter, taken_after};
 
 use crx_text::{At, Line};
@@ -114,6 +114,16 @@ pub trait Engine {
         ensures value { option_copied result ≡ slice_get (ready self.old) 0 }
         ensures* after_borrow { sem 𝓛 (Rests Self.row self.entry (λ new.
             (ready new ≡ drop 1 (ready self.old)) × (filter new ≡ filter self.old)
+            × ((lines : List InputLine) (notices : List Awaited) → shows self.old lines notices → shows new lines notices)
+            × (is_open self.old → is_open new)
+            × ((lines : List InputLine) → has_ended self.old lines → has_ended new lines))) };
+
+    /// Lends all lines that are ready as one text, each followed by LF, after which none is left. After `None` they stay as they
+    /// are, and [`Engine::next_line`] lends them.
+    fn take_text(&mut self) -> Option<&[u8]>
+        ensures value { IfSome result (λ text. text.now ≡ lines_text (ready self.old)) }
+        ensures* after_borrow { sem 𝓛 (Rests Self.row self.entry (λ new.
+            (ready new ≡ (if is_some result then [] else ready self.old)) × (filter new ≡ filter self.old)
             × ((lines : List InputLine) (notices : List Awaited) → shows self.old lines notices → shows new lines notices)
             × (is_open self.old → is_open new)
             × ((lines : List InputLine) → has_ended self.old lines → has_ended new lines))) };

@@ -46,4 +46,8 @@ impl Engine for Expander {
     fn next_line(&mut self) -> Option<&[u8]> {
         Expander::next_line(self)
     }
+
+    fn take_text(&mut self) -> Option<&[u8]> {
+        None
+    }
 }

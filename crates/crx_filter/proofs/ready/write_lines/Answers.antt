@@ -3,7 +3,7 @@ use Rattle.crx_lines.specs.Lines.{InputLine}
 use Rattle.crx_engine.specs.Engines.{Awaited}
 use Rattle.crx_engine.specs.Filters.{lines_text}
 use Rattle.crx_engine.proofs.ReadyLines.{first-and-rest, one-written, part-written}
-use Rattle.crx_filter.proofs.ready.write_ready.Goals as goal
+use Rattle.crx_filter.proofs.ready.write_lines.Goals as goal
 
 pub returns-in-Err-clause-part : goal.returns-in-Err-clause-part
 returns-in-Err-clause-part g c =
