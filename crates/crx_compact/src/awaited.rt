@@ -12,9 +12,8 @@ ghost use Rattle.crx_compact.specs.CompactPlaces.{satellites_of_text};
 ghost use Rattle.crx_compact.specs.Tails.{RowTail};
 ghost use Rattle.crx_compact.specs.EpochText.{Satellite, names_in, satellites_named};
 
-use crate::kept::KeptEpoch;
 use crx_lines::limits::{HEAD_WIDTH, NAME_WIDTH};
-use crx_rinex::{EpochLine, Types, after_columns, all_blank, padded, types_of_satellite};
+use crx_rinex::{EpochLine, Identifiers, Types, after_columns, all_blank, padded, types_of_satellite};
 use crx_text::Fault;
 use std::marker::Model;
 
@@ -54,34 +53,7 @@ impl AwaitedSatellite {
     }
 }
 
-/// Whether some satellites have one of this identifier.
-fn has_name(satellites: &[AwaitedSatellite], name: [u8; NAME_WIDTH]) -> bool
-    ensures { result ≡ list_any (λ (s : Satellite). bytes_eq s.name name) satellites.now }
-{
-    satellites.iter().any(|known| known.name() == name)
-}
-
-/// The same, where it may be known already that none has it.
-fn is_repeated(satellites: &[AwaitedSatellite], name: [u8; NAME_WIDTH], is_new: bool) -> bool
-    requires { is_new ≡ true → list_any (λ (s : Satellite). bytes_eq s.name name) satellites.now ≡ false }
-    ensures { result ≡ list_any (λ (s : Satellite). bytes_eq s.name name) satellites.now }
-{
-    if is_new {
-        return false;
-    }
-    has_name(satellites, name)
-}
-
-/// Whether the identifiers so far, and this one, are those of the epoch before, each of another satellite.
-fn keeps_step(is_in_step: bool, before: &KeptEpoch, place: usize, name: [u8; NAME_WIDTH]) -> bool
-    ensures so_far { OnTrue result (is_in_step ≡ true) }
-    ensures new { OnTrue result (is_among (λ (row : RowTail). row.name) name (take place before.now.rows) ≡ false) }
-    ensures next { OnTrue result (map (λ (row : RowTail). row.name) (take (place + 1) before.now.rows) ≡ map (λ (row : RowTail). row.name) (take place before.now.rows) ++ name ∷ []) }
-{
-    is_in_step && before.has_at(place, name)
-}
-
-/// Reads so many identifiers after the columns of an epoch text, from left to right; mostly they are those of the epoch before.
+/// Reads so many identifiers after the columns of an epoch text, from left to right, and puts each at its place.
 ///
 /// `BadSatellite` comes where one is spelt as none of a system that has types, then `RepeatedSatellite` where it stands
 /// before already; `OutOfMemory` where the satellites can't grow.
@@ -89,7 +61,7 @@ fn read_names(
     types: &Types,
     text: &[u8],
     count: usize,
-    before: &KeptEpoch,
+    names: &mut Identifiers,
     satellites: &mut Vec<AwaitedSatellite>,
 ) -> Result<(), Fault>
     requires none { satellites.old.items ≡ [] }
@@ -98,15 +70,15 @@ fn read_names(
     ensures err { IfErr result (λ fault. (satellites_named types.now [] (names_in text.now count) ≡ Err fault)
         ⊎ (fault ≡ Fault.OutOfMemory)) }
 {
-    let mut is_in_step = true;
     for place in 0..count {
         let name = padded(text, HEAD_WIDTH + 1 + NAME_WIDTH * place);
         let Some(types) = types_of_satellite(types, &name) else {
             return Err(Fault::BadSatellite);
         };
-        is_in_step = keeps_step(is_in_step, before, place, name);
-        if is_repeated(satellites, name, is_in_step) {
-            return Err(Fault::RepeatedSatellite);
+        match names.put(place, name) {
+            Ok(true) => {}
+            Ok(false) => return Err(Fault::RepeatedSatellite),
+            Err(_) => return Err(Fault::OutOfMemory),
         }
         if satellites
             .push(AwaitedSatellite { name, count: types })
@@ -125,7 +97,7 @@ fn read_names(
 pub(crate) fn read_satellites(
     types: &Types,
     text: &[u8],
-    before: &KeptEpoch,
+    names: &mut Identifiers,
     satellites: &mut Vec<AwaitedSatellite>,
 ) -> Result<(), Fault>
     requires { satellites.old.items ≡ [] }
@@ -139,5 +111,5 @@ pub(crate) fn read_satellites(
     if !all_blank(after_columns(text, HEAD_WIDTH + NAME_WIDTH * count)) {
         return Err(Fault::BadEpoch);
     }
-    read_names(types, text, count, before, satellites)
+    read_names(types, text, count, names, satellites)
 }

@@ -6,7 +6,7 @@ ghost use Rattle.std.specs.List.{list_all};
 ghost use Rattle.crx_text.specs.Columns.{without_end_blanks};
 ghost use Rattle.crx_text.specs.Texts.{is_kept};
 ghost use Rattle.crx_lines.specs.declared.limits.TheConstants.{LINE_LIMIT};
-ghost use Rattle.crx_rinex.specs.Epochs.{are_apart, is_among, IsSoundEpoch};
+ghost use Rattle.crx_rinex.specs.Epochs.{IsSoundEpoch};
 ghost use Rattle.crx_compact.specs.Compaction.{epoch_text};
 ghost use Rattle.crx_text.specs.Texts.{patched};
 ghost use Rattle.crx_text.specs.Numbers.{IsClock};
@@ -15,7 +15,7 @@ ghost use Rattle.crx_compact.specs.CompactPlaces.{clock_line_read, satellites_of
 ghost use Rattle.crx_compact.specs.OpenEpochs.{past_of_tail};
 ghost use Rattle.crx_compact.specs.Steps.{arc_of_code, lines_after, no_tail, row_line_in, row_tail_in, tail_after};
 ghost use Rattle.crx_compact.specs.Sequences.{named};
-ghost use Rattle.crx_compact.specs.Tails.{RowTail};
+ghost use Rattle.crx_compact.specs.Tails.{RowTail, AreNamed};
 ghost use Rattle.crx_compact.specs.HeldRows.{row_after, IsNextRow};
 
 use crate::arc::ClockArc;
@@ -23,7 +23,7 @@ use crate::awaited::{AwaitedSatellite, read_satellites};
 use crate::held::{HeldSatellite, find, push_change, push_code};
 use crate::lines::Lines;
 use crx_lines::limits::NAME_WIDTH;
-use crx_rinex::{Epoch, SatRow, Types, begins_epoch};
+use crx_rinex::{Epoch, Identifiers, SatRow, Types, begins_epoch};
 use crx_text::difference::patch_bytes;
 use crx_text::{Code, Fault, Text, code_read, trim_end};
 use std::alloc::{AllocError, Global};
@@ -35,23 +35,22 @@ pub(crate) struct KeptEpoch {
     text: Vec<u8>,
     clock: ClockArc,
     satellites: Vec<HeldSatellite>,
-    /// How many of the first satellites are known to be different ones.
-    different: usize,
+    /// Identifiers, and how many of the first satellites have these.
+    names: Identifiers,
+    placed: usize,
     alloc: Global,
 }
 
 impl Model for KeptEpoch {
-    ghost use Rattle.std.specs.Prelude.{◌≡◌, ◌≤◌, length, take, true};
+    ghost use Rattle.std.specs.Prelude.{◌≤◌, length};
     ghost use Rattle.crx_lines.specs.declared.limits.TheConstants.{LINE_LIMIT};
-    ghost use Rattle.crx_rinex.specs.Epochs.{are_apart};
-    ghost use Rattle.crx_compact.specs.Tails.{RowTail, Tail};
+    ghost use Rattle.crx_compact.specs.Tails.{Tail, AreNamed};
 
     ghost Value = { Tail };
 
     ghost view = { λ kept. record { text = kept.text.items; clock = kept.clock; rows = kept.satellites.items } };
 
-    ghost invariant = { λ kept. (length kept.text.items ≤ LINE_LIMIT) × (kept.different ≤ length kept.satellites.items)
-        × (are_apart (λ (row : RowTail). row.name) (take kept.different kept.satellites.items) ≡ true) };
+    ghost invariant = { λ kept. (length kept.text.items ≤ LINE_LIMIT) × AreNamed kept.placed kept.names kept.satellites.items };
 }
 
 impl KeptEpoch {
@@ -63,7 +62,8 @@ impl KeptEpoch {
             text: Vec::new(alloc),
             clock: ClockArc::new(),
             satellites: Vec::new(alloc),
-            different: 0,
+            names: Identifiers::new(alloc),
+            placed: 0,
             alloc,
         }
     }
@@ -80,21 +80,7 @@ impl KeptEpoch {
         ensures { self.new ≡ record self.old { rows = take count self.old.rows } }
     {
         self.satellites.truncate(count);
-        self.different = self.different.min(count);
-    }
-
-    /// Whether a satellite of this identifier is at a place, and known to be another one than those before it.
-    pub(crate) fn has_at(&self, place: usize, name: [u8; NAME_WIDTH]) -> bool
-        ensures new { OnTrue result (is_among (λ (row : RowTail). row.name) name (take place self.now.rows) ≡ false) }
-        ensures next { OnTrue result (map (λ (row : RowTail). row.name) (take (place + 1) self.now.rows) ≡ map (λ (row : RowTail). row.name) (take place self.now.rows) ++ name ∷ []) }
-    {
-        if place < self.different {
-            let satellite = &self.satellites[place];
-            if satellite.name() == name {
-                return true;
-            }
-        }
-        false
+        self.placed = self.placed.min(count);
     }
 
     /// What is kept of a satellite at a place, where it is this satellite.
@@ -102,11 +88,8 @@ impl KeptEpoch {
     fn find_at(&self, place: usize, name: [u8; NAME_WIDTH]) -> Option<&HeldSatellite>
         ensures { OnSome result (option_copied result ≡ named (λ (row : RowTail). row.name) name self.now.rows) }
     {
-        if place < self.different {
-            let satellite = &self.satellites[place];
-            if satellite.name() == name {
-                return Some(satellite);
-            }
+        if place < self.placed && self.names.has_at(place, name) {
+            return Some(&self.satellites[place]);
         }
         None
     }
@@ -124,7 +107,18 @@ impl KeptEpoch {
         if let Some(satellite) = self.find_at(place.saturating_sub(1), name) {
             return Some(satellite);
         }
-        find(&self.satellites, name)
+        self.find_elsewhere(name)
+    }
+
+    /// The same of a satellite that may stand anywhere.
+    #[inline(never)]
+    fn find_elsewhere(&self, name: [u8; NAME_WIDTH]) -> Option<&HeldSatellite>
+        ensures { option_copied result ≡ named (λ (row : RowTail). row.name) name self.now.rows }
+    {
+        match self.names.place_of(self.placed, name) {
+            Some(place) => Some(&self.satellites[place]),
+            None => find(&self.satellites[self.placed..], name),
+        }
     }
 
     /// Replaces what is kept by what an epoch leaves after the one before, and puts the epoch's compact lines after
@@ -140,13 +134,13 @@ impl KeptEpoch {
         ensures after { OnOk result (self.new ≡ tail_after before.now epoch.now) }
         ensures lines { OnOk result (lines.new ≡ lines.old ++ lines_after before.now epoch.now) }
     {
-        self.different = 0;
+        self.placed = 0;
         renew_text(&mut self.text, epoch)?;
         push_change(&before.text, &self.text, part, lines)?;
         self.clock = before.clock.copied();
         push_code(self.clock.push(epoch.head().clock()), part, lines)?;
         encode_rows(self.alloc, before, epoch, &mut self.satellites, part, lines)?;
-        self.different = self.satellites.len();
+        self.placed = put_names(&self.satellites, &mut self.names)?;
         Ok(())
     }
 
@@ -176,7 +170,8 @@ impl KeptEpoch {
         if self.text.extend_from_slice(part.bytes()).is_err() {
             return Err(Fault::OutOfMemory);
         }
-        read_satellites(types, &self.text, before, satellites)
+        self.placed = 0;
+        read_satellites(types, &self.text, &mut self.names, satellites)
     }
 
     /// Reads a clock line after what was kept of the epoch before: replaces the clock's arc, and gives the code and its
@@ -233,16 +228,15 @@ impl KeptEpoch {
         };
         let name = satellite.name();
         let kept = before.find(index, name);
-        let different = self.different;
-        self.different = different.min(index);
+        self.placed = self.placed.min(index);
         let next = &mut self.satellites[index];
-        let known = next.name();
         match next.read(row, kept, satellite, line, part) {
             Ok(()) => {}
             Err(fault) => return Err(fault),
         }
-        let is_same = next.name() == known;
-        self.different = known_different(&self.satellites, index, different, is_same);
+        if self.placed == index && self.names.has_at(index, name) {
+            self.placed = index + 1;
+        }
         Ok(())
     }
 }
@@ -311,35 +305,20 @@ fn add_room(alloc: Global, satellites: &mut Vec<HeldSatellite>) -> Result<(), Al
     Ok(())
 }
 
-/// How many of the first satellites are known to be different, once the one at a place was replaced: by one of the same
-/// identifier, or by another.
-fn known_different(
+/// Puts the identifiers of satellites at their places, and gives how many of the first ones are there: all of them, where they
+/// are different.
+fn put_names(
     satellites: &[HeldSatellite],
-    index: usize,
-    different: usize,
-    is_same: bool,
-) -> usize
-    requires place { index < length satellites.now }
-    requires within { different ≤ length satellites.now }
-    requires before { are_apart (λ (row : RowTail). row.name) (take (min different index) satellites.now) ≡ true }
-    requires same { is_same ≡ true → are_apart (λ (row : RowTail). row.name) (take different satellites.now) ≡ true }
-    ensures within { result ≤ length satellites.now }
-    ensures apart { are_apart (λ (row : RowTail). row.name) (take result satellites.now) ≡ true }
+    names: &mut Identifiers,
+) -> Result<usize, AllocError>
+    ensures { IfOk result (λ placed. AreNamed placed names.new satellites.now) }
 {
-    if is_same || different < index {
-        return different;
+    for place in 0..satellites.len() {
+        if !names.put(place, satellites[place].name())? {
+            return Ok(place);
+        }
     }
-    if is_among(&satellites[..index], satellites[index].name()) {
-        return index;
-    }
-    index + 1
-}
-
-/// Whether some satellites have one of this identifier.
-fn is_among(satellites: &[HeldSatellite], name: [u8; NAME_WIDTH]) -> bool
-    ensures { result ≡ is_among (λ (row : RowTail). row.name) name satellites.now }
-{
-    satellites.iter().any(|known| known.name() == name)
+    Ok(satellites.len())
 }
 
 /// Makes the satellite lines of an epoch, and what its satellites leave.

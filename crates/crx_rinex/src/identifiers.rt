@@ -53,12 +53,19 @@ impl Identifiers {
         false
     }
 
-    /// The place of an identifier.
-    pub fn place_of(&self, name: [u8; NAME_WIDTH]) -> Option<usize>
-        ensures place { IfSome result (λ place. (place < length self.now) × (get_or self.now place [] ≡ name)) }
-        ensures none { IfNone result (is_among (λ (n : List ℕ). n) name self.now ≡ false) }
+    /// The place of an identifier among the first so many.
+    pub fn place_of(&self, count: usize, name: [u8; NAME_WIDTH]) -> Option<usize>
+        requires { count ≤ length self.now }
+        ensures within { IfSome result (λ place. place < count) }
+        ensures place { IfSome result (λ place. get_or self.now place [] ≡ name) }
+        ensures new { IfSome result (λ place. is_among (λ (n : List ℕ). n) name (take place self.now) ≡ false) }
+        ensures none { IfNone result (is_among (λ (n : List ℕ). n) name (take count self.now) ≡ false) }
     {
-        checked_place(&self.names, self.places.get(&name).copied(), name)
+        let place = self.places.get(&name).copied();
+        match checked_place(&self.names[..count], place, name) {
+            Some(place) => Some(place),
+            None => None,
+        }
     }
 
     /// Puts an identifier at a place, where none of those before it is the same: `false` comes where one is. Those before it
