@@ -10,7 +10,7 @@ use Rattle.crx_compact.specs.Sequences.{named}
 use Rattle.crx_compact.proofs.Runs.{bytes_eq-same}
 
 -- an item that passes a test is the first one, where none before it does
-first : {X : Type 0} (p : X → Bool) (k : ℕ) (xs : List X) (d : X) → list_any p (take k xs) ≡ false → k < length xs → p (get_or xs k d) ≡ true → find p xs ≡ Some (get_or xs k d)
+pub first : {X : Type 0} (p : X → Bool) (k : ℕ) (xs : List X) (d : X) → list_any p (take k xs) ≡ false → k < length xs → p (get_or xs k d) ≡ true → find p xs ≡ Some (get_or xs k d)
 first p k [] d none a h = absurd (omega (arith, a))
 first p zero (x ∷ xs) d none a h = rw h refl
 first p (suc k) (x ∷ xs) d none a h =

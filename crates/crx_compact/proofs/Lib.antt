@@ -1,4 +1,5 @@
 pub mod Identifiers
+pub mod Named
 pub mod Weights
 pub mod Inversion
 pub mod Overlays

@@ -1,5 +1,5 @@
 -- A satellite's line read after what was kept of the satellite in the epoch before.
-use Rattle.std.specs.Prelude.{◌≡◌, ℕ, ◌+◌, ◌++◌, ◌∷◌, length, take, List, [], Option, None, Some, Result, Ok}
+use Rattle.std.specs.Prelude.{◌≡◌, ℕ, ◌≤◌, ◌+◌, ◌++◌, ◌∷◌, length, map, take, List, [], Option, None, Some, Result, Ok}
 use Rattle.crx_text.specs.Texts.{patched}
 use Rattle.crx_lines.specs.declared.fault.Fault.{Fault}
 use Rattle.crx_rinex.specs.Observations.{Row}
@@ -55,3 +55,7 @@ pub record IsNextRow (before : Tail) (satellite : Satellite) (line : List ℕ) (
   pub rows : take (index + 1) new.rows ≡ take index old.rows ++ left ∷ []
   pub text : new.text ≡ old.text
   pub clock : new.clock ≡ old.clock
+
+-- so many of the first satellites have the identifiers that stand at their places
+abbrev pub AreNamed : ℕ → List (List ℕ) → List RowTail → Type 0
+AreNamed count names rows = (count ≤ length rows) × (count ≤ length names) × (take count names ≡ map (λ (row : RowTail). row.name) (take count rows))

@@ -1,15 +1,10 @@
 //! The satellites of an epoch text: RINEX 3.05, table A3, and Hatanaka's Compact RINEX 3.0, epoch line.
 
-ghost use Rattle.std.specs.List.{list_any};
-ghost use Rattle.std.specs.Str.{bytes_eq};
 ghost use Rattle.std.specs.Prelude.{◌≡◌, ◌≤◌, ◌⊎◌, ◌+◌, ◌++◌, ◌∷◌, [], true, false, Ok, Err, length, take, map, OnOk, IfErr};
-ghost use Rattle.std.specs.Bool.{OnTrue};
 ghost use Rattle.crx_lines.specs.declared.limits.TheConstants.{LINE_LIMIT, SATELLITES_LIMIT};
-ghost use Rattle.crx_rinex.specs.Epochs.{is_among};
 ghost use Rattle.crx_rinex.specs.ObservationTypes.{IsAllowedCount};
 ghost use Rattle.crx_rinex.specs.SatelliteLines.{is_identifier};
 ghost use Rattle.crx_compact.specs.CompactPlaces.{satellites_of_text};
-ghost use Rattle.crx_compact.specs.Tails.{RowTail};
 ghost use Rattle.crx_compact.specs.EpochText.{Satellite, names_in, satellites_named};
 
 use crx_lines::limits::{HEAD_WIDTH, NAME_WIDTH};

@@ -15,8 +15,8 @@ ghost use Rattle.crx_compact.specs.CompactPlaces.{clock_line_read, satellites_of
 ghost use Rattle.crx_compact.specs.OpenEpochs.{past_of_tail};
 ghost use Rattle.crx_compact.specs.Steps.{arc_of_code, lines_after, no_tail, row_line_in, row_tail_in, tail_after};
 ghost use Rattle.crx_compact.specs.Sequences.{named};
-ghost use Rattle.crx_compact.specs.Tails.{RowTail, AreNamed};
-ghost use Rattle.crx_compact.specs.HeldRows.{row_after, IsNextRow};
+ghost use Rattle.crx_compact.specs.Tails.{RowTail};
+ghost use Rattle.crx_compact.specs.HeldRows.{row_after, AreNamed, IsNextRow};
 
 use crate::arc::ClockArc;
 use crate::awaited::{AwaitedSatellite, read_satellites};
@@ -44,7 +44,8 @@ pub(crate) struct KeptEpoch {
 impl Model for KeptEpoch {
     ghost use Rattle.std.specs.Prelude.{◌≤◌, length};
     ghost use Rattle.crx_lines.specs.declared.limits.TheConstants.{LINE_LIMIT};
-    ghost use Rattle.crx_compact.specs.Tails.{Tail, AreNamed};
+    ghost use Rattle.crx_compact.specs.HeldRows.{AreNamed};
+    ghost use Rattle.crx_compact.specs.Tails.{Tail};
 
     ghost Value = { Tail };
 
@@ -234,9 +235,7 @@ impl KeptEpoch {
             Ok(()) => {}
             Err(fault) => return Err(fault),
         }
-        if self.placed == index && self.names.has_at(index, name) {
-            self.placed = index + 1;
-        }
+        self.placed = known_placed(&self.names, &self.satellites, self.placed, index);
         Ok(())
     }
 }
@@ -303,6 +302,23 @@ fn add_room(alloc: Global, satellites: &mut Vec<HeldSatellite>) -> Result<(), Al
 {
     satellites.push(HeldSatellite::new(alloc))?;
     Ok(())
+}
+
+/// How many of the first satellites have these identifiers, where those before a place were known, and the one there is new.
+fn known_placed(
+    names: &Identifiers,
+    satellites: &[HeldSatellite],
+    placed: usize,
+    index: usize,
+) -> usize
+    requires within { index < length satellites.now }
+    requires before { AreNamed placed names.now satellites.now }
+    ensures { AreNamed result names.now satellites.now }
+{
+    if placed == index && names.has_at(index, satellites[index].name()) {
+        return index + 1;
+    }
+    placed
 }
 
 /// Puts the identifiers of satellites at their places, and gives how many of the first ones are there: all of them, where they

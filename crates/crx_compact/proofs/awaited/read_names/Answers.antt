@@ -1,15 +1,14 @@
-use Rattle.std.proofs.Common.{rules, ◌≡◌, ◌<◌, ◌+◌, ◌*◌, ◌++◌, ◌∷◌, [], ℕ, List, true, false, take, map, drop, sym, ap, subst, ◌∙◌, inl, arith}
+use Rattle.std.proofs.Common.{rules, ◌≡◌, ◌<◌, ◌+◌, ◌*◌, ◌++◌, ◌∷◌, [], ℕ, List, Bool, not, true, false, take, map, drop, refl, sym, ap, subst, ◌∙◌, inl, arith}
 use Rattle.std.proofs.lemmas.List.{map-append}
 use Rattle.crx_rinex.specs.Epochs.{is_among}
-use Rattle.crx_rinex.proofs.Apart.{among-names}
-use Rattle.crx_compact.specs.Tails.{RowTail}
-use Rattle.std.specs.Bool.{OnTrue}
+use Rattle.crx_rinex.proofs.Apart.{among-map}
 use Rattle.std.specs.List.{list_any}
 use Rattle.std.specs.Str.{bytes_eq}
 use Rattle.crx_text.specs.Columns.{columns}
 use Rattle.crx_compact.specs.EpochText.{Satellite, names_in}
 use Rattle.crx_rinex.proofs.EachPlace.{drop-each_place, drop_all-each_place}
 use Rattle.crx_compact.proofs.Naming.{named-bad, named-twice, named-more, named-all}
+use Rattle.crx_rinex.proofs.Rows.{names-long}
 use Rattle.crx_compact.proofs.awaited.read_names.Goals as goal
 
 -- the identifier at a place, which was read
@@ -18,42 +17,40 @@ next : (text : List ℕ) (count place : ℕ) (name : List ℕ) → place < count
 next text count place name h e =
     drop-each_place count place (λ k. columns text (42 + 3 * k) 3) h ∙ ap (λ n. n ∷ drop (place + 1) (names_in text count)) (sym e)
 
+-- whether an identifier stands among those of the satellites so far
+among : (satellites : List Satellite) (names : List (List ℕ)) (name : List ℕ) (place : ℕ) (b : Bool) → take place names ≡ map (λ (s : Satellite). s.name) satellites
+    → is_among (λ (n : List ℕ). n) name (take place names) ≡ b → list_any (λ (s : Satellite). bytes_eq s.name name) satellites ≡ b
+among satellites names name place b placed is =
+    sym (among-map (λ (n : List ℕ). n) (λ (s : Satellite). s.name) name satellites) ∙ ap (is_among (λ (n : List ℕ). n) name) (sym placed) ∙ is
+
 pub returns-in_default-clause-err : goal.returns-in_default-clause-err
 returns-in_default-clause-err c =
     inl (named-bad c.args.types.now (names_in c.args.text.now c.args.count) c.loop-place.place c.loop-place.satellites.items c.padded-name.result c.loop-place.invariant.so_far
     (next c.args.text.now c.args.count c.loop-place.place c.padded-name.result c.loop-place-test.true c.padded-name.ensures) (sym c.in_default.ensures.value))
 
-pub returns-then-is_repeated-clause-err : goal.returns-then-is_repeated-clause-err
-returns-then-is_repeated-clause-err c =
+pub returns-in-Ok-false-clause-err : goal.returns-in-Ok-false-clause-err
+returns-in-Ok-false-clause-err c =
     inl (named-twice c.args.types.now (names_in c.args.text.now c.args.count) c.loop-place.place c.loop-place.satellites.items c.padded-name.result c.in-Some.types c.loop-place.invariant.so_far
     (next c.args.text.now c.args.count c.loop-place.place c.padded-name.result c.loop-place-test.true c.padded-name.ensures) (sym c.in-Some.ensures.value)
-    (ap (list_any (λ (s : Satellite). bytes_eq s.name c.padded-name.result)) (sym c.deref.ensures.value) ∙ sym c.is_repeated.ensures ∙ c.if-is_repeated.true))
-
--- an identifier that none in step before it has is new
-pub is_repeated-requires : goal.is_repeated-requires
-is_repeated-requires c t =
-    let step = subst (λ b. OnTrue b (is_among (λ (row : RowTail). row.name) c.padded-name.result (take c.loop-place.place c.args.before.now.rows) ≡ false)) t c.keeps_step-is_in_step.ensures.new in
-    let so_far = subst (λ b. OnTrue b (c.loop-place.is_in_step ≡ true)) t c.keeps_step-is_in_step.ensures.so_far in
-    ap (list_any (λ (s : Satellite). bytes_eq s.name c.padded-name.result)) c.deref.ensures.value
-    ∙ among-names (λ (s : Satellite). s.name) (λ (row : RowTail). row.name) c.padded-name.result c.loop-place.satellites.items (take c.loop-place.place c.args.before.now.rows) (c.loop-place.invariant.in_step so_far)
-    ∙ step
+    (among c.loop-place.satellites.items c.loop-place.names c.padded-name.result c.loop-place.place true c.loop-place.invariant.placed (c.in-Ok-false.ensures.new ∙ ap not c.in-Ok-false.field-0-test)))
 
 pub loop-place-preserved : goal.loop-place-preserved
-loop-place-preserved c = record {
-  so_far =
-      named-more c.args.types.now (names_in c.args.text.now c.args.count) c.loop-place.place c.loop-place.satellites.items c.push.new.self.items c.padded-name.result c.in-Some.types c.loop-place.invariant.so_far
-      (next c.args.text.now c.args.count c.loop-place.place c.padded-name.result c.loop-place-test.true c.padded-name.ensures) (sym c.in-Some.ensures.value)
-      (ap (list_any (λ (s : Satellite). bytes_eq s.name c.padded-name.result)) (sym c.deref.ensures.value) ∙ sym c.is_repeated.ensures ∙ c.if-is_repeated.false)
-      (search rules);
-  in_step = λ t.
-      let pushed : c.push.new.self.items ≡ c.loop-place.satellites.items ++ record { name = c.padded-name.result; count = c.in-Some.types } ∷ [] = search rules in
-      let so_far = subst (λ b. OnTrue b (c.loop-place.is_in_step ≡ true)) t c.keeps_step-is_in_step.ensures.so_far in
-      let next = subst (λ b. OnTrue b (map (λ (row : RowTail). row.name) (take (c.loop-place.place + 1) c.args.before.now.rows) ≡ map (λ (row : RowTail). row.name) (take c.loop-place.place c.args.before.now.rows) ++ c.padded-name.result ∷ [])) t c.keeps_step-is_in_step.ensures.next in
-      ap (map (λ (s : Satellite). s.name)) pushed
-      ∙ map-append (λ (s : Satellite). s.name) c.loop-place.satellites.items (record { name = c.padded-name.result; count = c.in-Some.types } ∷ [])
-      ∙ ap (λ (names : List (List ℕ)). names ++ c.padded-name.result ∷ []) (c.loop-place.invariant.in_step so_far)
-      ∙ sym next;
-}
+loop-place-preserved c =
+    let satellite : Satellite = record { name = c.padded-name.result; count = c.in-Some.types } in
+    let put = c.in-Ok-true.ensures.next c.in-Ok-true.field-0-test in
+    let pushed : c.push.new.self.items ≡ c.loop-place.satellites.items ++ satellite ∷ [] = search rules in
+    let within = c.loop-place.invariant.within in
+    record {
+      so_far =
+          named-more c.args.types.now (names_in c.args.text.now c.args.count) c.loop-place.place c.loop-place.satellites.items c.push.new.self.items c.padded-name.result c.in-Some.types c.loop-place.invariant.so_far
+          (next c.args.text.now c.args.count c.loop-place.place c.padded-name.result c.loop-place-test.true c.padded-name.ensures) (sym c.in-Some.ensures.value)
+          (among c.loop-place.satellites.items c.loop-place.names c.padded-name.result c.loop-place.place false c.loop-place.invariant.placed (c.in-Ok-true.ensures.new ∙ ap not c.in-Ok-true.field-0-test))
+          pushed;
+      within = names-long c.loop-place.names c.put.new.self c.loop-place.place c.padded-name.result within put;
+      placed =
+          put ∙ ap (λ (ns : List (List ℕ)). ns ++ c.padded-name.result ∷ []) c.loop-place.invariant.placed
+          ∙ sym (map-append (λ (s : Satellite). s.name) c.loop-place.satellites.items (satellite ∷ [])) ∙ ap (map (λ (s : Satellite). s.name)) (sym pushed);
+    }
 
 pub returns-clause-ok : goal.returns-clause-ok
 returns-clause-ok c =

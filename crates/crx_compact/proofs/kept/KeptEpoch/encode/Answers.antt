@@ -47,16 +47,3 @@ returns-clause-lines c =
     ∙ ap (λ (v : Option ℤ). code_of_value v c.copied-self-inside.result) (c.clock.ensures.value ∙ c.head.ensures.clock)
     ∙ ap (λ (arc : Option ArcTail). code_of_value epoch.clock arc) c.copied-self-inside.ensures))
     (c.in_ok-encode_rows.ensures.lines ∙ ap (λ (t : Tail). c.push_code.new.lines ++ map (row_line_in t.rows) epoch.rows) (sym c.before-2.view_is)))
-
-pub invariant_of-self-2 : goal.invariant_of-self-2
-invariant_of-self-2 c =
-    let name_of = λ (row : RowTail). row.name in
-    let items = c.encode_rows.new.satellites.items in
-    let len = c.len-self-inside.ensures in
-    let ok = c.encode_rows.new.satellites.ok.0 in
-    let after = c.in_ok-encode_rows.ensures.after in (
-      c.renew_text.ensures.within,
-      omega (arith, len, ok),
-      subst (λ (rs : List RowTail). are_apart name_of rs ≡ true) (sym (take_all c.len-self-inside.result items (omega (arith, len, ok)) ∙ after))
-          (apart-map name_of (row_tail_in c.args.before.now.rows) c.args.epoch.now.rows ∙ c.requires.apart),
-    )
