@@ -8,7 +8,9 @@ ghost use Rattle.crx_compact.specs.CompactPlaces.{satellites_of_text};
 ghost use Rattle.crx_compact.specs.EpochText.{Satellite, names_in, satellites_named};
 
 use crx_lines::limits::{HEAD_WIDTH, NAME_WIDTH};
-use crx_rinex::{EpochLine, Identifiers, Types, after_columns, all_blank, padded, types_of_satellite};
+use crx_rinex::{
+    EpochLine, Identifiers, Types, after_columns, all_blank, padded, types_of_satellite,
+};
 use crx_text::Fault;
 use std::marker::Model;
 

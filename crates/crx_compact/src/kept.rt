@@ -323,10 +323,7 @@ fn known_placed(
 
 /// Puts the identifiers of satellites at their places, and gives how many of the first ones are there: all of them, where they
 /// are different.
-fn put_names(
-    satellites: &[HeldSatellite],
-    names: &mut Identifiers,
-) -> Result<usize, AllocError>
+fn put_names(satellites: &[HeldSatellite], names: &mut Identifiers) -> Result<usize, AllocError>
     ensures { IfOk result (λ placed. AreNamed placed names.new satellites.now) }
 {
     for place in 0..satellites.len() {

@@ -51,4 +51,4 @@ known_placed-self-inside-requires-clause-before c =
     let few = c.min-self-inside.ensures in
     subst (λ (rs : List RowTail). AreNamed c.min-self-inside.result c.self.inside.names rs) (sym c.deref.ensures.value)
     (fewer c.self.inside.placed c.args.index c.min-self-inside.result c.self.inside.names c.self.inside.satellites.items c.make_room.new.satellites.items c.read.new.self c.self.invariant.1
-        (omega (arith, few)) (omega (arith, few)) c.make_room.ensures.grown c.make_room.ensures.same)
+    (omega (arith, few)) (omega (arith, few)) c.make_room.ensures.grown c.make_room.ensures.same)
