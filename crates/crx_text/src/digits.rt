@@ -51,7 +51,7 @@ pub(crate) fn digits_before_blank(text: &[u8]) -> Option<(u64, usize)>
 
 // The same where fewer digits than a row has stand before a blank, or before the text's end; else None, whatever there is.
 // Where fewer characters than a row has are left of a line, the digits are read one by one: they are few, and so a line's
-// last code takes 60 to 100 instructions, as others do, and not 250 by a way of its own.
+// last code takes 50 to 100 instructions, as others do, and not 250 by a way of its own.
 #[inline(always)]
 pub(crate) fn few_digits_before_blank(text: &[u8]) -> Option<(u64, usize)>
     ensures value { IfSome result (λ cell. counted_digits (first_cell text.now) ≡ Some cell.0) }
