@@ -149,9 +149,9 @@ def build():
 def ci(program):
     """Runs `rt ci`, which builds the program: how many things passed and how many failed, of its last line."""
     program.unlink(missing_ok=True)
-    status, last = followed(["rt", "ci"], TOP, Progress().of_the_gate)
-    found = re.fullmatch(r"(\d+) passed, (\d+) failed", last)
-    passed, failed = (int(found[1]), int(found[2])) if found else (0, 1)
+    status, _ = followed(["rt", "ci"], TOP, Progress().of_the_gate)
+    found = re.findall(r"^(\d+) passed, (\d+) failed$", LOG.read_text(errors="replace"), re.M)
+    passed, failed = (int(found[-1][0]), int(found[-1][1])) if found else (0, 1)
     failed = failed or (1 if status else 0)
     if failed:
         show_log()
