@@ -210,9 +210,9 @@ def quick():
     names = changed()
     print(f"changed since all passed: {' '.join(names) or 'no crate'}" if STAMP.exists() else "nothing has passed here yet: all crates count as changed")
     passed = failed = 0
+    progress = Progress()
     for name in names:
         for verb in ("check", "test") if has_tests(name) else ("check",):
-            progress = Progress()
             status, last = followed(["rt", verb], CRATES / name, progress.of_a_proof)
             good = not status
             passed, failed = passed + good, failed + (not good)
