@@ -1,9 +1,8 @@
 -- Satellites whose identifiers stand at their places.
-use Rattle.std.proofs.Common.{◌≡◌, ℕ, zero, suc, ◌+◌, ◌<◌, ◌≤◌, Bool, true, false, ◌||◌, List, [], ◌∷◌, ◌++◌, Some, length, get_or, map, take, drop, refl, ap, sym, ◌∙◌, arith}
-use Rattle.std.specs.Prelude.{slice_set}
+use Rattle.std.proofs.Common.{◌≡◌, ℕ, zero, suc, ◌+◌, ◌<◌, ◌≤◌, false, List, [], ◌∷◌, ◌++◌, Some, length, get_or, map, take, drop, refl, ap, sym, ◌∙◌, arith}
 use Rattle.std.specs.Str.{bytes_eq}
 use Rattle.std.proofs.lemmas.Bool.{or_parts}
-use Rattle.std.proofs.lemmas.List.{get_or-map, get_or-take, length-set, length-take, map-append, take-map, take-set-le, take-take, take_more_set}
+use Rattle.std.proofs.lemmas.List.{get_or-map, get_or-take, length-take, map-append, take-map, take-take}
 use Rattle.std.proofs.Math.Seq.{get_or-append_seam}
 use Rattle.crx_rinex.specs.Epochs.{is_among}
 use Rattle.crx_rinex.proofs.Apart.{among-map}

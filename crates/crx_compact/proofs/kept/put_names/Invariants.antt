@@ -1,4 +1,3 @@
-use Rattle.std.proofs.Common.{◌≡◌}
 use Rattle.crx_compact.specs.HeldRows.{AreNamed}
 use Rattle.crx_compact.proofs.kept.put_names.Given as goal
 

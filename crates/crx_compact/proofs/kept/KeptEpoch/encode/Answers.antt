@@ -1,7 +1,4 @@
-use Rattle.std.proofs.Common.{◌≡◌, ◌++◌, ◌∷◌, [], List, ℕ, ℤ, Option, map, ap, sym, ◌∙◌, append_assoc, true, subst, arith}
-use Rattle.std.proofs.lemmas.List.{take_all}
-use Rattle.crx_rinex.specs.Epochs.{are_apart}
-use Rattle.crx_rinex.proofs.Apart.{apart-map}
+use Rattle.std.proofs.Common.{◌≡◌, ◌++◌, ◌∷◌, [], List, ℕ, ℤ, Option, map, ap, sym, ◌∙◌, append_assoc}
 use Rattle.crx_text.specs.Codes.{code_text}
 use Rattle.crx_text.specs.Texts.{text_difference}
 use Rattle.crx_text.specs.declared.code.Code.{Code}

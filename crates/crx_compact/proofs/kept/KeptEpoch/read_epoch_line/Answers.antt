@@ -1,4 +1,4 @@
-use Rattle.std.proofs.Common.{rules, ◌≡◌, ◌++◌, List, ℕ, Bool, not, true, false, Result, Ok, Err, OnOk, IfErr, ◌⊎◌, subst, ap, sym, ◌∙◌, if◌then◌else◌}
+use Rattle.std.proofs.Common.{rules, ◌≡◌, ◌++◌, List, ℕ, Bool, not, true, Result, Ok, Err, OnOk, IfErr, ◌⊎◌, subst, ap, sym, ◌∙◌, if◌then◌else◌}
 use Rattle.std.specs.List.{list_all}
 use Rattle.std.specs.Result.{is_ok}
 use Rattle.std.proofs.lemmas.Bool.{false≢true}
@@ -6,7 +6,7 @@ use Rattle.crx_lines.specs.declared.fault.Fault.{Fault}
 use Rattle.crx_lines.specs.declared.fault.Fault.TheVariants.{BadEpoch, OutOfMemory}
 use Rattle.crx_text.specs.Texts.{is_printable, patched}
 use Rattle.crx_compact.specs.CompactPlaces.{satellites_of_text}
-use Rattle.crx_compact.specs.Tails.{RowTail, Tail}
+use Rattle.crx_compact.specs.Tails.{Tail}
 use Rattle.crx_compact.proofs.kept.KeptEpoch.read_epoch_line.Goals as goal
 
 printable : (c : goal.After-read_satellites) → list_all is_printable c.args.line.now ≡ true

@@ -1,9 +1,9 @@
-use Rattle.std.proofs.Common.{◌≡◌, ◌≤◌, ◌++◌, ◌∷◌, [], List, ℕ, true, length, slice_set, take, min, ap, sym, ◌∙◌, subst, arith}
+use Rattle.std.proofs.Common.{◌≡◌, ◌≤◌, ◌++◌, ◌∷◌, [], List, ℕ, length, slice_set, take, ap, sym, ◌∙◌, subst, arith}
 use Rattle.std.proofs.lemmas.List.{length-set, take_more_set, take-set-le}
 use Rattle.crx_compact.specs.Sequences.{named}
 use Rattle.crx_compact.specs.Tails.{RowTail, Tail}
 use Rattle.crx_compact.specs.HeldRows.{row_held, AreNamed}
-use Rattle.crx_compact.proofs.Named.{named-fewer, named-next, named-same}
+use Rattle.crx_compact.proofs.Named.{named-fewer, named-same}
 use Rattle.crx_compact.proofs.Marks.{next-row, row-by_tail, same-fault}
 use Rattle.crx_compact.proofs.kept.KeptEpoch.read_row.Goals as goal
 

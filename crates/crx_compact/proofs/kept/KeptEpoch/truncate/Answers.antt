@@ -1,4 +1,4 @@
-use Rattle.std.proofs.Common.{◌≤◌, length, take, arith, sym, ◌∙◌, ap}
+use Rattle.std.proofs.Common.{take, arith}
 use Rattle.std.proofs.lemmas.List.{length-take, take-take}
 use Rattle.crx_compact.proofs.Named.{named-fewer, named-same}
 use Rattle.crx_compact.proofs.kept.KeptEpoch.truncate.Goals as goal
