@@ -11,7 +11,7 @@ PAGES = ("README.md", "CONTRIBUTING.md", "tests/README.md", "bench/README.md", "
 
 
 def written(script):
-    """What is wrong with the page that a script writes."""
+    """What is wrong with the pages or pictures that a script of docs makes."""
     run = subprocess.run([TOP / "docs" / script, "--check"], capture_output=True, text=True, timeout=60)
     return [] if run.returncode == 0 else [(run.stdout + run.stderr).strip()]
 
@@ -63,9 +63,24 @@ def targets_named(page):
     return [f"{page}: make has no target {it}" for it in {a or b for a, b in named} - targets]
 
 
-def checks(_program):
+def example(program):
+    """Whether the epochs of docs/pictures/epoch.txt are a standard file, and its compact lines those that the program makes of it."""
+    lines = {"RINEX": [], "compact": []}
+    for kind, line in re.findall(r"^type \S+ (\w+) \|(.*)$", (TOP / "docs/pictures/epoch.txt").read_text(encoding="utf-8"), re.M):
+        lines[kind].append(re.sub(r"\{\w+:([^}]*)\}", r"\1", line))
+    labels = (("     3.05           OBSERVATION DATA    M", "RINEX VERSION / TYPE"), ("G    2 C1C L1C", "SYS / # / OBS TYPES"), ("", "END OF HEADER"))
+    header = [text.ljust(60) + label for text, label in labels]
+    rinex, compact = ("\n".join(some + [""]) for some in (header + lines["RINEX"], header + lines["compact"]))
+    made = subprocess.run([program, "rnx2crx"], input=rinex, capture_output=True, text=True, timeout=60).stdout
+    wrong = [] if made.split("\n", 2)[2:] == [compact] else ["the program makes other compact lines"]
+    return wrong + ([] if subprocess.run([program, "crx2rnx"], input=made, capture_output=True, text=True, timeout=60).stdout == rinex else ["they don't come back"])
+
+
+def checks(program):
     yield "docs/CONTRACTS.md", lambda: written("contracts.py")
     yield "docs/READING.md", lambda: written("reading.py")
+    yield "docs/pictures", lambda: written("pictures/draw.py")
+    yield "docs/pictures/epoch.txt", lambda: example(program)
     known = contracts()
     for page in PAGES:
         if not (TOP / page).exists():
