@@ -1,5 +1,5 @@
-"""The documents against the sources: the pages that scripts write are those that they would write today, and each clause, file and make
-target that a document names is there (see tests/run.py)."""
+"""The documents against the sources: the pages and pictures that scripts make are those that they would make today, the picture of an
+epoch is what the program makes, and each clause, name of code, file and make target that a document names is there (see tests/run.py)."""
 
 import re
 import subprocess
@@ -56,6 +56,21 @@ def files_named(page):
     return wrong
 
 
+def sources():
+    """The words of the code and the definitions."""
+    texts = (path.read_text(encoding="utf-8") for folder in ("src", "specs") for path in (TOP / "crates").glob(f"*/{folder}/**/*.*t*"))
+    return {word for text in texts for word in re.findall(r"\w+", text)}
+
+
+def names_named(page, words):
+    """The names of code that a document has between backticks, and that no source has."""
+    text = re.sub(r"^```.*?^```", "", (TOP / page).read_text(encoding="utf-8"), flags=re.M | re.S)
+    names = {part for name in re.findall(r"`([A-Za-z_][\w:]*)`", text) for part in name.split("::")}
+    files = {name for name in re.findall(r"`(\w+\.(?:rt|antt))`", text) if not any((TOP / "crates").glob(f"*/*/**/{name}"))}
+    names = {name for name in names if re.search(r"[A-Za-z]_[A-Za-z]|[a-z][A-Z]|^[A-Z][a-z]", name)}
+    return [f"{page}: no source has {name}" for name in sorted((names - words) | files)]
+
+
 def targets_named(page):
     """The targets that a document tells to make and the Makefile doesn't have."""
     targets = set(re.findall(r"^([\w-]+):", (TOP / "Makefile").read_text(encoding="utf-8"), re.M))
@@ -87,5 +102,8 @@ def checks(program):
             continue
         yield f"{page}: files", lambda page=page: files_named(page)
         yield f"{page}: targets", lambda page=page: targets_named(page)
+    words = sources()
+    for page in ("docs/DESIGN.md", "docs/DECISIONS.md", "docs/FORMATS.md", "docs/GUARANTEES.md"):
+        yield f"{page}: names", lambda page=page: names_named(page, words)
     for page in ("README.md", "docs/GUARANTEES.md"):
         yield f"{page}: clauses", lambda page=page: clauses_named(page, known)
