@@ -8,7 +8,7 @@ A line of a text is a word, names and numbers, and after `|` the texts that are 
 
     grid WIDTH HEIGHT                      how wide a column of boxes is, and how high a row
     box NAME COLUMN ROW SPAN | TEXT | ..   a box over SPAN columns, with a line for each text; a text in `` is code
-    crates | TEXT                          a box for each crate of crates.txt at the top of the repository, in the row of its
+    crates                                 a box for each crate of crates.txt at the top of the repository, in the row of its
                                            layer, and an arrow to each crate that it stands on (not where another one leads there)
     crate NAME COLUMN | TEXT | ..          in which column that box stands, and its texts
     type ROW KIND |TEXT                    a line of a file, of which {NAME:TEXT} is a part with a name; a blank is shown as a dot
