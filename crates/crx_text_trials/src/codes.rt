@@ -68,12 +68,14 @@ fn texts_of_steps(rt: HostRuntime) {
 fn differences_by_the_short_way(rt: HostRuntime) {
     assert!(rt; step_before_blank(b"-1615 142 6") == Some((-1615, 6)));
     assert!(rt; step_before_blank(b"1234567 8") == Some((1_234_567, 8)));
+    assert!(rt; step_before_blank(b"142 6") == Some((142, 4)));
+    assert!(rt; step_before_blank(b"-7") == Some((-7, 2)));
     let others: [&[u8]; 6] = [
         b"3&123456 7",
         b"12345678 9",
         b" 12345678",
         b"-- 345678",
-        b"142 6",
+        b"-",
         b"",
     ];
     for other in others {
