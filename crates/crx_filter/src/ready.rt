@@ -46,6 +46,7 @@ fn write_lines<E: Engine, W: Sink>(engine: &mut E, writer: &mut W) -> Result<(),
     ensures ended { (lines : List InputLine) → E.has_ended engine.old lines → E.has_ended engine.new lines }
     ensures part { OnErr result ((n : ℕ) × (n < length (lines_text (E.ready engine.old))) × W.took writer.old (take n (lines_text (E.ready engine.old))) writer.new) }
     ensures counted { OnErr result (W.failures writer.new ≡ one_more (W.failures writer.old)) }
+    ensures unasked { W.flushes writer.new ≡ W.flushes writer.old }
 {
     while let Some(line) = engine.next_line() {
         if let Err((_, failed)) = write_all_counted(writer, line) {
