@@ -42,7 +42,7 @@ enum {
      * whole epochs. After RNXCMP_INPUT_TOO_LONG and RNXCMP_OUT_OF_MEMORY neither room was changed, and both lengths are 0.
      */
     RNXCMP_FAULT = 1,
-    /* Epochs were skipped, and the messages say which. For a check: the file is accepted, but isn't standard. */
+    /* Units were skipped, and the messages say which. For a check: the file is accepted, but isn't standard. */
     RNXCMP_WARNINGS = 2,
     /* The output has more bytes than its room: it stands there as far as it fits, and `output_length` says how long a room it needs. */
     RNXCMP_NO_ROOM = 3,

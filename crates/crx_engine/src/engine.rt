@@ -55,7 +55,7 @@ pub trait Engine {
     // The end of the input wasn't answered yet.
     ghost is_open: { Self → Type 0 };
 
-    // The answer to the line that was taken last, where something was to be written or reported.
+    // The answer to the line that `take` took last, where it answered `false`.
     ghost answer: { Self → Result Step At };
 
     // The end of the input was taken after these lines.
@@ -77,7 +77,7 @@ pub trait Engine {
             → IsAwaited notices (line_shown line.entry)
             → Answers (filter self.old) (shows self.new) (ready self.new) lines notices (line_shown line.entry) (answer_given result (answer self.new)) };
 
-    /// The answer to the line that was taken last, where something was to be written or reported.
+    /// The answer to the line that [`Engine::take`] took last, where it answered `false`: what is to be written or reported.
     fn answer(&self) -> Result<Step, At>
         ensures { result ≡ answer self.now };
 

@@ -40,7 +40,7 @@ impl Identifiers {
         }
     }
 
-    /// Whether this identifier stands at a place. Those before it are others then.
+    /// `true` says that this identifier stands at a place, and that those before it are others; `false` says nothing.
     #[inline(always)]
     pub fn has_at(&self, place: usize, name: [u8; NAME_WIDTH]) -> bool
         ensures within { OnTrue result (place < length self.now) }

@@ -127,7 +127,8 @@ fn step_print_at_end(difference: i64, text: &mut Text) -> Result<(), TextFull>
     cell_print_at_end(Code::Step(difference), text)
 }
 
-/// Writes a code's printed text and a blank from an index on, and answers the index after them. What stands before them stays.
+/// Writes a code's printed text and a blank from an index on, and answers the index after them. What stands before them stays; up
+/// to two bytes after them may be overwritten.
 /// It asks for an order and numbers within the limits, and for room.
 #[inline(always)]
 pub fn write_cell(buffer: &mut [u8], at: usize, code: Code) -> usize

@@ -101,7 +101,7 @@ module _ (tool : Tool) (choices : Choices) (input : Input) (writer messages : De
   front given h = (h.written, h.wrote, elim h.first [ inl so_far ↦ (complete_lines given, inl so_far) | inr all ↦ (lines_of given, inr all.1) ])
 
   ends : (given : List ℕ) (fault : Option At) → IsRunOf tool choices input given writer messages status fault → IsFilteredSome tool choices writer messages status
-  ends given None h = inr (given, h.flushed refl, (h.good refl).5)
+  ends given None h = inr (given, (h.good refl).3, h.flushed refl, (h.good refl).5)
   ends given (Some at) h =
       let ended = h.ended at refl in
       let filter = filter_of tool choices in
@@ -111,7 +111,7 @@ module _ (tool : Tool) (choices : Choices) (input : Input) (writer messages : De
   read_unseen h = ends h.1 h.0 h.3
 
   pub unseen : IsFiltered tool choices input writer messages status → IsFilteredUnseen tool choices messages status
-  unseen h = elim (read_unseen h) [ inl failed ↦ inl (failed.0, failed.3) | inr ran ↦ inr (ran.0, ran.2.messages_are, ran.2.status_is) ]
+  unseen h = elim (read_unseen h) [ inl failed ↦ inl (failed.0, failed.3) | inr ran ↦ inr (ran.0, ran.3.messages_are, ran.3.status_is) ]
 
 -- a filter that ran from a file, into another or into the output
 pub from_file : (source target : Option (List ℕ)) → is_some source ≡ true → (tool : Tool) (choices : Choices) (input reader : Input) (output messages : Device) (status : ℕ)

@@ -175,7 +175,7 @@ IsHandedOn writer messages =
 abbrev pub IsFilteredSome : Tool → Choices → Device → Device → ℕ → Type 0
 IsFilteredSome tool choices writer messages status =
     ((status ≡ 1) × IsFrontOf (filter_of tool choices) writer × IsHandedOn writer messages × IsFaultShown messages)
-    ⊎ ((given : List ℕ) × writer.flushed × IsResult (result_of tool choices given) writer messages status None)
+    ⊎ ((given : List ℕ) × (writer.after ≡ with_flush writer.before) × writer.flushed × IsResult (result_of tool choices given) writer messages status None)
 
 -- the same where the output is a file, of which nothing is known either
 abbrev pub IsFilteredUnseen : Tool → Choices → Device → ℕ → Type 0

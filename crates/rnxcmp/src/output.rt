@@ -1,6 +1,6 @@
 //! The writer below the buffer of the output.
 
-ghost use Rattle.std.specs.Prelude.{◌≡◌, ◌≢◌, ◌<◌, true, false, is_ok, length, OnErr, IfErr, IfOk};
+ghost use Rattle.std.specs.Prelude.{◌≡◌, ◌≢◌, ◌<◌, true, false, is_ok, length, OnErr, OnOk, IfErr, IfOk};
 ghost use Rattle.std.specs.Io.{WritesAtMost};
 ghost use Rattle.std.specs.Io.KnownBytes.{Keeps, WriteAppends};
 ghost use Rattle.std.specs.IoError.{error_kind};
@@ -43,6 +43,7 @@ impl<W: Write> Write for UntilFailure<W> {
         ensures refused { self.old.failed ≡ true → is_ok result ≡ false }
         ensures noted { IfErr result (λ e. error_kind e ≢ ErrorKind.Interrupted → self.new.failed ≡ true) }
         ensures none_noted { IfOk result (λ n. n ≡ 0 → 0 < length buf.now → self.new.failed ≡ true) }
+        ensures good { IfOk result (λ n. 0 < n → self.new.failed ≡ false) }
     {
         if self.failed {
             return Err(ErrorKind::BrokenPipe.into());
@@ -60,6 +61,7 @@ impl<W: Write> Write for UntilFailure<W> {
         ensures left_alone { self.old.failed ≡ true → self.new ≡ self.old }
         ensures refused { self.old.failed ≡ true → is_ok result ≡ false }
         ensures noted { OnErr result (self.new.failed ≡ true) }
+        ensures good { OnOk result (self.new.failed ≡ false) }
     {
         if self.failed {
             return Err(ErrorKind::BrokenPipe.into());
