@@ -98,7 +98,7 @@ class Picture:
             layer.update({name: max((layer[o] + 1 for o in others), default=0) for name, others in below.items() if all(o in layer for o in others)})
         under = {name: set(others).union(*(below[o] for o in others)) for name, others in below.items()}
         if missing := [name for name in below if name not in self.crates]:
-            raise SystemExit(f"docs/pictures/crates.txt has no line for {', '.join(missing)}")
+            raise SystemExit(f"docs/pictures/layers.txt has no line for {', '.join(missing)}")
         highest = max(layer.values())
         for name in sorted(below, key=lambda name: layer[name]):
             column, texts = self.crates[name]
