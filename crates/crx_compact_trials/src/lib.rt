@@ -1,11 +1,8 @@
-//! Tests of compact text: epochs to compact lines and back, codes to values, and counts of types that change.
+//! Tests of the parts of compact text: codes to values, and lines that are ready. Whole epochs, both ways, are among the cases of
+//! tests/cases, which the program runs.
 #![tactic(auto)]
 
 #[cfg(test)]
-mod cases;
+mod codes;
 #[cfg(test)]
-mod counts;
-#[cfg(test)]
-mod reading;
-#[cfg(test)]
-mod writing;
+mod lines;
