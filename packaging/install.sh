@@ -28,6 +28,8 @@ done
 page rnxcmp-file rnxcmp-file
 for name in rnxcmp RNX2CRX CRX2RNX rnx2crx crx2rnx; do
     page rnxcmp "$name"
+done
+for name in rnxcmp RNX2CRX CRX2RNX rnx2crx crx2rnx rnxcmp-file; do
     install -m 644 "$here/completions/rnxcmp.bash" "$prefix/share/bash-completion/completions/$name"
     install -m 644 "$here/completions/rnxcmp.fish" "$prefix/share/fish/vendor_completions.d/$name.fish"
 done

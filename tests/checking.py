@@ -5,9 +5,9 @@ import shutil
 import subprocess
 
 # programs that a command may need and a machine may lack
-TOOLS = ("awk", "bash", "cmp", "find", "groff", "gzip", "less", "make", "man", "mandoc", "nproc", "parallel", "sort", "xargs")
+TOOLS = ("awk", "bash", "cmp", "find", "fish", "groff", "gzip", "less", "make", "man", "mandoc", "nproc", "parallel", "sort", "xargs", "zsh")
 # programs that some tests use, and are left out without
-LIKED = ("strace", "valgrind", "parallel", "mandoc", "gfortran")
+LIKED = ("strace", "valgrind", "parallel", "mandoc", "gfortran", "fish", "zsh")
 
 
 def missing_tools(command):

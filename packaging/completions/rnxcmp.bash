@@ -1,4 +1,4 @@
-# Completion of rnxcmp, RNX2CRX, CRX2RNX, rnx2crx and crx2rnx for bash.
+# Completion of rnxcmp, RNX2CRX, CRX2RNX, rnx2crx, crx2rnx and rnxcmp-file for bash.
 
 _rnxcmp_files() {
     # $1: an extended pattern of names, $2: the word so far
@@ -49,6 +49,33 @@ _CRX2RNX() {
     _rnxcmp_words crx2rnx "$2" "$3"
 }
 
+_rnxcmp_file() {
+    local place names=0 choices='--gzip --no-gzip --verify --delete -f -s -h --help'
+    COMPREPLY=()
+    if [[ $COMP_CWORD -eq 1 ]]; then
+        mapfile -t COMPREPLY < <(compgen -W 'rnx2crx crx2rnx -h --help' -- "$2")
+        return
+    fi
+    case $3 in
+        -e | --date) return ;;
+    esac
+    for ((place = 2; place < COMP_CWORD; place++)); do
+        case ${COMP_WORDS[place]} in
+            -e | --date) ((++place)) ;;
+            -*) ;;
+            *) ((++names)) ;;
+        esac
+    done
+    [[ ${COMP_WORDS[1]} == rnx2crx ]] && choices+=' -e --date'
+    case ${COMP_WORDS[1]}$names$2 in
+        rnx2crx?-* | crx2rnx?-*) mapfile -t COMPREPLY < <(compgen -W "$choices" -- "$2") ;;
+        rnx2crx0*) _rnxcmp_files '*.@(rnx|RNX|[0-9][0-9][oO])?(.gz)' "$2" ;;
+        crx2rnx0*) _rnxcmp_files '*.@(crx|CRX|[0-9][0-9][dD])?(.gz)' "$2" ;;
+        rnx2crx1* | crx2rnx1*) mapfile -t COMPREPLY < <(compgen -o plusdirs -f -- "$2") ;;
+    esac
+}
+
 complete -o filenames -F _rnxcmp rnxcmp
 complete -o filenames -F _RNX2CRX RNX2CRX rnx2crx
 complete -o filenames -F _CRX2RNX CRX2RNX crx2rnx
+complete -o filenames -F _rnxcmp_file rnxcmp-file

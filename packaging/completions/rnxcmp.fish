@@ -1,8 +1,9 @@
-# Completion of rnxcmp, RNX2CRX, CRX2RNX, rnx2crx and crx2rnx for fish, which reads it once for each of these names, by the file's name.
+# Completion of rnxcmp, RNX2CRX, CRX2RNX, rnx2crx, crx2rnx and rnxcmp-file for fish, which reads it once for each of these names, by the
+# file's name.
 
 set -l tools rnx2crx crx2rnx check
 
-for name in rnxcmp RNX2CRX CRX2RNX rnx2crx crx2rnx
+for name in rnxcmp RNX2CRX CRX2RNX rnx2crx crx2rnx rnxcmp-file
     complete -c $name -e
     complete -c $name -s h -l help -d 'Print help'
 end
@@ -24,3 +25,14 @@ for name in RNX2CRX CRX2RNX rnx2crx crx2rnx
     complete -c $name -s s -d 'Warn about strange epochs and skip them'
     complete -c $name -s f -d 'Overwrite the output file'
 end
+
+complete -c rnxcmp-file -n 'not __fish_seen_subcommand_from rnx2crx crx2rnx' -f -a rnx2crx -d 'Compact a file'
+complete -c rnxcmp-file -n 'not __fish_seen_subcommand_from rnx2crx crx2rnx' -f -a crx2rnx -d 'Expand a file'
+complete -c rnxcmp-file -n '__fish_seen_subcommand_from rnx2crx' -s e -x -d 'Start everything anew at every N epochs'
+complete -c rnxcmp-file -n '__fish_seen_subcommand_from rnx2crx' -l date -x -d 'The date in line 2 of the output'
+complete -c rnxcmp-file -n '__fish_seen_subcommand_from rnx2crx crx2rnx' -s s -d 'Warn about strange epochs and skip them'
+complete -c rnxcmp-file -n '__fish_seen_subcommand_from rnx2crx crx2rnx' -s f -d 'Replace an output that is there'
+complete -c rnxcmp-file -n '__fish_seen_subcommand_from rnx2crx crx2rnx' -l gzip -d 'Pack the output'
+complete -c rnxcmp-file -n '__fish_seen_subcommand_from rnx2crx crx2rnx' -l no-gzip -d 'Do not pack the output'
+complete -c rnxcmp-file -n '__fish_seen_subcommand_from rnx2crx crx2rnx' -l verify -d 'Expand the output again and compare'
+complete -c rnxcmp-file -n '__fish_seen_subcommand_from rnx2crx crx2rnx' -l delete -d 'Remove the input once the output is verified'

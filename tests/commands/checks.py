@@ -14,13 +14,15 @@ from pathlib import Path
 
 from checking import missing_tools
 
-TOP = Path(__file__).resolve().parents[2]
+HERE = Path(__file__).resolve().parent
+TOP = HERE.parents[1]
 SAMPLE = TOP / "samples/station.rnx"
 MANUAL = TOP / "packaging/man/rnxcmp.1"
-# the names under which the program, the manual page and the completions are installed
+# the names under which the program is installed
 NAMES = ("rnxcmp", "RNX2CRX", "CRX2RNX", "rnx2crx", "crx2rnx")
-PAGES = (*NAMES, "rnxcmp-file")
+ALL_NAMES = (*NAMES, "rnxcmp-file")  # of which each has a manual page and completions
 WIDTH = 80  # of a terminal, for help and manual
+FILES = ("abcd0010.24o", "a.crx", "b c.rnx", "a.rnx.gz", "a.24d.gz")  # among which completions choose
 # words so far, and the words that complete them
 COMPLETIONS = (
     ("rnxcmp ", ["rnx2crx", "crx2rnx", "check", "-h", "--help"]),
@@ -34,6 +36,26 @@ COMPLETIONS = (
     ("CRX2RNX -f a", ["a.crx"]),
     ("rnx2crx b", ["b c.rnx"]),
     ("crx2rnx -", ["-s", "-f", "-h", "--help", "-"]),
+    ("rnxcmp-file ", ["rnx2crx", "crx2rnx", "-h", "--help"]),
+    ("rnxcmp-file rnx2crx --d", ["--delete", "--date"]),
+    ("rnxcmp-file crx2rnx --d", ["--delete"]),
+    ("rnxcmp-file rnx2crx --gzip a", ["abcd0010.24o", "a.rnx.gz"]),
+    ("rnxcmp-file rnx2crx -e 30 --verify abc", ["abcd0010.24o"]),
+    ("rnxcmp-file rnx2crx -e ", []),
+    ("rnxcmp-file crx2rnx a", ["a.crx", "a.24d.gz"]),
+    ("rnxcmp-file crx2rnx a.crx b", ["b c.rnx"]),
+    ("rnxcmp-file crx2rnx a.crx b.rnx a", []),
+    ("rnxcmp-file check a", []),
+)
+# what fish and zsh are to offer among other things, for words so far
+OFFERED = (
+    ("rnxcmp ", ["rnx2crx", "crx2rnx", "check"]),
+    ("RNX2CRX --d", ["--date"]),
+    ("rnxcmp-file ", ["rnx2crx", "crx2rnx"]),
+    ("rnxcmp-file rnx2crx --", ["--gzip", "--no-gzip", "--verify", "--delete", "--date"]),
+    ("rnxcmp-file crx2rnx --", ["--gzip", "--no-gzip", "--verify", "--delete"]),
+    ("rnxcmp-file rnx2crx a", ["abcd0010.24o", "a.rnx.gz"]),
+    ("rnxcmp-file crx2rnx a", ["a.crx", "a.24d.gz"]),
 )
 
 
@@ -114,7 +136,7 @@ def check_pages(prefix):
     if lacking:
         return f"there is no {lacking[0]}"
     wrong = []
-    for name in PAGES:
+    for name in ALL_NAMES:
         page = prefix / f"share/man/man1/{name}.1"
         run = subprocess.run(["groff", "-t", "-man", "-Tascii", "-ww", "-P-cbou", str(page)], capture_output=True, text=True, timeout=60)
         if run.returncode or run.stderr or "EXIT STATUS" not in run.stdout:
@@ -129,7 +151,7 @@ def check_pages_strictly(prefix):
     if lacking:
         return f"there is no {lacking[0]}"
     wrong = []
-    for name in PAGES:
+    for name in ALL_NAMES:
         page = prefix / f"share/man/man1/{name}.1"
         run = subprocess.run(["mandoc", "-Tlint", page], capture_output=True, text=True, timeout=60)
         wrong += [] if run.returncode == 0 and not run.stdout + run.stderr else [f"{name}.1: {run.stdout}{run.stderr}"]
@@ -147,11 +169,10 @@ def check_help(program):
 
 
 def check_completions(prefix, folder):
-    """What bash completes, by the file that is installed for each name; and that fish finds a file for each."""
-    for name in ("abcd0010.24o", "a.crx", "b c.rnx"):
+    """What bash completes, by the file that is installed for each name."""
+    for name in FILES:
         (folder / name).touch()
-    fish = [prefix / f"share/fish/vendor_completions.d/{name}.fish" for name in NAMES]
-    wrong = [f"{path.name} isn't there" for path in fish if not path.is_file()]
+    wrong = []
     for line, wanted in COMPLETIONS:
         words = line.split(" ")
         script = prefix / f"share/bash-completion/completions/{words[0]}"
@@ -165,8 +186,31 @@ def check_completions(prefix, folder):
             [[ ${{#COMPREPLY[@]}} -eq 0 ]] || printf '%s\n' "${{COMPREPLY[@]}}"
         """
         run = run_in(folder, prefix / "bin", ["bash", "--norc", "-c", ask])
-        if run.stdout.splitlines() != wanted or run.stderr:
+        if sorted(run.stdout.splitlines()) != sorted(wanted) or run.stderr:
             wrong.append(f"{line!r}: {run.stdout!r}, {run.stderr!r}")
+    return wrong
+
+
+def check_offered(prefix, folder, shell):
+    """What fish or zsh offers, by the files that are installed."""
+    lacking = missing_tools(shell)
+    if lacking:
+        return f"there is no {lacking[0]}"
+    for name in FILES:
+        (folder / name).touch()
+    fish, zsh = prefix / "share/fish/vendor_completions.d", prefix / "share/zsh/site-functions"
+    wrong = [f"{name}.fish isn't there" for name in ALL_NAMES if not (fish / f"{name}.fish").is_file()]
+    for line, wanted in OFFERED:
+        page = fish / f"{line.split()[0]}.fish"
+        calls = {
+            "fish": ["fish", "--no-config", "-c", f"source '{page}'; complete -C '{line}'"],
+            "zsh": ["zsh", "-f", str(HERE / "offered.zsh"), str(zsh), line, str(prefix / "offered")],
+        }
+        run = run_in(folder, prefix / "bin", calls[shell])
+        offered = [text.split("\t")[0] for text in run.stdout.splitlines()]
+        missing = [word for word in wanted if word not in offered]
+        if missing or run.returncode:
+            wrong.append(f"{line!r}: {missing} isn't offered, but {offered}; status {run.returncode}, {run.stderr!r}")
     return wrong
 
 
@@ -191,4 +235,6 @@ def checks(program):
         yield "installed: manual pages", lambda: check_pages(prefix)
         yield "installed: manual pages, by mandoc", lambda: check_pages_strictly(prefix)
         yield "help: 80 columns", lambda: check_help(program)
-        yield "installed: completions", lambda: check_completions(prefix, folder)
+        yield "installed: completions of bash", lambda: check_completions(prefix, folder)
+        for shell in ("fish", "zsh"):
+            yield f"installed: completions of {shell}", lambda shell=shell: check_offered(prefix, folder, shell)
