@@ -16,6 +16,7 @@ from checking import missing_tools
 
 sys.path.insert(0, str(Path(__file__).parent))
 import script  # noqa: E402
+from recipes import recipes  # noqa: E402
 
 TOP = Path(__file__).resolve().parents[2]
 SAMPLE = TOP / "samples/station.rnx"
@@ -37,6 +38,7 @@ WANTED = {
     "Is anything lost?": ["the messages say which"],
     "Other programs that read the files": ["the same"],
 }
+ELSEWHERE = ("GNU parallel over several machines",)  # recipes that tests/cluster runs
 # what stands after a recipe, and what doesn't
 LEFT = {
     "find and xargs": (["a.crx", "sub/b.crx", "packed.crx.gz", "strange.crx"], ["bad.crx"]),
@@ -68,18 +70,10 @@ def make_files(folder):
         os.utime(path, (OLD, OLD))
 
 
-def blocks(text):
-    """The recipes: a heading and its block."""
-    heading = ""
-    for part in re.finditer(r"^## ([^\n]+)$|^```sh\n(.*?)^```$", text, re.M | re.S):
-        if part[1]:
-            heading = part[1]
-        else:
-            yield heading, part[2]
-
-
 def run_block(heading, block, work, environment):
     """What is wrong, as lines, or why the block is left out."""
+    if heading in ELSEWHERE:
+        return "make cluster-test runs it"
     lacking = missing_tools(block)
     if lacking:
         return f"there is no {lacking[0]}"
@@ -121,7 +115,7 @@ def checks(program):
         work.mkdir()
         make_files(work)
         environment = {**os.environ, "PATH": f"{tools}:{os.environ['PATH']}"}
-        for heading, block in blocks((TOP / "docs/ARCHIVES.md").read_text()):
+        for heading, block in recipes():
             yield heading, lambda: run_block(heading, block, work, environment)
         yield "the next nights", lambda: check_next_nights(work, environment)
     yield from script.checks(program)
