@@ -14,6 +14,7 @@ import tempfile
 import threading
 from dataclasses import dataclass, field
 from pathlib import Path
+from typing import Optional
 
 HERE = Path(__file__).resolve().parent
 SECONDS = 60  # in which each run is to end
@@ -37,11 +38,11 @@ FILES = {"rnx2crx": ("given.rnx", "given.crx"), "crx2rnx": ("given.crx", "given.
 @dataclass
 class Case:
     arguments: list  # one run a line
-    input: bytes | None = None
+    input: Optional[bytes] = None
     output: bytes = b""
     messages: bytes = b""
     status: int = 0
-    expansion: bytes | None = None  # what crx2rnx makes of the output
+    expansion: Optional[bytes] = None  # what crx2rnx makes of the output
     files: dict = field(default_factory=dict)  # that stand there before
     left: dict = field(default_factory=dict)  # that are new or others afterwards
 

@@ -1,0 +1,177 @@
+#!/usr/bin/env python3
+"""A release on Debian 11, whose C library (2.31) is too old for a program that isn't linked statically.
+
+    tests/debian11/run.py DIST ROOT [--mirror URL]
+
+DIST is what `make dist` makes. ROOT is a folder with a root of Debian 11. Where there is none, debootstrap makes it, from a mirror of
+Debian's packages; later runs take it as it is. All is done in a copy of it, which is removed at the end: the archive is unpacked,
+compacts and expands the sample, and runs the tests of the source archive that don't need the prover; the package is installed, used
+and removed, and installed once more into a folder with nothing in it. The last line is `N passed, M failed`.
+"""
+
+import argparse
+import os
+import re
+import shutil
+import subprocess
+import sys
+import tempfile
+from pathlib import Path
+
+TOP = Path(__file__).resolve().parents[2]
+sys.path.insert(0, str(TOP / "tests"))
+from checking import tally  # noqa: E402
+
+SUITE, NUMBER, C_LIBRARY = "bullseye", "11", "2.31"
+PACKAGES = "python3,make,groff,less,mandoc,parallel,strace"  # what the tests use, beside what every root has
+TOOLS = ("debootstrap", "dpkg", "dpkg-deb", "tar", "unshare", "chroot", "mount")
+VERSION = (TOP / "VERSION").read_text().strip()
+SAMPLE = TOP / "samples/station.rnx"
+NAME = f"rnxcmp-{VERSION}-linux-x86_64"
+SECONDS = 1200  # in which each step is to end
+
+
+def lacking(dist):
+    """What the machine lacks for this test, or nothing."""
+    missing = [tool for tool in TOOLS if not shutil.which(tool)]
+    if missing:
+        return f"not found here: {', '.join(missing)} (Debian: apt-get install debootstrap)"
+    if os.geteuid():
+        return "only root may make a root of another system"
+    return None if (dist / f"{NAME}.tar.gz").exists() else f"there is no {NAME}.tar.gz in {dist}: run make dist first"
+
+
+def make_root(root, mirror):
+    """Makes the root where it isn't there; what went wrong, as lines."""
+    if (root / "etc/debian_version").exists():
+        return []
+    part = root.with_name(root.name + ".part")
+    shutil.rmtree(part, ignore_errors=True)
+    part.parent.mkdir(parents=True, exist_ok=True)
+    command = ["debootstrap", "--variant=minbase", f"--include={PACKAGES}", SUITE, str(part), mirror]
+    run = subprocess.run(command, capture_output=True, text=True, timeout=SECONDS)
+    if run.returncode:
+        return [f"debootstrap: status {run.returncode}", *(run.stdout + run.stderr).splitlines()[-5:]]
+    part.rename(root)
+    return []
+
+
+def inside(root, *words, **more):
+    """Runs a command in a root, with a /proc of its own that goes with it."""
+    script = 'mount -t proc proc "$0/proc" && exec chroot "$0" "$@"'
+    environment = {"PATH": "/usr/local/sbin:/usr/local/bin:/usr/sbin:/usr/bin:/sbin:/bin", "HOME": "/root", "LC_ALL": "C.UTF-8"}
+    command = ["unshare", "--mount", "--pid", "--fork", "--kill-child", "sh", "-c", script, str(root), *words]
+    return subprocess.run(command, env=environment, capture_output=True, timeout=SECONDS, stdin=more.pop("stdin", subprocess.DEVNULL), **more)
+
+
+def said(run):
+    return f"status {run.returncode}, {run.stdout[-200:]!r}, {run.stderr[-300:]!r}"
+
+
+def check_system(root):
+    number, library = inside(root, "cat", "/etc/debian_version").stdout.decode(), inside(root, "ldd", "--version").stdout.decode()
+    return [] if number.startswith(f"{NUMBER}.") and f" {C_LIBRARY}\n" in library else [f"{number!r}, {library[:60]!r}"]
+
+
+def check_way_back(root, program, script):
+    """The sample there and back by the program, and by the script in a folder."""
+    wrong = []
+    compact = inside(root, program, "rnx2crx", stdin=SAMPLE.open("rb"))
+    back = subprocess.run(["chroot", root, program, "crx2rnx"], input=compact.stdout, capture_output=True, timeout=SECONDS)
+    if (compact.returncode, compact.stderr, back.returncode, back.stderr, back.stdout) != (0, b"", 0, b"", SAMPLE.read_bytes()):
+        wrong += [f"there: {said(compact)}", f"back: {said(back)}"]
+    folder = root / "tmp/files"
+    folder.mkdir()
+    shutil.copy(SAMPLE, folder / "a.rnx")
+    for words, left in ((["rnx2crx", "--gzip", "--delete", "a.rnx"], "a.crx.gz"), (["crx2rnx", "--no-gzip", "--delete", "a.crx.gz"], "a.rnx")):
+        run = inside(root, "sh", "-c", 'cd /tmp/files && exec "$0" "$@"', script, *words)
+        names = [path.name for path in folder.iterdir()]
+        wrong += [] if run.returncode == 0 and not run.stderr and names == [left] else [f"{words}: {said(run)}, files {names}"]
+    same = not wrong and (folder / "a.rnx").read_bytes() == SAMPLE.read_bytes()
+    shutil.rmtree(folder)
+    return wrong or ([] if same else ["the script's file isn't the sample"])
+
+
+def check_archive(root):
+    subprocess.run(["tar", "-xzf", root / f"tmp/dist/{NAME}.tar.gz", "-C", root / "opt"], check=True, timeout=SECONDS)
+    return check_way_back(root, f"/opt/{NAME}/bin/rnxcmp", f"/opt/{NAME}/bin/rnxcmp-file")
+
+
+def check_own_tests(root):
+    """The tests of the source archive, on the archive's program; what of them was left out is shown."""
+    subprocess.run(["tar", "-xzf", root / f"tmp/dist/rnxcmp-{VERSION}.tar.gz", "-C", root / "opt"], check=True, timeout=SECONDS)
+    run = inside(root, "python3", f"/opt/rnxcmp-{VERSION}/tests/run.py", f"/opt/{NAME}/bin/rnxcmp", text=True)
+    lines = run.stdout.splitlines()
+    for line in lines:
+        if "... left out" in line or line.startswith("not found here"):
+            print(f"    {line}")
+    print(f"    {lines[-1] if lines else said(run)}", flush=True)
+    if run.returncode == 0 and re.fullmatch(r"[1-9]\d* passed, 0 failed", lines[-1]):
+        return []
+    shown = [k for k, line in enumerate(lines) if line.endswith("... FAILED") or line.startswith("    ")]
+    return [f"status {run.returncode}", *[lines[k] for k in shown], *run.stderr.splitlines()[-8:]]
+
+
+def check_package(root):
+    """Installed and used as the system's own; then removed, with nothing left."""
+    before = {path for path in (root / "usr").rglob("*")}
+    run = inside(root, "dpkg", "-i", f"/tmp/dist/rnxcmp_{VERSION}_amd64.deb")
+    if run.returncode:
+        return [said(run)]
+    state = inside(root, "dpkg-query", "-W", "-f", "${Status} ${Version}", "rnxcmp").stdout.decode()
+    wrong = [] if state == f"install ok installed {VERSION}" else [f"state {state!r}"]
+    wrong += check_way_back(root, "/usr/bin/rnxcmp", "rnxcmp-file")
+    changed = inside(root, "dpkg", "-V", "rnxcmp")
+    wrong += [] if changed.returncode == 0 and not changed.stdout else [f"changed: {said(changed)}"]
+    removed = inside(root, "dpkg", "-P", "rnxcmp")
+    left = {path for path in (root / "usr").rglob("*")} - before
+    return wrong + ([] if removed.returncode == 0 and not left else [f"after the removal: {said(removed)}, {sorted(map(str, left))[:4]}"])
+
+
+def check_empty_root(root, folder):
+    """The package in a root with nothing but dpkg's own records: the program runs there with no other file."""
+    for name in ("updates", "info", "triggers"):
+        (folder / "var/lib/dpkg" / name).mkdir(parents=True)
+    for name in ("status", "available"):
+        (folder / "var/lib/dpkg" / name).touch()
+    package = root / f"tmp/dist/rnxcmp_{VERSION}_amd64.deb"
+    run = subprocess.run(["dpkg", f"--root={folder}", "--install", package], capture_output=True, text=True, timeout=SECONDS)
+    if run.returncode:
+        return [said(run)]
+    compact = subprocess.run(["chroot", folder, "/usr/bin/rnxcmp", "rnx2crx"], stdin=SAMPLE.open(), capture_output=True, timeout=SECONDS)
+    back = subprocess.run(["chroot", folder, "/usr/bin/rnxcmp", "crx2rnx"], input=compact.stdout, capture_output=True, timeout=SECONDS)
+    return [] if back.stdout == SAMPLE.read_bytes() else [said(compact), said(back)]
+
+
+def checks(root, folder):
+    yield "the system", lambda: check_system(root)
+    yield "the archive", lambda: check_archive(root)
+    yield "the archive's own tests", lambda: check_own_tests(root)
+    yield "the package", lambda: check_package(root)
+    yield "the package in an empty root", lambda: check_empty_root(root, folder)
+
+
+def main():
+    parser = argparse.ArgumentParser(description=__doc__, formatter_class=argparse.RawDescriptionHelpFormatter)
+    parser.add_argument("dist", type=Path)
+    parser.add_argument("root", type=Path)
+    parser.add_argument("--mirror", default="http://deb.debian.org/debian", help="where Debian's packages are (%(default)s)")
+    arguments = parser.parse_args()
+    dist, root = arguments.dist.resolve(), arguments.root.resolve()
+    reason = lacking(dist)
+    wrong = [reason] if reason else make_root(root, arguments.mirror)
+    if wrong:
+        print("\n".join(["no test on Debian 11:", *wrong]))
+        return 1
+    with tempfile.TemporaryDirectory(dir=root.parent, prefix="debian11-") as name:
+        copy, empty = Path(name) / "root", Path(name) / "empty"
+        subprocess.run(["cp", "-a", root, copy], check=True, timeout=SECONDS)
+        shutil.copytree(dist, copy / "tmp/dist")
+        empty.mkdir()
+        passed, failed = tally("Debian 11", checks(copy, empty))
+    print(f"{passed} passed, {failed} failed")
+    return 1 if failed else 0
+
+
+if __name__ == "__main__":
+    sys.exit(main())
