@@ -170,8 +170,6 @@ def check_help(program):
 
 def check_completions(prefix, folder):
     """What bash completes, by the file that is installed for each name."""
-    for name in FILES:
-        (folder / name).touch()
     wrong = []
     for line, wanted in COMPLETIONS:
         words = line.split(" ")
@@ -196,8 +194,6 @@ def check_offered(prefix, folder, shell):
     lacking = missing_tools(shell)
     if lacking:
         return f"there is no {lacking[0]}"
-    for name in FILES:
-        (folder / name).touch()
     fish, zsh = prefix / "share/fish/vendor_completions.d", prefix / "share/zsh/site-functions"
     wrong = [f"{name}.fish isn't there" for name in ALL_NAMES if not (fish / f"{name}.fish").is_file()]
     for line, wanted in OFFERED:
@@ -235,6 +231,10 @@ def checks(program):
         yield "installed: manual pages", lambda: check_pages(prefix)
         yield "installed: manual pages, by mandoc", lambda: check_pages_strictly(prefix)
         yield "help: 80 columns", lambda: check_help(program)
+        folder = top / "completions"
+        folder.mkdir()
+        for name in FILES:
+            (folder / name).touch()
         yield "installed: completions of bash", lambda: check_completions(prefix, folder)
         for shell in ("fish", "zsh"):
             yield f"installed: completions of {shell}", lambda shell=shell: check_offered(prefix, folder, shell)
