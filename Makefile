@@ -5,6 +5,9 @@
 # make quick  the same for one who works on it: proofs and tests of what changed since all passed, no wrong bodies
 #             (what the prover prints goes into out/gate.log)
 # make memory-test runs the program that make built with each growth of memory refused in turn (tests/memory)
+# make archive-test runs each recipe of docs/ARCHIVES.md over 200 files, some of them bad, with kills and full disks (tests/archives)
+# make cluster-test runs the recipes for several machines, with Slurm and sshd on this one (tests/cluster)
+# make debian11-test tries what make dist made in a root of Debian 11, in out/debian11 (tests/debian11)
 # make install PREFIX=/usr/local
 #             puts the program that make built, its manual pages, completions and other names in place
 # make library
@@ -19,7 +22,7 @@ WORDS := rnx2crx --date "01-Jan-24 00:00"
 
 PREFIX ?= /usr/local
 
-.PHONY: all test quick memory-test install dist
+.PHONY: all test quick memory-test archive-test cluster-test debian11-test install dist
 
 all:
 	@tests/gate.py
@@ -44,6 +47,17 @@ quick:
 
 memory-test:
 	tests/memory/run.py $(PROGRAM)
+
+archive-test:
+	tests/archives/many.py $(PROGRAM)
+
+cluster-test:
+	tests/cluster/run.py $(PROGRAM)
+
+DEBIAN11 ?= out/debian11
+
+debian11-test:
+	tests/debian11/run.py out/dist $(DEBIAN11)
 
 install:
 	packaging/install.sh "$(DESTDIR)$(PREFIX)" $(PROGRAM)
