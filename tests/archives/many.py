@@ -74,7 +74,7 @@ def good(number):
 
 
 def bad_files():
-    """Ten files of which each is bad in its own way; the last three have one strange epoch."""
+    """Ten files of which each is bad in its own way; the last five are so in one epoch, or where one may begin."""
     text = good(7)
     lines = text.split(b"\n")
     first = next(k for k, line in enumerate(lines) if line.startswith(b">"))
@@ -87,9 +87,9 @@ def bad_files():
         b"<html>not found</html>\n",
         text.replace(b"     3.05", b"     2.11", 1),
         text.replace(b"     3.05", b"     4.01", 1),
+        bytes(range(256)) * 40,
         text[: len(text) // 2 + 7],
         text + b"\n",
-        bytes(range(256)) * 40,
         with_line(first + 1, lines[first + 1][:3] + b"x" * 14 + lines[first + 1][17:]),
         with_line(first + 2, lines[first + 1]),
         with_line(first + 1, lines[first + 1] + b"0" * 9000),
@@ -116,7 +116,7 @@ class Files:
             for name in sorted(self.good)[:20]:
                 self.good[f"{name}.gz"] = self.good.pop(name)
         self.unreadable = f"secret0{recipe.taken}"
-        self.strange = [name for name, content in self.bad.items() if recipe.skips and content in kinds[7:]]  # of which an output is made
+        self.strange = [name for name, content in self.bad.items() if recipe.skips and content in kinds[5:]]  # of which an output is made
 
     def write(self, work):
         for name, content in {**self.good, **self.bad, self.unreadable: good(1)}.items():
