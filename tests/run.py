@@ -2,6 +2,8 @@
 """The gate: `rt ci` at the top of the repository, and then the built program, as it is used.
 
     tests/run.py PROGRAM            the program alone
+    tests/run.py PROGRAM --only case process
+                                    the same of some kinds of tests
     tests/run.py PROGRAM --gate     after `rt ci`, which builds it
     tests/run.py PROGRAM --quick    after the proofs and tests of the crates that changed since all passed (`rt check`, `rt test`)
 
@@ -51,6 +53,7 @@ def main():
     parser.add_argument("program", type=Path)
     parser.add_argument("--gate", action="store_true", help="run `rt ci` first, which builds the program")
     parser.add_argument("--quick", action="store_true", help="prove and test first what changed since all passed, and build the program")
+    parser.add_argument("--only", nargs="+", choices=[kind for kind, _ in KINDS], metavar="KIND", help="run these kinds alone, of the program")
     arguments = parser.parse_args()
     program = arguments.program.resolve()
     counts = []
@@ -64,7 +67,7 @@ def main():
     if lacking:
         print(f"not found here: {', '.join(lacking)}; what needs them is left out")
     if program.exists():
-        counts += [tally(kind, checks_of(name, program)) for kind, name in KINDS]
+        counts += [tally(kind, checks_of(name, program)) for kind, name in KINDS if not arguments.only or kind in arguments.only]
     else:
         print(f"no program {program}")
         counts.append((0, 1))

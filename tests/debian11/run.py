@@ -19,8 +19,9 @@ import tempfile
 from pathlib import Path
 
 TOP = Path(__file__).resolve().parents[2]
-sys.path.insert(0, str(TOP / "tests"))
+sys.path[:0] = [str(TOP / "tests"), str(TOP / "tests/release")]
 from checking import tally  # noqa: E402
+from empty_root import check_in_empty_root  # noqa: E402
 
 SUITE, NUMBER, C_LIBRARY = "bullseye", "11", "2.31"
 PACKAGES = "python3,make,groff,less,mandoc,parallel,strace"  # what the tests use, beside what every root has
@@ -128,27 +129,12 @@ def check_package(root):
     return wrong + ([] if removed.returncode == 0 and not left else [f"after the removal: {said(removed)}, {sorted(map(str, left))[:4]}"])
 
 
-def check_empty_root(root, folder):
-    """The package in a root with nothing but dpkg's own records: the program runs there with no other file."""
-    for name in ("updates", "info", "triggers"):
-        (folder / "var/lib/dpkg" / name).mkdir(parents=True)
-    for name in ("status", "available"):
-        (folder / "var/lib/dpkg" / name).touch()
-    package = root / f"tmp/dist/rnxcmp_{VERSION}_amd64.deb"
-    run = subprocess.run(["dpkg", f"--root={folder}", "--install", package], capture_output=True, text=True, timeout=SECONDS)
-    if run.returncode:
-        return [said(run)]
-    compact = subprocess.run(["chroot", folder, "/usr/bin/rnxcmp", "rnx2crx"], stdin=SAMPLE.open(), capture_output=True, timeout=SECONDS)
-    back = subprocess.run(["chroot", folder, "/usr/bin/rnxcmp", "crx2rnx"], input=compact.stdout, capture_output=True, timeout=SECONDS)
-    return [] if back.stdout == SAMPLE.read_bytes() else [said(compact), said(back)]
-
-
 def checks(root, folder):
     yield "the system", lambda: check_system(root)
     yield "the archive", lambda: check_archive(root)
     yield "the archive's own tests", lambda: check_own_tests(root)
     yield "the package", lambda: check_package(root)
-    yield "the package in an empty root", lambda: check_empty_root(root, folder)
+    yield "the package in an empty root", lambda: check_in_empty_root(root / f"tmp/dist/rnxcmp_{VERSION}_amd64.deb", folder)
 
 
 def main():

@@ -124,6 +124,49 @@ def interrupted_writes(program):
     return wrong
 
 
+def close_of_a_file(program):
+    """A close of the output that fails isn't seen: all is written, the status is 0, there is no message (docs/GUARANTEES.md)."""
+    with Place(program, "a.rnx", GOOD) as place:
+        command = [*closing(place, "a.crx"), place.bin / "rnxcmp", *DATED, "a.rnx"]
+        run = subprocess.run(command, cwd=place.work, capture_output=True, timeout=SECONDS)
+        wrong = [] if (run.returncode, run.stderr) == (0, b"") else [f"status {run.returncode}, messages {run.stderr!r}"]
+        return wrong + ([] if place.expanded("a.crx") == GOOD else ["the output isn't whole"]) + was_injected(place)
+
+
+def closing(place, name):
+    """strace that makes each close of a file fail."""
+    return ["strace", "-f", "-y", "-o", place.folder / "trace", "-P", place.work / name, "-e", "trace=close", "-e", "inject=close:error=ENOSPC"]
+
+
+def was_injected(place):
+    return [] if "INJECTED" in (place.folder / "trace").read_text() else ["no close was made to fail"]
+
+
+MKTEMP = "#!/bin/sh\n: > a.part && echo a.part\n"  # so that the name of the script's output is known
+
+
+def script_sees_close(program):
+    """The same of the script, packed and not: a message, status 1, no output, and the input stays."""
+    wrong = []
+    for words in (["--delete"], ["--gzip", "--delete"]):
+        with Place(program, "a.rnx", GOOD, {"mktemp": MKTEMP}) as place:
+            run = place.run("rnx2crx", *words, "a.rnx", through=closing(place, "a.part.out"))
+            wrong += [f"{words}: {line}" for line in place.differs(run, 1, ["a.rnx"], ["cannot write"]) + was_injected(place)]
+    return wrong
+
+
+def script_asks_before_it_moves(program):
+    """The output is brought onto the disk before it is moved; and it and its folder once more, before the input is removed."""
+    with Place(program, "a.rnx", GOOD, {"mktemp": MKTEMP}) as place:
+        calls = "trace=fsync,fdatasync,syncfs,sync,rename,renameat,renameat2,unlink,unlinkat"
+        run = place.run("rnx2crx", "--delete", "a.rnx", through=["strace", "-f", "-y", "-o", place.folder / "trace", "-e", calls])
+        trace = (place.folder / "trace").read_text().replace(str(place.work), "W")
+        wanted = (r"fsync\(\d+<W/a\.part\.out>\) = 0", r'rename\w*\(.*"a\.part\.out".*"a\.crx".*\) = 0',
+                  r"fsync\(\d+<W/a\.crx>\) = 0", r"fsync\(\d+<W>\) = 0", r'unlink\w*\(.*"a\.rnx".*\) = 0')
+        found = re.search(r"[\s\S]*".join(wanted), re.sub(r" +=", " =", trace))
+        return place.differs(run, 0, ["a.crx"]) + ([] if found else [f"calls: {trace}"])
+
+
 def traced(program, fault, words, through=("strace", "-f", "-qq", "-o", "/dev/null")):
     """The script below strace with a fault in each of its processes, and what it lost, as lines: where the status is 0, or the input is gone,
     the output is whole; and what has the output's name always is."""
@@ -185,6 +228,9 @@ def checks(program):
         ("messages of warnings", lambda: failed_messages(program, [*DATED, "-s"], BAD_INDICATOR)),
         ("a message of an error", lambda: failed_messages(program, DATED, BAD_INDICATOR)),
         ("interrupted writes", lambda: interrupted_writes(program)),
+        ("a close of the output file", lambda: close_of_a_file(program)),
+        ("rnxcmp-file: a close of the output", lambda: script_sees_close(program)),
+        ("rnxcmp-file: sync before the move, and before the removal", lambda: script_asks_before_it_moves(program)),
         ("rnxcmp-file: sync and move", lambda: script_sync_and_move(program)),
         ("rnxcmp-file: any call", lambda: script_loses_nothing(program)),
     ):

@@ -6,8 +6,12 @@ import re
 import shutil
 import struct
 import subprocess
+import sys
 import tempfile
 from pathlib import Path
+
+sys.path.insert(0, str(Path(__file__).parent))
+from empty_root import check_in_empty_root  # noqa: E402
 
 TOP = Path(__file__).resolve().parents[2]
 SAMPLE = TOP / "samples/station.rnx"
@@ -83,6 +87,14 @@ def check_archive(made_in, folder):
     return check_unpacked(folder / name, ["NOTICES", "CHANGELOG.md"])
 
 
+def check_static(folder):
+    """The cases and the runs as a process, of the archive's program."""
+    program = folder / f"rnxcmp-{VERSION}-linux-x86_64/bin/rnxcmp"
+    run = subprocess.run([sys.executable, TOP / "tests/run.py", program, "--only", "case", "process"], capture_output=True, text=True, timeout=600)
+    lines = run.stdout.splitlines()
+    return [] if run.returncode == 0 else [line for line in lines if not line.endswith("... ok")][:20] or [run.stderr[-300:]]
+
+
 def check_package(made_in, folder):
     package = made_in / f"rnxcmp_{VERSION}_amd64.deb"
     subprocess.run(["dpkg-deb", "-x", package, folder], check=True, timeout=SECONDS)
@@ -142,7 +154,9 @@ def checks(program):
         for title, check in (
             ("made twice", lambda: check_twice(program, one, folder / "two")),
             ("the archive", lambda: check_archive(one, folder / "archive")),
+            ("the archive's program", lambda: check_static(folder / "archive")),
             ("the package", lambda: check_package(one, folder / "package")),
+            ("the package in an empty root", lambda: check_in_empty_root(one / f"rnxcmp_{VERSION}_amd64.deb", folder / "empty")),
             ("the source archive", lambda: check_source(one, folder / "source")),
             ("made from the source archive", lambda: check_made_from_source(program, one, folder / "source")),
         ):
