@@ -7,7 +7,7 @@ import subprocess
 # programs that a command may need and a machine may lack
 TOOLS = ("awk", "bash", "cmp", "find", "fish", "groff", "gzip", "less", "make", "man", "mandoc", "nproc", "parallel", "sort", "xargs", "zsh")
 # programs that some tests use, and are left out without
-LIKED = ("strace", "valgrind", "parallel", "mandoc", "gfortran", "fish", "zsh")
+LIKED = ("strace", "valgrind", "parallel", "mandoc", "gfortran", "fish", "zsh", "rnx2rtkp")
 
 
 def missing_tools(command):

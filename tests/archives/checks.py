@@ -102,6 +102,27 @@ def check_next_nights(work, environment):
     return wrong
 
 
+def read_by_rtklib(work, environment, name):
+    """What RTKLIB says that it reads of a file: epochs, satellites, and how many observations."""
+    subprocess.run(["rnx2rtkp", "-x", "4", "-o", f"{name}.pos", name], cwd=work, env=environment, capture_output=True, timeout=60)
+    trace = (work / f"{name}.pos.trace").read_text(errors="replace")
+    return re.findall(r"^4 (?:decode_obsepoch|decode_obsdata|readrnxobs): ((?:time|nobs)=.*)", trace, re.M)
+
+
+def check_rtklib(work, environment):
+    """RTKLIB runs crx2rnx on its own, and reads what it reads of the observation file."""
+    if not shutil.which("rnx2rtkp"):
+        return "there is no rnx2rtkp"
+    folder = work / "rtklib"
+    folder.mkdir()
+    shutil.copy(SAMPLE, folder / "abcd0010.24o")
+    wanted = read_by_rtklib(folder, environment, "abcd0010.24o")
+    subprocess.run(["rnxcmp", "rnx2crx", "abcd0010.24o"], cwd=folder, env=environment, check=True, timeout=60)
+    (folder / "abcd0010.24o").unlink()
+    read = read_by_rtklib(folder, environment, "abcd0010.24d")
+    return [] if len(wanted) > 100 and read == wanted else [f"{len(read)} lines about epochs, satellites and observations, not {len(wanted)}"]
+
+
 def checks(program):
     with tempfile.TemporaryDirectory() as name:
         folder = Path(name)
@@ -118,4 +139,5 @@ def checks(program):
         for heading, block in recipes():
             yield heading, lambda: run_block(heading, block, work, environment)
         yield "the next nights", lambda: check_next_nights(work, environment)
+        yield "RTKLIB", lambda: check_rtklib(work, environment)
     yield from script.checks(program)
