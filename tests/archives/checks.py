@@ -33,7 +33,8 @@ WANTED = {
         "archive/bad.rnx: ERROR line",
         "archive/faulty.24o: ERROR line",
         "archive/padded.24o: standard no",
-        "reports/archive/padded.24o.txt:standard no",
+        "reports/archive/padded.24o.txt:standard no 32, blanks at its end\n",
+        " 1  blanks at its end\n",
     ],
     "Is anything lost?": ["the messages say which"],
     "Other programs that read the files": ["the same"],
@@ -102,6 +103,28 @@ def check_next_nights(work, environment):
     return wrong
 
 
+def check_reasons(work, environment):
+    """The report of the night says why a file isn't standard, and says nothing of one that is."""
+    good = SAMPLE.read_bytes()
+    lines = good.split(b"\n")
+    first = next(k for k, line in enumerate(lines) if line.startswith(b">"))
+    row = lines[first + 1]
+    contents = {
+        "a.rnx": (good.replace(b"\n", b"\r\n"), "1, CR before LF"),
+        "b.rnx": (good.replace(lines[first], lines[first] + b" "), f"{first + 1}, blanks at its end"),
+        "c.rnx": (good.replace(row, re.sub(rb" (\d)", rb"0\1", row, count=1)), f"{first + 2}, a number written otherwise"),
+        "d.rnx": (good[:-1], f"{len(lines) - 1}, no LF at its end"),
+        "e.rnx": (good, ""),
+    }
+    folder = work / "reasons"
+    (folder / "archive").mkdir(parents=True)
+    for name, (content, _) in contents.items():
+        (folder / "archive" / name).write_bytes(content)
+    run = subprocess.run(["sh", str(work / "nightly.sh")], cwd=folder, env=environment, capture_output=True, text=True, timeout=60)
+    wanted = [f"archive/{name}: standard no {reason}" for name, (_, reason) in contents.items() if reason]
+    return [] if run.stdout.splitlines() == wanted and not run.stderr else [f"said: {run.stdout!r}, {run.stderr!r}"]
+
+
 def read_by_rtklib(work, environment, name):
     """What RTKLIB says that it reads of a file: epochs, satellites, and how many observations."""
     subprocess.run(["rnx2rtkp", "-x", "4", "-o", f"{name}.pos", name], cwd=work, env=environment, capture_output=True, timeout=60)
@@ -139,5 +162,6 @@ def checks(program):
         for heading, block in recipes():
             yield heading, lambda: run_block(heading, block, work, environment)
         yield "the next nights", lambda: check_next_nights(work, environment)
+        yield "reasons of the night", lambda: check_reasons(work, environment)
         yield "RTKLIB", lambda: check_rtklib(work, environment)
     yield from script.checks(program)
