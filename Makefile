@@ -13,7 +13,8 @@
 # make library
 #             proves and builds the library for C, C++ and Fortran, into out/library (docs/LIBRARY.md)
 # make python does that and makes the package for Python of it, into out/python
-# make dist   makes a release of what make built, in out/dist: an archive with a static program, a Debian package, a source archive
+# make dist   makes a release of what make built, in out/dist: an archive with a static program and the library, a Debian package,
+#             a source archive
 
 SAMPLE := samples/station.rnx
 COMPACT := out/station.crx
@@ -72,6 +73,6 @@ python: library
 	rm -rf out/python
 	python3 python/build_wheel.py out/library out/python
 
-dist:
-	packaging/dist.sh $(PROGRAM).o out/dist
+dist: library
+	packaging/dist.sh $(PROGRAM).o out/dist out/library
 	@cat out/dist/SHA256SUMS

@@ -1,15 +1,17 @@
 #!/bin/sh
-# Makes what a release consists of, from the object file that rt leaves:
-#     packaging/dist.sh OBJECT FOLDER
-# An archive with a static program, a Debian package, a source archive of the last commit, and SHA256SUMS. Each is the same bytes
+# Makes what a release consists of, from the object file that rt leaves and the folder that `make library` leaves:
+#     packaging/dist.sh OBJECT FOLDER [LIBRARY]
+# An archive with a static program and the library, a Debian package, a source archive of the last commit, and SHA256SUMS. Each is the same bytes
 # wherever and whenever it is made, with the same compiler and C library: all times are SOURCE_DATE_EPOCH, the last commit's if not set.
 set -eu
 umask 022
 export LC_ALL=C TZ=UTC
 object=$1
 to=$2
+library=${3:-}
 top=$(cd "$(dirname "$0")/.." && pwd)
 [ -f "$object" ] || { echo "no object file $object: run make first" >&2; exit 1; }
+[ -z "$library" ] || [ -f "$library/librnxcmp.a" ] || { echo "no library in $library: run make library first" >&2; exit 1; }
 for tool in rt gcc dpkg-deb python3; do
     command -v "$tool" > /dev/null || { echo "there is no $tool, which a release needs" >&2; exit 1; }
 done
@@ -33,6 +35,11 @@ gcc -static -s -Wl,--build-id=none -o "$work/rnxcmp" "$object" "$kit/c/libos_c.a
 name=rnxcmp-$version-linux-x86_64
 "$top/packaging/install.sh" "$work/$name" "$work/rnxcmp"
 "$top/packaging/parts.py" "$SOURCE_DATE_EPOCH" > "$work/$name/share/doc/rnxcmp/parts.spdx.json"
+if [ -n "$library" ]; then
+    mkdir "$work/$name/lib"
+    cp -P "$library"/rnxcmp.* "$library"/librnxcmp.* "$work/$name/lib"
+    cp "$top/docs/LIBRARY.md" "$work/$name/share/doc/rnxcmp"
+fi
 tar -C "$work" --sort=name --mtime="@$SOURCE_DATE_EPOCH" --owner=0 --group=0 --numeric-owner --format=gnu -cf - "$name" |
     gzip -9n > "$to/$name.tar.gz"
 

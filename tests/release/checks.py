@@ -15,6 +15,7 @@ from empty_root import check_in_empty_root  # noqa: E402
 
 TOP = Path(__file__).resolve().parents[2]
 SAMPLE = TOP / "samples/station.rnx"
+LIBRARY = TOP / "out/library"  # which the archive has too, where make library made it
 VERSION = (TOP / "VERSION").read_text().strip()
 SECONDS = 100  # in which each step is to end
 INTERPRETER = 3  # what says in a program's table that it needs the system's loader
@@ -36,7 +37,8 @@ def lacking(program):
 
 def made(program, folder, top=TOP):
     """Makes a release: what went wrong, as lines."""
-    run = subprocess.run([top / "packaging/dist.sh", f"{program}.o", folder], capture_output=True, text=True, timeout=SECONDS)
+    library = [LIBRARY] if (LIBRARY / "librnxcmp.a").exists() else []
+    run = subprocess.run([top / "packaging/dist.sh", f"{program}.o", folder, *library], capture_output=True, text=True, timeout=SECONDS)
     return [] if run.returncode == 0 and not run.stderr else [f"status {run.returncode}, {run.stderr!r}"]
 
 
@@ -85,6 +87,19 @@ def check_archive(made_in, folder):
     name = f"rnxcmp-{VERSION}-linux-x86_64"
     subprocess.run(["tar", "-xzf", made_in / f"{name}.tar.gz", "-C", folder], check=True, timeout=SECONDS)
     return check_unpacked(folder / name, ["NOTICES", "CHANGELOG.md"])
+
+
+def check_library(folder):
+    """A program in C that is compiled with the archive's library, linked both ways."""
+    lib = folder / f"rnxcmp-{VERSION}-linux-x86_64/lib"
+    if not lib.exists():
+        return "there is no library: make library"
+    wrong = []
+    for linked in ([lib / "librnxcmp.a"], [f"-L{lib}", "-lrnxcmp", f"-Wl,-rpath,{lib}"]):
+        built = subprocess.run(["gcc", TOP / "examples/compact.c", "-I", lib, *linked, "-o", folder / "compact"], capture_output=True, text=True, timeout=SECONDS)
+        run = built.returncode or subprocess.run([folder / "compact", SAMPLE], capture_output=True, timeout=SECONDS).returncode
+        wrong += [f"{linked}: {built.stderr[-300:]!r}, status {run}"] if run else []
+    return wrong
 
 
 def check_static(folder):
@@ -154,6 +169,7 @@ def checks(program):
         for title, check in (
             ("made twice", lambda: check_twice(program, one, folder / "two")),
             ("the archive", lambda: check_archive(one, folder / "archive")),
+            ("the archive's library", lambda: check_library(folder / "archive")),
             ("the archive's program", lambda: check_static(folder / "archive")),
             ("the package", lambda: check_package(one, folder / "package")),
             ("the package in an empty root", lambda: check_in_empty_root(one / f"rnxcmp_{VERSION}_amd64.deb", folder / "empty")),
