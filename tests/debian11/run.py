@@ -58,8 +58,8 @@ def make_root(root, mirror):
 
 
 def inside(root, *words, **more):
-    """Runs a command in a root, with a /proc of its own that goes with it."""
-    script = 'mount -t proc proc "$0/proc" && exec chroot "$0" "$@"'
+    """Runs a command in a root, with a /proc of its own and the machine's devices, which go with it."""
+    script = 'mount -t proc proc "$0/proc" && mount --rbind /dev "$0/dev" && exec chroot "$0" "$@"'
     environment = {"PATH": "/usr/local/sbin:/usr/local/bin:/usr/sbin:/usr/bin:/sbin:/bin", "HOME": "/root", "LC_ALL": "C.UTF-8"}
     command = ["unshare", "--mount", "--pid", "--fork", "--kill-child", "sh", "-c", script, str(root), *words]
     return subprocess.run(command, env=environment, capture_output=True, timeout=SECONDS, stdin=more.pop("stdin", subprocess.DEVNULL), **more)
@@ -149,7 +149,7 @@ def main():
     if wrong:
         print("\n".join(["no test on Debian 11:", *wrong]))
         return 1
-    with tempfile.TemporaryDirectory(dir=root.parent, prefix="debian11-") as name:
+    with tempfile.TemporaryDirectory(prefix="debian11-") as name:
         copy, empty = Path(name) / "root", Path(name) / "empty"
         subprocess.run(["cp", "-a", root, copy], check=True, timeout=SECONDS)
         shutil.copytree(dist, copy / "tmp/dist")
