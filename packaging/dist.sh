@@ -48,7 +48,12 @@ root=$work/root
 "$top/packaging/install.sh" "$root/usr" "$work/rnxcmp" share/zsh/vendor-completions
 doc=$root/usr/share/doc/rnxcmp
 mv "$doc/NOTICES" "$doc/copyright"
-gzip -9nc "$doc/CHANGELOG.md" > "$doc/changelog.gz"
+maintainer=${MAINTAINER:-the administrator of this machine <root@localhost>}
+{ # the newest changes, in the form that Debian's tools read
+    printf 'rnxcmp (%s) stable; urgency=medium\n\n' "$version"
+    awk '/^## / { part++ } part == 1 && /^- / { sub(/^- /, "  * "); print }' "$doc/CHANGELOG.md" | fold -s -w 70 | sed 's/^[^ ]/    &/; s/ *$//'
+    printf '\n -- %s  %s\n' "$maintainer" "$(date -u -R -d "@$SOURCE_DATE_EPOCH")"
+} | gzip -9n > "$doc/changelog.gz"
 rm "$doc/CHANGELOG.md"
 cp "$work/$name/share/doc/rnxcmp/parts.spdx.json" "$doc"
 for page in "$root"/usr/share/man/man1/*.1; do
@@ -61,7 +66,7 @@ Version: $version
 Architecture: amd64
 Section: science
 Priority: optional
-Maintainer: ${MAINTAINER:-the administrator of this machine <root@localhost>}
+Maintainer: $maintainer
 Installed-Size: $(find "$root/usr" -type f -printf '%s\n' | awk '{ n += int(($1 + 1023) / 1024) } END { print n }')
 Description: compact, expand and check RINEX 3.0x observation files
  RINEX 3.0x observation files to Compact RINEX 3.0 (Hatanaka) and back, by a
