@@ -1,10 +1,6 @@
 -- Lines one after another in one text, each followed by LF.
 use Rattle.std.specs.Prelude.{◌≡◌, ◌≤◌, ℕ, suc, List, [], ◌∷◌, ◌++◌, length, take, drop}
-use Rattle.std.specs.List.{flat_map}
-
--- lines, each followed by LF
-abbrev pub lines_text : List (List ℕ) → List ℕ
-lines_text lines = flat_map (λ (line : List ℕ). line ++ 10 ∷ []) lines
+pub use Rattle.crx_rinex.specs.Printing.{lines_text}
 
 -- the lines of these lengths in a text in which one character follows each of them
 abbrev pub cut : List ℕ → List ℕ → List (List ℕ)

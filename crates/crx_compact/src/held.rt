@@ -23,9 +23,10 @@ ghost use Rattle.crx_compact.specs.Tails.{RowTail};
 
 use crate::arc::ObsArc;
 use crate::awaited::AwaitedSatellite;
-use crate::lines::{Lines, put_text};
+use crate::lines::Lines;
 use crx_lines::limits::{DIGITS_LIMIT, NAME_WIDTH};
 use crx_rinex::{SatRow, after_columns, all_blank, begins_epoch};
+use crx_text::block::put_text;
 use crx_text::difference::{append_difference, patch_bytes};
 use crx_text::{
     Code, Fault, Text, code_before_blank, code_print, step_before_blank, trim_end, write_cell,

@@ -15,11 +15,9 @@ use crate::arc::ObsArc;
 use crate::held::{CELL_ROOM, HeldSatellite, mark_change};
 use crx_rinex::SatRow;
 use crx_text::Text;
+use crx_text::block::{grow, put_line};
 use std::alloc::{AllocError, Global};
 use std::marker::Model;
-
-/// What bytes grow by: they keep it for later lines.
-const GROWTH: [u8; 1024] = [b'\n'; 1024];
 
 /// Lines that are still to be lent, each followed by LF, in memory that is kept for those after them.
 #[derive(Drop)]
@@ -147,36 +145,4 @@ impl Lines {
         self.lent_bytes = self.filled;
         &self.bytes[start..self.filled]
     }
-}
-
-/// Makes some bytes at least so many; those that are there stay.
-fn grow(bytes: &mut Vec<u8>, count: usize) -> Result<(), AllocError>
-    ensures room { OnOk result (count ≤ length bytes.new.items) }
-    ensures longer { length bytes.old.items ≤ length bytes.new.items }
-    ensures same { (n : ℕ) → n ≤ length bytes.old.items → take n bytes.new.items ≡ take n bytes.old.items }
-{
-    while bytes.len() < count {
-        bytes.extend_from_slice(&GROWTH)?;
-    }
-    Ok(())
-}
-
-/// Puts a line and its LF in place of the bytes from an index on.
-fn put_line(bytes: &mut [u8], start: usize, line: &[u8])
-    requires { start + length line.now < length bytes.old }
-    ensures { take (start + length line.now + 1) bytes.new ≡ take start bytes.old ++ (line.now ++ 10 ∷ []) }
-{
-    let end = put_text(bytes, start, line);
-    bytes[end] = b'\n';
-}
-
-/// Puts a text in place of the bytes from an index on, and gives the index after it.
-pub(crate) fn put_text(bytes: &mut [u8], start: usize, text: &[u8]) -> usize
-    requires { start + length text.now ≤ length bytes.old }
-    ensures put { take result bytes.new ≡ take start bytes.old ++ text.now }
-    ensures end { result ≡ start + length text.now }
-{
-    let end = start + text.len();
-    bytes[start..end].copy_from_slice(text);
-    end
 }

@@ -1,11 +1,11 @@
 //! The lines that an expansion has ready, lent one after another.
 
-ghost use Rattle.std.specs.Prelude.{◌≡◌, ◌≤◌, ◌↔◌, [], ◌∷◌, IsTrue, drop, length, slice_get, IfOk};
+ghost use Rattle.std.specs.Prelude.{◌≡◌, ◌≤◌, ◌↔◌, [], ◌∷◌, IsTrue, drop, length, slice_get, take, if◌then◌else◌, is_some, unwrap_or, IfOk, IfSome, IfNone, OnSome};
 ghost use Rattle.std.specs.Borrow.{sem};
 ghost use Rattle.std.specs.Io.BufRead.{Rests};
 ghost use Rattle.std.specs.Option.{option_copied};
 ghost use Rattle.crx_lines.specs.declared.limits.TheConstants.{LINE_LIMIT};
-ghost use Rattle.crx_rinex.specs.Printing.{printed_epoch};
+ghost use Rattle.crx_rinex.specs.Printing.{lines_text, printed_epoch};
 ghost use Rattle.crx_engine.specs.contracts.expanded_lines.CopiedLine.{the_row as row_of_copied};
 ghost use Rattle.crx_engine.specs.contracts.expanded_lines.ExpandedLines.{the_row};
 
@@ -77,6 +77,8 @@ impl CopiedLine {
 pub(crate) struct ExpandedLines {
     copied: CopiedLine,
     printed: Option<Printed>,
+    /// The memory of the text of an epoch.
+    text: Vec<u8>,
 }
 
 impl Model for ExpandedLines {
@@ -96,6 +98,7 @@ impl ExpandedLines {
         Ok(ExpandedLines {
             copied,
             printed: None,
+            text: Vec::new(alloc),
         })
     }
 
@@ -141,5 +144,37 @@ impl ExpandedLines {
             Some(printed) => printed.next_line(),
             None => None,
         }
+    }
+
+    /// Lends all lines as one text, each followed by LF, after which none is left. `None` comes where a line is copied, or memory refuses
+    /// to grow, and then they stay as they are.
+    pub(crate) fn take_text(&mut self) -> Option<&[u8]>
+        ensures value { IfSome result (λ text. text.now ≡ lines_text self.old) }
+        ensures* after_borrow { sem 𝓛 (Rests the_row self.entry (λ new. new ≡ (if is_some result then [] else self.old))) }
+    {
+        if !self.copied.is_drained() {
+            return None;
+        }
+        let Some(count) = take_printed(&mut self.printed, &mut self.text) else {
+            return None;
+        };
+        Some(&self.text[..count])
+    }
+}
+
+/// Puts the lines of an epoch that are still to be lent in place of bytes, each followed by LF, and gives how many bytes these are. `None`
+/// comes where there is no epoch, or memory refuses to grow, and then all lines are left.
+fn take_printed(printed: &mut Option<Printed>, bytes: &mut Vec<u8>) -> Option<usize>
+    ensures text { IfSome result (λ count. take count bytes.new.items ≡ lines_text (unwrap_or printed.old [])) }
+    ensures within { IfSome result (λ count. count ≤ length bytes.new.items) }
+    ensures drained { OnSome result (unwrap_or printed.new [] ≡ []) }
+    ensures same { IfNone result (printed.new ≡ printed.old) }
+{
+    let Some(printed) = printed else {
+        return None;
+    };
+    match printed.take_text(bytes) {
+        Ok(count) => Some(count),
+        Err(_) => None,
     }
 }

@@ -1,6 +1,6 @@
 //! Expansion, one line of compact text at a time.
 
-ghost use Rattle.std.specs.Prelude.{◌≡◌, ℕ, ◌+◌, ◌≤◌, ◌<◌, ◌↔◌, List, [], IsTrue, IfOk, IfErr, OnErr, Err, Ok, true, false, drop, length, slice_get};
+ghost use Rattle.std.specs.Prelude.{◌≡◌, ℕ, ◌+◌, ◌≤◌, ◌<◌, ◌↔◌, List, [], IsTrue, IfOk, IfErr, OnErr, Err, Ok, true, false, drop, length, slice_get, if◌then◌else◌, is_some, IfSome};
 ghost use Rattle.crx_lines.specs.Lines.{InputLine, is_long};
 ghost use Rattle.crx_lines.specs.Seen.{Content, Overlong};
 ghost use Rattle.crx_lines.specs.Reading.{line_number, line_shown};
@@ -45,6 +45,7 @@ impl Expander {
     ghost use Rattle.std.specs.Option.{option_copied};
     ghost use Rattle.crx_engine.specs.contracts.expander.Expander.{the_row};
     ghost use Rattle.crx_engine.specs.Expanding.{Fails, expander_took, seen_by};
+    ghost use Rattle.crx_engine.specs.Results.{lines_text};
 
     /// An expansion before the first line of its input. Of the options it uses alone whether faults are skipped.
     ///
@@ -77,6 +78,15 @@ impl Expander {
         ensures* after_borrow { sem 𝓛 (Rests the_row self.entry (λ new. new ≡ record self.old { lines = drop 1 self.old.lines })) }
     {
         self.lines.next_line()
+    }
+
+    /// Lends all lines that are ready as one text, each followed by LF; `None` where a line is copied, or memory refuses to grow, and then
+    /// they stay.
+    pub(crate) fn take_text(&mut self) -> Option<&[u8]>
+        ensures value { IfSome result (λ text. text.now ≡ lines_text self.old.lines) }
+        ensures* after_borrow { sem 𝓛 (Rests the_row self.entry (λ new. new ≡ record self.old { lines = if is_some result then [] else self.old.lines })) }
+    {
+        self.lines.take_text()
     }
 
     /// Takes the next line of the input.

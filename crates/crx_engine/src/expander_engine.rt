@@ -48,6 +48,6 @@ impl Engine for Expander {
     }
 
     fn take_text(&mut self) -> Option<&[u8]> {
-        None
+        Expander::take_text(self)
     }
 }

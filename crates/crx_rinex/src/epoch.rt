@@ -189,6 +189,14 @@ impl Epoch {
         self.rows[..self.count].last()
     }
 
+    /// How many rows there are so far.
+    pub fn count(&self) -> usize
+        ensures value { result ≡ length self.now.rows }
+        ensures within { result ≤ SATELLITES_LIMIT }
+    {
+        self.count
+    }
+
     /// The row at this place, from 0.
     pub fn row(&self, index: usize) -> Option<&SatRow>
         ensures value { option_copied result ≡ slice_get self.now.rows index }

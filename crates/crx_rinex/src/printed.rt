@@ -1,18 +1,21 @@
 //! The lines of an observation epoch, printed one at a time. RINEX 3.05, table A3.
 
-ghost use Rattle.std.specs.Prelude.{◌≡◌, ◌≤◌, ◌↔◌, [], None, Some, IsTrue, MatchBool, drop, slice_get};
+ghost use Rattle.std.specs.Prelude.{◌≡◌, ◌≤◌, ◌↔◌, ◌++◌, ◌∷◌, [], None, Some, IsTrue, MatchBool, OnOk, OnErr, IfOk, drop, length, map, slice_get, take};
 ghost use Rattle.std.specs.Bool.{OnTrue};
 ghost use Rattle.std.specs.Borrow.{sem};
 ghost use Rattle.std.specs.Io.BufRead.{Rests};
 ghost use Rattle.std.specs.Option.{option_copied};
 ghost use Rattle.crx_lines.specs.declared.limits.TheConstants.{SATELLITES_LIMIT};
-ghost use Rattle.crx_rinex.specs.Printing.{last_line, printed_epoch, printed_head};
+ghost use Rattle.crx_rinex.specs.Printing.{last_line, lines_text, printed_epoch, printed_head, printed_row};
 ghost use Rattle.crx_rinex.specs.contracts.printed.Printed.{the_row};
 
 use crate::epoch::Epoch;
 use crate::epoch_line::EpochLine;
+use crate::satellite_row::SatRow;
 use crx_lines::limits::{CLOCK_WIDTH, SATELLITES_LIMIT};
+use crx_text::block::{grow, put_line};
 use crx_text::{Text, clock_print};
+use std::alloc::AllocError;
 use std::marker::Model;
 use std::mem;
 
@@ -81,6 +84,72 @@ impl Printed {
         }
         None
     }
+
+    /// Puts all lines that [`Printed::next_line`] would lend, each followed by LF, in place of bytes, and gives how many bytes these are;
+    /// then no line is left. After `AllocError` all lines are left.
+    pub fn take_text(&mut self, bytes: &mut Vec<u8>) -> Result<usize, AllocError>
+        ensures text { IfOk result (λ count. take count bytes.new.items ≡ lines_text self.old) }
+        ensures within { IfOk result (λ count. count ≤ length bytes.new.items) }
+        ensures drained { OnOk result (self.new ≡ []) }
+        ensures err { OnErr result (self.new ≡ self.old) }
+    {
+        let count = put_lines(&self.epoch, self.next, &mut self.text, bytes)?;
+        self.next = self.epoch.count() + 1;
+        Ok(count)
+    }
+}
+
+/// Puts the lines of an epoch from a place on, each followed by LF, in place of bytes, and gives how many bytes these are.
+fn put_lines(
+    epoch: &Epoch,
+    place: usize,
+    text: &mut Text,
+    bytes: &mut Vec<u8>,
+) -> Result<usize, AllocError>
+    ensures text { IfOk result (λ count. take count bytes.new.items ≡ lines_text (drop place (printed_epoch epoch.now))) }
+    ensures within { IfOk result (λ count. count ≤ length bytes.new.items) }
+{
+    if place > 0 {
+        return put_rows(epoch, place - 1, bytes, 0);
+    }
+    print_head(epoch.head(), text);
+    let end = text.len() + 1;
+    grow(bytes, end)?;
+    put_line(bytes, 0, text.bytes());
+    put_rows(epoch, 0, bytes, end)
+}
+
+/// Puts the lines of an epoch's rows from a place on, each followed by LF, in place of the bytes from an index on, and gives the index
+/// after them.
+fn put_rows(
+    epoch: &Epoch,
+    place: usize,
+    bytes: &mut Vec<u8>,
+    start: usize,
+) -> Result<usize, AllocError>
+    requires { start ≤ length bytes.old.items }
+    ensures text { IfOk result (λ end. take end bytes.new.items ≡ take start bytes.old.items ++ lines_text (drop place (map printed_row epoch.now.rows))) }
+    ensures within { IfOk result (λ end. end ≤ length bytes.new.items) }
+{
+    let mut index = place;
+    let mut end = start;
+    while let Some(row) = epoch.row(index) {
+        end = put_row(row, bytes, end)?;
+        index += 1;
+    }
+    Ok(end)
+}
+
+/// Puts the line of a row and its LF in place of the bytes from an index on, and gives the index after them.
+fn put_row(row: &SatRow, bytes: &mut Vec<u8>, start: usize) -> Result<usize, AllocError>
+    requires { start ≤ length bytes.old.items }
+    ensures text { IfOk result (λ end. take end bytes.new.items ≡ take start bytes.old.items ++ (printed_row row.now ++ 10 ∷ [])) }
+    ensures within { IfOk result (λ end. end ≤ length bytes.new.items) }
+{
+    grow(bytes, start + row.width() + 1)?;
+    let length = row.print_into(bytes, start);
+    bytes[start + length] = b'\n';
+    Ok(start + length + 1)
 }
 
 /// Prints the line of an epoch at a place, from 0; `false` where it has no such line.

@@ -1,6 +1,6 @@
 //! Satellite lines. RINEX 3.05, table A3, OBSERVATION record, A1,I2.2,m(F14.3,I1,I1).
 
-ghost use Rattle.std.specs.Prelude.{◌≡◌, ◌≤◌, ◌<◌, ◌+◌, ◌-◌, ◌*◌, ◌++◌, ◌∷◌, [], ◌⊎◌, replicate, true, None, Some, Ok, Err, is_some, length, All, IfOk, IfErr, IfSome, OnOk, OnErr, OnSome, MatchBool, MatchResult, slice_get};
+ghost use Rattle.std.specs.Prelude.{◌≡◌, ◌≤◌, ◌<◌, ◌+◌, ◌-◌, ◌*◌, ◌++◌, ◌∷◌, [], ◌⊎◌, replicate, true, None, Some, Ok, Err, is_some, length, All, IfOk, IfErr, IfSome, OnOk, OnErr, OnSome, MatchBool, MatchResult, slice_get, take};
 ghost use Rattle.std.specs.Bool.{OnTrue, OnFalse};
 ghost use Rattle.std.specs.List.{list_all};
 ghost use Rattle.std.specs.Option.{option_map, ForSome};
@@ -16,7 +16,10 @@ ghost use Rattle.crx_rinex.specs.SatelliteLines.{blank_row, field, flags_in, has
 use crate::columns::{after_columns, all_blank, character, padded};
 use crate::types::Types;
 use crx_lines::limits::{CELL_WIDTH, NAME_WIDTH, OBSERVATION_WIDTH};
-use crx_text::{Fault, Text, all_kept, obs_print_cell, obs_read, obs_read_usual};
+use crx_text::block::put_text;
+use crx_text::{
+    Fault, Text, all_kept, obs_print_cell, obs_print_cell_into, obs_read, obs_read_usual, trim_end,
+};
 use std::alloc::Global;
 use std::marker::Model;
 
@@ -228,6 +231,25 @@ impl SatRow {
         print_cells(&self.values, &self.flags, text);
         text.trim_end_blanks();
     }
+
+    /// How many columns the printed satellite line has, with the blanks at its end.
+    pub fn width(&self) -> usize
+        ensures value { result ≡ NAME_WIDTH + CELL_WIDTH * length self.now.values }
+        ensures within { result ≤ LINE_LIMIT }
+    {
+        NAME_WIDTH + CELL_WIDTH * self.values.len()
+    }
+
+    /// Prints the satellite line as [`SatRow::print`] does, in place of the bytes from an index on, and gives its length.
+    pub fn print_into(&self, bytes: &mut [u8], at: usize) -> usize
+        requires room { at + (NAME_WIDTH + CELL_WIDTH * length self.now.values) ≤ length bytes.old }
+        ensures line { take (at + result) bytes.new ≡ take at bytes.old ++ printed_row self.now }
+        ensures within { result ≤ NAME_WIDTH + CELL_WIDTH * length self.now.values }
+    {
+        let cells = put_text(bytes, at, &self.name);
+        let end = put_cells(&self.values, &self.flags, bytes, cells);
+        trim_end(&bytes[at..end]).len()
+    }
 }
 
 /// Gives cells the size for m types; `false` where there is no memory, and then they are as they were.
@@ -410,4 +432,20 @@ fn print_cells(values: &[Option<i64>], flags: &[u8], text: &mut Text)
     for k in 0..values.len() {
         obs_print_cell(values[k], flags[2 * k], flags[2 * k + 1], text);
     }
+}
+
+/// Prints cells as [`print_cells`] does, in place of the bytes from an index on, and gives the index after them.
+fn put_cells(values: &[Option<i64>], flags: &[u8], bytes: &mut [u8], at: usize) -> usize
+    requires ranged { All IsValue values.now }
+    requires paired { length flags.now ≡ 2 * length values.now }
+    requires room { at + CELL_WIDTH * length values.now ≤ length bytes.old }
+    ensures cells { take result bytes.new ≡ take at bytes.old ++ printed_cells values.now flags.now }
+    ensures end { result ≡ at + CELL_WIDTH * length values.now }
+{
+    let mut end = at;
+    for k in 0..values.len() {
+        obs_print_cell_into(values[k], flags[2 * k], flags[2 * k + 1], bytes, end);
+        end += CELL_WIDTH;
+    }
+    end
 }

@@ -23,3 +23,4 @@ pub mod ReadBack
 pub mod Sizes
 pub mod Spellings
 pub mod TextEnds
+pub mod WrittenTexts

@@ -2,6 +2,7 @@
 //! and limits are those of crx_lines, and are handed on.
 #![tactic(auto)]
 
+pub mod block;
 mod clock_field;
 mod clock_text;
 pub mod code;
@@ -26,6 +27,7 @@ pub use difference::{
     patch_text,
 };
 pub use number::{
-    BadField, clock_print, clock_read, obs_print, obs_print_cell, obs_read, obs_read_usual,
+    BadField, clock_print, clock_read, obs_print, obs_print_cell, obs_print_cell_into, obs_read,
+    obs_read_usual,
 };
 pub use text::{Text, TextFull, trim_end};

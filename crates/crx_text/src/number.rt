@@ -14,7 +14,7 @@ use crate::digits::{WIDEST, digits_read, signed, split_minus};
 use crate::field_text::size_print_by_lanes;
 use crate::text::Text;
 use crate::{clock_field, clock_text, field};
-use crx_lines::limits::{CLOCK_DECIMALS, CLOCK_WIDTH, OBSERVATION_DECIMALS, OBSERVATION_WIDTH};
+use crx_lines::limits::{CELL_WIDTH, CLOCK_DECIMALS, CLOCK_WIDTH, OBSERVATION_DECIMALS, OBSERVATION_WIDTH};
 use itoa::write_digits;
 use thiserror::Error;
 
@@ -107,11 +107,27 @@ pub fn obs_print_cell(value: Option<i64>, lock: u8, strength: u8, text: &mut Tex
     ensures value { text.new ≡ text.old ++ (observation_text value ++ lock ∷ strength ∷ []) }
     ensures long { length text.new ≡ length text.old + CELL_WIDTH }
 {
-    let end = text.len + OBSERVATION_WIDTH;
-    obs_print_into(value, &mut text.bytes[text.len..end]);
-    text.bytes[end] = lock;
-    text.bytes[end + 1] = strength;
-    text.len = end + 2;
+    obs_print_cell_into(value, lock, strength, &mut text.bytes, text.len);
+    text.len += CELL_WIDTH;
+}
+
+/// Prints an observation's cell as [`obs_print_cell`] does in place of the bytes from an index on.
+#[inline(always)]
+pub fn obs_print_cell_into(
+    value: Option<i64>,
+    lock: u8,
+    strength: u8,
+    bytes: &mut [u8],
+    at: usize,
+)
+    requires in_range { ForSome value IsObservation }
+    requires room { at + CELL_WIDTH ≤ length bytes.old }
+    ensures { take (at + CELL_WIDTH) bytes.new ≡ take at bytes.old ++ (observation_text value ++ lock ∷ strength ∷ []) }
+{
+    let end = at + OBSERVATION_WIDTH;
+    obs_print_into(value, &mut bytes[at..end]);
+    bytes[end] = lock;
+    bytes[end + 1] = strength;
 }
 
 // A size below it has no digit in the first column of an observation.

@@ -3,7 +3,7 @@ use Rattle.std.specs.Prelude.{flat_map}
 use Rattle.crx_text.specs.Columns.{without_end_blanks}
 use Rattle.crx_compact.specs.Cells.{codes_of_row}
 use Rattle.crx_compact.specs.Compaction.{cell_text}
-use Rattle.crx_compact.proofs.LineTexts.{LineWritten, line-written}
+use Rattle.crx_text.proofs.WrittenTexts.{LineWritten, line-written}
 use Rattle.crx_compact.proofs.held.HeldSatellite.write_line.Goals as goal
 
 pub returns-clause-line : goal.returns-clause-line

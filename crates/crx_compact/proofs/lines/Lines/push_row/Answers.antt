@@ -6,7 +6,8 @@ use Rattle.crx_text.specs.Texts.{text_difference}
 use Rattle.crx_compact.specs.Cells.{codes_of_row}
 use Rattle.crx_compact.specs.Compaction.{cell_text}
 use Rattle.crx_compact.specs.LineLists.{cut}
-use Rattle.crx_compact.proofs.LineTexts.{row-pushed, same-before}
+use Rattle.crx_text.proofs.WrittenTexts.{same-before}
+use Rattle.crx_compact.proofs.LineTexts.{row-pushed}
 use Rattle.crx_compact.proofs.SoundTexts.{difference-trimmed}
 use Rattle.crx_compact.proofs.lines.Lines.push_row.Goals as goal
 

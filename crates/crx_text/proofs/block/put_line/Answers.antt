@@ -1,6 +1,6 @@
 use Rattle.std.proofs.Common.{length, arith}
-use Rattle.crx_compact.proofs.LineTexts.{line-ended}
-use Rattle.crx_compact.proofs.lines.put_line.Goals as goal
+use Rattle.crx_text.proofs.WrittenTexts.{line-ended}
+use Rattle.crx_text.proofs.block.put_line.Goals as goal
 
 pub returns : goal.returns
 returns c =

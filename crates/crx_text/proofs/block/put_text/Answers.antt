@@ -1,7 +1,7 @@
 use Rattle.std.proofs.Common.{◌≡◌, ◌≤◌, ℕ, ◌+◌, List, ◌++◌, length, take, sym, ap, ◌∙◌, arith}
 use Rattle.std.proofs.lemmas.Slice.{take-put_mid}
 use borrow.Rule.Slice.PartMut.{put_mid}
-use Rattle.crx_compact.proofs.lines.put_text.Goals as goal
+use Rattle.crx_text.proofs.block.put_text.Goals as goal
 
 put : (bytes part text : List ℕ) (start k : ℕ) → part ≡ text → start + length text ≤ length bytes → take (start + length text) (put_mid start k bytes part) ≡ take start bytes ++ text
 put bytes part text start k is room =

@@ -1,6 +1,6 @@
 use Rattle.std.specs.Prelude.{◌-◌, length}
-use Rattle.crx_compact.proofs.LineTexts.{Grown}
-use Rattle.crx_compact.proofs.lines.grow.Given as goal
+use Rattle.crx_text.proofs.WrittenTexts.{Grown}
+use Rattle.crx_text.proofs.block.grow.Given as goal
 
 abbrev pub invariant-loop-bytes : goal.invariant-loop-bytes
 invariant-loop-bytes l = Grown l.initial.bytes.items l.bytes.items
