@@ -44,22 +44,22 @@ module _ (text : List ℕ) (end : ℕ) (within : end ≤ length text) (none : wi
   kept_before = sym (none_append (take end text) (drop end text) none) ∙ ap without_end_blanks (take-append-drop end text)
 
   -- a piece that keeps something decides
-  pub kept_in_piece : (start count : ℕ) → start + 16 ≡ end → 0 < count → count ≤ 16 → take count (chunk start 16 text) ≡ without_end_blanks (chunk start 16 text) → length (without_end_blanks (chunk start 16 text)) ≡ count
+  pub kept_in_piece : (size start count : ℕ) → start + size ≡ end → 0 < count → count ≤ size → take count (chunk start size text) ≡ without_end_blanks (chunk start size text) → length (without_end_blanks (chunk start size text)) ≡ count
       → take (start + count) text ≡ without_end_blanks text
-  kept_in_piece start count sum some few kept long =
-      let piece : List ℕ = chunk start 16 text in
+  kept_in_piece size start count sum some few kept long =
+      let piece : List ℕ = chunk start size text in
       let front : take (start + count) text ≡ take start text ++ take count piece =
-      take-add start count text ∙ ap (λ (t : List ℕ). take start text ++ t) (sym (take-take count 16 (drop start text) few)) in
+      take-add start count text ∙ ap (λ (t : List ℕ). take start text ++ t) (sym (take-take count size (drop start text) few)) in
       let whole : without_end_blanks text ≡ take start text ++ without_end_blanks piece =
-      sym kept_before ∙ (ap (λ (k : ℕ). without_end_blanks (take k text)) (sym sum) ∙ (ap without_end_blanks (take-add start 16 text) ∙ kept_append (take start text) piece (omega (arith, long, some)))) in
+      sym kept_before ∙ (ap (λ (k : ℕ). without_end_blanks (take k text)) (sym sum) ∙ (ap without_end_blanks (take-add start size text) ∙ kept_append (take start text) piece (omega (arith, long, some)))) in
       front ∙ (ap (λ (t : List ℕ). take start text ++ t) kept ∙ sym whole)
 
   -- one that keeps nothing goes with the blanks after it
-  pub none_in_piece : (start : ℕ) → start + 16 ≡ end → length (without_end_blanks (chunk start 16 text)) ≡ 0 → without_end_blanks (drop start text) ≡ []
-  none_in_piece start sum long =
-      ap without_end_blanks (chunk-drop start 16 text)
-      ∙ (none_append (chunk start 16 text) (drop (start + 16) text) (ap (λ (k : ℕ). without_end_blanks (drop k text)) sum ∙ none)
-      ∙ nothing (without_end_blanks (chunk start 16 text)) long)
+  pub none_in_piece : (size start : ℕ) → start + size ≡ end → length (without_end_blanks (chunk start size text)) ≡ 0 → without_end_blanks (drop start text) ≡ []
+  none_in_piece size start sum long =
+      ap without_end_blanks (chunk-drop start size text)
+      ∙ (none_append (chunk start size text) (drop (start + size) text) (ap (λ (k : ℕ). without_end_blanks (drop k text)) sum ∙ none)
+      ∙ nothing (without_end_blanks (chunk start size text)) long)
 
   -- the first piece decides where only blanks stand after it
   pub kept_in_first : (count : ℕ) → end < 16 → count ≤ 16 → take count (chunk 0 16 text) ≡ without_end_blanks (chunk 0 16 text) → take count text ≡ without_end_blanks text
@@ -116,9 +116,9 @@ bits_kept k [] few = omega (arith, leading_of_zero k)
 bits_kept zero (x ∷ xs) few = absurd (omega (arith, few))
 bits_kept (suc k) (x ∷ xs) few = next_bit k x (others xs) xs (omega (arith, few)) (bits_kept k xs (omega (arith, few))) refl
 
-pub lanes_kept : (v : List ℕ) → length v ≡ 16 → 64 - count_leading_zeros 64 (mask_l (map (top 7) (zip2 (λ a b. cond (not (eqb a b)) 255 0) v (replicate 16 32))) % 2 ^ 64) ≡ length (without_end_blanks v)
-lanes_kept v long =
-    ap (λ m. 64 - count_leading_zeros 64 m) (bitmask_splat w8 (λ a b. not (eqb a b)) v 16 32 long (omega arith)) ∙ bits_kept 64 v (omega (arith, long))
+pub lanes_kept : (size : ℕ) (v : List ℕ) → size ≤ 64 → length v ≡ size → 64 - count_leading_zeros 64 (mask_l (map (top 7) (zip2 (λ a b. cond (not (eqb a b)) 255 0) v (replicate size 32))) % 2 ^ 64) ≡ length (without_end_blanks v)
+lanes_kept size v few long =
+    ap (λ m. 64 - count_leading_zeros 64 m) (bitmask_splat w8 (λ a b. not (eqb a b)) v size 32 long (omega (arith, few))) ∙ bits_kept 64 v (omega (arith, long))
 
 pub take_kept : (xs : List ℕ) → take (length (without_end_blanks xs)) xs ≡ without_end_blanks xs
 take_kept [] = refl

@@ -138,6 +138,14 @@ fn end_blanks(text: &[u8]) -> usize
     if text.len() >= LANES {
         return kept_in(u8x16::from_slice(text));
     }
+    if end >= EIGHT {
+        let start = end - EIGHT;
+        let count = kept_in_eight(u8x8::from_slice(&text[start..]));
+        if count > 0 {
+            return start + count;
+        }
+        return end_blanks_singly(text, start);
+    }
     end_blanks_singly(text, end)
 }
 
@@ -149,6 +157,20 @@ fn kept_in(characters: u8x16) -> usize
     ensures within { result ≤ 16 }
 {
     let others = characters.simd_ne(u8x16::splat(b' ')).to_bitmask();
+    64 - others.leading_zeros() as usize
+}
+
+// Half as many characters as there are lanes: the indicators of four types are as many, and one by one they take 6 instructions each.
+const EIGHT: usize = 8;
+
+// The same of 8 characters.
+#[inline(always)]
+fn kept_in_eight(characters: u8x8) -> usize
+    ensures kept { take result characters ≡ without_end_blanks characters }
+    ensures long { length (without_end_blanks characters) ≡ result }
+    ensures within { result ≤ 8 }
+{
+    let others = characters.simd_ne(u8x8::splat(b' ')).to_bitmask();
     64 - others.leading_zeros() as usize
 }
 
