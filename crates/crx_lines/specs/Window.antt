@@ -4,4 +4,4 @@ use Rattle.crx_lines.specs.declared.window.Window.{Window}
 
 -- the bytes that were given and not lent yet
 abbrev pub kept : Window → List ℕ
-kept w = slice_range w.bytes w.start w.end
+kept w = slice_range w.bytes.items w.start w.end

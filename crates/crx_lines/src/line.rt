@@ -102,7 +102,7 @@ impl LineReader {
     pub fn new(alloc: Global) -> Result<LineReader, AllocError>
         ensures { IfOk result (λ r. reading r ≡ record { rest = []; lent = 0; number = 0; phase = Phase.Open }) }
     {
-        let window = Box::new(alloc, Window::new())?;
+        let window = Box::new(alloc, Window::new(alloc)?)?;
         Ok(LineReader {
             window,
             lent: 0,
@@ -123,7 +123,7 @@ impl LineReader {
     fn advance<R: Source>(&mut self, reader: &mut R) -> Result<Option<Part>, At>
         requires { self.old.phase ≡ Phase.Open }
         ensures answers { (given : List ℕ) × R.gave reader.old given reader.new
-            × AnswersAs (part_shown self.new.window.value.bytes) (λ _. self.new.number)
+            × AnswersAs (part_shown self.new.window.value.bytes.items) (λ _. self.new.number)
             (reading self.old) given (R.at_end reader.new)
             (tally_of (R.failures reader.old) (R.ends reader.old)) (tally_of (R.failures reader.new) (R.ends reader.new)) result (reading self.new) }
         ensures place { IfOk result (λ o. IfSome o (λ p. (p.from ≤ p.to) × (p.to ≤ SIZE) × (p.to - p.from ≤ LINE_LIMIT))) }
@@ -154,7 +154,7 @@ impl LineReader {
     fn advance_by_reading<R: Source>(&mut self, reader: &mut R) -> Result<Option<Part>, At>
         requires { self.old.phase ≡ Phase.Open }
         ensures answers { (given : List ℕ) × R.gave reader.old given reader.new
-            × AnswersAs (part_shown self.new.window.value.bytes) (λ _. self.new.number)
+            × AnswersAs (part_shown self.new.window.value.bytes.items) (λ _. self.new.number)
             (reading self.old) given (R.at_end reader.new)
             (tally_of (R.failures reader.old) (R.ends reader.old)) (tally_of (R.failures reader.new) (R.ends reader.new)) result (reading self.new) }
         ensures place { IfOk result (λ o. IfSome o (λ p. (p.from ≤ p.to) × (p.to ≤ SIZE) × (p.to - p.from ≤ LINE_LIMIT))) }
@@ -200,7 +200,7 @@ impl LineReader {
         requires ordered { part.from ≤ part.to }
         requires within { part.to ≤ SIZE }
         requires short { part.to - part.from ≤ LINE_LIMIT }
-        ensures shown { line_shown result ≡ part_shown self.now.window.value.bytes part }
+        ensures shown { line_shown result ≡ part_shown self.now.window.value.bytes.items part }
         ensures number { line_number result ≡ self.now.number }
     {
         Line {

@@ -7,6 +7,7 @@ ghost use Rattle.crx_lines.specs.declared.window.TheConstants.{LEAST_ROOM, SIZE}
 
 use crate::device::{ReadFailed, Source};
 use crate::limits::LINE_LIMIT;
+use std::alloc::{AllocError, Global};
 
 /// How many bytes are held at once: some hundred lines of common files.
 pub(crate) const SIZE: usize = 65536;
@@ -25,24 +26,27 @@ pub(crate) struct Place {
 /// The bytes from `start` to `end` are given and not lent yet.
 #[derive(Drop)]
 pub(crate) struct Window {
-    bytes: [u8; SIZE],
+    bytes: Vec<u8>,
     start: usize,
     end: usize,
     ghost ordered: { start ≤ end },
     ghost within: { end ≤ SIZE },
+    ghost whole: { length bytes.items ≡ SIZE },
 }
 
 impl Window {
     ghost use Rattle.crx_lines.specs.Window.{kept};
 
-    pub(crate) fn new() -> Window
-        ensures { kept result ≡ [] }
+    /// An empty window. Its memory is never on the stack.
+    pub(crate) fn new(alloc: Global) -> Result<Window, AllocError>
+        ensures { IfOk result (λ window. kept window ≡ []) }
     {
-        Window {
-            bytes: [0; SIZE],
+        let bytes = vec![in alloc; 0; SIZE]?;
+        Ok(Window {
+            bytes,
             start: 0,
             end: 0,
-        }
+        })
     }
 
     pub(crate) fn as_slice(&self) -> &[u8]
@@ -56,7 +60,7 @@ impl Window {
     pub(crate) fn part(&self, from: usize, to: usize) -> &[u8]
         requires ordered { from ≤ to }
         requires within { to ≤ SIZE }
-        ensures value { result.now ≡ slice_range self.now.bytes from to }
+        ensures value { result.now ≡ slice_range self.now.bytes.items from to }
         ensures len { length result.now ≡ to - from }
     {
         &self.bytes[from..to]
@@ -67,13 +71,14 @@ impl Window {
         requires { len ≤ length (kept self.now) }
         ensures ordered { result.from ≤ result.to }
         ensures within { result.to ≤ SIZE }
-        ensures value { slice_range self.now.bytes result.from result.to ≡ without_return (take len (kept self.now)) }
-        ensures len { length (slice_range self.now.bytes result.from result.to) ≡ result.to - result.from }
+        ensures value { slice_range self.now.bytes.items result.from result.to ≡ without_return (take len (kept self.now)) }
+        ensures len { length (slice_range self.now.bytes.items result.from result.to) ≡ result.to - result.from }
         ensures has_return { result.has_return ≡ ends_with_return (take len (kept self.now)) }
     {
         let from = self.start;
         let to = from + len;
-        if len > 0 && self.bytes[to - 1] == b'\r' {
+        let bytes = self.bytes.as_slice();
+        if len > 0 && bytes[to - 1] == b'\r' {
             return Place {
                 from,
                 to: to - 1,
@@ -91,7 +96,7 @@ impl Window {
     pub(crate) fn pass(&mut self, count: usize)
         requires { count ≤ length (kept self.old) }
         ensures kept { kept self.new ≡ drop count (kept self.old) }
-        ensures bytes { self.new.bytes ≡ self.old.bytes }
+        ensures bytes { self.new.bytes.items ≡ self.old.bytes.items }
     {
         self.start += count;
     }
@@ -100,7 +105,7 @@ impl Window {
     pub(crate) fn clear(&mut self)
         ensures kept { kept self.new ≡ [] }
         ensures end { self.new.end ≡ 0 }
-        ensures bytes { self.new.bytes ≡ self.old.bytes }
+        ensures bytes { self.new.bytes.items ≡ self.old.bytes.items }
     {
         self.start = 0;
         self.end = 0;
@@ -122,7 +127,7 @@ impl Window {
         requires { length (kept self.old) ≤ LINE_LIMIT + 1 }
         ensures kept { kept self.new ≡ kept self.old }
         ensures room { self.new.end + LEAST_ROOM ≤ SIZE }
-        ensures unmoved { self.old.end + LEAST_ROOM ≤ SIZE → self.new.bytes ≡ self.old.bytes }
+        ensures unmoved { self.old.end + LEAST_ROOM ≤ SIZE → self.new.bytes.items ≡ self.old.bytes.items }
     {
         if self.start == self.end {
             self.clear();

@@ -15,7 +15,7 @@ overflow_add-passed g c =
     let old = c.args.window.now in
     let sum = Seeking-sum (λ given. g.R.Source.gave c.args.reader.now given c.seeking.reader) (kept old) (kept c.seeking.window) c.args.room c.seeking.taken c.seeking.passed c.seeking.searched c.seeking.invariant.0 in
     let most : c.let_go.result ≤ length (kept c.seeking.window) = ⊎_elim (λ e. omega (arith, e.0)) (λ e. omega (arith, e.0)) c.let_go.ensures.count in
-    omega (arith, sum, most, length-kept old.bytes old.start old.end, c.seeking.invariant.0.within)
+    omega (arith, sum, most, length-kept old.bytes.items old.start old.end, c.seeking.invariant.0.within)
 
 pub returns-in-Ok-true-clause-over : goal.returns-in-Ok-true-clause-over
 returns-in-Ok-true-clause-over g c =

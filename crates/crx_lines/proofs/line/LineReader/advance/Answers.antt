@@ -23,7 +23,7 @@ returns-then-place-gt-LINE_LIMIT-clause-answers g c =
     (λ k low high. subst (λ (l : List ℕ). slice_index l k ≡ 10 → ⊥) shown (c.in-Some.ensures.first k low high)) in
     let after : Reading = record { rest = kept c.pass.new.self; lent = old.lent + (len + 1); number = old.number + 1; phase = old.phase } in
     let now = c.pass.ensures.kept ∙ ap (λ w. drop (len + 1) (kept w)) c.deref_mut.ensures.value in
-    let content = slice_range c.deref-2.result.now.bytes c.content-place.result.from c.content-place.result.to in
+    let content = slice_range c.deref-2.result.now.bytes.items c.content-place.result.from c.content-place.result.to in
     let long : LINE_LIMIT < length content = let over = c.if-place-gt-LINE_LIMIT.true in let e = c.content-place.ensures.len in omega (arith, over, e) in
     (s.given, s.lead, (piece_at s.front held len true, takes gave held held 0 0 0 len at_end s true (inside, feed) (inr refl) (reading old) after (len + 1) refl refl now (omega arith) (let limit = old.limit in omega (arith, limit)) refl c.requires, content-long gave held held 0 0 0 len at_end s true content (c.content-place.ensures.value ∙ ap (λ w. without_return (take len (kept w))) c.deref-2.ensures) (inr long), refl, tally-line true _ _ _ _ refl refl))
 
@@ -42,8 +42,8 @@ returns-clause-answers g c =
     (λ k low high. subst (λ (l : List ℕ). slice_index l k ≡ 10 → ⊥) shown (c.in-Some.ensures.first k low high)) in
     let after : Reading = record { rest = kept c.pass.new.self; lent = old.lent + (len + 1); number = old.number + 1; phase = old.phase } in
     let now = c.pass.ensures.kept ∙ ap (λ w. drop (len + 1) (kept w)) c.deref_mut.ensures.value in
-    let bytes = c.pass.ensures.bytes ∙ ap (λ w. w.bytes) (c.deref_mut.ensures.value ∙ sym c.deref-2.ensures) in
+    let bytes = c.pass.ensures.bytes ∙ ap (λ w. w.bytes.items) (c.deref_mut.ensures.value ∙ sym c.deref-2.ensures) in
     let content = ap (λ l. slice_range l place.from place.to) bytes ∙ c.content-place.ensures.value ∙ ap (λ w. without_return (take len (kept w))) c.deref-2.ensures in
     let returns = c.content-place.ensures.has_return ∙ ap (λ w. ends_with_return (take len (kept w))) c.deref-2.ensures in
     let whole = whole-piece gave held held 0 0 0 len at_end s refl in
-    (s.given, s.lead, (piece_at s.front held len true, takes gave held held 0 0 0 len at_end s true (inside, feed) (inr refl) (reading old) after (len + 1) refl refl now (omega arith) (let limit = old.limit in omega (arith, limit)) refl c.requires, shown-line s.front (take len held) (slice_range c.pass.new.self.bytes place.from place.to) true place.has_return (not place.has_return) whole content returns refl, refl, tally-line true _ _ _ _ refl refl))
+    (s.given, s.lead, (piece_at s.front held len true, takes gave held held 0 0 0 len at_end s true (inside, feed) (inr refl) (reading old) after (len + 1) refl refl now (omega arith) (let limit = old.limit in omega (arith, limit)) refl c.requires, shown-line s.front (take len held) (slice_range c.pass.new.self.bytes.items place.from place.to) true place.has_return (not place.has_return) whole content returns refl, refl, tally-line true _ _ _ _ refl refl))

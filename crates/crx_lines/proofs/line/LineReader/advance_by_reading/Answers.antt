@@ -138,7 +138,7 @@ returns-then-is_over-clause-answers g c =
     let sum = Seeking-sum gave start held _ taken sought.passed sought.len s in
     let now = c.pass.ensures.kept ∙ ap (λ w. drop c.held-held.result (kept w)) c.deref_mut-2.ensures.value in
     let place = c.content-place.result in
-    let content = slice_range c.deref-2.result.now.bytes place.from place.to in
+    let content = slice_range c.deref-2.result.now.bytes.items place.from place.to in
     let over : (0 < sought.passed) ⊎ (LINE_LIMIT < length content) = ⊎_elim (λ h. inl h) (λ h. inr (omega (arith, h, c.content-place.ensures.len))) (c.if-is_over.ensures.over refl) in
     let piece = piece_at s.front held sought.len sought.is_ended in
     (s.given, s.lead, (piece, takes gave start held _ taken sought.passed sought.len at_end s sought.is_ended c.in-Ok.ensures.end some (reading old) _ c.held-held.result (sym same) c.held-held.ensures now refl (omega (arith, limit)) refl c.phase_after-self.ensures, content-long gave start held _ taken sought.passed sought.len at_end s sought.is_ended content (c.content-place.ensures.value ∙ ap (λ w. without_return (take sought.len (kept w))) c.deref-2.ensures) over, refl, tally-line sought.is_ended _ _ _ _ (c.in-Ok.ensures.good (inl (search rules))) c.in-Ok.ensures.ends))
@@ -163,8 +163,8 @@ returns-clause-answers g c =
     let place = c.content-place.result in
     let none = (c.if-is_over.ensures.within refl).0 in
     let whole = whole-piece gave start held _ taken sought.passed sought.len at_end s none in
-    let bytes = c.pass.ensures.bytes ∙ ap (λ w. w.bytes) (c.deref_mut-2.ensures.value ∙ sym c.deref-2.ensures) in
+    let bytes = c.pass.ensures.bytes ∙ ap (λ w. w.bytes.items) (c.deref_mut-2.ensures.value ∙ sym c.deref-2.ensures) in
     let content = ap (λ l. slice_range l place.from place.to) bytes ∙ c.content-place.ensures.value ∙ ap (λ w. without_return (take sought.len (kept w))) c.deref-2.ensures in
     let returns = c.content-place.ensures.has_return ∙ ap (λ w. ends_with_return (take sought.len (kept w))) c.deref-2.ensures in
     let piece = piece_at s.front held sought.len sought.is_ended in
-    (s.given, s.lead, (piece, takes gave start held _ taken sought.passed sought.len at_end s sought.is_ended c.in-Ok.ensures.end some (reading old) _ c.held-held.result (sym same) c.held-held.ensures now refl (omega (arith, limit)) refl c.phase_after-self.ensures, shown-line s.front (take sought.len held) (slice_range c.pass.new.self.bytes place.from place.to) sought.is_ended place.has_return c.is_plain.result whole content returns c.is_plain.ensures, refl, tally-line sought.is_ended _ _ _ _ (c.in-Ok.ensures.good (inl (search rules))) c.in-Ok.ensures.ends))
+    (s.given, s.lead, (piece, takes gave start held _ taken sought.passed sought.len at_end s sought.is_ended c.in-Ok.ensures.end some (reading old) _ c.held-held.result (sym same) c.held-held.ensures now refl (omega (arith, limit)) refl c.phase_after-self.ensures, shown-line s.front (take sought.len held) (slice_range c.pass.new.self.bytes.items place.from place.to) sought.is_ended place.has_return c.is_plain.result whole content returns c.is_plain.ensures, refl, tally-line sought.is_ended _ _ _ _ (c.in-Ok.ensures.good (inl (search rules))) c.in-Ok.ensures.ends))

@@ -6,4 +6,4 @@ use Rattle.crx_lines.proofs.window.Window.pass.Goals as goal
 pub returns-clause-kept : goal.returns-clause-kept
 returns-clause-kept c =
     let w = c.args.self.now in
-    passed w.bytes w.start w.end c.args.count (omega (arith, length-take {A = ℕ}, length-drop {A = ℕ}))
+    passed w.bytes.items w.start w.end c.args.count (omega (arith, length-take {A = ℕ}, length-drop {A = ℕ}))
