@@ -161,6 +161,3 @@ impl Sink for FailingSink {
 
     ghost took_both = { λ a b c xs ys p q. taken_both (take a.len a.memory.items) (take b.len b.memory.items) (take c.len c.memory.items) xs ys p q };
 }
-
-#[cfg(test)]
-mod tests;

@@ -117,6 +117,3 @@ impl Source for FailingSource<'_> {
 
     ghost gave_both = { λ a b c xs ys p q. given_both a.left.now b.left.now c.left.now xs ys p q };
 }
-
-#[cfg(test)]
-mod tests;

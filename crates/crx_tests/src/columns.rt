@@ -1,0 +1,50 @@
+//! Epochs to compact lines and back by the calls of [`Columns`], one epoch after another as files have them, with memory at hand.
+
+ghost use Rattle.std.specs.Prelude.{◌≡◌, None};
+ghost use Rattle.crx_compact.specs.OpenEpochs.ColumnsState.{Idle};
+
+use crate::owned::Owned;
+use crate::rinex::types_of;
+use crx_compact::Columns;
+use crx_rinex::{Epoch, Head, Types};
+use crx_text::Fault;
+use std::alloc::Global;
+
+mod cases;
+mod reading;
+mod writing;
+
+/// Columns that keep nothing.
+fn no_columns(alloc: Global) -> Owned<Columns>
+    ensures { result.value ≡ Idle None }
+{
+    Owned::of(Columns::new(alloc))
+}
+
+/// The line that declares one type of GPS.
+const ONE_TYPE: &[u8] =
+    b"G    1 C1C                                                  SYS / # / OBS TYPES";
+
+/// An epoch with no rows yet.
+fn begun(alloc: Global, line: &[u8]) -> Result<Owned<Epoch>, Fault> {
+    match Head::read(line)? {
+        Head::Epoch(head) => Ok(Owned::of(Epoch::new(alloc, head))),
+        Head::Event { .. } => Err(Fault::NotAnEpoch),
+    }
+}
+
+/// The epoch of RINEX lines that are separated by `|`.
+fn epoch_of(alloc: Global, types: &Types, lines: &str) -> Result<Owned<Epoch>, Fault> {
+    let mut rows = lines.split('|');
+    let Some(first) = rows.next() else {
+        return Err(Fault::Truncated);
+    };
+    let mut epoch = begun(alloc, first.as_bytes())?;
+    for line in rows {
+        if epoch.value.is_full() {
+            return Err(Fault::BadEpoch);
+        }
+        epoch.value.read_row(types, line.as_bytes())?;
+    }
+    Ok(epoch)
+}

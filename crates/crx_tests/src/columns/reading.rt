@@ -1,0 +1,307 @@
+//! Compact lines to epochs.
+
+ghost use Rattle.std.specs.Bool.{OnTrue};
+ghost use Rattle.std.specs.Prelude.{◌≡◌, ◌≤◌, length, false};
+ghost use Rattle.crx_lines.specs.declared.limits.TheConstants.{LINE_LIMIT};
+ghost use Rattle.crx_rinex.specs.EpochLines.{is_event_line};
+
+use super::cases::{BOTH_WAYS, Case, READ_ALONE, Table};
+use super::*;
+use crx_compact::read_back::read_back;
+use crx_lines::limits::LINE_LIMIT;
+use crx_rinex::{Printed, is_event_line};
+use std::process::Abort;
+use std::test::Fail;
+
+/// Whether a line may be fed: it isn't too long, and begins no event.
+fn may_be_fed(line: &[u8]) -> bool
+    ensures short { OnTrue result (length line.now ≤ LINE_LIMIT) }
+    ensures no_event { OnTrue result (is_event_line line.now ≡ false) }
+{
+    line.len() <= LINE_LIMIT && !is_event_line(line)
+}
+
+/// Takes one line, the first one of an epoch or a later one.
+fn take(columns: &mut Columns, types: &Types, line: &[u8]) -> Result<Option<Owned<Epoch>>, Fault> {
+    if !may_be_fed(line) {
+        return Err(Fault::LineTooLong);
+    }
+    if columns.is_idle() {
+        columns.begin(types, line)?;
+        return Ok(None);
+    }
+    match columns.feed(line)? {
+        Some(epoch) => Ok(Some(Owned::of(epoch))),
+        None => Ok(None),
+    }
+}
+
+/// Takes lines one after another: the epoch that the last one completes. An epoch before the last line is a fault.
+fn take_all(
+    columns: &mut Columns,
+    types: &Types,
+    lines: &str,
+) -> Result<Option<Owned<Epoch>>, Fault> {
+    let mut given = None;
+    for line in lines.split('|') {
+        if given.is_some() {
+            return Err(Fault::Truncated);
+        }
+        given = take(columns, types, line.as_bytes())?;
+    }
+    Ok(given)
+}
+
+/// Whether an epoch was given that has these RINEX lines.
+fn prints(given: Option<Owned<Epoch>>, want: &str) -> bool {
+    let Some(epoch) = given else {
+        return false;
+    };
+    let mut printed = Owned::of(Printed::new(epoch.into_value()));
+    for line in want.split('|') {
+        if printed.value.next_line() != Some(line.as_bytes()) {
+            return false;
+        }
+    }
+    printed.value.next_line().is_none()
+}
+
+/// Expects that the epochs of a table are read, one after another.
+fn expect_read(
+    rt: &impl Abort,
+    alloc: Global,
+    columns: &mut Columns,
+    table: &Table,
+) -> Result<(), Fail> {
+    let (name, cases) = *table;
+    let types = types_of(alloc, ONE_TYPE)?;
+    for (_, rinex, compact) in cases {
+        let given = take_all(columns, &types.value, compact)?;
+        assert!(rt;
+            prints(given, rinex) && columns.is_idle(),
+            "{name}: {rinex}"
+        );
+    }
+    Ok(())
+}
+
+#[test]
+fn epochs_read(rt: HostRuntime) -> Result<(), Fail> {
+    for table in BOTH_WAYS.iter().chain(READ_ALONE) {
+        let mut owner = no_columns(rt.alloc());
+        expect_read(&rt, rt.alloc(), &mut owner.value, table)?;
+    }
+    Ok(())
+}
+
+/// Codes and lines that are refused: the compact lines before them, none or some with `|` between, the line, and its fault.
+const REFUSED: &[(&str, &str, Fault)] = &[
+    (
+        "> 2024 01 01 00 00  0.0000000  0  1      G01|",
+        "5",
+        Fault::NoArc,
+    ),
+    (
+        "> 2024 01 01 00 00  0.0000000  0  1      G01||3&9999999999999|                    1|",
+        "1",
+        Fault::OutOfRange,
+    ),
+    (
+        "> 2024 01 01 00 00  0.0000000  0  1      G01||3&1000|> 2024 01 01 00 00  1.0000000  0  1      G01|",
+        "5",
+        Fault::NoArc,
+    ),
+    (
+        "> 2024 01 01 00 00  0.0000000  0  1      G01|",
+        "10&1000",
+        Fault::BadField,
+    ),
+    (
+        "> 2024 01 01 00 00  0.0000000  0  1      G01|",
+        "3&9999999999999999",
+        Fault::OutOfRange,
+    ),
+    (
+        "> 2024 01 01 00 00  0.0000000  0  1      G01|",
+        "3&1000000000000000000",
+        Fault::BadField,
+    ),
+    (
+        "> 2024 01 01 00 00  0.0000000  0  1      G01|",
+        "3&1000 888",
+        Fault::BadFlags,
+    ),
+    (
+        "> 2024 01 01 00 00  0.0000000  0  1      G01|",
+        "> 2024 01 01 00 00  1.0000000  0  1      G01",
+        Fault::Truncated,
+    ),
+    (
+        "> 2024 01 01 00 00  0.0000000  0  1      G01",
+        "> 2024 01 01 00 00  1.0000000  0  1      G01",
+        Fault::Truncated,
+    ),
+    (
+        "> 2024 01 01 00 00  0.0000000  0  1      G01",
+        "xyz",
+        Fault::BadClock,
+    ),
+    ("", "                    1", Fault::NotAnEpoch),
+    (
+        "",
+        "> 2024 01 01 00 00  0.0000000  0  2      G01R01",
+        Fault::BadSatellite,
+    ),
+    (
+        "",
+        "> 2024 01 01 00 00  0.0000000  0  2      G01G01",
+        Fault::RepeatedSatellite,
+    ),
+    (
+        "",
+        "> 2024 01 01 00 00  0.0000000  0  1      G01 x",
+        Fault::BadEpoch,
+    ),
+];
+
+/// The line of an epoch that goes on from the one before.
+const LATER: &[u8] = b"                    1";
+
+/// Whether a line is refused with a fault after these, and then one that goes on from an epoch before, since all is forgotten.
+fn is_refused(
+    columns: &mut Columns,
+    types: &Types,
+    before: &str,
+    line: &str,
+    fault: Fault,
+) -> Result<bool, Fault> {
+    if !before.is_empty() {
+        for line in before.split('|') {
+            take(columns, types, line.as_bytes())?;
+        }
+    }
+    let first = take(columns, types, line.as_bytes());
+    let is_idle = columns.is_idle();
+    let second = take(columns, types, LATER);
+    Ok(
+        is_idle
+            && matches!(first, Err(given) if given == fault)
+            && matches!(second, Err(Fault::NotAnEpoch)),
+    )
+}
+
+#[test]
+fn codes_and_lines_refused(rt: HostRuntime) -> Result<(), Fail> {
+    let types = types_of(rt.alloc(), ONE_TYPE)?;
+    let mut owner = no_columns(rt.alloc());
+    for (before, line, fault) in REFUSED {
+        owner.value.reset();
+        let is_so = is_refused(&mut owner.value, &types.value, before, line, *fault)?;
+        assert!(rt; is_so, "{line} after {before}");
+    }
+    Ok(())
+}
+
+/// Encodes the epoch of a case, and reads with other columns what comes: whether it is that epoch again.
+fn is_read_back(
+    alloc: Global,
+    writer: &mut Columns,
+    reader: &mut Columns,
+    types: &Types,
+    case: &Case,
+) -> Result<bool, Fault> {
+    let (full, rinex, _) = *case;
+    let epoch = epoch_of(alloc, types, rinex)?;
+    if !epoch.value.is_full() || !writer.is_idle() || !reader.is_idle() {
+        return Ok(false);
+    }
+    match writer.encode(epoch.into_value(), full) {
+        Ok(coded) => {
+            let mut coded = Owned::of(coded);
+            match read_back(reader, types, &mut coded.value)? {
+                Some(epoch) => Ok(prints(Some(Owned::of(epoch)), rinex)),
+                None => Ok(false),
+            }
+        }
+        Err((epoch, fault)) => {
+            let _ = Owned::of(epoch);
+            Err(fault)
+        }
+    }
+}
+
+/// Expects that the epochs of a table, one after another, come back.
+fn expect_read_back(
+    rt: &impl Abort,
+    alloc: Global,
+    writer: &mut Columns,
+    reader: &mut Columns,
+    table: &Table,
+) -> Result<(), Fail> {
+    let (name, cases) = *table;
+    let types = types_of(alloc, ONE_TYPE)?;
+    for case in cases {
+        let is_so = is_read_back(alloc, writer, reader, &types.value, case)?;
+        assert!(rt; is_so, "{name}: {}", case.1);
+    }
+    Ok(())
+}
+
+#[test]
+fn epochs_read_back(rt: HostRuntime) -> Result<(), Fail> {
+    for table in BOTH_WAYS {
+        let mut writer = no_columns(rt.alloc());
+        let mut reader = no_columns(rt.alloc());
+        expect_read_back(&rt, rt.alloc(), &mut writer.value, &mut reader.value, table)?;
+    }
+    Ok(())
+}
+
+const TWO_TYPES: &[u8] =
+    b"G    2 C1C L1C                                              SYS / # / OBS TYPES";
+
+/// Two types with indicators, then one of them, and then both again: the line that declares the types, the compact lines of an epoch, and
+/// its RINEX lines. Past the count of a line, what was kept of cells and indicators is dropped.
+const OTHER_COUNTS: &[(&[u8], &str, &str)] = &[
+    (
+        TWO_TYPES,
+        "> 2024 01 01 00 00  0.0000000  0  1      G01||3&1000 3&2000 1234",
+        "> 2024 01 01 00 00  0.0000000  0  1|G01         1.00012         2.00034",
+    ),
+    (
+        ONE_TYPE,
+        "                    1||500",
+        "> 2024 01 01 00 00  1.0000000  0  1|G01         1.50012",
+    ),
+    (
+        TWO_TYPES,
+        "                    2||500 3&7000",
+        "> 2024 01 01 00 00  2.0000000  0  1|G01         2.50012         7.000",
+    ),
+    (
+        ONE_TYPE,
+        "                    3||",
+        "> 2024 01 01 00 00  3.0000000  0  1|G01              12",
+    ),
+];
+
+#[test]
+fn other_counts_of_types(rt: HostRuntime) -> Result<(), Fail> {
+    let mut owner = no_columns(rt.alloc());
+    for (line, compact, rinex) in OTHER_COUNTS {
+        let types = types_of(rt.alloc(), line)?;
+        let given = take_all(&mut owner.value, &types.value, compact)?;
+        assert!(rt; prints(given, rinex), "{rinex}");
+    }
+    let types = types_of(rt.alloc(), TWO_TYPES)?;
+    let given = take_all(
+        &mut owner.value,
+        &types.value,
+        "                    4||3&1 5000",
+    );
+    assert!(rt;
+        matches!(given, Err(Fault::NoArc)),
+        "an arc past the count of the line before"
+    );
+    Ok(())
+}

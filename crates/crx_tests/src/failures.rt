@@ -1,0 +1,124 @@
+//! Whole runs over devices that fail, at each point in turn: what was written, what was reported, and how the run ended.
+
+use crate::texts::text;
+use crx_devices::{FailingSink, FailingSource, Plan, When};
+use crx_filter::{Options, Outcome, check, compact, expand};
+use crx_text::{At, Fault};
+use std::alloc::{AllocError, Global};
+use std::process::Abort;
+use std::test::Fail;
+
+mod cases;
+mod damage;
+mod messages;
+mod reads;
+mod rows;
+mod writes;
+
+/// Which filter runs, or the check.
+#[derive(Clone, Copy)]
+enum Tool {
+    Compact,
+    Expand,
+    Check,
+}
+
+/// A run over devices that don't fail, and what is written as its lines come.
+/// The texts are those of [`text`].
+struct Case {
+    tool: Tool,
+    skip: bool,
+    input: &'static str,
+    output: &'static str,
+    messages: &'static str,
+    /// How many lines are written once none, one, two .. lines of the input were read; what is written at the end alone doesn't count.
+    after: &'static [usize],
+    /// The line that gives a warning.
+    warned_at: Option<u64>,
+    outcome: Outcome,
+}
+
+/// The length of the first lines of a text.
+fn length_of_lines(text: &[u8], count: usize) -> usize {
+    let mut left = count;
+    for (place, byte) in text.iter().enumerate() {
+        if left == 0 {
+            return place;
+        }
+        if *byte == b'\n' {
+            left -= 1;
+        }
+    }
+    text.len()
+}
+
+/// The texts of a case: its input, and what is written and reported where nothing fails.
+#[derive(Drop)]
+struct Texts {
+    input: Vec<u8>,
+    output: Vec<u8>,
+    messages: Vec<u8>,
+}
+
+impl Texts {
+    fn of(alloc: Global, case: &Case) -> Result<Texts, AllocError> {
+        Ok(Texts {
+            input: text(alloc, case.input)?,
+            output: text(alloc, case.output)?,
+            messages: text(alloc, case.messages)?,
+        })
+    }
+
+    /// Whether an output is that of the first lines of the input.
+    fn is_output_after(&self, case: &Case, lines: usize, output: &[u8]) -> bool {
+        let count = case.after.get(lines).copied().unwrap_or(0);
+        output.len() == length_of_lines(self.output.as_slice(), count)
+            && self.output.as_slice().starts_with(output)
+    }
+}
+
+/// Runs a case's filter over these devices.
+fn run(
+    alloc: Global,
+    case: &Case,
+    source: &mut FailingSource<'_>,
+    writer: &mut FailingSink,
+    messages: &mut FailingSink,
+) -> Result<Outcome, Fail> {
+    let options = Options::new(None, case.skip, b"D")?;
+    Ok(match case.tool {
+        Tool::Compact => compact(alloc, source, writer, messages, options),
+        Tool::Expand => expand(alloc, source, writer, messages, options),
+        Tool::Check => check(alloc, source, writer, messages),
+    })
+}
+
+/// Room for all that a case writes.
+const ROOM: usize = 4096;
+
+/// A sink that takes so many bytes a call, and whose writes fail by this plan.
+fn sink(alloc: Global, at_most: usize, writes: Plan) -> Result<FailingSink, AllocError> {
+    FailingSink::new(alloc, ROOM, at_most, writes, Plan::never())
+}
+
+/// The outcome of a run that a fault ended.
+fn ended(at: At) -> Outcome {
+    Outcome {
+        status: 1,
+        fault: Some(at),
+    }
+}
+
+/// The messages of a run that a device ended once so many lines were read: the warning, if it was among them, and the error.
+fn messages_until(alloc: Global, case: &Case, lines: u64, at: At) -> Result<Vec<u8>, Fail> {
+    let mut messages = match case.warned_at {
+        Some(warned) if warned <= lines => text(alloc, case.messages)?,
+        _ => Vec::new(alloc),
+    };
+    let line = at.line;
+    let code = at.fault.code();
+    let words = at.fault.words();
+    let error = format!(in alloc; "ERROR line {line} code {code}: {words}\n")?;
+    messages.extend_from_slice(error.as_bytes())?;
+    Ok(messages)
+}

@@ -1,0 +1,75 @@
+//! An LF at each place of a text, and none.
+ghost use Rattle.std.specs.Prelude.{◌<◌};
+
+use crx_text::{LineReader, Std};
+use std::alloc::Global;
+use std::process::Abort;
+use std::test::Fail;
+
+/// Expects that a text has lines of these lengths, and no others.
+fn expect_lengths(
+    rt: &impl Abort,
+    alloc: Global,
+    bytes: &[u8],
+    lengths: &[usize],
+) -> Result<(), Fail> {
+    let mut reader = Std::new(bytes);
+    let mut lines = LineReader::new(alloc)?;
+    for length in lengths {
+        let line = lines.next_line(&mut reader);
+        assert!(rt;
+            matches!(line, Ok(Some(line)) if line.bytes().len() == *length),
+            "a line of {length} bytes"
+        );
+    }
+    assert!(rt; matches!(lines.next_line(&mut reader), Ok(None)));
+    Ok(())
+}
+
+/// Looks for an LF at each `step`th place of a text, and for none.
+fn expect_each(rt: &impl Abort, alloc: Global, len: usize, step: usize) -> Result<(), Fail>
+    requires { 0 < step }
+{
+    let mut bytes = vec![in alloc; b'x'; len]?;
+    expect_lengths(rt, alloc, bytes.as_slice(), &[len])?;
+    for at in (0..len).step_by(step) {
+        let rest = len - at - 1;
+        let count = if rest > 0 { 2 } else { 1 };
+        bytes[at] = b'\n';
+        expect_lengths(rt, alloc, bytes.as_slice(), &[at, rest][..count])?;
+        bytes[at] = 11;
+    }
+    expect_lengths(rt, alloc, bytes.as_slice(), &[len])
+}
+
+#[test]
+fn finds_an_lf_at_each_place(rt: HostRuntime) -> Result<(), Fail> {
+    for (len, step) in [(130, 1), (192, 1), (8192, 97)] {
+        expect_each(&rt, rt.alloc(), len, step)?;
+    }
+    Ok(())
+}
+
+/// The places of two LF in a text of 130 bytes, and the lengths of its lines.
+const TWO: &[(usize, usize, &[usize])] = &[
+    (0, 1, &[0, 0, 128]),
+    (3, 31, &[3, 27, 98]),
+    (31, 32, &[31, 0, 97]),
+    (32, 63, &[32, 30, 66]),
+    (40, 129, &[40, 88]),
+    (128, 129, &[128, 0]),
+];
+
+#[test]
+fn finds_each_of_two(rt: HostRuntime) -> Result<(), Fail> {
+    for (first, second, lengths) in TWO {
+        let mut bytes = vec![in rt.alloc(); 138u8; 130]?;
+        for at in [*first, *second] {
+            if let Some(byte) = bytes.get_mut(at) {
+                *byte = b'\n';
+            }
+        }
+        expect_lengths(&rt, rt.alloc(), bytes.as_slice(), lengths)?;
+    }
+    Ok(())
+}

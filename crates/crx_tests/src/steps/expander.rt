@@ -1,0 +1,203 @@
+//! The engine that expands.
+
+ghost use Rattle.std.specs.Prelude.{◌≡◌, ◌+◌, [], length};
+ghost use Rattle.crx_engine.specs.Expanding.{seen_by};
+
+use super::*;
+use crate::owned::Owned;
+use crx_engine::Expander;
+
+/// Takes the lines that are ready, at most four: how many there were.
+fn take_ready(engine: &mut Expander) -> usize
+    ensures { seen_by engine.new ≡ seen_by engine.old }
+{
+    if engine.next_line().is_none() {
+        return 0;
+    }
+    if engine.next_line().is_none() {
+        return 1;
+    }
+    if engine.next_line().is_none() {
+        return 2;
+    }
+    if engine.next_line().is_none() {
+        return 3;
+    }
+    4
+}
+
+/// Feeds a line, which has the number after the last one that counts, and takes the lines that are ready: the number of the last line
+/// that counts then.
+fn feed_one(
+    rt: &impl Abort,
+    engine: &mut Expander,
+    line: Line<'_>,
+    taken: u64,
+    step: Step,
+    ready: usize,
+) -> u64
+    requires drained { engine.old.lines ≡ [] }
+    requires counted { (seen_by engine.old).number ≡ taken }
+    ensures drained { engine.new.lines ≡ [] }
+    ensures counted { (seen_by engine.new).number ≡ result }
+{
+    assert!(rt; taken < 1000);
+    assert!(rt; line.number() == taken + 1);
+    match engine.feed(line) {
+        Ok(answer) => {
+            assert!(rt; answer == step, "line {}", taken + 1);
+            assert!(rt; take_ready(engine) == ready, "line {}", taken + 1);
+            assert!(rt; engine.is_drained());
+            counted(answer, taken)
+        }
+        Err(_) => {
+            assert!(rt; false);
+            taken
+        }
+    }
+}
+
+/// Feeds a line that ends the run: no line is ready then, and the fault is answered again.
+fn feed_last(rt: &impl Abort, engine: &mut Expander, line: Line<'_>, taken: u64, at: At)
+    requires drained { engine.old.lines ≡ [] }
+    requires counted { (seen_by engine.old).number ≡ taken }
+{
+    assert!(rt; taken < 1000);
+    assert!(rt; line.number() == taken + 1);
+    match engine.feed(line) {
+        Ok(_) => assert!(rt; false),
+        Err(found) => {
+            assert!(rt; found == at);
+            assert!(rt; engine.next_line().is_none());
+            assert!(rt; engine.is_drained());
+            assert!(rt; engine.end() == Err(at));
+            assert!(rt; engine.end() == Err(at));
+        }
+    }
+}
+
+/// Feeds the lines of an input, to an engine that has taken none; where a fault is given, the line after those with answers ends the run
+/// with it.
+fn feed_all(
+    rt: &impl Abort,
+    engine: &mut Expander,
+    alloc: Global,
+    input: &[u8],
+    answers: &[Answer],
+    fault: Option<At>,
+) -> Result<(), Fail>
+    requires drained { engine.old.lines ≡ [] }
+    requires counted { (seen_by engine.old).number ≡ 0 }
+{
+    let mut lines = LineReader::new(alloc)?;
+    let mut reader = Std::new(input);
+    let mut taken: u64 = 0;
+    for answer in answers {
+        let Ok(Some(line)) = lines.next_line(&mut reader) else {
+            assert!(rt; false);
+            return Ok(());
+        };
+        taken = feed_one(rt, engine, line, taken, answer.step, answer.ready);
+        if let Some(second) = answer.again {
+            taken = feed_one(rt, engine, line, taken, second, 0);
+        }
+    }
+    match (lines.next_line(&mut reader), fault) {
+        (Ok(Some(line)), Some(at)) => feed_last(rt, engine, line, taken, at),
+        (Ok(None), None) => assert!(rt; engine.end() == Ok(Step::Quiet)),
+        _ => assert!(rt; false),
+    }
+    Ok(())
+}
+
+/// Whether an engine gives these answers to the lines of a text.
+fn answers_so(
+    rt: &impl Abort,
+    alloc: Global,
+    skip: bool,
+    lines: &str,
+    answers: &[Answer],
+    fault: Option<At>,
+) -> Result<(), Fail> {
+    let input = text(alloc, lines)?;
+    let options = Options::new(None, skip, b"D")?;
+    let mut engine = Owned::of(Expander::new(alloc, options)?);
+    feed_all(
+        rt,
+        &mut engine.value,
+        alloc,
+        input.as_slice(),
+        answers,
+        fault,
+    )
+}
+
+#[test]
+fn five_epochs(rt: HostRuntime) -> Result<(), Fail> {
+    answers_so(
+        &rt,
+        rt.alloc(),
+        false,
+        "K|H|> 2024 01 01 00 00  0.0000000  0  1      G01||3&20000000000|                    1||100500|                    2||1000|                    3||0|                    4||0",
+        &[
+            QUIET,
+            QUIET,
+            ready(1),
+            ready(1),
+            ready(1),
+            QUIET,
+            QUIET,
+            ready(2),
+            QUIET,
+            QUIET,
+            ready(2),
+            QUIET,
+            QUIET,
+            ready(2),
+            QUIET,
+            QUIET,
+            ready(2),
+            QUIET,
+            QUIET,
+            ready(2),
+        ],
+        None,
+    )
+}
+
+#[test]
+fn epochs_without_satellites(rt: HostRuntime) -> Result<(), Fail> {
+    answers_so(
+        &rt,
+        rt.alloc(),
+        false,
+        "K|H|> 2024 01 01 00 00  0.0000000  0  0|||",
+        &[
+            QUIET,
+            QUIET,
+            ready(1),
+            ready(1),
+            ready(1),
+            QUIET,
+            ready(1),
+            QUIET,
+            ready(1),
+        ],
+        None,
+    )
+}
+
+#[test]
+fn a_fault(rt: HostRuntime) -> Result<(), Fail> {
+    answers_so(
+        &rt,
+        rt.alloc(),
+        false,
+        "K|H|> 2024 01 01 00 00  0.0000000  0  1      G01||5",
+        &[QUIET, QUIET, ready(1), ready(1), ready(1), QUIET, QUIET],
+        Some(At {
+            line: 8,
+            fault: Fault::NoArc,
+        }),
+    )
+}
