@@ -11,8 +11,9 @@ What the prover prints goes into out/gate.log; here it is a line a crate, with t
 
 The program runs over whole texts (tests/cases), as a process whose streams fail or change (tests/process), by the recipes of
 docs/ARCHIVES.md (tests/archives), and by the commands that README.md, the manual page and the help print, and as it is installed
-(tests/commands); reads, writes and flushes of it are made to fail (tests/faults), and the library for C and Python is called beside it
-(tests/library). The documents are compared with the sources (tests/documents). The last line is `N passed, M failed`, of all. The exit status is 0 where nothing failed.
+(tests/commands). Reads, writes and flushes of it are made to fail (tests/faults), and growths of its memory (tests/memory). The library
+for C and Python is called beside it (tests/library), a release is made (tests/release), and the documents are compared with the sources
+(tests/documents). The last line is `N passed, M failed`, of all. The exit status is 0 where nothing failed.
 """
 
 import argparse
@@ -34,6 +35,7 @@ KINDS = (
     ("recipe", "archives"),
     ("command", "commands"),
     ("fault", "faults"),
+    ("memory", "memory"),
     ("library", "library"),
     ("document", "documents"),
     ("release", "release"),

@@ -1,0 +1,65 @@
+"""Memory that runs out at each growth of the shortest run: a file that is a header alone (see tests/run.py). tests/memory/run.py does
+the same with longer runs, in some minutes."""
+
+import os
+import shutil
+import sys
+import tempfile
+from pathlib import Path
+
+sys.path.insert(0, str(Path(__file__).parent))
+sys.path.insert(0, str(Path(__file__).parents[1] / "process"))
+from cases import DATED, H, K, text  # noqa: E402
+from run import Program, Run, without_date  # noqa: E402
+
+HEADER = Run("a header alone", DATED, text(*H))
+# What is written where memory runs out at a line of the header: at line 0, before the first one was read, nothing. (The dates of outputs
+# are made blank.)
+WRITTEN = {0: b"", 1: b"", 2: without_date(text(*K, H[0])), 3: without_date(text(*K, H[0], H[1]))}
+WHOLE = without_date(text(*K, *H))
+MOST = 1000  # growths that are refused in turn, far more than there are
+
+
+def error_at(line):
+    return text(f"ERROR line {line} code 22: out of memory")
+
+
+def with_program(path, check):
+    """What a check of a program says whose growths can be refused."""
+    if not (os.environ.get("CC") or shutil.which("rt")):
+        return "neither rt nor CC"
+    with tempfile.TemporaryDirectory() as folder:
+        return check(Program(path, Path(folder)))
+
+
+def first_refused(program):
+    """What is wrong with a run whose first growth is refused, as lines."""
+    got = program.answer(HEADER, 1)
+    wanted = (b"", error_at(0), 1)
+    return [] if got.refused and (got.output, got.messages, got.status) == wanted else [f"{got}, not {wanted}"]
+
+
+def is_well(got):
+    """Whether a run ended as one does whose memory ran out at a line of the header."""
+    at = [line for line in WRITTEN if got.messages == error_at(line)]
+    return bool(at) and got.status == 1 and got.output == WRITTEN[at[0]]
+
+
+def each_refused(program):
+    """What is wrong with runs of which one growth is refused, the first, the second and so on, as lines. One of them may do no harm: room
+    that is asked for once more where it was refused."""
+    wrong, unharmed = [], []
+    for growth in range(1, MOST):
+        got = program.answer(HEADER, growth)
+        if (got.output, got.messages, got.status) != (WHOLE, b"", 0):
+            wrong += [] if is_well(got) else [f"growth {growth}: {got}"]
+        elif got.refused:
+            unharmed.append(growth)
+        else:
+            return wrong[:10] + ([f"refused without harm: growths {unharmed}"] if len(unharmed) > 1 else [])
+    return [*wrong[:10], f"more than {MOST} growths"]
+
+
+def checks(program):
+    yield "a header alone, the first growth refused", lambda: with_program(program, first_refused)
+    yield "a header alone, each growth refused in turn", lambda: with_program(program, each_refused)
