@@ -37,7 +37,7 @@ or_right true b h = refl
 or_right false b h = h
 
 -- one that stands at a place is among them
-place_among : (name : List ℕ) (names : List (List ℕ)) (k : ℕ) → k < length names → get_or names k [] ≡ name → is_among (λ (n : List ℕ). n) name names ≡ true
+pub place_among : (name : List ℕ) (names : List (List ℕ)) (k : ℕ) → k < length names → get_or names k [] ≡ name → is_among (λ (n : List ℕ). n) name names ≡ true
 place_among name [] k h e = absurd (omega (arith, h))
 place_among name (n ∷ names) zero h e = ap (λ (b : Bool). b || is_among (λ (m : List ℕ). m) name names) ((bytes_eq-Decides n name).1 e)
 place_among name (n ∷ names) (suc k) h e = or_right (bytes_eq n name) _ (place_among name names k (omega (arith, h)) e)

@@ -14,3 +14,4 @@ pub mod Rows
 pub mod SoundEpochs
 pub mod LastLines
 pub mod PrintedText
+pub mod GoodRows

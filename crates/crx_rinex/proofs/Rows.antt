@@ -64,6 +64,12 @@ pub named_rows : (names : List (List ℕ)) (rows : List Row) (count : ℕ) (name
 named_rows names rows count name h =
     ap (is_among (λ (n : List ℕ). n) name) h ∙ among-map (λ (n : List ℕ). n) (λ (row : Row). row.name) name (take count rows)
 
+-- what the identifiers say of the epoch's rows
+pub by_names : (epoch : Epoch) (names : List (List ℕ)) (rows : List Row) (count : ℕ) (name name' : List ℕ) (b : Bool) → name' ≡ name → take count rows ≡ epoch.rows
+    → take count names ≡ map (λ (row : Row). row.name) (take count rows) → is_among (λ (n : List ℕ). n) name' (take count names) ≡ b → has_satellite name epoch.rows ≡ b
+by_names epoch names rows count name name' b is e h new =
+    ap (has_satellite name) (sym e) ∙ sym (named_rows names rows count name h) ∙ ap (λ (n : List ℕ). is_among (λ (m : List ℕ). m) n (take count names)) (sym is) ∙ new
+
 -- and so they do with the next row's
 pub names-next : (names next : List (List ℕ)) (rows more : List Row) (count : ℕ) (row : Row) (name : List ℕ) → name ≡ row.name → take count names ≡ map (λ (r : Row). r.name) (take count rows)
     → take (count + 1) next ≡ take count names ++ name ∷ [] → take (count + 1) more ≡ take count rows ++ row ∷ [] → take (count + 1) next ≡ map (λ (r : Row). r.name) (take (count + 1) more)

@@ -1,19 +1,22 @@
 //! Observation epochs. RINEX 3.05, table A3.
 
-ghost use Rattle.std.specs.Prelude.{ℕ, ◌≡◌, ◌≤◌, ◌<◌, ◌+◌, ◌⊎◌, ◌-◌, ◌*◌, ◌++◌, ◌∷◌, [], length, take, is_some, true, false, Err, OnOk, OnErr, IfErr, IfSome, slice_get, slice_set};
+ghost use Rattle.std.specs.Prelude.{ℕ, List, ◌≡◌, ◌≤◌, ◌<◌, ◌+◌, ◌⊎◌, ◌-◌, ◌*◌, ◌++◌, ◌∷◌, [], length, take, true, false, Err, OnOk, OnErr, IfErr, IfNone, IfSome, slice_get, slice_set};
 ghost use Rattle.std.specs.Bool.{OnFalse, OnTrue};
 ghost use Rattle.std.specs.List.{sum_by};
 ghost use Rattle.std.specs.Option.{option_copied};
-ghost use Rattle.crx_lines.specs.declared.limits.TheConstants.{SATELLITES_LIMIT, TYPES_LIMIT};
+ghost use Rattle.std.specs.Result.{is_ok};
+ghost use Rattle.crx_text.specs.Columns.{columns};
+ghost use Rattle.crx_lines.specs.declared.limits.TheConstants.{NAME_WIDTH, SATELLITES_LIMIT, TYPES_LIMIT};
 ghost use Rattle.crx_rinex.specs.EpochLines.{satellites_of, IsObservationHead};
-ghost use Rattle.crx_rinex.specs.Epochs.{begun, has_satellite, is_full_epoch, with_row, AddsRow, IsSoundEpoch};
+ghost use Rattle.crx_rinex.specs.Epochs.{begun, has_satellite, is_among, is_full_epoch, with_row, AddsRow, IsSoundEpoch};
 ghost use Rattle.crx_rinex.specs.EpochPlaces.{row_if_new};
 ghost use Rattle.crx_rinex.specs.Observations.{observations_in, observations_of};
-ghost use Rattle.crx_rinex.specs.SatelliteLines.{row_of, types_of_satellite, IsSoundRow};
+ghost use Rattle.crx_rinex.specs.SatelliteLines.{row_of, IsSoundRow};
 
+use crate::columns::padded;
 use crate::epoch_line::EpochLine;
 use crate::identifiers::Identifiers;
-use crate::satellite_row::SatRow;
+use crate::satellite_row::{SatRow, row_fault};
 use crate::types::Types;
 use crx_text::Fault;
 use std::alloc::Global;
@@ -128,24 +131,54 @@ impl Epoch {
         true
     }
 
-    /// Reads a satellite line and puts its row after the others, into the memory of an earlier row where there is one:
-    /// [`SatRow::read`] and [`Epoch::push`] in one, with their refusals. After a refusal the epoch is as it was.
+    /// Reads a satellite line and puts its row after the others, into the memory of an earlier row where there is one: the
+    /// faults of [`SatRow::read`], then `RepeatedSatellite` as by [`Epoch::push`], then `OutOfMemory`. After a refusal the epoch is
+    /// as it was.
     pub fn read_row(&mut self, types: &Types, line: &[u8]) -> Result<(), Fault>
         requires { is_full_epoch self.old ≡ false }
         ensures ok { OnOk result (AddsRow self.old (row_if_new self.old.rows (row_of types.now line.now)) self.new) }
+        // Memory is taken for a good row of a new satellite alone.
         ensures refused { IfErr result (λ fault. (row_if_new self.old.rows (row_of types.now line.now) ≡ Err fault)
-            ⊎ ((fault ≡ Fault.OutOfMemory) × (is_some (types_of_satellite types.now line.now) ≡ true))) }
+            ⊎ ((fault ≡ Fault.OutOfMemory) × (is_ok (row_if_new self.old.rows (row_of types.now line.now)) ≡ true))) }
         ensures err { OnErr result (self.new ≡ self.old) }
     {
-        if self.count == self.rows.len() {
-            let row = SatRow::read(self.alloc, types, line)?;
+        if self.count < self.rows.len() && self.names.has_at(self.count, padded(line, 1)) {
+            let row = &mut self.rows[self.count];
+            if let Err(fault) = row.read_again(types, line) {
+                return Err(fault);
+            }
+            self.count += 1;
+            return Ok(());
+        }
+        self.read_other_row(types, line)
+    }
+
+    /// The same where the place has no row yet, or that of another satellite.
+    #[inline(never)]
+    fn read_other_row(&mut self, types: &Types, line: &[u8]) -> Result<(), Fault>
+        requires { is_full_epoch self.old ≡ false }
+        ensures ok { OnOk result (AddsRow self.old (row_if_new self.old.rows (row_of types.now line.now)) self.new) }
+        ensures refused { IfErr result (λ fault. (row_if_new self.old.rows (row_of types.now line.now) ≡ Err fault)
+            ⊎ ((fault ≡ Fault.OutOfMemory) × (is_ok (row_if_new self.old.rows (row_of types.now line.now)) ≡ true))) }
+        ensures err { OnErr result (self.new ≡ self.old) }
+    {
+        let is_last = self.count == self.rows.len();
+        if let Some(fault) = fault_before_memory(&self.names, self.count, is_last, types, line) {
+            return Err(fault);
+        }
+        if is_last {
+            let Ok(row) = SatRow::read(self.alloc, types, line) else {
+                return Err(Fault::OutOfMemory);
+            };
             return match self.push(row) {
                 Ok(()) => Ok(()),
                 Err((_, fault)) => Err(fault),
             };
         }
         let row = &mut self.rows[self.count];
-        row.read_again(types, line)?;
+        if let Err(fault) = row.read_again(types, line) {
+            return Err(fault);
+        }
         match self.names.put(self.count, row.name()) {
             Ok(true) => {
                 self.count += 1;
@@ -205,6 +238,33 @@ impl Epoch {
     {
         self.rows[..self.count].get(index)
     }
+}
+
+/// The fault of a satellite line after rows of so many satellites: of one that repeats a satellite, and where it is asked for of
+/// any. It takes no memory.
+fn fault_before_memory(
+    names: &Identifiers,
+    count: usize,
+    is_asked: bool,
+    types: &Types,
+    line: &[u8],
+) -> Option<Fault>
+    requires { count ≤ length names.now }
+    ensures some { IfSome result (λ fault. (row_of types.now line.now ≡ Err fault)
+        ⊎ ((fault ≡ Fault.RepeatedSatellite) × (is_ok (row_of types.now line.now) ≡ true) × (is_among (λ (n : List ℕ). n) (columns line.now 1 NAME_WIDTH) (take count names.now) ≡ true))) }
+    ensures new { IfNone result (is_among (λ (n : List ℕ). n) (columns line.now 1 NAME_WIDTH) (take count names.now) ≡ false) }
+    ensures good { IfNone result (is_asked ≡ true → is_ok (row_of types.now line.now) ≡ true) }
+{
+    if names.place_of(count, padded(line, 1)).is_some() {
+        return match row_fault(types, line) {
+            Some(fault) => Some(fault),
+            None => Some(Fault::RepeatedSatellite),
+        };
+    }
+    if is_asked {
+        return row_fault(types, line);
+    }
+    None
 }
 
 /// Puts a row in the place of a spare one, which becomes the last one where there is memory for it.

@@ -59,6 +59,7 @@ impl Identifiers {
         ensures within { IfSome result (λ place. place < count) }
         ensures place { IfSome result (λ place. get_or self.now place [] ≡ name) }
         ensures new { IfSome result (λ place. is_among (λ (n : List ℕ). n) name (take place self.now) ≡ false) }
+        ensures known { OnSome result (is_among (λ (n : List ℕ). n) name (take count self.now) ≡ true) }
         ensures none { IfNone result (is_among (λ (n : List ℕ). n) name (take count self.now) ≡ false) }
     {
         let place = self.places.get(&name).copied();

@@ -1,9 +1,10 @@
 //! Satellite lines. RINEX 3.05, table A3, OBSERVATION record, A1,I2.2,m(F14.3,I1,I1).
 
-ghost use Rattle.std.specs.Prelude.{◌≡◌, ◌≤◌, ◌<◌, ◌+◌, ◌-◌, ◌*◌, ◌++◌, ◌∷◌, [], ◌⊎◌, replicate, true, None, Some, Ok, Err, is_some, length, All, IfOk, IfErr, IfSome, OnOk, OnErr, OnSome, MatchBool, MatchResult, slice_get, take};
+ghost use Rattle.std.specs.Prelude.{◌≡◌, ◌≤◌, ◌<◌, ◌+◌, ◌-◌, ◌*◌, ◌++◌, ◌∷◌, [], ◌⊎◌, replicate, true, None, Some, Ok, Err, is_some, length, All, IfOk, IfErr, IfSome, OnOk, OnErr, OnSome, IfNone, MatchBool, ◌≢◌, MatchResult, slice_get, take};
 ghost use Rattle.std.specs.Bool.{OnTrue, OnFalse};
 ghost use Rattle.std.specs.List.{list_all};
 ghost use Rattle.std.specs.Option.{option_map, ForSome};
+ghost use Rattle.std.specs.Result.{is_ok};
 ghost use Rattle.crx_text.specs.Columns.{character_at, columns};
 ghost use Rattle.crx_lines.specs.declared.limits.TheConstants.{CELL_WIDTH, LINE_LIMIT, NAME_WIDTH, OBSERVATION_WIDTH, TYPES_LIMIT};
 ghost use Rattle.crx_text.specs.Numbers.{observation_of, observation_text, IsObservation};
@@ -15,7 +16,7 @@ ghost use Rattle.crx_rinex.specs.SatelliteLines.{blank_row, field, flags_in, has
 
 use crate::columns::{after_columns, all_blank, character, padded};
 use crate::types::Types;
-use crx_lines::limits::{CELL_WIDTH, NAME_WIDTH, OBSERVATION_WIDTH};
+use crx_lines::limits::{CELL_WIDTH, NAME_WIDTH, OBSERVATION_WIDTH, TYPES_LIMIT};
 use crx_text::block::put_text;
 use crx_text::{
     Fault, Text, all_kept, obs_print_cell, obs_print_cell_into, obs_read, obs_read_usual, trim_end,
@@ -75,22 +76,26 @@ impl SatRow {
         }
     }
 
-    /// Reads another satellite line into the row, with the meaning and the refusals of [`SatRow::read`]. Memory is asked
-    /// for only where the row never had so many types before.
+    /// Reads another satellite line into the row, with the meaning and the faults of [`SatRow::read`], and then `OutOfMemory`:
+    /// memory is asked for only where the line is good, and the row never had so many types before.
     ///
     /// After `BadSatellite` and `OutOfMemory` the row is as it was; after `BadField` and `BadFlags` it keeps its identifier,
-    /// and all of its values are missing.
+    /// and all of its values are missing, or it is as it was.
     pub fn read_again(&mut self, types: &Types, line: &[u8]) -> Result<(), Fault>
         ensures ok { OnOk result (row_of types.now line.now ≡ Ok self.new) }
+        ensures name { OnOk result (self.new.name ≡ columns line.now 1 NAME_WIDTH) }
+        ensures sound { OnOk result (IsSoundRow self.new) }
+        // A row that has as many types takes no memory, and a bad line takes none.
         ensures refused { IfErr result (λ fault. (row_of types.now line.now ≡ Err fault)
-            ⊎ ((fault ≡ Fault.OutOfMemory) × (is_some (types_of_satellite types.now line.now) ≡ true))) }
-        ensures err { OnErr result ((self.new ≡ self.old) ⊎ (self.new ≡ blank_row self.old.name (length self.new.values))) }
+            ⊎ ((fault ≡ Fault.OutOfMemory) × (is_ok (row_of types.now line.now) ≡ true) × (types_of_satellite types.now line.now ≢ Some (length self.old.values)))) }
+        ensures err { IfErr result (λ fault. (self.new ≡ self.old)
+            ⊎ (((fault ≡ Fault.BadField) ⊎ (fault ≡ Fault.BadFlags)) × (self.new ≡ blank_row self.old.name (length self.new.values)))) }
     {
-        let Some(m) = types_of_satellite(types, line) else {
+        let Some(count) = types_of_satellite(types, line) else {
             return Err(Fault::BadSatellite);
         };
-        if !resize_cells(&mut self.values, &mut self.flags, m) {
-            return Err(Fault::OutOfMemory);
+        if let Err(fault) = resize_for(&mut self.values, &mut self.flags, count, line) {
+            return Err(fault);
         }
         if let Err(fault) = read_cells(line, &mut self.values, &mut self.flags) {
             self.values.fill(None);
@@ -272,6 +277,34 @@ fn resize_cells(values: &mut Vec<Option<i64>>, flags: &mut Vec<u8>, m: usize) ->
     true
 }
 
+/// Gives cells the size for m types, which they mostly have. Where they don't, the fault of a line of so many types comes
+/// first, and `OutOfMemory` for a good line alone; after either they are as they were.
+#[inline(always)]
+fn resize_for(
+    values: &mut Vec<Option<i64>>,
+    flags: &mut Vec<u8>,
+    m: usize,
+    line: &[u8],
+) -> Result<(), Fault>
+    requires paired { length flags.old.items ≡ 2 * length values.old.items }
+    requires few { m ≤ TYPES_LIMIT }
+    ensures ok { OnOk result ((length values.new.items ≡ m) × (length flags.new.items ≡ 2 * m)) }
+    ensures same { OnErr result ((values.new.items ≡ values.old.items) × (flags.new.items ≡ flags.old.items)) }
+    ensures refused { IfErr result (λ fault. (row_with m line.now (values_in m line.now) ≡ Err fault)
+        ⊎ ((fault ≡ Fault.OutOfMemory) × (is_ok (row_with m line.now (values_in m line.now)) ≡ true) × (length values.old.items ≢ m))) }
+{
+    if values.len() == m {
+        return Ok(());
+    }
+    if let Some(fault) = cells_fault(line, m) {
+        return Err(fault);
+    }
+    if !resize_cells(values, flags, m) {
+        return Err(Fault::OutOfMemory);
+    }
+    Ok(())
+}
+
 /// Reads the cells of a satellite line, and looks at what stands after the last. `BadField` comes where a field is neither
 /// blank nor a number, or something stands after the last cell; then `BadFlags` where an indicator may not stand there.
 fn read_cells(line: &[u8], values: &mut [Option<i64>], flags: &mut [u8]) -> Result<(), Fault>
@@ -282,6 +315,7 @@ fn read_cells(line: &[u8], values: &mut [Option<i64>], flags: &mut [u8]) -> Resu
     ensures ranged { OnOk result (All IsValue values.new) }
     ensures kept { OnOk result (list_all is_kept flags.new ≡ true) }
     ensures err { IfErr result (λ fault. row_with (length values.old) line.now (values_in (length values.old) line.now) ≡ Err fault) }
+    ensures field { IfErr result (λ fault. (fault ≡ Fault.BadField) ⊎ (fault ≡ Fault.BadFlags)) }
 {
     let m = values.len();
     if !split_cells(line, values, flags) {
@@ -294,6 +328,32 @@ fn read_cells(line: &[u8], values: &mut [Option<i64>], flags: &mut [u8]) -> Resu
         return Err(Fault::BadFlags);
     }
     Ok(())
+}
+
+/// What is wrong with the cells of a satellite line for so many types, told without memory.
+#[inline(never)]
+fn cells_fault(line: &[u8], m: usize) -> Option<Fault>
+    requires { m ≤ TYPES_LIMIT }
+    ensures some { IfSome result (λ fault. row_with m line.now (values_in m line.now) ≡ Err fault) }
+    ensures none { IfNone result (is_ok (row_with m line.now (values_in m line.now)) ≡ true) }
+{
+    let mut values = [None; TYPES_LIMIT];
+    let mut flags = [b' '; 2 * TYPES_LIMIT];
+    match read_cells(line, &mut values[..m], &mut flags[..2 * m]) {
+        Ok(()) => None,
+        Err(fault) => Some(fault),
+    }
+}
+
+/// What is wrong with a satellite line, told without memory.
+pub(crate) fn row_fault(types: &Types, line: &[u8]) -> Option<Fault>
+    ensures some { IfSome result (λ fault. row_of types.now line.now ≡ Err fault) }
+    ensures none { IfNone result (is_ok (row_of types.now line.now) ≡ true) }
+{
+    match types_of_satellite(types, line) {
+        Some(m) => cells_fault(line, m),
+        None => Some(Fault::BadSatellite),
+    }
 }
 
 /// Takes the values and the indicators out of a line's cells; `false` at the first field that is neither blank nor a number.

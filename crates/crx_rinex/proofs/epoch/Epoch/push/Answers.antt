@@ -1,15 +1,9 @@
-use Rattle.std.proofs.Common.{◌≡◌, ℕ, ◌<◌, ◌+◌, Bool, List, ap, sym, ◌∙◌, take, not, true, false, length, map, ◌++◌, ◌∷◌, [], refl, subst, inl, inr, arith}
+use Rattle.std.proofs.Common.{◌≡◌, ◌<◌, ◌+◌, List, ap, sym, ◌∙◌, take, not, true, false, length, ◌++◌, ◌∷◌, [], refl, subst, inl, inr, arith}
 use Rattle.std.proofs.lemmas.List.{length_push, take_all, take_more_set}
 use Rattle.crx_rinex.specs.Observations.{Row, Epoch}
-use Rattle.crx_rinex.specs.Epochs.{has_satellite, is_among, is_full_epoch, with_row, IsSoundEpoch}
-use Rattle.crx_rinex.proofs.Rows.{named_rows, names-long, names-next, sound-pushed, sound-put}
+use Rattle.crx_rinex.specs.Epochs.{has_satellite, is_full_epoch, with_row, IsSoundEpoch}
+use Rattle.crx_rinex.proofs.Rows.{by_names, names-long, names-next, sound-pushed, sound-put}
 use Rattle.crx_rinex.proofs.epoch.Epoch.push.Goals as goal
-
--- what the identifiers say of the epoch's rows
-by_names : (epoch : Epoch) (names : List (List ℕ)) (rows : List Row) (count : ℕ) (name name' : List ℕ) (b : Bool) → name' ≡ name → take count rows ≡ epoch.rows
-    → take count names ≡ map (λ (row : Row). row.name) (take count rows) → is_among (λ (n : List ℕ). n) name' (take count names) ≡ b → has_satellite name epoch.rows ≡ b
-by_names epoch names rows count name name' b is e h new =
-    ap (has_satellite name) (sym e) ∙ sym (named_rows names rows count name h) ∙ ap (λ (n : List ℕ). is_among (λ (m : List ℕ). m) n (take count names)) (sym is) ∙ new
 
 pub returns-in-Ok-false-clause-refused : goal.returns-in-Ok-false-clause-refused
 returns-in-Ok-false-clause-refused c =

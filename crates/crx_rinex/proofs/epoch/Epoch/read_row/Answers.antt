@@ -1,53 +1,54 @@
-use Rattle.std.proofs.Common.{◌≡◌, ℕ, ◌<◌, List, ap, sym, ◌∙◌, take, not, false, true, length, slice_set, refl, arith, inl}
+use Rattle.std.proofs.Common.{◌≡◌, ◌<◌, List, ap, sym, ◌∙◌, take, false, length, slice_set, arith, inl, inr, refl}
 use Rattle.std.proofs.lemmas.List.{length-set, take_more_set}
+use Rattle.crx_text.specs.Columns.{columns}
+use Rattle.crx_lines.specs.declared.limits.TheConstants.{NAME_WIDTH}
 use Rattle.crx_rinex.specs.Observations.{Row, Epoch}
-use Rattle.crx_rinex.specs.Epochs.{has_satellite, is_among, is_full_epoch, with_row}
-use Rattle.crx_rinex.proofs.Rows.{named_rows, names-long, names-next, sound-put}
+use Rattle.crx_rinex.specs.Epochs.{has_satellite, is_full_epoch, with_row}
+use Rattle.crx_rinex.specs.EpochPlaces.{row_if_new}
+use Rattle.crx_rinex.proofs.GoodRows.{good-new}
+use Rattle.crx_rinex.proofs.Rows.{by_names, names-long, names-next, sound-put}
 use Rattle.crx_rinex.proofs.epoch.Epoch.read_row.Goals as goal
 
-pub invariant_of-self-in-Ok-true : goal.invariant_of-self-in-Ok-true
-invariant_of-self-in-Ok-true c =
+pub returns-in-Err-clause-refused : goal.returns-in-Err-clause-refused
+returns-in-Err-clause-refused c =
+    let new : has_satellite (columns c.args.line.now 1 NAME_WIDTH) c.args.self.now.rows ≡ false =
+    by_names c.args.self.now c.self.inside.names c.self.inside.rows.items c.self.inside.count (columns c.args.line.now 1 NAME_WIDTH) c.padded.result false c.padded.ensures
+    (ap (λ (e : Epoch). e.rows) c.self.view_is) c.self.invariant.4 (c.if-has_at.ensures.new) in
+    elim (c.in-Err.ensures.refused) [
+      | inl bad ↦ inl (ap (row_if_new c.args.self.now.rows) bad)
+      | inr out ↦ inr (out.0, good-new c.args.types.now c.args.line.now c.args.self.now.rows out.1 new)
+    ]
+
+pub invariant_of-self-then-has_at : goal.invariant_of-self-then-has_at
+invariant_of-self-then-has_at c =
     let head = c.self.inside.head in
     let rows = c.self.inside.rows.items in
     let count = c.self.inside.count in
     let names = c.self.inside.names in
     let row : Row = c.read_again.new.self in
-    let within : count < length rows = let a = c.if-self-len.false in let b = c.self.inside.rows.ok.0 in let e = c.len.ensures in let f = c.self.invariant.1 in omega (arith, a, b, e, f) in
-    let next = c.in-Ok-true.ensures.next c.in-Ok-true.field-0-test in
+    let within : count < length rows = let a = c.if-self-len.true in let b = c.self.inside.rows.ok.0 in let e = c.len.ensures in omega (arith, a, b, e) in
+    let next = c.if-has_at.ensures.next in
+    let named : c.padded.result ≡ row.name = c.padded.ensures ∙ sym c.in_default.ensures.name in
     let new : has_satellite row.name (take count rows) ≡ false =
-    sym (named_rows names rows count row.name c.self.invariant.4) ∙ ap (λ (n : List ℕ). is_among (λ (m : List ℕ). m) n (take count names)) (sym c.name.ensures.value)
-    ∙ c.in-Ok-true.ensures.new ∙ ap not c.in-Ok-true.field-0-test in (
-      sound-put head.head head.clock rows count row c.self.invariant.0 within c.name.ensures.sound (ap is_full_epoch c.self.view_is ∙ c.requires) new,
+    by_names (record { head = head.head; clock = head.clock; rows = take count rows }) names rows count row.name c.padded.result false named refl c.self.invariant.4 c.if-has_at.ensures.new in (
+      sound-put head.head head.clock rows count row c.self.invariant.0 within c.in_default.ensures.sound (ap is_full_epoch c.self.view_is ∙ c.requires) new,
       omega (arith, within, length-set rows count row),
       c.self.invariant.2,
-      names-long names c.put.new.self count c.name.result c.self.invariant.3 next,
-      names-next names c.put.new.self rows (slice_set rows count row) count row c.name.result c.name.ensures.value c.self.invariant.4 next (take_more_set rows count row within),
+      names-long names names count c.padded.result c.self.invariant.3 next,
+      names-next names names rows (slice_set rows count row) count row c.padded.result named c.self.invariant.4 next (take_more_set rows count row within),
     )
 
-pub returns-in-Ok-true-clause-ok : goal.returns-in-Ok-true-clause-ok
-returns-in-Ok-true-clause-ok c =
+pub returns-then-has_at-clause-ok : goal.returns-then-has_at-clause-ok
+returns-then-has_at-clause-ok c =
     let head = c.self.inside.head in
     let rows = c.self.inside.rows.items in
     let count = c.self.inside.count in
-    let names = c.self.inside.names in
     let row = c.read_again.new.self in
-    let within : count < length rows = let a = c.if-self-len.false in let b = c.self.inside.rows.ok.0 in let e = c.len.ensures in let f = c.self.invariant.1 in omega (arith, a, b, e, f) in
-    let read = c.in_ok-read_again.ensures.ok in
-    let new : has_satellite row.name c.args.self.now.rows ≡ false = ap (λ (e : Epoch). has_satellite row.name e.rows) (sym c.self.view_is)
-    ∙ sym (named_rows names rows count row.name c.self.invariant.4) ∙ ap (λ (n : List ℕ). is_among (λ (m : List ℕ). m) n (take count names)) (sym c.name.ensures.value)
-    ∙ c.in-Ok-true.ensures.new ∙ ap not c.in-Ok-true.field-0-test in
+    let within : count < length rows = let a = c.if-self-len.true in let b = c.self.inside.rows.ok.0 in let e = c.len.ensures in omega (arith, a, b, e) in
+    let read = c.in_default.ensures.ok in
+    let new : has_satellite row.name c.args.self.now.rows ≡ false =
+    by_names c.args.self.now c.self.inside.names rows count row.name c.padded.result false (c.padded.ensures ∙ sym c.in_default.ensures.name)
+    (ap (λ (e : Epoch). e.rows) c.self.view_is) c.self.invariant.4 c.if-has_at.ensures.new in
     rw (read, new)
     (ap (λ (rs : List Row). record { head = head.head; clock = head.clock; rows = rs }) (take_more_set rows count row within)
     ∙ ap (λ (e : Epoch). with_row e row) c.self.view_is)
-
-pub returns-in-Ok-false-clause-refused : goal.returns-in-Ok-false-clause-refused
-returns-in-Ok-false-clause-refused c =
-    let rows = c.self.inside.rows.items in
-    let count = c.self.inside.count in
-    let names = c.self.inside.names in
-    let row = c.read_again.new.self in
-    let read = c.in_ok-read_again.ensures.ok in
-    let known : has_satellite row.name c.args.self.now.rows ≡ true = ap (λ (e : Epoch). has_satellite row.name e.rows) (sym c.self.view_is)
-    ∙ sym (named_rows names rows count row.name c.self.invariant.4) ∙ ap (λ (n : List ℕ). is_among (λ (m : List ℕ). m) n (take count names)) (sym c.name.ensures.value)
-    ∙ c.in-Ok-false.ensures.new ∙ ap not c.in-Ok-false.field-0-test in
-    inl (rw (read, known) refl)

@@ -3,7 +3,7 @@ use Rattle.std.specs.Prelude.{Bool}
 use Rattle.std.proofs.lemmas.List.{get_or-take, length-take}
 use Rattle.crx_rinex.specs.Epochs.{is_among}
 use Rattle.crx_rinex.specs.Identifiers.{CanStandAt}
-use Rattle.crx_rinex.proofs.Finding.{can-take, new-at_place}
+use Rattle.crx_rinex.proofs.Finding.{can-take, new-at_place, place_among}
 use Rattle.crx_rinex.proofs.identifiers.Identifiers.place_of.Goals as goal
 
 pub returns-in-Some-clause-new : goal.returns-in-Some-clause-new
@@ -20,6 +20,12 @@ returns-in-Some-clause-new c =
     ap {B = Bool} (λ (ns : List (List ℕ)). is_among (λ (n : List ℕ). n) c.args.name (take place ns)) (sym c.self.view_is)
     ∙ ap {B = Bool} (λ (n : List ℕ). is_among (λ (m : List ℕ). m) n (take place names)) (sym here)
     ∙ new-at_place names place c.self.inside.places c.self.invariant within
+
+pub returns-in-Some-clause-known : goal.returns-in-Some-clause-known
+returns-in-Some-clause-known c =
+    let spot = c.in-Some.ensures.place in
+    ap {B = Bool} (λ (ns : List (List ℕ)). is_among (λ (n : List ℕ). n) c.args.name (take c.args.count ns)) (sym c.self.view_is ∙ sym c.deref.ensures.value)
+    ∙ place_among c.args.name (take c.args.count c.deref.result.now) c.in-Some.place spot.0 spot.1
 
 pub returns-in-None-clause-none : goal.returns-in-None-clause-none
 returns-in-None-clause-none c =
