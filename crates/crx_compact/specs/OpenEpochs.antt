@@ -1,5 +1,5 @@
 -- Compact text read line by line, by the tail alone: what is held between two lines, and what one line more makes of it.
-use Rattle.std.specs.Prelude.{◌≡◌, ◌≤◌, ◌+◌, ◌*◌, ⊤, length, IfSome, ℕ, suc, ℤ, Bool, true, false, List, [], ◌∷◌, ◌++◌, map, Option, Some, None, Result, Ok, Err, if◌then◌else◌, unwrap_or}
+use Rattle.std.specs.Prelude.{◌≡◌, ◌≤◌, ◌+◌, ◌*◌, ⊤, length, IfSome, ℕ, suc, ℤ, Bool, true, false, List, [], ◌∷◌, ◌++◌, map, Option, Some, None, Result, Ok, Err, if◌then◌else◌, is_some, unwrap_or}
 use Rattle.std.specs.List.{AllByRecursion}
 use Rattle.std.specs.Option.{option_map}
 use Rattle.crx_text.specs.Columns.{columns}
@@ -184,6 +184,11 @@ state_after (Faulty fault) = Idle None
 abbrev pub is_idle : ColumnsState → Bool
 is_idle (Idle tail) = true
 is_idle (Reading begun) = false
+
+-- whether a satellite's line is awaited: the clock line has come
+abbrev pub awaits_row : ColumnsState → Bool
+awaits_row (Idle tail) = false
+awaits_row (Reading begun) = is_some begun.clock
 
 -- the tail that is held between two epochs
 abbrev pub tail_held : ColumnsState → Option Tail

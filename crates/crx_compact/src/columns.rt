@@ -2,6 +2,8 @@
 //! RINEX 3.0.
 
 ghost use Rattle.std.specs.Prelude.{◌≡◌, ◌≤◌, ◌++◌, ◌∷◌, List, if◌then◌else◌, [], Some, None, true, false, length, IfOk, IfErr, OnOk, OnErr, Err};
+ghost use Rattle.std.specs.List.{list_all};
+ghost use Rattle.crx_text.specs.Texts.{is_printable};
 ghost use Rattle.crx_rinex.specs.Epochs.{is_full_epoch};
 ghost use Rattle.std.specs.Prelude.{◌⊎◌};
 ghost use Rattle.crx_lines.specs.Seen.{Content, ReadLine};
@@ -12,7 +14,7 @@ ghost use Rattle.crx_compact.specs.CompactPlaces.{epoch_at};
 ghost use Rattle.crx_compact.specs.ReadBlocks.{HasReadTo, IsReading};
 ghost use Rattle.crx_lines.specs.declared.limits.TheConstants.{LINE_LIMIT};
 ghost use Rattle.crx_rinex.specs.EpochLines.{begins_epoch, is_event_line};
-ghost use Rattle.crx_compact.specs.OpenEpochs.{is_idle, tail_held, first_step, step_in, Faulty, HasMade};
+ghost use Rattle.crx_compact.specs.OpenEpochs.{awaits_row, is_idle, tail_held, first_step, step_in, Faulty, HasMade};
 ghost use Rattle.crx_compact.specs.OpenEpochs.ColumnsState.{Idle};
 ghost use Rattle.crx_compact.specs.Compaction.{Marked, compact_epoch};
 ghost use Rattle.crx_compact.specs.Tails.{tail_left, tail_or_nothing};
@@ -168,8 +170,9 @@ impl Columns {
         ensures made { OnOk result (HasMade (first_step types.now (tail_held self.old) (Content line.now)) self.new None) }
         ensures refused { IfErr result (λ fault. (first_step types.now (tail_held self.old) (Content line.now) ≡ Faulty fault) ⊎ (fault ≡ Fault.OutOfMemory)) }
         ensures emptied { OnErr result (self.new ≡ Idle None) }
-        // Memory is taken only after that check.
+        // Memory is taken only after these checks: that an epoch may begin so, and that no character is outside 32 to 126.
         ensures no_epoch { begins_epoch line.now ≡ false → tail_held self.old ≡ None → result ≡ Err Fault.NotAnEpoch }
+        ensures memory { IfErr result (λ fault. fault ≡ Fault.OutOfMemory → list_all is_printable line.now ≡ true) }
         // After the raw epochs accepted since everything was last forgotten, the line makes what it makes by them.
         ensures block { (older : List RawEpoch) → tail_held self.old ≡ tail_left older
             → OnOk result (IsReading types.now older (Content line.now ∷ []) self.new) }
@@ -188,6 +191,7 @@ impl Columns {
         ensures refused { IfErr result (λ fault. (first_step types.now (tail_held self.old) (Content line.now) ≡ Faulty fault) ⊎ (fault ≡ Fault.OutOfMemory)) }
         ensures emptied { OnErr result (self.new ≡ Idle None) }
         ensures no_epoch { begins_epoch line.now ≡ false → tail_held self.old ≡ None → result ≡ Err Fault.NotAnEpoch }
+        ensures memory { IfErr result (λ fault. fault ≡ Fault.OutOfMemory → list_all is_printable line.now ≡ true) }
     {
         let goes_on = !begins_epoch(line);
         if goes_on && !self.is_kept {
@@ -217,6 +221,8 @@ impl Columns {
         requires short { length line.now ≤ LINE_LIMIT }
         ensures made { IfOk result (λ given. HasMade (step_in self.old (Content line.now)) self.new given) }
         ensures refused { IfErr result (λ fault. (step_in self.old (Content line.now) ≡ Faulty fault) ⊎ (fault ≡ Fault.OutOfMemory)) }
+        // Memory is taken only for a satellite's line.
+        ensures memory { IfErr result (λ fault. fault ≡ Fault.OutOfMemory → (begins_epoch line.now ≡ false) × (awaits_row self.old ≡ true)) }
         ensures emptied { OnErr result (self.new ≡ Idle None) }
         // After the raw epochs accepted since everything was last forgotten, and the lines of the epoch so far, the line makes
         // what it makes by them: the epoch that is given is the one that stands at these lines.
@@ -234,6 +240,7 @@ impl Columns {
         requires short { length line.now ≤ LINE_LIMIT }
         ensures made { IfOk result (λ given. HasMade (step_in self.old (Content line.now)) self.new given) }
         ensures refused { IfErr result (λ fault. (step_in self.old (Content line.now) ≡ Faulty fault) ⊎ (fault ≡ Fault.OutOfMemory)) }
+        ensures memory { IfErr result (λ fault. fault ≡ Fault.OutOfMemory → (begins_epoch line.now ≡ false) × (awaits_row self.old ≡ true)) }
         ensures emptied { OnErr result (self.new ≡ Idle None) }
     {
         let before = stands_after(&self.nothing, &self.kept, self.goes_on);
@@ -260,6 +267,7 @@ impl Columns {
         ensures made { IfOk result (λ is_taken. is_taken ≡ true → HasMade (step_in self.old (Content line.now)) self.new None) }
         ensures same { IfOk result (λ is_taken. is_taken ≡ false → self.new ≡ self.old) }
         ensures refused { IfErr result (λ fault. (step_in self.old (Content line.now) ≡ Faulty fault) ⊎ (fault ≡ Fault.OutOfMemory)) }
+        ensures memory { IfErr result (λ fault. fault ≡ Fault.OutOfMemory → (begins_epoch line.now ≡ false) × (awaits_row self.old ≡ true)) }
         ensures emptied { OnErr result (self.new ≡ Idle None) }
     {
         if !self.incoming.is_early() {

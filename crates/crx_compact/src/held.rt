@@ -3,6 +3,7 @@
 ghost use Rattle.std.specs.Prelude.{◌≡◌, ◌≤◌, ◌<◌, ◌+◌, OnErr, ◌++◌, ◌∷◌, ◌⊎◌, ◌*◌, [], None, Ok, Err, true, false, length, slice_index_or, slice_set, take, OnOk, IfOk, IfErr, IfSome, IfNone, OnSome, Some, Option, ℤ};
 ghost use Rattle.std.specs.List.{flat_map, list_all};
 ghost use Rattle.crx_text.specs.Numbers.{IsObservation};
+ghost use Rattle.crx_rinex.specs.EpochLines.{begins_epoch};
 ghost use Rattle.crx_rinex.specs.SatelliteLines.{IsValue};
 ghost use Rattle.crx_text.specs.Codes.{code_of, code_text, first_cell, IsPrintable, IsShort};
 ghost use Rattle.crx_text.specs.Texts.{is_kept, patched, text_difference};
@@ -25,7 +26,7 @@ use crate::arc::ObsArc;
 use crate::awaited::AwaitedSatellite;
 use crate::lines::Lines;
 use crx_lines::limits::{DIGITS_LIMIT, NAME_WIDTH};
-use crx_rinex::{SatRow, after_columns, all_blank, begins_epoch};
+use crx_rinex::{SatRow, after_columns, all_blank};
 use crx_text::block::put_text;
 use crx_text::difference::{append_difference, patch_bytes};
 use crx_text::{
@@ -394,7 +395,7 @@ impl HeldSatellite {
     /// Reads a satellite's line after what was kept of it in the epoch before: replaces what is kept, and fills the row, which
     /// has its identifier and its size. What was kept of cells and indicators past the satellite's count of types is dropped.
     ///
-    /// `Truncated` comes where the line begins another epoch; then the first cell with a fault decides: `BadField` where its
+    /// The line begins no epoch. The first cell with a fault decides: `BadField` where its
     /// text is no code, then `NoArc` and `OutOfRange` as by [`ObsArc::apply`]; then `BadFlags` where the marks hold a character
     /// outside 32 to 126, or anything but blanks past two for each type. `OutOfMemory` comes where something can't grow.
     pub(crate) fn read(
@@ -406,6 +407,7 @@ impl HeldSatellite {
         part: &mut Text,
     ) -> Result<(), Fault>
         requires short { length line.now ≤ LINE_LIMIT }
+        requires other { begins_epoch line.now ≡ false }
         requires named { row.old.name ≡ satellite.now.name }
         requires sized { length row.old.values ≡ satellite.now.count }
         ensures ok { OnOk result (row_held (option_copied before.entry) satellite.now line.now ≡ Ok (record { row = row.new; tail = self.new })) }
@@ -430,15 +432,13 @@ impl HeldSatellite {
     ) -> Result<(), Fault>
         requires flags { AreHeldFlags flags.now }
         requires short { length line.now ≤ LINE_LIMIT }
+        requires other { begins_epoch line.now ≡ false }
         requires named { row.old.name ≡ satellite.now.name }
         requires sized { length row.old.values ≡ satellite.now.count }
         ensures ok { OnOk result (row_held_from arcs.now flags.now satellite.now line.now ≡ Ok (record { row = row.new; tail = self.new })) }
         ensures err { IfErr result (λ fault. (row_held_from arcs.now flags.now satellite.now line.now ≡ Err fault)
             ⊎ (fault ≡ Fault.OutOfMemory)) }
     {
-        if begins_epoch(line) {
-            return Err(Fault::Truncated);
-        }
         let count = satellite.count();
         let Ok(()) = resize_arcs(&mut self.arcs, count) else {
             return Err(Fault::OutOfMemory);

@@ -9,7 +9,10 @@ ghost use Rattle.crx_rinex.specs.Epochs.{begun, has_satellite, is_full_epoch, wi
 ghost use Rattle.crx_compact.specs.Tails.{Tail};
 ghost use Rattle.crx_compact.specs.OpenEpochs.{opened, Going, Whole, Faulty};
 ghost use Rattle.crx_compact.specs.HeldRows.{row_after, IsNextRow};
+ghost use Rattle.std.specs.List.{list_all};
+ghost use Rattle.crx_rinex.specs.EpochLines.{begins_epoch};
 ghost use Rattle.crx_text.specs.Columns.{columns};
+ghost use Rattle.crx_text.specs.Texts.{is_printable};
 ghost use Rattle.crx_lines.specs.declared.limits.TheConstants.{HEAD_WIDTH};
 ghost use Rattle.crx_compact.specs.EpochText.{epoch_count};
 ghost use Rattle.crx_compact.specs.CompactPlaces.{clock_line_read};
@@ -18,7 +21,7 @@ ghost use Rattle.crx_compact.specs.OpenLines.{open_raw, made_of, step_after, Has
 
 use crate::awaited::AwaitedSatellite;
 use crate::kept::KeptEpoch;
-use crx_rinex::{Epoch, EpochLine, SatRow, Types, padded};
+use crx_rinex::{Epoch, EpochLine, SatRow, Types, begins_epoch, padded};
 use crx_text::{Fault, Text};
 use std::alloc::Global;
 use std::marker::Model;
@@ -110,6 +113,7 @@ impl Incoming {
         ensures ok { OnOk result (IfSome self.new (λ lines. opened types.now line.now (Some before.now) ≡ Ok (open_raw before.now lines))) }
         ensures open { OnOk result (is_some self.new ≡ true) }
         ensures err { IfErr result (λ fault. (opened types.now line.now (Some before.now) ≡ Err fault) ⊎ (fault ≡ Fault.OutOfMemory)) }
+        ensures memory { IfErr result (λ fault. fault ≡ Fault.OutOfMemory → list_all is_printable line.now ≡ true) }
     {
         self.stage = Stage::Unbegun;
         self.satellites.clear();
@@ -132,6 +136,8 @@ impl Incoming {
         ensures ok { OnOk result (step_after before.now self.old line.now ≡ made_of before.now self.new) }
         ensures open { OnOk result (is_some self.new ≡ true) }
         ensures err { IfErr result (λ fault. (step_after before.now self.old line.now ≡ Faulty fault) ⊎ (fault ≡ Fault.OutOfMemory)) }
+        ensures memory { IfErr result (λ fault. fault ≡ Fault.OutOfMemory
+            → (begins_epoch line.now ≡ false) × IfSome self.old (λ lines. is_some lines.clock ≡ true)) }
     {
         match &mut self.stage {
             Stage::Unbegun => Err(Fault::NotAnEpoch),
@@ -287,7 +293,11 @@ fn next_row(
     requires short { length line.now ≤ LINE_LIMIT }
     ensures ok { OnOk result (IsRowAfter before.now satellite.now line.now count epoch.old epoch.new next.old next.new) }
     ensures err { IfErr result (λ fault. (row_after before.now satellite.now line.now ≡ Err fault) ⊎ (fault ≡ Fault.OutOfMemory)) }
+    ensures memory { IfErr result (λ fault. fault ≡ Fault.OutOfMemory → begins_epoch line.now ≡ false) }
 {
+    if begins_epoch(line) {
+        return Err(Fault::Truncated);
+    }
     let Ok(()) = renew_row(alloc, epoch, held, satellite) else {
         return Err(Fault::OutOfMemory);
     };

@@ -4,8 +4,9 @@ ghost use Rattle.std.specs.Prelude.{ℕ, min, ◌≡◌, ◌≤◌, ◌<◌, ◌
 ghost use Rattle.std.specs.Bool.{OnTrue};
 ghost use Rattle.std.specs.List.{list_all};
 ghost use Rattle.crx_text.specs.Columns.{without_end_blanks};
-ghost use Rattle.crx_text.specs.Texts.{is_kept};
+ghost use Rattle.crx_text.specs.Texts.{is_kept, is_printable};
 ghost use Rattle.crx_lines.specs.declared.limits.TheConstants.{LINE_LIMIT};
+ghost use Rattle.crx_rinex.specs.EpochLines.{begins_epoch};
 ghost use Rattle.crx_rinex.specs.Epochs.{IsSoundEpoch};
 ghost use Rattle.crx_compact.specs.Compaction.{epoch_text};
 ghost use Rattle.crx_text.specs.Texts.{patched};
@@ -163,6 +164,7 @@ impl KeptEpoch {
         ensures text { OnOk result (self.new ≡ record self.old { text = patched before.now.text line.now }) }
         ensures err { IfErr result (λ fault. (satellites_of_line types.now (past_of_tail before.now) line.now ≡ Err fault)
             ⊎ (fault ≡ Fault.OutOfMemory)) }
+        ensures memory { IfErr result (λ fault. fault ≡ Fault.OutOfMemory → list_all is_printable line.now ≡ true) }
     {
         if patch_bytes(&before.text, line, part).is_err() {
             return Err(Fault::BadEpoch);
@@ -218,6 +220,7 @@ impl KeptEpoch {
         part: &mut Text,
     ) -> Result<(), Fault>
         requires short { length line.now ≤ LINE_LIMIT }
+        requires other { begins_epoch line.now ≡ false }
         requires next { index ≤ length self.old.rows }
         requires named { row.old.name ≡ satellite.now.name }
         requires sized { length row.old.values ≡ satellite.now.count }

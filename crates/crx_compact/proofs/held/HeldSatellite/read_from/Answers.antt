@@ -1,11 +1,11 @@
-use Rattle.std.proofs.Common.{◌≡◌, drop, length, sym, ◌∙◌, inl, arith}
+use Rattle.std.proofs.Common.{◌≡◌, drop, length, inl, arith}
 use Rattle.std.proofs.lemmas.List.{take_at}
 use Rattle.crx_compact.proofs.Marks.{cells-refused, if-err, line-from, line-held, marks-refused, on-all, still-counted}
 use Rattle.crx_compact.proofs.held.HeldSatellite.read_from.Goals as goal
 
 pub returns-in-Err-clause-err : goal.returns-in-Err-clause-err
 returns-in-Err-clause-err c =
-    cells-refused c.args.arcs.now c.args.flags.now c.args.satellite.now c.args.line.now c.in-Err.fault (sym c.begins_epoch.ensures ∙ c.if-begins_epoch.false)
+    cells-refused c.args.arcs.now c.args.flags.now c.args.satellite.now c.args.line.now c.in-Err.fault c.requires.other
     (inl (rw (c.count-count.ensures.value) at c.in-Err.ensures.err))
 
 pub returns-clause-err : goal.returns-clause-err
@@ -13,7 +13,7 @@ returns-clause-err c =
     let read = rw (c.count-count.ensures.value) at c.in-Ok-read_cells.ensures.ok in
     let refused = rw (line-from c.args.line.now c.in-Ok-read_cells.at, c.count-count.ensures.value) at c.read_indicators.ensures.err in
     if-err c.read_indicators.result _ _ (λ fault. marks-refused c.args.arcs.now c.args.flags.now c.args.satellite.now c.args.line.now _ _ _ c.in-Ok-read_cells.at fault
-    (sym c.begins_epoch.ensures ∙ c.if-begins_epoch.false) read) refused
+    c.requires.other read) refused
 
 pub returns-clause-ok : goal.returns-clause-ok
 returns-clause-ok c =
@@ -25,7 +25,7 @@ returns-clause-ok c =
     let long : length arcs ≡ c.resize_arcs.new.arcs.len = let a = c.read_cells.auto.arcs in let b = c.deref_mut.ensures.len in omega (arith, a, b) in
     rw (take_at arcs (drop (length arcs) c.resize_arcs.new.arcs.items) c.resize_arcs.new.arcs.len long)
     (on-all c.read_indicators.result (λ good shown kept.
-    line-held c.args.arcs.now c.args.flags.now c.args.satellite.now c.args.line.now arcs _ c.read_cells.new.row c.read_indicators.new.row at _ _ (sym c.begins_epoch.ensures ∙ c.if-begins_epoch.false)
+    line-held c.args.arcs.now c.args.flags.now c.args.satellite.now c.args.line.now arcs _ c.read_cells.new.row c.read_indicators.new.row at _ _ c.requires.other
     c.requires.named (rw (c.count-count.ensures.value) at c.in-Ok-read_cells.ensures.ok) good shown c.name-self-inside.ensures.value kept) marks row held)
 
 pub read_indicators-requires-clause-counted : goal.read_indicators-requires-clause-counted

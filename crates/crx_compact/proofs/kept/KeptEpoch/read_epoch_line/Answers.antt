@@ -48,3 +48,11 @@ returns-clause-err c =
     subst (λ (b : Bool). IfErr c.read_satellites.result (λ (fault : Fault).
     ((if not b then Err BadEpoch else satellites_of_text types (patched c.args.before.now.text c.args.line.now)) ≡ Err fault) ⊎ (fault ≡ OutOfMemory))) (sym (printable c))
     (subst (λ (t : List ℕ). IfErr c.read_satellites.result (λ (fault : Fault). (satellites_of_text types t ≡ Err fault) ⊎ (fault ≡ OutOfMemory))) (c.deref-2.ensures.value ∙ text c) c.read_satellites.ensures.err)
+
+-- what follows holds of any refusal
+whatever : {A E : Type 0} (r : Result A E) (P : E → Type 0) → ((e : E) → P e) → IfErr r P
+whatever (Ok a) P h = tt
+whatever (Err e) P h = h e
+
+pub returns-clause-memory : goal.returns-clause-memory
+returns-clause-memory c = whatever c.read_satellites.result _ (λ fault out. printable c)
