@@ -62,16 +62,16 @@ def differs(run, where, messages, wrote, whole, stream=1):
 
 
 def failed_writes(program, words, given, least):
-    """Each write of the output fails in turn, for want of room and otherwise."""
+    """Each write of the output fails in turn: for want of room, otherwise, and by taking no byte."""
     good = Run(program, words, given)
     places = good.places("write", 1)
     if good.status not in (0, 2) or len(places) < least:
         return [f"without a fault: status {good.status}, {len(places)} writes"]
     wrong = []
     for place in places:
-        for error in ("EIO", "ENOSPC"):
-            run = Run(program, words, given, f"write:error={error}:when={place}")
-            wrong += differs(run, f"write {place}, {error}", WRITE_FAILED, run.output, good.output)
+        for fault in ("error=EIO", "error=ENOSPC", "retval=0"):
+            run = Run(program, words, given, f"write:{fault}:when={place}")
+            wrong += differs(run, f"write {place}, {fault}", WRITE_FAILED, run.output, good.output)
     return wrong
 
 

@@ -6,6 +6,7 @@ import signal
 import subprocess
 import tempfile
 import time
+from datetime import datetime, timezone
 from pathlib import Path
 
 from cases import BAD_INDICATOR, COMPACT_FIVE, DATED, FIVE, H, K, epoch, full, text
@@ -122,6 +123,51 @@ def closed_streams(program):
     return wrong
 
 
+def a_full_device_by_name(program):
+    """An output file that is a full device: a message, and status 1."""
+    wrong = []
+    for words, source, target, given, line in ((DATED, "a.rnx", "a.crx", FIVE, 13), (["crx2rnx"], "a.crx", "a.rnx", COMPACT_FIVE, 20)):
+        with tempfile.TemporaryDirectory() as folder:
+            (Path(folder) / source).write_bytes(given)
+            (Path(folder) / target).symlink_to("/dev/full")
+            run = subprocess.run([program, *words, "-f", source], cwd=folder, capture_output=True, timeout=SECONDS)
+            if (run.returncode, run.stdout, run.stderr) != (1, b"", text(f"ERROR line {line} code 21: write failed")):
+                wrong.append(f"{words[0]}: status {run.returncode}, output {run.stdout!r}, messages {run.stderr!r}")
+    return wrong
+
+
+def long_files_by_name(program):
+    """Files by name of more than a megabyte: compact text comes back whole, as over standard streams."""
+    long = MANY + MANY[len(text(*H)):].replace(b"> 2024", b"> 2025") * 2
+    wrong = [] if len(long) > 1_000_000 else [f"{len(long)} bytes"]
+    through = subprocess.run([program, *DATED], input=long, capture_output=True, timeout=SECONDS).stdout
+    with tempfile.TemporaryDirectory() as name:
+        folder = Path(name)
+        (folder / "a.rnx").write_bytes(long)
+        report = subprocess.run([program, "check", "a.rnx"], cwd=folder, capture_output=True, timeout=SECONDS)
+        runs = [subprocess.run([program, *words], cwd=folder, capture_output=True, timeout=SECONDS)
+                for words in ([*DATED, "a.rnx"], ["crx2rnx", "-f", "a.crx"])]
+        for run in runs:
+            if (run.returncode, run.stdout, run.stderr) != (0, b"", b""):
+                wrong.append(f"status {run.returncode}, output of {len(run.stdout)} bytes, messages {run.stderr!r}")
+        if (folder / "a.crx").read_bytes() != through:
+            wrong.append("another compact text than over standard streams")
+        if (folder / "a.rnx").read_bytes() != long:
+            wrong.append("another file came back")
+        if report.returncode != 0 or not re.search(rb"\b24000\b", report.stdout):
+            wrong.append(f"check: status {report.returncode}, {report.stdout!r}")
+    return wrong
+
+
+def the_date_of_the_moment(program):
+    """Without a date among the arguments the second line has the moment of the run, in UTC."""
+    moments = [datetime.now(timezone.utc)]
+    run = subprocess.run([program, "rnx2crx"], input=text(*H), capture_output=True, timeout=SECONDS)
+    moments.append(datetime.now(timezone.utc))
+    found = run.stdout.split(b"\n")[1][40:60].decode().rstrip()
+    return [] if found in [f"{moment:%d-%b-%y %H:%M}" for moment in moments] else [f"{found!r}"]
+
+
 def counts_by_system(program):
     """Satellites of systems with other counts of types, in another order in each epoch: a file comes back."""
     types = {"G": ["C1C", "L1C"], "R": ["C1C"], "E": ["C1X", "L1X", "S1X"]}
@@ -141,6 +187,9 @@ def counts_by_system(program):
 
 
 CHECKS = [
+    ("the date of the moment", the_date_of_the_moment),
+    ("a full device by name", a_full_device_by_name),
+    ("files by name of more than a megabyte", long_files_by_name),
     ("systems with other counts of types", counts_by_system),
     ("files by name, and closed streams", closed_streams),
     ("output and messages into one stream", one_stream),
