@@ -162,7 +162,8 @@ impl Columns {
     /// nothing. The counts of types hold for all lines of the epoch.
     ///
     /// `NotAnEpoch` comes where nothing is kept of an epoch before and the line doesn't begin with `>`; then `BadEpoch`,
-    /// `BadSatellite` and `RepeatedSatellite`; `OutOfMemory` where something can't grow. After a refusal everything is forgotten.
+    /// `BadSatellite` and `RepeatedSatellite`; `OutOfMemory` where something can't grow, which is after `NotAnEpoch` and the check of
+    /// the line's characters. After a refusal everything is forgotten.
     pub fn begin(&mut self, types: &Types, line: &[u8]) -> Result<(), Fault>
         requires idle { is_idle self.old ≡ true }
         requires short { length line.now ≤ LINE_LIMIT }

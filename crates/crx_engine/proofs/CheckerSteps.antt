@@ -17,7 +17,7 @@ use Rattle.crx_engine.specs.Engines.{with_next, RunsOutAt}
 use Rattle.crx_engine.specs.Items.{records_announced, counts_types}
 use Rattle.crx_engine.specs.Laws.{failed_by}
 use Rattle.crx_engine.specs.LineByLine.{Phase, InFirstLines, InHeader, BetweenUnits, InEvent, InEpoch, LookingOn, Closed, Ended, Seen, Step, Made, Completes, Moves, Fails, Repeats, made_in, with_records_left, phase_after, types_after, step_of}
-use Rattle.crx_engine.specs.Memory.{may_take_memory}
+use Rattle.crx_engine.specs.Memory.{takes_memory}
 use Rattle.crx_engine.specs.RinexReaders.{reader_phase, made_at, Completed, Takes, Refuses}
 use Rattle.crx_engine.specs.Standard.{is_standard_line}
 use Rattle.crx_engine.specs.Checking.{Totals, checking, totals_with, totals_made, printed_open, printed_made, earliest, CheckSeen, no_choices, check_seen, check_step, check_next, check_filter, fault_so_far}
@@ -190,7 +190,7 @@ refused-line before number totals named line lines fault short (inr memory) same
       fault = memory.0;
       place = ap (λ n. n + 1) (ap (λ (b : CheckSeen). b.reading.number) same);
       allowed = ap memory_if
-          (ap (λ l. may_take_memory false (check_seen lines).reading.phase l) (seen-short line short) ∙ ap (λ (b : CheckSeen). may_take_memory false b.reading.phase (Content line.content)) (sym same) ∙ memory.1);
+          (ap (λ l. takes_memory checking (check_seen lines).reading l) (seen-short line short) ∙ ap (λ (b : CheckSeen). takes_memory checking b.reading (Content line.content)) (sym same) ∙ memory.1);
     })
 
 always-too_long : (phase : Phase OpenEpoch) (types : List Count) (kept : Totals) → is_reading phase ≡ true → made_in checking phase types kept Overlong ≡ Fails LineTooLong

@@ -1,8 +1,7 @@
 -- What a reader of compact text holds after a line.
-use Rattle.std.proofs.Common.{◌≡◌, inl, inr, Bool, true, false, List, [], ℕ, Option, Some, None, Result, Ok, Err, refl, sym, ap, ◌∙◌, true≢false, if◌then◌else◌, not}
-use Rattle.std.proofs.lemmas.Bool.{and_parts, and_from}
-use Rattle.std.specs.Prelude.{◌||◌, IfErr}
-use Rattle.std.specs.Option.{is_some}
+use Rattle.std.proofs.Common.{◌≡◌, inl, inr, Bool, true, List, [], ℕ, Option, Some, None, Result, Ok, Err, refl, sym, ap, ◌∙◌, true≢false, if◌then◌else◌, not}
+use Rattle.std.proofs.lemmas.Bool.{and_from}
+use Rattle.std.specs.Prelude.{◌&&◌, IfErr}
 use Rattle.crx_lines.specs.Seen.{Content}
 use Rattle.crx_lines.specs.declared.fault.Fault.{Fault}
 use Rattle.crx_text.specs.Texts.{patched}
@@ -16,7 +15,7 @@ use Rattle.crx_compact.specs.OpenEpochs.{ColumnsState, RawStep, Going, Whole, Fa
 use Rattle.crx_engine.specs.RinexStages.{is_consistent as is_consistent_in_rinex}
 use Rattle.crx_engine.specs.CompactStages.{is_consistent, wants_line, wants_lines}
 use Rattle.crx_engine.specs.CompactReaders.{Refuses}
-use Rattle.crx_engine.specs.Expander.{compact_begins, expansion}
+use Rattle.crx_engine.specs.Expander.{compact_begins, expansion, may_be_epoch_line}
 use Rattle.crx_engine.specs.LineByLine.{BetweenUnits, LookingOn, Moves, made_in}
 use Rattle.crx_engine.specs.declared.compact_reader.CompactStep.{CompactStep}
 use Rattle.crx_engine.specs.declared.stage.Stage.{Stage}
@@ -63,4 +62,4 @@ look-refused types tail line (Err fault) begins (inl fails) =
     if-true : {X : Type 0} (b : Bool) (x y : X) → b ≡ true → (if b then x else y) ≡ x
     if-true b x y e = rw e refl
 look-refused types tail line (Err fault) begins (inr out) =
-    inr (out.0, and_from (begins_epoch line) (not (is_event_line line)) begins (and_parts (is_some tail || begins_epoch line) (not (is_event_line line)) out.1).1)
+    inr (out.0, and_from (begins_epoch line) (not (is_event_line line) && may_be_epoch_line tail line) begins out.1)

@@ -5,12 +5,15 @@ use Rattle.crx_lines.specs.declared.fault.At.{At}
 use Rattle.crx_lines.specs.declared.fault.Fault.{Fault}
 use Rattle.crx_lines.specs.declared.fault.Fault.TheVariants.{OutOfMemory, LineTooLong}
 use Rattle.crx_rinex.specs.Observations.{Epoch as ObservationEpoch}
+use Rattle.std.specs.Prelude.{Bool, not, ◌&&◌}
+use Rattle.std.proofs.lemmas.Bool.{and_parts, false≢true}
+use Rattle.crx_rinex.specs.EpochLines.{begins_epoch, is_event_line}
 use Rattle.crx_rinex.specs.EpochPlaces.{OpenEpoch}
 use Rattle.crx_rinex.specs.ObservationTypes.{Count}
 use Rattle.crx_engine.specs.Choices.{Choices}
-use Rattle.crx_engine.specs.Compactor.{Written, compaction}
-use Rattle.crx_engine.specs.LineByLine.{Seen, Made, Fails, made_in, kept_in, failed_step, step_of}
-use Rattle.crx_engine.specs.Memory.{takes_memory}
+use Rattle.crx_engine.specs.Compactor.{Written, compaction, epoch_written, is_next_row}
+use Rattle.crx_engine.specs.LineByLine.{Phase, InFirstLines, InHeader, BetweenUnits, InEvent, InEpoch, LookingOn, Closed as SeenClosed, Ended as SeenEnded, Seen, Made, Fails, made_in, kept_in, failed_step, step_of}
+use Rattle.crx_engine.specs.Memory.{may_take_memory}
 use Rattle.crx_engine.specs.Reading.{is_skippable}
 use Rattle.crx_engine.specs.EngineSteps.{is_ended, seen_stage, step_made, Steps}
 use Rattle.crx_engine.specs.RinexStages.{open_epoch, is_whole}
@@ -56,17 +59,31 @@ quiet-step choices number kept before after line ready none taken =
     ∙ ap (λ (k : Written). step_made (Ok Quiet) [] (record { choices = choices; number = number + 1; phase = phase; types = before.types; kept = k })) (sym going)
     ∙ sym (ap (λ (m : Made ObservationEpoch OpenEpoch). step_of compaction (record { choices = choices; number = number; phase = reader_phase before; types = before.types; kept = kept }) (Content line) m) taken.0))
 
+-- where the reading may take memory, the compaction may
+read-or-written : (first : List ℕ → Bool) (next : OpenEpoch → List ℕ → Bool) (phase : Phase OpenEpoch) (line : ReadLine) → may_take_memory (λ (l : List ℕ). false) next phase line ≡ true
+    → may_take_memory first next phase line ≡ true
+read-or-written first next phase Overlong e = absurd (false≢true e)
+read-or-written first next (InFirstLines count) (Content line) e = e
+read-or-written first next (InHeader is_first) (Content line) e = e
+read-or-written first next BetweenUnits (Content line) e = absurd (false≢true (and_parts (not (is_event_line line)) false e).1)
+read-or-written first next (InEvent left counted) (Content line) e = e
+read-or-written first next (InEpoch so_far) (Content line) e = e
+read-or-written first next LookingOn (Content line) e =
+    absurd (false≢true (and_parts (not (is_event_line line)) false (and_parts (begins_epoch line) (not (is_event_line line) && false) e).1).1)
+read-or-written first next SeenClosed (Content line) e = e
+read-or-written first next (SeenEnded at) (Content line) e = e
+
 -- a line with a fault
 pub refused-step : (before now : Seen OpenEpoch Written) (line : ReadLine) (result : Result Step At) (ready : List (List ℕ)) (after : Seen OpenEpoch Written) (fault : Fault)
     → now ≡ before → step_made result ready after ≡ failed_step compaction now line fault
-    → (made_in compaction before.phase before.types before.kept line ≡ Fails fault) ⊎ ((fault ≡ OutOfMemory) × (takes_memory compaction before line ≡ true))
+    → (made_in compaction before.phase before.types before.kept line ≡ Fails fault) ⊎ ((fault ≡ OutOfMemory) × (may_take_memory (λ (l : List ℕ). false) is_next_row before.phase line ≡ true))
     → (is_skippable fault ≡ false → result ≡ Err (record { line = before.number + 1; fault = fault }))
     → Steps compaction before line result ready after
 refused-step before now line result ready after fault same step (inl made) fatal =
     inl (step ∙ ap (λ (s : Seen OpenEpoch Written). failed_step compaction s line fault) same ∙ sym (ap (λ (m : Made ObservationEpoch OpenEpoch). step_of compaction before line m) made))
 refused-step before now line result ready after fault same step (inr out) fatal =
     let counted = fatal-counts compaction now after line fault result ready step (out-fatal fault out.0) ∙ ap (λ (s : Seen OpenEpoch Written). s.number + 1) same in
-    inr (ran-out compaction before after line result fault out.0 (fatal (out-fatal fault out.0)) out.1 counted)
+    inr (ran-out compaction before after line result fault out.0 (fatal (out-fatal fault out.0)) (read-or-written (epoch_written before.types before.kept) is_next_row before.phase line out.1) counted)
 
 -- what is seen of a reader that is as it was
 pub seen-again : (choices : Choices) (number : ℕ) (kept : Written) (types now_types : List Count) (epoch now_epoch : Option ObservationEpoch) (stage now_stage : Stage)

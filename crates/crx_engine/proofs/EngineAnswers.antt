@@ -99,22 +99,22 @@ taken-first : {U O K : Type 0} (direction : Direction U O K) (before : Seen O K)
 taken-first direction before line e = rw e refl
 
 -- a line that begins with > takes no memory in an epoch
-none-in-epoch : (O : Type 0) (goes_on : Bool) (phase : Phase O) (line : ReadLine) → is_in_epoch phase ≡ true → can_go_on line ≡ true → may_take_memory goes_on phase line ≡ false
-none-in-epoch O goes_on (InEpoch so_far) (Content line) epoch fits = rw fits refl
-none-in-epoch O goes_on phase Overlong epoch fits = refl
-none-in-epoch O goes_on (InFirstLines count) (Content line) epoch fits = absurd (cc)
-none-in-epoch O goes_on (InHeader is_first) (Content line) epoch fits = absurd (cc)
-none-in-epoch O goes_on BetweenUnits (Content line) epoch fits = absurd (cc)
-none-in-epoch O goes_on (InEvent left counted) (Content line) epoch fits = absurd (cc)
-none-in-epoch O goes_on LookingOn (Content line) epoch fits = absurd (cc)
-none-in-epoch O goes_on Closed (Content line) epoch fits = absurd (cc)
-none-in-epoch O goes_on (Ended at) (Content line) epoch fits = absurd (cc)
+none-in-epoch : (O : Type 0) (first : List ℕ → Bool) (next : O → List ℕ → Bool) (phase : Phase O) (line : ReadLine) → is_in_epoch phase ≡ true → can_go_on line ≡ true → may_take_memory first next phase line ≡ false
+none-in-epoch O first next (InEpoch so_far) (Content line) epoch fits = rw fits refl
+none-in-epoch O first next phase Overlong epoch fits = refl
+none-in-epoch O first next (InFirstLines count) (Content line) epoch fits = absurd (cc)
+none-in-epoch O first next (InHeader is_first) (Content line) epoch fits = absurd (cc)
+none-in-epoch O first next BetweenUnits (Content line) epoch fits = absurd (cc)
+none-in-epoch O first next (InEvent left counted) (Content line) epoch fits = absurd (cc)
+none-in-epoch O first next LookingOn (Content line) epoch fits = absurd (cc)
+none-in-epoch O first next Closed (Content line) epoch fits = absurd (cc)
+none-in-epoch O first next (Ended at) (Content line) epoch fits = absurd (cc)
 
 taken-again : {U O K : Type 0} (direction : Direction U O K) (before next : Seen O K) (line : ReadLine) (notice : At) → record { answer = Notice notice true; lent = []; next = next } ≡ seen_next direction before line
     → takes_memory direction next line ≡ true → memory_after direction before line ≡ Some (notice ∷ [])
 taken-again {O = O} {K = K} direction before next line notice step e =
     let again = comes-again direction before next line notice [] step in
-    let first : takes_memory direction before line ≡ false = none-in-epoch O (direction.goes_on before.kept) before.phase line again.epoch again.fits in
+    let first : takes_memory direction before line ≡ false = none-in-epoch O (direction.memory_first before.types before.kept) direction.memory_next before.phase line again.epoch again.fits in
     let second : memory_again direction line (Notice notice true) next ≡ Some (notice ∷ []) = rw e refl in
     ap (λ (taken : Bool). cond taken (Some []) (memory_again direction line (seen_next direction before line).answer (seen_next direction before line).next)) first
     ∙ ap (λ (s : SeenStep O K). memory_again direction line s.answer s.next) (sym step) ∙ second

@@ -76,9 +76,9 @@ failed-at (Ok Ready) at e = absurd (true≢false (sym (ap is_failed e)))
 failed-at (Ok (Warned notice again)) at e = absurd (true≢false (sym (ap is_failed e)))
 failed-at (Err a) at e = ap (λ (x : At). Err x) (ap (failed_or a) e)
 
-never-ended : (O : Type 0) (goes_on : Bool) (at : At) (line : ReadLine) → may_take_memory {O = O} goes_on (SeenEnded at) line ≡ true → ⊥
-never-ended O goes_on at Overlong e = absurd (cc)
-never-ended O goes_on at (Content line) e = absurd (cc)
+never-ended : (O : Type 0) (first : List ℕ → Bool) (next : O → List ℕ → Bool) (at : At) (line : ReadLine) → may_take_memory {O = O} first next (SeenEnded at) line ≡ true → ⊥
+never-ended O first next at Overlong e = absurd (cc)
+never-ended O first next at (Content line) e = absurd (cc)
 
 pub repeats : {U O K : Type 0} (direction : Direction U O K) (before after : Seen O K) (line : ReadLine) (ready : List (List ℕ)) (result : Result Step At) (at : At)
     → Steps direction before line result ready after → before.phase ≡ SeenEnded at → result ≡ Err at
@@ -86,7 +86,8 @@ repeats {O = O} {K = K} direction before after line ready result at (inl step) i
     let again : (seen_next direction before line).answer ≡ Failed at = ap (λ (p : Phase O). (step_of direction before line (made_in direction p before.types before.kept line)).answer) is in
     failed-at result at (ap (λ (s : SeenStep O K). s.answer) step ∙ again)
 repeats {O = O} direction before after line ready result at (inr ran) is =
-    absurd (never-ended O (direction.goes_on before.kept) at line (subst (λ (p : Phase O). may_take_memory (direction.goes_on before.kept) p line ≡ true) is ran.allowed))
+    absurd (never-ended O (direction.memory_first before.types before.kept) direction.memory_next at line
+    (subst (λ (p : Phase O). may_take_memory (direction.memory_first before.types before.kept) direction.memory_next p line ≡ true) is ran.allowed))
 
 pub repeats-end : {U O K : Type 0} (direction : Direction U O K) (before after : Seen O K) (ready : List (List ℕ)) (result : Result Step At) (at : At)
     → step_made result ready after ≡ seen_end direction before → before.phase ≡ SeenEnded at → result ≡ Err at

@@ -1,7 +1,9 @@
 -- What a reader of RINEX makes of the lines of an epoch, and of a line where one may begin.
 use Rattle.std.proofs.Common.{◌≡◌, ◌⊎◌, inl, inr, ℕ, zero, suc, ◌+◌, ◌-◌, ◌≤◌, ◌<◌, Bool, true, false, List, length, Option, Some, None, Result, Ok, Err, if◌then◌else◌, refl, sym, ap, subst, ◌∙◌, arith, nat_eq}
-use Rattle.std.specs.Prelude.{⊤, drop}
+use Rattle.std.specs.Prelude.{⊤, drop, not, ◌&&◌}
+use Rattle.std.proofs.lemmas.Bool.{and_from}
 use Rattle.std.specs.List.{list_all}
+use Rattle.std.specs.Result.{is_ok}
 use Rattle.std.proofs.lemmas.Bool.Decides.{nat_tests}
 use Rattle.crx_text.specs.Columns.{columns, character_at, is_blank}
 use Rattle.crx_text.specs.Numbers.{clock_of}
@@ -16,7 +18,7 @@ use Rattle.crx_rinex.specs.Epochs.{begun, is_full_epoch, IsSoundEpoch, AddsRow}
 use Rattle.crx_rinex.specs.ObservationTypes.{Count}
 use Rattle.crx_rinex.specs.SatelliteLines.{row_of}
 use Rattle.crx_rinex.specs.Units.{EventLine}
-use Rattle.crx_engine.specs.Compactor.{Written, compaction, made_of_step, made_of_beginning, rinex_continues}
+use Rattle.crx_engine.specs.Compactor.{Written, compaction, epoch_written, is_next_row, is_whole_at_once, made_of_step, made_of_beginning, rinex_continues}
 use Rattle.crx_engine.specs.Items.{records_announced}
 use Rattle.crx_engine.specs.LineByLine.{Made, Completes, Moves, Phase, made_in}
 use Rattle.crx_engine.specs.Memory.{may_take_memory}
@@ -55,7 +57,7 @@ whole-now types epoch full = when-whole (satellites_of epoch.head - length epoch
 -- ---- what a reader holds then
 
 pub whole-taken : (made : Made ObservationEpoch OpenEpoch) (before after : RinexReader) (line : List ℕ) (epoch : ObservationEpoch)
-    → made ≡ made_of_step (whole_or_going (seen_epoch before.types epoch)) → may_take_memory false (reader_phase before) (Content line) ≡ true
+    → made ≡ made_of_step (whole_or_going (seen_epoch before.types epoch)) → may_take_memory (epoch_written before.types before.types) is_next_row (reader_phase before) (Content line) ≡ true
     → is_full_epoch epoch ≡ true → after.epoch ≡ Some epoch → after.types ≡ before.types → after.stage ≡ Between
     → CompletedEpoch made line before after
 whole-taken made before after line epoch is allowed full holds types stage = record {
@@ -101,9 +103,19 @@ row-made before line kept epoch after stage holds other added =
     in-epoch : (before : RinexReader) (epoch : ObservationEpoch) → before.stage ≡ Open → before.epoch ≡ Some epoch → reader_phase before ≡ seen_stage (open_epoch before.types (Some epoch)) Open
     in-epoch before epoch stage holds = rw (stage, holds) refl
 
-pub row-allowed : (before : RinexReader) (line : List ℕ) (epoch : ObservationEpoch) → before.stage ≡ Open → before.epoch ≡ Some epoch → begins_epoch line ≡ false
-    → may_take_memory false (reader_phase before) (Content line) ≡ true
-row-allowed before line epoch stage holds other = rw (stage, holds, other) refl
+good-added : (epoch after : ObservationEpoch) (read : Result Row Fault) → AddsRow epoch read after → is_ok read ≡ true
+good-added epoch after (Ok row) added = refl
+good-added epoch after (Err fault) added = absurd added
+
+-- such a line may take memory
+pub row-good : (first : List ℕ → Bool) (before : RinexReader) (line : List ℕ) (epoch : ObservationEpoch) → before.stage ≡ Open → before.epoch ≡ Some epoch → begins_epoch line ≡ false
+    → is_ok (row_if_new epoch.rows (row_of before.types line)) ≡ true → may_take_memory first is_next_row (reader_phase before) (Content line) ≡ true
+row-good first before line epoch stage holds other good = rw (stage, holds, other) good
+
+pub row-allowed : (first : List ℕ → Bool) (before : RinexReader) (line : List ℕ) (epoch after : ObservationEpoch) → before.stage ≡ Open → before.epoch ≡ Some epoch → begins_epoch line ≡ false
+    → AddsRow epoch (row_if_new epoch.rows (row_of before.types line)) after → may_take_memory first is_next_row (reader_phase before) (Content line) ≡ true
+row-allowed first before line epoch after stage holds other added =
+    row-good first before line epoch stage holds other (good-added epoch after (row_if_new epoch.rows (row_of before.types line)) added)
 
 -- ---- where an epoch or an event may begin
 
@@ -162,9 +174,12 @@ pub begin-made : (before : RinexReader) (line : List ℕ) (kept : Written) → B
 begin-made before line kept (inl stage) = rw stage refl
 begin-made before line kept (inr looking) = rw (looking.0, looking.1) refl
 
-pub begin-allowed : (before : RinexReader) (line : List ℕ) → Begins before line → (is_event_line line ≡ false) × (begins_epoch line ≡ true) → may_take_memory false (reader_phase before) (Content line) ≡ true
-begin-allowed before line (inl stage) epoch = rw (stage, epoch.0, epoch.1) refl
-begin-allowed before line (inr looking) epoch = rw (looking.0, epoch.0, epoch.1) refl
+pub begin-allowed : (before : RinexReader) (line : List ℕ) → Begins before line → (is_event_line line ≡ false) × (begins_epoch line ≡ true)
+    → is_whole_at_once (made_of_beginning before.types (beginning_of line)) ≡ true → may_take_memory (epoch_written before.types before.types) is_next_row (reader_phase before) (Content line) ≡ true
+begin-allowed before line (inl stage) epoch whole = rw (stage, epoch.0) whole
+begin-allowed before line (inr looking) epoch whole =
+    let begun = is_whole_at_once (made_of_beginning before.types (beginning_of line)) in
+    rw looking.0 (and_from (begins_epoch line) (not (is_event_line line) && begun) epoch.1 (and_from (not (is_event_line line)) begun (ap not epoch.0) whole))
 
 -- an epoch that begins with a line, seen in either way
 pub begun-made : (types : List Count) (line : List ℕ) (head : ObservationHead) → head_of line ≡ Ok (EpochHead head.head head.count head.clock) → satellites_of head.head ≡ head.count
@@ -183,12 +198,15 @@ pub begun-taken : (before after : RinexReader) (line : List ℕ) (kept : Written
     → Takes (made_at before line kept) before line step after
 begun-taken before after line kept head step begins read counts sound holds types stage is = by_bool (is_full_epoch (begun head))
     (λ full. subst (λ s. Takes (made_at before line kept) before line s after) (sym (is ∙ whole-step full))
-    (whole-taken (made_at before line kept) before after line (begun head) made (begin-allowed before line begins (epoch-line line head.head head.count head.clock read)) full holds types (stage ∙ whole-stage full)))
+    (whole-taken (made_at before line kept) before after line (begun head) made (begin-allowed before line begins (epoch-line line head.head head.count head.clock read) (whole-line full)) full holds types (stage ∙ whole-stage full)))
     (λ part. subst (λ s. Takes (made_at before line kept) before line s after) (sym (is ∙ part-step part))
     (part-taken (made_at before line kept) before.types after.epoch after.types after.stage (begun head) made sound part holds types (stage ∙ part-stage part)))
   where
     made : made_at before line kept ≡ made_of_step (whole_or_going (seen_epoch before.types (begun head)))
     made = begin-made before line kept begins ∙ begun-made before.types line head read counts
+
+    whole-line : is_full_epoch (begun head) ≡ true → is_whole_at_once (made_of_beginning before.types (beginning_of line)) ≡ true
+    whole-line full = ap is_whole_at_once (begun-made before.types line head read counts ∙ ap made_of_step (whole-now before.types (begun head) full))
 
     whole-step : is_full_epoch (begun head) ≡ true → (if is_full_epoch (begun head) then Epoch else Nothing) ≡ Epoch
     whole-step full = rw full refl

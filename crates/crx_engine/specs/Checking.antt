@@ -14,9 +14,9 @@ use Rattle.crx_engine.specs.Items.{Item, Accepted, Warned, is_at_start}
 use Rattle.crx_engine.specs.Reading.{Reading}
 use Rattle.crx_engine.specs.Compacted.{epochs_accepted, rinex_reading}
 use Rattle.crx_engine.specs.LineByLine.{Phase, InEpoch, Seen, Made, Completes, Moves, Fails, Repeats, Direction, Step, made_in, seen_next, seen_of, phase_of}
-use Rattle.crx_engine.specs.Compactor.{rinex_begins, rinex_continues, rinex_open, is_before_header}
+use Rattle.crx_engine.specs.Compactor.{rinex_begins, rinex_continues, rinex_open, is_before_header, is_next_row}
 use Rattle.crx_engine.specs.Filters.{Filter}
-use Rattle.crx_engine.specs.Memory.{may_take_memory}
+use Rattle.crx_engine.specs.Memory.{takes_memory}
 use Rattle.crx_engine.specs.Laws.{fault_of_stop}
 use Rattle.crx_engine.specs.Results.{lines_text}
 use Rattle.crx_engine.specs.Standard.{Findings, printed_items, version_in, events_accepted, observations_accepted, is_standard_line, first_not_standard, findings_of, report_lines, whole_reading_of}
@@ -52,7 +52,8 @@ abbrev pub checking : Direction Epoch OpenEpoch Totals
 checking = record {
   begins = rinex_begins;
   continues = rinex_continues;
-  goes_on = λ kept. false;
+  memory_first = λ types kept line. false;
+  memory_next = is_next_row;
   kept_after = totals_after;
   kept_open = λ kept. kept;
   emptied = λ kept. kept;
@@ -155,5 +156,5 @@ abbrev pub check_filter : Filter
 check_filter = record {
   so_far = λ lines. record { output = []; warnings = []; fault = fault_so_far lines };
   whole = λ lines. record { output = report_unless (whole_reading_of lines).fault (findings_of lines); warnings = []; fault = (whole_reading_of lines).fault };
-  memory_after = λ lines line. if may_take_memory false (check_seen lines).reading.phase (seen line) then Some [] else None;
+  memory_after = λ lines line. if takes_memory checking (check_seen lines).reading (seen line) then Some [] else None;
 }

@@ -1,6 +1,5 @@
 -- What a reader of compact text makes of a line.
 use Rattle.std.specs.Prelude.{◌≡◌, ◌⊎◌, ℕ, ◌+◌, true, List, [], ◌∷◌, Option}
-use Rattle.std.specs.Option.{is_some}
 use Rattle.crx_lines.specs.Seen.{Content}
 use Rattle.crx_lines.specs.declared.fault.Fault.{Fault}
 use Rattle.crx_lines.specs.declared.fault.Fault.TheVariants.{OutOfMemory}
@@ -8,7 +7,7 @@ use Rattle.crx_rinex.specs.Printing.{printed_epoch}
 use Rattle.crx_compact.specs.OpenEpochs.{OpenRawEpoch, HeldEpoch, tail_held}
 use Rattle.crx_compact.specs.Tails.{Tail}
 use Rattle.crx_engine.specs.Choices.{Choices}
-use Rattle.crx_engine.specs.Expander.{expansion}
+use Rattle.crx_engine.specs.Expander.{expansion, is_clock_read, may_be_epoch_line}
 use Rattle.crx_engine.specs.LineByLine.{Phase, Seen, Made, Fails, Answer, Quiet, Ready, made_in, step_of}
 use Rattle.crx_engine.specs.Memory.{may_take_memory}
 use Rattle.crx_engine.specs.EngineSteps.{seen_stage}
@@ -54,4 +53,4 @@ Takes made line before after step = record { answer = answer_for step; lent = le
 
 -- a fault is that of the line, or memory ran out at a line that may take some, by what is kept of the epochs before
 abbrev pub Refuses : Option Tail → Made HeldEpoch OpenRawEpoch → Phase OpenRawEpoch → List ℕ → Fault → Type 0
-Refuses tail made phase line fault = (made ≡ Fails fault) ⊎ ((fault ≡ OutOfMemory) × (may_take_memory (is_some tail) phase (Content line) ≡ true))
+Refuses tail made phase line fault = (made ≡ Fails fault) ⊎ ((fault ≡ OutOfMemory) × (may_take_memory (may_be_epoch_line tail) (λ so_far next. is_clock_read so_far) phase (Content line) ≡ true))

@@ -1,16 +1,17 @@
 -- Compaction line by line: what is kept between two lines, by the tail of the epochs alone.
-use Rattle.std.specs.Prelude.{ℕ, Bool, false, ◌+◌, List, [], ◌∷◌, ◌++◌, length, Option, Some, None, Result, Ok, Err, if◌then◌else◌}
-use Rattle.crx_lines.specs.Seen.{ReadLine}
+use Rattle.std.specs.Prelude.{ℕ, Bool, true, false, ◌+◌, List, [], ◌∷◌, ◌++◌, length, Option, Some, None, Result, Ok, Err, if◌then◌else◌}
+use Rattle.std.specs.Result.{is_ok}
+use Rattle.crx_lines.specs.Seen.{ReadLine, Content}
 use Rattle.crx_lines.specs.declared.fault.Fault.{Fault}
 use Rattle.crx_rinex.specs.Observations.{Epoch}
 use Rattle.crx_rinex.specs.Units.{Unit, HeaderLine, EventLine, EventRecord, Observation}
 use Rattle.crx_rinex.specs.ObservationTypes.{Count}
-use Rattle.crx_rinex.specs.EpochPlaces.{OpenEpoch, EpochStep, Going, Whole, Faulty, Beginning, EventBegins, EpochBegins, beginning_of, opened, whole_or_going, epoch_step, open_with}
+use Rattle.crx_rinex.specs.EpochPlaces.{OpenEpoch, EpochStep, Going, Whole, Faulty, Beginning, EventBegins, EpochBegins, beginning_of, opened, whole_or_going, epoch_step, next_row, open_with}
 use Rattle.crx_compact.specs.Tails.{Tail, tail_or_nothing}
 use Rattle.crx_compact.specs.Steps.{lines_after, tail_after, tail_written_after}
 use Rattle.crx_engine.specs.Choices.{Choices}
 use Rattle.crx_engine.specs.Items.{Item, types_in_force}
-use Rattle.crx_engine.specs.LineByLine.{Phase, InHeader, InEpoch, Seen, Made, Completes, Moves, Fails, made_of_line, Direction, seen_of}
+use Rattle.crx_engine.specs.LineByLine.{Phase, InHeader, InEpoch, Seen, Made, Completes, Moves, Fails, Repeats, made_of_line, Direction, seen_of}
 use Rattle.crx_engine.specs.Compacted.{epochs_accepted, is_interrupted, is_at_every, marked_epochs, lines_before_header, rinex_reading}
 
 -- what is kept of the epochs: the next one's index, from 0; and the tail of those before it, or nothing where the next one is the
@@ -38,6 +39,26 @@ rinex_begins types kept line = made_of_line (λ content. made_of_beginning types
 -- in an epoch
 abbrev pub rinex_continues : OpenEpoch → ReadLine → Made Epoch OpenEpoch
 rinex_continues so_far line = made_of_step (epoch_step so_far line)
+
+-- ---- what takes memory
+
+-- whether an epoch is whole with its line, since it has no satellites
+abbrev pub is_whole_at_once : Made Epoch OpenEpoch → Bool
+is_whole_at_once (Completes (HeaderLine line)) = false
+is_whole_at_once (Completes (EventLine line)) = false
+is_whole_at_once (Completes (EventRecord line)) = false
+is_whole_at_once (Completes (Observation epoch)) = true
+is_whole_at_once (Moves phase) = false
+is_whole_at_once (Fails fault) = false
+is_whole_at_once (Repeats at) = false
+
+-- an epoch's line takes memory where the epoch is whole with it, and is written
+abbrev pub epoch_written : {K : Type 0} → List Count → K → List ℕ → Bool
+epoch_written types kept line = is_whole_at_once (rinex_begins types kept (Content line))
+
+-- a satellite's line takes memory where it is a good row of a new satellite
+abbrev pub is_next_row : OpenEpoch → List ℕ → Bool
+is_next_row so_far line = is_ok (next_row so_far line)
 
 -- ---- what is kept, and what is written
 
@@ -68,7 +89,8 @@ abbrev pub compaction : Direction Epoch OpenEpoch Written
 compaction = record {
   begins = rinex_begins;
   continues = rinex_continues;
-  goes_on = λ kept. false;
+  memory_first = epoch_written;
+  memory_next = is_next_row;
   kept_after = written_kept;
   kept_open = λ kept. kept;
   emptied = λ kept. record { index = kept.index; tail = None };

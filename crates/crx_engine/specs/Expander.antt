@@ -1,8 +1,10 @@
 -- Expansion line by line: what is kept between two lines, by the tail of the epochs alone.
-use Rattle.std.specs.Prelude.{Bool, false, List, [], ◌∷◌, length, Option, Some, None, if◌then◌else◌}
+use Rattle.std.specs.Prelude.{ℕ, Bool, false, ◌||◌, ◌&&◌, List, [], ◌∷◌, length, Option, Some, None, if◌then◌else◌}
 use Rattle.std.specs.Option.{is_some}
 use Rattle.crx_lines.specs.Seen.{ReadLine, Content, Overlong}
-use Rattle.crx_rinex.specs.EpochLines.{is_event_line}
+use Rattle.std.specs.List.{list_all}
+use Rattle.crx_text.specs.Texts.{is_printable}
+use Rattle.crx_rinex.specs.EpochLines.{begins_epoch, is_event_line}
 use Rattle.crx_rinex.specs.Places.{Here, Wrong, Wanted}
 use Rattle.crx_rinex.specs.Units.{Unit, HeaderLine, EventLine, EventRecord, Observation, printed_unit}
 use Rattle.crx_rinex.specs.ObservationTypes.{Count}
@@ -31,6 +33,16 @@ compact_begins types tail line =
 abbrev pub compact_continues : OpenRawEpoch → ReadLine → Made HeldEpoch OpenRawEpoch
 compact_continues so_far line = made_of_step (next_step so_far line)
 
+-- ---- what takes memory
+
+-- an epoch's line takes memory where it begins with > or an epoch is kept before it, and no character of it is outside 32 to 126
+abbrev pub may_be_epoch_line : Option Tail → List ℕ → Bool
+may_be_epoch_line tail line = (is_some tail || begins_epoch line) && list_all is_printable line
+
+-- after it, a satellite's line does
+abbrev pub is_clock_read : OpenRawEpoch → Bool
+is_clock_read so_far = is_some so_far.clock
+
 -- ---- what is kept, and what is written
 
 -- a types line that is accepted among an event's records empties the reader's state, and so does all before the first epoch
@@ -52,7 +64,8 @@ abbrev pub expansion : Direction HeldEpoch OpenRawEpoch (Option Tail)
 expansion = record {
   begins = compact_begins;
   continues = compact_continues;
-  goes_on = λ tail. is_some tail;
+  memory_first = λ types tail line. may_be_epoch_line tail line;
+  memory_next = λ so_far line. is_clock_read so_far;
   kept_after = tail_kept;
   kept_open = λ tail. None;
   emptied = λ tail. None;

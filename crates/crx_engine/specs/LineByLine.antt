@@ -48,12 +48,13 @@ pub data Made (U O : Type 0) : Type 0 where
   Repeats : At → Made U O
 
 -- what differs between the two directions: what a line makes where an epoch or an event may begin; what it makes in an epoch; whether
--- an epoch's line may go on from what is kept, and then needs no >; what is kept after a unit, while an epoch is open, and after a
+-- a line may take memory where an epoch begins, and in an epoch; what is kept after a unit, while an epoch is open, and after a
 -- fault; and the lines written for a unit
 pub record Direction (U O K : Type 0) : Type 0 where
   pub begins : List Count → K → ReadLine → Made U O
   pub continues : O → ReadLine → Made U O
-  pub goes_on : K → Bool
+  pub memory_first : List Count → K → List ℕ → Bool
+  pub memory_next : O → List ℕ → Bool
   pub kept_after : Seen O K → Unit U → K
   pub kept_open : K → K
   pub emptied : K → K

@@ -1,28 +1,30 @@
 -- At which lines memory may run out.
-use Rattle.std.specs.Prelude.{Bool, true, false, not, ◌&&◌, ◌||◌, List, [], ◌∷◌, Option, Some, None, if◌then◌else◌}
+use Rattle.std.specs.Prelude.{ℕ, Bool, true, false, not, ◌&&◌, List, [], ◌∷◌, Option, Some, None, is_none, if◌then◌else◌}
+use Rattle.std.specs.Option.{is_some}
 use Rattle.crx_lines.specs.Seen.{ReadLine, Content, Overlong}
 use Rattle.crx_lines.specs.declared.fault.At.{At}
 use Rattle.crx_rinex.specs.EpochLines.{begins_epoch, is_event_line}
-use Rattle.crx_rinex.specs.ObservationTypes.{is_types_line}
+use Rattle.crx_rinex.specs.ObservationTypes.{count_of_types_line}
+use Rattle.crx_engine.specs.UnitPlaces.{header_line_fault}
 use Rattle.crx_engine.specs.LineByLine.{Phase, InFirstLines, InHeader, BetweenUnits, InEvent, InEpoch, LookingOn, Closed, Ended, Seen, Direction, Answer, Quiet, Ready, Notice, Failed, seen_next}
 
--- whether a line may take memory in a phase: a types line where these count, and a line that is read as one of an observation epoch;
--- no other does. Where an epoch or an event may begin, an epoch's line begins with >, or goes on from what is kept of the epoch before
--- (`goes_on`, whether one may); in an epoch none of its lines begins with >
-abbrev pub may_take_memory : {O : Type 0} → Bool → Phase O → ReadLine → Bool
-may_take_memory goes_on phase Overlong = false
-may_take_memory goes_on (InFirstLines count) (Content line) = false
-may_take_memory goes_on (InHeader is_first) (Content line) = is_types_line line
-may_take_memory goes_on BetweenUnits (Content line) = (goes_on || begins_epoch line) && not (is_event_line line)
-may_take_memory goes_on (InEvent left counted) (Content line) = counted && is_types_line line
-may_take_memory goes_on (InEpoch so_far) (Content line) = not (begins_epoch line)
-may_take_memory goes_on LookingOn (Content line) = begins_epoch line && not (is_event_line line)
-may_take_memory goes_on Closed (Content line) = false
-may_take_memory goes_on (Ended at) (Content line) = false
+-- whether a line may take memory in a phase: a good types line where these count; where an epoch or an event may begin, a line that
+-- begins no event, as the direction says; and in an epoch a line that doesn't begin with >, as the direction says. No other does, and
+-- none that has a fault which is found before
+abbrev pub may_take_memory : {O : Type 0} → (List ℕ → Bool) → (O → List ℕ → Bool) → Phase O → ReadLine → Bool
+may_take_memory first next phase Overlong = false
+may_take_memory first next (InFirstLines count) (Content line) = false
+may_take_memory first next (InHeader is_first) (Content line) = is_some (count_of_types_line line) && is_none (header_line_fault is_first line)
+may_take_memory first next BetweenUnits (Content line) = not (is_event_line line) && first line
+may_take_memory first next (InEvent left counted) (Content line) = counted && is_some (count_of_types_line line)
+may_take_memory first next (InEpoch so_far) (Content line) = not (begins_epoch line) && next so_far line
+may_take_memory first next LookingOn (Content line) = begins_epoch line && (not (is_event_line line) && first line)
+may_take_memory first next Closed (Content line) = false
+may_take_memory first next (Ended at) (Content line) = false
 
 -- whether a line may take memory, by what is seen before it
 abbrev pub takes_memory : {U O K : Type 0} → Direction U O K → Seen O K → ReadLine → Bool
-takes_memory direction before line = may_take_memory (direction.goes_on before.kept) before.phase line
+takes_memory direction before line = may_take_memory (direction.memory_first before.types before.kept) direction.memory_next before.phase line
 
 -- the same of a line that comes again after a warning: memory may run out after that warning, where the line may take memory then
 abbrev pub memory_again : {U O K : Type 0} → Direction U O K → ReadLine → Answer → Seen O K → Option (List At)

@@ -7,7 +7,7 @@ use Rattle.crx_rinex.specs.Observations.{Epoch as ObservationEpoch}
 use Rattle.crx_rinex.specs.Epochs.{is_full_epoch}
 use Rattle.crx_rinex.specs.EpochPlaces.{OpenEpoch}
 use Rattle.crx_rinex.specs.Units.{Unit, HeaderLine, EventLine, EventRecord, Observation}
-use Rattle.crx_engine.specs.Compactor.{compaction, is_before_header, Written}
+use Rattle.crx_engine.specs.Compactor.{compaction, epoch_written, is_before_header, is_next_row, Written}
 use Rattle.crx_engine.specs.LineByLine.{Phase, Made, Completes, Moves, Fails, made_in, phase_after, types_after}
 use Rattle.crx_engine.specs.Memory.{may_take_memory}
 use Rattle.crx_engine.specs.EngineSteps.{seen_stage, is_ended}
@@ -36,7 +36,7 @@ pub record CompletedEpoch (made : Made ObservationEpoch OpenEpoch) (line : List 
   pub held : after.epoch ≡ Some epoch
   pub is : Completed made (Observation epoch) before after
   pub full : is_full_epoch epoch ≡ true
-  pub allowed : may_take_memory false (reader_phase before) (Content line) ≡ true
+  pub allowed : may_take_memory (epoch_written before.types before.types) is_next_row (reader_phase before) (Content line) ≡ true
 
 -- what a step says of a line
 abbrev pub Takes : Made ObservationEpoch OpenEpoch → RinexReader → List ℕ → RinexStep → RinexReader → Type 0
@@ -46,6 +46,6 @@ Takes made before line Event after = Completed made (EventLine line) before afte
 Takes made before line Record after = Completed made (EventRecord line) before after
 Takes made before line Epoch after = CompletedEpoch made line before after
 
--- a fault is that of the line, or memory ran out at a line that may take some
+-- a fault is that of the line, or memory ran out at a line that may take some: the reading of an epoch's line takes none
 abbrev pub Refuses : Made ObservationEpoch OpenEpoch → RinexReader → List ℕ → Fault → Type 0
-Refuses made before line fault = (made ≡ Fails fault) ⊎ ((fault ≡ OutOfMemory) × (may_take_memory false (reader_phase before) (Content line) ≡ true))
+Refuses made before line fault = (made ≡ Fails fault) ⊎ ((fault ≡ OutOfMemory) × (may_take_memory (λ first. false) is_next_row (reader_phase before) (Content line) ≡ true))

@@ -189,7 +189,8 @@ impl CompactReader {
 
     /// Takes the next line of the input: what it is, or its first fault.
     ///
-    /// `OutOfMemory` comes at a types line that counts, and at a line that is read as one of an observation epoch.
+    /// `OutOfMemory` comes only at a good types line that counts, at an epoch's line of which no character is outside 32 to 126, and
+    /// at a satellite's line.
     pub(crate) fn read(&mut self, line: &[u8]) -> Result<CompactStep, Fault>
         requires running { is_ended self.old.stage ≡ false }
         requires short { length line.now ≤ LINE_LIMIT }

@@ -79,8 +79,8 @@ impl Compactor {
     /// The error is the fault that ends the run, at this line: in the header `MissingVersion`, `UnsupportedVersion` and
     /// `NotObservation` at the first line, and `BadTypesLine`; `BadTypesLine` among an event's records, where types lines count;
     /// and where faults aren't skipped `NotAnEpoch`, `BadEpoch` and `BadClock` where an epoch or an event may begin, and `Truncated`,
-    /// `BadSatellite`, `BadField`, `BadFlags` and `RepeatedSatellite` in an epoch. `OutOfMemory` comes only at a types line or a line that is
-    /// read as one of an epoch. From then on each call answers the same, and no line is ready.
+    /// `BadSatellite`, `BadField`, `BadFlags` and `RepeatedSatellite` in an epoch. `OutOfMemory` comes only at a line without a fault: a types
+    /// line, a satellite's line, or the line of an epoch without satellites. From then on each call answers the same, and no line is ready.
     pub fn feed(&mut self, line: Line<'_>) -> Result<Step, At>
         requires drained { compactor_ready self.old ≡ [] }
         requires next { line_number line ≡ (compactor_seen self.old).number + 1 }

@@ -95,8 +95,8 @@ impl Expander {
     /// answered again from then on: `NotCompact` and `BadProgLine` at the first two lines; `MissingVersion`, `UnsupportedVersion`,
     /// `NotObservation` and `BadTypesLine` in the header; `BadTypesLine` among an event's records, where types lines count; and where
     /// faults aren't skipped those of an event's first line and of [`Columns::begin`](crx_compact::Columns::begin) and
-    /// [`Columns::feed`](crx_compact::Columns::feed). `OutOfMemory` comes only at a types line that counts, and at a line that is read
-    /// as one of an observation epoch.
+    /// [`Columns::feed`](crx_compact::Columns::feed). `OutOfMemory` comes only at a good types line that counts, at an epoch's
+    /// line of which no character is outside 32 to 126, and at a satellite's line.
     pub fn feed(&mut self, line: Line<'_>) -> Result<Step, At>
         requires drained { self.old.lines ≡ [] }
         requires next { line_number line ≡ self.old.number + 1 }

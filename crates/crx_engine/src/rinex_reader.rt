@@ -81,8 +81,8 @@ impl RinexReader {
     ///
     /// In the header: the faults of [`header_first`](crx_rinex::header_first) for the first line, then `BadTypesLine`. Among an event's
     /// records `BadTypesLine`, where types lines count. Where an epoch or an event may begin, the faults of [`Head::read`]. In an epoch
-    /// `Truncated` where the line begins with `>`, then those of [`Epoch::read_row`]. `OutOfMemory` comes only at a types line that
-    /// counts, and at a line of an epoch that doesn't begin with `>`. After a fault the reader is as it was.
+    /// `Truncated` where the line begins with `>`, then those of [`Epoch::read_row`]. `OutOfMemory` comes only at a line without a
+    /// fault: a types line that counts, or a satellite's line. After a fault the reader is as it was.
     pub(crate) fn take(&mut self, line: &[u8]) -> Result<RinexStep, Fault>
         requires running { is_ended self.old.stage ≡ false }
         ensures takes { (kept : Written) → IfOk result (λ step. Takes (made_at self.old line.now kept) self.old line.now step self.new) }

@@ -1,7 +1,8 @@
 //! Lines that may declare observation types, in either direction: header lines, and records of events.
 
-ghost use Rattle.std.specs.Prelude.{◌≡◌, ◌⊎◌, None, Some, true, false, if◌then◌else◌, OnOk, OnErr, IfErr};
-ghost use Rattle.crx_rinex.specs.ObservationTypes.{is_types_line, with_line};
+ghost use Rattle.std.specs.Option.{is_some};
+ghost use Rattle.std.specs.Prelude.{◌≡◌, ◌⊎◌, ◌&&◌, None, Some, is_none, true, false, if◌then◌else◌, OnOk, OnErr, IfErr};
+ghost use Rattle.crx_rinex.specs.ObservationTypes.{count_of_types_line, with_line};
 ghost use Rattle.crx_engine.specs.UnitPlaces.{header_line_fault, types_fault};
 
 use crx_rinex::{Types, header_first};
@@ -18,7 +19,7 @@ pub(crate) fn accept_header_line(
     ensures ok { OnOk result (types.new ≡ with_line types.old line.now) }
     ensures same { OnErr result (types.new ≡ types.old) }
     ensures refused { IfErr result (λ fault. (header_line_fault is_first line.now ≡ Some fault)
-        ⊎ ((fault ≡ Fault.OutOfMemory) × (is_types_line line.now ≡ true))) }
+        ⊎ ((fault ≡ Fault.OutOfMemory) × ((is_some (count_of_types_line line.now) && is_none (header_line_fault is_first line.now)) ≡ true))) }
 {
     if is_first {
         header_first(line)?;
@@ -32,7 +33,7 @@ pub(crate) fn accept_record(types: &mut Types, counted: bool, line: &[u8]) -> Re
     ensures ok { OnOk result (types.new ≡ (if counted then with_line types.old line.now else types.old)) }
     ensures same { OnErr result (types.new ≡ types.old) }
     ensures refused { IfErr result (λ fault. ((if counted then types_fault line.now else None) ≡ Some fault)
-        ⊎ ((fault ≡ Fault.OutOfMemory) × (counted ≡ true) × (is_types_line line.now ≡ true))) }
+        ⊎ ((fault ≡ Fault.OutOfMemory) × ((counted && is_some (count_of_types_line line.now)) ≡ true))) }
 {
     if !counted {
         return Ok(());

@@ -1,6 +1,6 @@
 use Rattle.std.proofs.Common.{◌≡◌, None, if◌then◌else◌}
 use Rattle.crx_rinex.specs.Header.{first_header_fault}
-use Rattle.crx_engine.proofs.TypesLines.{Bad, RefusedAs, refused-types, refused-first, if-none}
+use Rattle.crx_engine.proofs.TypesLines.{Bad, RefusedFirst, refused-types, refused-first, if-none}
 use Rattle.crx_compact.proofs.Marks.{if-err}
 use Rattle.crx_engine.proofs.types_lines.accept_header_line.Goals.{then-is_first+in_ok-header_first, else-is_first}
 use Rattle.crx_engine.proofs.types_lines.accept_header_line.Goals as goal
@@ -13,4 +13,4 @@ returns-clause-refused c =
       | then-is_first+in_ok-header_first w ↦ if-none c.args.is_first (first_header_fault line) w.in_ok-header_first.ensures
       | else-is_first w ↦ search w.if-is_first
     ] in
-    if-err c.accept_line.result (Bad line) (RefusedAs _ line) (λ fault bad. refused-first _ line fault good (refused-types line fault bad)) c.accept_line.ensures.bad
+    if-err c.accept_line.result (Bad line) (RefusedFirst _ line) (λ fault bad. refused-first _ line fault good (refused-types line fault bad)) c.accept_line.ensures.bad

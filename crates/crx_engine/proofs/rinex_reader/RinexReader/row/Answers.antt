@@ -10,7 +10,7 @@ returns-then-is_full-clause-takes c = λ (kept : Written).
     let line = c.args.line.now in
     let other : begins_epoch line ≡ false = sym c.if-begins_epoch.ensures in
     whole-taken _ self _ line c.read_row.new.self (row-made self line kept c.in-Some.epoch c.read_row.new.self c.requires.stage c.in-Some.is other c.in_default-read_row.ensures.ok)
-    (row-allowed self line c.in-Some.epoch c.requires.stage c.in-Some.is other) (sym c.if-is_full.ensures.value) refl refl refl
+    (row-allowed _ self line c.in-Some.epoch c.read_row.new.self c.requires.stage c.in-Some.is other c.in_default-read_row.ensures.ok) (sym c.if-is_full.ensures.value) refl refl refl
 
 pub returns-clause-takes : goal.returns-clause-takes
 returns-clause-takes c = λ (kept : Written).
