@@ -98,6 +98,7 @@ impl Checker {
     fn fail(&mut self, fault: Fault) -> At
         requires within { self.old.number < INPUT_LIMIT }
         ensures value { result ≡ record { line = self.old.number + 1; fault = fault } }
+        ensures ended { self.new.reader.stage ≡ Stage.Ended result }
         ensures lent { self.new.lent ≡ self.old.lent }
     {
         let at = At {
@@ -115,6 +116,7 @@ impl Checker {
         ensures open { OnOk result (IsOpen self.new) }
         ensures number { OnOk result (self.new.number ≡ self.old.number + 1) }
         ensures nothing { OnErr result (ready_lines self.new ≡ []) }
+        ensures ended { IfErr result (λ at. self.new.reader.stage ≡ Stage.Ended at) }
         ensures good { (lines : List InputLine) → seen_by self.old ≡ check_seen lines
             → OnOk result ((fault_so_far (with_next lines (line_shown line.entry)) ≡ None) × (seen_by self.new ≡ check_seen (with_next lines (line_shown line.entry)))) }
         ensures faulty { (lines : List InputLine) → seen_by self.old ≡ check_seen lines

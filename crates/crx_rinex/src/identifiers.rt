@@ -40,7 +40,8 @@ impl Identifiers {
         }
     }
 
-    /// `true` says that this identifier stands at a place, and that those before it are others; `false` says nothing.
+    /// `true` says that this identifier stands at a place, and that those before it are others; `false` says nothing, and what
+    /// asks does without: a body that is always `false` would be slower, and right.
     #[inline(always)]
     pub fn has_at(&self, place: usize, name: [u8; NAME_WIDTH]) -> bool
         ensures within { OnTrue result (place < length self.now) }

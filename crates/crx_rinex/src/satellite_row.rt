@@ -144,13 +144,13 @@ impl SatRow {
     }
 
     /// Makes the row one of another satellite with so many types, whose values and indicators are still to be replaced.
-    /// `OutOfMemory` is its one refusal.
+    /// `OutOfMemory` is its one refusal, where the row has another count.
     pub fn begin_for(&mut self, identifier: [u8; NAME_WIDTH], m: usize) -> Result<(), Fault>
         requires named { is_identifier identifier ≡ true }
         requires allowed { IsAllowedCount m }
         ensures name { OnOk result (self.new.name ≡ identifier) }
         ensures sized { OnOk result (length self.new.values ≡ m) }
-        ensures err { IfErr result (λ fault. fault ≡ Fault.OutOfMemory) }
+        ensures err { IfErr result (λ fault. (fault ≡ Fault.OutOfMemory) × (length self.old.values ≢ m)) }
     {
         if self.values.len() == m {
             self.name = identifier;
