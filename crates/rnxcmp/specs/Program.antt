@@ -1,7 +1,8 @@
 -- What a user reads where nothing is run, and what a run of the program leaves.
 use Rattle.std.specs.Prelude.{◌≡◌, ◌⊎◌, ⊤, ℕ, ℤ, Bool, false, List, [], ◌++◌, Option, Some, None, codes}
-use Rattle.crx_lines.specs.Devices.{one_more, with_flush}
-use Rattle.crx_lines.specs.Lines.{InputLine}
+use Rattle.crx_lines.specs.Devices.{with_failed_flush, with_failed_write, with_flush}
+use Rattle.crx_lines.specs.declared.device.Sink.{Ghosts as SinkGhosts}
+use Rattle.crx_lines.specs.declared.device.Source.{Ghosts as SourceGhosts}
 use Rattle.crx_lines.specs.declared.fault.Fault.{Fault}
 use Rattle.crx_lines.specs.declared.fault.Fault.TheVariants.{OutOfMemory, WriteFailed}
 use Rattle.crx_lines.specs.declared.fault.At.{At}
@@ -10,13 +11,12 @@ use Rattle.crx_engine.specs.Choices.{Choices, choices_of}
 use Rattle.crx_engine.specs.Compacted.{compacted}
 use Rattle.crx_engine.specs.Directions.{compaction_filter, expansion_filter}
 use Rattle.crx_engine.specs.Expanded.{expanded}
-use Rattle.crx_engine.specs.Messages.{error_text, notices_text}
+use Rattle.crx_engine.specs.Messages.{error_text}
 use Rattle.crx_filter.specs.Running.{Input}
 pub use Rattle.crx_filter.specs.Running.{reader_span}
 use Rattle.crx_engine.specs.Filters.{Filter}
-use Rattle.crx_engine.specs.Laws.{Begins}
 use Rattle.crx_engine.specs.Results.{FilterResult}
-use Rattle.crx_filter.specs.Runs.{IsResult, RunsAs}
+use Rattle.crx_filter.specs.Runs.{RunsAs}
 use Rattle.crx_engine.specs.Standard.{checked}
 use Rattle.crx_filter.specs.Taking.{Device, TookAll, TookPart}
 pub use Rattle.crx_filter.specs.Taking.{span}
@@ -86,11 +86,12 @@ IsShownOr messages line = IsShown messages line ⊎ IsShown messages (at_start O
 abbrev pub IsRefused : Device → Refusal → ℕ → Type 0
 IsRefused messages refusal status = (status ≡ 1) × ((line : List ℕ) × IsLineOf refusal line × IsShownOr messages line)
 
--- the help was written and flushed once; or the writer failed, which is fault 21 at line 0; or no memory was left for it
+-- the help was written and flushed once; or the writer failed, in a write, after which no flush is asked for, or in that flush, which is
+-- fault 21 at line 0; or no memory was left for it
 abbrev pub IsHelped : Device → Device → ℕ → Type 0
 IsHelped writer messages status =
     ((status ≡ 0) × ((text : List ℕ) × writer.took text) × (writer.after ≡ with_flush writer.before) × writer.flushed × TookAll messages [])
-    ⊎ (((status ≡ 1) × (writer.after.failures ≡ one_more writer.before.failures) × IsShown messages (at_start WriteFailed))
+    ⊎ (((status ≡ 1) × ((writer.after ≡ with_failed_write writer.before) ⊎ (writer.after ≡ with_failed_flush writer.before)) × IsShown messages (at_start WriteFailed))
     ⊎ ((status ≡ 1) × TookAll writer [] × IsShown messages (at_start OutOfMemory)))
 
 -- the date of a run that has none among its words: the moment's, or none where no clock gives one
@@ -154,51 +155,29 @@ pub record IsNotBegun (job : Job) (messages : Device) (status : ℕ) (untouched 
   pub status_is : status ≡ 1
   pub same : untouched
 
--- what was written is a front part of what some lines are due, or some whole input
-abbrev pub IsFrontOf : Filter → Device → Type 0
-IsFrontOf filter writer = (written : List ℕ) × writer.took written
-    × ((lines : List InputLine) × (Begins (filter.so_far lines).output written ⊎ Begins (filter.whole lines).output written))
-
--- warnings were reported and then a fault, whole or, where the messages failed, as far as it went
-abbrev pub IsFaultShown : Device → Type 0
-IsFaultShown messages = (warnings : List At) × (at : At)
-    × (TookAll messages (notices_text warnings ++ error_text (Some at)) ⊎ TookPart messages (notices_text warnings ++ error_text (Some at)))
-
--- what was written was handed on, or a device failed and counted it: the writer, or the messages
-abbrev pub IsHandedOn : Device → Device → Type 0
-IsHandedOn writer messages =
-    writer.flushed
-    ⊎ ((writer.after.failures ≡ one_more writer.before.failures) ⊎ (messages.after.failures ≡ one_more messages.before.failures))
-
--- a tool's filter ran on some input, as that of a file, of whose bytes nothing is known: a fault ended it, or all that it makes of the
--- input was written, handed on and reported, and the status is that
-abbrev pub IsFilteredSome : Tool → Choices → Device → Device → ℕ → Type 0
-IsFilteredSome tool choices writer messages status =
-    ((status ≡ 1) × IsFrontOf (filter_of tool choices) writer × IsHandedOn writer messages × IsFaultShown messages)
-    ⊎ ((given : List ℕ) × (writer.after ≡ with_flush writer.before) × writer.flushed × IsResult (result_of tool choices given) writer messages status None)
-
--- the same where the output is a file, of which nothing is known either
-abbrev pub IsFilteredUnseen : Tool → Choices → Device → ℕ → Type 0
-IsFilteredUnseen tool choices messages status =
-    ((status ≡ 1) × IsFaultShown messages)
-    ⊎ ((given : List ℕ) × messages.took (result_of tool choices given).messages × (status ≡ (result_of tool choices given).status))
+-- a filter ran into the device over a file, from a state in which no write had failed to another one
+abbrev pub IsFilteredToFile : {S : Type 0} → SinkGhosts S → Tool → Choices → Input → Device → ℕ → Type 0
+IsFilteredToFile {S = S} sink tool choices input messages status =
+    (first : S) × (last : S) × (sink.failures first ≡ 0) × IsFiltered tool choices input (span sink first last) messages status
 
 -- a filter ran, into a file or else into the output
-abbrev pub IsFilteredInto : Option (List ℕ) → Tool → Choices → Input → Device → Device → ℕ → Type 0
-IsFilteredInto None tool choices input output messages status = IsFiltered tool choices input output messages status
-IsFilteredInto (Some target) tool choices input output messages status = IsFilteredUnseen tool choices messages status
+abbrev pub IsFilteredInto : {S : Type 0} → SinkGhosts S → Option (List ℕ) → Tool → Choices → Input → Device → Device → ℕ → Type 0
+IsFilteredInto sink None tool choices input output messages status = IsFiltered tool choices input output messages status
+IsFilteredInto sink (Some target) tool choices input output messages status = IsFilteredToFile sink tool choices input messages status
 
--- a filter ran, from a file or else from the input
-abbrev pub IsFilteredFrom : Option (List ℕ) → Option (List ℕ) → Tool → Choices → Input → Device → Device → ℕ → Type 0
-IsFilteredFrom None target tool choices input output messages status = IsFilteredInto target tool choices input output messages status
-IsFilteredFrom (Some source) None tool choices input output messages status = IsFilteredSome tool choices output messages status
-IsFilteredFrom (Some source) (Some target) tool choices input output messages status = IsFilteredUnseen tool choices messages status
+-- a filter ran, from the device over a file, from a state in which no read had failed or reported the end to another one; or else from
+-- the input
+abbrev pub IsFilteredFrom : {R S : Type 0} → SourceGhosts R → SinkGhosts S → Option (List ℕ) → Option (List ℕ) → Tool → Choices → Input → Device → Device → ℕ → Type 0
+IsFilteredFrom source sink None target tool choices input output messages status = IsFilteredInto sink target tool choices input output messages status
+IsFilteredFrom {R = R} source sink (Some name) target tool choices input output messages status =
+    (first : R) × (last : R) × (source.failures first ≡ 0) × (source.ends first ≡ 0)
+    × IsFilteredInto sink target tool choices (reader_span source first last) output messages status
 
 -- the filter of a job ran with the job's choices
-abbrev pub IsBegun : Job → Input → Device → Device → ℕ → Type 0
-IsBegun job input output messages status = (choices : Choices) × IsChosen job.tool job.date job.every job.skip choices
-    × IsFilteredFrom job.source job.target job.tool choices input output messages status
+abbrev pub IsBegun : {R S : Type 0} → SourceGhosts R → SinkGhosts S → Job → Input → Device → Device → ℕ → Type 0
+IsBegun source sink job input output messages status = (choices : Choices) × IsChosen job.tool job.date job.every job.skip choices
+    × IsFilteredFrom source sink job.source job.target job.tool choices input output messages status
 
--- a job, done or not begun
-abbrev pub IsDone : Job → Input → Device → Device → ℕ → Type 0 → Type 0
-IsDone job input output messages status untouched = IsBegun job input output messages status ⊎ IsNotBegun job messages status untouched
+-- a job, done or not begun; the files that it names are read and written through devices of these kinds
+abbrev pub IsDone : {R S : Type 0} → SourceGhosts R → SinkGhosts S → Job → Input → Device → Device → ℕ → Type 0 → Type 0
+IsDone source sink job input output messages status untouched = IsBegun source sink job input output messages status ⊎ IsNotBegun job messages status untouched

@@ -4,7 +4,7 @@ ghost use Rattle.std.specs.Prelude.{◌≡◌, ◌⊎◌, IfOk, is_some, map, st
 ghost use Rattle.std.specs.Option.{option_map_or};
 ghost use Rattle.crx_engine.specs.Choices.{choices_of, is_date};
 ghost use Rattle.rnxcmp.specs.Planning.{Help, Refusal, Refused, Run, plan_of};
-ghost use Rattle.rnxcmp.specs.Program.{IsChosen, IsDone, IsFiltered, IsFilteredFrom, IsFilteredInto, IsFilteredUnseen, IsHelped, IsNotBegun, IsRefused, IsShown, at_start, span, reader_span};
+ghost use Rattle.rnxcmp.specs.Program.{IsChosen, IsDone, IsFiltered, IsFilteredFrom, IsFilteredInto, IsFilteredToFile, IsHelped, IsNotBegun, IsRefused, IsShown, at_start, span, reader_span};
 
 use crate::date::default_date;
 use crate::job::{Decision, Job, Tool};
@@ -77,7 +77,7 @@ fn filter_to_file<R: Source, F: Write + Drop, M: Sink>(
     file: F,
     messages: &mut M,
 ) -> u8
-    ensures { IsFilteredUnseen tool options (span M.Sink messages.old messages.new) result
+    ensures { IsFilteredToFile ⟦<Std<BufWriter<UntilFailure<F>>> as Sink>⟧ tool options (reader_span R.Source reader.old reader.new) (span M.Sink messages.old messages.new) result
         ⊎ ((result ≡ 1) × IsShown (span M.Sink messages.old messages.new) (at_start Fault.OutOfMemory) × (reader.new ≡ reader.old)) }
 {
     match BufWriter::with_capacity(alloc, OUTPUT_BUFFER, UntilFailure::new(file)) {
@@ -116,7 +116,7 @@ fn run_to_target<H: Files, R: Source, W: Sink, M: Sink>(
     messages: &mut M,
 ) -> u8
     ensures output { is_some job.now.target ≡ true → output.new ≡ output.old }
-    ensures done { IsFilteredInto job.now.target job.now.tool options (reader_span R.Source reader.old reader.new)
+    ensures done { IsFilteredInto ⟦<Std<BufWriter<UntilFailure<H::File>>> as Sink>⟧ job.now.target job.now.tool options (reader_span R.Source reader.old reader.new)
         (span W.Sink output.old output.new) (span M.Sink messages.old messages.new) result
         ⊎ IsNotBegun job.now (span M.Sink messages.old messages.new) result ((reader.new ≡ reader.old) × (output.new ≡ output.old)) }
 {
@@ -144,7 +144,7 @@ fn run_from_source<H: Files, R: Source, W: Sink, M: Sink>(
 ) -> u8
     ensures input { is_some job.now.source ≡ true → input.new ≡ input.old }
     ensures output { is_some job.now.target ≡ true → output.new ≡ output.old }
-    ensures done { IsFilteredFrom job.now.source job.now.target job.now.tool options (reader_span R.Source input.old input.new)
+    ensures done { IsFilteredFrom ⟦<Std<H::File> as Source>⟧ ⟦<Std<BufWriter<UntilFailure<H::File>>> as Sink>⟧ job.now.source job.now.target job.now.tool options (reader_span R.Source input.old input.new)
         (span W.Sink output.old output.new) (span M.Sink messages.old messages.new) result
         ⊎ IsNotBegun job.now (span M.Sink messages.old messages.new) result ((input.new ≡ input.old) × (output.new ≡ output.old)) }
 {
@@ -173,7 +173,8 @@ fn run_job<H: Files + Clock, R: Source, W: Sink, M: Sink>(
     requires { option_map_or is_date job.now.date true ≡ true }
     ensures input { is_some job.now.source ≡ true → input.new ≡ input.old }
     ensures output { is_some job.now.target ≡ true → output.new ≡ output.old }
-    ensures done { IsDone job.now (reader_span R.Source input.old input.new) (span W.Sink output.old output.new)
+    ensures done { IsDone ⟦<Std<H::File> as Source>⟧ ⟦<Std<BufWriter<UntilFailure<H::File>>> as Sink>⟧ job.now
+        (reader_span R.Source input.old input.new) (span W.Sink output.old output.new)
         (span M.Sink messages.old messages.new) result ((input.new ≡ input.old) × (output.new ≡ output.old)) }
 {
     match options_of(rt, alloc, job) {
@@ -222,7 +223,8 @@ pub fn run<H: Files + Clock, R: Source, W: Sink, M: Sink>(
     ensures input { (job : Job) → plan_of (map string_bytes words.items) ≡ Run job → is_some job.source ≡ true → input.new ≡ input.old }
     ensures output { (job : Job) → plan_of (map string_bytes words.items) ≡ Run job → is_some job.target ≡ true → output.new ≡ output.old }
     ensures done { (job : Job) → plan_of (map string_bytes words.items) ≡ Run job
-        → IsDone job (reader_span R.Source input.old input.new) (span W.Sink output.old output.new)
+        → IsDone ⟦<Std<H::File> as Source>⟧ ⟦<Std<BufWriter<UntilFailure<H::File>>> as Sink>⟧ job
+        (reader_span R.Source input.old input.new) (span W.Sink output.old output.new)
         (span M.Sink messages.old messages.new) result ((input.new ≡ input.old) × (output.new ≡ output.old)) }
 {
     match plan(alloc, words) {

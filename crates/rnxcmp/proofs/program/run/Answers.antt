@@ -1,7 +1,8 @@
-use Rattle.std.proofs.Common.{◌≡◌, ◌∙◌, map, inl, inr, refl, string_bytes, subst}
+use Rattle.std.proofs.Common.{◌≡◌, ◌∙◌, map, inl, inr, refl, string_bytes}
 use Rattle.rnxcmp.specs.Planning.{Run, plan_of}
-use Rattle.rnxcmp.specs.Program.{IsDone, NoMemory, span, reader_span}
+use Rattle.rnxcmp.specs.Program.{NoMemory, span, reader_span}
 use Rattle.rnxcmp.specs.declared.job.Job.{Job}
+use Rattle.rnxcmp.proofs.FilterEnds.{done_for}
 use Rattle.rnxcmp.proofs.JobFits.{job_fits}
 use Rattle.rnxcmp.proofs.Refusals.{not_run, refused_by}
 use Rattle.rnxcmp.proofs.program.run.Goals as goal
@@ -35,9 +36,9 @@ run_job-requires g c =
 pub returns-in-Ok-Run-clause-done : goal.returns-in-Ok-Run-clause-done
 returns-in-Ok-Run-clause-done g c = λ job e.
     let planned : Run c.in-Ok-Run.job ≡ plan_of (map string_bytes c.args.words.items) = rw c.in-Ok-Run.field-0-is at c.in-Ok-Run.ensures in
-    subst (λ (j : Job). IsDone j
+    done_for _ _ c.in-Ok-Run.job job
     (reader_span g.R.Source c.args.input.now c.run_job.new.input)
     (span g.W.Sink c.args.output.now c.run_job.new.output)
     (span g.M.Sink c.args.messages.now c.run_job.new.messages) c.run_job.result
-    ((c.run_job.new.input ≡ c.args.input.now) × (c.run_job.new.output ≡ c.args.output.now)))
+    ((c.run_job.new.input ≡ c.args.input.now) × (c.run_job.new.output ≡ c.args.output.now))
     (same_job c.in-Ok-Run.job job (planned ∙ e)) c.run_job.ensures.done
