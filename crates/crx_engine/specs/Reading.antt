@@ -1,8 +1,8 @@
 -- The reading of a file: its units one after another, with warnings between them where faults are skipped.
 -- What stands at a line is an argument, so that both directions read in this one way.
-use Rattle.std.specs.Prelude.{ℕ, Bool, true, false, ◌||◌, ◌&&◌, ◌+◌, max, List, [], ◌∷◌, ◌++◌, ◌==◌, Option, Some, None, if◌then◌else◌, nat_le, nat_lt, not, suc, zero, length, drop}
+use Rattle.std.specs.Prelude.{ℕ, Bool, true, false, ◌&&◌, ◌+◌, max, List, [], ◌∷◌, ◌++◌, ◌==◌, Option, Some, None, if◌then◌else◌, nat_lt, not, suc, zero, length, drop}
 use Rattle.crx_lines.specs.Seen.{ReadLine, Content, Overlong}
-use Rattle.crx_lines.specs.Faults.{code_of_fault}
+pub use Rattle.crx_lines.specs.Faults.{is_skippable}
 use Rattle.crx_lines.specs.declared.fault.Fault.{Fault}
 use Rattle.crx_lines.specs.declared.fault.Fault.TheVariants.{MissingVersion, NoEndOfHeader, Truncated}
 use Rattle.crx_lines.specs.declared.fault.At.{At}
@@ -22,10 +22,6 @@ pub data Stop : Type 0 where
 pub record Reading (E : Type 0) : Type 0 where
   pub items : List (Item E)
   pub stop : Stop
-
--- the faults that can be skipped: code 1, and codes 10 to 19
-abbrev pub is_skippable : Fault → Bool
-is_skippable fault = (code_of_fault fault == 1) || (nat_le 10 (code_of_fault fault) && nat_le (code_of_fault fault) 19)
 
 -- they are skipped where the user wants it, outside the header and an event's records
 abbrev pub is_skipped : {E : Type 0} → Bool → List (Item E) → Fault → Bool

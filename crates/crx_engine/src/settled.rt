@@ -11,7 +11,7 @@ ghost use Rattle.crx_engine.specs.Expander.{expansion};
 ghost use Rattle.crx_engine.specs.EngineSteps.{SettlesEnd, SettlesFault, is_held, is_settled, seen_stage};
 
 use crate::engine::Step;
-use crate::stage::{Stage, is_skippable};
+use crate::stage::Stage;
 use crx_text::{At, Fault};
 
 /// What is answered to a fault or to the end of the input, and where the run is then.
@@ -48,7 +48,7 @@ pub(crate) fn after_fault(
         line: number + 1,
         fault,
     };
-    if !(skip && stage.may_skip() && is_skippable(fault)) {
+    if !(skip && stage.may_skip() && fault.is_skippable()) {
         return Settled {
             answer: Err(at),
             stage: Stage::Ended(at),
@@ -122,7 +122,7 @@ pub(crate) fn after_end(stage: Stage, number: u64, skip: bool) -> Settled
         line: number + 1,
         fault,
     };
-    if skip && stage.may_skip() && is_skippable(fault) {
+    if skip && stage.may_skip() && fault.is_skippable() {
         return Settled {
             answer: Ok(Step::Warned {
                 notice: at,

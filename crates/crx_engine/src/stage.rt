@@ -5,14 +5,13 @@ ghost use Rattle.crx_rinex.specs.EpochPlaces.{OpenEpoch};
 ghost use Rattle.crx_compact.specs.OpenEpochs.{OpenRawEpoch};
 ghost use Rattle.crx_engine.specs.LineByLine.{is_in_epoch, may_skip, with_records_left, InHeader, BetweenUnits};
 ghost use Rattle.crx_engine.specs.Items.{counts_types};
-ghost use Rattle.crx_engine.specs.Reading.{is_skippable};
 ghost use Rattle.crx_engine.specs.EngineSteps.{seen_stage, is_held, is_settled};
 ghost use Rattle.crx_engine.specs.RinexStages.{is_consistent};
 ghost use Rattle.crx_rinex.specs.Header.{is_end_of_header};
 ghost use Rattle.crx_rinex.specs.Observations.{Epoch};
 
 use crx_rinex::is_end;
-use crx_text::{At, Fault};
+use crx_text::At;
 
 /// Where a run is between two lines.
 #[derive(Clone, Copy)]
@@ -102,12 +101,4 @@ pub(crate) fn counts_types(line: &[u8]) -> bool
     ensures { result ≡ counts_types line.now }
 {
     line.len() > 31 && matches!(line[31], b'2'..=b'5')
-}
-
-/// Whether a fault can be skipped with a warning.
-pub(crate) fn is_skippable(fault: Fault) -> bool
-    ensures { result ≡ is_skippable fault }
-{
-    let code = fault.code();
-    code == 1 || (10 <= code && code <= 19)
 }

@@ -1,5 +1,5 @@
--- The one table of faults: the number and the words of each, as messages show them.
-use Rattle.std.specs.Prelude.{ℕ, List, codes}
+-- The one table of faults: the number and the words of each, as messages show them, and which of them can be skipped.
+use Rattle.std.specs.Prelude.{ℕ, Bool, ◌==◌, ◌&&◌, ◌||◌, nat_le, List, codes}
 use Rattle.crx_lines.specs.declared.fault.Fault.{Fault}
 use Rattle.crx_lines.specs.declared.fault.Fault.TheVariants.{LineTooLong, InputTooLong, MissingVersion, UnsupportedVersion, NotObservation, BadTypesLine, NoEndOfHeader, NotCompact, BadProgLine, NotAnEpoch, BadEpoch, BadClock, BadSatellite, RepeatedSatellite, BadField, NoArc, OutOfRange, BadFlags, Truncated, ReadFailed, WriteFailed, OutOfMemory}
 
@@ -52,3 +52,7 @@ words_of_fault Truncated = codes "truncated"
 words_of_fault ReadFailed = codes "read failed"
 words_of_fault WriteFailed = codes "write failed"
 words_of_fault OutOfMemory = codes "out of memory"
+
+-- the faults that can be skipped: code 1, and codes 10 to 19
+abbrev pub is_skippable : Fault → Bool
+is_skippable fault = (code_of_fault fault == 1) || (nat_le 10 (code_of_fault fault) && nat_le (code_of_fault fault) 19)

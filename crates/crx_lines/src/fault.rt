@@ -55,7 +55,7 @@ pub enum Fault {
 }
 
 impl Fault {
-    ghost use Rattle.crx_lines.specs.Faults.{code_of_fault, words_of_fault};
+    ghost use Rattle.crx_lines.specs.Faults.{code_of_fault, is_skippable, words_of_fault};
 
     /// The fault's number in messages, from 1 to 22.
     pub fn code(&self) -> u8
@@ -115,6 +115,14 @@ impl Fault {
             Fault::WriteFailed => "write failed",
             Fault::OutOfMemory => "out of memory",
         }
+    }
+
+    /// Whether a run that skips faults goes on after this one, with a warning: numbers 1 and 10 to 19.
+    pub fn is_skippable(&self) -> bool
+        ensures { result ≡ is_skippable self.now }
+    {
+        let code = self.code();
+        code == 1 || (10 <= code && code <= 19)
     }
 }
 
