@@ -1,6 +1,6 @@
 -- The faults that a reading finds are those of lines, or of the end of the input.
 use Rattle.std.proofs.Common.{ℕ, ℤ, zero, suc, ◌≡◌, ◌+◌, ◌*◌, Bool, true, false, cond, List, [], ◌∷◌, drop, Option, Some, None, Result, Ok, Err, refl}
-use Rattle.std.specs.Prelude.{⊤, ◌==◌, ◌&&◌, nat_lt, not, codes}
+use Rattle.std.specs.Prelude.{⊤, ◌==◌, ◌&&◌, nat_lt, not}
 use Rattle.std.specs.List.{list_all}
 use Rattle.std.specs.Str.{bytes_eq}
 use Rattle.crx_text.specs.Columns.{columns, character_at, is_blank, without_blanks}
@@ -22,6 +22,7 @@ use Rattle.crx_rinex.specs.SatelliteLines.{types_of_satellite, values_in, flags_
 use Rattle.crx_rinex.specs.Units.{Unit as FileUnit, HeaderLine, EventLine, EventRecord, Observation}
 use Rattle.crx_compact.specs.CompactPlaces.{ReadEpoch, epoch_at}
 use Rattle.crx_compact.specs.Expansion.{RawEpoch}
+use Rattle.crx_engine.specs.declared.crinex.TheConstants.{CRINEX_VERSION, CRINEX_VERSION_LABEL, CRINEX_PROGRAM_LABEL}
 use Rattle.crx_engine.specs.Items.{Item, is_at_start, header_has_ended, records_left, records_count_types, types_in_force}
 use Rattle.crx_engine.specs.UnitPlaces.{unless_wrong, types_fault, first_fault, header_line_fault, header_line, event_record, unit_place}
 use Rattle.crx_engine.specs.Compacted.{rinex_place}
@@ -215,6 +216,6 @@ compact-fine items lines =
 pub first_lines-fine : (lines : List ReadLine) → IsFineAt (first_lines lines)
 first_lines-fine lines =
     place-then (first_line lines crinex_version) lines _
-    (place-first lines crinex_version (λ line. fine-if (bytes_eq (without_blanks (columns line 1 20)) (codes "3.0") && has_label (codes "CRINEX VERS   / TYPE") line) (Ok line) (Err NotCompact) tt refl))
+    (place-first lines crinex_version (λ line. fine-if (bytes_eq (without_blanks (columns line 1 20)) CRINEX_VERSION && has_label CRINEX_VERSION_LABEL line) (Ok line) (Err NotCompact) tt refl))
     (λ version others. place-then (first_line others crinex_program) others _
-    (place-first others crinex_program (λ line. fine-if (has_label (codes "CRINEX PROG / DATE") line) (Ok line) (Err BadProgLine) tt refl)) (λ program rest. tt))
+    (place-first others crinex_program (λ line. fine-if (has_label CRINEX_PROGRAM_LABEL line) (Ok line) (Err BadProgLine) tt refl)) (λ program rest. tt))

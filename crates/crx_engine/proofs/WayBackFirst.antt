@@ -1,5 +1,5 @@
 -- The two lines that compact text begins with are read, and can be cut off again.
-use Rattle.std.proofs.Common.{ℕ, zero, suc, ◌≡◌, ◌≢◌, ◌+◌, true, false, List, [], ◌∷◌, ◌++◌, take, drop, replicate, length, refl, ap, arith, subst, length-append, codes, Ok}
+use Rattle.std.proofs.Common.{ℕ, zero, suc, ◌≡◌, ◌≢◌, ◌+◌, true, false, List, [], ◌∷◌, ◌++◌, take, drop, replicate, length, refl, ap, arith, subst, length-append, Ok}
 use Rattle.std.specs.Prelude.{nat_le}
 use Rattle.std.specs.List.{list_all}
 use Rattle.std.specs.Str.{bytes_eq}
@@ -14,6 +14,7 @@ use Rattle.crx_text.specs.Texts.{is_printable}
 use Rattle.crx_lines.specs.declared.limits.TheConstants.{DATE_LIMIT}
 use Rattle.crx_rinex.specs.Places.{Here}
 use Rattle.crx_rinex.specs.Label.{label_of}
+use Rattle.crx_engine.specs.declared.crinex.TheConstants.{CRINEX_PROGRAM, CRINEX_PROGRAM_LABEL}
 use Rattle.crx_engine.specs.Choices.{is_date}
 use Rattle.crx_engine.specs.Compacted.{left_justified, version_line, program_line}
 use Rattle.crx_engine.specs.Expanded.{crinex_program, first_lines}
@@ -30,12 +31,12 @@ date-width date =
 drop-exact : (n : ℕ) (xs ys : List ℕ) → length xs ≡ n → drop n (xs ++ ys) ≡ ys
 drop-exact n xs ys e = subst (λ k. drop k (xs ++ ys) ≡ ys) e (drop-append_seam xs ys)
 
-program-label : (date : List ℕ) → label_of (program_line date) ≡ codes "CRINEX PROG / DATE"
-program-label date = ap (λ (t : List ℕ). without_end_blanks (take 20 (t ++ replicate 20 32))) (drop-exact 20 (left_justified 20 date) (codes "CRINEX PROG / DATE") (date-width date))
+program-label : (date : List ℕ) → label_of (program_line date) ≡ CRINEX_PROGRAM_LABEL
+program-label date = ap (λ (t : List ℕ). without_end_blanks (take 20 (t ++ replicate 20 32))) (drop-exact 20 (left_justified 20 date) CRINEX_PROGRAM_LABEL (date-width date))
 
 program-read : (date : List ℕ) → crinex_program (program_line date) ≡ Ok (program_line date)
 program-read date =
-    let label : bytes_eq (label_of (program_line date)) (codes "CRINEX PROG / DATE") ≡ true = ap (λ t. bytes_eq t (codes "CRINEX PROG / DATE")) (program-label date) in
+    let label : bytes_eq (label_of (program_line date)) CRINEX_PROGRAM_LABEL ≡ true = ap (λ t. bytes_eq t CRINEX_PROGRAM_LABEL) (program-label date) in
     rw label refl
 
 pub first-lines_read : (date : List ℕ) (rest : List ReadLine) → first_lines (Content version_line ∷ Content (program_line date) ∷ rest) ≡ Here (version_line ∷ program_line date ∷ []) 2
@@ -70,15 +71,15 @@ pub program-printable : (date : List ℕ) → is_date date ≡ true → list_all
 program-printable date h =
     let good : list_all is_printable date ≡ true = (and_parts (nat_le (length date) DATE_LIMIT) (list_all is_printable date) h).1 in
     let columns : list_all is_printable (left_justified 20 date) ≡ true = take-printable 20 (date ++ replicate 20 32) (append-printable date (replicate 20 32) good refl) in
-    let after : list_all is_printable (left_justified 20 date ++ codes "CRINEX PROG / DATE") ≡ true = append-printable (left_justified 20 date) (codes "CRINEX PROG / DATE") columns refl in
-    append-printable (left_justified 40 (codes "RNX2CRX profile 1.0")) (left_justified 20 date ++ codes "CRINEX PROG / DATE") refl after
+    let after : list_all is_printable (left_justified 20 date ++ CRINEX_PROGRAM_LABEL) ≡ true = append-printable (left_justified 20 date) CRINEX_PROGRAM_LABEL columns refl in
+    append-printable CRINEX_PROGRAM (left_justified 20 date ++ CRINEX_PROGRAM_LABEL) refl after
 
 pub program-clean : (date : List ℕ) → is_date date ≡ true → IsClean (program_line date)
 program-clean date h =
     let all : list_all is_printable (program_line date) ≡ true = program-printable date h in
     let width : length (left_justified 20 date) ≡ 20 = date-width date in
-    let two : length (left_justified 20 date ++ codes "CRINEX PROG / DATE") ≡ length (left_justified 20 date) + 18 = length-append (left_justified 20 date) (codes "CRINEX PROG / DATE") in
-    let three : length (program_line date) ≡ 40 + length (left_justified 20 date ++ codes "CRINEX PROG / DATE") = length-append (left_justified 40 (codes "RNX2CRX profile 1.0")) (left_justified 20 date ++ codes "CRINEX PROG / DATE") in
+    let two : length (left_justified 20 date ++ CRINEX_PROGRAM_LABEL) ≡ length (left_justified 20 date) + 18 = length-append (left_justified 20 date) CRINEX_PROGRAM_LABEL in
+    let three : length (program_line date) ≡ 40 + length (left_justified 20 date ++ CRINEX_PROGRAM_LABEL) = length-append CRINEX_PROGRAM (left_justified 20 date ++ CRINEX_PROGRAM_LABEL) in
     record { one_line = printable-no_feed (program_line date) all; no_return = printable-no_return (program_line date) all; short = omega (arith, width, two, three) }
 
 pub version-clean : IsClean version_line

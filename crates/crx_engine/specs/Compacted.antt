@@ -1,6 +1,6 @@
 -- The compaction of a RINEX file: Hatanaka's Compact RINEX 3.0.
 -- Lists of items have the newest first.
-use Rattle.std.specs.Prelude.{ℕ, Bool, true, false, ◌||◌, ◌&&◌, ◌+◌, ◌%◌, List, [], ◌∷◌, ◌++◌, ◌==◌, Option, Some, None, nat_lt, take, replicate, codes, map}
+use Rattle.std.specs.Prelude.{ℕ, Bool, true, false, ◌||◌, ◌&&◌, ◌+◌, ◌%◌, List, [], ◌∷◌, ◌++◌, ◌==◌, Option, Some, None, nat_lt, take, replicate, map}
 use Rattle.crx_lines.specs.Seen.{ReadLine, seen}
 use Rattle.crx_lines.specs.Lines.{lines_of}
 use Rattle.crx_rinex.specs.Observations.{Epoch}
@@ -8,6 +8,7 @@ use Rattle.crx_rinex.specs.Places.{Place}
 use Rattle.crx_rinex.specs.Units.{Unit, HeaderLine, EventLine, EventRecord, Observation}
 use Rattle.crx_rinex.specs.EpochPlaces.{epoch_place}
 use Rattle.crx_compact.specs.Compaction.{Marked, compact_epoch}
+use Rattle.crx_engine.specs.declared.crinex.TheConstants.{CRINEX_VERSION_LINE, CRINEX_PROGRAM, CRINEX_PROGRAM_LABEL}
 use Rattle.crx_engine.specs.Choices.{Choices}
 use Rattle.crx_engine.specs.Items.{Item, Accepted, Warned, is_at_start, types_in_force}
 use Rattle.crx_engine.specs.UnitPlaces.{unit_place}
@@ -64,10 +65,10 @@ left_justified width text = take width (text ++ replicate width 32)
 
 -- the two lines that stand before the header in compact text
 abbrev pub version_line : List ℕ
-version_line = left_justified 20 (codes "3.0") ++ left_justified 40 (codes "COMPACT RINEX FORMAT") ++ codes "CRINEX VERS   / TYPE"
+version_line = CRINEX_VERSION_LINE
 
 abbrev pub program_line : List ℕ → List ℕ
-program_line date = left_justified 40 (codes "RNX2CRX profile 1.0") ++ left_justified 20 date ++ codes "CRINEX PROG / DATE"
+program_line date = CRINEX_PROGRAM ++ left_justified 20 date ++ CRINEX_PROGRAM_LABEL
 
 -- the lines before a header line: before the first one the two of compact text
 abbrev pub lines_before_header : List ℕ → Bool → List (List ℕ)

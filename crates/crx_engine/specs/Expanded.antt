@@ -1,6 +1,6 @@
 -- The expansion of compact text: Hatanaka's Compact RINEX 3.0, with this project's profile.
 -- Lists of items have the newest first.
-use Rattle.std.specs.Prelude.{ℕ, Bool, ◌&&◌, ◌+◌, List, [], ◌∷◌, ◌==◌, length, drop, Some, None, Result, Ok, Err, if◌then◌else◌, codes, map}
+use Rattle.std.specs.Prelude.{ℕ, Bool, ◌&&◌, ◌+◌, List, [], ◌∷◌, ◌==◌, length, drop, Some, None, Result, Ok, Err, if◌then◌else◌, map}
 use Rattle.std.specs.Str.{bytes_eq}
 use Rattle.crx_text.specs.Columns.{columns, without_blanks}
 use Rattle.crx_lines.specs.Seen.{ReadLine, Content, Overlong, seen}
@@ -15,6 +15,7 @@ use Rattle.crx_rinex.specs.Places.{Place, Here, Wrong, Wanted, then_place, first
 use Rattle.crx_rinex.specs.Units.{Unit, HeaderLine, EventLine, EventRecord, Observation, printed_unit}
 use Rattle.crx_compact.specs.Expansion.{RawEpoch}
 use Rattle.crx_compact.specs.CompactPlaces.{ReadEpoch, epoch_at}
+use Rattle.crx_engine.specs.declared.crinex.TheConstants.{CRINEX_VERSION, CRINEX_VERSION_LABEL, CRINEX_PROGRAM_LABEL}
 use Rattle.crx_engine.specs.Choices.{Choices}
 use Rattle.crx_engine.specs.Items.{Item, Accepted, Warned, types_in_force, records_count_types}
 use Rattle.crx_engine.specs.UnitPlaces.{unit_place}
@@ -64,11 +65,11 @@ compact_place before lines = unit_place (λ (items : List (Item ReadEpoch)). com
 
 -- line 1: the version in columns 1 to 20, and the label
 abbrev pub crinex_version : List ℕ → Result (List ℕ) Fault
-crinex_version line = if bytes_eq (without_blanks (columns line 1 20)) (codes "3.0") && has_label (codes "CRINEX VERS   / TYPE") line then Ok line else Err NotCompact
+crinex_version line = if bytes_eq (without_blanks (columns line 1 20)) CRINEX_VERSION && has_label CRINEX_VERSION_LABEL line then Ok line else Err NotCompact
 
 -- line 2: the label
 abbrev pub crinex_program : List ℕ → Result (List ℕ) Fault
-crinex_program line = if has_label (codes "CRINEX PROG / DATE") line then Ok line else Err BadProgLine
+crinex_program line = if has_label CRINEX_PROGRAM_LABEL line then Ok line else Err BadProgLine
 
 -- the two lines before the header
 abbrev pub first_lines : List ReadLine → Place (List (List ℕ))

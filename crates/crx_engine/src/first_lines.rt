@@ -3,6 +3,7 @@
 ghost use Rattle.std.specs.Prelude.{◌≡◌, Ok, Err, MatchResult};
 ghost use Rattle.crx_engine.specs.Expanded.{crinex_program, crinex_version};
 
+use crate::crinex::{CRINEX_PROGRAM_LABEL, CRINEX_VERSION, CRINEX_VERSION_LABEL};
 use crx_rinex::is_labelled;
 use crx_text::Fault;
 use crx_text::columns::trimmed;
@@ -13,7 +14,9 @@ pub(crate) fn check_version(line: &[u8]) -> Result<(), Fault>
         (λ _. crinex_version line.now ≡ Ok line.now)
         (λ fault. crinex_version line.now ≡ Err fault) }
 {
-    if trimmed(line, 1, 20) == b"3.0".as_slice() && is_labelled(line, b"CRINEX VERS   / TYPE") {
+    if trimmed(line, 1, 20) == CRINEX_VERSION.as_slice()
+        && is_labelled(line, &CRINEX_VERSION_LABEL)
+    {
         return Ok(());
     }
     Err(Fault::NotCompact)
@@ -25,7 +28,7 @@ pub(crate) fn check_program(line: &[u8]) -> Result<(), Fault>
         (λ _. crinex_program line.now ≡ Ok line.now)
         (λ fault. crinex_program line.now ≡ Err fault) }
 {
-    if is_labelled(line, b"CRINEX PROG / DATE") {
+    if is_labelled(line, &CRINEX_PROGRAM_LABEL) {
         return Ok(());
     }
     Err(Fault::BadProgLine)

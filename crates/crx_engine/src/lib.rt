@@ -8,6 +8,7 @@ mod compact_reader;
 mod compaction;
 pub mod compactor;
 mod compactor_engine;
+mod crinex;
 pub mod engine;
 mod event_lines;
 mod expanded_lines;

@@ -10,22 +10,13 @@ ghost use Rattle.crx_engine.specs.Compacted.{program_line, lines_before_header};
 ghost use Rattle.crx_engine.specs.Results.{lines_text};
 
 use crate::appending::append;
+use crate::crinex::{CRINEX_PROGRAM, CRINEX_PROGRAM_LABEL, CRINEX_VERSION_LINE};
 use crate::options::in_columns;
 use crx_compact::Columns;
 use crx_compact::lines::Lines;
 use crx_rinex::Epoch;
 use crx_text::Text;
 use std::alloc::{AllocError, Global};
-
-/// The first line of compact text: the version of Compact RINEX.
-const VERSION_LINE: &[u8] =
-    b"3.0                 COMPACT RINEX FORMAT                    CRINEX VERS   / TYPE";
-
-/// The beginning of its second line: the program, in 40 columns.
-const PROGRAM: &[u8; 40] = b"RNX2CRX profile 1.0                     ";
-
-/// The end of its second line.
-const PROGRAM_LABEL: &[u8; 18] = b"CRINEX PROG / DATE";
 
 /// Which of the lines comes next.
 #[derive(Clone, Copy)]
@@ -56,9 +47,9 @@ fn write_program_line(line: &mut Text, date: &[u8])
     ensures { line.new ≡ program_line date.now }
 {
     line.clear();
-    append(line, PROGRAM);
+    append(line, &CRINEX_PROGRAM);
     append(line, &in_columns(date));
-    append(line, PROGRAM_LABEL);
+    append(line, &CRINEX_PROGRAM_LABEL);
 }
 
 impl ReadyLines {
@@ -165,7 +156,7 @@ impl ReadyLines {
         match self.turn {
             Turn::Version => {
                 self.turn = Turn::Program;
-                Some(VERSION_LINE)
+                Some(&CRINEX_VERSION_LINE)
             }
             Turn::Program => {
                 self.turn = Turn::Copied;

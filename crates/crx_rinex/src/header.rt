@@ -4,6 +4,7 @@ ghost use Rattle.std.specs.Prelude.{◌≡◌, None, Some, MatchResult};
 ghost use Rattle.crx_rinex.specs.Header.{first_header_fault, is_end_of_header, is_supported};
 
 use crate::columns::{character, is_labelled, trimmed};
+use crate::labels::{END_LABEL, VERSION_LABEL};
 use crx_lines::limits::VERSION_WIDTH;
 use crx_text::Fault;
 
@@ -17,7 +18,7 @@ pub fn header_first(line: &[u8]) -> Result<(), Fault>
         (λ _. first_header_fault line.now ≡ None)
         (λ fault. first_header_fault line.now ≡ Some fault) }
 {
-    if !is_labelled(line, b"RINEX VERSION / TYPE") {
+    if !is_labelled(line, &VERSION_LABEL) {
         return Err(Fault::MissingVersion);
     }
     if !is_supported(trimmed(line, 1, VERSION_WIDTH)) {
@@ -44,5 +45,5 @@ fn is_supported(version: &[u8]) -> bool
 pub fn is_end(line: &[u8]) -> bool
     ensures { result ≡ is_end_of_header line.now }
 {
-    is_labelled(line, b"END OF HEADER")
+    is_labelled(line, &END_LABEL)
 }

@@ -6,6 +6,7 @@ pub mod epoch;
 pub mod epoch_line;
 pub mod header;
 pub mod identifiers;
+pub mod labels;
 pub mod laws;
 pub mod printed;
 pub mod reading_back;

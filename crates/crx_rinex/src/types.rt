@@ -4,6 +4,7 @@ ghost use Rattle.std.specs.Prelude.{◌≡◌, ◌≤◌, ◌⊎◌, ℕ, List, 
 ghost use Rattle.crx_rinex.specs.ObservationTypes.{count_of, count_in, count_of_types_line, is_bad_types_line, is_system, is_types_line, types_of, with_line, IsAllowedCount, IsCount};
 
 use crate::columns::{character, is_labelled, number};
+use crate::labels::TYPES_LABEL;
 use crx_lines::limits::TYPES_LIMIT;
 use crx_text::Fault;
 use indexmap::IndexMap;
@@ -106,7 +107,7 @@ impl Types {
 pub fn is_types(line: &[u8]) -> bool
     ensures { result ≡ is_types_line line.now }
 {
-    is_labelled(line, b"SYS / # / OBS TYPES") && character(line, 1) != b' '
+    is_labelled(line, &TYPES_LABEL) && character(line, 1) != b' '
 }
 
 /// What a types line says: the letter in column 1 and the count in columns 4 to 6.
