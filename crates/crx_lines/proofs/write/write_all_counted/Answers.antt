@@ -1,12 +1,12 @@
-use Rattle.std.proofs.Common.{◌≡◌, ℕ, ◌+◌, ◌-◌, List, ◌++◌, length, length-take, length-drop, take, drop, slice_range, sym, ap, ◌∙◌, subst, arith, append-nil}
+use Rattle.std.proofs.Common.{◌≡◌, ◌≤◌, ℕ, ◌+◌, ◌-◌, List, ◌++◌, length, length-take, length-drop, take, drop, slice_range, sym, ap, ◌∙◌, subst, arith, append-nil}
 use Rattle.std.proofs.Math.Seq.{take-add}
-use Rattle.std.proofs.lemmas.Slice.{between_to_end}
+use Rattle.std.proofs.lemmas.List.{take-take}
 use Rattle.crx_lines.proofs.write.write_all_counted.Goals as goal
 
 -- what went out so far, and the next bytes after it
-take-rest : (bytes : List ℕ) (n m : ℕ) → take n bytes ++ take m (slice_range bytes n (length bytes)) ≡ take (n + m) bytes
-take-rest bytes n m =
-    ap (λ l. take n bytes ++ take m l) (between_to_end bytes n (length bytes) (omega arith)) ∙ sym (take-add n m bytes)
+take-rest : (bytes : List ℕ) (n k m : ℕ) → m ≤ k → take n bytes ++ take m (take k (drop n bytes)) ≡ take (n + m) bytes
+take-rest bytes n k m few =
+    ap (λ l. take n bytes ++ l) (take-take m k (drop n bytes) few) ∙ sym (take-add n m bytes)
 
 pub loop-written-preserved : goal.loop-written-preserved
 loop-written-preserved g c =
@@ -14,9 +14,14 @@ loop-written-preserved g c =
     let old = c.args.writer.now in
     let now = c.loop-written.writer in
     let new = c.write.new.self in
+    let at : ℕ = c.loop-written.written in
+    let room : ℕ = at + c.min.result - at in
+    let bound = c.in-Ok.ensures.bound in
+    let cut = length-take room (drop at bytes) in
+    let few : c.in-Ok.count ≤ room = omega (arith, bound, cut) in
     let before = c.loop-written.invariant in (
-      omega (arith, c.in-Ok.ensures.bound, length-take (length bytes - c.loop-written.written) (drop c.loop-written.written bytes), length-drop c.loop-written.written bytes),
-      subst (λ l. g.W.Sink.took old l new) (take-rest bytes c.loop-written.written c.in-Ok.count) (g.met.W.Sink.took_both old now new _ _ before.1 c.in-Ok.ensures.bytes),
+      omega (arith, bound, cut, length-drop at bytes),
+      subst (λ l. g.W.Sink.took old l new) (take-rest bytes at room c.in-Ok.count few) (g.met.W.Sink.took_both old now new _ _ before.1 c.in-Ok.ensures.bytes),
       c.in-Ok.ensures.good ∙ before.2,
       c.in-Ok.ensures.unasked ∙ before.3,
     )
