@@ -417,6 +417,7 @@ mod tests {
                     "more than one file name",
                 ),
                 ("rnx2crx|--date|123456789012345678901", "bad date"),
+                ("rnx2crx|--date|abcdefghijklmnopqrstu", "bad date"),
                 ("rnx2crx|--date|a\tb", "bad date"),
                 ("rnx2crx|--date|ä", "bad date"),
                 ("rnx2crx|a.txt|--date|123456789012345678901", "bad date"),
