@@ -14,6 +14,8 @@ mod devices;
 #[cfg(test)]
 mod differences;
 #[cfg(test)]
+mod empty_writes;
+#[cfg(test)]
 mod failing_sinks;
 #[cfg(test)]
 mod failing_sources;

@@ -45,8 +45,13 @@ fn has_written(run: &Run, whole: &[u8], lines: usize) -> bool {
             .all(|(written, wanted)| written == wanted)
 }
 
-/// Whether a run ended as runs do: without a message, or with one and another status.
+/// Whether a run with ample memory ended as runs do: without a message, or with one and another status.
 fn has_ended(run: &Run) -> bool {
+    if let Some(at) = run.outcome.fault {
+        if at.fault == Fault::OutOfMemory {
+            return false;
+        }
+    }
     match run.outcome.status {
         0 => run.messages.is_empty(),
         1 | 2 => !run.messages.is_empty(),
@@ -102,7 +107,7 @@ fn each_byte_is_replaced(rt: HostRuntime) -> Result<(), Fail> {
     for lines in TEXTS {
         let whole = text(rt.alloc(), lines)?;
         for place in 0..whole.len() {
-            for byte in [0, b'&', b'>', 255] {
+            for byte in [0, 31, b'&', b'>', 127, 255] {
                 let input = with_byte(rt.alloc(), whole.as_slice(), place, byte)?;
                 for skip in [false, true] {
                     let options = Options::new(None, skip, b"")?;
