@@ -9,7 +9,7 @@ ghost use Rattle.crx_compact.specs.EpochText.{Satellite, names_in, satellites_na
 
 use crx_lines::limits::{HEAD_WIDTH, NAME_WIDTH};
 use crx_rinex::{
-    EpochLine, Identifiers, Types, after_columns, all_blank, padded, types_of_satellite,
+    EpochLine, Identifiers, Types, after_columns, all_blank, identifier, padded, types_of_satellite,
 };
 use crx_text::Fault;
 use std::marker::Model;
@@ -68,7 +68,7 @@ fn read_names(
         ⊎ (fault ≡ Fault.OutOfMemory)) }
 {
     for place in 0..count {
-        let name = padded(text, HEAD_WIDTH + 1 + NAME_WIDTH * place);
+        let name = identifier(text, HEAD_WIDTH + 1 + NAME_WIDTH * place);
         let Some(types) = types_of_satellite(types, &name) else {
             return Err(Fault::BadSatellite);
         };

@@ -2,9 +2,11 @@
 //! RINEX 3.05, tables A1 and A2.
 
 ghost use Rattle.std.specs.Prelude.{◌≡◌, ◌≤◌, ◌<◌, length, IfSome};
+ghost use Rattle.crx_lines.specs.declared.limits.TheConstants.{LINE_LIMIT, NAME_WIDTH};
 ghost use Rattle.crx_text.specs.Columns.{columns};
 ghost use Rattle.crx_rinex.specs.Label.{has_label, number_in, number_of_digits};
 
+use crx_lines::limits::NAME_WIDTH;
 pub(crate) use crx_text::columns::{character, end_trimmed, is_blank, trimmed};
 pub use crx_text::columns::{after_columns, all_blank, padded};
 
@@ -41,4 +43,18 @@ pub fn is_labelled(line: &[u8], label: &[u8]) -> bool
     ensures { result ≡ has_label label.now line.now }
 {
     end_trimmed(line, 61, 20) == label
+}
+
+/// The identifier in three columns from a first one on, blanks after the line's end included.
+#[inline(always)]
+pub fn identifier(line: &[u8], first: usize) -> [u8; NAME_WIDTH]
+    requires from_one { 1 ≤ first }
+    requires few { first ≤ LINE_LIMIT }
+    ensures { result ≡ columns line.now first NAME_WIDTH }
+{
+    [
+        character(line, first),
+        character(line, first + 1),
+        character(line, first + 2),
+    ]
 }

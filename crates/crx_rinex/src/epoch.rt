@@ -13,7 +13,7 @@ ghost use Rattle.crx_rinex.specs.EpochPlaces.{row_if_new};
 ghost use Rattle.crx_rinex.specs.Observations.{observations_in, observations_of};
 ghost use Rattle.crx_rinex.specs.SatelliteLines.{row_of, IsSoundRow};
 
-use crate::columns::padded;
+use crate::columns::identifier;
 use crate::epoch_line::EpochLine;
 use crate::identifiers::Identifiers;
 use crate::satellite_row::{SatRow, row_fault};
@@ -142,7 +142,7 @@ impl Epoch {
             ⊎ ((fault ≡ Fault.OutOfMemory) × (is_ok (row_if_new self.old.rows (row_of types.now line.now)) ≡ true))) }
         ensures err { OnErr result (self.new ≡ self.old) }
     {
-        if self.count < self.rows.len() && self.names.has_at(self.count, padded(line, 1)) {
+        if self.count < self.rows.len() && self.names.has_at(self.count, identifier(line, 1)) {
             let row = &mut self.rows[self.count];
             if let Err(fault) = row.read_again(types, line) {
                 return Err(fault);
@@ -255,7 +255,7 @@ fn fault_before_memory(
     ensures new { IfNone result (is_among (λ (n : List ℕ). n) (columns line.now 1 NAME_WIDTH) (take count names.now) ≡ false) }
     ensures good { IfNone result (is_asked ≡ true → is_ok (row_of types.now line.now) ≡ true) }
 {
-    if names.place_of(count, padded(line, 1)).is_some() {
+    if names.place_of(count, identifier(line, 1)).is_some() {
         return match row_fault(types, line) {
             Some(fault) => Some(fault),
             None => Some(Fault::RepeatedSatellite),

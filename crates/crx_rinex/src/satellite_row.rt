@@ -14,7 +14,7 @@ ghost use Rattle.crx_rinex.specs.Observations.{observations_of};
 ghost use Rattle.crx_rinex.specs.Printing.{printed_cells, printed_row};
 ghost use Rattle.crx_rinex.specs.SatelliteLines.{blank_row, field, flags_in, has_number, is_identifier, row_of, row_with, types_of_satellite, values_in, with_flags, with_value, IsSoundRow, IsValue};
 
-use crate::columns::{after_columns, all_blank, character, padded};
+use crate::columns::{after_columns, all_blank, character, identifier, padded};
 use crate::types::Types;
 use crx_lines::limits::{CELL_WIDTH, NAME_WIDTH, OBSERVATION_WIDTH, TYPES_LIMIT};
 use crx_text::block::put_text;
@@ -68,7 +68,7 @@ impl SatRow {
         };
         match read_cells(line, &mut values, &mut flags) {
             Ok(()) => Ok(SatRow {
-                name: padded(line, 1),
+                name: identifier(line, 1),
                 values,
                 flags,
             }),
@@ -102,7 +102,7 @@ impl SatRow {
             self.flags.fill(b' ');
             return Err(fault);
         }
-        self.name = padded(line, 1);
+        self.name = identifier(line, 1);
         Ok(())
     }
 

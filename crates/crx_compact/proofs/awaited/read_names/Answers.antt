@@ -25,30 +25,30 @@ among satellites names name place b placed is =
 
 pub returns-in_default-clause-err : goal.returns-in_default-clause-err
 returns-in_default-clause-err c =
-    inl (named-bad c.args.types.now (names_in c.args.text.now c.args.count) c.loop-place.place c.loop-place.satellites.items c.padded-name.result c.loop-place.invariant.so_far
-    (next c.args.text.now c.args.count c.loop-place.place c.padded-name.result c.loop-place-test.true c.padded-name.ensures) (sym c.in_default.ensures.value))
+    inl (named-bad c.args.types.now (names_in c.args.text.now c.args.count) c.loop-place.place c.loop-place.satellites.items c.identifier-name.result c.loop-place.invariant.so_far
+    (next c.args.text.now c.args.count c.loop-place.place c.identifier-name.result c.loop-place-test.true c.identifier-name.ensures) (sym c.in_default.ensures.value))
 
 pub returns-in-Ok-false-clause-err : goal.returns-in-Ok-false-clause-err
 returns-in-Ok-false-clause-err c =
-    inl (named-twice c.args.types.now (names_in c.args.text.now c.args.count) c.loop-place.place c.loop-place.satellites.items c.padded-name.result c.in-Some.types c.loop-place.invariant.so_far
-    (next c.args.text.now c.args.count c.loop-place.place c.padded-name.result c.loop-place-test.true c.padded-name.ensures) (sym c.in-Some.ensures.value)
-    (among c.loop-place.satellites.items c.loop-place.names c.padded-name.result c.loop-place.place true c.loop-place.invariant.placed (c.in-Ok-false.ensures.new ∙ ap not c.in-Ok-false.field-0-test)))
+    inl (named-twice c.args.types.now (names_in c.args.text.now c.args.count) c.loop-place.place c.loop-place.satellites.items c.identifier-name.result c.in-Some.types c.loop-place.invariant.so_far
+    (next c.args.text.now c.args.count c.loop-place.place c.identifier-name.result c.loop-place-test.true c.identifier-name.ensures) (sym c.in-Some.ensures.value)
+    (among c.loop-place.satellites.items c.loop-place.names c.identifier-name.result c.loop-place.place true c.loop-place.invariant.placed (c.in-Ok-false.ensures.new ∙ ap not c.in-Ok-false.field-0-test)))
 
 pub loop-place-preserved : goal.loop-place-preserved
 loop-place-preserved c =
-    let satellite : Satellite = record { name = c.padded-name.result; count = c.in-Some.types } in
+    let satellite : Satellite = record { name = c.identifier-name.result; count = c.in-Some.types } in
     let put = c.in-Ok-true.ensures.next c.in-Ok-true.field-0-test in
     let pushed : c.push.new.self.items ≡ c.loop-place.satellites.items ++ satellite ∷ [] = search rules in
     let within = c.loop-place.invariant.within in
     record {
       so_far =
-          named-more c.args.types.now (names_in c.args.text.now c.args.count) c.loop-place.place c.loop-place.satellites.items c.push.new.self.items c.padded-name.result c.in-Some.types c.loop-place.invariant.so_far
-          (next c.args.text.now c.args.count c.loop-place.place c.padded-name.result c.loop-place-test.true c.padded-name.ensures) (sym c.in-Some.ensures.value)
-          (among c.loop-place.satellites.items c.loop-place.names c.padded-name.result c.loop-place.place false c.loop-place.invariant.placed (c.in-Ok-true.ensures.new ∙ ap not c.in-Ok-true.field-0-test))
+          named-more c.args.types.now (names_in c.args.text.now c.args.count) c.loop-place.place c.loop-place.satellites.items c.push.new.self.items c.identifier-name.result c.in-Some.types c.loop-place.invariant.so_far
+          (next c.args.text.now c.args.count c.loop-place.place c.identifier-name.result c.loop-place-test.true c.identifier-name.ensures) (sym c.in-Some.ensures.value)
+          (among c.loop-place.satellites.items c.loop-place.names c.identifier-name.result c.loop-place.place false c.loop-place.invariant.placed (c.in-Ok-true.ensures.new ∙ ap not c.in-Ok-true.field-0-test))
           pushed;
-      within = names-long c.loop-place.names c.put.new.self c.loop-place.place c.padded-name.result within put;
+      within = names-long c.loop-place.names c.put.new.self c.loop-place.place c.identifier-name.result within put;
       placed =
-          put ∙ ap (λ (ns : List (List ℕ)). ns ++ c.padded-name.result ∷ []) c.loop-place.invariant.placed
+          put ∙ ap (λ (ns : List (List ℕ)). ns ++ c.identifier-name.result ∷ []) c.loop-place.invariant.placed
           ∙ sym (map-append (λ (s : Satellite). s.name) c.loop-place.satellites.items (satellite ∷ [])) ∙ ap (map (λ (s : Satellite). s.name)) (sym pushed);
     }
 

@@ -12,7 +12,7 @@ use Rattle.crx_rinex.proofs.epoch.Epoch.read_row.Goals as goal
 pub returns-in-Err-clause-refused : goal.returns-in-Err-clause-refused
 returns-in-Err-clause-refused c =
     let new : has_satellite (columns c.args.line.now 1 NAME_WIDTH) c.args.self.now.rows ≡ false =
-    by_names c.args.self.now c.self.inside.names c.self.inside.rows.items c.self.inside.count (columns c.args.line.now 1 NAME_WIDTH) c.padded.result false c.padded.ensures
+    by_names c.args.self.now c.self.inside.names c.self.inside.rows.items c.self.inside.count (columns c.args.line.now 1 NAME_WIDTH) c.identifier.result false c.identifier.ensures
     (ap (λ (e : Epoch). e.rows) c.self.view_is) c.self.invariant.4 (c.if-has_at.ensures.new) in
     elim (c.in-Err.ensures.refused) [
       | inl bad ↦ inl (ap (row_if_new c.args.self.now.rows) bad)
@@ -28,14 +28,14 @@ invariant_of-self-then-has_at c =
     let row : Row = c.read_again.new.self in
     let within : count < length rows = let a = c.if-self-len.true in let b = c.self.inside.rows.ok.0 in let e = c.len.ensures in omega (arith, a, b, e) in
     let next = c.if-has_at.ensures.next in
-    let named : c.padded.result ≡ row.name = c.padded.ensures ∙ sym c.in_default.ensures.name in
+    let named : c.identifier.result ≡ row.name = c.identifier.ensures ∙ sym c.in_default.ensures.name in
     let new : has_satellite row.name (take count rows) ≡ false =
-    by_names (record { head = head.head; clock = head.clock; rows = take count rows }) names rows count row.name c.padded.result false named refl c.self.invariant.4 c.if-has_at.ensures.new in (
+    by_names (record { head = head.head; clock = head.clock; rows = take count rows }) names rows count row.name c.identifier.result false named refl c.self.invariant.4 c.if-has_at.ensures.new in (
       sound-put head.head head.clock rows count row c.self.invariant.0 within c.in_default.ensures.sound (ap is_full_epoch c.self.view_is ∙ c.requires) new,
       omega (arith, within, length-set rows count row),
       c.self.invariant.2,
-      names-long names names count c.padded.result c.self.invariant.3 next,
-      names-next names names rows (slice_set rows count row) count row c.padded.result named c.self.invariant.4 next (take_more_set rows count row within),
+      names-long names names count c.identifier.result c.self.invariant.3 next,
+      names-next names names rows (slice_set rows count row) count row c.identifier.result named c.self.invariant.4 next (take_more_set rows count row within),
     )
 
 pub returns-then-has_at-clause-ok : goal.returns-then-has_at-clause-ok
@@ -47,7 +47,7 @@ returns-then-has_at-clause-ok c =
     let within : count < length rows = let a = c.if-self-len.true in let b = c.self.inside.rows.ok.0 in let e = c.len.ensures in omega (arith, a, b, e) in
     let read = c.in_default.ensures.ok in
     let new : has_satellite row.name c.args.self.now.rows ≡ false =
-    by_names c.args.self.now c.self.inside.names rows count row.name c.padded.result false (c.padded.ensures ∙ sym c.in_default.ensures.name)
+    by_names c.args.self.now c.self.inside.names rows count row.name c.identifier.result false (c.identifier.ensures ∙ sym c.in_default.ensures.name)
     (ap (λ (e : Epoch). e.rows) c.self.view_is) c.self.invariant.4 c.if-has_at.ensures.new in
     rw (read, new)
     (ap (λ (rs : List Row). record { head = head.head; clock = head.clock; rows = rs }) (take_more_set rows count row within)

@@ -23,8 +23,8 @@ invariant_of-self-2 c =
     let flags_len : c.resize_for.new.flags.len ≡ 2 * m = let a = sized.1 in let b = c.resize_for.new.flags.ok.0 in omega (arith, a, b) in
     let values : length c.read_cells.new.values ≡ m = let a = c.read_cells.auto.values in let b = c.deref_mut.ensures.len in omega (arith, a, b, values_len) in
     let flags : length c.read_cells.new.flags ≡ 2 * m = let a = c.read_cells.auto.flags in let b = c.deref_mut-2.ensures.len in omega (arith, a, b, flags_len) in
-    sound-written c.padded-self-inside.result c.read_cells.new.values c.resize_for.new.values.items c.read_cells.new.flags c.resize_for.new.flags.items m c.resize_for.new.values.len c.resize_for.new.flags.len
-    (ap is_identifier c.padded-self-inside.ensures ∙ c.in-Some.ensures.named) c.in-Some.ensures.allowed values flags values_len flags_len c.in_default-read_cells.ensures.ranged c.in_default-read_cells.ensures.kept
+    sound-written c.identifier-self-inside.result c.read_cells.new.values c.resize_for.new.values.items c.read_cells.new.flags c.resize_for.new.flags.items m c.resize_for.new.values.len c.resize_for.new.flags.len
+    (ap is_identifier c.identifier-self-inside.ensures ∙ c.in-Some.ensures.named) c.in-Some.ensures.allowed values flags values_len flags_len c.in_default-read_cells.ensures.ranged c.in_default-read_cells.ensures.kept
 
 pub returns-clause-sound : goal.returns-clause-sound
 returns-clause-sound c = invariant_of-self-2 c
