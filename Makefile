@@ -12,6 +12,8 @@
 #             puts the program that make built, its manual pages, completions and other names in place
 # make library
 #             proves and builds the library for C, C++ and Fortran, into out/library (docs/LIBRARY.md)
+# make library-fuzz INPUTS=100000
+#             compares so many random and damaged inputs through C, with AddressSanitizer, with the built program (two minutes on 4 cores)
 # make python does that and makes the package for Python of it, into out/python
 # make dist   makes a release of what make built, in out/dist: an archive with a static program and the library, a Debian package,
 #             a source archive
@@ -63,11 +65,16 @@ debian11-test:
 install:
 	packaging/install.sh "$(DESTDIR)$(PREFIX)" $(PROGRAM)
 
-.PHONY: library python
+.PHONY: library library-fuzz python
+
+INPUTS := 100000
 
 library:
 	cd crates/rnxcmp_c && rt lib
 	library/build.sh crates/rnxcmp_c/out/librnxcmp_c.a out/library
+
+library-fuzz:
+	python3 tests/library/checks.py $(PROGRAM) --random $(INPUTS)
 
 python: library
 	rm -rf out/python

@@ -1,7 +1,8 @@
 #!/usr/bin/env python3
 """The library for C, C++, Python and Fortran, as `make library` and `make python` leave it, beside the built program (see tests/run.py).
 
-    tests/library/checks.py PROGRAM --inputs 100000    tries so many random and damaged inputs, in place of those of the gate
+    tests/library/checks.py PROGRAM --inputs 10000     tries so many random and damaged inputs, in place of those of the gate
+    tests/library/checks.py PROGRAM --random 100000    tries so many of them through C, and nothing else (make library-fuzz)
 
 Each call over memory is to give what the program writes, reports and answers for the same bytes, in rooms that are as long as the texts,
 longer, one byte shorter, and empty, and nothing beside the rooms may change.
@@ -9,6 +10,7 @@ longer, one byte shorter, and empty, and nothing beside the rooms may change.
 
 import argparse
 import os
+import pickle
 import random
 import re
 import shutil
@@ -17,63 +19,21 @@ import subprocess
 import sys
 import tempfile
 from concurrent.futures import ThreadPoolExecutor
-from dataclasses import dataclass
 from pathlib import Path
 
 HERE = Path(__file__).resolve().parent
 TOP = HERE.parents[1]
-sys.path.insert(0, str(TOP / "tests"))
+sys.path[:0] = [str(HERE), str(TOP / "tests")]
+from answers import KINDS, Call, answers_of_cases, run_program  # noqa: E402
 from checking import tally  # noqa: E402
 
 LIBRARY = TOP / "out/library"
 WHEELS = TOP / "out/python"
 SAMPLE = TOP / "samples/station.rnx"
 PROVED = TOP / "crates/rnxcmp_c/out/librnxcmp_c.a"
-DATE = "01-Jan-24 00:00"
-KINDS = ("rnx2crx", "crx2rnx", "check")
 NO_ROOM, BAD_DATE, BAD_PROCESSOR = 3, 4, 5
 INPUTS = 2000
 NAMES = ["rnxcmp_check", "rnxcmp_compact", "rnxcmp_expand", "rnxcmp_version", "rnxcmp_words"]
-
-
-# ---- the program's answers
-
-
-@dataclass
-class Call:
-    """A call: which filter, its choices, and the input."""
-
-    kind: int
-    data: bytes
-    skip: bool = False
-    every: int = 0
-    date: bytes = DATE.encode()
-
-    def words(self):
-        """The program's words."""
-        words = [KINDS[self.kind]]
-        if self.kind == 0:
-            words += ["--date", self.date.decode()] + (["-e", str(self.every)] if self.every else [])
-        return words + (["-s"] if self.skip and self.kind != 2 else [])
-
-
-@dataclass
-class Result:
-    """What it writes, reports and answers."""
-
-    output: bytes
-    messages: bytes
-    status: int
-
-    def fault(self):
-        """The number and the line of the fault that ended the run."""
-        found = re.search(rb"^ERROR line (\d+) code (\d+): ", self.messages, re.M)
-        return (int(found[2]), int(found[1])) if found else (0, 0)
-
-
-def run_program(program, call):
-    run = subprocess.run([program, *call.words()], input=call.data, capture_output=True, timeout=60)
-    return Result(run.stdout, run.stderr, run.returncode)
 
 
 # ---- the calls
@@ -140,6 +100,11 @@ def check_rooms(program, server, calls):
         for output_room, messages_room, null in rooms_for(result):
             wrong += compare(server, call, result, output_room, messages_room, null)
     return wrong
+
+
+def check_cases(server, answers):
+    """The runs of tests/cases, in each room."""
+    return [text for call, result in answers for rooms in rooms_for(result) for text in compare(server, call, result, *rooms)]
 
 
 def with_strange_epochs(data):
@@ -378,6 +343,13 @@ def check_python(program, python):
     return [] if run.returncode == 0 else [run.stdout[-2000:], run.stderr[-2000:]]
 
 
+def check_python_cases(python, answers):
+    """The runs of tests/cases through the package."""
+    calls = [(c.kind, c.data, c.skip, c.every, c.date, r.output, r.messages) for c, r in answers]
+    run = subprocess.run([python, HERE / "cases.py"], input=pickle.dumps(calls), capture_output=True, timeout=100)
+    return [] if run.returncode == 0 else [run.stdout.decode()[-2000:], run.stderr.decode()[-2000:]]
+
+
 def check_python_example(python):
     run = subprocess.run([python, TOP / "examples/compact.py", SAMPLE], capture_output=True, text=True, timeout=60)
     return [] if run.returncode == 0 and "the same again" in run.stdout else [run.stdout, run.stderr]
@@ -404,13 +376,26 @@ def check_limit(calls):
     return "there is no such address space" if status == 77 else [f"status {status}"] if status else []
 
 
-def checks_of_c(program, work, count):
+def checks_of_random(program, count):
+    """Random and damaged inputs alone, of a library that was made before."""
+    with tempfile.TemporaryDirectory() as name:
+        calls, lacking = build_calls(Path(name))
+        if calls is None:
+            yield "calls from C", lambda: lacking
+            return
+        server = Server(calls)
+        yield f"{count} random and damaged inputs", lambda: check_random(program, server, count)
+        yield "no leak", server.close
+
+
+def checks_of_c(program, work, count, answers):
     calls, lacking = build_calls(work)
     if calls is None:
         yield "calls from C", lambda: lacking
         return
     server = Server(calls)
     yield "samples in each room", lambda: check_rooms(program, server, sample_calls(program))
+    yield f"{len(answers)} runs of tests/cases in each room", lambda: check_cases(server, answers)
     yield "refused dates", lambda: check_date(server)
     yield f"{count} random and damaged inputs", lambda: check_random(program, server, count)
     yield "no leak", server.close
@@ -434,7 +419,8 @@ def checks(program, count=INPUTS):
         work = Path(name)
         yield "names", check_symbols
         yield "header", lambda: check_header(work)
-        yield from checks_of_c(program, work, count)
+        answers = answers_of_cases(program)
+        yield from checks_of_c(program, work, count, answers)
         yield "an old processor", lambda: check_processor(work)
         yield "each growth of memory refused", lambda: check_no_memory(program, work)
         for ending in ("c", "cpp", "f90"):
@@ -448,6 +434,7 @@ def checks(program, count=INPUTS):
         yield "wheel, installed without a network", lambda: lacking
         if python is not None:
             yield "calls from Python", lambda: check_python(program, python)
+            yield f"{len(answers)} runs of tests/cases from Python", lambda: check_python_cases(python, answers)
             yield "examples/compact.py", lambda: check_python_example(python)
 
 
@@ -455,7 +442,10 @@ if __name__ == "__main__":
     parser = argparse.ArgumentParser(description=__doc__, formatter_class=argparse.RawDescriptionHelpFormatter)
     parser.add_argument("program", type=Path)
     parser.add_argument("--inputs", type=int, default=INPUTS, help=f"how many random and damaged inputs ({INPUTS})")
+    parser.add_argument("--random", type=int, help="so many random and damaged inputs, and nothing else")
     arguments = parser.parse_args()
-    passed, failed = tally("library", checks(arguments.program.resolve(), arguments.inputs))
+    program = arguments.program.resolve()
+    chosen = checks(program, arguments.inputs) if arguments.random is None else checks_of_random(program, arguments.random)
+    passed, failed = tally("library", chosen)
     print(f"{passed} passed, {failed} failed")
     sys.exit(1 if failed else 0)

@@ -1,0 +1,120 @@
+"""Calls of the library with the answers that they are to have: the program's, and those that stand in tests/cases."""
+
+import re
+import shlex
+import subprocess
+import sys
+from dataclasses import dataclass
+from importlib import util
+from pathlib import Path
+
+CASES = Path(__file__).resolve().parents[1] / "cases"
+DATE = "01-Jan-24 00:00"
+KINDS = ("rnx2crx", "crx2rnx", "check")
+
+
+@dataclass
+class Call:
+    """A call: which filter, its choices, and the input."""
+
+    kind: int
+    data: bytes
+    skip: bool = False
+    every: int = 0
+    date: bytes = DATE.encode()
+
+    def words(self):
+        """The program's words."""
+        words = [KINDS[self.kind]]
+        if self.kind == 0:
+            words += ["--date", self.date.decode()] + (["-e", str(self.every)] if self.every else [])
+        return words + (["-s"] if self.skip and self.kind != 2 else [])
+
+
+@dataclass
+class Result:
+    """What is written, reported and answered."""
+
+    output: bytes
+    messages: bytes
+    status: int
+
+    def fault(self):
+        """The number and the line of the fault that ended the run."""
+        found = re.search(rb"^ERROR line (\d+) code (\d+): ", self.messages, re.M)
+        return (int(found[2]), int(found[1])) if found else (0, 0)
+
+
+def run_program(program, call):
+    run = subprocess.run([program, *call.words()], input=call.data, capture_output=True, timeout=60)
+    return Result(run.stdout, run.stderr, run.returncode)
+
+
+# ---- tests/cases
+
+
+def case_checks():
+    """The module tests/cases/checks.py."""
+    spec = util.spec_from_file_location("case_checks", CASES / "checks.py")
+    module = util.module_from_spec(spec)
+    sys.modules[spec.name] = module
+    spec.loader.exec_module(module)
+    return module
+
+
+def call_of(words, data):
+    """The call that the program's words mean, and the names of files among them."""
+    call, names, rest = Call(KINDS.index(words[0]), data), [], iter(words[1:])
+    for word in rest:
+        if word == "--date":
+            call.date = next(rest).encode()
+        elif word == "-e":
+            call.every = int(next(rest))
+        elif word == "-s":
+            call.skip = True
+        elif word == "--":
+            names += rest
+        elif word not in ("-f", "-"):
+            names.append(word)
+    return call, names
+
+
+def answers_of(case):
+    """The calls of a case with their answers; none where the program refuses its arguments or finds no file."""
+    if case.messages.startswith(b"ERROR: "):
+        return
+    for line in case.arguments:
+        call, names = call_of(shlex.split(line), case.input)
+        output = case.output
+        if names:
+            call.data = case.files.get(names[0])
+            output = next(iter(case.left.values()), output)
+        if call.data is not None:
+            yield call, Result(output, case.messages, case.status)
+    if case.expansion is not None:
+        for skip in (False, True):
+            yield Call(1, case.output, skip), Result(case.expansion, b"", 0)
+
+
+def long_answers(cases, program):
+    """The runs of tests/cases whose texts are made there, with the program's answers."""
+    found, run = {}, cases.run
+
+    def recorded(program, words, data=b"", files=None, piece=None):
+        key = (tuple(words), data)
+        if key not in found:
+            found[key] = run(program, words, data, files)
+        return found[key]
+
+    cases.run = recorded
+    for check in cases.LONG:
+        check(program)
+    for (words, data), answer in found.items():
+        yield call_of(words, data)[0], Result(answer.output, answer.messages, answer.status)
+
+
+def answers_of_cases(program):
+    """The runs of tests/cases as calls with their answers."""
+    cases = case_checks()
+    found = [answer for path in sorted(CASES.glob("*.case")) for answer in answers_of(cases.read_case(path))]
+    return found + list(long_answers(cases, program))
