@@ -14,6 +14,8 @@
 #             proves and builds the library for C, C++ and Fortran, into out/library (docs/LIBRARY.md)
 # make library-fuzz INPUTS=100000
 #             compares so many random and damaged inputs through C, with AddressSanitizer, with the built program (two minutes on 4 cores)
+# make library-large
+#             compares a file of a gigabyte through C with the built program (three minutes, and 5 GB of memory)
 # make python does that and makes the package for Python of it, into out/python
 # make dist   makes a release of what make built, in out/dist: an archive with a static program and the library, a Debian package,
 #             a source archive
@@ -65,7 +67,7 @@ debian11-test:
 install:
 	packaging/install.sh "$(DESTDIR)$(PREFIX)" $(PROGRAM)
 
-.PHONY: library library-fuzz python
+.PHONY: library library-fuzz library-large python
 
 INPUTS := 100000
 
@@ -75,6 +77,9 @@ library:
 
 library-fuzz:
 	python3 tests/library/checks.py $(PROGRAM) --random $(INPUTS)
+
+library-large:
+	python3 tests/library/large.py $(PROGRAM)
 
 python: library
 	rm -rf out/python
