@@ -17,18 +17,21 @@ PROMISES = (
     ("Compaction", ("compacted",), "what `compact` writes, reports and answers, for a whole input"),
     ("Expansion", ("expanded",), "the same of `expand`"),
     ("The report", ("checked",), "the same of `check`, with what a standard file is"),
-    ("Failing devices and memory", ("Runs",), "what a run is where a reader, a writer or memory fails: the clause `runs`"),
-    ("The way back", ("BringsBackWhatWasCompacted",), "the clause `way_back` of `expand`"),
-    ("Damage", ("SavesAllElse",), "the clause `salvage` of `expand`"),
-    ("Standard files", ("JudgesStandard",), "the clause `standard` of `check`"),
+    ("Failing devices and memory", ("Runs", "Keeps", "span", "reader_span"), "what a run is where a reader, a writer or memory fails: the clause `runs`"),
+    ("The way back", ("BringsBackWhatWasCompacted", "CallBringsBackWhatWasCompacted"), "the clause `way_back` of `expand`"),
+    ("Damage", ("SavesAllElse", "CallSavesAllElse"), "the clause `salvage` of `expand`"),
+    ("Standard files", ("JudgesStandard", "CallJudgesStandard"), "the clause `standard` of `check`"),
+    ("The program", ("plan_of", "IsRefused", "IsHelped"), "what the arguments ask for, and what is shown where nothing is run: the clauses `refused` and `help` of `run`"),
+    ("The library for C", ("IsAnswer", "IsDateRefused", "IsTooLong", "HasNoMemory", "CallIsOutOfMemory", "rooms", "choices_of"),
+        "what its calls answer, and what stands in the caller's memory after them"),
 )
 
 HEAD = """# Reading
 
 What has to be read, and believed, to know what is claimed. A proof can be wrong in one place that no prover sees: the definitions may
-say something else than RINEX 3.05 and Compact RINEX 3.0 do. They stand in `crates/*/specs`. This page lists those that the main
-promises stand on, file by file, each file after those that it uses; every other file of `specs` says how code and proofs see things,
-and need not be believed. `docs/reading.py` writes this page from the sources, and the gate compares it.
+say something else than RINEX 3.05 and Compact RINEX 3.0 do. They stand in `crates/*/specs/meaning`. This page lists those that the
+main promises stand on, file by file, each file after those that it uses; the files beside that folder say how code and proofs see
+things, and need not be believed. `docs/reading.py` writes this page from the sources, and the gate compares it.
 
 Beside the definitions: the four public calls `compact`, `expand` and `check` (`crates/crx_filter/src`) and `run`
 (`crates/rnxcmp/src/program.rt`) with their clauses, docs/FORMATS.md for the formats in words, and README.md for what else is trusted.
@@ -71,6 +74,8 @@ def closure(names, texts, taken):
     seen, todo = set(), [key for key in texts if key[1] in names]
     while todo:
         key = todo.pop()
+        while key not in texts and key[1] in taken.get(key[0], {}):
+            key = taken[key[0]][key[1]]             # another file passes it on
         if key in seen or key not in texts:
             continue
         seen.add(key)

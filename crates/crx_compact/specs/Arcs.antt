@@ -23,7 +23,7 @@ abbrev pub value_bound : ℕ
 value_bound = 10 ^ 14
 
 -- what is true of every arc that code keeps: no more differences than its order allows, all of values in range
-pub record IsKept (width order count : ℕ) (differences : List ℤ) : Type 0 where
+pub record IsArcInRange (width order count : ℕ) (differences : List ℤ) : Type 0 where
   pub few_columns : width ≤ CLOCK_WIDTH
   pub order_within : order ≤ ORDER_LIMIT
   pub counted : count ≤ suc order

@@ -1,20 +1,21 @@
 -- A row's cells after the arcs of its satellite in the epoch before.
-use Rattle.std.specs.Prelude.{◌≡◌, ◌≤◌, ℕ, ℤ, true, List, length, map, drop, slice_index_or, slice_set, Option, Some, None, Result, Ok}
+use Rattle.std.specs.Prelude.{◌≡◌, ◌≤◌, ℕ, ℤ, true, List, length, map, drop, slice_index_or, slice_set, Option, Some}
+use Rattle.std.specs.Prelude.{None, Result, Ok}
 use Rattle.std.specs.List.{list_all}
-use Rattle.crx_text.specs.Codes.{code_of, first_cell, after_cell}
+use Rattle.crx_text.specs.meaning.Codes.{code_of, first_cell, after_cell}
 use Rattle.crx_lines.specs.declared.limits.TheConstants.{LINE_LIMIT, OBSERVATION_WIDTH}
 use Rattle.crx_text.specs.declared.code.Code.TheVariants.{Missing}
 use Rattle.crx_lines.specs.declared.fault.Fault.{Fault}
-use Rattle.crx_compact.specs.CompactPlaces.{ReadCell, cells_read, cells_of, after_cells}
-use Rattle.crx_rinex.specs.ObservationTypes.{IsAllowedCount}
-use Rattle.crx_rinex.specs.SatelliteLines.{is_identifier}
-use Rattle.crx_compact.specs.EpochText.{Satellite}
-use Rattle.crx_rinex.specs.Observations.{Row}
+use Rattle.crx_compact.specs.meaning.CompactPlaces.{ReadCell, cells_read, cells_of, after_cells}
+use Rattle.crx_rinex.specs.meaning.ObservationTypes.{IsAllowedCount}
+use Rattle.crx_rinex.specs.meaning.SatelliteLines.{is_identifier}
+use Rattle.crx_compact.specs.meaning.EpochText.{Satellite}
+use Rattle.crx_rinex.specs.meaning.Observations.{Row}
 use Rattle.crx_text.specs.declared.code.Code.{Code}
-use Rattle.crx_text.specs.Texts.{is_kept}
-use Rattle.crx_rinex.specs.EachPlace.{each_place}
+use Rattle.crx_text.specs.meaning.Texts.{is_kept}
+use Rattle.crx_rinex.specs.meaning.EachPlace.{each_place}
 use Rattle.crx_compact.specs.Tails.{ArcTail}
-use Rattle.crx_compact.specs.Compaction.{value_in}
+use Rattle.crx_compact.specs.meaning.Compaction.{value_in}
 use Rattle.crx_compact.specs.Steps.{arc_of_code, arc_of_value, code_of_value, value_of_code}
 
 -- the arc and the code of the cell at a place, the arcs before being given; a place past them has none
@@ -36,8 +37,9 @@ pub record AreHeldFlags (flags : List ℕ) : Type 0 where
   pub within : length flags ≤ LINE_LIMIT
   pub kept : list_all is_kept flags ≡ true
 
--- a satellite whose line may be awaited: its identifier is spelt as one, and it has as many types as a system may have
-pub record IsAwaited (satellite : Satellite) : Type 0 where
+-- a satellite whose line may be awaited: its identifier has the form of one, and it has as many types as a system may
+-- have
+pub record IsAwaitedSatellite (satellite : Satellite) : Type 0 where
   pub named : is_identifier satellite.name ≡ true
   pub counted : IsAllowedCount satellite.count
 
@@ -49,9 +51,10 @@ value_at_place before place code = value_of_code OBSERVATION_WIDTH code (slice_i
 
 -- the cell that a text begins with: its value, the arcs with its own in its place, and how much of the text it takes
 -- with its blank
-pub record IsCellRead (before : List (Option ArcTail)) (place : ℕ) (text : List ℕ) (old new : List (Option ArcTail)) (value : Option ℤ) (taken : ℕ) : Type 0 where
+pub record IsCellRead (before : List (Option ArcTail))
+    (place : ℕ) (text : List ℕ) (old new : List (Option ArcTail)) (value : Option ℤ) (taken : ℕ) : Type 0 where
   pub code : Code
-  pub spelt : code_of (first_cell text) ≡ Some code
+  pub formed : code_of (first_cell text) ≡ Some code
   pub given : value_at_place before place code ≡ Ok value
   pub left : new ≡ slice_set old place (arc_of_code code (slice_index_or before place None))
   pub after : drop taken text ≡ after_cell text
@@ -59,11 +62,13 @@ pub record IsCellRead (before : List (Option ArcTail)) (place : ℕ) (text : Lis
 
 -- the arcs that codes leave
 abbrev pub arcs_of_codes : List (Option ArcTail) → List Code → List (Option ArcTail)
-arcs_of_codes before codes = each_place (length codes) (λ place. arc_of_code (slice_index_or codes place Missing) (slice_index_or before place None))
+arcs_of_codes before codes = each_place
+    (length codes) (λ place. arc_of_code (slice_index_or codes place Missing) (slice_index_or before place None))
 
--- the cells of a line for so many types: their values in place of those of the row, the arcs that they leave, and where the marks
--- begin
-pub record AreRead (before : List (Option ArcTail)) (count : ℕ) (line : List ℕ) (arcs : List (Option ArcTail)) (old new : Row) (at : ℕ) : Type 0 where
+-- the cells of a line for so many types: their values in place of those of the row, the arcs that they leave, and where
+-- the marks begin
+pub record CellsAreRead (before : List (Option ArcTail))
+    (count : ℕ) (line : List ℕ) (arcs : List (Option ArcTail)) (old new : Row) (at : ℕ) : Type 0 where
   pub cells : List ReadCell
   pub good : cells_read (value_at_place before) (cells_of count line) ≡ Ok cells
   pub marks : after_cells count line ≡ drop at line

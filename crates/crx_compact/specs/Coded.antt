@@ -1,6 +1,6 @@
--- An epoch and the compact lines of it that are still to be lent.
+-- An epoch and the compact lines of it that are pending.
 use Rattle.std.specs.Prelude.{ℕ, List}
-use Rattle.crx_rinex.specs.Observations.{Epoch}
+use Rattle.crx_rinex.specs.meaning.Observations.{Epoch}
 
 pub record CodedEpoch : Type 0 where
   pub epoch : Epoch

@@ -2,11 +2,11 @@
 use Rattle.std.specs.Prelude.{◌≡◌, ℕ, ◌≤◌, ◌+◌, ◌++◌, ◌∷◌, length, map, take, List, [], Option, None, Some, Result, Ok}
 use Rattle.crx_text.specs.Texts.{patched}
 use Rattle.crx_lines.specs.declared.fault.Fault.{Fault}
-use Rattle.crx_rinex.specs.Observations.{Row}
-use Rattle.crx_compact.specs.Sequences.{and_then}
-use Rattle.crx_compact.specs.EpochText.{Satellite}
-use Rattle.crx_compact.specs.Past.{Past}
-use Rattle.crx_compact.specs.CompactPlaces.{ReadRow, satellite_line_read}
+use Rattle.crx_rinex.specs.meaning.Observations.{Row}
+use Rattle.crx_compact.specs.meaning.Sequences.{and_then}
+use Rattle.crx_compact.specs.meaning.EpochText.{Satellite}
+use Rattle.crx_compact.specs.meaning.Past.{Past}
+use Rattle.crx_compact.specs.meaning.CompactPlaces.{ReadRow, satellite_line_read}
 use Rattle.crx_compact.specs.Tails.{ArcTail, RowTail, Tail}
 use Rattle.crx_compact.specs.Steps.{flags_of_tail, flags_held}
 use Rattle.crx_compact.specs.OpenEpochs.{HeldRow, held_row, past_of_tail}
@@ -32,7 +32,11 @@ abbrev pub held_from : List (Option ArcTail) → List ℕ → ReadRow → HeldRo
 held_from arcs flags read =
     record {
       row = read.row;
-      tail = record { name = read.raw.name; flags = flags_held (length read.raw.codes) (patched flags read.raw.marks); cells = arcs_of_codes arcs read.raw.codes };
+      tail = record {
+        name = read.raw.name;
+        flags = flags_held (length read.raw.codes) (patched flags read.raw.marks);
+        cells = arcs_of_codes arcs read.raw.codes;
+      };
     }
 
 -- what a satellite's line makes after its arcs and indicators, or its first fault
@@ -46,10 +50,12 @@ row_held kept satellite line = row_held_from (arcs_of_tail kept) (flags_of_tail 
 
 -- the same after what was kept of the whole epoch before
 abbrev pub row_after : Tail → Satellite → List ℕ → Result HeldRow Fault
-row_after tail satellite line = and_then (satellite_line_read (past_of_tail tail) satellite line) (λ read. Ok (held_row tail read))
+row_after tail satellite line =
+    and_then (satellite_line_read (past_of_tail tail) satellite line) (λ read. Ok (held_row tail read))
 
 -- a row that was read after the epoch before: what it leaves stands after what the so many rows before it left
-pub record IsNextRow (before : Tail) (satellite : Satellite) (line : List ℕ) (index : ℕ) (row : Row) (old new : Tail) : Type 0 where
+pub record IsNextRow (before : Tail)
+    (satellite : Satellite) (line : List ℕ) (index : ℕ) (row : Row) (old new : Tail) : Type 0 where
   pub left : RowTail
   pub read : row_after before satellite line ≡ Ok (record { row = row; tail = left })
   pub rows : take (index + 1) new.rows ≡ take index old.rows ++ left ∷ []
@@ -58,4 +64,5 @@ pub record IsNextRow (before : Tail) (satellite : Satellite) (line : List ℕ) (
 
 -- so many of the first satellites have the identifiers that stand at their places
 abbrev pub AreNamed : ℕ → List (List ℕ) → List RowTail → Type 0
-AreNamed count names rows = (count ≤ length rows) × (count ≤ length names) × (take count names ≡ map (λ (row : RowTail). row.name) (take count rows))
+AreNamed count names rows = (count ≤ length rows)
+    × (count ≤ length names) × (take count names ≡ map (λ (row : RowTail). row.name) (take count rows))

@@ -1,23 +1,28 @@
 -- What the laws of this crate say of arcs, texts and the epochs that are written, where it is long.
-use Rattle.std.specs.Prelude.{◌≡◌, ◌≢◌, ℕ, ℤ, ◌*◌, ◌≤◌, Bool, true, List, [], ◌∷◌, length, Option, Some, None, All, if◌then◌else◌, false, ◌||◌, drop}
+use Rattle.std.specs.Prelude.{◌≡◌, ◌≢◌, ℕ, ℤ, ◌*◌, ◌≤◌, Bool, true, List, [], ◌∷◌, length, Option, Some, None, All}
+use Rattle.std.specs.Prelude.{if◌then◌else◌, false, ◌||◌, drop}
 use Rattle.std.specs.List.{list_all, AllByRecursion}
 use Rattle.std.specs.Option.{option_map}
-use Rattle.crx_text.specs.Columns.{without_end_blanks}
-use Rattle.crx_text.specs.Texts.{text_difference, patched, is_printable}
+use Rattle.crx_text.specs.meaning.Columns.{without_end_blanks}
+use Rattle.crx_text.specs.meaning.Texts.{text_difference, is_printable}
+use Rattle.crx_text.specs.Texts.{patched}
 use Rattle.crx_text.specs.Codes.{IsPrintable}
-use Rattle.crx_rinex.specs.Observations.{Epoch}
-use Rattle.crx_rinex.specs.ObservationTypes.{Count}
+use Rattle.crx_rinex.specs.meaning.Observations.{Epoch}
+use Rattle.crx_rinex.specs.meaning.ObservationTypes.{Count}
 use Rattle.crx_text.specs.declared.code.Code.{Code}
 use Rattle.crx_lines.specs.declared.limits.TheConstants.{WRITTEN_ORDER, TYPES_LIMIT}
-use Rattle.crx_rinex.specs.Epochs.{IsWholeEpoch}
-use Rattle.crx_compact.specs.Differences.{code_at, value_at}
-use Rattle.crx_compact.specs.Compaction.{Marked, since_full, run_of, arc_of, clock_arc, compact_epoch, epoch_line}
-use Rattle.crx_compact.specs.Expansion.{Started, since_start, value_of}
-use Rattle.crx_compact.specs.Tails.{ArcTail, Tail, arc_tail, differences_of, values_of, tail_of, started_tail, IsBoundedTail}
-use Rattle.crx_compact.specs.Steps.{code_after, arc_after, arc_after_number, value_of_tail, no_tail, lines_after, tail_after, code_of_value, arc_of_value, value_of_code, arc_of_code}
+use Rattle.crx_rinex.specs.meaning.Epochs.{IsWholeEpoch}
+use Rattle.crx_compact.specs.meaning.Differences.{code_at, value_at}
+use Rattle.crx_compact.specs.meaning.Compaction.{Marked, since_full, run_of, arc_of, clock_arc, compact_epoch}
+use Rattle.crx_compact.specs.meaning.Compaction.{epoch_line}
+use Rattle.crx_compact.specs.meaning.Expansion.{Started, since_start, value_of}
+use Rattle.crx_compact.specs.Tails.{ArcTail, Tail, arc_tail, differences_of, values_of, tail_of, started_tail}
+use Rattle.crx_compact.specs.Tails.{IsBoundedTail}
+use Rattle.crx_compact.specs.Steps.{code_after, arc_after, arc_after_number, value_of_tail, no_tail, lines_after_tail}
+use Rattle.crx_compact.specs.Steps.{tail_after, code_of_value, arc_of_value, value_of_code, arc_of_code}
 use Rattle.std.specs.Result.{is_ok}
-use Rattle.crx_compact.specs.Sequences.{stretch}
-use Rattle.crx_rinex.specs.EpochLines.{begins_epoch, is_event_line}
+use Rattle.crx_compact.specs.meaning.Sequences.{stretch}
+use Rattle.crx_rinex.specs.meaning.EpochLines.{begins_epoch, is_event_line}
 
 -- the codes of an arc's values, newest first, each by the values up to it
 abbrev pub codes_of_arc : ℕ → List ℤ → List Code
@@ -39,7 +44,8 @@ patched_in_turn (marks ∷ older) = patched (patched_in_turn older) marks
 
 -- what a difference marks comes back by a patch, but for the blanks at its end, where the new text holds no &
 abbrev pub PatchesBack : Type 0
-PatchesBack = (old new : List ℕ) → All (λ c. c ≢ 38) new → patched old (text_difference old new) ≡ without_end_blanks new
+PatchesBack = (old new : List ℕ)
+    → All (λ c. c ≢ 38) new → patched old (text_difference old new) ≡ without_end_blanks new
 
 -- the tail of an arc after its next value, and that value's code, by the tail before it
 pub record CodesByTail (order : ℕ) (value : ℤ) (older : List ℤ) : Type 0 where
@@ -52,8 +58,10 @@ tail_of_numbers order numbers = record { order = order; differences = difference
 
 -- the tail of an arc after a next difference, and the value there, by the tail before it
 pub record ValuesByTail (order : ℕ) (number before : ℤ) (older : List ℤ) : Type 0 where
-  pub value : value_at order (number ∷ before ∷ older) ≡ value_of_tail (arc_after_number number (tail_of_numbers order (before ∷ older)))
-  pub tail : tail_of_numbers order (number ∷ before ∷ older) ≡ arc_after_number number (tail_of_numbers order (before ∷ older))
+  pub value : value_at order (number ∷ before ∷ older)
+      ≡ value_of_tail (arc_after_number number (tail_of_numbers order (before ∷ older)))
+  pub tail : tail_of_numbers order (number ∷ before ∷ older)
+      ≡ arc_after_number number (tail_of_numbers order (before ∷ older))
 
 -- ---- every list of values, every list of codes
 
@@ -62,14 +70,14 @@ abbrev pub arc_of_values : List (Option ℤ) → Option ArcTail
 arc_of_values [] = None
 arc_of_values (value ∷ older) = arc_of_value value (arc_of_values older)
 
--- after every list of values an arc is that of their latest stretch without a missing one, and the code of one value more is
--- that stretch's with it
+-- after every list of values an arc is that of their latest stretch without a missing one, and the code of one value
+-- more is that stretch's with it
 pub record CodesOfValues (value : Option ℤ) (older : List (Option ℤ)) : Type 0 where
   pub tail : arc_of_values older ≡ arc_tail WRITTEN_ORDER (stretch older)
   pub code : code_of_value value (arc_of_values older) ≡ code_at WRITTEN_ORDER (stretch (value ∷ older))
 
--- the codes that are accepted one after another, newest first: one without an arc, or whose value doesn't fit its columns, is
--- refused, and those after it go on without it
+-- the codes that are accepted one after another, newest first: one without an arc, or whose value doesn't fit its
+-- columns, is refused, and those after it go on without it
 abbrev pub accepted : ℕ → List Code → List Code
 accepted width [] = []
 accepted width (code ∷ older) =
@@ -82,8 +90,8 @@ arc_of_codes width (code ∷ older) =
     if is_ok (value_of_code width code (arc_of_codes width older)) then arc_of_code code (arc_of_codes width older)
     else arc_of_codes width older
 
--- after every list of codes an arc is that of the accepted ones since their latest start, and one code more gives the value,
--- or the fault, that it has after the accepted ones
+-- after every list of codes an arc is that of the accepted ones since their latest start, and one code more gives the
+-- value, or the fault, that it has after the accepted ones
 pub record ValuesOfCodes (width : ℕ) (code : Code) (older : List Code) : Type 0 where
   pub tail : arc_of_codes width older ≡ started_tail (since_start (accepted width older))
   pub value : value_of_code width code (arc_of_codes width older) ≡ value_of width (code ∷ accepted width older)
@@ -94,8 +102,8 @@ pub record ValuesOfCodes (width : ℕ) (code : Code) (older : List Code) : Type 
 abbrev pub AreWhole : List Count → List Epoch → Type 0
 AreWhole types epochs = AllByRecursion (IsWholeEpoch types) epochs
 
--- each of the compact lines of an epoch has at most the bytes of so many codes of 15 characters, each with a blank and two
--- indicators, where the epochs since the latest full one are whole
+-- each of the compact lines of an epoch has at most the bytes of so many codes of 15 characters, each with a blank and
+-- two indicators, where the epochs since the latest full one are whole
 abbrev pub AreShort : Type 0
 AreShort =
     (types : List Count) (m : Marked) (older : List Marked) → AreWhole types (since_full (m ∷ older))
@@ -107,7 +115,7 @@ tail_before m older = if m.in_full then no_tail else tail_of older
 
 -- the tail decides the next epoch's compact lines, and the next tail
 pub record EpochByTail (m : Marked) (older : List Marked) : Type 0 where
-  pub lines : compact_epoch (m ∷ older) ≡ lines_after (tail_before m older) m.epoch
+  pub lines : compact_epoch (m ∷ older) ≡ lines_after_tail (tail_before m older) m.epoch
   pub tail : tail_of (m ∷ older) ≡ tail_after (tail_before m older) m.epoch
 
 -- the codes of the newest epoch can be written: their order and digits are within the limits
@@ -121,7 +129,8 @@ ArePrintable =
 
 -- what is left of whole epochs is within the limits
 abbrev pub WrittenAreBounded : Type 0
-WrittenAreBounded = (types : List Count) (m : Marked) (older : List Marked) → AreWhole types (since_full (m ∷ older)) → IsBoundedTail WRITTEN_ORDER (tail_of (m ∷ older))
+WrittenAreBounded = (types : List Count) (m : Marked) (older : List Marked)
+    → AreWhole types (since_full (m ∷ older)) → IsBoundedTail WRITTEN_ORDER (tail_of (m ∷ older))
 
 -- ---- the lines of a file
 
@@ -129,8 +138,8 @@ abbrev pub has_no_epochs : List Marked → Bool
 has_no_epochs [] = true
 has_no_epochs (m ∷ older) = false
 
--- the compact lines of an epoch can stand in a file: their characters are 32 to 126; none is an event's first line; and the
--- first one begins with > where the epoch stands in full, or first, and no other line does
+-- the compact lines of an epoch can stand in a file: their characters are 32 to 126; none is an event's first line; and
+-- the first one begins with > where the epoch stands in full, or first, and no other line does
 pub record LinesCanStand (m : Marked) (older : List Marked) : Type 0 where
   pub printable : AllByRecursion (λ (line : List ℕ). list_all is_printable line ≡ true) (compact_epoch (m ∷ older))
   pub no_event : AllByRecursion (λ (line : List ℕ). is_event_line line ≡ false) (compact_epoch (m ∷ older))
@@ -139,4 +148,5 @@ pub record LinesCanStand (m : Marked) (older : List Marked) : Type 0 where
 
 abbrev pub AllLinesCanStand : Type 0
 AllLinesCanStand =
-    (types : List Count) (m : Marked) (older : List Marked) → AreWhole types (since_full (m ∷ older)) → LinesCanStand m older
+    (types : List Count) (m : Marked) (older : List Marked)
+    → AreWhole types (since_full (m ∷ older)) → LinesCanStand m older

@@ -1,10 +1,5 @@
-pub mod Sequences
-pub mod Differences
-pub mod Compaction
-pub mod EpochText
+pub mod meaning
 pub mod Expansion
-pub mod Past
-pub mod CompactPlaces
 pub mod Tails
 pub mod Steps
 pub mod OpenEpochs
@@ -17,4 +12,4 @@ pub mod ReadingLaws
 pub mod HeldRows
 pub mod OpenLines
 pub mod ReadBlocks
-pub mod LentLines
+pub mod BorrowedLines

@@ -1,22 +1,28 @@
--- Compact text read line by line, by the tail alone: what is held between two lines, and what one line more makes of it.
-use Rattle.std.specs.Prelude.{◌≡◌, ◌≤◌, ◌+◌, ◌*◌, ⊤, length, IfSome, ℕ, suc, ℤ, Bool, true, false, List, [], ◌∷◌, ◌++◌, map, Option, Some, None, Result, Ok, Err, if◌then◌else◌, is_some, unwrap_or}
+-- Compact text read line by line, by the tail alone: what is held between two lines, and what one line more makes of
+-- it.
+use Rattle.std.specs.Prelude.{◌≡◌, ◌≤◌, ◌+◌, ◌*◌, ⊤, length, IfSome, ℕ, suc, ℤ, Bool, true, false, List, [], ◌∷◌, ◌++◌}
+use Rattle.std.specs.Prelude.{map, Option, Some, None, Result, Ok, Err, if◌then◌else◌, is_some, unwrap_or}
 use Rattle.std.specs.List.{AllByRecursion}
 use Rattle.std.specs.Option.{option_map}
-use Rattle.crx_text.specs.Columns.{columns}
+use Rattle.crx_text.specs.meaning.Columns.{columns}
 use Rattle.crx_text.specs.Texts.{patched}
-use Rattle.crx_lines.specs.Seen.{ReadLine, Content, Overlong}
-use Rattle.crx_lines.specs.declared.limits.TheConstants.{OBSERVATION_WIDTH, CLOCK_WIDTH, HEAD_WIDTH, NAME_WIDTH, ORDER_LIMIT, TYPES_LIMIT, SATELLITES_LIMIT}
+use Rattle.crx_lines.specs.meaning.Seen.{ReadLine, Content, Overlong}
+use Rattle.crx_lines.specs.declared.limits.TheConstants.{OBSERVATION_WIDTH, CLOCK_WIDTH, HEAD_WIDTH, NAME_WIDTH}
+use Rattle.crx_lines.specs.declared.limits.TheConstants.{ORDER_LIMIT, TYPES_LIMIT, SATELLITES_LIMIT}
 use Rattle.crx_lines.specs.declared.fault.Fault.{Fault}
 use Rattle.crx_lines.specs.declared.fault.Fault.TheVariants.{LineTooLong, NotAnEpoch}
-use Rattle.crx_rinex.specs.Observations.{Row, Epoch}
-use Rattle.crx_rinex.specs.ObservationTypes.{Count}
-use Rattle.crx_rinex.specs.Places.{Place, Here, Wrong, Wanted}
-use Rattle.crx_compact.specs.Sequences.{and_then}
-use Rattle.crx_compact.specs.EpochText.{begins_epoch, Satellite}
-use Rattle.crx_compact.specs.Past.{Past}
-use Rattle.crx_compact.specs.CompactPlaces.{ReadCell, ReadRow, ReadEpoch, satellites_of_line, clock_line_read, satellite_line_read, epoch_against}
+use Rattle.crx_rinex.specs.meaning.Observations.{Row, Epoch}
+use Rattle.crx_rinex.specs.meaning.ObservationTypes.{Count}
+use Rattle.crx_rinex.specs.meaning.Places.{Place, Here, Wrong, Wanted}
+use Rattle.crx_compact.specs.meaning.Sequences.{and_then}
+use Rattle.crx_rinex.specs.meaning.EpochLines.{begins_epoch}
+use Rattle.crx_compact.specs.meaning.EpochText.{Satellite}
+use Rattle.crx_compact.specs.meaning.Past.{Past}
+use Rattle.crx_compact.specs.meaning.CompactPlaces.{ReadCell, ReadRow, ReadEpoch, satellites_of_line, clock_line_read}
+use Rattle.crx_compact.specs.meaning.CompactPlaces.{satellite_line_read, epoch_against}
 use Rattle.crx_compact.specs.Tails.{ArcTail, RowTail, Tail, IsBoundedArc, IsBoundedRowTail, IsBoundedTail}
-use Rattle.crx_compact.specs.Steps.{no_tail, tail_named, cell_of_tail, flags_of_tail, value_of_code, arc_of_code, raw_row_tail_after, raw_tail_after}
+use Rattle.crx_compact.specs.Steps.{no_tail, tail_named, cell_of_tail, flags_of_tail, value_of_code, arc_of_code}
+use Rattle.crx_compact.specs.Steps.{raw_row_tail_after, raw_tail_after}
 
 -- ---- what a tail gives to the lines of the next epoch
 
@@ -54,8 +60,8 @@ pub record HeldEpoch : Type 0 where
   pub epoch : Epoch
   pub tail : Tail
 
--- an epoch whose epoch line has come, but not all its lines: the tail that they are read after, the epoch's text, the clock
--- once its line has come, the rows so far, and the satellites whose lines are awaited
+-- an epoch whose epoch line has come, but not all its lines: the tail that they are read after, the epoch's text, the
+-- clock once its line has come, the rows so far, and the satellites whose lines are awaited
 pub record OpenRawEpoch : Type 0 where
   pub before : Tail
   pub text : List ℕ
@@ -71,9 +77,9 @@ pub data RawStep : Type 0 where
 
 -- ---- the epoch line
 
-abbrev pub opened : List Count → List ℕ → Option Tail → Result OpenRawEpoch Fault
-opened types line None = Err NotAnEpoch
-opened types line (Some before) =
+abbrev pub opened_raw : List Count → List ℕ → Option Tail → Result OpenRawEpoch Fault
+opened_raw types line None = Err NotAnEpoch
+opened_raw types line (Some before) =
     and_then (satellites_of_line types (past_of_tail before) line) (λ satellites.
     Ok (record { before = before; text = patched before.text line; clock = None; rows = []; awaited = satellites }))
 
@@ -84,21 +90,26 @@ opening (Err fault) = Faulty fault
 -- what an epoch line makes, by the tail that is held, or nothing
 abbrev pub first_step : List Count → Option Tail → ReadLine → RawStep
 first_step types tail Overlong = Faulty LineTooLong
-first_step types tail (Content line) = opening (opened types line (tail_for_line tail line))
+first_step types tail (Content line) = opening (opened_raw types line (tail_for_line tail line))
 
 -- ---- the clock line and the satellite lines
 
 abbrev pub whole_epoch : OpenRawEpoch → HeldClock → List HeldRow → HeldEpoch
 whole_epoch begun clock rows =
     record {
-      epoch = record { head = columns begun.text 1 HEAD_WIDTH; clock = clock.value; rows = map (λ (r : HeldRow). r.row) rows };
+      epoch = record {
+        head = columns begun.text 1 HEAD_WIDTH;
+        clock = clock.value;
+        rows = map (λ (r : HeldRow). r.row) rows;
+      };
       tail = record { text = begun.text; clock = clock.arc; rows = map (λ (r : HeldRow). r.tail) rows };
     }
 
 -- an epoch with the clock and some rows: whole where no satellite is awaited
-abbrev pub gone_on : OpenRawEpoch → HeldClock → List HeldRow → List Satellite → RawStep
-gone_on begun clock rows [] = Whole (whole_epoch begun clock rows)
-gone_on begun clock rows (satellite ∷ awaited) = Going (record begun { clock = Some clock; rows = rows; awaited = satellite ∷ awaited })
+abbrev pub whole_or_awaiting : OpenRawEpoch → HeldClock → List HeldRow → List Satellite → RawStep
+whole_or_awaiting begun clock rows [] = Whole (whole_epoch begun clock rows)
+whole_or_awaiting begun clock rows (satellite ∷ awaited) =
+    Going (record begun { clock = Some clock; rows = rows; awaited = satellite ∷ awaited })
 
 abbrev pub held_clock : Tail → ReadCell → HeldClock
 held_clock before cell = record { value = cell.value; arc = arc_of_code cell.code before.clock }
@@ -106,20 +117,21 @@ held_clock before cell = record { value = cell.value; arc = arc_of_code cell.cod
 abbrev pub held_row : Tail → ReadRow → HeldRow
 held_row before read = record { row = read.row; tail = raw_row_tail_after (tail_named read.raw.name before) read.raw }
 
-abbrev pub with_clock : OpenRawEpoch → Result ReadCell Fault → RawStep
-with_clock begun (Err fault) = Faulty fault
-with_clock begun (Ok cell) = gone_on begun (held_clock begun.before cell) begun.rows begun.awaited
+abbrev pub raw_step_with_clock : OpenRawEpoch → Result ReadCell Fault → RawStep
+raw_step_with_clock begun (Err fault) = Faulty fault
+raw_step_with_clock begun (Ok cell) = whole_or_awaiting begun (held_clock begun.before cell) begun.rows begun.awaited
 
-abbrev pub with_row : OpenRawEpoch → HeldClock → List Satellite → Result ReadRow Fault → RawStep
-with_row begun clock awaited (Err fault) = Faulty fault
-with_row begun clock awaited (Ok read) = gone_on begun clock (begun.rows ++ held_row begun.before read ∷ []) awaited
+abbrev pub raw_step_with_row : OpenRawEpoch → HeldClock → List Satellite → Result ReadRow Fault → RawStep
+raw_step_with_row begun clock awaited (Err fault) = Faulty fault
+raw_step_with_row begun clock awaited (Ok read) =
+    whole_or_awaiting begun clock (begun.rows ++ held_row begun.before read ∷ []) awaited
 
 -- the clock line first, then one line for each awaited satellite; where none is awaited, the epoch is whole
 abbrev pub line_step : OpenRawEpoch → Option HeldClock → List Satellite → List ℕ → RawStep
-line_step begun None awaited line = with_clock begun (clock_line_read (past_of_tail begun.before) line)
+line_step begun None awaited line = raw_step_with_clock begun (clock_line_read (past_of_tail begun.before) line)
 line_step begun (Some clock) [] line = Whole (whole_epoch begun clock begun.rows)
 line_step begun (Some clock) (satellite ∷ awaited) line =
-    with_row begun clock awaited (satellite_line_read (past_of_tail begun.before) satellite line)
+    raw_step_with_row begun clock awaited (satellite_line_read (past_of_tail begun.before) satellite line)
 
 -- what one line more makes of an open epoch
 abbrev pub next_step : OpenRawEpoch → ReadLine → RawStep
@@ -157,16 +169,16 @@ place_by_steps types tail [] = Wanted
 place_by_steps types tail (line ∷ lines) = place_of_steps 0 (first_step types tail line) lines
 
 -- the open epoch that some lines make after a step, where they want more
-abbrev pub open_after : RawStep → List ReadLine → Option OpenRawEpoch
-open_after (Going begun) [] = Some begun
-open_after (Going begun) (line ∷ lines) = open_after (next_step begun line) lines
-open_after (Whole held) lines = None
-open_after (Faulty fault) lines = None
+abbrev pub open_raw_after : RawStep → List ReadLine → Option OpenRawEpoch
+open_raw_after (Going begun) [] = Some begun
+open_raw_after (Going begun) (line ∷ lines) = open_raw_after (next_step begun line) lines
+open_raw_after (Whole held) lines = None
+open_raw_after (Faulty fault) lines = None
 
 -- the open epoch that some lines make, where they want more
-abbrev pub open_with : List Count → Option Tail → List ReadLine → Option OpenRawEpoch
-open_with types tail [] = None
-open_with types tail (line ∷ lines) = open_after (first_step types tail line) lines
+abbrev pub open_raw_with : List Count → Option Tail → List ReadLine → Option OpenRawEpoch
+open_raw_with types tail [] = None
+open_raw_with types tail (line ∷ lines) = open_raw_after (first_step types tail line) lines
 
 -- ---- what a reader of compact epochs is seen as
 
@@ -203,7 +215,8 @@ step_in (Idle tail) line = Faulty NotAnEpoch
 -- what was made of a line: an epoch that wants more lines, or a whole one, which is given out
 abbrev pub HasMade : RawStep → ColumnsState → Option Epoch → Type 0
 HasMade step after None = (begun : OpenRawEpoch) × (step ≡ Going begun) × (after ≡ Reading begun)
-HasMade step after (Some epoch) = (held : HeldEpoch) × (step ≡ Whole held) × (epoch ≡ held.epoch) × (after ≡ Idle (Some held.tail))
+HasMade step after (Some epoch) = (held : HeldEpoch)
+    × (step ≡ Whole held) × (epoch ≡ held.epoch) × (after ≡ Idle (Some held.tail))
 
 -- ---- bounds
 
@@ -219,8 +232,8 @@ pub record IsBoundedAwaited (satellite : Satellite) : Type 0 where
   pub name : length satellite.name ≡ NAME_WIDTH
   pub count : satellite.count ≤ TYPES_LIMIT
 
--- an open epoch within the limits: the tail that its lines are read after, its text, the clock's arc, and at most so many satellites
--- as an epoch may have, those whose lines are awaited among them
+-- an open epoch within the limits: the tail that its lines are read after, its text, the clock's arc, and at most so
+-- many satellites as an epoch may have, those whose lines are awaited among them
 pub record IsBoundedOpen (begun : OpenRawEpoch) : Type 0 where
   pub before : IsBoundedTail ORDER_LIMIT begun.before
   pub text : length begun.text ≤ HEAD_WIDTH + NAME_WIDTH * SATELLITES_LIMIT

@@ -1,16 +1,17 @@
 -- What the lines of an epoch that are read so far have given, and how they are kept.
-use Rattle.std.specs.Prelude.{◌≡◌, ℕ, ◌≤◌, List, [], ◌∷◌, length, map, take, drop, true, Option, Some, None, ⊤}
-use Rattle.crx_text.specs.Columns.{columns}
+use Rattle.std.specs.Prelude.{◌≡◌, ℕ, ◌≤◌, List, [], ◌∷◌, length, map, take, drop, true, Option, Some, None, ⊤, Ok}
+use Rattle.crx_text.specs.meaning.Columns.{columns}
 use Rattle.crx_lines.specs.declared.limits.TheConstants.{HEAD_WIDTH}
 use Rattle.crx_lines.specs.declared.fault.Fault.TheVariants.{NotAnEpoch}
-use Rattle.crx_rinex.specs.Observations.{Row, Epoch}
-use Rattle.crx_compact.specs.EpochText.{Satellite, epoch_count}
+use Rattle.crx_rinex.specs.meaning.Observations.{Row, Epoch}
+use Rattle.crx_compact.specs.meaning.EpochText.{Satellite}
+use Rattle.crx_rinex.specs.meaning.EpochLines.{epoch_count}
 use Rattle.crx_compact.specs.Tails.{RowTail, Tail}
-use Rattle.crx_compact.specs.OpenEpochs.{HeldClock, HeldRow, OpenRawEpoch, RawStep, Going, Faulty, gone_on, line_step, ColumnsState, Idle, Reading}
-use Rattle.std.specs.Prelude.{Ok}
-use Rattle.crx_rinex.specs.Epochs.{are_apart, with_row}
-use Rattle.crx_compact.specs.CompactPlaces.{ReadCell, clock_line_read}
-use Rattle.crx_compact.specs.OpenEpochs.{past_of_tail}
+use Rattle.crx_compact.specs.OpenEpochs.{HeldClock, HeldRow, OpenRawEpoch, RawStep, Going, Faulty, whole_or_awaiting}
+use Rattle.crx_compact.specs.OpenEpochs.{line_step, ColumnsState, Idle, Reading, past_of_tail}
+use Rattle.crx_rinex.specs.meaning.Epochs.{are_apart}
+use Rattle.crx_rinex.specs.Epochs.{with_row}
+use Rattle.crx_compact.specs.meaning.CompactPlaces.{ReadCell, clock_line_read}
 use Rattle.crx_compact.specs.Steps.{arc_of_code}
 use Rattle.crx_compact.specs.HeldRows.{IsNextRow}
 use Rattle.crx_compact.specs.declared.incoming.Stage.{Stage}
@@ -24,7 +25,13 @@ pub record OpenLines : Type 0 where
   pub awaited : List Satellite
 
 abbrev pub open_raw : Tail → OpenLines → OpenRawEpoch
-open_raw before lines = record { before = before; text = lines.text; clock = lines.clock; rows = lines.rows; awaited = lines.awaited }
+open_raw before lines = record {
+  before = before;
+  text = lines.text;
+  clock = lines.clock;
+  rows = lines.rows;
+  awaited = lines.awaited;
+}
 
 -- rows with what is left of their satellites
 abbrev pub held_rows : List Row → List RowTail → List HeldRow
@@ -32,11 +39,13 @@ held_rows [] tails = []
 held_rows (row ∷ rows) [] = []
 held_rows (row ∷ rows) (tail ∷ tails) = record { row = row; tail = tail } ∷ held_rows rows tails
 
--- ---- how they are kept: how far the lines have come, what is left of them, how many rows have come, and all satellites
+-- ---- how they are kept: how far the lines have come, what is left of them, how many rows have come, and all
+-- satellites
 
 abbrev pub lines_so_far : Stage → Tail → ℕ → List Satellite → Option OpenLines
 lines_so_far Unbegun next count satellites = None
-lines_so_far Clock next count satellites = Some (record { text = next.text; clock = None; rows = []; awaited = satellites })
+lines_so_far Clock next count satellites =
+    Some (record { text = next.text; clock = None; rows = []; awaited = satellites })
 lines_so_far (Rows epoch) next count satellites =
     Some (record {
       text = next.text;
@@ -50,8 +59,8 @@ pub record AreAnnounced (text : List ℕ) (satellites : List Satellite) : Type 0
   pub counted : epoch_count (columns text 1 HEAD_WIDTH) ≡ Some (length satellites)
   pub apart : are_apart (λ (s : Satellite). s.name) satellites ≡ true
 
--- the epoch of the rows so far: it has the columns of the text, which announce the satellites, and the rows of the first so many
--- of these
+-- the epoch of the rows so far: it has the columns of the text, which announce the satellites, and the rows of the
+-- first so many of these
 pub record AreRowsSoFar (epoch : Epoch) (next : Tail) (count : ℕ) (satellites : List Satellite) : Type 0 where
   pub head : epoch.head ≡ columns next.text 1 HEAD_WIDTH
   pub announced : AreAnnounced next.text satellites
@@ -74,7 +83,7 @@ step_after before (Some lines) line = line_step (open_raw before lines) lines.cl
 
 abbrev pub made_with : Tail → OpenLines → Option HeldClock → RawStep
 made_with before lines None = Going (open_raw before lines)
-made_with before lines (Some clock) = gone_on (open_raw before lines) clock lines.rows lines.awaited
+made_with before lines (Some clock) = whole_or_awaiting (open_raw before lines) clock lines.rows lines.awaited
 
 -- what the lines so far have made: a whole epoch where the clock has come and no satellite is awaited
 abbrev pub made_of : Tail → Option OpenLines → RawStep
@@ -86,8 +95,8 @@ abbrev pub columns_state : Option Tail → Tail → Option OpenLines → Columns
 columns_state tail before None = Idle tail
 columns_state tail before (Some lines) = Reading (open_raw before lines)
 
--- the clock line read after a tail: the epoch that it begins has the columns of the text and the clock's value, and what is left
--- of the clock is kept
+-- the clock line read after a tail: the epoch that it begins has the columns of the text and the clock's value, and
+-- what is left of the clock is kept
 pub record HasClock (before : Tail) (line : List ℕ) (old new : Tail) (epoch : Epoch) : Type 0 where
   pub cell : ReadCell
   pub read : clock_line_read (past_of_tail before) line ≡ Ok cell
@@ -95,7 +104,8 @@ pub record HasClock (before : Tail) (line : List ℕ) (old new : Tail) (epoch : 
   pub begun : epoch ≡ record { head = columns old.text 1 HEAD_WIDTH; clock = cell.value; rows = [] }
 
 -- a satellite line read after a tail: its row stands after the others
-pub record IsRowAfter (before : Tail) (satellite : Satellite) (line : List ℕ) (count : ℕ) (epoch after : Epoch) (old new : Tail) : Type 0 where
+pub record IsRowAfter (before : Tail)
+    (satellite : Satellite) (line : List ℕ) (count : ℕ) (epoch after : Epoch) (old new : Tail) : Type 0 where
   pub row : Row
   pub next : IsNextRow before satellite line count row old new
   pub with : after ≡ with_row epoch row

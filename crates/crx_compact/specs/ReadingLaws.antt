@@ -1,22 +1,27 @@
 -- What the laws of this crate say of reading compact text, where it is long.
-use Rattle.std.specs.Prelude.{◌≡◌, ℕ, ◌+◌, Bool, true, false, ◌||◌, List, [], ◌∷◌, ◌++◌, map, length, Option, Some, IfSome, Ok, ⊤}
+use Rattle.std.specs.Prelude.{◌≡◌, ℕ, ◌+◌, Bool, true, false, ◌||◌, List, [], ◌∷◌, ◌++◌, map, length, Option, Some}
+use Rattle.std.specs.Prelude.{IfSome, Ok, ⊤}
 use Rattle.std.specs.List.{list_all, AllByRecursion}
 use Rattle.std.specs.Option.{is_some}
-use Rattle.crx_text.specs.Texts.{text_difference}
-use Rattle.crx_lines.specs.Seen.{ReadLine, Content}
-use Rattle.crx_rinex.specs.Observations.{Row}
-use Rattle.crx_rinex.specs.ObservationTypes.{Count, AreCounts}
-use Rattle.crx_rinex.specs.Places.{Place, Here, Wrong, Wanted, then_place}
+use Rattle.crx_text.specs.meaning.Texts.{text_difference, is_printable}
+use Rattle.crx_lines.specs.meaning.Seen.{ReadLine, Content}
+use Rattle.crx_rinex.specs.meaning.Observations.{Row}
+use Rattle.crx_rinex.specs.meaning.ObservationTypes.{Count}
+use Rattle.crx_rinex.specs.ObservationTypes.{AreCounts}
+use Rattle.crx_rinex.specs.meaning.Places.{Place, Here, Wrong, Wanted, then_place}
 use Rattle.crx_lines.specs.declared.limits.TheConstants.{WRITTEN_ORDER, ORDER_LIMIT}
-use Rattle.crx_rinex.specs.Epochs.{IsWholeEpoch}
-use Rattle.crx_compact.specs.Differences.{code_at}
-use Rattle.crx_compact.specs.EpochText.{is_printable}
-use Rattle.crx_compact.specs.Compaction.{Marked, since_full, run_of, clock_arc, codes_of, indicators_before, epoch_line, compact_epoch}
-use Rattle.crx_compact.specs.Expansion.{RawRow, RawEpoch, block_of, raw_row_named, epoch_from}
-use Rattle.crx_compact.specs.CompactPlaces.{ReadEpoch, epoch_at}
+use Rattle.crx_rinex.specs.meaning.Epochs.{IsWholeEpoch}
+use Rattle.crx_compact.specs.meaning.Differences.{code_at}
+use Rattle.crx_compact.specs.meaning.Compaction.{Marked, since_full, run_of, clock_arc, codes_of, indicators_before}
+use Rattle.crx_compact.specs.meaning.Compaction.{epoch_line, compact_epoch}
+use Rattle.crx_compact.specs.meaning.Expansion.{RawRow, RawEpoch, block_of, raw_row_named}
+use Rattle.crx_compact.specs.Expansion.{epoch_from}
+use Rattle.crx_compact.specs.meaning.CompactPlaces.{ReadEpoch, epoch_at}
 use Rattle.crx_compact.specs.Tails.{Tail, IsBoundedTail, tail_of, tail_of_block, tail_left, tail_or_nothing}
 use Rattle.crx_compact.specs.Steps.{raw_tail_after}
-use Rattle.crx_compact.specs.OpenEpochs.{epoch_after, OpenRawEpoch, IsBoundedOpen, IsBoundedStep, first_step, next_step, placed_as, held_after, place_of_step, place_by_steps, open_after, open_with}
+use Rattle.crx_compact.specs.OpenEpochs.{epoch_after, OpenRawEpoch, IsBoundedOpen, IsBoundedStep, first_step, next_step}
+use Rattle.crx_compact.specs.OpenEpochs.{placed_as, held_after, place_of_step, place_by_steps, open_raw_after}
+use Rattle.crx_compact.specs.OpenEpochs.{open_raw_with}
 use Rattle.crx_compact.specs.Laws.{AreWhole}
 
 -- ---- reading what was written
@@ -24,7 +29,11 @@ use Rattle.crx_compact.specs.Laws.{AreWhole}
 -- how the line of a satellite reads: its codes and marks
 abbrev pub raw_row : List Row → Row → RawRow
 raw_row run row =
-    record { name = row.name; codes = codes_of (length row.values) run; marks = text_difference (indicators_before run) row.flags }
+    record {
+      name = row.name;
+      codes = codes_of (length row.values) run;
+      marks = text_difference (indicators_before run) row.flags;
+    }
 
 -- how the compact lines of the newest epoch read
 abbrev pub raw_of : Marked → List Marked → RawEpoch
@@ -47,16 +56,18 @@ read_of m older = record { raw = raw_of m older; epoch = m.epoch }
 abbrev pub lines_of_epoch : List Marked → List ReadLine
 lines_of_epoch epochs = map Content (compact_epoch epochs)
 
--- the compact lines of an epoch read as that epoch, whatever lines follow, and the reader's block is then that of the epochs
--- written so far; where the epochs since the latest full one are whole by the counts of types in force, and the
+-- the compact lines of an epoch read as that epoch, whatever lines follow, and the reader's block is then that of the
+-- epochs written so far; where the epochs since the latest full one are whole by the counts of types in force, and the
 -- reader's block is that of the epochs before. Of an epoch in full the reader's state is left open
 pub record EpochReadsBack (types : List Count) (m : Marked) (older : List Marked) (raws : List RawEpoch) : Type 0 where
-  pub reads : (rest : List ReadLine) → epoch_at types raws (lines_of_epoch (m ∷ older) ++ rest) ≡ Here (read_of m older) (2 + length m.epoch.rows)
+  pub reads : (rest : List ReadLine)
+      → epoch_at types raws (lines_of_epoch (m ∷ older) ++ rest) ≡ Here (read_of m older) (2 + length m.epoch.rows)
   pub block : block_of (raw_of m older ∷ raws) ≡ block_of (raws_of (m ∷ older))
 
 abbrev pub EachReadsBack : Type 0
 EachReadsBack =
-    (types : List Count) (m : Marked) (older : List Marked) (raws : List RawEpoch) → AreWhole types (since_full (m ∷ older))
+    (types : List Count) (m : Marked) (older : List Marked) (raws : List RawEpoch)
+    → AreWhole types (since_full (m ∷ older))
     → (m.in_full ≡ false → block_of raws ≡ block_of (raws_of older)) → EpochReadsBack types m older raws
 
 -- the compact text of some epochs, the oldest one's lines first
@@ -107,8 +118,8 @@ ReadsBack =
 abbrev pub HasSingleLines : RawEpoch → Type 0
 HasSingleLines raw = AllByRecursion (λ (r : RawRow). raw_row_named r.name raw.rows ≡ Some r) raw.rows
 
--- an epoch that was read: no satellite has two lines, it is what its raw epoch stands for after the older ones, and it took
--- its epoch line, its clock line and one line for each satellite
+-- an epoch that was read: no satellite has two lines, it is what its raw epoch stands for after the older ones, and it
+-- took its epoch line, its clock line and one line for each satellite
 pub record IsSound (older : List RawEpoch) (read : ReadEpoch) (count : ℕ) : Type 0 where
   pub single : HasSingleLines read.raw
   pub meant : epoch_from read.raw older ≡ Ok read.epoch
@@ -131,7 +142,8 @@ pub record IsGood (types : List Count) (read : ReadEpoch) : Type 0 where
 abbrev pub ReadsWholeEpochs : Type 0
 ReadsWholeEpochs =
     (types : List Count) (older : List RawEpoch) (lines : List ReadLine) (read : ReadEpoch) (count : ℕ)
-    → AreCounts types → AllByRecursion HasPrintableMarks older → epoch_at types older lines ≡ Here read count → IsGood types read
+    → AreCounts types → AllByRecursion HasPrintableMarks older
+    → epoch_at types older lines ≡ Here read count → IsGood types read
 
 -- each of some epochs is whole, by the counts of types that it was read with
 abbrev pub AreGood : List (List Count) → List ReadEpoch → Type 0
@@ -152,14 +164,15 @@ ReadsWholeLists =
 abbrev pub RawByTail : RawEpoch → List RawEpoch → Type 0
 RawByTail raw block = tail_of_block (raw ∷ block) ≡ raw_tail_after (tail_of_block block) raw
 
--- what is left of the raw epochs before decides what stands at the next lines, faults too, and what an epoch that was read
--- there leaves
+-- what is left of the raw epochs before decides what stands at the next lines, faults too, and what an epoch that was
+-- read there leaves
 pub record TailDecides (types : List Count) (older : List RawEpoch) (lines : List ReadLine) : Type 0 where
   pub place : epoch_at types older lines ≡ epoch_after types (tail_left older) lines
   pub next : (read : ReadEpoch) (count : ℕ) → epoch_at types older lines ≡ Here read count
       → tail_left (read.raw ∷ older) ≡ Some (held_after (tail_left older) read).tail
 
--- a line that begins with > forgets: what stands there doesn't depend on older raw epochs, and its epoch is a block's first
+-- a line that begins with > forgets: what stands there doesn't depend on older raw epochs, and its epoch is a block's
+-- first
 pub record Forgets (types : List Count) (older : List RawEpoch) (line : List ℕ) (lines : List ReadLine) : Type 0 where
   pub place : epoch_at types older (Content line ∷ lines) ≡ epoch_at types [] (Content line ∷ lines)
   pub block : (read : ReadEpoch) (count : ℕ) → epoch_at types older (Content line ∷ lines) ≡ Here read count
@@ -185,34 +198,41 @@ has_no_lines (line ∷ lines) = false
 
 -- what stands at some lines, and what an epoch there leaves, is what the steps make of them line by line
 abbrev pub StepsAgree : List Count → Option Tail → List ReadLine → Type 0
-StepsAgree types tail lines = placed_as (held_after tail) (epoch_after types tail lines) ≡ place_by_steps types tail lines
+StepsAgree types tail lines = placed_as (held_after tail) (epoch_after types tail lines)
+    ≡ place_by_steps types tail lines
 
 -- more lines are wanted exactly where there is no line yet, or the lines so far make an open epoch
 abbrev pub WantedWhereOpen : List Count → Option Tail → List ReadLine → Type 0
-WantedWhereOpen types tail lines = is_wanted (epoch_after types tail lines) ≡ (has_no_lines lines || is_some (open_with types tail lines))
+WantedWhereOpen types tail lines =
+    is_wanted (epoch_after types tail lines) ≡ (has_no_lines lines || is_some (open_raw_with types tail lines))
 
 -- the step from an open epoch is what the place has with one line more
-pub record StepFromOpen (types : List Count) (tail : Option Tail) (lines : List ReadLine) (line : ReadLine) (begun : OpenRawEpoch) : Type 0 where
-  pub place : placed_as (held_after tail) (epoch_after types tail (lines ++ line ∷ [])) ≡ place_of_step (length lines) (next_step begun line)
-  pub open_epoch : open_with types tail (lines ++ line ∷ []) ≡ open_after (next_step begun line) []
+pub record StepFromOpen (types : List Count)
+    (tail : Option Tail) (lines : List ReadLine) (line : ReadLine) (begun : OpenRawEpoch) : Type 0 where
+  pub place : placed_as (held_after tail) (epoch_after types tail (lines ++ line ∷ []))
+      ≡ place_of_step (length lines) (next_step begun line)
+  pub open_epoch : open_raw_with types tail (lines ++ line ∷ []) ≡ open_raw_after (next_step begun line) []
 
 abbrev pub StepsFromOpen : Type 0
 StepsFromOpen =
     (types : List Count) (tail : Option Tail) (lines : List ReadLine) (line : ReadLine) (begun : OpenRawEpoch)
-    → open_with types tail lines ≡ Some begun → StepFromOpen types tail lines line begun
+    → open_raw_with types tail lines ≡ Some begun → StepFromOpen types tail lines line begun
 
--- the lines of an epoch that was written, read one by one after what was left before it, give the epoch with the last of
--- them, and leave what the writer has left; where the epoch stands in full, after whatever was left before it
+-- the lines of an epoch that was written, read one by one after what was left before it, give the epoch with the last
+-- of them, and leave what the writer has left; where the epoch stands in full, after whatever was left before it
 abbrev pub StepsReadBack : Type 0
 StepsReadBack =
-    (types : List Count) (m : Marked) (older : List Marked) (tail : Option Tail) → AreWhole types (since_full (m ∷ older))
+    (types : List Count) (m : Marked) (older : List Marked) (tail : Option Tail)
+    → AreWhole types (since_full (m ∷ older))
     → (m.in_full ≡ false → tail ≡ tail_or_nothing older)
-    → place_by_steps types tail (lines_of_epoch (m ∷ older)) ≡ Here (record { epoch = m.epoch; tail = tail_of (m ∷ older) }) (2 + length m.epoch.rows)
+    → place_by_steps types tail (lines_of_epoch (m ∷ older))
+    ≡ Here (record { epoch = m.epoch; tail = tail_of (m ∷ older) }) (2 + length m.epoch.rows)
 
 -- ---- bounds
 
--- whatever was read before, what is held of an epoch whose lines have come in part, and what is left of a whole one, is within the limits:
--- each line keeps it so
+-- whatever was read before, what is held of an epoch whose lines have come in part, and what is left of a whole one, is
+-- within the limits: each line keeps it so
 pub record ReadAreBounded : Type 0 where
-  pub first : (types : List Count) (tail : Option Tail) (line : ReadLine) → AreCounts types → IfSome tail (IsBoundedTail ORDER_LIMIT) → IsBoundedStep (first_step types tail line)
+  pub first : (types : List Count) (tail : Option Tail) (line : ReadLine)
+      → AreCounts types → IfSome tail (IsBoundedTail ORDER_LIMIT) → IsBoundedStep (first_step types tail line)
   pub next : (begun : OpenRawEpoch) (line : ReadLine) → IsBoundedOpen begun → IsBoundedStep (next_step begun line)

@@ -1,19 +1,22 @@
--- One step of the running differences: the next code, the next value, the next lines and the next tail by the tail alone.
-use Rattle.std.specs.Prelude.{ℕ, suc, ℤ, pos, ◌+ℤ◌, ◌-ℤ◌, ◌*◌, Bool, List, [], ◌∷◌, map, length, slice_index_or, take, Option, Some, None, Result, Ok, Err, if◌then◌else◌, unwrap_or}
-use Rattle.crx_text.specs.Columns.{without_end_blanks}
-use Rattle.crx_text.specs.Texts.{text_difference, patched}
-use Rattle.crx_text.specs.Codes.{code_text}
-use Rattle.crx_rinex.specs.Observations.{Row, Epoch}
+-- One step of the running differences: the next code, the next value, the next lines and the next tail by the tail
+-- alone.
+use Rattle.std.specs.Prelude.{ℕ, suc, ℤ, pos, ◌+ℤ◌, ◌-ℤ◌, ◌*◌, Bool, List, [], ◌∷◌, map, length, slice_index_or, take}
+use Rattle.std.specs.Prelude.{Option, Some, None, Result, Ok, Err, if◌then◌else◌, unwrap_or}
+use Rattle.crx_text.specs.meaning.Columns.{without_end_blanks}
+use Rattle.crx_text.specs.meaning.Texts.{text_difference}
+use Rattle.crx_text.specs.Texts.{patched}
+use Rattle.crx_text.specs.meaning.Codes.{code_text}
+use Rattle.crx_rinex.specs.meaning.Observations.{Row, Epoch}
 use Rattle.crx_lines.specs.declared.limits.TheConstants.{WRITTEN_ORDER}
 use Rattle.crx_text.specs.declared.code.Code.{Code}
 use Rattle.crx_text.specs.declared.code.Code.TheVariants.{Missing, Start, Step}
 use Rattle.crx_lines.specs.declared.fault.Fault.{Fault}
 use Rattle.crx_lines.specs.declared.fault.Fault.TheVariants.{NoArc}
-use Rattle.crx_rinex.specs.EachPlace.{each_place}
-use Rattle.crx_compact.specs.Sequences.{named}
-use Rattle.crx_compact.specs.Differences.{newest}
-use Rattle.crx_compact.specs.Compaction.{epoch_text, value_in, line_of_codes}
-use Rattle.crx_compact.specs.Expansion.{RawRow, RawEpoch, code_in, in_range}
+use Rattle.crx_rinex.specs.meaning.EachPlace.{each_place}
+use Rattle.crx_compact.specs.meaning.Sequences.{named}
+use Rattle.crx_compact.specs.meaning.Differences.{newest}
+use Rattle.crx_compact.specs.meaning.Compaction.{epoch_text, value_in, line_of_codes}
+use Rattle.crx_compact.specs.meaning.Expansion.{RawRow, RawEpoch, code_in, in_range}
 use Rattle.crx_compact.specs.Tails.{ArcTail, RowTail, Tail}
 
 -- ---- an arc
@@ -26,7 +29,8 @@ differences_after value (d ∷ ds) = value ∷ differences_after (value -ℤ d) 
 -- an arc's tail after a next value: a first value starts an arc of this order
 abbrev pub arc_after : ℕ → ℤ → Option ArcTail → ArcTail
 arc_after order value None = record { order = order; differences = value ∷ [] }
-arc_after order value (Some arc) = record { order = arc.order; differences = take (suc arc.order) (differences_after value arc.differences) }
+arc_after order value (Some arc) =
+    record { order = arc.order; differences = take (suc arc.order) (differences_after value arc.differences) }
 
 -- the difference of the highest order
 abbrev pub highest : List ℤ → ℤ
@@ -60,7 +64,10 @@ differences_by number (d ∷ ds) = onto_sum d (differences_by number ds)
 
 -- an arc's tail after a next number of its codes
 abbrev pub arc_after_number : ℤ → ArcTail → ArcTail
-arc_after_number number arc = record { order = arc.order; differences = differences_by number (take arc.order arc.differences) }
+arc_after_number number arc = record {
+  order = arc.order;
+  differences = differences_by number (take arc.order arc.differences);
+}
 
 -- the value that a tail stands at
 abbrev pub value_of_tail : ArcTail → ℤ
@@ -100,7 +107,8 @@ flags_of_tail (Some row) = row.flags
 
 -- the codes of a row's values
 abbrev pub codes_after : Option RowTail → Row → List Code
-codes_after tail row = each_place (length row.values) (λ place. code_of_value (value_in place row) (cell_of_tail place tail))
+codes_after tail row = each_place
+    (length row.values) (λ place. code_of_value (value_in place row) (cell_of_tail place tail))
 
 abbrev pub row_tail_after : Option RowTail → Row → RowTail
 row_tail_after tail row =
@@ -122,8 +130,8 @@ abbrev pub row_line_in : List RowTail → Row → List ℕ
 row_line_in before row = row_line_after (named (λ (r : RowTail). r.name) row.name before) row
 
 -- the compact lines of an epoch after a tail
-abbrev pub lines_after : Tail → Epoch → List (List ℕ)
-lines_after tail epoch =
+abbrev pub lines_after_tail : Tail → Epoch → List (List ℕ)
+lines_after_tail tail epoch =
     text_difference tail.text (epoch_text epoch)
     ∷ code_text (code_of_value epoch.clock tail.clock)
     ∷ map (row_line_in tail.rows) epoch.rows

@@ -1,21 +1,25 @@
 -- What is left of the past between two epochs: all that the next epoch's codes, marks and values depend on.
-use Rattle.std.specs.Prelude.{◌≡◌, ℕ, suc, ◌-◌, min, ℤ, List, [], ◌∷◌, map, length, Option, Some, None, ◌≤◌, ◌+◌, ◌*◌, IfSome}
+use Rattle.std.specs.Prelude.{◌≡◌, ℕ, suc, ◌-◌, min, ℤ, List, [], ◌∷◌, map, length, Option, Some, None, ◌≤◌, ◌+◌, ◌*◌}
+use Rattle.std.specs.Prelude.{IfSome}
 use Rattle.std.specs.List.{AllByRecursion}
-use Rattle.crx_text.specs.Columns.{without_end_blanks}
-use Rattle.crx_rinex.specs.Observations.{Row}
-use Rattle.crx_lines.specs.declared.limits.TheConstants.{WRITTEN_ORDER, TYPES_LIMIT, SATELLITES_LIMIT, HEAD_WIDTH, NAME_WIDTH}
-use Rattle.crx_rinex.specs.EachPlace.{each_place}
-use Rattle.crx_compact.specs.Differences.{difference, value_at}
-use Rattle.crx_compact.specs.Compaction.{Marked, run_of, arc_of, clock_arc, newest_text}
-use Rattle.crx_compact.specs.Expansion.{RawEpoch, RawRow, Started, block_of, text_of, raw_run_of, marks_of, overlaid, code_in, since_start}
+use Rattle.crx_text.specs.meaning.Columns.{without_end_blanks}
+use Rattle.crx_rinex.specs.meaning.Observations.{Row}
+use Rattle.crx_lines.specs.declared.limits.TheConstants.{WRITTEN_ORDER, TYPES_LIMIT, SATELLITES_LIMIT, HEAD_WIDTH}
+use Rattle.crx_lines.specs.declared.limits.TheConstants.{NAME_WIDTH}
+use Rattle.crx_rinex.specs.meaning.EachPlace.{each_place}
+use Rattle.crx_compact.specs.meaning.Differences.{difference, value_at}
+use Rattle.crx_compact.specs.meaning.Compaction.{Marked, run_of, arc_of, clock_arc, newest_text}
+use Rattle.crx_compact.specs.meaning.Expansion.{RawEpoch, RawRow, Started, block_of, raw_run_of, marks_of, overlaid}
+use Rattle.crx_compact.specs.meaning.Expansion.{code_in, since_start}
+use Rattle.crx_compact.specs.Expansion.{text_of}
 
 -- an arc's order n, and its differences of order 0, 1, .. up to n, or up to u where it has only u + 1 values
 pub record ArcTail : Type 0 where
   pub order : ℕ
   pub differences : List ℤ
 
--- a satellite's indicators without the blanks at their end, and the tail of each cell's arc; nothing where the newest value
--- is missing
+-- a satellite's indicators without the blanks at their end, and the tail of each cell's arc; nothing where the newest
+-- value is missing
 pub record RowTail : Type 0 where
   pub name : List ℕ
   pub flags : List ℕ
@@ -39,7 +43,11 @@ arc_tail order (a ∷ older) = Some (record { order = order; differences = diffe
 
 abbrev pub row_tail : List Row → Row → RowTail
 row_tail run row =
-    record { name = row.name; flags = without_end_blanks row.flags; cells = each_place (length row.values) (λ j. arc_tail WRITTEN_ORDER (arc_of j run)) }
+    record {
+      name = row.name;
+      flags = without_end_blanks row.flags;
+      cells = each_place (length row.values) (λ j. arc_tail WRITTEN_ORDER (arc_of j run));
+    }
 
 abbrev pub row_tails : List Marked → List RowTail
 row_tails [] = []
@@ -48,7 +56,11 @@ row_tails (m ∷ older) = map (λ (r : Row). row_tail (run_of r.name (m ∷ olde
 -- the tail of some epochs, newest first; the epochs before the latest full one leave nothing
 abbrev pub tail_of : List Marked → Tail
 tail_of epochs =
-    record { text = without_end_blanks (newest_text epochs); clock = arc_tail WRITTEN_ORDER (clock_arc epochs); rows = row_tails epochs }
+    record {
+      text = without_end_blanks (newest_text epochs);
+      clock = arc_tail WRITTEN_ORDER (clock_arc epochs);
+      rows = row_tails epochs;
+    }
 
 -- what is left of some epochs, newest first: nothing where there is none
 abbrev pub tail_or_nothing : List Marked → Option Tail
@@ -87,8 +99,8 @@ tail_of_block block =
       rows = raw_row_tails block;
     }
 
--- what is left of the raw epochs accepted since the reader's state was last emptied, newest first: nothing where there is
--- none
+-- what is left of the raw epochs accepted since the reader's state was last emptied, newest first: nothing where there
+-- is none
 abbrev pub tail_left : List RawEpoch → Option Tail
 tail_left [] = None
 tail_left (e ∷ older) = Some (tail_of_block (block_of (e ∷ older)))
@@ -107,7 +119,8 @@ pub record IsBoundedRowTail (limit : ℕ) (row : RowTail) : Type 0 where
   pub few : length row.cells ≤ TYPES_LIMIT
   pub cells : AllByRecursion (λ (cell : Option ArcTail). IfSome cell (IsBoundedArc limit)) row.cells
 
--- a tail within the limits, by the highest order of an arc: whatever was read or written before, no more than this is left of it
+-- a tail within the limits, by the highest order of an arc: whatever was read or written before, no more than this is
+-- left of it
 pub record IsBoundedTail (limit : ℕ) (tail : Tail) : Type 0 where
   pub text : length tail.text ≤ HEAD_WIDTH + NAME_WIDTH * SATELLITES_LIMIT
   pub clock : IfSome tail.clock (IsBoundedArc limit)

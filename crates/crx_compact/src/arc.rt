@@ -3,12 +3,12 @@
 
 ghost use Rattle.std.specs.Prelude.{◌≡◌, ◌≤◌, ◌<◌, ◌+◌, ◌*◌, ◌^◌, ◌++◌, ◌∷◌, [], ℕ, ℤ, List, Option, None, Some, Ok, length, take, IfSome, OnSome, IfNone, OnOk, OnErr, MatchResult};
 ghost use Rattle.crx_text.specs.Codes.{IsPrintable, IsShort};
-ghost use Rattle.crx_text.specs.Numbers.{IsMissingOrWithin, IsWithin};
+ghost use Rattle.crx_text.specs.meaning.Numbers.{IsMissingOrWithin, IsWithin};
 ghost use Rattle.crx_compact.specs.Arcs.{AreBelow, IsBelow, value_bound};
-ghost use Rattle.crx_compact.specs.Differences.{code_at, newest};
-ghost use Rattle.crx_compact.specs.Expansion.{is_within, value_of};
+ghost use Rattle.crx_compact.specs.meaning.Differences.{code_at, newest};
+ghost use Rattle.crx_compact.specs.meaning.Expansion.{is_within, value_of};
 ghost use Rattle.crx_compact.specs.Laws.{accepted, arc_of_codes, arc_of_values};
-ghost use Rattle.crx_compact.specs.Sequences.{stretch};
+ghost use Rattle.crx_compact.specs.meaning.Sequences.{stretch};
 ghost use Rattle.crx_text.specs.declared.code.Code.{Code};
 ghost use Rattle.crx_text.specs.declared.code.Code.TheVariants.{Step};
 ghost use Rattle.crx_lines.specs.declared.limits.TheConstants.{CLOCK_WIDTH, DIGITS_LIMIT, ORDER_LIMIT, WRITTEN_ORDER};
@@ -39,13 +39,13 @@ pub struct Arc<const WIDTH: usize> {
 impl<const WIDTH: usize> Model for Arc<WIDTH> {
     ghost use Rattle.std.specs.Prelude.{Option, take};
     ghost use Rattle.crx_compact.specs.Tails.{ArcTail};
-    ghost use Rattle.crx_compact.specs.Arcs.{kept_tail, IsKept};
+    ghost use Rattle.crx_compact.specs.Arcs.{kept_tail, IsArcInRange};
 
     ghost Value = { Option ArcTail };
 
     ghost view = { λ arc. kept_tail arc.order (take arc.count arc.differences) };
 
-    ghost invariant = { λ arc. IsKept WIDTH arc.order arc.count (take arc.count arc.differences) };
+    ghost invariant = { λ arc. IsArcInRange WIDTH arc.order arc.count (take arc.count arc.differences) };
 }
 
 /// Puts the differences of order 0, 1, .. at a next value in place of those at the value before it, and gives the
@@ -207,7 +207,8 @@ impl<const WIDTH: usize> Arc<WIDTH> {
         ensures arc { self.new ≡ arc_of_value value self.old }
         // After any values at all, missing ones too, the code is the one of the arc that they leave.
         ensures every { (values : List (Option ℤ)) → self.old ≡ arc_of_values values
-            → (result ≡ code_at WRITTEN_ORDER (stretch (value ∷ values))) × (self.new ≡ arc_of_values (value ∷ values)) }
+            → (result ≡ code_at WRITTEN_ORDER (stretch (value ∷ values)))
+            × (self.new ≡ arc_of_values (value ∷ values)) }
     {
         let before = self.copied();
         self.push_after(&before, value)
@@ -273,7 +274,8 @@ impl<const WIDTH: usize> Arc<WIDTH> {
         ensures err { OnErr result (self.new ≡ self.old) }
         // After any codes at all, of which those that were refused don't count, the value is the one that they give.
         ensures every { (codes : List Code) → self.old ≡ arc_of_codes WIDTH codes
-            → (result ≡ value_of WIDTH (code ∷ accepted WIDTH codes)) × (self.new ≡ arc_of_codes WIDTH (code ∷ codes)) }
+            → (result ≡ value_of WIDTH (code ∷ accepted WIDTH codes))
+            × (self.new ≡ arc_of_codes WIDTH (code ∷ codes)) }
     {
         let before = self.copied();
         self.apply_after(&before, code)
@@ -323,7 +325,8 @@ impl<const WIDTH: usize> Arc<WIDTH> {
     #[inline(always)]
     pub(crate) fn apply_third(&mut self, earlier: &Self, number: i64) -> Option<i64>
         requires { IsShort number }
-        ensures value { IfSome result (λ value. value_of_code WIDTH (Step number) earlier.now ≡ Ok (Some value)) }
+        ensures value { IfSome result
+            (λ value. value_of_code WIDTH (Step number) earlier.now ≡ Ok (Some value)) }
         ensures arc { OnSome result (self.new ≡ arc_of_code (Step number) earlier.now) }
         ensures none { IfNone result (self.new ≡ self.old) }
     {

@@ -2,10 +2,10 @@
 
 ghost use Rattle.std.specs.Prelude.{◌≡◌, ◌≤◌, ◌⊎◌, ◌+◌, ◌++◌, ◌∷◌, [], true, false, Ok, Err, length, take, map, OnOk, IfErr};
 ghost use Rattle.crx_lines.specs.declared.limits.TheConstants.{LINE_LIMIT, SATELLITES_LIMIT};
-ghost use Rattle.crx_rinex.specs.ObservationTypes.{IsAllowedCount};
-ghost use Rattle.crx_rinex.specs.SatelliteLines.{is_identifier};
-ghost use Rattle.crx_compact.specs.CompactPlaces.{satellites_of_text};
-ghost use Rattle.crx_compact.specs.EpochText.{Satellite, names_in, satellites_named};
+ghost use Rattle.crx_rinex.specs.meaning.ObservationTypes.{IsAllowedCount};
+ghost use Rattle.crx_rinex.specs.meaning.SatelliteLines.{is_identifier};
+ghost use Rattle.crx_compact.specs.meaning.CompactPlaces.{satellites_of_text};
+ghost use Rattle.crx_compact.specs.meaning.EpochText.{Satellite, names_in, satellites_named};
 
 use crx_lines::limits::{HEAD_WIDTH, NAME_WIDTH};
 use crx_rinex::{
@@ -22,14 +22,14 @@ pub(crate) struct AwaitedSatellite {
 }
 
 impl Model for AwaitedSatellite {
-    ghost use Rattle.crx_compact.specs.EpochText.{Satellite};
-    ghost use Rattle.crx_compact.specs.Cells.{IsAwaited};
+    ghost use Rattle.crx_compact.specs.meaning.EpochText.{Satellite};
+    ghost use Rattle.crx_compact.specs.Cells.{IsAwaitedSatellite};
 
     ghost Value = { Satellite };
 
     ghost view = { λ awaited. record { name = awaited.name; count = awaited.count } };
 
-    ghost invariant = { λ awaited. IsAwaited (record { name = awaited.name; count = awaited.count }) };
+    ghost invariant = { λ awaited. IsAwaitedSatellite (record { name = awaited.name; count = awaited.count }) };
 }
 
 impl AwaitedSatellite {
@@ -52,7 +52,7 @@ impl AwaitedSatellite {
 
 /// Reads so many identifiers after the columns of an epoch text, from left to right, and puts each at its place.
 ///
-/// `BadSatellite` comes where one is spelt as none of a system that has types, then `RepeatedSatellite` where it stands
+/// `BadSatellite` comes where one has the form of none of a system that has types, then `RepeatedSatellite` where it stands
 /// before already; `OutOfMemory` where the satellites can't grow.
 fn read_names(
     types: &Types,
@@ -63,7 +63,8 @@ fn read_names(
 ) -> Result<(), Fault>
     requires none { satellites.old.items ≡ [] }
     requires few { count ≤ SATELLITES_LIMIT }
-    ensures ok { OnOk result (satellites_named types.now [] (names_in text.now count) ≡ Ok satellites.new.items) }
+    ensures ok { OnOk result (satellites_named types.now [] (names_in text.now count)
+        ≡ Ok satellites.new.items) }
     ensures err { IfErr result (λ fault. (satellites_named types.now [] (names_in text.now count) ≡ Err fault)
         ⊎ (fault ≡ Fault.OutOfMemory)) }
 {
@@ -99,7 +100,8 @@ pub(crate) fn read_satellites(
 ) -> Result<(), Fault>
     requires { satellites.old.items ≡ [] }
     ensures ok { OnOk result (satellites_of_text types.now text.now ≡ Ok satellites.new.items) }
-    ensures err { IfErr result (λ fault. (satellites_of_text types.now text.now ≡ Err fault) ⊎ (fault ≡ Fault.OutOfMemory)) }
+    ensures err { IfErr result (λ fault. (satellites_of_text types.now text.now ≡ Err fault)
+        ⊎ (fault ≡ Fault.OutOfMemory)) }
 {
     let Ok(head) = EpochLine::new(padded(text, 1), None) else {
         return Err(Fault::BadEpoch);

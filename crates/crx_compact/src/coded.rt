@@ -10,7 +10,7 @@ use crate::lines::Lines;
 use crx_rinex::Epoch;
 use std::marker::Model;
 
-/// An epoch and the compact lines of it that are still to be lent: the epoch line, the clock line, and a line for each
+/// An epoch and the compact lines of it that are pending: the epoch line, the clock line, and a line for each
 /// satellite.
 #[derive(Drop)]
 pub struct Coded {
@@ -33,11 +33,12 @@ impl Coded {
         Coded { epoch, lines }
     }
 
-    /// Lends the next line, without its line end; `None` once all were lent.
+    /// Lends the next line, without its line end; `None` once none is pending.
     pub fn next_line(&mut self) -> Option<&[u8]>
         ensures value { option_copied result ≡ slice_get self.old.lines 0 }
-        // That line is no longer among those to be lent.
-        ensures* after_borrow { sem 𝓛 (Rests the_row self.entry (λ new. new ≡ record self.old { lines = drop 1 self.old.lines })) }
+        // That line is no longer pending.
+        ensures* after_borrow { sem 𝓛 (Rests the_row self.entry
+            (λ new. new ≡ record self.old { lines = drop 1 self.old.lines })) }
     {
         self.lines.next_line()
     }

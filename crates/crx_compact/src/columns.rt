@@ -3,22 +3,22 @@
 
 ghost use Rattle.std.specs.Prelude.{◌≡◌, ◌≤◌, ◌++◌, ◌∷◌, List, if◌then◌else◌, [], Some, None, true, false, length, IfOk, IfErr, OnOk, OnErr, Err};
 ghost use Rattle.std.specs.List.{list_all};
-ghost use Rattle.crx_text.specs.Texts.{is_printable};
+ghost use Rattle.crx_text.specs.meaning.Texts.{is_printable};
 ghost use Rattle.crx_rinex.specs.Epochs.{is_full_epoch};
 ghost use Rattle.std.specs.Prelude.{◌⊎◌};
-ghost use Rattle.crx_lines.specs.Seen.{Content, ReadLine};
-ghost use Rattle.crx_rinex.specs.ObservationTypes.{Count};
-ghost use Rattle.crx_rinex.specs.Places.{Wrong};
-ghost use Rattle.crx_compact.specs.Expansion.{RawEpoch};
-ghost use Rattle.crx_compact.specs.CompactPlaces.{epoch_at};
+ghost use Rattle.crx_lines.specs.meaning.Seen.{Content, ReadLine};
+ghost use Rattle.crx_rinex.specs.meaning.ObservationTypes.{Count};
+ghost use Rattle.crx_rinex.specs.meaning.Places.{Wrong};
+ghost use Rattle.crx_compact.specs.meaning.Expansion.{RawEpoch};
+ghost use Rattle.crx_compact.specs.meaning.CompactPlaces.{epoch_at};
 ghost use Rattle.crx_compact.specs.ReadBlocks.{HasReadTo, IsReading};
 ghost use Rattle.crx_lines.specs.declared.limits.TheConstants.{LINE_LIMIT};
-ghost use Rattle.crx_rinex.specs.EpochLines.{begins_epoch, is_event_line};
+ghost use Rattle.crx_rinex.specs.meaning.EpochLines.{begins_epoch, is_event_line};
 ghost use Rattle.crx_compact.specs.OpenEpochs.{awaits_row, is_idle, tail_held, first_step, step_in, Faulty, HasMade};
 ghost use Rattle.crx_compact.specs.OpenEpochs.ColumnsState.{Idle};
-ghost use Rattle.crx_compact.specs.Compaction.{Marked, compact_epoch};
+ghost use Rattle.crx_compact.specs.meaning.Compaction.{Marked, compact_epoch};
 ghost use Rattle.crx_compact.specs.Tails.{tail_left, tail_or_nothing};
-ghost use Rattle.crx_compact.specs.Steps.{lines_after, no_tail, tail_after, tail_written_after};
+ghost use Rattle.crx_compact.specs.Steps.{lines_after_tail, no_tail, tail_after, tail_written_after};
 
 use crate::coded::Coded;
 use crate::incoming::Incoming;
@@ -101,15 +101,21 @@ impl Columns {
         requires whole { is_full_epoch epoch ≡ true }
         requires idle { is_idle self.old ≡ true }
         ensures coded { IfOk result (λ coded. coded
-            ≡ record { epoch = epoch; lines = lines_after (tail_written_after full (tail_held self.old)) epoch }) }
-        ensures kept { OnOk result (self.new ≡ Idle (Some (tail_after (tail_written_after full (tail_held self.old)) epoch))) }
+            ≡ record {
+              epoch = epoch;
+              lines = lines_after_tail (tail_written_after full (tail_held self.old)) epoch;
+            }) }
+        ensures kept { OnOk result (self.new
+            ≡ Idle (Some (tail_after (tail_written_after full (tail_held self.old)) epoch))) }
         ensures refused { IfErr result (λ refused. (refused.0 ≡ epoch) × (refused.1 ≡ Fault.OutOfMemory)) }
         ensures err { OnErr result (self.new ≡ self.old) }
         // After any epochs at all, the lines are those of their compact text, and their tail is kept.
         ensures left { (epochs : List Marked) → tail_held self.old ≡ tail_or_nothing epochs
-            → OnOk result (self.new ≡ Idle (tail_or_nothing (record { in_full = full; epoch = epoch } ∷ epochs))) }
+            → OnOk result (self.new ≡ Idle
+            (tail_or_nothing (record { in_full = full; epoch = epoch } ∷ epochs))) }
         ensures lines { (epochs : List Marked) → tail_held self.old ≡ tail_or_nothing epochs
-            → IfOk result (λ coded. coded.lines ≡ compact_epoch (record { in_full = full; epoch = epoch } ∷ epochs)) }
+            → IfOk result
+            (λ coded. coded.lines ≡ compact_epoch (record { in_full = full; epoch = epoch } ∷ epochs)) }
     {
         // What holds of every epoch is known by its line.
         let _ = epoch.is_full();
@@ -121,8 +127,12 @@ impl Columns {
         requires whole { is_full_epoch epoch ≡ true }
         requires idle { is_idle self.old ≡ true }
         ensures coded { IfOk result (λ coded. coded
-            ≡ record { epoch = epoch; lines = lines_after (tail_written_after full (tail_held self.old)) epoch }) }
-        ensures kept { OnOk result (self.new ≡ Idle (Some (tail_after (tail_written_after full (tail_held self.old)) epoch))) }
+            ≡ record {
+              epoch = epoch;
+              lines = lines_after_tail (tail_written_after full (tail_held self.old)) epoch;
+            }) }
+        ensures kept { OnOk result (self.new
+            ≡ Idle (Some (tail_after (tail_written_after full (tail_held self.old)) epoch))) }
         ensures refused { IfErr result (λ refused. (refused.0 ≡ epoch) × (refused.1 ≡ Fault.OutOfMemory)) }
         ensures err { OnErr result (self.new ≡ self.old) }
     {
@@ -145,8 +155,10 @@ impl Columns {
     ) -> Result<(), AllocError>
         requires whole { is_full_epoch epoch.now ≡ true }
         requires idle { is_idle self.old ≡ true }
-        ensures lines { OnOk result (lines.new ≡ lines.old ++ lines_after (tail_written_after full (tail_held self.old)) epoch.now) }
-        ensures kept { OnOk result (self.new ≡ Idle (Some (tail_after (tail_written_after full (tail_held self.old)) epoch.now))) }
+        ensures lines { OnOk result (lines.new
+            ≡ lines.old ++ lines_after_tail (tail_written_after full (tail_held self.old)) epoch.now) }
+        ensures kept { OnOk result (self.new
+            ≡ Idle (Some (tail_after (tail_written_after full (tail_held self.old)) epoch.now))) }
         ensures err { OnErr result (self.new ≡ self.old) }
     {
         // What holds of every epoch is known by its line.
@@ -168,17 +180,22 @@ impl Columns {
         requires idle { is_idle self.old ≡ true }
         requires short { length line.now ≤ LINE_LIMIT }
         requires no_event { is_event_line line.now ≡ false }
-        ensures made { OnOk result (HasMade (first_step types.now (tail_held self.old) (Content line.now)) self.new None) }
-        ensures refused { IfErr result (λ fault. (first_step types.now (tail_held self.old) (Content line.now) ≡ Faulty fault) ⊎ (fault ≡ Fault.OutOfMemory)) }
+        ensures made { OnOk result (HasMade
+            (first_step types.now (tail_held self.old) (Content line.now)) self.new None) }
+        ensures refused { IfErr result (λ fault. (first_step types.now (tail_held self.old) (Content line.now)
+            ≡ Faulty fault) ⊎ (fault ≡ Fault.OutOfMemory)) }
         ensures emptied { OnErr result (self.new ≡ Idle None) }
         // Memory is taken only after these checks: that an epoch may begin so, and that no character is outside 32 to 126.
-        ensures no_epoch { begins_epoch line.now ≡ false → tail_held self.old ≡ None → result ≡ Err Fault.NotAnEpoch }
-        ensures memory { IfErr result (λ fault. fault ≡ Fault.OutOfMemory → list_all is_printable line.now ≡ true) }
+        ensures no_epoch { begins_epoch line.now ≡ false
+            → tail_held self.old ≡ None → result ≡ Err Fault.NotAnEpoch }
+        ensures memory { IfErr result (λ fault. fault ≡ Fault.OutOfMemory
+            → list_all is_printable line.now ≡ true) }
         // After the raw epochs accepted since everything was last forgotten, the line makes what it makes by them.
         ensures block { (older : List RawEpoch) → tail_held self.old ≡ tail_left older
             → OnOk result (IsReading types.now older (Content line.now ∷ []) self.new) }
         ensures block_fault { (older : List RawEpoch) → tail_held self.old ≡ tail_left older
-            → IfErr result (λ fault. (epoch_at types.now older (Content line.now ∷ []) ≡ Wrong 0 fault) ⊎ (fault ≡ Fault.OutOfMemory)) }
+            → IfErr result (λ fault. (epoch_at types.now older (Content line.now ∷ []) ≡ Wrong 0 fault)
+            ⊎ (fault ≡ Fault.OutOfMemory)) }
     {
         self.begin_next(types, line)
     }
@@ -188,11 +205,15 @@ impl Columns {
         requires idle { is_idle self.old ≡ true }
         requires short { length line.now ≤ LINE_LIMIT }
         requires no_event { is_event_line line.now ≡ false }
-        ensures made { OnOk result (HasMade (first_step types.now (tail_held self.old) (Content line.now)) self.new None) }
-        ensures refused { IfErr result (λ fault. (first_step types.now (tail_held self.old) (Content line.now) ≡ Faulty fault) ⊎ (fault ≡ Fault.OutOfMemory)) }
+        ensures made { OnOk result (HasMade
+            (first_step types.now (tail_held self.old) (Content line.now)) self.new None) }
+        ensures refused { IfErr result (λ fault. (first_step types.now (tail_held self.old) (Content line.now)
+            ≡ Faulty fault) ⊎ (fault ≡ Fault.OutOfMemory)) }
         ensures emptied { OnErr result (self.new ≡ Idle None) }
-        ensures no_epoch { begins_epoch line.now ≡ false → tail_held self.old ≡ None → result ≡ Err Fault.NotAnEpoch }
-        ensures memory { IfErr result (λ fault. fault ≡ Fault.OutOfMemory → list_all is_printable line.now ≡ true) }
+        ensures no_epoch { begins_epoch line.now ≡ false
+            → tail_held self.old ≡ None → result ≡ Err Fault.NotAnEpoch }
+        ensures memory { IfErr result (λ fault. fault ≡ Fault.OutOfMemory
+            → list_all is_printable line.now ≡ true) }
     {
         let goes_on = !begins_epoch(line);
         if goes_on && !self.is_kept {
@@ -221,16 +242,21 @@ impl Columns {
         requires open { is_idle self.old ≡ false }
         requires short { length line.now ≤ LINE_LIMIT }
         ensures made { IfOk result (λ given. HasMade (step_in self.old (Content line.now)) self.new given) }
-        ensures refused { IfErr result (λ fault. (step_in self.old (Content line.now) ≡ Faulty fault) ⊎ (fault ≡ Fault.OutOfMemory)) }
+        ensures refused { IfErr result
+            (λ fault. (step_in self.old (Content line.now) ≡ Faulty fault) ⊎ (fault ≡ Fault.OutOfMemory)) }
         // Memory is taken only for a satellite's line.
-        ensures memory { IfErr result (λ fault. fault ≡ Fault.OutOfMemory → (begins_epoch line.now ≡ false) × (awaits_row self.old ≡ true)) }
+        ensures memory { IfErr result (λ fault. fault ≡ Fault.OutOfMemory
+            → (begins_epoch line.now ≡ false) × (awaits_row self.old ≡ true)) }
         ensures emptied { OnErr result (self.new ≡ Idle None) }
         // After the raw epochs accepted since everything was last forgotten, and the lines of the epoch so far, the line makes
         // what it makes by them: the epoch that is given is the one that stands at these lines.
-        ensures block { (types : List Count) (older : List RawEpoch) (lines : List ReadLine) → IsReading types older lines self.old
+        ensures block { (types : List Count) (older : List RawEpoch) (lines : List ReadLine)
+            → IsReading types older lines self.old
             → IfOk result (λ given. HasReadTo types older (lines ++ Content line.now ∷ []) self.new given) }
-        ensures block_fault { (types : List Count) (older : List RawEpoch) (lines : List ReadLine) → IsReading types older lines self.old
-            → IfErr result (λ fault. (epoch_at types older (lines ++ Content line.now ∷ []) ≡ Wrong (length lines) fault) ⊎ (fault ≡ Fault.OutOfMemory)) }
+        ensures block_fault { (types : List Count) (older : List RawEpoch) (lines : List ReadLine)
+            → IsReading types older lines self.old
+            → IfErr result (λ fault. (epoch_at types older (lines ++ Content line.now ∷ [])
+            ≡ Wrong (length lines) fault) ⊎ (fault ≡ Fault.OutOfMemory)) }
     {
         self.feed_next(line)
     }
@@ -240,8 +266,10 @@ impl Columns {
         requires open { is_idle self.old ≡ false }
         requires short { length line.now ≤ LINE_LIMIT }
         ensures made { IfOk result (λ given. HasMade (step_in self.old (Content line.now)) self.new given) }
-        ensures refused { IfErr result (λ fault. (step_in self.old (Content line.now) ≡ Faulty fault) ⊎ (fault ≡ Fault.OutOfMemory)) }
-        ensures memory { IfErr result (λ fault. fault ≡ Fault.OutOfMemory → (begins_epoch line.now ≡ false) × (awaits_row self.old ≡ true)) }
+        ensures refused { IfErr result
+            (λ fault. (step_in self.old (Content line.now) ≡ Faulty fault) ⊎ (fault ≡ Fault.OutOfMemory)) }
+        ensures memory { IfErr result (λ fault. fault ≡ Fault.OutOfMemory
+            → (begins_epoch line.now ≡ false) × (awaits_row self.old ≡ true)) }
         ensures emptied { OnErr result (self.new ≡ Idle None) }
     {
         let before = stands_after(&self.nothing, &self.kept, self.goes_on);
@@ -265,10 +293,13 @@ impl Columns {
     pub fn feed_early(&mut self, line: &[u8]) -> Result<bool, Fault>
         requires open { is_idle self.old ≡ false }
         requires short { length line.now ≤ LINE_LIMIT }
-        ensures made { IfOk result (λ is_taken. is_taken ≡ true → HasMade (step_in self.old (Content line.now)) self.new None) }
+        ensures made { IfOk result (λ is_taken. is_taken ≡ true
+            → HasMade (step_in self.old (Content line.now)) self.new None) }
         ensures same { IfOk result (λ is_taken. is_taken ≡ false → self.new ≡ self.old) }
-        ensures refused { IfErr result (λ fault. (step_in self.old (Content line.now) ≡ Faulty fault) ⊎ (fault ≡ Fault.OutOfMemory)) }
-        ensures memory { IfErr result (λ fault. fault ≡ Fault.OutOfMemory → (begins_epoch line.now ≡ false) × (awaits_row self.old ≡ true)) }
+        ensures refused { IfErr result
+            (λ fault. (step_in self.old (Content line.now) ≡ Faulty fault) ⊎ (fault ≡ Fault.OutOfMemory)) }
+        ensures memory { IfErr result (λ fault. fault ≡ Fault.OutOfMemory
+            → (begins_epoch line.now ≡ false) × (awaits_row self.old ≡ true)) }
         ensures emptied { OnErr result (self.new ≡ Idle None) }
     {
         if !self.incoming.is_early() {

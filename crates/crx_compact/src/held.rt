@@ -3,22 +3,24 @@
 ghost use Rattle.std.specs.Prelude.{◌≡◌, ◌≤◌, ◌<◌, ◌+◌, OnErr, ◌++◌, ◌∷◌, ◌⊎◌, ◌*◌, [], None, Ok, Err, true, false, length, slice_index_or, slice_set, take, OnOk, IfOk, IfErr, IfSome, IfNone, OnSome, Some, Option, ℤ};
 ghost use Rattle.std.specs.List.{flat_map, list_all};
 ghost use Rattle.crx_text.specs.Numbers.{IsObservation};
-ghost use Rattle.crx_rinex.specs.EpochLines.{begins_epoch};
-ghost use Rattle.crx_rinex.specs.SatelliteLines.{IsValue};
-ghost use Rattle.crx_text.specs.Codes.{code_of, code_text, first_cell, IsPrintable, IsShort};
-ghost use Rattle.crx_text.specs.Texts.{is_kept, patched, text_difference};
+ghost use Rattle.crx_rinex.specs.meaning.EpochLines.{begins_epoch};
+ghost use Rattle.crx_rinex.specs.meaning.SatelliteLines.{IsValue};
+ghost use Rattle.crx_text.specs.meaning.Codes.{code_of, code_text, first_cell};
+ghost use Rattle.crx_text.specs.Codes.{IsPrintable, IsShort};
+ghost use Rattle.crx_text.specs.meaning.Texts.{is_kept, text_difference};
+ghost use Rattle.crx_text.specs.Texts.{patched};
 ghost use Rattle.crx_lines.specs.declared.limits.TheConstants.{LINE_LIMIT, TYPES_LIMIT};
 ghost use Rattle.crx_compact.specs.declared.held.TheConstants.{CELL_ROOM};
 ghost use Rattle.std.specs.Option.{option_copied};
-ghost use Rattle.crx_text.specs.Columns.{columns, without_end_blanks};
-ghost use Rattle.crx_compact.specs.Cells.{arcs_of_row, codes_of_row, value_at_place, AreHeldFlags, AreRead, IsCellRead};
-ghost use Rattle.crx_compact.specs.CompactPlaces.{are_marks, cell_read, cells_of, cells_read};
+ghost use Rattle.crx_text.specs.meaning.Columns.{columns, without_end_blanks};
+ghost use Rattle.crx_compact.specs.Cells.{arcs_of_row, codes_of_row, value_at_place, AreHeldFlags, CellsAreRead, IsCellRead};
+ghost use Rattle.crx_compact.specs.meaning.CompactPlaces.{are_marks, cell_read, cells_of, cells_read};
 ghost use Rattle.crx_lines.specs.declared.fault.Fault.TheVariants.{BadField};
 ghost use Rattle.crx_text.specs.declared.code.Code.TheVariants.{Missing, Step};
 ghost use Rattle.crx_compact.specs.HeldRows.{row_held, row_held_from};
-ghost use Rattle.crx_rinex.specs.ObservationTypes.{IsAllowedCount};
-ghost use Rattle.crx_compact.specs.Compaction.{cell_text, line_of_codes};
-ghost use Rattle.crx_compact.specs.Sequences.{named};
+ghost use Rattle.crx_rinex.specs.meaning.ObservationTypes.{IsAllowedCount};
+ghost use Rattle.crx_compact.specs.meaning.Compaction.{cell_text, line_of_codes};
+ghost use Rattle.crx_compact.specs.meaning.Sequences.{named};
 ghost use Rattle.crx_compact.specs.Steps.{arc_of_code, arc_of_value, code_of_value, flags_held, row_line_after, row_tail_after, value_of_code};
 ghost use Rattle.crx_compact.specs.Tails.{RowTail};
 
@@ -98,7 +100,8 @@ fn renew_arc(before: &[ObsArc], place: usize, value: Option<i64>, arc: &mut ObsA
 #[inline(always)]
 fn third_at(before: &[ObsArc], place: usize, value: i64, arc: &mut ObsArc) -> Option<i64>
     requires { IsObservation value }
-    ensures code { IfSome result (λ number. code_of_value (Some value) (slice_index_or before.now place None) ≡ Step number) }
+    ensures code { IfSome result
+        (λ number. code_of_value (Some value) (slice_index_or before.now place None) ≡ Step number) }
     ensures short { IfSome result IsShort }
     ensures arc { OnSome result (arc.new ≡ arc_of_value (Some value) (slice_index_or before.now place None)) }
 {
@@ -119,7 +122,8 @@ fn write_any_value(
     requires value { IsValue value }
     requires room { at + CELL_ROOM ≤ length bytes.old }
     ensures arc { arc.new ≡ arc_of_value value (slice_index_or before.now place None) }
-    ensures written { take result bytes.new ≡ take at bytes.old ++ cell_text (code_of_value value (slice_index_or before.now place None)) }
+    ensures written { take result bytes.new
+        ≡ take at bytes.old ++ cell_text (code_of_value value (slice_index_or before.now place None)) }
     ensures from { at ≤ result }
     ensures within { result ≤ at + CELL_ROOM }
 {
@@ -140,7 +144,8 @@ fn write_value(
     requires value { IsValue value }
     requires room { at + CELL_ROOM ≤ length bytes.old }
     ensures arc { arc.new ≡ arc_of_value value (slice_index_or before.now place None) }
-    ensures written { take result bytes.new ≡ take at bytes.old ++ cell_text (code_of_value value (slice_index_or before.now place None)) }
+    ensures written { take result bytes.new
+        ≡ take at bytes.old ++ cell_text (code_of_value value (slice_index_or before.now place None)) }
     ensures from { at ≤ result }
     ensures within { result ≤ at + CELL_ROOM }
 {
@@ -166,7 +171,8 @@ fn apply_at(
     requires printable { IsPrintable code }
     requires within { place < length arcs.old }
     ensures value { result ≡ value_at_place before.now place code }
-    ensures arc { OnOk result (arcs.new ≡ slice_set arcs.old place (arc_of_code code (slice_index_or before.now place None))) }
+    ensures arc { OnOk result (arcs.new
+        ≡ slice_set arcs.old place (arc_of_code code (slice_index_or before.now place None))) }
     ensures counted { length arcs.new ≡ length arcs.old }
 {
     match before.get(place) {
@@ -175,7 +181,7 @@ fn apply_at(
     }
 }
 
-/// Reads the cell that a text begins with, in any spelling: puts its arc after that of the epoch before in its place among
+/// Reads the cell that a text begins with, in the general form: puts its arc after that of the epoch before in its place among
 /// others, and gives its value, and the index after the cell and its blank.
 ///
 /// `BadField` comes where the cell is no code, `NoArc` and `OutOfRange` come as by [`ObsArc::apply`].
@@ -188,7 +194,8 @@ fn read_any_cell(
 ) -> Result<(Option<i64>, usize), Fault>
     requires within { place < length arcs.old }
     ensures ok { IfOk result (λ cell. IsCellRead before.now place text.now arcs.old arcs.new cell.0 cell.1) }
-    ensures err { IfErr result (λ fault. cell_read BadField (value_at_place before.now place) (code_of (first_cell text.now)) ≡ Err fault) }
+    ensures err { IfErr result (λ fault.
+        cell_read BadField (value_at_place before.now place) (code_of (first_cell text.now)) ≡ Err fault) }
 {
     let Ok((code, length)) = code_before_blank(text) else {
         return Err(Fault::BadField);
@@ -208,7 +215,8 @@ fn read_third(
     arcs: &mut [ObsArc],
 ) -> Option<(i64, usize)>
     requires within { place < length arcs.old }
-    ensures some { IfSome result (λ cell. IsCellRead before.now place text.now arcs.old arcs.new (Some cell.0) cell.1) }
+    ensures some { IfSome result
+        (λ cell. IsCellRead before.now place text.now arcs.old arcs.new (Some cell.0) cell.1) }
     ensures none { IfNone result (arcs.new ≡ arcs.old) }
 {
     let (number, length) = step_before_blank(text)?;
@@ -226,7 +234,8 @@ fn read_usual_cell(
     arcs: &mut [ObsArc],
 ) -> Option<(Option<i64>, usize)>
     requires within { place < length arcs.old }
-    ensures some { IfSome result (λ cell. IsCellRead before.now place text.now arcs.old arcs.new cell.0 cell.1) }
+    ensures some { IfSome result
+        (λ cell. IsCellRead before.now place text.now arcs.old arcs.new cell.0 cell.1) }
     ensures none { IfNone result (arcs.new ≡ arcs.old) }
 {
     let Some(first) = text.first() else {
@@ -276,7 +285,8 @@ fn write_cells(
     requires counted { length arcs.old ≡ length row.now.values }
     requires room { at + CELL_ROOM * length row.now.values ≤ length bytes.old }
     ensures arcs { arcs.new ≡ arcs_of_row before.now row.now }
-    ensures written { take result bytes.new ≡ take at bytes.old ++ flat_map cell_text (codes_of_row before.now row.now) }
+    ensures written { take result bytes.new
+        ≡ take at bytes.old ++ flat_map cell_text (codes_of_row before.now row.now) }
     ensures from { at ≤ result }
     ensures within { result ≤ at + CELL_ROOM * length row.now.values }
 {
@@ -309,7 +319,7 @@ impl Model for HeldSatellite {
 }
 
 impl HeldSatellite {
-    /// A satellite without a name, to be gone on with.
+    /// A satellite without a name, to begin with.
     pub(crate) fn new(alloc: Global) -> HeldSatellite {
         HeldSatellite {
             name: [b' '; NAME_WIDTH],
@@ -350,7 +360,8 @@ impl HeldSatellite {
         lines: &mut Lines,
     ) -> Result<(), AllocError>
         ensures after { OnOk result (self.new ≡ row_tail_after (option_copied before.entry) row.now) }
-        ensures line { OnOk result (lines.new ≡ lines.old ++ row_line_after (option_copied before.entry) row.now ∷ []) }
+        ensures line { OnOk result (lines.new
+            ≡ lines.old ++ row_line_after (option_copied before.entry) row.now ∷ []) }
     {
         match before {
             Some(held) => lines.push_row(self, &held.arcs, &held.flags, row, part),
@@ -384,7 +395,8 @@ impl HeldSatellite {
         requires room { at + (CELL_ROOM * length row.now.values + length marks.now) < length bytes.old }
         ensures after { self.new ≡ record self.old { cells = arcs_of_row arcs.now row.now } }
         ensures line { take (at + result) bytes.new
-            ≡ take at bytes.old ++ without_end_blanks (flat_map cell_text (codes_of_row arcs.now row.now) ++ marks.now) }
+            ≡ take at bytes.old ++ without_end_blanks
+            (flat_map cell_text (codes_of_row arcs.now row.now) ++ marks.now) }
         ensures within { at + result < length bytes.new }
     {
         let end = write_cells(arcs, row, &mut self.arcs, bytes, at);
@@ -410,8 +422,10 @@ impl HeldSatellite {
         requires other { begins_epoch line.now ≡ false }
         requires named { row.old.name ≡ satellite.now.name }
         requires sized { length row.old.values ≡ satellite.now.count }
-        ensures ok { OnOk result (row_held (option_copied before.entry) satellite.now line.now ≡ Ok (record { row = row.new; tail = self.new })) }
-        ensures err { IfErr result (λ fault. (row_held (option_copied before.entry) satellite.now line.now ≡ Err fault)
+        ensures ok { OnOk result (row_held (option_copied before.entry) satellite.now line.now
+            ≡ Ok (record { row = row.new; tail = self.new })) }
+        ensures err { IfErr result
+            (λ fault. (row_held (option_copied before.entry) satellite.now line.now ≡ Err fault)
             ⊎ (fault ≡ Fault.OutOfMemory)) }
     {
         match before {
@@ -435,8 +449,10 @@ impl HeldSatellite {
         requires other { begins_epoch line.now ≡ false }
         requires named { row.old.name ≡ satellite.now.name }
         requires sized { length row.old.values ≡ satellite.now.count }
-        ensures ok { OnOk result (row_held_from arcs.now flags.now satellite.now line.now ≡ Ok (record { row = row.new; tail = self.new })) }
-        ensures err { IfErr result (λ fault. (row_held_from arcs.now flags.now satellite.now line.now ≡ Err fault)
+        ensures ok { OnOk result (row_held_from arcs.now flags.now satellite.now line.now
+            ≡ Ok (record { row = row.new; tail = self.new })) }
+        ensures err { IfErr result
+            (λ fault. (row_held_from arcs.now flags.now satellite.now line.now ≡ Err fault)
             ⊎ (fault ≡ Fault.OutOfMemory)) }
     {
         let count = satellite.count();
@@ -501,10 +517,12 @@ fn read_indicators(
     requires counted { length row.old.values ≡ count }
     requires held { AreHeldFlags held.old.items }
     ensures marks { OnOk result (are_marks count marks.now ≡ true) }
-    ensures row { OnOk result (row.new ≡ record row.old { flags = columns (patched before.now marks.now) 1 (2 * count) }) }
+    ensures row { OnOk result (row.new
+        ≡ record row.old { flags = columns (patched before.now marks.now) 1 (2 * count) }) }
     ensures held { OnOk result (held.new.items ≡ flags_held count (patched before.now marks.now)) }
     ensures kept { AreHeldFlags held.new.items }
-    ensures err { IfErr result (λ fault. ((are_marks count marks.now ≡ false) × (fault ≡ Fault.BadFlags)) ⊎ (fault ≡ Fault.OutOfMemory)) }
+    ensures err { IfErr result (λ fault. ((are_marks count marks.now ≡ false) × (fault ≡ Fault.BadFlags))
+        ⊎ (fault ≡ Fault.OutOfMemory)) }
 {
     if marks.is_empty() {
         return keep_flags(before, count, row, held);
@@ -523,7 +541,8 @@ fn keep_flags(
     requires before { AreHeldFlags before.now }
     requires allowed { IsAllowedCount count }
     requires counted { length row.old.values ≡ count }
-    ensures row { OnOk result (row.new ≡ record row.old { flags = columns (patched before.now []) 1 (2 * count) }) }
+    ensures row { OnOk result (row.new
+        ≡ record row.old { flags = columns (patched before.now []) 1 (2 * count) }) }
     ensures held { OnOk result (held.new.items ≡ flags_held count (patched before.now [])) }
     ensures kept { AreHeldFlags held.new.items }
     ensures err { IfErr result (λ fault. fault ≡ Fault.OutOfMemory) }
@@ -549,10 +568,12 @@ fn patch_flags(
     requires counted { length row.old.values ≡ count }
     requires held { AreHeldFlags held.old.items }
     ensures marks { OnOk result (are_marks count marks.now ≡ true) }
-    ensures row { OnOk result (row.new ≡ record row.old { flags = columns (patched before.now marks.now) 1 (2 * count) }) }
+    ensures row { OnOk result (row.new
+        ≡ record row.old { flags = columns (patched before.now marks.now) 1 (2 * count) }) }
     ensures held { OnOk result (held.new.items ≡ flags_held count (patched before.now marks.now)) }
     ensures kept { AreHeldFlags held.new.items }
-    ensures err { IfErr result (λ fault. ((are_marks count marks.now ≡ false) × (fault ≡ Fault.BadFlags)) ⊎ (fault ≡ Fault.OutOfMemory)) }
+    ensures err { IfErr result (λ fault. ((are_marks count marks.now ≡ false) × (fault ≡ Fault.BadFlags))
+        ⊎ (fault ≡ Fault.OutOfMemory)) }
 {
     match read_marks(before, count, marks, row, part) {
         Ok(()) => hold_flags(held_flags(part.bytes(), count), held),
@@ -593,7 +614,8 @@ fn read_marks(
     ensures marks { OnOk result (are_marks count marks.now ≡ true) }
     ensures text { OnOk result (part.new ≡ patched before.now marks.now) }
     ensures held { OnOk result (AreHeldFlags part.new) }
-    ensures row { OnOk result (row.new ≡ record row.old { flags = columns (patched before.now marks.now) 1 (2 * count) }) }
+    ensures row { OnOk result (row.new
+        ≡ record row.old { flags = columns (patched before.now marks.now) 1 (2 * count) }) }
     ensures err { IfErr result (λ fault. (are_marks count marks.now ≡ false) × (fault ≡ Fault.BadFlags)) }
 {
     if !all_blank(after_columns(marks, 2 * count)) {
@@ -630,8 +652,9 @@ fn read_cells(
 ) -> Result<usize, Fault>
     requires counted { length arcs.old ≡ count }
     requires sized { length row.old.values ≡ count }
-    ensures ok { IfOk result (λ at. AreRead before.now count line.now arcs.new row.old row.new at) }
-    ensures err { IfErr result (λ fault. cells_read (value_at_place before.now) (cells_of count line.now) ≡ Err fault) }
+    ensures ok { IfOk result (λ at. CellsAreRead before.now count line.now arcs.new row.old row.new at) }
+    ensures err { IfErr result
+        (λ fault. cells_read (value_at_place before.now) (cells_of count line.now) ≡ Err fault) }
 {
     let mut at = 0;
     for place in 0..count {

@@ -4,18 +4,19 @@ ghost use Rattle.std.specs.Bool.{OnTrue};
 ghost use Rattle.std.specs.Option.{option_copied};
 ghost use Rattle.std.specs.Prelude.{slice_get, ◌≡◌, ◌≤◌, ◌<◌, ◌⊎◌, None, Some, Ok, Err, length, is_some, false, true, OnOk, OnErr, IfOk, IfErr, IfSome, OnSome, IfNone, take};
 ghost use Rattle.crx_lines.specs.declared.limits.TheConstants.{LINE_LIMIT};
-ghost use Rattle.crx_rinex.specs.Observations.{Row, Epoch as ObservationEpoch};
-ghost use Rattle.crx_rinex.specs.Epochs.{begun, has_satellite, is_full_epoch, with_row};
+ghost use Rattle.crx_rinex.specs.meaning.Observations.{Row, Epoch as ObservationEpoch};
+ghost use Rattle.crx_rinex.specs.Epochs.{begun, is_full_epoch, with_row};
+ghost use Rattle.crx_rinex.specs.meaning.Epochs.{has_satellite};
 ghost use Rattle.crx_compact.specs.Tails.{Tail};
-ghost use Rattle.crx_compact.specs.OpenEpochs.{opened, Going, Whole, Faulty};
+ghost use Rattle.crx_compact.specs.OpenEpochs.{opened_raw, Going, Whole, Faulty};
 ghost use Rattle.crx_compact.specs.HeldRows.{row_after, IsNextRow};
 ghost use Rattle.std.specs.List.{list_all};
-ghost use Rattle.crx_rinex.specs.EpochLines.{begins_epoch};
-ghost use Rattle.crx_text.specs.Columns.{columns};
-ghost use Rattle.crx_text.specs.Texts.{is_printable};
+ghost use Rattle.crx_rinex.specs.meaning.EpochLines.{begins_epoch};
+ghost use Rattle.crx_text.specs.meaning.Columns.{columns};
+ghost use Rattle.crx_text.specs.meaning.Texts.{is_printable};
 ghost use Rattle.crx_lines.specs.declared.limits.TheConstants.{HEAD_WIDTH};
-ghost use Rattle.crx_compact.specs.EpochText.{epoch_count};
-ghost use Rattle.crx_compact.specs.CompactPlaces.{clock_line_read};
+ghost use Rattle.crx_rinex.specs.meaning.EpochLines.{epoch_count};
+ghost use Rattle.crx_compact.specs.meaning.CompactPlaces.{clock_line_read};
 ghost use Rattle.crx_compact.specs.OpenEpochs.{past_of_tail};
 ghost use Rattle.crx_compact.specs.OpenLines.{open_raw, made_of, step_after, HasClock, IsRowAfter};
 
@@ -110,10 +111,13 @@ impl Incoming {
         line: &[u8],
     ) -> Result<(), Fault>
         requires short { length line.now ≤ LINE_LIMIT }
-        ensures ok { OnOk result (IfSome self.new (λ lines. opened types.now line.now (Some before.now) ≡ Ok (open_raw before.now lines))) }
+        ensures ok { OnOk result (IfSome self.new
+            (λ lines. opened_raw types.now line.now (Some before.now) ≡ Ok (open_raw before.now lines))) }
         ensures open { OnOk result (is_some self.new ≡ true) }
-        ensures err { IfErr result (λ fault. (opened types.now line.now (Some before.now) ≡ Err fault) ⊎ (fault ≡ Fault.OutOfMemory)) }
-        ensures memory { IfErr result (λ fault. fault ≡ Fault.OutOfMemory → list_all is_printable line.now ≡ true) }
+        ensures err { IfErr result (λ fault. (opened_raw types.now line.now (Some before.now) ≡ Err fault)
+            ⊎ (fault ≡ Fault.OutOfMemory)) }
+        ensures memory { IfErr result (λ fault. fault ≡ Fault.OutOfMemory
+            → list_all is_printable line.now ≡ true) }
     {
         self.stage = Stage::Unbegun;
         self.satellites.clear();
@@ -135,7 +139,8 @@ impl Incoming {
         requires short { length line.now ≤ LINE_LIMIT }
         ensures ok { OnOk result (step_after before.now self.old line.now ≡ made_of before.now self.new) }
         ensures open { OnOk result (is_some self.new ≡ true) }
-        ensures err { IfErr result (λ fault. (step_after before.now self.old line.now ≡ Faulty fault) ⊎ (fault ≡ Fault.OutOfMemory)) }
+        ensures err { IfErr result (λ fault. (step_after before.now self.old line.now ≡ Faulty fault)
+            ⊎ (fault ≡ Fault.OutOfMemory)) }
         ensures memory { IfErr result (λ fault. fault ≡ Fault.OutOfMemory
             → (begins_epoch line.now ≡ false) × IfSome self.old (λ lines. is_some lines.clock ≡ true)) }
     {
@@ -183,7 +188,8 @@ impl Incoming {
 
     /// Whether the line after the next one is one of the epoch too: the clock line has come, and more than one satellite is awaited.
     pub(crate) fn is_early(&self) -> bool
-        ensures { OnTrue result (IfSome self.now (λ lines. (is_some lines.clock ≡ true) × (1 < length lines.awaited))) }
+        ensures { OnTrue result (IfSome self.now
+            (λ lines. (is_some lines.clock ≡ true) × (1 < length lines.awaited))) }
     {
         match &self.stage {
             Stage::Rows(_) => self.satellites.len() - self.count > 1,
@@ -194,9 +200,11 @@ impl Incoming {
     /// The epoch, where all its lines have come. What they leave then is what is kept.
     pub(crate) fn finish(&mut self, kept: &mut KeptEpoch) -> Option<Epoch>
         requires open { is_some self.old ≡ true }
-        ensures whole { IfSome result (λ epoch. (before : Tail) → made_of before self.old ≡ Whole (record { epoch = epoch; tail = kept.new })) }
+        ensures whole { IfSome result (λ epoch. (before : Tail)
+            → made_of before self.old ≡ Whole (record { epoch = epoch; tail = kept.new })) }
         ensures over { OnSome result (self.new ≡ None) }
-        ensures going { IfNone result (IfSome self.old (λ lines. (before : Tail) → made_of before self.old ≡ Going (open_raw before lines))) }
+        ensures going { IfNone result (IfSome self.old
+            (λ lines. (before : Tail) → made_of before self.old ≡ Going (open_raw before lines))) }
         ensures same { IfNone result ((self.new ≡ self.old) × (kept.new ≡ kept.old)) }
     {
         let Stage::Rows(_) = &self.stage else {
@@ -232,7 +240,8 @@ fn begin_rows(
     line: &[u8],
 ) -> Result<(), Fault>
     requires { is_some (epoch_count (columns next.old.text 1 HEAD_WIDTH)) ≡ true }
-    ensures ok { OnOk result ((epoch : ObservationEpoch) × (stage.new ≡ Stage.Rows epoch) × HasClock before.now line.now next.old next.new epoch) }
+    ensures ok { OnOk result ((epoch : ObservationEpoch)
+        × (stage.new ≡ Stage.Rows epoch) × HasClock before.now line.now next.old next.new epoch) }
     ensures err { IfErr result (λ fault. clock_line_read (past_of_tail before.now) line.now ≡ Err fault) }
     ensures same { OnErr result (stage.new ≡ stage.old) }
 {
@@ -291,8 +300,10 @@ fn next_row(
     requires new { has_satellite satellite.now.name epoch.old.rows ≡ false }
     requires left { count ≤ length next.old.rows }
     requires short { length line.now ≤ LINE_LIMIT }
-    ensures ok { OnOk result (IsRowAfter before.now satellite.now line.now count epoch.old epoch.new next.old next.new) }
-    ensures err { IfErr result (λ fault. (row_after before.now satellite.now line.now ≡ Err fault) ⊎ (fault ≡ Fault.OutOfMemory)) }
+    ensures ok { OnOk result
+        (IsRowAfter before.now satellite.now line.now count epoch.old epoch.new next.old next.new) }
+    ensures err { IfErr result (λ fault. (row_after before.now satellite.now line.now ≡ Err fault)
+        ⊎ (fault ≡ Fault.OutOfMemory)) }
     ensures memory { IfErr result (λ fault. fault ≡ Fault.OutOfMemory → begins_epoch line.now ≡ false) }
 {
     if begins_epoch(line) {
@@ -321,7 +332,8 @@ fn renew_row(
     held: &mut Option<SatRow>,
     satellite: &AwaitedSatellite,
 ) -> Result<(), Fault>
-    ensures ready { OnOk result (IfSome held.new (λ row. (row.name ≡ satellite.now.name) × (length row.values ≡ satellite.now.count))) }
+    ensures ready { OnOk result (IfSome held.new
+        (λ row. (row.name ≡ satellite.now.name) × (length row.values ≡ satellite.now.count))) }
     ensures same { epoch.new ≡ epoch.old }
 {
     if let Some(row) = held {
@@ -338,7 +350,8 @@ fn hold_row(
     held: &mut Option<SatRow>,
     satellite: &AwaitedSatellite,
 ) -> Result<(), Fault>
-    ensures ready { OnOk result (IfSome held.new (λ row. (row.name ≡ satellite.now.name) × (length row.values ≡ satellite.now.count))) }
+    ensures ready { OnOk result (IfSome held.new
+        (λ row. (row.name ≡ satellite.now.name) × (length row.values ≡ satellite.now.count))) }
     ensures same { epoch.new ≡ epoch.old }
 {
     let spare = epoch.take_spare();

@@ -3,19 +3,19 @@
 ghost use Rattle.std.specs.Prelude.{ℕ, min, ◌≡◌, ◌≤◌, ◌<◌, ◌+◌, false, ◌++◌, ◌∷◌, [], true, Ok, Err, length, take, map, ◌⊎◌, OnOk, OnSome, IfOk, IfErr};
 ghost use Rattle.std.specs.Bool.{OnTrue};
 ghost use Rattle.std.specs.List.{list_all};
-ghost use Rattle.crx_text.specs.Columns.{without_end_blanks};
-ghost use Rattle.crx_text.specs.Texts.{is_kept, is_printable};
+ghost use Rattle.crx_text.specs.meaning.Columns.{without_end_blanks};
+ghost use Rattle.crx_text.specs.meaning.Texts.{is_kept, is_printable};
 ghost use Rattle.crx_lines.specs.declared.limits.TheConstants.{LINE_LIMIT};
-ghost use Rattle.crx_rinex.specs.EpochLines.{begins_epoch};
-ghost use Rattle.crx_rinex.specs.Epochs.{IsSoundEpoch};
-ghost use Rattle.crx_compact.specs.Compaction.{epoch_text};
+ghost use Rattle.crx_rinex.specs.meaning.EpochLines.{begins_epoch};
+ghost use Rattle.crx_rinex.specs.meaning.Epochs.{IsSoundEpoch};
+ghost use Rattle.crx_compact.specs.meaning.Compaction.{epoch_text};
 ghost use Rattle.crx_text.specs.Texts.{patched};
 ghost use Rattle.crx_text.specs.Numbers.{IsClock};
 ghost use Rattle.std.specs.Option.{option_copied, ForSome};
-ghost use Rattle.crx_compact.specs.CompactPlaces.{clock_line_read, satellites_of_line};
+ghost use Rattle.crx_compact.specs.meaning.CompactPlaces.{clock_line_read, satellites_of_line};
 ghost use Rattle.crx_compact.specs.OpenEpochs.{past_of_tail};
-ghost use Rattle.crx_compact.specs.Steps.{arc_of_code, lines_after, no_tail, row_line_in, row_tail_in, tail_after};
-ghost use Rattle.crx_compact.specs.Sequences.{named};
+ghost use Rattle.crx_compact.specs.Steps.{arc_of_code, lines_after_tail, no_tail, row_line_in, row_tail_in, tail_after};
+ghost use Rattle.crx_compact.specs.meaning.Sequences.{named};
 ghost use Rattle.crx_compact.specs.Tails.{RowTail};
 ghost use Rattle.crx_compact.specs.HeldRows.{row_after, AreNamed, IsNextRow};
 
@@ -88,7 +88,8 @@ impl KeptEpoch {
     /// What is kept of a satellite at a place, where it is this satellite.
     #[inline(always)]
     fn find_at(&self, place: usize, name: [u8; NAME_WIDTH]) -> Option<&HeldSatellite>
-        ensures { OnSome result (option_copied result ≡ named (λ (row : RowTail). row.name) name self.now.rows) }
+        ensures { OnSome result (option_copied result
+            ≡ named (λ (row : RowTail). row.name) name self.now.rows) }
     {
         if place < self.placed && self.names.has_at(place, name) {
             return Some(&self.satellites[place]);
@@ -134,7 +135,7 @@ impl KeptEpoch {
     ) -> Result<(), AllocError>
         requires { IsSoundEpoch epoch.now }
         ensures after { OnOk result (self.new ≡ tail_after before.now epoch.now) }
-        ensures lines { OnOk result (lines.new ≡ lines.old ++ lines_after before.now epoch.now) }
+        ensures lines { OnOk result (lines.new ≡ lines.old ++ lines_after_tail before.now epoch.now) }
     {
         self.placed = 0;
         renew_text(&mut self.text, epoch)?;
@@ -160,11 +161,14 @@ impl KeptEpoch {
     ) -> Result<(), Fault>
         requires short { length line.now ≤ LINE_LIMIT }
         requires none { satellites.old.items ≡ [] }
-        ensures ok { OnOk result (satellites_of_line types.now (past_of_tail before.now) line.now ≡ Ok satellites.new.items) }
+        ensures ok { OnOk result (satellites_of_line types.now (past_of_tail before.now) line.now
+            ≡ Ok satellites.new.items) }
         ensures text { OnOk result (self.new ≡ record self.old { text = patched before.now.text line.now }) }
-        ensures err { IfErr result (λ fault. (satellites_of_line types.now (past_of_tail before.now) line.now ≡ Err fault)
+        ensures err { IfErr result
+            (λ fault. (satellites_of_line types.now (past_of_tail before.now) line.now ≡ Err fault)
             ⊎ (fault ≡ Fault.OutOfMemory)) }
-        ensures memory { IfErr result (λ fault. fault ≡ Fault.OutOfMemory → list_all is_printable line.now ≡ true) }
+        ensures memory { IfErr result (λ fault. fault ≡ Fault.OutOfMemory
+            → list_all is_printable line.now ≡ true) }
     {
         if patch_bytes(&before.text, line, part).is_err() {
             return Err(Fault::BadEpoch);
@@ -187,8 +191,10 @@ impl KeptEpoch {
         before: &KeptEpoch,
         line: &[u8],
     ) -> Result<(Code, Option<i64>), Fault>
-        ensures ok { IfOk result (λ cell. clock_line_read (past_of_tail before.now) line.now ≡ Ok (record { code = cell.0; value = cell.1 })) }
-        ensures left { IfOk result (λ cell. self.new ≡ record self.old { clock = arc_of_code cell.0 before.now.clock }) }
+        ensures ok { IfOk result (λ cell. clock_line_read (past_of_tail before.now) line.now
+            ≡ Ok (record { code = cell.0; value = cell.1 })) }
+        ensures left { IfOk result
+            (λ cell. self.new ≡ record self.old { clock = arc_of_code cell.0 before.now.clock }) }
         ensures ranged { IfOk result (λ cell. ForSome cell.1 IsClock) }
         ensures err { IfErr result (λ fault. clock_line_read (past_of_tail before.now) line.now ≡ Err fault) }
     {
@@ -224,8 +230,10 @@ impl KeptEpoch {
         requires next { index ≤ length self.old.rows }
         requires named { row.old.name ≡ satellite.now.name }
         requires sized { length row.old.values ≡ satellite.now.count }
-        ensures ok { OnOk result (IsNextRow before.now satellite.now line.now index row.new self.old self.new) }
-        ensures err { IfErr result (λ fault. (row_after before.now satellite.now line.now ≡ Err fault) ⊎ (fault ≡ Fault.OutOfMemory)) }
+        ensures ok { OnOk result
+            (IsNextRow before.now satellite.now line.now index row.new self.old self.new) }
+        ensures err { IfErr result (λ fault. (row_after before.now satellite.now line.now ≡ Err fault)
+            ⊎ (fault ≡ Fault.OutOfMemory)) }
     {
         let Ok(()) = make_room(self.alloc, &mut self.satellites, index) else {
             return Err(Fault::OutOfMemory);
@@ -287,7 +295,8 @@ fn make_room(
 ) -> Result<(), AllocError>
     requires { index ≤ length satellites.old.items }
     ensures room { OnOk result (index < length satellites.new.items) }
-    ensures same { (count : ℕ) → count ≤ length satellites.old.items → take count satellites.new.items ≡ take count satellites.old.items }
+    ensures same { (count : ℕ) → count ≤ length satellites.old.items
+        → take count satellites.new.items ≡ take count satellites.old.items }
     ensures grown { length satellites.old.items ≤ length satellites.new.items }
 {
     if index < satellites.len() {
@@ -300,7 +309,8 @@ fn make_room(
 #[inline(never)]
 fn add_room(alloc: Global, satellites: &mut Vec<HeldSatellite>) -> Result<(), AllocError>
     ensures room { OnOk result (length satellites.new.items ≡ length satellites.old.items + 1) }
-    ensures same { (count : ℕ) → count ≤ length satellites.old.items → take count satellites.new.items ≡ take count satellites.old.items }
+    ensures same { (count : ℕ) → count ≤ length satellites.old.items
+        → take count satellites.new.items ≡ take count satellites.old.items }
     ensures grown { length satellites.old.items ≤ length satellites.new.items }
 {
     satellites.push(HeldSatellite::new(alloc))?;

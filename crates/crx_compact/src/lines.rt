@@ -5,9 +5,9 @@ ghost use Rattle.std.specs.Borrow.{sem};
 ghost use Rattle.std.specs.Io.BufRead.{Rests};
 ghost use Rattle.std.specs.Option.{option_copied};
 ghost use Rattle.crx_lines.specs.declared.limits.TheConstants.{LINE_LIMIT};
-ghost use Rattle.crx_text.specs.Columns.{without_end_blanks};
+ghost use Rattle.crx_text.specs.meaning.Columns.{without_end_blanks};
 ghost use Rattle.crx_compact.specs.Cells.{arcs_of_row, codes_of_row};
-ghost use Rattle.crx_compact.specs.Compaction.{line_of_codes};
+ghost use Rattle.crx_compact.specs.meaning.Compaction.{line_of_codes};
 ghost use Rattle.crx_compact.specs.LineLists.{lines_text};
 ghost use Rattle.crx_compact.specs.contracts.lines.Lines.{the_row};
 
@@ -19,7 +19,7 @@ use crx_text::block::{grow, put_line};
 use std::alloc::{AllocError, Global};
 use std::marker::Model;
 
-/// Lines that are still to be lent, each followed by LF, in memory that is kept for those after them.
+/// Lines that are pending, each followed by LF, in memory that is kept for those after them.
 #[derive(Drop)]
 pub struct Lines {
     /// The lines, and after them what is left of longer ones.
@@ -94,8 +94,13 @@ impl Lines {
         part: &mut Text,
     ) -> Result<(), AllocError>
         requires { length flags.now ≤ LINE_LIMIT }
-        ensures after { OnOk result (satellite.new ≡ record { name = row.now.name; flags = without_end_blanks row.now.flags; cells = arcs_of_row arcs.now row.now }) }
-        ensures line { OnOk result (self.new ≡ self.old ++ line_of_codes (codes_of_row arcs.now row.now) flags.now row.now.flags ∷ []) }
+        ensures after { OnOk result (satellite.new ≡ record {
+          name = row.now.name;
+          flags = without_end_blanks row.now.flags;
+          cells = arcs_of_row arcs.now row.now;
+        }) }
+        ensures line { OnOk result (self.new
+            ≡ self.old ++ line_of_codes (codes_of_row arcs.now row.now) flags.now row.now.flags ∷ []) }
     {
         satellite.begin(row)?;
         mark_change(flags, satellite.flags(), part);
@@ -111,17 +116,17 @@ impl Lines {
         Ok(())
     }
 
-    /// Whether all lines were lent.
+    /// Whether no line is pending.
     pub fn is_empty(&self) -> bool
         ensures { IsTrue result ↔ (self.now ≡ []) }
     {
         self.lent == self.lengths.len()
     }
 
-    /// Lends the next line, without its line end; `None` once all were lent.
+    /// Lends the next line, without its line end; `None` once none is pending.
     pub fn next_line(&mut self) -> Option<&[u8]>
         ensures value { option_copied result ≡ slice_get self.old 0 }
-        // That line is no longer among those to be lent.
+        // That line is no longer pending.
         ensures* after_borrow { sem 𝓛 (Rests the_row self.entry (λ new. new ≡ drop 1 self.old)) }
     {
         if self.lent == self.lengths.len() {
@@ -134,10 +139,10 @@ impl Lines {
         Some(&self.bytes[start..end])
     }
 
-    /// Lends the text of all lines that are still to be lent, each followed by LF.
+    /// Lends the text of all lines that are pending, each followed by LF.
     pub fn take_text(&mut self) -> &[u8]
         ensures value { result.now ≡ lines_text self.old }
-        // No line is left to be lent.
+        // No line is pending.
         ensures* after_borrow { sem 𝓛 (Rests the_row self.entry (λ new. new ≡ [])) }
     {
         let start = self.lent_bytes;

@@ -1,10 +1,10 @@
 //! The way back: what one `Columns` makes of an epoch, another one reads.
 
 ghost use Rattle.std.specs.Prelude.{◌≡◌, ◌⊎◌, ◌↔◌, ◌∷◌, List, Some, true, false, map, IfOk, IfErr, IsTrue};
-ghost use Rattle.crx_lines.specs.Seen.{Content};
-ghost use Rattle.crx_compact.specs.Compaction.{Marked, compact_epoch, since_full};
+ghost use Rattle.crx_lines.specs.meaning.Seen.{Content};
+ghost use Rattle.crx_compact.specs.meaning.Compaction.{Marked, compact_epoch, since_full};
 ghost use Rattle.crx_compact.specs.Laws.{AreWhole};
-ghost use Rattle.crx_compact.specs.LentLines.{AreReadable, HasGiven, IsReadable, StandsAt};
+ghost use Rattle.crx_compact.specs.BorrowedLines.{AreReadable, HasGiven, IsReadable, IsFaultAt};
 ghost use Rattle.crx_compact.specs.OpenEpochs.{is_idle, place_by_steps, tail_held};
 ghost use Rattle.crx_compact.specs.OpenEpochs.ColumnsState.{Idle};
 ghost use Rattle.crx_compact.specs.Tails.{tail_or_nothing};
@@ -21,7 +21,7 @@ fn is_readable(line: &[u8]) -> bool
     line.len() <= LINE_LIMIT && !is_event_line(line)
 }
 
-/// Reads compact lines that are lent one after another, up to the epoch that they make; `None` where they want more.
+/// Reads compact lines that are borrowed one after another, up to the epoch that they make; `None` where they want more.
 ///
 /// The faults are those of [`Columns::begin`] and [`Columns::feed`]; `NotAnEpoch` comes at an event's line too, and at one that
 /// is longer than a line may be.
@@ -31,9 +31,11 @@ fn read_lent(
     coded: &mut Coded,
 ) -> Result<Option<Epoch>, Fault>
     requires idle { is_idle columns.old ≡ true }
-    ensures given { IfOk result (λ given. HasGiven (place_by_steps types.now (tail_held columns.old) (map Content coded.old.lines)) columns.new given) }
+    ensures given { IfOk result (λ given. HasGiven
+        (place_by_steps types.now (tail_held columns.old) (map Content coded.old.lines)) columns.new given) }
     ensures refused { AreReadable coded.old.lines
-        → IfErr result (λ fault. StandsAt (place_by_steps types.now (tail_held columns.old) (map Content coded.old.lines)) fault ⊎ (fault ≡ Fault.OutOfMemory)) }
+        → IfErr result (λ fault. IsFaultAt (place_by_steps types.now
+        (tail_held columns.old) (map Content coded.old.lines)) fault ⊎ (fault ≡ Fault.OutOfMemory)) }
 {
     let Some(first) = coded.next_line() else {
         return Ok(None);
@@ -70,10 +72,12 @@ pub fn read_back(
     requires idle { is_idle columns.old ≡ true }
     // After any epochs at all, written so that they can be read: the lines give the newest of them, and what is held then is
     // what the writer holds.
-    ensures epoch { (m : Marked) (older : List Marked) → AreWhole types.now (since_full (m ∷ older)) → coded.old.lines ≡ compact_epoch (m ∷ older)
+    ensures epoch { (m : Marked) (older : List Marked)
+        → AreWhole types.now (since_full (m ∷ older)) → coded.old.lines ≡ compact_epoch (m ∷ older)
         → (m.in_full ≡ false → tail_held columns.old ≡ tail_or_nothing older)
         → IfOk result (λ given. (given ≡ Some m.epoch) × (columns.new ≡ Idle (tail_or_nothing (m ∷ older)))) }
-    ensures refused { (m : Marked) (older : List Marked) → AreWhole types.now (since_full (m ∷ older)) → coded.old.lines ≡ compact_epoch (m ∷ older)
+    ensures refused { (m : Marked) (older : List Marked)
+        → AreWhole types.now (since_full (m ∷ older)) → coded.old.lines ≡ compact_epoch (m ∷ older)
         → (m.in_full ≡ false → tail_held columns.old ≡ tail_or_nothing older)
         → IfErr result (λ fault. fault ≡ Fault.OutOfMemory) }
 {

@@ -1,6 +1,6 @@
 -- When a call fails, by its plan, by the calls made before and by the bytes given or taken.
 use Rattle.std.specs.Prelude.{ℕ, Bool, false, not, ◌&&◌, ◌||◌, ◌==◌, ◌-◌, min, nat_le, nat_lt, if◌then◌else◌}
-use Rattle.crx_lines.specs.Devices.{one_more}
+use Rattle.crx_lines.specs.meaning.Devices.{one_more}
 use Rattle.crx_devices.specs.declared.plan.When.{When}
 use Rattle.crx_devices.specs.declared.plan.When.TheVariants.{Never, AfterCalls, AfterBytes}
 use Rattle.crx_devices.specs.declared.plan.Watch.{Watch}

@@ -2,7 +2,7 @@
 ghost use Rattle.std.specs.Prelude.{◌≡◌, ℕ, List, [], ◌++◌, ◌+◌, ◌-◌, ◌<◌, ◌≤◌, length, take, min, is_err, true, false, ◌||◌, IfOk, OnOk, OnErr};
 ghost use Rattle.std.specs.Vec.{vec_len};
 ghost use Rattle.crx_devices.specs.Joining.{taken_both, taken_none};
-ghost use Rattle.crx_lines.specs.Devices.{one_more};
+ghost use Rattle.crx_lines.specs.meaning.Devices.{one_more};
 
 use crate::plan::{Plan, Watch};
 use crx_lines::{Sink, WriteFailed};
@@ -103,15 +103,19 @@ impl Sink for FailingSink {
 
     fn write(&mut self, bytes: &[u8]) -> Result<usize, WriteFailed>
         ensures bound { IfOk result (λ n. n ≤ length bytes.now) }
-        ensures bytes { IfOk result (λ n. take self.new.len self.new.memory.items ≡ take self.old.len self.old.memory.items ++ take n bytes.now) }
+        ensures bytes { IfOk result (λ n. take self.new.len self.new.memory.items
+            ≡ take self.old.len self.old.memory.items ++ take n bytes.now) }
         ensures progress { IfOk result (λ n. 0 < length bytes.now → 0 < n) }
         ensures unflushed { self.new.flushed ≡ true → ⊥ }
         ensures unasked { self.new.flushes.calls ≡ self.old.flushes.calls }
         ensures good { OnOk result (self.new.failures ≡ self.old.failures) }
-        ensures none_taken { OnErr result (take self.new.len self.new.memory.items ≡ take self.old.len self.old.memory.items ++ []) }
+        ensures none_taken { OnErr result
+            (take self.new.len self.new.memory.items ≡ take self.old.len self.old.memory.items ++ []) }
         ensures counted { OnErr result (self.new.failures ≡ one_more self.old.failures) }
-        ensures fails { is_err result ≡ (fails self.old.writes self.old.len || is_stuck (length bytes.now) self.old.at_most (length self.old.memory.items - self.old.len)) }
-        ensures count { IfOk result (λ n. n ≡ up_to_failure self.old.writes self.old.len (min (min (length bytes.now) self.old.at_most) (length self.old.memory.items - self.old.len))) }
+        ensures fails { is_err result ≡ (fails self.old.writes self.old.len
+            || is_stuck (length bytes.now) self.old.at_most (length self.old.memory.items - self.old.len)) }
+        ensures count { IfOk result (λ n. n ≡ up_to_failure self.old.writes self.old.len
+            (min (min (length bytes.now) self.old.at_most) (length self.old.memory.items - self.old.len))) }
         ensures len { IfOk result (λ n. self.new.len ≡ self.old.len + n) }
         ensures writes { self.new.writes ≡ after_call self.old.writes self.old.len }
         ensures flushes { self.new.flushes ≡ self.old.flushes }
@@ -137,7 +141,8 @@ impl Sink for FailingSink {
     }
 
     fn flush(&mut self) -> Result<(), WriteFailed>
-        ensures none_taken { take self.new.len self.new.memory.items ≡ take self.old.len self.old.memory.items ++ [] }
+        ensures none_taken { take self.new.len self.new.memory.items
+            ≡ take self.old.len self.old.memory.items ++ [] }
         ensures good { OnOk result (self.new.failures ≡ self.old.failures) }
         ensures flushed { OnOk result (self.new.flushed ≡ true) }
         ensures asked { self.new.flushes.calls ≡ one_more self.old.flushes.calls }

@@ -1,7 +1,8 @@
 //! A source over memory that fails where its plan says.
 ghost use Rattle.std.specs.Prelude.{◌≡◌, ℕ, List, [], ◌∷◌, ◌++◌, ◌+◌, ◌^◌, ◌-◌, ◌<◌, ◌≤◌, length, take, drop, min, is_err, IfOk, OnOk, OnErr};
 ghost use Rattle.crx_devices.specs.Joining.{given_both};
-ghost use Rattle.crx_lines.specs.Devices.{ends_after, one_more};
+ghost use Rattle.crx_lines.specs.Devices.{ends_after};
+ghost use Rattle.crx_lines.specs.meaning.Devices.{one_more};
 
 use crate::plan::{Plan, Watch};
 use crx_lines::{ReadFailed, Source};
@@ -93,7 +94,8 @@ impl Source for FailingSource<'_> {
         ensures no_end { OnErr result (self.new.ends ≡ self.old.ends) }
         ensures counted { OnErr result (self.new.failures ≡ one_more self.old.failures) }
         ensures fails { is_err result ≡ fails self.old.reads self.old.given }
-        ensures count { IfOk result (λ n. n ≡ up_to_failure self.old.reads self.old.given (min (min (length buffer.new) self.old.at_most) (length self.old.left.now))) }
+        ensures count { IfOk result (λ n. n ≡ up_to_failure self.old.reads self.old.given
+            (min (min (length buffer.new) self.old.at_most) (length self.old.left.now))) }
         ensures reads { self.new.reads ≡ after_call self.old.reads self.old.given }
         ensures given { IfOk result (λ n. self.new.given ≡ min (self.old.given + n) (2 ^ 64 - 1)) }
         ensures none_given { OnErr result (self.new.given ≡ self.old.given) }

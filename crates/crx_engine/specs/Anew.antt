@@ -1,20 +1,20 @@
--- Where the reading of compact text starts anew: what stands from there on depends on the observation types in force, and on the lines
--- from there on alone.
--- Lists of items have the newest first.
+-- Where the reading of compact text starts anew: what stands from there on depends on the observation types in force,
+-- and on the lines from there on alone. Lists of items have the newest first.
 use Rattle.std.specs.Prelude.{◌≡◌, ℕ, zero, suc, Bool, true, false, ◌&&◌, List, [], ◌∷◌, ◌++◌, if◌then◌else◌}
-use Rattle.crx_lines.specs.Seen.{ReadLine, Content, Overlong}
-use Rattle.crx_rinex.specs.EpochLines.{begins_epoch, is_event_line}
-use Rattle.crx_compact.specs.CompactPlaces.{ReadEpoch}
-use Rattle.crx_engine.specs.Items.{Item, header_has_ended, records_announced, records_left, types_in_force}
-use Rattle.crx_engine.specs.Reading.{Reading, Stop, reading_from}
-use Rattle.crx_engine.specs.Expanded.{compact_place}
+use Rattle.crx_lines.specs.meaning.Seen.{ReadLine, Content, Overlong}
+use Rattle.crx_rinex.specs.meaning.EpochLines.{begins_epoch, is_event_line}
+use Rattle.crx_compact.specs.meaning.CompactPlaces.{ReadEpoch}
+use Rattle.crx_engine.specs.meaning.Items.{Item, header_has_ended, records_announced, records_left, types_in_force}
+use Rattle.crx_engine.specs.meaning.Reading.{Reading, Stop, reading_from}
+use Rattle.crx_engine.specs.meaning.Expanded.{compact_place}
 
--- whether all starts anew at some lines, after so many records of an event: each line that comes after them begins with >, and the
--- first one that begins no event begins with > too
+-- whether all starts anew at some lines, after so many records of an event: each line that comes after them begins with
+-- >, and the first one that begins no event begins with > too
 abbrev pub starts_anew : ℕ → List ReadLine → Bool
 starts_anew zero [] = true
 starts_anew zero (Overlong ∷ lines) = false
-starts_anew zero (Content line ∷ lines) = begins_epoch line && (if is_event_line line then starts_anew (records_announced line) lines else true)
+starts_anew zero (Content line ∷ lines) =
+    begins_epoch line && (if is_event_line line then starts_anew (records_announced line) lines else true)
 starts_anew (suc left) [] = true
 starts_anew (suc left) (line ∷ lines) = starts_anew left lines
 
@@ -34,5 +34,7 @@ pub record GoOnAlike (before other : List (Item ReadEpoch)) (one two : Reading R
 abbrev pub DependsOnTypes : Type 0
 DependsOnTypes =
     (skip : Bool) (before other : List (Item ReadEpoch)) (number : ℕ) (lines : List ReadLine)
-    → IsBetweenUnits before → IsBetweenUnits other → types_in_force before ≡ types_in_force other → starts_anew 0 lines ≡ true
-    → GoOnAlike before other (reading_from compact_place skip before number lines) (reading_from compact_place skip other number lines)
+    → IsBetweenUnits before → IsBetweenUnits other
+    → types_in_force before ≡ types_in_force other → starts_anew 0 lines ≡ true
+    → GoOnAlike before other (reading_from compact_place skip before number lines)
+    (reading_from compact_place skip other number lines)

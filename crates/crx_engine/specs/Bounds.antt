@@ -1,21 +1,25 @@
 -- What is held between two lines is bounded, however long the input is.
 use Rattle.std.specs.Prelude.{ℕ, ◌≡◌, ◌≤◌, ◌+◌, ◌*◌, ⊤, true, List, [], ◌∷◌, length, Option, IfSome}
 use Rattle.std.specs.List.{AllByRecursion}
-use Rattle.crx_lines.specs.declared.limits.TheConstants.{LINE_LIMIT, SATELLITES_LIMIT, TYPES_LIMIT, HEAD_WIDTH, NAME_WIDTH, CELL_WIDTH, ORDER_LIMIT, WRITTEN_ORDER}
-use Rattle.crx_lines.specs.Seen.{ReadLine, Content, Overlong}
-use Rattle.crx_rinex.specs.Observations.{Row, Epoch}
-use Rattle.crx_rinex.specs.Units.{Unit as FileUnit, HeaderLine, EventLine, EventRecord, Observation}
-use Rattle.crx_rinex.specs.EpochPlaces.{OpenEpoch}
-use Rattle.crx_rinex.specs.ObservationTypes.{AreCounts, system_letters}
+use Rattle.crx_lines.specs.declared.limits.TheConstants.{LINE_LIMIT, SATELLITES_LIMIT, TYPES_LIMIT, HEAD_WIDTH}
+use Rattle.crx_lines.specs.declared.limits.TheConstants.{NAME_WIDTH, CELL_WIDTH, ORDER_LIMIT, WRITTEN_ORDER}
+use Rattle.crx_lines.specs.meaning.Seen.{ReadLine, Content, Overlong}
+use Rattle.crx_rinex.specs.meaning.Observations.{Row, Epoch}
+use Rattle.crx_rinex.specs.meaning.Units.{Unit as FileUnit, HeaderLine, EventLine, EventRecord, Observation}
+use Rattle.crx_rinex.specs.meaning.EpochPlaces.{OpenEpoch}
+use Rattle.crx_rinex.specs.ObservationTypes.{AreCounts}
+use Rattle.crx_rinex.specs.meaning.ObservationTypes.{system_letters}
 use Rattle.crx_compact.specs.Tails.{Tail, IsBoundedTail}
-use Rattle.crx_compact.specs.CompactPlaces.{ReadEpoch}
+use Rattle.crx_compact.specs.meaning.CompactPlaces.{ReadEpoch}
 use Rattle.crx_compact.specs.OpenEpochs.{OpenRawEpoch, IsBoundedOpen}
-use Rattle.crx_engine.specs.Choices.{Choices, is_date}
-use Rattle.crx_engine.specs.Items.{Item, Accepted, Warned}
-use Rattle.crx_engine.specs.Compacted.{compact_unit, rinex_reading}
-use Rattle.crx_engine.specs.Expanded.{expanded_unit, compact_reading}
+use Rattle.crx_engine.specs.meaning.Choices.{Choices, is_date}
+use Rattle.crx_engine.specs.meaning.Items.{Item, Accepted, Warned}
+use Rattle.crx_engine.specs.meaning.Compacted.{compact_unit}
+use Rattle.crx_engine.specs.Compacted.{rinex_reading}
+use Rattle.crx_engine.specs.meaning.Expanded.{expanded_unit}
+use Rattle.crx_engine.specs.Expanded.{compact_reading}
 use Rattle.crx_engine.specs.LineByLine.{Phase, InEpoch, Seen}
-use Rattle.crx_engine.specs.Compactor.{Written}
+use Rattle.crx_engine.specs.CompactionByLine.{Written}
 
 -- a row within the limits: its identifier, a value for each type, and two indicators
 pub record IsBoundedRow (row : Row) : Type 0 where
@@ -23,8 +27,8 @@ pub record IsBoundedRow (row : Row) : Type 0 where
   pub values : length row.values ≤ TYPES_LIMIT
   pub flags : length row.flags ≤ 2 * TYPES_LIMIT
 
--- an epoch whose rows have come in part, within the limits: the types in force at its line, that line's columns, and as many rows as an
--- epoch may have
+-- an epoch whose rows have come in part, within the limits: the types in force at its line, that line's columns, and as
+-- many rows as an epoch may have
 pub record IsBoundedEpoch (so_far : OpenEpoch) : Type 0 where
   pub systems : length so_far.types ≤ length system_letters
   pub counts : AreCounts so_far.types
@@ -37,8 +41,8 @@ abbrev pub OfOpen : {O : Type 0} → (O → Type 0) → Phase O → Type 0
 OfOpen P (InEpoch so_far) = P so_far
 OfOpen P phase = ⊤
 
--- what a compaction holds: a count for each system at most; of the epochs before, what is left of the last, with the numbers of the order
--- that is written; and of an epoch whose rows have come in part, as many rows as an epoch may have
+-- what a compaction holds: a count for each system at most; of the epochs before, what is left of the last, with the
+-- numbers of the order that is written; and of an epoch whose rows have come in part, as many rows as an epoch may have
 pub record IsBoundedCompaction (seen : Seen OpenEpoch Written) : Type 0 where
   pub systems : length seen.types ≤ length system_letters
   pub counts : AreCounts seen.types
@@ -52,9 +56,9 @@ pub record IsBoundedExpansion (seen : Seen OpenRawEpoch (Option Tail)) : Type 0 
   pub tail : IfSome seen.kept (IsBoundedTail ORDER_LIMIT)
   pub open_epoch : OfOpen IsBoundedOpen seen.phase
 
--- ---- what is lent
+-- ---- what is borrowed
 
--- the lines of a unit are few enough to be lent, and none is longer than so many bytes
+-- the lines of a unit are few enough to be borrowed, and none is longer than so many bytes
 pub record AreLendable (longest : ℕ) (lines : List (List ℕ)) : Type 0 where
   pub few : length lines ≤ SATELLITES_LIMIT + 2
   pub short : AllByRecursion (λ (line : List ℕ). length line ≤ longest) lines
@@ -65,7 +69,8 @@ OfUnits P [] = ⊤
 OfUnits P (Accepted unit ∷ before) = P before unit × OfUnits P before
 OfUnits P (Warned at ∷ before) = OfUnits P before
 
--- the longest line of a unit in compact text: that of an epoch has so many codes of 15 characters, each with a blank and two indicators
+-- the longest line of a unit in compact text: that of an epoch has so many codes of 15 characters, each with a blank
+-- and two indicators
 abbrev pub longest_of : FileUnit Epoch → ℕ
 longest_of (HeaderLine line) = LINE_LIMIT
 longest_of (EventLine line) = LINE_LIMIT
@@ -77,10 +82,12 @@ abbrev pub IsNotTooLong : ReadLine → Type 0
 IsNotTooLong (Content line) = length line ≤ LINE_LIMIT
 IsNotTooLong Overlong = ⊤
 
--- the lines of each accepted unit can be lent, where no line that was read is too long
+-- the lines of each accepted unit can be borrowed, where no line that was read is too long
 abbrev pub CompactIsLendable : Choices → List ReadLine → Type 0
 CompactIsLendable choices lines =
-    is_date choices.date ≡ true → AllByRecursion IsNotTooLong lines → OfUnits (λ before unit. AreLendable (longest_of unit) (compact_unit choices before unit)) (rinex_reading choices.skip lines).items
+    is_date choices.date ≡ true → AllByRecursion IsNotTooLong lines
+    → OfUnits (λ before unit. AreLendable (longest_of unit) (compact_unit choices before unit))
+    (rinex_reading choices.skip lines).items
 
 -- the longest line of a unit in RINEX: that of an epoch has an identifier and so many cells, each with two indicators
 abbrev pub longest_printed : FileUnit ReadEpoch → ℕ
@@ -92,4 +99,6 @@ longest_printed (Observation read) = NAME_WIDTH + CELL_WIDTH * TYPES_LIMIT
 -- the same of the units that an expansion accepts
 abbrev pub ExpandedIsLendable : Choices → List ReadLine → Type 0
 ExpandedIsLendable choices lines =
-    AllByRecursion IsNotTooLong lines → OfUnits (λ before unit. AreLendable (longest_printed unit) (expanded_unit before unit)) (compact_reading choices.skip lines).items
+    AllByRecursion IsNotTooLong lines
+    → OfUnits (λ before unit. AreLendable (longest_printed unit) (expanded_unit before unit))
+    (compact_reading choices.skip lines).items

@@ -1,14 +1,14 @@
 -- What a reader of compact text makes of a line.
 use Rattle.std.specs.Prelude.{◌≡◌, ◌⊎◌, ℕ, ◌+◌, true, List, [], ◌∷◌, Option}
-use Rattle.crx_lines.specs.Seen.{Content}
+use Rattle.crx_lines.specs.meaning.Seen.{Content}
 use Rattle.crx_lines.specs.declared.fault.Fault.{Fault}
 use Rattle.crx_lines.specs.declared.fault.Fault.TheVariants.{OutOfMemory}
-use Rattle.crx_rinex.specs.Printing.{printed_epoch}
+use Rattle.crx_rinex.specs.meaning.Printing.{printed_epoch}
 use Rattle.crx_compact.specs.OpenEpochs.{OpenRawEpoch, HeldEpoch, tail_held}
 use Rattle.crx_compact.specs.Tails.{Tail}
-use Rattle.crx_engine.specs.Choices.{Choices}
-use Rattle.crx_engine.specs.Expander.{expansion, is_clock_read, may_be_epoch_line}
-use Rattle.crx_engine.specs.LineByLine.{Phase, Seen, Made, Fails, Answer, Quiet, Ready, made_in, step_of}
+use Rattle.crx_engine.specs.meaning.Choices.{Choices}
+use Rattle.crx_engine.specs.ExpansionByLine.{expansion, is_clock_read, may_be_epoch_line}
+use Rattle.crx_engine.specs.LineByLine.{Phase, Seen, Made, Fails, Answer, Quiet, Ready, made_in, step_of_made}
 use Rattle.crx_engine.specs.Memory.{may_take_memory}
 use Rattle.crx_engine.specs.EngineSteps.{seen_stage}
 use Rattle.crx_engine.specs.CompactStages.{open_in}
@@ -19,26 +19,32 @@ use Rattle.crx_engine.specs.declared.compact_reader.CompactStep.TheVariants.{Not
 
 -- what an expansion with this reader would be seen as in a stage, by its choices and the number of its last line
 abbrev pub seen_in : Choices → ℕ → CompactReader → Stage → Seen OpenRawEpoch (Option Tail)
-seen_in choices number r stage = record { choices = choices; number = number; phase = seen_stage (open_in r.columns) stage; types = r.types; kept = tail_held r.columns }
+seen_in choices number r stage = record {
+  choices = choices;
+  number = number;
+  phase = seen_stage (open_in r.columns) stage;
+  types = r.types;
+  kept = tail_held r.columns;
+}
 
 -- what it is seen as
-abbrev pub seen_with : Choices → ℕ → CompactReader → Seen OpenRawEpoch (Option Tail)
-seen_with choices number r = seen_in choices number r r.stage
+abbrev pub compact_reader_state : Choices → ℕ → CompactReader → Seen OpenRawEpoch (Option Tail)
+compact_reader_state choices number r = seen_in choices number r r.stage
 
 -- where it is
-abbrev pub phase_of : CompactReader → Phase OpenRawEpoch
-phase_of r = seen_stage (open_in r.columns) r.stage
+abbrev pub compact_reader_phase : CompactReader → Phase OpenRawEpoch
+compact_reader_phase r = seen_stage (open_in r.columns) r.stage
 
 -- what a line makes
 abbrev pub made_next : CompactReader → List ℕ → Made HeldEpoch OpenRawEpoch
-made_next r line = made_in expansion (phase_of r) r.types (tail_held r.columns) (Content line)
+made_next r line = made_in expansion (compact_reader_phase r) r.types (tail_held r.columns) (Content line)
 
 abbrev pub answer_for : CompactStep → Answer
 answer_for Nothing = Quiet
 answer_for Copied = Ready
 answer_for (Whole epoch) = Ready
 
--- the lines that are to be lent for a line: itself, or those of the epoch that it completes
+-- the lines that are pending after a line: itself, or those of the epoch that it completes
 abbrev pub lent_for : List ℕ → CompactStep → List (List ℕ)
 lent_for line Nothing = []
 lent_for line Copied = line ∷ []
@@ -48,9 +54,15 @@ abbrev pub counted : Seen OpenRawEpoch (Option Tail) → Seen OpenRawEpoch (Opti
 counted seen = record seen { number = seen.number + 1 }
 
 -- a line that makes this is taken: its step but for the count
-abbrev pub Takes : Made HeldEpoch OpenRawEpoch → List ℕ → Seen OpenRawEpoch (Option Tail) → Seen OpenRawEpoch (Option Tail) → CompactStep → Type 0
-Takes made line before after step = record { answer = answer_for step; lent = lent_for line step; next = counted after } ≡ step_of expansion before (Content line) made
+abbrev pub TakesCompactLine : Made HeldEpoch OpenRawEpoch
+    → List ℕ → Seen OpenRawEpoch (Option Tail) → Seen OpenRawEpoch (Option Tail) → CompactStep → Type 0
+TakesCompactLine made line before after step = record {
+  answer = answer_for step;
+  lent = lent_for line step;
+  next = counted after;
+} ≡ step_of_made expansion before (Content line) made
 
 -- a fault is that of the line, or memory ran out at a line that may take some, by what is kept of the epochs before
-abbrev pub Refuses : Option Tail → Made HeldEpoch OpenRawEpoch → Phase OpenRawEpoch → List ℕ → Fault → Type 0
-Refuses tail made phase line fault = (made ≡ Fails fault) ⊎ ((fault ≡ OutOfMemory) × (may_take_memory (may_be_epoch_line tail) (λ so_far next. is_clock_read so_far) phase (Content line) ≡ true))
+abbrev pub RefusesCompactLine : Option Tail → Made HeldEpoch OpenRawEpoch → Phase OpenRawEpoch → List ℕ → Fault → Type 0
+RefusesCompactLine tail made phase line fault = (made ≡ Fails fault) ⊎ ((fault ≡ OutOfMemory)
+    × (may_take_memory (may_be_epoch_line tail) (λ so_far next. is_clock_read so_far) phase (Content line) ≡ true))

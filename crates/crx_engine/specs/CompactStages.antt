@@ -1,10 +1,11 @@
 -- The epoch that a reader of compact text holds open.
 use Rattle.std.specs.Prelude.{Bool, true, false, List, [], ◌∷◌, Option, Some, None}
-use Rattle.crx_compact.specs.EpochText.{Satellite}
+use Rattle.crx_compact.specs.meaning.EpochText.{Satellite}
 use Rattle.crx_compact.specs.OpenEpochs.{OpenRawEpoch, HeldClock, ColumnsState, is_idle}
 use Rattle.crx_compact.specs.OpenEpochs.ColumnsState.{Idle, Reading}
 use Rattle.crx_engine.specs.declared.stage.Stage.{Stage}
-use Rattle.crx_engine.specs.declared.stage.Stage.TheVariants.{FirstLines, Header, Between, Event, Open, Looking, Closed, Ended}
+use Rattle.crx_engine.specs.declared.stage.Stage.TheVariants.{FirstLines, Header, Between, Event, Open, Looking, Closed}
+use Rattle.crx_engine.specs.declared.stage.Stage.TheVariants.{Ended}
 
 -- the epoch whose lines have come in part
 abbrev pub open_in : ColumnsState → Option OpenRawEpoch
@@ -23,12 +24,12 @@ wants_lines (Idle tail) = false
 wants_lines (Reading begun) = wants_line begun.clock begun.awaited
 
 -- an epoch is open in the stage of one alone, and it wants lines
-abbrev pub is_consistent : Stage → ColumnsState → Bool
-is_consistent Open columns = wants_lines columns
-is_consistent (FirstLines count) columns = is_idle columns
-is_consistent (Header is_first) columns = is_idle columns
-is_consistent Between columns = is_idle columns
-is_consistent (Event left counted) columns = is_idle columns
-is_consistent Looking columns = is_idle columns
-is_consistent Closed columns = is_idle columns
-is_consistent (Ended at) columns = is_idle columns
+abbrev pub is_compact_stage : Stage → ColumnsState → Bool
+is_compact_stage Open columns = wants_lines columns
+is_compact_stage (FirstLines count) columns = is_idle columns
+is_compact_stage (Header is_first) columns = is_idle columns
+is_compact_stage Between columns = is_idle columns
+is_compact_stage (Event left counted) columns = is_idle columns
+is_compact_stage Looking columns = is_idle columns
+is_compact_stage Closed columns = is_idle columns
+is_compact_stage (Ended at) columns = is_idle columns

@@ -1,17 +1,22 @@
 -- What an engine of either direction does with a line, and how the stage that it is in is seen.
-use Rattle.std.specs.Prelude.{◌≡◌, ◌⊎◌, ℕ, ◌+◌, Bool, true, false, List, [], Option, Some, None, Result, Ok, Err, if◌then◌else◌}
-use Rattle.crx_lines.specs.Seen.{ReadLine}
+use Rattle.std.specs.Prelude.{◌≡◌, ◌⊎◌, ℕ, ◌+◌, Bool, true, false, List, [], Option, Some, None, Result, Ok, Err}
+use Rattle.std.specs.Prelude.{if◌then◌else◌}
+use Rattle.crx_lines.specs.meaning.Seen.{ReadLine}
 use Rattle.crx_lines.specs.declared.fault.At.{At}
 use Rattle.crx_lines.specs.declared.fault.Fault.{Fault}
 use Rattle.crx_lines.specs.declared.fault.Fault.TheVariants.{OutOfMemory}
-use Rattle.crx_engine.specs.LineByLine.{Phase as SeenPhase, InFirstLines, InHeader, BetweenUnits, InEvent, InEpoch, LookingOn, Closed as SeenClosed, Ended as SeenEnded, Seen, Direction, Answer, Quiet as SeenQuiet, Ready as SeenReady, Notice, Failed, Step as SeenStep, seen_next, seen_end, failed_step}
-use Rattle.crx_engine.specs.Reading.{can_go_on}
+use Rattle.crx_engine.specs.LineByLine.{Phase as SeenPhase, InFirstLines, InHeader, BetweenUnits, InEvent, InEpoch}
+use Rattle.crx_engine.specs.LineByLine.{LookingOn, Closed as SeenClosed, Ended as SeenEnded, Seen, Direction, Answer}
+use Rattle.crx_engine.specs.LineByLine.{Quiet as SeenQuiet, Ready as SeenReady, Notice, Failed, Step as SeenStep}
+use Rattle.crx_engine.specs.LineByLine.{seen_next, seen_end, failed_step}
+use Rattle.crx_engine.specs.meaning.Reading.{can_go_on}
 use Rattle.crx_engine.specs.Memory.{takes_memory}
 use Rattle.crx_engine.specs.declared.engine.Step.{Step}
 use Rattle.crx_engine.specs.declared.engine.Step.TheVariants.{Quiet, Ready, Warned}
 use Rattle.crx_engine.specs.declared.settled.Settled.{Settled}
 use Rattle.crx_engine.specs.declared.stage.Stage.{Stage}
-use Rattle.crx_engine.specs.declared.stage.Stage.TheVariants.{FirstLines, Header, Between, Event, Open, Looking, Closed, Ended}
+use Rattle.crx_engine.specs.declared.stage.Stage.TheVariants.{FirstLines, Header, Between, Event, Open, Looking, Closed}
+use Rattle.crx_engine.specs.declared.stage.Stage.TheVariants.{Ended}
 
 -- ---- stages
 
@@ -57,18 +62,19 @@ is_settled stage = false
 
 -- ---- steps
 
-abbrev pub answer_of : Result Step At → Answer
-answer_of (Ok Quiet) = SeenQuiet
-answer_of (Ok Ready) = SeenReady
-answer_of (Ok (Warned notice again)) = Notice notice again
-answer_of (Err at) = Failed at
+abbrev pub answer_of_step : Result Step At → Answer
+answer_of_step (Ok Quiet) = SeenQuiet
+answer_of_step (Ok Ready) = SeenReady
+answer_of_step (Ok (Warned notice again)) = Notice notice again
+answer_of_step (Err at) = Failed at
 
 -- what an engine answers, what it then has ready, and what it is seen as then
 abbrev pub step_made : {O K : Type 0} → Result Step At → List (List ℕ) → Seen O K → SeenStep O K
-step_made result ready after = record { answer = answer_of result; lent = ready; next = after }
+step_made result ready after = record { answer = answer_of_step result; lent = ready; next = after }
 
 -- memory ran out at the next line, which is one that may take some; that line counts
-pub record RanOut {U O K : Type 0} (direction : Direction U O K) (before : Seen O K) (line : ReadLine) (result : Result Step At) (after : Seen O K) : Type 0 where
+pub record RanOut {U O K : Type 0} (direction : Direction U O K)
+    (before : Seen O K) (line : ReadLine) (result : Result Step At) (after : Seen O K) : Type 0 where
   pub at : At
   pub is : result ≡ Err at
   pub fault : at.fault ≡ OutOfMemory
@@ -77,31 +83,39 @@ pub record RanOut {U O K : Type 0} (direction : Direction U O K) (before : Seen 
   pub counted : after.number ≡ before.number + 1
 
 -- the step of a line, or memory ran out at it
-abbrev pub Steps : {U O K : Type 0} → Direction U O K → Seen O K → ReadLine → Result Step At → List (List ℕ) → Seen O K → Type 0
-Steps direction before line result ready after = (step_made result ready after ≡ seen_next direction before line) ⊎ RanOut direction before line result after
+abbrev pub Steps : {U O K : Type 0}
+    → Direction U O K → Seen O K → ReadLine → Result Step At → List (List ℕ) → Seen O K → Type 0
+Steps direction before line result ready after = (step_made result ready after ≡ seen_next direction before line)
+    ⊎ RanOut direction before line result after
 
 -- ---- faults and the end of the input
 
--- what is known of a run at a line with a fault, or at the end of the input: its stage, with the epoch that is held open in it, the
--- last line's number, and whether faults are skipped
-pub record IsAt {O K : Type 0} (seen : Seen O K) (held : Option O) (stage : Stage) (count : ℕ) (skips : Bool) : Type 0 where
+-- what is known of a run at a line with a fault, or at the end of the input: its stage, with the epoch that is held
+-- open in it, the last line's number, and whether faults are skipped
+pub record IsAt {O K : Type 0}
+    (seen : Seen O K) (held : Option O) (stage : Stage) (count : ℕ) (skips : Bool) : Type 0 where
   pub is_phase : seen.phase ≡ seen_stage held stage
   pub is_open : is_held stage held ≡ true
   pub is_count : seen.number ≡ count
   pub is_skip : seen.choices.skip ≡ skips
 
--- a run that has settled so: whatever is held open, none is
+-- a run that has stopped so: whatever is held open, none is
 abbrev pub settled_seen : {U O K : Type 0} → Direction U O K → Seen O K → Option O → Settled → Seen O K
 settled_seen direction before held s =
-    record before { number = s.number; phase = seen_stage held s.stage; kept = if s.is_emptied then direction.emptied before.kept else before.kept }
+    record before {
+      number = s.number;
+      phase = seen_stage held s.stage;
+      kept = if s.is_emptied then direction.emptied before.kept else before.kept;
+    }
 
--- it has settled as a fault of the next line asks, which reading may go on at or not
+-- it has stopped as a fault of the next line asks, which reading may go on at or not
 abbrev pub SettlesFault : {U O K : Type 0} → Direction U O K → Stage → ℕ → Bool → Fault → Bool → Settled → Type 0
 SettlesFault {O = O} {K = K} direction stage number skip fault goes_on s =
-    (before : Seen O K) (held now : Option O) (line : ReadLine) → IsAt before held stage number skip → can_go_on line ≡ goes_on
+    (before : Seen O K) (held now : Option O) (line : ReadLine)
+    → IsAt before held stage number skip → can_go_on line ≡ goes_on
     → step_made s.answer [] (settled_seen direction before now s) ≡ failed_step direction before line fault
 
--- it has settled as the end of the input asks
+-- it has stopped as the end of the input asks
 abbrev pub SettlesEnd : {U O K : Type 0} → Direction U O K → Stage → ℕ → Bool → Settled → Type 0
 SettlesEnd {O = O} {K = K} direction stage number skip s =
     (before : Seen O K) (held now : Option O) → IsAt before held stage number skip

@@ -1,25 +1,30 @@
--- A run line by line: what is kept between two lines, and what one line more makes of it. Both directions go this way; what differs
--- between them stands in a `Direction`. O is what is held of an epoch whose lines have come in part, K what is kept of the epochs
--- before, and U what a whole epoch gives.
-use Rattle.std.specs.Prelude.{ℕ, zero, suc, Bool, true, false, not, ◌&&◌, ◌+◌, ◌-◌, List, [], Option, Some, None, Result, Ok, Err, if◌then◌else◌}
-use Rattle.crx_lines.specs.Seen.{ReadLine, Content, Overlong}
+-- A run line by line: what is kept between two lines, and what one line more makes of it. Both directions go this way;
+-- what differs between them stands in a `Direction`. O is what is held of an epoch whose lines have come in part, K
+-- what is kept of the epochs before, and U what a whole epoch gives.
+use Rattle.std.specs.Prelude.{ℕ, zero, suc, Bool, true, false, not, ◌&&◌, ◌+◌, ◌-◌, List, [], Option, Some, None}
+use Rattle.std.specs.Prelude.{Result, Ok, Err, if◌then◌else◌}
+use Rattle.crx_lines.specs.meaning.Seen.{ReadLine, Content, Overlong}
 use Rattle.crx_lines.specs.declared.fault.At.{At}
 use Rattle.crx_lines.specs.declared.fault.Fault.{Fault}
 use Rattle.crx_lines.specs.declared.fault.Fault.TheVariants.{LineTooLong, MissingVersion, NoEndOfHeader, Truncated}
-use Rattle.crx_rinex.specs.Header.{is_end_of_header}
-use Rattle.crx_rinex.specs.ObservationTypes.{Count, with_line}
-use Rattle.crx_rinex.specs.Units.{Unit, HeaderLine, EventLine, EventRecord, Observation}
-use Rattle.crx_engine.specs.Choices.{Choices}
-use Rattle.crx_engine.specs.Items.{Item, is_at_start, header_has_ended, records_announced, records_left, counts_types, records_count_types, types_in_force}
-use Rattle.crx_engine.specs.UnitPlaces.{header_line, event_record}
-use Rattle.crx_engine.specs.Reading.{Reading, AtFault, AtLines, Looking, is_skippable, can_go_on}
-use Rattle.crx_engine.specs.Expanded.{crinex_version, crinex_program, fault_in_first_lines}
+use Rattle.crx_rinex.specs.meaning.Header.{is_end_of_header}
+use Rattle.crx_rinex.specs.meaning.ObservationTypes.{Count}
+use Rattle.crx_rinex.specs.ObservationTypes.{with_line}
+use Rattle.crx_rinex.specs.meaning.Units.{Unit, HeaderLine, EventLine, EventRecord, Observation}
+use Rattle.crx_engine.specs.meaning.Choices.{Choices}
+use Rattle.crx_engine.specs.meaning.Items.{Item, is_at_start, header_has_ended, records_announced, records_left}
+use Rattle.crx_engine.specs.meaning.Items.{counts_types, records_count_types, types_in_force}
+use Rattle.crx_engine.specs.meaning.UnitPlaces.{header_line, event_record}
+use Rattle.crx_engine.specs.meaning.Reading.{Reading, AtFault, AtLines, Looking, can_go_on}
+use Rattle.crx_lines.specs.meaning.Faults.{is_skippable}
+use Rattle.crx_engine.specs.meaning.Expanded.{crinex_version, crinex_program, fault_in_first_lines}
 
 -- ---- what is seen between two lines
 
--- where a run is: so many of the first two lines of compact text are read; in the header, before its first line or later; between
--- two units; in an event, with so many records left, among which types lines count or don't; in an epoch; after a warning, where a
--- line that begins with > is looked for; after the end of the input; or ended by a fault
+-- where a run is: so many of the first two lines of compact text are read; in the header, before its first line or
+-- later; between two units; in an event, with so many records left, among which types lines count or don't; in an
+-- epoch; after a warning, where a line that begins with > is looked for; after the end of the input; or ended by a
+-- fault
 pub data Phase (O : Type 0) : Type 0 where
   InFirstLines : ℕ → Phase O
   InHeader : Bool → Phase O
@@ -47,9 +52,9 @@ pub data Made (U O : Type 0) : Type 0 where
   Fails : Fault → Made U O
   Repeats : At → Made U O
 
--- what differs between the two directions: what a line makes where an epoch or an event may begin; what it makes in an epoch; whether
--- a line may take memory where an epoch begins, and in an epoch; what is kept after a unit, while an epoch is open, and after a
--- fault; and the lines written for a unit
+-- what differs between the two directions: what a line makes where an epoch or an event may begin; what it makes in an
+-- epoch; whether a line may take memory where an epoch begins, and in an epoch; what is kept after a unit, while an
+-- epoch is open, and after a fault; and the lines written for a unit
 pub record Direction (U O K : Type 0) : Type 0 where
   pub begins : List Count → K → ReadLine → Made U O
   pub continues : O → ReadLine → Made U O
@@ -83,11 +88,14 @@ made_of_first_lines (suc count) line = moved_to (InHeader true) (crinex_program 
 -- what a line makes in a phase
 abbrev pub made_in : {U O K : Type 0} → Direction U O K → Phase O → List Count → K → ReadLine → Made U O
 made_in direction (InFirstLines count) types kept line = made_of_line (made_of_first_lines count) line
-made_in direction (InHeader is_first) types kept line = made_of_line (λ content. made_of_unit (header_line is_first content)) line
+made_in direction (InHeader is_first) types kept line =
+    made_of_line (λ content. made_of_unit (header_line is_first content)) line
 made_in direction BetweenUnits types kept line = direction.begins types kept line
-made_in direction (InEvent left counted) types kept line = made_of_line (λ content. made_of_unit (event_record counted content)) line
+made_in direction (InEvent left counted) types kept line =
+    made_of_line (λ content. made_of_unit (event_record counted content)) line
 made_in direction (InEpoch so_far) types kept line = direction.continues so_far line
-made_in direction LookingOn types kept line = if can_go_on line then direction.begins types kept line else Moves LookingOn
+made_in direction LookingOn types kept line =
+    if can_go_on line then direction.begins types kept line else Moves LookingOn
 made_in direction Closed types kept line = Moves Closed
 made_in direction (Ended at) types kept line = Repeats at
 
@@ -120,10 +128,10 @@ types_after phase types (EventLine line) = types
 types_after phase types (EventRecord line) = if are_types_counted phase then with_line types line else types
 types_after phase types (Observation epoch) = types
 
--- ---- what is answered, what is lent, and what is seen then
+-- ---- what is answered, what is borrowed, and what is seen then
 
--- nothing; lines are to be lent; a fault that is skipped, and whether reading goes on at the very line that was given, which then
--- comes a second time and doesn't count yet; or the fault that ended the run
+-- nothing; lines are pending; a fault that is skipped, and whether reading goes on at the very line that was given,
+-- which then comes a second time and doesn't count yet; or the fault that ended the run
 pub data Answer : Type 0 where
   Quiet : Answer
   Ready : Answer
@@ -167,11 +175,16 @@ after_unit direction seen unit = record {
 
 -- the next line's phase, and what is kept in it
 abbrev pub with_phase : {U O K : Type 0} → Direction U O K → Seen O K → Phase O → Seen O K
-with_phase direction seen phase = record seen { number = seen.number + 1; phase = phase; kept = kept_in direction phase seen.kept }
+with_phase direction seen phase =
+    record seen { number = seen.number + 1; phase = phase; kept = kept_in direction phase seen.kept }
 
 -- after a warning: a line that is to come again doesn't count yet
 abbrev pub after_warning : {U O K : Type 0} → Direction U O K → Seen O K → Bool → Seen O K
-after_warning direction seen again = record seen { number = if again then seen.number else seen.number + 1; phase = LookingOn; kept = direction.emptied seen.kept }
+after_warning direction seen again = record seen {
+  number = if again then seen.number else seen.number + 1;
+  phase = LookingOn;
+  kept = direction.emptied seen.kept;
+}
 
 -- a fault of a line: reading goes on at this very line where it stands in an epoch and begins with >
 abbrev pub failed_step : {U O K : Type 0} → Direction U O K → Seen O K → ReadLine → Fault → Step O K
@@ -182,15 +195,19 @@ failed_step direction seen line fault =
     then record { answer = Notice at again; lent = []; next = after_warning direction seen again }
     else record { answer = Failed at; lent = []; next = with_phase direction seen (Ended at) }
 
-abbrev pub step_of : {U O K : Type 0} → Direction U O K → Seen O K → ReadLine → Made U O → Step O K
-step_of direction seen line (Completes unit) = record { answer = Ready; lent = direction.written seen unit; next = after_unit direction seen unit }
-step_of direction seen line (Moves phase) = record { answer = Quiet; lent = []; next = with_phase direction seen phase }
-step_of direction seen line (Fails fault) = failed_step direction seen line fault
-step_of direction seen line (Repeats at) = record { answer = Failed at; lent = []; next = record seen { number = seen.number + 1 } }
+abbrev pub step_of_made : {U O K : Type 0} → Direction U O K → Seen O K → ReadLine → Made U O → Step O K
+step_of_made direction seen line (Completes unit) =
+    record { answer = Ready; lent = direction.written seen unit; next = after_unit direction seen unit }
+step_of_made direction seen line (Moves phase) =
+    record { answer = Quiet; lent = []; next = with_phase direction seen phase }
+step_of_made direction seen line (Fails fault) = failed_step direction seen line fault
+step_of_made direction seen line (Repeats at) =
+    record { answer = Failed at; lent = []; next = record seen { number = seen.number + 1 } }
 
 -- what one line more makes
 abbrev pub seen_next : {U O K : Type 0} → Direction U O K → Seen O K → ReadLine → Step O K
-seen_next direction seen line = step_of direction seen line (made_in direction seen.phase seen.types seen.kept line)
+seen_next direction seen line =
+    step_of_made direction seen line (made_in direction seen.phase seen.types seen.kept line)
 
 -- ---- the end of the input
 
@@ -215,7 +232,11 @@ end_step direction seen (Some fault) =
     let at : At = record { line = seen.number + 1; fault = fault } in
     if is_skipped_in seen fault
     then record { answer = Notice at false; lent = []; next = closed_after_warning direction seen }
-    else record { answer = Failed at; lent = []; next = record seen { phase = Ended at; kept = direction.emptied seen.kept } }
+    else record {
+      answer = Failed at;
+      lent = [];
+      next = record seen { phase = Ended at; kept = direction.emptied seen.kept };
+    }
 
 -- what the end of the input makes: a fault that ended the run is answered again
 abbrev pub seen_end : {U O K : Type 0} → Direction U O K → Seen O K → Step O K
@@ -235,7 +256,8 @@ phase_in_body (suc left) counted so_far = InEvent (suc left) counted
 
 -- the phase after some items, where more lines could make a unit, or the lines so far leave an epoch open
 abbrev pub phase_after_items : {E O : Type 0} → List (Item E) → Option O → Phase O
-phase_after_items items so_far = if not (header_has_ended items) then InHeader (is_at_start items) else phase_in_body (records_left items) (records_count_types items) so_far
+phase_after_items items so_far = if not (header_has_ended items) then InHeader (is_at_start items)
+    else phase_in_body (records_left items) (records_count_types items) so_far
 
 -- the phase where a reading stops, by the epoch that lines after some items leave open
 abbrev pub phase_of : {E O : Type 0} → (List (Item E) → List ReadLine → Option O) → Reading E → Phase O
@@ -247,7 +269,8 @@ phase_of open_with r =
     ]
 
 -- what is seen after so many lines, by where their reading stops and what is kept of its items
-abbrev pub seen_of : {E U O K : Type 0} → Direction U O K → (List (Item E) → List ReadLine → Option O) → (List (Item E) → K) → Choices → ℕ → Reading E → Seen O K
+abbrev pub seen_of : {E U O K : Type 0} → Direction U O K
+    → (List (Item E) → List ReadLine → Option O) → (List (Item E) → K) → Choices → ℕ → Reading E → Seen O K
 seen_of direction open_with kept_of choices count r = record {
   choices = choices;
   number = count;

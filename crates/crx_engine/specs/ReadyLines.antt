@@ -1,6 +1,6 @@
 -- The lines that a compaction has ready.
 use Rattle.std.specs.Prelude.{ℕ, List, ◌∷◌}
-use Rattle.crx_engine.specs.Compacted.{version_line}
+use Rattle.crx_engine.specs.meaning.Compacted.{version_line}
 use Rattle.crx_engine.specs.declared.ready_lines.Turn.{Turn}
 use Rattle.crx_engine.specs.declared.ready_lines.Turn.TheVariants.{Version, Program, Copied, Made}
 use Rattle.crx_engine.specs.declared.ready_lines.ReadyLines.{ReadyLines}
@@ -12,5 +12,5 @@ lines_from Program program copied made = program ∷ copied ∷ made
 lines_from Copied program copied made = copied ∷ made
 lines_from Made program copied made = made
 
-abbrev pub ready_lines : ReadyLines → List (List ℕ)
-ready_lines r = lines_from r.turn r.program.value r.copied.value r.made
+abbrev pub pending_lines : ReadyLines → List (List ℕ)
+pending_lines r = lines_from r.turn r.program.value r.copied.value r.made

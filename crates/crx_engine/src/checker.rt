@@ -2,17 +2,18 @@
 
 ghost use Rattle.std.specs.Prelude.{◌≡◌, ◌≤◌, ◌<◌, ◌+◌, ◌⊎◌, ℕ, List, [], None, Some, true, false, drop, slice_get, OnErr, OnOk, IfErr, IfOk};
 ghost use Rattle.crx_lines.specs.declared.limits.TheConstants.{INPUT_LIMIT};
-ghost use Rattle.crx_rinex.specs.EpochPlaces.{OpenEpoch};
-ghost use Rattle.crx_rinex.specs.Observations.{Epoch as ObservationEpoch};
-ghost use Rattle.crx_lines.specs.Lines.{InputLine};
+ghost use Rattle.crx_rinex.specs.meaning.EpochPlaces.{OpenEpoch};
+ghost use Rattle.crx_rinex.specs.meaning.Observations.{Epoch as ObservationEpoch};
+ghost use Rattle.crx_lines.specs.meaning.Lines.{InputLine};
 ghost use Rattle.crx_lines.specs.Reading.{line_shown, line_number};
-ghost use Rattle.crx_engine.specs.Checking.{check_filter, check_seen, earliest, fault_so_far, printed_made, totals_made};
-ghost use Rattle.crx_engine.specs.Checkers.{AreBounded, HasEnded, HasPrinted, HasTaken, IsOpen, ready_lines, seen_by, totals_held};
-ghost use Rattle.crx_engine.specs.Compactor.{is_before_header};
-ghost use Rattle.crx_engine.specs.Engines.{RunsOutAt, with_next};
+ghost use Rattle.crx_engine.specs.CheckByLine.{check_filter, check_seen, earliest, fault_so_far, printed_made, totals_made};
+ghost use Rattle.crx_engine.specs.CheckerState.{AreBounded, HasEnded, HasPrinted, CheckerHasTaken, CheckerIsOpen, pending_report, checker_state, totals_held};
+ghost use Rattle.crx_engine.specs.CompactionByLine.{is_before_header};
+ghost use Rattle.crx_engine.specs.Engines.{RunsOutAt};
+ghost use Rattle.crx_engine.specs.meaning.Filters.{with_next};
 ghost use Rattle.crx_engine.specs.LineByLine.{Made};
-ghost use Rattle.crx_engine.specs.RinexReaders.{reader_phase, Takes};
-ghost use Rattle.crx_engine.specs.Standard.{is_standard_line};
+ghost use Rattle.crx_engine.specs.RinexReaders.{reader_phase, TakesRinexLine};
+ghost use Rattle.crx_engine.specs.meaning.Standard.{is_standard_line};
 ghost use Rattle.crx_engine.specs.declared.rinex_reader.RinexReader.{RinexReader};
 ghost use Rattle.crx_rinex.specs.Printing.{last_line};
 
@@ -35,7 +36,7 @@ pub struct Checker {
     totals: Totals,
     /// The number of the first line that isn't standard.
     not_standard: Option<u64>,
-    /// How many lines of the report were lent; none before the end.
+    /// How many lines of the report were handed out; none before the end.
     lent: Option<usize>,
     /// A printed line.
     text: Text,
@@ -46,9 +47,9 @@ pub struct Checker {
 impl Checker {
     /// A checker before the first line of its input.
     pub fn new(alloc: Global) -> Checker
-        ensures taken { HasTaken result [] [] }
-        ensures running { IsOpen result }
-        ensures drained { ready_lines result ≡ [] }
+        ensures taken { CheckerHasTaken result [] [] }
+        ensures running { CheckerIsOpen result }
+        ensures drained { pending_report result ≡ [] }
     {
         Checker {
             reader: RinexReader::new(alloc),
@@ -77,10 +78,14 @@ impl Checker {
     fn count(&mut self, step: RinexStep, line: Line<'_>)
         requires bounded { AreBounded self.old.totals self.old.number }
         requires within { self.old.number < INPUT_LIMIT }
-        ensures totals { (before : RinexReader) (made : Made ObservationEpoch OpenEpoch) → Takes made before (line_shown line.entry).content step self.old.reader
-            → totals_held self.new.totals ≡ totals_made (totals_held self.old.totals) (is_before_header (reader_phase before)) made }
-        ensures standard { (before : RinexReader) (made : Made ObservationEpoch OpenEpoch) → Takes made before (line_shown line.entry).content step self.old.reader → HasPrinted made
-            → self.new.not_standard ≡ earliest self.old.not_standard (is_standard_line (line_shown line.entry) (last_line (printed_made made))) (self.old.number + 1) }
+        ensures totals { (before : RinexReader) (made : Made ObservationEpoch OpenEpoch)
+            → TakesRinexLine made before (line_shown line.entry).content step self.old.reader
+            → totals_held self.new.totals ≡ totals_made
+            (totals_held self.old.totals) (is_before_header (reader_phase before)) made }
+        ensures standard { (before : RinexReader) (made : Made ObservationEpoch OpenEpoch) → TakesRinexLine
+            made before (line_shown line.entry).content step self.old.reader → HasPrinted made
+            → self.new.not_standard ≡ earliest self.old.not_standard (is_standard_line
+            (line_shown line.entry) (last_line (printed_made made))) (self.old.number + 1) }
         ensures bounded { AreBounded self.new.totals self.new.number }
         ensures number { self.new.number ≡ self.old.number + 1 }
         ensures reader { self.new.reader ≡ self.old.reader }
@@ -111,16 +116,18 @@ impl Checker {
 
     /// Reads a line of the file. `OutOfMemory` comes only at a line that may take some; any other fault is that of the reading.
     fn read(&mut self, line: Line<'_>) -> Result<(), At>
-        requires open { IsOpen self.old }
+        requires open { CheckerIsOpen self.old }
         requires within { self.old.number < INPUT_LIMIT }
-        ensures open { OnOk result (IsOpen self.new) }
+        ensures open { OnOk result (CheckerIsOpen self.new) }
         ensures number { OnOk result (self.new.number ≡ self.old.number + 1) }
-        ensures nothing { OnErr result (ready_lines self.new ≡ []) }
+        ensures nothing { OnErr result (pending_report self.new ≡ []) }
         ensures ended { IfErr result (λ at. self.new.reader.stage ≡ Stage.Ended at) }
-        ensures good { (lines : List InputLine) → seen_by self.old ≡ check_seen lines
-            → OnOk result ((fault_so_far (with_next lines (line_shown line.entry)) ≡ None) × (seen_by self.new ≡ check_seen (with_next lines (line_shown line.entry)))) }
-        ensures faulty { (lines : List InputLine) → seen_by self.old ≡ check_seen lines
-            → IfErr result (λ at. RunsOutAt check_filter lines (line_shown line.entry) [] at ⊎ (fault_so_far (with_next lines (line_shown line.entry)) ≡ Some at)) }
+        ensures good { (lines : List InputLine) → checker_state self.old ≡ check_seen lines
+            → OnOk result ((fault_so_far (with_next lines (line_shown line.entry)) ≡ None)
+            × (checker_state self.new ≡ check_seen (with_next lines (line_shown line.entry)))) }
+        ensures faulty { (lines : List InputLine) → checker_state self.old ≡ check_seen lines
+            → IfErr result (λ at. RunsOutAt check_filter lines (line_shown line.entry)
+            [] at ⊎ (fault_so_far (with_next lines (line_shown line.entry)) ≡ Some at)) }
     {
         match self.reader.take(line.bytes()) {
             Ok(step) => {
@@ -135,17 +142,17 @@ impl Checker {
 impl Engine for Checker {
     ghost use Rattle.std.specs.Borrow.{sem};
     ghost use Rattle.std.specs.Io.BufRead.{Rests};
-    ghost use Rattle.crx_engine.specs.Checkers.{taken_counted};
+    ghost use Rattle.crx_engine.specs.CheckerState.{taken_counted};
 
     ghost filter = { λ c. check_filter };
 
-    ghost shows = { λ c lines notices. HasTaken c lines notices };
+    ghost shows = { λ c lines notices. CheckerHasTaken c lines notices };
 
-    ghost ready = { λ c. ready_lines c };
+    ghost ready = { λ c. pending_report c };
 
     ghost taken = { λ c. c.number };
 
-    ghost is_open = { λ c. IsOpen c };
+    ghost is_open = { λ c. CheckerIsOpen c };
 
     ghost has_ended = { λ c lines. HasEnded c lines };
 

@@ -2,17 +2,17 @@
 
 ghost use Rattle.std.specs.Prelude.{◌≡◌, ◌≤◌, ℕ, if◌then◌else◌, [], None, true, false, length, IfOk, IfErr, OnErr};
 ghost use Rattle.crx_lines.specs.declared.limits.TheConstants.{LINE_LIMIT};
-ghost use Rattle.crx_lines.specs.Seen.{Content};
+ghost use Rattle.crx_lines.specs.meaning.Seen.{Content};
 ghost use Rattle.crx_compact.specs.OpenEpochs.{is_idle, tail_held};
 ghost use Rattle.crx_compact.specs.OpenEpochs.ColumnsState.{Idle};
-ghost use Rattle.crx_engine.specs.Choices.{Choices};
-ghost use Rattle.crx_engine.specs.CompactStages.{is_consistent, open_in, wants_lines};
+ghost use Rattle.crx_engine.specs.meaning.Choices.{Choices};
+ghost use Rattle.crx_engine.specs.CompactStages.{is_compact_stage, open_in, wants_lines};
 ghost use Rattle.crx_engine.specs.declared.compact_reader.CompactStep.TheVariants.{Nothing};
 ghost use Rattle.crx_engine.specs.EngineSteps.{is_ended, is_settled, seen_stage};
-ghost use Rattle.crx_engine.specs.Expanded.{empties_state};
-ghost use Rattle.crx_engine.specs.Expander.{expansion, compact_begins};
+ghost use Rattle.crx_engine.specs.meaning.Expanded.{empties_state};
+ghost use Rattle.crx_engine.specs.ExpansionByLine.{expansion, compact_begins};
 ghost use Rattle.crx_engine.specs.LineByLine.{BetweenUnits, made_in, made_of_first_lines, made_of_unit};
-ghost use Rattle.crx_engine.specs.UnitPlaces.{event_record, header_line};
+ghost use Rattle.crx_engine.specs.meaning.UnitPlaces.{event_record, header_line};
 ghost use Rattle.crx_engine.specs.declared.stage.Stage.{Stage};
 ghost use Rattle.crx_engine.specs.declared.stage.Stage.TheVariants.{FirstLines, Header, Event, Looking, Open};
 
@@ -43,16 +43,16 @@ pub(crate) struct CompactReader {
     pub(crate) stage: Stage,
     types: Types,
     columns: Columns,
-    ghost consistent: { is_consistent stage columns ≡ true },
+    ghost consistent: { is_compact_stage stage columns ≡ true },
 }
 
 impl CompactReader {
-    ghost use Rattle.crx_engine.specs.CompactReaders.{Refuses, Takes, made_next, phase_of, seen_in, seen_with};
-    ghost use Rattle.crx_engine.specs.Expander.{expansion_seen};
+    ghost use Rattle.crx_engine.specs.CompactReaders.{RefusesCompactLine, TakesCompactLine, made_next, compact_reader_phase, seen_in, compact_reader_state};
+    ghost use Rattle.crx_engine.specs.ExpansionByLine.{expansion_seen};
 
     /// A reader before the first line.
     pub(crate) fn new(alloc: Global) -> CompactReader
-        ensures { (choices : Choices) → seen_with choices 0 result ≡ expansion_seen choices [] }
+        ensures { (choices : Choices) → compact_reader_state choices 0 result ≡ expansion_seen choices [] }
     {
         CompactReader {
             stage: Stage::FirstLines { count: 0 },
@@ -67,8 +67,11 @@ impl CompactReader {
     /// label.
     fn first_line(&mut self, count: usize, line: &[u8]) -> Result<CompactStep, Fault>
         requires idle { is_idle self.old.columns ≡ true }
-        ensures takes { (choices : Choices) (number : ℕ) → IfOk result (Takes (made_of_first_lines count line.now) line.now (seen_in choices number self.old (FirstLines count)) (seen_with choices number self.new)) }
-        ensures refuses { IfErr result (Refuses (tail_held self.old.columns) (made_of_first_lines count line.now) (seen_stage (open_in self.old.columns) (FirstLines count)) line.now) }
+        ensures takes { (choices : Choices) (number : ℕ)
+            → IfOk result (TakesCompactLine (made_of_first_lines count line.now) line.now (seen_in
+            choices number self.old (FirstLines count)) (compact_reader_state choices number self.new)) }
+        ensures refuses { IfErr result (RefusesCompactLine (tail_held self.old.columns) (made_of_first_lines
+            count line.now) (seen_stage (open_in self.old.columns) (FirstLines count)) line.now) }
         ensures types { OnErr result (self.new.types ≡ self.old.types) }
     {
         if count == 0 {
@@ -86,8 +89,12 @@ impl CompactReader {
     /// The faults of the first header line come first, then `BadTypesLine`; `OutOfMemory` at a types line alone.
     fn header_line(&mut self, is_first: bool, line: &[u8]) -> Result<CompactStep, Fault>
         requires idle { is_idle self.old.columns ≡ true }
-        ensures takes { (choices : Choices) (number : ℕ) → IfOk result (Takes (made_of_unit (header_line is_first line.now)) line.now (seen_in choices number self.old (Header is_first)) (seen_with choices number self.new)) }
-        ensures refuses { IfErr result (Refuses (tail_held self.old.columns) (made_of_unit (header_line is_first line.now)) (seen_stage (open_in self.old.columns) (Header is_first)) line.now) }
+        ensures takes { (choices : Choices) (number : ℕ)
+            → IfOk result (TakesCompactLine (made_of_unit (header_line is_first line.now)) line.now (seen_in
+            choices number self.old (Header is_first)) (compact_reader_state choices number self.new)) }
+        ensures refuses { IfErr result
+            (RefusesCompactLine (tail_held self.old.columns) (made_of_unit (header_line is_first line.now))
+            (seen_stage (open_in self.old.columns) (Header is_first)) line.now) }
         ensures types { OnErr result (self.new.types ≡ self.old.types) }
     {
         accept_header_line(&mut self.types, is_first, line)?;
@@ -102,8 +109,12 @@ impl CompactReader {
     /// that counts alone.
     fn record(&mut self, left: usize, counted: bool, line: &[u8]) -> Result<CompactStep, Fault>
         requires idle { is_idle self.old.columns ≡ true }
-        ensures takes { (choices : Choices) (number : ℕ) → IfOk result (Takes (made_of_unit (event_record counted line.now)) line.now (seen_in choices number self.old (Event left counted)) (seen_with choices number self.new)) }
-        ensures refuses { IfErr result (Refuses (tail_held self.old.columns) (made_of_unit (event_record counted line.now)) (seen_stage (open_in self.old.columns) (Event left counted)) line.now) }
+        ensures takes { (choices : Choices) (number : ℕ)
+            → IfOk result (TakesCompactLine (made_of_unit (event_record counted line.now)) line.now (seen_in
+            choices number self.old (Event left counted)) (compact_reader_state choices number self.new)) }
+        ensures refuses { IfErr result
+            (RefusesCompactLine (tail_held self.old.columns) (made_of_unit (event_record counted line.now))
+            (seen_stage (open_in self.old.columns) (Event left counted)) line.now) }
         ensures types { OnErr result (self.new.types ≡ self.old.types) }
     {
         accept_record(&mut self.types, counted, line)?;
@@ -119,8 +130,12 @@ impl CompactReader {
     fn begin(&mut self, line: &[u8]) -> Result<CompactStep, Fault>
         requires idle { is_idle self.old.columns ≡ true }
         requires short { length line.now ≤ LINE_LIMIT }
-        ensures takes { (choices : Choices) (number : ℕ) (stage : Stage) → IfOk result (Takes (compact_begins self.old.types (tail_held self.old.columns) (Content line.now)) line.now (seen_in choices number self.old stage) (seen_with choices number self.new)) }
-        ensures refuses { IfErr result (λ fault. Refuses (tail_held self.old.columns) (compact_begins self.old.types (tail_held self.old.columns) (Content line.now)) BetweenUnits line.now fault) }
+        ensures takes { (choices : Choices) (number : ℕ) (stage : Stage) → IfOk result
+            (TakesCompactLine (compact_begins self.old.types (tail_held self.old.columns) (Content line.now))
+            line.now (seen_in choices number self.old stage) (compact_reader_state choices number self.new)) }
+        ensures refuses { IfErr result
+            (λ fault. RefusesCompactLine (tail_held self.old.columns) (compact_begins self.old.types
+            (tail_held self.old.columns) (Content line.now)) BetweenUnits line.now fault) }
         ensures types { OnErr result (self.new.types ≡ self.old.types) }
     {
         if is_event_line(line) {
@@ -139,8 +154,12 @@ impl CompactReader {
     fn go_on(&mut self, line: &[u8]) -> Result<CompactStep, Fault>
         requires open { wants_lines self.old.columns ≡ true }
         requires short { length line.now ≤ LINE_LIMIT }
-        ensures takes { (choices : Choices) (number : ℕ) → IfOk result (Takes (made_in expansion (seen_stage (open_in self.old.columns) Open) self.old.types None (Content line.now)) line.now (seen_in choices number self.old Open) (seen_with choices number self.new)) }
-        ensures refuses { IfErr result (Refuses (tail_held self.old.columns) (made_in expansion (seen_stage (open_in self.old.columns) Open) self.old.types None (Content line.now)) (seen_stage (open_in self.old.columns) Open) line.now) }
+        ensures takes { (choices : Choices) (number : ℕ) → IfOk result (TakesCompactLine (made_in expansion
+            (seen_stage (open_in self.old.columns) Open) self.old.types None (Content line.now)) line.now
+            (seen_in choices number self.old Open) (compact_reader_state choices number self.new)) }
+        ensures refuses { IfErr result (RefusesCompactLine (tail_held self.old.columns)
+            (made_in expansion (seen_stage (open_in self.old.columns) Open) self.old.types None
+            (Content line.now)) (seen_stage (open_in self.old.columns) Open) line.now) }
         ensures types { OnErr result (self.new.types ≡ self.old.types) }
     {
         if begins_epoch(line) {
@@ -165,11 +184,14 @@ impl CompactReader {
     /// last one of its epoch; else `false` comes, and nothing changes.
     pub(crate) fn read_early(&mut self, line: &[u8]) -> Result<bool, Fault>
         requires short { length line.now ≤ LINE_LIMIT }
-        ensures takes { (choices : Choices) (number : ℕ) → IfOk result (λ is_taken. is_taken ≡ true → Takes (made_next self.old line.now) line.now (seen_with choices number self.old) (seen_with choices number self.new) Nothing) }
+        ensures takes { (choices : Choices) (number : ℕ) → IfOk result (λ is_taken. is_taken ≡ true
+            → TakesCompactLine (made_next self.old line.now) line.now (compact_reader_state
+            choices number self.old) (compact_reader_state choices number self.new) Nothing) }
         ensures open { IfOk result (λ is_taken. is_taken ≡ true → self.old.stage ≡ Open) }
         ensures refused_open { OnErr result (self.old.stage ≡ Open) }
         ensures same { IfOk result (λ is_taken. is_taken ≡ false → self.new ≡ self.old) }
-        ensures refuses { IfErr result (Refuses (tail_held self.old.columns) (made_next self.old line.now) (phase_of self.old) line.now) }
+        ensures refuses { IfErr result (RefusesCompactLine (tail_held self.old.columns)
+            (made_next self.old line.now) (compact_reader_phase self.old) line.now) }
         ensures types { OnErr result (self.new.types ≡ self.old.types) }
     {
         let Stage::Open = self.stage else {
@@ -194,8 +216,11 @@ impl CompactReader {
     pub(crate) fn read(&mut self, line: &[u8]) -> Result<CompactStep, Fault>
         requires running { is_ended self.old.stage ≡ false }
         requires short { length line.now ≤ LINE_LIMIT }
-        ensures takes { (choices : Choices) (number : ℕ) → IfOk result (Takes (made_next self.old line.now) line.now (seen_with choices number self.old) (seen_with choices number self.new)) }
-        ensures refuses { IfErr result (Refuses (tail_held self.old.columns) (made_next self.old line.now) (phase_of self.old) line.now) }
+        ensures takes { (choices : Choices) (number : ℕ)
+            → IfOk result (TakesCompactLine (made_next self.old line.now) line.now
+            (compact_reader_state choices number self.old) (compact_reader_state choices number self.new)) }
+        ensures refuses { IfErr result (RefusesCompactLine (tail_held self.old.columns)
+            (made_next self.old line.now) (compact_reader_phase self.old) line.now) }
         ensures types { OnErr result (self.new.types ≡ self.old.types) }
     {
         match self.stage {
@@ -211,7 +236,8 @@ impl CompactReader {
 
     /// Takes back an epoch that [`CompactReader::read`] gave, where there is one: its memory serves the epochs after it.
     pub(crate) fn take_back(&mut self, epoch: Option<Epoch>)
-        ensures same { (choices : Choices) (number : ℕ) → seen_with choices number self.new ≡ seen_with choices number self.old }
+        ensures same { (choices : Choices) (number : ℕ)
+            → compact_reader_state choices number self.new ≡ compact_reader_state choices number self.old }
     {
         if let Some(epoch) = epoch {
             self.columns.take_epoch_back(epoch);
@@ -222,8 +248,11 @@ impl CompactReader {
     fn look(&mut self, line: &[u8]) -> Result<CompactStep, Fault>
         requires looking { self.old.stage ≡ Looking }
         requires short { length line.now ≤ LINE_LIMIT }
-        ensures takes { (choices : Choices) (number : ℕ) → IfOk result (Takes (made_next self.old line.now) line.now (seen_with choices number self.old) (seen_with choices number self.new)) }
-        ensures refuses { IfErr result (Refuses (tail_held self.old.columns) (made_next self.old line.now) (phase_of self.old) line.now) }
+        ensures takes { (choices : Choices) (number : ℕ)
+            → IfOk result (TakesCompactLine (made_next self.old line.now) line.now
+            (compact_reader_state choices number self.old) (compact_reader_state choices number self.new)) }
+        ensures refuses { IfErr result (RefusesCompactLine (tail_held self.old.columns)
+            (made_next self.old line.now) (compact_reader_phase self.old) line.now) }
         ensures types { OnErr result (self.new.types ≡ self.old.types) }
     {
         if begins_epoch(line) {
@@ -238,7 +267,8 @@ impl CompactReader {
         requires settled { is_settled stage ≡ true }
         ensures stage { self.new.stage ≡ stage }
         ensures types { self.new.types ≡ self.old.types }
-        ensures tail { tail_held self.new.columns ≡ (if is_emptied then None else tail_held self.old.columns) }
+        ensures tail { tail_held self.new.columns
+            ≡ (if is_emptied then None else tail_held self.old.columns) }
     {
         if is_emptied || !self.columns.is_idle() {
             self.columns.reset();

@@ -3,7 +3,7 @@
 ghost use Rattle.std.specs.Prelude.{◌≡◌, ◌≤◌, true};
 ghost use Rattle.crx_lines.specs.declared.limits.TheConstants.{INPUT_LIMIT};
 ghost use Rattle.crx_compact.specs.OpenEpochs.{is_idle};
-ghost use Rattle.crx_engine.specs.Compacted.{is_at_every};
+ghost use Rattle.crx_engine.specs.meaning.Compacted.{is_at_every};
 
 use crate::engine::Step;
 use crate::options::Options;
@@ -43,24 +43,25 @@ fn is_at_every(every: Option<u32>, index: u64) -> bool
 
 impl Compaction {
     ghost use Rattle.std.specs.Prelude.{◌+◌, ◌<◌, ◌⊎◌, ◌≢◌, [], length, OnOk, OnErr, IfOk, IfErr, Ok, Err, Some, None, false};
-    ghost use Rattle.crx_lines.specs.Seen.{ReadLine, Content, Overlong};
+    ghost use Rattle.crx_lines.specs.meaning.Seen.{ReadLine, Content, Overlong};
     ghost use Rattle.crx_lines.specs.declared.limits.TheConstants.{LINE_LIMIT};
-    ghost use Rattle.crx_rinex.specs.Observations.{Epoch as ObservationEpoch};
-    ghost use Rattle.crx_rinex.specs.Units.{Observation};
-    ghost use Rattle.crx_engine.specs.Compactor.{compact_written, compaction, compaction_seen, written_kept};
-    ghost use Rattle.crx_engine.specs.RinexReaders.{made_at, Takes};
+    ghost use Rattle.crx_rinex.specs.meaning.Observations.{Epoch as ObservationEpoch};
+    ghost use Rattle.crx_rinex.specs.meaning.Units.{Observation};
+    ghost use Rattle.crx_engine.specs.CompactionByLine.{compact_written, compaction, compaction_seen, written_kept};
+    ghost use Rattle.crx_engine.specs.RinexReaders.{made_at, TakesRinexLine};
     ghost use Rattle.crx_engine.specs.declared.rinex_reader.RinexReader.{RinexReader};
     ghost use Rattle.crx_engine.specs.Engines.{answer_given};
     ghost use Rattle.crx_engine.specs.LineByLine.{Ended, failed_step, seen_end, seen_next};
-    ghost use Rattle.crx_engine.specs.Reading.{can_go_on, is_skippable};
-    ghost use Rattle.crx_engine.specs.ReadyLines.{ready_lines};
+    ghost use Rattle.crx_engine.specs.meaning.Reading.{can_go_on};
+    ghost use Rattle.crx_lines.specs.meaning.Faults.{is_skippable};
+    ghost use Rattle.crx_engine.specs.ReadyLines.{pending_lines};
     ghost use Rattle.crx_engine.specs.RinexStages.{is_whole, open_epoch};
     ghost use Rattle.crx_engine.specs.EngineSteps.{Steps, step_made, is_ended, is_settled, settled_seen};
-    ghost use Rattle.crx_engine.specs.Compacting.{seen_by, seen_with};
+    ghost use Rattle.crx_engine.specs.CompactionState.{compaction_state, compaction_state_with};
 
     /// A compaction before the first line of its input.
     pub(crate) fn new(alloc: Global, options: Options) -> Compaction
-        ensures { seen_by result ≡ compaction_seen options [] }
+        ensures { compaction_state result ≡ compaction_seen options [] }
     {
         Compaction {
             options,
@@ -71,13 +72,14 @@ impl Compaction {
         }
     }
 
-    /// The run has settled.
+    /// The run has stopped.
     fn settle(&mut self, settled: Settled) -> Result<Step, At>
         requires settled { is_settled settled.stage ≡ true }
         requires within { settled.number ≤ INPUT_LIMIT }
         requires counted { self.old.index ≤ settled.number }
         ensures value { result ≡ settled.answer }
-        ensures seen { seen_by self.new ≡ settled_seen compaction (seen_by self.old) (open_epoch self.old.reader.types self.old.reader.epoch) settled }
+        ensures seen { compaction_state self.new ≡ settled_seen compaction
+            (compaction_state self.old) (open_epoch self.old.reader.types self.old.reader.epoch) settled }
     {
         if settled.is_emptied {
             self.columns.reset();
@@ -91,12 +93,16 @@ impl Compaction {
     #[inline(never)]
     fn fail(&mut self, fault: Fault, goes_on: bool, ready: &mut ReadyLines) -> Result<Step, At>
         requires within { self.old.number < INPUT_LIMIT }
-        ensures fails { (line : ReadLine) → can_go_on line ≡ goes_on → step_made result (ready_lines ready.new) (seen_by self.new) ≡ failed_step compaction (seen_by self.old) line fault }
-        ensures drained { ready_lines ready.new ≡ [] }
-        ensures ended { IfErr result (λ at. (seen_by self.new).phase ≡ Ended at) }
-        ensures fatal { is_skippable fault ≡ false → result ≡ Err (record { line = self.old.number + 1; fault = fault }) }
-        ensures counts { is_skippable fault ≡ false → (seen_by self.new).number ≡ self.old.number + 1 }
-        ensures choices { (seen_by self.new).choices ≡ (seen_by self.old).choices }
+        ensures fails { (line : ReadLine) → can_go_on line ≡ goes_on
+            → step_made result (pending_lines ready.new) (compaction_state self.new)
+            ≡ failed_step compaction (compaction_state self.old) line fault }
+        ensures drained { pending_lines ready.new ≡ [] }
+        ensures ended { IfErr result (λ at. (compaction_state self.new).phase ≡ Ended at) }
+        ensures fatal { is_skippable fault ≡ false
+            → result ≡ Err (record { line = self.old.number + 1; fault = fault }) }
+        ensures counts { is_skippable fault ≡ false
+            → (compaction_state self.new).number ≡ self.old.number + 1 }
+        ensures choices { (compaction_state self.new).choices ≡ (compaction_state self.old).choices }
     {
         ready.clear();
         let settled = after_fault(
@@ -113,7 +119,11 @@ impl Compaction {
     fn copy(&mut self) -> Step
         requires within { self.old.number < INPUT_LIMIT }
         ensures value { result ≡ Step.Ready }
-        ensures seen { seen_by self.new ≡ record (seen_by self.old) { number = self.old.number + 1; kept = record { index = self.old.index; tail = None } } }
+        ensures seen { compaction_state self.new
+            ≡ record (compaction_state self.old) {
+              number = self.old.number + 1;
+              kept = record { index = self.old.index; tail = None };
+            } }
     {
         self.columns.reset();
         self.number += 1;
@@ -126,11 +136,16 @@ impl Compaction {
         requires whole { is_whole self.old.reader.epoch ≡ true }
         ensures value { OnOk result (result ≡ Ok Step.Ready) }
         ensures lines { (epoch : ObservationEpoch) → self.old.reader.epoch ≡ Some epoch
-            → OnOk result (ready_lines ready.new ≡ compact_written (seen_by self.old) (Observation epoch)) }
+            → OnOk result (pending_lines ready.new
+            ≡ compact_written (compaction_state self.old) (Observation epoch)) }
         ensures seen { (epoch : ObservationEpoch) → self.old.reader.epoch ≡ Some epoch
-            → OnOk result (seen_by self.new ≡ record (seen_by self.old) { number = self.old.number + 1; kept = written_kept (seen_by self.old) (Observation epoch) }) }
+            → OnOk result (compaction_state self.new
+            ≡ record (compaction_state self.old) {
+              number = self.old.number + 1;
+              kept = written_kept (compaction_state self.old) (Observation epoch);
+            }) }
         ensures number { OnErr result (self.new.number ≡ self.old.number) }
-        ensures choices { (seen_by self.new).choices ≡ (seen_by self.old).choices }
+        ensures choices { (compaction_state self.new).choices ≡ (compaction_state self.old).choices }
     {
         let Some(epoch) = self.reader.epoch() else {
             unreachable!()
@@ -149,14 +164,16 @@ impl Compaction {
     fn accept(&mut self, step: RinexStep, line: &[u8], ready: &mut ReadyLines) -> Result<Step, At>
         requires within { self.old.number < INPUT_LIMIT }
         requires short { length line.now ≤ LINE_LIMIT }
-        requires drained { ready_lines ready.old ≡ [] }
+        requires drained { pending_lines ready.old ≡ [] }
         requires some { step ≢ RinexStep.Nothing }
         requires whole { step ≡ RinexStep.Epoch → is_whole self.old.reader.epoch ≡ true }
-        ensures steps { (reader : RinexReader) → Takes (made_at reader line.now (seen_by self.old).kept) reader line.now step self.old.reader
-            → Steps compaction (seen_with reader self.old) (Content line.now) result (ready_lines ready.new) (seen_by self.new) }
-        ensures ended { IfErr result (λ at. (seen_by self.new).phase ≡ Ended at) }
-        ensures nothing { OnErr result (ready_lines ready.new ≡ []) }
-        ensures choices { (seen_by self.new).choices ≡ (seen_by self.old).choices }
+        ensures steps { (reader : RinexReader) → TakesRinexLine
+            (made_at reader line.now (compaction_state self.old).kept) reader line.now step self.old.reader
+            → Steps compaction (compaction_state_with reader self.old)
+            (Content line.now) result (pending_lines ready.new) (compaction_state self.new) }
+        ensures ended { IfErr result (λ at. (compaction_state self.new).phase ≡ Ended at) }
+        ensures nothing { OnErr result (pending_lines ready.new ≡ []) }
+        ensures choices { (compaction_state self.new).choices ≡ (compaction_state self.old).choices }
     {
         match step {
             RinexStep::Nothing => unreachable!(),
@@ -190,11 +207,13 @@ impl Compaction {
     ) -> bool
         requires within { self.old.number < INPUT_LIMIT }
         requires short { length line.now ≤ LINE_LIMIT }
-        requires drained { ready_lines ready.old ≡ [] }
-        ensures steps { Steps compaction (seen_by self.old) (Content line.now) (answer_given result answer.new) (ready_lines ready.new) (seen_by self.new) }
-        ensures ended { IfErr (answer_given result answer.new) (λ at. (seen_by self.new).phase ≡ Ended at) }
-        ensures nothing { OnErr (answer_given result answer.new) (ready_lines ready.new ≡ []) }
-        ensures choices { (seen_by self.new).choices ≡ (seen_by self.old).choices }
+        requires drained { pending_lines ready.old ≡ [] }
+        ensures steps { Steps compaction (compaction_state self.old) (Content line.now)
+            (answer_given result answer.new) (pending_lines ready.new) (compaction_state self.new) }
+        ensures ended { IfErr (answer_given result answer.new)
+            (λ at. (compaction_state self.new).phase ≡ Ended at) }
+        ensures nothing { OnErr (answer_given result answer.new) (pending_lines ready.new ≡ []) }
+        ensures choices { (compaction_state self.new).choices ≡ (compaction_state self.old).choices }
     {
         if let Stage::Ended(at) = self.reader.stage {
             self.number += 1;
@@ -220,11 +239,12 @@ impl Compaction {
     /// Takes the next line, which is too long: see [`Compactor::overlong`](crate::compactor::Compactor::overlong).
     pub(crate) fn overlong(&mut self, ready: &mut ReadyLines) -> Result<Step, At>
         requires within { self.old.number < INPUT_LIMIT }
-        requires drained { ready_lines ready.old ≡ [] }
-        ensures steps { step_made result (ready_lines ready.new) (seen_by self.new) ≡ seen_next compaction (seen_by self.old) Overlong }
-        ensures ended { IfErr result (λ at. (seen_by self.new).phase ≡ Ended at) }
-        ensures drained { ready_lines ready.new ≡ [] }
-        ensures choices { (seen_by self.new).choices ≡ (seen_by self.old).choices }
+        requires drained { pending_lines ready.old ≡ [] }
+        ensures steps { step_made result (pending_lines ready.new) (compaction_state self.new)
+            ≡ seen_next compaction (compaction_state self.old) Overlong }
+        ensures ended { IfErr result (λ at. (compaction_state self.new).phase ≡ Ended at) }
+        ensures drained { pending_lines ready.new ≡ [] }
+        ensures choices { (compaction_state self.new).choices ≡ (compaction_state self.old).choices }
     {
         match self.reader.stage {
             Stage::Ended(at) => {
@@ -241,9 +261,10 @@ impl Compaction {
 
     /// Takes the end of the input: see [`Compactor::end`](crate::compactor::Compactor::end).
     pub(crate) fn end(&mut self) -> Result<Step, At>
-        ensures steps { step_made result [] (seen_by self.new) ≡ seen_end compaction (seen_by self.old) }
-        ensures ended { IfErr result (λ at. (seen_by self.new).phase ≡ Ended at) }
-        ensures choices { (seen_by self.new).choices ≡ (seen_by self.old).choices }
+        ensures steps { step_made result [] (compaction_state self.new)
+            ≡ seen_end compaction (compaction_state self.old) }
+        ensures ended { IfErr result (λ at. (compaction_state self.new).phase ≡ Ended at) }
+        ensures choices { (compaction_state self.new).choices ≡ (compaction_state self.old).choices }
     {
         let settled = after_end(self.reader.stage, self.number, self.options.skip());
         self.settle(settled)

@@ -21,18 +21,18 @@ impl Compactor {
     ghost use Rattle.std.specs.Borrow.{sem};
     ghost use Rattle.std.specs.Io.BufRead.{Rests};
     ghost use Rattle.std.specs.Option.{option_copied};
-    ghost use Rattle.crx_lines.specs.Lines.{InputLine, is_long};
+    ghost use Rattle.crx_lines.specs.meaning.Lines.{InputLine, is_long};
     ghost use Rattle.crx_lines.specs.Reading.{line_shown, line_number};
-    ghost use Rattle.crx_lines.specs.Seen.{Content, Overlong};
+    ghost use Rattle.crx_lines.specs.meaning.Seen.{Content, Overlong};
     ghost use Rattle.crx_lines.specs.declared.fault.At.{At};
     ghost use Rattle.crx_lines.specs.declared.limits.TheConstants.{INPUT_LIMIT, LINE_LIMIT};
-    ghost use Rattle.crx_engine.specs.Compactor.{compaction, compaction_seen};
+    ghost use Rattle.crx_engine.specs.CompactionByLine.{compaction, compaction_seen};
     ghost use Rattle.crx_engine.specs.LineByLine.{Ended, seen_next, seen_end};
     ghost use Rattle.crx_engine.specs.EngineSteps.{Steps, step_made};
-    ghost use Rattle.crx_engine.specs.Compactors.{compactor_seen, compactor_ready, compactor_took};
+    ghost use Rattle.crx_engine.specs.CompactorState.{compactor_seen, compactor_ready, compactor_took};
     ghost use Rattle.crx_engine.specs.Directions.{compaction_filter};
-    ghost use Rattle.crx_engine.specs.Results.{lines_text};
-    ghost use Rattle.crx_engine.specs.Engines.{Answers, answer_given, Awaited, Concludes, IsAwaited};
+    ghost use Rattle.crx_rinex.specs.meaning.Printing.{lines_text};
+    ghost use Rattle.crx_engine.specs.Engines.{EngineAnswers, answer_given, Awaited, Concludes, IsAwaited};
     ghost use Rattle.crx_engine.specs.contracts.compactor.Compactor.{the_row};
 
     /// A compaction before the first line of its input. It takes the memory for the lines that are copied; `AllocError` comes
@@ -49,18 +49,19 @@ impl Compactor {
         })
     }
 
-    /// Whether all lines that were ready were lent.
+    /// Whether none of the lines that were ready is pending.
     pub fn is_drained(&self) -> bool
         ensures { IsTrue result ↔ (compactor_ready self.now ≡ []) }
     {
         self.ready.is_empty()
     }
 
-    /// Lends the next of the lines that are ready, without its line end; `None` once all were lent.
+    /// Lends the next of the lines that are ready, without its line end; `None` once none is pending.
     pub fn next_line(&mut self) -> Option<&[u8]>
         ensures value { option_copied result ≡ slice_get (compactor_ready self.old) 0 }
-        // That line is no longer among those to be lent, and nothing else changes.
-        ensures* after_borrow { sem 𝓛 (Rests the_row self.entry (λ new. (compactor_ready new ≡ drop 1 (compactor_ready self.old)) × (compactor_seen new ≡ compactor_seen self.old))) }
+        // That line is no longer pending, and nothing else changes.
+        ensures* after_borrow { sem 𝓛 (Rests the_row self.entry (λ new. (compactor_ready new
+            ≡ drop 1 (compactor_ready self.old)) × (compactor_seen new ≡ compactor_seen self.old))) }
     {
         self.ready.next_line()
     }
@@ -68,7 +69,9 @@ impl Compactor {
     /// Lends all lines that are ready as one text, each followed by LF; `None` where the next one is copied, and then they stay.
     pub(crate) fn take_text(&mut self) -> Option<&[u8]>
         ensures value { IfSome result (λ text. text.now ≡ lines_text (compactor_ready self.old)) }
-        ensures* after_borrow { sem 𝓛 (Rests the_row self.entry (λ new. (compactor_ready new ≡ (if is_some result then [] else compactor_ready self.old)) × (compactor_seen new ≡ compactor_seen self.old))) }
+        ensures* after_borrow { sem 𝓛 (Rests the_row self.entry
+            (λ new. (compactor_ready new ≡ (if is_some result then [] else compactor_ready self.old))
+            × (compactor_seen new ≡ compactor_seen self.old))) }
     {
         self.ready.take_text()
     }
@@ -85,13 +88,16 @@ impl Compactor {
         requires drained { compactor_ready self.old ≡ [] }
         requires next { line_number line ≡ (compactor_seen self.old).number + 1 }
         requires within { line_number line ≤ INPUT_LIMIT }
-        ensures steps { Steps compaction (compactor_seen self.old) (Content (line_shown line.entry).content) result (compactor_ready self.new) (compactor_seen self.new) }
+        ensures steps { Steps compaction (compactor_seen self.old) (Content
+            (line_shown line.entry).content) result (compactor_ready self.new) (compactor_seen self.new) }
         ensures ended { IfErr result (λ at. (compactor_seen self.new).phase ≡ Ended at) }
         ensures nothing { OnErr result (compactor_ready self.new ≡ []) }
         ensures choices { (compactor_seen self.new).choices ≡ (compactor_seen self.old).choices }
         // After the lines that it has taken, the answer, and the lines that are ready, are what the compaction of these and the next one adds.
-        ensures answers { (lines : List InputLine) (notices : List Awaited) → compactor_took self.old lines notices → IsAwaited notices (line_shown line.entry)
-            → Answers (compaction_filter (compactor_seen self.old).choices) (compactor_took self.new) (compactor_ready self.new) lines notices (line_shown line.entry) result }
+        ensures answers { (lines : List InputLine) (notices : List Awaited)
+            → compactor_took self.old lines notices → IsAwaited notices (line_shown line.entry)
+            → EngineAnswers (compaction_filter (compactor_seen self.old).choices) (compactor_took self.new)
+            (compactor_ready self.new) lines notices (line_shown line.entry) result }
         ensures repeated { (at : At) → (compactor_seen self.old).phase ≡ Ended at → result ≡ Err at }
     {
         let is_quiet = self.take_line(line.bytes());
@@ -104,8 +110,10 @@ impl Compactor {
         requires drained { compactor_ready self.old ≡ [] }
         requires short { length line.now ≤ LINE_LIMIT }
         requires within { (compactor_seen self.old).number < INPUT_LIMIT }
-        ensures steps { Steps compaction (compactor_seen self.old) (Content line.now) (answer_given result self.new.answer) (compactor_ready self.new) (compactor_seen self.new) }
-        ensures ended { IfErr (answer_given result self.new.answer) (λ at. (compactor_seen self.new).phase ≡ Ended at) }
+        ensures steps { Steps compaction (compactor_seen self.old) (Content line.now)
+            (answer_given result self.new.answer) (compactor_ready self.new) (compactor_seen self.new) }
+        ensures ended { IfErr (answer_given result self.new.answer)
+            (λ at. (compactor_seen self.new).phase ≡ Ended at) }
         ensures nothing { OnErr (answer_given result self.new.answer) (compactor_ready self.new ≡ []) }
         ensures choices { (compactor_seen self.new).choices ≡ (compactor_seen self.old).choices }
     {
@@ -119,12 +127,15 @@ impl Compactor {
         requires drained { compactor_ready self.old ≡ [] }
         requires next { number ≡ (compactor_seen self.old).number + 1 }
         requires within { number ≤ INPUT_LIMIT }
-        ensures steps { step_made result (compactor_ready self.new) (compactor_seen self.new) ≡ seen_next compaction (compactor_seen self.old) Overlong }
+        ensures steps { step_made result (compactor_ready self.new) (compactor_seen self.new)
+            ≡ seen_next compaction (compactor_seen self.old) Overlong }
         ensures ended { IfErr result (λ at. (compactor_seen self.new).phase ≡ Ended at) }
         ensures drained { compactor_ready self.new ≡ [] }
         ensures choices { (compactor_seen self.new).choices ≡ (compactor_seen self.old).choices }
-        ensures answers { (lines : List InputLine) (notices : List Awaited) (line : InputLine) → compactor_took self.old lines notices → IsAwaited notices line → is_long line ≡ true
-            → Answers (compaction_filter (compactor_seen self.old).choices) (compactor_took self.new) (compactor_ready self.new) lines notices line result }
+        ensures answers { (lines : List InputLine) (notices : List Awaited) (line : InputLine)
+            → compactor_took self.old lines notices → IsAwaited notices line → is_long line ≡ true
+            → EngineAnswers (compaction_filter (compactor_seen self.old).choices)
+            (compactor_took self.new) (compactor_ready self.new) lines notices line result }
         ensures repeated { (at : At) → (compactor_seen self.old).phase ≡ Ended at → result ≡ Err at }
     {
         let _ = number;
@@ -137,12 +148,14 @@ impl Compactor {
     /// and in an epoch where faults aren't skipped. An error that ended the run comes again.
     pub fn end(&mut self) -> Result<Step, At>
         requires drained { compactor_ready self.old ≡ [] }
-        ensures steps { step_made result [] (compactor_seen self.new) ≡ seen_end compaction (compactor_seen self.old) }
+        ensures steps { step_made result [] (compactor_seen self.new)
+            ≡ seen_end compaction (compactor_seen self.old) }
         ensures ended { IfErr result (λ at. (compactor_seen self.new).phase ≡ Ended at) }
         ensures drained { compactor_ready self.new ≡ [] }
         ensures choices { (compactor_seen self.new).choices ≡ (compactor_seen self.old).choices }
         // After the lines that it has taken, the answer is what the compaction of them all adds.
-        ensures concludes { (lines : List InputLine) → compactor_took self.old lines [] → Concludes (compaction_filter (compactor_seen self.old).choices) [] lines result }
+        ensures concludes { (lines : List InputLine) → compactor_took self.old lines []
+            → Concludes (compaction_filter (compactor_seen self.old).choices) [] lines result }
         ensures repeated { (at : At) → (compactor_seen self.old).phase ≡ Ended at → result ≡ Err at }
     {
         self.compaction.end()

@@ -3,8 +3,8 @@
 ghost use Rattle.std.specs.Prelude.{◌≡◌, ⊤, length};
 ghost use Rattle.crx_engine.specs.Directions.{compaction_filter};
 ghost use Rattle.crx_engine.specs.EngineLines.{HasTaken};
-ghost use Rattle.crx_engine.specs.Compactor.{compaction, compaction_seen};
-ghost use Rattle.crx_engine.specs.Compactors.{compactor_seen, compactor_ready};
+ghost use Rattle.crx_engine.specs.CompactionByLine.{compaction, compaction_seen};
+ghost use Rattle.crx_engine.specs.CompactorState.{compactor_seen, compactor_ready};
 
 use crate::compactor::Compactor;
 use crate::engine::{Engine, Step};

@@ -4,12 +4,13 @@ ghost use Rattle.std.specs.Prelude.{◌≡◌, ◌≤◌, ◌+◌, ℕ, List, []
 ghost use Rattle.std.specs.Borrow.{sem};
 ghost use Rattle.std.specs.Io.BufRead.{Rests};
 ghost use Rattle.std.specs.Option.{option_copied};
-ghost use Rattle.crx_lines.specs.Lines.{InputLine, is_long};
+ghost use Rattle.crx_lines.specs.meaning.Lines.{InputLine, is_long};
 ghost use Rattle.crx_lines.specs.Reading.{line_shown, line_number};
 ghost use Rattle.crx_lines.specs.declared.fault.At.{At};
 ghost use Rattle.crx_lines.specs.declared.limits.TheConstants.{INPUT_LIMIT};
-ghost use Rattle.crx_engine.specs.Filters.{Filter, lines_text};
-ghost use Rattle.crx_engine.specs.Engines.{Answers, answer_given, Awaited, IsAwaited, Concludes, IsDrainedAfter, taken_after};
+ghost use Rattle.crx_engine.specs.meaning.Filters.{Filter};
+ghost use Rattle.crx_rinex.specs.meaning.Printing.{lines_text};
+ghost use Rattle.crx_engine.specs.Engines.{EngineAnswers, answer_given, Awaited, IsAwaited, Concludes, IsDrainedAfter, taken_after};
 
 use crx_text::{At, Line};
 
@@ -46,7 +47,7 @@ pub trait Engine {
     // These lines were taken, and where a line is to come a second time, the warning that was answered to it.
     ghost shows: { Self → List InputLine → List Awaited → Type 0 };
 
-    // The lines that are still to be lent.
+    // The lines that are pending.
     ghost ready: { Self → List (List ℕ) };
 
     // The number of the last line that was taken, 0 before the first.
@@ -70,12 +71,15 @@ pub trait Engine {
         requires within { line_number line ≤ INPUT_LIMIT }
         ensures filter { filter self.new ≡ filter self.old }
         ensures running { IfOk (answer_given result (answer self.new)) (λ _. is_open self.new) }
-        ensures drained { IfOk (answer_given result (answer self.new)) (λ step. IsDrainedAfter step (ready self.new)) }
+        ensures drained { IfOk (answer_given result (answer self.new))
+            (λ step. IsDrainedAfter step (ready self.new)) }
         ensures nothing { OnErr (answer_given result (answer self.new)) (ready self.new ≡ []) }
-        ensures count { IfOk (answer_given result (answer self.new)) (λ step. taken self.new ≡ taken_after step (taken self.old)) }
+        ensures count { IfOk (answer_given result (answer self.new))
+            (λ step. taken self.new ≡ taken_after step (taken self.old)) }
         ensures answers { (lines : List InputLine) (notices : List Awaited) → shows self.old lines notices
             → IsAwaited notices (line_shown line.entry)
-            → Answers (filter self.old) (shows self.new) (ready self.new) lines notices (line_shown line.entry) (answer_given result (answer self.new)) };
+            → EngineAnswers (filter self.old) (shows self.new) (ready self.new) lines notices
+            (line_shown line.entry) (answer_given result (answer self.new)) };
 
     /// The answer to the line that [`Engine::take`] took last, where it answered `false`: what is to be written or reported.
     fn answer(&self) -> Result<Step, At>
@@ -92,10 +96,11 @@ pub trait Engine {
         ensures drained { IfOk result (λ step. IsDrainedAfter step (ready self.new)) }
         ensures nothing { OnErr result (ready self.new ≡ []) }
         ensures count { IfOk result (λ step. taken self.new ≡ taken_after step (taken self.old)) }
-        ensures answers { (lines : List InputLine) (notices : List Awaited) (line : InputLine) → shows self.old lines notices
+        ensures answers { (lines : List InputLine) (notices : List Awaited) (line : InputLine)
+            → shows self.old lines notices
             → IsAwaited notices line
             → is_long line ≡ true
-            → Answers (filter self.old) (shows self.new) (ready self.new) lines notices line result };
+            → EngineAnswers (filter self.old) (shows self.new) (ready self.new) lines notices line result };
 
     /// Takes the end of the input.
     fn end(&mut self) -> Result<Step, At>
@@ -107,14 +112,16 @@ pub trait Engine {
         ensures nothing { OnErr result (ready self.new ≡ []) }
         ensures concludes { (lines : List InputLine) → shows self.old lines []
             → Concludes (filter self.old) (ready self.new) lines result }
-        ensures ended { (lines : List InputLine) → shows self.old lines [] → IfOk result (λ _. has_ended self.new lines) };
+        ensures ended { (lines : List InputLine)
+            → shows self.old lines [] → IfOk result (λ _. has_ended self.new lines) };
 
-    /// Lends the next of the lines that are ready, without its line end; `None` once all were lent.
+    /// Lends the next of the lines that are ready, without its line end; `None` once none is pending.
     fn next_line(&mut self) -> Option<&[u8]>
         ensures value { option_copied result ≡ slice_get (ready self.old) 0 }
         ensures* after_borrow { sem 𝓛 (Rests Self.row self.entry (λ new.
             (ready new ≡ drop 1 (ready self.old)) × (filter new ≡ filter self.old)
-            × ((lines : List InputLine) (notices : List Awaited) → shows self.old lines notices → shows new lines notices)
+            × ((lines : List InputLine) (notices : List Awaited)
+            → shows self.old lines notices → shows new lines notices)
             × (is_open self.old → is_open new)
             × ((lines : List InputLine) → has_ended self.old lines → has_ended new lines))) };
 
@@ -124,7 +131,8 @@ pub trait Engine {
         ensures value { IfSome result (λ text. text.now ≡ lines_text (ready self.old)) }
         ensures* after_borrow { sem 𝓛 (Rests Self.row self.entry (λ new.
             (ready new ≡ (if is_some result then [] else ready self.old)) × (filter new ≡ filter self.old)
-            × ((lines : List InputLine) (notices : List Awaited) → shows self.old lines notices → shows new lines notices)
+            × ((lines : List InputLine) (notices : List Awaited)
+            → shows self.old lines notices → shows new lines notices)
             × (is_open self.old → is_open new)
             × ((lines : List InputLine) → has_ended self.old lines → has_ended new lines))) };
 

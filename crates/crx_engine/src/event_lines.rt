@@ -1,7 +1,7 @@
 //! The first lines of events in compact text.
 
 ghost use Rattle.std.specs.Prelude.{◌≡◌, Some, None, true, MatchResult};
-ghost use Rattle.crx_rinex.specs.EpochLines.{is_event_line, records_in};
+ghost use Rattle.crx_rinex.specs.meaning.EpochLines.{is_event_line, records_in};
 ghost use Rattle.crx_lines.specs.declared.fault.Fault.TheVariants.{BadEpoch};
 
 use crx_rinex::Head;

@@ -5,7 +5,7 @@ ghost use Rattle.std.specs.Borrow.{sem};
 ghost use Rattle.std.specs.Io.BufRead.{Rests};
 ghost use Rattle.std.specs.Option.{option_copied};
 ghost use Rattle.crx_lines.specs.declared.limits.TheConstants.{LINE_LIMIT};
-ghost use Rattle.crx_rinex.specs.Printing.{lines_text, printed_epoch};
+ghost use Rattle.crx_rinex.specs.meaning.Printing.{lines_text, printed_epoch};
 ghost use Rattle.crx_engine.specs.contracts.expanded_lines.CopiedLine.{the_row as row_of_copied};
 ghost use Rattle.crx_engine.specs.contracts.expanded_lines.ExpandedLines.{the_row};
 
@@ -14,7 +14,7 @@ use crx_text::Text;
 use std::alloc::{AllocError, Global};
 use std::marker::Model;
 
-/// A line that is lent as it came, out of memory that is kept for the lines after it.
+/// A line that is borrowed as it came, out of memory that is kept for the lines after it.
 #[derive(Drop)]
 pub(crate) struct CopiedLine {
     text: Box<Text>,
@@ -51,7 +51,7 @@ impl CopiedLine {
         self.is_ready = true;
     }
 
-    /// Whether the line was lent.
+    /// Whether the line was borrowed.
     pub(crate) fn is_drained(&self) -> bool
         ensures { IsTrue result ↔ (self.now ≡ []) }
     {
@@ -61,7 +61,7 @@ impl CopiedLine {
     /// Lends the line, once.
     pub(crate) fn next_line(&mut self) -> Option<&[u8]>
         ensures value { option_copied result ≡ slice_get self.old 0 }
-        // That line is no longer among those to be lent.
+        // That line is no longer pending.
         ensures* after_borrow { sem 𝓛 (Rests row_of_copied self.entry (λ new. new ≡ drop 1 self.old)) }
     {
         if !self.is_ready {
@@ -102,7 +102,7 @@ impl ExpandedLines {
         })
     }
 
-    /// Makes a line ready, once all before it were lent.
+    /// Makes a line ready, once none before it is pending.
     pub(crate) fn copy(&mut self, line: &[u8])
         requires drained { self.old ≡ [] }
         requires short { length line.now ≤ LINE_LIMIT }
@@ -111,7 +111,7 @@ impl ExpandedLines {
         self.copied.put(line);
     }
 
-    /// Makes the lines of an epoch ready, once all before them were lent; hands back the epoch before, whose memory can be
+    /// Makes the lines of an epoch ready, once none before them is pending; hands back the epoch before, whose memory can be
     /// used again.
     pub(crate) fn print(&mut self, epoch: Epoch) -> Option<Epoch>
         requires drained { self.old ≡ [] }
@@ -124,17 +124,17 @@ impl ExpandedLines {
         None
     }
 
-    /// Whether all lines were lent.
+    /// Whether no line is pending.
     pub(crate) fn is_drained(&self) -> bool
         ensures { IsTrue result ↔ (self.now ≡ []) }
     {
         self.copied.is_drained() && self.printed.as_ref().is_none_or(Printed::is_drained)
     }
 
-    /// Lends the next line, without its line end; `None` once all were lent.
+    /// Lends the next line, without its line end; `None` once none is pending.
     pub(crate) fn next_line(&mut self) -> Option<&[u8]>
         ensures value { option_copied result ≡ slice_get self.old 0 }
-        // That line is no longer among those to be lent.
+        // That line is no longer pending.
         ensures* after_borrow { sem 𝓛 (Rests the_row self.entry (λ new. new ≡ drop 1 self.old)) }
     {
         if !self.copied.is_drained() {
@@ -150,7 +150,8 @@ impl ExpandedLines {
     /// to grow, and then they stay as they are.
     pub(crate) fn take_text(&mut self) -> Option<&[u8]>
         ensures value { IfSome result (λ text. text.now ≡ lines_text self.old) }
-        ensures* after_borrow { sem 𝓛 (Rests the_row self.entry (λ new. new ≡ (if is_some result then [] else self.old))) }
+        ensures* after_borrow { sem 𝓛 (Rests the_row self.entry
+            (λ new. new ≡ (if is_some result then [] else self.old))) }
     {
         if !self.copied.is_drained() {
             return None;
@@ -162,10 +163,11 @@ impl ExpandedLines {
     }
 }
 
-/// Puts the lines of an epoch that are still to be lent in place of bytes, each followed by LF, and gives how many bytes these are. `None`
+/// Puts the lines of an epoch that are pending in place of bytes, each followed by LF, and gives how many bytes these are. `None`
 /// comes where there is no epoch, or memory refuses to grow, and then all lines are left.
 fn take_printed(printed: &mut Option<Printed>, bytes: &mut Vec<u8>) -> Option<usize>
-    ensures text { IfSome result (λ count. take count bytes.new.items ≡ lines_text (unwrap_or printed.old [])) }
+    ensures text { IfSome result
+        (λ count. take count bytes.new.items ≡ lines_text (unwrap_or printed.old [])) }
     ensures within { IfSome result (λ count. count ≤ length bytes.new.items) }
     ensures drained { OnSome result (unwrap_or printed.new [] ≡ []) }
     ensures same { IfNone result (printed.new ≡ printed.old) }

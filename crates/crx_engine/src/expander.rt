@@ -1,19 +1,19 @@
 //! Expansion, one line of compact text at a time.
 
 ghost use Rattle.std.specs.Prelude.{◌≡◌, ℕ, ◌+◌, ◌≤◌, ◌<◌, ◌↔◌, List, [], IsTrue, IfOk, IfErr, OnErr, Err, Ok, true, false, drop, length, slice_get, if◌then◌else◌, is_some, IfSome};
-ghost use Rattle.crx_lines.specs.Lines.{InputLine, is_long};
-ghost use Rattle.crx_lines.specs.Seen.{Content, Overlong};
+ghost use Rattle.crx_lines.specs.meaning.Lines.{InputLine, is_long};
+ghost use Rattle.crx_lines.specs.meaning.Seen.{Content, Overlong};
 ghost use Rattle.crx_lines.specs.Reading.{line_number, line_shown};
 ghost use Rattle.crx_lines.specs.declared.fault.At.{At};
 ghost use Rattle.crx_lines.specs.declared.limits.TheConstants.{INPUT_LIMIT, LINE_LIMIT};
-ghost use Rattle.crx_engine.specs.Choices.{Choices};
-ghost use Rattle.crx_engine.specs.CompactReaders.{answer_for, lent_for, seen_with};
+ghost use Rattle.crx_engine.specs.meaning.Choices.{Choices};
+ghost use Rattle.crx_engine.specs.CompactReaders.{answer_for, lent_for, compact_reader_state};
 ghost use Rattle.crx_engine.specs.Directions.{expansion_filter};
-ghost use Rattle.crx_engine.specs.Engines.{Answers, answer_given, Awaited, Concludes, IsAwaited};
-ghost use Rattle.crx_engine.specs.EngineSteps.{Steps, answer_of, step_made};
+ghost use Rattle.crx_engine.specs.Engines.{EngineAnswers, answer_given, Awaited, Concludes, IsAwaited};
+ghost use Rattle.crx_engine.specs.EngineSteps.{Steps, answer_of_step, step_made};
 ghost use Rattle.crx_engine.specs.LineByLine.{seen_end, seen_next};
-ghost use Rattle.crx_engine.specs.Expander.{expansion, expansion_seen};
-ghost use Rattle.crx_engine.specs.Reading.{is_skippable};
+ghost use Rattle.crx_engine.specs.ExpansionByLine.{expansion, expansion_seen};
+ghost use Rattle.crx_lines.specs.meaning.Faults.{is_skippable};
 ghost use Rattle.crx_engine.specs.declared.stage.Stage.TheVariants.{Ended};
 
 use crate::compact_reader::{CompactReader, CompactStep};
@@ -44,14 +44,14 @@ impl Expander {
     ghost use Rattle.std.specs.Io.BufRead.{Rests};
     ghost use Rattle.std.specs.Option.{option_copied};
     ghost use Rattle.crx_engine.specs.contracts.expander.Expander.{the_row};
-    ghost use Rattle.crx_engine.specs.Expanding.{Fails, expander_took, seen_by};
-    ghost use Rattle.crx_engine.specs.Results.{lines_text};
+    ghost use Rattle.crx_engine.specs.ExpanderState.{Fails, expander_took, expander_state};
+    ghost use Rattle.crx_rinex.specs.meaning.Printing.{lines_text};
 
     /// An expansion before the first line of its input. Of the options it uses alone whether faults are skipped.
     ///
     /// `AllocError` comes where there is no memory for a line.
     pub fn new(alloc: Global, options: Options) -> Result<Expander, AllocError>
-        ensures seen { IfOk result (λ e. seen_by e ≡ expansion_seen options []) }
+        ensures seen { IfOk result (λ e. expander_state e ≡ expansion_seen options []) }
         ensures drained { IfOk result (λ e. e.lines ≡ []) }
     {
         let lines = ExpandedLines::new(alloc)?;
@@ -64,18 +64,19 @@ impl Expander {
         })
     }
 
-    /// Whether all ready lines were lent.
+    /// Whether none of the ready lines is pending.
     pub fn is_drained(&self) -> bool
         ensures { IsTrue result ↔ (self.now.lines ≡ []) }
     {
         self.lines.is_drained()
     }
 
-    /// Lends the next of the lines that are ready, without its line end; `None` once all were lent.
+    /// Lends the next of the lines that are ready, without its line end; `None` once none is pending.
     pub fn next_line(&mut self) -> Option<&[u8]>
         ensures value { option_copied result ≡ slice_get self.old.lines 0 }
-        // That line is no longer among those to be lent.
-        ensures* after_borrow { sem 𝓛 (Rests the_row self.entry (λ new. new ≡ record self.old { lines = drop 1 self.old.lines })) }
+        // That line is no longer pending.
+        ensures* after_borrow { sem 𝓛 (Rests the_row self.entry
+            (λ new. new ≡ record self.old { lines = drop 1 self.old.lines })) }
     {
         self.lines.next_line()
     }
@@ -84,14 +85,15 @@ impl Expander {
     /// they stay.
     pub(crate) fn take_text(&mut self) -> Option<&[u8]>
         ensures value { IfSome result (λ text. text.now ≡ lines_text self.old.lines) }
-        ensures* after_borrow { sem 𝓛 (Rests the_row self.entry (λ new. new ≡ record self.old { lines = if is_some result then [] else self.old.lines })) }
+        ensures* after_borrow { sem 𝓛 (Rests the_row self.entry
+            (λ new. new ≡ record self.old { lines = if is_some result then [] else self.old.lines })) }
     {
         self.lines.take_text()
     }
 
     /// Takes the next line of the input.
     ///
-    /// `Ready` says that lines are to be lent, `Warned` that a fault is skipped, and `Err` that a fault has ended the run; it is
+    /// `Ready` says that lines are pending, `Warned` that a fault is skipped, and `Err` that a fault has ended the run; it is
     /// answered again from then on: `NotCompact` and `BadProgLine` at the first two lines; `MissingVersion`, `UnsupportedVersion`,
     /// `NotObservation` and `BadTypesLine` in the header; `BadTypesLine` among an event's records, where types lines count; and where
     /// faults aren't skipped those of an event's first line and of [`Columns::begin`](crx_compact::Columns::begin) and
@@ -101,15 +103,18 @@ impl Expander {
         requires drained { self.old.lines ≡ [] }
         requires next { line_number line ≡ self.old.number + 1 }
         requires within { line_number line ≤ INPUT_LIMIT }
-        ensures steps { Steps expansion (seen_by self.old) (Content (line_shown line.entry).content) result self.new.lines (seen_by self.new) }
+        ensures steps { Steps expansion (expander_state self.old)
+            (Content (line_shown line.entry).content) result self.new.lines (expander_state self.new) }
         ensures options { self.new.options ≡ self.old.options }
-        // After a fault that ends the run, or where memory ran out, no line is lent, and the same is answered from then on.
+        // After a fault that ends the run, or where memory ran out, no line is borrowed, and the same is answered from then on.
         ensures drained { OnErr result (self.new.lines ≡ []) }
         ensures ended { IfErr result (λ at. self.new.reader.stage ≡ Ended at) }
         ensures repeated { (at : At) → self.old.reader.stage ≡ Ended at → result ≡ Err at }
         // After the lines that it has taken, the answer, and the lines that are ready, are what the expansion of these and the next one adds.
-        ensures answers { (lines : List InputLine) (notices : List Awaited) → expander_took self.old lines notices → IsAwaited notices (line_shown line.entry)
-            → Answers (expansion_filter self.old.options) (expander_took self.new) self.new.lines lines notices (line_shown line.entry) result }
+        ensures answers { (lines : List InputLine) (notices : List Awaited)
+            → expander_took self.old lines notices → IsAwaited notices (line_shown line.entry)
+            → EngineAnswers (expansion_filter self.old.options)
+            (expander_took self.new) self.new.lines lines notices (line_shown line.entry) result }
     {
         let is_quiet = self.take_line(line.bytes());
         answer_given(is_quiet, self.answer)
@@ -122,14 +127,17 @@ impl Expander {
         requires drained { self.old.lines ≡ [] }
         requires next { number ≡ self.old.number + 1 }
         requires within { number ≤ INPUT_LIMIT }
-        ensures steps { step_made result self.new.lines (seen_by self.new) ≡ seen_next expansion (seen_by self.old) Overlong }
+        ensures steps { step_made result self.new.lines (expander_state self.new)
+            ≡ seen_next expansion (expander_state self.old) Overlong }
         ensures options { self.new.options ≡ self.old.options }
-        // After a fault that ends the run no line is lent, and the same is answered from then on.
+        // After a fault that ends the run no line is borrowed, and the same is answered from then on.
         ensures drained { OnErr result (self.new.lines ≡ []) }
         ensures ended { IfErr result (λ at. self.new.reader.stage ≡ Ended at) }
         ensures repeated { (at : At) → self.old.reader.stage ≡ Ended at → result ≡ Err at }
-        ensures answers { (lines : List InputLine) (notices : List Awaited) (line : InputLine) → expander_took self.old lines notices → IsAwaited notices line → is_long line ≡ true
-            → Answers (expansion_filter self.old.options) (expander_took self.new) self.new.lines lines notices line result }
+        ensures answers { (lines : List InputLine) (notices : List Awaited) (line : InputLine)
+            → expander_took self.old lines notices → IsAwaited notices line → is_long line ≡ true
+            → EngineAnswers (expansion_filter self.old.options)
+            (expander_took self.new) self.new.lines lines notices line result }
     {
         self.pass(number)
     }
@@ -142,12 +150,14 @@ impl Expander {
     pub fn end(&mut self) -> Result<Step, At>
         requires drained { self.old.lines ≡ [] }
         ensures drained { self.new.lines ≡ [] }
-        ensures ends { step_made result self.new.lines (seen_by self.new) ≡ seen_end expansion (seen_by self.old) }
+        ensures ends { step_made result self.new.lines (expander_state self.new)
+            ≡ seen_end expansion (expander_state self.old) }
         ensures options { self.new.options ≡ self.old.options }
         ensures ended { IfErr result (λ at. self.new.reader.stage ≡ Ended at) }
         ensures repeated { (at : At) → self.old.reader.stage ≡ Ended at → result ≡ Err at }
         // After the lines that it has taken, the answer is what the expansion of them all adds.
-        ensures concludes { (lines : List InputLine) → expander_took self.old lines [] → Concludes (expansion_filter self.old.options) self.new.lines lines result }
+        ensures concludes { (lines : List InputLine) → expander_took self.old lines []
+            → Concludes (expansion_filter self.old.options) self.new.lines lines result }
     {
         let number = self.number.value();
         let settled = after_end(self.reader.stage, number, self.options.skip());
@@ -161,7 +171,8 @@ impl Expander {
         requires drained { self.old.lines ≡ [] }
         requires next { number ≡ self.old.number + 1 }
         requires within { number ≤ INPUT_LIMIT }
-        ensures steps { step_made result self.new.lines (seen_by self.new) ≡ seen_next expansion (seen_by self.old) Overlong }
+        ensures steps { step_made result self.new.lines (expander_state self.new)
+            ≡ seen_next expansion (expander_state self.old) Overlong }
         ensures options { self.new.options ≡ self.old.options }
         ensures drained { OnErr result (self.new.lines ≡ []) }
         ensures ended { IfErr result (λ at. self.new.reader.stage ≡ Ended at) }
@@ -186,11 +197,13 @@ impl Expander {
         requires drained { self.old.lines ≡ [] }
         requires short { length line.now ≤ LINE_LIMIT }
         requires within { self.old.number < INPUT_LIMIT }
-        ensures steps { Steps expansion (seen_by self.old) (Content line.now) (answer_given result self.new.answer) self.new.lines (seen_by self.new) }
+        ensures steps { Steps expansion (expander_state self.old) (Content line.now)
+            (answer_given result self.new.answer) self.new.lines (expander_state self.new) }
         ensures options { self.new.options ≡ self.old.options }
         ensures drained { OnErr (answer_given result self.new.answer) (self.new.lines ≡ []) }
         ensures ended { IfErr (answer_given result self.new.answer) (λ at. self.new.reader.stage ≡ Ended at) }
-        ensures repeated { (at : At) → self.old.reader.stage ≡ Ended at → answer_given result self.new.answer ≡ Err at }
+        ensures repeated { (at : At) → self.old.reader.stage
+            ≡ Ended at → answer_given result self.new.answer ≡ Err at }
     {
         match self.reader.read_early(line) {
             Ok(true) => {
@@ -214,7 +227,8 @@ impl Expander {
         requires drained { self.old.lines ≡ [] }
         requires short { length line.now ≤ LINE_LIMIT }
         requires within { self.old.number < INPUT_LIMIT }
-        ensures steps { Steps expansion (seen_by self.old) (Content line.now) result self.new.lines (seen_by self.new) }
+        ensures steps { Steps expansion
+            (expander_state self.old) (Content line.now) result self.new.lines (expander_state self.new) }
         ensures options { self.new.options ≡ self.old.options }
         ensures drained { OnErr result (self.new.lines ≡ []) }
         ensures ended { IfErr result (λ at. self.new.reader.stage ≡ Ended at) }
@@ -243,7 +257,8 @@ impl Expander {
         ensures drained { self.new.lines ≡ [] }
         ensures options { self.new.options ≡ self.old.options }
         ensures ended { IfErr result (λ at. self.new.reader.stage ≡ Ended at) }
-        ensures fatal { is_skippable fault ≡ false → result ≡ Err (record { line = self.old.number + 1; fault = fault }) }
+        ensures fatal { is_skippable fault ≡ false
+            → result ≡ Err (record { line = self.old.number + 1; fault = fault }) }
     {
         let number = self.number.value();
         let settled = after_fault(stage, number, self.options.skip(), fault, goes_on);
@@ -253,7 +268,7 @@ impl Expander {
     }
 }
 
-/// Makes ready what a line gives; the reader gets the epoch back that was lent before.
+/// Makes ready what a line gives; the reader gets the epoch back that it had handed out before.
 fn make_ready(
     lines: &mut ExpandedLines,
     reader: &mut CompactReader,
@@ -263,8 +278,9 @@ fn make_ready(
     requires drained { lines.old ≡ [] }
     requires short { length line.now ≤ LINE_LIMIT }
     ensures lent { lines.new ≡ lent_for line.now step }
-    ensures answer { answer_of (Ok result) ≡ answer_for step }
-    ensures same { (choices : Choices) (number : ℕ) → seen_with choices number reader.new ≡ seen_with choices number reader.old }
+    ensures answer { answer_of_step (Ok result) ≡ answer_for step }
+    ensures same { (choices : Choices) (number : ℕ)
+        → compact_reader_state choices number reader.new ≡ compact_reader_state choices number reader.old }
 {
     match step {
         CompactStep::Nothing => Step::Quiet,

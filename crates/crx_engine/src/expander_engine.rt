@@ -3,8 +3,8 @@
 ghost use Rattle.std.specs.Prelude.{◌≡◌, ⊤, length};
 ghost use Rattle.crx_engine.specs.Directions.{expansion_filter};
 ghost use Rattle.crx_engine.specs.EngineLines.{HasTaken};
-ghost use Rattle.crx_engine.specs.Expander.{expansion, expansion_seen};
-ghost use Rattle.crx_engine.specs.Expanding.{seen_by};
+ghost use Rattle.crx_engine.specs.ExpansionByLine.{expansion, expansion_seen};
+ghost use Rattle.crx_engine.specs.ExpanderState.{expander_state};
 
 use crate::engine::{Engine, Step};
 use crate::expander::Expander;
@@ -13,7 +13,7 @@ use crx_text::{At, Line};
 impl Engine for Expander {
     ghost filter = { λ e. expansion_filter e.options };
 
-    ghost shows = { λ e lines notices. HasTaken expansion (expansion_seen e.options) (seen_by e) lines notices × (e.number ≡ length lines) };
+    ghost shows = { λ e lines notices. HasTaken expansion (expansion_seen e.options) (expander_state e) lines notices × (e.number ≡ length lines) };
 
     ghost ready = { λ e. e.lines };
 

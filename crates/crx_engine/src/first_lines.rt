@@ -1,7 +1,7 @@
 //! The two lines before the header of compact text.
 
 ghost use Rattle.std.specs.Prelude.{◌≡◌, Ok, Err, MatchResult};
-ghost use Rattle.crx_engine.specs.Expanded.{crinex_program, crinex_version};
+ghost use Rattle.crx_engine.specs.meaning.Expanded.{crinex_program, crinex_version};
 
 use crate::crinex::{CRINEX_PROGRAM_LABEL, CRINEX_VERSION, CRINEX_VERSION_LABEL};
 use crx_rinex::is_labelled;

@@ -2,7 +2,7 @@
 
 ghost use Rattle.std.specs.Prelude.{◌≡◌, ◌-◌, ◌≤◌, ◌++◌, length, replicate, false, true, IsTrue, MatchResult};
 ghost use Rattle.crx_lines.specs.declared.limits.TheConstants.{DATE_LIMIT};
-ghost use Rattle.crx_engine.specs.Choices.{choices_of, is_date, kept_every};
+ghost use Rattle.crx_engine.specs.meaning.Choices.{choices_of, is_date, kept_every};
 
 use crx_lines::limits::DATE_LIMIT;
 use std::marker::Model;
@@ -25,7 +25,7 @@ pub struct Options {
 
 impl Model for Options {
     ghost use Rattle.std.specs.Prelude.{◌≡◌, ◌-◌, ◌≤◌, ◌++◌, length, take, drop, replicate, true};
-    ghost use Rattle.crx_engine.specs.Choices.{Choices, is_date};
+    ghost use Rattle.crx_engine.specs.meaning.Choices.{Choices, is_date};
     ghost use Rattle.std.proofs.Common.{ap, sym, ◌∙◌, length-take-le, take-append-drop};
     ghost use Rattle.crx_lines.specs.declared.limits.TheConstants.{DATE_LIMIT};
 

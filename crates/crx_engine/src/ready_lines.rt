@@ -1,13 +1,13 @@
-//! The lines that a compaction has ready to be lent.
+//! The lines that a compaction has ready.
 
 ghost use Rattle.std.specs.Prelude.{◌≡◌, ◌≤◌, ◌++◌, ◌∷◌, ◌↔◌, if◌then◌else◌, [], drop, length, slice_get, is_some, IfOk, IfSome, IsSome, IsTrue, OnOk, OnErr, Some, true};
 ghost use Rattle.crx_lines.specs.declared.limits.TheConstants.{DATE_LIMIT, LINE_LIMIT};
 ghost use Rattle.crx_rinex.specs.Epochs.{is_full_epoch};
 ghost use Rattle.crx_compact.specs.OpenEpochs.{is_idle, tail_held};
 ghost use Rattle.crx_compact.specs.OpenEpochs.ColumnsState.{Idle};
-ghost use Rattle.crx_compact.specs.Steps.{lines_after, tail_after, tail_written_after};
-ghost use Rattle.crx_engine.specs.Compacted.{program_line, lines_before_header};
-ghost use Rattle.crx_engine.specs.Results.{lines_text};
+ghost use Rattle.crx_compact.specs.Steps.{lines_after_tail, tail_after, tail_written_after};
+ghost use Rattle.crx_engine.specs.meaning.Compacted.{program_line, lines_before_header};
+ghost use Rattle.crx_rinex.specs.meaning.Printing.{lines_text};
 
 use crate::appending::append;
 use crate::crinex::{CRINEX_PROGRAM, CRINEX_PROGRAM_LABEL, CRINEX_VERSION_LINE};
@@ -57,11 +57,11 @@ impl ReadyLines {
     ghost use Rattle.std.specs.Io.BufRead.{Rests};
     ghost use Rattle.std.specs.Option.{option_copied};
     ghost use Rattle.crx_engine.specs.contracts.ready_lines.ReadyLines.{the_row};
-    ghost use Rattle.crx_engine.specs.ReadyLines.{ready_lines};
+    ghost use Rattle.crx_engine.specs.ReadyLines.{pending_lines};
 
     /// No lines.
     pub(crate) fn new(alloc: Global) -> Result<ReadyLines, AllocError>
-        ensures { IfOk result (λ r. ready_lines r ≡ []) }
+        ensures { IfOk result (λ r. pending_lines r ≡ []) }
     {
         let program = Box::new(alloc, Text::new())?;
         let copied = Box::new(alloc, Text::new())?;
@@ -75,7 +75,7 @@ impl ReadyLines {
 
     /// Whether no line is ready.
     pub(crate) fn is_empty(&self) -> bool
-        ensures { IsTrue result ↔ (ready_lines self.now ≡ []) }
+        ensures { IsTrue result ↔ (pending_lines self.now ≡ []) }
     {
         match self.turn {
             Turn::Made => self.made.is_empty(),
@@ -85,7 +85,7 @@ impl ReadyLines {
 
     /// Drops all lines.
     pub(crate) fn clear(&mut self)
-        ensures { ready_lines self.new ≡ [] }
+        ensures { pending_lines self.new ≡ [] }
     {
         self.turn = Turn::Made;
         self.made.clear();
@@ -108,7 +108,7 @@ impl ReadyLines {
     /// A line that is copied, in place of all others.
     pub(crate) fn copy(&mut self, line: &[u8])
         requires short { length line.now ≤ LINE_LIMIT }
-        ensures { ready_lines self.new ≡ line.now ∷ [] }
+        ensures { pending_lines self.new ≡ line.now ∷ [] }
     {
         self.hold(line, Turn::Copied);
     }
@@ -117,7 +117,7 @@ impl ReadyLines {
     pub(crate) fn copy_header(&mut self, date: &[u8], is_first: bool, line: &[u8])
         requires dated { length date.now ≤ DATE_LIMIT }
         requires short { length line.now ≤ LINE_LIMIT }
-        ensures { ready_lines self.new ≡ lines_before_header date.now is_first ++ line.now ∷ [] }
+        ensures { pending_lines self.new ≡ lines_before_header date.now is_first ++ line.now ∷ [] }
     {
         if is_first {
             write_program_line(&mut self.program, date);
@@ -138,8 +138,10 @@ impl ReadyLines {
     ) -> Result<(), AllocError>
         requires whole { is_full_epoch epoch.now ≡ true }
         requires idle { is_idle columns.old ≡ true }
-        ensures lines { OnOk result (ready_lines self.new ≡ lines_after (tail_written_after full (tail_held columns.old)) epoch.now) }
-        ensures kept { OnOk result (columns.new ≡ Idle (Some (tail_after (tail_written_after full (tail_held columns.old)) epoch.now))) }
+        ensures lines { OnOk result (pending_lines self.new
+            ≡ lines_after_tail (tail_written_after full (tail_held columns.old)) epoch.now) }
+        ensures kept { OnOk result (columns.new
+            ≡ Idle (Some (tail_after (tail_written_after full (tail_held columns.old)) epoch.now))) }
         ensures err { OnErr result (columns.new ≡ columns.old) }
     {
         self.turn = Turn::Made;
@@ -147,11 +149,12 @@ impl ReadyLines {
         columns.encode_into(epoch, full, &mut self.made)
     }
 
-    /// Lends the next line, without its line end; `None` once all were lent.
+    /// Lends the next line, without its line end; `None` once none is pending.
     pub(crate) fn next_line(&mut self) -> Option<&[u8]>
-        ensures value { option_copied result ≡ slice_get (ready_lines self.old) 0 }
-        // That line is no longer among those to be lent.
-        ensures* after_borrow { sem 𝓛 (Rests the_row self.entry (λ new. ready_lines new ≡ drop 1 (ready_lines self.old))) }
+        ensures value { option_copied result ≡ slice_get (pending_lines self.old) 0 }
+        // That line is no longer pending.
+        ensures* after_borrow { sem 𝓛 (Rests the_row self.entry
+            (λ new. pending_lines new ≡ drop 1 (pending_lines self.old))) }
     {
         match self.turn {
             Turn::Version => {
@@ -173,9 +176,10 @@ impl ReadyLines {
     /// Lends all lines as one text, each followed by LF, after which none is left. `None` comes where one that is held
     /// elsewhere is the next, and then they stay as they are.
     pub(crate) fn take_text(&mut self) -> Option<&[u8]>
-        ensures value { IfSome result (λ text. text.now ≡ lines_text (ready_lines self.old)) }
+        ensures value { IfSome result (λ text. text.now ≡ lines_text (pending_lines self.old)) }
         ensures made { self.old.turn ≡ Turn.Made → IsSome result }
-        ensures* after_borrow { sem 𝓛 (Rests the_row self.entry (λ new. ready_lines new ≡ (if is_some result then [] else ready_lines self.old))) }
+        ensures* after_borrow { sem 𝓛 (Rests the_row self.entry
+            (λ new. pending_lines new ≡ (if is_some result then [] else pending_lines self.old))) }
     {
         match self.turn {
             Turn::Made => Some(self.made.take_text()),

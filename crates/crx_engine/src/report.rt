@@ -2,8 +2,8 @@
 
 ghost use Rattle.std.specs.Prelude.{◌≡◌, ◌+◌, ◌≤◌, ◌++◌, ◌∷◌, ℕ, None, Some, MatchBool, codes, decimal, length, slice_get};
 ghost use Rattle.std.specs.List.{flat_map};
-ghost use Rattle.crx_engine.specs.Standard.{standard_text, systems_text, count_text, report_lines};
-ghost use Rattle.crx_engine.specs.Checkers.{totals_held, found_held};
+ghost use Rattle.crx_engine.specs.meaning.Standard.{standard_text, systems_text, count_text, report_lines};
+ghost use Rattle.crx_engine.specs.CheckerState.{totals_held, found_held};
 
 use crate::appending::append;
 use crx_lines::limits::VERSION_WIDTH;

@@ -1,9 +1,9 @@
 //! RINEX observation files, one line at a time: what each line is, the types in force, and the epoch whose rows come.
 
 ghost use Rattle.std.specs.Prelude.{◌≡◌, true};
-ghost use Rattle.crx_rinex.specs.EpochLines.{satellites_of};
+ghost use Rattle.crx_rinex.specs.meaning.EpochLines.{satellites_of};
 ghost use Rattle.crx_rinex.specs.Epochs.{begun};
-ghost use Rattle.crx_engine.specs.RinexStages.{is_consistent};
+ghost use Rattle.crx_engine.specs.RinexStages.{is_rinex_stage};
 
 use crate::stage::{Stage, after_header_line, counts_types, with_records_left};
 use crate::types_lines::{accept_header_line, accept_record};
@@ -37,18 +37,19 @@ pub(crate) struct RinexReader {
     types: Types,
     /// The epoch whose rows come, or the last one, whose memory the next one takes.
     epoch: Option<Epoch>,
-    ghost consistent: { is_consistent stage epoch ≡ true },
+    ghost consistent: { is_rinex_stage stage epoch ≡ true },
 }
 
 impl RinexReader {
     ghost use Rattle.std.specs.Prelude.{◌⊎◌, [], None, Some, false, if◌then◌else◌, IfOk, IfErr, OnErr};
     ghost use Rattle.std.specs.Option.{option_copied};
-    ghost use Rattle.crx_rinex.specs.EpochLines.{begins_epoch};
-    ghost use Rattle.crx_rinex.specs.Epochs.{is_full_epoch, IsSoundEpoch};
-    ghost use Rattle.crx_engine.specs.Compactor.{Written};
+    ghost use Rattle.crx_rinex.specs.meaning.EpochLines.{begins_epoch};
+    ghost use Rattle.crx_rinex.specs.Epochs.{is_full_epoch};
+    ghost use Rattle.crx_rinex.specs.meaning.Epochs.{IsSoundEpoch};
+    ghost use Rattle.crx_engine.specs.CompactionByLine.{Written};
     ghost use Rattle.crx_engine.specs.LineByLine.{InHeader};
     ghost use Rattle.crx_engine.specs.EngineSteps.{is_ended};
-    ghost use Rattle.crx_engine.specs.RinexReaders.{reader_phase, made_at, Takes, Refuses};
+    ghost use Rattle.crx_engine.specs.RinexReaders.{reader_phase, made_at, TakesRinexLine, RefusesRinexLine};
 
     /// A reader before the first line.
     pub(crate) fn new(alloc: Global) -> RinexReader
@@ -85,8 +86,10 @@ impl RinexReader {
     /// fault: a types line that counts, or a satellite's line. After a fault the reader is as it was.
     pub(crate) fn take(&mut self, line: &[u8]) -> Result<RinexStep, Fault>
         requires running { is_ended self.old.stage ≡ false }
-        ensures takes { (kept : Written) → IfOk result (λ step. Takes (made_at self.old line.now kept) self.old line.now step self.new) }
-        ensures refuses { (kept : Written) → IfErr result (λ fault. Refuses (made_at self.old line.now kept) self.old line.now fault) }
+        ensures takes { (kept : Written) → IfOk result
+            (λ step. TakesRinexLine (made_at self.old line.now kept) self.old line.now step self.new) }
+        ensures refuses { (kept : Written) → IfErr result
+            (λ fault. RefusesRinexLine (made_at self.old line.now kept) self.old line.now fault) }
         ensures same_stage { OnErr result (self.new.stage ≡ self.old.stage) }
         ensures same_types { OnErr result (self.new.types ≡ self.old.types) }
         ensures same_epoch { OnErr result (self.new.epoch ≡ self.old.epoch) }
@@ -110,8 +113,10 @@ impl RinexReader {
     /// Takes a header line.
     fn header_line(&mut self, is_first: bool, line: &[u8]) -> Result<RinexStep, Fault>
         requires stage { self.old.stage ≡ Stage.Header is_first }
-        ensures takes { (kept : Written) → IfOk result (λ step. Takes (made_at self.old line.now kept) self.old line.now step self.new) }
-        ensures refuses { (kept : Written) → IfErr result (λ fault. Refuses (made_at self.old line.now kept) self.old line.now fault) }
+        ensures takes { (kept : Written) → IfOk result
+            (λ step. TakesRinexLine (made_at self.old line.now kept) self.old line.now step self.new) }
+        ensures refuses { (kept : Written) → IfErr result
+            (λ fault. RefusesRinexLine (made_at self.old line.now kept) self.old line.now fault) }
         ensures same_stage { OnErr result (self.new.stage ≡ self.old.stage) }
         ensures same_types { OnErr result (self.new.types ≡ self.old.types) }
         ensures same_epoch { OnErr result (self.new.epoch ≡ self.old.epoch) }
@@ -126,8 +131,10 @@ impl RinexReader {
     /// Takes a record of an event.
     fn record(&mut self, left: usize, counted: bool, line: &[u8]) -> Result<RinexStep, Fault>
         requires stage { self.old.stage ≡ Stage.Event left counted }
-        ensures takes { (kept : Written) → IfOk result (λ step. Takes (made_at self.old line.now kept) self.old line.now step self.new) }
-        ensures refuses { (kept : Written) → IfErr result (λ fault. Refuses (made_at self.old line.now kept) self.old line.now fault) }
+        ensures takes { (kept : Written) → IfOk result
+            (λ step. TakesRinexLine (made_at self.old line.now kept) self.old line.now step self.new) }
+        ensures refuses { (kept : Written) → IfErr result
+            (λ fault. RefusesRinexLine (made_at self.old line.now kept) self.old line.now fault) }
         ensures same_stage { OnErr result (self.new.stage ≡ self.old.stage) }
         ensures same_types { OnErr result (self.new.types ≡ self.old.types) }
         ensures same_epoch { OnErr result (self.new.epoch ≡ self.old.epoch) }
@@ -141,9 +148,12 @@ impl RinexReader {
 
     /// Takes a line where an epoch or an event may begin.
     fn begin(&mut self, line: &[u8]) -> Result<RinexStep, Fault>
-        requires stage { (self.old.stage ≡ Stage.Between) ⊎ ((self.old.stage ≡ Stage.Looking) × (begins_epoch line.now ≡ true)) }
-        ensures takes { (kept : Written) → IfOk result (λ step. Takes (made_at self.old line.now kept) self.old line.now step self.new) }
-        ensures refuses { (kept : Written) → IfErr result (λ fault. Refuses (made_at self.old line.now kept) self.old line.now fault) }
+        requires stage { (self.old.stage ≡ Stage.Between)
+            ⊎ ((self.old.stage ≡ Stage.Looking) × (begins_epoch line.now ≡ true)) }
+        ensures takes { (kept : Written) → IfOk result
+            (λ step. TakesRinexLine (made_at self.old line.now kept) self.old line.now step self.new) }
+        ensures refuses { (kept : Written) → IfErr result
+            (λ fault. RefusesRinexLine (made_at self.old line.now kept) self.old line.now fault) }
         ensures same_stage { OnErr result (self.new.stage ≡ self.old.stage) }
         ensures same_types { OnErr result (self.new.types ≡ self.old.types) }
         ensures same_epoch { OnErr result (self.new.epoch ≡ self.old.epoch) }
@@ -181,8 +191,10 @@ impl RinexReader {
     /// Takes a line of an epoch whose rows have come in part.
     fn row(&mut self, line: &[u8]) -> Result<RinexStep, Fault>
         requires stage { self.old.stage ≡ Stage.Open }
-        ensures takes { (kept : Written) → IfOk result (λ step. Takes (made_at self.old line.now kept) self.old line.now step self.new) }
-        ensures refuses { (kept : Written) → IfErr result (λ fault. Refuses (made_at self.old line.now kept) self.old line.now fault) }
+        ensures takes { (kept : Written) → IfOk result
+            (λ step. TakesRinexLine (made_at self.old line.now kept) self.old line.now step self.new) }
+        ensures refuses { (kept : Written) → IfErr result
+            (λ fault. RefusesRinexLine (made_at self.old line.now kept) self.old line.now fault) }
         ensures same_stage { OnErr result (self.new.stage ≡ self.old.stage) }
         ensures same_types { OnErr result (self.new.types ≡ self.old.types) }
         ensures same_epoch { OnErr result (self.new.epoch ≡ self.old.epoch) }

@@ -1,13 +1,13 @@
 //! What a fault and the end of the input make of a run, in either direction.
 
 ghost use Rattle.std.specs.Prelude.{◌≡◌, ◌+◌, ◌<◌, ◌≤◌, Option, true, false, IfErr, Err};
-ghost use Rattle.crx_rinex.specs.EpochPlaces.{OpenEpoch};
+ghost use Rattle.crx_rinex.specs.meaning.EpochPlaces.{OpenEpoch};
 ghost use Rattle.crx_compact.specs.OpenEpochs.{OpenRawEpoch};
 ghost use Rattle.crx_lines.specs.declared.limits.TheConstants.{INPUT_LIMIT};
 ghost use Rattle.crx_engine.specs.LineByLine.{fault_at_end_in};
-ghost use Rattle.crx_engine.specs.Reading.{is_skippable};
-ghost use Rattle.crx_engine.specs.Compactor.{compaction};
-ghost use Rattle.crx_engine.specs.Expander.{expansion};
+ghost use Rattle.crx_lines.specs.meaning.Faults.{is_skippable};
+ghost use Rattle.crx_engine.specs.CompactionByLine.{compaction};
+ghost use Rattle.crx_engine.specs.ExpansionByLine.{expansion};
 ghost use Rattle.crx_engine.specs.EngineSteps.{SettlesEnd, SettlesFault, is_held, is_settled, seen_stage};
 
 use crate::engine::Step;
@@ -40,7 +40,8 @@ pub(crate) fn after_fault(
     ensures settled { is_settled result.stage ≡ true }
     ensures ended { IfErr result.answer (λ at. result.stage ≡ Stage.Ended at) }
     ensures emptied { result.is_emptied ≡ true }
-    ensures fatal { is_skippable fault ≡ false → result.answer ≡ Err (record { line = number + 1; fault = fault }) }
+    ensures fatal { is_skippable fault ≡ false
+        → result.answer ≡ Err (record { line = number + 1; fault = fault }) }
     ensures counts { is_skippable fault ≡ false → result.number ≡ number + 1 }
     ensures counted { (number ≤ result.number) × (result.number ≤ number + 1) }
 {
@@ -80,8 +81,10 @@ pub(crate) fn after_fault(
 
 /// What the end of the input means in a stage: a fault before the header has ended, among an event's records and in an epoch.
 fn fault_at_end(stage: Stage) -> Option<Fault>
-    ensures rinex { (held : Option OpenEpoch) → is_held stage held ≡ true → result ≡ fault_at_end_in (seen_stage held stage) }
-    ensures compact { (held : Option OpenRawEpoch) → is_held stage held ≡ true → result ≡ fault_at_end_in (seen_stage held stage) }
+    ensures rinex { (held : Option OpenEpoch)
+        → is_held stage held ≡ true → result ≡ fault_at_end_in (seen_stage held stage) }
+    ensures compact { (held : Option OpenRawEpoch)
+        → is_held stage held ≡ true → result ≡ fault_at_end_in (seen_stage held stage) }
 {
     match stage {
         Stage::FirstLines { count: 0 } => Some(Fault::NotCompact),

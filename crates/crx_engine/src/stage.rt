@@ -1,14 +1,14 @@
 //! Where a run is between two lines, in either direction.
 
 ghost use Rattle.std.specs.Prelude.{◌≡◌, List, Option, Bool, true, false, if◌then◌else◌};
-ghost use Rattle.crx_rinex.specs.EpochPlaces.{OpenEpoch};
+ghost use Rattle.crx_rinex.specs.meaning.EpochPlaces.{OpenEpoch};
 ghost use Rattle.crx_compact.specs.OpenEpochs.{OpenRawEpoch};
 ghost use Rattle.crx_engine.specs.LineByLine.{is_in_epoch, may_skip, with_records_left, InHeader, BetweenUnits};
-ghost use Rattle.crx_engine.specs.Items.{counts_types};
+ghost use Rattle.crx_engine.specs.meaning.Items.{counts_types};
 ghost use Rattle.crx_engine.specs.EngineSteps.{seen_stage, is_held, is_settled};
-ghost use Rattle.crx_engine.specs.RinexStages.{is_consistent};
-ghost use Rattle.crx_rinex.specs.Header.{is_end_of_header};
-ghost use Rattle.crx_rinex.specs.Observations.{Epoch};
+ghost use Rattle.crx_engine.specs.RinexStages.{is_rinex_stage};
+ghost use Rattle.crx_rinex.specs.meaning.Header.{is_end_of_header};
+ghost use Rattle.crx_rinex.specs.meaning.Observations.{Epoch};
 
 use crx_rinex::is_end;
 use crx_text::At;
@@ -48,8 +48,10 @@ pub(crate) enum Stage {
 impl Stage {
     /// Whether an epoch's lines have come in part.
     pub(crate) fn is_in_epoch(&self) -> bool
-        ensures rinex { (held : Option OpenEpoch) → is_held self.now held ≡ true → result ≡ is_in_epoch (seen_stage held self.now) }
-        ensures compact { (held : Option OpenRawEpoch) → is_held self.now held ≡ true → result ≡ is_in_epoch (seen_stage held self.now) }
+        ensures rinex { (held : Option OpenEpoch)
+            → is_held self.now held ≡ true → result ≡ is_in_epoch (seen_stage held self.now) }
+        ensures compact { (held : Option OpenRawEpoch)
+            → is_held self.now held ≡ true → result ≡ is_in_epoch (seen_stage held self.now) }
     {
         matches!(self, Stage::Open)
     }
@@ -72,9 +74,11 @@ impl Stage {
 
 /// The stage after a header line.
 pub(crate) fn after_header_line(line: &[u8]) -> Stage
-    ensures rinex { (held : Option OpenEpoch) → seen_stage held result ≡ (if is_end_of_header line.now then BetweenUnits else InHeader false) }
-    ensures compact { (held : Option OpenRawEpoch) → seen_stage held result ≡ (if is_end_of_header line.now then BetweenUnits else InHeader false) }
-    ensures consistent { (epoch : Option Epoch) → is_consistent result epoch ≡ true }
+    ensures rinex { (held : Option OpenEpoch)
+        → seen_stage held result ≡ (if is_end_of_header line.now then BetweenUnits else InHeader false) }
+    ensures compact { (held : Option OpenRawEpoch)
+        → seen_stage held result ≡ (if is_end_of_header line.now then BetweenUnits else InHeader false) }
+    ensures consistent { (epoch : Option Epoch) → is_rinex_stage result epoch ≡ true }
 {
     if is_end(line) {
         Stage::Between
@@ -87,7 +91,7 @@ pub(crate) fn after_header_line(line: &[u8]) -> Stage
 pub(crate) fn with_records_left(left: usize, counted: bool) -> Stage
     ensures rinex { (held : Option OpenEpoch) → seen_stage held result ≡ with_records_left left counted }
     ensures compact { (held : Option OpenRawEpoch) → seen_stage held result ≡ with_records_left left counted }
-    ensures consistent { (epoch : Option Epoch) → is_consistent result epoch ≡ true }
+    ensures consistent { (epoch : Option Epoch) → is_rinex_stage result epoch ≡ true }
 {
     if left == 0 {
         Stage::Between

@@ -4,14 +4,14 @@ ghost use Rattle.std.specs.Prelude.{◌≡◌, ◌≤◌, ◌<◌, ◌*◌, ◌+
 ghost use Rattle.std.specs.Str.{bytes_eq};
 ghost use Rattle.std.specs.Option.{option_copied};
 ghost use Rattle.crx_lines.specs.declared.limits.TheConstants.{INPUT_LIMIT, SATELLITES_LIMIT, TYPES_LIMIT};
-ghost use Rattle.crx_rinex.specs.EpochPlaces.{OpenEpoch};
-ghost use Rattle.crx_rinex.specs.Observations.{Epoch as ObservationEpoch};
+ghost use Rattle.crx_rinex.specs.meaning.EpochPlaces.{OpenEpoch};
+ghost use Rattle.crx_rinex.specs.meaning.Observations.{Epoch as ObservationEpoch};
 ghost use Rattle.crx_rinex.specs.Printing.{last_line};
-ghost use Rattle.crx_engine.specs.Compactor.{is_before_header};
+ghost use Rattle.crx_engine.specs.CompactionByLine.{is_before_header};
 ghost use Rattle.crx_engine.specs.LineByLine.{Made};
-ghost use Rattle.crx_engine.specs.RinexReaders.{reader_phase, Takes};
-ghost use Rattle.crx_engine.specs.Checking.{printed_made, totals_made};
-ghost use Rattle.crx_engine.specs.Checkers.{totals_held, AreBounded, HasPrinted};
+ghost use Rattle.crx_engine.specs.RinexReaders.{reader_phase, TakesRinexLine};
+ghost use Rattle.crx_engine.specs.CheckByLine.{printed_made, totals_made};
+ghost use Rattle.crx_engine.specs.CheckerState.{totals_held, AreBounded, HasPrinted};
 ghost use Rattle.crx_engine.specs.declared.rinex_reader.RinexReader.{RinexReader};
 
 use crate::report::Totals;
@@ -22,8 +22,10 @@ use crx_text::Text;
 /// The totals with those of a line that was taken, by what it was.
 pub(crate) fn counted(totals: Totals, reader: &RinexReader, step: RinexStep, line: &[u8]) -> Totals
     requires bounded { (number : ℕ) × AreBounded totals number × (number < INPUT_LIMIT) }
-    ensures value { (before : RinexReader) (made : Made ObservationEpoch OpenEpoch) → Takes made before line.now step reader.now
-        → totals_held result ≡ totals_made (totals_held totals) (is_before_header (reader_phase before)) made }
+    ensures value { (before : RinexReader) (made : Made ObservationEpoch OpenEpoch)
+        → TakesRinexLine made before line.now step reader.now
+        → totals_held result ≡ totals_made
+        (totals_held totals) (is_before_header (reader_phase before)) made }
     ensures bounded { (number : ℕ) → AreBounded totals number → AreBounded result (number + 1) }
 {
     match step {
@@ -57,7 +59,8 @@ pub(crate) fn is_given_back(
     line: &[u8],
     text: &mut Text,
 ) -> bool
-    ensures { (before : RinexReader) (made : Made ObservationEpoch OpenEpoch) → Takes made before line.now step reader.now → HasPrinted made
+    ensures { (before : RinexReader) (made : Made ObservationEpoch OpenEpoch)
+        → TakesRinexLine made before line.now step reader.now → HasPrinted made
         → result ≡ bytes_eq line.now (last_line (printed_made made)) }
 {
     match step {

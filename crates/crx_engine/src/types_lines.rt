@@ -2,8 +2,9 @@
 
 ghost use Rattle.std.specs.Option.{is_some};
 ghost use Rattle.std.specs.Prelude.{◌≡◌, ◌⊎◌, ◌&&◌, None, Some, is_none, true, false, if◌then◌else◌, OnOk, OnErr, IfErr};
-ghost use Rattle.crx_rinex.specs.ObservationTypes.{count_of_types_line, with_line};
-ghost use Rattle.crx_engine.specs.UnitPlaces.{header_line_fault, types_fault};
+ghost use Rattle.crx_rinex.specs.meaning.ObservationTypes.{count_of_types_line};
+ghost use Rattle.crx_rinex.specs.ObservationTypes.{with_line};
+ghost use Rattle.crx_engine.specs.meaning.UnitPlaces.{header_line_fault, types_fault};
 
 use crx_rinex::{Types, header_first};
 use crx_text::Fault;
@@ -19,7 +20,8 @@ pub(crate) fn accept_header_line(
     ensures ok { OnOk result (types.new ≡ with_line types.old line.now) }
     ensures same { OnErr result (types.new ≡ types.old) }
     ensures refused { IfErr result (λ fault. (header_line_fault is_first line.now ≡ Some fault)
-        ⊎ ((fault ≡ Fault.OutOfMemory) × ((is_some (count_of_types_line line.now) && is_none (header_line_fault is_first line.now)) ≡ true))) }
+        ⊎ ((fault ≡ Fault.OutOfMemory) × ((is_some (count_of_types_line line.now)
+        && is_none (header_line_fault is_first line.now)) ≡ true))) }
 {
     if is_first {
         header_first(line)?;

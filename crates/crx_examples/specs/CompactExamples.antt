@@ -1,12 +1,13 @@
 -- Worked examples of compact text: the epochs, newest first, and what their lines are made of.
-use Rattle.std.specs.Prelude.{ℕ, ◌+◌, ℤ, pos, neg_ℤ, true, false, List, [], ◌∷◌, ◌++◌, map, reverse, Option, Some, None, codes}
-use Rattle.crx_rinex.specs.Observations.{Row, Epoch}
-use Rattle.crx_compact.specs.Compaction.{Marked}
-use Rattle.crx_rinex.specs.ObservationTypes.{Count}
+use Rattle.std.specs.Prelude.{ℕ, ◌+◌, ℤ, pos, neg_ℤ, true, false, List, [], ◌∷◌, ◌++◌, map, reverse, Option, Some, None}
+use Rattle.std.specs.Prelude.{codes}
+use Rattle.crx_rinex.specs.meaning.Observations.{Row, Epoch}
+use Rattle.crx_compact.specs.meaning.Compaction.{Marked}
+use Rattle.crx_rinex.specs.meaning.ObservationTypes.{Count}
 use Rattle.crx_rinex.specs.Examples.{one_type}
-use Rattle.crx_rinex.specs.Places.{Place}
-use Rattle.crx_lines.specs.Seen.{ReadLine, Content}
-use Rattle.crx_compact.specs.CompactPlaces.{ReadEpoch}
+use Rattle.crx_rinex.specs.meaning.Places.{Place}
+use Rattle.crx_lines.specs.meaning.Seen.{ReadLine, Content}
+use Rattle.crx_compact.specs.meaning.CompactPlaces.{ReadEpoch}
 use Rattle.crx_compact.specs.Steps.{no_tail}
 use Rattle.crx_compact.specs.OpenEpochs.{OpenRawEpoch, placed_as}
 use Rattle.crx_compact.specs.ReadingLaws.{epochs_at, TypedEpoch}
@@ -29,22 +30,23 @@ later epoch = record { in_full = false; epoch = epoch }
 abbrev pub satellite : List ℕ → Option ℤ → List ℕ → Row
 satellite name value flags = record { name = name; values = value ∷ []; flags = flags }
 
-abbrev pub g01 : Option ℤ → Row
-g01 value = satellite (codes "G01") value (codes "  ")
+abbrev pub row_of_g01 : Option ℤ → Row
+row_of_g01 value = satellite (codes "G01") value (codes "  ")
 
-abbrev pub g02 : Option ℤ → Row
-g02 value = satellite (codes "G02") value (codes " 7")
+abbrev pub row_of_g02 : Option ℤ → Row
+row_of_g02 value = satellite (codes "G02") value (codes " 7")
 
 -- an epoch of G01 alone, with no clock
 abbrev pub epoch_of_one : ℕ → Option ℤ → Epoch
-epoch_of_one s value = record { head = head_at s 1; clock = None; rows = g01 value ∷ [] }
+epoch_of_one s value = record { head = head_at s 1; clock = None; rows = row_of_g01 value ∷ [] }
 
 -- an epoch of G01 alone, with a clock and no observation
 abbrev pub epoch_of_clock : ℕ → Option ℤ → Epoch
-epoch_of_clock s clock = record { head = head_at s 1; clock = clock; rows = g01 None ∷ [] }
+epoch_of_clock s clock = record { head = head_at s 1; clock = clock; rows = row_of_g01 None ∷ [] }
 
-abbrev pub epoch_of_two : ℕ → ℤ → ℤ → Epoch
-epoch_of_two s first second = record { head = head_at s 2; clock = None; rows = g01 (Some first) ∷ g02 (Some second) ∷ [] }
+abbrev pub epoch_of_pair : ℕ → ℤ → ℤ → Epoch
+epoch_of_pair s first second =
+    record { head = head_at s 2; clock = None; rows = row_of_g01 (Some first) ∷ row_of_g02 (Some second) ∷ [] }
 
 -- five epochs of one satellite
 abbrev pub five_epochs : List Marked
@@ -54,8 +56,8 @@ five_epochs =
     ∷ full (epoch_of_one 0 (Some (pos 20000000000))) ∷ []
 
 -- the same with every second one in full
-abbrev pub every_second : List Marked
-every_second =
+abbrev pub five_epochs_restarted : List Marked
+five_epochs_restarted =
     full (epoch_of_one 4 (Some (pos 20000408000))) ∷ later (epoch_of_one 3 (Some (pos 20000304500)))
     ∷ full (epoch_of_one 2 (Some (pos 20000202000))) ∷ later (epoch_of_one 1 (Some (pos 20000100500)))
     ∷ full (epoch_of_one 0 (Some (pos 20000000000))) ∷ []
@@ -69,13 +71,18 @@ one_missing =
 
 -- a satellite with an indicator that is away for an epoch
 abbrev pub one_away : List Marked
-one_away = later (epoch_of_two 2 (pos 3000) (pos 7000)) ∷ later (epoch_of_one 1 (Some (pos 2000))) ∷ full (epoch_of_two 0 (pos 1000) (pos 5000)) ∷ []
+one_away = later (epoch_of_pair 2 (pos 3000) (pos 7000))
+    ∷ later (epoch_of_one 1 (Some (pos 2000))) ∷ full (epoch_of_pair 0 (pos 1000) (pos 5000)) ∷ []
 
 -- an observation and its indicator that both end
 abbrev pub ending : List Marked
 ending =
     later (epoch_of_one 1 None)
-    ∷ full (record { head = head_at 0 1; clock = None; rows = satellite (codes "G01") (Some (pos 5000)) (codes " 7") ∷ [] }) ∷ []
+    ∷ full (record {
+      head = head_at 0 1;
+      clock = None;
+      rows = satellite (codes "G01") (Some (pos 5000)) (codes " 7") ∷ [];
+    }) ∷ []
 
 -- four receiver clock offsets, the second one missing
 abbrev pub clocks : List Marked
@@ -93,7 +100,8 @@ extremes =
 -- two epochs of no satellites
 abbrev pub no_satellites : List Marked
 no_satellites =
-    later (record { head = head_at 0 0; clock = None; rows = [] }) ∷ full (record { head = head_at 0 0; clock = None; rows = [] }) ∷ []
+    later (record { head = head_at 0 0; clock = None; rows = [] })
+    ∷ full (record { head = head_at 0 0; clock = None; rows = [] }) ∷ []
 
 -- one type for GPS, and two for Galileo
 abbrev pub two_systems : List Count
@@ -104,18 +112,19 @@ e05 first second flags = record { name = codes "E05"; values = first ∷ second 
 
 -- an epoch of G01 and E05
 abbrev pub epoch_of_systems : ℕ → ℤ → Row → Epoch
-epoch_of_systems s value row = record { head = head_at s 2; clock = None; rows = g01 (Some value) ∷ row ∷ [] }
+epoch_of_systems s value row = record { head = head_at s 2; clock = None; rows = row_of_g01 (Some value) ∷ row ∷ [] }
 
 -- what some lines read as: so many epochs, the oldest first, or the first fault
 abbrev pub epochs_read : List (List Count) → List ReadLine → Place (List Epoch)
-epochs_read types lines = placed_as (λ (read : List ReadEpoch). reverse (map (λ (r : ReadEpoch). r.epoch) read)) (epochs_at types lines)
+epochs_read types lines = placed_as
+    (λ (read : List ReadEpoch). reverse (map (λ (r : ReadEpoch). r.epoch) read)) (epochs_at types lines)
 
 abbrev pub epochs_in : List (List Count) → List (List ℕ) → Place (List Epoch)
 epochs_in types lines = epochs_read types (map Content lines)
 
 -- an epoch of G01 whose satellite line is still to come
-abbrev pub half_open : OpenRawEpoch
-half_open =
+abbrev pub half_open_raw : OpenRawEpoch
+half_open_raw =
     record {
       before = no_tail;
       text = codes "> 2024 01 01 00 00  0.0000000  0  1      G01";

@@ -2,19 +2,20 @@
 use Rattle.std.specs.Prelude.{ℕ, Bool, true, false, List, [], ◌∷◌, ◌++◌, Some, None, codes, length}
 use Rattle.crx_lines.specs.declared.fault.Fault.{Fault}
 use Rattle.crx_lines.specs.declared.fault.At.{At}
-use Rattle.crx_lines.specs.Seen.{Content}
-use Rattle.crx_lines.specs.Lines.{InputLine, lines_of}
-use Rattle.crx_engine.specs.Choices.{Choices}
-use Rattle.crx_engine.specs.Messages.{message_text, warning_text}
-use Rattle.crx_engine.specs.Results.{FilterResult, lines_text}
-use Rattle.crx_engine.specs.Compacted.{compacted}
-use Rattle.crx_engine.specs.Expanded.{expanded}
-use Rattle.crx_engine.specs.Standard.{Findings, checked}
-use Rattle.crx_engine.specs.Checking.{CheckSeen, check_seen, check_next, found_by}
+use Rattle.crx_lines.specs.meaning.Seen.{Content}
+use Rattle.crx_lines.specs.meaning.Lines.{InputLine, lines_of}
+use Rattle.crx_engine.specs.meaning.Choices.{Choices}
+use Rattle.crx_engine.specs.meaning.Messages.{message_text, warning_text}
+use Rattle.crx_engine.specs.meaning.Results.{FilterResult}
+use Rattle.crx_rinex.specs.meaning.Printing.{lines_text}
+use Rattle.crx_engine.specs.meaning.Compacted.{compacted}
+use Rattle.crx_engine.specs.meaning.Expanded.{expanded}
+use Rattle.crx_engine.specs.meaning.Standard.{Findings, checked}
+use Rattle.crx_engine.specs.CheckByLine.{CheckSeen, check_seen, check_next, found_by}
 use Rattle.crx_engine.specs.LineByLine.{Direction, Seen, Step, Answer, Notice, seen_next}
 use Rattle.crx_engine.specs.Laws.{is_again}
-use Rattle.crx_engine.specs.Compactor.{compaction, compaction_seen}
-use Rattle.crx_engine.specs.Expander.{expansion, expansion_seen}
+use Rattle.crx_engine.specs.CompactionByLine.{compaction, compaction_seen}
+use Rattle.crx_engine.specs.ExpansionByLine.{expansion, expansion_seen}
 use Rattle.crx_laws.specs.SmallFiles.{blanks}
 
 -- two types of GPS
@@ -43,7 +44,7 @@ compaction_of choices lines = compacted (lines_text lines) choices
 abbrev pub expansion_of : Choices → List (List ℕ) → FilterResult
 expansion_of choices lines = expanded (lines_text lines) choices
 
--- the answer to a line, and how many lines are lent
+-- the answer to a line, and how many lines are borrowed
 abbrev pub answered : {O K : Type 0} → Step O K → Answer × ℕ
 answered step = (step.answer, length step.lent)
 
@@ -53,7 +54,8 @@ answers_to direction seen [] = []
 answers_to direction seen (line ∷ lines) =
     let one : Step _ _ = seen_next direction seen (Content line) in
     elim (is_again one.answer) [
-      | true ↦ answered one ∷ answered (seen_next direction one.next (Content line)) ∷ answers_to direction (seen_next direction one.next (Content line)).next lines
+      | true ↦ answered one ∷ answered (seen_next direction one.next (Content line))
+          ∷ answers_to direction (seen_next direction one.next (Content line)).next lines
       | false ↦ answered one ∷ answers_to direction one.next lines
     ]
 

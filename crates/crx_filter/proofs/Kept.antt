@@ -1,52 +1,59 @@
 -- What runs bring back, save and judge follows from what they are, by the laws.
 use Rattle.std.proofs.Common.{ℕ, ◌≡◌, List, ◌++◌, Option, Some, None, refl, sym, subst, ◌∙◌}
 use Rattle.std.specs.Prelude.{◌↔◌}
-use Rattle.crx_lines.specs.Lines.{lines_of}
+use Rattle.crx_lines.specs.meaning.Lines.{lines_of}
 use Rattle.crx_lines.specs.declared.fault.At.{At}
-use Rattle.crx_engine.specs.Choices.{Choices}
-use Rattle.crx_engine.specs.Compacted.{compacted}
-use Rattle.crx_engine.specs.Expanded.{expanded}
-use Rattle.crx_engine.specs.Filters.{Filter}
-use Rattle.crx_engine.specs.Results.{FilterResult}
-use Rattle.crx_engine.specs.Standard.{Findings, findings_of, report_status, checked_by, checked}
-use Rattle.crx_engine.specs.NormalForm.{HasNormalForm}
-use Rattle.crx_engine.proofs.CheckStandard.{named-where_not, standard-exactly_where_same}
-use Rattle.crx_engine.proofs.WayBack.{comes-back}
-use Rattle.crx_engine.proofs.WayBackStandard.{normal-comes_back, standard-comes_back}
+use Rattle.crx_engine.specs.meaning.Choices.{Choices}
+use Rattle.crx_engine.specs.meaning.Compacted.{compacted}
+use Rattle.crx_engine.specs.meaning.Expanded.{expanded}
+use Rattle.crx_engine.specs.meaning.Filters.{Filter}
+use Rattle.crx_engine.specs.meaning.Results.{FilterResult}
+use Rattle.crx_engine.specs.meaning.Standard.{Findings, findings_of, report_status, checked_by, checked}
+use Rattle.crx_engine.specs.meaning.WayBack.{HasNormalForm}
+use Rattle.crx_engine.proofs.standard.CheckStandard.{named-where_not, standard-exactly_where_same}
+use Rattle.crx_engine.proofs.wayback.WayBack.{comes-back}
+use Rattle.crx_engine.proofs.wayback.Standard.{normal-comes_back, standard-comes_back}
 use Rattle.crx_laws.proofs.DamageStays.{saved-lines}
-use Rattle.crx_filter.specs.Promises.{IsKept, BringsBackWhatWasCompacted, SavesAllElse, JudgesStandard}
-use Rattle.crx_filter.specs.Running.{Input}
-use Rattle.crx_filter.specs.Runs.{IsResult, RunsAs}
-use Rattle.crx_filter.specs.Taking.{Device}
+use Rattle.crx_filter.specs.meaning.Promises.{IsPromiseKept, BringsBackWhatWasCompacted, SavesAllElse, JudgesStandard}
+use Rattle.crx_filter.specs.meaning.Spans.{Input, Device}
+use Rattle.crx_filter.specs.meaning.Runs.{IsResult, RunsAs}
 
 -- a promise that the result of each whole input keeps is kept by a run
-pub kept : (result_of : List ℕ → FilterResult) (filter : Filter) (promise : List ℕ → Type 0) (input : Input) (given : List ℕ) (writer messages : Device) (status : ℕ) (fault : Option At)
+pub kept : (result_of : List ℕ → FilterResult) (filter : Filter) (promise : List ℕ
+    → Type 0) (input : Input) (given : List ℕ) (writer messages : Device) (status : ℕ) (fault : Option At)
     → ((text : List ℕ) → IsResult (result_of text) writer messages status fault → promise text)
-    → RunsAs result_of filter input given writer messages status fault → IsKept promise input given writer messages fault
+    → RunsAs result_of filter input given writer messages status fault
+    → IsPromiseKept promise input given writer messages fault
 kept result_of filter promise input given writer messages status fault keeps r = record {
-  whole = λ read wrote reported memory rest none within. keeps (given ++ rest) (r.whole read wrote reported memory rest none within);
+  whole = λ read wrote reported memory rest none within.
+      keeps (given ++ rest) (r.whole read wrote reported memory rest none within);
   good = λ e. keeps given (r.good e).5;
 }
 
 -- ---- the way back
 
 pub brings-back : (expanding : Choices) (writer messages : Device) (status : ℕ) (fault : Option At) (text : List ℕ)
-    → IsResult (expanded text expanding) writer messages status fault → BringsBackWhatWasCompacted writer messages status fault text
+    → IsResult (expanded text expanding) writer messages status fault
+    → BringsBackWhatWasCompacted writer messages status fault text
 brings-back expanding writer messages status fault text ran file compacting dated same =
     let here : IsResult (expanded (compacted file compacting).output expanding) writer messages status fault =
     subst (λ t. IsResult (expanded t expanding) writer messages status fault) same ran in
-    let by : (r : FilterResult) → expanded (compacted file compacting).output expanding ≡ r → IsResult r writer messages status fault =
+    let by : (r : FilterResult) → expanded (compacted file compacting).output expanding ≡ r
+    → IsResult r writer messages status fault =
     λ r e. subst (λ x. IsResult x writer messages status fault) e here in
     record {
       standard = λ standard. by _ (standard-comes_back file compacting expanding dated standard);
-      normal = λ normal. by _ (normal-comes_back file compacting expanding dated (HasNormalForm.good normal) (HasNormalForm.no_returns normal));
+      normal = λ normal. by _ (normal-comes_back file compacting expanding dated
+          (HasNormalForm.good normal) (HasNormalForm.no_returns normal));
       accepted = λ good none. by _ (comes-back file compacting expanding dated good none);
     }
 
 -- ---- damage
 
-pub saves-all_else : (expanding : Choices) (writer messages : Device) (status : ℕ) (fault : Option At) (damaged : List ℕ)
-    → IsResult (expanded damaged expanding) writer messages status fault → SavesAllElse expanding writer messages status fault damaged
+pub saves-all_else : (expanding : Choices)
+    (writer messages : Device) (status : ℕ) (fault : Option At) (damaged : List ℕ)
+    → IsResult (expanded damaged expanding) writer messages status fault
+    → SavesAllElse expanding writer messages status fault damaged
 saves-all_else expanding writer messages status fault damaged ran file compacting dated skips damage =
     (expanded damaged expanding, saved-lines file compacting expanding damaged dated skips damage, ran)
 
@@ -68,11 +75,13 @@ judges-standard writer messages status fault file ran good =
     let found : Findings = findings_of (lines_of file) in
     let here : IsResult (checked_by None found) writer messages status fault =
     subst (λ o. IsResult (checked_by o found) writer messages status fault) good ran in
-    let yes = both-ways (same-number status (report_status found.not_standard) here.status_is) (none-where_0 found.not_standard) in
+    let yes = both-ways (same-number status (report_status found.not_standard) here.status_is)
+    (none-where_0 found.not_standard) in
     record {
       found = found;
       report = here.output;
       says_yes = yes;
       standard = both-ways yes (named-where_not file good);
-      comes_back = λ compacting expanding dated. both-ways (same-number status (checked file).status ran.status_is) (standard-exactly_where_same file compacting expanding dated good);
+      comes_back = λ compacting expanding dated. both-ways (same-number status (checked file).status ran.status_is)
+          (standard-exactly_where_same file compacting expanding dated good);
     }

@@ -1,14 +1,14 @@
 -- How a run is finished once its work has ended: the writer is flushed, and the fault is reported.
 use Rattle.std.specs.Prelude.{◌≡◌, ◌⊎◌, ℕ, Bool, [], Option, Some, None}
-use Rattle.crx_lines.specs.Devices.{with_failed_flush, with_flush}
+use Rattle.crx_lines.specs.meaning.Devices.{with_failed_flush, with_flush}
 use Rattle.crx_lines.specs.declared.fault.At.{At}
 use Rattle.crx_lines.specs.declared.fault.Fault.TheVariants.{WriteFailed}
 use Rattle.crx_filter.specs.declared.taking.Halt.{Halt}
 use Rattle.crx_filter.specs.declared.taking.Halt.TheVariants.{Unwritten, Unreported}
 use Rattle.crx_filter.specs.declared.taking.Halt.TheVariants as halt
-use Rattle.crx_engine.specs.Messages.{error_text}
-use Rattle.crx_engine.specs.Results.{good_status}
-use Rattle.crx_filter.specs.Taking.{Device, TookAll, TookPart}
+use Rattle.crx_engine.specs.meaning.Messages.{error_text}
+use Rattle.crx_engine.specs.meaning.Results.{good_status}
+use Rattle.crx_filter.specs.meaning.Spans.{Device, TookAll, TookPart}
 
 -- a write that failed, at the last line that was read
 abbrev pub write_failed_at : ℕ → At
@@ -28,13 +28,18 @@ FlushFailed writer = writer.took [] × (writer.after ≡ with_failed_flush write
 
 -- a run that came to the good end of its input is flushed; where that fails, the failure is its fault
 abbrev pub FinishesWell : Device → Device → ℕ → Bool → ℕ → Option At → Type 0
-FinishesWell writer messages last warned status None = IsFlushed writer × TookAll messages [] × (status ≡ good_status warned)
-FinishesWell writer messages last warned status (Some at) = FlushFailed writer × IsReported messages at × (at ≡ write_failed_at last) × (status ≡ 1)
+FinishesWell writer messages last warned status None = IsFlushed writer
+    × TookAll messages [] × (status ≡ good_status warned)
+FinishesWell writer messages last warned status (Some at) = FlushFailed writer
+    × IsReported messages at × (at ≡ write_failed_at last) × (status ≡ 1)
 
--- a run with a fault of its input, its reader or its memory is flushed, and the fault is reported; a writer that failed isn't
--- flushed, and after a warning that couldn't be written nothing more is
+-- a run with a fault of its input, its reader or its memory is flushed, and the fault is reported; a writer that failed
+-- isn't flushed, and after a warning that couldn't be written nothing more is
 abbrev pub Finishes : Device → Device → ℕ → Bool → Option Halt → ℕ → Option At → Type 0
 Finishes writer messages last warned None status fault = FinishesWell writer messages last warned status fault
-Finishes writer messages last warned (Some (halt.Fault at)) status fault = (IsFlushed writer ⊎ FlushFailed writer) × IsReported messages at × (fault ≡ Some at) × (status ≡ 1)
-Finishes writer messages last warned (Some Unwritten) status fault = TookAll writer [] × IsReported messages (write_failed_at last) × (fault ≡ Some (write_failed_at last)) × (status ≡ 1)
-Finishes writer messages last warned (Some Unreported) status fault = TookAll writer [] × TookAll messages [] × (fault ≡ Some (write_failed_at last)) × (status ≡ 1)
+Finishes writer messages last warned (Some (halt.Fault at)) status fault = (IsFlushed writer ⊎ FlushFailed writer)
+    × IsReported messages at × (fault ≡ Some at) × (status ≡ 1)
+Finishes writer messages last warned (Some Unwritten) status fault = TookAll writer []
+    × IsReported messages (write_failed_at last) × (fault ≡ Some (write_failed_at last)) × (status ≡ 1)
+Finishes writer messages last warned (Some Unreported) status fault = TookAll writer []
+    × TookAll messages [] × (fault ≡ Some (write_failed_at last)) × (status ≡ 1)

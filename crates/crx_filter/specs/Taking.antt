@@ -1,8 +1,6 @@
 -- What becomes of one line of the input.
-use Rattle.std.specs.Prelude.{◌≡◌, ◌⊎◌, ◌<◌, ℕ, Bool, true, false, List, [], ◌∷◌, ◌++◌, length, take, Option, Some, None}
-use Rattle.crx_lines.specs.Devices.{SinkTally, with_failed_write}
-use Rattle.crx_lines.specs.declared.device.Sink.{Ghosts}
-use Rattle.crx_lines.specs.Lines.{InputLine, is_long}
+use Rattle.std.specs.Prelude.{◌≡◌, ◌⊎◌, ℕ, Bool, true, false, List, [], ◌∷◌, ◌++◌, Option, Some, None}
+use Rattle.crx_lines.specs.meaning.Lines.{InputLine, is_long}
 use Rattle.crx_lines.specs.Reading.{line_shown, line_number}
 use Rattle.crx_lines.specs.declared.fault.At.{At}
 use Rattle.crx_lines.specs.declared.fault.Fault.TheVariants.{OutOfMemory}
@@ -14,10 +12,12 @@ use Rattle.crx_filter.specs.declared.taking.Taken.{Taken}
 use Rattle.crx_filter.specs.declared.taking.Taken.TheVariants.{Line, Overlong}
 use Rattle.crx_filter.specs.declared.taking.Once.{Once}
 use Rattle.crx_filter.specs.declared.taking.Once.TheVariants.{Done, Again}
-use Rattle.crx_engine.specs.Filters.{Course, Filter}
-use Rattle.crx_engine.specs.Engines.{Awaited, notices_of as warnings_awaited, with_next, EndsWith}
-use Rattle.crx_engine.specs.Messages.{notices_text}
-pub use Rattle.crx_engine.specs.Results.{are_some}
+use Rattle.crx_engine.specs.meaning.Results.{Course}
+use Rattle.crx_engine.specs.meaning.Filters.{Filter, with_next}
+use Rattle.crx_engine.specs.Engines.{Awaited, awaited_notices as warnings_awaited, EndsWith}
+use Rattle.crx_engine.specs.meaning.Messages.{notices_text}
+pub use Rattle.crx_engine.specs.meaning.Results.{are_some}
+use Rattle.crx_filter.specs.meaning.Spans.{Device, TookAll, TookPart, AreNext}
 
 -- the line that was taken is this one
 abbrev pub TakenIs : Taken → InputLine → Type 0
@@ -34,45 +34,18 @@ is_warning Ready = false
 is_warning (Warned notice again) = true
 
 -- the warning of a step, if it is one
-abbrev pub notices_of : Step → List At
-notices_of Quiet = []
-notices_of Ready = []
-notices_of (Warned notice again) = notice ∷ []
-
--- ---- devices
-
--- a writer between two moments: which texts it may have taken in between, whether all that it took was handed on by then, and what
--- was counted of it
-pub record Device : Type 1 where
-  pub took : List ℕ → Type 0
-  pub flushed : Type 0
-  pub before : SinkTally
-  pub after : SinkTally
-
--- a writer between two states
-abbrev pub span : {S : Type 0} → Ghosts S → S → S → Device
-span sink old new = record {
-  took = λ text. sink.took old text new;
-  flushed = sink.is_flushed new;
-  before = record { failures = sink.failures old; flushes = sink.flushes old };
-  after = record { failures = sink.failures new; flushes = sink.flushes new };
-}
-
--- it took a text whole, and counted no failure
-abbrev pub TookAll : Device → List ℕ → Type 0
-TookAll device text = device.took text × (device.after ≡ device.before)
-
--- it took less than a text, from its front, and counted one failure more
-abbrev pub TookPart : Device → List ℕ → Type 0
-TookPart device text = ((n : ℕ) × (n < length text) × device.took (take n text)) × (device.after ≡ with_failed_write device.before)
+abbrev pub step_notices : Step → List At
+step_notices Quiet = []
+step_notices Ready = []
+step_notices (Warned notice again) = notice ∷ []
 
 -- ---- one step
 
 -- a step's lines or its warning couldn't be written whole
-abbrev pub Unsettled : Device → Device → List ℕ → List At → Halt → Type 0
-Unsettled writer messages text notices (Fault at) = ⊥
-Unsettled writer messages text notices Unwritten = TookPart writer text × TookAll messages []
-Unsettled writer messages text notices Unreported = TookPart messages (notices_text notices) × TookAll writer []
+abbrev pub EndedBefore : Device → Device → List ℕ → List At → Halt → Type 0
+EndedBefore writer messages text notices (Fault at) = ⊥
+EndedBefore writer messages text notices Unwritten = TookPart writer text × TookAll messages []
+EndedBefore writer messages text notices Unreported = TookPart messages (notices_text notices) × TookAll writer []
 
 -- ---- one line
 
@@ -82,12 +55,10 @@ pub record Adds (before after : Course) (text : List ℕ) (notices : List At) : 
   pub warnings : after.warnings ≡ before.warnings ++ notices
   pub good : after.fault ≡ None
 
--- these are the first warnings by which a course goes on
-abbrev pub AreNext : Course → Course → List At → Type 0
-AreNext before after notices = (more : List At) × (after.warnings ≡ before.warnings ++ notices ++ more)
-
--- a line was taken, or the end: what it adds was written and reported, but for earlier warnings, which were reported before
-pub record IsDone (before after : Course) (shown : Type 0) (writer messages : Device) (earlier : List At) (warned : Bool) : Type 0 where
+-- a line was taken, or the end: what it adds was written and reported, but for earlier warnings, which were reported
+-- before
+pub record IsDone (before after : Course)
+    (shown : Type 0) (writer messages : Device) (earlier : List At) (warned : Bool) : Type 0 where
   pub is_shown : shown
   pub text : List ℕ
   pub notices : List At
@@ -97,7 +68,8 @@ pub record IsDone (before after : Course) (shown : Type 0) (writer messages : De
   pub flag : warned ≡ are_some notices
 
 -- a line is to come again after a warning
-pub record IsAgain (before after : Course) (line : InputLine) (shows : List Awaited → Type 0) (writer messages : Device) (earlier : List At) : Type 0 where
+pub record IsAgain (before after : Course) (line : InputLine) (shows : List Awaited
+    → Type 0) (writer messages : Device) (earlier : List At) : Type 0 where
   pub notice : At
   pub shown : shows (record { notice = notice; line = line } ∷ [])
   pub none : earlier ≡ []
@@ -105,14 +77,18 @@ pub record IsAgain (before after : Course) (line : InputLine) (shows : List Awai
   pub wrote : TookAll writer []
   pub reported : TookAll messages (notices_text (notice ∷ []))
 
-abbrev pub IsOnce : Filter → (List InputLine → List Awaited → Type 0) → Device → Device → List InputLine → List Awaited → InputLine → Once → Type 0
+abbrev pub IsOnce : Filter → (List InputLine → List Awaited → Type 0)
+    → Device → Device → List InputLine → List Awaited → InputLine → Once → Type 0
 IsOnce filter shows writer messages lines earlier line (Done warned) =
-    IsDone (filter.so_far lines) (filter.so_far (with_next lines line)) (shows (with_next lines line) []) writer messages (warnings_awaited earlier) warned
+    IsDone (filter.so_far lines) (filter.so_far (with_next lines line))
+    (shows (with_next lines line) []) writer messages (warnings_awaited earlier) warned
 IsOnce filter shows writer messages lines earlier line Again =
-    IsAgain (filter.so_far lines) (filter.so_far (with_next lines line)) line (shows lines) writer messages (warnings_awaited earlier)
+    IsAgain (filter.so_far lines) (filter.so_far (with_next lines line)) line
+    (shows lines) writer messages (warnings_awaited earlier)
 
 -- memory ran out at a line that may take some, after its earlier warnings
-pub record RunsOut (memory : Option (List At)) (writer messages : Device) (number : ℕ) (earlier : List At) (at : At) : Type 0 where
+pub record RunsOut (memory : Option (List At))
+    (writer messages : Device) (number : ℕ) (earlier : List At) (at : At) : Type 0 where
   pub allowed : memory ≡ Some earlier
   pub fault : at.fault ≡ OutOfMemory
   pub line : at.line ≡ number
@@ -138,14 +114,17 @@ pub record IsUnreported (before after : Course) (writer messages : Device) (earl
 
 -- a line that was given once ended the run; memory may have run out at it, or not
 abbrev pub IsHalted : Course → Course → Option (List At) → ℕ → Device → Device → List At → Halt → Type 0
-IsHalted before after memory number writer messages earlier (Fault at) = RunsOut memory writer messages number earlier at ⊎ IsFaulty before after writer messages earlier at
+IsHalted before after memory number writer messages earlier (Fault at) =
+    RunsOut memory writer messages number earlier at ⊎ IsFaulty before after writer messages earlier at
 IsHalted before after memory number writer messages earlier Unwritten = IsUnwritten before after writer messages earlier
-IsHalted before after memory number writer messages earlier Unreported = IsUnreported before after writer messages earlier
+IsHalted before after memory number writer messages earlier Unreported =
+    IsUnreported before after writer messages earlier
 
 -- ---- a line that may come twice
 
 -- memory ran out for a line, after those of its warnings after which it may
-pub record IsOutOfMemory (before after : Course) (memory : Option (List At)) (number : ℕ) (writer messages : Device) (at : At) : Type 0 where
+pub record IsOutOfMemory (before after : Course)
+    (memory : Option (List At)) (number : ℕ) (writer messages : Device) (at : At) : Type 0 where
   pub notices : List At
   pub allowed : memory ≡ Some notices
   pub fault : at.fault ≡ OutOfMemory
@@ -178,6 +157,7 @@ pub record IsCutNotice (before after : Course) (writer messages : Device) : Type
 
 -- a line, or the end, ended the run
 abbrev pub IsCut : Course → Course → Option (List At) → ℕ → Device → Device → Halt → Type 0
-IsCut before after memory number writer messages (Fault at) = IsOutOfMemory before after memory number writer messages at ⊎ IsEnded before after writer messages at
+IsCut before after memory number writer messages (Fault at) =
+    IsOutOfMemory before after memory number writer messages at ⊎ IsEnded before after writer messages at
 IsCut before after memory number writer messages Unwritten = IsCutText before after writer messages
 IsCut before after memory number writer messages Unreported = IsCutNotice before after writer messages

@@ -2,13 +2,13 @@
 
 ghost use Rattle.std.specs.Prelude.{◌≡◌, ℕ, List, [], None, Some};
 ghost use Rattle.crx_lines.specs.declared.fault.At.{At};
-ghost use Rattle.crx_engine.specs.Checkers.{HasTaken, IsOpen, ready_lines};
-ghost use Rattle.crx_engine.specs.Checking.{check_filter};
-ghost use Rattle.crx_filter.specs.Promises.{JudgesStandard, Keeps};
-ghost use Rattle.crx_filter.specs.Runs.{Runs};
-ghost use Rattle.crx_engine.specs.Standard.{checked, report_status};
-ghost use Rattle.crx_filter.specs.Taking.{span};
-ghost use Rattle.crx_filter.specs.Running.{reader_span};
+ghost use Rattle.crx_engine.specs.CheckerState.{CheckerHasTaken, CheckerIsOpen, pending_report};
+ghost use Rattle.crx_engine.specs.CheckByLine.{check_filter};
+ghost use Rattle.crx_filter.specs.meaning.Promises.{JudgesStandard, Keeps};
+ghost use Rattle.crx_filter.specs.meaning.Runs.{Runs};
+ghost use Rattle.crx_engine.specs.meaning.Standard.{checked, report_status};
+ghost use Rattle.crx_filter.specs.meaning.Spans.{span};
+ghost use Rattle.crx_filter.specs.meaning.Spans.{reader_span};
 
 use crate::outcome::Outcome;
 use crate::run::run;
@@ -41,12 +41,13 @@ fn check_by<R: Source, W: Sink, M: Sink>(
     writer: &mut W,
     messages: &mut M,
 ) -> Outcome
-    requires taken { HasTaken checker.old [] [] }
-    requires open { IsOpen checker.old }
-    requires drained { ready_lines checker.old ≡ [] }
+    requires taken { CheckerHasTaken checker.old [] [] }
+    requires open { CheckerIsOpen checker.old }
+    requires drained { pending_report checker.old ≡ [] }
     ensures runs { Runs checked check_filter
         (reader_span R.Source reader.old reader.new)
-        (span W.Sink writer.old writer.new) (span M.Sink messages.old messages.new) result.status result.fault }
+        (span W.Sink writer.old writer.new)
+        (span M.Sink messages.old messages.new) result.status result.fault }
 {
     let outcome = run(alloc, checker, reader, writer, messages);
     judged(outcome, checker.not_standard())
@@ -63,7 +64,8 @@ pub fn check<R: Source, W: Sink, M: Sink>(
 ) -> Outcome
     ensures runs { Runs checked check_filter
         (reader_span R.Source reader.old reader.new)
-        (span W.Sink writer.old writer.new) (span M.Sink messages.old messages.new) result.status result.fault }
+        (span W.Sink writer.old writer.new)
+        (span M.Sink messages.old messages.new) result.status result.fault }
     ensures standard { Keeps (JudgesStandard (span W.Sink writer.old writer.new) result.status)
         (reader_span R.Source reader.old reader.new)
         (span W.Sink writer.old writer.new) (span M.Sink messages.old messages.new) result.fault }

@@ -1,13 +1,13 @@
 //! Both filters over a whole input.
 
 ghost use Rattle.std.specs.Prelude.{◌≡◌, ℕ, List};
-ghost use Rattle.crx_engine.specs.Compacted.{compacted};
+ghost use Rattle.crx_engine.specs.meaning.Compacted.{compacted};
 ghost use Rattle.crx_engine.specs.Directions.{compaction_filter, expansion_filter};
-ghost use Rattle.crx_engine.specs.Expanded.{expanded};
-ghost use Rattle.crx_filter.specs.Promises.{BringsBackWhatWasCompacted, Keeps, SavesAllElse};
-ghost use Rattle.crx_filter.specs.Runs.{Runs};
-ghost use Rattle.crx_filter.specs.Taking.{span};
-ghost use Rattle.crx_filter.specs.Running.{reader_span};
+ghost use Rattle.crx_engine.specs.meaning.Expanded.{expanded};
+ghost use Rattle.crx_filter.specs.meaning.Promises.{BringsBackWhatWasCompacted, Keeps, SavesAllElse};
+ghost use Rattle.crx_filter.specs.meaning.Runs.{Runs};
+ghost use Rattle.crx_filter.specs.meaning.Spans.{span};
+ghost use Rattle.crx_filter.specs.meaning.Spans.{reader_span};
 
 use crate::outcome::Outcome;
 use crate::start::start;
@@ -20,7 +20,7 @@ use std::alloc::Global;
 ///
 /// Where no device failed and memory didn't run out, the output, the messages, the status and the fault are those of the compaction of
 /// the whole input, of at most [`INPUT_LIMIT`](crx_lines::limits::INPUT_LIMIT) bytes. `ReadFailed`, `WriteFailed`, `InputTooLong` and
-/// `OutOfMemory` come where a device or memory failed or the input is longer; what was written by then is a prefix of what is due.
+/// `OutOfMemory` come where a device or memory failed or the input is longer; what was written by then is a prefix of the defined output.
 pub fn compact<R: Source, W: Sink, M: Sink>(
     alloc: Global,
     reader: &mut R,
@@ -30,7 +30,8 @@ pub fn compact<R: Source, W: Sink, M: Sink>(
 ) -> Outcome
     ensures runs { Runs (λ input. compacted input options) (compaction_filter options)
         (reader_span R.Source reader.old reader.new)
-        (span W.Sink writer.old writer.new) (span M.Sink messages.old messages.new) result.status result.fault }
+        (span W.Sink writer.old writer.new)
+        (span M.Sink messages.old messages.new) result.status result.fault }
 {
     start(
         alloc,
@@ -45,7 +46,7 @@ pub fn compact<R: Source, W: Sink, M: Sink>(
 ///
 /// Where no device failed and memory didn't run out, the output, the messages, the status and the fault are those of the expansion of
 /// the whole input, of at most [`INPUT_LIMIT`](crx_lines::limits::INPUT_LIMIT) bytes. `ReadFailed`, `WriteFailed`, `InputTooLong` and
-/// `OutOfMemory` come where a device or memory failed or the input is longer; what was written by then is a prefix of what is due.
+/// `OutOfMemory` come where a device or memory failed or the input is longer; what was written by then is a prefix of the defined output.
 pub fn expand<R: Source, W: Sink, M: Sink>(
     alloc: Global,
     reader: &mut R,
@@ -55,11 +56,14 @@ pub fn expand<R: Source, W: Sink, M: Sink>(
 ) -> Outcome
     ensures runs { Runs (λ input. expanded input options) (expansion_filter options)
         (reader_span R.Source reader.old reader.new)
-        (span W.Sink writer.old writer.new) (span M.Sink messages.old messages.new) result.status result.fault }
-    ensures way_back { Keeps (BringsBackWhatWasCompacted (span W.Sink writer.old writer.new) (span M.Sink messages.old messages.new) result.status result.fault)
+        (span W.Sink writer.old writer.new)
+        (span M.Sink messages.old messages.new) result.status result.fault }
+    ensures way_back { Keeps (BringsBackWhatWasCompacted (span W.Sink writer.old writer.new)
+        (span M.Sink messages.old messages.new) result.status result.fault)
         (reader_span R.Source reader.old reader.new)
         (span W.Sink writer.old writer.new) (span M.Sink messages.old messages.new) result.fault }
-    ensures salvage { Keeps (SavesAllElse options (span W.Sink writer.old writer.new) (span M.Sink messages.old messages.new) result.status result.fault)
+    ensures salvage { Keeps (SavesAllElse options (span W.Sink writer.old writer.new)
+        (span M.Sink messages.old messages.new) result.status result.fault)
         (reader_span R.Source reader.old reader.new)
         (span W.Sink writer.old writer.new) (span M.Sink messages.old messages.new) result.fault }
 {

@@ -1,9 +1,9 @@
 //! The end of a run: the writer is flushed, and the fault is reported.
 
 ghost use Rattle.std.specs.Prelude.{◌≡◌, ◌⊎◌, [], Some};
-ghost use Rattle.crx_lines.specs.Devices.{one_more};
+ghost use Rattle.crx_lines.specs.meaning.Devices.{one_more};
 ghost use Rattle.crx_filter.specs.Endings.{Finishes, IsReported};
-ghost use Rattle.crx_filter.specs.Taking.{span};
+ghost use Rattle.crx_filter.specs.meaning.Spans.{span};
 
 use crate::message::{Severity, message};
 use crate::outcome::Outcome;
@@ -30,7 +30,8 @@ fn report<M: Sink>(messages: &mut M, at: At) -> Outcome
 /// Reports a fault once the writer was flushed, well or not: the writer is there for the contract alone, so that no message comes
 /// before the flush.
 fn report_after_flush<W: Sink, M: Sink>(_writer: &W, messages: &mut M, at: At) -> Outcome
-    requires flushed { (before : W) × W.took before [] _writer.now × (W.flushes _writer.now ≡ one_more (W.flushes before)) }
+    requires flushed { (before : W)
+        × W.took before [] _writer.now × (W.flushes _writer.now ≡ one_more (W.flushes before)) }
     ensures reported { IsReported (span M.Sink messages.old messages.new) at }
     ensures fault { result.fault ≡ Some at }
     ensures status { result.status ≡ 1 }

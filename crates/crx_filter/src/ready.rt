@@ -1,11 +1,11 @@
 //! Writing the lines that an engine has ready.
 
 ghost use Rattle.std.specs.Prelude.{◌≡◌, ◌<◌, ℕ, List, [], length, take, IfErr, OnOk, OnErr};
-ghost use Rattle.crx_lines.specs.Lines.{InputLine};
-ghost use Rattle.crx_lines.specs.Devices.{one_more};
+ghost use Rattle.crx_lines.specs.meaning.Lines.{InputLine};
+ghost use Rattle.crx_lines.specs.meaning.Devices.{one_more};
 ghost use Rattle.crx_lines.specs.declared.fault.At.{At};
 ghost use Rattle.crx_engine.specs.Engines.{Awaited};
-ghost use Rattle.crx_engine.specs.Filters.{lines_text};
+ghost use Rattle.crx_rinex.specs.meaning.Printing.{lines_text};
 
 use crx_engine::engine::Engine;
 use crx_text::{Sink, WriteFailed, write_all_counted};
@@ -19,10 +19,12 @@ pub(crate) fn write_ready<E: Engine, W: Sink>(
     ensures good { OnOk result (W.failures writer.new ≡ W.failures writer.old) }
     ensures drained { OnOk result (E.ready engine.new ≡ []) }
     ensures filter { E.filter engine.new ≡ E.filter engine.old }
-    ensures shows { (lines : List InputLine) (notices : List Awaited) → E.shows engine.old lines notices → E.shows engine.new lines notices }
+    ensures shows { (lines : List InputLine) (notices : List Awaited)
+        → E.shows engine.old lines notices → E.shows engine.new lines notices }
     ensures running { E.is_open engine.old → E.is_open engine.new }
     ensures ended { (lines : List InputLine) → E.has_ended engine.old lines → E.has_ended engine.new lines }
-    ensures part { OnErr result ((n : ℕ) × (n < length (lines_text (E.ready engine.old))) × W.took writer.old (take n (lines_text (E.ready engine.old))) writer.new) }
+    ensures part { OnErr result ((n : ℕ) × (n < length (lines_text (E.ready engine.old)))
+        × W.took writer.old (take n (lines_text (E.ready engine.old))) writer.new) }
     ensures counted { OnErr result (W.failures writer.new ≡ one_more (W.failures writer.old)) }
     ensures unasked { W.flushes writer.new ≡ W.flushes writer.old }
 {
@@ -41,10 +43,12 @@ fn write_lines<E: Engine, W: Sink>(engine: &mut E, writer: &mut W) -> Result<(),
     ensures good { OnOk result (W.failures writer.new ≡ W.failures writer.old) }
     ensures drained { OnOk result (E.ready engine.new ≡ []) }
     ensures filter { E.filter engine.new ≡ E.filter engine.old }
-    ensures shows { (lines : List InputLine) (notices : List Awaited) → E.shows engine.old lines notices → E.shows engine.new lines notices }
+    ensures shows { (lines : List InputLine) (notices : List Awaited)
+        → E.shows engine.old lines notices → E.shows engine.new lines notices }
     ensures running { E.is_open engine.old → E.is_open engine.new }
     ensures ended { (lines : List InputLine) → E.has_ended engine.old lines → E.has_ended engine.new lines }
-    ensures part { OnErr result ((n : ℕ) × (n < length (lines_text (E.ready engine.old))) × W.took writer.old (take n (lines_text (E.ready engine.old))) writer.new) }
+    ensures part { OnErr result ((n : ℕ) × (n < length (lines_text (E.ready engine.old)))
+        × W.took writer.old (take n (lines_text (E.ready engine.old))) writer.new) }
     ensures counted { OnErr result (W.failures writer.new ≡ one_more (W.failures writer.old)) }
     ensures unasked { W.flushes writer.new ≡ W.flushes writer.old }
 {

@@ -1,11 +1,12 @@
 //! A whole run: an input through an engine to a writer and its messages.
 
 ghost use Rattle.std.specs.Prelude.{◌≡◌, ℕ, List, [], Some, None, false};
-ghost use Rattle.crx_lines.specs.Lines.{lines_of};
+ghost use Rattle.crx_lines.specs.meaning.Lines.{lines_of};
 ghost use Rattle.crx_engine.specs.Lawful.{IsLawful};
-ghost use Rattle.crx_filter.specs.Runs.{result_by, RunsAs};
-ghost use Rattle.crx_filter.specs.Taking.{span};
-ghost use Rattle.crx_filter.specs.Running.{reader_span};
+ghost use Rattle.crx_filter.specs.Runs.{result_by};
+ghost use Rattle.crx_filter.specs.meaning.Runs.{RunsAs};
+ghost use Rattle.crx_filter.specs.meaning.Spans.{span};
+ghost use Rattle.crx_filter.specs.meaning.Spans.{reader_span};
 
 use crate::finish::finish;
 use crate::outcome::Outcome;
@@ -43,7 +44,8 @@ pub(crate) fn run<E: Engine, R: Source, W: Sink, M: Sink>(
     requires running { E.is_open engine.old }
     requires shown { E.shows engine.old [] [] }
     requires lawful { IsLawful (E.filter engine.old) }
-    ensures runs { (given : List ℕ) × R.gave reader.old given reader.new × RunsAs (result_by (E.filter engine.old)) (E.filter engine.old)
+    ensures runs { (given : List ℕ)
+        × R.gave reader.old given reader.new × RunsAs (result_by (E.filter engine.old)) (E.filter engine.old)
         (reader_span R.Source reader.old reader.new) given
         (span W.Sink writer.old writer.new) (span M.Sink messages.old messages.new) result.status result.fault
         × (result.fault ≡ None → E.has_ended engine.new (lines_of given)) }

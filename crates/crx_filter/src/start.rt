@@ -1,11 +1,12 @@
 //! The start of a run: an engine that was made, or couldn't be since memory ran out.
 
 ghost use Rattle.std.specs.Prelude.{◌≡◌, ℕ, List, [], IfOk};
-ghost use Rattle.crx_engine.specs.Filters.{Filter};
+ghost use Rattle.crx_engine.specs.meaning.Filters.{Filter};
 ghost use Rattle.crx_engine.specs.Lawful.{IsLawful};
-ghost use Rattle.crx_filter.specs.Runs.{result_by, Runs};
-ghost use Rattle.crx_filter.specs.Taking.{span};
-ghost use Rattle.crx_filter.specs.Running.{reader_span};
+ghost use Rattle.crx_filter.specs.Runs.{result_by};
+ghost use Rattle.crx_filter.specs.meaning.Runs.{Runs};
+ghost use Rattle.crx_filter.specs.meaning.Spans.{span};
+ghost use Rattle.crx_filter.specs.meaning.Spans.{reader_span};
 
 use crate::finish::finish;
 use crate::outcome::Outcome;
@@ -27,7 +28,8 @@ pub(crate) fn start<E: Engine + Drop, R: Source, W: Sink, M: Sink>(
     ensures runs { (filter : Filter) → IsLawful filter → IfOk engine (λ e. E.filter e ≡ filter)
         → Runs (result_by filter) filter
         (reader_span R.Source reader.old reader.new)
-        (span W.Sink writer.old writer.new) (span M.Sink messages.old messages.new) result.status result.fault }
+        (span W.Sink writer.old writer.new)
+        (span M.Sink messages.old messages.new) result.status result.fault }
 {
     match engine {
         Ok(mut engine) => run(alloc, &mut engine, reader, writer, messages),

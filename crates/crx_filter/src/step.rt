@@ -1,11 +1,12 @@
 //! One step of a run: the next line of the input, or its end.
 
 ghost use Rattle.std.specs.Prelude.{◌≡◌, ◌⊎◌, ◌+◌, ℕ, List, [], IfOk, IfErr, IfSome, OnOk, ◌<◌, ◌≤◌};
-ghost use Rattle.crx_lines.specs.Lines.{InputLine};
+ghost use Rattle.crx_lines.specs.meaning.Lines.{InputLine};
 ghost use Rattle.crx_lines.specs.Readers.{reading};
 ghost use Rattle.crx_lines.specs.declared.limits.TheConstants.{INPUT_LIMIT};
-ghost use Rattle.crx_filter.specs.Running.{IsWithinLimit, IsRunning, Goes, StopsAt, reader_span};
-ghost use Rattle.crx_filter.specs.Taking.{span};
+ghost use Rattle.crx_filter.specs.Running.{IsWithinLimit, IsRunning, Goes, StopsAt};
+ghost use Rattle.crx_filter.specs.meaning.Spans.{reader_span};
+ghost use Rattle.crx_filter.specs.meaning.Spans.{span};
 
 use crate::taking::{Halt, take_line, take_overlong};
 use crx_engine::engine::Engine;
@@ -29,7 +30,8 @@ pub(crate) fn step<E: Engine, R: Source, W: Sink, M: Sink>(
     ensures running { OnOk result (E.is_open engine.new) }
     ensures drained { OnOk result (E.ready engine.new ≡ []) }
     ensures counted { OnOk result (IsWithinLimit (reading input.new)) }
-    ensures farther { IfOk result (λ o. IfSome o (λ _. ((reading input.old).lent < (reading input.new).lent) × ((reading input.new).lent ≤ INPUT_LIMIT))) }
+    ensures farther { IfOk result (λ o. IfSome o (λ _. ((reading input.old).lent < (reading input.new).lent)
+        × ((reading input.new).lent ≤ INPUT_LIMIT))) }
     ensures goes { (r0 : R) (w0 : W) (m0 : M) (lines : List InputLine) → E.shows engine.old lines []
         → IsRunning
         (reader_span R.Source r0 reader.old)

@@ -1,15 +1,18 @@
 //! One line of the input, through an engine to the writer and the messages.
 
 ghost use Rattle.std.specs.Prelude.{◌≡◌, ◌+◌, ◌<◌, ◌≤◌, ℕ, List, [], ◌∷◌, length, take, IfOk, IfErr, OnOk, OnErr, None, true};
-ghost use Rattle.crx_lines.specs.Lines.{InputLine, is_long};
+ghost use Rattle.crx_lines.specs.meaning.Lines.{InputLine, is_long};
 ghost use Rattle.crx_lines.specs.Reading.{line_shown, line_number};
-ghost use Rattle.crx_lines.specs.Devices.{one_more};
+ghost use Rattle.crx_lines.specs.meaning.Devices.{one_more};
 ghost use Rattle.crx_lines.specs.declared.fault.At.{At};
 ghost use Rattle.crx_lines.specs.declared.limits.TheConstants.{INPUT_LIMIT};
-ghost use Rattle.crx_engine.specs.Filters.{Filter, lines_text};
-ghost use Rattle.crx_engine.specs.Messages.{warning_text, notices_text};
-ghost use Rattle.crx_engine.specs.Engines.{Answers, Awaited, IsAwaited, notices_of as warnings_awaited, Concludes, IsDrainedAfter, taken_after, with_next};
-ghost use Rattle.crx_filter.specs.Taking.{TakenIs, number_taken, is_warning, notices_of, Unsettled, IsOnce, IsHalted, IsDone, IsCut, span};
+ghost use Rattle.crx_engine.specs.meaning.Filters.{Filter};
+ghost use Rattle.crx_rinex.specs.meaning.Printing.{lines_text};
+ghost use Rattle.crx_engine.specs.meaning.Messages.{warning_text, notices_text};
+ghost use Rattle.crx_engine.specs.Engines.{EngineAnswers, Awaited, IsAwaited, awaited_notices as warnings_awaited, Concludes, IsDrainedAfter, taken_after};
+ghost use Rattle.crx_engine.specs.meaning.Filters.{with_next};
+ghost use Rattle.crx_filter.specs.Taking.{TakenIs, number_taken, is_warning, step_notices, EndedBefore, IsOnce, IsHalted, IsDone, IsCut};
+ghost use Rattle.crx_filter.specs.meaning.Spans.{span};
 
 use crate::message::{Severity, message};
 use crate::ready::write_ready;
@@ -55,10 +58,12 @@ fn give<E: Engine>(engine: &mut E, taken: Taken<'_>) -> Result<Step, At>
     ensures running { IfOk result (λ _. E.is_open engine.new) }
     ensures drained { IfOk result (λ step. IsDrainedAfter step (E.ready engine.new)) }
     ensures count { IfOk result (λ step. E.taken engine.new ≡ taken_after step (E.taken engine.old)) }
-    ensures answers { (lines : List InputLine) (notices : List Awaited) (line : InputLine) → E.shows engine.old lines notices
+    ensures answers { (lines : List InputLine) (notices : List Awaited) (line : InputLine)
+        → E.shows engine.old lines notices
         → IsAwaited notices line
         → TakenIs taken.entry line
-        → Answers (E.filter engine.old) (E.shows engine.new) (E.ready engine.new) lines notices line result }
+        → EngineAnswers (E.filter engine.old)
+        (E.shows engine.new) (E.ready engine.new) lines notices line result }
 {
     match taken {
         Taken::Line(line) => {
@@ -75,7 +80,8 @@ fn warn<M: Sink>(messages: &mut M, notice: At) -> Result<(), Halt>
     ensures all { OnOk result (M.took messages.old (warning_text notice) messages.new) }
     ensures good { OnOk result (M.failures messages.new ≡ M.failures messages.old) }
     ensures halt { OnErr result (result ≡ Err Halt.Unreported) }
-    ensures part { OnErr result ((n : ℕ) × (n < length (warning_text notice)) × M.took messages.old (take n (warning_text notice)) messages.new) }
+    ensures part { OnErr result ((n : ℕ) × (n < length (warning_text notice))
+        × M.took messages.old (take n (warning_text notice)) messages.new) }
     ensures counted { OnErr result (M.failures messages.new ≡ one_more (M.failures messages.old)) }
     ensures unasked { M.flushes messages.new ≡ M.flushes messages.old }
 {
@@ -95,18 +101,21 @@ fn settle<E: Engine, W: Sink, M: Sink>(
     requires { IsDrainedAfter step (E.ready engine.old) }
     ensures drained { OnOk result (E.ready engine.new ≡ []) }
     ensures filter { E.filter engine.new ≡ E.filter engine.old }
-    ensures shows { (lines : List InputLine) (notices : List Awaited) → E.shows engine.old lines notices → E.shows engine.new lines notices }
+    ensures shows { (lines : List InputLine) (notices : List Awaited)
+        → E.shows engine.old lines notices → E.shows engine.new lines notices }
     ensures running { E.is_open engine.old → E.is_open engine.new }
     ensures ended { (lines : List InputLine) → E.has_ended engine.old lines → E.has_ended engine.new lines }
     ensures warned { IfOk result (λ warned. warned ≡ is_warning step) }
     ensures written { OnOk result (W.took writer.old (lines_text (E.ready engine.old)) writer.new) }
-    ensures reported { OnOk result (M.took messages.old (notices_text (notices_of step)) messages.new) }
-    ensures good { OnOk result ((W.failures writer.new ≡ W.failures writer.old) × (M.failures messages.new ≡ M.failures messages.old)) }
-    ensures unasked { (W.flushes writer.new ≡ W.flushes writer.old) × (M.flushes messages.new ≡ M.flushes messages.old) }
-    ensures halted { IfErr result (λ halt. Unsettled
+    ensures reported { OnOk result (M.took messages.old (notices_text (step_notices step)) messages.new) }
+    ensures good { OnOk result ((W.failures writer.new ≡ W.failures writer.old)
+        × (M.failures messages.new ≡ M.failures messages.old)) }
+    ensures unasked { (W.flushes writer.new ≡ W.flushes writer.old)
+        × (M.flushes messages.new ≡ M.flushes messages.old) }
+    ensures halted { IfErr result (λ halt. EndedBefore
         (span W.Sink writer.old writer.new)
         (span M.Sink messages.old messages.new)
-        (lines_text (E.ready engine.old)) (notices_of step) halt) }
+        (lines_text (E.ready engine.old)) (step_notices step) halt) }
 {
     match step {
         Step::Quiet => Ok(false),
@@ -133,16 +142,18 @@ fn respond<E: Engine, W: Sink, M: Sink>(
     ensures filter { E.filter engine.new ≡ E.filter engine.old }
     ensures running { OnOk result (E.is_open engine.new) }
     ensures drained { OnOk result (E.ready engine.new ≡ []) }
-    ensures again { (count : ℕ) → IfOk answer (λ step. E.taken engine.old ≡ taken_after step count) → IfOk result (λ once. once ≡ Once.Again → E.taken engine.new ≡ count) }
+    ensures again { (count : ℕ) → IfOk answer (λ step. E.taken engine.old ≡ taken_after step count)
+        → IfOk result (λ once. once ≡ Once.Again → E.taken engine.new ≡ count) }
     ensures once { (filter : Filter) (lines : List InputLine) (earlier : List Awaited) (line : InputLine)
-        → Answers filter (E.shows engine.old) (E.ready engine.old) lines earlier line answer
+        → EngineAnswers filter (E.shows engine.old) (E.ready engine.old) lines earlier line answer
         → IfOk result (λ once. IsOnce filter (E.shows engine.new)
         (span W.Sink writer.old writer.new)
         (span M.Sink messages.old messages.new)
         lines earlier line once) }
     ensures halted { (filter : Filter) (lines : List InputLine) (earlier : List Awaited) (line : InputLine)
-        → Answers filter (E.shows engine.old) (E.ready engine.old) lines earlier line answer
-        → IfErr result (λ halt. IsHalted (filter.so_far lines) (filter.so_far (with_next lines line)) (filter.memory_after lines line) (length lines + 1)
+        → EngineAnswers filter (E.shows engine.old) (E.ready engine.old) lines earlier line answer
+        → IfErr result (λ halt. IsHalted (filter.so_far lines)
+        (filter.so_far (with_next lines line)) (filter.memory_after lines line) (length lines + 1)
         (span W.Sink writer.old writer.new)
         (span M.Sink messages.old messages.new)
         (warnings_awaited earlier) halt) }
@@ -180,13 +191,16 @@ fn take_once<E: Engine, W: Sink, M: Sink>(
     ensures filter { E.filter engine.new ≡ E.filter engine.old }
     ensures running { OnOk result (E.is_open engine.new) }
     ensures drained { OnOk result (E.ready engine.new ≡ []) }
-    ensures once { (lines : List InputLine) (earlier : List Awaited) (line : InputLine) → E.shows engine.old lines earlier → IsAwaited earlier line → TakenIs taken.entry line
+    ensures once { (lines : List InputLine) (earlier : List Awaited) (line : InputLine)
+        → E.shows engine.old lines earlier → IsAwaited earlier line → TakenIs taken.entry line
         → IfOk result (λ once. IsOnce (E.filter engine.old) (E.shows engine.new)
         (span W.Sink writer.old writer.new)
         (span M.Sink messages.old messages.new)
         lines earlier line once) }
-    ensures halted { (lines : List InputLine) (earlier : List Awaited) (line : InputLine) → E.shows engine.old lines earlier → IsAwaited earlier line → TakenIs taken.entry line
-        → IfErr result (λ halt. IsHalted ((E.filter engine.old).so_far lines) ((E.filter engine.old).so_far (with_next lines line)) ((E.filter engine.old).memory_after lines line) (length lines + 1)
+    ensures halted { (lines : List InputLine) (earlier : List Awaited) (line : InputLine)
+        → E.shows engine.old lines earlier → IsAwaited earlier line → TakenIs taken.entry line
+        → IfErr result (λ halt. IsHalted ((E.filter engine.old).so_far lines) ((E.filter engine.old).so_far
+        (with_next lines line)) ((E.filter engine.old).memory_after lines line) (length lines + 1)
         (span W.Sink writer.old writer.new)
         (span M.Sink messages.old messages.new)
         (warnings_awaited earlier) halt) }
@@ -206,20 +220,26 @@ fn take_answered<E: Engine, W: Sink, M: Sink>(
 ) -> Result<bool, Halt>
     requires running { IfOk answer (λ _. E.is_open engine.old) }
     requires drained { IfOk answer (λ step. IsDrainedAfter step (E.ready engine.old)) }
-    requires next { (count : ℕ) × IfOk answer (λ step. E.taken engine.old ≡ taken_after step count) × (number_taken taken ≡ count + 1) }
+    requires next { (count : ℕ) × IfOk answer (λ step. E.taken engine.old ≡ taken_after step count)
+        × (number_taken taken ≡ count + 1) }
     requires within { number_taken taken ≤ INPUT_LIMIT }
     ensures filter { E.filter engine.new ≡ E.filter engine.old }
     ensures running { OnOk result (E.is_open engine.new) }
     ensures drained { OnOk result (E.ready engine.new ≡ []) }
-    ensures done { (filter : Filter) (lines : List InputLine) (line : InputLine) → E.filter engine.old ≡ filter
-        → Answers filter (E.shows engine.old) (E.ready engine.old) lines [] line answer → TakenIs taken.entry line
-        → IfOk result (λ warned. IsDone (filter.so_far lines) (filter.so_far (with_next lines line)) (E.shows engine.new (with_next lines line) [])
+    ensures done { (filter : Filter) (lines : List InputLine) (line : InputLine)
+        → E.filter engine.old ≡ filter
+        → EngineAnswers filter (E.shows engine.old) (E.ready engine.old) lines [] line answer
+        → TakenIs taken.entry line
+        → IfOk result (λ warned. IsDone (filter.so_far lines)
+        (filter.so_far (with_next lines line)) (E.shows engine.new (with_next lines line) [])
         (span W.Sink writer.old writer.new)
         (span M.Sink messages.old messages.new)
         [] warned) }
     ensures cut { (filter : Filter) (lines : List InputLine) (line : InputLine) → E.filter engine.old ≡ filter
-        → Answers filter (E.shows engine.old) (E.ready engine.old) lines [] line answer → TakenIs taken.entry line
-        → IfErr result (λ halt. IsCut (filter.so_far lines) (filter.so_far (with_next lines line)) (filter.memory_after lines line) (length lines + 1)
+        → EngineAnswers filter (E.shows engine.old) (E.ready engine.old) lines [] line answer
+        → TakenIs taken.entry line
+        → IfErr result (λ halt. IsCut (filter.so_far lines)
+        (filter.so_far (with_next lines line)) (filter.memory_after lines line) (length lines + 1)
         (span W.Sink writer.old writer.new)
         (span M.Sink messages.old messages.new)
         halt) }
@@ -251,12 +271,16 @@ pub(crate) fn take_line<E: Engine, W: Sink, M: Sink>(
     ensures running { OnOk result (E.is_open engine.new) }
     ensures drained { OnOk result (E.ready engine.new ≡ []) }
     ensures done { (lines : List InputLine) → E.shows engine.old lines []
-        → IfOk result (λ warned. IsDone ((E.filter engine.old).so_far lines) ((E.filter engine.old).so_far (with_next lines (line_shown line.entry))) (E.shows engine.new (with_next lines (line_shown line.entry)) [])
+        → IfOk result (λ warned. IsDone ((E.filter engine.old).so_far lines)
+        ((E.filter engine.old).so_far (with_next lines (line_shown line.entry)))
+        (E.shows engine.new (with_next lines (line_shown line.entry)) [])
         (span W.Sink writer.old writer.new)
         (span M.Sink messages.old messages.new)
         [] warned) }
     ensures cut { (lines : List InputLine) → E.shows engine.old lines []
-        → IfErr result (λ halt. IsCut ((E.filter engine.old).so_far lines) ((E.filter engine.old).so_far (with_next lines (line_shown line.entry))) ((E.filter engine.old).memory_after lines (line_shown line.entry)) (length lines + 1)
+        → IfErr result (λ halt. IsCut ((E.filter engine.old).so_far lines)
+        ((E.filter engine.old).so_far (with_next lines (line_shown line.entry)))
+        ((E.filter engine.old).memory_after lines (line_shown line.entry)) (length lines + 1)
         (span W.Sink writer.old writer.new)
         (span M.Sink messages.old messages.new)
         halt) }
@@ -282,13 +306,17 @@ pub(crate) fn take_overlong<E: Engine, W: Sink, M: Sink>(
     ensures filter { E.filter engine.new ≡ E.filter engine.old }
     ensures running { OnOk result (E.is_open engine.new) }
     ensures drained { OnOk result (E.ready engine.new ≡ []) }
-    ensures done { (lines : List InputLine) (line : InputLine) → E.shows engine.old lines [] → is_long line ≡ true
-        → IfOk result (λ warned. IsDone ((E.filter engine.old).so_far lines) ((E.filter engine.old).so_far (with_next lines line)) (E.shows engine.new (with_next lines line) [])
+    ensures done { (lines : List InputLine) (line : InputLine)
+        → E.shows engine.old lines [] → is_long line ≡ true
+        → IfOk result (λ warned. IsDone ((E.filter engine.old).so_far lines) ((E.filter engine.old).so_far
+        (with_next lines line)) (E.shows engine.new (with_next lines line) [])
         (span W.Sink writer.old writer.new)
         (span M.Sink messages.old messages.new)
         [] warned) }
-    ensures cut { (lines : List InputLine) (line : InputLine) → E.shows engine.old lines [] → is_long line ≡ true
-        → IfErr result (λ halt. IsCut ((E.filter engine.old).so_far lines) ((E.filter engine.old).so_far (with_next lines line)) ((E.filter engine.old).memory_after lines line) (length lines + 1)
+    ensures cut { (lines : List InputLine) (line : InputLine)
+        → E.shows engine.old lines [] → is_long line ≡ true
+        → IfErr result (λ halt. IsCut ((E.filter engine.old).so_far lines) ((E.filter engine.old).so_far
+        (with_next lines line)) ((E.filter engine.old).memory_after lines line) (length lines + 1)
         (span W.Sink writer.old writer.new)
         (span M.Sink messages.old messages.new)
         halt) }
@@ -308,12 +336,14 @@ pub(crate) fn take_end<E: Engine, W: Sink, M: Sink>(
     requires within { E.taken engine.old ≤ INPUT_LIMIT }
     ensures filter { E.filter engine.new ≡ E.filter engine.old }
     ensures done { (lines : List InputLine) → E.shows engine.old lines []
-        → IfOk result (λ warned. IsDone ((E.filter engine.old).so_far lines) ((E.filter engine.old).whole lines) (E.has_ended engine.new lines)
+        → IfOk result (λ warned. IsDone ((E.filter engine.old).so_far lines)
+        ((E.filter engine.old).whole lines) (E.has_ended engine.new lines)
         (span W.Sink writer.old writer.new)
         (span M.Sink messages.old messages.new)
         [] warned) }
     ensures cut { (lines : List InputLine) → E.shows engine.old lines []
-        → IfErr result (λ halt. IsHalted ((E.filter engine.old).so_far lines) ((E.filter engine.old).whole lines) None (length lines)
+        → IfErr result (λ halt. IsHalted
+        ((E.filter engine.old).so_far lines) ((E.filter engine.old).whole lines) None (length lines)
         (span W.Sink writer.old writer.new)
         (span M.Sink messages.old messages.new)
         [] halt) }

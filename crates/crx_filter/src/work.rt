@@ -1,10 +1,11 @@
 //! The work of a run: each line of the input, and its end.
 
 ghost use Rattle.std.specs.Prelude.{◌≡◌, ◌⊎◌, ◌+◌, ℕ, List, [], None};
-ghost use Rattle.crx_lines.specs.Lines.{InputLine};
+ghost use Rattle.crx_lines.specs.meaning.Lines.{InputLine};
 ghost use Rattle.crx_lines.specs.Readers.{reading};
-ghost use Rattle.crx_filter.specs.Running.{WorkEnds, reader_span};
-ghost use Rattle.crx_filter.specs.Taking.{span};
+ghost use Rattle.crx_filter.specs.Running.{WorkEnds};
+ghost use Rattle.crx_filter.specs.meaning.Spans.{reader_span};
+ghost use Rattle.crx_filter.specs.meaning.Spans.{span};
 
 use crate::step::step;
 use crate::taking::{Halt, take_end};

@@ -1,24 +1,24 @@
 -- Small files for the laws' premises and for worked examples: their lines in RINEX and in compact text.
 use Rattle.std.specs.Prelude.{ℕ, pos, ◌+◌, false, true, List, [], ◌∷◌, ◌++◌, Some, None, codes, replicate, flat_map}
-use Rattle.crx_rinex.specs.Observations.{Epoch}
-use Rattle.crx_rinex.specs.Units.{HeaderLine, Observation}
-use Rattle.crx_engine.specs.Choices.{Choices}
-use Rattle.crx_engine.specs.Items.{Item, Accepted}
-use Rattle.crx_engine.specs.Results.{lines_text}
+use Rattle.crx_rinex.specs.meaning.Observations.{Epoch}
+use Rattle.crx_rinex.specs.meaning.Units.{HeaderLine, Observation}
+use Rattle.crx_engine.specs.meaning.Choices.{Choices}
+use Rattle.crx_engine.specs.meaning.Items.{Item, Accepted}
+use Rattle.crx_rinex.specs.meaning.Printing.{lines_text}
 
 -- so many blanks
 abbrev pub blanks : ℕ → List ℕ
 blanks count = replicate count 32
 
 -- one type of GPS
-abbrev pub one_type : List ℕ
-one_type = codes "G    1 C1C" ++ blanks 50 ++ codes "SYS / # / OBS TYPES"
+abbrev pub one_type_line : List ℕ
+one_type_line = codes "G    1 C1C" ++ blanks 50 ++ codes "SYS / # / OBS TYPES"
 
 -- a header of one observation type of GPS
 abbrev pub header : List (List ℕ)
 header =
     codes "     3.04           OBSERVATION DATA    G                   RINEX VERSION / TYPE"
-    ∷ one_type
+    ∷ one_type_line
     ∷ (blanks 60 ++ codes "END OF HEADER")
     ∷ []
 
@@ -31,7 +31,8 @@ first_two =
 
 -- the line of the epoch at second s of a day, or of an event there, with this flag and count
 abbrev pub line_at : ℕ → ℕ → ℕ → List ℕ
-line_at s flag n = codes "> 2024 01 01 00 00  " ++ (48 + s) ∷ codes ".0000000  " ++ (48 + flag) ∷ codes "  " ++ (48 + n) ∷ []
+line_at s flag n = codes "> 2024 01 01 00 00  "
+    ++ (48 + s) ∷ codes ".0000000  " ++ (48 + flag) ∷ codes "  " ++ (48 + n) ∷ []
 
 abbrev pub epoch_line_at : ℕ → ℕ → List ℕ
 epoch_line_at s n = line_at s 0 n
@@ -48,12 +49,12 @@ second_changed s = blanks 20 ++ (48 + s) ∷ []
 abbrev pub observed : List ℕ → List ℕ
 observed value = codes "G01         " ++ value
 
-abbrev pub no_choices : Choices
-no_choices = record { every = None; skip = false; date = codes "D" }
+abbrev pub plain_choices : Choices
+plain_choices = record { every = None; skip = false; date = codes "D" }
 
 -- every second epoch in full
-abbrev pub every_second : Choices
-every_second = record { every = Some 2; skip = false; date = codes "D" }
+abbrev pub in_full_every_second : Choices
+in_full_every_second = record { every = Some 2; skip = false; date = codes "D" }
 
 abbrev pub with_skip : Choices
 with_skip = record { every = None; skip = true; date = codes "D" }
@@ -63,8 +64,8 @@ abbrev pub returned_text : List (List ℕ) → List ℕ
 returned_text lines = flat_map (λ (line : List ℕ). line ++ 13 ∷ 10 ∷ []) lines
 
 -- five epochs of one satellite, the second satellite line with what follows its value
-abbrev pub five_epochs : List ℕ → List (List ℕ)
-five_epochs after_second =
+abbrev pub file_of_five : List ℕ → List (List ℕ)
+file_of_five after_second =
     header
     ++ epoch_line_at 0 1 ∷ codes "G01  20000000.000"
     ∷ epoch_line_at 1 1 ∷ (codes "G01  20000100.500" ++ after_second)
@@ -87,7 +88,7 @@ epoch_at_second s value = record {
 abbrev pub header_items : List (Item Epoch)
 header_items =
     Accepted (HeaderLine (blanks 60 ++ codes "END OF HEADER"))
-    ∷ Accepted (HeaderLine one_type)
+    ∷ Accepted (HeaderLine one_type_line)
     ∷ Accepted (HeaderLine (codes "     3.04           OBSERVATION DATA    G                   RINEX VERSION / TYPE"))
     ∷ []
 
@@ -101,7 +102,8 @@ first_block =
 -- the compact text, with these lines in place of those of the second block after its first
 abbrev pub damaged_by : List (List ℕ) → List ℕ
 damaged_by lines =
-    lines_text (first_two ++ header ++ full_line_at 0 1 (codes "G01") ∷ [] ∷ codes "3&20000000000" ∷ second_changed 1 ∷ [] ∷ codes "100500" ∷ full_line_at 2 1 (codes "G01") ∷ [])
+    lines_text (first_two ++ header ++ full_line_at 0 1 (codes "G01")
+    ∷ [] ∷ codes "3&20000000000" ∷ second_changed 1 ∷ [] ∷ codes "100500" ∷ full_line_at 2 1 (codes "G01") ∷ [])
     ++ lines_text lines
     ++ lines_text (full_line_at 4 1 (codes "G01") ∷ [] ∷ codes "3&20000408000" ∷ [])
 
@@ -109,11 +111,14 @@ damaged_by lines =
 abbrev pub other_block : List (List ℕ)
 other_block = [] ∷ codes "3&20000202001" ∷ second_changed 3 ∷ [] ∷ codes "102500" ∷ []
 
--- the same with the second block as it is, and this text in place of what comes after the first line of the third, which is the last
+-- the same with the second block as it is, and this text in place of what comes after the first line of the third,
+-- which is the last
 abbrev pub last_damaged_by : List ℕ → List ℕ
 last_damaged_by text =
-    lines_text (first_two ++ header ++ full_line_at 0 1 (codes "G01") ∷ [] ∷ codes "3&20000000000" ∷ second_changed 1 ∷ [] ∷ codes "100500"
-    ∷ full_line_at 2 1 (codes "G01") ∷ [] ∷ codes "3&20000202000" ∷ second_changed 3 ∷ [] ∷ codes "102500" ∷ full_line_at 4 1 (codes "G01") ∷ [])
+    lines_text (first_two ++ header
+    ++ full_line_at 0 1 (codes "G01") ∷ [] ∷ codes "3&20000000000" ∷ second_changed 1 ∷ [] ∷ codes "100500"
+    ∷ full_line_at 2 1 (codes "G01")
+    ∷ [] ∷ codes "3&20000202000" ∷ second_changed 3 ∷ [] ∷ codes "102500" ∷ full_line_at 4 1 (codes "G01") ∷ [])
     ++ text
 
 -- ---- a file with an event after its first block

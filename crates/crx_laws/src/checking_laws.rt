@@ -1,14 +1,14 @@
 //! What a check means line by line, and what `standard yes` means: each law is the contract of a function that does nothing.
 
 ghost use Rattle.std.specs.Prelude.{◌≡◌, [], List, ℕ, None, true};
-ghost use Rattle.crx_lines.specs.Lines.{InputLine};
-ghost use Rattle.crx_engine.specs.Checking.{check_filter};
-ghost use Rattle.crx_engine.specs.Choices.{Choices, is_date};
+ghost use Rattle.crx_lines.specs.meaning.Lines.{InputLine};
+ghost use Rattle.crx_engine.specs.CheckByLine.{check_filter};
+ghost use Rattle.crx_engine.specs.meaning.Choices.{Choices, is_date};
 ghost use Rattle.crx_engine.specs.CheckingLaws.{IsCheckedOn, IsCheckEnded, IsNamedWhereNot, IsStandardExactlyWhereSame};
-ghost use Rattle.crx_laws.specs.SmallFiles.{five_epochs, no_choices, returned_text};
-ghost use Rattle.crx_engine.specs.Results.{lines_text};
+ghost use Rattle.crx_laws.specs.SmallFiles.{file_of_five, plain_choices, returned_text};
+ghost use Rattle.crx_rinex.specs.meaning.Printing.{lines_text};
 ghost use Rattle.crx_engine.specs.Lawful.{IsLawful};
-ghost use Rattle.crx_engine.specs.Standard.{whole_of};
+ghost use Rattle.crx_engine.specs.meaning.Standard.{whole_of};
 
 /// A check goes line by line: what it has seen after a line is made of the line and of what it had seen before it, and the fault is that
 /// of the reading of all lines so far.
@@ -29,7 +29,8 @@ pub fn standard_files_are_named()
 /// A file that is read to its good end is reported as standard, with status 0, exactly where the expansion of its compaction gives it
 /// back byte for byte, whatever is chosen on either way.
 pub fn standard_exactly_where_same()
-    ensures { (input : List ℕ) (compacting expanding : Choices) → IsStandardExactlyWhereSame input compacting expanding }
+    ensures { (input : List ℕ) (compacting expanding : Choices)
+        → IsStandardExactlyWhereSame input compacting expanding }
 {}
 
 /// Nothing is written before the end, and a fault of the lines so far is the fault of all lines.
@@ -39,7 +40,7 @@ pub fn check_keeps_to_its_fault()
 
 /// What the laws ask for can be met: a date; a file that is read to its good end, standard or not.
 pub fn premises()
-    ensures date { is_date no_choices.date ≡ true }
-    ensures good { (whole_of (lines_text (five_epochs []))).fault ≡ None }
-    ensures good_otherwise { (whole_of (returned_text (five_epochs []))).fault ≡ None }
+    ensures date { is_date plain_choices.date ≡ true }
+    ensures good { (whole_of (lines_text (file_of_five []))).fault ≡ None }
+    ensures good_otherwise { (whole_of (returned_text (file_of_five []))).fault ≡ None }
 {}

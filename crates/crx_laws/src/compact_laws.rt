@@ -2,10 +2,10 @@
 
 ghost use Rattle.std.specs.Prelude.{◌≡◌, ◌↔◌, true, ℕ, ℤ, List, Option};
 ghost use Rattle.crx_text.specs.declared.code.Code.{Code};
-ghost use Rattle.crx_text.specs.Numbers.{IsWithin};
-ghost use Rattle.crx_rinex.specs.Epochs.{are_different};
-ghost use Rattle.crx_compact.specs.Compaction.{Marked};
-ghost use Rattle.crx_compact.specs.Expansion.{is_within, overlaid};
+ghost use Rattle.crx_text.specs.meaning.Numbers.{IsWithin};
+ghost use Rattle.crx_rinex.specs.meaning.Epochs.{are_different};
+ghost use Rattle.crx_compact.specs.meaning.Compaction.{Marked};
+ghost use Rattle.crx_compact.specs.meaning.Expansion.{is_within, overlaid};
 ghost use Rattle.crx_compact.specs.Laws.{Inverts, PatchesBack, patched_in_turn, CodesByTail, ValuesByTail, CodesOfValues, ValuesOfCodes, EpochByTail, ArePrintable, AreShort, AllLinesCanStand, WrittenAreBounded};
 
 /// From the codes of an arc, of any order, comes its newest value.

@@ -1,13 +1,13 @@
 //! Laws of reading compact text: each is the contract of a function that does nothing.
 
 ghost use Rattle.std.specs.Prelude.{◌≡◌, ◌∷◌, [], true, ℕ, List, Option};
-ghost use Rattle.crx_lines.specs.Seen.{ReadLine};
-ghost use Rattle.crx_rinex.specs.ObservationTypes.{Count};
-ghost use Rattle.crx_compact.specs.Expansion.{RawEpoch};
+ghost use Rattle.crx_lines.specs.meaning.Seen.{ReadLine};
+ghost use Rattle.crx_rinex.specs.meaning.ObservationTypes.{Count};
+ghost use Rattle.crx_compact.specs.meaning.Expansion.{RawEpoch};
 ghost use Rattle.crx_compact.specs.ReadingLaws.{EachReadsBack, ReadsBack, ReadsSoundly, HasSingleLines, RawByTail, TailDecides, StepsAgree, WantedWhereOpen, StepsFromOpen, Forgets, OneTail, ReadsWholeEpochs, StepsReadBack, ReadsWholeLists, ReadAreBounded};
 ghost use Rattle.crx_rinex.specs.Steady.{IsSteady};
-ghost use Rattle.crx_rinex.specs.EpochLines.{begins_epoch};
-ghost use Rattle.crx_compact.specs.CompactPlaces.{epoch_at};
+ghost use Rattle.crx_rinex.specs.meaning.EpochLines.{begins_epoch};
+ghost use Rattle.crx_compact.specs.meaning.CompactPlaces.{epoch_at};
 ghost use Rattle.crx_compact.specs.OpenEpochs.{epoch_after};
 ghost use Rattle.crx_compact.specs.Tails.{Tail};
 
@@ -34,17 +34,20 @@ pub fn next_raw_epoch()
 /// What is left of the epochs before, or nothing, decides what stands at the next lines, each fault too, and what is left
 /// of an epoch that is read there.
 pub fn tail_decides()
-    ensures { (types : List Count) (older : List RawEpoch) (lines : List ReadLine) → TailDecides types older lines }
+    ensures { (types : List Count) (older : List RawEpoch) (lines : List ReadLine)
+        → TailDecides types older lines }
 {}
 
 /// What stands at some lines, and what is left of an epoch there, is what the steps make of them line by line.
 pub fn steps_agree()
-    ensures { (types : List Count) (tail : Option Tail) (lines : List ReadLine) → StepsAgree types tail lines }
+    ensures { (types : List Count) (tail : Option Tail) (lines : List ReadLine)
+        → StepsAgree types tail lines }
 {}
 
 /// More lines are wanted exactly where there is no line yet, or the lines so far make an open epoch.
 pub fn wanted_where_open()
-    ensures { (types : List Count) (tail : Option Tail) (lines : List ReadLine) → WantedWhereOpen types tail lines }
+    ensures { (types : List Count) (tail : Option Tail) (lines : List ReadLine)
+        → WantedWhereOpen types tail lines }
 {}
 
 /// The step from an open epoch is what the place has with one line more.
@@ -60,7 +63,8 @@ pub fn steady_epochs()
 
 /// A line that begins with `>` forgets: what is read from there doesn't depend on older raw epochs.
 pub fn a_full_epoch_forgets()
-    ensures { (types : List Count) (older : List RawEpoch) (line : List ℕ) (lines : List ReadLine) → begins_epoch line ≡ true → Forgets types older line lines }
+    ensures { (types : List Count) (older : List RawEpoch) (line : List ℕ) (lines : List ReadLine)
+        → begins_epoch line ≡ true → Forgets types older line lines }
 {}
 
 /// An epoch that is read is whole, by the counts of types that it is read with: identifiers, counts, ranges, and indicators

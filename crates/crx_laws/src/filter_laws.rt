@@ -1,22 +1,24 @@
 //! Laws over the definitions of both filters: each is the contract of a function that does nothing.
 
 ghost use Rattle.std.specs.Prelude.{◌≡◌, ◌∷◌, ◌++◌, [], List, Bool, true, false, Some, codes, map, take, drop};
-ghost use Rattle.crx_lines.specs.Seen.{ReadLine, Content, seen};
-ghost use Rattle.crx_lines.specs.Lines.{lines_of};
+ghost use Rattle.crx_lines.specs.meaning.Seen.{ReadLine, Content, seen};
+ghost use Rattle.crx_lines.specs.meaning.Lines.{lines_of};
 ghost use Rattle.crx_lines.specs.declared.fault.Fault.TheVariants.{NotAnEpoch, NotCompact};
 ghost use Rattle.crx_lines.specs.declared.fault.At.{At};
 ghost use Rattle.crx_engine.specs.Anew.{starts_anew, DependsOnTypes};
 ghost use Rattle.crx_engine.specs.Bounds.{IsBoundedCompaction, IsBoundedExpansion, CompactIsLendable, ExpandedIsLendable};
-ghost use Rattle.crx_engine.specs.Choices.{Choices};
-ghost use Rattle.crx_engine.specs.Compactor.{compaction, compaction_seen};
-ghost use Rattle.crx_laws.specs.SmallFiles.{header, line_at, one_type, full_line_at, second_changed};
-ghost use Rattle.crx_engine.specs.Expander.{expansion, expansion_seen};
-ghost use Rattle.crx_engine.specs.Compacted.{rinex_place, rinex_reading, whole_rinex, compacted, compacted_so_far};
+ghost use Rattle.crx_engine.specs.meaning.Choices.{Choices};
+ghost use Rattle.crx_engine.specs.CompactionByLine.{compaction, compaction_seen};
+ghost use Rattle.crx_laws.specs.SmallFiles.{header, line_at, one_type_line, full_line_at, second_changed};
+ghost use Rattle.crx_engine.specs.ExpansionByLine.{expansion, expansion_seen};
+ghost use Rattle.crx_engine.specs.meaning.Compacted.{rinex_place, whole_rinex, compacted};
+ghost use Rattle.crx_engine.specs.Compacted.{rinex_reading, compacted_so_far};
 ghost use Rattle.crx_engine.specs.Directions.{compaction_filter, expansion_filter};
 ghost use Rattle.crx_engine.specs.Lawful.{IsLawful};
-ghost use Rattle.crx_engine.specs.Expanded.{compact_place, compact_reading, whole_compact, expanded, expanded_so_far};
-ghost use Rattle.crx_engine.specs.Results.{lines_text};
-ghost use Rattle.crx_engine.specs.Laws.{IsReadForward, IsResumed, IsWrittenFirst, IsCompactedOn, IsExpandedOn, IsCompactionEnded, IsExpansionEnded, StaysEnded, AreRead, AreInPlace, IsReadyWhereLent, fault_of_stop};
+ghost use Rattle.crx_engine.specs.meaning.Expanded.{compact_place, whole_compact, expanded};
+ghost use Rattle.crx_engine.specs.Expanded.{compact_reading, expanded_so_far};
+ghost use Rattle.crx_rinex.specs.meaning.Printing.{lines_text};
+ghost use Rattle.crx_engine.specs.Laws.{IsReadForward, IsResumed, IsWrittenFirst, IsCompactedOn, IsExpandedOn, IsCompactionEnded, IsExpansionEnded, StaysEnded, ItemsAreRead, AreInPlace, IsReadyWhereLent, fault_of_stop};
 
 /// What stands at a line of a RINEX file is certain as soon as its last line has come; so the reading of some lines and more goes on
 /// from where the reading of the first lines stopped.
@@ -33,23 +35,27 @@ pub fn resumed_compact()
 
 /// What a compaction has written for some lines stands at the beginning of its output for every input that has these lines first.
 pub fn compaction_goes_on()
-    ensures { (choices : Choices) (lines : List ReadLine) → IsWrittenFirst compacted_so_far (λ input (c : Choices). (compacted input c).output) choices lines }
+    ensures { (choices : Choices) (lines : List ReadLine)
+        → IsWrittenFirst compacted_so_far (λ input (c : Choices). (compacted input c).output) choices lines }
 {}
 
-/// A compaction goes line by line: after each line it has seen, lent and reported what the compaction of all lines so far has, by
+/// A compaction goes line by line: after each line it has seen, handed out and reported what the compaction of all lines so far has, by
 /// what it held before that line alone; with faults skipped or not.
 pub fn compaction_by_line()
-    ensures { (choices : Choices) (lines : List ReadLine) (line : ReadLine) → IsCompactedOn choices lines line }
+    ensures { (choices : Choices) (lines : List ReadLine) (line : ReadLine)
+        → IsCompactedOn choices lines line }
 {}
 
 /// What an expansion has written for some lines stands at the beginning of its output for every input that has these lines first.
 pub fn expansion_goes_on()
-    ensures { (choices : Choices) (lines : List ReadLine) → IsWrittenFirst expanded_so_far (λ input (c : Choices). (expanded input c).output) choices lines }
+    ensures { (choices : Choices) (lines : List ReadLine)
+        → IsWrittenFirst expanded_so_far (λ input (c : Choices). (expanded input c).output) choices lines }
 {}
 
 /// An expansion goes line by line, in the same way.
 pub fn expansion_by_line()
-    ensures { (choices : Choices) (lines : List ReadLine) (line : ReadLine) → IsExpandedOn choices lines line }
+    ensures { (choices : Choices) (lines : List ReadLine) (line : ReadLine)
+        → IsExpandedOn choices lines line }
 {}
 
 /// The end of the input, after any lines, is what it is for the compaction of all of them: nothing more is written, and the fault or
@@ -65,14 +71,18 @@ pub fn expansion_ends()
 
 /// Once a fault has ended the run, more lines change nothing, in both directions.
 pub fn ended_stays()
-    ensures compaction { (skip : Bool) (lines more : List ReadLine) (at : At) → fault_of_stop (rinex_reading skip lines).stop ≡ Some at → StaysEnded (rinex_reading skip) (whole_rinex skip) lines more at }
-    ensures expansion { (skip : Bool) (lines more : List ReadLine) (at : At) → fault_of_stop (compact_reading skip lines).stop ≡ Some at → StaysEnded (compact_reading skip) (whole_compact skip) lines more at }
+    ensures compaction { (skip : Bool) (lines more : List ReadLine) (at : At) → fault_of_stop (rinex_reading
+        skip lines).stop ≡ Some at → StaysEnded (rinex_reading skip) (whole_rinex skip) lines more at }
+    ensures expansion { (skip : Bool) (lines more : List ReadLine) (at : At) → fault_of_stop (compact_reading
+        skip lines).stop ≡ Some at → StaysEnded (compact_reading skip) (whole_compact skip) lines more at }
 {}
 
 /// What was accepted stood where it was read, after what was accepted before it.
 pub fn what_was_read()
-    ensures rinex { (skip : Bool) (lines : List ReadLine) → AreRead rinex_place (rinex_reading skip lines).items }
-    ensures compact { (skip : Bool) (lines : List ReadLine) → AreRead compact_place (compact_reading skip lines).items }
+    ensures rinex { (skip : Bool) (lines : List ReadLine)
+        → ItemsAreRead rinex_place (rinex_reading skip lines).items }
+    ensures compact { (skip : Bool) (lines : List ReadLine)
+        → ItemsAreRead compact_place (compact_reading skip lines).items }
 {}
 
 /// What was accepted of a RINEX file is in place: each unit where it belongs, and each epoch whole, with the types in force.
@@ -85,17 +95,19 @@ pub fn what_was_accepted()
 /// part 41 columns, the types at its line, and at most 999 rows, each with an identifier of three characters and at most 400 values, with
 /// two indicators each.
 pub fn bounded_compaction()
-    ensures { (choices : Choices) (lines : List ReadLine) → IsBoundedCompaction (compaction_seen choices lines) }
+    ensures { (choices : Choices) (lines : List ReadLine)
+        → IsBoundedCompaction (compaction_seen choices lines) }
 {}
 
 /// What an expansion holds between two lines is bounded in the same way: of the last epoch its text of at most 3038 characters, at most
 /// 999 satellites of at most 400 cells with ten numbers each, and their indicators, at most 800 a satellite; and of an epoch whose
 /// lines have come in part no more satellites than that, those whose lines are awaited among them.
 pub fn bounded_expansion()
-    ensures { (choices : Choices) (lines : List ReadLine) → IsBoundedExpansion (expansion_seen choices lines) }
+    ensures { (choices : Choices) (lines : List ReadLine)
+        → IsBoundedExpansion (expansion_seen choices lines) }
 {}
 
-/// What is lent of a unit is bounded: at most 1001 lines, of at most 8192 bytes each; and where they are those of an epoch, of at most
+/// What is borrowed of a unit is bounded: at most 1001 lines, of at most 8192 bytes each; and where they are those of an epoch, of at most
 /// 7200 bytes each in compact text, and of at most 6403 bytes each in RINEX.
 pub fn bounded_lines()
     ensures compaction { (choices : Choices) (lines : List ReadLine) → CompactIsLendable choices lines }
@@ -111,11 +123,13 @@ pub fn reading_starts_anew()
 
 /// Such lines: an event with a record that doesn't begin with `>`, and then an epoch in full; but no line of an epoch that goes on.
 pub fn lines_that_start_anew()
-    ensures anew { starts_anew 0 (map Content (line_at 1 4 1 ∷ one_type ∷ full_line_at 2 1 (codes "G01") ∷ [] ∷ codes "3&2000" ∷ [])) ≡ true }
-    ensures on { starts_anew 0 (map Content (line_at 1 4 1 ∷ one_type ∷ second_changed 2 ∷ [] ∷ codes "500" ∷ [])) ≡ false }
+    ensures anew { starts_anew 0 (map Content
+        (line_at 1 4 1 ∷ one_type_line ∷ full_line_at 2 1 (codes "G01") ∷ [] ∷ codes "3&2000" ∷ [])) ≡ true }
+    ensures on { starts_anew 0 (map Content
+        (line_at 1 4 1 ∷ one_type_line ∷ second_changed 2 ∷ [] ∷ codes "500" ∷ [])) ≡ false }
 {}
 
-/// A line is answered as ready exactly where lines are lent.
+/// A line is answered as ready exactly where lines are borrowed.
 pub fn ready_where_lent()
     ensures compaction { IsReadyWhereLent compaction }
     ensures expansion { IsReadyWhereLent expansion }
@@ -130,7 +144,10 @@ pub fn lawful_directions()
 
 /// What the laws ask for can be met: some lines at the beginning of an input, and a fault that ends a run.
 pub fn premises()
-    ensures lines_first { map seen (lines_of (lines_text header)) ≡ map Content (take 1 header) ++ map Content (drop 1 header) }
-    ensures ended { fault_of_stop (rinex_reading false (map Content (header ++ codes "x" ∷ []))).stop ≡ Some (record { line = 4; fault = NotAnEpoch }) }
-    ensures ended_compact { fault_of_stop (compact_reading true (map Content (codes "x" ∷ []))).stop ≡ Some (record { line = 1; fault = NotCompact }) }
+    ensures lines_first { map seen (lines_of (lines_text header))
+        ≡ map Content (take 1 header) ++ map Content (drop 1 header) }
+    ensures ended { fault_of_stop (rinex_reading false (map Content (header ++ codes "x" ∷ []))).stop
+        ≡ Some (record { line = 4; fault = NotAnEpoch }) }
+    ensures ended_compact { fault_of_stop (compact_reading true (map Content (codes "x" ∷ []))).stop
+        ≡ Some (record { line = 1; fault = NotCompact }) }
 {}

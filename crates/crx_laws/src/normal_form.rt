@@ -4,9 +4,10 @@
 
 ghost use Rattle.std.specs.Prelude.{◌≡◌, ◌∷◌, ◌++◌, [], List, ℕ, codes};
 ghost use Rattle.crx_laws.specs.SmallFiles.{header, epoch_line_at, observed};
-ghost use Rattle.crx_engine.specs.NormalForm.{HasNormalForm, IsReadAsNormal, IsStandardAsNormal, IsNormalForGood};
-ghost use Rattle.crx_engine.specs.Results.{lines_text};
-ghost use Rattle.crx_engine.specs.Standard.{normal_form};
+ghost use Rattle.crx_engine.specs.meaning.WayBack.{HasNormalForm};
+ghost use Rattle.crx_engine.specs.NormalForm.{IsReadAsNormal, IsStandardAsNormal, IsNormalForGood};
+ghost use Rattle.crx_rinex.specs.meaning.Printing.{lines_text};
+ghost use Rattle.crx_engine.specs.meaning.Standard.{normal_form};
 
 /// The normal form is read as the very same units as the file: each header line, event line and record, and each epoch with its clock
 /// offset, values and indicators.
@@ -24,9 +25,10 @@ pub fn the_normal_form_stays()
     ensures { (input : List ℕ) → IsNormalForGood input }
 {}
 
-/// What these laws ask for can be met, and by a file that isn't standard: its number is spelt with a zero too many before the point,
+/// What these laws ask for can be met, and by a file that isn't standard: its number has a zero too many before the point,
 /// and its normal form has it without.
 pub fn premises()
     ensures met { HasNormalForm (lines_text (header ++ epoch_line_at 0 1 ∷ codes "G01        01.000" ∷ [])) }
-    ensures changed { normal_form (lines_text (header ++ epoch_line_at 0 1 ∷ codes "G01        01.000" ∷ [])) ≡ lines_text (header ++ epoch_line_at 0 1 ∷ observed (codes "1.000") ∷ []) }
+    ensures changed { normal_form (lines_text (header ++ epoch_line_at 0 1 ∷ codes "G01        01.000" ∷ []))
+        ≡ lines_text (header ++ epoch_line_at 0 1 ∷ observed (codes "1.000") ∷ []) }
 {}

@@ -1,10 +1,11 @@
 //! What is saved of damaged compact text: each law is the contract of a function that does nothing.
 
 ghost use Rattle.std.specs.Prelude.{◌≡◌, ◌∷◌, ◌++◌, [], List, ℕ, true, codes, drop};
-ghost use Rattle.crx_engine.specs.Choices.{Choices, is_date};
-ghost use Rattle.crx_engine.specs.Damage.{lines_of_epochs, IsDamaged, IsOfCompaction, StaysInItsBlock};
-ghost use Rattle.crx_engine.specs.Results.{lines_text};
-ghost use Rattle.crx_laws.specs.SmallFiles.{five_epochs, with_event, no_choices, every_second, with_skip, epoch_at_second, first_block, damaged_by, other_block, last_damaged_by, damaged_before_event};
+ghost use Rattle.crx_engine.specs.meaning.Choices.{Choices, is_date};
+ghost use Rattle.crx_engine.specs.meaning.Damage.{lines_of_epochs, IsDamaged};
+ghost use Rattle.crx_engine.specs.Damage.{IsOfCompaction, StaysInItsBlock};
+ghost use Rattle.crx_rinex.specs.meaning.Printing.{lines_text};
+ghost use Rattle.crx_laws.specs.SmallFiles.{file_of_five, with_event, plain_choices, in_full_every_second, with_skip, epoch_at_second, first_block, damaged_by, other_block, last_damaged_by, damaged_before_event};
 
 /// Damage to compact text stays in its block. Of the compact text of a standard file, the lines of one block of epochs, from an epoch in
 /// full up to the next line that begins with `>` or the end, are replaced but for the first, by any lines of at most 8192 bytes that don't begin
@@ -12,12 +13,14 @@ ghost use Rattle.crx_laws.specs.SmallFiles.{five_epochs, with_event, no_choices,
 /// block whose lines still stand at its beginning), then exactly all units after it; it reports at most one warning, and its status
 /// is 2 with one and 0 without.
 pub fn damage_stays_in_its_block()
-    ensures { (input : List ℕ) (compacting expanding : Choices) (damaged : List ℕ) → StaysInItsBlock input compacting expanding damaged }
+    ensures { (input : List ℕ) (compacting expanding : Choices) (damaged : List ℕ)
+        → StaysInItsBlock input compacting expanding damaged }
 {}
 
 /// What is damaged there is the output of the compaction: the text of all units, the lines of the block among them.
 pub fn undamaged_text_is_the_compaction()
-    ensures { (input : List ℕ) (compacting : Choices) (damaged : List ℕ) (damage : IsDamaged input compacting damaged) → IsOfCompaction input compacting damaged damage }
+    ensures { (input : List ℕ) (compacting : Choices) (damaged : List ℕ)
+        (damage : IsDamaged input compacting damaged) → IsOfCompaction input compacting damaged damage }
 {}
 
 /// What these laws ask for can be met: a date; an expansion that skips faults; and a block of two epochs of which a line that is no clock,
@@ -25,13 +28,19 @@ pub fn undamaged_text_is_the_compaction()
 /// epochs can be read in place of the block's; where an event comes after the block; and where the block is the last, and what is left of
 /// its lines ends without LF.
 pub fn premises()
-    ensures date { is_date every_second.date ≡ true }
+    ensures date { is_date in_full_every_second.date ≡ true }
     ensures skips { with_skip.skip ≡ true }
-    ensures replaced { IsDamaged (lines_text (five_epochs [])) every_second (damaged_by (codes "xyz" ∷ [])) }
-    ensures removed { IsDamaged (lines_text (five_epochs [])) every_second (damaged_by []) }
-    ensures shortened { IsDamaged (lines_text (five_epochs [])) every_second (damaged_by ([] ∷ codes "3&20000202000" ∷ [])) }
-    ensures other_epochs { IsDamaged (lines_text (five_epochs [])) every_second (damaged_by other_block) }
-    ensures before_event { IsDamaged (lines_text with_event) no_choices (damaged_before_event (codes "xyz" ∷ [])) }
-    ensures last { IsDamaged (lines_text (five_epochs [])) every_second (last_damaged_by (codes "\n3&2000")) }
-    ensures own { drop 1 (lines_of_epochs every_second first_block (epoch_at_second 2 20000202000 ∷ [])) ≡ [] ∷ codes "3&20000202000" ∷ [] }
+    ensures replaced { IsDamaged (lines_text (file_of_five [])) in_full_every_second
+        (damaged_by (codes "xyz" ∷ [])) }
+    ensures removed { IsDamaged (lines_text (file_of_five [])) in_full_every_second (damaged_by []) }
+    ensures shortened { IsDamaged (lines_text (file_of_five [])) in_full_every_second
+        (damaged_by ([] ∷ codes "3&20000202000" ∷ [])) }
+    ensures other_epochs { IsDamaged
+        (lines_text (file_of_five [])) in_full_every_second (damaged_by other_block) }
+    ensures before_event { IsDamaged
+        (lines_text with_event) plain_choices (damaged_before_event (codes "xyz" ∷ [])) }
+    ensures last { IsDamaged (lines_text (file_of_five [])) in_full_every_second
+        (last_damaged_by (codes "\n3&2000")) }
+    ensures own { drop 1 (lines_of_epochs in_full_every_second first_block
+        (epoch_at_second 2 20000202000 ∷ [])) ≡ [] ∷ codes "3&20000202000" ∷ [] }
 {}

@@ -1,15 +1,16 @@
 //! The way back: each law is the contract of a function that does nothing.
 
 ghost use Rattle.std.specs.Prelude.{◌≡◌, ◌∷◌, ◌++◌, [], List, ℕ, None, true, codes, map};
-ghost use Rattle.crx_lines.specs.Seen.{seen};
-ghost use Rattle.crx_lines.specs.Lines.{lines_of};
-ghost use Rattle.crx_engine.specs.Choices.{Choices, is_date};
-ghost use Rattle.crx_engine.specs.Compacted.{whole_rinex, compacted};
-ghost use Rattle.crx_engine.specs.Expanded.{expanded};
-ghost use Rattle.crx_laws.specs.SmallFiles.{blanks, header, epoch_line_at, observed, line_at, no_choices};
-ghost use Rattle.crx_engine.specs.Results.{lines_text};
-ghost use Rattle.crx_engine.specs.Standard.{whole_of, IsStandard};
-ghost use Rattle.crx_engine.specs.WayBack.{ComesBack, NormalFormComesBack, StandardComesBack, IsStandardWhereSame, HaveNoReturns};
+ghost use Rattle.crx_lines.specs.meaning.Seen.{seen};
+ghost use Rattle.crx_lines.specs.meaning.Lines.{lines_of};
+ghost use Rattle.crx_engine.specs.meaning.Choices.{Choices, is_date};
+ghost use Rattle.crx_engine.specs.meaning.Compacted.{whole_rinex, compacted};
+ghost use Rattle.crx_engine.specs.meaning.Expanded.{expanded};
+ghost use Rattle.crx_laws.specs.SmallFiles.{blanks, header, epoch_line_at, observed, line_at, plain_choices};
+ghost use Rattle.crx_rinex.specs.meaning.Printing.{lines_text};
+ghost use Rattle.crx_engine.specs.meaning.Standard.{whole_of, IsStandard};
+ghost use Rattle.crx_engine.specs.WayBack.{ComesBack, NormalFormComesBack, StandardComesBack, IsStandardWhereSame};
+ghost use Rattle.crx_engine.specs.meaning.WayBack.{HaveNoReturns};
 
 /// Whatever was compacted comes back: where the compaction isn't ended by a fault, the expansion of its compact text writes each
 /// accepted unit as RINEX prints it, reports nothing, and ends with status 0. Faults may be skipped or not, on both ways, and epochs
@@ -20,28 +21,38 @@ pub fn what_was_compacted_comes_back()
 
 /// A file that is read to its good end comes back in its normal form, whatever is chosen on either way.
 pub fn the_normal_form_comes_back()
-    ensures { (input : List ℕ) (compacting expanding : Choices) → NormalFormComesBack input compacting expanding }
+    ensures { (input : List ℕ) (compacting expanding : Choices)
+        → NormalFormComesBack input compacting expanding }
 {}
 
 /// A standard file comes back byte for byte, whatever is chosen on either way: how often epochs stand in full, whether faults are
 /// skipped, and the date.
 pub fn a_standard_file_comes_back()
-    ensures { (input : List ℕ) (compacting expanding : Choices) → StandardComesBack input compacting expanding }
+    ensures { (input : List ℕ) (compacting expanding : Choices)
+        → StandardComesBack input compacting expanding }
 {}
 
 /// The converse: where a file that is read to its good end comes back byte for byte, by any choices, it is standard. One with a header
 /// line, event line or record whose content ends in CR never does, since it comes back with fewer of them.
 pub fn what_comes_back_is_standard()
-    ensures { (input : List ℕ) (compacting expanding : Choices) → IsStandardWhereSame input compacting expanding }
+    ensures { (input : List ℕ) (compacting expanding : Choices)
+        → IsStandardWhereSame input compacting expanding }
 {}
 
 /// What these laws ask for can be met: a date; a standard file; and, where faults are skipped, a file with two warnings, an event and
 /// no line that ends in CR.
 pub fn premises()
-    ensures date { is_date (no_choices.date) ≡ true }
+    ensures date { is_date (plain_choices.date) ≡ true }
     ensures standard { IsStandard (lines_text (header ++ epoch_line_at 0 1 ∷ observed (codes "1.000") ∷ [])) }
-    ensures no_returns { HaveNoReturns (whole_of (lines_text (header ++ epoch_line_at 0 1 ∷ observed (codes "1.000") ∷ []))).items }
-    ensures same { (expanded (compacted (lines_text (header ++ epoch_line_at 0 1 ∷ observed (codes "1.000") ∷ [])) no_choices).output no_choices).output ≡ lines_text (header ++ epoch_line_at 0 1 ∷ observed (codes "1.000") ∷ []) }
-    ensures skipped_good { (whole_rinex true (map seen (lines_of (lines_text (header ++ epoch_line_at 0 1 ∷ codes ">" ∷ line_at 1 4 1 ∷ (blanks 60 ++ codes "COMMENT") ∷ epoch_line_at 1 1 ∷ observed (codes "1.000") ∷ []))))).fault ≡ None }
-    ensures skipped_kept { HaveNoReturns (whole_rinex true (map seen (lines_of (lines_text (header ++ epoch_line_at 0 1 ∷ codes ">" ∷ line_at 1 4 1 ∷ (blanks 60 ++ codes "COMMENT") ∷ epoch_line_at 1 1 ∷ observed (codes "1.000") ∷ []))))).items }
+    ensures no_returns { HaveNoReturns
+        (whole_of (lines_text (header ++ epoch_line_at 0 1 ∷ observed (codes "1.000") ∷ []))).items }
+    ensures same { (expanded (compacted (lines_text (header
+        ++ epoch_line_at 0 1 ∷ observed (codes "1.000") ∷ [])) plain_choices).output plain_choices).output
+        ≡ lines_text (header ++ epoch_line_at 0 1 ∷ observed (codes "1.000") ∷ []) }
+    ensures skipped_good { (whole_rinex true
+        (map seen (lines_of (lines_text (header ++ epoch_line_at 0 1 ∷ codes ">" ∷ line_at 1 4 1 ∷ (blanks 60
+        ++ codes "COMMENT") ∷ epoch_line_at 1 1 ∷ observed (codes "1.000") ∷ []))))).fault ≡ None }
+    ensures skipped_kept { HaveNoReturns (whole_rinex true
+        (map seen (lines_of (lines_text (header ++ epoch_line_at 0 1 ∷ codes ">" ∷ line_at 1 4 1
+        ∷ (blanks 60 ++ codes "COMMENT") ∷ epoch_line_at 1 1 ∷ observed (codes "1.000") ∷ []))))).items }
 {}

@@ -1,11 +1,14 @@
 -- What the search for a line's end found, as the first line of the input.
-use Rattle.std.proofs.Common.{◌≡◌, ◌≢◌, ℕ, ◌+◌, ◌-◌, ◌<◌, ◌≤◌, Bool, true, false, not, ◌&&◌, cond, List, [], ◌∷◌, ◌++◌, ◌⊎◌, length, take, drop, slice_index, IsTrue, MatchBool, sym, ap, ◌∙◌, subst, arith, ⊎_elim, append-nil, append_assoc, length-append, length-take, length-drop, take-append-drop}
+use Rattle.std.proofs.Common.{◌≡◌, ◌≢◌, ℕ, ◌+◌, ◌-◌, ◌<◌, ◌≤◌, Bool, true, false, not, ◌&&◌, cond, List, [], ◌∷◌, ◌++◌}
+use Rattle.std.proofs.Common.{◌⊎◌, length, take, drop, slice_index, IsTrue, MatchBool, sym, ap, ◌∙◌, subst, arith}
+use Rattle.std.proofs.Common.{⊎_elim, append-nil, append_assoc, length-append, length-take, length-drop}
+use Rattle.std.proofs.Common.{take-append-drop}
 use Rattle.std.proofs.lemmas.List.{drop_more, get_or-take, take_all, drop_all, take_at, nil_from_length}
 use Rattle.std.proofs.lemmas.List.Elements.{All-append, All-from_get_or}
 use Rattle.std.proofs.lemmas.Bool.{true≢false, lt-ltb}
-use Rattle.crx_lines.specs.Devices.{Tally, with_failure}
-use Rattle.crx_lines.specs.Lines.{Piece, HasNoFeed, InputLine, line_of, is_long, without_return, ends_with_return}
-use Rattle.crx_lines.specs.Reading.{Reading, BeginsWith, Takes, Stops, FaultIs}
+use Rattle.crx_lines.specs.meaning.Devices.{Tally, with_failure}
+use Rattle.crx_lines.specs.meaning.Lines.{Piece, InputLine, line_of, is_long, without_return, ends_with_return}
+use Rattle.crx_lines.specs.Reading.{HasNoFeed, ReaderState, BeginsWith, TakesPiece, Stops, AnswersFault}
 use Rattle.crx_lines.specs.declared.fault.At.{At}
 use Rattle.crx_lines.specs.declared.fault.Fault.{Fault}
 use Rattle.crx_lines.specs.declared.fault.Fault.TheVariants.{InputTooLong, ReadFailed}
@@ -16,26 +19,31 @@ use Rattle.crx_lines.proofs.ReturnLemmas.{length-without_return}
 use Rattle.crx_lines.proofs.SeekLemmas.{Seeking-sum, Seeking-none}
 
 -- the first bytes that were searched have no LF
-searched-no_feed : (held : List ℕ) (n : ℕ) → n ≤ length held → ((k : ℕ) → k < n → slice_index held k ≢ 10) → HasNoFeed (take n held)
+searched-no_feed : (held : List ℕ) (n : ℕ)
+    → n ≤ length held → ((k : ℕ) → k < n → slice_index held k ≢ 10) → HasNoFeed (take n held)
 searched-no_feed held n within none =
     All-from_get_or (λ b. b ≢ 10) (take n held) 0
     (λ k h. let inside : k < n = omega (arith, h, length-take n held) in rw (get_or-take n held k 0) (none k inside))
 
--- the line's bytes, let go or held
+-- the line's bytes, discarded or held
 abbrev pub piece_at : List ℕ → List ℕ → ℕ → Bool → Piece
 piece_at front held len is_ended = record { bytes = front ++ take len held; is_ended = is_ended }
 
 -- where the line's end was found
 abbrev pub EndIs : List ℕ → ℕ → Bool → Type 0 → Type 0
-EndIs held len is_ended at_end = MatchBool is_ended ((len < length held) × (slice_index held len ≡ 10)) ((len ≡ length held) × at_end)
+EndIs held len is_ended at_end =
+    MatchBool is_ended ((len < length held) × (slice_index held len ≡ 10)) ((len ≡ length held) × at_end)
 
-module _ (gave : List ℕ → Type 0) (old held : List ℕ) (room taken passed len : ℕ) (at_end : Type 0) (s : Seeking gave old held room taken passed len) where
+module _ (gave : List ℕ → Type 0) (old held : List ℕ)
+    (room taken passed len : ℕ) (at_end : Type 0) (s : Seeking gave old held room taken passed len) where
   pub begins : (is_ended : Bool) → EndIs held len is_ended at_end → (0 < passed + len) ⊎ (is_ended ≡ true)
       → BeginsWith (old ++ s.given) at_end (piece_at s.front held len is_ended) (drop (len + cond is_ended 1 0) held)
   begins true end some = record {
-    cut = s.input ∙ ap (λ l. s.front ++ l) (sym (take-append-drop len held) ∙ ap (λ l. take len held ++ l) (drop_more held len 0 end.0 ∙ ap (λ b. b ∷ drop (len + 1) held) end.1))
+    cut = s.input ∙ ap (λ l. s.front ++ l) (sym (take-append-drop len held)
+        ∙ ap (λ l. take len held ++ l) (drop_more held len 0 end.0 ∙ ap (λ b. b ∷ drop (len + 1) held) end.1))
         ∙ sym (append_assoc s.front (take len held) (10 ∷ drop (len + 1) held));
-    no_feed = All-append (λ b. b ≢ 10) s.front (take len held) s.none_passed (searched-no_feed held len s.searched_within s.none_searched);
+    no_feed = All-append (λ b. b ≢ 10) s.front
+        (take len held) s.none_passed (searched-no_feed held len s.searched_within s.none_searched);
   }
   begins false end some =
       let whole : take len held ≡ held = take_all len held (omega (arith, end.0)) in
@@ -47,7 +55,8 @@ module _ (gave : List ℕ → Type 0) (old held : List ℕ) (room taken passed l
           omega (arith, length-append s.front (take len held), s.passed_is, ap length whole, end.0, long),
           end.1,
         );
-        no_feed = All-append (λ b. b ≢ 10) s.front (take len held) s.none_passed (searched-no_feed held len s.searched_within s.none_searched);
+        no_feed = All-append (λ b. b ≢ 10) s.front
+            (take len held) s.none_passed (searched-no_feed held len s.searched_within s.none_searched);
       }
 
   -- how many of the bytes that are held are the line's, with its LF
@@ -55,33 +64,39 @@ module _ (gave : List ℕ → Type 0) (old held : List ℕ) (room taken passed l
   ends-within true end = omega (arith, end.0)
   ends-within false end = omega (arith, end.0)
 
-  pub held-within : (is_ended : Bool) (n : ℕ) → EndIs held len is_ended at_end → n ≡ len + cond is_ended 1 0 → n ≤ length held
+  pub held-within : (is_ended : Bool) (n : ℕ)
+      → EndIs held len is_ended at_end → n ≡ len + cond is_ended 1 0 → n ≤ length held
   held-within is_ended n end e = omega (arith, ends-within is_ended end, e)
 
   -- a line has a byte
-  pub some-byte : (is_ended : Bool) (n : ℕ) → (0 < passed + len) ⊎ (is_ended ≡ true) → n ≡ len + cond is_ended 1 0 → 0 < passed + n
+  pub some-byte : (is_ended : Bool) (n : ℕ)
+      → (0 < passed + len) ⊎ (is_ended ≡ true) → n ≡ len + cond is_ended 1 0 → 0 < passed + n
   some-byte true n some e = omega (arith, e)
-  some-byte false n some e = let long : 0 < passed + len = ⊎_elim (λ h. h) (λ e. absurd (true≢false (sym e))) some in omega (arith, e, long)
+  some-byte false n some e = let long : 0 < passed + len = ⊎_elim (λ h. h) (λ e. absurd (true≢false (sym e))) some in
+      omega (arith, e, long)
 
   pub takes : (is_ended : Bool) → EndIs held len is_ended at_end → (0 < passed + len) ⊎ (is_ended ≡ true)
-      → (before after : Reading) (n : ℕ) → before.rest ≡ old → n ≡ len + cond is_ended 1 0 → after.rest ≡ drop n held
+      → (before after : ReaderState) (n : ℕ)
+      → before.rest ≡ old → n ≡ len + cond is_ended 1 0 → after.rest ≡ drop n held
       → after.lent ≡ before.lent + (passed + n) → before.lent + (length old + room) ≤ INPUT_LIMIT
       → after.number ≡ before.number + 1 → after.phase ≡ cond is_ended Open Ended
-      → Takes before s.given at_end (piece_at s.front held len is_ended) after
+      → TakesPiece before s.given at_end (piece_at s.front held len is_ended) after
   takes is_ended end some before after n rest count left lent limit number phase =
       let whole = Seeking-sum gave old held room taken passed len s in
       let within = held-within is_ended n end count in
-      let sum : after.lent + length after.rest ≡ before.lent + (length old + taken) = omega (arith, lent, ap length left, length-drop n held, whole, within) in
+      let sum : after.lent + length after.rest ≡ before.lent + (length old + taken) =
+      omega (arith, lent, ap length left, length-drop n held, whole, within) in
       record {
         first = subst (λ l. BeginsWith (l ++ s.given) at_end (piece_at s.front held len is_ended) after.rest) (sym rest)
-            (subst (λ l. BeginsWith (old ++ s.given) at_end (piece_at s.front held len is_ended) l) (sym (left ∙ ap (λ k. drop k held) count)) (begins is_ended end some));
+            (subst (λ l. BeginsWith (old ++ s.given) at_end (piece_at s.front held len is_ended) l)
+            (sym (left ∙ ap (λ k. drop k held) count)) (begins is_ended end some));
         lent = omega (arith, sum, ap length rest, length-append before.rest s.given, s.taken_is);
         within = omega (arith, sum, limit, s.within);
         number = number;
         phase = phase;
       }
 
-  -- where nothing was let go, the line stands in what is held
+  -- where nothing was discarded, the line stands in what is held
   pub whole-piece : passed ≡ 0 → s.front ++ take len held ≡ take len held
   whole-piece none = ap (λ l. l ++ take len held) (nil_from_length s.front (s.passed_is ∙ none))
 
@@ -92,7 +107,8 @@ module _ (gave : List ℕ → Type 0) (old held : List ℕ) (room taken passed l
       let size = length-append s.front (take len held) in
       lt-ltb LINE_LIMIT (length (without_return all)) (
       ⊎_elim
-      (λ some. ⊎_elim (λ none. absurd (omega (arith, some, none))) (λ far. omega (arith, far, s.passed_is, size, (length-without_return all).1)) s.far)
+      (λ some. ⊎_elim (λ none. absurd (omega (arith, some, none)))
+      (λ far. omega (arith, far, s.passed_is, size, (length-without_return all).1)) s.far)
       (λ long. ⊎_elim
       (λ none. omega (arith, long, ap length same, ap (λ l. length (without_return l)) (whole-piece none)))
       (λ far. omega (arith, far, s.passed_is, size, (length-without_return all).1)) s.far)
@@ -107,41 +123,52 @@ module _ (gave : List ℕ → Type 0) (old held : List ℕ) (room taken passed l
 -- no LF came within the limit, and a byte past it
 pub over-limit : (gave : List ℕ → Type 0) (old held : List ℕ) (room passed b lent : ℕ)
     → (s : Seeking gave old held room room passed (length held)) → lent + (length old + room) ≡ INPUT_LIMIT
-    → (INPUT_LIMIT < lent + length (old ++ (s.given ++ b ∷ []))) × HasNoFeed (take (INPUT_LIMIT - lent) (old ++ (s.given ++ b ∷ [])))
+    → (INPUT_LIMIT < lent + length (old ++ (s.given ++ b ∷ [])))
+    × HasNoFeed (take (INPUT_LIMIT - lent) (old ++ (s.given ++ b ∷ [])))
 over-limit gave old held room passed b lent s limit =
     let front = old ++ s.given in
     let whole : length front ≡ INPUT_LIMIT - lent = omega (arith, length-append old s.given, s.taken_is, limit) in
     let cut : take (INPUT_LIMIT - lent) (old ++ (s.given ++ b ∷ [])) ≡ s.front ++ held =
-    ap (take (INPUT_LIMIT - lent)) (sym (append_assoc old s.given (b ∷ []))) ∙ take_at front (b ∷ []) (INPUT_LIMIT - lent) whole ∙ s.input in (
+    ap (take (INPUT_LIMIT - lent)) (sym (append_assoc old s.given (b ∷ [])))
+    ∙ take_at front (b ∷ []) (INPUT_LIMIT - lent) whole ∙ s.input in (
       omega (arith, length-append old (s.given ++ b ∷ []), length-append s.given (b ∷ []), s.taken_is, limit),
       subst HasNoFeed (sym cut) (Seeking-none gave old held room room passed s),
     )
 
 -- the faults that end the reading, out of what the search found
 pub over-fault : (gave : List ℕ → Type 0) (old held : List ℕ) (room passed b : ℕ) (at_end : Type 0) (tally then : Tally)
-    → (s : Seeking gave old held room room passed (length held)) (before after : Reading) (at : At) (fault : Fault)
-    → fault ≡ InputTooLong → before.rest ≡ old → before.lent + (length old + room) ≡ INPUT_LIMIT → Stops before at after → then ≡ tally
-    → FaultIs before (s.given ++ b ∷ []) at_end tally then at fault after
+    → (s : Seeking gave old held room room passed (length held)) (before after : ReaderState) (at : At) (fault : Fault)
+    → fault ≡ InputTooLong → before.rest ≡ old
+    → before.lent + (length old + room) ≡ INPUT_LIMIT → Stops before at after → then ≡ tally
+    → AnswersFault before (s.given ++ b ∷ []) at_end tally then at fault after
 over-fault gave old held room passed b at_end tally then s before after at fault is rest limit stops well =
     let facts = over-limit gave old held room passed b before.lent s limit in
-    let P : List ℕ → Type 0 = λ l. (INPUT_LIMIT < before.lent + length (l ++ (s.given ++ b ∷ []))) × HasNoFeed (take (INPUT_LIMIT - before.lent) (l ++ (s.given ++ b ∷ []))) in
+    let P : List ℕ → Type 0 = λ l. (INPUT_LIMIT < before.lent + length (l ++ (s.given ++ b ∷ [])))
+    × HasNoFeed (take (INPUT_LIMIT - before.lent) (l ++ (s.given ++ b ∷ []))) in
     let there = subst P (sym rest) facts in
-    subst (λ f. FaultIs before (s.given ++ b ∷ []) at_end tally then at f after) (sym is) (there.0, there.1, stops, well)
+    subst (λ f. AnswersFault before (s.given ++ b ∷ []) at_end tally then at f after)
+    (sym is) (there.0, there.1, stops, well)
 
-pub read-fault : (gave : List ℕ → Type 0) (old held : List ℕ) (room taken passed : ℕ) (at_end : Type 0) (tally then : Tally)
-    → (s : Seeking gave old held room taken passed (length held)) (before after : Reading) (at : At) (fault : Fault)
-    → fault ≡ ReadFailed → before.rest ≡ old → before.lent + (length old + room) ≡ INPUT_LIMIT → Stops before at after → then ≡ with_failure tally
-    → FaultIs before s.given at_end tally then at fault after
+pub read-fault : (gave : List ℕ
+    → Type 0) (old held : List ℕ) (room taken passed : ℕ) (at_end : Type 0) (tally then : Tally)
+    → (s : Seeking gave old held room taken passed (length held)) (before after : ReaderState) (at : At) (fault : Fault)
+    → fault ≡ ReadFailed → before.rest ≡ old
+    → before.lent + (length old + room) ≡ INPUT_LIMIT → Stops before at after → then ≡ with_failure tally
+    → AnswersFault before s.given at_end tally then at fault after
 read-fault gave old held room taken passed at_end tally then s before after at fault is rest limit stops bad =
-    let none : HasNoFeed (before.rest ++ s.given) = subst HasNoFeed (sym (ap (λ l. l ++ s.given) rest ∙ s.input)) (Seeking-none gave old held room taken passed s) in
-    let within : before.lent + length (before.rest ++ s.given) ≤ INPUT_LIMIT = omega (arith, length-append before.rest s.given, ap length rest, s.taken_is, s.within, limit) in
-    subst (λ f. FaultIs before s.given at_end tally then at f after) (sym is) (within, none, stops, bad)
+    let none : HasNoFeed (before.rest ++ s.given) = subst HasNoFeed
+    (sym (ap (λ l. l ++ s.given) rest ∙ s.input)) (Seeking-none gave old held room taken passed s) in
+    let within : before.lent + length (before.rest ++ s.given) ≤ INPUT_LIMIT =
+    omega (arith, length-append before.rest s.given, ap length rest, s.taken_is, s.within, limit) in
+    subst (λ f. AnswersFault before s.given at_end tally then at f after) (sym is) (within, none, stops, bad)
 
 -- the first line is the one whose content stands in a part of the window
 pub shown-line : (front part content : List ℕ) (is_ended has_return is_plain : Bool) → front ++ part ≡ part
     → content ≡ without_return part → has_return ≡ ends_with_return part → is_plain ≡ (is_ended && not has_return)
-    → ◌≡◌ {A = InputLine} (record { content = content; is_plain = is_plain }) (line_of (record { bytes = front ++ part; is_ended = is_ended }))
+    → ◌≡◌ {A = InputLine} (record { content = content; is_plain = is_plain })
+    (line_of (record { bytes = front ++ part; is_ended = is_ended }))
 shown-line front part content is_ended has_return is_plain same is returns plain =
     let line : List ℕ → Bool → InputLine = λ c p. record { content = c; is_plain = p } in
     ap (λ c. line c is_plain) (is ∙ ap without_return (sym same))
-    ∙ ap (line (without_return (front ++ part))) (plain ∙ ap (λ r. is_ended && not r) (returns ∙ ap ends_with_return (sym same)))
+    ∙ ap (line (without_return (front ++ part))) (plain
+    ∙ ap (λ r. is_ended && not r) (returns ∙ ap ends_with_return (sym same)))

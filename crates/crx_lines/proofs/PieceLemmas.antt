@@ -1,10 +1,12 @@
 -- The pieces of an input, from its front.
-use Rattle.std.proofs.Common.{◌≡◌, ◌≢◌, ℕ, ◌<◌, Bool, true, false, cond, eqb, ◌⊎◌, inl, inr, List, [], ◌∷◌, ◌++◌, length, refl, sym, ap, ◌∙◌, subst, arith}
+use Rattle.std.proofs.Common.{◌≡◌, ◌≢◌, ℕ, ◌<◌, Bool, true, false, cond, eqb, ◌⊎◌, inl, inr, List, [], ◌∷◌, ◌++◌}
+use Rattle.std.proofs.Common.{length, refl, sym, ap, ◌∙◌, subst, arith}
 use Rattle.std.proofs.lemmas.List.Elements.{All-head, All-tail, All-cons}
 use Rattle.std.proofs.lemmas.Bool.{ne_eqb}
 use Rattle.std.proofs.lemmas.Bool.Decides.{eqb_tells}
-use Rattle.crx_lines.specs.Lines.{Piece, HasNoFeed, pieces_of, onto_first}
-use Rattle.crx_lines.specs.Seen.{ended}
+use Rattle.crx_lines.specs.meaning.Lines.{Piece, pieces_of, onto_first}
+use Rattle.crx_lines.specs.Reading.{HasNoFeed}
+use Rattle.crx_lines.specs.meaning.Seen.{ended_pieces}
 
 abbrev pub NoFeed : ℕ → Type 0
 NoFeed b = b ≢ 10
@@ -28,7 +30,7 @@ pieces-last (b ∷ c ∷ cs) none some =
     rw test (ap (onto_first b) (pieces-last (c ∷ cs) (All-tail NoFeed b (c ∷ cs) none) (omega arith)))
 
 -- without an LF no piece is ended
-pub ended-none : (bytes : List ℕ) → HasNoFeed bytes → ended (pieces_of bytes) ≡ []
+pub ended-none : (bytes : List ℕ) → HasNoFeed bytes → ended_pieces (pieces_of bytes) ≡ []
 ended-none [] none = refl
 ended-none (b ∷ bs) none = rw (pieces-last (b ∷ bs) none (omega arith)) refl
 
@@ -37,18 +39,21 @@ abbrev pub EachEnded : List Piece → Type 0
 EachEnded [] = Unit {0}
 EachEnded (p ∷ ps) = (p.is_ended ≡ true) × EachEnded ps
 
-pub ended-append : (ps qs : List Piece) → EachEnded ps → ended (ps ++ qs) ≡ ps ++ ended qs
+pub ended-append : (ps qs : List Piece) → EachEnded ps → ended_pieces (ps ++ qs) ≡ ps ++ ended_pieces qs
 ended-append [] qs all = refl
 ended-append (p ∷ ps) qs all =
-    ap (λ b. cond b (p ∷ ended (ps ++ qs)) []) all.0 ∙ ap (λ l. p ∷ l) (ended-append ps qs all.1)
+    ap (λ b. cond b (p ∷ ended_pieces (ps ++ qs)) []) all.0 ∙ ap (λ l. p ∷ l) (ended-append ps qs all.1)
 
--- the pieces of an input whose first bytes are given: those ended there, then those of a rest without LF and what comes after
+-- the pieces of an input whose first bytes are given: those ended there, then those of a rest without LF and what comes
+-- after
 abbrev pub Splits : (List ℕ → List Piece) → List Piece → Type 0
-Splits pieces before = (rest : List ℕ) × HasNoFeed rest × ((more : List ℕ) → pieces more ≡ before ++ pieces_of (rest ++ more))
+Splits pieces before = (rest : List ℕ)
+    × HasNoFeed rest × ((more : List ℕ) → pieces more ≡ before ++ pieces_of (rest ++ more))
 
 splits-onto : (b : ℕ) → b ≢ 10 → (F : List ℕ → List Piece) (bytes : List ℕ) (is_ended : Bool) (ps : List Piece)
-    → Splits F (ended (record { bytes = bytes; is_ended = is_ended } ∷ ps))
-    → Splits (λ more. onto_first b (F more)) (ended (onto_first b (record { bytes = bytes; is_ended = is_ended } ∷ ps)))
+    → Splits F (ended_pieces (record { bytes = bytes; is_ended = is_ended } ∷ ps))
+    → Splits (λ more. onto_first b (F more))
+    (ended_pieces (onto_first b (record { bytes = bytes; is_ended = is_ended } ∷ ps)))
 splits-onto b other F bytes true ps s = (s.0, s.1, λ more. ap (onto_first b) (s.2 more))
 splits-onto b other F bytes false ps s =
     let test = ne_eqb b 10 other in (
@@ -57,8 +62,8 @@ splits-onto b other F bytes false ps s =
       λ more. rw test (ap (onto_first b) (s.2 more)),
     )
 
-splits-other : (b : ℕ) → b ≢ 10 → (F : List ℕ → List Piece) (ps : List Piece) → Splits F (ended ps)
-    → Splits (λ more. onto_first b (F more)) (ended (onto_first b ps))
+splits-other : (b : ℕ) → b ≢ 10 → (F : List ℕ → List Piece) (ps : List Piece) → Splits F (ended_pieces ps)
+    → Splits (λ more. onto_first b (F more)) (ended_pieces (onto_first b ps))
 splits-other b other F [] s =
     let test = ne_eqb b 10 other in (
       b ∷ s.0,
@@ -67,16 +72,20 @@ splits-other b other F [] s =
     )
 splits-other b other F (p ∷ ps) s = splits-onto b other F p.bytes p.is_ended ps s
 
-by-byte : (b : ℕ) (bs : List ℕ) → Splits (λ more. pieces_of (bs ++ more)) (ended (pieces_of bs))
+by-byte : (b : ℕ) (bs : List ℕ) → Splits (λ more. pieces_of (bs ++ more)) (ended_pieces (pieces_of bs))
     → ((eqb b 10 ≡ true) × (b ≡ 10)) ⊎ ((eqb b 10 ≡ false) × (b ≢ 10))
-    → Splits (λ more. pieces_of ((b ∷ bs) ++ more)) (ended (pieces_of (b ∷ bs)))
+    → Splits (λ more. pieces_of ((b ∷ bs) ++ more)) (ended_pieces (pieces_of (b ∷ bs)))
 by-byte b bs s (inl is) =
-    let P : Bool → Type 0 = λ t. Splits (λ more. cond t (record { bytes = []; is_ended = true } ∷ pieces_of (bs ++ more)) (onto_first b (pieces_of (bs ++ more)))) (ended (cond t (record { bytes = []; is_ended = true } ∷ pieces_of bs) (onto_first b (pieces_of bs)))) in
+    let P : Bool → Type 0 = λ t. Splits (λ more. cond t
+    (record { bytes = []; is_ended = true } ∷ pieces_of (bs ++ more)) (onto_first b (pieces_of (bs ++ more))))
+    (ended_pieces (cond t (record { bytes = []; is_ended = true } ∷ pieces_of bs) (onto_first b (pieces_of bs)))) in
     subst P (sym is.0) (s.0, s.1, λ more. ap (λ l. record { bytes = []; is_ended = true } ∷ l) (s.2 more))
 by-byte b bs s (inr is) =
-    let P : Bool → Type 0 = λ t. Splits (λ more. cond t (record { bytes = []; is_ended = true } ∷ pieces_of (bs ++ more)) (onto_first b (pieces_of (bs ++ more)))) (ended (cond t (record { bytes = []; is_ended = true } ∷ pieces_of bs) (onto_first b (pieces_of bs)))) in
+    let P : Bool → Type 0 = λ t. Splits (λ more. cond t
+    (record { bytes = []; is_ended = true } ∷ pieces_of (bs ++ more)) (onto_first b (pieces_of (bs ++ more))))
+    (ended_pieces (cond t (record { bytes = []; is_ended = true } ∷ pieces_of bs) (onto_first b (pieces_of bs)))) in
     subst P (sym is.0) (splits-other b is.1 (λ more. pieces_of (bs ++ more)) (pieces_of bs) s)
 
-pub pieces-split : (given : List ℕ) → Splits (λ more. pieces_of (given ++ more)) (ended (pieces_of given))
+pub pieces-split : (given : List ℕ) → Splits (λ more. pieces_of (given ++ more)) (ended_pieces (pieces_of given))
 pieces-split [] = ([], λ k d h. absurd (omega (arith, h)), λ more. refl)
 pieces-split (b ∷ bs) = by-byte b bs (pieces-split bs) (eqb_tells b 10)

@@ -1,11 +1,15 @@
 -- From one answer of a reader of lines to the next: the lines so far, and the bytes that were given.
-use Rattle.std.proofs.Common.{◌≡◌, ◌≢◌, ◌⊎◌, ⊎_elim, inl, inr, ℕ, ◌+◌, ◌-◌, ◌<◌, ◌≤◌, Bool, true, false, Option, Some, None, Result, Ok, Err, List, [], ◌∷◌, ◌++◌, length, take, map, refl, sym, ap, ◌∙◌, subst, arith, append-nil, append_assoc, length-append}
+use Rattle.std.proofs.Common.{◌≡◌, ◌≢◌, ◌⊎◌, ⊎_elim, inl, inr, ℕ, ◌+◌, ◌-◌, ◌<◌, ◌≤◌, Bool, true, false, Option, Some}
+use Rattle.std.proofs.Common.{None, Result, Ok, Err, List, [], ◌∷◌, ◌++◌, length, take, map, refl, sym, ap, ◌∙◌, subst}
+use Rattle.std.proofs.Common.{arith, append-nil, append_assoc, length-append}
 use Rattle.std.proofs.lemmas.List.{length_push, map-append, take_all}
 use Rattle.std.proofs.Math.Seq.{take-append-add}
-use Rattle.crx_lines.specs.Devices.{one_more, Tally, with_failure, with_end, tally_after_line}
-use Rattle.crx_lines.specs.Lines.{InputLine, Piece, HasNoFeed, pieces_of, lines_of, line_of}
-use Rattle.crx_lines.specs.Seen.{ended, ended_lines_of}
-use Rattle.crx_lines.specs.Reading.{Reading, Takes, Answers, FaultIs, line_shown, line_number}
+use Rattle.crx_lines.specs.meaning.Devices.{one_more, Tally, with_failure}
+use Rattle.crx_lines.specs.Devices.{with_end, tally_after_line}
+use Rattle.crx_lines.specs.meaning.Lines.{InputLine, Piece, pieces_of, lines_of, line_of}
+use Rattle.crx_lines.specs.Reading.{HasNoFeed, ReaderState, TakesPiece, ReaderAnswers, AnswersFault, line_shown}
+use Rattle.crx_lines.specs.Reading.{line_number}
+use Rattle.crx_lines.specs.meaning.Seen.{ended_pieces, ended_lines_of}
 use Rattle.crx_lines.specs.Progress.{IsOpen, IsOver, IsStopped, StandsAt, HasRead, IsOneMore, AtFault, AtAnswer}
 use Rattle.crx_lines.specs.declared.limits.TheConstants.{INPUT_LIMIT}
 use Rattle.crx_lines.specs.declared.fault.At.{At}
@@ -23,14 +27,17 @@ abbrev last_piece : List ℕ → Piece
 last_piece bytes = record { bytes = bytes; is_ended = false }
 
 -- the lines of an input that begins with a piece and its LF
-pub lines-first : (piece rest : List ℕ) → HasNoFeed piece → lines_of (piece ++ 10 ∷ rest) ≡ line_of (ended_piece piece) ∷ lines_of rest
+pub lines-first : (piece rest : List ℕ)
+    → HasNoFeed piece → lines_of (piece ++ 10 ∷ rest) ≡ line_of (ended_piece piece) ∷ lines_of rest
 lines-first piece rest none = ap (map line_of) (pieces-first piece rest none)
 
-pub ended_lines-first : (piece rest : List ℕ) → HasNoFeed piece → ended_lines_of (piece ++ 10 ∷ rest) ≡ line_of (ended_piece piece) ∷ ended_lines_of rest
-ended_lines-first piece rest none = ap (λ ps. map line_of (ended ps)) (pieces-first piece rest none)
+pub ended_lines-first : (piece rest : List ℕ)
+    → HasNoFeed piece → ended_lines_of (piece ++ 10 ∷ rest) ≡ line_of (ended_piece piece) ∷ ended_lines_of rest
+ended_lines-first piece rest none = ap (λ ps. map line_of (ended_pieces ps)) (pieces-first piece rest none)
 
 -- an input that no LF ends
-pub lines-last : (piece : List ℕ) → HasNoFeed piece → 0 < length piece → lines_of piece ≡ line_of (last_piece piece) ∷ []
+pub lines-last : (piece : List ℕ)
+    → HasNoFeed piece → 0 < length piece → lines_of piece ≡ line_of (last_piece piece) ∷ []
 lines-last piece none some = ap (map line_of) (pieces-last piece none some)
 
 pub ended_lines-none : (bytes : List ℕ) → HasNoFeed bytes → ended_lines_of bytes ≡ []
@@ -55,45 +62,56 @@ HasRead-start gave at_end start lead = record {
 }
 
 -- a step over an ended piece, for the lines of an input or those whose LF is there
-over-piece : (F : List ℕ → List InputLine) (line : InputLine) (given more old_rest bytes rest x : List ℕ) (lines : List InputLine)
+over-piece : (F : List ℕ → List InputLine)
+    (line : InputLine) (given more old_rest bytes rest x : List ℕ) (lines : List InputLine)
     → ((y : List ℕ) → F (given ++ y) ≡ lines ++ F (old_rest ++ y)) → old_rest ++ more ≡ bytes ++ 10 ∷ rest
     → F (bytes ++ 10 ∷ (rest ++ x)) ≡ line ∷ F (rest ++ x)
     → F ((given ++ more) ++ x) ≡ (lines ++ line ∷ []) ++ F (rest ++ x)
 over-piece F line given more old_rest bytes rest x lines so-far cut first =
     ap F (append_assoc given more x) ∙ so-far (more ++ x)
-    ∙ ap (λ l. lines ++ F l) (sym (append_assoc old_rest more x) ∙ ap (λ l. l ++ x) cut ∙ append_assoc bytes (10 ∷ rest) x)
+    ∙ ap (λ l. lines ++ F l) (sym (append_assoc old_rest more x)
+    ∙ ap (λ l. l ++ x) cut ∙ append_assoc bytes (10 ∷ rest) x)
     ∙ ap (λ l. lines ++ l) first ∙ sym (append_assoc lines (line ∷ []) (F (rest ++ x)))
 
-module _ (at_end : Type 0) (start counted counted' : Tally) (given more : List ℕ) (old new : Reading) (lines : List InputLine) (o : IsOpen start counted given old lines) where
+module _ (at_end : Type 0) (start counted counted' : Tally) (given more : List ℕ)
+    (old new : ReaderState) (lines : List InputLine) (o : IsOpen start counted given old lines) where
   -- a line was taken
-  line-ended : (bytes : List ℕ) → Takes old more at_end (ended_piece bytes) new → counted' ≡ counted
+  line-ended : (bytes : List ℕ) → TakesPiece old more at_end (ended_piece bytes) new → counted' ≡ counted
       → IsOpen start counted' (given ++ more) new (lines ++ line_of (ended_piece bytes) ∷ [])
   line-ended bytes t same = record {
     bytes = omega (arith, length-append given more, length-append old.rest more, t.lent, o.bytes);
     within = omega (arith, length-append given more, length-append old.rest more, t.lent, o.bytes, t.within);
-    first = λ x. over-piece lines_of (line_of (ended_piece bytes)) given more old.rest bytes new.rest x lines o.first t.first.cut (lines-first bytes (new.rest ++ x) t.first.no_feed);
-    ended = λ x. over-piece ended_lines_of (line_of (ended_piece bytes)) given more old.rest bytes new.rest x lines o.ended t.first.cut (ended_lines-first bytes (new.rest ++ x) t.first.no_feed);
+    first = λ x. over-piece lines_of (line_of (ended_piece bytes)) given
+        more old.rest bytes new.rest x lines o.first t.first.cut (lines-first bytes (new.rest ++ x) t.first.no_feed);
+    ended = λ x. over-piece ended_lines_of (line_of (ended_piece bytes)) given more
+        old.rest bytes new.rest x lines o.ended t.first.cut (ended_lines-first bytes (new.rest ++ x) t.first.no_feed);
     counts = same ∙ o.counts;
   }
 
-  line-last : (bytes : List ℕ) → Takes old more at_end (last_piece bytes) new → counted' ≡ with_end counted
+  line-last : (bytes : List ℕ) → TakesPiece old more at_end (last_piece bytes) new → counted' ≡ with_end counted
       → IsOver at_end start counted' (given ++ more) (lines ++ line_of (last_piece bytes) ∷ [])
   line-last bytes t same = record {
     reported = t.first.cut.3;
     within = omega (arith, length-append given more, length-append old.rest more, t.lent, o.bytes, t.within);
-    all = sym (o.first more ∙ ap (λ l. lines ++ lines_of l) t.first.cut.0 ∙ ap (λ l. lines ++ l) (lines-last bytes t.first.no_feed t.first.cut.2));
+    all = sym (o.first more ∙ ap (λ l. lines ++ lines_of l) t.first.cut.0
+        ∙ ap (λ l. lines ++ l) (lines-last bytes t.first.no_feed t.first.cut.2));
     counts = same ∙ ap with_end o.counts;
   }
 
-  line-stands : (bytes : List ℕ) (is_ended : Bool) → Takes old more at_end (record { bytes = bytes; is_ended = is_ended }) new
+  line-stands : (bytes : List ℕ) (is_ended : Bool)
+      → TakesPiece old more at_end (record { bytes = bytes; is_ended = is_ended }) new
       → counted' ≡ tally_after_line is_ended counted
-      → StandsAt new.phase at_end start counted' (given ++ more) new (lines ++ line_of (record { bytes = bytes; is_ended = is_ended }) ∷ [])
+      → StandsAt new.phase at_end start counted'
+      (given ++ more) new (lines ++ line_of (record { bytes = bytes; is_ended = is_ended }) ∷ [])
   line-stands bytes true t same =
-      subst (λ f. StandsAt f at_end start counted' (given ++ more) new (lines ++ line_of (ended_piece bytes) ∷ [])) (sym t.phase) (line-ended bytes t same)
+      subst (λ f. StandsAt f at_end start counted' (given ++ more) new (lines ++ line_of (ended_piece bytes) ∷ []))
+      (sym t.phase) (line-ended bytes t same)
   line-stands bytes false t same =
-      subst (λ f. StandsAt f at_end start counted' (given ++ more) new (lines ++ line_of (last_piece bytes) ∷ [])) (sym t.phase) (line-last bytes t same)
+      subst (λ f. StandsAt f at_end start counted' (given ++ more) new (lines ++ line_of (last_piece bytes) ∷ []))
+      (sym t.phase) (line-last bytes t same)
 
-  none-over : old.rest ++ more ≡ [] → at_end → counted' ≡ with_end counted → IsOver at_end start counted' (given ++ more) lines
+  none-over : old.rest ++ more ≡ []
+      → at_end → counted' ≡ with_end counted → IsOver at_end start counted' (given ++ more) lines
   none-over none reported same = record {
     reported = reported;
     within = omega (arith, length-append given more, length-append old.rest more, ap length none, o.within);
@@ -106,7 +124,8 @@ module _ (at_end : Type 0) (start counted counted' : Tally) (given more : List �
   ended-so-far front none =
       sym (o.ended front ∙ ap (λ l. lines ++ l) (ended_lines-none (old.rest ++ front) none) ∙ append-nil lines)
 
-  failed-stops : old.lent + length (old.rest ++ more) ≤ INPUT_LIMIT → HasNoFeed (old.rest ++ more) → counted' ≡ with_failure counted
+  failed-stops : old.lent + length (old.rest ++ more) ≤ INPUT_LIMIT
+      → HasNoFeed (old.rest ++ more) → counted' ≡ with_failure counted
       → IsStopped ReadFailed start counted' (given ++ more) lines
   failed-stops within none same = (
     omega (arith, within, length-append given more, length-append old.rest more, o.bytes),
@@ -114,29 +133,37 @@ module _ (at_end : Type 0) (start counted counted' : Tally) (given more : List �
     same ∙ ap with_failure o.counts,
   )
 
-  over-stops : INPUT_LIMIT < old.lent + length (old.rest ++ more) → HasNoFeed (take (INPUT_LIMIT - old.lent) (old.rest ++ more)) → counted' ≡ counted
+  over-stops : INPUT_LIMIT < old.lent + length (old.rest ++ more)
+      → HasNoFeed (take (INPUT_LIMIT - old.lent) (old.rest ++ more)) → counted' ≡ counted
       → IsStopped InputTooLong start counted' (given ++ more) lines
   over-stops over none same =
       let room = INPUT_LIMIT - length given in
-      let first : take (INPUT_LIMIT - old.lent) (old.rest ++ more) ≡ old.rest ++ take room more = take-past old.rest more (INPUT_LIMIT - old.lent) room (omega (arith, o.bytes, o.within)) in
-      let whole : take INPUT_LIMIT (given ++ more) ≡ given ++ take room more = take-past given more INPUT_LIMIT room (omega (arith, o.within)) in (
+      let first : take (INPUT_LIMIT - old.lent) (old.rest ++ more) ≡ old.rest ++ take room more =
+      take-past old.rest more (INPUT_LIMIT - old.lent) room (omega (arith, o.bytes, o.within)) in
+      let whole : take INPUT_LIMIT (given ++ more) ≡ given ++ take room more =
+      take-past given more INPUT_LIMIT room (omega (arith, o.within)) in (
         omega (arith, over, length-append given more, length-append old.rest more, o.bytes),
         ended-so-far (take room more) (subst HasNoFeed first none) ∙ ap ended_lines_of (sym whole),
         same ∙ o.counts,
       )
 
 -- a line has a byte
-lent-more : (old new : Reading) (given : List ℕ) (at_end : Type 0) (bytes : List ℕ) (is_ended : Bool)
-    → Takes old given at_end (record { bytes = bytes; is_ended = is_ended }) new → old.lent < new.lent
-lent-more old new given at_end bytes true t = omega (arith, t.lent, ap length t.first.cut, length-append bytes (10 ∷ new.rest))
-lent-more old new given at_end bytes false t = omega (arith, t.lent, ap length t.first.cut.0, ap length t.first.cut.1, t.first.cut.2)
+lent-more : (old new : ReaderState) (given : List ℕ) (at_end : Type 0) (bytes : List ℕ) (is_ended : Bool)
+    → TakesPiece old given at_end (record { bytes = bytes; is_ended = is_ended }) new → old.lent < new.lent
+lent-more old new given at_end bytes true t =
+    omega (arith, t.lent, ap length t.first.cut, length-append bytes (10 ∷ new.rest))
+lent-more old new given at_end bytes false t =
+    omega (arith, t.lent, ap length t.first.cut.0, ap length t.first.cut.1, t.first.cut.2)
 
-module _ (gave gives step : List ℕ → Type 0) (at_end at_end' : Type 0) (start counted counted' : Tally) (old new : Reading) (lines : List InputLine)
-    (h : HasRead gave at_end start counted old lines) (goes : (given more : List ℕ) → gave given → step more → gives (given ++ more)) where
+module _ (gave gives step : List ℕ → Type 0)
+    (at_end at_end' : Type 0) (start counted counted' : Tally) (old new : ReaderState) (lines : List InputLine)
+    (h : HasRead gave at_end start counted old lines) (goes : (given more : List ℕ)
+    → gave given → step more → gives (given ++ more)) where
   is-open : old.phase ≡ Open → IsOpen start counted h.given old lines
   is-open e = subst (λ f. StandsAt f at_end start counted h.given old lines) e h.stands
 
-  one-more : (more : List ℕ) (p : Piece) (line : InputLine) (number : ℕ) → Takes old more at_end' p new → line ≡ line_of p → number ≡ new.number
+  one-more : (more : List ℕ) (p : Piece) (line : InputLine) (number : ℕ)
+      → TakesPiece old more at_end' p new → line ≡ line_of p → number ≡ new.number
       → IsOneMore old new lines (lines ++ line_of p ∷ []) line number
   one-more more p line number t shown numbered = record {
     lines_are = ap (λ l. lines ++ l ∷ []) (sym shown);
@@ -145,25 +172,30 @@ module _ (gave gives step : List ℕ → Type 0) (at_end at_end' : Type 0) (star
     within = omega (arith, t.within);
   }
 
-  read-line : old.phase ≡ Open → (more : List ℕ) → step more → (p : Piece) → Takes old more at_end' p new → counted' ≡ tally_after_line p.is_ended counted
+  read-line : old.phase ≡ Open → (more : List ℕ)
+      → step more → (p : Piece) → TakesPiece old more at_end' p new → counted' ≡ tally_after_line p.is_ended counted
       → HasRead gives at_end' start counted' new (lines ++ line_of p ∷ [])
   read-line e more lead p t same = record {
     given = h.given ++ more;
     lead = goes h.given more h.lead lead;
     number = omega (arith, t.number, h.number, length_push lines (line_of p));
-    stands = line-stands at_end' start counted counted' h.given more old new lines (is-open e) p.bytes p.is_ended t same;
+    stands = line-stands at_end' start counted counted' h.given more old new lines
+        (is-open e) p.bytes p.is_ended t same;
   }
 
-  read-stop : (more : List ℕ) → step more → (at : At) → at.line ≡ old.number + 1 → new.number ≡ old.number → new.phase ≡ Stopped at
+  read-stop : (more : List ℕ) → step more
+      → (at : At) → at.line ≡ old.number + 1 → new.number ≡ old.number → new.phase ≡ Stopped at
       → IsStopped at.fault start counted' (h.given ++ more) lines → HasRead gives at_end' start counted' new lines
   read-stop more lead at line number phase stopped = record {
     given = h.given ++ more;
     lead = goes h.given more h.lead lead;
     number = number ∙ h.number;
-    stands = subst (λ f. StandsAt f at_end' start counted' (h.given ++ more) new lines) (sym phase) (stopped, omega (arith, line, h.number));
+    stands = subst (λ f. StandsAt f at_end' start counted' (h.given ++ more) new lines)
+        (sym phase) (stopped, omega (arith, line, h.number));
   }
 
-  at-fault : (f : Fault) (at : At) → at.fault ≡ f → old.phase ≡ Open → (more : List ℕ) → step more → FaultIs old more at_end' counted counted' at f new
+  at-fault : (f : Fault) (at : At) → at.fault ≡ f
+      → old.phase ≡ Open → (more : List ℕ) → step more → AnswersFault old more at_end' counted counted' at f new
       → (then : List InputLine) × AtFault f at old new lines then × HasRead gives at_end' start counted' new then
   at-fault LineTooLong at is e more lead a = (
     lines ++ line_of a.0 ∷ [],
@@ -174,18 +206,21 @@ module _ (gave gives step : List ℕ → Type 0) (at_end at_end' : Type 0) (star
       let stopped = over-stops at_end' start counted counted' h.given more old new lines (is-open e) a.0 a.1 a.3 in (
         lines,
         (refl, a.2.phase),
-        read-stop more lead at a.2.line a.2.number a.2.phase (subst (λ g. IsStopped g start counted' (h.given ++ more) lines) (sym is) stopped),
+        read-stop more lead at a.2.line a.2.number a.2.phase
+            (subst (λ g. IsStopped g start counted' (h.given ++ more) lines) (sym is) stopped),
       )
   at-fault ReadFailed at is e more lead a =
       let stopped = failed-stops at_end' start counted counted' h.given more old new lines (is-open e) a.0 a.1 a.3 in (
         lines,
         (refl, a.2.phase),
-        read-stop more lead at a.2.line a.2.number a.2.phase (subst (λ g. IsStopped g start counted' (h.given ++ more) lines) (sym is) stopped),
+        read-stop more lead at a.2.line a.2.number a.2.phase
+            (subst (λ g. IsStopped g start counted' (h.given ++ more) lines) (sym is) stopped),
       )
   at-fault _ at is e more lead a = absurd a
 
   -- an answer where lines may come
-  pub HasRead-next : old.phase ≡ Open → (more : List ℕ) → step more → (r : Result (Option Line) At) → Answers old more at_end' counted counted' r new
+  pub HasRead-next : old.phase ≡ Open → (more : List ℕ)
+      → step more → (r : Result (Option Line) At) → ReaderAnswers old more at_end' counted counted' r new
       → (then : List InputLine) × AtAnswer r old new lines then × HasRead gives at_end' start counted' new then
   HasRead-next e more lead (Ok (Some line)) a = (
     lines ++ line_of a.0 ∷ [],
@@ -193,14 +228,15 @@ module _ (gave gives step : List ℕ → Type 0) (at_end at_end' : Type 0) (star
     read-line e more lead a.0 a.1 a.4,
   )
   HasRead-next e more lead (Ok None) a =
-      let phase = ap (λ (r : Reading). r.phase) a.2 in (
+      let phase = ap (λ (r : ReaderState). r.phase) a.2 in (
         lines,
         (refl, phase),
         record {
           given = h.given ++ more;
           lead = goes h.given more h.lead lead;
-          number = ap (λ (r : Reading). r.number) a.2 ∙ h.number;
-          stands = subst (λ f. StandsAt f at_end' start counted' (h.given ++ more) new lines) (sym phase) (none-over at_end' start counted counted' h.given more old new lines (is-open e) a.0 a.1 a.3);
+          number = ap (λ (r : ReaderState). r.number) a.2 ∙ h.number;
+          stands = subst (λ f. StandsAt f at_end' start counted' (h.given ++ more) new lines)
+              (sym phase) (none-over at_end' start counted counted' h.given more old new lines (is-open e) a.0 a.1 a.3);
         },
       )
   HasRead-next e more lead (Err at) a = at-fault at.fault at refl e more lead a
@@ -209,26 +245,37 @@ module _ (gave gives step : List ℕ → Type 0) (at_end at_end' : Type 0) (star
 pub ended_lines-come_first : (given : List ℕ) → (rest : List ℕ) × HasNoFeed rest
     × ((more : List ℕ) → lines_of (given ++ more) ≡ ended_lines_of given ++ lines_of (rest ++ more))
 ended_lines-come_first given =
-    let s = pieces-split given in
-    (s.0, s.1, λ more. ap (map line_of) (s.2 more) ∙ map-append line_of (ended (pieces_of given)) (pieces_of (s.0 ++ more)))
+    let s = pieces-split given in (
+      s.0,
+      s.1,
+      λ more. ap (map line_of) (s.2 more)
+          ∙ map-append line_of (ended_pieces (pieces_of given)) (pieces_of (s.0 ++ more)),
+    )
 
 -- what stands at the end, and at a fault
-module _ (gave : List ℕ → Type 0) (at_end : Type 0) (start counted : Tally) (now : Reading) (lines : List InputLine) (h : HasRead gave at_end start counted now lines) where
+module _ (gave : List ℕ → Type 0) (at_end : Type 0) (start counted : Tally)
+    (now : ReaderState) (lines : List InputLine) (h : HasRead gave at_end start counted now lines) where
   pub HasRead-ended : now.phase ≡ Ended → IsOver at_end start counted h.given lines
   HasRead-ended e = subst (λ f. StandsAt f at_end start counted h.given now lines) e h.stands
 
-  pub HasRead-stopped : (at : At) → now.phase ≡ Stopped at → IsStopped at.fault start counted h.given lines × (at.line ≡ length lines + 1)
+  pub HasRead-stopped : (at : At)
+      → now.phase ≡ Stopped at → IsStopped at.fault start counted h.given lines × (at.line ≡ length lines + 1)
   HasRead-stopped at e = subst (λ f. StandsAt f at_end start counted h.given now lines) e h.stands
 
 -- either way the lines are those whose LF is within the limit
-pub stopped-cases : (f : Fault) (start counted : Tally) (given : List ℕ) (lines : List InputLine) → IsStopped f start counted given lines
+pub stopped-cases : (f : Fault) (start counted : Tally) (given : List ℕ) (lines : List InputLine)
+    → IsStopped f start counted given lines
     → (counted.ends ≡ start.ends) × (lines ≡ ended_lines_of (take INPUT_LIMIT given))
     × (((f ≡ InputTooLong) × (INPUT_LIMIT < length given) × (counted.failures ≡ start.failures))
     ⊎ ((f ≡ ReadFailed) × (length given ≤ INPUT_LIMIT) × (counted.failures ≡ one_more start.failures)))
 stopped-cases InputTooLong start counted given lines s =
     (ap (λ (t : Tally). t.ends) s.2, s.1, inl (refl, s.0, ap (λ (t : Tally). t.failures) s.2))
-stopped-cases ReadFailed start counted given lines s =
-    (ap (λ (t : Tally). t.ends) s.2, s.1 ∙ ap ended_lines_of (sym (take_all INPUT_LIMIT given s.0)), inr (refl, s.0, ap (λ (t : Tally). t.failures) s.2))
+stopped-cases ReadFailed start counted given lines s = (
+  ap (λ (t : Tally). t.ends) s.2,
+  s.1
+      ∙ ap ended_lines_of (sym (take_all INPUT_LIMIT given s.0)),
+  inr (refl, s.0, ap (λ (t : Tally). t.failures) s.2),
+)
 stopped-cases _ start counted given lines s = absurd s
 
 phase-cases : (f : Phase) → (f ≡ Open) ⊎ ((f ≡ Ended) ⊎ ((at : At) × (f ≡ Stopped at)))
@@ -243,21 +290,26 @@ stopped-not-open : (f : Phase) (at : At) → f ≡ Stopped at → f ≢ Open
 stopped-not-open f at is other = cc
 
 -- a fault that stopped the reading is answered again
-stopped-again : (f : Fault) (at : At) (start counted : Tally) (given : List ℕ) (old new : Reading) (lines : List InputLine)
+stopped-again : (f : Fault) (at : At)
+    (start counted : Tally) (given : List ℕ) (old new : ReaderState) (lines : List InputLine)
     → IsStopped f start counted given lines → new.phase ≡ Stopped at → AtFault f at old new lines lines
 stopped-again InputTooLong at start counted given old new lines s e = (refl, e)
 stopped-again ReadFailed at start counted given old new lines s e = (refl, e)
 stopped-again _ at start counted given old new lines s e = absurd s
 
 -- one call, whatever the phase: after the end and after a fault nothing changes, and the answer is repeated
-module _ (gave gives step : List ℕ → Type 0) (at_end at_end' : Type 0) (start counted counted' : Tally) (old new : Reading) (lines : List InputLine)
-    (h : HasRead gave at_end start counted old lines) (goes : (given more : List ℕ) → gave given → step more → gives (given ++ more))
-    (r : Result (Option Line) At) (still : old.phase ≢ Open → (new ≡ old) × ((given : List ℕ) → gave given → gives given) × (at_end → at_end') × (counted' ≡ counted)) where
-  still-ended : old.phase ≡ Ended → r ≡ Ok None → (then : List InputLine) × AtAnswer r old new lines then × HasRead gives at_end' start counted' new then
+module _ (gave gives step : List ℕ → Type 0)
+    (at_end at_end' : Type 0) (start counted counted' : Tally) (old new : ReaderState) (lines : List InputLine)
+    (h : HasRead gave at_end start counted old lines) (goes : (given more : List ℕ)
+    → gave given → step more → gives (given ++ more))
+    (r : Result (Option Line) At) (still : old.phase ≢ Open
+    → (new ≡ old) × ((given : List ℕ) → gave given → gives given) × (at_end → at_end') × (counted' ≡ counted)) where
+  still-ended : old.phase ≡ Ended → r ≡ Ok None
+      → (then : List InputLine) × AtAnswer r old new lines then × HasRead gives at_end' start counted' new then
   still-ended e is =
       let same = still (ended-not-open old.phase e) in
       let over = HasRead-ended gave at_end start counted old lines h e in
-      let phase : new.phase ≡ Ended = ap (λ (x : Reading). x.phase) same.0 ∙ e in
+      let phase : new.phase ≡ Ended = ap (λ (x : ReaderState). x.phase) same.0 ∙ e in
       let now : IsOver at_end' start counted' h.given lines = record {
         reported = same.2 over.reported;
         within = over.within;
@@ -269,32 +321,36 @@ module _ (gave gives step : List ℕ → Type 0) (at_end at_end' : Type 0) (star
         record {
           given = h.given;
           lead = same.1 h.given h.lead;
-          number = ap (λ (x : Reading). x.number) same.0 ∙ h.number;
+          number = ap (λ (x : ReaderState). x.number) same.0 ∙ h.number;
           stands = subst (λ f. StandsAt f at_end' start counted' h.given new lines) (sym phase) now;
         },
       )
 
-  still-stopped : (at : At) → old.phase ≡ Stopped at → r ≡ Err at → (then : List InputLine) × AtAnswer r old new lines then × HasRead gives at_end' start counted' new then
+  still-stopped : (at : At) → old.phase ≡ Stopped at → r ≡ Err at → (then : List InputLine)
+      × AtAnswer r old new lines then × HasRead gives at_end' start counted' new then
   still-stopped at e is =
       let same = still (stopped-not-open old.phase at e) in
       let stopped = HasRead-stopped gave at_end start counted old lines h at e in
-      let phase : new.phase ≡ Stopped at = ap (λ (x : Reading). x.phase) same.0 ∙ e in
+      let phase : new.phase ≡ Stopped at = ap (λ (x : ReaderState). x.phase) same.0 ∙ e in
       let now = subst (λ t. IsStopped at.fault start t h.given lines) (sym same.3) stopped.0 in (
         lines,
-        subst (λ a. AtAnswer a old new lines lines) (sym is) (stopped-again at.fault at start counted h.given old new lines stopped.0 phase),
+        subst (λ a. AtAnswer a old new lines lines)
+            (sym is) (stopped-again at.fault at start counted h.given old new lines stopped.0 phase),
         record {
           given = h.given;
           lead = same.1 h.given h.lead;
-          number = ap (λ (x : Reading). x.number) same.0 ∙ h.number;
+          number = ap (λ (x : ReaderState). x.number) same.0 ∙ h.number;
           stands = subst (λ f. StandsAt f at_end' start counted' h.given new lines) (sym phase) (now, stopped.1);
         },
       )
 
-  pub HasRead-call : (old.phase ≡ Open → (more : List ℕ) × step more × Answers old more at_end' counted counted' r new)
+  pub HasRead-call : (old.phase ≡ Open
+      → (more : List ℕ) × step more × ReaderAnswers old more at_end' counted counted' r new)
       → (old.phase ≡ Ended → r ≡ Ok None) → ((at : At) → old.phase ≡ Stopped at → r ≡ Err at)
       → (then : List InputLine) × AtAnswer r old new lines then × HasRead gives at_end' start counted' new then
   HasRead-call at-open at-ended at-stopped =
       ⊎_elim
-      (λ e. let a = at-open e in HasRead-next gave gives step at_end at_end' start counted counted' old new lines h goes e a.0 a.1 r a.2)
+      (λ e. let a = at-open e in
+      HasRead-next gave gives step at_end at_end' start counted counted' old new lines h goes e a.0 a.1 r a.2)
       (λ other. ⊎_elim (λ e. still-ended e (at-ended e)) (λ s. still-stopped s.0 s.1 (at-stopped s.0 s.1)) other)
       (phase-cases old.phase)

@@ -1,10 +1,11 @@
 -- The search for the end of a line, step by step.
-use Rattle.std.proofs.Common.{◌≡◌, ◌≢◌, ℕ, ◌+◌, ◌<◌, ◌≤◌, List, [], ◌++◌, ◌⊎◌, length, slice_index, refl, sym, ap, ◌∙◌, subst, arith, inl, inr, ⊎_elim, append-nil, append_assoc, length-append}
+use Rattle.std.proofs.Common.{◌≡◌, ◌≢◌, ℕ, ◌+◌, ◌<◌, ◌≤◌, List, [], ◌++◌, ◌⊎◌, length, slice_index, refl, sym, ap, ◌∙◌}
+use Rattle.std.proofs.Common.{subst, arith, inl, inr, ⊎_elim, append-nil, append_assoc, length-append}
 use Rattle.std.specs.List.{Contains}
 use Rattle.std.proofs.lemmas.List.{get_or_append_left}
 use Rattle.std.proofs.lemmas.List.Elements.{All-append, All-from_get_or, All-contains, Contains-append_left}
 use Rattle.std.proofs.lemmas.Bool.{cases_lt}
-use Rattle.crx_lines.specs.Lines.{HasNoFeed}
+use Rattle.crx_lines.specs.Reading.{HasNoFeed}
 use Rattle.crx_lines.specs.Seeking.{Seeking}
 use Rattle.crx_lines.specs.declared.limits.TheConstants.{LINE_LIMIT}
 use Rattle.crx_lines.proofs.PieceLemmas.{NoFeed}
@@ -42,7 +43,7 @@ Seeking-searched gave old held room taken passed searched n s within none = reco
   searched_within = within;
 }
 
--- where all that is held was searched, no LF stands in what was let go and held
+-- where all that is held was searched, no LF stands in what was discarded and held
 pub Seeking-none : (gave : List ℕ → Type 0) (old held : List ℕ) (room taken passed : ℕ)
     → (s : Seeking gave old held room taken passed (length held)) → HasNoFeed (s.front ++ held)
 Seeking-none gave old held room taken passed s =
@@ -54,7 +55,7 @@ Seeking-not_old gave old held room taken passed s has =
     All-contains NoFeed (s.front ++ held) 10 (Seeking-none gave old held room taken passed s)
     (subst (λ l. Contains l 10) s.input (Contains-append_left old s.given 10 has)) refl
 
--- all that is held is let go
+-- all that is held is discarded
 Seeking-passed : (gave : List ℕ → Type 0) (old held : List ℕ) (room taken passed : ℕ)
     → Seeking gave old held room taken passed (length held) → LINE_LIMIT + 1 < length held
     → Seeking gave old [] room taken (passed + length held) 0
@@ -72,24 +73,26 @@ Seeking-passed gave old held room taken passed s long = record {
   searched_within = omega arith;
 }
 
--- what is held was searched without finding an LF; it is let go where it is too long for a line
+-- what is held was searched without finding an LF; it is discarded where it is too long for a line
 pub Seeking-step : (gave : List ℕ → Type 0) (old held shown after : List ℕ) (room taken passed searched n : ℕ)
     → Seeking gave old held room taken passed searched → shown ≡ held
     → ((k : ℕ) → searched ≤ k → k < length shown → slice_index shown k ≢ 10)
     → ((n ≡ 0) × (after ≡ held)) ⊎ ((n ≡ length held) × (LINE_LIMIT + 1 < n) × (after ≡ []))
     → Seeking gave old after room taken (passed + n) (length after)
-Seeking-step gave old held shown after room taken passed searched n s same none let_go =
+Seeking-step gave old held shown after room taken passed searched n s same none discarded =
     let rest : (k : ℕ) → searched ≤ k → k < length held → slice_index held k ≢ 10 =
     subst (λ l. (k : ℕ) → searched ≤ k → k < length l → slice_index l k ≢ 10) same none in
     let all = Seeking-searched gave old held room taken passed searched (length held) s (omega arith) rest in
     let keeps = λ (e : (n ≡ 0) × (after ≡ held)).
     let sum : passed ≡ passed + n = omega (arith, e.0) in
-    subst (λ m. Seeking gave old after room taken m (length after)) sum (subst (λ l. Seeking gave old l room taken passed (length l)) (sym e.1) all) in
+    subst (λ m. Seeking gave old after room taken m (length after)) sum
+    (subst (λ l. Seeking gave old l room taken passed (length l)) (sym e.1) all) in
     let goes = λ (e : (n ≡ length held) × (LINE_LIMIT + 1 < n) × (after ≡ [])).
     let sum : passed + length held ≡ passed + n = omega (arith, e.0) in
     subst (λ m. Seeking gave old after room taken m (length after)) sum
-    (subst (λ l. Seeking gave old l room taken (passed + length held) (length l)) (sym e.2) (Seeking-passed gave old held room taken passed all (omega (arith, e.0, e.1)))) in
-    ⊎_elim keeps goes let_go
+    (subst (λ l. Seeking gave old l room taken (passed + length held) (length l))
+    (sym e.2) (Seeking-passed gave old held room taken passed all (omega (arith, e.0, e.1)))) in
+    ⊎_elim keeps goes discarded
 
 -- more was given and is held
 pub Seeking-filled : (gave then : List ℕ → Type 0) (old held after more : List ℕ) (room taken passed n m : ℕ)
@@ -100,12 +103,14 @@ Seeking-filled gave then old held after more room taken passed n m s goes count 
   given = s.given ++ more;
   front = s.front;
   lead = goes s.given s.lead;
-  input = sym (append_assoc old s.given more) ∙ ap (λ l. l ++ more) s.input ∙ append_assoc s.front held more ∙ ap (λ l. s.front ++ l) (sym same);
+  input = sym (append_assoc old s.given more)
+      ∙ ap (λ l. l ++ more) s.input ∙ append_assoc s.front held more ∙ ap (λ l. s.front ++ l) (sym same);
   taken_is = omega (arith, length-append s.given more, s.taken_is, count);
   passed_is = s.passed_is;
   far = s.far;
   none_passed = s.none_passed;
-  none_searched = λ k h. let inside : k < length held = omega (arith, h, searched) in rw (same, get_or_append_left held more 0 k) (s.none_searched k inside);
+  none_searched = λ k h. let inside : k < length held = omega (arith, h, searched) in
+      rw (same, get_or_append_left held more 0 k) (s.none_searched k inside);
   within = within;
   searched_within = omega (arith, length-append held more, ap length same, searched);
 }
@@ -118,9 +123,10 @@ pub Seeking-same : (gave then : List ℕ → Type 0) (old held after : List ℕ)
 Seeking-same gave then old held after room taken passed m s goes same searched =
     let sum : taken + 0 ≡ taken = omega arith in
     subst (λ k. Seeking then old after room k passed m) sum
-    (Seeking-filled gave then old held after [] room taken passed 0 m s goes refl (omega (arith, s.within)) (same ∙ sym (append-nil held)) searched)
+    (Seeking-filled gave then old held after [] room taken passed 0 m s goes refl (omega (arith, s.within)) (same
+    ∙ sym (append-nil held)) searched)
 
--- every byte was let go or is held
+-- every byte was discarded or is held
 pub Seeking-sum : (gave : List ℕ → Type 0) (old held : List ℕ) (room taken passed searched : ℕ)
     → Seeking gave old held room taken passed searched → passed + length held ≡ length old + taken
 Seeking-sum gave old held room taken passed searched s =

@@ -1,49 +1,17 @@
--- What is counted of a device: its failures, and how often it reported its end.
-use Rattle.std.specs.Prelude.{ℕ, ◌+◌, ◌-◌, ◌^◌, min, Bool, ◌==◌, if◌then◌else◌}
-
--- a count after one more; it stops at the greatest value of 64 bits
-abbrev pub one_more : ℕ → ℕ
-one_more count = min (count + 1) (2 ^ 64 - 1)
+-- Beside meaning/Devices: what code and proofs see of it.
+use Rattle.std.specs.Prelude.{ℕ, Bool, ◌==◌, if◌then◌else◌}
+use Rattle.crx_lines.specs.meaning.Devices.{one_more, Tally, SinkTally}
 
 -- a count of reported ends after a read that gave so many bytes: none is the end
 abbrev pub ends_after : ℕ → ℕ → ℕ
 ends_after given ends = if given == 0 then one_more ends else ends
 
--- what was counted of a source: the reads that failed, and those that reported the end
-pub record Tally : Type 0 where
-  pub failures : ℕ
-  pub ends : ℕ
-
-abbrev pub tally_of : ℕ → ℕ → Tally
-tally_of failures ends = record { failures = failures; ends = ends }
-
--- a tally after one more failure
-abbrev pub with_failure : Tally → Tally
-with_failure t = record { failures = one_more t.failures; ends = t.ends }
-
 -- a tally after one more report of the end
 abbrev pub with_end : Tally → Tally
 with_end t = record { failures = t.failures; ends = one_more t.ends }
 
--- what was counted of a sink: the writes and flushes that failed, and the flushes that were asked for
-pub record SinkTally : Type 0 where
-  pub failures : ℕ
-  pub flushes : ℕ
-
 abbrev pub sink_tally_of : ℕ → ℕ → SinkTally
 sink_tally_of failures flushes = record { failures = failures; flushes = flushes }
-
--- a sink's tally after one more write that failed
-abbrev pub with_failed_write : SinkTally → SinkTally
-with_failed_write t = record { failures = one_more t.failures; flushes = t.flushes }
-
--- a sink's tally after one more flush that was good
-abbrev pub with_flush : SinkTally → SinkTally
-with_flush t = record { failures = t.failures; flushes = one_more t.flushes }
-
--- a sink's tally after one more flush that failed
-abbrev pub with_failed_flush : SinkTally → SinkTally
-with_failed_flush t = record { failures = one_more t.failures; flushes = one_more t.flushes }
 
 -- a tally after a line: one that no LF ends was ended by a report of the end
 abbrev pub tally_after_line : Bool → Tally → Tally

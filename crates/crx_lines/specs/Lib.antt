@@ -1,9 +1,7 @@
+pub mod meaning
 pub mod Devices
-pub mod Faults
-pub mod Lines
 pub mod Progress
 pub mod Readers
 pub mod Reading
 pub mod Seeking
-pub mod Seen
 pub mod Window

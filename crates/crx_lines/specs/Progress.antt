@@ -1,9 +1,11 @@
 -- How far the reading of an input is, from its first byte on: the lines so far, and the bytes that were given.
-use Rattle.std.specs.Prelude.{◌≡◌, ℕ, ◌+◌, ◌<◌, ◌≤◌, List, [], ◌∷◌, ◌++◌, IsTrue, Option, Some, None, Result, Ok, Err, length, take}
-use Rattle.crx_lines.specs.Devices.{Tally, with_failure, with_end}
-use Rattle.crx_lines.specs.Lines.{InputLine, lines_of, is_long}
-use Rattle.crx_lines.specs.Seen.{ended_lines_of}
-use Rattle.crx_lines.specs.Reading.{Reading, line_shown, line_number}
+use Rattle.std.specs.Prelude.{◌≡◌, ℕ, ◌+◌, ◌<◌, ◌≤◌, List, [], ◌∷◌, ◌++◌, IsTrue, Option, Some, None, Result, Ok, Err}
+use Rattle.std.specs.Prelude.{length, take}
+use Rattle.crx_lines.specs.meaning.Devices.{Tally, with_failure}
+use Rattle.crx_lines.specs.Devices.{with_end}
+use Rattle.crx_lines.specs.meaning.Lines.{InputLine, lines_of, is_long}
+use Rattle.crx_lines.specs.meaning.Seen.{ended_lines_of}
+use Rattle.crx_lines.specs.Reading.{ReaderState, line_shown, line_number}
 use Rattle.crx_lines.specs.declared.limits.TheConstants.{INPUT_LIMIT}
 use Rattle.crx_lines.specs.declared.fault.At.{At}
 use Rattle.crx_lines.specs.declared.fault.Fault.{Fault}
@@ -14,7 +16,7 @@ use Rattle.crx_lines.specs.declared.phase.Phase.TheVariants.{Open, Ended, Stoppe
 
 -- while lines may come: whatever comes after the bytes that were given, the lines so far are the first, and an
 -- LF ended each of them; no read failed or reported the end
-pub record IsOpen (start counted : Tally) (given : List ℕ) (now : Reading) (lines : List InputLine) : Type 0 where
+pub record IsOpen (start counted : Tally) (given : List ℕ) (now : ReaderState) (lines : List InputLine) : Type 0 where
   pub bytes : length given ≡ now.lent + length now.rest
   pub within : length given ≤ INPUT_LIMIT
   pub first : (more : List ℕ) → lines_of (given ++ more) ≡ lines ++ lines_of (now.rest ++ more)
@@ -36,34 +38,38 @@ IsStopped ReadFailed start counted given lines =
     (length given ≤ INPUT_LIMIT) × (lines ≡ ended_lines_of given) × (counted ≡ with_failure start)
 IsStopped _ start counted given lines = ⊥
 
-abbrev pub StandsAt : Phase → Type 0 → Tally → Tally → List ℕ → Reading → List InputLine → Type 0
+abbrev pub StandsAt : Phase → Type 0 → Tally → Tally → List ℕ → ReaderState → List InputLine → Type 0
 StandsAt Open at_end start counted given now lines = IsOpen start counted given now lines
 StandsAt Ended at_end start counted given now lines = IsOver at_end start counted given lines
-StandsAt (Stopped at) at_end start counted given now lines = IsStopped at.fault start counted given lines × (at.line ≡ length lines + 1)
+StandsAt (Stopped at) at_end start counted given now lines = IsStopped at.fault start counted given lines
+    × (at.line ≡ length lines + 1)
 
 -- these lines were read of the bytes that a source gave since the first call, out of this tally of the source
-pub record HasRead (gave : List ℕ → Type 0) (at_end : Type 0) (start counted : Tally) (now : Reading) (lines : List InputLine) : Type 0 where
+pub record HasRead (gave : List ℕ
+    → Type 0) (at_end : Type 0) (start counted : Tally) (now : ReaderState) (lines : List InputLine) : Type 0 where
   pub given : List ℕ
   pub lead : gave given
   pub number : now.number ≡ length lines
   pub stands : StandsAt now.phase at_end start counted given now lines
 
 -- one line more than before: it was read out of some bytes of the input, and its number is its place
-pub record IsOneMore (old new : Reading) (lines then : List InputLine) (line : InputLine) (number : ℕ) : Type 0 where
+pub record IsOneMore (old new : ReaderState)
+    (lines then : List InputLine) (line : InputLine) (number : ℕ) : Type 0 where
   pub lines_are : then ≡ lines ++ line ∷ []
   pub number_is : number ≡ length then
   pub some : old.lent < new.lent
   pub within : new.lent ≤ INPUT_LIMIT
 
 -- what a fault says of the lines before it and those after it
-abbrev pub AtFault : Fault → At → Reading → Reading → List InputLine → List InputLine → Type 0
-AtFault LineTooLong at old new lines then = (line : InputLine) × IsTrue (is_long line) × IsOneMore old new lines then line at.line
+abbrev pub AtFault : Fault → At → ReaderState → ReaderState → List InputLine → List InputLine → Type 0
+AtFault LineTooLong at old new lines then = (line : InputLine)
+    × IsTrue (is_long line) × IsOneMore old new lines then line at.line
 AtFault InputTooLong at old new lines then = (then ≡ lines) × (new.phase ≡ Stopped at)
 AtFault ReadFailed at old new lines then = (then ≡ lines) × (new.phase ≡ Stopped at)
 AtFault _ at old new lines then = ⊥
 
 -- what an answer says of the lines before it and those after it
-abbrev pub AtAnswer : Result (Option Line) At → Reading → Reading → List InputLine → List InputLine → Type 0
+abbrev pub AtAnswer : Result (Option Line) At → ReaderState → ReaderState → List InputLine → List InputLine → Type 0
 AtAnswer (Ok (Some line)) old new lines then = IsOneMore old new lines then (line_shown line) (line_number line)
 AtAnswer (Ok None) old new lines then = (then ≡ lines) × (new.phase ≡ Ended)
 AtAnswer (Err at) old new lines then = AtFault at.fault at old new lines then

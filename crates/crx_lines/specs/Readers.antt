@@ -1,13 +1,13 @@
 -- What a clause reads of a reader of lines.
 use Rattle.std.specs.Prelude.{ℕ, List, slice_range}
-use Rattle.crx_lines.specs.Lines.{InputLine}
-use Rattle.crx_lines.specs.Reading.{Reading}
+use Rattle.crx_lines.specs.meaning.Lines.{InputLine}
+use Rattle.crx_lines.specs.Reading.{ReaderState}
 use Rattle.crx_lines.specs.Window.{kept}
 use Rattle.crx_lines.specs.declared.line.LineReader.{LineReader}
 use Rattle.crx_lines.specs.declared.line.Part.{Part}
 
 -- how far a reader of lines is
-abbrev pub reading : LineReader → Reading
+abbrev pub reading : LineReader → ReaderState
 reading r = record { rest = kept r.window.value; lent = r.lent; number = r.number; phase = r.phase }
 
 -- the line whose content stands at a place among some bytes

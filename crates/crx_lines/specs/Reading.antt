@@ -1,7 +1,9 @@
 -- Reading an input line by line, out of what a reader gives bit by bit.
-use Rattle.std.specs.Prelude.{◌≡◌, ℕ, ◌+◌, ◌-◌, ◌<◌, ◌≤◌, List, [], ◌∷◌, ◌++◌, MatchBool, IsTrue, length, take, if◌then◌else◌, Option, Some, None, Result, Ok, Err}
-use Rattle.crx_lines.specs.Devices.{Tally, with_failure, with_end, tally_after_line}
-use Rattle.crx_lines.specs.Lines.{InputLine, Piece, line_of, is_long, HasNoFeed}
+use Rattle.std.specs.Prelude.{◌≡◌, ℕ, ◌+◌, ◌-◌, ◌<◌, ◌≤◌, List, [], ◌∷◌, ◌++◌, MatchBool, IsTrue, length, take}
+use Rattle.std.specs.Prelude.{if◌then◌else◌, Option, Some, None, Result, Ok, Err, ◌≢◌, All}
+use Rattle.crx_lines.specs.meaning.Devices.{Tally, with_failure}
+use Rattle.crx_lines.specs.Devices.{with_end, tally_after_line}
+use Rattle.crx_lines.specs.meaning.Lines.{InputLine, Piece, line_of, is_long}
 use Rattle.crx_lines.specs.declared.limits.TheConstants.{INPUT_LIMIT}
 use Rattle.crx_lines.specs.declared.fault.At.{At}
 use Rattle.crx_lines.specs.declared.fault.Fault.{Fault}
@@ -9,6 +11,10 @@ use Rattle.crx_lines.specs.declared.fault.Fault.TheVariants.{LineTooLong, InputT
 use Rattle.crx_lines.specs.declared.line.Line.{Line}
 use Rattle.crx_lines.specs.declared.phase.Phase.{Phase}
 use Rattle.crx_lines.specs.declared.phase.Phase.TheVariants.{Open, Ended, Stopped}
+
+-- no LF stands among some bytes
+abbrev pub HasNoFeed : List ℕ → Type 0
+HasNoFeed bytes = All (λ b. b ≢ 10) bytes
 
 -- what a line shows: its content, and whether LF alone ends it
 abbrev pub line_shown : Line → InputLine
@@ -19,23 +25,25 @@ abbrev pub line_number : Line → ℕ
 line_number l = l.number
 
 -- how far the reading of an input is
-pub record Reading : Type 0 where
+pub record ReaderState : Type 0 where
   -- the bytes that were given and are of no line yet
   pub rest : List ℕ
   -- how many bytes the lines so far had, with their ends
   pub lent : ℕ
   -- the number of the last line, 0 before the first
   pub number : ℕ
-  -- whether lines may come, the end was reported with all lines lent, or a fault is repeated
+  -- whether lines may come, the end was reported with no line pending, or a fault is repeated
   pub phase : Phase
 
 -- the input begins with this piece, and has this rest; a piece without LF is the last, once the end was reported
 pub record BeginsWith (input : List ℕ) (at_end : Type 0) (p : Piece) (rest : List ℕ) : Type 0 where
-  pub cut : MatchBool p.is_ended (input ≡ p.bytes ++ 10 ∷ rest) ((input ≡ p.bytes) × (rest ≡ []) × (0 < length p.bytes) × at_end)
+  pub cut : MatchBool p.is_ended (input ≡ p.bytes ++ 10 ∷ rest) ((input ≡ p.bytes)
+      × (rest ≡ []) × (0 < length p.bytes) × at_end)
   pub no_feed : HasNoFeed p.bytes
 
 -- the first line of the old rest and the given bytes was taken
-pub record Takes (old : Reading) (given : List ℕ) (at_end : Type 0) (p : Piece) (new : Reading) : Type 0 where
+pub record TakesPiece (old : ReaderState)
+    (given : List ℕ) (at_end : Type 0) (p : Piece) (new : ReaderState) : Type 0 where
   pub first : BeginsWith (old.rest ++ given) at_end p new.rest
   pub lent : new.lent + length new.rest ≡ old.lent + length (old.rest ++ given)
   pub within : new.lent + length new.rest ≤ INPUT_LIMIT
@@ -43,32 +51,39 @@ pub record Takes (old : Reading) (given : List ℕ) (at_end : Type 0) (p : Piece
   pub phase : new.phase ≡ (if p.is_ended then Open else Ended)
 
 -- this fault ends the reading, in the line after the last one
-pub record Stops (old : Reading) (at : At) (new : Reading) : Type 0 where
+pub record Stops (old : ReaderState) (at : At) (new : ReaderState) : Type 0 where
   pub line : at.line ≡ old.number + 1
   pub number : new.number ≡ old.number
   pub phase : new.phase ≡ Stopped at
 
 -- when a fault is answered: a line over its limit, an input over its limit with no LF within it, or a
 -- failed read after bytes without LF; and what was counted of the source
-abbrev pub FaultIs : Reading → List ℕ → Type 0 → Tally → Tally → At → Fault → Reading → Type 0
-FaultIs old given at_end before after at LineTooLong new =
-    (p : Piece) × Takes old given at_end p new × IsTrue (is_long (line_of p)) × (at.line ≡ new.number) × (after ≡ tally_after_line p.is_ended before)
-FaultIs old given at_end before after at InputTooLong new =
-    (INPUT_LIMIT < old.lent + length (old.rest ++ given)) × HasNoFeed (take (INPUT_LIMIT - old.lent) (old.rest ++ given)) × Stops old at new × (after ≡ before)
-FaultIs old given at_end before after at ReadFailed new =
-    (old.lent + length (old.rest ++ given) ≤ INPUT_LIMIT) × HasNoFeed (old.rest ++ given) × Stops old at new × (after ≡ with_failure before)
-FaultIs old given at_end before after at _ new = ⊥
+abbrev pub AnswersFault : ReaderState → List ℕ → Type 0 → Tally → Tally → At → Fault → ReaderState → Type 0
+AnswersFault old given at_end before after at LineTooLong new =
+    (p : Piece) × TakesPiece old given at_end p new
+    × IsTrue (is_long (line_of p)) × (at.line ≡ new.number) × (after ≡ tally_after_line p.is_ended before)
+AnswersFault old given at_end before after at InputTooLong new =
+    (INPUT_LIMIT < old.lent + length (old.rest ++ given))
+    × HasNoFeed (take (INPUT_LIMIT - old.lent) (old.rest ++ given)) × Stops old at new × (after ≡ before)
+AnswersFault old given at_end before after at ReadFailed new =
+    (old.lent + length (old.rest ++ given) ≤ INPUT_LIMIT)
+    × HasNoFeed (old.rest ++ given) × Stops old at new × (after ≡ with_failure before)
+AnswersFault old given at_end before after at _ new = ⊥
 
 -- what is answered where lines may come, out of the old rest and the bytes that the reader gave:
 -- the next line, as it is shown and numbered; or none, at the end; or a fault. A read that failed is
 -- counted, and so is a report of the end: where it ended the last line, or was the answer.
-abbrev pub AnswersAs : {X : Type 0} → (X → InputLine) → (X → ℕ) → Reading → List ℕ → Type 0 → Tally → Tally → Result (Option X) At → Reading → Type 0
+abbrev pub AnswersAs : {X : Type 0} → (X → InputLine)
+    → (X → ℕ) → ReaderState → List ℕ → Type 0 → Tally → Tally → Result (Option X) At → ReaderState → Type 0
 AnswersAs shown numbered old given at_end before after (Ok (Some x)) new =
-    (p : Piece) × Takes old given at_end p new × (shown x ≡ line_of p) × (numbered x ≡ new.number) × (after ≡ tally_after_line p.is_ended before)
+    (p : Piece) × TakesPiece old given at_end p new
+    × (shown x ≡ line_of p) × (numbered x ≡ new.number) × (after ≡ tally_after_line p.is_ended before)
 AnswersAs shown numbered old given at_end before after (Ok None) new =
     (old.rest ++ given ≡ []) × at_end × (new ≡ record old { rest = []; phase = Ended }) × (after ≡ with_end before)
-AnswersAs shown numbered old given at_end before after (Err at) new = FaultIs old given at_end before after at at.fault new
+AnswersAs shown numbered old given at_end before after (Err at) new =
+    AnswersFault old given at_end before after at at.fault new
 
--- the same of a line that is lent
-abbrev pub Answers : Reading → List ℕ → Type 0 → Tally → Tally → Result (Option Line) At → Reading → Type 0
-Answers old given at_end before after r new = AnswersAs line_shown line_number old given at_end before after r new
+-- the same of a line that is borrowed
+abbrev pub ReaderAnswers : ReaderState
+    → List ℕ → Type 0 → Tally → Tally → Result (Option Line) At → ReaderState → Type 0
+ReaderAnswers old given at_end before after r new = AnswersAs line_shown line_number old given at_end before after r new

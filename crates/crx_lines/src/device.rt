@@ -4,7 +4,8 @@
 ghost use Rattle.std.specs.Prelude.{◌≡◌, ℕ, List, [], ◌++◌, ◌<◌, ◌≤◌, length, take, is_ok, true, false, IfOk, OnOk, OnErr};
 ghost use Rattle.std.specs.Io.KnownBytes.{Appends, Consumes, IsAtEnd};
 ghost use Rattle.std.proofs.KnownBytes.{Appends-nil, Appends-trans, Consumes-nil, Consumes-trans};
-ghost use Rattle.crx_lines.specs.Devices.{ends_after, one_more};
+ghost use Rattle.crx_lines.specs.Devices.{ends_after};
+ghost use Rattle.crx_lines.specs.meaning.Devices.{one_more};
 
 use std::io;
 use std::io::{Read, Write};
@@ -42,7 +43,8 @@ pub trait Source {
         ensures bytes { IfOk result (λ n. gave self.old (take n buffer.new) self.new) }
         ensures end { IfOk result (λ n. n ≡ 0 → 0 < length buffer.new → at_end self.new) }
         ensures good { OnOk result (failures self.new ≡ failures self.old) }
-        ensures ends { IfOk result (λ n. 0 < length buffer.new → ends self.new ≡ ends_after n (ends self.old)) }
+        ensures ends { IfOk result (λ n. 0 < length buffer.new
+            → ends self.new ≡ ends_after n (ends self.old)) }
         ensures unasked { length buffer.new ≡ 0 → ends self.new ≡ ends self.old }
         ensures none_lost { OnErr result (gave self.old [] self.new) }
         ensures no_end { OnErr result (ends self.new ≡ ends self.old) }

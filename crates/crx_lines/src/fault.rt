@@ -30,13 +30,13 @@ pub enum Fault {
     NotAnEpoch,
     /// An epoch line whose flag, count or columns are wrong.
     BadEpoch,
-    /// A receiver clock offset that is misspelt.
+    /// A receiver clock offset that is malformed.
     BadClock,
-    /// A satellite identifier that is misspelt, or of a system with no observation types.
+    /// A satellite identifier that is malformed, or of a system with no observation types.
     BadSatellite,
     /// A satellite identifier that the epoch already has.
     RepeatedSatellite,
-    /// An observation, or its code, that is misspelt.
+    /// An observation, or its code, that is malformed.
     BadField,
     /// A difference of an arc that was never started.
     NoArc,
@@ -55,7 +55,7 @@ pub enum Fault {
 }
 
 impl Fault {
-    ghost use Rattle.crx_lines.specs.Faults.{code_of_fault, is_skippable, words_of_fault};
+    ghost use Rattle.crx_lines.specs.meaning.Faults.{code_of_fault, is_skippable, words_of_fault};
 
     /// The fault's number in messages, from 1 to 22.
     pub fn code(&self) -> u8

@@ -1,10 +1,11 @@
 //! Laws over the definitions of this crate: each is the contract of a function that does nothing.
 ghost use Rattle.std.specs.Prelude.{◌≡◌, ℕ, List, [], ◌∷◌, ◌++◌, ◌+◌, ◌-◌, ◌*◌, ◌^◌, ◌<◌, ◌≤◌, ◌⊎◌, length, take, true, false, Option, Result};
-ghost use Rattle.crx_lines.specs.Devices.{one_more, tally_of};
-ghost use Rattle.crx_lines.specs.Lines.{HasNoFeed, InputLine, line_of, lines_of};
+ghost use Rattle.crx_lines.specs.meaning.Devices.{one_more, tally_of};
+ghost use Rattle.crx_lines.specs.Reading.{HasNoFeed};
+ghost use Rattle.crx_lines.specs.meaning.Lines.{InputLine, line_of, lines_of};
 ghost use Rattle.crx_lines.specs.Progress.{AtAnswer, HasRead};
-ghost use Rattle.crx_lines.specs.Reading.{Answers, Reading};
-ghost use Rattle.crx_lines.specs.Seen.{ended_lines_of};
+ghost use Rattle.crx_lines.specs.Reading.{ReaderAnswers, ReaderState};
+ghost use Rattle.crx_lines.specs.meaning.Seen.{ended_lines_of};
 ghost use Rattle.crx_lines.specs.declared.fault.At.{At};
 ghost use Rattle.crx_lines.specs.declared.limits.TheConstants.{CELL_WIDTH, CLOCK_DECIMALS, CLOCK_WIDTH, DIGITS_LIMIT, HEAD_WIDTH, INPUT_LIMIT, LINE_LIMIT, NAME_WIDTH, OBSERVATION_DECIMALS, OBSERVATION_WIDTH, ORDER_LIMIT, SATELLITES_LIMIT, TYPES_LIMIT, WRITTEN_ORDER};
 ghost use Rattle.crx_lines.specs.declared.line.Line.{Line};
@@ -17,15 +18,18 @@ use crate::phase::Phase;
 ///
 /// - `printed`: a satellite line with a cell for each type, and an epoch line with its clock, fit into a line.
 /// - `compact`: so do their compact forms: for each type a code of at most 15 characters with a blank, and two marks; and the epoch line
-///   with the identifiers of all satellites.
+/// with the identifiers of all satellites.
 /// - `counts`: counts of types and satellites have three digits, an order has one, and an arc that is written can be read.
 /// - `cells`: a cell is an observation and two indicators, and a field has room for a minus, a digit and the point.
 /// - `sums`: a difference of order n of values below 10 to the m is below 2 to the n times that. So each one that an arc of any order
-///   keeps fits into 64 bits, and each one that is written has few enough digits to be read; as has each number that is read.
+/// keeps fits into 64 bits, and each one that is written has few enough digits to be read; as has each number that is read.
 pub fn limits_fit()
-    ensures printed { (NAME_WIDTH + CELL_WIDTH * TYPES_LIMIT ≤ LINE_LIMIT) × (HEAD_WIDTH + CLOCK_WIDTH ≤ LINE_LIMIT) }
-    ensures compact { (18 * TYPES_LIMIT ≤ LINE_LIMIT) × (HEAD_WIDTH + NAME_WIDTH * SATELLITES_LIMIT ≤ LINE_LIMIT) }
-    ensures counts { (TYPES_LIMIT < 10 ^ 3) × (SATELLITES_LIMIT < 10 ^ 3) × (ORDER_LIMIT < 10) × (WRITTEN_ORDER ≤ ORDER_LIMIT) }
+    ensures printed { (NAME_WIDTH + CELL_WIDTH * TYPES_LIMIT ≤ LINE_LIMIT)
+        × (HEAD_WIDTH + CLOCK_WIDTH ≤ LINE_LIMIT) }
+    ensures compact { (18 * TYPES_LIMIT ≤ LINE_LIMIT)
+        × (HEAD_WIDTH + NAME_WIDTH * SATELLITES_LIMIT ≤ LINE_LIMIT) }
+    ensures counts { (TYPES_LIMIT < 10 ^ 3)
+        × (SATELLITES_LIMIT < 10 ^ 3) × (ORDER_LIMIT < 10) × (WRITTEN_ORDER ≤ ORDER_LIMIT) }
     ensures cells { (CELL_WIDTH ≡ OBSERVATION_WIDTH + 2) × (OBSERVATION_DECIMALS + 3 ≤ OBSERVATION_WIDTH)
         × (CLOCK_DECIMALS + 3 ≤ CLOCK_WIDTH) }
     ensures sums { (OBSERVATION_WIDTH ≤ CLOCK_WIDTH) × (2 ^ ORDER_LIMIT * 10 ^ (CLOCK_WIDTH - 1) < 2 ^ 63)
@@ -35,7 +39,8 @@ pub fn limits_fit()
 /// The lines of an input that begins with a piece and its LF: the line of that piece, then those of the rest.
 pub fn lines_after_first()
     ensures { (piece rest : List ℕ) → HasNoFeed piece
-        → lines_of (piece ++ 10 ∷ rest) ≡ line_of (record { bytes = piece; is_ended = true }) ∷ lines_of rest }
+        → lines_of (piece ++ 10 ∷ rest)
+        ≡ line_of (record { bytes = piece; is_ended = true }) ∷ lines_of rest }
 {}
 
 /// The one line of an input that isn't empty and has no LF.
@@ -61,36 +66,42 @@ pub fn reading_starts<R: Source>()
 /// From one answer of a reader of lines to the next: what was read of the bytes that its source gave, and how often the
 /// source failed or reported its end.
 pub fn reading_goes_on<R: Source>()
-    ensures { (start before after : R) (more : List ℕ) (old new : Reading) (answer : Result (Option Line) At) (lines : List InputLine)
+    ensures { (start before after : R)
+        (more : List ℕ) (old new : ReaderState) (answer : Result (Option Line) At) (lines : List InputLine)
         → HasRead (λ given. R.gave start given before) (R.at_end before)
         (tally_of (R.failures start) (R.ends start)) (tally_of (R.failures before) (R.ends before)) old lines
         → old.phase ≡ Phase.Open → R.gave before more after
-        → Answers old more (R.at_end after) (tally_of (R.failures before) (R.ends before)) (tally_of (R.failures after) (R.ends after)) answer new
+        → ReaderAnswers old more (R.at_end after) (tally_of (R.failures before) (R.ends before))
+        (tally_of (R.failures after) (R.ends after)) answer new
         → (then : List InputLine) × AtAnswer answer old new lines then
         × HasRead (λ given. R.gave start given after) (R.at_end after)
         (tally_of (R.failures start) (R.ends start)) (tally_of (R.failures after) (R.ends after)) new then }
 {}
 
-/// Once the end was reported and every line was lent, the lines are those of all the bytes that the source gave. The
+/// Once the end was reported and no line is pending, the lines are those of all the bytes that the source gave. The
 /// source was asked for its end once.
 pub fn reading_ends<R: Source>()
-    ensures { (start now : R) (r : Reading) (lines : List InputLine)
+    ensures { (start now : R) (r : ReaderState) (lines : List InputLine)
         → HasRead (λ given. R.gave start given now) (R.at_end now)
         (tally_of (R.failures start) (R.ends start)) (tally_of (R.failures now) (R.ends now)) r lines
         → r.phase ≡ Phase.Ended
-        → (given : List ℕ) × R.gave start given now × R.at_end now × (lines ≡ lines_of given) × (length given ≤ INPUT_LIMIT)
+        → (given : List ℕ) × R.gave start given now
+        × R.at_end now × (lines ≡ lines_of given) × (length given ≤ INPUT_LIMIT)
         × (R.failures now ≡ R.failures start) × (R.ends now ≡ one_more (R.ends start)) }
 {}
 
 /// Once a fault ended the reading, the lines are those whose LF is among the bytes that the source gave, within the limit
 /// of an input, and the fault is in the line after them. The end wasn't reported.
 pub fn reading_stops<R: Source>()
-    ensures { (start now : R) (r : Reading) (lines : List InputLine) (at : At)
+    ensures { (start now : R) (r : ReaderState) (lines : List InputLine) (at : At)
         → HasRead (λ given. R.gave start given now) (R.at_end now)
         (tally_of (R.failures start) (R.ends start)) (tally_of (R.failures now) (R.ends now)) r lines
         → r.phase ≡ Phase.Stopped at
-        → (at.line ≡ length lines + 1) × (R.ends now ≡ R.ends start) × (given : List ℕ) × R.gave start given now
+        → (at.line ≡ length lines + 1)
+        × (R.ends now ≡ R.ends start) × (given : List ℕ) × R.gave start given now
         × (lines ≡ ended_lines_of (take INPUT_LIMIT given))
-        × (((at.fault ≡ Fault.InputTooLong) × (INPUT_LIMIT < length given) × (R.failures now ≡ R.failures start))
-        ⊎ ((at.fault ≡ Fault.ReadFailed) × (length given ≤ INPUT_LIMIT) × (R.failures now ≡ one_more (R.failures start)))) }
+        × (((at.fault ≡ Fault.InputTooLong)
+        × (INPUT_LIMIT < length given) × (R.failures now ≡ R.failures start))
+        ⊎ ((at.fault ≡ Fault.ReadFailed)
+        × (length given ≤ INPUT_LIMIT) × (R.failures now ≡ one_more (R.failures start)))) }
 {}

@@ -1,6 +1,6 @@
 //! Lines of an input, and what lends them one after another.
 ghost use Rattle.std.specs.Prelude.{◌≡◌, ◌≢◌, ℕ, ◌+◌, ◌-◌, ◌<◌, ◌≤◌, ◌&&◌, ◌⊎◌, not, true, false, IsTrue, List, [], ◌++◌, length, slice_range, Option, Some, None, Ok, Err, IfOk, IfSome, Contains, if◌then◌else◌};
-ghost use Rattle.crx_lines.specs.Devices.{tally_of};
+ghost use Rattle.crx_lines.specs.meaning.Devices.{tally_of};
 ghost use Rattle.crx_lines.specs.declared.fault.At.{At};
 ghost use Rattle.crx_lines.specs.Window.{kept};
 ghost use Rattle.crx_lines.specs.declared.limits.TheConstants.{INPUT_LIMIT, LINE_LIMIT};
@@ -65,7 +65,7 @@ fn phase_after(is_ended: bool) -> Phase
     if is_ended { Phase::Open } else { Phase::Ended }
 }
 
-/// Whether a line is too long: bytes of it were let go, or its content in the window is.
+/// Whether a line is too long: bytes of it were discarded, or its content in the window is.
 fn is_over(passed: u64, len: usize) -> bool
     ensures over { IsTrue result → (0 < passed) ⊎ (LINE_LIMIT < len) }
     ensures within { result ≡ false → (passed ≡ 0) × (len ≤ LINE_LIMIT) }
@@ -95,12 +95,13 @@ impl LineReader {
     ghost use Rattle.std.specs.Borrow.{sem};
     ghost use Rattle.std.specs.Io.BufRead.{Rests};
     ghost use Rattle.crx_lines.specs.contracts.line.LineReader.{the_row};
-    ghost use Rattle.crx_lines.specs.Reading.{Answers, AnswersAs, Reading, line_shown, line_number};
+    ghost use Rattle.crx_lines.specs.Reading.{ReaderAnswers, AnswersAs, ReaderState, line_shown, line_number};
     ghost use Rattle.crx_lines.specs.Readers.{reading, part_shown};
 
     /// A reader before its input's first line.
     pub fn new(alloc: Global) -> Result<LineReader, AllocError>
-        ensures { IfOk result (λ r. reading r ≡ record { rest = []; lent = 0; number = 0; phase = Phase.Open }) }
+        ensures { IfOk result
+            (λ r. reading r ≡ record { rest = []; lent = 0; number = 0; phase = Phase.Open }) }
     {
         let window = Box::new(alloc, Window::new(alloc)?)?;
         Ok(LineReader {
@@ -125,8 +126,10 @@ impl LineReader {
         ensures answers { (given : List ℕ) × R.gave reader.old given reader.new
             × AnswersAs (part_shown self.new.window.value.bytes.items) (λ _. self.new.number)
             (reading self.old) given (R.at_end reader.new)
-            (tally_of (R.failures reader.old) (R.ends reader.old)) (tally_of (R.failures reader.new) (R.ends reader.new)) result (reading self.new) }
-        ensures place { IfOk result (λ o. IfSome o (λ p. (p.from ≤ p.to) × (p.to ≤ SIZE) × (p.to - p.from ≤ LINE_LIMIT))) }
+            (tally_of (R.failures reader.old) (R.ends reader.old))
+            (tally_of (R.failures reader.new) (R.ends reader.new)) result (reading self.new) }
+        ensures place { IfOk result
+            (λ o. IfSome o (λ p. (p.from ≤ p.to) × (p.to ≤ SIZE) × (p.to - p.from ≤ LINE_LIMIT))) }
         ensures unasked { Contains (kept self.old.window.value) 10 → reader.new ≡ reader.old }
     {
         let Some(len) = feed_from(self.window.as_slice(), 0) else {
@@ -156,13 +159,15 @@ impl LineReader {
         ensures answers { (given : List ℕ) × R.gave reader.old given reader.new
             × AnswersAs (part_shown self.new.window.value.bytes.items) (λ _. self.new.number)
             (reading self.old) given (R.at_end reader.new)
-            (tally_of (R.failures reader.old) (R.ends reader.old)) (tally_of (R.failures reader.new) (R.ends reader.new)) result (reading self.new) }
-        ensures place { IfOk result (λ o. IfSome o (λ p. (p.from ≤ p.to) × (p.to ≤ SIZE) × (p.to - p.from ≤ LINE_LIMIT))) }
+            (tally_of (R.failures reader.old) (R.ends reader.old))
+            (tally_of (R.failures reader.new) (R.ends reader.new)) result (reading self.new) }
+        ensures place { IfOk result
+            (λ o. IfSome o (λ p. (p.from ≤ p.to) × (p.to ≤ SIZE) × (p.to - p.from ≤ LINE_LIMIT))) }
         ensures unasked { Contains (kept self.old.window.value) 10 → reader.new ≡ reader.old }
     {
         let room = INPUT_LIMIT - self.lent - self.window.as_slice().len() as u64;
-        let sought = match seek(&mut self.window, room, reader) {
-            Ok(sought) => sought,
+        let found = match seek(&mut self.window, room, reader) {
+            Ok(found) => found,
             Err(fault) => {
                 let at = At {
                     line: self.number + 1,
@@ -172,17 +177,17 @@ impl LineReader {
                 return Err(at);
             }
         };
-        if sought.is_nothing() {
+        if found.is_nothing() {
             self.phase = Phase::Ended;
             return Ok(None);
         }
-        let place = self.window.content(sought.len);
-        let held = sought.held();
+        let place = self.window.content(found.len);
+        let held = found.held();
         self.window.pass(held);
-        self.lent += sought.passed + held as u64;
+        self.lent += found.passed + held as u64;
         self.number += 1;
-        self.phase = phase_after(sought.is_ended);
-        if is_over(sought.passed, place.to - place.from) {
+        self.phase = phase_after(found.is_ended);
+        if is_over(found.passed, place.to - place.from) {
             return Err(At {
                 line: self.number,
                 fault: Fault::LineTooLong,
@@ -191,7 +196,7 @@ impl LineReader {
         Ok(Some(Part {
             from: place.from,
             to: place.to,
-            is_plain: is_plain(sought.is_ended, place.has_return),
+            is_plain: is_plain(found.is_ended, place.has_return),
         }))
     }
 
@@ -218,17 +223,21 @@ impl LineReader {
     /// `INPUT_LIMIT` was given and no LF before it is left, `ReadFailed` where a read failed. Both
     /// are repeated from then on, as None is after the end, and `reader` isn't asked again.
     pub fn next_line<'a, R: Source>(&'a mut self, reader: &mut R) -> Result<Option<Line<'a>>, At>
-        ensures open { (reading self.old).phase ≡ Phase.Open → (given : List ℕ) × (new : Reading)
+        ensures open { (reading self.old).phase ≡ Phase.Open → (given : List ℕ) × (new : ReaderState)
             × R.gave reader.old given reader.new
-            × Answers (reading self.old) given (R.at_end reader.new)
-            (tally_of (R.failures reader.old) (R.ends reader.old)) (tally_of (R.failures reader.new) (R.ends reader.new)) result new }
-        ensures ended { (reading self.old).phase ≡ Phase.Ended → (result ≡ Ok None) × (reader.new ≡ reader.old) }
-        ensures stopped { (at : At) → (reading self.old).phase ≡ Phase.Stopped at → (result ≡ Err at) × (reader.new ≡ reader.old) }
+            × ReaderAnswers (reading self.old) given (R.at_end reader.new)
+            (tally_of (R.failures reader.old) (R.ends reader.old))
+            (tally_of (R.failures reader.new) (R.ends reader.new)) result new }
+        ensures ended { (reading self.old).phase ≡ Phase.Ended
+            → (result ≡ Ok None) × (reader.new ≡ reader.old) }
+        ensures stopped { (at : At) → (reading self.old).phase ≡ Phase.Stopped at → (result ≡ Err at)
+            × (reader.new ≡ reader.old) }
         ensures unasked { Contains (reading self.old).rest 10 → reader.new ≡ reader.old }
         ensures* after_borrow { sem 𝓛 (Rests the_row self.entry (λ new.
             ((reading self.old).phase ≡ Phase.Open → (given : List ℕ) × R.gave reader.old given reader.new
-            × Answers (reading self.old) given (R.at_end reader.new)
-            (tally_of (R.failures reader.old) (R.ends reader.old)) (tally_of (R.failures reader.new) (R.ends reader.new)) result (reading new))
+            × ReaderAnswers (reading self.old) given (R.at_end reader.new)
+            (tally_of (R.failures reader.old) (R.ends reader.old))
+            (tally_of (R.failures reader.new) (R.ends reader.new)) result (reading new))
             × ((reading self.old).phase ≢ Phase.Open → reading new ≡ reading self.old))) }
     {
         match self.phase {

@@ -7,7 +7,7 @@ use crate::fault::At;
 pub enum Phase {
     /// Lines may come.
     Open,
-    /// The end was reported, and every line was lent.
+    /// The end was reported, and no line is pending.
     Ended,
     /// This fault is answered from now on.
     Stopped(At),

@@ -1,6 +1,6 @@
 //! The search for the end of a line in what a reader gives.
 ghost use Rattle.std.specs.Prelude.{◌≡◌, ◌≢◌, ℕ, ◌+◌, ◌<◌, ◌≤◌, List, [], ◌∷◌, ◌++◌, length, slice_index, IfOk, IfErr, IfSome, OnOk, OnErr, IfNone, IsOk, MatchBool, Contains, IsTrue, true, false, ◌⊎◌, ◌^◌, if◌then◌else◌};
-ghost use Rattle.crx_lines.specs.Devices.{one_more};
+ghost use Rattle.crx_lines.specs.meaning.Devices.{one_more};
 ghost use Rattle.crx_lines.specs.Window.{kept};
 ghost use Rattle.crx_lines.specs.Seeking.{Seeking};
 ghost use Rattle.crx_lines.specs.declared.limits.TheConstants.{INPUT_LIMIT, LINE_LIMIT};
@@ -11,10 +11,10 @@ use crate::feed::feed_from;
 use crate::limits::LINE_LIMIT;
 use crate::window::{SIZE, Window};
 
-/// The first line of an input: what was let go of it, and what stands in the window.
+/// The first line of an input: what was discarded of it, and what stands in the window.
 #[derive(Clone, Copy)]
 pub(crate) struct Sought {
-    /// How many of its bytes were let go: none, or more than a line may have.
+    /// How many of its bytes were discarded: none, or more than a line may have.
     pub(crate) passed: u64,
     /// How many of its bytes stand at the front of the window.
     pub(crate) len: usize,
@@ -25,8 +25,10 @@ pub(crate) struct Sought {
 impl Sought {
     /// Whether there is no line, but the end.
     pub(crate) fn is_nothing(&self) -> bool
-        ensures nothing { IsTrue result → (self.now.passed ≡ 0) × (self.now.len ≡ 0) × (self.now.is_ended ≡ false) }
-        ensures something { result ≡ false → (0 < self.now.passed + self.now.len) ⊎ (self.now.is_ended ≡ true) }
+        ensures nothing { IsTrue result
+            → (self.now.passed ≡ 0) × (self.now.len ≡ 0) × (self.now.is_ended ≡ false) }
+        ensures something { result ≡ false
+            → (0 < self.now.passed + self.now.len) ⊎ (self.now.is_ended ≡ true) }
     {
         self.passed == 0 && self.len == 0 && !self.is_ended
     }
@@ -48,7 +50,8 @@ impl Sought {
 fn has_more<R: Source>(reader: &mut R) -> Result<bool, ReadFailed>
     ensures some { result ≡ Ok true → (b : ℕ) × R.gave reader.old (b ∷ []) reader.new }
     ensures none { result ≡ Ok false → R.gave reader.old [] reader.new × R.at_end reader.new }
-    ensures ends { IfOk result (λ more. R.ends reader.new ≡ (if more then R.ends reader.old else one_more (R.ends reader.old))) }
+    ensures ends { IfOk result
+        (λ more. R.ends reader.new ≡ (if more then R.ends reader.old else one_more (R.ends reader.old))) }
     ensures no_end { OnErr result (R.ends reader.new ≡ R.ends reader.old) }
     ensures good { OnOk result (R.failures reader.new ≡ R.failures reader.old) }
     ensures none_lost { OnErr result (R.gave reader.old [] reader.new) }
@@ -60,7 +63,7 @@ fn has_more<R: Source>(reader: &mut R) -> Result<bool, ReadFailed>
 }
 
 /// Lets go of what is longer than a line and its end, and answers how many bytes that was.
-fn let_go(window: &mut Window) -> usize
+fn discarded(window: &mut Window) -> usize
     ensures count { ((result ≡ 0) × (kept window.new ≡ kept window.old))
         ⊎ ((result ≡ length (kept window.old)) × (LINE_LIMIT + 1 < result) × (kept window.new ≡ [])) }
     ensures room { length (kept window.new) ≤ LINE_LIMIT + 1 }
@@ -74,8 +77,8 @@ fn let_go(window: &mut Window) -> usize
 }
 
 /// Looks for the end of the line that the window begins with, asking `reader` while there is none.
-/// What is too long for a line is let go, so the window never fills up. At most `room` bytes are
-/// held or let go; a byte past them is a fault.
+/// What is too long for a line is discarded, so the window never fills up. At most `room` bytes are
+/// held or discarded; a byte past them is a fault.
 pub(crate) fn seek<R: Source>(
     window: &mut Window,
     room: u64,
@@ -87,10 +90,12 @@ pub(crate) fn seek<R: Source>(
     ensures end { IfOk result (λ s. MatchBool s.is_ended
         ((s.len < length (kept window.new)) × (slice_index (kept window.new) s.len ≡ 10))
         ((s.len ≡ length (kept window.new)) × R.at_end reader.new)) }
-    ensures ends { IfOk result (λ s. R.ends reader.new ≡ (if s.is_ended then R.ends reader.old else one_more (R.ends reader.old))) }
+    ensures ends { IfOk result
+        (λ s. R.ends reader.new ≡ (if s.is_ended then R.ends reader.old else one_more (R.ends reader.old))) }
     ensures no_end { OnErr result (R.ends reader.new ≡ R.ends reader.old) }
     ensures unasked { Contains (kept window.old) 10 → reader.new ≡ reader.old }
-    ensures good { IsOk result ⊎ (result ≡ Err Fault.InputTooLong) → R.failures reader.new ≡ R.failures reader.old }
+    ensures good { IsOk result ⊎ (result ≡ Err Fault.InputTooLong)
+        → R.failures reader.new ≡ R.failures reader.old }
     ensures faults { IfErr result (λ e. (e ≡ Fault.InputTooLong) ⊎ (e ≡ Fault.ReadFailed)) }
     ensures over { result ≡ Err Fault.InputTooLong → (b : ℕ) × (passed : ℕ)
         × Seeking (λ given. R.gave reader.old (given ++ b ∷ []) reader.new)
@@ -98,7 +103,8 @@ pub(crate) fn seek<R: Source>(
     ensures failed { result ≡ Err Fault.ReadFailed → (taken : ℕ) × (passed : ℕ)
         × Seeking (λ given. R.gave reader.old given reader.new)
         (kept window.old) (kept window.new) room taken passed (length (kept window.new)) }
-    ensures counted { result ≡ Err Fault.ReadFailed → R.failures reader.new ≡ one_more (R.failures reader.old) }
+    ensures counted { result ≡ Err Fault.ReadFailed
+        → R.failures reader.new ≡ one_more (R.failures reader.old) }
 {
     let mut taken: u64 = 0;
     let mut passed: u64 = 0;
@@ -111,7 +117,7 @@ pub(crate) fn seek<R: Source>(
                 is_ended: true,
             });
         }
-        passed += let_go(window) as u64;
+        passed += discarded(window) as u64;
         searched = window.as_slice().len();
         if taken == room {
             return match has_more(reader) {

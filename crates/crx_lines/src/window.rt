@@ -1,7 +1,8 @@
-//! The buffer of a reader of lines: bytes that were given and not lent yet, and room after them.
+//! The buffer of a reader of lines: bytes that were given and are pending, and room after them.
 ghost use Rattle.std.specs.Prelude.{◌≡◌, ℕ, ◌+◌, ◌-◌, ◌<◌, ◌≤◌, List, [], ◌++◌, length, take, drop, slice_range, IfOk, OnOk, OnErr};
-ghost use Rattle.crx_lines.specs.Devices.{ends_after, one_more};
-ghost use Rattle.crx_lines.specs.Lines.{ends_with_return, without_return};
+ghost use Rattle.crx_lines.specs.Devices.{ends_after};
+ghost use Rattle.crx_lines.specs.meaning.Devices.{one_more};
+ghost use Rattle.crx_lines.specs.meaning.Lines.{ends_with_return, without_return};
 ghost use Rattle.crx_lines.specs.declared.limits.TheConstants.{LINE_LIMIT};
 ghost use Rattle.crx_lines.specs.declared.window.TheConstants.{LEAST_ROOM, SIZE};
 
@@ -23,7 +24,7 @@ pub(crate) struct Place {
     pub(crate) has_return: bool,
 }
 
-/// The bytes from `start` to `end` are given and not lent yet.
+/// The bytes from `start` to `end` are given and pending.
 #[derive(Drop)]
 pub(crate) struct Window {
     bytes: Vec<u8>,
@@ -56,7 +57,7 @@ impl Window {
         &self.bytes[self.start..self.end]
     }
 
-    /// The bytes at these places, lent or not.
+    /// The bytes at these places, pending or not.
     pub(crate) fn part(&self, from: usize, to: usize) -> &[u8]
         requires ordered { from ≤ to }
         requires within { to ≤ SIZE }
@@ -71,8 +72,10 @@ impl Window {
         requires { len ≤ length (kept self.now) }
         ensures ordered { result.from ≤ result.to }
         ensures within { result.to ≤ SIZE }
-        ensures value { slice_range self.now.bytes.items result.from result.to ≡ without_return (take len (kept self.now)) }
-        ensures len { length (slice_range self.now.bytes.items result.from result.to) ≡ result.to - result.from }
+        ensures value { slice_range self.now.bytes.items result.from result.to
+            ≡ without_return (take len (kept self.now)) }
+        ensures len { length (slice_range self.now.bytes.items result.from result.to)
+            ≡ result.to - result.from }
         ensures has_return { result.has_return ≡ ends_with_return (take len (kept self.now)) }
     {
         let from = self.start;

@@ -1,6 +1,6 @@
 //! Writing that counts what went out.
 ghost use Rattle.std.specs.Prelude.{◌≡◌, ◌<◌, length, take, OnOk, OnErr, IfErr};
-ghost use Rattle.crx_lines.specs.Devices.{one_more};
+ghost use Rattle.crx_lines.specs.meaning.Devices.{one_more};
 
 use crate::device::{Sink, WriteFailed};
 

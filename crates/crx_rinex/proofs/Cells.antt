@@ -1,28 +1,35 @@
 -- The cells of a satellite line, taken one by one.
-use Rattle.std.proofs.Common.{◌≡◌, ℕ, ℤ, ◌+◌, ◌-◌, ◌*◌, ◌<◌, ◌≤◌, true, ◌&&◌, All, List, [], ◌∷◌, ◌++◌, Option, Some, None, length, take, drop, replicate, get_or, refl, ap, sym, subst, ◌∙◌, arith, suc, zero}
+use Rattle.std.proofs.Common.{◌≡◌, ℕ, ℤ, ◌+◌, ◌-◌, ◌*◌, ◌<◌, ◌≤◌, true, ◌&&◌, All, List, [], ◌∷◌, ◌++◌, Option, Some}
+use Rattle.std.proofs.Common.{None, length, take, drop, replicate, get_or, refl, ap, sym, subst, ◌∙◌, arith, suc, zero}
 use Rattle.std.specs.List.{concat, list_all}
 use Rattle.std.proofs.lemmas.Bool.{and_from}
 use Rattle.std.proofs.lemmas.List.Elements.{All-replicate}
 use Rattle.std.proofs.lemmas.List.Folds.{concat-append, list_all-append}
 use Rattle.std.specs.Prelude.{slice_set}
-use Rattle.std.proofs.lemmas.List.{take_more_set, length-set, take_at, take-append-le, drop_all, length-drop, length-append, length-replicate, append_assoc}
+use Rattle.std.proofs.lemmas.List.{take_more_set, length-set, take_at, take-append-le, drop_all, length-drop}
+use Rattle.std.proofs.lemmas.List.{length-append, length-replicate, append_assoc}
 use Rattle.std.proofs.lemmas.Option.{option_and_then_some, same_Some, none-some}
-use Rattle.crx_text.specs.Columns.{character_at, columns}
-use Rattle.crx_rinex.specs.EachPlace.{each_place}
-use Rattle.crx_rinex.specs.Observations.{Row}
-use Rattle.crx_text.specs.Numbers.{observation_of, number_of}
-use Rattle.crx_text.specs.Texts.{is_kept}
-use Rattle.crx_rinex.specs.ObservationTypes.{is_system, IsAllowedCount}
-use Rattle.crx_rinex.specs.SatelliteLines.{all_some, values_in, flags_at, flags_in, field, has_number, is_identifier, blank_row, with_flags, IsSoundRow, IsValue}
+use Rattle.crx_text.specs.meaning.Columns.{character_at, columns}
+use Rattle.crx_rinex.specs.meaning.EachPlace.{each_place}
+use Rattle.crx_rinex.specs.meaning.Observations.{Row}
+use Rattle.crx_text.specs.meaning.Numbers.{observation_of, number_of}
+use Rattle.crx_text.specs.meaning.Texts.{is_kept}
+use Rattle.crx_rinex.specs.meaning.ObservationTypes.{is_system, IsAllowedCount}
+use Rattle.crx_rinex.specs.meaning.SatelliteLines.{all_some, values_in, flags_at, flags_in, field, has_number}
+use Rattle.crx_rinex.specs.meaning.SatelliteLines.{is_identifier, IsSoundRow, IsValue}
+use Rattle.crx_rinex.specs.SatelliteLines.{blank_row, with_flags}
 use Rattle.crx_rinex.proofs.EachPlace.{each_place-more, index-each_place, length-each_place}
 
 -- one value more
-pub all_some-push : (xs : List (Option (Option ℤ))) (vs : List (Option ℤ)) (v : Option ℤ) → all_some xs ≡ Some vs → all_some (xs ++ Some v ∷ []) ≡ Some (vs ++ v ∷ [])
+pub all_some-push : (xs : List (Option (Option ℤ))) (vs : List (Option ℤ)) (v : Option ℤ)
+    → all_some xs ≡ Some vs → all_some (xs ++ Some v ∷ []) ≡ Some (vs ++ v ∷ [])
 all_some-push [] vs v h = ap (λ (ws : List (Option ℤ)). Some (ws ++ v ∷ [])) (same_Some [] vs h)
 all_some-push (None ∷ xs) vs v h = absurd (none-some vs h)
 all_some-push (Some x ∷ xs) vs v h =
-    option_and_then_some {P = all_some (Some x ∷ (xs ++ Some v ∷ [])) ≡ Some (vs ++ v ∷ [])} (λ values. Some (x ∷ values)) (all_some xs) vs h
-    (λ ws e g. rw (all_some-push xs ws v e) (ap (λ (us : List (Option ℤ)). Some (us ++ v ∷ [])) (same_Some (x ∷ ws) vs g)))
+    option_and_then_some {P = all_some (Some x ∷ (xs ++ Some v ∷ [])) ≡ Some (vs ++ v ∷ [])}
+    (λ values. Some (x ∷ values)) (all_some xs) vs h
+    (λ ws e g. rw (all_some-push xs ws v e)
+    (ap (λ (us : List (Option ℤ)). Some (us ++ v ∷ [])) (same_Some (x ∷ ws) vs g)))
 
 -- one that is missing a spelling
 pub all_some_at : (xs : List (Option (Option ℤ))) (k : ℕ) → k < length xs → get_or xs k None ≡ None → all_some xs ≡ None
@@ -31,7 +38,8 @@ all_some_at (None ∷ xs) k h e = refl
 all_some_at (Some x ∷ xs) zero h e = absurd (none-some x (sym e))
 all_some_at (Some x ∷ xs) (suc k) h e = rw (all_some_at xs k (omega arith) e) refl
 
-pub values_in_more : (line : List ℕ) (k : ℕ) (vs : List (Option ℤ)) (v : Option ℤ) → values_in k line ≡ Some vs → observation_of (field line k) ≡ Some v → values_in (k + 1) line ≡ Some (vs ++ v ∷ [])
+pub values_in_more : (line : List ℕ) (k : ℕ) (vs : List (Option ℤ)) (v : Option ℤ)
+    → values_in k line ≡ Some vs → observation_of (field line k) ≡ Some v → values_in (k + 1) line ≡ Some (vs ++ v ∷ [])
 values_in_more line k vs v h e =
     ap all_some (each_place-more k (λ j. observation_of (field line j)))
     ∙ ap (λ (o : Option (Option ℤ)). all_some (each_place k (λ j. observation_of (field line j)) ++ o ∷ [])) e
@@ -44,7 +52,8 @@ values_in_none line k m h e =
     (index-each_place m k (λ j. observation_of (field line j)) None (λ past. absurd (omega (arith, past))) ∙ e)
 
 pub flags_in_more : (line : List ℕ) (k : ℕ) → flags_in (k + 1) line ≡ flags_in k line ++ flags_at line k
-flags_in_more line k = ap concat (each_place-more k (flags_at line)) ∙ concat-append (each_place k (flags_at line)) (flags_at line k ∷ [])
+flags_in_more line k = ap concat (each_place-more k (flags_at line))
+    ∙ concat-append (each_place k (flags_at line)) (flags_at line k ∷ [])
 
 -- a field past the line's end is blank, and so missing
 pub field_past : (line : List ℕ) (k : ℕ) → length line ≤ 16 * k + 3 → observation_of (field line k) ≡ Some None
@@ -60,14 +69,16 @@ field_inside line k h =
     rw e (take-append-le 14 (drop (16 * k + 3) line) (replicate 14 32) (omega (arith, length-drop (16 * k + 3) line)))
 
 -- an identifier's columns
-pub identifier_columns : (line : List ℕ) → is_identifier (columns line 1 3) ≡ (is_system (character_at line 1) && has_number line)
+pub identifier_columns : (line : List ℕ)
+    → is_identifier (columns line 1 3) ≡ (is_system (character_at line 1) && has_number line)
 identifier_columns [] = refl
 identifier_columns (a ∷ []) = refl
 identifier_columns (a ∷ b ∷ []) = refl
 identifier_columns (a ∷ b ∷ c ∷ cs) = refl
 
 -- two indicators more
-pub pair_pushed : (line : List ℕ) (k : ℕ) (flags : List ℕ) (a b : ℕ) → 2 * k + 1 < length flags → take (2 * k) flags ≡ flags_in k line → a ≡ character_at line (16 * k + 18) → b ≡ character_at line (16 * k + 19)
+pub pair_pushed : (line : List ℕ) (k : ℕ) (flags : List ℕ) (a b : ℕ) → 2 * k + 1 < length flags
+    → take (2 * k) flags ≡ flags_in k line → a ≡ character_at line (16 * k + 18) → b ≡ character_at line (16 * k + 19)
     → take (2 * (k + 1)) (slice_set (slice_set flags (2 * k) a) (2 * k + 1) b) ≡ flags_in (k + 1) line
 pair_pushed line k flags a b room h ha hb =
     let one = slice_set flags (2 * k) a in
@@ -77,7 +88,8 @@ pair_pushed line k flags a b room h ha hb =
     ∙ take_more_set one (2 * k + 1) b (omega (arith, room, long))
     ∙ ap (λ (fs : List ℕ). fs ++ b ∷ []) (take_more_set flags (2 * k) a (omega (arith, room)))
     ∙ append_assoc (take (2 * k) flags) (a ∷ []) (b ∷ [])
-    ∙ ap (λ (fs : List ℕ). fs ++ a ∷ b ∷ []) h ∙ ap (λ (x : ℕ). flags_in k line ++ x ∷ b ∷ []) ha ∙ ap (λ (x : ℕ). flags_in k line ++ character_at line (16 * k + 18) ∷ x ∷ []) hb
+    ∙ ap (λ (fs : List ℕ). fs ++ a ∷ b ∷ []) h ∙ ap (λ (x : ℕ). flags_in k line ++ x ∷ b ∷ []) ha
+    ∙ ap (λ (x : ℕ). flags_in k line ++ character_at line (16 * k + 18) ∷ x ∷ []) hb
     ∙ sym (flags_in_more line k)
 
 all_kept_blanks : (n : ℕ) → list_all is_kept (replicate n 32) ≡ true
@@ -85,17 +97,34 @@ all_kept_blanks zero = refl
 all_kept_blanks (suc n) = all_kept_blanks n
 
 -- a row of sound cells
-pub sound-cells : (name : List ℕ) (values : List (Option ℤ)) (flags : List ℕ) (m : ℕ) → is_identifier name ≡ true → IsAllowedCount m → length values ≡ m → length flags ≡ 2 * m
-    → All IsValue values → list_all is_kept flags ≡ true → IsSoundRow (record { name = name; values = values; flags = flags })
+pub sound-cells : (name : List ℕ) (values : List (Option ℤ)) (flags : List ℕ) (m : ℕ)
+    → is_identifier name ≡ true → IsAllowedCount m → length values ≡ m → length flags ≡ 2 * m
+    → All IsValue values → list_all is_kept flags ≡ true
+    → IsSoundRow (record { name = name; values = values; flags = flags })
 sound-cells name values flags m named allowed long pairs ranged kept =
-    record { named = named; counted = subst IsAllowedCount (sym long) allowed; ranged = ranged; paired = omega (arith, long, pairs); kept = kept }
+    record {
+      named = named;
+      counted = subst IsAllowedCount (sym long) allowed;
+      ranged = ranged;
+      paired = omega (arith, long, pairs);
+      kept = kept;
+    }
 
 -- the same where each list was written through a slice of so many elements
-pub sound-written : (name : List ℕ) (values old_values : List (Option ℤ)) (flags old_flags : List ℕ) (m n k : ℕ) → is_identifier name ≡ true → IsAllowedCount m → length values ≡ m → length flags ≡ 2 * m → n ≡ m → k ≡ 2 * m
+pub sound-written : (name : List ℕ) (values old_values : List (Option ℤ)) (flags old_flags : List ℕ) (m n k : ℕ)
+    → is_identifier name ≡ true → IsAllowedCount m → length values ≡ m → length flags ≡ 2 * m → n ≡ m → k ≡ 2 * m
     → All IsValue values → list_all is_kept flags ≡ true
-    → IsSoundRow (record { name = name; values = take n (values ++ drop (length values) old_values); flags = take k (flags ++ drop (length flags) old_flags) })
+    → IsSoundRow (record {
+      name = name;
+      values = take n (values ++ drop (length values) old_values);
+      flags = take k (flags ++ drop (length flags) old_flags);
+    })
 sound-written name values old_values flags old_flags m n k named allowed long pairs n_is k_is ranged kept =
-    rw (take_at values (drop (length values) old_values) n (omega (arith, long, n_is)), take_at flags (drop (length flags) old_flags) k (omega (arith, pairs, k_is)))
+    rw (
+      take_at values (drop (length values) old_values) n
+          (omega (arith, long, n_is)),
+      take_at flags (drop (length flags) old_flags) k (omega (arith, pairs, k_is)),
+    )
     (sound-cells name values flags m named allowed long pairs ranged kept)
 
 -- rows stay sound
@@ -103,18 +132,26 @@ pub sound-blank : (name : List ℕ) (m : ℕ) → is_identifier name ≡ true �
 sound-blank name m named small =
     record {
       named = named;
-      counted = let e = length-replicate {A = Option ℤ} m None in (omega (arith, e, small.0), omega (arith, e, small.1));
+      counted = let e = length-replicate {A = Option ℤ} m None in
+          (omega (arith, e, small.0), omega (arith, e, small.1));
       ranged = All-replicate IsValue m None tt;
       paired = length-replicate (2 * m) 32 ∙ ap (λ (n : ℕ). 2 * n) (sym (length-replicate {A = Option ℤ} m None));
       kept = all_kept_blanks (2 * m);
     }
 
-pub sound-with_flags : (row : Row) (flags : List ℕ) → IsSoundRow row → length flags ≤ 2 * length row.values → list_all is_kept flags ≡ true → IsSoundRow (with_flags row flags)
+pub sound-with_flags : (row : Row) (flags : List ℕ) → IsSoundRow row
+    → length flags ≤ 2 * length row.values → list_all is_kept flags ≡ true → IsSoundRow (with_flags row flags)
 sound-with_flags row flags h small kept =
     record {
       named = h.named;
       counted = h.counted;
       ranged = h.ranged;
-      paired = omega (arith, length-append flags (replicate (2 * length row.values - length flags) 32), length-replicate {A = ℕ} (2 * length row.values - length flags) 32);
-      kept = list_all-append is_kept flags (replicate (2 * length row.values - length flags) 32) ∙ and_from (list_all is_kept flags) (list_all is_kept (replicate (2 * length row.values - length flags) 32)) kept (all_kept_blanks (2 * length row.values - length flags));
+      paired = omega (
+        arith,
+        length-append flags (replicate (2 * length row.values - length flags) 32),
+        length-replicate {A = ℕ} (2 * length row.values - length flags) 32,
+      );
+      kept = list_all-append is_kept flags (replicate (2 * length row.values - length flags) 32)
+          ∙ and_from (list_all is_kept flags) (list_all is_kept (replicate (2 * length row.values - length flags) 32))
+          kept (all_kept_blanks (2 * length row.values - length flags));
     }

@@ -1,8 +1,10 @@
--- Texts by their characters, blanks standing after them: what is read by columns doesn't ask for the blanks at a text's end.
-use Rattle.std.specs.Prelude.{◌≡◌, refl, ℕ, zero, suc, ◌+◌, ◌-◌, ◌<◌, ◌≤◌, Bool, true, ◌&&◌, List, [], ◌∷◌, ◌++◌, length, take, drop, replicate, slice_index_or}
+-- Texts by their characters, blanks standing after them: what is read by columns doesn't ask for the blanks at a text's
+-- end.
+use Rattle.std.specs.Prelude.{◌≡◌, refl, ℕ, zero, suc, ◌+◌, ◌-◌, ◌<◌, ◌≤◌, Bool, true, ◌&&◌, List, [], ◌∷◌, ◌++◌}
+use Rattle.std.specs.Prelude.{length, take, drop, replicate, slice_index_or}
 use Rattle.std.specs.List.{list_all}
 use Rattle.std.proofs.Common.{sym, ◌∙◌, ap, arith, not-suc-le-zero}
-use Rattle.crx_text.specs.Columns.{before_end_blanks, without_end_blanks, columns}
+use Rattle.crx_text.specs.meaning.Columns.{before_end_blanks, without_end_blanks, columns}
 
 -- the character at a position, from 0
 abbrev pub at : List ℕ → ℕ → ℕ
@@ -16,7 +18,8 @@ at-before_end_blanks c [] (suc p) = grind arith
 pub at-without_end_blanks : (text : List ℕ) (p : ℕ) → at (without_end_blanks text) p ≡ at text p
 at-without_end_blanks [] p = refl
 at-without_end_blanks (c ∷ cs) zero = at-before_end_blanks c (without_end_blanks cs) zero
-at-without_end_blanks (c ∷ cs) (suc p) = at-before_end_blanks c (without_end_blanks cs) (suc p) ∙ at-without_end_blanks cs p
+at-without_end_blanks (c ∷ cs) (suc p) = at-before_end_blanks c (without_end_blanks cs) (suc p)
+    ∙ at-without_end_blanks cs p
 
 pub at-drop : (k : ℕ) (text : List ℕ) (p : ℕ) → at (drop k text) p ≡ at text (k + p)
 at-drop zero text p = ap (at text) (omega arith)
@@ -37,7 +40,8 @@ at-append_past (x ∷ xs) ys n p e =
     ap (at (x ∷ (xs ++ ys))) next ∙ at-append_past xs ys (length xs) p refl
 
 -- a text that blanks stand after, cut at a width
-take-padded : (n k : ℕ) (text want : List ℕ) → n ≤ k → length want ≡ n → ((p : ℕ) → p < n → at text p ≡ at want p) → take n (text ++ replicate k 32) ≡ want
+take-padded : (n k : ℕ) (text want : List ℕ)
+    → n ≤ k → length want ≡ n → ((p : ℕ) → p < n → at text p ≡ at want p) → take n (text ++ replicate k 32) ≡ want
 take-padded zero k text [] le e h = refl
 take-padded zero k text (w ∷ ws) le e h = absurd (omega (arith, e))
 take-padded (suc n) k text [] le e h = absurd (omega (arith, e))
@@ -45,17 +49,20 @@ take-padded (suc n) zero text (w ∷ ws) le e h = absurd (not-suc-le-zero le)
 take-padded (suc n) (suc k) [] (w ∷ ws) le e h =
     let same : 32 ≡ w = h 0 (omega arith) in
     ap (λ c. c ∷ take n (replicate k 32)) same
-    ∙ ap (λ r. w ∷ r) (take-padded n k [] ws (omega (arith, le)) (omega (arith, e)) (λ p less. h (suc p) (omega (arith, less))))
+    ∙ ap (λ r. w ∷ r) (take-padded n k
+    [] ws (omega (arith, le)) (omega (arith, e)) (λ p less. h (suc p) (omega (arith, less))))
 take-padded (suc n) (suc k) (c ∷ cs) (w ∷ ws) le e h =
     let same : c ≡ w = h 0 (omega arith) in
     ap (λ d. d ∷ take n (cs ++ replicate (suc k) 32)) same
-    ∙ ap (λ r. w ∷ r) (take-padded n (suc k) cs ws (omega (arith, le)) (omega (arith, e)) (λ p less. h (suc p) (omega (arith, less))))
+    ∙ ap (λ r. w ∷ r) (take-padded n
+    (suc k) cs ws (omega (arith, le)) (omega (arith, e)) (λ p less. h (suc p) (omega (arith, less))))
 
 -- columns by their characters
 pub columns-are : (text : List ℕ) (first width : ℕ) (want : List ℕ) → length want ≡ width
     → ((p : ℕ) → p < width → at text (first - 1 + p) ≡ at want p) → columns text first width ≡ want
 columns-are text first width want e h =
-    take-padded width width (drop (first - 1) text) want (omega arith) e (λ p less. at-drop (first - 1) text p ∙ h p less)
+    take-padded width width (drop (first - 1) text) want
+    (omega arith) e (λ p less. at-drop (first - 1) text p ∙ h p less)
 
 pub list_all-from_at : (p : ℕ → Bool) (text : List ℕ) → ((k : ℕ) → p (at text k) ≡ true) → list_all p text ≡ true
 list_all-from_at p [] h = refl

@@ -1,16 +1,22 @@
 -- Counts of types, letter by letter: what a map from letters holds is what the lines declare.
-use Rattle.std.proofs.Common.{◌≡◌, ℕ, ◌+◌, ◌<◌, ◌≤◌, zero, suc, drop, slice_get, length, Bool, true, false, cond, eqb, List, [], ◌∷◌, ◌++◌, Option, Some, None, is_none, IfSome, OnSome, refl, ap, sym, subst, ◌∙◌, inl, inr, arith, leb, ◌&&◌}
+use Rattle.std.proofs.Common.{◌≡◌, ℕ, ◌+◌, ◌<◌, ◌≤◌, zero, suc, drop, slice_get, length, Bool, true, false, cond, eqb}
+use Rattle.std.proofs.Common.{List, [], ◌∷◌, ◌++◌, Option, Some, None, is_none, IfSome, OnSome, refl, ap, sym, subst}
+use Rattle.std.proofs.Common.{◌∙◌, inl, inr, arith, leb, ◌&&◌}
 use Rattle.std.specs.List.{All, cons_option, list_any}
 use Rattle.std.specs.Map.{lookup}
-use Rattle.std.proofs.lemmas.Bool.{cases_eq, cases_Bool, eq-eqb, ne_eqb, eqb-true, leb-true, and_parts, and_from, false≢true}
+use Rattle.std.proofs.lemmas.Bool.{cases_eq, cases_Bool, eq-eqb, ne_eqb, eqb-true, leb-true, and_parts, and_from}
+use Rattle.std.proofs.lemmas.Bool.{false≢true}
 use Rattle.std.proofs.lemmas.List.{append-nil}
 use Rattle.std.proofs.lemmas.List.Elements.{filter_map-append, All-cons, All-head, All-tail, All-weaker}
 use Rattle.std.proofs.lemmas.Map.Entries.{All-lookup}
 use Rattle.indexmap.specs.IndexMap.{insert_entry}
-use Rattle.crx_rinex.specs.ObservationTypes.{Count, AreCounts, IsAllowedCount, IsCount, letters_differ, system_letters, is_system, count_of, with_count, after_count, with_line, without, last_count, last_counts, counts_in, count_of_types_line, types_of, is_types_line, count_in, count_if_allowed}
+use Rattle.crx_rinex.specs.meaning.ObservationTypes.{Count, IsAllowedCount, system_letters, is_system, count_of}
+use Rattle.crx_rinex.specs.meaning.ObservationTypes.{without, last_count, last_counts, counts_in, count_of_types_line}
+use Rattle.crx_rinex.specs.meaning.ObservationTypes.{types_of, is_types_line, count_in, count_if_allowed}
+use Rattle.crx_rinex.specs.ObservationTypes.{AreCounts, IsCount, letters_differ, with_count, after_count, with_line}
 use Rattle.crx_lines.specs.declared.limits.TheConstants.{TYPES_LIMIT}
-use Rattle.crx_rinex.specs.Label.{number_in}
-use Rattle.crx_text.specs.Columns.{character_at, columns}
+use Rattle.crx_rinex.specs.meaning.Label.{number_in}
+use Rattle.crx_text.specs.meaning.Columns.{character_at, columns}
 use Rattle.std.proofs.lemmas.Option.{cond_some, option_and_then_some, none-some, same_Some}
 
 same_test : (a b : ℕ) → eqb a b ≡ eqb b a
@@ -26,30 +32,37 @@ lookup_is_count [] letter = refl
 lookup_is_count (e ∷ es) letter = rw (same_test letter e.0, lookup_is_count es letter) refl
 
 -- a map's insert
-pub insert_is_with : (es : List Count) (letter count : ℕ) → insert_entry eqb es letter count ≡ with_count es letter count
+pub insert_is_with : (es : List Count) (letter count : ℕ)
+    → insert_entry eqb es letter count ≡ with_count es letter count
 insert_is_with [] letter count = refl
 insert_is_with (e ∷ es) letter count = rw (insert_is_with es letter count) refl
 
-last_count-push : (letter count : ℕ) (cs : List Count) (c : Count) → last_count letter count (cs ++ c ∷ []) ≡ cond (eqb c.0 letter) c.1 (last_count letter count cs)
+last_count-push : (letter count : ℕ) (cs : List Count) (c : Count)
+    → last_count letter count (cs ++ c ∷ []) ≡ cond (eqb c.0 letter) c.1 (last_count letter count cs)
 last_count-push letter count [] c = refl
 last_count-push letter count (d ∷ ds) c =
-    elim (eqb d.0 letter) as (λ b. cond b (last_count letter d.1 (ds ++ c ∷ [])) (last_count letter count (ds ++ c ∷ [])) ≡ cond (eqb c.0 letter) c.1 (cond b (last_count letter d.1 ds) (last_count letter count ds)))
+    elim (eqb d.0 letter) as (λ b. cond b (last_count letter d.1 (ds ++ c ∷ [])) (last_count letter count
+    (ds ++ c ∷ [])) ≡ cond (eqb c.0 letter) c.1 (cond b (last_count letter d.1 ds) (last_count letter count ds)))
     [ true ↦ last_count-push letter d.1 ds c | false ↦ last_count-push letter count ds c ]
 
 -- what is left of the others is the same after a letter's own count
-without-with_same : (letter count : ℕ) (es : List Count) → without letter (with_count es letter count) ≡ without letter es
+without-with_same : (letter count : ℕ) (es : List Count)
+    → without letter (with_count es letter count) ≡ without letter es
 without-with_same letter count [] = let e : eqb letter letter ≡ true = eq-eqb letter letter refl in rw e refl
 without-with_same letter count (e ∷ es) =
     elim (cases_Bool (eqb letter e.0)) [
       | inl t ↦ let h : eqb e.0 letter ≡ true = same_test e.0 letter ∙ t in rw (t, h) refl
-      | inr f ↦ let h : eqb e.0 letter ≡ false = same_test e.0 letter ∙ f in rw (f, h) (ap (λ (r : List Count). e ∷ r) (without-with_same letter count es))
+      | inr f ↦ let h : eqb e.0 letter ≡ false = same_test e.0 letter ∙ f in
+          rw (f, h) (ap (λ (r : List Count). e ∷ r) (without-with_same letter count es))
     ]
 
-without-with_other : (a letter count : ℕ) (es : List Count) → eqb letter a ≡ false → without a (with_count es letter count) ≡ with_count (without a es) letter count
+without-with_other : (a letter count : ℕ) (es : List Count)
+    → eqb letter a ≡ false → without a (with_count es letter count) ≡ with_count (without a es) letter count
 without-with_other a letter count [] n = rw n refl
 without-with_other a letter count (e ∷ es) n =
     elim (cases_Bool (eqb letter e.0)) [
-      | inl t ↦ let h : eqb e.0 a ≡ false = ap (λ (x : ℕ). eqb x a) (sym (eqb-true letter e.0 t)) ∙ n in rw (t, h, t) refl
+      | inl t ↦ let h : eqb e.0 a ≡ false = ap (λ (x : ℕ). eqb x a) (sym (eqb-true letter e.0 t))
+          ∙ n in rw (t, h, t) refl
       | inr f ↦ elim (cases_Bool (eqb e.0 a)) [
         | inl y ↦ rw (f, y) (without-with_other a letter count es n)
         | inr y ↦ rw (f, y, f) (ap (λ (r : List Count). e ∷ r) (without-with_other a letter count es n))
@@ -64,22 +77,27 @@ last_counts-push (d ∷ ds) c =
     elim (cases_Bool (eqb c.0 d.0)) [
       | inl t ↦
           let same : without d.0 (with_count (last_counts ds) c.0 c.1) ≡ without d.0 (last_counts ds) =
-          subst (λ (x : ℕ). without x (with_count (last_counts ds) c.0 c.1) ≡ without x (last_counts ds)) (eqb-true c.0 d.0 t) (without-with_same c.0 c.1 (last_counts ds)) in
+          subst (λ (x : ℕ). without x (with_count (last_counts ds) c.0 c.1) ≡ without x (last_counts ds))
+          (eqb-true c.0 d.0 t) (without-with_same c.0 c.1 (last_counts ds)) in
           rw (last, others, same, t) refl
       | inr f ↦
-          let same : without d.0 (with_count (last_counts ds) c.0 c.1) ≡ with_count (without d.0 (last_counts ds)) c.0 c.1 = without-with_other d.0 c.0 c.1 (last_counts ds) f in
+          let same : without d.0 (with_count (last_counts ds) c.0 c.1)
+          ≡ with_count (without d.0 (last_counts ds)) c.0 c.1 = without-with_other d.0 c.0 c.1 (last_counts ds) f in
           rw (last, others, same, f) refl
     ]
 
 -- what the lines declare, one line on
-pub types_of-push : (lines : List (List ℕ)) (line : List ℕ) → types_of (lines ++ line ∷ []) ≡ with_line (types_of lines) line
+pub types_of-push : (lines : List (List ℕ)) (line : List ℕ)
+    → types_of (lines ++ line ∷ []) ≡ with_line (types_of lines) line
 types_of-push lines line =
     ap last_counts (filter_map-append count_of_types_line lines (line ∷ []))
-    ∙ (elim (count_of_types_line line) as (λ o. last_counts (counts_in lines ++ cons_option o []) ≡ after_count (types_of lines) o)
+    ∙ (elim (count_of_types_line line) as (λ o. last_counts (counts_in lines ++ cons_option o [])
+    ≡ after_count (types_of lines) o)
     [ None ↦ ap last_counts (append-nil (counts_in lines)) | Some c ↦ last_counts-push (counts_in lines) c ])
 
 -- counts stay allowed
-allowed-with_count : (es : List Count) (letter count : ℕ) → All IsCount es → is_system letter ≡ true → IsAllowedCount count → All IsCount (with_count es letter count)
+allowed-with_count : (es : List Count) (letter count : ℕ)
+    → All IsCount es → is_system letter ≡ true → IsAllowedCount count → All IsCount (with_count es letter count)
 allowed-with_count [] letter count h s a = All-cons IsCount (letter, count) [] (s, a) h
 allowed-with_count (e ∷ es) letter count h s a =
     let first : IsCount e = All-head IsCount e es h in
@@ -90,44 +108,56 @@ allowed-with_count (e ∷ es) letter count h s a =
     ]
 
 -- another letter's count leaves a letter absent
-absent-with_count : (es : List Count) (a letter count : ℕ) → eqb letter a ≡ false → is_none (count_of es a) ≡ true → is_none (count_of (with_count es letter count) a) ≡ true
+absent-with_count : (es : List Count) (a letter count : ℕ)
+    → eqb letter a ≡ false → is_none (count_of es a) ≡ true → is_none (count_of (with_count es letter count) a) ≡ true
 absent-with_count [] a letter count n h = rw n refl
 absent-with_count (e ∷ es) a letter count n h =
     elim (cases_Bool (eqb e.0 a)) [
       | inl t ↦ absurd (false≢true ((rw t at h)))
-      | inr f ↦ elim (eqb letter e.0) as (λ b. is_none (count_of (cond b ((e.0, count) ∷ es) (e ∷ with_count es letter count)) a) ≡ true) [
-        | true ↦ rw f (rw f at h)
-        | false ↦ rw f (absent-with_count es a letter count n (rw f at h))
-      ]
+      | inr f ↦ elim (eqb letter e.0) as (λ b.
+          is_none (count_of (cond b ((e.0, count) ∷ es) (e ∷ with_count es letter count)) a) ≡ true) [
+            | true ↦ rw f (rw f at h)
+            | false ↦ rw f (absent-with_count es a letter count n (rw f at h))
+          ]
     ]
 
-apart-with_count : (es : List Count) (letter count : ℕ) → letters_differ es ≡ true → letters_differ (with_count es letter count) ≡ true
+apart-with_count : (es : List Count) (letter count : ℕ)
+    → letters_differ es ≡ true → letters_differ (with_count es letter count) ≡ true
 apart-with_count [] letter count h = refl
 apart-with_count (e ∷ es) letter count h =
     let parts = and_parts (is_none (count_of es e.0)) (letters_differ es) h in
     elim (cases_Bool (eqb letter e.0)) [
       | inl t ↦ rw t h
-      | inr f ↦ rw f (and_from (is_none (count_of (with_count es letter count) e.0)) (letters_differ (with_count es letter count)) (absent-with_count es e.0 letter count f parts.0) (apart-with_count es letter count parts.1))
+      | inr f ↦ rw f (and_from (is_none (count_of (with_count es letter count) e.0)) (letters_differ (with_count es
+          letter count)) (absent-with_count es e.0 letter count f parts.0) (apart-with_count es letter count parts.1))
     ]
 
-pub AreCounts-with_count : (es : List Count) (letter count : ℕ) → AreCounts es → is_system letter ≡ true → IsAllowedCount count → AreCounts (with_count es letter count)
+pub AreCounts-with_count : (es : List Count) (letter count : ℕ)
+    → AreCounts es → is_system letter ≡ true → IsAllowedCount count → AreCounts (with_count es letter count)
 AreCounts-with_count es letter count h s a =
-    record { allowed = allowed-with_count es letter count h.allowed s a; apart = apart-with_count es letter count h.apart }
+    record {
+      allowed = allowed-with_count es letter count h.allowed s a;
+      apart = apart-with_count es letter count h.apart;
+    }
 
 pub allowed_of : (es : List Count) (letter : ℕ) → AreCounts es → IfSome (count_of es letter) IsAllowedCount
 allowed_of es letter h =
     let Q : Count → Type 0 = λ c. IsAllowedCount c.1 in
-    subst (λ (o : Option ℕ). IfSome o IsAllowedCount) (lookup_is_count es letter) (All-lookup IsAllowedCount (eqb letter) es (All-weaker IsCount Q (λ c p. p.1) es h.allowed))
+    subst (λ (o : Option ℕ). IfSome o IsAllowedCount) (lookup_is_count es letter)
+    (All-lookup IsAllowedCount (eqb letter) es (All-weaker IsCount Q (λ c p. p.1) es h.allowed))
 
 -- a line that isn't a types line changes nothing
-pub with_line-other : (counts : List Count) (line : List ℕ) → is_types_line line ≡ false → with_line counts line ≡ counts
+pub with_line-other : (counts : List Count) (line : List ℕ)
+    → is_types_line line ≡ false → with_line counts line ≡ counts
 with_line-other counts line h = ap (λ (b : Bool). after_count counts (cond b (count_in line) None)) h
 
-pub with_line-types : (counts : List Count) (line : List ℕ) (letter count : ℕ) → is_types_line line ≡ true → count_in line ≡ Some (letter, count) → with_line counts line ≡ with_count counts letter count
+pub with_line-types : (counts : List Count) (line : List ℕ) (letter count : ℕ) → is_types_line line ≡ true
+    → count_in line ≡ Some (letter, count) → with_line counts line ≡ with_count counts letter count
 with_line-types counts line letter count h e =
     ap (λ (b : Bool). after_count counts (cond b (count_in line) None)) h ∙ ap (after_count counts) e
 
-allowed_if : (l n letter count : ℕ) → count_if_allowed l n ≡ Some (letter, count) → (is_system letter ≡ true) × IsAllowedCount count
+allowed_if : (l n letter count : ℕ)
+    → count_if_allowed l n ≡ Some (letter, count) → (is_system letter ≡ true) × IsAllowedCount count
 allowed_if l n letter count g =
     let s = cond_some (is_system l && (leb 1 n && leb n TYPES_LIMIT)) (l, n) (letter, count) g in
     let a = and_parts (is_system l) (leb 1 n && leb n TYPES_LIMIT) s.0 in
@@ -137,9 +167,11 @@ allowed_if l n letter count g =
     (ap is_system (sym e) ∙ a.0, (omega (arith, leb-true 1 n b.0), omega (arith, leb-true n TYPES_LIMIT b.1)))
 
 -- what a types line says is allowed
-pub count_in_allowed : (line : List ℕ) (letter count : ℕ) → count_in line ≡ Some (letter, count) → (is_system letter ≡ true) × IsAllowedCount count
+pub count_in_allowed : (line : List ℕ) (letter count : ℕ)
+    → count_in line ≡ Some (letter, count) → (is_system letter ≡ true) × IsAllowedCount count
 count_in_allowed line letter count h =
-    option_and_then_some {P = (is_system letter ≡ true) × IsAllowedCount count} (count_if_allowed (character_at line 1)) (number_in (columns line 4 3)) (letter, count) h
+    option_and_then_some {P = (is_system letter ≡ true) × IsAllowedCount count}
+    (count_if_allowed (character_at line 1)) (number_in (columns line 4 3)) (letter, count) h
     (λ n e g. allowed_if (character_at line 1) n letter count g)
 
 -- a letter that has a count is that of a system
@@ -155,7 +187,8 @@ pub system_of : (es : List Count) (letter : ℕ) → AreCounts es → OnSome (co
 system_of es letter h = system_in es letter h.allowed
 
 -- the entries from a place on decide by their first, or else by the others
-pub count_at : (es : List Count) (k : ℕ) (e : Count) (letter : ℕ) → slice_get es k ≡ Some e → count_of (drop k es) letter ≡ cond (eqb e.0 letter) (Some e.1) (count_of (drop (suc k) es) letter)
+pub count_at : (es : List Count) (k : ℕ) (e : Count) (letter : ℕ) → slice_get es k ≡ Some e
+    → count_of (drop k es) letter ≡ cond (eqb e.0 letter) (Some e.1) (count_of (drop (suc k) es) letter)
 count_at [] k e letter h = absurd (none-some e h)
 count_at (c ∷ es) zero e letter h = let same : c ≡ e = same_Some c e h in rw (sym same) refl
 count_at (c ∷ es) (suc k) e letter h = count_at es k e letter h
@@ -200,9 +233,11 @@ more_times : (letters : List ℕ) (c : Count) (cs : List Count) → times_of_any
 more_times [] c cs = omega arith
 more_times (l ∷ ls) c cs =
     let rest = more_times ls c cs in
-    elim (eqb c.0 l) as (λ b. times l cs + times_of_any ls cs ≤ cond b (suc (times l cs)) (times l cs) + times_of_any ls (c ∷ cs)) [ true ↦ omega (arith, rest) | false ↦ omega (arith, rest) ]
+    elim (eqb c.0 l) as (λ b. times l cs + times_of_any ls cs ≤ cond b (suc (times l cs))
+    (times l cs) + times_of_any ls (c ∷ cs)) [ true ↦ omega (arith, rest) | false ↦ omega (arith, rest) ]
 
-one_time_more : (letters : List ℕ) (c : Count) (cs : List Count) → list_any (λ l. eqb l c.0) letters ≡ true → times_of_any letters cs < times_of_any letters (c ∷ cs)
+one_time_more : (letters : List ℕ) (c : Count) (cs : List Count)
+    → list_any (λ l. eqb l c.0) letters ≡ true → times_of_any letters cs < times_of_any letters (c ∷ cs)
 one_time_more [] c cs h = absurd (false≢true h)
 one_time_more (l ∷ ls) c cs h =
     let rest = more_times ls c cs in
@@ -210,7 +245,8 @@ one_time_more (l ∷ ls) c cs h =
       | inl t ↦ let e : eqb c.0 l ≡ true = same_test c.0 l ∙ t in rw e (omega (arith, rest))
       | inr f ↦
           let more = one_time_more ls c cs (rw f at h) in
-          elim (eqb c.0 l) as (λ b. times l cs + times_of_any ls cs < cond b (suc (times l cs)) (times l cs) + times_of_any ls (c ∷ cs)) [ true ↦ omega (arith, rest) | false ↦ omega (arith, more) ]
+          elim (eqb c.0 l) as (λ b. times l cs + times_of_any ls cs < cond b (suc (times l cs))
+          (times l cs) + times_of_any ls (c ∷ cs)) [ true ↦ omega (arith, rest) | false ↦ omega (arith, more) ]
     ]
 
 all_times : (cs : List Count) → All IsCount cs → length cs ≤ times_of_any system_letters cs
@@ -221,4 +257,5 @@ all_times (c ∷ cs) h =
     omega (arith, more, rest)
 
 pub systems_few : (counts : List Count) → AreCounts counts → length counts ≤ length system_letters
-systems_few counts h = let a = all_times counts h.allowed in let b = few_times system_letters counts h.apart in omega (arith, a, b)
+systems_few counts h = let a = all_times counts h.allowed in let b = few_times system_letters counts h.apart in
+    omega (arith, a, b)

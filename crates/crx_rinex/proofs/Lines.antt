@@ -1,5 +1,7 @@
--- Lines that are lent one by one from the front of a list.
-use Rattle.std.proofs.Common.{◌≡◌, ◌≢◌, ◌↔◌, ◌<◌, ℕ, ◌-◌, List, [], ◌∷◌, Option, Some, None, is_none, is_some, not, Bool, Bor, option_copied, IsTrue, drop, map, slice_get, refl, ap, sym, subst, ◌∙◌, true, false, true≢false, arith, suc, zero}
+-- Lines that are borrowed one by one, from the first of a list on.
+use Rattle.std.proofs.Common.{◌≡◌, ◌≢◌, ◌↔◌, ◌<◌, ℕ, ◌-◌, List, [], ◌∷◌, Option, Some, None, is_none, is_some, not}
+use Rattle.std.proofs.Common.{Bool, Bor, option_copied, IsTrue, drop, map, slice_get, refl, ap, sym, subst, ◌∙◌, true}
+use Rattle.std.proofs.Common.{false, true≢false, arith, suc, zero}
 use Rattle.std.proofs.lemmas.Option.{none-some}
 
 pub after_first : {X : Type 0} (x : X) (xs : List X) (n : ℕ) → n ≢ 0 → slice_get (x ∷ xs) n ≡ slice_get xs (n - 1)
@@ -19,25 +21,29 @@ some-left : {A : Type 0} (x : A) (xs : List A) → x ∷ xs ≡ [] → ⊥
 some-left x xs e = true≢false (ap (λ l. elim l [ [] ↦ false | y ∷ ys ↦ true ]) e)
 
 -- no element stands at a place exactly where nothing is left from there on
-none-left : {A B : Type 0} (f : A → B) (xs : List A) (k : ℕ) → IsTrue (is_none (slice_get xs k)) ↔ (drop k (map f xs) ≡ [])
+none-left : {A B : Type 0} (f : A → B) (xs : List A) (k : ℕ)
+    → IsTrue (is_none (slice_get xs k)) ↔ (drop k (map f xs) ≡ [])
 none-left f [] zero = ((λ t. refl), (λ e. refl))
 none-left f [] (suc k) = ((λ t. refl), (λ e. refl))
 none-left f (x ∷ xs) zero = ((λ t. absurd (true≢false (sym t))), (λ e. absurd (some-left (f x) (map f xs) e)))
 none-left f (x ∷ xs) (suc k) = none-left f xs k
 
 -- whether something stands at a place, as `is_some` says it of a reference
-none-copied : {A : Type 0} (b : Bool) (o : Option (Bor A)) → is_some o ≡ not b → IsTrue b ↔ IsTrue (is_none (option_copied o))
+none-copied : {A : Type 0} (b : Bool) (o : Option (Bor A))
+    → is_some o ≡ not b → IsTrue b ↔ IsTrue (is_none (option_copied o))
 none-copied true None is = ((λ t. refl), (λ t. refl))
 none-copied false None is = absurd (true≢false (sym is))
 none-copied true (Some x) is = absurd (true≢false is)
 none-copied false (Some x) is = ((λ t. absurd (true≢false (sym t))), (λ t. absurd (true≢false (sym t))))
 
 -- lines that are a first one and others are all lent where no other stands at the last place
-pub all-lent : {A B : Type 0} (f : A → B) (first : B) (xs : List A) (n : ℕ) (b : Bool) (o : Option (Bor A)) → 0 < n → is_some o ≡ not b → option_copied o ≡ slice_get xs (n - 1)
+pub all-lent : {A B : Type 0} (f : A → B) (first : B) (xs : List A) (n : ℕ) (b : Bool) (o : Option (Bor A))
+    → 0 < n → is_some o ≡ not b → option_copied o ≡ slice_get xs (n - 1)
     → IsTrue b ↔ (drop n (first ∷ map f xs) ≡ [])
 all-lent f first xs zero b o less is at = absurd (omega (arith, less))
 all-lent f first xs (suc n) b o less is at =
     let e : suc n - 1 ≡ n = omega arith in
     let one = none-copied b o is in
-    let two = subst (λ (p : Option _). IsTrue (is_none p) ↔ (drop n (map f xs) ≡ [])) (sym (at ∙ ap (slice_get xs) e)) (none-left f xs n) in
+    let two = subst (λ (p : Option _). IsTrue (is_none p) ↔ (drop n (map f xs) ≡ []))
+    (sym (at ∙ ap (slice_get xs) e)) (none-left f xs n) in
     ((λ t. two.0 (one.0 t)), (λ e. one.1 (two.1 e)))

@@ -1,17 +1,23 @@
 -- Epochs whose lines come one after another.
-use Rattle.std.proofs.Common.{◌≡◌, ℕ, ◌+◌, ◌-◌, ◌<◌, zero, suc, List, [], ◌∷◌, ◌++◌, length, Option, Some, None, Result, Ok, Err, refl, ap, sym, subst, ◌∙◌, inl, inr, arith, append-nil}
+use Rattle.std.proofs.Common.{◌≡◌, ℕ, ◌+◌, ◌-◌, ◌<◌, zero, suc, List, [], ◌∷◌, ◌++◌, length, Option, Some, None, Result}
+use Rattle.std.proofs.Common.{Ok, Err, refl, ap, sym, subst, ◌∙◌, inl, inr, arith, append-nil}
 use Rattle.std.specs.Prelude.{⊤}
 use Rattle.std.proofs.lemmas.List.{length_push}
 use Rattle.std.proofs.lemmas.Option.{same_Some, none-some}
-use Rattle.crx_lines.specs.Seen.{ReadLine, Content, Overlong}
+use Rattle.crx_lines.specs.meaning.Seen.{ReadLine, Content, Overlong}
 use Rattle.crx_lines.specs.declared.fault.Fault.{Fault}
-use Rattle.crx_rinex.specs.Observations.{Row, Epoch}
-use Rattle.crx_rinex.specs.Units.{Unit, Observation}
-use Rattle.crx_rinex.specs.Places.{Place, Here, Wrong, Wanted, after_lines, then_place, one_line, first_line}
-use Rattle.crx_rinex.specs.EpochLines.{ObservationHead}
-use Rattle.crx_rinex.specs.ObservationTypes.{Count}
+use Rattle.crx_rinex.specs.meaning.Observations.{Row, Epoch}
+use Rattle.crx_rinex.specs.meaning.Units.{Unit, Observation}
+use Rattle.crx_rinex.specs.meaning.Places.{Place, Here, Wrong, Wanted, after_lines, then_place, one_line, first_line}
+use Rattle.crx_rinex.specs.meaning.EpochLines.{ObservationHead}
+use Rattle.crx_rinex.specs.meaning.ObservationTypes.{Count}
 use Rattle.crx_rinex.specs.Steady.{IsSteady}
-use Rattle.crx_rinex.specs.EpochPlaces.{OpenEpoch, Beginning, EventBegins, EpochBegins, EpochStep, Going, Whole, Faulty, opened, rows_wanted, epoch_of, with_next_row, next_row, row_at, rows_at, rest_at, beginning_of, unit_begun, epoch_place, when_wanted, whole_or_going, after_row, epoch_step, still_open, opened_by, opened_at, open_after, open_with, place_after}
+use Rattle.crx_rinex.specs.meaning.EpochPlaces.{OpenEpoch, Beginning, EventBegins, EpochBegins, opened, rows_wanted}
+use Rattle.crx_rinex.specs.meaning.EpochPlaces.{epoch_of, with_next_row, next_row, row_at, rows_at, rest_at}
+use Rattle.crx_rinex.specs.meaning.EpochPlaces.{beginning_of, unit_begun, epoch_place}
+use Rattle.crx_rinex.specs.EpochPlaces.{EpochStep, Going, Whole, Faulty, when_wanted, whole_or_going, after_row}
+use Rattle.crx_rinex.specs.EpochPlaces.{epoch_step, still_open, opened_by, opened_at, open_after, open_with}
+use Rattle.crx_rinex.specs.EpochPlaces.{place_after}
 use Rattle.crx_rinex.specs.Laws.{IsWantedWhereOpen, IsDecidedByOpen}
 use Rattle.crx_rinex.proofs.Steady.{steady-here, steady-first_line, steady-then}
 
@@ -20,17 +26,20 @@ use Rattle.crx_rinex.proofs.Steady.{steady-here, steady-first_line, steady-then}
 pub steady-rows : (count : ℕ) (so_far : OpenEpoch) → IsSteady (rows_at so_far count)
 steady-rows zero so_far = steady-here (epoch_of so_far)
 steady-rows (suc count) so_far =
-    steady-then (row_at so_far) (λ row rest. rows_at (with_next_row so_far row) count rest) (steady-first_line (next_row so_far)) (λ row. steady-rows count (with_next_row so_far row))
+    steady-then (row_at so_far) (λ row rest. rows_at (with_next_row so_far row) count rest)
+    (steady-first_line (next_row so_far)) (λ row. steady-rows count (with_next_row so_far row))
 
 pub steady-rest : (so_far : OpenEpoch) → IsSteady (rest_at so_far)
 steady-rest so_far = steady-rows (rows_wanted so_far) so_far
 
 pub steady-begun : (types : List Count) (beginning : Beginning) → IsSteady (unit_begun types beginning)
 steady-begun types (EventBegins line) = steady-here _
-steady-begun types (EpochBegins head) = steady-then (rest_at (opened types head)) (λ epoch rest. Here (Observation epoch) 0) (steady-rest (opened types head)) (λ epoch. steady-here (Observation epoch))
+steady-begun types (EpochBegins head) = steady-then (rest_at (opened types head)) (λ epoch rest.
+    Here (Observation epoch) 0) (steady-rest (opened types head)) (λ epoch. steady-here (Observation epoch))
 
 pub steady-epoch_place : (types : List Count) → IsSteady (epoch_place types)
-steady-epoch_place types = steady-then (λ lines. first_line lines beginning_of) (unit_begun types) (steady-first_line beginning_of) (steady-begun types)
+steady-epoch_place types = steady-then
+    (λ lines. first_line lines beginning_of) (unit_begun types) (steady-first_line beginning_of) (steady-begun types)
 
 -- ---- one line of an open epoch
 
@@ -39,20 +48,25 @@ after_step (Going so_far) lines = after_lines 1 (rest_at so_far lines)
 after_step (Whole epoch) lines = Here epoch 1
 after_step (Faulty fault) lines = Wrong 0 fault
 
-rest_when : (n : ℕ) (so_far : OpenEpoch) (lines : List ReadLine) → rows_wanted so_far ≡ n → after_lines 1 (rows_at so_far n lines) ≡ after_step (when_wanted n so_far) lines
+rest_when : (n : ℕ) (so_far : OpenEpoch) (lines : List ReadLine)
+    → rows_wanted so_far ≡ n → after_lines 1 (rows_at so_far n lines) ≡ after_step (when_wanted n so_far) lines
 rest_when zero so_far lines h = refl
 rest_when (suc n) so_far lines h = ap (λ m. after_lines 1 (rows_at so_far m lines)) (sym h)
 
-whole_or_rest : (n : ℕ) (so_far : OpenEpoch) (lines : List ReadLine) → rows_wanted so_far ≡ n → after_lines 1 (rows_at so_far n lines) ≡ after_step (whole_or_going so_far) lines
+whole_or_rest : (n : ℕ) (so_far : OpenEpoch) (lines : List ReadLine)
+    → rows_wanted so_far ≡ n → after_lines 1 (rows_at so_far n lines) ≡ after_step (whole_or_going so_far) lines
 whole_or_rest n so_far lines h = rest_when n so_far lines h ∙ ap (λ m. after_step (when_wanted m so_far) lines) (sym h)
 
-row_then_rest : (n : ℕ) (so_far : OpenEpoch) (line : List ℕ) (lines : List ReadLine) (r : Result Row Fault) → rows_wanted so_far ≡ suc n
-    → then_place (one_line r) (Content line ∷ lines) (λ row rest. rows_at (with_next_row so_far row) n rest) ≡ after_step (after_row so_far r) lines
+row_then_rest : (n : ℕ) (so_far : OpenEpoch) (line : List ℕ) (lines : List ReadLine) (r : Result Row Fault)
+    → rows_wanted so_far ≡ suc n
+    → then_place (one_line r) (Content line ∷ lines) (λ row rest. rows_at (with_next_row so_far row) n rest)
+    ≡ after_step (after_row so_far r) lines
 row_then_rest n so_far line lines (Err fault) h = refl
 row_then_rest n so_far line lines (Ok row) h =
     whole_or_rest n (with_next_row so_far row) lines (omega (arith, h, length_push so_far.rows row))
 
-rest_by_step : (n : ℕ) (so_far : OpenEpoch) (line : ReadLine) (lines : List ReadLine) → rows_wanted so_far ≡ suc n → rest_at so_far (line ∷ lines) ≡ after_step (epoch_step so_far line) lines
+rest_by_step : (n : ℕ) (so_far : OpenEpoch) (line : ReadLine) (lines : List ReadLine)
+    → rows_wanted so_far ≡ suc n → rest_at so_far (line ∷ lines) ≡ after_step (epoch_step so_far line) lines
 rest_by_step n so_far Overlong lines h = rw h refl
 rest_by_step n so_far (Content line) lines h = rw h (row_then_rest n so_far line lines (next_row so_far line) h)
 
@@ -79,7 +93,8 @@ step_wants : (so_far : OpenEpoch) (line : ReadLine) → IsGoing (epoch_step so_f
 step_wants so_far Overlong = tt
 step_wants so_far (Content line) = row_wants so_far (next_row so_far line)
 
-step_at : (so_far : OpenEpoch) (line : ReadLine) (lines : List ReadLine) → 0 < rows_wanted so_far → rest_at so_far (line ∷ lines) ≡ after_step (epoch_step so_far line) lines
+step_at : (so_far : OpenEpoch) (line : ReadLine) (lines : List ReadLine)
+    → 0 < rows_wanted so_far → rest_at so_far (line ∷ lines) ≡ after_step (epoch_step so_far line) lines
 step_at so_far line lines h = rest_by_step (rows_wanted so_far - 1) so_far line lines (omega (arith, h))
 
 rest_none : (n : ℕ) (so_far : OpenEpoch) → rows_wanted so_far ≡ suc n → rest_at so_far [] ≡ Wanted
@@ -93,7 +108,8 @@ none_before (Here x n) = ap (λ m. Here x m) (omega arith)
 none_before (Wrong k fault) = ap (λ m. Wrong m fault) (omega arith)
 none_before Wanted = refl
 
-one_more_before : {X : Type 0} (count : ℕ) (p : Place X) → after_lines 1 (after_lines count p) ≡ after_lines (suc count) p
+one_more_before : {X : Type 0} (count : ℕ) (p : Place X)
+    → after_lines 1 (after_lines count p) ≡ after_lines (suc count) p
 one_more_before count (Here x n) = ap (λ m. Here x m) (omega arith)
 one_more_before count (Wrong k fault) = ap (λ m. Wrong m fault) (omega arith)
 one_more_before count Wanted = refl
@@ -105,7 +121,8 @@ record GoesOn (so_far later : OpenEpoch) (lines : List ReadLine) : Type 0 where
 
 goes_on_after : (so_far later : OpenEpoch) (line : ReadLine) (lines : List ReadLine) (step : EpochStep)
     → ((next : OpenEpoch) → 0 < rows_wanted next → open_after (Some next) lines ≡ Some later → GoesOn next later lines)
-    → 0 < rows_wanted so_far → epoch_step so_far line ≡ step → IsGoing step → open_after (still_open step) lines ≡ Some later → GoesOn so_far later (line ∷ lines)
+    → 0 < rows_wanted so_far → epoch_step so_far line ≡ step
+    → IsGoing step → open_after (still_open step) lines ≡ Some later → GoesOn so_far later (line ∷ lines)
 goes_on_after so_far later line lines (Going next) ih h e wants left =
     let on = ih next wants left in
     record {
@@ -116,12 +133,14 @@ goes_on_after so_far later line lines (Going next) ih h e wants left =
 goes_on_after so_far later line lines (Whole epoch) ih h e wants left = absurd (none-some later left)
 goes_on_after so_far later line lines (Faulty fault) ih h e wants left = absurd (none-some later left)
 
-goes_on : (so_far later : OpenEpoch) (lines : List ReadLine) → 0 < rows_wanted so_far → open_after (Some so_far) lines ≡ Some later → GoesOn so_far later lines
+goes_on : (so_far later : OpenEpoch) (lines : List ReadLine)
+    → 0 < rows_wanted so_far → open_after (Some so_far) lines ≡ Some later → GoesOn so_far later lines
 goes_on so_far later [] h left =
     let same : so_far ≡ later = same_Some so_far later left in
     record { wants = rw (sym same) h; rest = λ more. rw same (sym (none_before (rest_at later more))) }
 goes_on so_far later (line ∷ lines) h left =
-    goes_on_after so_far later line lines (epoch_step so_far line) (λ next wants more. goes_on next later lines wants more) h refl (step_wants so_far line) left
+    goes_on_after so_far later line lines (epoch_step so_far line)
+    (λ next wants more. goes_on next later lines wants more) h refl (step_wants so_far line) left
 
 -- where an epoch's lines want more, it is open
 abbrev IsOpen : Option OpenEpoch → List ReadLine → Type 0
@@ -150,25 +169,30 @@ open_by so_far line lines (Going next) ih wants h = ih next wants (wanted_before
 open_by so_far line lines (Whole epoch) ih wants h = absurd (not_here epoch 1 h)
 open_by so_far line lines (Faulty fault) ih wants h = absurd (not_wrong 0 fault h)
 
-open_where_wanted : (lines : List ReadLine) (so_far : OpenEpoch) → 0 < rows_wanted so_far → rest_at so_far lines ≡ Wanted → IsOpen (Some so_far) lines
+open_where_wanted : (lines : List ReadLine) (so_far : OpenEpoch)
+    → 0 < rows_wanted so_far → rest_at so_far lines ≡ Wanted → IsOpen (Some so_far) lines
 open_where_wanted [] so_far wants h = (so_far, refl)
 open_where_wanted (line ∷ lines) so_far wants h =
-    open_by so_far line lines (epoch_step so_far line) (λ next. open_where_wanted lines next) (step_wants so_far line) (sym (step_at so_far line lines wants) ∙ h)
+    open_by so_far line lines (epoch_step so_far line)
+    (λ next. open_where_wanted lines next) (step_wants so_far line) (sym (step_at so_far line lines wants) ∙ h)
 
 -- one line more
 open_none : (begun : Option OpenEpoch) → open_after begun [] ≡ begun
 open_none None = refl
 open_none (Some so_far) = refl
 
-open_push : (lines : List ReadLine) (begun : Option OpenEpoch) (line : ReadLine) → open_after begun (lines ++ line ∷ []) ≡ open_after (open_after begun lines) (line ∷ [])
+open_push : (lines : List ReadLine) (begun : Option OpenEpoch) (line : ReadLine)
+    → open_after begun (lines ++ line ∷ []) ≡ open_after (open_after begun lines) (line ∷ [])
 open_push lines None line = refl
 open_push [] (Some so_far) line = refl
 open_push (l ∷ lines) (Some so_far) line = open_push lines (still_open (epoch_step so_far l)) line
 
-open_next : (lines : List ReadLine) (begun : Option OpenEpoch) (line : ReadLine) (so_far : OpenEpoch) → open_after begun lines ≡ Some so_far
+open_next : (lines : List ReadLine) (begun : Option OpenEpoch) (line : ReadLine) (so_far : OpenEpoch)
+    → open_after begun lines ≡ Some so_far
     → open_after begun (lines ++ line ∷ []) ≡ still_open (epoch_step so_far line)
 open_next lines begun line so_far h =
-    open_push lines begun line ∙ ap (λ (o : Option OpenEpoch). open_after o (line ∷ [])) h ∙ open_none (still_open (epoch_step so_far line))
+    open_push lines begun line ∙ ap (λ (o : Option OpenEpoch). open_after o (line ∷ [])) h
+    ∙ open_none (still_open (epoch_step so_far line))
 
 -- ---- from the epoch line on
 
@@ -177,7 +201,8 @@ as_unit (Here epoch n) = Here (Observation epoch) n
 as_unit (Wrong k fault) = Wrong k fault
 as_unit Wanted = Wanted
 
-unit_is : (p : Place Epoch) (lines : List ReadLine) → then_place p lines (λ epoch rest. Here (Observation epoch) 0) ≡ as_unit p
+unit_is : (p : Place Epoch) (lines : List ReadLine)
+    → then_place p lines (λ epoch rest. Here (Observation epoch) 0) ≡ as_unit p
 unit_is (Here epoch n) lines = ap (λ m. Here (Observation epoch) m) (omega arith)
 unit_is (Wrong k fault) lines = refl
 unit_is Wanted lines = refl
@@ -187,44 +212,57 @@ record Begins (types : List Count) (line : ReadLine) (so_far : OpenEpoch) : Type
   wants : 0 < rows_wanted so_far
   place : (lines : List ReadLine) → epoch_place types (line ∷ lines) ≡ after_lines 1 (as_unit (rest_at so_far lines))
 
-begins_when : (n : ℕ) (begun so_far : OpenEpoch) → rows_wanted begun ≡ n → still_open (when_wanted n begun) ≡ Some so_far → (0 < rows_wanted so_far) × (begun ≡ so_far)
+begins_when : (n : ℕ) (begun so_far : OpenEpoch) → rows_wanted begun ≡ n
+    → still_open (when_wanted n begun) ≡ Some so_far → (0 < rows_wanted so_far) × (begun ≡ so_far)
 begins_when zero begun so_far e h = absurd (none-some so_far h)
-begins_when (suc n) begun so_far e h = let same : begun ≡ so_far = same_Some begun so_far h in (rw (sym same) (omega (arith, e)), same)
+begins_when (suc n) begun so_far e h = let same : begun ≡ so_far = same_Some begun so_far h in
+    (rw (sym same) (omega (arith, e)), same)
 
-begins_going : (types : List Count) (head : ObservationHead) (so_far : OpenEpoch) → still_open (whole_or_going (opened types head)) ≡ Some so_far → (0 < rows_wanted so_far) × (opened types head ≡ so_far)
+begins_going : (types : List Count) (head : ObservationHead) (so_far : OpenEpoch) → still_open
+    (whole_or_going (opened types head)) ≡ Some so_far → (0 < rows_wanted so_far) × (opened types head ≡ so_far)
 begins_going types head so_far h = begins_when (rows_wanted (opened types head)) (opened types head) so_far refl h
 
-begins_by : (types : List Count) (line : List ℕ) (r : Result Beginning Fault) (so_far : OpenEpoch) → opened_by types r ≡ Some so_far
-    → (0 < rows_wanted so_far) × ((lines : List ReadLine) → then_place (one_line r) (Content line ∷ lines) (unit_begun types) ≡ after_lines 1 (as_unit (rest_at so_far lines)))
+begins_by : (types : List Count) (line : List ℕ) (r : Result Beginning Fault) (so_far : OpenEpoch)
+    → opened_by types r ≡ Some so_far
+    → (0 < rows_wanted so_far) × ((lines : List ReadLine) → then_place
+    (one_line r) (Content line ∷ lines) (unit_begun types) ≡ after_lines 1 (as_unit (rest_at so_far lines)))
 begins_by types line (Err fault) so_far h = absurd (none-some so_far h)
 begins_by types line (Ok (EventBegins event)) so_far h = absurd (none-some so_far h)
 begins_by types line (Ok (EpochBegins head)) so_far h =
-    let going = begins_going types head so_far h in
-    (going.0, λ lines. ap (after_lines 1) (unit_is (rest_at (opened types head) lines) lines ∙ ap (λ (s : OpenEpoch). as_unit (rest_at s lines)) going.1))
+    let going = begins_going types head so_far h in (
+      going.0,
+      λ lines. ap (after_lines 1) (unit_is (rest_at (opened types head) lines) lines
+          ∙ ap (λ (s : OpenEpoch). as_unit (rest_at s lines)) going.1),
+    )
 
-begins : (types : List Count) (line : ReadLine) (so_far : OpenEpoch) → opened_at types line ≡ Some so_far → Begins types line so_far
+begins : (types : List Count) (line : ReadLine) (so_far : OpenEpoch)
+    → opened_at types line ≡ Some so_far → Begins types line so_far
 begins types Overlong so_far h = absurd (none-some so_far h)
 begins types (Content line) so_far h =
     let by = begins_by types line (beginning_of line) so_far h in
     record { wants = by.0; place = by.1 }
 
 -- a line that opens no epoch decides
-whole_when : (n : ℕ) (begun : OpenEpoch) (lines : List ReadLine) → still_open (when_wanted n begun) ≡ None → after_lines 1 (as_unit (rows_at begun n lines)) ≡ Wanted → ⊥
+whole_when : (n : ℕ) (begun : OpenEpoch) (lines : List ReadLine)
+    → still_open (when_wanted n begun) ≡ None → after_lines 1 (as_unit (rows_at begun n lines)) ≡ Wanted → ⊥
 whole_when zero begun lines h w = not_here _ _ w
 whole_when (suc n) begun lines h w = none-some begun (sym h)
 
-whole_decides : (types : List Count) (head : ObservationHead) (lines : List ReadLine) → still_open (whole_or_going (opened types head)) ≡ None
+whole_decides : (types : List Count) (head : ObservationHead) (lines : List ReadLine)
+    → still_open (whole_or_going (opened types head)) ≡ None
     → after_lines 1 (as_unit (rest_at (opened types head) lines)) ≡ Wanted → ⊥
 whole_decides types head lines h w = whole_when (rows_wanted (opened types head)) (opened types head) lines h w
 
-decided_by : (types : List Count) (line : List ℕ) (r : Result Beginning Fault) (lines : List ReadLine) → opened_by types r ≡ None
+decided_by : (types : List Count) (line : List ℕ) (r : Result Beginning Fault) (lines : List ReadLine)
+    → opened_by types r ≡ None
     → then_place (one_line r) (Content line ∷ lines) (unit_begun types) ≡ Wanted → ⊥
 decided_by types line (Err fault) lines h w = not_wrong 0 fault w
 decided_by types line (Ok (EventBegins event)) lines h w = not_here _ _ w
 decided_by types line (Ok (EpochBegins head)) lines h w =
     whole_decides types head lines h (sym (ap (after_lines 1) (unit_is (rest_at (opened types head) lines) lines)) ∙ w)
 
-decided : (types : List Count) (line : ReadLine) (lines : List ReadLine) → opened_at types line ≡ None → epoch_place types (line ∷ lines) ≡ Wanted → ⊥
+decided : (types : List Count) (line : ReadLine) (lines : List ReadLine)
+    → opened_at types line ≡ None → epoch_place types (line ∷ lines) ≡ Wanted → ⊥
 decided types Overlong lines h w = not_wrong 0 _ w
 decided types (Content line) lines h w = decided_by types line (beginning_of line) lines h w
 
@@ -233,29 +271,35 @@ unit_wanted (Here epoch n) h = absurd (not_here _ _ h)
 unit_wanted (Wrong k fault) h = absurd (not_wrong _ _ h)
 unit_wanted Wanted h = refl
 
-wanted_from : (types : List Count) (line : ReadLine) (lines : List ReadLine) (begun : Option OpenEpoch) → opened_at types line ≡ begun
+wanted_from : (types : List Count) (line : ReadLine) (lines : List ReadLine) (begun : Option OpenEpoch)
+    → opened_at types line ≡ begun
     → epoch_place types (line ∷ lines) ≡ Wanted → IsOpen begun lines
 wanted_from types line lines None e w = absurd (decided types line lines e w)
 wanted_from types line lines (Some so_far) e w =
     let b = begins types line so_far e in
-    open_where_wanted lines so_far b.wants (unit_wanted (rest_at so_far lines) (wanted_before 1 (as_unit (rest_at so_far lines)) (sym (b.place lines) ∙ w)))
+    open_where_wanted lines so_far b.wants (unit_wanted
+    (rest_at so_far lines) (wanted_before 1 (as_unit (rest_at so_far lines)) (sym (b.place lines) ∙ w)))
 
-open_from : (types : List Count) (line : ReadLine) (lines : List ReadLine) (begun : Option OpenEpoch) (later : OpenEpoch) → opened_at types line ≡ begun
+open_from : (types : List Count) (line : ReadLine)
+    (lines : List ReadLine) (begun : Option OpenEpoch) (later : OpenEpoch) → opened_at types line ≡ begun
     → open_after begun lines ≡ Some later → (so_far : OpenEpoch) × Begins types line so_far × GoesOn so_far later lines
 open_from types line lines None later e h = absurd (none-some later h)
 open_from types line lines (Some so_far) later e h =
     let b = begins types line so_far e in (so_far, b, goes_on so_far later lines b.wants h)
 
 -- the epoch's place, lines and more lines, by the open epoch
-place_by_open : (types : List Count) (line : ReadLine) (lines : List ReadLine) (later : OpenEpoch) → open_with types (line ∷ lines) ≡ Some later
-    → (0 < rows_wanted later) × ((more : List ReadLine) → epoch_place types (line ∷ (lines ++ more)) ≡ after_lines 1 (as_unit (after_lines (length lines) (rest_at later more))))
+place_by_open : (types : List Count) (line : ReadLine) (lines : List ReadLine) (later : OpenEpoch)
+    → open_with types (line ∷ lines) ≡ Some later
+    → (0 < rows_wanted later) × ((more : List ReadLine) → epoch_place types (line ∷ (lines ++ more))
+    ≡ after_lines 1 (as_unit (after_lines (length lines) (rest_at later more))))
 place_by_open types line lines later h =
     let from = open_from types line lines (opened_at types line) later refl h in
     let b = from.1 in
     let on = from.2 in
     (on.wants, λ more. b.place (lines ++ more) ∙ ap (λ (p : Place Epoch). after_lines 1 (as_unit p)) (on.rest more))
 
-wanted_by_open : (types : List Count) (lines : List ReadLine) (later : OpenEpoch) → open_with types lines ≡ Some later → epoch_place types lines ≡ Wanted
+wanted_by_open : (types : List Count) (lines : List ReadLine) (later : OpenEpoch)
+    → open_with types lines ≡ Some later → epoch_place types lines ≡ Wanted
 wanted_by_open types [] later h = refl
 wanted_by_open types (line ∷ lines) later h =
     let by = place_by_open types line lines later h in
@@ -277,17 +321,21 @@ wanted-open types (line ∷ lines) = (
 )
 
 -- what a step makes, so many lines after the epoch line
-step_place : (count : ℕ) (step : EpochStep) → IsGoing step → after_lines 1 (as_unit (after_lines count (after_step step []))) ≡ place_after (suc count) step
-step_place count (Going so_far) wants = ap (λ (p : Place Epoch). after_lines 1 (as_unit (after_lines count (after_lines 1 p)))) (nothing_yet so_far wants)
+step_place : (count : ℕ) (step : EpochStep)
+    → IsGoing step → after_lines 1 (as_unit (after_lines count (after_step step []))) ≡ place_after (suc count) step
+step_place count (Going so_far) wants =
+    ap (λ (p : Place Epoch). after_lines 1 (as_unit (after_lines count (after_lines 1 p)))) (nothing_yet so_far wants)
 step_place count (Whole epoch) wants = ap (λ m. Here (Observation epoch) m) (omega arith)
 step_place count (Faulty fault) wants = ap (λ m. Wrong m fault) (omega arith)
 
-pub next-by_open : (types : List Count) (lines : List ReadLine) (line : ReadLine) (so_far : OpenEpoch) → open_with types lines ≡ Some so_far → IsDecidedByOpen types lines line so_far
+pub next-by_open : (types : List Count) (lines : List ReadLine) (line : ReadLine) (so_far : OpenEpoch)
+    → open_with types lines ≡ Some so_far → IsDecidedByOpen types lines line so_far
 next-by_open types [] line so_far h = absurd (none-some so_far h)
 next-by_open types (first ∷ lines) line so_far h =
     let by = place_by_open types first lines so_far h in
     record {
-      place = by.1 (line ∷ []) ∙ ap (λ (p : Place Epoch). after_lines 1 (as_unit (after_lines (length lines) p))) (step_at so_far line [] by.0)
+      place = by.1 (line ∷ []) ∙ ap (λ (p : Place Epoch). after_lines 1 (as_unit (after_lines (length lines) p)))
+          (step_at so_far line [] by.0)
           ∙ step_place (length lines) (epoch_step so_far line) (step_wants so_far line);
       left_open = open_next lines (opened_at types first) line so_far h;
     }

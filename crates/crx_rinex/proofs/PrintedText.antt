@@ -1,10 +1,13 @@
 -- The text of an epoch's printed lines, a line after another.
-use Rattle.std.proofs.Common.{◌≡◌, ◌≤◌, ◌<◌, ℕ, zero, suc, ◌+◌, List, [], ◌∷◌, ◌++◌, Option, Some, None, Result, Ok, Err, IfOk, length, take, drop, map, slice_get, refl, sym, ap, ◌∙◌, append_assoc, add-one, arith}
+use Rattle.std.proofs.Common.{◌≡◌, ◌≤◌, ◌<◌, ℕ, zero, suc, ◌+◌, List, [], ◌∷◌, ◌++◌, Option, Some, None, Result, Ok}
+use Rattle.std.proofs.Common.{Err, IfOk, length, take, drop, map, slice_get, refl, sym, ap, ◌∙◌, append_assoc, add-one}
+use Rattle.std.proofs.Common.{arith}
 use Rattle.std.proofs.lemmas.Option.{same_Some}
-use Rattle.crx_rinex.specs.Printing.{lines_text}
+use Rattle.crx_rinex.specs.meaning.Printing.{lines_text}
 
 -- the item at a place, and those after it
-pub drop-next : {X Y : Type 0} (f : X → Y) (xs : List X) (i : ℕ) (x : X) → slice_get xs i ≡ Some x → drop i (map f xs) ≡ f x ∷ drop (i + 1) (map f xs)
+pub drop-next : {X Y : Type 0} (f : X → Y) (xs : List X) (i : ℕ) (x : X)
+    → slice_get xs i ≡ Some x → drop i (map f xs) ≡ f x ∷ drop (i + 1) (map f xs)
 drop-next f xs i x h = next xs i h ∙ ap (λ (n : ℕ). f x ∷ drop n (map f xs)) (sym (add-one i))
   where
     next : (xs : List _) (i : ℕ) → slice_get xs i ≡ Some x → drop i (map f xs) ≡ f x ∷ drop (suc i) (map f xs)
@@ -20,7 +23,8 @@ drop-none f (y ∷ ys) zero h = absurd (cc)
 drop-none f (y ∷ ys) (suc i) h = drop-none f ys i h
 
 -- the first of the lines that are left goes to the end of the text
-pub text-on : (text more whole line : List ℕ) (lines : List (List ℕ)) (left : List (List ℕ)) → left ≡ line ∷ lines → more ≡ text ++ (line ++ 10 ∷ []) → text ++ lines_text left ≡ whole → more ++ lines_text lines ≡ whole
+pub text-on : (text more whole line : List ℕ) (lines : List (List ℕ)) (left : List (List ℕ)) → left ≡ line ∷ lines
+    → more ≡ text ++ (line ++ 10 ∷ []) → text ++ lines_text left ≡ whole → more ++ lines_text lines ≡ whole
 text-on text more whole line lines left first next is =
     ap (λ (t : List ℕ). t ++ lines_text lines) next
     ∙ append_assoc text (line ++ 10 ∷ []) (lines_text lines)
@@ -28,6 +32,7 @@ text-on text more whole line lines left first next is =
     ∙ is
 
 -- what a result says of a text, said of the same text in other words
-pub same-text : {E : Type 0} (result : Result ℕ E) (new one other : List ℕ) → IfOk result (λ count. take count new ≡ one) → one ≡ other → IfOk result (λ count. take count new ≡ other)
+pub same-text : {E : Type 0} (result : Result ℕ E) (new one other : List ℕ)
+    → IfOk result (λ count. take count new ≡ one) → one ≡ other → IfOk result (λ count. take count new ≡ other)
 same-text (Ok count) new one other h e = h ∙ e
 same-text (Err x) new one other h e = h

@@ -1,5 +1,6 @@
 -- What is read out of columns fits them.
-use Rattle.std.proofs.Common.{◌≡◌, ℕ, ◌+◌, ◌-◌, ◌<◌, ◌≤◌, ◌^◌, Bool, true, false, cond, eqb, ◌&&◌, List, [], ◌∷◌, ◌++◌, length, take, drop, Option, Some, None, refl, subst, inl, inr, arith}
+use Rattle.std.proofs.Common.{◌≡◌, ℕ, ◌+◌, ◌-◌, ◌<◌, ◌≤◌, ◌^◌, Bool, true, false, cond, eqb, ◌&&◌, List, [], ◌∷◌, ◌++◌}
+use Rattle.std.proofs.Common.{length, take, drop, Option, Some, None, refl, subst, inl, inr, arith}
 use Rattle.std.specs.Prelude.{ℤ, slice_index}
 use Rattle.std.specs.Bool.{nat_lt}
 use Rattle.std.specs.Option.{option_map}
@@ -10,14 +11,17 @@ use Rattle.std.proofs.lemmas.Bool.{cases_Bool, and_parts, eqb-true}
 use Rattle.std.proofs.lemmas.List.{length-append, length-take, length-drop}
 use Rattle.std.proofs.lemmas.Option.{cond_some, same_Some, none-some}
 use Rattle.std.proofs.lemmas.Str.Parse.{digits_value_short, numerals_by_value, tells_all_ascii_digits}
-use Rattle.crx_text.specs.Columns.{is_blank, without_first_blanks}
-use Rattle.crx_text.specs.Numbers.{size_of, spelt_number, signed_number, missing_or_spelt, number_of, observation_of, clock_of, IsWithin, IsMissingOrWithin}
-use Rattle.crx_lines.specs.declared.limits.TheConstants.{OBSERVATION_WIDTH, OBSERVATION_DECIMALS, CLOCK_WIDTH, CLOCK_DECIMALS}
+use Rattle.crx_text.specs.meaning.Columns.{is_blank, without_first_blanks}
+use Rattle.crx_text.specs.meaning.Numbers.{size_of, decimal_number, signed_number, missing_or_number, number_of}
+use Rattle.crx_text.specs.meaning.Numbers.{observation_of, clock_of, IsWithin, IsMissingOrWithin}
+use Rattle.crx_lines.specs.declared.limits.TheConstants.{OBSERVATION_WIDTH, OBSERVATION_DECIMALS, CLOCK_WIDTH}
+use Rattle.crx_lines.specs.declared.limits.TheConstants.{CLOCK_DECIMALS}
 use Rattle.crx_text.proofs.Sizes.{signed_is_within, IsWithin_more}
-use Rattle.crx_rinex.specs.EpochLines.{IsClockOffset}
-use Rattle.crx_rinex.specs.SatelliteLines.{IsValue}
+use Rattle.crx_rinex.specs.meaning.EpochLines.{IsClockOffset}
+use Rattle.crx_rinex.specs.meaning.SatelliteLines.{IsValue}
 
-digits-append : (xs ys : List ℕ) → all_ascii_digits xs ≡ true → all_ascii_digits ys ≡ true → all_ascii_digits (xs ++ ys) ≡ true
+digits-append : (xs ys : List ℕ)
+    → all_ascii_digits xs ≡ true → all_ascii_digits ys ≡ true → all_ascii_digits (xs ++ ys) ≡ true
 digits-append [] ys h k = k
 digits-append (x ∷ xs) ys h k =
     let parts = and_parts (is_ascii_digit x) (all_ascii_digits xs) h in
@@ -32,28 +36,35 @@ size_small decimals text n h =
     let fraction = drop (point + 1) text in
     let long = nat_lt decimals (length text) in
     let dot = eqb (slice_index text point) 46 in
-    let s = cond_some (long && dot && all_ascii_digits whole && all_ascii_digits fraction) (digits_value 10 (whole ++ fraction)) n h in
+    let s = cond_some (long && dot && all_ascii_digits whole && all_ascii_digits fraction)
+    (digits_value 10 (whole ++ fraction)) n h in
     let a = and_parts (long && dot && all_ascii_digits whole) (all_ascii_digits fraction) s.0 in
     let b = and_parts (long && dot) (all_ascii_digits whole) a.0 in
-    let within : length (whole ++ fraction) ≤ length text - 1 = omega (arith, length-append whole fraction, length-take point text, length-drop (point + 1) text) in
-    let small = digits_value_short (numerals_by_value (λ ds. all_ascii_digits ds ≡ true) tells_all_ascii_digits) (whole ++ fraction) (length text - 1) (digits-append whole fraction b.1 a.1) within in
+    let within : length (whole ++ fraction) ≤ length text - 1 =
+    omega (arith, length-append whole fraction, length-take point text, length-drop (point + 1) text) in
+    let small = digits_value_short (numerals_by_value (λ ds. all_ascii_digits ds ≡ true) tells_all_ascii_digits)
+    (whole ++ fraction) (length text - 1) (digits-append whole fraction b.1 a.1) within in
     subst (λ m. m < 10 ^ (length text - 1)) s.1 small
 
 -- a number fits the columns of its spelling
-mapped : {P : Type 0} (f : ℕ → ℤ) (o : Option ℕ) (v : ℤ) → option_map f o ≡ Some v → ((n : ℕ) → o ≡ Some n → f n ≡ v → P) → P
+mapped : {P : Type 0} (f : ℕ → ℤ) (o : Option ℕ) (v : ℤ)
+    → option_map f o ≡ Some v → ((n : ℕ) → o ≡ Some n → f n ≡ v → P) → P
 mapped f None v h k = absurd (none-some v h)
 mapped f (Some n) v h k = k n refl (same_Some (f n) v h)
 
-spelt_within : (decimals : ℕ) (text : List ℕ) (v : ℤ) → spelt_number decimals text ≡ Some v → IsWithin (length text) v
-spelt_within decimals [] v =
+decimal_within : (decimals : ℕ) (text : List ℕ) (v : ℤ)
+    → decimal_number decimals text ≡ Some v → IsWithin (length text) v
+decimal_within decimals [] v =
     λ h. mapped (signed_number false) (size_of decimals []) v h
     (λ n e s. subst (IsWithin 0) s (signed_is_within false n 0 0 refl (size_small decimals [] n e)))
-spelt_within decimals (c ∷ cs) v =
+decimal_within decimals (c ∷ cs) v =
     elim (cases_Bool (eqb c 45)) [
       | inl t ↦ rw t (λ h. mapped (signed_number true) (size_of decimals cs) v h
-          (λ n e s. subst (IsWithin (length (c ∷ cs))) s (signed_is_within true n (length cs) (length (c ∷ cs)) (omega arith) (size_small decimals cs n e))))
+          (λ n e s. subst (IsWithin (length (c ∷ cs))) s
+          (signed_is_within true n (length cs) (length (c ∷ cs)) (omega arith) (size_small decimals cs n e))))
       | inr f ↦ rw f (λ h. mapped (signed_number false) (size_of decimals (c ∷ cs)) v h
-          (λ n e s. subst (IsWithin (length (c ∷ cs))) s (signed_is_within false n (length (c ∷ cs)) (length (c ∷ cs)) (omega arith) (size_small decimals (c ∷ cs) n e))))
+          (λ n e s. subst (IsWithin (length (c ∷ cs))) s (signed_is_within false n
+          (length (c ∷ cs)) (length (c ∷ cs)) (omega arith) (size_small decimals (c ∷ cs) n e))))
     ]
 
 first_blanks_shorter : (text : List ℕ) → length (without_first_blanks text) ≤ length text
@@ -64,15 +75,19 @@ first_blanks_shorter (c ∷ cs) =
       | false ↦ omega arith
     ]
 
-found_within : (decimals : ℕ) (text : List ℕ) (s : Option ℤ) (o : Option ℤ) → spelt_number decimals text ≡ s → option_map Some s ≡ Some o → IsMissingOrWithin (length text) o
+found_within : (decimals : ℕ) (text : List ℕ) (s : Option ℤ) (o : Option ℤ)
+    → decimal_number decimals text ≡ s → option_map Some s ≡ Some o → IsMissingOrWithin (length text) o
 found_within decimals text None o e h = absurd (none-some o h)
-found_within decimals text (Some v) o e h = subst (λ (p : Option ℤ). IsMissingOrWithin (length text) p) (same_Some (Some v) o h) (spelt_within decimals text v e)
+found_within decimals text (Some v) o e h = subst
+    (λ (p : Option ℤ). IsMissingOrWithin (length text) p) (same_Some (Some v) o h) (decimal_within decimals text v e)
 
-missing_within : (decimals : ℕ) (text : List ℕ) (o : Option ℤ) → missing_or_spelt decimals text ≡ Some o → IsMissingOrWithin (length text) o
+missing_within : (decimals : ℕ) (text : List ℕ) (o : Option ℤ)
+    → missing_or_number decimals text ≡ Some o → IsMissingOrWithin (length text) o
 missing_within decimals [] o h = subst (λ (p : Option ℤ). IsMissingOrWithin 0 p) (same_Some None o h) tt
-missing_within decimals (c ∷ cs) o h = found_within decimals (c ∷ cs) (spelt_number decimals (c ∷ cs)) o refl h
+missing_within decimals (c ∷ cs) o h = found_within decimals (c ∷ cs) (decimal_number decimals (c ∷ cs)) o refl h
 
-within_more : (columns width : ℕ) (o : Option ℤ) → columns ≤ width → IsMissingOrWithin columns o → IsMissingOrWithin width o
+within_more : (columns width : ℕ) (o : Option ℤ)
+    → columns ≤ width → IsMissingOrWithin columns o → IsMissingOrWithin width o
 within_more columns width None fewer h = tt
 within_more columns width (Some v) fewer h = IsWithin_more columns width v fewer h
 
@@ -80,13 +95,16 @@ pub tested : {A : Type 0} (b : Bool) (o : Option A) (y : A) → cond b o None �
 tested true o y h = (refl, h)
 tested false o y h = absurd (none-some y h)
 
-number_within : (width decimals : ℕ) (text : List ℕ) (o : Option ℤ) → number_of width decimals text ≡ Some o → IsMissingOrWithin width o
+number_within : (width decimals : ℕ) (text : List ℕ) (o : Option ℤ)
+    → number_of width decimals text ≡ Some o → IsMissingOrWithin width o
 unfolding number_of
 number_within width decimals text o h =
-    let parts = tested (eqb (length text) width) (missing_or_spelt decimals (without_first_blanks text)) o h in
+    let parts = tested (eqb (length text) width) (missing_or_number decimals (without_first_blanks text)) o h in
     let same : length text ≡ width = eqb-true (length text) width parts.0 in
-    let shorter : length (without_first_blanks text) ≤ width = let e = first_blanks_shorter text in omega (arith, e, same) in
-    within_more (length (without_first_blanks text)) width o shorter (missing_within decimals (without_first_blanks text) o parts.1)
+    let shorter : length (without_first_blanks text) ≤ width = let e = first_blanks_shorter text in
+    omega (arith, e, same) in
+    within_more (length (without_first_blanks text)) width o shorter
+    (missing_within decimals (without_first_blanks text) o parts.1)
 
 pub value_fits : (text : List ℕ) (value : Option ℤ) → observation_of text ≡ Some value → IsValue value
 value_fits text value h = number_within OBSERVATION_WIDTH OBSERVATION_DECIMALS text value h

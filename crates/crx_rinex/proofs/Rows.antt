@@ -1,25 +1,29 @@
 -- Rows of different satellites, one after another.
-use Rattle.std.proofs.Common.{◌≡◌, ℕ, ◌+◌, ◌<◌, ◌≤◌, Bool, true, false, ◌&&◌, List, [], ◌∷◌, ◌++◌, length, take, map, ap, sym, subst, ◌∙◌, inl, inr, arith, Option, Some, None, unwrap_or, cond, leb}
+use Rattle.std.proofs.Common.{◌≡◌, ℕ, ◌+◌, ◌<◌, ◌≤◌, Bool, true, false, ◌&&◌, List, [], ◌∷◌, ◌++◌, length, take, map}
+use Rattle.std.proofs.Common.{ap, sym, subst, ◌∙◌, inl, inr, arith, Option, Some, None, unwrap_or, cond, leb}
 use Rattle.std.specs.List.{list_all}
 use Rattle.std.specs.Option.{option_and_then}
-use Rattle.crx_text.specs.Columns.{character_at, columns}
+use Rattle.crx_text.specs.meaning.Columns.{character_at, columns}
 use Rattle.crx_lines.specs.declared.limits.TheConstants.{SATELLITES_LIMIT}
-use Rattle.crx_rinex.specs.Label.{number_in}
+use Rattle.crx_rinex.specs.meaning.Label.{number_in}
 use Rattle.std.proofs.lemmas.Bool.{cases_Bool, leb-true, eqb-false}
 use Rattle.std.specs.Prelude.{ℤ, slice_set}
 use Rattle.std.proofs.lemmas.List.{length-take, length_push, map-append, take_all, take_more_set}
 use Rattle.std.proofs.lemmas.List.Elements.{All-push}
-use Rattle.crx_text.specs.Texts.{is_kept}
-use Rattle.crx_rinex.specs.Observations.{Row, Epoch}
-use Rattle.crx_rinex.specs.EpochLines.{satellites_of, count_within_limit, begins_epoch, is_observation_flag}
-use Rattle.crx_rinex.specs.Epochs.{has_satellite, with_row, is_among, is_full_epoch, IsSoundEpoch}
-use Rattle.crx_rinex.specs.SatelliteLines.{IsSoundRow}
+use Rattle.crx_text.specs.meaning.Texts.{is_kept}
+use Rattle.crx_rinex.specs.meaning.Observations.{Row, Epoch}
+use Rattle.crx_rinex.specs.meaning.EpochLines.{satellites_of, count_within_limit, begins_epoch, is_observation_flag}
+use Rattle.crx_rinex.specs.meaning.Epochs.{has_satellite, is_among, IsSoundEpoch}
+use Rattle.crx_rinex.specs.Epochs.{with_row, is_full_epoch}
+use Rattle.crx_rinex.specs.meaning.SatelliteLines.{IsSoundRow}
 use Rattle.crx_rinex.proofs.Apart.{among-map, apart-push}
 
 -- an epoch that isn't full stays sound with a new satellite's row
-pub sound-with_row : (epoch : Epoch) (row : Row) → IsSoundEpoch epoch → IsSoundRow row → is_full_epoch epoch ≡ false → has_satellite row.name epoch.rows ≡ false → IsSoundEpoch (with_row epoch row)
+pub sound-with_row : (epoch : Epoch) (row : Row) → IsSoundEpoch epoch → IsSoundRow row
+    → is_full_epoch epoch ≡ false → has_satellite row.name epoch.rows ≡ false → IsSoundEpoch (with_row epoch row)
 sound-with_row epoch row h sound room new =
-    let full : length epoch.rows ≡ satellites_of epoch.head → ⊥ = eqb-false (length epoch.rows) (satellites_of epoch.head) room in
+    let full : length epoch.rows ≡ satellites_of epoch.head
+    → ⊥ = eqb-false (length epoch.rows) (satellites_of epoch.head) room in
     let fits = h.within in
     record {
       head_sound = h.head_sound;
@@ -29,20 +33,26 @@ sound-with_row epoch row h sound room new =
     }
 
 -- the same where the rows are the first of some list: the row stands at its end, or in the place of a spare one
-pub sound-pushed : (head : List ℕ) (clock : Option ℤ) (rows : List Row) (count : ℕ) (row : Row) → IsSoundEpoch (record { head = head; clock = clock; rows = take count rows }) → count ≡ length rows
-    → IsSoundRow row → is_full_epoch (record { head = head; clock = clock; rows = take count rows }) ≡ false → has_satellite row.name (take count rows) ≡ false
+pub sound-pushed : (head : List ℕ) (clock : Option ℤ) (rows : List Row) (count : ℕ) (row : Row)
+    → IsSoundEpoch (record { head = head; clock = clock; rows = take count rows }) → count ≡ length rows
+    → IsSoundRow row → is_full_epoch (record { head = head; clock = clock; rows = take count rows }) ≡ false
+    → has_satellite row.name (take count rows) ≡ false
     → IsSoundEpoch (record { head = head; clock = clock; rows = take (count + 1) (rows ++ row ∷ []) })
 sound-pushed head clock rows count row h long sound room new =
     let all : take (count + 1) (rows ++ row ∷ []) ≡ take count rows ++ row ∷ [] =
-    take_all (count + 1) (rows ++ row ∷ []) (omega (arith, long, length_push rows row)) ∙ ap (λ (rs : List Row). rs ++ row ∷ []) (sym (take_all count rows (omega (arith, long)))) in
+    take_all (count + 1) (rows ++ row ∷ []) (omega (arith, long, length_push rows row))
+    ∙ ap (λ (rs : List Row). rs ++ row ∷ []) (sym (take_all count rows (omega (arith, long)))) in
     subst (λ (rs : List Row). IsSoundEpoch (record { head = head; clock = clock; rows = rs })) (sym all)
     (sound-with_row (record { head = head; clock = clock; rows = take count rows }) row h sound room new)
 
-pub sound-put : (head : List ℕ) (clock : Option ℤ) (rows : List Row) (count : ℕ) (row : Row) → IsSoundEpoch (record { head = head; clock = clock; rows = take count rows }) → count < length rows
-    → IsSoundRow row → is_full_epoch (record { head = head; clock = clock; rows = take count rows }) ≡ false → has_satellite row.name (take count rows) ≡ false
+pub sound-put : (head : List ℕ) (clock : Option ℤ) (rows : List Row) (count : ℕ) (row : Row)
+    → IsSoundEpoch (record { head = head; clock = clock; rows = take count rows }) → count < length rows
+    → IsSoundRow row → is_full_epoch (record { head = head; clock = clock; rows = take count rows }) ≡ false
+    → has_satellite row.name (take count rows) ≡ false
     → IsSoundEpoch (record { head = head; clock = clock; rows = take (count + 1) (slice_set rows count row) })
 sound-put head clock rows count row h within sound room new =
-    subst (λ (rs : List Row). IsSoundEpoch (record { head = head; clock = clock; rows = rs })) (sym (take_more_set rows count row within))
+    subst (λ (rs : List Row). IsSoundEpoch (record { head = head; clock = clock; rows = rs }))
+    (sym (take_more_set rows count row within))
     (sound-with_row (record { head = head; clock = clock; rows = take count rows }) row h sound room new)
 
 few : (b : Bool) (o : Option ℕ) → unwrap_or (cond b (option_and_then count_within_limit o) None) 0 ≤ SATELLITES_LIMIT
@@ -56,28 +66,39 @@ few false o = omega arith
 
 -- columns announce no more satellites than the limit
 pub satellites_few : (head : List ℕ) → satellites_of head ≤ SATELLITES_LIMIT
-satellites_few head = few (begins_epoch head && is_observation_flag (character_at head 32) && list_all is_kept head) (number_in (columns head 33 3))
+satellites_few head = few (begins_epoch head && is_observation_flag (character_at head 32) && list_all is_kept head)
+    (number_in (columns head 33 3))
 
 -- the identifiers of the first of some rows say which satellites they have
-pub named_rows : (names : List (List ℕ)) (rows : List Row) (count : ℕ) (name : List ℕ) → take count names ≡ map (λ (row : Row). row.name) (take count rows)
+pub named_rows : (names : List (List ℕ)) (rows : List Row) (count : ℕ) (name : List ℕ)
+    → take count names ≡ map (λ (row : Row). row.name) (take count rows)
     → is_among (λ (n : List ℕ). n) name (take count names) ≡ has_satellite name (take count rows)
 named_rows names rows count name h =
-    ap (is_among (λ (n : List ℕ). n) name) h ∙ among-map (λ (n : List ℕ). n) (λ (row : Row). row.name) name (take count rows)
+    ap (is_among (λ (n : List ℕ). n) name) h
+    ∙ among-map (λ (n : List ℕ). n) (λ (row : Row). row.name) name (take count rows)
 
 -- what the identifiers say of the epoch's rows
-pub by_names : (epoch : Epoch) (names : List (List ℕ)) (rows : List Row) (count : ℕ) (name name' : List ℕ) (b : Bool) → name' ≡ name → take count rows ≡ epoch.rows
-    → take count names ≡ map (λ (row : Row). row.name) (take count rows) → is_among (λ (n : List ℕ). n) name' (take count names) ≡ b → has_satellite name epoch.rows ≡ b
+pub by_names : (epoch : Epoch) (names : List (List ℕ)) (rows : List Row) (count : ℕ) (name name' : List ℕ) (b : Bool)
+    → name' ≡ name → take count rows ≡ epoch.rows
+    → take count names ≡ map (λ (row : Row). row.name) (take count rows)
+    → is_among (λ (n : List ℕ). n) name' (take count names) ≡ b → has_satellite name epoch.rows ≡ b
 by_names epoch names rows count name name' b is e h new =
-    ap (has_satellite name) (sym e) ∙ sym (named_rows names rows count name h) ∙ ap (λ (n : List ℕ). is_among (λ (m : List ℕ). m) n (take count names)) (sym is) ∙ new
+    ap (has_satellite name) (sym e) ∙ sym (named_rows names rows count name h)
+    ∙ ap (λ (n : List ℕ). is_among (λ (m : List ℕ). m) n (take count names)) (sym is) ∙ new
 
 -- and so they do with the next row's
-pub names-next : (names next : List (List ℕ)) (rows more : List Row) (count : ℕ) (row : Row) (name : List ℕ) → name ≡ row.name → take count names ≡ map (λ (r : Row). r.name) (take count rows)
-    → take (count + 1) next ≡ take count names ++ name ∷ [] → take (count + 1) more ≡ take count rows ++ row ∷ [] → take (count + 1) next ≡ map (λ (r : Row). r.name) (take (count + 1) more)
+pub names-next : (names next : List (List ℕ)) (rows more : List Row) (count : ℕ) (row : Row) (name : List ℕ)
+    → name ≡ row.name → take count names ≡ map (λ (r : Row). r.name) (take count rows)
+    → take (count + 1) next ≡ take count names ++ name ∷ [] → take (count + 1) more ≡ take count rows ++ row ∷ []
+    → take (count + 1) next ≡ map (λ (r : Row). r.name) (take (count + 1) more)
 names-next names next rows more count row name is h e f =
-    e ∙ ap (λ (ns : List (List ℕ)). ns ++ name ∷ []) h ∙ ap (λ (n : List ℕ). map (λ (r : Row). r.name) (take count rows) ++ n ∷ []) is
+    e ∙ ap (λ (ns : List (List ℕ)). ns ++ name ∷ []) h
+    ∙ ap (λ (n : List ℕ). map (λ (r : Row). r.name) (take count rows) ++ n ∷ []) is
     ∙ sym (map-append (λ (r : Row). r.name) (take count rows) (row ∷ [])) ∙ ap (map (λ (r : Row). r.name)) (sym f)
 
-pub names-long : (names next : List (List ℕ)) (count : ℕ) (name : List ℕ) → count ≤ length names → take (count + 1) next ≡ take count names ++ name ∷ [] → count + 1 ≤ length next
+pub names-long : (names next : List (List ℕ)) (count : ℕ) (name : List ℕ)
+    → count ≤ length names → take (count + 1) next ≡ take count names ++ name ∷ [] → count + 1 ≤ length next
 names-long names next count name h e =
-    let long : length (take (count + 1) next) ≡ length (take count names) + 1 = ap (λ (ns : List (List ℕ)). length ns) e ∙ length_push (take count names) name in
+    let long : length (take (count + 1) next) ≡ length (take count names) + 1 = ap (λ (ns : List (List ℕ)). length ns) e
+    ∙ length_push (take count names) name in
     omega (arith, h, long, length-take count names, length-take (count + 1) next)

@@ -1,27 +1,37 @@
 -- What is read of an observation epoch is sound.
-use Rattle.std.proofs.Common.{◌≡◌, ℕ, ℤ, ◌+◌, ◌-◌, ◌*◌, ◌≤◌, zero, suc, Bool, true, false, not, cond, List, [], ◌∷◌, ◌++◌, length, drop, replicate, Option, Some, None, IfSome, OnSome, unwrap_or, Result, Ok, Err, refl, ap, sym, subst, ◌∙◌, arith}
+use Rattle.std.proofs.Common.{◌≡◌, ℕ, ℤ, ◌+◌, ◌-◌, ◌*◌, ◌≤◌, zero, suc, Bool, true, false, not, cond, List, [], ◌∷◌}
+use Rattle.std.proofs.Common.{◌++◌, length, drop, replicate, Option, Some, None, IfSome, OnSome, unwrap_or, Result, Ok}
+use Rattle.std.proofs.Common.{Err, refl, ap, sym, subst, ◌∙◌, arith}
 use Rattle.std.specs.Prelude.{⊤, All}
 use Rattle.std.specs.List.{list_all, AllByRecursion}
 use Rattle.std.proofs.lemmas.Bool.{and_from}
 use Rattle.std.proofs.lemmas.List.{length_push, length-append, length-take, length-replicate}
 use Rattle.std.proofs.lemmas.List.Elements.{All-cons, All-nil, All-push}
 use Rattle.std.proofs.lemmas.Option.{option_and_then_some, same_Some, none-some}
-use Rattle.crx_text.specs.Columns.{character_at, columns, is_blank}
-use Rattle.crx_text.specs.Numbers.{observation_of, clock_of}
-use Rattle.crx_lines.specs.Seen.{ReadLine, Content, Overlong}
+use Rattle.crx_text.specs.meaning.Columns.{character_at, columns, is_blank}
+use Rattle.crx_text.specs.meaning.Numbers.{observation_of, clock_of}
+use Rattle.crx_lines.specs.meaning.Seen.{ReadLine, Content, Overlong}
 use Rattle.crx_lines.specs.declared.fault.Fault.{Fault}
-use Rattle.crx_lines.specs.declared.fault.Fault.TheVariants.{NotAnEpoch, BadEpoch, RepeatedSatellite, BadField, BadFlags, Truncated}
+use Rattle.crx_lines.specs.declared.fault.Fault.TheVariants.{NotAnEpoch, BadEpoch, RepeatedSatellite, BadField}
+use Rattle.crx_lines.specs.declared.fault.Fault.TheVariants.{BadFlags, Truncated}
 use Rattle.crx_lines.specs.declared.limits.TheConstants.{SATELLITES_LIMIT}
-use Rattle.crx_text.specs.Texts.{is_kept}
-use Rattle.crx_rinex.specs.ObservationTypes.{Count, AreCounts, IsAllowedCount, is_system, count_of}
-use Rattle.crx_rinex.specs.Observations.{Row, Epoch}
-use Rattle.crx_rinex.specs.Units.{Unit, Observation}
-use Rattle.crx_rinex.specs.Places.{Place, Here, Wrong, Wanted, after_lines, then_place, one_line}
-use Rattle.crx_rinex.specs.EpochLines.{HeadLine, EventHead, EpochHead, ObservationHead, IsObservationHead, is_event_flag, begins_epoch, epoch_count, epoch_head, event_head, with_clock, head_of, records_in, satellites_of}
-use Rattle.crx_rinex.specs.SatelliteLines.{row_of, row_of_types, row_with, values_in, flags_in, flags_at, field, all_some, types_of_satellite, has_number, is_identifier, IsSoundRow, IsValue, HasItsTypes}
-use Rattle.crx_rinex.specs.Epochs.{has_satellite, are_different, IsWholeEpoch}
-use Rattle.crx_rinex.specs.EpochPlaces.{OpenEpoch, Beginning, EventBegins, EpochBegins, opened, rows_wanted, epoch_of, with_next_row, row_if_new, next_row, rows_at, rest_at, begun_by, beginning_of, unit_begun, epoch_place}
-use Rattle.crx_rinex.specs.EachPlace.{each_place}
+use Rattle.crx_text.specs.meaning.Texts.{is_kept}
+use Rattle.crx_rinex.specs.meaning.ObservationTypes.{Count, IsAllowedCount, is_system, count_of}
+use Rattle.crx_rinex.specs.ObservationTypes.{AreCounts}
+use Rattle.crx_rinex.specs.meaning.Observations.{Row, Epoch}
+use Rattle.crx_rinex.specs.meaning.Units.{Unit, Observation}
+use Rattle.crx_rinex.specs.meaning.Places.{Place, Here, Wrong, Wanted, after_lines, then_place, one_line}
+use Rattle.crx_rinex.specs.meaning.EpochLines.{HeadLine, EventHead, EpochHead, ObservationHead, IsObservationHead}
+use Rattle.crx_rinex.specs.meaning.EpochLines.{is_event_flag, begins_epoch, epoch_count, epoch_head, event_head}
+use Rattle.crx_rinex.specs.meaning.EpochLines.{with_clock, head_of, records_in, satellites_of}
+use Rattle.crx_rinex.specs.meaning.SatelliteLines.{row_of, row_of_types, row_with, values_in, flags_in, flags_at, field}
+use Rattle.crx_rinex.specs.meaning.SatelliteLines.{all_some, types_of_satellite, has_number, is_identifier, IsSoundRow}
+use Rattle.crx_rinex.specs.meaning.SatelliteLines.{IsValue, HasItsTypes}
+use Rattle.crx_rinex.specs.meaning.Epochs.{has_satellite, are_different, IsWholeEpoch}
+use Rattle.crx_rinex.specs.meaning.EpochPlaces.{OpenEpoch, Beginning, EventBegins, EpochBegins, opened, rows_wanted}
+use Rattle.crx_rinex.specs.meaning.EpochPlaces.{epoch_of, with_next_row, row_if_new, next_row, rows_at, rest_at}
+use Rattle.crx_rinex.specs.meaning.EpochPlaces.{begun_by, beginning_of, unit_begun, epoch_place}
+use Rattle.crx_rinex.specs.meaning.EachPlace.{each_place}
 use Rattle.crx_rinex.proofs.EachPlace.{each_place-all, length-each_place}
 use Rattle.crx_rinex.proofs.Cells.{flags_in_more, identifier_columns}
 use Rattle.crx_rinex.proofs.Counts.{allowed_of, system_of}
@@ -32,7 +42,8 @@ use Rattle.crx_rinex.proofs.Rows.{satellites_few}
 -- ---- a row
 
 -- an identifier's columns have the system's count of types that its line has
-pub name_types : (types : List Count) (line : List ℕ) → types_of_satellite types (columns line 1 3) ≡ types_of_satellite types line
+pub name_types : (types : List Count) (line : List ℕ)
+    → types_of_satellite types (columns line 1 3) ≡ types_of_satellite types line
 name_types types [] = refl
 name_types types (a ∷ []) = refl
 name_types types (a ∷ b ∷ []) = refl
@@ -47,20 +58,25 @@ record AreValues (count : ℕ) (values : List (Option ℤ)) : Type 0 where
   long : length values ≡ count
   ranged : All IsValue values
 
-values_sound : (xs : List (Option (Option ℤ))) (values : List (Option ℤ)) → AllByRecursion (λ (o : Option (Option ℤ)). IfSome o IsValue) xs → all_some xs ≡ Some values → AreValues (length xs) values
-values_sound [] values h e = subst (AreValues 0) (same_Some [] values e) (record { long = refl; ranged = All-nil IsValue })
+values_sound : (xs : List (Option (Option ℤ))) (values : List (Option ℤ)) → AllByRecursion
+    (λ (o : Option (Option ℤ)). IfSome o IsValue) xs → all_some xs ≡ Some values → AreValues (length xs) values
+values_sound [] values h e = subst
+    (AreValues 0) (same_Some [] values e) (record { long = refl; ranged = All-nil IsValue })
 values_sound (None ∷ xs) values h e = absurd (none-some values e)
 values_sound (Some x ∷ xs) values h e =
-    option_and_then_some {P = AreValues (length (Some x ∷ xs)) values} (λ (vs : List (Option ℤ)). Some (x ∷ vs)) (all_some xs) values e
+    option_and_then_some {P = AreValues (length (Some x ∷ xs)) values}
+    (λ (vs : List (Option ℤ)). Some (x ∷ vs)) (all_some xs) values e
     (λ vs some same. let ih = values_sound xs vs h.1 some in
-    subst (AreValues (suc (length xs))) (same_Some (x ∷ vs) values same) (record { long = ap suc ih.long; ranged = All-cons IsValue x vs h.0 ih.ranged }))
+    subst (AreValues (suc (length xs))) (same_Some (x ∷ vs) values same)
+    (record { long = ap suc ih.long; ranged = All-cons IsValue x vs h.0 ih.ranged }))
 
 flags_long : (line : List ℕ) (m : ℕ) → length (flags_in m line) ≡ 2 * m
 flags_long line zero = refl
 flags_long line (suc m) =
     let ih = flags_long line m in
     let one : suc m ≡ m + 1 = omega arith in
-    let more : length (flags_in (m + 1) line) ≡ length (flags_in m line) + 2 = ap (λ (fs : List ℕ). length fs) (flags_in_more line m) ∙ length-append (flags_in m line) (flags_at line m) in
+    let more : length (flags_in (m + 1) line) ≡ length (flags_in m line) + 2 =
+    ap (λ (fs : List ℕ). length fs) (flags_in_more line m) ∙ length-append (flags_in m line) (flags_at line m) in
     let same = ap (λ n. length (flags_in n line)) one in
     omega (arith, ih, more, same)
 
@@ -74,17 +90,22 @@ record IsTyped (line : List ℕ) (m : ℕ) : Type 0 where
   named : is_identifier (columns line 1 3) ≡ true
   counted : IsAllowedCount m
 
-typed : (types : List Count) (line : List ℕ) (m : ℕ) → AreCounts types → types_of_satellite types line ≡ Some m → IsTyped line m
+typed : (types : List Count) (line : List ℕ) (m : ℕ)
+    → AreCounts types → types_of_satellite types line ≡ Some m → IsTyped line m
 typed types line m counts h =
     let parts = tested (has_number line) (count_of types (character_at line 1)) m h in
-    let system : is_system (character_at line 1) ≡ true = subst (λ (o : Option ℕ). OnSome o (is_system (character_at line 1) ≡ true)) parts.1 (system_of types (character_at line 1) counts) in
+    let system : is_system (character_at line 1) ≡ true = subst (λ (o : Option ℕ).
+    OnSome o (is_system (character_at line 1) ≡ true)) parts.1 (system_of types (character_at line 1) counts) in
     record {
       named = identifier_columns line ∙ and_from (is_system (character_at line 1)) (has_number line) system parts.0;
-      counted = subst (λ (o : Option ℕ). IfSome o IsAllowedCount) parts.1 (allowed_of types (character_at line 1) counts);
+      counted = subst (λ (o : Option ℕ). IfSome o IsAllowedCount) parts.1
+          (allowed_of types (character_at line 1) counts);
     }
 
-flags_case : (types : List Count) (line : List ℕ) (m : ℕ) (values : List (Option ℤ)) → types_of_satellite types line ≡ Some m → IsTyped line m → AreValues m values
-    → (b : Bool) → list_all is_kept (flags_in m line) ≡ b → IsSoundRead types (cond (not b) (Err BadFlags) (Ok (record { name = columns line 1 3; values = values; flags = flags_in m line })))
+flags_case : (types : List Count) (line : List ℕ) (m : ℕ) (values : List (Option ℤ))
+    → types_of_satellite types line ≡ Some m → IsTyped line m → AreValues m values
+    → (b : Bool) → list_all is_kept (flags_in m line) ≡ b → IsSoundRead types (cond
+    (not b) (Err BadFlags) (Ok (record { name = columns line 1 3; values = values; flags = flags_in m line })))
 flags_case types line m values e t v false k = tt
 flags_case types line m values e t v true k =
     let pairs = flags_long line m in
@@ -99,20 +120,26 @@ flags_case types line m values e t v true k =
       name_types types line ∙ e ∙ ap (λ n. Some n) (sym same),
     )
 
-values_case : (types : List Count) (line : List ℕ) (m : ℕ) → types_of_satellite types line ≡ Some m → IsTyped line m → (o : Option (List (Option ℤ))) → values_in m line ≡ o → IsSoundRead types (row_with m line o)
+values_case : (types : List Count) (line : List ℕ) (m : ℕ) → types_of_satellite types line ≡ Some m
+    → IsTyped line m → (o : Option (List (Option ℤ))) → values_in m line ≡ o → IsSoundRead types (row_with m line o)
 values_case types line m e t None h = tt
 values_case types line m e t (Some values) h =
     let f : ℕ → Option (Option ℤ) = λ k. observation_of (field line k) in
     let v : AreValues m values = subst (λ n. AreValues n values) (length-each_place m f)
-    (values_sound (each_place m f) values (each_place-all (λ (o : Option (Option ℤ)). IfSome o IsValue) m f (λ k. if_some (f k) (value_fits (field line k)))) h) in
-    elim (list_all is_blank (drop (16 * m + 3) line)) as (λ b. IsSoundRead types (cond (not b) (Err BadField) (cond (not (list_all is_kept (flags_in m line))) (Err BadFlags) (Ok (record { name = columns line 1 3; values = values; flags = flags_in m line }))))) [
+    (values_sound (each_place m f) values (each_place-all
+    (λ (o : Option (Option ℤ)). IfSome o IsValue) m f (λ k. if_some (f k) (value_fits (field line k)))) h) in
+    elim (list_all is_blank (drop (16 * m + 3) line)) as (λ b.
+    IsSoundRead types (cond (not b) (Err BadField) (cond (not (list_all is_kept (flags_in m line)))
+    (Err BadFlags) (Ok (record { name = columns line 1 3; values = values; flags = flags_in m line }))))) [
       | true ↦ flags_case types line m values e t v (list_all is_kept (flags_in m line)) refl
       | false ↦ tt
     ]
 
-types_case : (types : List Count) (line : List ℕ) → AreCounts types → (o : Option ℕ) → types_of_satellite types line ≡ o → IsSoundRead types (row_of_types line o)
+types_case : (types : List Count) (line : List ℕ)
+    → AreCounts types → (o : Option ℕ) → types_of_satellite types line ≡ o → IsSoundRead types (row_of_types line o)
 types_case types line counts None e = tt
-types_case types line counts (Some m) e = values_case types line m e (typed types line m counts e) (values_in m line) refl
+types_case types line counts (Some m) e =
+    values_case types line m e (typed types line m counts e) (values_in m line) refl
 
 pub sound-row_of : (types : List Count) (line : List ℕ) → AreCounts types → IsSoundRead types (row_of types line)
 sound-row_of types line counts = types_case types line counts (types_of_satellite types line) refl
@@ -121,14 +148,21 @@ sound-row_of types line counts = types_case types line counts (types_of_satellit
 
 pub length-columns : (line : List ℕ) (first width : ℕ) → length (columns line first width) ≡ width
 length-columns line first width =
-    omega (arith, length-take width (drop (first - 1) line ++ replicate width 32), length-append (drop (first - 1) line) (replicate width 32), length-replicate {A = ℕ} width 32)
+    omega (
+      arith,
+      length-take width (drop (first - 1) line ++ replicate width 32),
+      length-append
+          (drop (first - 1) line) (replicate width 32),
+      length-replicate {A = ℕ} width 32,
+    )
 
 abbrev pub IsSoundHead : Result HeadLine Fault → Type 0
 IsSoundHead (Err fault) = ⊤
 IsSoundHead (Ok (EventHead flag count)) = ⊤
 IsSoundHead (Ok (EpochHead head count clock)) = IsObservationHead (record { head = head; count = count; clock = clock })
 
-clock_case : (line : List ℕ) (count : ℕ) → epoch_count (columns line 1 41) ≡ Some count → (o : Option (Option ℤ)) → clock_of (columns line 42 15) ≡ o → IsSoundHead (with_clock (columns line 1 41) count o)
+clock_case : (line : List ℕ) (count : ℕ) → epoch_count (columns line 1 41) ≡ Some count
+    → (o : Option (Option ℤ)) → clock_of (columns line 42 15) ≡ o → IsSoundHead (with_clock (columns line 1 41) count o)
 clock_case line count e None c = tt
 clock_case line count e (Some clock) c =
     record {
@@ -141,7 +175,8 @@ clock_case line count e (Some clock) c =
 count_case : (line : List ℕ) (o : Option ℕ) → epoch_count (columns line 1 41) ≡ o → IsSoundHead (epoch_head line o)
 count_case line None e = tt
 count_case line (Some count) e =
-    elim (list_all is_blank (drop 56 line)) as (λ b. IsSoundHead (cond b (with_clock (columns line 1 41) count (clock_of (columns line 42 15))) (Err BadEpoch))) [
+    elim (list_all is_blank (drop 56 line)) as (λ b.
+    IsSoundHead (cond b (with_clock (columns line 1 41) count (clock_of (columns line 42 15))) (Err BadEpoch))) [
       | true ↦ clock_case line count e (clock_of (columns line 42 15)) refl
       | false ↦ tt
     ]
@@ -152,11 +187,14 @@ event_case flag (Some count) = tt
 
 pub sound-head_of : (line : List ℕ) → IsSoundHead (head_of line)
 sound-head_of line =
-    elim (begins_epoch line) as (λ b. IsSoundHead (cond (not b) (Err NotAnEpoch) (cond (is_event_flag (character_at line 32)) (event_head (character_at line 32) (records_in line)) (epoch_head line (epoch_count (columns line 1 41)))))) [
-      | true ↦ elim (is_event_flag (character_at line 32)) as (λ b. IsSoundHead (cond b (event_head (character_at line 32) (records_in line)) (epoch_head line (epoch_count (columns line 1 41))))) [
-        | true ↦ event_case (character_at line 32) (records_in line)
-        | false ↦ count_case line (epoch_count (columns line 1 41)) refl
-      ]
+    elim (begins_epoch line) as (λ b.
+    IsSoundHead (cond (not b) (Err NotAnEpoch) (cond (is_event_flag (character_at line 32))
+    (event_head (character_at line 32) (records_in line)) (epoch_head line (epoch_count (columns line 1 41)))))) [
+      | true ↦ elim (is_event_flag (character_at line 32)) as (λ b. IsSoundHead (cond b
+          (event_head (character_at line 32) (records_in line)) (epoch_head line (epoch_count (columns line 1 41))))) [
+            | true ↦ event_case (character_at line 32) (records_in line)
+            | false ↦ count_case line (epoch_count (columns line 1 41)) refl
+          ]
       | false ↦ tt
     ]
 
@@ -169,29 +207,39 @@ pub record IsSoundSoFar (so_far : OpenEpoch) : Type 0 where
   pub typed : All (HasItsTypes so_far.types) so_far.rows
   pub apart : are_different so_far.rows ≡ true
 
-pub sound-opened : (types : List Count) (head : ObservationHead) → IsObservationHead head → IsSoundSoFar (opened types head)
-sound-opened types head h = record { head = h; rows = All-nil IsSoundRow; typed = All-nil (HasItsTypes types); apart = refl }
+pub sound-opened : (types : List Count) (head : ObservationHead)
+    → IsObservationHead head → IsSoundSoFar (opened types head)
+sound-opened types head h = record {
+  head = h;
+  rows = All-nil IsSoundRow;
+  typed = All-nil (HasItsTypes types);
+  apart = refl;
+}
 
 abbrev pub IsNext : OpenEpoch → Result Row Fault → Type 0
 IsNext so_far (Err fault) = ⊤
 IsNext so_far (Ok row) = IsSoundRow row × HasItsTypes so_far.types row × (has_satellite row.name so_far.rows ≡ false)
 
-new_case : (so_far : OpenEpoch) (row : Row) → IsSoundRow row → HasItsTypes so_far.types row → (b : Bool) → has_satellite row.name so_far.rows ≡ b → IsNext so_far (cond b (Err RepeatedSatellite) (Ok row))
+new_case : (so_far : OpenEpoch) (row : Row) → IsSoundRow row → HasItsTypes so_far.types row
+    → (b : Bool) → has_satellite row.name so_far.rows ≡ b → IsNext so_far (cond b (Err RepeatedSatellite) (Ok row))
 new_case so_far row s t true h = tt
 new_case so_far row s t false h = (s, t, h)
 
-new_row : (so_far : OpenEpoch) (r : Result Row Fault) → IsSoundRead so_far.types r → IsNext so_far (row_if_new so_far.rows r)
+new_row : (so_far : OpenEpoch) (r : Result Row Fault)
+    → IsSoundRead so_far.types r → IsNext so_far (row_if_new so_far.rows r)
 new_row so_far (Err fault) h = tt
 new_row so_far (Ok row) h = new_case so_far row h.0 h.1 (has_satellite row.name so_far.rows) refl
 
 pub next_sound : (so_far : OpenEpoch) (line : List ℕ) → AreCounts so_far.types → IsNext so_far (next_row so_far line)
 next_sound so_far line counts =
-    elim (begins_epoch line) as (λ b. IsNext so_far (cond b (Err Truncated) (row_if_new so_far.rows (row_of so_far.types line)))) [
+    elim (begins_epoch line) as (λ b.
+    IsNext so_far (cond b (Err Truncated) (row_if_new so_far.rows (row_of so_far.types line)))) [
       | true ↦ tt
       | false ↦ new_row so_far (row_of so_far.types line) (sound-row_of so_far.types line counts)
     ]
 
-pub sound-next_row : (so_far : OpenEpoch) (row : Row) → IsSoundSoFar so_far → IsNext so_far (Ok row) → IsSoundSoFar (with_next_row so_far row)
+pub sound-next_row : (so_far : OpenEpoch) (row : Row)
+    → IsSoundSoFar so_far → IsNext so_far (Ok row) → IsSoundSoFar (with_next_row so_far row)
 sound-next_row so_far row h n =
     record {
       head = h.head;
@@ -200,13 +248,19 @@ sound-next_row so_far row h n =
       apart = apart-push (λ (r : Row). r.name) so_far.rows row h.apart n.2;
     }
 
-whole : (so_far : OpenEpoch) → IsSoundSoFar so_far → length so_far.rows ≡ so_far.head.count → IsWholeEpoch so_far.types (epoch_of so_far)
+whole : (so_far : OpenEpoch) → IsSoundSoFar so_far
+    → length so_far.rows ≡ so_far.head.count → IsWholeEpoch so_far.types (epoch_of so_far)
 whole so_far h full =
     let head = h.head in
     let same : satellites_of so_far.head.head ≡ so_far.head.count = ap (λ (o : Option ℕ). unwrap_or o 0) head.counted in
     record {
       sound = record {
-        head_sound = record { width = head.width; counted = head.counted ∙ ap (λ n. Some n) (sym same); within = rw same head.within; ranged = head.ranged };
+        head_sound = record {
+          width = head.width;
+          counted = head.counted ∙ ap (λ n. Some n) (sym same);
+          within = rw same head.within;
+          ranged = head.ranged;
+        };
         rows_sound = h.rows;
         apart = h.apart;
         within = omega (arith, same, full);
@@ -221,26 +275,33 @@ AreGood types total count (Here epoch n) = IsWholeEpoch types epoch × (n ≡ co
 AreGood types total count (Wrong k fault) = ⊤
 AreGood types total count Wanted = ⊤
 
-good_after : (types : List Count) (total count : ℕ) (p : Place Epoch) → AreGood types total count p → AreGood types total (suc count) (after_lines 1 p)
+good_after : (types : List Count) (total count : ℕ) (p : Place Epoch)
+    → AreGood types total count p → AreGood types total (suc count) (after_lines 1 p)
 good_after types total count (Here epoch n) h = let e = h.1 in (h.0, omega (arith, e), h.2)
 good_after types total count (Wrong k fault) h = tt
 good_after types total count Wanted h = tt
 
 good_row : (count : ℕ) (so_far : OpenEpoch) (line : List ℕ) (lines : List ReadLine)
-    → ((row : Row) → IsNext so_far (Ok row) → AreGood so_far.types so_far.head.count count (rows_at (with_next_row so_far row) count lines))
+    → ((row : Row) → IsNext so_far (Ok row)
+    → AreGood so_far.types so_far.head.count count (rows_at (with_next_row so_far row) count lines))
     → (r : Result Row Fault) → IsNext so_far r
-    → AreGood so_far.types so_far.head.count (suc count) (then_place (one_line r) (Content line ∷ lines) (λ row rest. rows_at (with_next_row so_far row) count rest))
+    → AreGood so_far.types so_far.head.count (suc count)
+    (then_place (one_line r) (Content line ∷ lines) (λ row rest. rows_at (with_next_row so_far row) count rest))
 good_row count so_far line lines ih (Err fault) n = tt
-good_row count so_far line lines ih (Ok row) n = good_after so_far.types so_far.head.count count (rows_at (with_next_row so_far row) count lines) (ih row n)
+good_row count so_far line lines ih (Ok row) n =
+    good_after so_far.types so_far.head.count count (rows_at (with_next_row so_far row) count lines) (ih row n)
 
-good_rows : (count : ℕ) (so_far : OpenEpoch) (lines : List ReadLine) → AreCounts so_far.types → IsSoundSoFar so_far → length so_far.rows + count ≡ so_far.head.count
+good_rows : (count : ℕ) (so_far : OpenEpoch) (lines : List ReadLine)
+    → AreCounts so_far.types → IsSoundSoFar so_far → length so_far.rows + count ≡ so_far.head.count
     → AreGood so_far.types so_far.head.count count (rows_at so_far count lines)
-good_rows zero so_far lines counts h sum = let full : length so_far.rows ≡ so_far.head.count = omega (arith, sum) in (whole so_far h full, refl, full)
+good_rows zero so_far lines counts h sum = let full : length so_far.rows ≡ so_far.head.count = omega (arith, sum) in
+    (whole so_far h full, refl, full)
 good_rows (suc count) so_far [] counts h sum = tt
 good_rows (suc count) so_far (Overlong ∷ lines) counts h sum = tt
 good_rows (suc count) so_far (Content line ∷ lines) counts h sum =
     good_row count so_far line lines
-    (λ row n. good_rows count (with_next_row so_far row) lines counts (sound-next_row so_far row h n) (omega (arith, sum, length_push so_far.rows row)))
+    (λ row n. good_rows count (with_next_row so_far row) lines counts
+    (sound-next_row so_far row h n) (omega (arith, sum, length_push so_far.rows row)))
     (next_row so_far line) (next_sound so_far line counts)
 
 -- ---- where an epoch or an event may begin
@@ -266,7 +327,8 @@ begun_sound line (Err fault) h = tt
 begun_sound line (Ok (EventHead flag count)) h = tt
 begun_sound line (Ok (EpochHead head count clock)) h = h
 
-good_begun : (types : List Count) (line : List ℕ) (lines : List ReadLine) (r : Result Beginning Fault) → AreCounts types → IsSoundBeginning r
+good_begun : (types : List Count) (line : List ℕ) (lines : List ReadLine) (r : Result Beginning Fault)
+    → AreCounts types → IsSoundBeginning r
     → IsReadWell types (then_place (one_line r) (Content line ∷ lines) (unit_begun types))
 good_begun types line lines (Err fault) counts h = tt
 good_begun types line lines (Ok (EventBegins event)) counts h = tt
@@ -274,13 +336,16 @@ good_begun types line lines (Ok (EpochBegins head)) counts h =
     good_unit types head.count (rest_at (opened types head) lines) lines
     (let all : rows_wanted (opened types head) ≡ head.count = omega arith in
     subst (λ n. AreGood types head.count n (rows_at (opened types head) (rows_wanted (opened types head)) lines)) all
-    (good_rows (rows_wanted (opened types head)) (opened types head) lines counts (sound-opened types head h) (omega arith)))
+    (good_rows (rows_wanted (opened types head))
+    (opened types head) lines counts (sound-opened types head h) (omega arith)))
 
 read_well : (types : List Count) (lines : List ReadLine) → AreCounts types → IsReadWell types (epoch_place types lines)
 read_well types [] counts = tt
 read_well types (Overlong ∷ lines) counts = tt
-read_well types (Content line ∷ lines) counts = good_begun types line lines (beginning_of line) counts (begun_sound line (head_of line) (sound-head_of line))
+read_well types (Content line ∷ lines) counts =
+    good_begun types line lines (beginning_of line) counts (begun_sound line (head_of line) (sound-head_of line))
 
-pub sound-epoch_place : (types : List Count) (lines : List ReadLine) (epoch : Epoch) (count : ℕ) → AreCounts types → epoch_place types lines ≡ Here (Observation epoch) count
+pub sound-epoch_place : (types : List Count) (lines : List ReadLine) (epoch : Epoch) (count : ℕ)
+    → AreCounts types → epoch_place types lines ≡ Here (Observation epoch) count
     → IsWholeEpoch types epoch × (count ≡ suc (length epoch.rows))
 sound-epoch_place types lines epoch count counts h = subst (IsReadWell types) h (read_well types lines counts)

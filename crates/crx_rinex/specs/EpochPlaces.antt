@@ -1,83 +1,14 @@
--- Observation epochs among the lines of a file, and the epoch whose lines have come in part: RINEX 3.05, table A3.
-use Rattle.std.specs.Prelude.{ℕ, zero, suc, ◌-◌, List, [], ◌∷◌, ◌++◌, length, Option, Some, None, Result, Ok, Err, if◌then◌else◌}
-use Rattle.crx_lines.specs.Seen.{ReadLine, Content, Overlong}
+-- Beside meaning/EpochPlaces: what code and proofs see of it.
+use Rattle.std.specs.Prelude.{ℕ, zero, suc, List, [], ◌∷◌, Option, Some, None, Result, Ok, Err}
+use Rattle.crx_lines.specs.meaning.Seen.{ReadLine, Content, Overlong}
 use Rattle.crx_lines.specs.declared.fault.Fault.{Fault}
-use Rattle.crx_lines.specs.declared.fault.Fault.TheVariants.{LineTooLong, RepeatedSatellite, Truncated}
-use Rattle.crx_rinex.specs.Observations.{Row, Epoch}
-use Rattle.crx_rinex.specs.Units.{Unit, EventLine, Observation}
-use Rattle.crx_rinex.specs.Places.{Place, Here, Wrong, Wanted, then_place, first_line}
-use Rattle.crx_rinex.specs.EpochLines.{HeadLine, EventHead, EpochHead, ObservationHead, head_of, begins_epoch}
-use Rattle.crx_rinex.specs.Epochs.{has_satellite}
-use Rattle.crx_rinex.specs.ObservationTypes.{Count}
-use Rattle.crx_rinex.specs.SatelliteLines.{row_of}
-
--- an epoch whose lines have come in part: the counts of types in force, the epoch line's parts, and the rows so far
-pub record OpenEpoch : Type 0 where
-  pub types : List Count
-  pub head : ObservationHead
-  pub rows : List Row
-
--- an epoch line alone
-abbrev pub opened : List Count → ObservationHead → OpenEpoch
-opened types head = record { types = types; head = head; rows = [] }
-
--- how many satellite lines are still to come
-abbrev pub rows_wanted : OpenEpoch → ℕ
-rows_wanted so_far = so_far.head.count - length so_far.rows
-
--- the epoch of these rows
-abbrev pub epoch_of : OpenEpoch → Epoch
-epoch_of so_far = record { head = so_far.head.head; clock = so_far.head.clock; rows = so_far.rows }
-
--- one row more, at the end
-abbrev pub with_next_row : OpenEpoch → Row → OpenEpoch
-with_next_row so_far row = record so_far { rows = so_far.rows ++ row ∷ [] }
-
--- a row whose satellite the epoch doesn't have yet
-abbrev pub row_if_new : List Row → Result Row Fault → Result Row Fault
-row_if_new rows (Err fault) = Err fault
-row_if_new rows (Ok row) = if has_satellite row.name rows then Err RepeatedSatellite else Ok row
-
--- what a line is where an epoch's next satellite line is expected: a new epoch line cuts the epoch off
-abbrev pub next_row : OpenEpoch → List ℕ → Result Row Fault
-next_row so_far line = if begins_epoch line then Err Truncated else row_if_new so_far.rows (row_of so_far.types line)
-
--- the row at the first of some lines
-abbrev pub row_at : OpenEpoch → List ReadLine → Place Row
-row_at so_far lines = first_line lines (next_row so_far)
-
--- the epoch, once so many more rows have come
-abbrev pub rows_at : OpenEpoch → ℕ → List ReadLine → Place Epoch
-rows_at so_far zero lines = Here (epoch_of so_far) 0
-rows_at so_far (suc count) lines = then_place (row_at so_far lines) lines (λ row rest. rows_at (with_next_row so_far row) count rest)
-
--- the epoch, once all rows have come that its line announces
-abbrev pub rest_at : OpenEpoch → List ReadLine → Place Epoch
-rest_at so_far lines = rows_at so_far (rows_wanted so_far) lines
-
--- ---- where an epoch or an event may begin
-
--- what a line begins: an event, or an observation epoch
-pub data Beginning : Type 0 where
-  EventBegins : List ℕ → Beginning
-  EpochBegins : ObservationHead → Beginning
-
-abbrev pub begun_by : List ℕ → Result HeadLine Fault → Result Beginning Fault
-begun_by line (Err fault) = Err fault
-begun_by line (Ok (EventHead flag count)) = Ok (EventBegins line)
-begun_by line (Ok (EpochHead head count clock)) = Ok (EpochBegins (record { head = head; count = count; clock = clock }))
-
-abbrev pub beginning_of : List ℕ → Result Beginning Fault
-beginning_of line = begun_by line (head_of line)
-
--- an event's first line is a unit of its own; an observation epoch has its rows after its line
-abbrev pub unit_begun : List Count → Beginning → List ReadLine → Place (Unit Epoch)
-unit_begun types (EventBegins line) lines = Here (EventLine line) 0
-unit_begun types (EpochBegins head) lines = then_place (rest_at (opened types head) lines) lines (λ epoch rest. Here (Observation epoch) 0)
-
--- what stands where an epoch or an event may begin
-abbrev pub epoch_place : List Count → List ReadLine → Place (Unit Epoch)
-epoch_place types lines = then_place (first_line lines beginning_of) lines (unit_begun types)
+use Rattle.crx_lines.specs.declared.fault.Fault.TheVariants.{LineTooLong}
+use Rattle.crx_rinex.specs.meaning.Observations.{Row, Epoch}
+use Rattle.crx_rinex.specs.meaning.Units.{Unit, Observation}
+use Rattle.crx_rinex.specs.meaning.Places.{Place, Here, Wrong, Wanted}
+use Rattle.crx_rinex.specs.meaning.ObservationTypes.{Count}
+use Rattle.crx_rinex.specs.meaning.EpochPlaces.{OpenEpoch, opened, rows_wanted, epoch_of, with_next_row, next_row}
+use Rattle.crx_rinex.specs.meaning.EpochPlaces.{Beginning, EventBegins, EpochBegins, beginning_of}
 
 -- ---- line by line
 

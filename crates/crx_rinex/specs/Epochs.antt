@@ -1,29 +1,8 @@
--- Observation epochs whose rows come one by one: RINEX 3.05, table A3.
-use Rattle.std.specs.Prelude.{◌≡◌, ◌≤◌, ℕ, Bool, true, List, [], ◌∷◌, ◌++◌, ◌==◌, ◌&&◌, length, not, All, Result, Ok, Err}
-use Rattle.std.specs.List.{list_any}
-use Rattle.std.specs.Str.{bytes_eq}
+-- Beside meaning/Epochs: what code and proofs see of it.
+use Rattle.std.specs.Prelude.{◌≡◌, Bool, [], ◌∷◌, ◌++◌, ◌==◌, length, Result, Ok, Err}
 use Rattle.crx_lines.specs.declared.fault.Fault.{Fault}
-use Rattle.crx_rinex.specs.Observations.{Row, Epoch}
-use Rattle.crx_rinex.specs.EpochLines.{ObservationHead, IsObservationHead, satellites_of}
-use Rattle.crx_rinex.specs.ObservationTypes.{Count}
-use Rattle.crx_rinex.specs.SatelliteLines.{IsSoundRow, HasItsTypes}
-
--- whether some rows have a satellite
-abbrev pub has_satellite : List ℕ → List Row → Bool
-has_satellite name rows = list_any (λ row. bytes_eq row.name name) rows
-
--- whether some things have one of this identifier among them
-abbrev pub is_among : {X : Type 0} → (X → List ℕ) → List ℕ → List X → Bool
-is_among name_of name xs = list_any (λ x. bytes_eq (name_of x) name) xs
-
--- whether no two of them have one identifier
-abbrev pub are_apart : {X : Type 0} → (X → List ℕ) → List X → Bool
-are_apart name_of [] = true
-are_apart name_of (x ∷ xs) = not (is_among name_of (name_of x) xs) && are_apart name_of xs
-
--- whether no two rows are of one satellite
-abbrev pub are_different : List Row → Bool
-are_different rows = are_apart (λ (row : Row). row.name) rows
+use Rattle.crx_rinex.specs.meaning.Observations.{Row, Epoch}
+use Rattle.crx_rinex.specs.meaning.EpochLines.{ObservationHead, satellites_of}
 
 -- an epoch before its first row
 abbrev pub begun : ObservationHead → Epoch
@@ -41,17 +20,3 @@ AddsRow before (Err fault) after = ⊥
 -- whether an epoch has as many rows as its line announces
 abbrev pub is_full_epoch : Epoch → Bool
 is_full_epoch epoch = length epoch.rows == satellites_of epoch.head
-
--- what is true of every epoch, also while rows are still to come: its line is sound, and so are its rows, each of another
--- satellite, and no more than the line announces
-pub record IsSoundEpoch (epoch : Epoch) : Type 0 where
-  pub head_sound : IsObservationHead (record { head = epoch.head; count = satellites_of epoch.head; clock = epoch.clock })
-  pub rows_sound : All IsSoundRow epoch.rows
-  pub apart : are_different epoch.rows ≡ true
-  pub within : length epoch.rows ≤ satellites_of epoch.head
-
--- an epoch that has all of its rows, where these counts of types are in force
-pub record IsWholeEpoch (types : List Count) (epoch : Epoch) : Type 0 where
-  pub sound : IsSoundEpoch epoch
-  pub full : length epoch.rows ≡ satellites_of epoch.head
-  pub typed : All (HasItsTypes types) epoch.rows

@@ -1,9 +1,9 @@
 -- Worked examples: an epoch of two satellites, line by line.
 use Rattle.std.specs.Prelude.{ℕ, pos, List, [], ◌∷◌, Some, None, codes}
-use Rattle.crx_lines.specs.Seen.{ReadLine, Content}
-use Rattle.crx_rinex.specs.Observations.{Row, Epoch}
-use Rattle.crx_rinex.specs.EpochPlaces.{OpenEpoch}
-use Rattle.crx_rinex.specs.ObservationTypes.{Count}
+use Rattle.crx_lines.specs.meaning.Seen.{ReadLine, Content}
+use Rattle.crx_rinex.specs.meaning.Observations.{Row, Epoch}
+use Rattle.crx_rinex.specs.meaning.EpochPlaces.{OpenEpoch}
+use Rattle.crx_rinex.specs.meaning.ObservationTypes.{Count}
 
 -- one type for GPS
 abbrev pub one_type : List Count
@@ -30,7 +30,11 @@ g02 = record { name = codes "G02"; values = Some (pos 500) ∷ []; flags = codes
 
 -- the epoch with its first satellite
 abbrev pub half_open : OpenEpoch
-half_open = record { types = one_type; head = record { head = two_satellites; count = 2; clock = None }; rows = g01 ∷ [] }
+half_open = record {
+  types = one_type;
+  head = record { head = two_satellites; count = 2; clock = None };
+  rows = g01 ∷ [];
+}
 
 abbrev pub epoch_of_two : Epoch
 epoch_of_two = record { head = two_satellites; clock = None; rows = g01 ∷ g02 ∷ [] }

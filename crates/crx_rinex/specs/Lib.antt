@@ -1,16 +1,10 @@
-pub mod Label
+pub mod meaning
 pub mod ObservationTypes
-pub mod Header
-pub mod EpochLines
 pub mod Heads
-pub mod EachPlace
 pub mod SatelliteLines
-pub mod Observations
 pub mod Epochs
 pub mod Identifiers
 pub mod Printing
-pub mod Places
-pub mod Units
 pub mod Steady
 pub mod EpochPlaces
 pub mod Laws

@@ -1,7 +1,8 @@
--- When what stands at a place is certain: lines come one after another, and those to come must not change what was found.
+-- When what stands at a place is certain: lines come one after another, and those to come must not change what was
+-- found.
 use Rattle.std.specs.Prelude.{◌≡◌, ◌≤◌, ◌<◌, ⊤, ℕ, List, ◌++◌, length}
-use Rattle.crx_lines.specs.Seen.{ReadLine}
-use Rattle.crx_rinex.specs.Places.{Place, Here, Wrong, Wanted}
+use Rattle.crx_lines.specs.meaning.Seen.{ReadLine}
+use Rattle.crx_rinex.specs.meaning.Places.{Place, Here, Wrong, Wanted}
 
 -- what is found after so many lines wanted more: the thing's last line, or the fault's line, is not among them
 abbrev pub IsDecidedAfter : {X : Type 0} → ℕ → Place X → Type 0
@@ -9,8 +10,8 @@ IsDecidedAfter count (Here x lines) = count < lines
 IsDecidedAfter count (Wrong offset fault) = count ≤ offset
 IsDecidedAfter count Wanted = ⊤
 
--- what so many lines make, and what they make with more lines after them: a thing and a fault stand within these lines and
--- stay, and what wants more lines is decided by more of them
+-- what so many lines make, and what they make with more lines after them: a thing and a fault stand within these lines
+-- and stay, and what wants more lines is decided by more of them
 abbrev pub Remains : {X : Type 0} → ℕ → Place X → Place X → Type 0
 Remains count (Here x lines) later = (lines ≤ count) × (later ≡ Here x lines)
 Remains count (Wrong offset fault) later = (offset < count) × (later ≡ Wrong offset fault)

@@ -3,8 +3,8 @@
 
 ghost use Rattle.std.specs.Prelude.{◌≡◌, ◌≤◌, ◌<◌, length, IfSome};
 ghost use Rattle.crx_lines.specs.declared.limits.TheConstants.{LINE_LIMIT, NAME_WIDTH};
-ghost use Rattle.crx_text.specs.Columns.{columns};
-ghost use Rattle.crx_rinex.specs.Label.{has_label, number_in, number_of_digits};
+ghost use Rattle.crx_text.specs.meaning.Columns.{columns};
+ghost use Rattle.crx_rinex.specs.meaning.Label.{has_label, number_in, number_of_digits};
 
 use crx_lines::limits::NAME_WIDTH;
 pub(crate) use crx_text::columns::{character, end_trimmed, is_blank, trimmed};

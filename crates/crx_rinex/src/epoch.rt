@@ -5,13 +5,14 @@ ghost use Rattle.std.specs.Bool.{OnFalse, OnTrue};
 ghost use Rattle.std.specs.List.{sum_by};
 ghost use Rattle.std.specs.Option.{option_copied};
 ghost use Rattle.std.specs.Result.{is_ok};
-ghost use Rattle.crx_text.specs.Columns.{columns};
+ghost use Rattle.crx_text.specs.meaning.Columns.{columns};
 ghost use Rattle.crx_lines.specs.declared.limits.TheConstants.{NAME_WIDTH, SATELLITES_LIMIT, TYPES_LIMIT};
-ghost use Rattle.crx_rinex.specs.EpochLines.{satellites_of, IsObservationHead};
-ghost use Rattle.crx_rinex.specs.Epochs.{begun, has_satellite, is_among, is_full_epoch, with_row, AddsRow, IsSoundEpoch};
-ghost use Rattle.crx_rinex.specs.EpochPlaces.{row_if_new};
-ghost use Rattle.crx_rinex.specs.Observations.{observations_in, observations_of};
-ghost use Rattle.crx_rinex.specs.SatelliteLines.{row_of, IsSoundRow};
+ghost use Rattle.crx_rinex.specs.meaning.EpochLines.{satellites_of, IsObservationHead};
+ghost use Rattle.crx_rinex.specs.Epochs.{begun, is_full_epoch, with_row, AddsRow};
+ghost use Rattle.crx_rinex.specs.meaning.Epochs.{has_satellite, is_among, IsSoundEpoch};
+ghost use Rattle.crx_rinex.specs.meaning.EpochPlaces.{row_if_new};
+ghost use Rattle.crx_rinex.specs.meaning.Observations.{observations_in, observations_of};
+ghost use Rattle.crx_rinex.specs.meaning.SatelliteLines.{row_of, IsSoundRow};
 
 use crate::columns::identifier;
 use crate::epoch_line::EpochLine;
@@ -38,9 +39,9 @@ pub struct Epoch {
 
 impl Model for Epoch {
     ghost use Rattle.std.specs.Prelude.{◌≡◌, ◌≤◌, length, map, take};
-    ghost use Rattle.crx_rinex.specs.Observations.{Row, Epoch as ObservationEpoch};
-    ghost use Rattle.crx_rinex.specs.Epochs.{IsSoundEpoch};
-    ghost use Rattle.crx_rinex.specs.EpochLines.{IsObservationHead};
+    ghost use Rattle.crx_rinex.specs.meaning.Observations.{Row, Epoch as ObservationEpoch};
+    ghost use Rattle.crx_rinex.specs.meaning.Epochs.{IsSoundEpoch};
+    ghost use Rattle.crx_rinex.specs.meaning.EpochLines.{IsObservationHead};
 
     ghost Value = { ObservationEpoch };
 
@@ -136,10 +137,13 @@ impl Epoch {
     /// as it was.
     pub fn read_row(&mut self, types: &Types, line: &[u8]) -> Result<(), Fault>
         requires { is_full_epoch self.old ≡ false }
-        ensures ok { OnOk result (AddsRow self.old (row_if_new self.old.rows (row_of types.now line.now)) self.new) }
+        ensures ok { OnOk result (AddsRow self.old
+            (row_if_new self.old.rows (row_of types.now line.now)) self.new) }
         // Memory is taken for a good row of a new satellite alone.
-        ensures refused { IfErr result (λ fault. (row_if_new self.old.rows (row_of types.now line.now) ≡ Err fault)
-            ⊎ ((fault ≡ Fault.OutOfMemory) × (is_ok (row_if_new self.old.rows (row_of types.now line.now)) ≡ true))) }
+        ensures refused { IfErr result
+            (λ fault. (row_if_new self.old.rows (row_of types.now line.now) ≡ Err fault)
+            ⊎ ((fault ≡ Fault.OutOfMemory)
+            × (is_ok (row_if_new self.old.rows (row_of types.now line.now)) ≡ true))) }
         ensures err { OnErr result (self.new ≡ self.old) }
     {
         if self.count < self.rows.len() && self.names.has_at(self.count, identifier(line, 1)) {
@@ -157,9 +161,12 @@ impl Epoch {
     #[inline(never)]
     fn read_other_row(&mut self, types: &Types, line: &[u8]) -> Result<(), Fault>
         requires { is_full_epoch self.old ≡ false }
-        ensures ok { OnOk result (AddsRow self.old (row_if_new self.old.rows (row_of types.now line.now)) self.new) }
-        ensures refused { IfErr result (λ fault. (row_if_new self.old.rows (row_of types.now line.now) ≡ Err fault)
-            ⊎ ((fault ≡ Fault.OutOfMemory) × (is_ok (row_if_new self.old.rows (row_of types.now line.now)) ≡ true))) }
+        ensures ok { OnOk result (AddsRow self.old
+            (row_if_new self.old.rows (row_of types.now line.now)) self.new) }
+        ensures refused { IfErr result
+            (λ fault. (row_if_new self.old.rows (row_of types.now line.now) ≡ Err fault)
+            ⊎ ((fault ≡ Fault.OutOfMemory)
+            × (is_ok (row_if_new self.old.rows (row_of types.now line.now)) ≡ true))) }
         ensures err { OnErr result (self.new ≡ self.old) }
     {
         let is_last = self.count == self.rows.len();
@@ -251,8 +258,10 @@ fn fault_before_memory(
 ) -> Option<Fault>
     requires { count ≤ length names.now }
     ensures some { IfSome result (λ fault. (row_of types.now line.now ≡ Err fault)
-        ⊎ ((fault ≡ Fault.RepeatedSatellite) × (is_ok (row_of types.now line.now) ≡ true) × (is_among (λ (n : List ℕ). n) (columns line.now 1 NAME_WIDTH) (take count names.now) ≡ true))) }
-    ensures new { IfNone result (is_among (λ (n : List ℕ). n) (columns line.now 1 NAME_WIDTH) (take count names.now) ≡ false) }
+        ⊎ ((fault ≡ Fault.RepeatedSatellite) × (is_ok (row_of types.now line.now) ≡ true)
+        × (is_among (λ (n : List ℕ). n) (columns line.now 1 NAME_WIDTH) (take count names.now) ≡ true))) }
+    ensures new { IfNone result (is_among
+        (λ (n : List ℕ). n) (columns line.now 1 NAME_WIDTH) (take count names.now) ≡ false) }
     ensures good { IfNone result (is_asked ≡ true → is_ok (row_of types.now line.now) ≡ true) }
 {
     if names.place_of(count, identifier(line, 1)).is_some() {
@@ -270,7 +279,8 @@ fn fault_before_memory(
 /// Puts a row in the place of a spare one, which becomes the last one where there is memory for it.
 fn put_row(rows: &mut Vec<SatRow>, count: usize, row: SatRow)
     requires { count < length rows.old.items }
-    ensures rows { (m : ℕ) → m ≤ length rows.old.items → take m rows.new.items ≡ take m (slice_set rows.old.items count row) }
+    ensures rows { (m : ℕ) → m ≤ length rows.old.items
+        → take m rows.new.items ≡ take m (slice_set rows.old.items count row) }
     ensures within { length rows.old.items ≤ length rows.new.items }
 {
     let spare = mem::replace(&mut rows[count], row);

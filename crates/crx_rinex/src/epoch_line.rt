@@ -3,11 +3,11 @@
 ghost use Rattle.std.specs.Prelude.{◌≡◌, ◌≤◌, None, Some, Ok, Err, IfSome, MatchResult};
 ghost use Rattle.std.specs.List.{list_all};
 ghost use Rattle.std.specs.Option.{ForSome};
-ghost use Rattle.crx_text.specs.Columns.{columns};
+ghost use Rattle.crx_text.specs.meaning.Columns.{columns};
 ghost use Rattle.crx_text.specs.Numbers.{IsClock};
 ghost use Rattle.crx_lines.specs.declared.limits.TheConstants.{HEAD_WIDTH};
-ghost use Rattle.crx_text.specs.Texts.{is_kept};
-ghost use Rattle.crx_rinex.specs.EpochLines.{head_of, begins_epoch, epoch_count, epoch_head, is_event_flag, is_event_line, is_observation_flag, records_in, satellites_in, EpochHead, IsObservationHead};
+ghost use Rattle.crx_text.specs.meaning.Texts.{is_kept};
+ghost use Rattle.crx_rinex.specs.meaning.EpochLines.{head_of, begins_epoch, epoch_count, epoch_head, is_event_flag, is_event_line, is_observation_flag, records_in, satellites_in, EpochHead, IsObservationHead};
 ghost use Rattle.crx_rinex.specs.Heads.{head_line};
 
 use crate::columns::{after_columns, all_blank, character, is_blank, number, padded};
@@ -25,7 +25,7 @@ pub struct EpochLine {
 }
 
 impl Model for EpochLine {
-    ghost use Rattle.crx_rinex.specs.EpochLines.{ObservationHead, IsObservationHead};
+    ghost use Rattle.crx_rinex.specs.meaning.EpochLines.{ObservationHead, IsObservationHead};
 
     ghost Value = { ObservationHead };
 
@@ -194,7 +194,8 @@ fn satellites_in(line: &[u8]) -> Option<usize>
 /// Reads the line of an observation epoch.
 fn observation_head(line: &[u8]) -> Result<EpochLine, Fault>
     ensures { MatchResult result
-        (λ head. epoch_head line.now (epoch_count (columns line.now 1 HEAD_WIDTH)) ≡ Ok (EpochHead head.head head.count head.clock))
+        (λ head. epoch_head line.now (epoch_count (columns line.now 1 HEAD_WIDTH))
+        ≡ Ok (EpochHead head.head head.count head.clock))
         (λ fault. epoch_head line.now (epoch_count (columns line.now 1 HEAD_WIDTH)) ≡ Err fault) }
 {
     let head = padded(line, 1);

@@ -1,7 +1,7 @@
 //! Header lines: the first one, and the one that ends the header. RINEX 3.05, table A2.
 
 ghost use Rattle.std.specs.Prelude.{◌≡◌, None, Some, MatchResult};
-ghost use Rattle.crx_rinex.specs.Header.{first_header_fault, is_end_of_header, is_supported};
+ghost use Rattle.crx_rinex.specs.meaning.Header.{first_header_fault, is_end_of_header, is_supported};
 
 use crate::columns::{character, is_labelled, trimmed};
 use crate::labels::{END_LABEL, VERSION_LABEL};

@@ -2,7 +2,7 @@
 
 ghost use Rattle.std.specs.Prelude.{ℕ, List, ◌≡◌, ◌≤◌, ◌<◌, ◌+◌, ◌++◌, ◌∷◌, [], length, take, not, true, false, get_or, OnErr, OnSome, IfOk, IfSome, IfNone};
 ghost use Rattle.std.specs.Bool.{OnTrue};
-ghost use Rattle.crx_rinex.specs.Epochs.{is_among};
+ghost use Rattle.crx_rinex.specs.meaning.Epochs.{is_among};
 ghost use Rattle.crx_rinex.specs.Identifiers.{AreAtPlaces, CanStandAt};
 
 use crx_lines::limits::NAME_WIDTH;
@@ -59,7 +59,8 @@ impl Identifiers {
         requires { count ≤ length self.now }
         ensures within { IfSome result (λ place. place < count) }
         ensures place { IfSome result (λ place. get_or self.now place [] ≡ name) }
-        ensures new { IfSome result (λ place. is_among (λ (n : List ℕ). n) name (take place self.now) ≡ false) }
+        ensures new { IfSome result
+            (λ place. is_among (λ (n : List ℕ). n) name (take place self.now) ≡ false) }
         ensures known { OnSome result (is_among (λ (n : List ℕ). n) name (take count self.now) ≡ true) }
         ensures none { IfNone result (is_among (λ (n : List ℕ). n) name (take count self.now) ≡ false) }
     {
@@ -75,8 +76,10 @@ impl Identifiers {
     #[inline(always)]
     pub fn put(&mut self, place: usize, name: [u8; NAME_WIDTH]) -> Result<bool, AllocError>
         requires within { place ≤ length self.old }
-        ensures new { IfOk result (λ is_new. is_among (λ (n : List ℕ). n) name (take place self.old) ≡ not is_new) }
-        ensures next { IfOk result (λ is_new. is_new ≡ true → take (place + 1) self.new ≡ take place self.old ++ name ∷ []) }
+        ensures new { IfOk result
+            (λ is_new. is_among (λ (n : List ℕ). n) name (take place self.old) ≡ not is_new) }
+        ensures next { IfOk result (λ is_new. is_new ≡ true
+            → take (place + 1) self.new ≡ take place self.old ++ name ∷ []) }
         ensures kept { take place self.new ≡ take place self.old }
         ensures within { place ≤ length self.new }
         ensures err { OnErr result (is_among (λ (n : List ℕ). n) name (take place self.old) ≡ false) }
@@ -91,8 +94,10 @@ impl Identifiers {
     #[inline(never)]
     fn put_other(&mut self, place: usize, name: [u8; NAME_WIDTH]) -> Result<bool, AllocError>
         requires within { place ≤ length self.old }
-        ensures new { IfOk result (λ is_new. is_among (λ (n : List ℕ). n) name (take place self.old) ≡ not is_new) }
-        ensures next { IfOk result (λ is_new. is_new ≡ true → take (place + 1) self.new ≡ take place self.old ++ name ∷ []) }
+        ensures new { IfOk result
+            (λ is_new. is_among (λ (n : List ℕ). n) name (take place self.old) ≡ not is_new) }
+        ensures next { IfOk result (λ is_new. is_new ≡ true
+            → take (place + 1) self.new ≡ take place self.old ++ name ∷ []) }
         ensures kept { take place self.new ≡ take place self.old }
         ensures within { place ≤ length self.new }
         ensures err { OnErr result (is_among (λ (n : List ℕ). n) name (take place self.old) ≡ false) }
@@ -115,8 +120,10 @@ fn note_place(
 ) -> Result<bool, AllocError>
     requires within { place ≤ length names.now }
     requires noted { AreAtPlaces names.now places.old }
-    ensures new { IfOk result (λ is_new. is_among (λ (n : List ℕ). n) name (take place names.now) ≡ not is_new) }
-    ensures noted { IfOk result (λ is_new. is_new ≡ true → AreAtPlaces (take place names.now ++ name ∷ []) places.new) }
+    ensures new { IfOk result
+        (λ is_new. is_among (λ (n : List ℕ). n) name (take place names.now) ≡ not is_new) }
+    ensures noted { IfOk result (λ is_new. is_new ≡ true
+        → AreAtPlaces (take place names.now ++ name ∷ []) places.new) }
     ensures repeated { IfOk result (λ is_new. is_new ≡ false → AreAtPlaces names.now places.new) }
     ensures err { OnErr result (is_among (λ (n : List ℕ). n) name (take place names.now) ≡ false) }
     ensures refused { OnErr result (AreAtPlaces names.now places.new) }
@@ -139,7 +146,8 @@ fn checked_place(
 ) -> Option<usize>
     ensures some { OnSome result (result ≡ place) }
     ensures place { IfSome result (λ place. (place < length names.now) × (get_or names.now place [] ≡ name)) }
-    ensures none { IfNone result (CanStandAt names.now name place → is_among (λ (n : List ℕ). n) name names.now ≡ false) }
+    ensures none { IfNone result (CanStandAt names.now name place
+        → is_among (λ (n : List ℕ). n) name names.now ≡ false) }
 {
     let Some(found) = place else {
         return None;

@@ -3,16 +3,18 @@
 ghost use Rattle.std.specs.Prelude.{◌≡◌, ◌≤◌, ◌+◌, ◌∷◌, [], ℕ, List, Some, length};
 ghost use Rattle.std.specs.Prelude.{Result};
 ghost use Rattle.crx_lines.specs.declared.fault.Fault.{Fault};
-ghost use Rattle.crx_lines.specs.Seen.{ReadLine};
-ghost use Rattle.crx_rinex.specs.ObservationTypes.{Count, AreCounts};
-ghost use Rattle.crx_rinex.specs.Observations.{Epoch};
-ghost use Rattle.crx_rinex.specs.Epochs.{IsWholeEpoch};
-ghost use Rattle.crx_rinex.specs.Places.{Place, Here, Wrong, Wanted, first_line, then_place};
+ghost use Rattle.crx_lines.specs.meaning.Seen.{ReadLine};
+ghost use Rattle.crx_rinex.specs.meaning.ObservationTypes.{Count};
+ghost use Rattle.crx_rinex.specs.ObservationTypes.{AreCounts};
+ghost use Rattle.crx_rinex.specs.meaning.Observations.{Epoch};
+ghost use Rattle.crx_rinex.specs.meaning.Epochs.{IsWholeEpoch};
+ghost use Rattle.crx_rinex.specs.meaning.Places.{Place, Here, Wrong, Wanted, first_line, then_place};
 ghost use Rattle.crx_rinex.specs.Examples.{one_type, first_line_of_two, g01_line, g02_line, half_open, epoch_of_two};
 ghost use Rattle.crx_lines.specs.declared.fault.Fault.TheVariants.{Truncated, RepeatedSatellite};
-ghost use Rattle.crx_rinex.specs.Units.{Observation};
+ghost use Rattle.crx_rinex.specs.meaning.Units.{Observation};
 ghost use Rattle.crx_rinex.specs.Steady.{IsSteady};
-ghost use Rattle.crx_rinex.specs.EpochPlaces.{OpenEpoch, epoch_place, open_with, row_at, rest_at};
+ghost use Rattle.crx_rinex.specs.meaning.EpochPlaces.{OpenEpoch, epoch_place, row_at, rest_at};
+ghost use Rattle.crx_rinex.specs.EpochPlaces.{open_with};
 ghost use Rattle.crx_rinex.specs.Laws.{IsWantedWhereOpen, IsDecidedByOpen};
 
 /// What stands in the first line alone is certain as soon as it has come.
@@ -23,7 +25,8 @@ pub fn steady_first_line<X>()
 /// One thing and then another are certain as soon as the last line of the second has come.
 pub fn steady_in_turn<X, Y>()
     ensures { (first : List ReadLine → Place X) (next : X → List ReadLine → Place Y)
-        → IsSteady first → ((x : X) → IsSteady (next x)) → IsSteady (λ lines. then_place (first lines) lines next) }
+        → IsSteady first → ((x : X) → IsSteady (next x))
+        → IsSteady (λ lines. then_place (first lines) lines next) }
 {}
 
 /// What stands where an epoch or an event may begin is certain as soon as its last line has come.
@@ -52,7 +55,8 @@ pub fn next_line_by_open()
 /// it took its epoch line and one line for each satellite.
 pub fn epochs_are_whole()
     ensures { (types : List Count) → AreCounts types → (lines : List ReadLine) (epoch : Epoch) (count : ℕ)
-        → epoch_place types lines ≡ Here (Observation epoch) count → IsWholeEpoch types epoch × (count ≡ length epoch.rows + 1) }
+        → epoch_place types lines ≡ Here (Observation epoch) count
+        → IsWholeEpoch types epoch × (count ≡ length epoch.rows + 1) }
 {}
 
 /// Types are of at most seven systems.
@@ -65,8 +69,11 @@ pub fn few_systems()
 pub fn an_epoch_of_two()
     ensures left_open { open_with one_type (first_line_of_two ∷ g01_line ∷ []) ≡ Some half_open }
     ensures wanted { epoch_place one_type (first_line_of_two ∷ g01_line ∷ []) ≡ Wanted }
-    ensures whole { epoch_place one_type (first_line_of_two ∷ g01_line ∷ g02_line ∷ first_line_of_two ∷ []) ≡ Here (Observation epoch_of_two) 3 }
-    ensures cut { epoch_place one_type (first_line_of_two ∷ g01_line ∷ first_line_of_two ∷ []) ≡ Wrong 2 Truncated }
-    ensures repeated { epoch_place one_type (first_line_of_two ∷ g01_line ∷ g01_line ∷ []) ≡ Wrong 2 RepeatedSatellite }
+    ensures whole { epoch_place one_type (first_line_of_two ∷ g01_line ∷ g02_line ∷ first_line_of_two ∷ [])
+        ≡ Here (Observation epoch_of_two) 3 }
+    ensures cut { epoch_place one_type
+        (first_line_of_two ∷ g01_line ∷ first_line_of_two ∷ []) ≡ Wrong 2 Truncated }
+    ensures repeated { epoch_place one_type (first_line_of_two ∷ g01_line ∷ g01_line ∷ [])
+        ≡ Wrong 2 RepeatedSatellite }
     ensures counts { AreCounts one_type }
 {}

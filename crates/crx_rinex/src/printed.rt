@@ -6,7 +6,8 @@ ghost use Rattle.std.specs.Borrow.{sem};
 ghost use Rattle.std.specs.Io.BufRead.{Rests};
 ghost use Rattle.std.specs.Option.{option_copied};
 ghost use Rattle.crx_lines.specs.declared.limits.TheConstants.{SATELLITES_LIMIT};
-ghost use Rattle.crx_rinex.specs.Printing.{last_line, lines_text, printed_epoch, printed_head, printed_row};
+ghost use Rattle.crx_rinex.specs.Printing.{last_line};
+ghost use Rattle.crx_rinex.specs.meaning.Printing.{lines_text, printed_epoch, printed_head, printed_row};
 ghost use Rattle.crx_rinex.specs.contracts.printed.Printed.{the_row};
 
 use crate::epoch::Epoch;
@@ -19,7 +20,7 @@ use std::alloc::AllocError;
 use std::marker::Model;
 use std::mem;
 
-/// The lines of an epoch that are still to be lent: the epoch line, then a line for each satellite.
+/// The lines of an epoch that are pending: the epoch line, then a line for each satellite.
 #[derive(Drop)]
 pub struct Printed {
     epoch: Epoch,
@@ -30,7 +31,7 @@ pub struct Printed {
 impl Model for Printed {
     ghost use Rattle.std.specs.Prelude.{ℕ, List, drop, ◌≤◌, ◌+◌};
     ghost use Rattle.crx_lines.specs.declared.limits.TheConstants.{SATELLITES_LIMIT};
-    ghost use Rattle.crx_rinex.specs.Printing.{printed_epoch};
+    ghost use Rattle.crx_rinex.specs.meaning.Printing.{printed_epoch};
 
     ghost Value = { List (List ℕ) };
 
@@ -40,7 +41,7 @@ impl Model for Printed {
 }
 
 impl Printed {
-    /// The lines of an epoch, none of them lent yet.
+    /// The lines of an epoch, all of them pending.
     pub fn new(epoch: Epoch) -> Printed
         ensures { result ≡ printed_epoch epoch }
     {
@@ -51,7 +52,7 @@ impl Printed {
         }
     }
 
-    /// Takes another epoch, none of whose lines is lent yet, and hands back the one before, whose memory can be used again
+    /// Takes another epoch, all of whose lines are pending, and hands back the one before, whose memory can be used again
     /// ([`Epoch::begin_again`]).
     pub fn begin(&mut self, epoch: Epoch) -> Epoch
         ensures { self.new ≡ printed_epoch epoch }
@@ -65,17 +66,17 @@ impl Printed {
         self.epoch
     }
 
-    /// Whether all lines were lent.
+    /// Whether no line is pending.
     pub fn is_drained(&self) -> bool
         ensures { IsTrue result ↔ (self.now ≡ []) }
     {
         self.next > 0 && self.epoch.row(self.next - 1).is_none()
     }
 
-    /// Lends the next line, without its line end; `None` once all were lent.
+    /// Lends the next line, without its line end; `None` once none is pending.
     pub fn next_line(&mut self) -> Option<&[u8]>
         ensures value { option_copied result ≡ slice_get self.old 0 }
-        // That line is no longer among those to be lent.
+        // That line is no longer pending.
         ensures* after_borrow { sem 𝓛 (Rests the_row self.entry (λ new. new ≡ drop 1 self.old)) }
     {
         if print_line(&self.epoch, self.next, &mut self.text) {
@@ -106,7 +107,8 @@ fn put_lines(
     text: &mut Text,
     bytes: &mut Vec<u8>,
 ) -> Result<usize, AllocError>
-    ensures text { IfOk result (λ count. take count bytes.new.items ≡ lines_text (drop place (printed_epoch epoch.now))) }
+    ensures text { IfOk result
+        (λ count. take count bytes.new.items ≡ lines_text (drop place (printed_epoch epoch.now))) }
     ensures within { IfOk result (λ count. count ≤ length bytes.new.items) }
 {
     if place > 0 {
@@ -128,7 +130,8 @@ fn put_rows(
     start: usize,
 ) -> Result<usize, AllocError>
     requires { start ≤ length bytes.old.items }
-    ensures text { IfOk result (λ end. take end bytes.new.items ≡ take start bytes.old.items ++ lines_text (drop place (map printed_row epoch.now.rows))) }
+    ensures text { IfOk result (λ end. take end bytes.new.items
+        ≡ take start bytes.old.items ++ lines_text (drop place (map printed_row epoch.now.rows))) }
     ensures within { IfOk result (λ end. end ≤ length bytes.new.items) }
 {
     let mut index = place;
@@ -143,7 +146,8 @@ fn put_rows(
 /// Puts the line of a row and its LF in place of the bytes from an index on, and gives the index after them.
 fn put_row(row: &SatRow, bytes: &mut Vec<u8>, start: usize) -> Result<usize, AllocError>
     requires { start ≤ length bytes.old.items }
-    ensures text { IfOk result (λ end. take end bytes.new.items ≡ take start bytes.old.items ++ (printed_row row.now ++ 10 ∷ [])) }
+    ensures text { IfOk result
+        (λ end. take end bytes.new.items ≡ take start bytes.old.items ++ (printed_row row.now ++ 10 ∷ [])) }
     ensures within { IfOk result (λ end. end ≤ length bytes.new.items) }
 {
     grow(bytes, start + row.width() + 1)?;

@@ -5,14 +5,16 @@ ghost use Rattle.std.specs.Bool.{OnTrue, OnFalse};
 ghost use Rattle.std.specs.List.{list_all};
 ghost use Rattle.std.specs.Option.{option_map, ForSome};
 ghost use Rattle.std.specs.Result.{is_ok};
-ghost use Rattle.crx_text.specs.Columns.{character_at, columns};
+ghost use Rattle.crx_text.specs.meaning.Columns.{character_at, columns};
 ghost use Rattle.crx_lines.specs.declared.limits.TheConstants.{CELL_WIDTH, LINE_LIMIT, NAME_WIDTH, OBSERVATION_WIDTH, TYPES_LIMIT};
-ghost use Rattle.crx_text.specs.Numbers.{observation_of, observation_text, IsObservation};
-ghost use Rattle.crx_text.specs.Texts.{is_kept};
-ghost use Rattle.crx_rinex.specs.ObservationTypes.{IsAllowedCount};
-ghost use Rattle.crx_rinex.specs.Observations.{observations_of};
-ghost use Rattle.crx_rinex.specs.Printing.{printed_cells, printed_row};
-ghost use Rattle.crx_rinex.specs.SatelliteLines.{blank_row, field, flags_in, has_number, is_identifier, row_of, row_with, types_of_satellite, values_in, with_flags, with_value, IsSoundRow, IsValue};
+ghost use Rattle.crx_text.specs.meaning.Numbers.{observation_of, observation_text};
+ghost use Rattle.crx_text.specs.Numbers.{IsObservation};
+ghost use Rattle.crx_text.specs.meaning.Texts.{is_kept};
+ghost use Rattle.crx_rinex.specs.meaning.ObservationTypes.{IsAllowedCount};
+ghost use Rattle.crx_rinex.specs.meaning.Observations.{observations_of};
+ghost use Rattle.crx_rinex.specs.meaning.Printing.{printed_cells, printed_row};
+ghost use Rattle.crx_rinex.specs.SatelliteLines.{blank_row, with_flags, with_value};
+ghost use Rattle.crx_rinex.specs.meaning.SatelliteLines.{field, flags_in, has_number, is_identifier, row_of, row_with, types_of_satellite, values_in, IsSoundRow, IsValue};
 
 use crate::columns::{after_columns, all_blank, character, identifier, padded};
 use crate::types::Types;
@@ -34,8 +36,8 @@ pub struct SatRow {
 }
 
 impl Model for SatRow {
-    ghost use Rattle.crx_rinex.specs.Observations.{Row};
-    ghost use Rattle.crx_rinex.specs.SatelliteLines.{IsSoundRow};
+    ghost use Rattle.crx_rinex.specs.meaning.Observations.{Row};
+    ghost use Rattle.crx_rinex.specs.meaning.SatelliteLines.{IsSoundRow};
 
     ghost Value = { Row };
 
@@ -87,9 +89,11 @@ impl SatRow {
         ensures sound { OnOk result (IsSoundRow self.new) }
         // A row that has as many types takes no memory, and a bad line takes none.
         ensures refused { IfErr result (λ fault. (row_of types.now line.now ≡ Err fault)
-            ⊎ ((fault ≡ Fault.OutOfMemory) × (is_ok (row_of types.now line.now) ≡ true) × (types_of_satellite types.now line.now ≢ Some (length self.old.values)))) }
+            ⊎ ((fault ≡ Fault.OutOfMemory) × (is_ok (row_of types.now line.now) ≡ true)
+            × (types_of_satellite types.now line.now ≢ Some (length self.old.values)))) }
         ensures err { IfErr result (λ fault. (self.new ≡ self.old)
-            ⊎ (((fault ≡ Fault.BadField) ⊎ (fault ≡ Fault.BadFlags)) × (self.new ≡ blank_row self.old.name (length self.new.values)))) }
+            ⊎ (((fault ≡ Fault.BadField) ⊎ (fault ≡ Fault.BadFlags))
+            × (self.new ≡ blank_row self.old.name (length self.new.values)))) }
     {
         let Some(count) = types_of_satellite(types, line) else {
             return Err(Fault::BadSatellite);
@@ -262,7 +266,8 @@ fn resize_cells(values: &mut Vec<Option<i64>>, flags: &mut Vec<u8>, m: usize) ->
     requires paired { length flags.old.items ≡ 2 * length values.old.items }
     requires few { m ≤ TYPES_LIMIT }
     ensures ok { OnTrue result ((length values.new.items ≡ m) × (length flags.new.items ≡ 2 * m)) }
-    ensures err { OnFalse result ((values.new.items ≡ values.old.items) × (flags.new.items ≡ flags.old.items)) }
+    ensures err { OnFalse result ((values.new.items ≡ values.old.items)
+        × (flags.new.items ≡ flags.old.items)) }
 {
     if values.len() == m {
         return true;
@@ -289,9 +294,11 @@ fn resize_for(
     requires paired { length flags.old.items ≡ 2 * length values.old.items }
     requires few { m ≤ TYPES_LIMIT }
     ensures ok { OnOk result ((length values.new.items ≡ m) × (length flags.new.items ≡ 2 * m)) }
-    ensures same { OnErr result ((values.new.items ≡ values.old.items) × (flags.new.items ≡ flags.old.items)) }
+    ensures same { OnErr result ((values.new.items ≡ values.old.items)
+        × (flags.new.items ≡ flags.old.items)) }
     ensures refused { IfErr result (λ fault. (row_with m line.now (values_in m line.now) ≡ Err fault)
-        ⊎ ((fault ≡ Fault.OutOfMemory) × (is_ok (row_with m line.now (values_in m line.now)) ≡ true) × (length values.old.items ≢ m))) }
+        ⊎ ((fault ≡ Fault.OutOfMemory)
+        × (is_ok (row_with m line.now (values_in m line.now)) ≡ true) × (length values.old.items ≢ m))) }
 {
     if values.len() == m {
         return Ok(());
@@ -314,7 +321,8 @@ fn read_cells(line: &[u8], values: &mut [Option<i64>], flags: &mut [u8]) -> Resu
         ≡ Ok (record { name = columns line.now 1 NAME_WIDTH; values = values.new; flags = flags.new })) }
     ensures ranged { OnOk result (All IsValue values.new) }
     ensures kept { OnOk result (list_all is_kept flags.new ≡ true) }
-    ensures err { IfErr result (λ fault. row_with (length values.old) line.now (values_in (length values.old) line.now) ≡ Err fault) }
+    ensures err { IfErr result (λ fault.
+        row_with (length values.old) line.now (values_in (length values.old) line.now) ≡ Err fault) }
     ensures field { IfErr result (λ fault. (fault ≡ Fault.BadField) ⊎ (fault ≡ Fault.BadFlags)) }
 {
     let m = values.len();
@@ -360,7 +368,8 @@ pub(crate) fn row_fault(types: &Types, line: &[u8]) -> Option<Fault>
 fn split_cells(line: &[u8], values: &mut [Option<i64>], flags: &mut [u8]) -> bool
     requires paired { length flags.old ≡ 2 * length values.old }
     requires few { length values.old ≤ TYPES_LIMIT }
-    ensures values { MatchBool result (values_in (length values.old) line.now ≡ Some values.new) (values_in (length values.old) line.now ≡ None) }
+    ensures values { MatchBool result (values_in (length values.old) line.now ≡ Some values.new)
+        (values_in (length values.old) line.now ≡ None) }
     ensures flags { OnTrue result (flags.new ≡ flags_in (length values.old) line.now) }
     ensures ranged { OnTrue result (All IsValue values.new) }
 {
@@ -402,7 +411,9 @@ fn cell(line: &[u8], k: usize) -> Option<(Option<i64>, u8, u8)>
     requires { k < TYPES_LIMIT }
     ensures value { option_map (λ cell. cell.0) result ≡ observation_of (field line.now k) }
     ensures ranged { IfSome result (λ cell. IsValue cell.0) }
-    ensures flags { IfSome result (λ cell. (cell.1 ≡ character_at line.now (CELL_WIDTH * k + (NAME_WIDTH + OBSERVATION_WIDTH + 1))) × (cell.2 ≡ character_at line.now (CELL_WIDTH * k + (NAME_WIDTH + OBSERVATION_WIDTH + 2)))) }
+    ensures flags { IfSome result
+        (λ cell. (cell.1 ≡ character_at line.now (CELL_WIDTH * k + (NAME_WIDTH + OBSERVATION_WIDTH + 1)))
+        × (cell.2 ≡ character_at line.now (CELL_WIDTH * k + (NAME_WIDTH + OBSERVATION_WIDTH + 2)))) }
 {
     let start = CELL_WIDTH * k + NAME_WIDTH;
     let end = start + OBSERVATION_WIDTH;
@@ -421,13 +432,15 @@ fn cell(line: &[u8], k: usize) -> Option<(Option<i64>, u8, u8)>
     }
 }
 
-/// The same of a cell whose field may end after the line does, and in any spelling.
+/// The same of a cell whose field may end after the line does, and in the general form.
 #[inline(never)]
 fn cell_in_any_spelling(line: &[u8], k: usize) -> Option<(Option<i64>, u8, u8)>
     requires { k < TYPES_LIMIT }
     ensures value { option_map (λ cell. cell.0) result ≡ observation_of (field line.now k) }
     ensures ranged { IfSome result (λ cell. IsValue cell.0) }
-    ensures flags { IfSome result (λ cell. (cell.1 ≡ character_at line.now (CELL_WIDTH * k + (NAME_WIDTH + OBSERVATION_WIDTH + 1))) × (cell.2 ≡ character_at line.now (CELL_WIDTH * k + (NAME_WIDTH + OBSERVATION_WIDTH + 2)))) }
+    ensures flags { IfSome result
+        (λ cell. (cell.1 ≡ character_at line.now (CELL_WIDTH * k + (NAME_WIDTH + OBSERVATION_WIDTH + 1)))
+        × (cell.2 ≡ character_at line.now (CELL_WIDTH * k + (NAME_WIDTH + OBSERVATION_WIDTH + 2)))) }
 {
     match observation(line, k) {
         Some(value) => {
@@ -443,7 +456,8 @@ fn cell_in_any_spelling(line: &[u8], k: usize) -> Option<(Option<i64>, u8, u8)>
 fn indicators(line: &[u8], k: usize) -> (u8, u8)
     requires { k < TYPES_LIMIT }
     ensures lock { result.0 ≡ character_at line.now (CELL_WIDTH * k + (NAME_WIDTH + OBSERVATION_WIDTH + 1)) }
-    ensures strength { result.1 ≡ character_at line.now (CELL_WIDTH * k + (NAME_WIDTH + OBSERVATION_WIDTH + 2)) }
+    ensures strength { result.1 ≡ character_at line.now
+        (CELL_WIDTH * k + (NAME_WIDTH + OBSERVATION_WIDTH + 2)) }
 {
     let end = CELL_WIDTH * k + NAME_WIDTH + CELL_WIDTH;
     if end <= line.len() {

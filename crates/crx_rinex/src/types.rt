@@ -1,7 +1,8 @@
 //! The observation types of the satellite systems. RINEX 3.05, table A2, `SYS / # / OBS TYPES`.
 
 ghost use Rattle.std.specs.Prelude.{◌≡◌, ◌≤◌, ◌⊎◌, ℕ, List, [], ◌∷◌, ◌++◌, Some, true, false, is_some, OnOk, OnErr, IfOk, IfErr, IfSome, OnSome, slice_get, length};
-ghost use Rattle.crx_rinex.specs.ObservationTypes.{count_of, count_in, count_of_types_line, is_bad_types_line, is_system, is_types_line, types_of, with_line, IsAllowedCount, IsCount};
+ghost use Rattle.crx_rinex.specs.meaning.ObservationTypes.{count_of, count_in, count_of_types_line, is_bad_types_line, is_system, is_types_line, types_of, IsAllowedCount};
+ghost use Rattle.crx_rinex.specs.ObservationTypes.{with_line, IsCount};
 
 use crate::columns::{character, is_labelled, number};
 use crate::labels::TYPES_LABEL;
@@ -19,7 +20,8 @@ pub struct Types {
 }
 
 impl Model for Types {
-    ghost use Rattle.crx_rinex.specs.ObservationTypes.{Count, AreCounts};
+    ghost use Rattle.crx_rinex.specs.meaning.ObservationTypes.{Count};
+    ghost use Rattle.crx_rinex.specs.ObservationTypes.{AreCounts};
     ghost use Rattle.std.specs.Prelude.{List};
 
     ghost Value = { List Count };

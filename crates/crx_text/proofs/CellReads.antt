@@ -1,15 +1,17 @@
 -- Reading the number in a cell, up to the first blank of a line.
-use Rattle.std.proofs.Common.{true, false, ℕ, ℤ, ◌≡◌, ◌==◌, ◌<◌, Bool, List, [], ◌∷◌, length, Option, Some, None, if◌then◌else◌, ◌&&◌, inl, inr, arith, refl, ap, get_or}
+use Rattle.std.proofs.Common.{true, false, ℕ, ℤ, ◌≡◌, ◌==◌, ◌<◌, Bool, List, [], ◌∷◌, length, Option, Some, None}
+use Rattle.std.proofs.Common.{if◌then◌else◌, ◌&&◌, inl, inr, arith, refl, ap, get_or}
 use Rattle.std.proofs.lemmas.Bool.{cases_eq}
 use Rattle.std.proofs.lemmas.Bool.Decides.{nat_tests}
 use Rattle.std.specs.Char.{is_ascii_digit}
 use Rattle.std.specs.Option.{option_map}
 use Rattle.std.specs.Str.{all_ascii_digits}
 use Rattle.std.specs.Str.Parse.{digits_value, starts_with_minus}
-use Rattle.crx_text.specs.Columns.{is_blank}
-use Rattle.crx_text.specs.Codes.{code_of, coded_number, counted_digits, first_cell, is_count_of_digits}
+use Rattle.crx_text.specs.meaning.Columns.{is_blank}
+use Rattle.crx_text.specs.meaning.Codes.{code_of, coded_number, first_cell, is_count_of_digits}
+use Rattle.crx_text.specs.Codes.{counted_digits}
 use Rattle.crx_text.specs.declared.code.Code.TheVariants.{Step}
-use Rattle.crx_text.specs.Numbers.{signed_number, without_minus}
+use Rattle.crx_text.specs.meaning.Numbers.{signed_number, without_minus}
 
 pub without_minus-cell : (text : List ℕ) → without_minus (first_cell text) ≡ first_cell (without_minus text)
 without_minus-cell [] = refl
@@ -39,17 +41,21 @@ chosen true n f = refl
 chosen false n f = refl
 
 -- the number in a cell, by its minus and its digits
-pub coded_number-cell : (text digits : List ℕ) → digits ≡ without_minus text → coded_number (first_cell text) ≡ option_map (signed_number (starts_with_minus text)) (counted_digits (first_cell digits))
+pub coded_number-cell : (text digits : List ℕ) → digits ≡ without_minus text → coded_number (first_cell text)
+    ≡ option_map (signed_number (starts_with_minus text)) (counted_digits (first_cell digits))
 unfolding coded_number
 coded_number-cell text digits is =
     rw (without_minus-cell text, starts_with_minus-cell text, ← is)
-    (chosen (is_count_of_digits (length (first_cell digits)) && all_ascii_digits (first_cell digits)) (digits_value 10 (first_cell digits)) (signed_number (starts_with_minus text)))
+    (chosen (is_count_of_digits (length (first_cell digits)) && all_ascii_digits (first_cell digits))
+    (digits_value 10 (first_cell digits)) (signed_number (starts_with_minus text)))
 
-pub no_cell : {A : Type 0} (r : Option (ℕ × A)) (counted : Option ℕ) (f : ℕ → ℤ) → r ≡ None → option_map (λ cell. cell.0) r ≡ counted → option_map f counted ≡ None
+pub no_cell : {A : Type 0} (r : Option (ℕ × A)) (counted : Option ℕ) (f : ℕ → ℤ)
+    → r ≡ None → option_map (λ cell. cell.0) r ≡ counted → option_map f counted ≡ None
 no_cell None counted f is e = rw (← e) refl
 no_cell (Some x) counted f is e = absurd (cc)
 
-pub a_cell : {A : Type 0} (r : Option (ℕ × A)) (counted : Option ℕ) (f : ℕ → ℤ) (size : ℕ) (next : A) → r ≡ Some (size, next) → option_map (λ cell. cell.0) r ≡ counted → option_map f counted ≡ Some (f size)
+pub a_cell : {A : Type 0} (r : Option (ℕ × A)) (counted : Option ℕ) (f : ℕ → ℤ) (size : ℕ) (next : A)
+    → r ≡ Some (size, next) → option_map (λ cell. cell.0) r ≡ counted → option_map f counted ≡ Some (f size)
 a_cell r counted f size next is e = rw (← e, is) refl
 
 none_of : (a b : Bool) (n : ℕ) → b ≡ false → (if a && b then Some n else None) ≡ None
@@ -57,14 +63,16 @@ none_of true b n e = ap (λ t. if t then Some n else None) e
 none_of false b n e = refl
 
 -- where no digit begins the cell, it has no number
-pub no_first_digit : (text : List ℕ) → (0 < length text → is_ascii_digit (get_or text 0 0) ≡ false) → counted_digits (first_cell text) ≡ None
+pub no_first_digit : (text : List ℕ)
+    → (0 < length text → is_ascii_digit (get_or text 0 0) ≡ false) → counted_digits (first_cell text) ≡ None
 no_first_digit [] stops = refl
 no_first_digit (c ∷ cs) stops =
     let other : is_ascii_digit c ≡ false = stops (omega arith) in
     let digits : all_ascii_digits (c ∷ first_cell cs) ≡ false = ap (λ t. t && all_ascii_digits (first_cell cs)) other in
     elim (is_blank c) as (λ b. counted_digits (if b then [] else c ∷ first_cell cs) ≡ None) [
       | true ↦ refl
-      | false ↦ none_of (is_count_of_digits (length (c ∷ first_cell cs))) (all_ascii_digits (c ∷ first_cell cs)) (digits_value 10 (c ∷ first_cell cs)) digits
+      | false ↦ none_of (is_count_of_digits (length (c ∷ first_cell cs)))
+          (all_ascii_digits (c ∷ first_cell cs)) (digits_value 10 (c ∷ first_cell cs)) digits
     ]
 
 -- ---- a number is the code of a difference
@@ -73,10 +81,12 @@ no_choice : (a b : Bool) (n : ℤ) → b ≡ false → (if a && b then Some n el
 no_choice true b n e = ap (λ t. if t then Some n else None) e
 no_choice false b n e = refl
 
-no_digits : (text digits : List ℕ) → digits ≡ without_minus text → all_ascii_digits digits ≡ false → coded_number text ≡ None
+no_digits : (text digits : List ℕ)
+    → digits ≡ without_minus text → all_ascii_digits digits ≡ false → coded_number text ≡ None
 unfolding coded_number
 no_digits text digits is other =
-    rw (← is) (no_choice (is_count_of_digits (length digits)) (all_ascii_digits digits) (signed_number (starts_with_minus text) (digits_value 10 digits)) other)
+    rw (← is) (no_choice (is_count_of_digits (length digits))
+    (all_ascii_digits digits) (signed_number (starts_with_minus text) (digits_value 10 digits)) other)
 
 no_text : coded_number [] ≡ None
 unfolding coded_number

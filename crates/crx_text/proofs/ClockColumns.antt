@@ -1,5 +1,7 @@
 -- The columns of a receiver clock offset in lanes.
-use Rattle.std.proofs.Common.{◌≡◌, ℕ, ◌+◌, ◌-◌, ◌*◌, ◌%◌, ◌^◌, ◌<◌, Bool, true, false, cond, nat_eq, ltb, eqb, Some, List, [], ◌∷◌, ◌++◌, map, length, replicate, take, drop, get_or, subst, refl, sym, ap, ◌∙◌, arith}
+use Rattle.std.proofs.Common.{◌≡◌, ℕ, ◌+◌, ◌-◌, ◌*◌, ◌%◌, ◌^◌, ◌<◌, Bool, true, false, cond, nat_eq, ltb, eqb, Some}
+use Rattle.std.proofs.Common.{List, [], ◌∷◌, ◌++◌, map, length, replicate, take, drop, get_or, subst, refl, sym, ap}
+use Rattle.std.proofs.Common.{◌∙◌, arith}
 use Rattle.std.proofs.lemmas.Bool.{agree_below_at, and_from}
 use Rattle.std.proofs.lemmas.List.{length-drop}
 use Rattle.std.proofs.lemmas.Simd.{mask_l-mod, pick_l_whole}
@@ -8,14 +10,14 @@ use Rattle.std.specs.List.{list_all, list_any, range_with_len}
 use Rattle.std.specs.Str.{all_ascii_digits}
 use Rattle.std.specs.Str.Parse.{digits_value}
 use lib.Lanes.{pick_l, mask_l, top, zip2, dots}
-use Rattle.crx_text.specs.Columns.{without_first_blanks}
+use Rattle.crx_text.specs.meaning.Columns.{without_first_blanks}
 use Rattle.crx_text.specs.Fields.{is_plain_after, weighed}
-use Rattle.crx_text.specs.Numbers.{IsWithin, number_of, missing_or_spelt, signed_number}
+use Rattle.crx_text.specs.meaning.Numbers.{IsWithin, number_of, missing_or_number, signed_number}
 use Rattle.crx_text.proofs.DigitRows.{less_zero, value_small}
 use Rattle.crx_text.proofs.LaneBits.{all_bits}
 use Rattle.crx_text.proofs.PlainLanes.{all_at}
 use Rattle.crx_text.proofs.PlainSizes.{half_is, joined_halves, twelve}
-use Rattle.crx_text.proofs.PlainSpellings.{spelt_whole, weighed_digits}
+use Rattle.crx_text.proofs.PlainSpellings.{decimal_whole, weighed_digits}
 use Rattle.crx_text.proofs.PowersOfTen.{digit_range}
 use Rattle.crx_text.proofs.ReadBack.{digits_behind}
 use Rattle.crx_text.proofs.Sizes.{neg_is_within, number_of_width, pos_is_within}
@@ -27,7 +29,8 @@ fifteen xs long = sym (pick_l_whole 0 xs 15 long)
 
 abbrev pub digit_row : List ℕ → List ℕ
 digit_row field =
-    let row = pick_l 0 (take 8 (drop 3 field) ++ take 8 (drop 7 field)) (0 ∷ 1 ∷ 2 ∷ 0 ∷ 3 ∷ 4 ∷ 5 ∷ 0 ∷ 6 ∷ 7 ∷ 12 ∷ 0 ∷ 13 ∷ 14 ∷ 15 ∷ 0 ∷ []) in
+    let row = pick_l 0 (take 8 (drop 3 field) ++ take 8 (drop 7 field))
+    (0 ∷ 1 ∷ 2 ∷ 0 ∷ 3 ∷ 4 ∷ 5 ∷ 0 ∷ 6 ∷ 7 ∷ 12 ∷ 0 ∷ 13 ∷ 14 ∷ 15 ∷ 0 ∷ []) in
     zip2 (λ a b. (a + (256 - b)) % 256) row (replicate 16 48)
 
 abbrev pub digit_bits : List ℕ → ℕ
@@ -35,7 +38,8 @@ digit_bits field = mask_l (map (top 7) (zip2 (λ a b. cond (ltb a b) 255 0) (dig
 
 abbrev pub halves_of : List ℕ → List ℕ
 halves_of field =
-    let groups = zip2 (λ a b. a * b % 2 ^ 32) (dots (digit_row field) (100 ∷ 10 ∷ 1 ∷ 0 ∷ 100 ∷ 10 ∷ 1 ∷ 0 ∷ 100 ∷ 10 ∷ 1 ∷ 0 ∷ 100 ∷ 10 ∷ 1 ∷ 0 ∷ [])) (1000 ∷ 1 ∷ 1000 ∷ 1 ∷ []) in
+    let groups = zip2 (λ a b. a * b % 2 ^ 32) (dots (digit_row field)
+    (100 ∷ 10 ∷ 1 ∷ 0 ∷ 100 ∷ 10 ∷ 1 ∷ 0 ∷ 100 ∷ 10 ∷ 1 ∷ 0 ∷ 100 ∷ 10 ∷ 1 ∷ 0 ∷ [])) (1000 ∷ 1 ∷ 1000 ∷ 1 ∷ []) in
     zip2 (λ a b. (a + b) % 2 ^ 32) groups (pick_l 0 (groups ++ groups) (1 ∷ 0 ∷ 3 ∷ 2 ∷ []))
 
 abbrev bit : ℕ → Bool
@@ -45,7 +49,8 @@ bit_is : (x : ℕ) → x < 256 → bit x ≡ is_ascii_digit x
 bit_is x small = agree_below_at bit is_ascii_digit 256 x refl small
 
 abbrev bits_of : (ℕ → ℕ) → List Bool
-bits_of c = bit (c 3) ∷ bit (c 4) ∷ bit (c 5) ∷ bit (c 3) ∷ bit (c 6) ∷ bit (c 7) ∷ bit (c 8) ∷ bit (c 3) ∷ bit (c 9) ∷ bit (c 10) ∷ bit (c 11) ∷ bit (c 3) ∷ bit (c 12) ∷ bit (c 13) ∷ bit (c 14) ∷ bit (c 3) ∷ []
+bits_of c = bit (c 3) ∷ bit (c 4) ∷ bit (c 5) ∷ bit (c 3) ∷ bit (c 6) ∷ bit (c 7) ∷ bit (c 8) ∷ bit (c 3)
+    ∷ bit (c 9) ∷ bit (c 10) ∷ bit (c 11) ∷ bit (c 3) ∷ bit (c 12) ∷ bit (c 13) ∷ bit (c 14) ∷ bit (c 3) ∷ []
 
 lane_digit : (x : ℕ) → is_ascii_digit x ≡ true → less_zero x ≡ x - 48
 lane_digit x is_digit = let range = digit_range x is_digit in omega (arith, range)
@@ -53,23 +58,34 @@ lane_digit x is_digit = let range = digit_range x is_digit in omega (arith, rang
 lane_fits : (x : ℕ) → less_zero x < 256
 lane_fits x = omega arith
 
-module _ (c : ℕ → ℕ) (small : (i : ℕ) → c i < 256) (set : digit_bits (map c (range_with_len 0 15)) % 2 ^ 64 ≡ 65535) where
+module _ (c : ℕ → ℕ) (small : (i : ℕ)
+    → c i < 256) (set : digit_bits (map c (range_with_len 0 15)) % 2 ^ 64 ≡ 65535) where
   all : list_all (λ b. b) (bits_of c) ≡ true
-  all = sym (all_bits (λ b. b) (bits_of c)) ∙ ap (λ m. nat_eq m 65535) (sym (mask_l-mod (bits_of c) 64 (omega arith)) ∙ set)
+  all = sym (all_bits (λ b. b) (bits_of c))
+      ∙ ap (λ m. nat_eq m 65535) (sym (mask_l-mod (bits_of c) 64 (omega arith)) ∙ set)
 
   digit_at : (k : ℕ) → bit (c k) ≡ true → is_ascii_digit (c k) ≡ true
   digit_at k is_set = sym (bit_is (c k) (small k)) ∙ is_set
 
   digits_explicit : all_ascii_digits (drop 3 (map c (range_with_len 0 15))) ≡ true
   digits_explicit =
-      and_from _ _ (digit_at 3 (all_at (bits_of c) 0 all)) (and_from _ _ (digit_at 4 (all_at (bits_of c) 1 all)) (and_from _ _ (digit_at 5 (all_at (bits_of c) 2 all)) (and_from _ _ (digit_at 6 (all_at (bits_of c) 4 all)) (and_from _ _ (digit_at 7 (all_at (bits_of c) 5 all)) (and_from _ _ (digit_at 8 (all_at (bits_of c) 6 all)) (and_from _ _ (digit_at 9 (all_at (bits_of c) 8 all)) (and_from _ _ (digit_at 10 (all_at (bits_of c) 9 all)) (and_from _ _ (digit_at 11 (all_at (bits_of c) 10 all)) (and_from _ _ (digit_at 12 (all_at (bits_of c) 12 all)) (and_from _ _ (digit_at 13 (all_at (bits_of c) 13 all)) (and_from _ _ (digit_at 14 (all_at (bits_of c) 14 all)) (refl))))))))))))
+      and_from _ _ (digit_at 3 (all_at (bits_of c) 0 all))
+      (and_from _ _ (digit_at 4 (all_at (bits_of c) 1 all)) (and_from _ _ (digit_at 5 (all_at (bits_of c) 2 all))
+      (and_from _ _ (digit_at 6 (all_at (bits_of c) 4 all)) (and_from _ _ (digit_at 7 (all_at (bits_of c) 5 all))
+      (and_from _ _ (digit_at 8 (all_at (bits_of c) 6 all)) (and_from _ _ (digit_at 9 (all_at
+      (bits_of c) 8 all)) (and_from _ _ (digit_at 10 (all_at (bits_of c) 9 all)) (and_from _ _ (digit_at 11 (all_at
+      (bits_of c) 10 all)) (and_from _ _ (digit_at 12 (all_at (bits_of c) 12 all)) (and_from _ _ (digit_at 13
+      (all_at (bits_of c) 13 all)) (and_from _ _ (digit_at 14 (all_at (bits_of c) 14 all)) (refl))))))))))))
 
-  value_explicit : joined_halves (halves_of (map c (range_with_len 0 15))) ≡ digits_value 10 (drop 3 (map c (range_with_len 0 15)))
+  value_explicit : joined_halves (halves_of (map c (range_with_len 0 15)))
+      ≡ digits_value 10 (drop 3 (map c (range_with_len 0 15)))
   value_explicit =
       let d = λ (i : ℕ). less_zero (c i) in
       let fits = λ (i : ℕ). lane_fits (c i) in
-      let first = half_is (d 3) (d 4) (d 5) (d 6) (d 7) (d 8) (d 3) (fits 3) (fits 4) (fits 5) (fits 6) (fits 7) (fits 8) in
-      let second = half_is (d 9) (d 10) (d 11) (d 12) (d 13) (d 14) (d 3) (fits 9) (fits 10) (fits 11) (fits 12) (fits 13) (fits 14) in
+      let first = half_is (d 3) (d 4)
+      (d 5) (d 6) (d 7) (d 8) (d 3) (fits 3) (fits 4) (fits 5) (fits 6) (fits 7) (fits 8) in
+      let second = half_is (d 9) (d 10)
+      (d 11) (d 12) (d 13) (d 14) (d 3) (fits 9) (fits 10) (fits 11) (fits 12) (fits 13) (fits 14) in
       let whole = weighed_digits 0 (drop 3 (map c (range_with_len 0 15))) digits_explicit in
       let s3 = lane_digit (c 3) (digit_at 3 (all_at (bits_of c) 0 all)) in
       let s4 = lane_digit (c 4) (digit_at 4 (all_at (bits_of c) 1 all)) in
@@ -86,37 +102,49 @@ module _ (c : ℕ → ℕ) (small : (i : ℕ) → c i < 256) (set : digit_bits (
       rw (first, second) (twelve (d 3) (d 4) (d 5) (d 6) (d 7) (d 8) (d 9) (d 10) (d 11) (d 12) (d 13) (d 14)
       ∙ ((rw (s3, s4, s5, s6, s7, s8, s9, s10, s11, s12, s13, s14) refl) ∙ whole))
 
-pub fraction_digits : (field : List ℕ) → length field ≡ 15 → ((i : ℕ) → get_or field i 0 < 256) → digit_bits field % 2 ^ 64 ≡ 65535 → all_ascii_digits (drop 3 field) ≡ true
+pub fraction_digits : (field : List ℕ) → length field ≡ 15
+    → ((i : ℕ) → get_or field i 0 < 256) → digit_bits field % 2 ^ 64 ≡ 65535 → all_ascii_digits (drop 3 field) ≡ true
 fraction_digits field long small =
-    subst (λ (f : List ℕ). digit_bits f % 2 ^ 64 ≡ 65535 → all_ascii_digits (drop 3 f) ≡ true) (sym (fifteen field long)) (digits_explicit (λ (i : ℕ). get_or field i 0) small)
+    subst (λ (f : List ℕ). digit_bits f % 2 ^ 64 ≡ 65535 → all_ascii_digits (drop 3 f) ≡ true)
+    (sym (fifteen field long)) (digits_explicit (λ (i : ℕ). get_or field i 0) small)
 
-pub fraction_value : (field : List ℕ) → length field ≡ 15 → ((i : ℕ) → get_or field i 0 < 256) → digit_bits field % 2 ^ 64 ≡ 65535 → joined_halves (halves_of field) ≡ digits_value 10 (drop 3 field)
+pub fraction_value : (field : List ℕ) → length field ≡ 15 → ((i : ℕ) → get_or field i 0 < 256)
+    → digit_bits field % 2 ^ 64 ≡ 65535 → joined_halves (halves_of field) ≡ digits_value 10 (drop 3 field)
 fraction_value field long small =
-    subst (λ (f : List ℕ). digit_bits f % 2 ^ 64 ≡ 65535 → joined_halves (halves_of f) ≡ digits_value 10 (drop 3 f)) (sym (fifteen field long)) (value_explicit (λ (i : ℕ). get_or field i 0) small)
+    subst (λ (f : List ℕ). digit_bits f % 2 ^ 64 ≡ 65535 → joined_halves (halves_of f) ≡ digits_value 10 (drop 3 f))
+    (sym (fifteen field long)) (value_explicit (λ (i : ℕ). get_or field i 0) small)
 
 -- ---- what the columns spell
 
-spelt_explicit : (c : ℕ → ℕ) (digit fraction : ℕ) (is_below : Bool) → is_plain_after 32 (c 0 ∷ c 1 ∷ []) ≡ true → is_below ≡ list_any (λ x. eqb x 45) (c 0 ∷ c 1 ∷ []) → digit ≡ weighed 0 (c 0 ∷ c 1 ∷ []) → c 2 ≡ 46 →
-    all_ascii_digits (drop 3 (map c (range_with_len 0 15))) ≡ true → fraction ≡ digits_value 10 (drop 3 (map c (range_with_len 0 15))) →
+decimal_explicit : (c : ℕ → ℕ) (digit fraction : ℕ) (is_below : Bool) → is_plain_after 32 (c 0 ∷ c 1 ∷ []) ≡ true
+    → is_below ≡ list_any (λ x. eqb x 45) (c 0 ∷ c 1 ∷ []) → digit ≡ weighed 0 (c 0 ∷ c 1 ∷ []) → c 2 ≡ 46 →
+    all_ascii_digits (drop 3 (map c (range_with_len 0 15))) ≡ true
+    → fraction ≡ digits_value 10 (drop 3 (map c (range_with_len 0 15))) →
     number_of 15 12 (map c (range_with_len 0 15)) ≡ Some (Some (signed_number is_below (digit * 10 ^ 12 + fraction)))
-spelt_explicit c digit fraction is_below plain sign digit_is point digits fraction_is =
+decimal_explicit c digit fraction is_below plain sign digit_is point digits fraction_is =
     let rest = drop 3 (map c (range_with_len 0 15)) in
-    let spelt = spelt_whole 12 rest (c 0 ∷ c 1 ∷ []) digits refl plain in
+    let reads = decimal_whole 12 rest (c 0 ∷ c 1 ∷ []) digits refl plain in
     let size : weighed 0 (c 0 ∷ c 1 ∷ rest) ≡ digit * 10 ^ 12 + fraction =
-    weighed_digits (weighed 0 (c 0 ∷ c 1 ∷ [])) rest digits ∙ (digits_behind (weighed 0 (c 0 ∷ c 1 ∷ [])) rest ∙ (rw (digit_is, fraction_is) refl)) in
+    weighed_digits (weighed 0 (c 0 ∷ c 1 ∷ [])) rest digits
+    ∙ (digits_behind (weighed 0 (c 0 ∷ c 1 ∷ [])) rest ∙ (rw (digit_is, fraction_is) refl)) in
     number_of_width 15 12 (map c (range_with_len 0 15)) refl
-    ∙ (ap (λ (x : ℕ). missing_or_spelt 12 (without_first_blanks (c 0 ∷ c 1 ∷ x ∷ rest))) point
-    ∙ (spelt ∙ (ap (λ (b : Bool). Some (Some (signed_number b (weighed 0 (c 0 ∷ c 1 ∷ rest))))) (sym sign)
+    ∙ (ap (λ (x : ℕ). missing_or_number 12 (without_first_blanks (c 0 ∷ c 1 ∷ x ∷ rest))) point
+    ∙ (reads ∙ (ap (λ (b : Bool). Some (Some (signed_number b (weighed 0 (c 0 ∷ c 1 ∷ rest))))) (sym sign)
     ∙ ap (λ (n : ℕ). Some (Some (signed_number is_below n))) size)))
 
-pub spelt_columns : (field : List ℕ) (digit fraction : ℕ) (is_below : Bool) → length field ≡ 15 → is_plain_after 32 (get_or field 0 0 ∷ get_or field 1 0 ∷ []) ≡ true →
-    is_below ≡ list_any (λ x. eqb x 45) (get_or field 0 0 ∷ get_or field 1 0 ∷ []) → digit ≡ weighed 0 (get_or field 0 0 ∷ get_or field 1 0 ∷ []) → get_or field 2 0 ≡ 46 →
-    all_ascii_digits (drop 3 field) ≡ true → fraction ≡ digits_value 10 (drop 3 field) → number_of 15 12 field ≡ Some (Some (signed_number is_below (digit * 10 ^ 12 + fraction)))
-spelt_columns field digit fraction is_below long plain sign digit_is point =
-    subst (λ (f : List ℕ). all_ascii_digits (drop 3 f) ≡ true → fraction ≡ digits_value 10 (drop 3 f) → number_of 15 12 f ≡ Some (Some (signed_number is_below (digit * 10 ^ 12 + fraction)))) (sym (fifteen field long))
-    (spelt_explicit (λ (i : ℕ). get_or field i 0) digit fraction is_below plain sign digit_is point)
+pub decimal_columns : (field : List ℕ) (digit fraction : ℕ) (is_below : Bool)
+    → length field ≡ 15 → is_plain_after 32 (get_or field 0 0 ∷ get_or field 1 0 ∷ []) ≡ true →
+    is_below ≡ list_any (λ x. eqb x 45) (get_or field 0 0 ∷ get_or field 1 0 ∷ [])
+    → digit ≡ weighed 0 (get_or field 0 0 ∷ get_or field 1 0 ∷ []) → get_or field 2 0 ≡ 46 →
+    all_ascii_digits (drop 3 field) ≡ true → fraction ≡ digits_value 10 (drop 3 field)
+    → number_of 15 12 field ≡ Some (Some (signed_number is_below (digit * 10 ^ 12 + fraction)))
+decimal_columns field digit fraction is_below long plain sign digit_is point =
+    subst (λ (f : List ℕ). all_ascii_digits (drop 3 f) ≡ true → fraction ≡ digits_value 10 (drop 3 f) → number_of
+    15 12 f ≡ Some (Some (signed_number is_below (digit * 10 ^ 12 + fraction)))) (sym (fifteen field long))
+    (decimal_explicit (λ (i : ℕ). get_or field i 0) digit fraction is_below plain sign digit_is point)
 
-pub fraction_small : (field : List ℕ) (fraction : ℕ) → length field ≡ 15 → all_ascii_digits (drop 3 field) ≡ true → fraction ≡ digits_value 10 (drop 3 field) → fraction < 10 ^ 12
+pub fraction_small : (field : List ℕ) (fraction : ℕ) → length field ≡ 15
+    → all_ascii_digits (drop 3 field) ≡ true → fraction ≡ digits_value 10 (drop 3 field) → fraction < 10 ^ 12
 fraction_small field fraction long digits is =
     let less = value_small 0 (drop 3 field) digits in
     let twelve_left : length (drop 3 field) ≡ 12 = omega (arith, length-drop 3 field, long) in

@@ -1,25 +1,29 @@
 -- The text of a receiver clock offset with one digit before the point.
-use Rattle.std.proofs.Common.{◌≡◌, ℕ, suc, ◌+◌, ◌-◌, ◌*◌, ◌/◌, ◌%◌, ◌^◌, ◌<◌, List, [], ◌∷◌, ◌++◌, length, replicate, take, set, subst, refl, sym, ap, ◌∙◌, arith}
+use Rattle.std.proofs.Common.{◌≡◌, ℕ, suc, ◌+◌, ◌-◌, ◌*◌, ◌/◌, ◌%◌, ◌^◌, ◌<◌, List, [], ◌∷◌, ◌++◌, length, replicate}
+use Rattle.std.proofs.Common.{take, set, subst, refl, sym, ap, ◌∙◌, arith}
 use Rattle.std.proofs.lemmas.Fmt.{decimal_digit}
 use Rattle.std.specs.List.{range_with_len}
 use lib.Lanes.{pick_l, put_chunk}
 use Rattle.crx_text.specs.FieldTexts.{group_digits, side_by_side}
-use Rattle.crx_text.specs.Numbers.{size_text, zero_padded}
+use Rattle.crx_text.specs.meaning.Numbers.{size_text, zero_padded}
 use Rattle.crx_text.proofs.ClockColumns.{fifteen}
 use Rattle.crx_text.proofs.LaneBits.{sixteen}
 use Rattle.crx_text.proofs.PrintedTexts.{plus, twelve_padded}
 
 -- two stores of eight lanes, of which the second begins in the first
 abbrev pub stored : List ℕ → List ℕ → List ℕ
-stored text field = put_chunk 7 (put_chunk 3 field (pick_l 0 (text ++ text) (range_with_len 0 8))) (pick_l 0 (text ++ text) (range_with_len 4 8))
+stored text field = put_chunk 7
+    (put_chunk 3 field (pick_l 0 (text ++ text) (range_with_len 0 8))) (pick_l 0 (text ++ text) (range_with_len 4 8))
 
-pub stored_fraction : (text field : List ℕ) → length text ≡ 16 → length field ≡ 15 → stored text field ≡ take 3 field ++ take 12 text
+pub stored_fraction : (text field : List ℕ)
+    → length text ≡ 16 → length field ≡ 15 → stored text field ≡ take 3 field ++ take 12 text
 stored_fraction text field long wide =
     let lanes : List ℕ = pick_l 0 text (range_with_len 0 16) in
     subst (λ (t : List ℕ). stored t field ≡ take 3 field ++ take 12 t) (sym (sixteen text long))
     (subst (λ (f : List ℕ). stored lanes f ≡ take 3 f ++ take 12 lanes) (sym (fifteen field wide)) refl)
 
-first_three : (field text : List ℕ) (digit : ℕ) → length field ≡ 15 → set (set (set (take 3 field ++ text) 0 32) 1 digit) 2 46 ≡ 32 ∷ digit ∷ 46 ∷ text
+first_three : (field text : List ℕ) (digit : ℕ)
+    → length field ≡ 15 → set (set (set (take 3 field ++ text) 0 32) 1 digit) 2 46 ≡ 32 ∷ digit ∷ 46 ∷ text
 first_three [] text digit wide = absurd (omega arith)
 first_three (a ∷ []) text digit wide = absurd (omega arith)
 first_three (a ∷ b ∷ []) text digit wide = absurd (omega arith)
@@ -30,16 +34,19 @@ module _ (size : ℕ) (small : size < 10 ^ 13) where
   fraction = size - size / 10 ^ 12 * 10 ^ 12
 
   pub clock_written : (field lanes : List ℕ) → length field ≡ 15
-      → lanes ≡ plus (side_by_side (group_digits (fraction / 10 ^ 9 ∷ fraction / 10 ^ 6 % 1000 ∷ fraction / 1000 % 1000 ∷ fraction % 1000 ∷ []))) (replicate 16 48)
+      → lanes ≡ plus (side_by_side (group_digits (fraction / 10 ^ 9
+      ∷ fraction / 10 ^ 6 % 1000 ∷ fraction / 1000 % 1000 ∷ fraction % 1000 ∷ []))) (replicate 16 48)
       → set (set (set (take 3 field ++ take 12 lanes) 0 32) 1 (48 + size / 10 ^ 12)) 2 46 ≡ 32 ∷ size_text 12 size
   clock_written field lanes wide is =
       let rest : fraction ≡ size % 10 ^ 12 = omega arith in
       let below : fraction < 10 ^ 12 = omega arith in
-      let digits : take 12 lanes ≡ zero_padded 12 (size % 10 ^ 12) = ap (take 12) is ∙ (twelve_padded fraction below ∙ ap (zero_padded 12) rest) in
+      let digits : take 12 lanes ≡ zero_padded 12 (size % 10 ^ 12) = ap (take 12) is
+      ∙ (twelve_padded fraction below ∙ ap (zero_padded 12) rest) in
       let whole = decimal_digit (size / 10 ^ 12) (omega arith) in
       rw (first_three field (take 12 lanes) (48 + size / 10 ^ 12) wide, digits, whole) refl
 
-pub text_long : (field : List ℕ) (size : ℕ) → field ≡ 32 ∷ size_text 12 size → length field ≡ 15 → 1 + length (size_text 12 size) ≡ 15
+pub text_long : (field : List ℕ) (size : ℕ)
+    → field ≡ 32 ∷ size_text 12 size → length field ≡ 15 → 1 + length (size_text 12 size) ≡ 15
 text_long field size is wide =
     let one : (n : ℕ) → 1 + n ≡ suc n = λ n. omega arith in
     one (length (size_text 12 size)) ∙ (ap length (sym is) ∙ wide)

@@ -1,15 +1,17 @@
 -- Reading the numbers of codes.
-use Rattle.std.proofs.Common.{true, false, ℕ, ℤ, suc, zero, ◌≡◌, ◌*◌, ◌<◌, ◌≤◌, ◌^◌, ◌⊎◌, inl, inr, Bool, List, length, Option, Some, None, if◌then◌else◌, arith, refl}
+use Rattle.std.proofs.Common.{true, false, ℕ, ℤ, suc, zero, ◌≡◌, ◌*◌, ◌<◌, ◌≤◌, ◌^◌, ◌⊎◌, inl, inr, Bool, List, length}
+use Rattle.std.proofs.Common.{Option, Some, None, if◌then◌else◌, arith, refl}
 use Rattle.std.proofs.Math.Nat.{pow-le-pow_right}
 use Rattle.std.proofs.lemmas.Bool.Decides.{nat_tests}
 use Rattle.std.specs.Str.{all_ascii_digits}
 use Rattle.std.specs.Str.Parse.{digits_value_after, starts_with_minus}
 use lib.IntN.{nat_abs}
-use Rattle.crx_text.specs.Codes.{coded_number, is_count_of_digits}
-use Rattle.crx_text.specs.Numbers.{signed_number, without_minus}
+use Rattle.crx_text.specs.meaning.Codes.{coded_number, is_count_of_digits}
+use Rattle.crx_text.specs.meaning.Numbers.{signed_number, without_minus}
 use Rattle.crx_lines.specs.declared.limits.TheConstants.{DIGITS_LIMIT}
 
-pub coded_number_counted : (text digits : List ℕ) → digits ≡ without_minus text → (length digits ≡ 0) ⊎ (DIGITS_LIMIT < length digits) → coded_number text ≡ None
+pub coded_number_counted : (text digits : List ℕ)
+    → digits ≡ without_minus text → (length digits ≡ 0) ⊎ (DIGITS_LIMIT < length digits) → coded_number text ≡ None
 unfolding coded_number
 coded_number_counted text digits is (inl none) =
     let test : is_count_of_digits (length digits) ≡ false = grind (arith, nat_tests) in
@@ -19,18 +21,22 @@ coded_number_counted text digits is (inr many) =
     rw (← is, test) refl
 
 -- where the count fits, the digits decide
-pub coded_number_fitting : (text digits : List ℕ) → digits ≡ without_minus text → 0 < length digits → length digits ≤ DIGITS_LIMIT →
-    coded_number text ≡ (if all_ascii_digits digits then Some (signed_number (starts_with_minus text) (digits_value_after 10 0 digits)) else None)
+pub coded_number_fitting : (text digits : List ℕ)
+    → digits ≡ without_minus text → 0 < length digits → length digits ≤ DIGITS_LIMIT →
+    coded_number text ≡ (if all_ascii_digits digits
+    then Some (signed_number (starts_with_minus text) (digits_value_after 10 0 digits)) else None)
 unfolding coded_number
 coded_number_fitting text digits is some few =
     let test : is_count_of_digits (length digits) ≡ true = grind (arith, nat_tests) in
     rw (← is, test) refl
 
-pub no_number : (a : Bool) (x : ℕ) (y : ℤ) → ◌≡◌ {A = Option ℕ} None (if a then Some x else None) → ◌≡◌ {A = Option ℤ} (if a then Some y else None) None
+pub no_number : (a : Bool) (x : ℕ) (y : ℤ)
+    → ◌≡◌ {A = Option ℕ} None (if a then Some x else None) → ◌≡◌ {A = Option ℤ} (if a then Some y else None) None
 no_number true x y e = absurd (cc)
 no_number false x y e = refl
 
-pub a_number : (a : Bool) (x w : ℕ) (f : ℕ → ℤ) → Some w ≡ (if a then Some x else None) → (if a then Some (f x) else None) ≡ Some (f w)
+pub a_number : (a : Bool) (x w : ℕ) (f : ℕ → ℤ)
+    → Some w ≡ (if a then Some x else None) → (if a then Some (f x) else None) ≡ Some (f w)
 a_number true x w f e = let same : w ≡ x = cc in rw same refl
 a_number false x w f e = absurd (cc)
 

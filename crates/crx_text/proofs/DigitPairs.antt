@@ -1,5 +1,7 @@
 -- Two digits at a time.
-use Rattle.std.proofs.Common.{◌≡◌, ℕ, ℤ, pos, negsuc, w64, zero, suc, ◌+◌, ◌-◌, ◌*◌, ◌/◌, ◌%◌, ◌<◌, ◌≤◌, Bool, true, ◌&&◌, T, eqb, List, [], ◌∷◌, ◌++◌, length, take, drop, get_or, slice_set, inl, inr, arith, eq-zero-or-pos, eqb→eq, append_assoc, decimal, ◌^◌, ap, sym, ◌∙◌, refl}
+use Rattle.std.proofs.Common.{◌≡◌, ℕ, ℤ, pos, negsuc, w64, zero, suc, ◌+◌, ◌-◌, ◌*◌, ◌/◌, ◌%◌, ◌<◌, ◌≤◌, Bool, true}
+use Rattle.std.proofs.Common.{◌&&◌, T, eqb, List, [], ◌∷◌, ◌++◌, length, take, drop, get_or, slice_set, inl, inr, arith}
+use Rattle.std.proofs.Common.{eq-zero-or-pos, eqb→eq, append_assoc, decimal, ◌^◌, ap, sym, ◌∙◌, refl}
 use Rattle.std.proofs.lemmas.List.{take_more_set, length-set, length-take-le, take-take}
 use Rattle.std.proofs.Math.Dec.{ltb}
 use Rattle.std.proofs.Math.Seq.{take-append-add}
@@ -14,13 +16,16 @@ use Rattle.crx_text.specs.declared.digits.TheConstants.{PAIRS}
 
 abbrev are_pairs : ℕ → Bool
 are_pairs zero = true
-are_pairs (suc p) = (eqb (get_or PAIRS (p * 2) 0) (48 + p / 10) && eqb (get_or PAIRS (p * 2 + 1) 0) (48 + p % 10)) && are_pairs p
+are_pairs (suc p) =
+    (eqb (get_or PAIRS (p * 2) 0) (48 + p / 10) && eqb (get_or PAIRS (p * 2 + 1) 0) (48 + p % 10)) && are_pairs p
 
-below : (n p : ℕ) → T (are_pairs n) → p < n → (get_or PAIRS (p * 2) 0 ≡ 48 + p / 10) × (get_or PAIRS (p * 2 + 1) 0 ≡ 48 + p % 10)
+below : (n p : ℕ) → T (are_pairs n)
+    → p < n → (get_or PAIRS (p * 2) 0 ≡ 48 + p / 10) × (get_or PAIRS (p * 2 + 1) 0 ≡ 48 + p % 10)
 below zero p t h = absurd (omega arith)
 below (suc n) p t h =
     elim (eq-zero-or-pos (n - p)) [
-      | inl z ↦ let e : p ≡ n = omega arith in let a = and_l _ (are_pairs n) t in rw e (eqb→eq _ _ (and_l _ _ a), eqb→eq _ _ (and_r _ _ a))
+      | inl z ↦ let e : p ≡ n = omega arith in let a = and_l _ (are_pairs n) t in
+          rw e (eqb→eq _ _ (and_l _ _ a), eqb→eq _ _ (and_r _ _ a))
       | inr g ↦ below n p (and_r _ (are_pairs n) t) (omega arith)
     ]
 
@@ -28,15 +33,19 @@ pub PAIRS_at : (p : ℕ) → p < 100 → (get_or PAIRS (p * 2) 0 ≡ 48 + p / 10
 PAIRS_at p h = below 100 p tt h
 
 -- two bytes, one after the other
-pub two_written : (bytes : List ℕ) (at a b : ℕ) → at + 2 ≤ length bytes → take (at + 2) (slice_set (slice_set bytes at a) (at + 1) b) ≡ take at bytes ++ a ∷ b ∷ []
+pub two_written : (bytes : List ℕ) (at a b : ℕ)
+    → at + 2 ≤ length bytes → take (at + 2) (slice_set (slice_set bytes at a) (at + 1) b) ≡ take at bytes ++ a ∷ b ∷ []
 two_written bytes at a b room =
     let sum : at + 2 ≡ at + 1 + 1 = omega arith in
     rw sum (take_more_set (slice_set bytes at a) (at + 1) b (omega (arith, length-set bytes at a))
-    ∙ ap (λ (t : List ℕ). t ++ b ∷ []) (take_more_set bytes at a (omega arith)) ∙ append_assoc (take at bytes) (a ∷ []) (b ∷ []))
+    ∙ ap (λ (t : List ℕ). t ++ b ∷ []) (take_more_set bytes at a (omega arith))
+    ∙ append_assoc (take at bytes) (a ∷ []) (b ∷ []))
 
 -- what is written after what was written
-pub joined : (first second third front back : List ℕ) (at middle end : ℕ) → take middle second ≡ take at first ++ front → take end third ≡ take middle second ++ back → take end third ≡ take at first ++ (front ++ back)
-joined first second third front back at middle end one two = two ∙ ap (λ (t : List ℕ). t ++ back) one ∙ append_assoc (take at first) front back
+pub joined : (first second third front back : List ℕ) (at middle end : ℕ) → take middle second ≡ take at first ++ front
+    → take end third ≡ take middle second ++ back → take end third ≡ take at first ++ (front ++ back)
+joined first second third front back at middle end one two = two
+    ∙ ap (λ (t : List ℕ). t ++ back) one ∙ append_assoc (take at first) front back
 
 pub signed_decimal-some : (z : ℤ) → SFits w64 z → 0 < length (signed_decimal z)
 signed_decimal-some (pos n) fits = let small = fits.sfits in decimal_nonempty n (omega (arith, small))
@@ -55,15 +64,35 @@ four_small n (suc (suc (suc zero))) small = omega arith
 four_small n (suc (suc (suc (suc i)))) small = omega arith
 
 -- how many zeros stand before a number's digits in four columns
-pub zeros_counted : (n : ℕ) → n < 10000 → bool_byte (ltb n 10) + bool_byte (ltb n 100) + bool_byte (ltb n 1000) + length (decimal n) ≡ 4
+pub zeros_counted : (n : ℕ) → n < 10000
+    → bool_byte (ltb n 10) + bool_byte (ltb n 100) + bool_byte (ltb n 1000) + length (decimal n) ≡ 4
 zeros_counted n small =
     elim (cases_lt n 10) [
       | inl one ↦ rw (lt-ltb n 10 one, lt-ltb n 100 (omega arith), lt-ltb n 1000 (omega arith), length_one n one) refl
       | inr two_at_least ↦ elim (cases_lt n 100) [
-        | inl two ↦ rw (le-ltb n 10 two_at_least, lt-ltb n 100 two, lt-ltb n 1000 (omega arith), length_two n two_at_least two) refl
+        | inl two ↦ rw (
+          le-ltb n 10 two_at_least,
+          lt-ltb n 100 two,
+          lt-ltb n 1000
+              (omega arith),
+          length_two n two_at_least two,
+        ) refl
         | inr three_at_least ↦ elim (cases_lt n 1000) [
-          | inl three ↦ rw (le-ltb n 10 two_at_least, le-ltb n 100 three_at_least, lt-ltb n 1000 three, length_pair n three_at_least (omega arith), length_one (n / 100) (omega arith)) refl
-          | inr four_at_least ↦ rw (le-ltb n 10 two_at_least, le-ltb n 100 three_at_least, le-ltb n 1000 four_at_least, length_pair n three_at_least (omega arith), length_two (n / 100) (omega arith) (omega arith)) refl
+          | inl three ↦ rw (
+            le-ltb n 10 two_at_least,
+            le-ltb n 100 three_at_least,
+            lt-ltb
+                n 1000 three,
+            length_pair n three_at_least (omega arith),
+            length_one (n / 100) (omega arith),
+          ) refl
+          | inr four_at_least ↦ rw (
+            le-ltb n 10 two_at_least,
+            le-ltb n 100 three_at_least,
+            le-ltb n 1000 four_at_least,
+            length_pair n three_at_least (omega arith),
+            length_two (n / 100) (omega arith) (omega arith),
+          ) refl
         ]
       ]
     ]
@@ -85,17 +114,20 @@ digits_last n z small count =
         | inr three_at_least ↦ elim (cases_lt n 1000) [
           | inl three ↦
               let own : n / 100 % 10 ≡ n / 100 = omega arith in
-              let whole : decimal n ≡ (48 + n / 100) ∷ pair (n % 100) = decimal_pair n three_at_least (omega arith) ∙ ap (λ (t : List ℕ). t ++ pair (n % 100)) (decimal_digit (n / 100) (omega arith)) in
+              let whole : decimal n ≡ (48 + n / 100) ∷ pair (n % 100) = decimal_pair n three_at_least (omega arith)
+              ∙ ap (λ (t : List ℕ). t ++ pair (n % 100)) (decimal_digit (n / 100) (omega arith)) in
               rw (digits_at n z 1 _ whole count refl, whole, own) refl
           | inr four_at_least ↦
-              let whole : decimal n ≡ four n = decimal_pair n three_at_least (omega arith) ∙ ap (λ (t : List ℕ). t ++ pair (n % 100)) (decimal_two (n / 100) (omega arith) (omega arith)) in
+              let whole : decimal n ≡ four n = decimal_pair n three_at_least (omega arith)
+              ∙ ap (λ (t : List ℕ). t ++ pair (n % 100)) (decimal_two (n / 100) (omega arith) (omega arith)) in
               rw (digits_at n z 0 _ whole count refl, whole) refl
         ]
       ]
     ]
 
 -- the bytes of a word that is shifted by whole bytes
-pub bytes_shifted : (word z : ℕ) → z ≤ 3 → word < 2 ^ 32 → take (4 - z) (to_le_bytes w32 (word / 2 ^ (8 * z))) ≡ drop z (to_le_bytes w32 word)
+pub bytes_shifted : (word z : ℕ)
+    → z ≤ 3 → word < 2 ^ 32 → take (4 - z) (to_le_bytes w32 (word / 2 ^ (8 * z))) ≡ drop z (to_le_bytes w32 word)
 bytes_shifted word zero few fits =
     let own : word / 1 ≡ word = omega arith in
     rw own refl
@@ -110,17 +142,21 @@ bytes_shifted word (suc (suc (suc zero))) few fits = refl
 bytes_shifted word (suc (suc (suc (suc z)))) few fits = absurd (omega arith)
 
 -- the first bytes of what was written
-pub first_written : (old new bytes : List ℕ) (at n k : ℕ) → at ≤ length old → k ≤ n → take (at + n) new ≡ take at old ++ bytes → take (at + k) new ≡ take at old ++ take k bytes
+pub first_written : (old new bytes : List ℕ) (at n k : ℕ) → at ≤ length old
+    → k ≤ n → take (at + n) new ≡ take at old ++ bytes → take (at + k) new ≡ take at old ++ take k bytes
 first_written old new bytes at n k within few whole =
     sym (take-take (at + k) (at + n) new (omega arith)) ∙ ap (take (at + k)) whole
     ∙ ap (λ (i : ℕ). take (i + k) (take at old ++ bytes)) (sym (length-take-le at old within))
     ∙ take-append-add (take at old) bytes k
 
 -- a number's last four digits, after those before them
-pub four_written : (first second third : List ℕ) (size at middle : ℕ) → 10000 ≤ size → size < 2 ^ 64 → take middle second ≡ take at first ++ decimal (size / 10000) →
-    take (middle + 4) third ≡ take middle second ++ four (size - size / 10000 * 10000) → take (middle + 4) third ≡ take at first ++ decimal size
+pub four_written : (first second third : List ℕ) (size at middle : ℕ)
+    → 10000 ≤ size → size < 2 ^ 64 → take middle second ≡ take at first ++ decimal (size / 10000) →
+    take (middle + 4) third ≡ take middle second ++ four (size - size / 10000 * 10000)
+    → take (middle + 4) third ≡ take at first ++ decimal size
 four_written first second third size at middle many fits one two =
     let low : size - size / 10000 * 10000 ≡ size % 10000 = omega arith in
-    joined first second third (decimal (size / 10000)) (four (size - size / 10000 * 10000)) at middle (middle + 4) one two
+    joined first second third (decimal (size / 10000))
+    (four (size - size / 10000 * 10000)) at middle (middle + 4) one two
     ∙ ap (λ (n : ℕ). take at first ++ (decimal (size / 10000) ++ four n)) low
     ∙ ap (λ (t : List ℕ). take at first ++ t) (sym (decimal_four size many fits))

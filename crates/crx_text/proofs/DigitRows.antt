@@ -1,17 +1,20 @@
 -- Rows of digits, and the number that the first of them write.
-use Rattle.std.proofs.Common.{◌≡◌, ℕ, zero, suc, ◌+◌, ◌-◌, ◌*◌, ◌%◌, ◌^◌, ◌<◌, ◌≤◌, Bool, true, false, not, cond, T, ltb, eqb, List, [], ◌∷◌, ◌++◌, map, length, replicate, take, drop, get_or, subst, Fits, w8, refl, sym, ap, ◌∙◌, arith}
+use Rattle.std.proofs.Common.{◌≡◌, ℕ, zero, suc, ◌+◌, ◌-◌, ◌*◌, ◌%◌, ◌^◌, ◌<◌, ◌≤◌, Bool, true, false, not, cond, T}
+use Rattle.std.proofs.Common.{ltb, eqb, List, [], ◌∷◌, ◌++◌, map, length, replicate, take, drop, get_or, subst, Fits}
+use Rattle.std.proofs.Common.{w8, refl, sym, ap, ◌∙◌, arith}
 use Rattle.std.proofs.Math.Nat.{pow-suc, mul-le-mul_right}
 use Rattle.std.proofs.lemmas.Bool.{agree_below_at, and_parts, ne_eqb}
 use Rattle.std.proofs.lemmas.List.Sums.{prefix_len_stops}
 use Rattle.std.proofs.lemmas.List.{length-map, length-append, length-take-le, take-append-drop, take-take, get_or-take}
-use Rattle.std.proofs.lemmas.Simd.{map-map, mask_l-mod, pick_l_whole, zip2_splat, zip2_splat_left, leading_from_mask_l, trailing_mask_l}
+use Rattle.std.proofs.lemmas.Simd.{map-map, mask_l-mod, pick_l_whole, zip2_splat, zip2_splat_left, leading_from_mask_l}
+use Rattle.std.proofs.lemmas.Simd.{trailing_mask_l}
 use Rattle.std.specs.Char.{digit_value, is_ascii_digit}
 use Rattle.std.specs.List.{range_with_len, prefix_len}
 use Rattle.std.specs.Str.{all_ascii_digits}
 use Rattle.std.specs.Str.Parse.{digits_value, digits_value_after}
 use lib.Count.{count_trailing_zeros}
 use lib.Lanes.{Each1, chunk, pick_l, mask_l, top, zip2, dots, all_below}
-use Rattle.crx_text.specs.Codes.{after_cell, first_cell}
+use Rattle.crx_text.specs.meaning.Codes.{after_cell, first_cell}
 use Rattle.crx_text.specs.FirstDigits.{HasFirstDigits}
 use Rattle.crx_text.specs.declared.digits.TheConstants.{WEIGHTS, SCALES}
 use Rattle.crx_text.proofs.PowersOfTen.{digit_range, digit_value_is, digits_value_after-append}
@@ -32,22 +35,28 @@ digit_lanes_are : (row : List ℕ) → length row ≡ 8 → digit_lanes row ≡ 
 digit_lanes_are row long = zip2_splat (λ a b. (a + (256 - b)) % 256) row 8 48 long
 
 other_lane : (c : ℕ) → c < 256 → top 7 (cond (ltb 9 (less_zero c)) 255 0) ≡ not (is_ascii_digit c)
-other_lane c small = agree_below_at (λ x. top 7 (cond (ltb 9 (less_zero x)) 255 0)) (λ x. not (is_ascii_digit x)) 256 c refl small
+other_lane c small = agree_below_at
+    (λ x. top 7 (cond (ltb 9 (less_zero x)) 255 0)) (λ x. not (is_ascii_digit x)) 256 c refl small
 
-lanes_agree : (f g : ℕ → Bool) → ((c : ℕ) → c < 256 → f c ≡ g c) → (row : List ℕ) → Each1 (Fits w8) row → map f row ≡ map g row
+lanes_agree : (f g : ℕ → Bool)
+    → ((c : ℕ) → c < 256 → f c ≡ g c) → (row : List ℕ) → Each1 (Fits w8) row → map f row ≡ map g row
 lanes_agree f g same [] fits = refl
-lanes_agree f g same (c ∷ cs) fits = rw (same c fits.0.fits) (ap (λ (r : List Bool). g c ∷ r) (lanes_agree f g same cs fits.1))
+lanes_agree f g same (c ∷ cs) fits =
+    rw (same c fits.0.fits) (ap (λ (r : List Bool). g c ∷ r) (lanes_agree f g same cs fits.1))
 
-pub other_mask : (row : List ℕ) → length row ≡ 8 → Each1 (Fits w8) row → mask_l (map (top 7) (other_lanes row)) % 2 ^ 64 ≡ mask_l (map (λ c. not (is_ascii_digit c)) row)
+pub other_mask : (row : List ℕ) → length row ≡ 8 → Each1 (Fits w8) row
+    → mask_l (map (top 7) (other_lanes row)) % 2 ^ 64 ≡ mask_l (map (λ c. not (is_ascii_digit c)) row)
 other_mask row long fits =
     let lane : ℕ → Bool = λ c. top 7 (cond (ltb 9 (less_zero c)) 255 0) in
     let first : other_lanes row ≡ map (λ d. cond (ltb 9 d) 255 0) (map less_zero row) =
     ap (λ (r : List ℕ). zip2 (λ a b. cond (ltb a b) 255 0) (replicate 8 9) r) (digit_lanes_are row long)
     ∙ zip2_splat_left (λ a b. cond (ltb a b) 255 0) 9 8 (map less_zero row) (length-map row less_zero ∙ long) in
     let then : map (top 7) (other_lanes row) ≡ map (λ c. not (is_ascii_digit c)) row =
-    ap (map (top 7)) (first ∙ map-map (λ d. cond (ltb 9 d) 255 0) less_zero row) ∙ map-map (top 7) (λ c. cond (ltb 9 (less_zero c)) 255 0) row
+    ap (map (top 7)) (first ∙ map-map (λ d. cond (ltb 9 d) 255 0) less_zero row)
+    ∙ map-map (top 7) (λ c. cond (ltb 9 (less_zero c)) 255 0) row
     ∙ lanes_agree (λ c. top 7 (cond (ltb 9 (less_zero c)) 255 0)) (λ c. not (is_ascii_digit c)) other_lane row fits in
-    ap (λ m. mask_l m % 2 ^ 64) then ∙ mask_l-mod (map (λ c. not (is_ascii_digit c)) row) 64 (omega (arith, length-map row (λ c. not (is_ascii_digit c)), long))
+    ap (λ m. mask_l m % 2 ^ 64) then ∙ mask_l-mod
+    (map (λ c. not (is_ascii_digit c)) row) 64 (omega (arith, length-map row (λ c. not (is_ascii_digit c)), long))
 
 not_twice : (b : Bool) → not (not b) ≡ b
 not_twice true = refl
@@ -55,16 +64,22 @@ not_twice false = refl
 
 prefix_is : (row : List ℕ) → prefix_len (λ c. not (not (is_ascii_digit c))) row ≡ prefix_len is_ascii_digit row
 prefix_is [] = refl
-prefix_is (c ∷ cs) = rw (not_twice (is_ascii_digit c)) (ap (λ (n : ℕ). cond (is_ascii_digit c) (1 + n) 0) (prefix_is cs))
+prefix_is (c ∷ cs) = rw (not_twice (is_ascii_digit c))
+    (ap (λ (n : ℕ). cond (is_ascii_digit c) (1 + n) 0) (prefix_is cs))
 
-pub all_are_digits : (row : List ℕ) → length row ≡ 8 → Each1 (Fits w8) row → mask_l (map (top 7) (other_lanes row)) % 2 ^ 64 ≡ 0 → 8 ≡ prefix_len is_ascii_digit row
+pub all_are_digits : (row : List ℕ) → length row ≡ 8
+    → Each1 (Fits w8) row → mask_l (map (top 7) (other_lanes row)) % 2 ^ 64 ≡ 0 → 8 ≡ prefix_len is_ascii_digit row
 all_are_digits row long fits none =
-    sym (sym (prefix_is row) ∙ leading_from_mask_l (λ c. not (is_ascii_digit c)) row (sym (other_mask row long fits) ∙ none) ∙ long)
+    sym (sym (prefix_is row)
+    ∙ leading_from_mask_l (λ c. not (is_ascii_digit c)) row (sym (other_mask row long fits) ∙ none) ∙ long)
 
-pub first_other : (row : List ℕ) → length row ≡ 8 → Each1 (Fits w8) row → 0 < mask_l (map (top 7) (other_lanes row)) % 2 ^ 64 → count_trailing_zeros 64 (mask_l (map (top 7) (other_lanes row)) % 2 ^ 64) ≡ prefix_len is_ascii_digit row
+pub first_other : (row : List ℕ)
+    → length row ≡ 8 → Each1 (Fits w8) row → 0 < mask_l (map (top 7) (other_lanes row)) % 2 ^ 64
+    → count_trailing_zeros 64 (mask_l (map (top 7) (other_lanes row)) % 2 ^ 64) ≡ prefix_len is_ascii_digit row
 first_other row long fits some =
     let mask = other_mask row long fits in
-    ap (count_trailing_zeros 64) mask ∙ trailing_mask_l (λ c. not (is_ascii_digit c)) 64 row (omega (arith, long)) (omega (arith, mask, some)) ∙ prefix_is row
+    ap (count_trailing_zeros 64) mask ∙ trailing_mask_l
+    (λ c. not (is_ascii_digit c)) 64 row (omega (arith, long)) (omega (arith, mask, some)) ∙ prefix_is row
 
 -- ---- the number that the first digits of a row write
 
@@ -97,15 +112,18 @@ weights_small (suc (suc (suc (suc (suc (suc (suc zero))))))) few = (tt, tt)
 weights_small (suc (suc (suc (suc (suc (suc (suc (suc count)))))))) few = absurd (omega arith)
 
 module _ (e : ℕ → ℕ) (small : (i : ℕ) → e i < 256) where
-  total_explicit : (count : ℕ) → count < 8 → total_of (map e (range_with_len 0 8)) count ≡ written 0 (take count (map e (range_with_len 0 8)))
+  total_explicit : (count : ℕ) → count < 8
+      → total_of (map e (range_with_len 0 8)) count ≡ written 0 (take count (map e (range_with_len 0 8)))
   total_explicit zero few = omega arith
   total_explicit (suc zero) few = omega (arith, small 0)
   total_explicit (suc (suc zero)) few = omega (arith, small 0, small 1)
   total_explicit (suc (suc (suc zero))) few = omega (arith, small 0, small 1, small 2)
   total_explicit (suc (suc (suc (suc zero)))) few = omega (arith, small 0, small 1, small 2, small 3)
   total_explicit (suc (suc (suc (suc (suc zero))))) few = omega (arith, small 0, small 1, small 2, small 3, small 4)
-  total_explicit (suc (suc (suc (suc (suc (suc zero)))))) few = omega (arith, small 0, small 1, small 2, small 3, small 4, small 5)
-  total_explicit (suc (suc (suc (suc (suc (suc (suc zero))))))) few = omega (arith, small 0, small 1, small 2, small 3, small 4, small 5, small 6)
+  total_explicit (suc (suc (suc (suc (suc (suc zero)))))) few =
+      omega (arith, small 0, small 1, small 2, small 3, small 4, small 5)
+  total_explicit (suc (suc (suc (suc (suc (suc (suc zero))))))) few =
+      omega (arith, small 0, small 1, small 2, small 3, small 4, small 5, small 6)
   total_explicit (suc (suc (suc (suc (suc (suc (suc (suc count)))))))) few = absurd (omega arith)
 
 lane_is_byte : (row : List ℕ) (i : ℕ) → get_or (map less_zero row) i 0 < 256
@@ -114,7 +132,8 @@ lane_is_byte (c ∷ cs) zero = omega arith
 lane_is_byte (c ∷ cs) (suc i) = lane_is_byte cs i
 
 -- the digits less 48 write what the digits write
-written_digits : (size count : ℕ) (row : List ℕ) → all_ascii_digits (take count row) ≡ true → written size (take count (map less_zero row)) ≡ digits_value_after 10 size (take count row)
+written_digits : (size count : ℕ) (row : List ℕ) → all_ascii_digits (take count row) ≡ true
+    → written size (take count (map less_zero row)) ≡ digits_value_after 10 size (take count row)
 written_digits size zero row digits = refl
 written_digits size (suc count) [] digits = refl
 written_digits size (suc count) (c ∷ cs) digits =
@@ -125,12 +144,14 @@ written_digits size (suc count) (c ∷ cs) digits =
     ∙ (written_digits (size * 10 + (c - 48)) count cs parts.1
     ∙ ap (λ (d : ℕ). digits_value_after 10 (size * 10 + d) (take count cs)) (sym (digit_value_is c parts.0)))
 
-pub total_is : (row : List ℕ) (count : ℕ) → length row ≡ 8 → count < 8 → all_ascii_digits (take count row) ≡ true → total_of (digit_lanes row) count ≡ digits_value 10 (take count row)
+pub total_is : (row : List ℕ) (count : ℕ) → length row ≡ 8 → count < 8
+    → all_ascii_digits (take count row) ≡ true → total_of (digit_lanes row) count ≡ digits_value 10 (take count row)
 total_is row count long few digits =
     let lanes = digit_lanes_are row long in
     let eight : length (map less_zero row) ≡ 8 = length-map row less_zero ∙ long in
     let whole : total_of (map less_zero row) count ≡ written 0 (take count (map less_zero row)) =
-    subst (λ (l : List ℕ). total_of l count ≡ written 0 (take count l)) (pick_l_whole 0 (map less_zero row) 8 eight) (total_explicit (λ (i : ℕ). get_or (map less_zero row) i 0) (λ (i : ℕ). lane_is_byte row i) count few) in
+    subst (λ (l : List ℕ). total_of l count ≡ written 0 (take count l)) (pick_l_whole 0 (map less_zero row) 8 eight)
+    (total_explicit (λ (i : ℕ). get_or (map less_zero row) i 0) (λ (i : ℕ). lane_is_byte row i) count few) in
     ap (λ (l : List ℕ). total_of l count) lanes ∙ (whole ∙ written_digits 0 count row digits)
 
 -- ---- a cell that begins with digits
@@ -139,7 +160,8 @@ pub prefix_digits : (row : List ℕ) → all_ascii_digits (take (prefix_len is_a
 prefix_digits [] = refl
 prefix_digits (c ∷ cs) = go (is_ascii_digit c) refl (prefix_digits cs)
   where
-    go : (t : Bool) → is_ascii_digit c ≡ t → all_ascii_digits (take (prefix_len is_ascii_digit cs) cs) ≡ true → all_ascii_digits (take (cond t (1 + prefix_len is_ascii_digit cs) 0) (c ∷ cs)) ≡ true
+    go : (t : Bool) → is_ascii_digit c ≡ t → all_ascii_digits (take (prefix_len is_ascii_digit cs) cs) ≡ true
+        → all_ascii_digits (take (cond t (1 + prefix_len is_ascii_digit cs) 0) (c ∷ cs)) ≡ true
     go true e rest =
         let one : 1 + prefix_len is_ascii_digit cs ≡ suc (prefix_len is_ascii_digit cs) = omega arith in
         rw (one, e) rest
@@ -168,7 +190,8 @@ digits_before (c ∷ cs) rest digits =
     let parts = and_parts (is_ascii_digit c) (all_ascii_digits cs) digits in
     rw parts.0 (digits_before cs rest parts.1)
 
-pub value_small : (size : ℕ) (ds : List ℕ) → all_ascii_digits ds ≡ true → digits_value_after 10 size ds < (size + 1) * 10 ^ length ds
+pub value_small : (size : ℕ) (ds : List ℕ)
+    → all_ascii_digits ds ≡ true → digits_value_after 10 size ds < (size + 1) * 10 ^ length ds
 value_small size [] digits = omega arith
 value_small size (c ∷ cs) digits =
     let parts = and_parts (is_ascii_digit c) (all_ascii_digits cs) digits in
@@ -176,12 +199,14 @@ value_small size (c ∷ cs) digits =
     let value = digit_value_is c parts.0 in
     let next : size * 10 + digit_value c + 1 ≤ (size + 1) * 10 = omega (arith, value, range) in
     let less = value_small (size * 10 + digit_value c) cs parts.1 in
-    let grows : (size * 10 + digit_value c + 1) * 10 ^ length cs ≤ (size + 1) * 10 * 10 ^ length cs = mul-le-mul_right (10 ^ length cs) next in
+    let grows : (size * 10 + digit_value c + 1) * 10 ^ length cs ≤ (size + 1) * 10 * 10 ^ length cs =
+    mul-le-mul_right (10 ^ length cs) next in
     let power : 10 ^ suc (length cs) ≡ 10 ^ length cs * 10 = pow-suc 10 (length cs) in
     rw power (omega (arith, less, grows))
 
 -- so many digits, which a text begins with, and no digit after them
-pub first_digits_of : (text : List ℕ) (size count : ℕ) → count < 8 → 8 ≤ length text → count ≡ prefix_len is_ascii_digit (take 8 text) → size ≡ digits_value 10 (take count (take 8 text)) → HasFirstDigits text size count
+pub first_digits_of : (text : List ℕ) (size count : ℕ) → count < 8 → 8 ≤ length text → count ≡ prefix_len is_ascii_digit
+    (take 8 text) → size ≡ digits_value 10 (take count (take 8 text)) → HasFirstDigits text size count
 first_digits_of text size count few long count_is size_is =
     let row : List ℕ = take 8 text in
     let eight : length row ≡ 8 = length-take-le 8 text long in
@@ -189,18 +214,23 @@ first_digits_of text size count few long count_is size_is =
     let digits : all_ascii_digits (take count text) ≡ true = rw (← front, count_is) (prefix_digits row) in
     let whole : text ≡ take count text ++ drop count text = sym (take-append-drop count text) in
     let rest = drop count text in
-    let cell : first_cell text ≡ take count text ++ first_cell rest = ap first_cell whole ∙ first_cell-digits (take count text) rest digits in
+    let cell : first_cell text ≡ take count text ++ first_cell rest = ap first_cell whole
+    ∙ first_cell-digits (take count text) rest digits in
     let within : length (take count text) ≡ count = length-take-le count text (omega arith) in
     let value : size ≡ digits_value_after 10 0 (take count text) = size_is ∙ ap (digits_value_after 10 0) front in
     record {
       few = omega arith;
       within = omega arith;
-      small = let less = value_small 0 (take count text) digits in let power : 10 ^ length (take count text) ≡ 10 ^ count = ap (λ (n : ℕ). 10 ^ n) within in omega (arith, value, less, power);
+      small = let less = value_small 0 (take count text) digits in let power : 10 ^ length (take count text)
+          ≡ 10 ^ count = ap (λ (n : ℕ). 10 ^ n) within in omega (arith, value, less, power);
       digits = sym (ap all_ascii_digits cell ∙ digits_before (take count text) (first_cell rest) digits);
-      value = ap (λ (n : ℕ). digits_value_after 10 n (first_cell rest)) value ∙ sym (ap (digits_value_after 10 0) cell ∙ digits_value_after-append 0 (take count text) (first_cell rest));
-      long = ap length cell ∙ (length-append (take count text) (first_cell rest) ∙ ap (λ (n : ℕ). n + length (first_cell rest)) within);
+      value = ap (λ (n : ℕ). digits_value_after 10 n (first_cell rest)) value
+          ∙ sym (ap (digits_value_after 10 0) cell ∙ digits_value_after-append 0 (take count text) (first_cell rest));
+      long = ap length cell ∙ (length-append (take count text) (first_cell rest)
+          ∙ ap (λ (n : ℕ). n + length (first_cell rest)) within);
       after = sym (ap after_cell whole ∙ after_cell-digits (take count text) rest digits);
       stops = λ most more.
           let stop = prefix_len_stops is_ascii_digit row 0 (omega (arith, eight, count_is)) in
-          sym (ap is_ascii_digit (get_or-take 8 text count 0 (omega arith))) ∙ (ap (λ (n : ℕ). is_ascii_digit (get_or row n 0)) count_is ∙ stop);
+          sym (ap is_ascii_digit (get_or-take 8 text count 0 (omega arith)))
+          ∙ (ap (λ (n : ℕ). is_ascii_digit (get_or row n 0)) count_is ∙ stop);
     }

@@ -1,5 +1,7 @@
 -- Rows of lanes: from a list of known length to its elements, and from a mask to each lane.
-use Rattle.std.proofs.Common.{◌≡◌, ℕ, suc, ◌+◌, ◌-◌, ◌*◌, ◌%◌, ◌^◌, ◌≤◌, Bool, true, false, not, cond, ◌&&◌, ◌||◌, nat_eq, eqb, bit_and, bit_or, List, [], ◌∷◌, map, length, replicate, w8, refl, sym, ap, ◌∙◌, arith}
+use Rattle.std.proofs.Common.{◌≡◌, ℕ, suc, ◌+◌, ◌-◌, ◌*◌, ◌%◌, ◌^◌, ◌≤◌, Bool, true, false, not, cond, ◌&&◌, ◌||◌}
+use Rattle.std.proofs.Common.{nat_eq, eqb, bit_and, bit_or, List, [], ◌∷◌, map, length, replicate, w8, refl, sym, ap}
+use Rattle.std.proofs.Common.{◌∙◌, arith}
 use Rattle.std.proofs.Math.Nat.{pow-suc, one-le-pow}
 use Rattle.std.proofs.lemmas.Bool.Decides.{nat_tests}
 use Rattle.std.proofs.lemmas.Simd.{pick_l_whole, bitmask_splat}
@@ -21,17 +23,20 @@ no_bit_next false m = grind (arith, nat_tests)
 
 pub no_bit : {X : Type 0} (p : X → Bool) (xs : List X) → nat_eq (mask_l (map p xs)) 0 ≡ not (list_any p xs)
 no_bit p [] = refl
-no_bit p (x ∷ xs) = no_bit_next (p x) (mask_l (map p xs)) ∙ negated (p x) (nat_eq (mask_l (map p xs)) 0) (list_any p xs) (no_bit p xs)
+no_bit p (x ∷ xs) = no_bit_next (p x) (mask_l (map p xs))
+    ∙ negated (p x) (nat_eq (mask_l (map p xs)) 0) (list_any p xs) (no_bit p xs)
   where
     negated : (b t r : Bool) → t ≡ not r → (not b && t) ≡ not (b || r)
     negated true t r e = refl
     negated false t r e = e
 
-all_bits_next : (b : Bool) (m power : ℕ) → 1 ≤ power → nat_eq (cond b 1 0 + 2 * m) (2 * power - 1) ≡ (b && nat_eq m (power - 1))
+all_bits_next : (b : Bool) (m power : ℕ)
+    → 1 ≤ power → nat_eq (cond b 1 0 + 2 * m) (2 * power - 1) ≡ (b && nat_eq m (power - 1))
 all_bits_next true m power some = grind (arith, nat_tests)
 all_bits_next false m power some = grind (arith, nat_tests)
 
-pub all_bits : {X : Type 0} (p : X → Bool) (xs : List X) → nat_eq (mask_l (map p xs)) (2 ^ length xs - 1) ≡ list_all p xs
+pub all_bits : {X : Type 0} (p : X → Bool) (xs : List X)
+    → nat_eq (mask_l (map p xs)) (2 ^ length xs - 1) ≡ list_all p xs
 all_bits p [] = refl
 all_bits p (x ∷ xs) =
     let power : 2 ^ suc (length xs) ≡ 2 * 2 ^ length xs = omega (arith, pow-suc 2 (length xs)) in
@@ -39,7 +44,9 @@ all_bits p (x ∷ xs) =
     rw power (all_bits_next (p x) (mask_l (map p xs)) (2 ^ length xs) some ∙ ap (λ t. p x && t) (all_bits p xs))
 
 -- a comparison of 16 lanes with one byte: no lane, and each lane
-pub some_is_byte : (byte : ℕ) (xs : List ℕ) → length xs ≡ 16 → not (nat_eq (mask_l (map (top 7) (zip2 (λ a b. cond (eqb a b) 255 0) xs (replicate 16 byte))) % 2 ^ 64) 0) ≡ list_any (λ c. eqb c byte) xs
+pub some_is_byte : (byte : ℕ) (xs : List ℕ) → length xs ≡ 16
+    → not (nat_eq (mask_l (map (top 7) (zip2 (λ a b. cond (eqb a b) 255 0) xs (replicate 16 byte))) % 2 ^ 64) 0)
+    ≡ list_any (λ c. eqb c byte) xs
 some_is_byte byte xs long =
     let mask = bitmask_splat w8 eqb xs 16 byte long (omega arith) in
     ap (λ m. not (nat_eq m 0)) mask ∙ ap not (no_bit (λ c. eqb c byte) xs) ∙ twice (list_any (λ c. eqb c byte) xs)
@@ -48,11 +55,14 @@ some_is_byte byte xs long =
     twice true = refl
     twice false = refl
 
-pub each_is_byte : (byte : ℕ) (xs : List ℕ) → length xs ≡ 16 → nat_eq (mask_l (map (top 7) (zip2 (λ a b. cond (eqb a b) 255 0) xs (replicate 16 byte))) % 2 ^ 64) 65535 ≡ list_all (λ c. eqb c byte) xs
+pub each_is_byte : (byte : ℕ) (xs : List ℕ) → length xs ≡ 16
+    → nat_eq (mask_l (map (top 7) (zip2 (λ a b. cond (eqb a b) 255 0) xs (replicate 16 byte))) % 2 ^ 64) 65535
+    ≡ list_all (λ c. eqb c byte) xs
 each_is_byte byte xs long =
     let mask = bitmask_splat w8 eqb xs 16 byte long (omega arith) in
     let power : 65535 ≡ 2 ^ length xs - 1 = ap (λ n. 2 ^ n - 1) (sym long) in
-    ap (λ m. nat_eq m 65535) mask ∙ ap (nat_eq (mask_l (map (λ c. eqb c byte) xs))) power ∙ all_bits (λ c. eqb c byte) xs
+    ap (λ m. nat_eq m 65535) mask ∙ ap (nat_eq (mask_l (map (λ c. eqb c byte) xs))) power
+    ∙ all_bits (λ c. eqb c byte) xs
 
 -- ---- the lanes of masks, which are 255 or 0
 

@@ -1,5 +1,7 @@
 -- The test of a field's columns by lanes: what each lane's bit says, and all of them together.
-use Rattle.std.proofs.Common.{◌≡◌, ℕ, zero, suc, ◌+◌, ◌-◌, ◌%◌, ◌^◌, ◌<◌, Bool, true, false, cond, ◌&&◌, ◌||◌, nat_eq, ltb, eqb, bit_and, bit_or, List, [], ◌∷◌, ◌++◌, map, length, replicate, get_or, subst, Fits, w8, refl, sym, ap, ◌∙◌, eqb-true, arith}
+use Rattle.std.proofs.Common.{◌≡◌, ℕ, zero, suc, ◌+◌, ◌-◌, ◌%◌, ◌^◌, ◌<◌, Bool, true, false, cond, ◌&&◌, ◌||◌, nat_eq}
+use Rattle.std.proofs.Common.{ltb, eqb, bit_and, bit_or, List, [], ◌∷◌, ◌++◌, map, length, replicate, get_or, subst}
+use Rattle.std.proofs.Common.{Fits, w8, refl, sym, ap, ◌∙◌, eqb-true, arith}
 use Rattle.std.proofs.lemmas.Bool.{agree_below_at, and_from, or_right}
 use Rattle.std.proofs.lemmas.Simd.{mask_l-mod}
 use Rattle.std.specs.Char.{is_ascii_digit}
@@ -15,12 +17,14 @@ lane_fits (x ∷ xs) (suc i) h = lane_fits xs i h.1
 
 -- one of so many bytes from a first one on, or a blank or a minus after a blank
 abbrev pub lane : ℕ → ℕ → ℕ → ℕ → Bool
-lane start count before c = top 7 (bit_or (cond (ltb ((c + (256 - start)) % 256) count) 255 0) (bit_and (cond (eqb before 32) 255 0) (bit_or (cond (eqb c 32) 255 0) (cond (eqb c 45) 255 0))))
+lane start count before c = top 7 (bit_or (cond (ltb ((c + (256 - start)) % 256) count) 255 0)
+    (bit_and (cond (eqb before 32) 255 0) (bit_or (cond (eqb c 32) 255 0) (cond (eqb c 45) 255 0))))
 
 abbrev pub allowed : ℕ → ℕ → Bool
 allowed before c = is_ascii_digit c || (eqb before 32 && (eqb c 32 || eqb c 45))
 
-lane_is : (start count before c : ℕ) → lane start count before c ≡ (ltb ((c + (256 - start)) % 256) count || (eqb before 32 && (eqb c 32 || eqb c 45)))
+lane_is : (start count before c : ℕ)
+    → lane start count before c ≡ (ltb ((c + (256 - start)) % 256) count || (eqb before 32 && (eqb c 32 || eqb c 45)))
 lane_is start count before c =
     let digit : Bool = ltb ((c + (256 - start)) % 256) count in
     let after : Bool = eqb before 32 in
@@ -34,7 +38,8 @@ lane_is start count before c =
 whole_lane : (before c : ℕ) → c < 256 → lane 48 10 before c ≡ allowed before c
 whole_lane before c small =
     lane_is 48 10 before c
-    ∙ ap (λ d. d || (eqb before 32 && (eqb c 32 || eqb c 45))) (agree_below_at (λ x. ltb ((x + 208) % 256) 10) is_ascii_digit 256 c refl small)
+    ∙ ap (λ d. d || (eqb before 32 && (eqb c 32 || eqb c 45)))
+    (agree_below_at (λ x. ltb ((x + 208) % 256) 10) is_ascii_digit 256 c refl small)
 
 -- that of the first column, which holds no digit
 first_lane : (c : ℕ) → c < 256 → lane 45 1 c c ≡ (eqb c 32 || eqb c 45)
@@ -64,7 +69,8 @@ lanes c = lane 45 1 (c 0) (c 0) ∷ lane 48 10 (c 0) (c 1) ∷ lane 48 10 (c 1) 
 
 module _ (c : ℕ → ℕ) (small : (i : ℕ) → c i < 256) (set : nat_eq (mask_l (lanes c) % 2 ^ 64) 65535 ≡ true) where
   all : list_all (λ b. b) (lanes c) ≡ true
-  all = sym (all_bits (λ b. b) (lanes c)) ∙ (ap (λ m. nat_eq m 65535) (sym (mask_l-mod (lanes c) 64 (omega arith))) ∙ set)
+  all = sym (all_bits (λ b. b) (lanes c))
+      ∙ (ap (λ m. nat_eq m 65535) (sym (mask_l-mod (lanes c) 64 (omega arith))) ∙ set)
 
   first : (eqb (c 0) 32 || eqb (c 0) 45) ≡ true
   first = sym (first_lane (c 0) (small 0)) ∙ all_at (lanes c) 0 all
@@ -79,23 +85,33 @@ module _ (c : ℕ → ℕ) (small : (i : ℕ) → c i < 256) (set : nat_eq (mask
   plain_lanes = record {
     first = first;
     whole =
-        and_from _ _ (first_allowed (c 0) first) (and_from _ _ (whole_at 0 (all_at (lanes c) 1 all)) (and_from _ _ (whole_at 1 (all_at (lanes c) 2 all))
-        (and_from _ _ (whole_at 2 (all_at (lanes c) 3 all)) (and_from _ _ (whole_at 3 (all_at (lanes c) 4 all)) (and_from _ _ (whole_at 4 (all_at (lanes c) 5 all))
-        (and_from _ _ (whole_at 5 (all_at (lanes c) 6 all)) (and_from _ _ (whole_at 6 (all_at (lanes c) 7 all)) (and_from _ _ (whole_at 7 (all_at (lanes c) 8 all))
+        and_from _ _ (first_allowed (c 0) first)
+        (and_from _ _ (whole_at 0 (all_at (lanes c) 1 all)) (and_from _ _ (whole_at 1 (all_at (lanes c) 2 all))
+        (and_from _ _ (whole_at 2 (all_at (lanes c) 3 all))
+        (and_from _ _ (whole_at 3 (all_at (lanes c) 4 all)) (and_from _ _ (whole_at 4 (all_at (lanes c) 5 all))
+        (and_from _ _ (whole_at 5 (all_at (lanes c) 6 all))
+        (and_from _ _ (whole_at 6 (all_at (lanes c) 7 all)) (and_from _ _ (whole_at 7 (all_at (lanes c) 8 all))
         (and_from _ _ (whole_at 8 (all_at (lanes c) 9 all)) refl)))))))));
     point = eqb-true _ _ (sym (point_lane (c 10) (small 10)) ∙ all_at (lanes c) 10 all);
-    fraction = and_from _ _ (fraction_at 11 (all_at (lanes c) 11 all)) (and_from _ _ (fraction_at 12 (all_at (lanes c) 12 all)) (and_from _ _ (fraction_at 13 (all_at (lanes c) 13 all)) refl));
+    fraction = and_from _ _ (fraction_at 11 (all_at (lanes c) 11 all)) (and_from
+        _ _ (fraction_at 12 (all_at (lanes c) 12 all)) (and_from _ _ (fraction_at 13 (all_at (lanes c) 13 all)) refl));
   }
 
 -- the mask as the code makes it of a row
 abbrev pub plain_mask : List ℕ → ℕ
 plain_mask v =
-    let blanks = zip2 (λ a b. cond (eqb a b) 255 0) (pick_l 0 (v ++ replicate 16 0) (0 ∷ 0 ∷ 1 ∷ 2 ∷ 3 ∷ 4 ∷ 5 ∷ 6 ∷ 7 ∷ 8 ∷ 16 ∷ 16 ∷ 16 ∷ 16 ∷ 16 ∷ 16 ∷ [])) (replicate 16 32) in
-    let firsts = zip2 (λ a b. (a + (256 - b)) % 256) v (45 ∷ 48 ∷ 48 ∷ 48 ∷ 48 ∷ 48 ∷ 48 ∷ 48 ∷ 48 ∷ 48 ∷ 46 ∷ 48 ∷ 48 ∷ 48 ∷ 48 ∷ 48 ∷ []) in
-    let digits = zip2 (λ a b. cond (ltb a b) 255 0) firsts (1 ∷ 10 ∷ 10 ∷ 10 ∷ 10 ∷ 10 ∷ 10 ∷ 10 ∷ 10 ∷ 10 ∷ 1 ∷ 10 ∷ 10 ∷ 10 ∷ 10 ∷ 10 ∷ []) in
-    let prefix = zip2 bit_or (zip2 (λ a b. cond (eqb a b) 255 0) v (replicate 16 32)) (zip2 (λ a b. cond (eqb a b) 255 0) v (replicate 16 45)) in
+    let blanks = zip2 (λ a b. cond (eqb a b) 255 0) (pick_l 0 (v ++ replicate 16 0)
+    (0 ∷ 0 ∷ 1 ∷ 2 ∷ 3 ∷ 4 ∷ 5 ∷ 6 ∷ 7 ∷ 8 ∷ 16 ∷ 16 ∷ 16 ∷ 16 ∷ 16 ∷ 16 ∷ [])) (replicate 16 32) in
+    let firsts = zip2 (λ a b. (a + (256 - b)) % 256) v
+    (45 ∷ 48 ∷ 48 ∷ 48 ∷ 48 ∷ 48 ∷ 48 ∷ 48 ∷ 48 ∷ 48 ∷ 46 ∷ 48 ∷ 48 ∷ 48 ∷ 48 ∷ 48 ∷ []) in
+    let digits = zip2 (λ a b. cond (ltb a b) 255 0) firsts
+    (1 ∷ 10 ∷ 10 ∷ 10 ∷ 10 ∷ 10 ∷ 10 ∷ 10 ∷ 10 ∷ 10 ∷ 1 ∷ 10 ∷ 10 ∷ 10 ∷ 10 ∷ 10 ∷ []) in
+    let prefix = zip2 bit_or (zip2 (λ a b. cond (eqb a b) 255 0) v (replicate 16 32))
+    (zip2 (λ a b. cond (eqb a b) 255 0) v (replicate 16 45)) in
     mask_l (map (top 7) (zip2 bit_or digits (zip2 bit_and blanks prefix)))
 
-pub plain_from_mask : (v : List ℕ) → length v ≡ 16 → Each1 (Fits w8) v → nat_eq (plain_mask v % 2 ^ 64) 65535 ≡ true → IsPlain v
+pub plain_from_mask : (v : List ℕ)
+    → length v ≡ 16 → Each1 (Fits w8) v → nat_eq (plain_mask v % 2 ^ 64) 65535 ≡ true → IsPlain v
 plain_from_mask v long fits =
-    subst (λ (w : List ℕ). nat_eq (plain_mask w % 2 ^ 64) 65535 ≡ true → IsPlain w) (sym (sixteen v long)) (plain_lanes (λ (i : ℕ). get_or v i 0) (λ (i : ℕ). lane_fits v i fits))
+    subst (λ (w : List ℕ). nat_eq (plain_mask w % 2 ^ 64) 65535 ≡ true → IsPlain w)
+    (sym (sixteen v long)) (plain_lanes (λ (i : ℕ). get_or v i 0) (λ (i : ℕ). lane_fits v i fits))

@@ -1,5 +1,7 @@
 -- The number that a row of lanes weighs, three digits at a time.
-use Rattle.std.proofs.Common.{◌≡◌, ℕ, suc, ◌+◌, ◌-◌, ◌*◌, ◌%◌, ◌^◌, ◌<◌, ◌≤◌, Bool, true, false, cond, ◌&&◌, ◌||◌, ltb, leb, eqb, List, [], ◌∷◌, ◌++◌, map, length, replicate, get_or, subst, Fits, w8, refl, sym, ◌∙◌, ltb-true, ltb-false, eqb-true, inl, inr, arith}
+use Rattle.std.proofs.Common.{◌≡◌, ℕ, suc, ◌+◌, ◌-◌, ◌*◌, ◌%◌, ◌^◌, ◌<◌, ◌≤◌, Bool, true, false, cond, ◌&&◌, ◌||◌, ltb}
+use Rattle.std.proofs.Common.{leb, eqb, List, [], ◌∷◌, ◌++◌, map, length, replicate, get_or, subst, Fits, w8, refl, sym}
+use Rattle.std.proofs.Common.{◌∙◌, ltb-true, ltb-false, eqb-true, inl, inr, arith}
 use Rattle.std.proofs.Math.Nat.{pow-suc, mul-le-mul_right}
 use Rattle.std.proofs.lemmas.Bool.{and_parts, or_cases, leb-true, le-leb}
 use Rattle.std.specs.Char.{is_ascii_digit}
@@ -7,7 +9,7 @@ use Rattle.std.specs.List.{range_with_len, list_all}
 use Rattle.std.specs.Str.{all_ascii_digits}
 use lib.Lanes.{Each1, pick_l, top, zip2, sel_l, dots}
 use Rattle.crx_text.specs.Fields.{IsPlain, is_plain_after, weighed, plain_digits}
-use Rattle.crx_text.specs.Numbers.{IsWithin, signed_number}
+use Rattle.crx_text.specs.meaning.Numbers.{IsWithin, signed_number}
 use Rattle.crx_text.proofs.LaneBits.{sixteen}
 use Rattle.crx_text.proofs.PlainLanes.{lane_fits}
 use Rattle.crx_text.proofs.PowersOfTen.{digit_range}
@@ -28,7 +30,8 @@ digit_lane_is c small = go (ltb c 48) refl
 abbrev pub size_parts : List ℕ → List ℕ
 size_parts v =
     let below = zip2 (λ a b. cond (ltb a b) 255 0) v (replicate 16 48) in
-    let digits = zip2 (λ a b. (a + (256 - b)) % 256) (sel_l (map (top 7) below) (replicate 16 48) v) (replicate 16 48) in
+    let digits = zip2 (λ a b. (a + (256 - b)) % 256)
+    (sel_l (map (top 7) below) (replicate 16 48) v) (replicate 16 48) in
     dots (pick_l 0 (digits ++ digits) (1 ∷ 2 ∷ 3 ∷ 0 ∷ 4 ∷ 5 ∷ 6 ∷ 0 ∷ 7 ∷ 8 ∷ 9 ∷ 0 ∷ 11 ∷ 12 ∷ 13 ∷ 0 ∷ []))
     (100 ∷ 10 ∷ 1 ∷ 0 ∷ 100 ∷ 10 ∷ 1 ∷ 0 ∷ 100 ∷ 10 ∷ 1 ∷ 0 ∷ 100 ∷ 10 ∷ 1 ∷ 0 ∷ [])
 
@@ -46,30 +49,38 @@ abbrev pub group_of : ℕ → ℕ → ℕ → ℕ → ℕ
 group_of a b c x = (a * 100 + b * 10) + (c * 1 + x * 0)
 
 pub half_is : (a b c d e f x : ℕ) → a < 256 → b < 256 → c < 256 → d < 256 → e < 256 → f < 256 →
-    (group_of a b c x * 1000 % 2 ^ 32 + group_of d e f x * 1 % 2 ^ 32) % 2 ^ 32 ≡ ((((a * 10 + b) * 10 + c) * 10 + d) * 10 + e) * 10 + f
+    (group_of a b c x * 1000 % 2 ^ 32 + group_of d e f x * 1 % 2 ^ 32) % 2 ^ 32
+    ≡ ((((a * 10 + b) * 10 + c) * 10 + d) * 10 + e) * 10 + f
 half_is a b c d e f x a_small b_small c_small d_small e_small f_small = omega arith
 
 pub twelve : (a b c d e f g h i j k l : ℕ) →
-    (((((a * 10 + b) * 10 + c) * 10 + d) * 10 + e) * 10 + f) * 1000000 + (((((g * 10 + h) * 10 + i) * 10 + j) * 10 + k) * 10 + l)
-    ≡ (((((((((((0 * 10 + a) * 10 + b) * 10 + c) * 10 + d) * 10 + e) * 10 + f) * 10 + g) * 10 + h) * 10 + i) * 10 + j) * 10 + k) * 10 + l
+    (((((a * 10 + b) * 10 + c) * 10 + d) * 10 + e) * 10 + f) * 1000000
+    + (((((g * 10 + h) * 10 + i) * 10 + j) * 10 + k) * 10 + l)
+    ≡ (((((((((((0 * 10 + a) * 10 + b) * 10 + c) * 10 + d) * 10 + e) * 10 + f) * 10 + g) * 10 + h) * 10
+    + i) * 10 + j) * 10 + k) * 10 + l
 twelve a b c d e f g h i j k l = omega arith
 
 digit_fits : (c : ℕ) → digit_lane c < 256
 digit_fits c = omega arith
 
-size_of_lanes : (c : ℕ → ℕ) → ((i : ℕ) → c i < 256) → joined_halves (size_halves (map c (range_with_len 0 16))) ≡ weighed 0 (plain_digits (map c (range_with_len 0 16)))
+size_of_lanes : (c : ℕ → ℕ) → ((i : ℕ) → c i < 256)
+    → joined_halves (size_halves (map c (range_with_len 0 16))) ≡ weighed 0 (plain_digits (map c (range_with_len 0 16)))
 size_of_lanes c small =
     let same = λ (i : ℕ). digit_lane_is (c i) (small i) in
     let fits = λ (i : ℕ). digit_fits (c i) in
     let d = λ (i : ℕ). digit_lane (c i) in
-    let first = half_is (d 1) (d 2) (d 3) (d 4) (d 5) (d 6) (d 0) (fits 1) (fits 2) (fits 3) (fits 4) (fits 5) (fits 6) in
-    let second = half_is (d 7) (d 8) (d 9) (d 11) (d 12) (d 13) (d 0) (fits 7) (fits 8) (fits 9) (fits 11) (fits 12) (fits 13) in
+    let first = half_is (d 1) (d 2)
+    (d 3) (d 4) (d 5) (d 6) (d 0) (fits 1) (fits 2) (fits 3) (fits 4) (fits 5) (fits 6) in
+    let second = half_is (d 7) (d 8)
+    (d 9) (d 11) (d 12) (d 13) (d 0) (fits 7) (fits 8) (fits 9) (fits 11) (fits 12) (fits 13) in
     rw (first, second) (twelve (d 1) (d 2) (d 3) (d 4) (d 5) (d 6) (d 7) (d 8) (d 9) (d 11) (d 12) (d 13)
     ∙ (rw (same 1, same 2, same 3, same 4, same 5, same 6, same 7, same 8, same 9, same 11, same 12, same 13) refl))
 
-pub size_from_halves : (v : List ℕ) → length v ≡ 16 → Each1 (Fits w8) v → joined_halves (size_halves v) ≡ weighed 0 (plain_digits v)
+pub size_from_halves : (v : List ℕ)
+    → length v ≡ 16 → Each1 (Fits w8) v → joined_halves (size_halves v) ≡ weighed 0 (plain_digits v)
 size_from_halves v long fits =
-    subst (λ (w : List ℕ). joined_halves (size_halves w) ≡ weighed 0 (plain_digits w)) (sym (sixteen v long)) (size_of_lanes (λ (i : ℕ). get_or v i 0) (λ (i : ℕ). lane_fits v i fits))
+    subst (λ (w : List ℕ). joined_halves (size_halves w) ≡ weighed 0 (plain_digits w))
+    (sym (sixteen v long)) (size_of_lanes (λ (i : ℕ). get_or v i 0) (λ (i : ℕ). lane_fits v i fits))
 
 -- ---- the range
 
@@ -79,7 +90,8 @@ weighed_is_small n (c ∷ cs) small =
     let parts = and_parts (leb c 57) (list_all (λ c. leb c 57) cs) small in
     let digit : n * 10 + (c - 48) + 1 ≤ (n + 1) * 10 = omega (arith, leb-true _ _ parts.0) in
     let less = weighed_is_small (n * 10 + (c - 48)) cs parts.1 in
-    let grows : (n * 10 + (c - 48) + 1) * 10 ^ length cs ≤ (n + 1) * 10 * 10 ^ length cs = mul-le-mul_right (10 ^ length cs) digit in
+    let grows : (n * 10 + (c - 48) + 1) * 10 ^ length cs ≤ (n + 1) * 10 * 10 ^ length cs =
+    mul-le-mul_right (10 ^ length cs) digit in
     let power : 10 ^ suc (length cs) ≡ 10 ^ length cs * 10 = pow-suc 10 (length cs) in
     rw power (omega (arith, less, grows))
 
@@ -95,7 +107,8 @@ plain_is_small : (before : ℕ) (cs : List ℕ) → is_plain_after before cs ≡
 plain_is_small before [] plain = refl
 plain_is_small before (c ∷ cs) plain =
     let parts = and_parts (is_ascii_digit c || (eqb before 32 && (eqb c 32 || eqb c 45))) (is_plain_after c cs) plain in
-    let small : leb c 57 ≡ true = le-leb c 57 (elim (or_cases (is_ascii_digit c) (eqb before 32 && (eqb c 32 || eqb c 45)) parts.0) [
+    let small : leb c 57 ≡ true = le-leb c 57
+    (elim (or_cases (is_ascii_digit c) (eqb before 32 && (eqb c 32 || eqb c 45)) parts.0) [
       | inl digit ↦ let range = digit_range c digit in omega (arith, range)
       | inr sign ↦ elim (or_cases (eqb c 32) (eqb c 45) (and_parts (eqb before 32) (eqb c 32 || eqb c 45) sign).1) [
         | inl blank ↦ omega (arith, eqb-true _ _ blank)
@@ -104,22 +117,28 @@ plain_is_small before (c ∷ cs) plain =
     ]) in
     rw small (plain_is_small c cs parts.1)
 
-joined_are_small : (xs ys : List ℕ) → list_all (λ c. leb c 57) xs ≡ true → list_all (λ c. leb c 57) ys ≡ true → list_all (λ c. leb c 57) (xs ++ ys) ≡ true
+joined_are_small : (xs ys : List ℕ) → list_all (λ c. leb c 57) xs ≡ true
+    → list_all (λ c. leb c 57) ys ≡ true → list_all (λ c. leb c 57) (xs ++ ys) ≡ true
 joined_are_small [] ys first then = then
 joined_are_small (x ∷ xs) ys first then =
     let parts = and_parts (leb x 57) (list_all (λ c. leb c 57) xs) first in
     rw parts.0 (joined_are_small xs ys parts.1 then)
 
-small_explicit : (c : ℕ → ℕ) → IsPlain (map c (range_with_len 0 16)) → weighed 0 (plain_digits (map c (range_with_len 0 16))) < 10 ^ 12
+small_explicit : (c : ℕ → ℕ) → IsPlain (map c (range_with_len 0 16))
+    → weighed 0 (plain_digits (map c (range_with_len 0 16))) < 10 ^ 12
 small_explicit c plain =
-    let whole : list_all (λ b. leb b 57) (map c (range_with_len 0 10)) ≡ true = plain_is_small 32 (map c (range_with_len 0 10)) plain.whole in
+    let whole : list_all (λ b. leb b 57) (map c (range_with_len 0 10)) ≡ true =
+    plain_is_small 32 (map c (range_with_len 0 10)) plain.whole in
     let digits : list_all (λ b. leb b 57) (map c (range_with_len 1 9)) ≡ true = (and_parts (leb (c 0) 57) _ whole).1 in
-    let fraction : list_all (λ b. leb b 57) (map c (range_with_len 11 3)) ≡ true = digits_are_small (map c (range_with_len 11 3)) plain.fraction in
-    weighed_is_small 0 (plain_digits (map c (range_with_len 0 16))) (joined_are_small (map c (range_with_len 1 9)) (map c (range_with_len 11 3)) digits fraction)
+    let fraction : list_all (λ b. leb b 57) (map c (range_with_len 11 3)) ≡ true =
+    digits_are_small (map c (range_with_len 11 3)) plain.fraction in
+    weighed_is_small 0 (plain_digits (map c (range_with_len 0 16)))
+    (joined_are_small (map c (range_with_len 1 9)) (map c (range_with_len 11 3)) digits fraction)
 
 pub plain_size_is_small : (v : List ℕ) → length v ≡ 16 → IsPlain v → weighed 0 (plain_digits v) < 10 ^ 12
 plain_size_is_small v long =
-    subst (λ (w : List ℕ). IsPlain w → weighed 0 (plain_digits w) < 10 ^ 12) (sym (sixteen v long)) (small_explicit (λ (i : ℕ). get_or v i 0))
+    subst (λ (w : List ℕ). IsPlain w → weighed 0 (plain_digits w) < 10 ^ 12)
+    (sym (sixteen v long)) (small_explicit (λ (i : ℕ). get_or v i 0))
 
 pub signed_in_range : (is_below : Bool) (size : ℕ) → size < 10 ^ 12 → IsWithin 14 (signed_number is_below size)
 signed_in_range true size small = neg_is_within size 14 small

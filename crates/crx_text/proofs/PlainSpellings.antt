@@ -1,18 +1,20 @@
 -- What plain columns spell.
-use Rattle.std.proofs.Common.{◌≡◌, ◌≢◌, ℕ, ℤ, pos, ◌+◌, ◌-◌, ◌*◌, ◌^◌, Bool, true, false, ◌&&◌, ◌||◌, eqb, Option, Some, None, List, [], ◌∷◌, ◌++◌, map, length, get_or, subst, refl, sym, ap, ◌∙◌, inl, inr, eqb-true, arith}
+use Rattle.std.proofs.Common.{◌≡◌, ◌≢◌, ℕ, ℤ, pos, ◌+◌, ◌-◌, ◌*◌, ◌^◌, Bool, true, false, ◌&&◌, ◌||◌, eqb, Option, Some}
+use Rattle.std.proofs.Common.{None, List, [], ◌∷◌, ◌++◌, map, length, get_or, subst, refl, sym, ap, ◌∙◌, inl, inr}
+use Rattle.std.proofs.Common.{eqb-true, arith}
 use Rattle.std.proofs.lemmas.Bool.{and_parts, or_cases, cases_eq, ne_eqb}
 use Rattle.std.specs.Char.{is_ascii_digit}
 use Rattle.std.specs.List.{list_all, list_any, range_with_len}
 use Rattle.std.specs.Option.{option_map}
 use Rattle.std.specs.Str.{all_ascii_digits}
 use Rattle.std.specs.Str.Parse.{digits_value_after}
-use Rattle.crx_text.specs.Columns.{without_first_blanks}
+use Rattle.crx_text.specs.meaning.Columns.{without_first_blanks}
 use Rattle.crx_text.specs.Fields.{IsPlain, is_plain_after, weighed, plain_digits}
-use Rattle.crx_text.specs.Numbers.{number_of, missing_or_spelt, signed_number, size_of}
+use Rattle.crx_text.specs.meaning.Numbers.{number_of, missing_or_number, signed_number, size_of}
 use Rattle.crx_text.proofs.LaneBits.{fourteen}
 use Rattle.crx_text.proofs.PowersOfTen.{digit_range, digit_value_is, digits_value_after-append}
 use Rattle.crx_text.proofs.ReadBack.{digits_behind, size_of_pieces, without_first_blanks-text}
-use Rattle.crx_text.proofs.Sizes.{missing_or_spelt_text, number_of_width, spelt_number_plain}
+use Rattle.crx_text.proofs.Sizes.{missing_or_number_text, number_of_width, decimal_number_plain}
 
 -- ---- blank columns
 
@@ -22,9 +24,10 @@ all_blank (x ∷ xs) ys all =
     let parts = and_parts (eqb x 32) (list_all (λ c. eqb c 32) (xs ++ ys)) all in
     rw parts.0 (all_blank xs ys parts.1)
 
-pub blank_number : (width decimals : ℕ) (field ys : List ℕ) → length field ≡ width → list_all (λ c. eqb c 32) (field ++ ys) ≡ true → number_of width decimals field ≡ Some None
+pub blank_number : (width decimals : ℕ) (field ys : List ℕ)
+    → length field ≡ width → list_all (λ c. eqb c 32) (field ++ ys) ≡ true → number_of width decimals field ≡ Some None
 blank_number width decimals field ys long all =
-    number_of_width width decimals field long ∙ ap (missing_or_spelt decimals) (all_blank field ys all)
+    number_of_width width decimals field long ∙ ap (missing_or_number decimals) (all_blank field ys all)
 
 -- ---- digits
 
@@ -33,7 +36,8 @@ digits_after before [] other plain = refl
 digits_after before (c ∷ cs) other plain =
     let test : eqb before 32 ≡ false = ne_eqb before 32 other in
     let parts = and_parts (is_ascii_digit c || (eqb before 32 && (eqb c 32 || eqb c 45))) (is_plain_after c cs) plain in
-    let is_digit : is_ascii_digit c ≡ true = elim (or_cases _ _ parts.0) [ inl digit ↦ digit | inr other ↦ absurd (cc) ] in
+    let is_digit : is_ascii_digit c ≡ true =
+    elim (or_cases _ _ parts.0) [ inl digit ↦ digit | inr other ↦ absurd (cc) ] in
     let range = digit_range c is_digit in
     rw is_digit (digits_after c cs (λ e. omega (arith, range)) parts.1)
 
@@ -41,9 +45,11 @@ pub weighed_digits : (n : ℕ) (ds : List ℕ) → all_ascii_digits ds ≡ true 
 weighed_digits n [] digits = refl
 weighed_digits n (c ∷ cs) digits =
     let parts = and_parts (is_ascii_digit c) (all_ascii_digits cs) digits in
-    weighed_digits (n * 10 + (c - 48)) cs parts.1 ∙ ap (λ (d : ℕ). digits_value_after 10 (n * 10 + d) cs) (sym (digit_value_is c parts.0))
+    weighed_digits (n * 10 + (c - 48)) cs parts.1
+    ∙ ap (λ (d : ℕ). digits_value_after 10 (n * 10 + d) cs) (sym (digit_value_is c parts.0))
 
-digits_joined : (xs ys : List ℕ) → all_ascii_digits xs ≡ true → all_ascii_digits ys ≡ true → all_ascii_digits (xs ++ ys) ≡ true
+digits_joined : (xs ys : List ℕ)
+    → all_ascii_digits xs ≡ true → all_ascii_digits ys ≡ true → all_ascii_digits (xs ++ ys) ≡ true
 digits_joined [] ys first then = then
 digits_joined (x ∷ xs) ys first then =
     let parts = and_parts (is_ascii_digit x) (all_ascii_digits xs) first in
@@ -57,46 +63,59 @@ no_minus (c ∷ cs) digits =
     let test : eqb c 45 ≡ false = ne_eqb c 45 (λ e. omega (arith, range)) in
     rw test (no_minus cs parts.1)
 
-digits_spelt : (decimals : ℕ) (whole fraction : List ℕ) → all_ascii_digits whole ≡ true → all_ascii_digits fraction ≡ true → length fraction ≡ decimals → size_of decimals (whole ++ 46 ∷ fraction) ≡ Some (weighed 0 (whole ++ fraction))
-digits_spelt decimals whole fraction first then three =
+digits_decimal : (decimals : ℕ) (whole fraction : List ℕ)
+    → all_ascii_digits whole ≡ true → all_ascii_digits fraction ≡ true
+    → length fraction ≡ decimals → size_of decimals (whole ++ 46 ∷ fraction) ≡ Some (weighed 0 (whole ++ fraction))
+digits_decimal decimals whole fraction first then three =
     let w = digits_value_after 10 0 whole in
     let f = digits_value_after 10 0 fraction in
     let joined : weighed 0 (whole ++ fraction) ≡ w * 10 ^ length fraction + f =
-    weighed_digits 0 (whole ++ fraction) (digits_joined whole fraction first then) ∙ (digits_value_after-append 0 whole fraction ∙ digits_behind w fraction) in
+    weighed_digits 0 (whole ++ fraction) (digits_joined whole fraction first then)
+    ∙ (digits_value_after-append 0 whole fraction ∙ digits_behind w fraction) in
     let power : w * 10 ^ length fraction + f ≡ w * 10 ^ decimals + f = ap (λ (n : ℕ). w * 10 ^ n + f) three in
     size_of_pieces decimals w f whole fraction three first then refl refl ∙ ap Some (sym (joined ∙ power))
 
 -- ---- a number after its blanks
 
-spelt_after : (decimals c : ℕ) (cs fraction : List ℕ) → c ≢ 32 → c ≢ 45 → all_ascii_digits (c ∷ cs) ≡ true → all_ascii_digits fraction ≡ true → length fraction ≡ decimals →
-    missing_or_spelt decimals (without_first_blanks (c ∷ cs ++ 46 ∷ fraction)) ≡ Some (Some (signed_number (list_any (λ c. eqb c 45) (c ∷ cs)) (weighed 0 (c ∷ cs ++ fraction))))
-spelt_after decimals c cs fraction no_blank no_sign digits then three =
+decimal_after : (decimals c : ℕ) (cs fraction : List ℕ) → c ≢ 32
+    → c ≢ 45 → all_ascii_digits (c ∷ cs) ≡ true → all_ascii_digits fraction ≡ true → length fraction ≡ decimals →
+    missing_or_number decimals (without_first_blanks (c ∷ cs ++ 46 ∷ fraction))
+    ≡ Some (Some (signed_number (list_any (λ c. eqb c 45) (c ∷ cs)) (weighed 0 (c ∷ cs ++ fraction))))
+decimal_after decimals c cs fraction no_blank no_sign digits then three =
     let text = c ∷ cs ++ 46 ∷ fraction in
     let sign : list_any (λ c. eqb c 45) (c ∷ cs) ≡ false = no_minus (c ∷ cs) digits in
-    let spelt = spelt_number_plain decimals text no_sign ∙ ap (option_map pos) (digits_spelt decimals (c ∷ cs) fraction digits then three) in
-    ap (missing_or_spelt decimals) (without_first_blanks-text text no_blank)
-    ∙ (missing_or_spelt_text decimals text (omega arith) ∙ ap (option_map Some) spelt)
+    let reads = decimal_number_plain decimals text no_sign
+    ∙ ap (option_map pos) (digits_decimal decimals (c ∷ cs) fraction digits then three) in
+    ap (missing_or_number decimals) (without_first_blanks-text text no_blank)
+    ∙ (missing_or_number_text decimals text (omega arith) ∙ ap (option_map Some) reads)
     ∙ ap (λ (b : Bool). Some (Some (signed_number b (weighed 0 (c ∷ cs ++ fraction))))) (sym sign)
 
 abbrev Spells : ℕ → List ℕ → List ℕ → Type 0
-Spells decimals fraction whole = missing_or_spelt decimals (without_first_blanks (whole ++ 46 ∷ fraction)) ≡ Some (Some (signed_number (list_any (λ c. eqb c 45) whole) (weighed 0 (whole ++ fraction))))
+Spells decimals fraction whole = missing_or_number decimals (without_first_blanks (whole ++ 46 ∷ fraction))
+    ≡ Some (Some (signed_number (list_any (λ c. eqb c 45) whole) (weighed 0 (whole ++ fraction))))
 
-pub spelt_whole : (decimals : ℕ) (fraction whole : List ℕ) → all_ascii_digits fraction ≡ true → length fraction ≡ decimals → is_plain_after 32 whole ≡ true → Spells decimals fraction whole
-spelt_whole decimals fraction [] then three plain =
-    ap (λ (o : Option ℕ). option_map Some (option_map (signed_number false) o)) (digits_spelt decimals [] fraction refl then three)
-spelt_whole decimals fraction (c ∷ cs) then three plain =
+pub decimal_whole : (decimals : ℕ) (fraction whole : List ℕ) → all_ascii_digits fraction ≡ true
+    → length fraction ≡ decimals → is_plain_after 32 whole ≡ true → Spells decimals fraction whole
+decimal_whole decimals fraction [] then three plain =
+    ap (λ (o : Option ℕ). option_map Some (option_map (signed_number false) o))
+    (digits_decimal decimals [] fraction refl then three)
+decimal_whole decimals fraction (c ∷ cs) then three plain =
     elim (cases_eq c 32) [
-      | inl blank ↦ subst (λ (b : ℕ). is_plain_after 32 (b ∷ cs) ≡ true → Spells decimals fraction (b ∷ cs)) (sym blank) (λ p. spelt_whole decimals fraction cs then three p) plain
+      | inl blank ↦ subst (λ (b : ℕ). is_plain_after 32 (b ∷ cs) ≡ true → Spells decimals fraction (b ∷ cs))
+          (sym blank) (λ p. decimal_whole decimals fraction cs then three p) plain
       | inr no_blank ↦ elim (cases_eq c 45) [
-        | inl minus ↦ subst (λ (b : ℕ). is_plain_after 32 (b ∷ cs) ≡ true → Spells decimals fraction (b ∷ cs)) (sym minus)
-            (λ p. ap (λ (o : Option ℕ). option_map Some (option_map (signed_number true) o)) (digits_spelt decimals cs fraction (digits_after 45 cs (omega arith) p) then three)) plain
+        | inl minus ↦ subst (λ (b : ℕ). is_plain_after 32 (b ∷ cs) ≡ true
+            → Spells decimals fraction (b ∷ cs)) (sym minus)
+            (λ p. ap (λ (o : Option ℕ). option_map Some (option_map (signed_number true) o))
+            (digits_decimal decimals cs fraction (digits_after 45 cs (omega arith) p) then three)) plain
         | inr no_sign ↦
             let parts = and_parts (is_ascii_digit c || (eqb c 32 || eqb c 45)) (is_plain_after c cs) plain in
             let blank_test : eqb c 32 ≡ false = ne_eqb c 32 no_blank in
             let sign_test : eqb c 45 ≡ false = ne_eqb c 45 no_sign in
-            let is_digit : is_ascii_digit c ≡ true = elim (or_cases _ _ parts.0) [ inl digit ↦ digit | inr other ↦ absurd (cc) ] in
+            let is_digit : is_ascii_digit c ≡ true =
+            elim (or_cases _ _ parts.0) [ inl digit ↦ digit | inr other ↦ absurd (cc) ] in
             let digits : all_ascii_digits (c ∷ cs) ≡ true = rw is_digit (digits_after c cs no_blank parts.1) in
-            spelt_after decimals c cs fraction no_blank no_sign digits then three
+            decimal_after decimals c cs fraction no_blank no_sign digits then three
       ]
     ]
 
@@ -117,18 +136,21 @@ first_weighs_nothing c either = elim (or_cases (eqb c 32) (eqb c 45) either) [
   | inr minus ↦ omega (arith, eqb-true _ _ minus)
 ]
 
-plain_explicit : (c : ℕ → ℕ) → IsPlain (lanes_of (map c (range_with_len 0 14))) → number_of 14 3 (map c (range_with_len 0 14)) ≡ Some (Some (number_in (lanes_of (map c (range_with_len 0 14)))))
+plain_explicit : (c : ℕ → ℕ) → IsPlain (lanes_of (map c (range_with_len 0 14)))
+    → number_of 14 3 (map c (range_with_len 0 14)) ≡ Some (Some (number_in (lanes_of (map c (range_with_len 0 14)))))
 plain_explicit c plain =
     let whole = map c (range_with_len 0 10) in
     let fraction = map c (range_with_len 11 3) in
     let one = and_parts (is_ascii_digit (c 11)) _ plain.fraction in
     let two = and_parts (is_ascii_digit (c 12)) _ one.1 in
     let three = and_parts (is_ascii_digit (c 13)) _ two.1 in
-    let spelt = spelt_whole 3 fraction whole plain.fraction refl plain.whole in
+    let reads = decimal_whole 3 fraction whole plain.fraction refl plain.whole in
     let first : 0 * 10 + (c 0 - 48) ≡ 0 = first_weighs_nothing (c 0) plain.first in
     number_of_width 14 3 (map c (range_with_len 0 14)) refl
-    ∙ (rw (plain.point, not_minus (c 11) one.0, not_minus (c 12) two.0, not_minus (c 13) three.0) (rw first at spelt))
+    ∙ (rw (plain.point, not_minus (c 11) one.0, not_minus (c 12) two.0, not_minus (c 13) three.0) (rw first at reads))
 
-pub plain_number : (field : List ℕ) → length field ≡ 14 → IsPlain (lanes_of field) → number_of 14 3 field ≡ Some (Some (number_in (lanes_of field)))
+pub plain_number : (field : List ℕ)
+    → length field ≡ 14 → IsPlain (lanes_of field) → number_of 14 3 field ≡ Some (Some (number_in (lanes_of field)))
 plain_number field long =
-    subst (λ (f : List ℕ). IsPlain (lanes_of f) → number_of 14 3 f ≡ Some (Some (number_in (lanes_of f)))) (sym (fourteen field long)) (plain_explicit (λ (i : ℕ). get_or field i 0))
+    subst (λ (f : List ℕ). IsPlain (lanes_of f) → number_of 14 3 f ≡ Some (Some (number_in (lanes_of f))))
+    (sym (fourteen field long)) (plain_explicit (λ (i : ℕ). get_or field i 0))

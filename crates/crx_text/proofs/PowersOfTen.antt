@@ -1,5 +1,6 @@
 -- Numbers that grow digit by digit, and the powers of ten that bound them.
-use Rattle.std.proofs.Common.{pow-add, true, List, [], ◌∷◌, ◌++◌, length, drop, get_or, ◌≡◌, ℕ, suc, ◌+◌, ◌-◌, ◌*◌, ◌<◌, ◌≤◌, ◌^◌, arith, refl, ap, sym, ◌∙◌}
+use Rattle.std.proofs.Common.{pow-add, true, List, [], ◌∷◌, ◌++◌, length, drop, get_or, ◌≡◌, ℕ, suc, ◌+◌, ◌-◌, ◌*◌, ◌<◌}
+use Rattle.std.proofs.Common.{◌≤◌, ◌^◌, arith, refl, ap, sym, ◌∙◌}
 use Rattle.std.proofs.Math.Nat.{pow-suc, one-le-pow, mul-le-mul_left, mul-le-mul_right, pow-le-pow_right}
 use Rattle.std.proofs.lemmas.List.{drop_more}
 use Rattle.std.proofs.lemmas.Str.{digit_value_digit}
@@ -13,7 +14,8 @@ pub ten_pow_pos : (k : ℕ) → 1 ≤ 10 ^ k
 ten_pow_pos k = one-le-pow k 10 (omega arith)
 
 -- a number with one more digit, beside a power with one less
-pub one_more_digit : (size digit power all : ℕ) → digit ≤ 9 → (size + 1) * (power * 10) ≤ all → (size * 10 + digit + 1) * power ≤ all
+pub one_more_digit : (size digit power all : ℕ)
+    → digit ≤ 9 → (size + 1) * (power * 10) ≤ all → (size * 10 + digit + 1) * power ≤ all
 one_more_digit size digit power all small bound =
     let grows : (size * 10 + digit + 1) * power ≤ ((size + 1) * 10) * power = mul-le-mul_right power (omega arith) in
     omega (arith, grows, bound)
@@ -35,15 +37,20 @@ pub digit_value_is : (c : ℕ) → is_ascii_digit c ≡ true → digit_value c �
 digit_value_is c h = let e : digit_value c + 48 ≡ c = digit_value_digit c (digit_range c h) in omega arith
 
 -- the digit at an index is passed over
-pub all_digits_next : (ds : List ℕ) (i : ℕ) → i < length ds → is_ascii_digit (get_or ds i 0) ≡ true → all_ascii_digits (drop (i + 1) ds) ≡ all_ascii_digits (drop i ds)
+pub all_digits_next : (ds : List ℕ) (i : ℕ) → i < length ds
+    → is_ascii_digit (get_or ds i 0) ≡ true → all_ascii_digits (drop (i + 1) ds) ≡ all_ascii_digits (drop i ds)
 all_digits_next ds i within is_digit = rw (drop_more ds i 0 within, is_digit) refl
 
-pub digits_value_next : (ds : List ℕ) (i size : ℕ) → i < length ds → is_ascii_digit (get_or ds i 0) ≡ true → digits_value_after 10 (size * 10 + (get_or ds i 0 - 48)) (drop (i + 1) ds) ≡ digits_value_after 10 size (drop i ds)
+pub digits_value_next : (ds : List ℕ) (i size : ℕ) → i < length ds
+    → is_ascii_digit (get_or ds i 0) ≡ true → digits_value_after 10 (size * 10 + (get_or ds i 0 - 48)) (drop (i + 1) ds)
+    ≡ digits_value_after 10 size (drop i ds)
 digits_value_next ds i size within is_digit =
-    rw (drop_more ds i 0 within) (ap (λ (d : ℕ). digits_value_after 10 (size * 10 + d) (drop (i + 1) ds)) (sym (digit_value_is (get_or ds i 0) is_digit)))
+    rw (drop_more ds i 0 within) (ap (λ (d : ℕ). digits_value_after 10 (size * 10 + d) (drop (i + 1) ds))
+    (sym (digit_value_is (get_or ds i 0) is_digit)))
 
--- the number that digits write is that of the first ones, gone on from
-pub digits_value_after-append : (n : ℕ) (xs ys : List ℕ) → digits_value_after 10 n (xs ++ ys) ≡ digits_value_after 10 (digits_value_after 10 n xs) ys
+-- the number that digits write is that of the first ones, continued from
+pub digits_value_after-append : (n : ℕ) (xs ys : List ℕ)
+    → digits_value_after 10 n (xs ++ ys) ≡ digits_value_after 10 (digits_value_after 10 n xs) ys
 digits_value_after-append n [] ys = refl
 digits_value_after-append n (x ∷ xs) ys = digits_value_after-append (n * 10 + digit_value x) xs ys
 

@@ -1,11 +1,13 @@
 -- Digits in a row, as the decimal text of the number that they write.
-use Rattle.std.proofs.Common.{◌≡◌, ℕ, zero, suc, ◌+◌, ◌-◌, ◌*◌, ◌/◌, ◌%◌, ◌^◌, ◌<◌, ◌≤◌, Bool, true, false, ltb, eqb, List, [], ◌∷◌, ◌++◌, map, length, replicate, drop, decimal, refl, sym, ap, ◌∙◌, append_assoc, ltb-true, arith}
+use Rattle.std.proofs.Common.{◌≡◌, ℕ, zero, suc, ◌+◌, ◌-◌, ◌*◌, ◌/◌, ◌%◌, ◌^◌, ◌<◌, ◌≤◌, Bool, true, false, ltb, eqb}
+use Rattle.std.proofs.Common.{List, [], ◌∷◌, ◌++◌, map, length, replicate, drop, decimal, refl, sym, ap, ◌∙◌}
+use Rattle.std.proofs.Common.{append_assoc, ltb-true, arith}
 use Rattle.std.proofs.lemmas.Bool.{and_parts, ne_eqb}
 use Rattle.std.proofs.lemmas.Fmt.{decimal_digit, decimal_step}
 use Rattle.std.proofs.lemmas.List.{length-map, length-drop, append-nil}
 use Rattle.std.specs.List.{list_all}
 use Rattle.crx_text.specs.FieldTexts.{leading_zeros}
-use Rattle.crx_text.specs.Numbers.{zero_padded}
+use Rattle.crx_text.specs.meaning.Numbers.{zero_padded}
 
 -- the number that digits go on to write
 abbrev pub written : ℕ → List ℕ → ℕ
@@ -23,7 +25,8 @@ written_grows size [] = omega arith
 written_grows size (d ∷ ds) = let more = written_grows (size * 10 + d) ds in omega (arith, more)
 
 -- digits after a number that isn't 0
-decimal_more : (size : ℕ) (ds : List ℕ) → 0 < size → are_digits ds ≡ true → written size ds < 2 ^ 64 → decimal (written size ds) ≡ decimal size ++ glyphs ds
+decimal_more : (size : ℕ) (ds : List ℕ)
+    → 0 < size → are_digits ds ≡ true → written size ds < 2 ^ 64 → decimal (written size ds) ≡ decimal size ++ glyphs ds
 decimal_more size [] some digits fits = sym (append-nil (decimal size))
 decimal_more size (d ∷ ds) some digits fits =
     let parts = and_parts (ltb d 10) (are_digits ds) digits in
@@ -36,7 +39,8 @@ decimal_more size (d ∷ ds) some digits fits =
     ∙ (rw (step, tens, ones) (append_assoc (decimal size) ((48 + d) ∷ []) (glyphs ds)))
 
 -- the decimal text is the digits without the zeros before them
-pub decimal_of_digits : (d : ℕ) (ds : List ℕ) → are_digits (d ∷ ds) ≡ true → written 0 (d ∷ ds) < 2 ^ 64 → decimal (written 0 (d ∷ ds)) ≡ glyphs (drop (leading_zeros (d ∷ ds)) (d ∷ ds))
+pub decimal_of_digits : (d : ℕ) (ds : List ℕ) → are_digits (d ∷ ds) ≡ true
+    → written 0 (d ∷ ds) < 2 ^ 64 → decimal (written 0 (d ∷ ds)) ≡ glyphs (drop (leading_zeros (d ∷ ds)) (d ∷ ds))
 decimal_of_digits d [] digits fits =
     let parts = and_parts (ltb d 10) true digits in
     let small : d < 10 = ltb-true _ _ parts.0 in
@@ -55,7 +59,8 @@ pub zeros_few : (ds : List ℕ) → leading_zeros ds ≤ length ds
 zeros_few [] = omega arith
 zeros_few (d ∷ []) = omega arith
 zeros_few (zero ∷ e ∷ ds) = let few = zeros_few (e ∷ ds) in omega (arith, few)
-zeros_few (suc d ∷ e ∷ ds) = let test : eqb (suc d) 0 ≡ false = ne_eqb (suc d) 0 (λ z. omega arith) in rw test (omega arith)
+zeros_few (suc d ∷ e ∷ ds) = let test : eqb (suc d) 0 ≡ false = ne_eqb (suc d) 0 (λ z. omega arith) in
+    rw test (omega arith)
 
 pub zeros_first : (ds : List ℕ) → ds ≡ replicate (leading_zeros ds) 0 ++ drop (leading_zeros ds) ds
 zeros_first [] = refl
@@ -68,7 +73,8 @@ glyphs_of_zeros zero ds = refl
 glyphs_of_zeros (suc k) ds = ap (λ (r : List ℕ). 48 ∷ r) (glyphs_of_zeros k ds)
 
 -- digits with the zeros before them
-pub padded_digits : (d : ℕ) (ds : List ℕ) → are_digits (d ∷ ds) ≡ true → written 0 (d ∷ ds) < 2 ^ 64 → zero_padded (suc (length ds)) (written 0 (d ∷ ds)) ≡ glyphs (d ∷ ds)
+pub padded_digits : (d : ℕ) (ds : List ℕ) → are_digits (d ∷ ds) ≡ true
+    → written 0 (d ∷ ds) < 2 ^ 64 → zero_padded (suc (length ds)) (written 0 (d ∷ ds)) ≡ glyphs (d ∷ ds)
 padded_digits d ds digits fits =
     let all = d ∷ ds in
     let zeros : ℕ = leading_zeros all in

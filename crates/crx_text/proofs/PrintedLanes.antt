@@ -1,5 +1,7 @@
 -- The lanes of a printed observation: three digits of each group, and where the number begins.
-use Rattle.std.proofs.Common.{◌≡◌, ℕ, zero, suc, ◌+◌, ◌-◌, ◌*◌, ◌/◌, ◌%◌, ◌^◌, ◌<◌, ◌≤◌, Bool, true, false, not, cond, leb, eqb, List, [], ◌∷◌, ◌++◌, map, length, replicate, take, drop, get_or, subst, refl, sym, ap, ◌∙◌, eqb-true, arith}
+use Rattle.std.proofs.Common.{◌≡◌, ℕ, zero, suc, ◌+◌, ◌-◌, ◌*◌, ◌/◌, ◌%◌, ◌^◌, ◌<◌, ◌≤◌, Bool, true, false, not, cond}
+use Rattle.std.proofs.Common.{leb, eqb, List, [], ◌∷◌, ◌++◌, map, length, replicate, take, drop, get_or, subst, refl}
+use Rattle.std.proofs.Common.{sym, ap, ◌∙◌, eqb-true, arith}
 use Rattle.std.proofs.lemmas.Bool.{agree_below_at, le-leb, ne_eqb}
 use Rattle.std.proofs.lemmas.Bool.Decides.{nat_tests}
 use Rattle.std.proofs.lemmas.Simd.{get_or_narrower, trailing_mask_l, mask_l-mod, pick_l_whole}
@@ -54,12 +56,23 @@ module _ (c : ℕ → ℕ) (small : (i : ℕ) → i < 4 → c i < 1000) where
   words = map (λ i. group_word (c i)) (range_with_len 0 4)
 
   words_fit : Each1 (λ x. x < 2 ^ 32) (map (λ i. group_word (c i)) (range_with_len 0 4))
-  words_fit = (word_fits (c 0) (small 0 (omega arith)), (word_fits (c 1) (small 1 (omega arith)), (word_fits (c 2) (small 2 (omega arith)), (word_fits (c 3) (small 3 (omega arith)), tt))))
+  words_fit = (
+    word_fits (c 0) (small 0 (omega arith)),
+    (
+      word_fits (c 1) (small 1
+          (omega arith)),
+      (word_fits (c 2) (small 2 (omega arith)), (word_fits (c 3) (small 3 (omega arith)), tt)),
+    ),
+  )
 
-  at : (j i : ℕ) → i < 4 → 4 * j + i < 16 → get_or (digits_l 256 16 (number_l (2 ^ 32) (map (λ k. group_word (c k)) (range_with_len 0 4)))) (4 * j + i) 0 ≡ get_or (map (λ k. group_word (c k)) (range_with_len 0 4)) j 0 / 256 ^ i % 256
-  at j i four within = get_or_narrower (2 ^ 32) 4 256 16 (map (λ k. group_word (c k)) (range_with_len 0 4)) j i refl words_fit four within
+  at : (j i : ℕ) → i < 4 → 4 * j + i < 16
+      → get_or (digits_l 256 16 (number_l (2 ^ 32) (map (λ k. group_word (c k)) (range_with_len 0 4)))) (4 * j + i) 0
+      ≡ get_or (map (λ k. group_word (c k)) (range_with_len 0 4)) j 0 / 256 ^ i % 256
+  at j i four within = get_or_narrower
+      (2 ^ 32) 4 256 16 (map (λ k. group_word (c k)) (range_with_len 0 4)) j i refl words_fit four within
 
-  digits_explicit : digits_l 256 16 (number_l (2 ^ 32) (map (λ k. group_word (c k)) (range_with_len 0 4))) ≡ group_digits (map c (range_with_len 0 4))
+  digits_explicit : digits_l 256 16 (number_l (2 ^ 32) (map (λ k. group_word (c k)) (range_with_len 0 4)))
+      ≡ group_digits (map c (range_with_len 0 4))
   digits_explicit =
       let bytes = digits_l 256 16 (number_l (2 ^ 32) (map (λ k. group_word (c k)) (range_with_len 0 4))) in
       let s0 = small 0 (omega arith) in
@@ -122,9 +135,11 @@ each_below [] i h = omega arith
 each_below (g ∷ gs) zero h = h.0
 each_below (g ∷ gs) (suc i) h = each_below gs i h.1
 
-pub digits_of_words : (groups : List ℕ) → length groups ≡ 4 → Each1 (λ g. g < 1000) groups → digits_l 256 16 (number_l (2 ^ 32) (words_of groups)) ≡ group_digits groups
+pub digits_of_words : (groups : List ℕ) → length groups ≡ 4
+    → Each1 (λ g. g < 1000) groups → digits_l 256 16 (number_l (2 ^ 32) (words_of groups)) ≡ group_digits groups
 digits_of_words groups long small =
-    subst (λ (w : List ℕ). digits_l 256 16 (number_l (2 ^ 32) (words_of w)) ≡ group_digits w) (pick_l_whole 0 groups 4 long) (digits_explicit (λ (i : ℕ). get_or groups i 0) (λ (i : ℕ) (within : i < 4). each_below groups i small))
+    subst (λ (w : List ℕ). digits_l 256 16 (number_l (2 ^ 32) (words_of w)) ≡ group_digits w) (pick_l_whole 0 groups
+    4 long) (digits_explicit (λ (i : ℕ). get_or groups i 0) (λ (i : ℕ) (within : i < 4). each_below groups i small))
 
 -- ---- where the number begins
 
@@ -138,7 +153,8 @@ one_more : (n : ℕ) → 1 + n ≡ suc n
 one_more n = omega arith
 
 -- the lanes before a lane that passes in any case
-begins : (before : List ℕ) (d : ℕ) (bits : List Bool) → prefix_len (λ b. not b) (map (leb 1) before ++ true ∷ bits) ≡ leading_zeros (before ++ d ∷ [])
+begins : (before : List ℕ) (d : ℕ) (bits : List Bool)
+    → prefix_len (λ b. not b) (map (leb 1) before ++ true ∷ bits) ≡ leading_zeros (before ++ d ∷ [])
 begins [] d bits = refl
 begins (x ∷ []) d bits = go x
   where
@@ -147,32 +163,59 @@ begins (x ∷ []) d bits = go x
     go (suc y) = rw (begins_here y, begins_now y) refl
 begins (x ∷ y ∷ ys) d bits = go x (begins (y ∷ ys) d bits)
   where
-    go : (z : ℕ) → prefix_len (λ b. not b) (map (leb 1) (y ∷ ys) ++ true ∷ bits) ≡ leading_zeros (y ∷ ys ++ d ∷ []) → prefix_len (λ b. not b) (leb 1 z ∷ map (leb 1) (y ∷ ys) ++ true ∷ bits) ≡ leading_zeros (z ∷ y ∷ ys ++ d ∷ [])
+    go : (z : ℕ) → prefix_len (λ b. not b) (map (leb 1) (y ∷ ys) ++ true ∷ bits) ≡ leading_zeros (y ∷ ys ++ d ∷ [])
+        → prefix_len (λ b. not b) (leb 1 z ∷ map (leb 1) (y ∷ ys) ++ true ∷ bits) ≡ leading_zeros (z ∷ y ∷ ys ++ d ∷ [])
     go zero e = ap (λ (n : ℕ). 1 + n) e ∙ one_more (leading_zeros (y ∷ ys ++ d ∷ []))
     go (suc z) e = rw (begins_here z, begins_now z) refl
 
 abbrev pub begin_lanes : List ℕ → List Bool
-begin_lanes v = map (top 7) (zip2 (λ a b. cond (leb a b) 255 0) (1 ∷ 1 ∷ 1 ∷ 1 ∷ 1 ∷ 1 ∷ 1 ∷ 1 ∷ 1 ∷ 0 ∷ 1 ∷ 1 ∷ 1 ∷ 1 ∷ 1 ∷ 1 ∷ []) v)
+begin_lanes v = map (top 7) (zip2
+    (λ a b. cond (leb a b) 255 0) (1 ∷ 1 ∷ 1 ∷ 1 ∷ 1 ∷ 1 ∷ 1 ∷ 1 ∷ 1 ∷ 0 ∷ 1 ∷ 1 ∷ 1 ∷ 1 ∷ 1 ∷ 1 ∷ []) v)
 
-begin_explicit : (c : ℕ → ℕ) → c 0 ≡ 0 → count_trailing_zeros 64 (mask_l (begin_lanes (map c (range_with_len 0 16))) % 2 ^ 64) ≡ 1 + leading_zeros (map c (range_with_len 1 9))
+begin_explicit : (c : ℕ → ℕ) → c 0 ≡ 0 → count_trailing_zeros 64
+    (mask_l (begin_lanes (map c (range_with_len 0 16))) % 2 ^ 64) ≡ 1 + leading_zeros (map c (range_with_len 1 9))
 begin_explicit c none =
     let lane = λ (i : ℕ). top_lane (leb 1 (c i)) in
-    let bits : List Bool = map (leb 1) (map c (range_with_len 0 9)) ++ true ∷ map (leb 1) (map c (range_with_len 10 6)) in
-    let are : begin_lanes (map c (range_with_len 0 16)) ≡ bits = rw (lane 0, lane 1, lane 2, lane 3, lane 4, lane 5, lane 6, lane 7, lane 8, le-leb 0 (c 9) (omega arith), lane 10, lane 11, lane 12, lane 13, lane 14, lane 15) refl in
+    let bits : List Bool = map (leb 1) (map c (range_with_len 0 9))
+    ++ true ∷ map (leb 1) (map c (range_with_len 10 6)) in
+    let are : begin_lanes (map c (range_with_len 0 16)) ≡ bits =
+    rw (
+      lane 0,
+      lane 1,
+      lane 2,
+      lane 3,
+      lane 4,
+      lane 5,
+      lane 6,
+      lane 7,
+      lane 8,
+      le-leb 0
+          (c 9) (omega arith),
+      lane 10,
+      lane 11,
+      lane 12,
+      lane 13,
+      lane 14,
+      lane 15,
+    ) refl in
     let some : 0 < mask_l bits = grind (arith, nat_tests, no_bit (λ (b : Bool). b) bits) in
     let found = trailing_mask_l (λ (b : Bool). b) 64 bits (omega arith) some in
     ap (λ m. count_trailing_zeros 64 (mask_l m % 2 ^ 64)) are
     ∙ (ap (count_trailing_zeros 64) (mask_l-mod bits 64 (omega arith)) ∙ found)
-    ∙ (rw none (ap (λ (n : ℕ). 1 + n) (begins (map c (range_with_len 1 8)) (c 9) (map (leb 1) (map c (range_with_len 10 6))))))
+    ∙ (rw none (ap (λ (n : ℕ). 1 + n)
+    (begins (map c (range_with_len 1 8)) (c 9) (map (leb 1) (map c (range_with_len 10 6))))))
 
-pub begin_is : (v : List ℕ) → length v ≡ 16 → get_or v 0 0 ≡ 0 → count_trailing_zeros 64 (mask_l (begin_lanes v) % 2 ^ 64) ≡ 1 + leading_zeros (take 9 (drop 1 v))
+pub begin_is : (v : List ℕ) → length v ≡ 16 → get_or v 0 0 ≡ 0
+    → count_trailing_zeros 64 (mask_l (begin_lanes v) % 2 ^ 64) ≡ 1 + leading_zeros (take 9 (drop 1 v))
 begin_is v long =
-    subst (λ (w : List ℕ). get_or w 0 0 ≡ 0 → count_trailing_zeros 64 (mask_l (begin_lanes w) % 2 ^ 64) ≡ 1 + leading_zeros (take 9 (drop 1 w))) (sym (sixteen v long)) (begin_explicit (λ (i : ℕ). get_or v i 0))
+    subst (λ (w : List ℕ). get_or w 0 0 ≡ 0 → count_trailing_zeros 64 (mask_l (begin_lanes w) % 2 ^ 64)
+    ≡ 1 + leading_zeros (take 9 (drop 1 w))) (sym (sixteen v long)) (begin_explicit (λ (i : ℕ). get_or v i 0))
 
 -- ---- the row of text
 
 -- blanks, and then what makes digits
-pub base_row : (start : ℕ) → start ≤ 9 → chunk {A = ℕ} 0 16 (take (32 - (16 - start)) (drop (16 - start) (replicate 16 32 ++ replicate 16 48))) ≡ replicate start 32 ++ replicate (16 - start) 48
+pub base_row : (start : ℕ) → start ≤ 9 → chunk {A = ℕ} 0 16 (take (32 - (16 - start))
+    (drop (16 - start) (replicate 16 32 ++ replicate 16 48))) ≡ replicate start 32 ++ replicate (16 - start) 48
 base_row zero few = refl
 base_row (suc zero) few = refl
 base_row (suc (suc zero)) few = refl
@@ -187,7 +230,8 @@ base_row (suc (suc (suc (suc (suc (suc (suc (suc (suc (suc start)))))))))) few =
 
 -- two stores of eight lanes, of which the second begins in the first
 abbrev pub stored : List ℕ → List ℕ → List ℕ
-stored text field = put_chunk 6 (put_chunk 0 field (pick_l 0 (text ++ text) (range_with_len 0 8))) (pick_l 0 (text ++ text) (range_with_len 6 8))
+stored text field = put_chunk 6
+    (put_chunk 0 field (pick_l 0 (text ++ text) (range_with_len 0 8))) (pick_l 0 (text ++ text) (range_with_len 6 8))
 
 pub stored_row : (text field : List ℕ) → length text ≡ 16 → length field ≡ 14 → stored text field ≡ take 14 text
 stored_row text field long wide =

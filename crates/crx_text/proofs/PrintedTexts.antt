@@ -1,22 +1,28 @@
 -- From the row of text to the text of a size.
-use Rattle.std.proofs.Common.{◌≡◌, ℕ, zero, suc, ◌+◌, ◌-◌, ◌*◌, ◌/◌, ◌%◌, ◌^◌, ◌<◌, true, ltb, List, [], ◌∷◌, ◌++◌, length, replicate, take, drop, refl, sym, ap, ◌∙◌, append_assoc, length-append, lt-ltb, ltb-true, arith}
+use Rattle.std.proofs.Common.{◌≡◌, ℕ, zero, suc, ◌+◌, ◌-◌, ◌*◌, ◌/◌, ◌%◌, ◌^◌, ◌<◌, true, ltb, List, [], ◌∷◌, ◌++◌}
+use Rattle.std.proofs.Common.{length, replicate, take, drop, refl, sym, ap, ◌∙◌, append_assoc, length-append, lt-ltb}
+use Rattle.std.proofs.Common.{ltb-true, arith}
 use Rattle.std.proofs.lemmas.Bool.{and_parts}
-use Rattle.std.proofs.lemmas.List.{length-map, length-drop, length-replicate, take_at, drop_at, replicate-append-replicate}
+use Rattle.std.proofs.lemmas.List.{length-map, length-drop, length-replicate, take_at, drop_at}
+use Rattle.std.proofs.lemmas.List.{replicate-append-replicate}
 use lib.Lanes.{zip2}
 use Rattle.crx_text.specs.FieldTexts.{leading_zeros}
-use Rattle.crx_text.specs.Numbers.{size_text, zero_padded}
-use Rattle.crx_text.proofs.PrintedDigits.{written, are_digits, glyphs, decimal_of_digits, padded_digits, zeros_few, zeros_first}
+use Rattle.crx_text.specs.meaning.Numbers.{size_text, zero_padded}
+use Rattle.crx_text.proofs.PrintedDigits.{written, are_digits, glyphs, decimal_of_digits, padded_digits, zeros_few}
+use Rattle.crx_text.proofs.PrintedDigits.{zeros_first}
 
 -- ---- lanes added to their bases
 
 abbrev pub plus : List ℕ → List ℕ → List ℕ
 plus = zip2 (λ a b. (a + b) % 256)
 
-plus_blanks : (k : ℕ) (xs ys : List ℕ) → plus (replicate k 0 ++ xs) (replicate k 32 ++ ys) ≡ replicate k 32 ++ plus xs ys
+plus_blanks : (k : ℕ) (xs ys : List ℕ)
+    → plus (replicate k 0 ++ xs) (replicate k 32 ++ ys) ≡ replicate k 32 ++ plus xs ys
 plus_blanks zero xs ys = refl
 plus_blanks (suc k) xs ys = ap (λ (r : List ℕ). 32 ∷ r) (plus_blanks k xs ys)
 
-plus_digits : (ds xs ys : List ℕ) → are_digits ds ≡ true → plus (ds ++ xs) (replicate (length ds) 48 ++ ys) ≡ glyphs ds ++ plus xs ys
+plus_digits : (ds xs ys : List ℕ)
+    → are_digits ds ≡ true → plus (ds ++ xs) (replicate (length ds) 48 ++ ys) ≡ glyphs ds ++ plus xs ys
 plus_digits [] xs ys digits = refl
 plus_digits (d ∷ ds) xs ys digits =
     let parts = and_parts (ltb d 10) (are_digits ds) digits in
@@ -36,47 +42,84 @@ row_of nine three = 0 ∷ (nine ++ (254 ∷ (three ++ (0 ∷ 0 ∷ []))))
 abbrev pub printed : List ℕ → List ℕ → List ℕ
 printed nine three = glyphs (drop (leading_zeros nine) nine) ++ (46 ∷ glyphs three)
 
-module _ (nine three : List ℕ) (long : length nine ≡ 9) (short : length three ≡ 3) (nine_digits : are_digits nine ≡ true) (three_digits : are_digits three ≡ true) where
+module _ (nine three : List ℕ) (long : length nine ≡ 9)
+    (short : length three ≡ 3) (nine_digits : are_digits nine ≡ true) (three_digits : are_digits three ≡ true) where
   rest : List ℕ
   rest = drop (leading_zeros nine) nine
 
-  pub row_printed : plus (row_of nine three) (replicate (1 + leading_zeros nine) 32 ++ replicate (16 - (1 + leading_zeros nine)) 48) ≡ (replicate (1 + leading_zeros nine) 32 ++ printed nine three) ++ (48 ∷ 48 ∷ [])
+  pub row_printed : plus (row_of nine three) (replicate (1 + leading_zeros nine) 32 ++ replicate (16
+      - (1 + leading_zeros nine)) 48) ≡ (replicate (1 + leading_zeros nine) 32 ++ printed nine three) ++ (48 ∷ 48 ∷ [])
   row_printed =
       let zeros : ℕ = leading_zeros nine in
       let left : List ℕ = drop zeros nine in
       let few = zeros_few nine in
       let one : 1 + zeros ≡ suc zeros = omega arith in
-      let count : 16 - suc zeros ≡ length left + (1 + (length three + 2)) = omega (arith, length-drop zeros nine, long, short, few) in
-      let bases : replicate {A = ℕ} (16 - suc zeros) 48 ≡ replicate (length left) 48 ++ (48 ∷ (replicate (length three) 48 ++ (48 ∷ 48 ∷ []))) =
+      let count : 16 - suc zeros ≡ length left + (1 + (length three + 2)) =
+      omega (arith, length-drop zeros nine, long, short, few) in
+      let bases : replicate {A = ℕ} (16 - suc zeros) 48
+      ≡ replicate (length left) 48 ++ (48 ∷ (replicate (length three) 48 ++ (48 ∷ 48 ∷ []))) =
       ap (λ (n : ℕ). replicate n 48) count ∙ (sym (replicate-append-replicate (length left) (1 + (length three + 2)) 48)
-      ∙ ap (λ (t : List ℕ). replicate (length left) 48 ++ t) (sym (replicate-append-replicate 1 (length three + 2) 48) ∙ ap (λ (t : List ℕ). 48 ∷ t) (sym (replicate-append-replicate (length three) 2 48)))) in
+      ∙ ap (λ (t : List ℕ). replicate (length left) 48 ++ t) (sym (replicate-append-replicate 1 (length three + 2) 48)
+      ∙ ap (λ (t : List ℕ). 48 ∷ t) (sym (replicate-append-replicate (length three) 2 48)))) in
       let row : row_of nine three ≡ replicate (suc zeros) 0 ++ (left ++ (254 ∷ (three ++ (0 ∷ 0 ∷ [])))) =
-      ap (λ (t : List ℕ). 0 ∷ (t ++ (254 ∷ (three ++ (0 ∷ 0 ∷ []))))) (zeros_first nine) ∙ ap (λ (t : List ℕ). 0 ∷ t) (append_assoc (replicate zeros 0) left (254 ∷ (three ++ (0 ∷ 0 ∷ [])))) in
-      let tail : plus (254 ∷ (three ++ (0 ∷ 0 ∷ []))) (48 ∷ (replicate (length three) 48 ++ (48 ∷ 48 ∷ []))) ≡ 46 ∷ (glyphs three ++ (48 ∷ 48 ∷ [])) =
+      ap (λ (t : List ℕ). 0 ∷ (t ++ (254 ∷ (three ++ (0 ∷ 0 ∷ []))))) (zeros_first nine)
+      ∙ ap (λ (t : List ℕ). 0 ∷ t) (append_assoc (replicate zeros 0) left (254 ∷ (three ++ (0 ∷ 0 ∷ [])))) in
+      let tail : plus (254 ∷ (three ++ (0 ∷ 0 ∷ []))) (48 ∷ (replicate (length three) 48 ++ (48 ∷ 48 ∷ [])))
+      ≡ 46 ∷ (glyphs three ++ (48 ∷ 48 ∷ [])) =
       ap (λ (t : List ℕ). 46 ∷ t) (plus_digits three (0 ∷ 0 ∷ []) (48 ∷ 48 ∷ []) three_digits) in
-      let added : plus (left ++ (254 ∷ (three ++ (0 ∷ 0 ∷ [])))) (replicate (length left) 48 ++ (48 ∷ (replicate (length three) 48 ++ (48 ∷ 48 ∷ [])))) ≡ glyphs left ++ (46 ∷ (glyphs three ++ (48 ∷ 48 ∷ []))) =
-      plus_digits left (254 ∷ (three ++ (0 ∷ 0 ∷ []))) (48 ∷ (replicate (length three) 48 ++ (48 ∷ 48 ∷ []))) (digits_left zeros nine nine_digits) ∙ ap (λ (t : List ℕ). glyphs left ++ t) tail in
-      let shifted : glyphs left ++ (46 ∷ (glyphs three ++ (48 ∷ 48 ∷ []))) ≡ printed nine three ++ (48 ∷ 48 ∷ []) = sym (append_assoc (glyphs left) (46 ∷ glyphs three) (48 ∷ 48 ∷ [])) in
-      let all_bases : replicate {A = ℕ} (1 + zeros) 32 ++ replicate (16 - (1 + zeros)) 48 ≡ replicate (suc zeros) 32 ++ (replicate (length left) 48 ++ (48 ∷ (replicate (length three) 48 ++ (48 ∷ 48 ∷ [])))) =
-      ap (λ (n : ℕ). replicate {A = ℕ} n 32 ++ replicate (16 - n) 48) one ∙ ap (λ (t : List ℕ). replicate {A = ℕ} (suc zeros) 32 ++ t) bases in
-      let blanks : plus (replicate (suc zeros) 0 ++ (left ++ (254 ∷ (three ++ (0 ∷ 0 ∷ []))))) (replicate (suc zeros) 32 ++ (replicate (length left) 48 ++ (48 ∷ (replicate (length three) 48 ++ (48 ∷ 48 ∷ []))))) ≡ (replicate (suc zeros) 32 ++ printed nine three) ++ (48 ∷ 48 ∷ []) =
-      plus_blanks (suc zeros) (left ++ (254 ∷ (three ++ (0 ∷ 0 ∷ [])))) (replicate (length left) 48 ++ (48 ∷ (replicate (length three) 48 ++ (48 ∷ 48 ∷ []))))
-      ∙ (ap (λ (t : List ℕ). replicate (suc zeros) 32 ++ t) (added ∙ shifted) ∙ sym (append_assoc (replicate (suc zeros) 32) (printed nine three) (48 ∷ 48 ∷ []))) in
+      let added : plus (left ++ (254 ∷ (three ++ (0 ∷ 0 ∷ [])))) (replicate (length left) 48 ++ (48
+      ∷ (replicate (length three) 48 ++ (48 ∷ 48 ∷ [])))) ≡ glyphs left ++ (46 ∷ (glyphs three ++ (48 ∷ 48 ∷ []))) =
+      plus_digits left (254 ∷ (three ++ (0 ∷ 0 ∷ []))) (48 ∷ (replicate (length three) 48 ++ (48 ∷ 48 ∷ [])))
+      (digits_left zeros nine nine_digits) ∙ ap (λ (t : List ℕ). glyphs left ++ t) tail in
+      let shifted : glyphs left ++ (46 ∷ (glyphs three ++ (48 ∷ 48 ∷ []))) ≡ printed nine three ++ (48 ∷ 48 ∷ []) =
+      sym (append_assoc (glyphs left) (46 ∷ glyphs three) (48 ∷ 48 ∷ [])) in
+      let all_bases : replicate {A = ℕ} (1 + zeros) 32 ++ replicate (16 - (1 + zeros)) 48 ≡ replicate (suc zeros) 32
+      ++ (replicate (length left) 48 ++ (48 ∷ (replicate (length three) 48 ++ (48 ∷ 48 ∷ [])))) =
+      ap (λ (n : ℕ). replicate {A = ℕ} n 32 ++ replicate (16 - n) 48) one
+      ∙ ap (λ (t : List ℕ). replicate {A = ℕ} (suc zeros) 32 ++ t) bases in
+      let blanks : plus (replicate (suc zeros) 0 ++ (left ++ (254 ∷ (three ++ (0 ∷ 0 ∷ []))))) (replicate (suc zeros) 32
+      ++ (replicate (length left) 48 ++ (48 ∷ (replicate (length three) 48 ++ (48 ∷ 48 ∷ [])))))
+      ≡ (replicate (suc zeros) 32 ++ printed nine three) ++ (48 ∷ 48 ∷ []) =
+      plus_blanks (suc zeros) (left ++ (254 ∷ (three ++ (0 ∷ 0 ∷ []))))
+      (replicate (length left) 48 ++ (48 ∷ (replicate (length three) 48 ++ (48 ∷ 48 ∷ []))))
+      ∙ (ap (λ (t : List ℕ). replicate (suc zeros) 32 ++ t) (added ∙ shifted)
+      ∙ sym (append_assoc (replicate (suc zeros) 32) (printed nine three) (48 ∷ 48 ∷ []))) in
       ap (λ (b : List ℕ). plus (row_of nine three) b) all_bases
-      ∙ ap (λ (r : List ℕ). plus r (replicate (suc zeros) 32 ++ (replicate (length left) 48 ++ (48 ∷ (replicate (length three) 48 ++ (48 ∷ 48 ∷ [])))))) row
+      ∙ ap (λ (r : List ℕ). plus r (replicate (suc zeros) 32
+      ++ (replicate (length left) 48 ++ (48 ∷ (replicate (length three) 48 ++ (48 ∷ 48 ∷ [])))))) row
       ∙ blanks
       ∙ ap (λ (n : ℕ). (replicate {A = ℕ} n 32 ++ printed nine three) ++ (48 ∷ 48 ∷ [])) (sym one)
 
   pub printed_length : length (printed nine three) ≡ 13 - leading_zeros nine
   printed_length =
       let few = zeros_few nine in
-      omega (arith, length-append (glyphs (drop (leading_zeros nine) nine)) (46 ∷ glyphs three), length-map (drop (leading_zeros nine) nine) (λ d. 48 + d), length-map three (λ d. 48 + d), length-drop (leading_zeros nine) nine, long, short, few)
+      omega (
+        arith,
+        length-append (glyphs (drop (leading_zeros nine) nine))
+            (46 ∷ glyphs three),
+        length-map (drop (leading_zeros nine) nine)
+            (λ d. 48 + d),
+        length-map three (λ d. 48 + d),
+        length-drop (leading_zeros nine) nine,
+        long,
+        short,
+        few,
+      )
 
-  pub row_cut : take 14 ((replicate (1 + leading_zeros nine) 32 ++ printed nine three) ++ (48 ∷ 48 ∷ [])) ≡ replicate (1 + leading_zeros nine) 32 ++ printed nine three
+  pub row_cut : take 14 ((replicate (1 + leading_zeros nine) 32 ++ printed nine three) ++ (48 ∷ 48 ∷ []))
+      ≡ replicate (1 + leading_zeros nine) 32 ++ printed nine three
   row_cut =
       let few = zeros_few nine in
       take_at (replicate (1 + leading_zeros nine) 32 ++ printed nine three) (48 ∷ 48 ∷ []) 14
-      (omega (arith, length-append (replicate (1 + leading_zeros nine) 32) (printed nine three), length-replicate {A = ℕ} (1 + leading_zeros nine) 32, printed_length, few, long))
+      (omega (
+        arith,
+        length-append (replicate (1 + leading_zeros nine) 32)
+            (printed nine three),
+        length-replicate {A = ℕ} (1 + leading_zeros nine) 32,
+        printed_length,
+        few,
+        long,
+      ))
 
 -- ---- the digits of a size
 
@@ -86,7 +129,8 @@ nine_of a b c = a / 100 ∷ a / 10 % 10 ∷ a % 10 ∷ b / 100 ∷ b / 10 % 10 �
 abbrev pub three_of : ℕ → List ℕ
 three_of d = d / 100 ∷ d / 10 % 10 ∷ d % 10 ∷ []
 
-group_is_digits : (g : ℕ) (ds : List ℕ) → g < 1000 → are_digits ds ≡ true → are_digits (g / 100 ∷ g / 10 % 10 ∷ g % 10 ∷ ds) ≡ true
+group_is_digits : (g : ℕ) (ds : List ℕ)
+    → g < 1000 → are_digits ds ≡ true → are_digits (g / 100 ∷ g / 10 % 10 ∷ g % 10 ∷ ds) ≡ true
 group_is_digits g ds small digits =
     let first : ltb (g / 100) 10 ≡ true = lt-ltb (g / 100) 10 (omega arith) in
     let second : ltb (g / 10 % 10) 10 ≡ true = lt-ltb (g / 10 % 10) 10 (omega arith) in
@@ -98,7 +142,9 @@ group_weighs n g small = omega arith
 
 module _ (size : ℕ) (small : size < 10 ^ 12) where
   pub nine_are_digits : are_digits (nine_of (size / 10 ^ 9) (size / 10 ^ 6 % 1000) (size / 1000 % 1000)) ≡ true
-  nine_are_digits = group_is_digits (size / 10 ^ 9) (three_of (size / 10 ^ 6 % 1000) ++ three_of (size / 1000 % 1000)) (omega arith) (group_is_digits (size / 10 ^ 6 % 1000) (three_of (size / 1000 % 1000)) (omega arith) (group_is_digits (size / 1000 % 1000) [] (omega arith) refl))
+  nine_are_digits = group_is_digits (size / 10 ^ 9) (three_of (size / 10 ^ 6 % 1000) ++ three_of (size / 1000 % 1000))
+      (omega arith) (group_is_digits (size / 10 ^ 6 % 1000)
+      (three_of (size / 1000 % 1000)) (omega arith) (group_is_digits (size / 1000 % 1000) [] (omega arith) refl))
 
   pub three_are_digits : are_digits (three_of (size % 1000)) ≡ true
   three_are_digits = group_is_digits (size % 1000) [] (omega arith) refl
@@ -107,7 +153,8 @@ module _ (size : ℕ) (small : size < 10 ^ 12) where
   whole_weighs =
       let first = group_weighs 0 (size / 10 ^ 9) (omega arith) in
       let second = group_weighs (0 * 1000 + size / 10 ^ 9) (size / 10 ^ 6 % 1000) (omega arith) in
-      let third = group_weighs ((0 * 1000 + size / 10 ^ 9) * 1000 + size / 10 ^ 6 % 1000) (size / 1000 % 1000) (omega arith) in
+      let third = group_weighs ((0 * 1000 + size / 10 ^ 9) * 1000 + size / 10 ^ 6 % 1000)
+      (size / 1000 % 1000) (omega arith) in
       rw (first, second, third) (omega arith)
 
   fraction_weighs : written 0 (three_of (size % 1000)) ≡ size % 1000
@@ -120,13 +167,16 @@ module _ (size : ℕ) (small : size < 10 ^ 12) where
   twelve_weigh =
       let first = group_weighs 0 (size / 10 ^ 9) (omega arith) in
       let second = group_weighs (0 * 1000 + size / 10 ^ 9) (size / 10 ^ 6 % 1000) (omega arith) in
-      let third = group_weighs ((0 * 1000 + size / 10 ^ 9) * 1000 + size / 10 ^ 6 % 1000) (size / 1000 % 1000) (omega arith) in
-      let fourth = group_weighs (((0 * 1000 + size / 10 ^ 9) * 1000 + size / 10 ^ 6 % 1000) * 1000 + size / 1000 % 1000) (size % 1000) (omega arith) in
+      let third = group_weighs ((0 * 1000 + size / 10 ^ 9) * 1000 + size / 10 ^ 6 % 1000)
+      (size / 1000 % 1000) (omega arith) in
+      let fourth = group_weighs (((0 * 1000 + size / 10 ^ 9) * 1000 + size / 10 ^ 6 % 1000) * 1000 + size / 1000 % 1000)
+      (size % 1000) (omega arith) in
       rw (first, second, third, fourth) (omega arith)
 
   twelve_are_digits : are_digits twelve ≡ true
   twelve_are_digits =
-      group_is_digits (size / 10 ^ 9) (three_of (size / 10 ^ 6 % 1000) ++ (three_of (size / 1000 % 1000) ++ three_of (size % 1000))) (omega arith)
+      group_is_digits (size / 10 ^ 9)
+      (three_of (size / 10 ^ 6 % 1000) ++ (three_of (size / 1000 % 1000) ++ three_of (size % 1000))) (omega arith)
       (group_is_digits (size / 10 ^ 6 % 1000) (three_of (size / 1000 % 1000) ++ three_of (size % 1000)) (omega arith)
       (group_is_digits (size / 1000 % 1000) (three_of (size % 1000)) (omega arith) three_are_digits))
 
@@ -138,20 +188,26 @@ module _ (size : ℕ) (small : size < 10 ^ 12) where
       ap (take 12) (plus_digits twelve (0 ∷ 0 ∷ 0 ∷ 0 ∷ []) (48 ∷ 48 ∷ 48 ∷ 48 ∷ []) twelve_are_digits)
       ∙ (sym padded ∙ ap (zero_padded 12) twelve_weigh)
 
-  pub printed_is_size_text : printed (nine_of (size / 10 ^ 9) (size / 10 ^ 6 % 1000) (size / 1000 % 1000)) (three_of (size % 1000)) ≡ size_text 3 size
+  pub printed_is_size_text : printed
+      (nine_of (size / 10 ^ 9) (size / 10 ^ 6 % 1000) (size / 1000 % 1000)) (three_of (size % 1000)) ≡ size_text 3 size
   printed_is_size_text =
-      let fits : written 0 (nine_of (size / 10 ^ 9) (size / 10 ^ 6 % 1000) (size / 1000 % 1000)) < 2 ^ 64 = rw whole_weighs (omega arith) in
+      let fits : written 0 (nine_of (size / 10 ^ 9) (size / 10 ^ 6 % 1000) (size / 1000 % 1000)) < 2 ^ 64 =
+      rw whole_weighs (omega arith) in
       let fraction_fits : written 0 (three_of (size % 1000)) < 2 ^ 64 = rw fraction_weighs (omega arith) in
-      let whole = decimal_of_digits (size / 10 ^ 9 / 100) (drop 1 (nine_of (size / 10 ^ 9) (size / 10 ^ 6 % 1000) (size / 1000 % 1000))) nine_are_digits fits in
-      let fraction = padded_digits (size % 1000 / 100) (drop 1 (three_of (size % 1000))) three_are_digits fraction_fits in
+      let whole = decimal_of_digits (size / 10 ^ 9 / 100)
+      (drop 1 (nine_of (size / 10 ^ 9) (size / 10 ^ 6 % 1000) (size / 1000 % 1000))) nine_are_digits fits in
+      let fraction = padded_digits (size % 1000 / 100)
+      (drop 1 (three_of (size % 1000))) three_are_digits fraction_fits in
       rw (← whole, ← fraction, whole_weighs, fraction_weighs) refl
 
 -- ---- the text in a field
 
 module _ (size start : ℕ) (columns text field : List ℕ) (small : size < 10 ^ 12)
-    (spread_is : columns ≡ row_of (nine_of (size / 10 ^ 9) (size / 10 ^ 6 % 1000) (size / 1000 % 1000)) (three_of (size % 1000)))
+    (spread_is : columns ≡ row_of (nine_of (size / 10 ^ 9) (size / 10 ^ 6 % 1000) (size / 1000 % 1000))
+    (three_of (size % 1000)))
     (start_is : start ≡ 1 + leading_zeros (take 9 (drop 1 columns)))
-    (text_is : text ≡ plus columns (replicate start 32 ++ replicate (16 - start) 48)) (field_is : field ≡ take 14 text) where
+    (text_is : text ≡ plus columns (replicate start 32 ++ replicate (16 - start) 48))
+    (field_is : field ≡ take 14 text) where
   digits_before : start ≡ 1 + leading_zeros (nine_of (size / 10 ^ 9) (size / 10 ^ 6 % 1000) (size / 1000 % 1000))
   digits_before = start_is ∙ ap (λ (l : List ℕ). 1 + leading_zeros (take 9 (drop 1 l))) spread_is
 
@@ -164,7 +220,8 @@ module _ (size start : ℕ) (columns text field : List ℕ) (small : size < 10 ^
       let zeros : ℕ = 1 + leading_zeros nine in
       let text_row : text ≡ (replicate zeros 32 ++ printed nine three) ++ (48 ∷ 48 ∷ []) =
       text_is ∙ ap (λ (l : List ℕ). plus l (replicate {A = ℕ} start 32 ++ replicate (16 - start) 48)) spread_is
-      ∙ ap (λ (n : ℕ). plus (row_of nine three) (replicate {A = ℕ} n 32 ++ replicate (16 - n) 48)) digits_before ∙ row in
+      ∙ ap (λ (n : ℕ). plus (row_of nine three) (replicate {A = ℕ} n 32 ++ replicate (16 - n) 48)) digits_before
+      ∙ row in
       field_is ∙ ap (take 14) text_row ∙ cut
       ∙ ap (λ (t : List ℕ). replicate {A = ℕ} zeros 32 ++ t) (printed_is_size_text size small)
       ∙ ap (λ (n : ℕ). replicate {A = ℕ} n 32 ++ size_text 3 size) (sym digits_before)
@@ -174,12 +231,15 @@ module _ (size start : ℕ) (columns text field : List ℕ) (small : size < 10 ^
       let nine : List ℕ = nine_of (size / 10 ^ 9) (size / 10 ^ 6 % 1000) (size / 1000 % 1000) in
       let three : List ℕ = three_of (size % 1000) in
       let long = printed_length nine three refl refl (nine_are_digits size small) (three_are_digits size small) in
-      let same : length (size_text 3 size) ≡ length (printed nine three) = ap (λ (t : List ℕ). length t) (sym (printed_is_size_text size small)) in
+      let same : length (size_text 3 size) ≡ length (printed nine three) =
+      ap (λ (t : List ℕ). length t) (sym (printed_is_size_text size small)) in
       let few = zeros_few nine in
       omega (arith, same, long, digits_before, few)
 
   pub text_before : take start field ≡ replicate start 32
-  text_before = ap (take start) field_text ∙ take_at (replicate start 32) (size_text 3 size) start (length-replicate start 32)
+  text_before = ap (take start) field_text
+      ∙ take_at (replicate start 32) (size_text 3 size) start (length-replicate start 32)
 
   pub text_written : drop start field ≡ size_text 3 size
-  text_written = ap (drop start) field_text ∙ drop_at (replicate start 32) (size_text 3 size) start (length-replicate start 32)
+  text_written = ap (drop start) field_text
+      ∙ drop_at (replicate start 32) (size_text 3 size) start (length-replicate start 32)

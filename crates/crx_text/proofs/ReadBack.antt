@@ -1,21 +1,27 @@
 -- What is printed is read back.
-use Rattle.std.proofs.Common.{true, false, ℕ, ℤ, pos, negsuc, neg_ℤ, suc, zero, ◌≡◌, ◌≢◌, ◌+◌, ◌-◌, ◌*◌, ◌/◌, ◌%◌, ◌<◌, ◌≤◌, ◌^◌, List, [], ◌∷◌, ◌++◌, length, drop, take, get_or, replicate, decimal, Option, Some, None, ◌==◌, arith, refl, ap, sym, ◌∙◌}
+use Rattle.std.proofs.Common.{true, false, ℕ, ℤ, pos, negsuc, neg_ℤ, suc, zero, ◌≡◌, ◌≢◌, ◌+◌, ◌-◌, ◌*◌, ◌/◌, ◌%◌, ◌<◌}
+use Rattle.std.proofs.Common.{◌≤◌, ◌^◌, List, [], ◌∷◌, ◌++◌, length, drop, take, get_or, replicate, decimal, Option}
+use Rattle.std.proofs.Common.{Some, None, ◌==◌, arith, refl, ap, sym, ◌∙◌}
 use Rattle.std.proofs.Math.Nat.{pow-suc, mod-lt, div-le_self}
 use Rattle.std.proofs.lemmas.Nat.{div-add-mod'}
 use Rattle.std.proofs.lemmas.Bool.Decides.{nat_tests}
 use Rattle.std.proofs.lemmas.Fmt.{decimal_is_IsNumeral, digits_decimal, first_decimal, decimal_nonempty, decimal_digit}
-use Rattle.std.proofs.lemmas.List.{length-append, length-replicate, append_assoc, take_at, drop_at, get_or_at, get_or_append_left, append-nil}
+use Rattle.std.proofs.lemmas.List.{length-append, length-replicate, append_assoc, take_at, drop_at, get_or_at}
+use Rattle.std.proofs.lemmas.List.{get_or_append_left, append-nil}
 use Rattle.std.proofs.lemmas.Str.Parse.{IsNumeralModel, numerals_by_value, tells_all_ascii_digits}
 use Rattle.std.specs.Char.{digit_value}
 use Rattle.std.specs.Option.{option_map, ForSome}
 use Rattle.std.proofs.lemmas.Int.{ints}
 use Rattle.std.specs.Str.{all_ascii_digits}
 use Rattle.std.specs.Str.Parse.{digits_value, digits_value_after}
-use Rattle.crx_text.specs.Columns.{without_first_blanks}
-use Rattle.crx_text.specs.Numbers.{IsWithin, number_of, number_text, size_of, size_text, zero_padded, right_justified, spelt_number, missing_or_spelt}
+use Rattle.crx_text.specs.meaning.Columns.{without_first_blanks}
+use Rattle.crx_text.specs.meaning.Numbers.{IsWithin, number_of, number_text, size_of, size_text, zero_padded}
+use Rattle.crx_text.specs.meaning.Numbers.{right_justified, decimal_number, missing_or_number}
 use Rattle.crx_text.proofs.PowersOfTen.{ten_pow_pos}
-use Rattle.crx_text.proofs.Sizes.{size_of_parts, spelt_number_plain, spelt_number_minus, missing_or_spelt_text, number_of_width}
-use Rattle.crx_text.proofs.Spellings.{fraction_short, length-zero_padded, length-size_text, size_text_fits, ten_pow_small, abs_within, abs_within_below}
+use Rattle.crx_text.proofs.Sizes.{size_of_parts, decimal_number_plain, decimal_number_minus, missing_or_number_text}
+use Rattle.crx_text.proofs.Sizes.{number_of_width}
+use Rattle.crx_text.proofs.Spellings.{fraction_short, length-zero_padded, length-size_text, size_text_fits}
+use Rattle.crx_text.proofs.Spellings.{ten_pow_small, abs_within, abs_within_below}
 
 -- the digits that are after a number
 pub digits_behind : (n : ℕ) (ds : List ℕ) → digits_value_after 10 n ds ≡ n * 10 ^ length ds + digits_value_after 10 0 ds
@@ -29,11 +35,13 @@ digits_behind n (c ∷ cs) =
 pub digits_own : IsNumeralModel (λ ds. all_ascii_digits ds ≡ true) (digits_value 10)
 digits_own = numerals_by_value (λ ds. all_ascii_digits ds ≡ true) tells_all_ascii_digits
 
-pub zeros_are_digits : (k : ℕ) (ds : List ℕ) → all_ascii_digits ds ≡ true → all_ascii_digits (replicate k 48 ++ ds) ≡ true
+pub zeros_are_digits : (k : ℕ) (ds : List ℕ)
+    → all_ascii_digits ds ≡ true → all_ascii_digits (replicate k 48 ++ ds) ≡ true
 zeros_are_digits zero ds digits = digits
 zeros_are_digits (suc k) ds digits = zeros_are_digits k ds digits
 
-pub zeros_weigh_nothing : (k : ℕ) (ds : List ℕ) → digits_value_after 10 0 (replicate k 48 ++ ds) ≡ digits_value_after 10 0 ds
+pub zeros_weigh_nothing : (k : ℕ) (ds : List ℕ)
+    → digits_value_after 10 0 (replicate k 48 ++ ds) ≡ digits_value_after 10 0 ds
 zeros_weigh_nothing zero ds = refl
 zeros_weigh_nothing (suc k) ds = zeros_weigh_nothing k ds
 
@@ -44,35 +52,44 @@ pub decimal_weighs : (n : ℕ) → n < 2 ^ 64 → digits_value_after 10 0 (decim
 decimal_weighs n small = (decimal_is_IsNumeral n small).1
 
 -- whole digits, a point and digits after it
-pub size_of_pieces : (decimals w f : ℕ) (whole fraction : List ℕ) → length fraction ≡ decimals → all_ascii_digits whole ≡ true → all_ascii_digits fraction ≡ true → digits_value_after 10 0 whole ≡ w → digits_value_after 10 0 fraction ≡ f → size_of decimals (whole ++ 46 ∷ fraction) ≡ Some (w * 10 ^ decimals + f)
+pub size_of_pieces : (decimals w f : ℕ) (whole fraction : List ℕ) → length fraction ≡ decimals
+    → all_ascii_digits whole ≡ true → all_ascii_digits fraction ≡ true → digits_value_after 10 0 whole ≡ w
+    → digits_value_after 10 0 fraction ≡ f → size_of decimals (whole ++ 46 ∷ fraction) ≡ Some (w * 10 ^ decimals + f)
 size_of_pieces decimals w f whole fraction count whole_digits fraction_digits whole_is fraction_is =
     let text = whole ++ 46 ∷ fraction in
     let long : length text ≡ length whole + suc decimals = omega (arith, length-append whole (46 ∷ fraction), count) in
     let dot : get_or text (length whole) 0 ≡ 46 = get_or_at whole 46 fraction 0 (length whole) refl in
     let front : take (length whole) text ≡ whole = take_at whole (46 ∷ fraction) (length whole) refl in
     let split : text ≡ (whole ++ 46 ∷ []) ++ fraction = sym (append_assoc whole (46 ∷ []) fraction) in
-    let back : drop (length whole + 1) text ≡ fraction = ap (drop (length whole + 1)) split ∙ drop_at (whole ++ 46 ∷ []) fraction (length whole + 1) (length-append whole (46 ∷ [])) in
+    let back : drop (length whole + 1) text ≡ fraction = ap (drop (length whole + 1)) split ∙ drop_at
+    (whole ++ 46 ∷ []) fraction (length whole + 1) (length-append whole (46 ∷ [])) in
     let value : digits_value_after 10 (digits_value_after 10 0 whole) fraction ≡ w * 10 ^ decimals + f =
     digits_behind (digits_value_after 10 0 whole) fraction ∙ (rw (whole_is, count, fraction_is) refl) in
     size_of_parts decimals (length whole) text (omega arith) (omega arith) dot
     ∙ (rw (front, back, whole_digits, fraction_digits, value) refl)
 
 -- a size is read back from its text
-pub size_of-size_text : (decimals size : ℕ) → 0 < decimals → decimals < 19 → size < 2 ^ 64 → size_of decimals (size_text decimals size) ≡ Some size
+pub size_of-size_text : (decimals size : ℕ)
+    → 0 < decimals → decimals < 19 → size < 2 ^ 64 → size_of decimals (size_text decimals size) ≡ Some size
 size_of-size_text decimals size some few small =
     let unit : ℕ = 10 ^ decimals in
     let one : 1 ≤ unit = ten_pow_pos decimals in
     let bound : unit < 2 ^ 64 = ten_pow_small decimals few in
-    let rest_small : size % unit < 2 ^ 64 = let below : size % unit < unit = mod-lt size one in omega (arith, below, bound) in
-    let whole_small : size / unit < 2 ^ 64 = let less : size / unit ≤ size = div-le_self size unit in omega (arith, less, small) in
+    let rest_small : size % unit < 2 ^ 64 = let below : size % unit < unit = mod-lt size one in
+    omega (arith, below, bound) in
+    let whole_small : size / unit < 2 ^ 64 = let less : size / unit ≤ size = div-le_self size unit in
+    omega (arith, less, small) in
     let short = fraction_short decimals size some few in
     let sum : size / unit * unit + size % unit ≡ size = div-add-mod' size unit in
-    let pieces = size_of_pieces decimals (size / unit) (size % unit) (decimal (size / unit)) (zero_padded decimals (size % unit))
+    let pieces = size_of_pieces decimals
+    (size / unit) (size % unit) (decimal (size / unit)) (zero_padded decimals (size % unit))
     (length-zero_padded decimals (size % unit) short)
     (decimal_is_digits (size / unit) whole_small)
-    (zeros_are_digits (decimals - length (decimal (size % unit))) (decimal (size % unit)) (decimal_is_digits (size % unit) rest_small))
+    (zeros_are_digits (decimals - length (decimal (size % unit)))
+    (decimal (size % unit)) (decimal_is_digits (size % unit) rest_small))
     (decimal_weighs (size / unit) whole_small)
-    (zeros_weigh_nothing (decimals - length (decimal (size % unit))) (decimal (size % unit)) ∙ decimal_weighs (size % unit) rest_small) in
+    (zeros_weigh_nothing (decimals - length (decimal (size % unit))) (decimal (size % unit))
+    ∙ decimal_weighs (size % unit) rest_small) in
     pieces ∙ ap Some sum
 
 -- ---- the field
@@ -83,7 +100,8 @@ without_first_blanks-text (c ∷ cs) other =
     let test : (c == 32) ≡ false = grind (arith, nat_tests) in
     rw test refl
 
-pub without_first_blanks-blanks : (k : ℕ) (text : List ℕ) → get_or text 0 0 ≢ 32 → without_first_blanks (replicate k 32 ++ text) ≡ text
+pub without_first_blanks-blanks : (k : ℕ) (text : List ℕ)
+    → get_or text 0 0 ≢ 32 → without_first_blanks (replicate k 32 ++ text) ≡ text
 without_first_blanks-blanks zero text other = without_first_blanks-text text other
 without_first_blanks-blanks (suc k) text other = without_first_blanks-blanks k text other
 
@@ -94,21 +112,26 @@ decimal_first (suc n) small = let first = first_decimal (suc n) (omega arith) sm
 
 pub size_text_first : (decimals size : ℕ) → size < 2 ^ 64 → 48 ≤ get_or (size_text decimals size) 0 0
 size_text_first decimals size small =
-    let whole_small : size / 10 ^ decimals < 2 ^ 64 = let less : size / 10 ^ decimals ≤ size = div-le_self size (10 ^ decimals) in omega (arith, less, small) in
+    let whole_small : size / 10 ^ decimals < 2 ^ 64 = let less : size / 10 ^ decimals ≤ size =
+    div-le_self size (10 ^ decimals) in omega (arith, less, small) in
     let some = decimal_nonempty (size / 10 ^ decimals) whole_small in
     let same : get_or (size_text decimals size) 0 0 ≡ get_or (decimal (size / 10 ^ decimals)) 0 0 =
     get_or_append_left (decimal (size / 10 ^ decimals)) (46 ∷ zero_padded decimals (size % 10 ^ decimals)) 0 0 some in
     rw same (decimal_first (size / 10 ^ decimals) whole_small)
 
 -- a text after its blanks, in a field that it fills
-pub number_of-right_justified : (width decimals : ℕ) (text : List ℕ) (number : ℤ) → length text ≤ width → 0 < length text → get_or text 0 0 ≢ 32 → spelt_number decimals text ≡ Some number → number_of width decimals (right_justified width text) ≡ Some (Some number)
-number_of-right_justified width decimals text number fits some other spelt =
+pub number_of-right_justified : (width decimals : ℕ) (text : List ℕ) (number : ℤ)
+    → length text ≤ width → 0 < length text → get_or text 0 0 ≢ 32 → decimal_number decimals text ≡ Some number
+    → number_of width decimals (right_justified width text) ≡ Some (Some number)
+number_of-right_justified width decimals text number fits some other reads =
     let filled : length (right_justified width text) ≡ width = simp (length-append, length-replicate) (omega arith) in
     number_of_width width decimals (right_justified width text) filled
-    ∙ (ap (missing_or_spelt decimals) (without_first_blanks-blanks (width - length text) text other)
-    ∙ (missing_or_spelt_text decimals text some ∙ ap (option_map Some) spelt))
+    ∙ (ap (missing_or_number decimals) (without_first_blanks-blanks (width - length text) text other)
+    ∙ (missing_or_number_text decimals text some ∙ ap (option_map Some) reads))
 
-pub number_of-number_text_plain : (width decimals size : ℕ) → 0 < decimals → decimals + 3 ≤ width → width ≤ 19 → size < 10 ^ (width - 1) → number_of width decimals (number_text width decimals (Some (pos size))) ≡ Some (Some (pos size))
+pub number_of-number_text_plain : (width decimals size : ℕ)
+    → 0 < decimals → decimals + 3 ≤ width → width ≤ 19 → size < 10 ^ (width - 1)
+    → number_of width decimals (number_text width decimals (Some (pos size))) ≡ Some (Some (pos size))
 unfolding number_text
 number_of-number_text_plain width decimals size some room few small =
     let bound = ten_pow_small (width - 1) (omega arith) in
@@ -116,11 +139,15 @@ number_of-number_text_plain width decimals size some room few small =
     let first = size_text_first decimals size tiny in
     let fits = size_text_fits decimals size width some (omega (arith, room)) few small in
     let long = length-size_text decimals size some (omega arith) in
-    let spelt : spelt_number decimals (size_text decimals size) ≡ Some (pos size) =
-    spelt_number_plain decimals (size_text decimals size) (omega (arith, first)) ∙ ap (option_map pos) (size_of-size_text decimals size some (omega arith) tiny) in
-    number_of-right_justified width decimals (size_text decimals size) (pos size) fits (omega (arith, long)) (omega (arith, first)) spelt
+    let reads : decimal_number decimals (size_text decimals size) ≡ Some (pos size) =
+    decimal_number_plain decimals (size_text decimals size) (omega (arith, first))
+    ∙ ap (option_map pos) (size_of-size_text decimals size some (omega arith) tiny) in
+    number_of-right_justified width decimals
+    (size_text decimals size) (pos size) fits (omega (arith, long)) (omega (arith, first)) reads
 
-pub number_of-number_text_minus : (width decimals less : ℕ) → 0 < decimals → decimals + 3 ≤ width → width ≤ 19 → less + 1 < 10 ^ (width - 1 - 1) → number_of width decimals (number_text width decimals (Some (negsuc less))) ≡ Some (Some (negsuc less))
+pub number_of-number_text_minus : (width decimals less : ℕ)
+    → 0 < decimals → decimals + 3 ≤ width → width ≤ 19 → less + 1 < 10 ^ (width - 1 - 1)
+    → number_of width decimals (number_text width decimals (Some (negsuc less))) ≡ Some (Some (negsuc less))
 unfolding number_text
 number_of-number_text_minus width decimals less some room few small =
     let bound = ten_pow_small (width - 1 - 1) (omega arith) in
@@ -128,20 +155,27 @@ number_of-number_text_minus width decimals less some room few small =
     let fits = size_text_fits decimals (less + 1) (width - 1) some (omega (arith, room)) (omega (arith, few)) small in
     let text = 45 ∷ size_text decimals (less + 1) in
     let negated : neg_ℤ (pos (less + 1)) ≡ negsuc less = omega (arith, ints) in
-    let spelt : spelt_number decimals text ≡ Some (negsuc less) =
-    spelt_number_minus decimals text refl ∙ (ap (option_map (λ (n : ℕ). neg_ℤ (pos n))) (size_of-size_text decimals (less + 1) some (omega arith) tiny) ∙ ap Some negated) in
-    number_of-right_justified width decimals text (negsuc less) (omega (arith, fits, room)) (omega arith) (omega arith) spelt
+    let reads : decimal_number decimals text ≡ Some (negsuc less) =
+    decimal_number_minus decimals text refl ∙ (ap (option_map (λ (n : ℕ). neg_ℤ (pos n)))
+    (size_of-size_text decimals (less + 1) some (omega arith) tiny) ∙ ap Some negated) in
+    number_of-right_justified width decimals text
+    (negsuc less) (omega (arith, fits, room)) (omega arith) (omega arith) reads
 
-pub number_of-number_text_blank : (width decimals : ℕ) → number_of width decimals (number_text width decimals None) ≡ Some None
+pub number_of-number_text_blank : (width decimals : ℕ)
+    → number_of width decimals (number_text width decimals None) ≡ Some None
 unfolding number_text
 number_of-number_text_blank width decimals =
-    let blank : without_first_blanks (replicate width 32) ≡ [] = ap without_first_blanks (sym (append-nil (replicate width 32))) ∙ without_first_blanks-blanks width [] (omega arith) in
-    number_of_width width decimals (replicate width 32) (length-replicate width 32) ∙ ap (missing_or_spelt decimals) blank
+    let blank : without_first_blanks (replicate width 32) ≡ [] = ap without_first_blanks
+    (sym (append-nil (replicate width 32))) ∙ without_first_blanks-blanks width [] (omega arith) in
+    number_of_width width decimals (replicate width 32) (length-replicate width 32)
+    ∙ ap (missing_or_number decimals) blank
 
 -- what is printed is read back, at any width
-pub number_of-number_text : (width decimals : ℕ) (value : Option ℤ) → 0 < decimals → decimals + 3 ≤ width → width ≤ 19 → ForSome value (IsWithin width) → number_of width decimals (number_text width decimals value) ≡ Some value
+pub number_of-number_text : (width decimals : ℕ) (value : Option ℤ) → 0 < decimals → decimals + 3 ≤ width → width ≤ 19
+    → ForSome value (IsWithin width) → number_of width decimals (number_text width decimals value) ≡ Some value
 number_of-number_text width decimals None some room few within = number_of-number_text_blank width decimals
 number_of-number_text width decimals (Some (pos n)) some room few within =
     number_of-number_text_plain width decimals n some room few (abs_within width (pos n) (within (pos n) refl))
 number_of-number_text width decimals (Some (negsuc n)) some room few within =
-    number_of-number_text_minus width decimals n some room few (let small = abs_within_below width (negsuc n) refl (within (negsuc n) refl) in omega (arith, small))
+    number_of-number_text_minus width decimals n some room few
+    (let small = abs_within_below width (negsuc n) refl (within (negsuc n) refl) in omega (arith, small))

@@ -1,13 +1,16 @@
 -- The spellings of a number without its sign: what reading them asks for.
-use Rattle.std.proofs.Common.{ℤ, pos, neg_ℤ, ◌≡◌, ℕ, ◌+◌, ◌-◌, ◌<◌, ◌≤◌, ◌^◌, Bool, true, false, ◌&&◌, ◌≢◌, if◌then◌else◌, nat_lt, ◌==◌, Option, Some, None, List, [], ◌∷◌, ◌++◌, length, drop, take, get_or, arith, refl, sym}
+use Rattle.std.proofs.Common.{ℤ, pos, neg_ℤ, ◌≡◌, ℕ, ◌+◌, ◌-◌, ◌<◌, ◌≤◌, ◌^◌, Bool, true, false, ◌&&◌, ◌≢◌}
+use Rattle.std.proofs.Common.{if◌then◌else◌, nat_lt, ◌==◌, Option, Some, None, List, [], ◌∷◌, ◌++◌, length, drop, take}
+use Rattle.std.proofs.Common.{get_or, arith, refl, sym}
 use Rattle.std.proofs.lemmas.Bool.Decides.{nat_tests}
 use Rattle.std.proofs.lemmas.Int.{ints}
 use Rattle.std.proofs.Math.Nat.{pow-le-pow_right}
 use Rattle.std.specs.Option.{option_map}
 use Rattle.std.specs.Str.{all_ascii_digits}
 use Rattle.std.specs.Str.Parse.{digits_value, digits_value_after}
-use Rattle.crx_text.specs.Numbers.{size_of, spelt_number, missing_or_spelt, number_of, signed_number, IsWithin}
-use Rattle.crx_text.specs.Columns.{without_first_blanks}
+use Rattle.crx_text.specs.meaning.Numbers.{size_of, decimal_number, missing_or_number, number_of, signed_number}
+use Rattle.crx_text.specs.meaning.Numbers.{IsWithin}
+use Rattle.crx_text.specs.meaning.Columns.{without_first_blanks}
 use Rattle.crx_text.proofs.PowersOfTen.{ten_pow_pos, digits_value_after-append}
 
 pub size_of_short : (decimals : ℕ) (text : List ℕ) → length text ≤ decimals → size_of decimals text ≡ None
@@ -16,42 +19,51 @@ size_of_short decimals text short =
     let test : nat_lt decimals (length text) ≡ false = grind (arith, nat_tests) in
     rw test refl
 
-pub size_of_pointless : (decimals point : ℕ) (text : List ℕ) → point ≡ length text - (decimals + 1) → decimals < length text → get_or text point 0 ≢ 46 → size_of decimals text ≡ None
+pub size_of_pointless : (decimals point : ℕ) (text : List ℕ) → point ≡ length text - (decimals + 1)
+    → decimals < length text → get_or text point 0 ≢ 46 → size_of decimals text ≡ None
 unfolding size_of
 size_of_pointless decimals point text at long other =
     let test : nat_lt decimals (length text) ≡ true = grind (arith, nat_tests) in
     let point_test : (get_or text point 0 == 46) ≡ false = grind (arith, nat_tests) in
     rw (← at, test, point_test) refl
 
-pub size_of_parts : (decimals point : ℕ) (text : List ℕ) → point ≡ length text - (decimals + 1) → decimals < length text → get_or text point 0 ≡ 46 →
-    size_of decimals text ≡ (if all_ascii_digits (take point text) && all_ascii_digits (drop (point + 1) text) then Some (digits_value_after 10 (digits_value 10 (take point text)) (drop (point + 1) text)) else None)
+pub size_of_parts : (decimals point : ℕ) (text : List ℕ)
+    → point ≡ length text - (decimals + 1) → decimals < length text → get_or text point 0 ≡ 46 →
+    size_of decimals text ≡ (if all_ascii_digits (take point text) && all_ascii_digits (drop (point + 1) text)
+    then Some (digits_value_after 10 (digits_value 10 (take point text)) (drop (point + 1) text)) else None)
 unfolding size_of
 size_of_parts decimals point text at long dot =
     let test : nat_lt decimals (length text) ≡ true = grind (arith, nat_tests) in
     let point_test : (get_or text point 0 == 46) ≡ true = grind (arith, nat_tests) in
-    let joined : digits_value 10 (take point text ++ drop (point + 1) text) ≡ digits_value_after 10 (digits_value 10 (take point text)) (drop (point + 1) text) = digits_value_after-append 0 (take point text) (drop (point + 1) text) in
+    let joined : digits_value 10 (take point text ++ drop (point + 1) text)
+    ≡ digits_value_after 10 (digits_value 10 (take point text)) (drop (point + 1) text) =
+    digits_value_after-append 0 (take point text) (drop (point + 1) text) in
     rw (← at, test, point_test, joined) refl
 
 -- a choice of two tests after the first one
-pub neither : (a b : Bool) (x y : ℕ) → ◌≡◌ {A = Option ℕ} None (if a then Some x else None) → ◌≡◌ {A = Option ℕ} (if a && b then Some y else None) None
+pub neither : (a b : Bool) (x y : ℕ)
+    → ◌≡◌ {A = Option ℕ} None (if a then Some x else None) → ◌≡◌ {A = Option ℕ} (if a && b then Some y else None) None
 neither true b x y e = absurd (cc)
 neither false b x y e = refl
 
-pub first_passed : (a b : Bool) (x w : ℕ) (f : ℕ → ℕ) → Some w ≡ (if a then Some x else None) → (if a && b then Some (f x) else None) ≡ (if b then Some (f w) else None)
+pub first_passed : (a b : Bool) (x w : ℕ) (f : ℕ → ℕ)
+    → Some w ≡ (if a then Some x else None) → (if a && b then Some (f x) else None) ≡ (if b then Some (f w) else None)
 first_passed true b x w f e = let same : w ≡ x = cc in rw same refl
 first_passed false b x w f e = absurd (cc)
 
 -- ---- the sign
 
-pub spelt_number_plain : (decimals : ℕ) (text : List ℕ) → get_or text 0 0 ≢ 45 → spelt_number decimals text ≡ option_map pos (size_of decimals text)
-spelt_number_plain decimals [] other = refl
-spelt_number_plain decimals (c ∷ cs) other =
+pub decimal_number_plain : (decimals : ℕ) (text : List ℕ)
+    → get_or text 0 0 ≢ 45 → decimal_number decimals text ≡ option_map pos (size_of decimals text)
+decimal_number_plain decimals [] other = refl
+decimal_number_plain decimals (c ∷ cs) other =
     let test : (c == 45) ≡ false = grind (arith, nat_tests) in
     rw test refl
 
-pub spelt_number_minus : (decimals : ℕ) (text : List ℕ) → get_or text 0 0 ≡ 45 → spelt_number decimals text ≡ option_map (λ n. neg_ℤ (pos n)) (size_of decimals (drop 1 text))
-spelt_number_minus decimals [] minus = absurd (omega arith)
-spelt_number_minus decimals (c ∷ cs) minus =
+pub decimal_number_minus : (decimals : ℕ) (text : List ℕ) → get_or text 0 0 ≡ 45
+    → decimal_number decimals text ≡ option_map (λ n. neg_ℤ (pos n)) (size_of decimals (drop 1 text))
+decimal_number_minus decimals [] minus = absurd (omega arith)
+decimal_number_minus decimals (c ∷ cs) minus =
     let test : (c == 45) ≡ true = grind (arith, nat_tests) in
     rw test refl
 
@@ -60,7 +72,8 @@ spelt_number_minus decimals (c ∷ cs) minus =
 -- digits of so many columns fit an i64
 pub size_fits : (size columns : ℕ) → columns ≤ 19 → size < 10 ^ (columns - 1) → size < 2 ^ 63
 size_fits size columns few small =
-    let power : 10 ^ (columns - 1) ≤ 10 ^ 18 = let few : columns - 1 ≤ 18 = omega arith in pow-le-pow_right {n = 10} (omega arith) few in
+    let power : 10 ^ (columns - 1) ≤ 10 ^ 18 = let few : columns - 1 ≤ 18 = omega arith in
+    pow-le-pow_right {n = 10} (omega arith) few in
     omega (arith, small, power)
 
 pub pos_is_within : (size columns : ℕ) → size < 10 ^ (columns - 1) → IsWithin columns (pos size)
@@ -79,7 +92,8 @@ neg_is_within size columns small =
     }
 
 -- a minus takes a column
-pub signed_is_within : (is_below : Bool) (size columns all : ℕ) → columns + (if is_below then 1 else 0) ≡ all → size < 10 ^ (columns - 1) → IsWithin all (signed_number is_below size)
+pub signed_is_within : (is_below : Bool) (size columns all : ℕ) → columns + (if is_below then 1 else 0) ≡ all
+    → size < 10 ^ (columns - 1) → IsWithin all (signed_number is_below size)
 signed_is_within true size columns all sum small =
     let same : columns - 1 ≡ all - 1 - 1 = omega arith in
     neg_is_within size all (rw (sym same) small)
@@ -101,22 +115,26 @@ IsWithin_more columns width number fewer within =
 
 -- ---- the field
 
-pub number_of_other_width : (width decimals : ℕ) (text : List ℕ) → length text ≢ width → number_of width decimals text ≡ None
+pub number_of_other_width : (width decimals : ℕ) (text : List ℕ)
+    → length text ≢ width → number_of width decimals text ≡ None
 unfolding number_of
 number_of_other_width width decimals text other =
     let test : (length text == width) ≡ false = grind (arith, nat_tests) in
     rw test refl
 
-pub number_of_width : (width decimals : ℕ) (text : List ℕ) → length text ≡ width → number_of width decimals text ≡ missing_or_spelt decimals (without_first_blanks text)
+pub number_of_width : (width decimals : ℕ) (text : List ℕ)
+    → length text ≡ width → number_of width decimals text ≡ missing_or_number decimals (without_first_blanks text)
 unfolding number_of
 number_of_width width decimals text same =
     let test : (length text == width) ≡ true = grind (arith, nat_tests) in
     rw test refl
 
-pub missing_or_spelt_blank : (decimals : ℕ) (text : List ℕ) → length text ≡ 0 → missing_or_spelt decimals text ≡ Some None
-missing_or_spelt_blank decimals [] empty = refl
-missing_or_spelt_blank decimals (c ∷ cs) empty = absurd (omega arith)
+pub missing_or_number_blank : (decimals : ℕ) (text : List ℕ)
+    → length text ≡ 0 → missing_or_number decimals text ≡ Some None
+missing_or_number_blank decimals [] empty = refl
+missing_or_number_blank decimals (c ∷ cs) empty = absurd (omega arith)
 
-pub missing_or_spelt_text : (decimals : ℕ) (text : List ℕ) → 0 < length text → missing_or_spelt decimals text ≡ option_map Some (spelt_number decimals text)
-missing_or_spelt_text decimals [] some = absurd (omega arith)
-missing_or_spelt_text decimals (c ∷ cs) some = refl
+pub missing_or_number_text : (decimals : ℕ) (text : List ℕ)
+    → 0 < length text → missing_or_number decimals text ≡ option_map Some (decimal_number decimals text)
+missing_or_number_text decimals [] some = absurd (omega arith)
+missing_or_number_text decimals (c ∷ cs) some = refl

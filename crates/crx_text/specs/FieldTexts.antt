@@ -8,12 +8,14 @@ group_digits (group ∷ groups) = group / 100 ∷ group / 10 % 10 ∷ group % 10
 
 -- four groups in their columns: a column without a digit, nine digits, the column of the point, three digits
 abbrev pub spread : List ℕ → List ℕ
-spread (a ∷ b ∷ c ∷ x ∷ d ∷ e ∷ f ∷ y ∷ g ∷ h ∷ i ∷ z ∷ j ∷ k ∷ l ∷ w ∷ rest) = x ∷ a ∷ b ∷ c ∷ d ∷ e ∷ f ∷ g ∷ h ∷ i ∷ 254 ∷ j ∷ k ∷ l ∷ x ∷ x ∷ []
+spread (a ∷ b ∷ c ∷ x ∷ d ∷ e ∷ f ∷ y ∷ g ∷ h ∷ i ∷ z ∷ j ∷ k ∷ l ∷ w ∷ rest) =
+    x ∷ a ∷ b ∷ c ∷ d ∷ e ∷ f ∷ g ∷ h ∷ i ∷ 254 ∷ j ∷ k ∷ l ∷ x ∷ x ∷ []
 spread other = []
 
 -- four groups one after another
 abbrev pub side_by_side : List ℕ → List ℕ
-side_by_side (a ∷ b ∷ c ∷ x ∷ d ∷ e ∷ f ∷ y ∷ g ∷ h ∷ i ∷ z ∷ j ∷ k ∷ l ∷ w ∷ rest) = a ∷ b ∷ c ∷ d ∷ e ∷ f ∷ g ∷ h ∷ i ∷ j ∷ k ∷ l ∷ x ∷ x ∷ x ∷ x ∷ []
+side_by_side (a ∷ b ∷ c ∷ x ∷ d ∷ e ∷ f ∷ y ∷ g ∷ h ∷ i ∷ z ∷ j ∷ k ∷ l ∷ w ∷ rest) =
+    a ∷ b ∷ c ∷ d ∷ e ∷ f ∷ g ∷ h ∷ i ∷ j ∷ k ∷ l ∷ x ∷ x ∷ x ∷ x ∷ []
 side_by_side other = []
 
 -- the zeros before a number's first digit, its last one apart

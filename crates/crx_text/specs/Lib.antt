@@ -1,5 +1,5 @@
+pub mod meaning
 pub mod Codes
-pub mod Columns
 pub mod FirstDigits
 pub mod FieldTexts
 pub mod Fields

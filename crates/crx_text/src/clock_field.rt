@@ -7,7 +7,8 @@ ghost use Rattle.std.specs.Str.{all_ascii_digits};
 ghost use Rattle.std.specs.Str.Parse.{digits_value};
 ghost use Rattle.crx_lines.specs.declared.limits.TheConstants.{CLOCK_WIDTH};
 ghost use Rattle.crx_text.specs.Fields.{is_plain_after, weighed};
-ghost use Rattle.crx_text.specs.Numbers.{IsClock, clock_of};
+ghost use Rattle.crx_text.specs.Numbers.{IsClock};
+ghost use Rattle.crx_text.specs.meaning.Numbers.{clock_of};
 
 use crate::digits::signed;
 use crate::field::{self, WEIGHTS};
@@ -34,7 +35,7 @@ fn columns(field: &[u8]) -> u8x16
     )
 }
 
-/// The number in the columns; None where they are spelt in another way.
+/// The number in the columns; None where they are not in the plain form.
 #[inline(always)]
 pub(crate) fn value(field: &[u8]) -> Option<i64>
     requires { length field.now ≡ CLOCK_WIDTH }

@@ -4,7 +4,7 @@ ghost use Rattle.std.specs.Prelude.{◌≡◌, ◌+◌, ◌%◌, ◌^◌, ◌<�
 ghost use Rattle.std.specs.Simd.Lanes.{zip2};
 ghost use Rattle.crx_lines.specs.declared.limits.TheConstants.{CLOCK_DECIMALS, CLOCK_WIDTH};
 ghost use Rattle.crx_text.specs.FieldTexts.{side_by_side};
-ghost use Rattle.crx_text.specs.Numbers.{size_text};
+ghost use Rattle.crx_text.specs.meaning.Numbers.{size_text};
 
 use crate::field_text::{digits, groups};
 use std::simd::prelude::*;

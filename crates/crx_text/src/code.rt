@@ -27,7 +27,8 @@ pub enum Code {
     Step(i64),
 }
 
-ghost use Rattle.crx_text.specs.Codes.{IsPrintable, IsShort, after_cell, code_of, code_text, coded_number, first_cell, is_order};
+ghost use Rattle.crx_text.specs.Codes.{IsPrintable, IsShort};
+ghost use Rattle.crx_text.specs.meaning.Codes.{after_cell, code_of, code_text, coded_number, first_cell, is_order};
 ghost use Rattle.crx_text.specs.declared.code.Code.TheVariants.{Step};
 ghost use Rattle.crx_lines.specs.declared.limits.TheConstants.{LINE_LIMIT};
 

@@ -2,7 +2,7 @@
 //! RINEX 3.05, appendix A (its tables A1 to A3 count columns so).
 ghost use Rattle.std.specs.Prelude.{◌≡◌, ◌≤◌, ◌-◌, take, drop, length};
 ghost use Rattle.std.specs.List.{list_all};
-ghost use Rattle.crx_text.specs.Columns.{character_at, columns, is_blank, without_blanks, without_end_blanks, without_first_blanks};
+ghost use Rattle.crx_text.specs.meaning.Columns.{character_at, columns, is_blank, without_blanks, without_end_blanks, without_first_blanks};
 
 use crate::text::{Text, trim_end};
 

@@ -3,7 +3,8 @@
 ghost use Rattle.std.specs.Prelude.{◌≡◌, ◌+◌, ◌≤◌, ◌++◌, length, take, is_ok, OnOk, OnErr};
 ghost use Rattle.std.specs.List.{list_all};
 ghost use Rattle.std.specs.Simd.Lanes.{zip2};
-ghost use Rattle.crx_text.specs.Texts.{is_kept, is_printable, mark_of, character_of, by_position, text_difference, patched};
+ghost use Rattle.crx_text.specs.meaning.Texts.{is_kept, is_printable, mark_of, by_position, text_difference};
+ghost use Rattle.crx_text.specs.Texts.{character_of, patched};
 ghost use Rattle.crx_lines.specs.declared.limits.TheConstants.{LINE_LIMIT};
 
 use crate::lanes::{Kind, Rule, all_of, write_by_rule};

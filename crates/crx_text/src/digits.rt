@@ -8,21 +8,23 @@ ghost use Rattle.std.specs.Char.{is_ascii_digit};
 ghost use Rattle.std.specs.List.{prefix_len};
 ghost use Rattle.std.specs.Str.{all_ascii_digits};
 ghost use Rattle.std.specs.Str.Parse.{digits_value, digits_value_after, starts_with_minus};
-ghost use Rattle.crx_text.specs.Numbers.{signed_number, without_minus};
-ghost use Rattle.crx_text.specs.Codes.{after_cell, counted_digits, first_cell};
+ghost use Rattle.crx_text.specs.meaning.Numbers.{signed_number, without_minus};
+ghost use Rattle.crx_text.specs.meaning.Codes.{after_cell, first_cell};
+ghost use Rattle.crx_text.specs.Codes.{counted_digits};
 ghost use Rattle.crx_text.specs.FirstDigits.{HasFirstDigits};
 ghost use Rattle.crx_lines.specs.declared.limits.TheConstants.{DIGITS_LIMIT};
 
 use crx_lines::limits::DIGITS_LIMIT;
 use std::simd::prelude::*;
 
-/// The most columns of a number, its point among them, that an `i64` holds in every spelling.
+/// The most columns of a number, its point among them, that an `i64` holds in every form.
 pub(crate) const WIDEST: usize = 19;
 
 // Goes on from the number that the digits so far write; None where a byte is no digit.
 pub(crate) fn digits_read(before: u64, digits: &[u8]) -> Option<u64>
     requires { (before + 1) * 10 ^ length digits.now ≤ 10 ^ (WIDEST - 1) }
-    ensures value { result ≡ (if all_ascii_digits digits.now then Some (digits_value_after 10 before digits.now) else None) }
+    ensures value { result ≡ (if all_ascii_digits digits.now
+        then Some (digits_value_after 10 before digits.now) else None) }
     ensures fits { IfSome result (λ size. size < (before + 1) * 10 ^ length digits.now) }
 {
     let mut size = before;
@@ -310,7 +312,8 @@ fn zeros_before(size: usize) -> usize
 #[inline(always)]
 fn four_digits(size: usize) -> u32
     requires { size < 10000 }
-    ensures { to_le_bytes w32 result ≡ (48 + size / 100 / 10) ∷ (48 + size / 100 % 10) ∷ (48 + size % 100 / 10) ∷ (48 + size % 100 % 10) ∷ [] }
+    ensures { to_le_bytes w32 result ≡ (48 + size / 100 / 10)
+        ∷ (48 + size / 100 % 10) ∷ (48 + size % 100 / 10) ∷ (48 + size % 100 % 10) ∷ [] }
 {
     let high = size / 100;
     let low = size - high * 100;

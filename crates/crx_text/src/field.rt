@@ -5,7 +5,8 @@ ghost use Rattle.std.specs.Prelude.{◌≡◌, ◌==◌, ◌++◌, ◌∷◌, []
 ghost use Rattle.std.specs.List.{list_all, list_any};
 ghost use Rattle.crx_lines.specs.declared.limits.TheConstants.{OBSERVATION_WIDTH};
 ghost use Rattle.crx_text.specs.Fields.{IsPlain, weighed, plain_digits};
-ghost use Rattle.crx_text.specs.Numbers.{IsObservation, signed_number};
+ghost use Rattle.crx_text.specs.Numbers.{IsObservation};
+ghost use Rattle.crx_text.specs.meaning.Numbers.{signed_number};
 
 use crate::digits::signed;
 use std::simd::prelude::*;
@@ -83,7 +84,8 @@ fn size(columns: u8x16) -> u64
 #[inline(always)]
 pub(crate) fn value(columns: u8x16) -> i64
     requires { IsPlain columns }
-    ensures value { result ≡ signed_number (list_any (λ c. c == 45) columns) (weighed 0 (plain_digits columns)) }
+    ensures value { result ≡ signed_number
+        (list_any (λ c. c == 45) columns) (weighed 0 (plain_digits columns)) }
     ensures in_range { IsObservation result }
 {
     signed(has_minus(columns), size(columns))

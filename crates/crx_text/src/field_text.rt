@@ -5,7 +5,7 @@ ghost use Rattle.std.specs.Prelude.{◌≡◌, ◌+◌, ◌-◌, ◌/◌, ◌%�
 ghost use Rattle.std.specs.Simd.Lanes.{Each1, zip2};
 ghost use Rattle.crx_lines.specs.declared.limits.TheConstants.{OBSERVATION_WIDTH, OBSERVATION_DECIMALS};
 ghost use Rattle.crx_text.specs.FieldTexts.{group_digits, spread, leading_zeros};
-ghost use Rattle.crx_text.specs.Numbers.{size_text};
+ghost use Rattle.crx_text.specs.meaning.Numbers.{size_text};
 
 use std::simd::prelude::*;
 
@@ -71,7 +71,8 @@ const BASES: [u8; 32] = [
 #[inline(always)]
 fn glyphs(columns: u8x16, start: usize) -> u8x16
     requires { start ≤ 9 }
-    ensures { result ≡ zip2 (λ digit base. (digit + base) % 256) columns (replicate start 32 ++ replicate (16 - start) 48) }
+    ensures { result ≡ zip2 (λ digit base. (digit + base) % 256) columns
+        (replicate start 32 ++ replicate (16 - start) 48) }
 {
     columns + u8x16::from_slice(&BASES[16 - start..])
 }

@@ -19,7 +19,8 @@ pub(crate) trait Kind {
 
     /// Lanes with those set whose characters aren't of the kind; those that are set stay so.
     fn with_others(others: u8x16, characters: u8x16) -> u8x16
-        ensures { list_all (λ lane. lane == 0) result ≡ (list_all (λ lane. lane == 0) others && list_all is_of_kind characters) };
+        ensures { list_all (λ lane. lane == 0) result
+            ≡ (list_all (λ lane. lane == 0) others && list_all is_of_kind characters) };
 }
 
 // Whether no lane is set.
@@ -151,7 +152,8 @@ pub(crate) fn write_by_rule<R: Rule>(old: &[u8], other: &[u8], out: &mut [u8])
 fn write_two<R: Rule>(old: &[u8], other: &[u8], out: &mut [u8], at: usize)
     requires room { at + 32 ≤ length old.now }
     requires same_length { (length other.now ≡ length old.now) × (length out.old ≡ length old.now) }
-    ensures written { take (at + 32) out.new ≡ take at out.old ++ zip2 R.rule (chunk at 32 old.now) (chunk at 32 other.now) }
+    ensures written { take (at + 32) out.new
+        ≡ take at out.old ++ zip2 R.rule (chunk at 32 old.now) (chunk at 32 other.now) }
     ensures long { length out.new ≡ length out.old }
 {
     write_lanes::<R>(old, other, out, at);
@@ -163,7 +165,8 @@ fn write_two<R: Rule>(old: &[u8], other: &[u8], out: &mut [u8], at: usize)
 fn write_lanes<R: Rule>(old: &[u8], other: &[u8], out: &mut [u8], at: usize)
     requires room { at + 16 ≤ length old.now }
     requires same_length { (length other.now ≡ length old.now) × (length out.old ≡ length old.now) }
-    ensures written { take (at + 16) out.new ≡ take at out.old ++ zip2 R.rule (chunk at 16 old.now) (chunk at 16 other.now) }
+    ensures written { take (at + 16) out.new
+        ≡ take at out.old ++ zip2 R.rule (chunk at 16 old.now) (chunk at 16 other.now) }
     ensures long { length out.new ≡ length out.old }
 {
     let olds = u8x16::from_slice(&old[at..]);

@@ -6,15 +6,18 @@ ghost use Rattle.std.specs.Option.{ForSome};
 ghost use Rattle.std.specs.Result.{result_ok};
 ghost use Rattle.crx_text.specs.declared.digits.TheConstants.{WIDEST};
 ghost use Rattle.crx_lines.specs.declared.limits.TheConstants.{CELL_WIDTH, LINE_LIMIT, OBSERVATION_WIDTH, CLOCK_WIDTH};
-ghost use Rattle.crx_text.specs.Columns.{without_first_blanks};
-ghost use Rattle.crx_text.specs.Numbers.{IsWithin, IsObservation, IsClock, number_of, observation_of, clock_of, size_of, spelt_number, number_text, observation_text, clock_text, size_text, zero_padded};
+ghost use Rattle.crx_text.specs.meaning.Columns.{without_first_blanks};
+ghost use Rattle.crx_text.specs.meaning.Numbers.{IsWithin, number_of, observation_of, clock_of, size_of, decimal_number, number_text, observation_text, clock_text, size_text, zero_padded};
+ghost use Rattle.crx_text.specs.Numbers.{IsObservation, IsClock};
 
 use crate::columns::trim_start;
 use crate::digits::{WIDEST, digits_read, signed, split_minus};
 use crate::field_text::size_print_by_lanes;
 use crate::text::Text;
 use crate::{clock_field, clock_text, field};
-use crx_lines::limits::{CELL_WIDTH, CLOCK_DECIMALS, CLOCK_WIDTH, OBSERVATION_DECIMALS, OBSERVATION_WIDTH};
+use crx_lines::limits::{
+    CELL_WIDTH, CLOCK_DECIMALS, CLOCK_WIDTH, OBSERVATION_DECIMALS, OBSERVATION_WIDTH,
+};
 use itoa::write_digits;
 use thiserror::Error;
 
@@ -57,7 +60,7 @@ pub fn obs_read_usual(field: &[u8]) -> Option<Option<i64>>
     None
 }
 
-// Reads an observation in any spelling, column by column.
+// Reads an observation in the general form, column by column.
 #[inline(never)]
 fn obs_read_any(field: &[u8]) -> Result<Option<i64>, BadField>
     ensures value { result_ok result ≡ observation_of field.now }
@@ -113,16 +116,11 @@ pub fn obs_print_cell(value: Option<i64>, lock: u8, strength: u8, text: &mut Tex
 
 /// Prints an observation's cell as [`obs_print_cell`] does in place of the bytes from an index on.
 #[inline(always)]
-pub fn obs_print_cell_into(
-    value: Option<i64>,
-    lock: u8,
-    strength: u8,
-    bytes: &mut [u8],
-    at: usize,
-)
+pub fn obs_print_cell_into(value: Option<i64>, lock: u8, strength: u8, bytes: &mut [u8], at: usize)
     requires in_range { ForSome value IsObservation }
     requires room { at + CELL_WIDTH ≤ length bytes.old }
-    ensures { take (at + CELL_WIDTH) bytes.new ≡ take at bytes.old ++ (observation_text value ++ lock ∷ strength ∷ []) }
+    ensures { take (at + CELL_WIDTH) bytes.new
+        ≡ take at bytes.old ++ (observation_text value ++ lock ∷ strength ∷ []) }
 {
     let end = at + OBSERVATION_WIDTH;
     obs_print_into(value, &mut bytes[at..end]);
@@ -151,7 +149,7 @@ pub fn clock_read(field: &[u8]) -> Result<Option<i64>, BadField>
     clock_read_any(field)
 }
 
-// Reads a receiver clock offset in any spelling, column by column.
+// Reads a receiver clock offset in the general form, column by column.
 #[inline(never)]
 fn clock_read_any(field: &[u8]) -> Result<Option<i64>, BadField>
     ensures value { result_ok result ≡ clock_of field.now }
@@ -218,16 +216,16 @@ fn number_read(field: &[u8], width: usize, decimals: usize) -> Result<Option<i64
     if text.is_empty() {
         return Ok(None);
     }
-    match spelt_read(text, decimals) {
+    match decimal_read(text, decimals) {
         Some(number) => Ok(Some(number)),
         None => Err(BadField),
     }
 }
 
 // A number after its blanks; None where the text spells none.
-fn spelt_read(text: &[u8], decimals: usize) -> Option<i64>
+fn decimal_read(text: &[u8], decimals: usize) -> Option<i64>
     requires { length text.now ≤ WIDEST }
-    ensures value { result ≡ spelt_number decimals text.now }
+    ensures value { result ≡ decimal_number decimals text.now }
     ensures in_range { IfSome result (IsWithin (length text.now)) }
 {
     let (is_below, rest) = split_minus(text);

@@ -1,7 +1,7 @@
 //! A text of a line's length at most, held in place.
 
 ghost use Rattle.std.specs.Prelude.{◌≡◌, ◌+◌, ◌<◌, ◌≤◌, ◌↔◌, List, [], ◌∷◌, ◌++◌, ℕ, length, take, OnOk, OnErr, IsErr, IsTrue};
-ghost use Rattle.crx_text.specs.Columns.{without_end_blanks};
+ghost use Rattle.crx_text.specs.meaning.Columns.{without_end_blanks};
 ghost use Rattle.crx_lines.specs.declared.limits.TheConstants.{LINE_LIMIT};
 
 use crate::lanes::LANES;

@@ -1,5 +1,6 @@
 -- The date of a job that words ask for fits its columns.
-use Rattle.std.proofs.Common.{◌≡◌, ◌∙◌, ap, refl, cond, not, true, false, Bool, ℕ, List, [], ◌∷◌, Option, Some, None, nat_lt}
+use Rattle.std.proofs.Common.{◌≡◌, ◌∙◌, ap, refl, cond, not, true, false, Bool, ℕ, List, [], ◌∷◌, Option, Some, None}
+use Rattle.std.proofs.Common.{nat_lt}
 use Rattle.std.specs.Option.{option_map_or}
 use Rattle.clap.specs.Faults.{fault_of}
 use Rattle.clap.specs.Kinds.{Kinds}
@@ -7,10 +8,11 @@ use Rattle.clap.specs.Simple.{subcommand_of}
 use Rattle.clap.specs.Walk.{Row}
 use Rattle.clap.specs.declared.error.ErrorKind.{ErrorKind}
 use Rattle.clap.specs.declared.error.ErrorKind.TheVariants as kind
-use Rattle.crx_engine.specs.Choices.{is_date}
-use Rattle.rnxcmp.specs.Commands.{program}
-use Rattle.rnxcmp.specs.Names.{output_name}
-use Rattle.rnxcmp.specs.Planning.{Given, Plan, Help, Run, Refused, by_kind, by_kinds, given_in, job_of, judged, of_subcommand, plan_of, tool_named, with_source, with_target, writes_file}
+use Rattle.crx_engine.specs.meaning.Choices.{is_date}
+use Rattle.rnxcmp.specs.meaning.Commands.{program}
+use Rattle.rnxcmp.specs.meaning.Names.{output_name}
+use Rattle.rnxcmp.specs.meaning.Planning.{Given, Plan, Help, Run, Refused, by_kind, by_kinds, given_in, job_of, judged}
+use Rattle.rnxcmp.specs.meaning.Planning.{of_subcommand, plan_of, tool_named, with_source, with_target, writes_file}
 use Rattle.rnxcmp.specs.declared.job.Job.{Job}
 use Rattle.rnxcmp.specs.declared.job.Tool.{Tool}
 
@@ -46,7 +48,8 @@ kinds_fit : (kinds : Kinds) (plan : Plan) → fits plan ≡ true → fits (by_ki
 kinds_fit [] plan h = h
 kinds_fit (k ∷ more) plan h = kind_fits k
 
-target_fits : (tool : Tool) (given : Given) (source : List ℕ) (target : Option (List ℕ)) → date_is given.date ≡ true → fits (with_target tool given source target) ≡ true
+target_fits : (tool : Tool) (given : Given) (source : List ℕ) (target : Option (List ℕ))
+    → date_is given.date ≡ true → fits (with_target tool given source target) ≡ true
 target_fits tool given source None h = refl
 target_fits tool given source (Some target) h = h
 
@@ -54,7 +57,8 @@ either_fits : (b : Bool) (p q : Plan) → fits p ≡ true → fits q ≡ true �
 either_fits true p q h g = h
 either_fits false p q h g = g
 
-source_fits : (tool : Tool) (given : Given) (source : Option (List ℕ)) → date_is given.date ≡ true → fits (with_source tool given source) ≡ true
+source_fits : (tool : Tool) (given : Given) (source : Option (List ℕ))
+    → date_is given.date ≡ true → fits (with_source tool given source) ≡ true
 source_fits tool given None h = h
 source_fits tool given (Some source) h =
     either_fits (writes_file tool given.dashes) _ _ (target_fits tool given source (output_name tool source) h) h
@@ -73,5 +77,7 @@ subcommand_fits : (found : Option (List ℕ × List Row)) → fits (of_subcomman
 subcommand_fits None = refl
 subcommand_fits (Some found) = judged_fits (tool_named found.0) (given_in found.1)
 
-pub job_fits : (words : List (List ℕ)) (job : Job) → Run job ≡ plan_of words → option_map_or is_date job.date true ≡ true
-job_fits words job e = ap fits e ∙ kinds_fit (fault_of program words) (of_subcommand (subcommand_of program words)) (subcommand_fits (subcommand_of program words))
+pub job_fits : (words : List (List ℕ)) (job : Job)
+    → Run job ≡ plan_of words → option_map_or is_date job.date true ≡ true
+job_fits words job e = ap fits e ∙ kinds_fit (fault_of program words)
+    (of_subcommand (subcommand_of program words)) (subcommand_fits (subcommand_of program words))

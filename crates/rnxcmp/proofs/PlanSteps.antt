@@ -1,5 +1,6 @@
 -- From what the parser of command lines answers to a plan.
-use Rattle.std.proofs.Common.{◌≡◌, ◌≢◌, ◌⊎◌, ◌∙◌, ⊎_elim, ap, ap₂, refl, sym, List, ℕ, [], Option, Some, None, option_map, unwrap_or, subst, true}
+use Rattle.std.proofs.Common.{◌≡◌, ◌≢◌, ◌⊎◌, ◌∙◌, ⊎_elim, ap, ap₂, refl, sym, List, ℕ, [], Option, Some, None}
+use Rattle.std.proofs.Common.{option_map, unwrap_or, subst, true}
 use Rattle.std.specs.Option.{IfSome}
 use Rattle.std.proofs.lemmas.Option.{none-some}
 use Rattle.clap.specs.Kinds.{HasKind, Kinds}
@@ -9,8 +10,8 @@ use Rattle.clap.specs.Values.{kind_of}
 use Rattle.clap.specs.declared.error.Error.{Error}
 use Rattle.clap.specs.declared.error.ErrorKind.TheVariants.{OutOfMemory}
 use Rattle.clap.proofs.OnLiterals.{clap_on_literals}
-use Rattle.rnxcmp.specs.Commands.{program}
-use Rattle.rnxcmp.specs.Planning.{Plan, by_kind, by_kinds}
+use Rattle.rnxcmp.specs.meaning.Commands.{program}
+use Rattle.rnxcmp.specs.meaning.Planning.{Plan, by_kind, by_kinds}
 use Rattle.rnxcmp.proofs.AlikeKinds.{Alike}
 
 pub program_is_simple : is_simple program ≡ true
@@ -26,7 +27,8 @@ module _ {X A B : Type 0} (f : X → A) (g : X → B) where
   abbrev pair : X → A × B
   pair x = (f x, g x)
 
-  pub both_halves : (o : Option X) (a : A) (b : B) → Some a ≡ option_map f o → Some b ≡ option_map (λ (p : A × B). p.1) (option_map pair o)
+  pub both_halves : (o : Option X) (a : A) (b : B)
+      → Some a ≡ option_map f o → Some b ≡ option_map (λ (p : A × B). p.1) (option_map pair o)
       → ◌≡◌ {A = Option (A × B)} (Some (a, b)) (option_map pair o)
   both_halves None a b first second = absurd (none-some a (sym first))
   both_halves (Some x) a b first second = λ i. Some (unwrap_or (first i) a, unwrap_or (second i) b)
@@ -37,6 +39,8 @@ same_plan o p q same h = subst (λ (r : Plan). IfSome o (λ plan. plan ≡ r)) s
 
 -- the plan of an error of the parser, whose kind is among those that it may have
 pub not_run_plan : (o : Option Plan) (e : Error) (kinds : Kinds) (rest : Plan) → Alike kinds → HasKind kinds e
-    → IfSome o (λ plan. (plan ≡ by_kind (kind_of e)) × (kind_of e ≢ OutOfMemory)) → IfSome o (λ plan. plan ≡ by_kinds kinds rest)
+    → IfSome o (λ plan. (plan ≡ by_kind (kind_of e)) × (kind_of e ≢ OutOfMemory))
+    → IfSome o (λ plan. plan ≡ by_kinds kinds rest)
 not_run_plan None e kinds rest alike has h = h
-not_run_plan (Some plan) e kinds rest alike has h = ⊎_elim (λ memory. absurd (h.1 memory)) (λ among. h.0 ∙ alike.same (kind_of e) rest among) has
+not_run_plan (Some plan) e kinds rest alike has h =
+    ⊎_elim (λ memory. absurd (h.1 memory)) (λ among. h.0 ∙ alike.same (kind_of e) rest among) has

@@ -1,10 +1,12 @@
 -- What the user reads of a refusal.
 use Rattle.std.proofs.Common.{◌≡◌, ◌∙◌, List, [], ℕ, Err, Some, inr, ap, refl, Bool, true, false, true≢false}
 use Rattle.std.specs.Option.{IfSome}
-use Rattle.crx_filter.specs.Taking.{Device}
+use Rattle.crx_filter.specs.meaning.Spans.{Device}
 use Rattle.crx_lines.specs.declared.fault.Fault.TheVariants.{OutOfMemory}
-use Rattle.rnxcmp.specs.Planning.{Plan, Help, Run, Refused, Refusal, Parse, DashTwice, TwoFiles, BadDate, NoName, plan_in}
-use Rattle.rnxcmp.specs.Program.{IsLineOf, IsRefused, IsShown, at_start, error_line}
+use Rattle.rnxcmp.specs.meaning.Planning.{Plan, Help, Run, Refused, Refusal, Parse, DashTwice, TwoFiles, BadDate}
+use Rattle.rnxcmp.specs.meaning.Planning.{NoName}
+use Rattle.rnxcmp.specs.Planning.{plan_in}
+use Rattle.rnxcmp.specs.meaning.Program.{IsLineOf, IsRefused, IsShown, at_start, error_line}
 use Rattle.rnxcmp.specs.declared.job.Job.{Job}
 use Rattle.rnxcmp.specs.declared.job.UsageFault.{UsageFault}
 use Rattle.rnxcmp.specs.declared.job.UsageFault.TheVariants as usage_fault
@@ -19,7 +21,8 @@ some_line (NoName name) = (_, refl)
 
 module _ (p : Plan) (refusal : Refusal) (messages : Device) (status : ℕ) where
   -- words are refused by the line of their fault, or by that of the memory that ran out
-  pub refused_by : (fault : UsageFault) → p ≡ Refused refusal → status ≡ 1 → (fault ≡ usage_fault.Memory → IsShown messages (at_start OutOfMemory))
+  pub refused_by : (fault : UsageFault)
+      → p ≡ Refused refusal → status ≡ 1 → (fault ≡ usage_fault.Memory → IsShown messages (at_start OutOfMemory))
       → (plan_in (Err fault) ≡ Some (Refused refusal) → IsRefused messages refusal status)
       → IfSome (plan_in (Err fault)) (λ plan. plan ≡ p) → IsRefused messages refusal status
   refused_by (usage_fault.Parse text) e one memory by h = by (ap Some (h ∙ e))
@@ -27,7 +30,8 @@ module _ (p : Plan) (refusal : Refusal) (messages : Device) (status : ℕ) where
   refused_by usage_fault.TwoFiles e one memory by h = by (ap Some (h ∙ e))
   refused_by usage_fault.BadDate e one memory by h = by (ap Some (h ∙ e))
   refused_by (usage_fault.NoName name) e one memory by h = by (ap Some (h ∙ e))
-  refused_by usage_fault.Memory e one memory by h = (one, ((some_line refusal).0, (some_line refusal).1, inr (memory refl)))
+  refused_by usage_fault.Memory e one memory by h =
+      (one, ((some_line refusal).0, (some_line refusal).1, inr (memory refl)))
 
 -- a refusal isn't a run
 abbrev is_refused : Plan → Bool
@@ -40,7 +44,8 @@ refused-run refusal job e = true≢false (ap is_refused e)
 
 -- where words that ask for a run have a fault, memory ran out
 module _ (p : Plan) (job : Job) (messages : Device) where
-  pub not_run : (fault : UsageFault) → p ≡ Run job → (fault ≡ usage_fault.Memory → IsShown messages (at_start OutOfMemory))
+  pub not_run : (fault : UsageFault)
+      → p ≡ Run job → (fault ≡ usage_fault.Memory → IsShown messages (at_start OutOfMemory))
       → IfSome (plan_in (Err fault)) (λ plan. plan ≡ p) → IsShown messages (at_start OutOfMemory)
   not_run (usage_fault.Parse text) e memory h = absurd (refused-run Parse job (h ∙ e))
   not_run usage_fault.DashTwice e memory h = absurd (refused-run DashTwice job (h ∙ e))

@@ -15,7 +15,8 @@ two_digits n = (48 + n / 10) ∷ (48 + n % 10) ∷ []
 -- the day, the month's name and the year's last two digits, its sign left out; the hour and the minute
 abbrev pub date_text_of : DateTime → List ℕ
 date_text_of at = two_digits at.date.day ++ (codes "-" ++ (slice_index_or months (at.date.month - 1) [] ++ (codes "-"
-    ++ (two_digits (unsigned_abs at.date.year % 100) ++ (codes " " ++ (two_digits at.time.hour ++ (codes ":" ++ two_digits at.time.minute)))))))
+    ++ (two_digits (unsigned_abs at.date.year % 100)
+    ++ (codes " " ++ (two_digits at.time.hour ++ (codes ":" ++ two_digits at.time.minute)))))))
 
 -- what a clock in UTC shows that many nanoseconds after 1970 began (before it, where the number is negative)
 abbrev pub IsDateText : ℤ → List ℕ → Type 0

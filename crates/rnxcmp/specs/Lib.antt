@@ -1,4 +1,4 @@
-pub mod Commands
+pub mod meaning
 pub mod Dates
 pub mod Names
 pub mod Planning

@@ -1,98 +1,27 @@
--- What a user reads where nothing is run, and what a run of the program leaves.
-use Rattle.std.specs.Prelude.{◌≡◌, ◌⊎◌, ⊤, ℕ, ℤ, Bool, false, List, [], ◌++◌, Option, Some, None, codes}
-use Rattle.crx_lines.specs.Devices.{with_failed_flush, with_failed_write, with_flush}
+-- Beside meaning/Program: what code and proofs see of it.
+use Rattle.std.specs.Prelude.{◌≡◌, ◌⊎◌, ⊤, ℕ, ℤ, Bool, false, List, [], Option, Some, None, codes}
 use Rattle.crx_lines.specs.declared.device.Sink.{Ghosts as SinkGhosts}
 use Rattle.crx_lines.specs.declared.device.Source.{Ghosts as SourceGhosts}
-use Rattle.crx_lines.specs.declared.fault.Fault.{Fault}
-use Rattle.crx_lines.specs.declared.fault.Fault.TheVariants.{OutOfMemory, WriteFailed}
+use Rattle.crx_lines.specs.declared.fault.Fault.TheVariants.{OutOfMemory}
 use Rattle.crx_lines.specs.declared.fault.At.{At}
-use Rattle.crx_engine.specs.Checking.{check_filter}
-use Rattle.crx_engine.specs.Choices.{Choices, choices_of}
-use Rattle.crx_engine.specs.Compacted.{compacted}
+use Rattle.crx_engine.specs.CheckByLine.{check_filter}
+use Rattle.crx_engine.specs.meaning.Choices.{Choices, choices_of}
+use Rattle.crx_engine.specs.meaning.Compacted.{compacted}
 use Rattle.crx_engine.specs.Directions.{compaction_filter, expansion_filter}
-use Rattle.crx_engine.specs.Expanded.{expanded}
-use Rattle.crx_engine.specs.Messages.{error_text}
-use Rattle.crx_filter.specs.Running.{Input}
-pub use Rattle.crx_filter.specs.Running.{reader_span}
-use Rattle.crx_engine.specs.Filters.{Filter}
-use Rattle.crx_engine.specs.Results.{FilterResult}
-use Rattle.crx_filter.specs.Runs.{RunsAs}
-use Rattle.crx_engine.specs.Standard.{checked}
-use Rattle.crx_filter.specs.Taking.{Device, TookAll, TookPart}
-pub use Rattle.crx_filter.specs.Taking.{span}
+use Rattle.crx_engine.specs.meaning.Expanded.{expanded}
+use Rattle.crx_filter.specs.meaning.Spans.{Input, Device}
+pub use Rattle.crx_filter.specs.meaning.Spans.{reader_span, span}
+use Rattle.crx_engine.specs.meaning.Filters.{Filter}
+use Rattle.crx_engine.specs.meaning.Results.{FilterResult}
+use Rattle.crx_filter.specs.meaning.Runs.{RunsAs}
+use Rattle.crx_engine.specs.meaning.Standard.{checked}
 use Rattle.rnxcmp.specs.Dates.{IsDateText}
-use Rattle.rnxcmp.specs.Planning.{Refusal, Parse, DashTwice, TwoFiles, BadDate, NoName}
 use Rattle.rnxcmp.specs.declared.job.Job.{Job}
 use Rattle.rnxcmp.specs.declared.job.Tool.{Tool}
 use Rattle.rnxcmp.specs.declared.job.Tool.TheVariants.{Compact, Expand, Check}
-use Rattle.rnxcmp.specs.declared.job.UsageFault.{UsageFault}
-use Rattle.rnxcmp.specs.declared.job.UsageFault.TheVariants as usage_fault
-
--- ---- lines
-
--- what is wrong, and a name or nothing
-abbrev pub error_line : List ℕ → List ℕ → List ℕ
-error_line words name = codes "ERROR: " ++ words ++ name ++ codes "\n"
-
--- the message of a fault that came before the first line was read
-abbrev pub at_start : Fault → List ℕ
-at_start fault = error_text (Some (record { line = 0; fault = fault }))
-
-abbrev pub words_of_usage : UsageFault → List ℕ
-words_of_usage (usage_fault.Parse text) = []
-words_of_usage usage_fault.DashTwice = codes "- given twice"
-words_of_usage usage_fault.TwoFiles = codes "more than one file name"
-words_of_usage usage_fault.BadDate = codes "bad date"
-words_of_usage (usage_fault.NoName name) = codes "no output name for "
-words_of_usage usage_fault.Memory = codes "out of memory"
-
-abbrev pub subject_of_usage : UsageFault → List ℕ
-subject_of_usage (usage_fault.Parse text) = text
-subject_of_usage usage_fault.DashTwice = []
-subject_of_usage usage_fault.TwoFiles = []
-subject_of_usage usage_fault.BadDate = []
-subject_of_usage (usage_fault.NoName name) = name
-subject_of_usage usage_fault.Memory = []
-
--- the fault by which words are refused; where the parser refuses them, its text stands open
-abbrev pub fault_of_refusal : Refusal → UsageFault
-fault_of_refusal Parse = usage_fault.Parse []
-fault_of_refusal DashTwice = usage_fault.DashTwice
-fault_of_refusal TwoFiles = usage_fault.TwoFiles
-fault_of_refusal BadDate = usage_fault.BadDate
-fault_of_refusal (NoName name) = usage_fault.NoName name
-
-abbrev pub line_of_usage : UsageFault → List ℕ
-line_of_usage fault = error_line (words_of_usage fault) (subject_of_usage fault)
-
--- a line of a refusal; for words that the parser refuses it is the parser's text
-abbrev pub IsLineOf : Refusal → List ℕ → Type 0
-IsLineOf Parse line = ⊤
-IsLineOf refusal line = line ≡ line_of_usage (fault_of_refusal refusal)
-
--- ---- messages
-
--- a line was written to the messages, whole or as far as it went
-abbrev pub IsShown : Device → List ℕ → Type 0
-IsShown messages line = TookAll messages line ⊎ TookPart messages line
-
--- it was written, or where no memory is left for it the line that says so
-abbrev pub IsShownOr : Device → List ℕ → Type 0
-IsShownOr messages line = IsShown messages line ⊎ IsShown messages (at_start OutOfMemory)
+use Rattle.rnxcmp.specs.meaning.Program.{error_line, at_start, IsShownOr}
 
 -- ---- a run
-
--- the words are refused: a line says why
-abbrev pub IsRefused : Device → Refusal → ℕ → Type 0
-IsRefused messages refusal status = (status ≡ 1) × ((line : List ℕ) × IsLineOf refusal line × IsShownOr messages line)
-
--- the help was written and flushed once; or the writer failed, in a write, after which no flush is asked for, or in that flush, which is
--- fault 21 at line 0; or no memory was left for it
-abbrev pub IsHelped : Device → Device → ℕ → Type 0
-IsHelped writer messages status =
-    ((status ≡ 0) × ((text : List ℕ) × writer.took text) × (writer.after ≡ with_flush writer.before) × writer.flushed × TookAll messages [])
-    ⊎ (((status ≡ 1) × ((writer.after ≡ with_failed_write writer.before) ⊎ (writer.after ≡ with_failed_flush writer.before)) × IsShown messages (at_start WriteFailed))
-    ⊎ ((status ≡ 1) × TookAll writer [] × IsShown messages (at_start OutOfMemory)))
 
 -- the date of a run that has none among its words: the moment's, or none where no clock gives one
 abbrev pub IsDefaultDate : List ℕ → Type 0
@@ -106,10 +35,10 @@ IsChosen Expand None every skip choices = choices ≡ choices_of every skip []
 IsChosen Check None every skip choices = choices ≡ choices_of every skip []
 
 -- what a tool makes of an input, whole and line by line
-abbrev pub result_of : Tool → Choices → List ℕ → FilterResult
-result_of Compact choices input = compacted input choices
-result_of Expand choices input = expanded input choices
-result_of Check choices input = checked input
+abbrev pub tool_result : Tool → Choices → List ℕ → FilterResult
+tool_result Compact choices input = compacted input choices
+tool_result Expand choices input = expanded input choices
+tool_result Check choices input = checked input
 
 abbrev pub filter_of : Tool → Choices → Filter
 filter_of Compact choices = compaction_filter choices
@@ -118,11 +47,13 @@ filter_of Check choices = check_filter
 
 -- a run of a tool, by what its reader gave: what it wrote, reported and answered
 abbrev pub IsRunOf : Tool → Choices → Input → List ℕ → Device → Device → ℕ → Option At → Type 0
-IsRunOf tool choices input given writer messages status fault = RunsAs (result_of tool choices) (filter_of tool choices) input given writer messages status fault
+IsRunOf tool choices input given writer messages status fault =
+    RunsAs (tool_result tool choices) (filter_of tool choices) input given writer messages status fault
 
 -- a tool's filter ran from a reader to a writer and messages, and the status is its own
 abbrev pub IsFiltered : Tool → Choices → Input → Device → Device → ℕ → Type 0
-IsFiltered tool choices input writer messages status = (fault : Option At) × (given : List ℕ) × input.gave given × IsRunOf tool choices input given writer messages status fault
+IsFiltered tool choices input writer messages status = (fault : Option At)
+    × (given : List ℕ) × input.gave given × IsRunOf tool choices input given writer messages status fault
 
 -- ---- a job
 
@@ -158,26 +89,35 @@ pub record IsNotBegun (job : Job) (messages : Device) (status : ℕ) (untouched 
 -- a filter ran into the device over a file, from a state in which no write had failed to another one
 abbrev pub IsFilteredToFile : {S : Type 0} → SinkGhosts S → Tool → Choices → Input → Device → ℕ → Type 0
 IsFilteredToFile {S = S} sink tool choices input messages status =
-    (first : S) × (last : S) × (sink.failures first ≡ 0) × IsFiltered tool choices input (span sink first last) messages status
+    (first : S) × (last : S) × (sink.failures first ≡ 0)
+    × IsFiltered tool choices input (span sink first last) messages status
 
 -- a filter ran, into a file or else into the output
-abbrev pub IsFilteredInto : {S : Type 0} → SinkGhosts S → Option (List ℕ) → Tool → Choices → Input → Device → Device → ℕ → Type 0
-IsFilteredInto sink None tool choices input output messages status = IsFiltered tool choices input output messages status
-IsFilteredInto sink (Some target) tool choices input output messages status = IsFilteredToFile sink tool choices input messages status
+abbrev pub IsFilteredInto : {S : Type 0}
+    → SinkGhosts S → Option (List ℕ) → Tool → Choices → Input → Device → Device → ℕ → Type 0
+IsFilteredInto sink None tool choices input output messages status =
+    IsFiltered tool choices input output messages status
+IsFilteredInto sink (Some target) tool choices input output messages status =
+    IsFilteredToFile sink tool choices input messages status
 
--- a filter ran, from the device over a file, from a state in which no read had failed or reported the end to another one; or else from
--- the input
-abbrev pub IsFilteredFrom : {R S : Type 0} → SourceGhosts R → SinkGhosts S → Option (List ℕ) → Option (List ℕ) → Tool → Choices → Input → Device → Device → ℕ → Type 0
-IsFilteredFrom source sink None target tool choices input output messages status = IsFilteredInto sink target tool choices input output messages status
+-- a filter ran, from the device over a file, from a state in which no read had failed or reported the end to another
+-- one; or else from the input
+abbrev pub IsFilteredFrom : {R S : Type 0} → SourceGhosts R
+    → SinkGhosts S → Option (List ℕ) → Option (List ℕ) → Tool → Choices → Input → Device → Device → ℕ → Type 0
+IsFilteredFrom source sink None target tool choices input output messages status =
+    IsFilteredInto sink target tool choices input output messages status
 IsFilteredFrom {R = R} source sink (Some name) target tool choices input output messages status =
     (first : R) × (last : R) × (source.failures first ≡ 0) × (source.ends first ≡ 0)
     × IsFilteredInto sink target tool choices (reader_span source first last) output messages status
 
 -- the filter of a job ran with the job's choices
 abbrev pub IsBegun : {R S : Type 0} → SourceGhosts R → SinkGhosts S → Job → Input → Device → Device → ℕ → Type 0
-IsBegun source sink job input output messages status = (choices : Choices) × IsChosen job.tool job.date job.every job.skip choices
+IsBegun source sink job input output messages status = (choices : Choices)
+    × IsChosen job.tool job.date job.every job.skip choices
     × IsFilteredFrom source sink job.source job.target job.tool choices input output messages status
 
 -- a job, done or not begun; the files that it names are read and written through devices of these kinds
-abbrev pub IsDone : {R S : Type 0} → SourceGhosts R → SinkGhosts S → Job → Input → Device → Device → ℕ → Type 0 → Type 0
-IsDone source sink job input output messages status untouched = IsBegun source sink job input output messages status ⊎ IsNotBegun job messages status untouched
+abbrev pub IsJobDone : {R S : Type 0}
+    → SourceGhosts R → SinkGhosts S → Job → Input → Device → Device → ℕ → Type 0 → Type 0
+IsJobDone source sink job input output messages status untouched = IsBegun source sink job input output messages status
+    ⊎ IsNotBegun job messages status untouched

@@ -2,7 +2,7 @@
 
 ghost use Rattle.std.specs.Prelude.{◌≡◌, IfOk, codes, false};
 ghost use Rattle.clap.specs.Words.{app_of, rule_of, shape_of};
-ghost use Rattle.rnxcmp.specs.Commands.{checker, crx2rnx, date_rule, every_rule, flag_rule, names_rule, program, rnx2crx, top};
+ghost use Rattle.rnxcmp.specs.meaning.Commands.{checker, crx2rnx, date_rule, every_rule, flag_rule, names_rule, program, rnx2crx, top};
 
 use clap::{Arg, ArgAction, Command, value_parser};
 use std::alloc::{AllocError, Global};

@@ -58,7 +58,8 @@ pub fn date_text(alloc: Global, at: Timestamp) -> Result<String, AllocError>
 
 /// The clock's moment as [`date_text`] gives it; an empty text where the clock gives none.
 pub fn default_date<C: Clock>(clock: &C, alloc: Global) -> Result<String, AllocError>
-    ensures { IfOk result (λ text. (string_bytes text ≡ []) ⊎ ((nanoseconds : ℤ) × IsDateText nanoseconds (string_bytes text))) }
+    ensures { IfOk result (λ text. (string_bytes text ≡ [])
+        ⊎ ((nanoseconds : ℤ) × IsDateText nanoseconds (string_bytes text))) }
 {
     match Timestamp::now(clock) {
         Ok(at) => date_text(alloc, at),

@@ -23,7 +23,7 @@ fn no_words(alloc: Global, error: &io::Error) -> UsageFault {
     Word::new(alloc, text).map_or_else(UsageFault::from, UsageFault::Parse)
 }
 
-/// The words of the command line without the program's name.
+/// The arguments without the program's name.
 fn words_given(rt: &HostRuntime) -> Result<Vec<String>, UsageFault> {
     match env::args(rt) {
         Ok(args) => Ok(args.skip(1).collect(rt.alloc())?),
@@ -31,7 +31,7 @@ fn words_given(rt: &HostRuntime) -> Result<Vec<String>, UsageFault> {
     }
 }
 
-/// Does what the words of the command line ask for, over the standard streams (see [`run`]), and
+/// Does what the arguments ask for, over the standard streams (see [`run`]), and
 /// answers the exit status. The output goes through a buffer.
 ///
 /// Where no memory is left for the words or the buffer, that is fault 22 at line 0, status 1. Words

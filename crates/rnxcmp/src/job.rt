@@ -1,8 +1,8 @@
-//! What the words of the command line can ask for.
+//! What the arguments can ask for.
 
 ghost use Rattle.std.specs.Prelude.{◌≡◌};
 ghost use Rattle.rnxcmp.specs.declared.job.UsageFault.TheVariants as usage_fault;
-ghost use Rattle.rnxcmp.specs.Program.{subject_of_usage, words_of_usage};
+ghost use Rattle.rnxcmp.specs.meaning.Program.{subject_of_usage, words_of_usage};
 
 use crate::word::Word;
 use std::alloc::AllocError;

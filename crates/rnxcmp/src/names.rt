@@ -1,7 +1,8 @@
 //! The name of the output file, made from that of the input file.
 
 ghost use Rattle.std.specs.Prelude.{◌≡◌, ◌++◌, IfOk, map, option_map};
-ghost use Rattle.rnxcmp.specs.Names.{ends_in_year, first_renamed, is_year, output_name, renaming_of, renamings, stem_of, without_ending};
+ghost use Rattle.rnxcmp.specs.meaning.Names.{ends_in_year, first_renamed, is_year, output_name, renamings, stem_of, without_ending};
+ghost use Rattle.rnxcmp.specs.Names.{renaming_of};
 
 use crate::job::Tool;
 use crate::word::Word;
@@ -112,7 +113,8 @@ fn stem_of<'a>(name: &'a str, ending: &Ending) -> Option<&'a str>
 
 /// What is kept of the name, and the ending that it gets, by the first ending that it has.
 fn renamed<'a>(endings: &[Ending], name: &'a str) -> Option<(&'a str, &'static str)>
-    ensures { option_map (λ p. p.0.now ++ p.1.now) result ≡ first_renamed (map renaming_of endings.now) name.now }
+    ensures { option_map (λ p. p.0.now ++ p.1.now) result
+        ≡ first_renamed (map renaming_of endings.now) name.now }
 {
     for ending in endings {
         if let Some(stem) = stem_of(name, ending) {

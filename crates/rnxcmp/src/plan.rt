@@ -1,10 +1,11 @@
-//! From the words of the command line to what is to be done.
+//! From the arguments to what is to be done.
 
 ghost use Rattle.std.specs.Prelude.{◌≡◌, ◌≢◌, IfOk, IfSome, codes, count_by, find, map, option_and_then, option_map, string_bytes, true};
 ghost use Rattle.std.specs.Option.{option_map_or};
 ghost use Rattle.clap.specs.Words.{found_of, kind_of, one_of, rows_of, subcommand_rows_of};
-ghost use Rattle.crx_engine.specs.Choices.{is_date};
-ghost use Rattle.rnxcmp.specs.Planning.{by_kind, given_in, given_of, is_dash, is_file, is_set, job_of, judged, names_in, number_in, of_subcommand, plan_in, plan_of, tool_named, with_source, writes_file};
+ghost use Rattle.crx_engine.specs.meaning.Choices.{is_date};
+ghost use Rattle.rnxcmp.specs.meaning.Planning.{by_kind, given_in, is_dash, is_file, is_set, job_of, judged, file_names_in, counted_argument, of_subcommand, plan_of, tool_named, with_source, writes_file};
+ghost use Rattle.rnxcmp.specs.Planning.{given_of, plan_in};
 
 use crate::command::command;
 use crate::job::{Decision, Job, Tool, UsageFault};
@@ -57,7 +58,7 @@ fn file_among<'a>(names: &[&'a str]) -> Option<&'a str>
 
 /// How often `-` stands after a subcommand.
 fn dash_count(found: &ArgMatches<'_>) -> usize
-    ensures { result ≡ count_by is_dash (names_in (rows_of (found_of found.now))) }
+    ensures { result ≡ count_by is_dash (file_names_in (rows_of (found_of found.now))) }
 {
     match found.get_strs("names") {
         Some(names) => dashes_among(names),
@@ -67,7 +68,7 @@ fn dash_count(found: &ArgMatches<'_>) -> usize
 
 /// How many names of files stand after a subcommand.
 fn file_count(found: &ArgMatches<'_>) -> usize
-    ensures { result ≡ count_by is_file (names_in (rows_of (found_of found.now))) }
+    ensures { result ≡ count_by is_file (file_names_in (rows_of (found_of found.now))) }
 {
     match found.get_strs("names") {
         Some(names) => files_among(names),
@@ -77,7 +78,8 @@ fn file_count(found: &ArgMatches<'_>) -> usize
 
 /// The first name of a file after a subcommand.
 fn file_given<'a>(found: &ArgMatches<'a>) -> Option<&'a str>
-    ensures { option_map (λ name. name.now) result ≡ find is_file (names_in (rows_of (found_of found.now))) }
+    ensures { option_map (λ name. name.now) result
+        ≡ find is_file (file_names_in (rows_of (found_of found.now))) }
 {
     match found.get_strs("names") {
         Some(names) => file_among(names),
@@ -87,7 +89,8 @@ fn file_given<'a>(found: &ArgMatches<'a>) -> Option<&'a str>
 
 /// The number of `-e N`.
 fn every(found: &ArgMatches<'_>) -> Option<u32>
-    ensures { result ≡ option_and_then number_in (one_of (codes "every") (rows_of (found_of found.now))) }
+    ensures { result ≡ option_and_then counted_argument
+        (one_of (codes "every") (rows_of (found_of found.now))) }
 {
     found.get_one::<u32>("every")
 }
@@ -155,7 +158,8 @@ fn job(
     source: Option<&str>,
     target: Option<Word>,
 ) -> Result<Job, AllocError>
-    ensures { IfOk result (λ job. job ≡ job_of tool (given_of given.now) (option_map (λ name. name.now) source.entry) target) }
+    ensures { IfOk result
+        (λ job. job ≡ job_of tool (given_of given.now) (option_map (λ name. name.now) source.entry) target) }
 {
     Ok(Job {
         tool,
@@ -175,7 +179,8 @@ fn run_from_file(
     given: &Arguments<'_>,
     source: &str,
 ) -> Result<Decision, UsageFault>
-    ensures { IfSome (plan_in result) (λ plan. plan ≡ with_source tool (given_of given.now) (Some source.now)) }
+    ensures { IfSome (plan_in result)
+        (λ plan. plan ≡ with_source tool (given_of given.now) (Some source.now)) }
 {
     if !writes_file(tool, given.dashes) {
         return Ok(Decision::Run(job(alloc, tool, given, Some(source), None)?));
@@ -228,7 +233,8 @@ fn matched(alloc: Global, matches: &ArgMatches<'_>) -> Result<Decision, UsageFau
 
 /// What the parser answers where nothing is to be run: the help that was asked for, or that the words are refused.
 fn not_run(alloc: Global, error: &Error) -> Result<Decision, UsageFault>
-    ensures { IfSome (plan_in result) (λ plan. (plan ≡ by_kind (kind_of error.now)) × (kind_of error.now ≢ ErrorKind.OutOfMemory)) }
+    ensures { IfSome (plan_in result)
+        (λ plan. (plan ≡ by_kind (kind_of error.now)) × (kind_of error.now ≢ ErrorKind.OutOfMemory)) }
 {
     match error.kind() {
         ErrorKind::OutOfMemory => Err(UsageFault::Memory),
@@ -237,7 +243,7 @@ fn not_run(alloc: Global, error: &Error) -> Result<Decision, UsageFault>
     }
 }
 
-/// What the words of the command line ask for; they come without the program's name.
+/// What the arguments ask for; they come without the program's name.
 ///
 /// `Help` holds the help that `-h` or `--help` asks for. Words that aren't those of the command line
 /// are `Parse`, with the text for the user. Then come, in this order: `DashTwice` where `-` stands

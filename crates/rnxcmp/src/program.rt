@@ -1,10 +1,12 @@
-//! A whole run of the program: from the words of the command line to an exit status.
+//! A whole run of the program: from the arguments to an exit status.
 
 ghost use Rattle.std.specs.Prelude.{◌≡◌, ◌⊎◌, IfOk, is_some, map, string_bytes, true};
 ghost use Rattle.std.specs.Option.{option_map_or};
-ghost use Rattle.crx_engine.specs.Choices.{choices_of, is_date};
-ghost use Rattle.rnxcmp.specs.Planning.{Help, Refusal, Refused, Run, plan_of};
-ghost use Rattle.rnxcmp.specs.Program.{IsChosen, IsDone, IsFiltered, IsFilteredFrom, IsFilteredInto, IsFilteredToFile, IsHelped, IsNotBegun, IsRefused, IsShown, at_start, span, reader_span};
+ghost use Rattle.crx_engine.specs.meaning.Choices.{choices_of, is_date};
+ghost use Rattle.rnxcmp.specs.meaning.Planning.{Help, Refusal, Refused, Run, plan_of};
+ghost use Rattle.rnxcmp.specs.Program.{IsChosen, IsJobDone, IsFiltered, IsFilteredFrom, IsFilteredInto, IsFilteredToFile, IsNotBegun};
+ghost use Rattle.rnxcmp.specs.meaning.Program.{IsHelped, IsRefused, IsShown, at_start};
+ghost use Rattle.crx_filter.specs.meaning.Spans.{span, reader_span};
 
 use crate::date::default_date;
 use crate::job::{Decision, Job, Tool};
@@ -77,8 +79,10 @@ fn filter_to_file<R: Source, F: Write + Drop, M: Sink>(
     file: F,
     messages: &mut M,
 ) -> u8
-    ensures { IsFilteredToFile ⟦<Std<BufWriter<UntilFailure<F>>> as Sink>⟧ tool options (reader_span R.Source reader.old reader.new) (span M.Sink messages.old messages.new) result
-        ⊎ ((result ≡ 1) × IsShown (span M.Sink messages.old messages.new) (at_start Fault.OutOfMemory) × (reader.new ≡ reader.old)) }
+    ensures { IsFilteredToFile ⟦<Std<BufWriter<UntilFailure<F>>> as Sink>⟧ tool options
+        (reader_span R.Source reader.old reader.new) (span M.Sink messages.old messages.new) result
+        ⊎ ((result ≡ 1) × IsShown (span M.Sink messages.old messages.new) (at_start Fault.OutOfMemory)
+        × (reader.new ≡ reader.old)) }
 {
     match BufWriter::with_capacity(alloc, OUTPUT_BUFFER, UntilFailure::new(file)) {
         Ok(buffer) => {
@@ -116,9 +120,11 @@ fn run_to_target<H: Files, R: Source, W: Sink, M: Sink>(
     messages: &mut M,
 ) -> u8
     ensures output { is_some job.now.target ≡ true → output.new ≡ output.old }
-    ensures done { IsFilteredInto ⟦<Std<BufWriter<UntilFailure<H::File>>> as Sink>⟧ job.now.target job.now.tool options (reader_span R.Source reader.old reader.new)
+    ensures done { IsFilteredInto ⟦<Std<BufWriter<UntilFailure<H::File>>> as Sink>⟧
+        job.now.target job.now.tool options (reader_span R.Source reader.old reader.new)
         (span W.Sink output.old output.new) (span M.Sink messages.old messages.new) result
-        ⊎ IsNotBegun job.now (span M.Sink messages.old messages.new) result ((reader.new ≡ reader.old) × (output.new ≡ output.old)) }
+        ⊎ IsNotBegun job.now (span M.Sink messages.old messages.new) result ((reader.new ≡ reader.old)
+        × (output.new ≡ output.old)) }
 {
     match &job.target {
         None => filter(alloc, job.tool, options, reader, output, messages),
@@ -144,9 +150,11 @@ fn run_from_source<H: Files, R: Source, W: Sink, M: Sink>(
 ) -> u8
     ensures input { is_some job.now.source ≡ true → input.new ≡ input.old }
     ensures output { is_some job.now.target ≡ true → output.new ≡ output.old }
-    ensures done { IsFilteredFrom ⟦<Std<H::File> as Source>⟧ ⟦<Std<BufWriter<UntilFailure<H::File>>> as Sink>⟧ job.now.source job.now.target job.now.tool options (reader_span R.Source input.old input.new)
+    ensures done { IsFilteredFrom ⟦<Std<H::File> as Source>⟧ ⟦<Std<BufWriter<UntilFailure<H::File>>> as Sink>⟧
+        job.now.source job.now.target job.now.tool options (reader_span R.Source input.old input.new)
         (span W.Sink output.old output.new) (span M.Sink messages.old messages.new) result
-        ⊎ IsNotBegun job.now (span M.Sink messages.old messages.new) result ((input.new ≡ input.old) × (output.new ≡ output.old)) }
+        ⊎ IsNotBegun job.now (span M.Sink messages.old messages.new) result ((input.new ≡ input.old)
+        × (output.new ≡ output.old)) }
 {
     match &job.source {
         None => run_to_target(rt, alloc, job, options, input, output, messages),
@@ -173,7 +181,8 @@ fn run_job<H: Files + Clock, R: Source, W: Sink, M: Sink>(
     requires { option_map_or is_date job.now.date true ≡ true }
     ensures input { is_some job.now.source ≡ true → input.new ≡ input.old }
     ensures output { is_some job.now.target ≡ true → output.new ≡ output.old }
-    ensures done { IsDone ⟦<Std<H::File> as Source>⟧ ⟦<Std<BufWriter<UntilFailure<H::File>>> as Sink>⟧ job.now
+    ensures done { IsJobDone ⟦<Std<H::File> as Source>⟧
+        ⟦<Std<BufWriter<UntilFailure<H::File>>> as Sink>⟧ job.now
         (reader_span R.Source input.old input.new) (span W.Sink output.old output.new)
         (span M.Sink messages.old messages.new) result ((input.new ≡ input.old) × (output.new ≡ output.old)) }
 {
@@ -196,7 +205,7 @@ fn show_help<W: Sink, M: Sink>(text: &Word, output: &mut W, messages: &mut M) ->
     }
 }
 
-/// Does what the words of the command line ask for, and answers the exit status; the words come without
+/// Does what the arguments ask for, and answers the exit status; the arguments come without
 /// the program's name. `input` and `output` stand for standard input and standard output.
 ///
 /// A run's status is that of its filter: 0 where no message was written, 1 where an error ended it, and
@@ -217,13 +226,17 @@ pub fn run<H: Files + Clock, R: Source, W: Sink, M: Sink>(
     messages: &mut M,
 ) -> u8
     ensures refused { (refusal : Refusal) → plan_of (map string_bytes words.items) ≡ Refused refusal
-        → IsRefused (span M.Sink messages.old messages.new) refusal result × (input.new ≡ input.old) × (output.new ≡ output.old) }
+        → IsRefused (span M.Sink messages.old messages.new) refusal result
+        × (input.new ≡ input.old) × (output.new ≡ output.old) }
     ensures help { plan_of (map string_bytes words.items) ≡ Help
-        → IsHelped (span W.Sink output.old output.new) (span M.Sink messages.old messages.new) result × (input.new ≡ input.old) }
-    ensures input { (job : Job) → plan_of (map string_bytes words.items) ≡ Run job → is_some job.source ≡ true → input.new ≡ input.old }
-    ensures output { (job : Job) → plan_of (map string_bytes words.items) ≡ Run job → is_some job.target ≡ true → output.new ≡ output.old }
+        → IsHelped (span W.Sink output.old output.new) (span M.Sink messages.old messages.new) result
+        × (input.new ≡ input.old) }
+    ensures input { (job : Job) → plan_of (map string_bytes words.items) ≡ Run job
+        → is_some job.source ≡ true → input.new ≡ input.old }
+    ensures output { (job : Job) → plan_of (map string_bytes words.items) ≡ Run job
+        → is_some job.target ≡ true → output.new ≡ output.old }
     ensures done { (job : Job) → plan_of (map string_bytes words.items) ≡ Run job
-        → IsDone ⟦<Std<H::File> as Source>⟧ ⟦<Std<BufWriter<UntilFailure<H::File>>> as Sink>⟧ job
+        → IsJobDone ⟦<Std<H::File> as Source>⟧ ⟦<Std<BufWriter<UntilFailure<H::File>>> as Sink>⟧ job
         (reader_span R.Source input.old input.new) (span W.Sink output.old output.new)
         (span M.Sink messages.old messages.new) result ((input.new ≡ input.old) × (output.new ≡ output.old)) }
 {

@@ -1,8 +1,10 @@
 //! The lines that a user reads where nothing is run.
 
 ghost use Rattle.std.specs.Prelude.{◌≡◌, Some, Err};
-ghost use Rattle.rnxcmp.specs.Planning.{Refusal, Refused, plan_in};
-ghost use Rattle.rnxcmp.specs.Program.{IsRefused, IsShown, IsShownOr, at_start, span, error_line};
+ghost use Rattle.rnxcmp.specs.meaning.Planning.{Refusal, Refused};
+ghost use Rattle.rnxcmp.specs.Planning.{plan_in};
+ghost use Rattle.rnxcmp.specs.meaning.Program.{IsRefused, IsShown, IsShownOr, at_start, error_line};
+ghost use Rattle.crx_filter.specs.meaning.Spans.{span};
 
 use crate::job::UsageFault;
 use crate::word::Word;
@@ -52,8 +54,10 @@ pub fn report<M: Sink>(alloc: Global, messages: &mut M, words: &str, name: &str)
 
 /// Reports why the words ask for nothing that can be done, and answers the exit status.
 pub fn refuse<M: Sink>(alloc: Global, messages: &mut M, fault: &UsageFault) -> u8
-    ensures memory { fault.now ≡ UsageFault.Memory → IsShown (span M.Sink messages.old messages.new) (at_start Fault.OutOfMemory) }
-    ensures refused { (refusal : Refusal) → plan_in (Err fault.now) ≡ Some (Refused refusal) → IsRefused (span M.Sink messages.old messages.new) refusal result }
+    ensures memory { fault.now ≡ UsageFault.Memory
+        → IsShown (span M.Sink messages.old messages.new) (at_start Fault.OutOfMemory) }
+    ensures refused { (refusal : Refusal) → plan_in (Err fault.now) ≡ Some (Refused refusal)
+        → IsRefused (span M.Sink messages.old messages.new) refusal result }
     ensures status { result ≡ 1 }
 {
     match fault {

@@ -1,7 +1,7 @@
 //! Texts that come from the command line or go to the user.
 
 ghost use Rattle.std.specs.Prelude.{◌≡◌, ◌++◌, IfOk};
-ghost use Rattle.rnxcmp.specs.Program.{error_line};
+ghost use Rattle.rnxcmp.specs.meaning.Program.{error_line};
 
 use std::alloc::{AllocError, Global};
 use std::fmt;

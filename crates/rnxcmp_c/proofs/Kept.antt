@@ -2,37 +2,40 @@
 use Rattle.std.proofs.Common.{ℕ, ◌≡◌, ◌≤◌, List, length, Option, Some, None, refl, ap, sym, subst, ◌∙◌, cond}
 use Rattle.std.specs.Prelude.{◌↔◌, true}
 use Rattle.std.proofs.lemmas.Bool.{le-leb}
-use Rattle.crx_lines.specs.Lines.{lines_of}
-use Rattle.crx_engine.specs.Choices.{Choices}
-use Rattle.crx_engine.specs.Compacted.{compacted}
-use Rattle.crx_engine.specs.Expanded.{expanded}
-use Rattle.crx_engine.specs.NormalForm.{HasNormalForm}
-use Rattle.crx_engine.specs.Results.{FilterResult}
-use Rattle.crx_engine.specs.Standard.{Findings, checked, checked_by, findings_of, report_status}
-use Rattle.crx_engine.proofs.CheckStandard.{named-where_not}
-use Rattle.crx_engine.proofs.WayBack.{comes-back}
-use Rattle.crx_engine.proofs.WayBackStandard.{normal-comes_back, standard-comes_back}
+use Rattle.crx_lines.specs.meaning.Lines.{lines_of}
+use Rattle.crx_engine.specs.meaning.Choices.{Choices}
+use Rattle.crx_engine.specs.meaning.Compacted.{compacted}
+use Rattle.crx_engine.specs.meaning.Expanded.{expanded}
+use Rattle.crx_engine.specs.meaning.WayBack.{HasNormalForm}
+use Rattle.crx_engine.specs.meaning.Results.{FilterResult}
+use Rattle.crx_engine.specs.meaning.Standard.{Findings, checked, checked_by, findings_of, report_status}
+use Rattle.crx_engine.proofs.standard.CheckStandard.{named-where_not}
+use Rattle.crx_engine.proofs.wayback.WayBack.{comes-back}
+use Rattle.crx_engine.proofs.wayback.Standard.{normal-comes_back, standard-comes_back}
 use Rattle.crx_laws.proofs.DamageStays.{saved-lines}
-use Rattle.rnxcmp_c.specs.Answers.{IsAnswer, Rooms, status_in}
-use Rattle.rnxcmp_c.specs.Promises.{BringsBackWhatWasCompacted, JudgesStandard, SavesAllElse}
+use Rattle.rnxcmp_c.specs.meaning.Answers.{IsAnswer, Rooms, status_in}
+use Rattle.rnxcmp_c.specs.meaning.Promises.{CallBringsBackWhatWasCompacted, CallJudgesStandard, CallSavesAllElse}
 use Rattle.rnxcmp_c.specs.declared.answer.Answer.{Answer}
 use Rattle.rnxcmp_c.specs.declared.answer.TheConstants.{NO_ROOM}
 
 -- ---- the way back
 
-pub brings-back : (holds : FilterResult → Type 0) (expanding : Choices) (text : List ℕ) → holds (expanded text expanding) → BringsBackWhatWasCompacted holds text
+pub brings-back : (holds : FilterResult → Type 0) (expanding : Choices) (text : List ℕ)
+    → holds (expanded text expanding) → CallBringsBackWhatWasCompacted holds text
 brings-back holds expanding text answered file compacting dated same =
     let by : (r : FilterResult) → expanded (compacted file compacting).output expanding ≡ r → holds r =
     λ r e. subst holds e (subst (λ t. holds (expanded t expanding)) same answered) in
     record {
       standard = λ standard. by _ (standard-comes_back file compacting expanding dated standard);
-      normal = λ normal. by _ (normal-comes_back file compacting expanding dated (HasNormalForm.good normal) (HasNormalForm.no_returns normal));
+      normal = λ normal. by _ (normal-comes_back file compacting expanding dated
+          (HasNormalForm.good normal) (HasNormalForm.no_returns normal));
       accepted = λ good none. by _ (comes-back file compacting expanding dated good none);
     }
 
 -- ---- damage
 
-pub saves-all_else : (holds : FilterResult → Type 0) (expanding : Choices) (damaged : List ℕ) → expanding.skip ≡ true → holds (expanded damaged expanding) → SavesAllElse holds damaged
+pub saves-all_else : (holds : FilterResult → Type 0) (expanding : Choices) (damaged : List ℕ)
+    → expanding.skip ≡ true → holds (expanded damaged expanding) → CallSavesAllElse holds damaged
 saves-all_else holds expanding damaged skips answered file compacting dated damage =
     (expanded damaged expanding, saved-lines file compacting expanding damaged dated skips damage, answered)
 
@@ -46,11 +49,13 @@ none-where_0 None = (λ e. refl, λ e. refl)
 none-where_0 (Some number) = (λ e. absurd (cc), λ e. absurd (cc))
 
 -- where the output fits, the status is the result's
-status-where_it_fits : (result : FilterResult) (room : ℕ) → length result.output ≤ room → status_in result room ≡ result.status
+status-where_it_fits : (result : FilterResult) (room : ℕ)
+    → length result.output ≤ room → status_in result room ≡ result.status
 status-where_it_fits result room fits = ap (λ b. cond b result.status NO_ROOM) (le-leb (length result.output) room fits)
 
-pub judges-standard : (file : List ℕ) (answer : Answer) (before after : Rooms) → IsAnswer (checked file) answer before after → answer.output_length ≤ length before.output
-    → JudgesStandard answer.status file
+pub judges-standard : (file : List ℕ) (answer : Answer) (before after : Rooms)
+    → IsAnswer (checked file) answer before after → answer.output_length ≤ length before.output
+    → CallJudgesStandard answer.status file
 judges-standard file answer before after is fits good =
     let found : Findings = findings_of (lines_of file) in
     let room : ℕ = length before.output in
@@ -58,4 +63,5 @@ judges-standard file answer before after is fits good =
     IsAnswer.status is
     ∙ (status-where_it_fits (checked file) room (subst (λ n. n ≤ room) (IsAnswer.output_length is) fits)
     ∙ ap (λ o. FilterResult.status (checked_by o found)) good) in
-    both-ways (both-ways (λ zero. sym status ∙ zero, λ zero. status ∙ zero) (none-where_0 found.not_standard)) (named-where_not file good)
+    both-ways (both-ways (λ zero. sym status ∙ zero, λ zero. status ∙ zero) (none-where_0 found.not_standard))
+    (named-where_not file good)

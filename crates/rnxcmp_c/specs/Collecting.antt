@@ -1,10 +1,10 @@
 -- What was collected of a run over the caller's input.
 use Rattle.std.specs.Prelude.{◌≡◌}
-use Rattle.crx_lines.specs.Faults.{code_of_fault}
+use Rattle.crx_lines.specs.meaning.Faults.{code_of_fault}
 use Rattle.crx_lines.specs.declared.fault.Fault.TheVariants.{OutOfMemory}
-use Rattle.crx_engine.specs.Results.{FilterResult}
+use Rattle.crx_engine.specs.meaning.Results.{FilterResult}
 use Rattle.crx_filter.specs.declared.outcome.Outcome.{Outcome}
-use Rattle.rnxcmp_c.specs.Answers.{code_in}
+use Rattle.rnxcmp_c.specs.meaning.Answers.{fault_code_in}
 use Rattle.rnxcmp_c.specs.declared.devices.Collected.{Collected}
 use Rattle.rnxcmp_c.specs.declared.runs.Run.{Run}
 
@@ -17,7 +17,7 @@ pub record IsRun (whole : FilterResult) (run : Run) : Type 0 where
 
 -- it didn't end since memory ran out
 abbrev pub HasMemory : Run → Type 0
-HasMemory run = code_in run.outcome.fault ≡ code_of_fault OutOfMemory → ⊥
+HasMemory run = fault_code_in run.outcome.fault ≡ code_of_fault OutOfMemory → ⊥
 
 -- a run is what was collected of it, and memory ran out nowhere
 pub record IsCollected (outcome : Outcome) (output messages : Collected) (run : Run) : Type 0 where

@@ -1,3 +1,2 @@
-pub mod Answers
+pub mod meaning
 pub mod Collecting
-pub mod Promises

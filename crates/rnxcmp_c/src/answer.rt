@@ -1,10 +1,10 @@
 //! What a call answers, and how its texts come into the caller's memory.
 
 ghost use Rattle.std.specs.Prelude.{◌≡◌};
-ghost use Rattle.crx_engine.specs.Results.{FilterResult};
+ghost use Rattle.crx_engine.specs.meaning.Results.{FilterResult};
 ghost use Rattle.crx_lines.specs.declared.fault.Fault.TheVariants.{InputTooLong, OutOfMemory};
-ghost use Rattle.crx_lines.specs.Faults.{code_of_fault};
-ghost use Rattle.rnxcmp_c.specs.Answers.{answer_of, code_in, line_in, placed};
+ghost use Rattle.crx_lines.specs.meaning.Faults.{code_of_fault};
+ghost use Rattle.rnxcmp_c.specs.meaning.Answers.{bare_answer, fault_code_in, line_in, placed};
 
 use crx_text::{At, Fault};
 
@@ -32,7 +32,7 @@ pub struct Answer {
 
 /// An answer without texts.
 fn bare(status: u32, line: u64, code: u32) -> Answer
-    ensures { result ≡ answer_of status line code }
+    ensures { result ≡ bare_answer status line code }
 {
     Answer {
         line,
@@ -45,28 +45,28 @@ fn bare(status: u32, line: u64, code: u32) -> Answer
 
 /// The date is refused.
 pub(crate) fn date_refused() -> Answer
-    ensures { result ≡ answer_of BAD_DATE 0 0 }
+    ensures { result ≡ bare_answer BAD_DATE 0 0 }
 {
     bare(BAD_DATE, 0, 0)
 }
 
 /// The input is longer than the limit.
 pub(crate) fn too_long() -> Answer
-    ensures { result ≡ answer_of 1 0 (code_of_fault InputTooLong) }
+    ensures { result ≡ bare_answer 1 0 (code_of_fault InputTooLong) }
 {
     bare(1, 0, u32::from(Fault::InputTooLong.code()))
 }
 
 /// Memory ran out at this line.
 pub(crate) fn out_of_memory(line: u64) -> Answer
-    ensures { result ≡ answer_of 1 line (code_of_fault OutOfMemory) }
+    ensures { result ≡ bare_answer 1 line (code_of_fault OutOfMemory) }
 {
     bare(1, line, u32::from(Fault::OutOfMemory.code()))
 }
 
 /// The number of the fault that ended a run, 0 where none did.
 pub(crate) fn code_in(fault: Option<At>) -> u32
-    ensures { result ≡ code_in fault }
+    ensures { result ≡ fault_code_in fault }
 {
     match fault {
         None => 0,

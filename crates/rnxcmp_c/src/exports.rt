@@ -5,13 +5,13 @@
 //! far as it does. Else nothing in the caller's rooms is changed.
 
 ghost use Rattle.std.specs.Prelude.{◌≡◌, ◌<◌, ◌≤◌, length, Some, true, false};
-ghost use Rattle.crx_engine.specs.Choices.{Choices, choices_of, is_date};
-ghost use Rattle.crx_engine.specs.Compacted.{compacted};
-ghost use Rattle.crx_engine.specs.Expanded.{expanded};
-ghost use Rattle.crx_engine.specs.Standard.{checked};
+ghost use Rattle.crx_engine.specs.meaning.Choices.{Choices, choices_of, is_date};
+ghost use Rattle.crx_engine.specs.meaning.Compacted.{compacted};
+ghost use Rattle.crx_engine.specs.meaning.Expanded.{expanded};
+ghost use Rattle.crx_engine.specs.meaning.Standard.{checked};
 ghost use Rattle.crx_lines.specs.declared.limits.TheConstants.{INPUT_LIMIT};
-ghost use Rattle.rnxcmp_c.specs.Answers.{HasNoMemory, IsAnswer, IsDateRefused, IsOutOfMemory, IsTooLong, rooms};
-ghost use Rattle.rnxcmp_c.specs.Promises.{BringsBackWhatWasCompacted, JudgesStandard, SavesAllElse};
+ghost use Rattle.rnxcmp_c.specs.meaning.Answers.{HasNoMemory, IsAnswer, IsDateRefused, CallIsOutOfMemory, IsTooLong, rooms};
+ghost use Rattle.rnxcmp_c.specs.meaning.Promises.{CallBringsBackWhatWasCompacted, CallJudgesStandard, CallSavesAllElse};
 
 use crate::answer::{Answer, date_refused, out_of_memory, too_long};
 use crate::runs::{Run, compaction, examination, expansion};
@@ -39,11 +39,15 @@ pub extern "C" fn rnxcmp_c_compact(
     output: &mut [u8],
     messages: &mut [u8],
 ) -> Answer
-    ensures date { is_date date.now ≡ false → IsDateRefused result (rooms output.old messages.old) (rooms output.new messages.new) }
-    ensures long { is_date date.now ≡ true → INPUT_LIMIT < length input.now → IsTooLong result (rooms output.old messages.old) (rooms output.new messages.new) }
-    ensures memory { HasNoMemory result → IsOutOfMemory result (rooms output.old messages.old) (rooms output.new messages.new) }
+    ensures date { is_date date.now ≡ false
+        → IsDateRefused result (rooms output.old messages.old) (rooms output.new messages.new) }
+    ensures long { is_date date.now ≡ true → INPUT_LIMIT < length input.now
+        → IsTooLong result (rooms output.old messages.old) (rooms output.new messages.new) }
+    ensures memory { HasNoMemory result
+        → CallIsOutOfMemory result (rooms output.old messages.old) (rooms output.new messages.new) }
     ensures runs { is_date date.now ≡ true → length input.now ≤ INPUT_LIMIT → (HasNoMemory result → ⊥)
-        → IsAnswer (compacted input.now (choices_of (Some every) skip date.now)) result (rooms output.old messages.old) (rooms output.new messages.new) }
+        → IsAnswer (compacted input.now (choices_of (Some every) skip date.now)) result
+        (rooms output.old messages.old) (rooms output.new messages.new) }
 {
     let Ok(options) = Options::new(Some(every), skip, date) else {
         return date_refused();
@@ -76,14 +80,20 @@ pub extern "C" fn rnxcmp_c_expand(
     output: &mut [u8],
     messages: &mut [u8],
 ) -> Answer
-    ensures long { INPUT_LIMIT < length input.now → IsTooLong result (rooms output.old messages.old) (rooms output.new messages.new) }
-    ensures memory { HasNoMemory result → IsOutOfMemory result (rooms output.old messages.old) (rooms output.new messages.new) }
-    ensures runs { length input.now ≤ INPUT_LIMIT → (HasNoMemory result → ⊥) → (choices : Choices) → choices.skip ≡ skip
-        → IsAnswer (expanded input.now choices) result (rooms output.old messages.old) (rooms output.new messages.new) }
+    ensures long { INPUT_LIMIT < length input.now
+        → IsTooLong result (rooms output.old messages.old) (rooms output.new messages.new) }
+    ensures memory { HasNoMemory result
+        → CallIsOutOfMemory result (rooms output.old messages.old) (rooms output.new messages.new) }
+    ensures runs { length input.now ≤ INPUT_LIMIT
+        → (HasNoMemory result → ⊥) → (choices : Choices) → choices.skip ≡ skip
+        → IsAnswer (expanded input.now choices) result
+        (rooms output.old messages.old) (rooms output.new messages.new) }
     ensures way_back { length input.now ≤ INPUT_LIMIT → (HasNoMemory result → ⊥)
-        → BringsBackWhatWasCompacted (λ whole. IsAnswer whole result (rooms output.old messages.old) (rooms output.new messages.new)) input.now }
+        → CallBringsBackWhatWasCompacted (λ whole.
+        IsAnswer whole result (rooms output.old messages.old) (rooms output.new messages.new)) input.now }
     ensures salvage { length input.now ≤ INPUT_LIMIT → (HasNoMemory result → ⊥) → skip ≡ true
-        → SavesAllElse (λ whole. IsAnswer whole result (rooms output.old messages.old) (rooms output.new messages.new)) input.now }
+        → CallSavesAllElse (λ whole. IsAnswer whole result
+        (rooms output.old messages.old) (rooms output.new messages.new)) input.now }
 {
     if is_too_long(input) {
         return too_long();
@@ -102,11 +112,15 @@ pub extern "C" fn rnxcmp_c_check(
     output: &mut [u8],
     messages: &mut [u8],
 ) -> Answer
-    ensures long { INPUT_LIMIT < length input.now → IsTooLong result (rooms output.old messages.old) (rooms output.new messages.new) }
-    ensures memory { HasNoMemory result → IsOutOfMemory result (rooms output.old messages.old) (rooms output.new messages.new) }
+    ensures long { INPUT_LIMIT < length input.now
+        → IsTooLong result (rooms output.old messages.old) (rooms output.new messages.new) }
+    ensures memory { HasNoMemory result
+        → CallIsOutOfMemory result (rooms output.old messages.old) (rooms output.new messages.new) }
     ensures runs { length input.now ≤ INPUT_LIMIT → (HasNoMemory result → ⊥)
-        → IsAnswer (checked input.now) result (rooms output.old messages.old) (rooms output.new messages.new) }
-    ensures standard { length input.now ≤ INPUT_LIMIT → (HasNoMemory result → ⊥) → result.output_length ≤ length output.old → JudgesStandard result.status input.now }
+        → IsAnswer (checked input.now) result
+        (rooms output.old messages.old) (rooms output.new messages.new) }
+    ensures standard { length input.now ≤ INPUT_LIMIT → (HasNoMemory result → ⊥)
+        → result.output_length ≤ length output.old → CallJudgesStandard result.status input.now }
 {
     if is_too_long(input) {
         return too_long();

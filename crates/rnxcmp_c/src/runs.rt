@@ -1,12 +1,12 @@
 //! Runs over the caller's input, whose output and messages are collected.
 
 ghost use Rattle.std.specs.Prelude.{◌≡◌, ◌≤◌, length, IfOk};
-ghost use Rattle.crx_engine.specs.Compacted.{compacted};
-ghost use Rattle.crx_engine.specs.Expanded.{expanded};
-ghost use Rattle.crx_engine.specs.Results.{FilterResult};
-ghost use Rattle.crx_engine.specs.Standard.{checked};
+ghost use Rattle.crx_engine.specs.meaning.Compacted.{compacted};
+ghost use Rattle.crx_engine.specs.meaning.Expanded.{expanded};
+ghost use Rattle.crx_engine.specs.meaning.Results.{FilterResult};
+ghost use Rattle.crx_engine.specs.meaning.Standard.{checked};
 ghost use Rattle.crx_lines.specs.declared.limits.TheConstants.{INPUT_LIMIT};
-ghost use Rattle.rnxcmp_c.specs.Answers.{IsAnswer, code_in, rooms};
+ghost use Rattle.rnxcmp_c.specs.meaning.Answers.{IsAnswer, fault_code_in, rooms};
 ghost use Rattle.rnxcmp_c.specs.Collecting.{HasMemory, IsCollected, IsRun};
 
 use crate::answer::{Answer, NO_ROOM, code_in, line_in, place};
@@ -26,8 +26,9 @@ pub struct Run {
 impl Run {
     /// Puts output and messages into the caller's rooms, and answers.
     pub(crate) fn answer(self, output: &mut [u8], messages: &mut [u8]) -> Answer
-        ensures result { (whole : FilterResult) → IsRun whole self → IsAnswer whole result (rooms output.old messages.old) (rooms output.new messages.new) }
-        ensures code { result.code ≡ code_in self.outcome.fault }
+        ensures result { (whole : FilterResult) → IsRun whole self
+            → IsAnswer whole result (rooms output.old messages.old) (rooms output.new messages.new) }
+        ensures code { result.code ≡ fault_code_in self.outcome.fault }
     {
         place(&self.output, output);
         place(&self.messages, messages);

@@ -3,7 +3,7 @@
 ghost use Rattle.std.specs.Bool.{OnTrue};
 ghost use Rattle.std.specs.Prelude.{◌≡◌, ◌≤◌, length, false};
 ghost use Rattle.crx_lines.specs.declared.limits.TheConstants.{LINE_LIMIT};
-ghost use Rattle.crx_rinex.specs.EpochLines.{is_event_line};
+ghost use Rattle.crx_rinex.specs.meaning.EpochLines.{is_event_line};
 
 use super::cases::{BOTH_WAYS, Case, READ_ALONE, Table};
 use super::*;

@@ -1,7 +1,7 @@
 //! The engine that compacts.
 
 ghost use Rattle.std.specs.Prelude.{◌≡◌, ◌+◌, [], length};
-ghost use Rattle.crx_engine.specs.Compactors.{compactor_seen, compactor_ready};
+ghost use Rattle.crx_engine.specs.CompactorState.{compactor_seen, compactor_ready};
 
 use super::*;
 use crate::owned::Owned;

@@ -1,7 +1,7 @@
 //! The engine that expands.
 
 ghost use Rattle.std.specs.Prelude.{◌≡◌, ◌+◌, [], length};
-ghost use Rattle.crx_engine.specs.Expanding.{seen_by};
+ghost use Rattle.crx_engine.specs.ExpanderState.{expander_state};
 
 use super::*;
 use crate::owned::Owned;
@@ -9,7 +9,7 @@ use crx_engine::Expander;
 
 /// Takes the lines that are ready, at most four: how many there were.
 fn take_ready(engine: &mut Expander) -> usize
-    ensures { seen_by engine.new ≡ seen_by engine.old }
+    ensures { expander_state engine.new ≡ expander_state engine.old }
 {
     if engine.next_line().is_none() {
         return 0;
@@ -37,9 +37,9 @@ fn feed_one(
     ready: usize,
 ) -> u64
     requires drained { engine.old.lines ≡ [] }
-    requires counted { (seen_by engine.old).number ≡ taken }
+    requires counted { (expander_state engine.old).number ≡ taken }
     ensures drained { engine.new.lines ≡ [] }
-    ensures counted { (seen_by engine.new).number ≡ result }
+    ensures counted { (expander_state engine.new).number ≡ result }
 {
     assert!(rt; taken < 1000);
     assert!(rt; line.number() == taken + 1);
@@ -60,7 +60,7 @@ fn feed_one(
 /// Feeds a line that ends the run: no line is ready then, and the fault is answered again.
 fn feed_last(rt: &impl Abort, engine: &mut Expander, line: Line<'_>, taken: u64, at: At)
     requires drained { engine.old.lines ≡ [] }
-    requires counted { (seen_by engine.old).number ≡ taken }
+    requires counted { (expander_state engine.old).number ≡ taken }
 {
     assert!(rt; taken < 1000);
     assert!(rt; line.number() == taken + 1);
@@ -87,7 +87,7 @@ fn feed_all(
     fault: Option<At>,
 ) -> Result<(), Fail>
     requires drained { engine.old.lines ≡ [] }
-    requires counted { (seen_by engine.old).number ≡ 0 }
+    requires counted { (expander_state engine.old).number ≡ 0 }
 {
     let mut lines = LineReader::new(alloc)?;
     let mut reader = Std::new(input);

@@ -1,5 +1,5 @@
 use Rattle.crx_compact.specs.Steps.{differences_after}
-use Rattle.crx_compact.proofs.Running.{Advanced}
+use Rattle.crx_compact.proofs.arcs.Running.{Advanced}
 use Rattle.crx_compact.proofs.arc.advance.Given as goal
 
 abbrev pub invariant-loop-order : goal.invariant-loop-order

@@ -1,6 +1,6 @@
 use Rattle.std.proofs.Common.{rules, ◌∙◌, sym, ap, take}
 use Rattle.crx_compact.specs.Steps.{differences_after, highest}
-use Rattle.crx_compact.proofs.Running.{highest-last, same-bits}
+use Rattle.crx_compact.proofs.arcs.Running.{highest-last, same-bits}
 use Rattle.crx_compact.proofs.arc.go_on.Goals as goal
 
 pub returns-clause-highest : goal.returns-clause-highest
@@ -8,4 +8,5 @@ returns-clause-highest c =
     same-bits _ (search rules)
     ∙ sym (highest-last c.advance-highest.new.differences c.advance-highest.result)
     ∙ ap highest c.advance-highest.ensures
-    ∙ ap (λ v. highest (differences_after v (take c.args.order c.args.differences.now))) (same-bits c.args.value c.ranges.value)
+    ∙ ap (λ v. highest (differences_after v (take c.args.order c.args.differences.now)))
+    (same-bits c.args.value c.ranges.value)

@@ -1,4 +1,4 @@
-use Rattle.crx_compact.proofs.Running.{same-bits, set-four}
+use Rattle.crx_compact.proofs.arcs.Running.{same-bits, set-four}
 use Rattle.crx_compact.proofs.arc.put_four.Goals as goal
 
 pub returns : goal.returns

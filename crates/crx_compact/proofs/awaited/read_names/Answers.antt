@@ -1,13 +1,14 @@
-use Rattle.std.proofs.Common.{rules, ◌≡◌, ◌<◌, ◌+◌, ◌*◌, ◌++◌, ◌∷◌, [], ℕ, List, Bool, not, true, false, take, map, drop, sym, ap, ◌∙◌, inl, arith}
+use Rattle.std.proofs.Common.{rules, ◌≡◌, ◌<◌, ◌+◌, ◌*◌, ◌++◌, ◌∷◌, [], ℕ, List, Bool, not, true, false, take, map}
+use Rattle.std.proofs.Common.{drop, sym, ap, ◌∙◌, inl, arith}
 use Rattle.std.proofs.lemmas.List.{map-append}
-use Rattle.crx_rinex.specs.Epochs.{is_among}
+use Rattle.crx_rinex.specs.meaning.Epochs.{is_among}
 use Rattle.crx_rinex.proofs.Apart.{among-map}
 use Rattle.std.specs.List.{list_any}
 use Rattle.std.specs.Str.{bytes_eq}
-use Rattle.crx_text.specs.Columns.{columns}
-use Rattle.crx_compact.specs.EpochText.{Satellite, names_in}
+use Rattle.crx_text.specs.meaning.Columns.{columns}
+use Rattle.crx_compact.specs.meaning.EpochText.{Satellite, names_in}
 use Rattle.crx_rinex.proofs.EachPlace.{drop-each_place, drop_all-each_place}
-use Rattle.crx_compact.proofs.Naming.{named-bad, named-twice, named-more, named-all}
+use Rattle.crx_compact.proofs.reading.Naming.{named-bad, named-twice, named-more, named-all}
 use Rattle.crx_rinex.proofs.Rows.{names-long}
 use Rattle.crx_compact.proofs.awaited.read_names.Goals as goal
 
@@ -15,24 +16,33 @@ use Rattle.crx_compact.proofs.awaited.read_names.Goals as goal
 next : (text : List ℕ) (count place : ℕ) (name : List ℕ) → place < count → name ≡ columns text (42 + 3 * place) 3
     → drop place (names_in text count) ≡ name ∷ drop (place + 1) (names_in text count)
 next text count place name h e =
-    drop-each_place count place (λ k. columns text (42 + 3 * k) 3) h ∙ ap (λ n. n ∷ drop (place + 1) (names_in text count)) (sym e)
+    drop-each_place count place (λ k. columns text (42 + 3 * k) 3) h
+    ∙ ap (λ n. n ∷ drop (place + 1) (names_in text count)) (sym e)
 
 -- whether an identifier stands among those of the satellites so far
-among : (satellites : List Satellite) (names : List (List ℕ)) (name : List ℕ) (place : ℕ) (b : Bool) → take place names ≡ map (λ (s : Satellite). s.name) satellites
-    → is_among (λ (n : List ℕ). n) name (take place names) ≡ b → list_any (λ (s : Satellite). bytes_eq s.name name) satellites ≡ b
+among : (satellites : List Satellite) (names : List (List ℕ)) (name : List ℕ) (place : ℕ) (b : Bool)
+    → take place names ≡ map (λ (s : Satellite). s.name) satellites
+    → is_among (λ (n : List ℕ). n) name (take place names) ≡ b
+    → list_any (λ (s : Satellite). bytes_eq s.name name) satellites ≡ b
 among satellites names name place b placed is =
-    sym (among-map (λ (n : List ℕ). n) (λ (s : Satellite). s.name) name satellites) ∙ ap (is_among (λ (n : List ℕ). n) name) (sym placed) ∙ is
+    sym (among-map (λ (n : List ℕ). n) (λ (s : Satellite). s.name) name satellites)
+    ∙ ap (is_among (λ (n : List ℕ). n) name) (sym placed) ∙ is
 
 pub returns-in_default-clause-err : goal.returns-in_default-clause-err
 returns-in_default-clause-err c =
-    inl (named-bad c.args.types.now (names_in c.args.text.now c.args.count) c.loop-place.place c.loop-place.satellites.items c.identifier-name.result c.loop-place.invariant.so_far
-    (next c.args.text.now c.args.count c.loop-place.place c.identifier-name.result c.loop-place-test.true c.identifier-name.ensures) (sym c.in_default.ensures.value))
+    inl (named-bad c.args.types.now (names_in c.args.text.now c.args.count)
+    c.loop-place.place c.loop-place.satellites.items c.identifier-name.result c.loop-place.invariant.so_far
+    (next c.args.text.now c.args.count c.loop-place.place
+    c.identifier-name.result c.loop-place-test.true c.identifier-name.ensures) (sym c.in_default.ensures.value))
 
 pub returns-in-Ok-false-clause-err : goal.returns-in-Ok-false-clause-err
 returns-in-Ok-false-clause-err c =
-    inl (named-twice c.args.types.now (names_in c.args.text.now c.args.count) c.loop-place.place c.loop-place.satellites.items c.identifier-name.result c.in-Some.types c.loop-place.invariant.so_far
-    (next c.args.text.now c.args.count c.loop-place.place c.identifier-name.result c.loop-place-test.true c.identifier-name.ensures) (sym c.in-Some.ensures.value)
-    (among c.loop-place.satellites.items c.loop-place.names c.identifier-name.result c.loop-place.place true c.loop-place.invariant.placed (c.in-Ok-false.ensures.new ∙ ap not c.in-Ok-false.field-0-test)))
+    inl (named-twice c.args.types.now (names_in c.args.text.now c.args.count) c.loop-place.place
+    c.loop-place.satellites.items c.identifier-name.result c.in-Some.types c.loop-place.invariant.so_far
+    (next c.args.text.now c.args.count c.loop-place.place
+    c.identifier-name.result c.loop-place-test.true c.identifier-name.ensures) (sym c.in-Some.ensures.value)
+    (among c.loop-place.satellites.items c.loop-place.names c.identifier-name.result c.loop-place.place
+    true c.loop-place.invariant.placed (c.in-Ok-false.ensures.new ∙ ap not c.in-Ok-false.field-0-test)))
 
 pub loop-place-preserved : goal.loop-place-preserved
 loop-place-preserved c =
@@ -42,18 +52,25 @@ loop-place-preserved c =
     let within = c.loop-place.invariant.within in
     record {
       so_far =
-          named-more c.args.types.now (names_in c.args.text.now c.args.count) c.loop-place.place c.loop-place.satellites.items c.push.new.self.items c.identifier-name.result c.in-Some.types c.loop-place.invariant.so_far
-          (next c.args.text.now c.args.count c.loop-place.place c.identifier-name.result c.loop-place-test.true c.identifier-name.ensures) (sym c.in-Some.ensures.value)
-          (among c.loop-place.satellites.items c.loop-place.names c.identifier-name.result c.loop-place.place false c.loop-place.invariant.placed (c.in-Ok-true.ensures.new ∙ ap not c.in-Ok-true.field-0-test))
+          named-more c.args.types.now (names_in c.args.text.now c.args.count)
+          c.loop-place.place c.loop-place.satellites.items
+          c.push.new.self.items c.identifier-name.result c.in-Some.types c.loop-place.invariant.so_far
+          (next c.args.text.now c.args.count c.loop-place.place
+          c.identifier-name.result c.loop-place-test.true c.identifier-name.ensures) (sym c.in-Some.ensures.value)
+          (among c.loop-place.satellites.items c.loop-place.names c.identifier-name.result c.loop-place.place
+          false c.loop-place.invariant.placed (c.in-Ok-true.ensures.new ∙ ap not c.in-Ok-true.field-0-test))
           pushed;
       within = names-long c.loop-place.names c.put.new.self c.loop-place.place c.identifier-name.result within put;
       placed =
           put ∙ ap (λ (ns : List (List ℕ)). ns ++ c.identifier-name.result ∷ []) c.loop-place.invariant.placed
-          ∙ sym (map-append (λ (s : Satellite). s.name) c.loop-place.satellites.items (satellite ∷ [])) ∙ ap (map (λ (s : Satellite). s.name)) (sym pushed);
+          ∙ sym (map-append (λ (s : Satellite). s.name) c.loop-place.satellites.items (satellite ∷ []))
+          ∙ ap (map (λ (s : Satellite). s.name)) (sym pushed);
     }
 
 pub returns-clause-ok : goal.returns-clause-ok
 returns-clause-ok c =
     let end : c.loop-place.place ≡ c.args.count = omega arith in
-    named-all c.args.types.now (names_in c.args.text.now c.args.count) c.loop-place.place c.loop-place.satellites.items c.loop-place.invariant.so_far
-    (ap (λ n. drop n (names_in c.args.text.now c.args.count)) end ∙ drop_all-each_place c.args.count (λ k. columns c.args.text.now (42 + 3 * k) 3))
+    named-all c.args.types.now (names_in c.args.text.now c.args.count)
+    c.loop-place.place c.loop-place.satellites.items c.loop-place.invariant.so_far
+    (ap (λ n. drop n (names_in c.args.text.now c.args.count)) end
+    ∙ drop_all-each_place c.args.count (λ k. columns c.args.text.now (42 + 3 * k) 3))

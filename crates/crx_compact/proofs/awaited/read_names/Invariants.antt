@@ -1,6 +1,6 @@
 use Rattle.std.proofs.Common.{◌≡◌, ◌≤◌, map, take, length}
-use Rattle.crx_compact.specs.EpochText.{Satellite, names_in}
-use Rattle.crx_compact.proofs.Naming.{NamedSoFar}
+use Rattle.crx_compact.specs.meaning.EpochText.{Satellite, names_in}
+use Rattle.crx_compact.proofs.reading.Naming.{NamedSoFar}
 use Rattle.crx_compact.proofs.awaited.read_names.Given as goal
 
 abbrev pub invariant-loop-place : goal.invariant-loop-place

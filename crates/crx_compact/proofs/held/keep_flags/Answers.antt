@@ -1,7 +1,7 @@
 use Rattle.std.proofs.Common.{length, ap, ◌∙◌, arith}
 use Rattle.crx_rinex.specs.SatelliteLines.{with_flags}
-use Rattle.crx_compact.proofs.Marks.{flags-left, held-left, in-any, on-ok}
-use Rattle.crx_compact.proofs.SoundTexts.{length-held}
+use Rattle.crx_compact.proofs.reading.Marks.{flags-left, held-left, in-any, on-ok}
+use Rattle.crx_compact.proofs.soundness.SoundTexts.{length-held}
 use Rattle.crx_compact.proofs.held.keep_flags.Goals as goal
 
 pub set_flags-requires-clause-fitting : goal.set_flags-requires-clause-fitting
@@ -20,4 +20,5 @@ returns-clause-row c =
 
 pub returns-clause-held : goal.returns-clause-held
 returns-clause-held c =
-    on-ok c.hold_flags.result (λ held. held ∙ c.held_flags-flags.ensures.value ∙ held-left c.args.count c.args.before.now) c.hold_flags.ensures.ok
+    on-ok c.hold_flags.result (λ held. held
+    ∙ c.held_flags-flags.ensures.value ∙ held-left c.args.count c.args.before.now) c.hold_flags.ensures.ok

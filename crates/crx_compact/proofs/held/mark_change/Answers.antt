@@ -1,6 +1,6 @@
 use Rattle.std.proofs.Common.{rules, ◌≡◌, true, [], ◌∙◌}
 use Rattle.std.specs.Str.{bytes_eq}
-use Rattle.crx_compact.proofs.SoundTexts.{unmarked}
+use Rattle.crx_compact.proofs.soundness.SoundTexts.{unmarked}
 use Rattle.crx_compact.proofs.held.mark_change.Goals as goal
 
 pub returns-else-ne : goal.returns-else-ne

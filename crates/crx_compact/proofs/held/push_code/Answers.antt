@@ -8,4 +8,5 @@ pub unwrap-requires : goal.unwrap-requires
 unwrap-requires c =
     let short = code_text_length c.args.code c.requires in
     let empty = ap length c.clear.ensures in
-    ok-unless c.code_print.result (λ failed. let full = c.code_print.ensures.full.0 failed in omega (arith, short, empty, full))
+    ok-unless c.code_print.result (λ failed. let full = c.code_print.ensures.full.0 failed in
+    omega (arith, short, empty, full))

@@ -1,6 +1,6 @@
 use Rattle.std.proofs.Common.{◌≡◌, ◌∷◌, [], ◌-◌, refl, List, ℕ, length, take, drop, sym, ap, ◌∙◌, arith}
 use Rattle.std.proofs.lemmas.List.{length-drop}
-use Rattle.crx_compact.proofs.CellsRead.{read-cell, read-refused, read-none, read-all}
+use Rattle.crx_compact.proofs.reading.CellsRead.{read-cell, read-refused, read-none, read-all}
 use Rattle.crx_compact.proofs.held.read_cells.Goals as goal
 use Rattle.crx_compact.proofs.held.read_cells.Goals.{in-Some, in-None+in-Ok}
 
@@ -25,11 +25,13 @@ pub loop-place-preserved : goal.loop-place-preserved
 loop-place-preserved c =
     elim c.match-read_usual_cell.branch [
       | in-Some w ↦
-          read-cell _ _ _ _ _ _ _ _ _ _ _ _ w.in-Some.value w.in-Some.length c.loop-place.invariant.0 c.loop-place-test.true c.loop-place.invariant.1
+          read-cell _ _ _ _ _ _ _ _ _ _ _ _ w.in-Some.value
+          w.in-Some.length c.loop-place.invariant.0 c.loop-place-test.true c.loop-place.invariant.1
           (rw (from c.args.line.now c.loop-place.at) at w.in-Some.ensures.some)
           w.arcs-is w.at-is (w.row-is ∙ w.set.ensures.value)
       | in-None+in-Ok w ↦
-          read-cell _ _ _ _ _ _ _ _ _ _ _ _ w.in-Ok.value w.in-Ok.length c.loop-place.invariant.0 c.loop-place-test.true c.loop-place.invariant.1
+          read-cell _ _ _ _ _ _ _ _ _ _ _ _ w.in-Ok.value
+          w.in-Ok.length c.loop-place.invariant.0 c.loop-place-test.true c.loop-place.invariant.1
           (rw (from c.args.line.now c.loop-place.at, w.in-None.ensures.none) at w.in-Ok.ensures.ok)
           w.arcs-is w.at-is (w.row-is ∙ w.set-in-Ok.ensures.value)
     ]
@@ -38,6 +40,7 @@ pub returns-clause-ok : goal.returns-clause-ok
 returns-clause-ok c =
     let end : c.loop-place.place ≡ c.args.count = omega arith in
     let counted : length c.loop-place.arcs ≡ c.args.count = c.loop-place.invariant.1 in
-    let whole : take c.loop-place.place c.loop-place.arcs ≡ c.loop-place.arcs = ap (λ n. take n c.loop-place.arcs) (end ∙ sym counted) ∙ all c.loop-place.arcs in
+    let whole : take c.loop-place.place c.loop-place.arcs ≡ c.loop-place.arcs =
+    ap (λ n. take n c.loop-place.arcs) (end ∙ sym counted) ∙ all c.loop-place.arcs in
     let read = read-all _ _ _ _ _ _ _ _ c.loop-place.invariant.0 end in
     rw whole at read

@@ -1,5 +1,5 @@
 use Rattle.std.specs.Prelude.{◌≡◌, length, take}
-use Rattle.crx_compact.proofs.CellsRead.{ReadSoFar}
+use Rattle.crx_compact.proofs.reading.CellsRead.{ReadSoFar}
 use Rattle.crx_compact.proofs.held.read_cells.Given as goal
 
 abbrev pub invariant-loop-place : goal.invariant-loop-place

@@ -1,7 +1,7 @@
 use Rattle.std.proofs.Common.{rules, arith, FitsSigned, w64}
 use Rattle.crx_text.specs.declared.code.Code.TheVariants.{Step}
 use Rattle.crx_text.proofs.CodeTexts.{code_text_length}
-use Rattle.crx_compact.proofs.Running.{same-bits}
+use Rattle.crx_compact.proofs.arcs.Running.{same-bits}
 use Rattle.crx_compact.proofs.held.write_value.Goals as goal
 
 pub write_cell-requires-in-Some-third_at-clause-room : goal.write_cell-requires-in-Some-third_at-clause-room

@@ -1,8 +1,8 @@
 use Rattle.std.proofs.Common.{◌++◌, ◌∷◌, [], List, ℕ, Option, sym, ap, ◌∙◌, arith}
 use Rattle.std.proofs.lemmas.List.{take_more_set, length-set}
-use Rattle.crx_rinex.specs.Observations.{Row}
+use Rattle.crx_rinex.specs.meaning.Observations.{Row}
 use Rattle.crx_compact.specs.Tails.{RowTail}
-use Rattle.crx_compact.specs.Sequences.{named}
+use Rattle.crx_compact.specs.meaning.Sequences.{named}
 use Rattle.crx_compact.specs.Steps.{row_line_after, row_line_in, row_tail_after, row_tail_in}
 use Rattle.crx_compact.proofs.Making.{made-more, made-all}
 use Rattle.crx_compact.proofs.kept.encode_rows.Goals as goal
@@ -12,24 +12,30 @@ loop-row-preserved c =
     let index : ℕ = c.loop-row.index in
     let row : Row = c.in-Some.row.now in
     let before : List RowTail = c.args.before.now.rows in
-    let found = c.find.ensures ∙ ap (λ (name : List ℕ). named (λ (r : RowTail). r.name) name before) c.name.ensures.value in
+    let found = c.find.ensures
+    ∙ ap (λ (name : List ℕ). named (λ (r : RowTail). r.name) name before) c.name.ensures.value in
     let room = c.in_ok-make_room.ensures.room in
     record {
       within = omega (arith, room, length-set {A = RowTail});
       left =
-          made-more (row_tail_in before) [] c.args.epoch.now.rows index row _ _ c.encode.new.self c.loop-row.invariant.left (sym c.in-Some.ensures.value)
-          (take_more_set c.make_room.new.satellites.items index c.encode.new.self room ∙ ap (λ xs. xs ++ c.encode.new.self ∷ []) (c.make_room.ensures.same index c.loop-row.invariant.within))
+          made-more (row_tail_in before) [] c.args.epoch.now.rows
+          index row _ _ c.encode.new.self c.loop-row.invariant.left (sym c.in-Some.ensures.value)
+          (take_more_set c.make_room.new.satellites.items index c.encode.new.self room
+          ∙ ap (λ xs. xs ++ c.encode.new.self ∷ []) (c.make_room.ensures.same index c.loop-row.invariant.within))
           (c.in_ok-encode.ensures.after ∙ ap (λ (kept : Option RowTail). row_tail_after kept row) found);
       lent =
-          made-more (row_line_in before) c.args.lines.now c.args.epoch.now.rows index row _ _ _ c.loop-row.invariant.lent (sym c.in-Some.ensures.value)
+          made-more (row_line_in before) c.args.lines.now
+          c.args.epoch.now.rows index row _ _ _ c.loop-row.invariant.lent (sym c.in-Some.ensures.value)
           c.in_ok-encode.ensures.line
           (ap (λ (kept : Option RowTail). row_line_after kept row) found);
     }
 
 pub returns-clause-after : goal.returns-clause-after
 returns-clause-after c =
-    c.truncate.ensures.items ∙ made-all (row_tail_in c.args.before.now.rows) [] c.args.epoch.now.rows c.loop-row.index _ c.loop-row.invariant.left (sym c.in_default.ensures.value)
+    c.truncate.ensures.items ∙ made-all (row_tail_in c.args.before.now.rows)
+    [] c.args.epoch.now.rows c.loop-row.index _ c.loop-row.invariant.left (sym c.in_default.ensures.value)
 
 pub returns-clause-lines : goal.returns-clause-lines
 returns-clause-lines c =
-    made-all (row_line_in c.args.before.now.rows) c.args.lines.now c.args.epoch.now.rows c.loop-row.index c.loop-row.lines c.loop-row.invariant.lent (sym c.in_default.ensures.value)
+    made-all (row_line_in c.args.before.now.rows) c.args.lines.now c.args.epoch.now.rows
+    c.loop-row.index c.loop-row.lines c.loop-row.invariant.lent (sym c.in_default.ensures.value)

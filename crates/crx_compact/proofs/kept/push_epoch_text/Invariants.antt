@@ -1,6 +1,6 @@
 use Rattle.std.proofs.Common.{◌≡◌, ◌++◌, ◌-◌, take, length}
 use Rattle.std.specs.List.{flat_map}
-use Rattle.crx_rinex.specs.Observations.{Row}
+use Rattle.crx_rinex.specs.meaning.Observations.{Row}
 use Rattle.crx_compact.proofs.kept.push_epoch_text.Given as goal
 
 abbrev pub invariant-loop-row : goal.invariant-loop-row

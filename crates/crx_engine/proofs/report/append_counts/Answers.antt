@@ -1,7 +1,7 @@
 use Rattle.std.proofs.Common.{◌++◌, length, take, ap, sym, ◌∙◌, arith, append_assoc}
 use Rattle.std.specs.List.{flat_map}
-use Rattle.crx_engine.specs.Standard.{count_text}
-use Rattle.crx_engine.proofs.Reports.{counts-more, one-there}
+use Rattle.crx_engine.specs.meaning.Standard.{count_text}
+use Rattle.crx_engine.proofs.output.Reports.{counts-more, one-there}
 use Rattle.crx_engine.proofs.report.append_counts.Goals.{in-Some, in_default}
 use Rattle.crx_engine.proofs.report.append_counts.Goals as goal
 
@@ -17,11 +17,13 @@ loop-index-preserved c =
           let size = w.append_count.ensures.size in
           let longer = ap length w.text-is in (
             w.text-is ∙ w.append_count.ensures.value ∙ ap (λ t. t ++ count_text (w.in-Some.letter, w.in-Some.count)) i.0
-                ∙ append_assoc old (flat_map count_text (take index types)) (count_text (w.in-Some.letter, w.in-Some.count))
+                ∙ append_assoc old (flat_map count_text (take index types))
+                (count_text (w.in-Some.letter, w.in-Some.count))
                 ∙ ap (λ t. old ++ t) (sym (counts-more types index (w.in-Some.letter, w.in-Some.count) found)),
             omega (arith, size, longer, i.1),
             i.2,
             i.3,
           )
-      | in_default w ↦ absurd (one-there types index (sym c.entry.ensures.value ∙ w.in_default.is) (omega (arith, c.loop-index-test.true, i.2)))
+      | in_default w ↦ absurd (one-there types index (sym c.entry.ensures.value
+          ∙ w.in_default.is) (omega (arith, c.loop-index-test.true, i.2)))
     ]

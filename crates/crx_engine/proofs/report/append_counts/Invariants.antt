@@ -1,6 +1,6 @@
 use Rattle.std.proofs.Common.{◌≡◌, ◌+◌, ◌≤◌, ◌*◌, ◌++◌, length, take}
 use Rattle.std.specs.List.{flat_map}
-use Rattle.crx_engine.specs.Standard.{count_text}
+use Rattle.crx_engine.specs.meaning.Standard.{count_text}
 use Rattle.crx_engine.proofs.report.append_counts.Given as goal
 
 -- the counts so far are appended

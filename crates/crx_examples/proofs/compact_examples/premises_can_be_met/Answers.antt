@@ -4,16 +4,16 @@ use Rattle.std.proofs.Common.{refl, arith}
 use Rattle.std.proofs.lemmas.Int.{ints}
 use Rattle.std.proofs.lemmas.List.Elements.{All-cons, All-nil}
 use Rattle.std.specs.Fmt.{digits}
-use Rattle.crx_text.specs.Codes.{coded_number}
+use Rattle.crx_text.specs.meaning.Codes.{coded_number}
 use Rattle.crx_text.specs.Numbers.{IsObservation}
 use Rattle.crx_rinex.specs.ObservationTypes.{IsCount}
-use Rattle.crx_rinex.specs.SatelliteLines.{IsValue, IsSoundRow, HasItsTypes}
-use Rattle.crx_rinex.specs.Epochs.{IsWholeEpoch}
+use Rattle.crx_rinex.specs.meaning.SatelliteLines.{IsValue, IsSoundRow, HasItsTypes}
+use Rattle.crx_rinex.specs.meaning.Epochs.{IsWholeEpoch}
 use Rattle.crx_rinex.specs.Examples.{one_type}
-use Rattle.crx_examples.specs.CompactExamples.{g01, epoch_of_one}
+use Rattle.crx_examples.specs.CompactExamples.{row_of_g01, epoch_of_one}
 use Rattle.crx_examples.proofs.compact_examples.premises_can_be_met.Goals as goal
 
-row-sound : (value : ℤ) → IsObservation value → IsSoundRow (g01 (Some value))
+row-sound : (value : ℤ) → IsObservation value → IsSoundRow (row_of_g01 (Some value))
 row-sound value h = record {
   named = refl;
   counted = (omega arith, omega arith);
@@ -22,14 +22,15 @@ row-sound value h = record {
   kept = refl;
 }
 
-rows-typed : (value : ℤ) → All (HasItsTypes one_type) (g01 (Some value) ∷ [])
-rows-typed value = All-cons (HasItsTypes one_type) (g01 (Some value)) [] refl (All-nil (HasItsTypes one_type))
+rows-typed : (value : ℤ) → All (HasItsTypes one_type) (row_of_g01 (Some value) ∷ [])
+rows-typed value = All-cons (HasItsTypes one_type) (row_of_g01 (Some value)) [] refl (All-nil (HasItsTypes one_type))
 
 first : IsWholeEpoch one_type (epoch_of_one 0 (Some (pos 1000)))
 first = record {
   sound = record {
     head_sound = record { width = refl; counted = refl; within = omega arith; ranged = tt };
-    rows_sound = All-cons IsSoundRow (g01 (Some (pos 1000))) [] (row-sound (pos 1000) (record { low = omega (arith, ints); high = omega (arith, ints) })) (All-nil IsSoundRow);
+    rows_sound = All-cons IsSoundRow (row_of_g01 (Some (pos 1000))) []
+        (row-sound (pos 1000) (record { low = omega (arith, ints); high = omega (arith, ints) })) (All-nil IsSoundRow);
     apart = refl;
     within = omega arith;
   };
@@ -41,7 +42,8 @@ second : IsWholeEpoch one_type (epoch_of_one 1 (Some (pos 2000)))
 second = record {
   sound = record {
     head_sound = record { width = refl; counted = refl; within = omega arith; ranged = tt };
-    rows_sound = All-cons IsSoundRow (g01 (Some (pos 2000))) [] (row-sound (pos 2000) (record { low = omega (arith, ints); high = omega (arith, ints) })) (All-nil IsSoundRow);
+    rows_sound = All-cons IsSoundRow (row_of_g01 (Some (pos 2000))) []
+        (row-sound (pos 2000) (record { low = omega (arith, ints); high = omega (arith, ints) })) (All-nil IsSoundRow);
     apart = refl;
     within = omega arith;
   };
@@ -52,7 +54,11 @@ second = record {
 pub returns : goal.returns
 unfolding digits coded_number
 returns c = record {
-  counts = record { allowed = All-cons IsCount (71, 1) [] (refl, (omega arith, omega arith)) (All-nil IsCount); apart = refl };
+  counts = record {
+    allowed = All-cons IsCount
+        (71, 1) [] (refl, (omega arith, omega arith)) (All-nil IsCount);
+    apart = refl;
+  };
   whole = ((second, (first, tt)), ((first, tt), tt));
   single = ((refl, tt), ((refl, tt), tt));
   marks = ((refl, tt), ((refl, tt), tt));

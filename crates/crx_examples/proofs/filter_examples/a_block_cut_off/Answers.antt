@@ -1,19 +1,21 @@
 -- by computation
 use Rattle.std.proofs.Common.{refl, arith, [], ◌∷◌, ◌++◌, codes, inl}
 use Rattle.std.specs.Fmt.{digits}
-use Rattle.crx_text.specs.Codes.{coded_number}
-use Rattle.crx_text.specs.Numbers.{size_of, number_of, number_text}
+use Rattle.crx_text.specs.meaning.Codes.{coded_number}
+use Rattle.crx_text.specs.meaning.Numbers.{size_of, number_of, number_text}
 use Rattle.crx_lines.specs.declared.fault.Fault.TheVariants.{Truncated}
-use Rattle.crx_laws.specs.SmallFiles.{header, header_items, first_two, epoch_at_second, epoch_line_at, full_line_at, observed, no_choices}
-use Rattle.crx_engine.specs.Results.{lines_text}
-use Rattle.crx_engine.specs.Damage.{IsDamaged}
-use Rattle.crx_engine.specs.Messages.{warning_text}
+use Rattle.crx_laws.specs.SmallFiles.{header, header_items, first_two, epoch_at_second, epoch_line_at, full_line_at}
+use Rattle.crx_laws.specs.SmallFiles.{observed, plain_choices}
+use Rattle.crx_rinex.specs.meaning.Printing.{lines_text}
+use Rattle.crx_engine.specs.meaning.Damage.{IsDamaged}
+use Rattle.crx_engine.specs.meaning.Messages.{warning_text}
 use Rattle.crx_examples.proofs.filter_examples.a_block_cut_off.Goals as goal
 
-cut : IsDamaged (lines_text (header ++ epoch_line_at 0 1 ∷ observed (codes "1.000") ∷ [])) no_choices (lines_text (first_two ++ header ++ full_line_at 0 1 (codes "G01") ∷ []))
+cut : IsDamaged (lines_text (header ++ epoch_line_at 0 1 ∷ observed (codes "1.000") ∷ [])) plain_choices
+    (lines_text (first_two ++ header ++ full_line_at 0 1 (codes "G01") ∷ []))
 unfolding digits coded_number size_of number_of number_text
 cut = record {
-  standard = record { good = refl; plain = refl; spelt = refl };
+  standard = record { good = refl; plain = refl; given_back = refl };
   before = header_items;
   first = epoch_at_second 0 1000;
   others = [];

@@ -1,8 +1,7 @@
-use Rattle.crx_engine.specs.Checking.{check_filter}
-use Rattle.crx_engine.specs.Standard.{checked}
-use Rattle.crx_filter.specs.Promises.{JudgesStandard}
-use Rattle.crx_filter.specs.Running.{Input, reader_span}
-use Rattle.crx_filter.specs.Taking.{Device, span}
+use Rattle.crx_engine.specs.CheckByLine.{check_filter}
+use Rattle.crx_engine.specs.meaning.Standard.{checked}
+use Rattle.crx_filter.specs.meaning.Promises.{JudgesStandard}
+use Rattle.crx_filter.specs.meaning.Spans.{Input, reader_span, Device, span}
 use Rattle.crx_filter.proofs.Kept.{kept, judges-standard}
 use Rattle.crx_filter.proofs.checks.check.Goals as goal
 
@@ -20,5 +19,10 @@ returns g c =
     let ran = c.check_by.ensures.runs in
     record {
       runs = ran;
-      standard = (ran.0, ran.1, kept checked check_filter (JudgesStandard writer status) input ran.0 writer messages status fault (judges-standard writer messages status fault) ran.2);
+      standard = (
+        ran.0,
+        ran.1,
+        kept checked check_filter (JudgesStandard writer status)
+            input ran.0 writer messages status fault (judges-standard writer messages status fault) ran.2,
+      );
     }

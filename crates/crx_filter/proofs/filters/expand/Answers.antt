@@ -1,17 +1,16 @@
 use Rattle.std.proofs.Common.{◌≡◌, ℕ, List, [], Option, ap}
 use Rattle.crx_compact.specs.OpenEpochs.{OpenRawEpoch}
 use Rattle.crx_compact.specs.Tails.{Tail}
-use Rattle.crx_engine.specs.Expander.{expansion_seen}
+use Rattle.crx_engine.specs.ExpansionByLine.{expansion_seen}
 use Rattle.crx_engine.specs.declared.expander.Expander.{Expander}
 use Rattle.crx_engine.specs.LineByLine.{Seen}
-use Rattle.crx_engine.specs.Expanded.{expanded}
-use Rattle.crx_engine.specs.Expanding.{seen_by}
+use Rattle.crx_engine.specs.meaning.Expanded.{expanded}
+use Rattle.crx_engine.specs.ExpanderState.{expander_state}
 use Rattle.crx_engine.specs.Directions.{expansion_filter}
-use Rattle.crx_filter.specs.Running.{Input, reader_span}
-use Rattle.crx_filter.specs.Taking.{Device, span}
+use Rattle.crx_filter.specs.meaning.Spans.{Input, reader_span, Device, span}
 use Rattle.std.proofs.lemmas.Result.{IfOk-weaker}
-use Rattle.crx_engine.proofs.Lawful.{expansion-lawful}
-use Rattle.crx_filter.specs.Promises.{BringsBackWhatWasCompacted, SavesAllElse}
+use Rattle.crx_engine.proofs.following.Lawful.{expansion-lawful}
+use Rattle.crx_filter.specs.meaning.Promises.{BringsBackWhatWasCompacted, SavesAllElse}
 use Rattle.crx_filter.proofs.Kept.{kept, brings-back, saves-all_else}
 use Rattle.crx_filter.proofs.filters.expand.Goals as goal
 
@@ -27,18 +26,31 @@ returns g c =
     let messages : Device = span g.M.Sink m0 c.start.new.messages in
     let status = c.start.result.status in
     let fault = c.start.result.fault in
-    let same : (e : Expander) → seen_by e ≡ expansion_seen choices [] → e.options ≡ choices = λ e is. ap (λ (s : Seen OpenRawEpoch (Option Tail)). s.choices) is in
+    let same : (e : Expander) → expander_state e ≡ expansion_seen choices []
+    → e.options ≡ choices = λ e is. ap (λ (s : Seen OpenRawEpoch (Option Tail)). s.choices) is in
     let ran = c.start.ensures.runs (expansion_filter choices) (expansion-lawful choices)
-    (IfOk-weaker c.new.result (λ (e : Expander). seen_by e ≡ expansion_seen choices []) (λ (e : Expander). expansion_filter e.options ≡ expansion_filter choices)
+    (IfOk-weaker c.new.result (λ (e : Expander). expander_state e ≡ expansion_seen choices [])
+    (λ (e : Expander). expansion_filter e.options ≡ expansion_filter choices)
     (λ e is. ap expansion_filter (same e is)) c.new.ensures.seen) in
     let expansion = λ (bytes : List ℕ). expanded bytes choices in
     let back = BringsBackWhatWasCompacted writer messages status fault in
     let saves = SavesAllElse choices writer messages status fault in
     record {
       runs = ran;
-      way_back = (ran.0, ran.1, kept expansion (expansion_filter choices) back input ran.0 writer messages status fault (brings-back choices writer messages status fault) ran.2);
-      salvage = (ran.0, ran.1, kept expansion (expansion_filter choices) saves input ran.0 writer messages status fault (saves-all_else choices writer messages status fault) ran.2);
+      way_back = (
+        ran.0,
+        ran.1,
+        kept expansion (expansion_filter choices) back input ran.0 writer messages status fault
+            (brings-back choices writer messages status fault) ran.2,
+      );
+      salvage = (
+        ran.0,
+        ran.1,
+        kept expansion (expansion_filter choices) saves input ran.0 writer messages status fault
+            (saves-all_else choices writer messages status fault) ran.2,
+      );
     }
 
 pub start-requires-clause-lawful : goal.start-requires-clause-lawful
-start-requires-clause-lawful g c = IfOk-weaker c.new.result _ _ (λ e is. expansion-lawful (seen_by e).choices) c.new.ensures.seen
+start-requires-clause-lawful g c =
+    IfOk-weaker c.new.result _ _ (λ e is. expansion-lawful (expander_state e).choices) c.new.ensures.seen

@@ -1,7 +1,6 @@
 use Rattle.std.proofs.Common.{refl}
 use Rattle.crx_lines.specs.Readers.{reading}
-use Rattle.crx_filter.specs.Running.{Input, reader_span}
-use Rattle.crx_filter.specs.Taking.{Device, span}
+use Rattle.crx_filter.specs.meaning.Spans.{Input, reader_span, Device, span}
 use Rattle.crx_filter.proofs.Conclusions.{runs-as, runs-nothing}
 use Rattle.crx_filter.proofs.run.run.Goals as goal
 
@@ -21,11 +20,14 @@ returns-in-Err g c =
     let messages2 : Device = span g.M.Sink m c.finish.new.messages in
     let messages3 : Device = span g.M.Sink m0 c.finish.new.messages in
     record {
-      runs = runs-nothing (g.E.Engine.filter c.args.engine.now) c.requires.lawful input writer1 writer2 writer3 messages1 messages2 messages3
+      runs = runs-nothing (g.E.Engine.filter c.args.engine.now)
+          c.requires.lawful input writer1 writer2 writer3 messages1 messages2 messages3
           refl refl refl (λ xs ys a b. g.met.W.Sink.took_both w0 w c.finish.new.writer xs ys a b) (λ f. f)
           refl refl refl (λ xs ys a b. g.met.M.Sink.took_both m0 m c.finish.new.messages xs ys a b)
-          (g.E.Engine.has_ended c.args.engine.now) work.last work.warned work.halt c.finish.result.status c.finish.result.fault
-          c.no_memory.ensures.halt c.no_memory.ensures.last (g.met.R.Source.gave_none r) refl (g.met.W.Sink.took_none w, refl) (g.met.M.Sink.took_none m, refl) c.finish.ensures;
+          (g.E.Engine.has_ended c.args.engine.now)
+          work.last work.warned work.halt c.finish.result.status c.finish.result.fault
+          c.no_memory.ensures.halt c.no_memory.ensures.last (g.met.R.Source.gave_none r) refl
+          (g.met.W.Sink.took_none w, refl) (g.met.M.Sink.took_none m, refl) c.finish.ensures;
     }
 
 pub returns-in-Ok : goal.returns-in-Ok
@@ -45,8 +47,11 @@ returns-in-Ok g c =
     let messages2 : Device = span g.M.Sink m c.finish-in-Ok.new.messages in
     let messages3 : Device = span g.M.Sink m0 c.finish-in-Ok.new.messages in
     record {
-      runs = runs-as (g.E.Engine.filter c.args.engine.now) c.requires.lawful input writer1 writer2 writer3 messages1 messages2 messages3
+      runs = runs-as (g.E.Engine.filter c.args.engine.now)
+          c.requires.lawful input writer1 writer2 writer3 messages1 messages2 messages3
           refl refl refl (λ xs ys a b. g.met.W.Sink.took_both w0 w c.finish-in-Ok.new.writer xs ys a b) (λ f. f)
           refl refl refl (λ xs ys a b. g.met.M.Sink.took_both m0 m c.finish-in-Ok.new.messages xs ys a b)
-          (g.E.Engine.has_ended c.take_all-work.new.engine) (reading c.take_all-work.new.input) work.last work.warned work.halt c.finish-in-Ok.result.status c.finish-in-Ok.result.fault c.take_all-work.ensures c.finish-in-Ok.ensures;
+          (g.E.Engine.has_ended c.take_all-work.new.engine)
+          (reading c.take_all-work.new.input) work.last work.warned work.halt
+          c.finish-in-Ok.result.status c.finish-in-Ok.result.fault c.take_all-work.ensures c.finish-in-Ok.ensures;
     }

@@ -1,9 +1,9 @@
 use Rattle.std.proofs.Common.{◌≡◌, IfOk, refl, subst}
 use Rattle.std.specs.Prelude.{⊤}
-use Rattle.crx_engine.specs.Filters.{Filter}
-use Rattle.crx_filter.specs.Running.{Input, reader_span}
-use Rattle.crx_filter.specs.Runs.{result_by, RunsAs}
-use Rattle.crx_filter.specs.Taking.{Device, span}
+use Rattle.crx_engine.specs.meaning.Filters.{Filter}
+use Rattle.crx_filter.specs.meaning.Spans.{Input, reader_span, Device, span}
+use Rattle.crx_filter.specs.Runs.{result_by}
+use Rattle.crx_filter.specs.meaning.Runs.{RunsAs}
 use Rattle.crx_filter.proofs.Conclusions.{runs-nothing}
 use Rattle.crx_filter.proofs.start.start.Goals as goal
 
@@ -18,8 +18,13 @@ returns-in-Ok g c = record {
       let writer : Device = span g.W.Sink w0 c.run.new.writer in
       let messages : Device = span g.M.Sink m0 c.run.new.messages in
       let ran = c.run.ensures.runs in
-      let is : g.E.Engine.filter c.in-Ok.engine ≡ filter = subst (λ x. IfOk x (λ e. g.E.Engine.filter e ≡ filter)) c.in-Ok.is same in
-      (ran.0, ran.1, subst (λ (f : Filter). RunsAs (result_by f) f input ran.0 writer messages c.run.result.status c.run.result.fault) is ran.2);
+      let is : g.E.Engine.filter c.in-Ok.engine ≡ filter =
+      subst (λ x. IfOk x (λ e. g.E.Engine.filter e ≡ filter)) c.in-Ok.is same in (
+        ran.0,
+        ran.1,
+        subst (λ (f : Filter).
+            RunsAs (result_by f) f input ran.0 writer messages c.run.result.status c.run.result.fault) is ran.2,
+      );
 }
 
 pub returns-in-Err : goal.returns-in-Err
@@ -38,6 +43,7 @@ returns-in-Err g c = record {
       refl refl refl (λ xs ys a b. g.met.W.Sink.took_both w w c.finish.new.writer xs ys a b) (λ f. f)
       refl refl refl (λ xs ys a b. g.met.M.Sink.took_both m m c.finish.new.messages xs ys a b)
       (λ lines. ⊤) work.last work.warned work.halt c.finish.result.status c.finish.result.fault
-      c.no_memory.ensures.halt c.no_memory.ensures.last (g.met.R.Source.gave_none r) refl (g.met.W.Sink.took_none w, refl) (g.met.M.Sink.took_none m, refl) c.finish.ensures in
+      c.no_memory.ensures.halt c.no_memory.ensures.last (g.met.R.Source.gave_none r) refl
+      (g.met.W.Sink.took_none w, refl) (g.met.M.Sink.took_none m, refl) c.finish.ensures in
       (ran.0, ran.1, ran.2);
 }

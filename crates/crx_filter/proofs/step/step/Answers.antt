@@ -1,13 +1,13 @@
 use Rattle.std.proofs.Common.{◌≡◌, inl, inr, ℕ, ◌+◌, List, Ok, refl, sym, ap, subst, ◌∙◌}
-use Rattle.crx_lines.specs.Devices.{tally_of}
-use Rattle.crx_lines.specs.Lines.{InputLine}
+use Rattle.crx_lines.specs.meaning.Devices.{tally_of}
+use Rattle.crx_lines.specs.meaning.Lines.{InputLine}
 use Rattle.crx_lines.specs.Readers.{reading}
-use Rattle.crx_lines.specs.Reading.{Reading, line_shown, line_number}
+use Rattle.crx_lines.specs.Reading.{ReaderState, line_shown, line_number}
 use Rattle.crx_lines.specs.Progress.{HasRead}
 use Rattle.crx_lines.specs.declared.phase.Phase.TheVariants.{Ended}
-use Rattle.crx_filter.specs.Running.{Input}
-use Rattle.crx_filter.specs.Taking.{Device, span}
-use Rattle.crx_filter.proofs.StepReading.{line-read, overlong-read, stop-read, end-read, overlong-number, line-lent, overlong-lent, ended-not-open}
+use Rattle.crx_filter.specs.meaning.Spans.{Input, Device, span}
+use Rattle.crx_filter.proofs.StepReading.{line-read, overlong-read, stop-read, end-read, overlong-number, line-lent}
+use Rattle.crx_filter.proofs.StepReading.{overlong-lent, ended-not-open}
 use Rattle.crx_filter.proofs.StepLemmas.{goes-by, ends-by}
 use Rattle.crx_filter.proofs.step.step.Goals as goal
 
@@ -15,8 +15,11 @@ pub take_overlong-requires-clause-next :
     goal.take_overlong-requires-clause-next
 take_overlong-requires-clause-next g c =
     let counts = λ (r : g.row.R.Denot). tally_of (g.R.Source.failures r) (g.R.Source.ends r) in
-    overlong-number (λ given. g.R.Source.gave c.args.reader.now given c.next_line.new.reader) (g.R.Source.at_end c.next_line.new.reader) (counts c.args.reader.now) (counts c.next_line.new.reader)
-    (reading c.args.input.now) (reading c.next_line.follows.lender-at-none) c.next_line.result c.requires.going c.next_line.follows.holds-at-none.0 (λ e. (c.next_line.ensures.ended e).0) c.in-Err.at c.in-Err.is c.in-LineTooLong.is
+    overlong-number (λ given. g.R.Source.gave c.args.reader.now given c.next_line.new.reader)
+    (g.R.Source.at_end c.next_line.new.reader) (counts c.args.reader.now) (counts c.next_line.new.reader)
+    (reading c.args.input.now) (reading c.next_line.follows.lender-at-none)
+    c.next_line.result c.requires.going c.next_line.follows.holds-at-none.0
+    (λ e. (c.next_line.ensures.ended e).0) c.in-Err.at c.in-Err.is c.in-LineTooLong.is
     ∙ ap (λ n. n + 1) c.requires.next
 
 pub returns-in-Ok-clause-goes : goal.returns-in-Ok-clause-goes
@@ -32,13 +35,15 @@ returns-in-Ok-clause-goes g c = λ r0 w0 m0 (lines : List InputLine) shown runni
     let gave : List ℕ → Type 0 = λ given. g.R.Source.gave r0 given r1 in
     let gives : List ℕ → Type 0 = λ given. g.R.Source.gave r0 given r2 in
     let step : List ℕ → Type 0 = λ given. g.R.Source.gave r1 given r2 in
-    let goes = λ (given more : List ℕ) (a : gave given) (b : step more). g.met.R.Source.gave_both r0 r1 r2 given more a b in
+    let goes =
+    λ (given more : List ℕ) (a : gave given) (b : step more). g.met.R.Source.gave_both r0 r1 r2 given more a b in
     let at-open = c.next_line.follows.holds-at-none.0 in
     let at-ended = λ (e : old.phase ≡ Ended). (c.next_line.ensures.ended e).0 in
     let is = c.in-Ok-Some.is ∙ ap Ok c.in-Ok-Some.field-0-is in
     let line = line_shown c.in-Ok-Some.line in
     let number = line_number c.in-Ok-Some.line in
-    let read = line-read gave gives step (g.R.Source.at_end r1) (g.R.Source.at_end r2) (counts r0) (counts r1) (counts r2) old new lines running.read goes c.next_line.result c.requires.going at-open at-ended c.in-Ok-Some.line is in
+    let read = line-read gave gives step (g.R.Source.at_end r1) (g.R.Source.at_end r2) (counts r0) (counts r1) (counts
+    r2) old new lines running.read goes c.next_line.result c.requires.going at-open at-ended c.in-Ok-Some.line is in
     let w2 = c.take_line.new.writer in
     let m2 = c.take_line.new.messages in
     let input : Input = record { gave = gave; at_end = g.R.Source.at_end r1; start = counts r0; counted = counts r1 } in
@@ -67,13 +72,15 @@ returns-in-Err-take_line-clause-stops g c = λ r0 w0 m0 (lines : List InputLine)
     let gave : List ℕ → Type 0 = λ given. g.R.Source.gave r0 given r1 in
     let gives : List ℕ → Type 0 = λ given. g.R.Source.gave r0 given r2 in
     let step : List ℕ → Type 0 = λ given. g.R.Source.gave r1 given r2 in
-    let goes = λ (given more : List ℕ) (a : gave given) (b : step more). g.met.R.Source.gave_both r0 r1 r2 given more a b in
+    let goes =
+    λ (given more : List ℕ) (a : gave given) (b : step more). g.met.R.Source.gave_both r0 r1 r2 given more a b in
     let at-open = c.next_line.follows.holds-at-none.0 in
     let at-ended = λ (e : old.phase ≡ Ended). (c.next_line.ensures.ended e).0 in
     let is = c.in-Ok-Some.is ∙ ap Ok c.in-Ok-Some.field-0-is in
     let line = line_shown c.in-Ok-Some.line in
     let number = line_number c.in-Ok-Some.line in
-    let read = line-read gave gives step (g.R.Source.at_end r1) (g.R.Source.at_end r2) (counts r0) (counts r1) (counts r2) old new lines running.read goes c.next_line.result c.requires.going at-open at-ended c.in-Ok-Some.line is in
+    let read = line-read gave gives step (g.R.Source.at_end r1) (g.R.Source.at_end r2) (counts r0) (counts r1) (counts
+    r2) old new lines running.read goes c.next_line.result c.requires.going at-open at-ended c.in-Ok-Some.line is in
     let w2 = c.take_line.new.writer in
     let m2 = c.take_line.new.messages in
     let input : Input = record { gave = gave; at_end = g.R.Source.at_end r1; start = counts r0; counted = counts r1 } in
@@ -99,19 +106,30 @@ returns-in-Ok-None-clause-goes g c = λ r0 w0 m0 (lines : List InputLine) shown 
     let gave : List ℕ → Type 0 = λ given. g.R.Source.gave r0 given r1 in
     let gives : List ℕ → Type 0 = λ given. g.R.Source.gave r0 given r2 in
     let step : List ℕ → Type 0 = λ given. g.R.Source.gave r1 given r2 in
-    let goes = λ (given more : List ℕ) (a : gave given) (b : step more). g.met.R.Source.gave_both r0 r1 r2 given more a b in
-    let kept : old.phase ≡ Ended → HasRead gives (g.R.Source.at_end r2) (counts r0) (counts r2) new lines × (new.phase ≡ Ended) = λ e.
+    let goes =
+    λ (given more : List ℕ) (a : gave given) (b : step more). g.met.R.Source.gave_both r0 r1 r2 given more a b in
+    let kept : old.phase ≡ Ended → HasRead gives (g.R.Source.at_end r2) (counts r0) (counts r2) new lines
+    × (new.phase ≡ Ended) = λ e.
     let same = (c.next_line.ensures.ended e).1 in
     let still : new ≡ old = c.next_line.follows.holds-at-none.1 (λ o. ended-not-open (sym e ∙ o)) in (
-      subst (λ (n : Reading). HasRead gives (g.R.Source.at_end r2) (counts r0) (counts r2) n lines) (sym still)
-          (subst (λ (r : g.row.R.Denot). HasRead (λ given. g.R.Source.gave r0 given r) (g.R.Source.at_end r) (counts r0) (counts r) old lines) (sym same) running.read),
-      ap (λ (n : Reading). n.phase) still ∙ e,
+      subst (λ (n : ReaderState). HasRead gives (g.R.Source.at_end r2) (counts r0) (counts r2) n lines) (sym still)
+          (subst (λ (r : g.row.R.Denot). HasRead (λ given. g.R.Source.gave r0 given r)
+          (g.R.Source.at_end r) (counts r0) (counts r) old lines) (sym same) running.read),
+      ap (λ (n : ReaderState). n.phase) still ∙ e,
     ) in
-    let over = end-read gave gives step (g.R.Source.at_end r1) (g.R.Source.at_end r2) (counts r0) (counts r1) (counts r2) old new lines running.read goes c.next_line.result c.requires.going
-    c.next_line.follows.holds-at-none.0 (λ e. (c.next_line.ensures.ended e).0) (c.in-Ok-None.is ∙ ap Ok c.in-Ok-None.field-0-is) kept in
+    let over = end-read gave gives step (g.R.Source.at_end r1) (g.R.Source.at_end r2)
+    (counts r0) (counts r1) (counts r2) old new lines running.read goes c.next_line.result c.requires.going
+    c.next_line.follows.holds-at-none.0 (λ e. (c.next_line.ensures.ended e).0) (c.in-Ok-None.is
+    ∙ ap Ok c.in-Ok-None.field-0-is) kept in
     record {
       shown = shown;
-      running = record { read = over.0; going = inr over.1; good = running.good; wrote = running.wrote; reported = running.reported };
+      running = record {
+        read = over.0;
+        going = inr over.1;
+        good = running.good;
+        wrote = running.wrote;
+        reported = running.reported;
+      };
       ended = over.1;
     }
 
@@ -128,10 +146,13 @@ returns-in-Ok-take_overlong-clause-goes g c = λ r0 w0 m0 (lines : List InputLin
     let gave : List ℕ → Type 0 = λ given. g.R.Source.gave r0 given r1 in
     let gives : List ℕ → Type 0 = λ given. g.R.Source.gave r0 given r2 in
     let step : List ℕ → Type 0 = λ given. g.R.Source.gave r1 given r2 in
-    let goes = λ (given more : List ℕ) (a : gave given) (b : step more). g.met.R.Source.gave_both r0 r1 r2 given more a b in
+    let goes =
+    λ (given more : List ℕ) (a : gave given) (b : step more). g.met.R.Source.gave_both r0 r1 r2 given more a b in
     let at-open = c.next_line.follows.holds-at-none.0 in
     let at-ended = λ (e : old.phase ≡ Ended). (c.next_line.ensures.ended e).0 in
-    let over = overlong-read gave gives step (g.R.Source.at_end r1) (g.R.Source.at_end r2) (counts r0) (counts r1) (counts r2) old new lines running.read goes c.next_line.result c.requires.going at-open at-ended c.in-Err.at c.in-Err.is c.in-LineTooLong.is in
+    let over = overlong-read gave gives step
+    (g.R.Source.at_end r1) (g.R.Source.at_end r2) (counts r0) (counts r1) (counts r2) old new lines running.read
+    goes c.next_line.result c.requires.going at-open at-ended c.in-Err.at c.in-Err.is c.in-LineTooLong.is in
     let line = over.0 in
     let number = c.in-Err.at.line in
     let read = over.2 in
@@ -149,7 +170,8 @@ returns-in-Ok-take_overlong-clause-goes g c = λ r0 w0 m0 (lines : List InputLin
     goes-by filter input then old new lines writer1 writer2 writer messages1 messages2 messages
     refl refl refl (λ xs ys a b. g.met.W.Sink.took_both w0 w1 w2 xs ys a b)
     refl refl refl (λ xs ys a b. g.met.M.Sink.took_both m0 m1 m2 xs ys a b)
-    running line number read (g.E.Engine.shows c.take_overlong.new.engine) c.in-Ok-take_overlong.warned (c.in-Ok-take_overlong.ensures.done lines line shown taken)
+    running line number read (g.E.Engine.shows c.take_overlong.new.engine) c.in-Ok-take_overlong.warned
+    (c.in-Ok-take_overlong.ensures.done lines line shown taken)
 
 pub returns-in-Err-take_overlong-clause-stops : goal.returns-in-Err-take_overlong-clause-stops
 returns-in-Err-take_overlong-clause-stops g c = λ r0 w0 m0 (lines : List InputLine) shown running.
@@ -164,10 +186,13 @@ returns-in-Err-take_overlong-clause-stops g c = λ r0 w0 m0 (lines : List InputL
     let gave : List ℕ → Type 0 = λ given. g.R.Source.gave r0 given r1 in
     let gives : List ℕ → Type 0 = λ given. g.R.Source.gave r0 given r2 in
     let step : List ℕ → Type 0 = λ given. g.R.Source.gave r1 given r2 in
-    let goes = λ (given more : List ℕ) (a : gave given) (b : step more). g.met.R.Source.gave_both r0 r1 r2 given more a b in
+    let goes =
+    λ (given more : List ℕ) (a : gave given) (b : step more). g.met.R.Source.gave_both r0 r1 r2 given more a b in
     let at-open = c.next_line.follows.holds-at-none.0 in
     let at-ended = λ (e : old.phase ≡ Ended). (c.next_line.ensures.ended e).0 in
-    let over = overlong-read gave gives step (g.R.Source.at_end r1) (g.R.Source.at_end r2) (counts r0) (counts r1) (counts r2) old new lines running.read goes c.next_line.result c.requires.going at-open at-ended c.in-Err.at c.in-Err.is c.in-LineTooLong.is in
+    let over = overlong-read gave gives step
+    (g.R.Source.at_end r1) (g.R.Source.at_end r2) (counts r0) (counts r1) (counts r2) old new lines running.read
+    goes c.next_line.result c.requires.going at-open at-ended c.in-Err.at c.in-Err.is c.in-LineTooLong.is in
     let line = over.0 in
     let number = c.in-Err.at.line in
     let read = over.2 in
@@ -197,19 +222,38 @@ returns-in_default-clause-stops g c = λ r0 w0 m0 (lines : List InputLine) shown
     let gave : List ℕ → Type 0 = λ given. g.R.Source.gave r0 given r1 in
     let gives : List ℕ → Type 0 = λ given. g.R.Source.gave r0 given r2 in
     let step : List ℕ → Type 0 = λ given. g.R.Source.gave r1 given r2 in
-    let goes = λ (given more : List ℕ) (a : gave given) (b : step more). g.met.R.Source.gave_both r0 r1 r2 given more a b in
-    let stopped = stop-read gave gives step (g.R.Source.at_end r1) (g.R.Source.at_end r2) (counts r0) (counts r1) (counts r2) old new lines running.read goes c.next_line.result c.requires.going
-    c.next_line.follows.holds-at-none.0 (λ e. (c.next_line.ensures.ended e).0) c.in-Err.at c.in-Err.is c.in_default.not-LineTooLong in
-    inl (c.in-Err.at, refl, record { read = stopped.0; stopped = stopped.1; good = running.good; wrote = running.wrote; reported = running.reported })
+    let goes =
+    λ (given more : List ℕ) (a : gave given) (b : step more). g.met.R.Source.gave_both r0 r1 r2 given more a b in
+    let stopped = stop-read gave gives step (g.R.Source.at_end r1) (g.R.Source.at_end r2)
+    (counts r0) (counts r1) (counts r2) old new lines running.read goes c.next_line.result c.requires.going
+    c.next_line.follows.holds-at-none.0
+    (λ e. (c.next_line.ensures.ended e).0) c.in-Err.at c.in-Err.is c.in_default.not-LineTooLong in
+    inl (
+      c.in-Err.at,
+      refl,
+      record {
+        read = stopped.0;
+        stopped = stopped.1;
+        good = running.good;
+        wrote = running.wrote;
+        reported = running.reported;
+      },
+    )
 
 pub returns-in-Ok-clause-farther : goal.returns-in-Ok-clause-farther
 returns-in-Ok-clause-farther g c =
     let counts = λ (r : g.row.R.Denot). tally_of (g.R.Source.failures r) (g.R.Source.ends r) in
-    line-lent (λ given. g.R.Source.gave c.args.reader.now given c.next_line.new.reader) (g.R.Source.at_end c.next_line.new.reader) (counts c.args.reader.now) (counts c.next_line.new.reader)
-    (reading c.args.input.now) (reading c.next_line.follows.lender-at-none) c.next_line.result c.requires.going c.next_line.follows.holds-at-none.0 (λ e. (c.next_line.ensures.ended e).0) c.in-Ok-Some.line (c.in-Ok-Some.is ∙ ap Ok c.in-Ok-Some.field-0-is)
+    line-lent (λ given. g.R.Source.gave c.args.reader.now given c.next_line.new.reader)
+    (g.R.Source.at_end c.next_line.new.reader) (counts c.args.reader.now) (counts c.next_line.new.reader)
+    (reading c.args.input.now) (reading c.next_line.follows.lender-at-none) c.next_line.result c.requires.going
+    c.next_line.follows.holds-at-none.0 (λ e. (c.next_line.ensures.ended e).0) c.in-Ok-Some.line (c.in-Ok-Some.is
+    ∙ ap Ok c.in-Ok-Some.field-0-is)
 
 pub returns-in-Ok-take_overlong-clause-farther : goal.returns-in-Ok-take_overlong-clause-farther
 returns-in-Ok-take_overlong-clause-farther g c =
     let counts = λ (r : g.row.R.Denot). tally_of (g.R.Source.failures r) (g.R.Source.ends r) in
-    overlong-lent (λ given. g.R.Source.gave c.args.reader.now given c.next_line.new.reader) (g.R.Source.at_end c.next_line.new.reader) (counts c.args.reader.now) (counts c.next_line.new.reader)
-    (reading c.args.input.now) (reading c.next_line.follows.lender-at-none) c.next_line.result c.requires.going c.next_line.follows.holds-at-none.0 (λ e. (c.next_line.ensures.ended e).0) c.in-Err.at c.in-Err.is c.in-LineTooLong.is
+    overlong-lent (λ given. g.R.Source.gave c.args.reader.now given c.next_line.new.reader)
+    (g.R.Source.at_end c.next_line.new.reader) (counts c.args.reader.now) (counts c.next_line.new.reader)
+    (reading c.args.input.now) (reading c.next_line.follows.lender-at-none)
+    c.next_line.result c.requires.going c.next_line.follows.holds-at-none.0
+    (λ e. (c.next_line.ensures.ended e).0) c.in-Err.at c.in-Err.is c.in-LineTooLong.is

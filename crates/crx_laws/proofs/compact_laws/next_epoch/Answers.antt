@@ -1,4 +1,4 @@
-use Rattle.crx_compact.proofs.Tailing.{epoch-by_tail}
+use Rattle.crx_compact.proofs.wayback.Tailing.{epoch-by_tail}
 use Rattle.crx_laws.proofs.compact_laws.next_epoch.Goals as goal
 
 pub returns : goal.returns

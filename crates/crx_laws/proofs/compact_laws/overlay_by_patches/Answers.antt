@@ -1,4 +1,4 @@
-use Rattle.crx_compact.proofs.Overlays.{overlaid-in_turn}
+use Rattle.crx_compact.proofs.wayback.Overlays.{overlaid-in_turn}
 use Rattle.crx_laws.proofs.compact_laws.overlay_by_patches.Goals as goal
 
 pub returns : goal.returns

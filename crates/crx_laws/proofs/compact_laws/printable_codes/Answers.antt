@@ -1,4 +1,4 @@
-use Rattle.crx_compact.proofs.Rows.{are-printable}
+use Rattle.crx_compact.proofs.wayback.Rows.{are-printable}
 use Rattle.crx_laws.proofs.compact_laws.printable_codes.Goals as goal
 
 pub returns : goal.returns

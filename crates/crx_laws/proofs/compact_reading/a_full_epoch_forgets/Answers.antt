@@ -1,4 +1,4 @@
-use Rattle.crx_compact.proofs.Forgetting.{forgets}
+use Rattle.crx_compact.proofs.reading.Forgetting.{forgets}
 use Rattle.crx_laws.proofs.compact_reading.a_full_epoch_forgets.Goals as goal
 
 pub returns : goal.returns

@@ -1,7 +1,7 @@
-use Rattle.crx_compact.specs.Past.{past_of_line}
+use Rattle.crx_compact.specs.meaning.Past.{past_of_line}
 use Rattle.std.specs.Option.{option_map}
 use Rattle.crx_compact.specs.OpenEpochs.{past_of_tail, tail_for_line}
-use Rattle.crx_compact.proofs.SteadyEpochs.{steady-epoch_against}
+use Rattle.crx_compact.proofs.reading.SteadyEpochs.{steady-epoch_against}
 use Rattle.crx_laws.proofs.compact_reading.steady_epochs.Goals as goal
 
 pub returns : goal.returns

@@ -1,5 +1,5 @@
-use Rattle.crx_compact.proofs.Soundness.{reads-soundly}
-use Rattle.crx_compact.proofs.RawTailing.{place-by_tail, left-by_tail}
+use Rattle.crx_compact.proofs.soundness.Soundness.{reads-soundly}
+use Rattle.crx_compact.proofs.reading.RawTailing.{place-by_tail, left-by_tail}
 use Rattle.crx_laws.proofs.compact_reading.tail_decides.Goals as goal
 
 pub returns : goal.returns

@@ -1,7 +1,7 @@
 -- by computation
 use Rattle.std.proofs.Common.{refl}
 use Rattle.std.specs.Fmt.{digits}
-use Rattle.crx_text.specs.Numbers.{size_of, number_of, number_text}
+use Rattle.crx_text.specs.meaning.Numbers.{size_of, number_of, number_text}
 use Rattle.crx_laws.proofs.normal_form.premises.Goals as goal
 
 pub returns : goal.returns

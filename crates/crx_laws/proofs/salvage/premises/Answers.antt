@@ -2,24 +2,27 @@
 use Rattle.std.proofs.Common.{ℕ, refl, List, [], ◌∷◌, ◌++◌, codes, inl, inr, ◌≡◌, true}
 use Rattle.std.specs.List.{list_all}
 use Rattle.std.specs.Fmt.{digits}
-use Rattle.crx_text.specs.Codes.{coded_number}
-use Rattle.crx_lines.specs.Lines.{Piece, lines_of, pieces_of}
-use Rattle.crx_text.specs.Numbers.{size_of, number_of, number_text}
-use Rattle.crx_rinex.specs.Units.{EventLine, EventRecord, Observation}
-use Rattle.crx_engine.specs.Items.{Accepted}
-use Rattle.crx_engine.specs.Results.{lines_text}
-use Rattle.crx_engine.specs.Standard.{IsStandard}
-use Rattle.crx_engine.specs.Damage.{may_replace, IsDamaged}
-use Rattle.crx_laws.specs.SmallFiles.{blanks, line_at, five_epochs, with_event, no_choices, every_second, epoch_at_second, header_items, first_block, damaged_by, other_block, last_damaged_by, damaged_before_event}
+use Rattle.crx_text.specs.meaning.Codes.{coded_number}
+use Rattle.crx_lines.specs.meaning.Lines.{Piece, lines_of, pieces_of}
+use Rattle.crx_text.specs.meaning.Numbers.{size_of, number_of, number_text}
+use Rattle.crx_rinex.specs.meaning.Units.{EventLine, EventRecord, Observation}
+use Rattle.crx_engine.specs.meaning.Items.{Accepted}
+use Rattle.crx_rinex.specs.meaning.Printing.{lines_text}
+use Rattle.crx_engine.specs.meaning.Standard.{IsStandard}
+use Rattle.crx_engine.specs.meaning.Damage.{may_replace, IsDamaged}
+use Rattle.crx_laws.specs.SmallFiles.{blanks, line_at, file_of_five, with_event, plain_choices, in_full_every_second}
+use Rattle.crx_laws.specs.SmallFiles.{epoch_at_second, header_items, first_block, damaged_by, other_block}
+use Rattle.crx_laws.specs.SmallFiles.{last_damaged_by, damaged_before_event}
 use Rattle.crx_laws.proofs.salvage.premises.Goals as goal
 
-standard : IsStandard (lines_text (five_epochs []))
+standard : IsStandard (lines_text (file_of_five []))
 unfolding digits coded_number size_of number_of number_text
-standard = record { good = refl; plain = refl; spelt = refl }
+standard = record { good = refl; plain = refl; given_back = refl }
 
 -- the second block with other lines in place of those after its first
-damaged : (lines : List (List ℕ)) → list_all may_replace (lines_of (lines_text lines)) ≡ true → list_all (λ (piece : Piece). piece.is_ended) (pieces_of (lines_text lines)) ≡ true
-    → IsDamaged (lines_text (five_epochs [])) every_second (damaged_by lines)
+damaged : (lines : List (List ℕ)) → list_all may_replace (lines_of (lines_text lines)) ≡ true
+    → list_all (λ (piece : Piece). piece.is_ended) (pieces_of (lines_text lines)) ≡ true
+    → IsDamaged (lines_text (file_of_five [])) in_full_every_second (damaged_by lines)
 unfolding digits coded_number size_of number_of number_text
 damaged lines allowed ended = record {
   standard = standard;
@@ -38,14 +41,15 @@ damaged lines allowed ended = record {
 }
 
 -- the first block of a file, an event after it
-before-event : IsDamaged (lines_text with_event) no_choices (damaged_before_event (codes "xyz" ∷ []))
+before-event : IsDamaged (lines_text with_event) plain_choices (damaged_before_event (codes "xyz" ∷ []))
 unfolding digits coded_number size_of number_of number_text
 before-event = record {
-  standard = record { good = refl; plain = refl; spelt = refl };
+  standard = record { good = refl; plain = refl; given_back = refl };
   before = header_items;
   first = epoch_at_second 0 20000000000;
   others = epoch_at_second 1 20000100500 ∷ [];
-  after = Accepted (Observation (epoch_at_second 2 20000202000)) ∷ Accepted (EventRecord (blanks 60 ++ codes "COMMENT")) ∷ Accepted (EventLine (line_at 2 4 1)) ∷ [];
+  after = Accepted (Observation (epoch_at_second 2 20000202000))
+      ∷ Accepted (EventRecord (blanks 60 ++ codes "COMMENT")) ∷ Accepted (EventLine (line_at 2 4 1)) ∷ [];
   instead = lines_text (codes "xyz" ∷ []);
   parts = refl;
   starts = refl;
@@ -57,11 +61,12 @@ before-event = record {
 }
 
 -- the last block, without LF at the end
-last-damaged : IsDamaged (lines_text (five_epochs [])) every_second (last_damaged_by (codes "\n3&2000"))
+last-damaged : IsDamaged (lines_text (file_of_five [])) in_full_every_second (last_damaged_by (codes "\n3&2000"))
 unfolding digits coded_number size_of number_of number_text
 last-damaged = record {
   standard = standard;
-  before = Accepted (Observation (epoch_at_second 3 20000304500)) ∷ Accepted (Observation (epoch_at_second 2 20000202000)) ∷ first_block;
+  before = Accepted (Observation (epoch_at_second 3 20000304500))
+      ∷ Accepted (Observation (epoch_at_second 2 20000202000)) ∷ first_block;
   first = epoch_at_second 4 20000408000;
   others = [];
   after = [];

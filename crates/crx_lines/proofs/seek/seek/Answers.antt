@@ -1,20 +1,29 @@
-use Rattle.std.proofs.Common.{ℕ, ◌+◌, ◌≤◌, List, [], ◌∷◌, ◌++◌, ⊎_elim, Ok, length, subst, sym, ap, ◌∙◌, refl, arith, append-nil}
+use Rattle.std.proofs.Common.{ℕ, ◌+◌, ◌≤◌, List, [], ◌∷◌, ◌++◌, ⊎_elim, Ok, length, subst, sym, ap, ◌∙◌, refl, arith}
+use Rattle.std.proofs.Common.{append-nil}
 use Rattle.crx_lines.specs.Window.{kept}
 use Rattle.crx_lines.specs.Seeking.{Seeking}
 use Rattle.crx_lines.proofs.DeviceLemmas.{ends-some}
 use Rattle.crx_lines.proofs.WindowLemmas.{length-kept}
-use Rattle.crx_lines.proofs.SeekLemmas.{Seeking-start, Seeking-step, Seeking-filled, Seeking-same, Seeking-sum, Seeking-not_old}
+use Rattle.crx_lines.proofs.SeekLemmas.{Seeking-start, Seeking-step, Seeking-filled, Seeking-same, Seeking-sum}
+use Rattle.crx_lines.proofs.SeekLemmas.{Seeking-not_old}
 use Rattle.crx_lines.proofs.seek.seek.Goals as goal
 
 pub seeking-init : goal.seeking-init
-seeking-init g c =
-    (Seeking-start (λ given. g.R.Source.gave c.args.reader.now given c.args.reader.now) (kept c.args.window.now) c.args.room (g.met.R.Source.gave_none c.args.reader.now), refl, refl, λ _. refl)
+seeking-init g c = (
+  Seeking-start (λ given. g.R.Source.gave c.args.reader.now given c.args.reader.now)
+      (kept c.args.window.now) c.args.room (g.met.R.Source.gave_none c.args.reader.now),
+  refl,
+  refl,
+  λ _. refl,
+)
 
 pub overflow_add-passed : goal.overflow_add-passed
 overflow_add-passed g c =
     let old = c.args.window.now in
-    let sum = Seeking-sum (λ given. g.R.Source.gave c.args.reader.now given c.seeking.reader) (kept old) (kept c.seeking.window) c.args.room c.seeking.taken c.seeking.passed c.seeking.searched c.seeking.invariant.0 in
-    let most : c.let_go.result ≤ length (kept c.seeking.window) = ⊎_elim (λ e. omega (arith, e.0)) (λ e. omega (arith, e.0)) c.let_go.ensures.count in
+    let sum = Seeking-sum (λ given. g.R.Source.gave c.args.reader.now given c.seeking.reader) (kept old)
+    (kept c.seeking.window) c.args.room c.seeking.taken c.seeking.passed c.seeking.searched c.seeking.invariant.0 in
+    let most : c.discarded.result ≤ length (kept c.seeking.window) =
+    ⊎_elim (λ e. omega (arith, e.0)) (λ e. omega (arith, e.0)) c.discarded.ensures.count in
     omega (arith, sum, most, length-kept old.bytes.items old.start old.end, c.seeking.invariant.0.within)
 
 pub returns-in-Ok-true-clause-over : goal.returns-in-Ok-true-clause-over
@@ -22,26 +31,45 @@ returns-in-Ok-true-clause-over g c =
     let old = c.args.reader.now in
     let now = c.seeking.reader in
     let new = c.has_more.new.reader in
-    let s = Seeking-step (λ given. g.R.Source.gave old given now) (kept c.args.window.now) (kept c.seeking.window) c.as_slice.result.now (kept c.let_go.new.window) c.args.room c.seeking.taken c.seeking.passed c.seeking.searched c.let_go.result c.seeking.invariant.0 c.as_slice.ensures.value c.in_default.ensures.none c.let_go.ensures.count in
+    let s = Seeking-step (λ given. g.R.Source.gave old given now)
+    (kept c.args.window.now) (kept c.seeking.window) c.as_slice.result.now
+    (kept c.discarded.new.window) c.args.room c.seeking.taken c.seeking.passed c.seeking.searched c.discarded.result
+    c.seeking.invariant.0 c.as_slice.ensures.value c.in_default.ensures.none c.discarded.ensures.count in
     let more = c.in-Ok-true.ensures.some (ap Ok c.in-Ok-true.field-0-test) in
     let then = λ (given : List ℕ). g.R.Source.gave old (given ++ more.0 ∷ []) new in
-    let goes = λ (given : List ℕ) (lead : g.R.Source.gave old given now). subst (λ l. g.R.Source.gave old (l ++ more.0 ∷ []) new) (sym (append-nil given)) (g.met.R.Source.gave_both old now new given (more.0 ∷ []) lead more.1) in
-    λ _. (more.0, _, subst (λ k. Seeking then (kept c.args.window.now) (kept c.let_go.new.window) c.args.room k (c.seeking.passed + c.let_go.result) (length (kept c.let_go.new.window))) c.if-taken-room.true (Seeking-same _ then _ _ _ _ _ _ _ s goes refl refl))
+    let goes = λ (given : List ℕ) (lead : g.R.Source.gave old given now). subst (λ l. g.R.Source.gave old (l ++ more.0
+    ∷ []) new) (sym (append-nil given)) (g.met.R.Source.gave_both old now new given (more.0 ∷ []) lead more.1) in
+    λ _. (
+      more.0,
+      _,
+      subst (λ k. Seeking then (kept c.args.window.now) (kept c.discarded.new.window) c.args.room k
+          (c.seeking.passed + c.discarded.result) (length (kept c.discarded.new.window))) c.if-taken-room.true
+          (Seeking-same _ then _ _ _ _ _ _ _ s goes refl refl),
+    )
 
 pub returns-in-Ok-false-clause-ok : goal.returns-in-Ok-false-clause-ok
 returns-in-Ok-false-clause-ok g c =
     let old = c.args.reader.now in
     let now = c.seeking.reader in
     let new = c.has_more.new.reader in
-    let s = Seeking-step (λ given. g.R.Source.gave old given now) (kept c.args.window.now) (kept c.seeking.window) c.as_slice.result.now (kept c.let_go.new.window) c.args.room c.seeking.taken c.seeking.passed c.seeking.searched c.let_go.result c.seeking.invariant.0 c.as_slice.ensures.value c.in_default.ensures.none c.let_go.ensures.count in
-    let none = c.in-Ok-false.ensures.none (ap Ok c.in-Ok-false.field-0-test) in
-    (c.seeking.taken, Seeking-same _ (λ given. g.R.Source.gave old given new) _ _ _ _ _ _ _ s (λ given lead. g.met.R.Source.gave_both old now new given [] lead none.0) refl (ap length c.as_slice-searched.ensures.value))
+    let s = Seeking-step (λ given. g.R.Source.gave old given now)
+    (kept c.args.window.now) (kept c.seeking.window) c.as_slice.result.now
+    (kept c.discarded.new.window) c.args.room c.seeking.taken c.seeking.passed c.seeking.searched c.discarded.result
+    c.seeking.invariant.0 c.as_slice.ensures.value c.in_default.ensures.none c.discarded.ensures.count in
+    let none = c.in-Ok-false.ensures.none (ap Ok c.in-Ok-false.field-0-test) in (
+      c.seeking.taken,
+      Seeking-same _ (λ given. g.R.Source.gave old given new) _ _ _ _ _ _ _ s (λ given lead.
+          g.met.R.Source.gave_both old now new given [] lead none.0) refl (ap length c.as_slice-searched.ensures.value),
+    )
 
 pub returns-in-Ok-false-clause-unasked : goal.returns-in-Ok-false-clause-unasked
 returns-in-Ok-false-clause-unasked g c =
     let old = c.args.reader.now in
     let now = c.seeking.reader in
-    let s = Seeking-step (λ given. g.R.Source.gave old given now) (kept c.args.window.now) (kept c.seeking.window) c.as_slice.result.now (kept c.let_go.new.window) c.args.room c.seeking.taken c.seeking.passed c.seeking.searched c.let_go.result c.seeking.invariant.0 c.as_slice.ensures.value c.in_default.ensures.none c.let_go.ensures.count in
+    let s = Seeking-step (λ given. g.R.Source.gave old given now)
+    (kept c.args.window.now) (kept c.seeking.window) c.as_slice.result.now
+    (kept c.discarded.new.window) c.args.room c.seeking.taken c.seeking.passed c.seeking.searched c.discarded.result
+    c.seeking.invariant.0 c.as_slice.ensures.value c.in_default.ensures.none c.discarded.ensures.count in
     λ has. absurd (Seeking-not_old _ _ _ _ _ _ s has)
 
 pub returns-in-Err-clause-failed : goal.returns-in-Err-clause-failed
@@ -49,23 +77,41 @@ returns-in-Err-clause-failed g c =
     let old = c.args.reader.now in
     let now = c.seeking.reader in
     let new = c.has_more.new.reader in
-    let s = Seeking-step (λ given. g.R.Source.gave old given now) (kept c.args.window.now) (kept c.seeking.window) c.as_slice.result.now (kept c.let_go.new.window) c.args.room c.seeking.taken c.seeking.passed c.seeking.searched c.let_go.result c.seeking.invariant.0 c.as_slice.ensures.value c.in_default.ensures.none c.let_go.ensures.count in
-    λ _. (_, _, Seeking-same _ (λ given. g.R.Source.gave old given new) _ _ _ _ _ _ _ s (λ given lead. g.met.R.Source.gave_both old now new given [] lead c.in-Err.ensures.none_lost) refl refl)
+    let s = Seeking-step (λ given. g.R.Source.gave old given now)
+    (kept c.args.window.now) (kept c.seeking.window) c.as_slice.result.now
+    (kept c.discarded.new.window) c.args.room c.seeking.taken c.seeking.passed c.seeking.searched c.discarded.result
+    c.seeking.invariant.0 c.as_slice.ensures.value c.in_default.ensures.none c.discarded.ensures.count in
+    λ _. (
+      _,
+      _,
+      Seeking-same _ (λ given. g.R.Source.gave old given new) _ _ _ _ _ _ _ s
+          (λ given lead. g.met.R.Source.gave_both old now new given [] lead c.in-Err.ensures.none_lost) refl refl,
+    )
 
 pub returns-in-Ok-eq0-clause-ok : goal.returns-in-Ok-eq0-clause-ok
 returns-in-Ok-eq0-clause-ok g c =
     let old = c.args.reader.now in
     let now = c.seeking.reader in
     let new = c.fill.new.reader in
-    let s = Seeking-step (λ given. g.R.Source.gave old given now) (kept c.args.window.now) (kept c.seeking.window) c.as_slice.result.now (kept c.let_go.new.window) c.args.room c.seeking.taken c.seeking.passed c.seeking.searched c.let_go.result c.seeking.invariant.0 c.as_slice.ensures.value c.in_default.ensures.none c.let_go.ensures.count in
-    let more = c.in-Ok-eq0.ensures.ok in
-    (_, Seeking-filled _ (λ given. g.R.Source.gave old given new) _ _ _ more.0 _ _ _ 0 _ s (λ given lead. g.met.R.Source.gave_both old now new given more.0 lead more.3) (more.1 ∙ c.in-Ok-eq0.field-0-test) (omega (arith, s.within)) more.2 (ap length c.as_slice-searched.ensures.value))
+    let s = Seeking-step (λ given. g.R.Source.gave old given now)
+    (kept c.args.window.now) (kept c.seeking.window) c.as_slice.result.now
+    (kept c.discarded.new.window) c.args.room c.seeking.taken c.seeking.passed c.seeking.searched c.discarded.result
+    c.seeking.invariant.0 c.as_slice.ensures.value c.in_default.ensures.none c.discarded.ensures.count in
+    let more = c.in-Ok-eq0.ensures.ok in (
+      _,
+      Seeking-filled _ (λ given. g.R.Source.gave old given new) _ _ _ more.0 _ _ _ 0 _ s
+          (λ given lead. g.met.R.Source.gave_both old now new given more.0 lead more.3) (more.1
+          ∙ c.in-Ok-eq0.field-0-test) (omega (arith, s.within)) more.2 (ap length c.as_slice-searched.ensures.value),
+    )
 
 pub returns-in-Ok-eq0-clause-unasked : goal.returns-in-Ok-eq0-clause-unasked
 returns-in-Ok-eq0-clause-unasked g c =
     let old = c.args.reader.now in
     let now = c.seeking.reader in
-    let s = Seeking-step (λ given. g.R.Source.gave old given now) (kept c.args.window.now) (kept c.seeking.window) c.as_slice.result.now (kept c.let_go.new.window) c.args.room c.seeking.taken c.seeking.passed c.seeking.searched c.let_go.result c.seeking.invariant.0 c.as_slice.ensures.value c.in_default.ensures.none c.let_go.ensures.count in
+    let s = Seeking-step (λ given. g.R.Source.gave old given now)
+    (kept c.args.window.now) (kept c.seeking.window) c.as_slice.result.now
+    (kept c.discarded.new.window) c.args.room c.seeking.taken c.seeking.passed c.seeking.searched c.discarded.result
+    c.seeking.invariant.0 c.as_slice.ensures.value c.in_default.ensures.none c.discarded.ensures.count in
     λ has. absurd (Seeking-not_old _ _ _ _ _ _ s has)
 
 pub seeking-preserved : goal.seeking-preserved
@@ -73,35 +119,65 @@ seeking-preserved g c =
     let old = c.args.reader.now in
     let now = c.seeking.reader in
     let new = c.fill.new.reader in
-    let s = Seeking-step (λ given. g.R.Source.gave old given now) (kept c.args.window.now) (kept c.seeking.window) c.as_slice.result.now (kept c.let_go.new.window) c.args.room c.seeking.taken c.seeking.passed c.seeking.searched c.let_go.result c.seeking.invariant.0 c.as_slice.ensures.value c.in_default.ensures.none c.let_go.ensures.count in
-    let more = c.in-Ok.ensures.ok in
-    (Seeking-filled _ (λ given. g.R.Source.gave old given new) _ _ _ more.0 _ _ _ c.in-Ok.count _ s (λ given lead. g.met.R.Source.gave_both old now new given more.0 lead more.3) more.1 (omega (arith, s.within, c.in-Ok.ensures.bound, c.min-most.ensures)) more.2 (ap length c.as_slice-searched.ensures.value), c.in-Ok.ensures.good ∙ c.seeking.invariant.1, ends-some _ _ _ c.in-Ok.count-test.1 c.in-Ok.ensures.ends ∙ c.seeking.invariant.2, λ has. absurd (Seeking-not_old _ _ _ _ _ _ s has))
+    let s = Seeking-step (λ given. g.R.Source.gave old given now)
+    (kept c.args.window.now) (kept c.seeking.window) c.as_slice.result.now
+    (kept c.discarded.new.window) c.args.room c.seeking.taken c.seeking.passed c.seeking.searched c.discarded.result
+    c.seeking.invariant.0 c.as_slice.ensures.value c.in_default.ensures.none c.discarded.ensures.count in
+    let more = c.in-Ok.ensures.ok in (
+      Seeking-filled _ (λ given. g.R.Source.gave old given new) _ _ _ more.0 _ _ _ c.in-Ok.count _ s
+          (λ given lead. g.met.R.Source.gave_both old now new given more.0 lead more.3) more.1
+          (omega (arith, s.within, c.in-Ok.ensures.bound, c.min-most.ensures)) more.2
+          (ap length c.as_slice-searched.ensures.value),
+      c.in-Ok.ensures.good
+          ∙ c.seeking.invariant.1,
+      ends-some _ _ _ c.in-Ok.count-test.1 c.in-Ok.ensures.ends
+          ∙ c.seeking.invariant.2,
+      λ has. absurd (Seeking-not_old _ _ _ _ _ _ s has),
+    )
 
 pub returns-in-Err-fill-clause-failed : goal.returns-in-Err-fill-clause-failed
 returns-in-Err-fill-clause-failed g c =
     let old = c.args.reader.now in
     let now = c.seeking.reader in
     let new = c.fill.new.reader in
-    let s = Seeking-step (λ given. g.R.Source.gave old given now) (kept c.args.window.now) (kept c.seeking.window) c.as_slice.result.now (kept c.let_go.new.window) c.args.room c.seeking.taken c.seeking.passed c.seeking.searched c.let_go.result c.seeking.invariant.0 c.as_slice.ensures.value c.in_default.ensures.none c.let_go.ensures.count in
-    λ _. (_, _, Seeking-same _ (λ given. g.R.Source.gave old given new) _ _ _ _ _ _ _ s (λ given lead. g.met.R.Source.gave_both old now new given [] lead c.in-Err-fill.ensures.none_lost) c.in-Err-fill.ensures.kept (ap length c.in-Err-fill.ensures.kept))
+    let s = Seeking-step (λ given. g.R.Source.gave old given now)
+    (kept c.args.window.now) (kept c.seeking.window) c.as_slice.result.now
+    (kept c.discarded.new.window) c.args.room c.seeking.taken c.seeking.passed c.seeking.searched c.discarded.result
+    c.seeking.invariant.0 c.as_slice.ensures.value c.in_default.ensures.none c.discarded.ensures.count in
+    λ _. (
+      _,
+      _,
+      Seeking-same _ (λ given. g.R.Source.gave old given new) _ _ _ _ _ _ _ s
+          (λ given lead. g.met.R.Source.gave_both old now new given [] lead c.in-Err-fill.ensures.none_lost)
+          c.in-Err-fill.ensures.kept (ap length c.in-Err-fill.ensures.kept),
+    )
 
 pub returns-in-Ok-true-clause-unasked : goal.returns-in-Ok-true-clause-unasked
 returns-in-Ok-true-clause-unasked g c =
     let old = c.args.reader.now in
     let now = c.seeking.reader in
-    let s = Seeking-step (λ given. g.R.Source.gave old given now) (kept c.args.window.now) (kept c.seeking.window) c.as_slice.result.now (kept c.let_go.new.window) c.args.room c.seeking.taken c.seeking.passed c.seeking.searched c.let_go.result c.seeking.invariant.0 c.as_slice.ensures.value c.in_default.ensures.none c.let_go.ensures.count in
+    let s = Seeking-step (λ given. g.R.Source.gave old given now)
+    (kept c.args.window.now) (kept c.seeking.window) c.as_slice.result.now
+    (kept c.discarded.new.window) c.args.room c.seeking.taken c.seeking.passed c.seeking.searched c.discarded.result
+    c.seeking.invariant.0 c.as_slice.ensures.value c.in_default.ensures.none c.discarded.ensures.count in
     λ has. absurd (Seeking-not_old _ _ _ _ _ _ s has)
 
 pub returns-in-Err-clause-unasked : goal.returns-in-Err-clause-unasked
 returns-in-Err-clause-unasked g c =
     let old = c.args.reader.now in
     let now = c.seeking.reader in
-    let s = Seeking-step (λ given. g.R.Source.gave old given now) (kept c.args.window.now) (kept c.seeking.window) c.as_slice.result.now (kept c.let_go.new.window) c.args.room c.seeking.taken c.seeking.passed c.seeking.searched c.let_go.result c.seeking.invariant.0 c.as_slice.ensures.value c.in_default.ensures.none c.let_go.ensures.count in
+    let s = Seeking-step (λ given. g.R.Source.gave old given now)
+    (kept c.args.window.now) (kept c.seeking.window) c.as_slice.result.now
+    (kept c.discarded.new.window) c.args.room c.seeking.taken c.seeking.passed c.seeking.searched c.discarded.result
+    c.seeking.invariant.0 c.as_slice.ensures.value c.in_default.ensures.none c.discarded.ensures.count in
     λ has. absurd (Seeking-not_old _ _ _ _ _ _ s has)
 
 pub returns-in-Err-fill-clause-unasked : goal.returns-in-Err-fill-clause-unasked
 returns-in-Err-fill-clause-unasked g c =
     let old = c.args.reader.now in
     let now = c.seeking.reader in
-    let s = Seeking-step (λ given. g.R.Source.gave old given now) (kept c.args.window.now) (kept c.seeking.window) c.as_slice.result.now (kept c.let_go.new.window) c.args.room c.seeking.taken c.seeking.passed c.seeking.searched c.let_go.result c.seeking.invariant.0 c.as_slice.ensures.value c.in_default.ensures.none c.let_go.ensures.count in
+    let s = Seeking-step (λ given. g.R.Source.gave old given now)
+    (kept c.args.window.now) (kept c.seeking.window) c.as_slice.result.now
+    (kept c.discarded.new.window) c.args.room c.seeking.taken c.seeking.passed c.seeking.searched c.discarded.result
+    c.seeking.invariant.0 c.as_slice.ensures.value c.in_default.ensures.none c.discarded.ensures.count in
     λ has. absurd (Seeking-not_old _ _ _ _ _ _ s has)

@@ -1,4 +1,5 @@
-use Rattle.std.proofs.Common.{◌≡◌, ◌≤◌, ℕ, ◌+◌, ◌-◌, List, ◌++◌, length, length-take, length-drop, take, drop, slice_range, sym, ap, ◌∙◌, subst, arith, append-nil}
+use Rattle.std.proofs.Common.{◌≡◌, ◌≤◌, ℕ, ◌+◌, ◌-◌, List, ◌++◌, length, length-take, length-drop, take, drop}
+use Rattle.std.proofs.Common.{slice_range, sym, ap, ◌∙◌, subst, arith, append-nil}
 use Rattle.std.proofs.Math.Seq.{take-add}
 use Rattle.std.proofs.lemmas.List.{take-take}
 use Rattle.crx_lines.proofs.write.write_all_counted.Goals as goal
@@ -21,7 +22,8 @@ loop-written-preserved g c =
     let few : c.in-Ok.count ≤ room = omega (arith, bound, cut) in
     let before = c.loop-written.invariant in (
       omega (arith, bound, cut, length-drop at bytes),
-      subst (λ l. g.W.Sink.took old l new) (take-rest bytes at room c.in-Ok.count few) (g.met.W.Sink.took_both old now new _ _ before.1 c.in-Ok.ensures.bytes),
+      subst (λ l. g.W.Sink.took old l new) (take-rest bytes at room c.in-Ok.count few)
+          (g.met.W.Sink.took_both old now new _ _ before.1 c.in-Ok.ensures.bytes),
       c.in-Ok.ensures.good ∙ before.2,
       c.in-Ok.ensures.unasked ∙ before.3,
     )
@@ -32,4 +34,5 @@ returns-in-Err-clause-part g c =
     let old = c.args.writer.now in
     let now = c.loop-written.writer in
     let new = c.write.new.self in
-    subst (λ l. g.W.Sink.took old l new) (append-nil (take c.loop-written.written bytes)) (g.met.W.Sink.took_both old now new _ _ c.loop-written.invariant.1 c.in-Err.ensures.none_taken)
+    subst (λ l. g.W.Sink.took old l new) (append-nil (take c.loop-written.written bytes))
+    (g.met.W.Sink.took_both old now new _ _ c.loop-written.invariant.1 c.in-Err.ensures.none_taken)

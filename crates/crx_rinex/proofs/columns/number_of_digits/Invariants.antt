@@ -9,4 +9,5 @@ abbrev pub invariant-loop-c : goal.invariant-loop-c
 invariant-loop-c l =
     (list_all is_ascii_digit (drop l.c-index l.digits) ≡ list_all is_ascii_digit l.digits)
     × (digits_value_after 10 l.number (drop l.c-index l.digits) ≡ digits_value 10 l.digits)
-    × (l.c-index < 1 → l.number < 1) × (l.c-index < 2 → l.number < 10) × (l.c-index < 3 → l.number < 100) × (l.number < 1000)
+    × (l.c-index < 1 → l.number < 1)
+    × (l.c-index < 2 → l.number < 10) × (l.c-index < 3 → l.number < 100) × (l.number < 1000)

@@ -1,7 +1,7 @@
 -- by computation
 use Rattle.std.proofs.Common.{[], refl, arith}
 use Rattle.std.proofs.lemmas.List.Elements.{All-cons, All-nil}
-use Rattle.crx_text.specs.Numbers.{number_of, size_of}
+use Rattle.crx_text.specs.meaning.Numbers.{number_of, size_of}
 use Rattle.crx_rinex.specs.ObservationTypes.{IsCount}
 use Rattle.crx_rinex.proofs.laws.an_epoch_of_two.Goals as goal
 
@@ -13,5 +13,9 @@ returns c = record {
   whole = refl;
   cut = refl;
   repeated = refl;
-  counts = record { allowed = All-cons IsCount (71, 1) [] (refl, (omega arith, omega arith)) (All-nil IsCount); apart = refl };
+  counts = record {
+    allowed = All-cons IsCount
+        (71, 1) [] (refl, (omega arith, omega arith)) (All-nil IsCount);
+    apart = refl;
+  };
 }

@@ -1,4 +1,4 @@
-use Rattle.crx_rinex.specs.EpochPlaces.{next_row}
+use Rattle.crx_rinex.specs.meaning.EpochPlaces.{next_row}
 use Rattle.crx_rinex.proofs.Steady.{steady-first_line}
 use Rattle.crx_rinex.proofs.OpenEpochs.{steady-rest}
 use Rattle.crx_rinex.proofs.laws.steady_rows.Goals as goal

@@ -1,7 +1,7 @@
 use Rattle.std.proofs.Common.{◌-◌, List, Option, Some, ℕ, option_map, map, ap, sym, ◌∙◌, arith}
 use Rattle.std.proofs.lemmas.Option.{slice_get-map, slice_get_within}
-use Rattle.crx_rinex.specs.Observations.{Row}
-use Rattle.crx_rinex.specs.Printing.{printed_row, printed_head}
+use Rattle.crx_rinex.specs.meaning.Observations.{Row}
+use Rattle.crx_rinex.specs.meaning.Printing.{printed_row, printed_head}
 use Rattle.crx_rinex.proofs.Lines.{after_first}
 use Rattle.crx_rinex.proofs.printed.print_line.Goals as goal
 
@@ -15,5 +15,6 @@ returns-clause-line c =
 
 pub returns-clause-within : goal.returns-clause-within
 returns-clause-within c =
-    let inside = slice_get_within c.args.epoch.now.rows (c.args.index - 1) c.in-Some.row.now (sym c.in-Some.ensures.value) in
+    let inside = slice_get_within c.args.epoch.now.rows
+    (c.args.index - 1) c.in-Some.row.now (sym c.in-Some.ensures.value) in
     omega (arith, inside, c.in-Some.ensures.within)

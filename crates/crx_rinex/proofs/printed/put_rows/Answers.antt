@@ -1,5 +1,5 @@
 use Rattle.std.proofs.Common.{◌++◌, List, [], ℕ, take, map, drop, sym, ap, ◌∙◌, append-nil}
-use Rattle.crx_rinex.specs.Printing.{lines_text, printed_row}
+use Rattle.crx_rinex.specs.meaning.Printing.{lines_text, printed_row}
 use Rattle.crx_rinex.proofs.PrintedText.{drop-next, drop-none, text-on}
 use Rattle.crx_rinex.proofs.printed.put_rows.Goals as goal
 
@@ -8,7 +8,8 @@ loop-row-preserved c =
     let rows = c.args.epoch.now.rows in
     record {
       text =
-          text-on _ _ _ _ _ _ (drop-next printed_row rows c.loop-row.index c.in-Some.row.now (sym c.in-Some.ensures.value))
+          text-on _ _ _ _ _ _ (drop-next printed_row rows c.loop-row.index c.in-Some.row.now
+          (sym c.in-Some.ensures.value))
           c.in_ok-end.ensures.text c.loop-row.invariant.text;
       within = c.in_ok-end.ensures.within;
     }
@@ -17,5 +18,6 @@ pub returns-clause-text : goal.returns-clause-text
 returns-clause-text c =
     let rows = c.args.epoch.now.rows in
     let text : List ℕ = take c.loop-row.end c.loop-row.bytes.items in
-    sym (append-nil text) ∙ ap (λ (ls : List (List ℕ)). text ++ lines_text ls) (sym (drop-none printed_row rows c.loop-row.index (sym c.in_default.ensures.value)))
+    sym (append-nil text) ∙ ap (λ (ls : List (List ℕ)). text ++ lines_text ls)
+    (sym (drop-none printed_row rows c.loop-row.index (sym c.in_default.ensures.value)))
     ∙ c.loop-row.invariant.text

@@ -1,6 +1,6 @@
 use Rattle.std.proofs.Common.{◌≡◌, ℕ, ◌+◌, ◌-◌, ◌*◌, take, drop, ap, sym, ◌∙◌, arith}
-use Rattle.crx_text.specs.Numbers.{observation_of}
-use Rattle.crx_rinex.specs.SatelliteLines.{field}
+use Rattle.crx_text.specs.meaning.Numbers.{observation_of}
+use Rattle.crx_rinex.specs.meaning.SatelliteLines.{field}
 use Rattle.crx_rinex.proofs.Cells.{field_past, field_inside}
 use Rattle.crx_rinex.proofs.satellite_row.observation.Goals as goal
 

@@ -8,4 +8,5 @@ returns c =
     let room = c.requires in
     let same = c.put_text-end.auto.bytes in
     rw (c.put_text-end.ensures.end)
-    (line-ended c.put_text-end.new.bytes c.args.bytes.now c.args.line.now c.args.start (length c.args.line.now) put (omega (arith, room, same)))
+    (line-ended c.put_text-end.new.bytes c.args.bytes.now c.args.line.now c.args.start
+    (length c.args.line.now) put (omega (arith, room, same)))

@@ -1,5 +1,5 @@
 use Rattle.std.proofs.Common.{◌≡◌, ◌≤◌, length}
-use Rattle.crx_text.specs.Columns.{without_first_blanks}
+use Rattle.crx_text.specs.meaning.Columns.{without_first_blanks}
 use Rattle.crx_text.proofs.columns.trim_start.Given as goal
 
 -- the blanks that were passed over are no loss

@@ -1,6 +1,6 @@
 use Rattle.std.proofs.Common.{ap, sym, ◌∙◌, ◌-◌, arith, drop, length}
 use Rattle.std.proofs.lemmas.List.{length-take}
-use Rattle.crx_text.specs.Columns.{without_blanks, without_end_blanks}
+use Rattle.crx_text.specs.meaning.Columns.{without_blanks, without_end_blanks}
 use Rattle.crx_text.proofs.Blanks.{blanks-columns}
 use Rattle.crx_text.proofs.EndBlanks.{few_kept}
 use Rattle.crx_text.proofs.columns.trimmed.Goals as goal
@@ -15,4 +15,12 @@ returns-clause-within c =
     let whole = ap length c.trim_end.ensures in
     let shorter = c.trim_start.ensures.shorter in
     let inside = ap length c.part.ensures.value in
-    omega (arith, whole, few_kept c.trim_start.result.now, shorter, inside, length-take c.args.width (drop (c.args.first - 1) c.args.line.now))
+    omega (
+      arith,
+      whole,
+      few_kept c.trim_start.result.now,
+      shorter,
+      inside,
+      length-take c.args.width
+          (drop (c.args.first - 1) c.args.line.now),
+    )

@@ -15,7 +15,10 @@ write_word-requires t c =
 
 pub returns-clause-written : goal.returns-clause-written
 returns-clause-written t c =
-    four_written c.args.buffer.now c.write_long-middle.new.buffer c.write_word.new.buffer c.args.size c.args.at c.write_long-middle.result c.if-size-lt10000.false c.ranges.size.fits c.write_long-middle.ensures.written (c.write_word.ensures ∙ ap (λ (t : List ℕ). take c.write_long-middle.result c.write_long-middle.new.buffer ++ t) c.four_digits.ensures)
+    four_written c.args.buffer.now c.write_long-middle.new.buffer c.write_word.new.buffer c.args.size c.args.at
+    c.write_long-middle.result c.if-size-lt10000.false c.ranges.size.fits c.write_long-middle.ensures.written
+    (c.write_word.ensures ∙ ap
+    (λ (t : List ℕ). take c.write_long-middle.result c.write_long-middle.new.buffer ++ t) c.four_digits.ensures)
 
 pub returns-clause-within : goal.returns-clause-within
 returns-clause-within t c =

@@ -9,4 +9,5 @@ returns-then-count-eq0-clause-value c =
     let read = c.first_digits-size.ensures in
     let none = c.if-count-eq0.true in
     sym (no_first_digit text (λ some.
-    ap (λ (i : ℕ). is_ascii_digit (get_or text i 0)) (sym none) ∙ read.stops (omega (arith, none)) (omega (arith, none, some))))
+    ap (λ (i : ℕ). is_ascii_digit (get_or text i 0)) (sym none)
+    ∙ read.stops (omega (arith, none)) (omega (arith, none, some))))

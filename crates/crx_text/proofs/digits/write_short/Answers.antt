@@ -13,7 +13,9 @@ returns-clause-written c =
     let z = c.zeros_before-zeros.result in
     let end : c.args.at + 4 - z ≡ c.args.at + (4 - z) = omega (arith, c.zeros_before-zeros.ensures.few) in
     rw end (
-    first_written c.args.buffer.now c.write_word.new.buffer _ c.args.at 4 (4 - z) (omega (arith, c.requires.room)) (omega arith) c.write_word.ensures
+    first_written c.args.buffer.now c.write_word.new.buffer _ c.args.at 4
+    (4 - z) (omega (arith, c.requires.room)) (omega arith) c.write_word.ensures
     ∙ ap (λ (t : List ℕ). take c.args.at c.args.buffer.now ++ t) (
     bytes_shifted c.four_digits.result z c.zeros_before-zeros.ensures.few c.four_digits.type_inv
-    ∙ ap (drop z) c.four_digits.ensures ∙ digits_last c.args.size z c.requires.small c.zeros_before-zeros.ensures.count))
+    ∙ ap (drop z) c.four_digits.ensures
+    ∙ digits_last c.args.size z c.requires.small c.zeros_before-zeros.ensures.count))

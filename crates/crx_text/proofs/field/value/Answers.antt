@@ -11,6 +11,7 @@ signed-requires c =
 
 pub returns-clause-in_range : goal.returns-clause-in_range
 returns-clause-in_range c =
-    let small : c.size.result < 10 ^ 12 = rw c.size.ensures (plain_size_is_small c.args.columns c.fits-columns.0 c.requires) in
+    let small : c.size.result < 10 ^ 12 =
+    rw c.size.ensures (plain_size_is_small c.args.columns c.fits-columns.0 c.requires) in
     let fits : SFits w64 c.signed.result = search rules in
     rw (to_z-of_z w64 c.signed.result fits, c.signed.ensures) (signed_in_range c.has_minus.result c.size.result small)

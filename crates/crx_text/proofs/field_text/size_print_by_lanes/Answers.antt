@@ -6,20 +6,26 @@ use Rattle.crx_text.proofs.field_text.size_print_by_lanes.Goals as goal
 pub returns-clause-before : goal.returns-clause-before
 returns-clause-before c =
     let size = c.args.size in
-    let spread_is : c.columns-columns.result ≡ row_of (nine_of (size / 10 ^ 9) (size / 10 ^ 6 % 1000) (size / 1000 % 1000)) (three_of (size % 1000)) =
+    let spread_is : c.columns-columns.result
+    ≡ row_of (nine_of (size / 10 ^ 9) (size / 10 ^ 6 % 1000) (size / 1000 % 1000)) (three_of (size % 1000)) =
     c.columns-columns.ensures ∙ ap spread (c.digits.ensures ∙ ap group_digits c.groups.ensures) in
-    text_before size c.first_digit-start.result c.columns-columns.result c.glyphs.result c.store.new.field c.requires.short spread_is c.first_digit-start.ensures c.glyphs.ensures c.store.ensures
+    text_before size c.first_digit-start.result c.columns-columns.result c.glyphs.result
+    c.store.new.field c.requires.short spread_is c.first_digit-start.ensures c.glyphs.ensures c.store.ensures
 
 pub returns-clause-written : goal.returns-clause-written
 returns-clause-written c =
     let size = c.args.size in
-    let spread_is : c.columns-columns.result ≡ row_of (nine_of (size / 10 ^ 9) (size / 10 ^ 6 % 1000) (size / 1000 % 1000)) (three_of (size % 1000)) =
+    let spread_is : c.columns-columns.result
+    ≡ row_of (nine_of (size / 10 ^ 9) (size / 10 ^ 6 % 1000) (size / 1000 % 1000)) (three_of (size % 1000)) =
     c.columns-columns.ensures ∙ ap spread (c.digits.ensures ∙ ap group_digits c.groups.ensures) in
-    text_written size c.first_digit-start.result c.columns-columns.result c.glyphs.result c.store.new.field c.requires.short spread_is c.first_digit-start.ensures c.glyphs.ensures c.store.ensures
+    text_written size c.first_digit-start.result c.columns-columns.result c.glyphs.result
+    c.store.new.field c.requires.short spread_is c.first_digit-start.ensures c.glyphs.ensures c.store.ensures
 
 pub returns-clause-start : goal.returns-clause-start
 returns-clause-start c =
     let size = c.args.size in
-    let spread_is : c.columns-columns.result ≡ row_of (nine_of (size / 10 ^ 9) (size / 10 ^ 6 % 1000) (size / 1000 % 1000)) (three_of (size % 1000)) =
+    let spread_is : c.columns-columns.result
+    ≡ row_of (nine_of (size / 10 ^ 9) (size / 10 ^ 6 % 1000) (size / 1000 % 1000)) (three_of (size % 1000)) =
     c.columns-columns.ensures ∙ ap spread (c.digits.ensures ∙ ap group_digits c.groups.ensures) in
-    text_length size c.first_digit-start.result c.columns-columns.result c.glyphs.result c.store.new.field c.requires.short spread_is c.first_digit-start.ensures c.glyphs.ensures c.store.ensures
+    text_length size c.first_digit-start.result c.columns-columns.result c.glyphs.result
+    c.store.new.field c.requires.short spread_is c.first_digit-start.ensures c.glyphs.ensures c.store.ensures

@@ -19,5 +19,7 @@ loop-at-preserved g c =
 
 pub returns : goal.returns
 returns g c =
-    zip2-last_piece g.R.Rule.rule c.args.old.now c.args.other.now c.loop-at.out c.write_two-2.new.out c.loop-at.at 32 (omega (arith, c.if-old.false)) c.requires.0
-    (omega (arith, c.loop-at-test.false)) c.loop-at.invariant.0 c.loop-at.invariant.2 (c.write_two-2.ensures.long ∙ c.loop-at.invariant.1) c.write_two-2.ensures.written
+    zip2-last_piece g.R.Rule.rule c.args.old.now c.args.other.now c.loop-at.out c.write_two-2.new.out c.loop-at.at 32
+    (omega (arith, c.if-old.false)) c.requires.0
+    (omega (arith, c.loop-at-test.false)) c.loop-at.invariant.0 c.loop-at.invariant.2 (c.write_two-2.ensures.long
+    ∙ c.loop-at.invariant.1) c.write_two-2.ensures.written

@@ -17,4 +17,5 @@ returns-clause-written g c =
     ∙ c.write_lanes-2.ensures.written
     ∙ ap (λ (t : List ℕ). t ++ second) c.write_lanes.ensures.written
     ∙ append_assoc (take i c.args.out.now) first second
-    ∙ ap (λ (t : List ℕ). take i c.args.out.now ++ t) (zip2-pieces rule old other i 16 16 (omega (arith, c.requires.room)) c.requires.same_length.0)
+    ∙ ap (λ (t : List ℕ). take i c.args.out.now ++ t)
+    (zip2-pieces rule old other i 16 16 (omega (arith, c.requires.room)) c.requires.same_length.0)

@@ -17,8 +17,10 @@ returns-then-is_blank-clause-value c =
 pub returns-then-is_plain-clause-value : goal.returns-then-is_plain-clause-value
 returns-then-is_plain-clause-value c =
     let field = c.args.field.now in
-    let plain : IsPlain (lanes_of field) = subst IsPlain c.columns-columns.ensures (c.is_plain.ensures c.if-is_plain.true) in
+    let plain : IsPlain (lanes_of field) =
+    subst IsPlain c.columns-columns.ensures (c.is_plain.ensures c.if-is_plain.true) in
     let number = plain_number field c.if-field-ne-OBSERVATION_WIDTH.false plain in
     let fits : SFits w64 c.value.result = search rules in
-    let is : c.value.result ≡ number_in (lanes_of field) = c.value.ensures.value ∙ ap number_in c.columns-columns.ensures in
+    let is : c.value.result ≡ number_in (lanes_of field) = c.value.ensures.value
+    ∙ ap number_in c.columns-columns.ensures in
     rw (to_z-of_z w64 c.value.result fits, is) number

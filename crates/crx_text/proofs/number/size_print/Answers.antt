@@ -16,7 +16,14 @@ padded_print-requires c =
     let from : ℕ = n - c.args.decimals - 1 + 1 in
     let short : length (decimal (c.args.size % c.pow-unit.result)) ≤ c.args.decimals =
     rw c.pow-unit.ensures (fraction_short c.args.decimals c.args.size c.requires.decimals.0 c.requires.decimals.1) in
-    omega (arith, short, length-size_text c.args.decimals c.args.size c.requires.decimals.0 c.requires.decimals.1, c.requires.room, length-take (n - from) (drop from c.args.field.now), length-drop from c.args.field.now)
+    omega (
+      arith,
+      short,
+      length-size_text c.args.decimals c.args.size c.requires.decimals.0 c.requires.decimals.1,
+      c.requires.room,
+      length-take (n - from) (drop from c.args.field.now),
+      length-drop from c.args.field.now,
+    )
 
 pub bounds-field-point : goal.bounds-field-point
 bounds-field-point c =

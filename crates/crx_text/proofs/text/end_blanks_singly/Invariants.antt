@@ -1,5 +1,5 @@
 use Rattle.std.proofs.Common.{◌≡◌, ◌≤◌, length, take}
-use Rattle.crx_text.specs.Columns.{without_end_blanks}
+use Rattle.crx_text.specs.meaning.Columns.{without_end_blanks}
 use Rattle.crx_text.proofs.text.end_blanks_singly.Given as goal
 
 -- the blanks that were dropped are no loss

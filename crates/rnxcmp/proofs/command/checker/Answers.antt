@@ -7,4 +7,5 @@ use Rattle.rnxcmp.proofs.command.checker.Goals as goal
 pub returns : goal.returns
 returns c =
     let start : app_of c.after_help.result ≡ new_app (codes "check") = search rules in
-    IfOk-weaker c.arg.result _ _ (λ r h. ap (λ (a : App). a.top) (one_more _ r _ _ _ h c.names_of_files.ensures.local start c.names_of_files.ensures.rule)) c.arg.ensures
+    IfOk-weaker c.arg.result _ _ (λ r h. ap (λ (a : App). a.top)
+    (one_more _ r _ _ _ h c.names_of_files.ensures.local start c.names_of_files.ensures.rule)) c.arg.ensures

@@ -1,5 +1,6 @@
 use Rattle.std.proofs.Common.{subst, sym}
-use Rattle.rnxcmp.specs.Program.{IsFiltered, span, reader_span}
+use Rattle.rnxcmp.specs.Program.{IsFiltered}
+use Rattle.crx_filter.specs.meaning.Spans.{span, reader_span}
 use Rattle.rnxcmp.specs.declared.job.Tool.{Tool}
 use Rattle.rnxcmp.proofs.program.filter.Goals as goal
 
@@ -9,7 +10,8 @@ returns-in-Compact g c =
     (reader_span g.R.Source c.args.reader.now c.compact.new.reader)
     (span g.W.Sink c.args.writer.now c.compact.new.writer)
     (span g.M.Sink c.args.messages.now c.compact.new.messages) c.compact.result.status)
-    (sym c.in-Compact.is) (c.compact.result.fault, c.compact.ensures.runs.0, c.compact.ensures.runs.1, c.compact.ensures.runs.2)
+    (sym c.in-Compact.is)
+    (c.compact.result.fault, c.compact.ensures.runs.0, c.compact.ensures.runs.1, c.compact.ensures.runs.2)
 
 pub returns-in-Expand : goal.returns-in-Expand
 returns-in-Expand g c =
@@ -17,7 +19,8 @@ returns-in-Expand g c =
     (reader_span g.R.Source c.args.reader.now c.expand.new.reader)
     (span g.W.Sink c.args.writer.now c.expand.new.writer)
     (span g.M.Sink c.args.messages.now c.expand.new.messages) c.expand.result.status)
-    (sym c.in-Expand.is) (c.expand.result.fault, c.expand.ensures.runs.0, c.expand.ensures.runs.1, c.expand.ensures.runs.2)
+    (sym c.in-Expand.is)
+    (c.expand.result.fault, c.expand.ensures.runs.0, c.expand.ensures.runs.1, c.expand.ensures.runs.2)
 
 pub returns-in-Check : goal.returns-in-Check
 returns-in-Check g c =

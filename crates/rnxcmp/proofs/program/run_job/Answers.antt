@@ -10,4 +10,10 @@ returns-in-Ok-clause-done g c = elim c.run_from_source.ensures.done [
 
 pub returns-in-Err-clause-done : goal.returns-in-Err-clause-done
 returns-in-Err-clause-done g c =
-    inr (record { why = NoMemory; can = tt; shown = inl c.report_at_start.ensures.shown; status_is = c.report_at_start.ensures.status; same = (refl, refl) })
+    inr (record {
+      why = NoMemory;
+      can = tt;
+      shown = inl c.report_at_start.ensures.shown;
+      status_is = c.report_at_start.ensures.status;
+      same = (refl, refl);
+    })

@@ -1,46 +1,61 @@
-use Rattle.std.proofs.Common.{rules, ◌≡◌, [], ◌∷◌, ℤ, true, take, sym, ap, ◌∙◌, arith, FitsSigned, w64, Some, Result, Ok, Err, Option}
+use Rattle.std.proofs.Common.{rules, ◌≡◌, [], ◌∷◌, ℤ, true, take, sym, ap, ◌∙◌, arith, FitsSigned, w64, Some, Result}
+use Rattle.std.proofs.Common.{Ok, Err, Option}
 use Rattle.std.specs.Prelude.{if◌then◌else◌}
 use Rattle.crx_lines.specs.declared.fault.Fault.{Fault}
 use Rattle.crx_lines.specs.declared.fault.Fault.TheVariants.{OutOfRange}
-use Rattle.crx_compact.specs.Differences.{newest}
-use Rattle.crx_compact.specs.Expansion.{is_within, in_range}
+use Rattle.crx_compact.specs.meaning.Differences.{newest}
+use Rattle.crx_compact.specs.meaning.Expansion.{is_within, in_range}
 use Rattle.crx_compact.specs.Steps.{differences_after, differences_by}
 use Rattle.crx_compact.specs.Arcs.{kept_tail}
-use Rattle.crx_compact.proofs.Bounds.{within-is}
-use Rattle.crx_compact.proofs.Running.{IsLast, StepsOn, accepted, by-after, same-bits, lower-below, goes-on-kept, stepped}
+use Rattle.crx_compact.proofs.arcs.Bounds.{within-is}
+use Rattle.crx_compact.proofs.arcs.Running.{IsLast, StepsOn, accepted, by-after, same-bits, lower-below, goes-on-kept}
+use Rattle.crx_compact.proofs.arcs.Running.{stepped}
 use Rattle.crx_compact.proofs.arc.Arc.apply_third.Goals as goal
 
 pub sums_from_third-value-requires-clause-below : goal.sums_from_third-value-requires-clause-below
 sums_from_third-value-requires-clause-below g c =
-    let last : IsLast c.earlier.inside.order c.earlier.inside.count 3 = record { least = omega (arith, c.if-order-ne3.false, c.if-earlier-lt3.false) } in
-    lower-below c.earlier.inside.order c.earlier.inside.count 3 c.earlier.inside.differences last c.earlier.invariant.below
+    let last : IsLast c.earlier.inside.order c.earlier.inside.count 3 =
+    record { least = omega (arith, c.if-order-ne3.false, c.if-earlier-lt3.false) } in
+    lower-below c.earlier.inside.order
+    c.earlier.inside.count 3 c.earlier.inside.differences last c.earlier.invariant.below
 
 pub invariant_of-self : goal.invariant_of-self
 invariant_of-self g c =
-    let last : IsLast c.earlier.inside.order c.earlier.inside.count 3 = record { least = omega (arith, c.if-order-ne3.false, c.if-earlier-lt3.false) } in
+    let last : IsLast c.earlier.inside.order c.earlier.inside.count 3 =
+    record { least = omega (arith, c.if-order-ne3.false, c.if-earlier-lt3.false) } in
     let fits : FitsSigned w64 c.args.number = search rules in
     let fits0 : FitsSigned w64 c.sums_from_third-value.result.0 = search rules in
     let fits1 : FitsSigned w64 c.sums_from_third-value.result.1 = search rules in
     let fits2 : FitsSigned w64 c.sums_from_third-value.result.2 = search rules in
-    let is : is_within g.row.WIDTH c.sums_from_third-value.result.0 ≡ true = accepted g.row.WIDTH _ _ c.is_within.ensures c.if-not-is_within.false fits0 in
-    let sums : c.sums_from_third-value.result.0 ∷ c.sums_from_third-value.result.1 ∷ c.sums_from_third-value.result.2 ∷ c.args.number ∷ [] ≡ differences_by c.args.number (take 3 c.earlier.inside.differences) =
+    let is : is_within g.row.WIDTH c.sums_from_third-value.result.0 ≡ true =
+    accepted g.row.WIDTH _ _ c.is_within.ensures c.if-not-is_within.false fits0 in
+    let sums : c.sums_from_third-value.result.0 ∷ c.sums_from_third-value.result.1 ∷ c.sums_from_third-value.result.2
+    ∷ c.args.number ∷ [] ≡ differences_by c.args.number (take 3 c.earlier.inside.differences) =
     rw (same-bits _ fits) at c.sums_from_third-value.ensures in
-    let put : take 4 c.put_four.new.differences ≡ c.sums_from_third-value.result.0 ∷ c.sums_from_third-value.result.1 ∷ c.sums_from_third-value.result.2 ∷ c.args.number ∷ [] =
+    let put : take 4 c.put_four.new.differences ≡ c.sums_from_third-value.result.0
+    ∷ c.sums_from_third-value.result.1 ∷ c.sums_from_third-value.result.2 ∷ c.args.number ∷ [] =
     rw (same-bits _ fits0, same-bits _ fits1, same-bits _ fits2, same-bits _ fits) at c.put_four.ensures in
-    let after : take 4 c.put_four.new.differences ≡ differences_after c.sums_from_third-value.result.0 (take 3 c.earlier.inside.differences) =
-    put ∙ sums ∙ by-after c.args.number (take 3 c.earlier.inside.differences) ∙ ap (λ v. differences_after v (take 3 c.earlier.inside.differences)) (sym (ap newest sums)) in
-    goes-on-kept g.row.WIDTH c.earlier.inside.order c.earlier.inside.count 3 c.earlier.inside.differences c.put_four.new.differences c.sums_from_third-value.result.0 last
+    let after : take 4 c.put_four.new.differences
+    ≡ differences_after c.sums_from_third-value.result.0 (take 3 c.earlier.inside.differences) =
+    put ∙ sums ∙ by-after c.args.number (take 3 c.earlier.inside.differences)
+    ∙ ap (λ v. differences_after v (take 3 c.earlier.inside.differences)) (sym (ap newest sums)) in
+    goes-on-kept g.row.WIDTH c.earlier.inside.order c.earlier.inside.count
+    3 c.earlier.inside.differences c.put_four.new.differences c.sums_from_third-value.result.0 last
     c.earlier.invariant ((within-is _ _).0 is) after
 
 pub returns-clause-value : goal.returns-clause-value
 returns-clause-value g c =
     let fits : FitsSigned w64 c.args.number = search rules in
     let fits0 : FitsSigned w64 c.sums_from_third-value.result.0 = search rules in
-    let on : StepsOn g.row.WIDTH c.earlier.inside.order c.earlier.inside.count 3 c.args.number c.sums_from_third-value.result.0 c.earlier.inside.differences =
-    stepped _ _ _ _ _ _ _ (omega (arith, c.if-order-ne3.false, c.if-earlier-lt3.false)) (omega (arith, c.if-earlier-lt3.false)) c.earlier.told (ap newest c.sums_from_third-value.ensures) fits in
-    let is : is_within g.row.WIDTH c.sums_from_third-value.result.0 ≡ true = accepted g.row.WIDTH _ _ c.is_within.ensures c.if-not-is_within.false fits0 in
+    let on : StepsOn g.row.WIDTH c.earlier.inside.order
+    c.earlier.inside.count 3 c.args.number c.sums_from_third-value.result.0 c.earlier.inside.differences =
+    stepped _ _ _ _ _ _ _ (omega (arith, c.if-order-ne3.false, c.if-earlier-lt3.false))
+    (omega (arith, c.if-earlier-lt3.false)) c.earlier.told (ap newest c.sums_from_third-value.ensures) fits in
+    let is : is_within g.row.WIDTH c.sums_from_third-value.result.0 ≡ true =
+    accepted g.row.WIDTH _ _ c.is_within.ensures c.if-not-is_within.false fits0 in
     let given : Ok (Some c.sums_from_third-value.result.0) ≡ in_range g.row.WIDTH c.sums_from_third-value.result.0 =
-    ap {B = Result (Option ℤ) Fault} (λ t. if t then Ok (Some c.sums_from_third-value.result.0) else Err OutOfRange) (sym is) in
+    ap {B = Result (Option ℤ) Fault}
+    (λ t. if t then Ok (Some c.sums_from_third-value.result.0) else Err OutOfRange) (sym is) in
     rw (← c.earlier.view_is, same-bits _ fits0) (sym (given ∙ on.value_is))
 
 pub returns-clause-arc : goal.returns-clause-arc
@@ -49,13 +64,19 @@ returns-clause-arc g c =
     let fits0 : FitsSigned w64 c.sums_from_third-value.result.0 = search rules in
     let fits1 : FitsSigned w64 c.sums_from_third-value.result.1 = search rules in
     let fits2 : FitsSigned w64 c.sums_from_third-value.result.2 = search rules in
-    let on : StepsOn g.row.WIDTH c.earlier.inside.order c.earlier.inside.count 3 c.args.number c.sums_from_third-value.result.0 c.earlier.inside.differences =
-    stepped _ _ _ _ _ _ _ (omega (arith, c.if-order-ne3.false, c.if-earlier-lt3.false)) (omega (arith, c.if-earlier-lt3.false)) c.earlier.told (ap newest c.sums_from_third-value.ensures) fits in
-    let sums : c.sums_from_third-value.result.0 ∷ c.sums_from_third-value.result.1 ∷ c.sums_from_third-value.result.2 ∷ c.args.number ∷ [] ≡ differences_by c.args.number (take 3 c.earlier.inside.differences) =
+    let on : StepsOn g.row.WIDTH c.earlier.inside.order
+    c.earlier.inside.count 3 c.args.number c.sums_from_third-value.result.0 c.earlier.inside.differences =
+    stepped _ _ _ _ _ _ _ (omega (arith, c.if-order-ne3.false, c.if-earlier-lt3.false))
+    (omega (arith, c.if-earlier-lt3.false)) c.earlier.told (ap newest c.sums_from_third-value.ensures) fits in
+    let sums : c.sums_from_third-value.result.0 ∷ c.sums_from_third-value.result.1 ∷ c.sums_from_third-value.result.2
+    ∷ c.args.number ∷ [] ≡ differences_by c.args.number (take 3 c.earlier.inside.differences) =
     rw (same-bits _ fits) at c.sums_from_third-value.ensures in
-    let put : take 4 c.put_four.new.differences ≡ c.sums_from_third-value.result.0 ∷ c.sums_from_third-value.result.1 ∷ c.sums_from_third-value.result.2 ∷ c.args.number ∷ [] =
+    let put : take 4 c.put_four.new.differences ≡ c.sums_from_third-value.result.0
+    ∷ c.sums_from_third-value.result.1 ∷ c.sums_from_third-value.result.2 ∷ c.args.number ∷ [] =
     rw (same-bits _ fits0, same-bits _ fits1, same-bits _ fits2, same-bits _ fits) at c.put_four.ensures in
-    let after : take 4 c.put_four.new.differences ≡ differences_after c.sums_from_third-value.result.0 (take 3 c.earlier.inside.differences) =
-    put ∙ sums ∙ by-after c.args.number (take 3 c.earlier.inside.differences) ∙ ap (λ v. differences_after v (take 3 c.earlier.inside.differences)) (sym (ap newest sums)) in
+    let after : take 4 c.put_four.new.differences
+    ≡ differences_after c.sums_from_third-value.result.0 (take 3 c.earlier.inside.differences) =
+    put ∙ sums ∙ by-after c.args.number (take 3 c.earlier.inside.differences)
+    ∙ ap (λ v. differences_after v (take 3 c.earlier.inside.differences)) (sym (ap newest sums)) in
     rw (← c.earlier.view_is)
     (ap (kept_tail c.earlier.inside.order) after ∙ on.tail)

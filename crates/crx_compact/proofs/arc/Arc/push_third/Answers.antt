@@ -3,13 +3,16 @@ use Rattle.crx_text.specs.Codes.{IsShort}
 use Rattle.crx_text.specs.declared.code.Code.TheVariants.{Step}
 use Rattle.crx_compact.specs.Steps.{differences_after, highest}
 use Rattle.crx_compact.specs.Arcs.{kept_tail}
-use Rattle.crx_compact.proofs.Running.{IsLast, GoesOn, same-bits, lower-below, within-below, goes-on-kept, goes-on, highest-short}
+use Rattle.crx_compact.proofs.arcs.Running.{IsLast, GoesOn, same-bits, lower-below, within-below, goes-on-kept, goes-on}
+use Rattle.crx_compact.proofs.arcs.Running.{highest-short}
 use Rattle.crx_compact.proofs.arc.Arc.push_third.Goals as goal
 
 pub third_from-third-requires-clause-below : goal.third_from-third-requires-clause-below
 third_from-third-requires-clause-below g c =
-    let last : IsLast c.before-2.inside.order c.before-2.inside.count 3 = record { least = omega (arith, c.if-order-ne3.false, c.if-before-lt3.false) } in
-    lower-below c.before-2.inside.order c.before-2.inside.count 3 c.before-2.inside.differences last c.before-2.invariant.below
+    let last : IsLast c.before-2.inside.order c.before-2.inside.count 3 =
+    record { least = omega (arith, c.if-order-ne3.false, c.if-before-lt3.false) } in
+    lower-below c.before-2.inside.order
+    c.before-2.inside.count 3 c.before-2.inside.differences last c.before-2.invariant.below
 
 pub third_from-third-requires-clause-next : goal.third_from-third-requires-clause-next
 third_from-third-requires-clause-next g c =
@@ -18,41 +21,52 @@ third_from-third-requires-clause-next g c =
 
 pub invariant_of-self : goal.invariant_of-self
 invariant_of-self g c =
-    let last : IsLast c.before-2.inside.order c.before-2.inside.count 3 = record { least = omega (arith, c.if-order-ne3.false, c.if-before-lt3.false) } in
+    let last : IsLast c.before-2.inside.order c.before-2.inside.count 3 =
+    record { least = omega (arith, c.if-order-ne3.false, c.if-before-lt3.false) } in
     let fits : FitsSigned w64 c.args.value = search rules in
-    let after : take 4 c.third_from-third.new.differences ≡ differences_after c.args.value (take 3 c.before-2.inside.differences) =
+    let after : take 4 c.third_from-third.new.differences
+    ≡ differences_after c.args.value (take 3 c.before-2.inside.differences) =
     rw (same-bits _ fits) at c.third_from-third.ensures.after in
-    goes-on-kept g.row.WIDTH c.before-2.inside.order c.before-2.inside.count 3 c.before-2.inside.differences c.third_from-third.new.differences c.args.value last
+    goes-on-kept g.row.WIDTH c.before-2.inside.order
+    c.before-2.inside.count 3 c.before-2.inside.differences c.third_from-third.new.differences c.args.value last
     c.before-2.invariant c.requires after
 
 pub returns-clause-code : goal.returns-clause-code
 returns-clause-code g c =
-    let last : IsLast c.before-2.inside.order c.before-2.inside.count 3 = record { least = omega (arith, c.if-order-ne3.false, c.if-before-lt3.false) } in
+    let last : IsLast c.before-2.inside.order c.before-2.inside.count 3 =
+    record { least = omega (arith, c.if-order-ne3.false, c.if-before-lt3.false) } in
     let fits : FitsSigned w64 c.args.value = search rules in
     let some : 0 < length c.before-2.inside.differences = search rules in
     let on : GoesOn c.before-2.inside.order c.before-2.inside.count 3 c.args.value c.before-2.inside.differences =
-    goes-on c.before-2.inside.order c.before-2.inside.count 3 c.args.value c.before-2.inside.differences last (omega (arith, c.if-before-lt3.false)) some in
+    goes-on c.before-2.inside.order c.before-2.inside.count 3 c.args.value c.before-2.inside.differences last
+    (omega (arith, c.if-before-lt3.false)) some in
     rw (← c.before-2.view_is)
-    (sym (ap Step (same-bits _ (search rules) ∙ (rw (same-bits _ fits) at c.third_from-third.ensures.highest)) ∙ on.code))
+    (sym (ap Step (same-bits _ (search rules)
+    ∙ (rw (same-bits _ fits) at c.third_from-third.ensures.highest)) ∙ on.code))
 
 pub returns-clause-short : goal.returns-clause-short
 returns-clause-short g c =
-    let last : IsLast c.before-2.inside.order c.before-2.inside.count 3 = record { least = omega (arith, c.if-order-ne3.false, c.if-before-lt3.false) } in
+    let last : IsLast c.before-2.inside.order c.before-2.inside.count 3 =
+    record { least = omega (arith, c.if-order-ne3.false, c.if-before-lt3.false) } in
     let fits : FitsSigned w64 c.args.value = search rules in
-    let is : c.third_from-third.result ≡ highest (differences_after c.args.value (take 3 c.before-2.inside.differences)) =
+    let is : c.third_from-third.result
+    ≡ highest (differences_after c.args.value (take 3 c.before-2.inside.differences)) =
     rw (same-bits _ fits) at c.third_from-third.ensures.highest in
     let short : IsShort (highest (differences_after c.args.value (take 3 c.before-2.inside.differences))) =
-    highest-short g.row.WIDTH c.before-2.inside.order c.before-2.inside.count 3 c.args.value c.before-2.inside.differences last c.before-2.invariant c.requires in
+    highest-short g.row.WIDTH c.before-2.inside.order
+    c.before-2.inside.count 3 c.args.value c.before-2.inside.differences last c.before-2.invariant c.requires in
     let P : ℤ → Type 0 = IsShort in
     let fits' : FitsSigned w64 c.third_from-third.result = search rules in
     rw (same-bits _ fits') (subst P (sym is) short)
 
 pub returns-clause-arc : goal.returns-clause-arc
 returns-clause-arc g c =
-    let last : IsLast c.before-2.inside.order c.before-2.inside.count 3 = record { least = omega (arith, c.if-order-ne3.false, c.if-before-lt3.false) } in
+    let last : IsLast c.before-2.inside.order c.before-2.inside.count 3 =
+    record { least = omega (arith, c.if-order-ne3.false, c.if-before-lt3.false) } in
     let fits : FitsSigned w64 c.args.value = search rules in
     let some : 0 < length c.before-2.inside.differences = search rules in
     let on : GoesOn c.before-2.inside.order c.before-2.inside.count 3 c.args.value c.before-2.inside.differences =
-    goes-on c.before-2.inside.order c.before-2.inside.count 3 c.args.value c.before-2.inside.differences last (omega (arith, c.if-before-lt3.false)) some in
+    goes-on c.before-2.inside.order c.before-2.inside.count 3 c.args.value c.before-2.inside.differences last
+    (omega (arith, c.if-before-lt3.false)) some in
     rw (← c.before-2.view_is)
     (ap (kept_tail c.before-2.inside.order) (rw (same-bits _ fits) at c.third_from-third.ensures.after) ∙ on.tail)

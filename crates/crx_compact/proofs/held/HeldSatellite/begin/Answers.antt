@@ -1,15 +1,18 @@
 use Rattle.std.proofs.Common.{◌≡◌, [], List, ℕ, Result, Ok, Err, OnOk, OnErr, refl, sym, ap, ◌∙◌, subst, arith}
-use Rattle.crx_text.specs.Columns.{without_end_blanks}
+use Rattle.crx_text.specs.meaning.Columns.{without_end_blanks}
 use Rattle.crx_compact.specs.Cells.{AreHeldFlags}
-use Rattle.crx_compact.proofs.SoundTexts.{flags-held}
+use Rattle.crx_compact.proofs.soundness.SoundTexts.{flags-held}
 use Rattle.crx_compact.proofs.held.HeldSatellite.begin.Goals as goal
 
-either-held : {X E : Type 0} (result : Result X E) (flags next : List ℕ) → OnOk result (flags ≡ next) → OnErr result (flags ≡ []) → AreHeldFlags next → AreHeldFlags flags
+either-held : {X E : Type 0} (result : Result X E) (flags next : List ℕ)
+    → OnOk result (flags ≡ next) → OnErr result (flags ≡ []) → AreHeldFlags next → AreHeldFlags flags
 either-held (Ok x) flags next is none held = subst AreHeldFlags (sym is) held
-either-held (Err e) flags next is none held = subst AreHeldFlags (sym none) (record { within = omega arith; kept = refl })
+either-held (Err e) flags next is none held =
+    subst AreHeldFlags (sym none) (record { within = omega arith; kept = refl })
 
 pub invariant_of-self-2 : goal.invariant_of-self-2
 invariant_of-self-2 c =
     let is = c.trim_end.ensures ∙ ap without_end_blanks c.flags-2.ensures.value in
-    either-held c.renew_flags.result c.renew_flags.new.flags.items c.trim_end.result.now c.renew_flags.ensures.ok c.renew_flags.ensures.err
+    either-held c.renew_flags.result
+    c.renew_flags.new.flags.items c.trim_end.result.now c.renew_flags.ensures.ok c.renew_flags.ensures.err
     (subst AreHeldFlags (sym is) (flags-held c.args.row.now c.flags-2.ensures.sound))

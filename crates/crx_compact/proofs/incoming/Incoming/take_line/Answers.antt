@@ -1,21 +1,23 @@
 use Rattle.std.proofs.Common.{ap, ◌∙◌, sym, subst, ◌≡◌, Option, Some, None, List}
 use Rattle.std.specs.Prelude.{slice_get, ◌⊎◌}
 use Rattle.crx_lines.specs.declared.fault.Fault.TheVariants.{OutOfMemory}
-use Rattle.crx_compact.specs.EpochText.{Satellite}
+use Rattle.crx_compact.specs.meaning.EpochText.{Satellite}
 use Rattle.crx_compact.specs.OpenEpochs.{Faulty, RawStep}
 use Rattle.crx_compact.specs.OpenLines.{OpenLines, AreLinesSoFar, AreRowsSoFar, lines_so_far, step_after}
 use Rattle.crx_compact.specs.declared.incoming.Stage.{Stage}
 use Rattle.crx_compact.specs.declared.incoming.Stage.TheVariants.{Rows}
-use Rattle.crx_compact.proofs.Opening.{all-taken, next-new, not-full, row-refused, row-taken, rows-more}
+use Rattle.crx_compact.proofs.reading.Opening.{all-taken, next-new, not-full, row-refused, row-taken, rows-more}
 use Rattle.crx_compact.proofs.incoming.Incoming.take_line.Goals as goal
 
 pub returns-in_default-clause-ok : goal.returns-in_default-clause-ok
 returns-in_default-clause-ok c =
     let self = c.self.inside in
     let state : c.args.self.now ≡ lines_so_far (Rows c.in-Rows.epoch) self.next self.count self.satellites.items =
-    sym c.self.view_is ∙ ap {B = Option OpenLines} (λ (s : Stage). lines_so_far s self.next self.count self.satellites.items) c.in-Rows.is in
+    sym c.self.view_is ∙ ap {B = Option OpenLines}
+    (λ (s : Stage). lines_so_far s self.next self.count self.satellites.items) c.in-Rows.is in
     let none : slice_get self.satellites.items self.count ≡ None =
-    ap {B = Option Satellite} (λ (ss : List Satellite). slice_get ss self.count) (sym c.deref.ensures.value) ∙ sym c.in_default.ensures in
+    ap {B = Option Satellite} (λ (ss : List Satellite). slice_get ss self.count) (sym c.deref.ensures.value)
+    ∙ sym c.in_default.ensures in
     ap {B = RawStep} (λ (o : Option OpenLines). step_after c.args.before.now o c.args.line.now) state
     ∙ all-taken c.args.before.now self.next c.args.line.now self.count self.satellites.items c.in-Rows.epoch none
 
@@ -23,47 +25,62 @@ pub next_row-requires-clause-wanted : goal.next_row-requires-clause-wanted
 next_row-requires-clause-wanted c =
     let self = c.self.inside in
     let P : Stage → Type 0 = λ (s : Stage). AreLinesSoFar s self.next self.count self.satellites.items in
-    let rows : AreRowsSoFar c.in-Rows.epoch self.next self.count self.satellites.items = subst P c.in-Rows.is c.self.invariant in
+    let rows : AreRowsSoFar c.in-Rows.epoch self.next self.count self.satellites.items =
+    subst P c.in-Rows.is c.self.invariant in
     let here : slice_get self.satellites.items self.count ≡ Some c.in-Some.satellite.now =
-    ap {B = Option Satellite} (λ (ss : List Satellite). slice_get ss self.count) (sym c.deref.ensures.value) ∙ sym c.in-Some.ensures in
+    ap {B = Option Satellite} (λ (ss : List Satellite). slice_get ss self.count) (sym c.deref.ensures.value)
+    ∙ sym c.in-Some.ensures in
     not-full self.next self.count self.satellites.items c.in-Rows.epoch c.in-Some.satellite.now rows here
 
 pub next_row-requires-clause-new : goal.next_row-requires-clause-new
 next_row-requires-clause-new c =
     let self = c.self.inside in
     let P : Stage → Type 0 = λ (s : Stage). AreLinesSoFar s self.next self.count self.satellites.items in
-    let rows : AreRowsSoFar c.in-Rows.epoch self.next self.count self.satellites.items = subst P c.in-Rows.is c.self.invariant in
+    let rows : AreRowsSoFar c.in-Rows.epoch self.next self.count self.satellites.items =
+    subst P c.in-Rows.is c.self.invariant in
     let here : slice_get self.satellites.items self.count ≡ Some c.in-Some.satellite.now =
-    ap {B = Option Satellite} (λ (ss : List Satellite). slice_get ss self.count) (sym c.deref.ensures.value) ∙ sym c.in-Some.ensures in
+    ap {B = Option Satellite} (λ (ss : List Satellite). slice_get ss self.count) (sym c.deref.ensures.value)
+    ∙ sym c.in-Some.ensures in
     next-new self.next self.count self.satellites.items c.in-Rows.epoch c.in-Some.satellite.now rows here
 
 pub invariant_of-self-in-Ok : goal.invariant_of-self-in-Ok
 invariant_of-self-in-Ok c =
     let self = c.self.inside in
     let P : Stage → Type 0 = λ (s : Stage). AreLinesSoFar s self.next self.count self.satellites.items in
-    let rows : AreRowsSoFar c.in-Rows.epoch self.next self.count self.satellites.items = subst P c.in-Rows.is c.self.invariant in
+    let rows : AreRowsSoFar c.in-Rows.epoch self.next self.count self.satellites.items =
+    subst P c.in-Rows.is c.self.invariant in
     let here : slice_get self.satellites.items self.count ≡ Some c.in-Some.satellite.now =
-    ap {B = Option Satellite} (λ (ss : List Satellite). slice_get ss self.count) (sym c.deref.ensures.value) ∙ sym c.in-Some.ensures in
-    rows-more c.args.before.now self.next c.next_row.new.next c.args.line.now self.count self.satellites.items c.in-Rows.epoch c.next_row.new.epoch c.in-Some.satellite.now rows here c.in-Ok.ensures.ok
+    ap {B = Option Satellite} (λ (ss : List Satellite). slice_get ss self.count) (sym c.deref.ensures.value)
+    ∙ sym c.in-Some.ensures in
+    rows-more c.args.before.now self.next c.next_row.new.next c.args.line.now self.count
+    self.satellites.items c.in-Rows.epoch c.next_row.new.epoch c.in-Some.satellite.now rows here c.in-Ok.ensures.ok
 
 pub returns-in-Ok-clause-ok : goal.returns-in-Ok-clause-ok
 returns-in-Ok-clause-ok c =
     let self = c.self.inside in
     let P : Stage → Type 0 = λ (s : Stage). AreLinesSoFar s self.next self.count self.satellites.items in
-    let rows : AreRowsSoFar c.in-Rows.epoch self.next self.count self.satellites.items = subst P c.in-Rows.is c.self.invariant in
+    let rows : AreRowsSoFar c.in-Rows.epoch self.next self.count self.satellites.items =
+    subst P c.in-Rows.is c.self.invariant in
     let here : slice_get self.satellites.items self.count ≡ Some c.in-Some.satellite.now =
-    ap {B = Option Satellite} (λ (ss : List Satellite). slice_get ss self.count) (sym c.deref.ensures.value) ∙ sym c.in-Some.ensures in
+    ap {B = Option Satellite} (λ (ss : List Satellite). slice_get ss self.count) (sym c.deref.ensures.value)
+    ∙ sym c.in-Some.ensures in
     let state : c.args.self.now ≡ lines_so_far (Rows c.in-Rows.epoch) self.next self.count self.satellites.items =
-    sym c.self.view_is ∙ ap {B = Option OpenLines} (λ (s : Stage). lines_so_far s self.next self.count self.satellites.items) c.in-Rows.is in
+    sym c.self.view_is ∙ ap {B = Option OpenLines}
+    (λ (s : Stage). lines_so_far s self.next self.count self.satellites.items) c.in-Rows.is in
     ap {B = RawStep} (λ (o : Option OpenLines). step_after c.args.before.now o c.args.line.now) state
-    ∙ row-taken c.args.before.now self.next c.next_row.new.next c.args.line.now self.count self.satellites.items c.in-Rows.epoch c.next_row.new.epoch c.in-Some.satellite.now rows here c.in-Ok.ensures.ok
+    ∙ row-taken c.args.before.now self.next c.next_row.new.next c.args.line.now self.count
+    self.satellites.items c.in-Rows.epoch c.next_row.new.epoch c.in-Some.satellite.now rows here c.in-Ok.ensures.ok
 
 pub returns-in-Err-clause-err : goal.returns-in-Err-clause-err
 returns-in-Err-clause-err c =
     let self = c.self.inside in
     let here : slice_get self.satellites.items self.count ≡ Some c.in-Some.satellite.now =
-    ap {B = Option Satellite} (λ (ss : List Satellite). slice_get ss self.count) (sym c.deref.ensures.value) ∙ sym c.in-Some.ensures in
+    ap {B = Option Satellite} (λ (ss : List Satellite). slice_get ss self.count) (sym c.deref.ensures.value)
+    ∙ sym c.in-Some.ensures in
     let state : lines_so_far (Rows c.in-Rows.epoch) self.next self.count self.satellites.items ≡ c.args.self.now =
-    ap {B = Option OpenLines} (λ (s : Stage). lines_so_far s self.next self.count self.satellites.items) (sym c.in-Rows.is) ∙ c.self.view_is in
-    let P : Option OpenLines → Type 0 = λ o. (step_after c.args.before.now o c.args.line.now ≡ Faulty c.in-Err.fault) ⊎ (c.in-Err.fault ≡ OutOfMemory) in
-    subst P state (row-refused c.args.before.now self.next c.args.line.now self.count self.satellites.items c.in-Rows.epoch c.in-Some.satellite.now c.in-Err.fault here c.in-Err.ensures.err)
+    ap {B = Option OpenLines} (λ (s : Stage). lines_so_far s self.next self.count self.satellites.items)
+    (sym c.in-Rows.is) ∙ c.self.view_is in
+    let P : Option OpenLines → Type 0 = λ o. (step_after c.args.before.now o c.args.line.now ≡ Faulty c.in-Err.fault)
+    ⊎ (c.in-Err.fault ≡ OutOfMemory) in
+    subst P state (row-refused c.args.before.now self.next c.args.line.now self.count
+    self.satellites.items c.in-Rows.epoch c.in-Some.satellite.now c.in-Err.fault here c.in-Err.ensures.err)

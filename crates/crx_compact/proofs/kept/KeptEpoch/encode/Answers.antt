@@ -1,21 +1,24 @@
 use Rattle.std.proofs.Common.{◌≡◌, ◌++◌, ◌∷◌, [], List, ℕ, ℤ, Option, map, ap, sym, ◌∙◌, append_assoc}
-use Rattle.crx_text.specs.Codes.{code_text}
-use Rattle.crx_text.specs.Texts.{text_difference}
+use Rattle.crx_text.specs.meaning.Codes.{code_text}
+use Rattle.crx_text.specs.meaning.Texts.{text_difference}
 use Rattle.crx_text.specs.declared.code.Code.{Code}
 use Rattle.crx_compact.specs.Tails.{ArcTail, RowTail, Tail}
-use Rattle.crx_compact.specs.Compaction.{epoch_text}
+use Rattle.crx_compact.specs.meaning.Compaction.{epoch_text}
 use Rattle.crx_compact.specs.Steps.{arc_of_value, code_of_value, row_line_in, row_tail_in}
-use Rattle.crx_compact.proofs.SoundTexts.{difference-trimmed}
+use Rattle.crx_compact.proofs.soundness.SoundTexts.{difference-trimmed}
 use Rattle.crx_compact.proofs.kept.KeptEpoch.encode.Goals as goal
 
-same-tail : (text text' : List ℕ) (clock clock' : Option ArcTail) (rows rows' : List RowTail) → text ≡ text' → clock ≡ clock' → rows ≡ rows'
-    → ◌≡◌ {A = Tail} (record { text = text; clock = clock; rows = rows }) (record { text = text'; clock = clock'; rows = rows' })
+same-tail : (text text' : List ℕ) (clock clock' : Option ArcTail) (rows rows' : List RowTail)
+    → text ≡ text' → clock ≡ clock' → rows ≡ rows'
+    → ◌≡◌ {A = Tail} (record { text = text; clock = clock; rows = rows })
+    (record { text = text'; clock = clock'; rows = rows' })
 same-tail text text' clock clock' rows rows' a b d =
     ap {B = Tail} (λ t. record { text = t; clock = clock; rows = rows }) a
     ∙ ap {B = Tail} (λ k. record { text = text'; clock = k; rows = rows }) b
     ∙ ap {B = Tail} (λ rs. record { text = text'; clock = clock'; rows = rs }) d
 
-lines-one-by_one : (old one two three : List (List ℕ)) (a b : List ℕ) (cs : List (List ℕ)) → one ≡ old ++ a ∷ [] → two ≡ one ++ b ∷ [] → three ≡ two ++ cs → three ≡ old ++ (a ∷ b ∷ cs)
+lines-one-by_one : (old one two three : List (List ℕ)) (a b : List ℕ) (cs : List (List ℕ))
+    → one ≡ old ++ a ∷ [] → two ≡ one ++ b ∷ [] → three ≡ two ++ cs → three ≡ old ++ (a ∷ b ∷ cs)
 lines-one-by_one old one two three a b cs e f g = g ∙ rw (f, e) (simp append_assoc)
 
 pub returns-clause-after : goal.returns-clause-after
@@ -27,7 +30,8 @@ returns-clause-after c =
     (c.push.ensures.arc
     ∙ ap (λ (v : Option ℤ). arc_of_value v c.copied-self-inside.result) (c.clock.ensures.value ∙ c.head.ensures.clock)
     ∙ ap (λ (arc : Option ArcTail). arc_of_value epoch.clock arc) c.copied-self-inside.ensures)
-    (c.in_ok-encode_rows.ensures.after ∙ ap (λ (t : Tail). map (row_tail_in t.rows) epoch.rows) (sym c.before-2.view_is)))
+    (c.in_ok-encode_rows.ensures.after
+    ∙ ap (λ (t : Tail). map (row_tail_in t.rows) epoch.rows) (sym c.before-2.view_is)))
 
 pub returns-clause-lines : goal.returns-clause-lines
 returns-clause-lines c =
@@ -36,11 +40,13 @@ returns-clause-lines c =
     (lines-one-by_one c.args.lines.now c.push_change.new.lines c.push_code.new.lines c.encode_rows.new.lines _ _ _
     (c.in_ok-push_change.ensures
     ∙ ap (λ t. c.args.lines.now ++ text_difference t c.deref-2.result.now ∷ []) c.deref.ensures.value
-    ∙ ap (λ t. c.args.lines.now ++ text_difference c.before-2.inside.text.items t ∷ []) (c.deref-2.ensures.value ∙ c.in_ok-renew_text.ensures.ok)
+    ∙ ap (λ t. c.args.lines.now ++ text_difference c.before-2.inside.text.items t ∷ []) (c.deref-2.ensures.value
+    ∙ c.in_ok-renew_text.ensures.ok)
     ∙ ap (λ t. c.args.lines.now ++ t ∷ []) (difference-trimmed c.before-2.inside.text.items (epoch_text epoch)))
     (c.in_ok-push_code.ensures
     ∙ ap (λ (k : Code). c.push_change.new.lines ++ code_text k ∷ [])
     (c.push.ensures.code
     ∙ ap (λ (v : Option ℤ). code_of_value v c.copied-self-inside.result) (c.clock.ensures.value ∙ c.head.ensures.clock)
     ∙ ap (λ (arc : Option ArcTail). code_of_value epoch.clock arc) c.copied-self-inside.ensures))
-    (c.in_ok-encode_rows.ensures.lines ∙ ap (λ (t : Tail). c.push_code.new.lines ++ map (row_line_in t.rows) epoch.rows) (sym c.before-2.view_is)))
+    (c.in_ok-encode_rows.ensures.lines
+    ∙ ap (λ (t : Tail). c.push_code.new.lines ++ map (row_line_in t.rows) epoch.rows) (sym c.before-2.view_is)))

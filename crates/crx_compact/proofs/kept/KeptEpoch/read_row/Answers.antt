@@ -1,10 +1,10 @@
 use Rattle.std.proofs.Common.{◌≡◌, ◌≤◌, ◌++◌, ◌∷◌, [], List, ℕ, length, slice_set, take, ap, sym, ◌∙◌, subst, arith}
 use Rattle.std.proofs.lemmas.List.{length-set, take_more_set, take-set-le}
-use Rattle.crx_compact.specs.Sequences.{named}
+use Rattle.crx_compact.specs.meaning.Sequences.{named}
 use Rattle.crx_compact.specs.Tails.{RowTail, Tail}
 use Rattle.crx_compact.specs.HeldRows.{row_held, AreNamed}
-use Rattle.crx_compact.proofs.Named.{named-fewer, named-same}
-use Rattle.crx_compact.proofs.Marks.{next-row, row-by_tail, same-fault}
+use Rattle.crx_compact.proofs.reading.Named.{named-fewer, named-same}
+use Rattle.crx_compact.proofs.reading.Marks.{next-row, row-by_tail, same-fault}
 use Rattle.crx_compact.proofs.kept.KeptEpoch.read_row.Goals as goal
 
 pub returns-clause-ok : goal.returns-clause-ok
@@ -13,12 +13,18 @@ returns-clause-ok c =
     let index = c.args.index in
     let next = c.requires.next in
     let seen = ap (λ (t : Tail). length t.rows) c.self.view_is in
-    let found = c.find-kept.ensures ∙ ap (λ (name : List ℕ). named (λ (r : RowTail). r.name) name before.rows) c.name-name.ensures.value in
+    let found = c.find-kept.ensures
+    ∙ ap (λ (name : List ℕ). named (λ (r : RowTail). r.name) name before.rows) c.name-name.ensures.value in
     next-row before _ c.args.satellite.now c.args.line.now index c.read.new.self c.args.self.now
-    (record { text = c.self.inside.text.items; clock = c.self.inside.clock; rows = slice_set c.make_room.new.satellites.items index c.read.new.self })
+    (record {
+      text = c.self.inside.text.items;
+      clock = c.self.inside.clock;
+      rows = slice_set c.make_room.new.satellites.items index c.read.new.self;
+    })
     found
     (take_more_set c.make_room.new.satellites.items index c.read.new.self c.in-Ok.ensures.room
-    ∙ ap (λ xs. xs ++ c.read.new.self ∷ []) (c.in-Ok.ensures.same index (omega (arith, next, seen)) ∙ ap (λ (t : Tail). take index t.rows) c.self.view_is))
+    ∙ ap (λ xs. xs ++ c.read.new.self ∷ []) (c.in-Ok.ensures.same index (omega (arith, next, seen))
+    ∙ ap (λ (t : Tail). take index t.rows) c.self.view_is))
     (ap (λ (t : Tail). t.text) c.self.view_is)
     (ap (λ (t : Tail). t.clock) c.self.view_is)
     c.read.new.row c.in-Ok-read.ensures.ok
@@ -26,11 +32,14 @@ returns-clause-ok c =
 pub returns-in-Err-clause-err : goal.returns-in-Err-clause-err
 returns-in-Err-clause-err c =
     let before = c.args.before.now in
-    let found = c.find-kept.ensures ∙ ap (λ (name : List ℕ). named (λ (r : RowTail). r.name) name before.rows) c.name-name.ensures.value in
-    same-fault _ _ (ap (λ kept. row_held kept c.args.satellite.now c.args.line.now) found ∙ row-by_tail before c.args.satellite.now c.args.line.now) c.in-Err.fault c.in-Err.ensures.err
+    let found = c.find-kept.ensures
+    ∙ ap (λ (name : List ℕ). named (λ (r : RowTail). r.name) name before.rows) c.name-name.ensures.value in
+    same-fault _ _ (ap (λ kept. row_held kept c.args.satellite.now c.args.line.now) found
+    ∙ row-by_tail before c.args.satellite.now c.args.line.now) c.in-Err.fault c.in-Err.ensures.err
 
 -- the satellites before a place keep their identifiers
-fewer : (placed index count : ℕ) (names : List (List ℕ)) (old room : List RowTail) (left : RowTail) → AreNamed placed names old → count ≤ placed → count ≤ index → length old ≤ length room
+fewer : (placed index count : ℕ) (names : List (List ℕ)) (old room : List RowTail) (left : RowTail)
+    → AreNamed placed names old → count ≤ placed → count ≤ index → length old ≤ length room
     → ((m : ℕ) → m ≤ length old → take m room ≡ take m old) → AreNamed count names (slice_set room index left)
 fewer placed index count names old room left h few before grown same =
     let within = h.0 in
@@ -42,7 +51,8 @@ pub invariant_of-self-in-Err : goal.invariant_of-self-in-Err
 invariant_of-self-in-Err c =
     let few = c.min-self-inside.ensures in (
       c.self.invariant.0,
-      fewer c.self.inside.placed c.args.index c.min-self-inside.result c.self.inside.names c.self.inside.satellites.items c.make_room.new.satellites.items c.read.new.self c.self.invariant.1
+      fewer c.self.inside.placed c.args.index c.min-self-inside.result c.self.inside.names
+          c.self.inside.satellites.items c.make_room.new.satellites.items c.read.new.self c.self.invariant.1
           (omega (arith, few)) (omega (arith, few)) c.make_room.ensures.grown c.make_room.ensures.same,
     )
 
@@ -50,5 +60,6 @@ pub known_placed-self-inside-requires-clause-before : goal.known_placed-self-ins
 known_placed-self-inside-requires-clause-before c =
     let few = c.min-self-inside.ensures in
     subst (λ (rs : List RowTail). AreNamed c.min-self-inside.result c.self.inside.names rs) (sym c.deref.ensures.value)
-    (fewer c.self.inside.placed c.args.index c.min-self-inside.result c.self.inside.names c.self.inside.satellites.items c.make_room.new.satellites.items c.read.new.self c.self.invariant.1
+    (fewer c.self.inside.placed c.args.index c.min-self-inside.result c.self.inside.names
+    c.self.inside.satellites.items c.make_room.new.satellites.items c.read.new.self c.self.invariant.1
     (omega (arith, few)) (omega (arith, few)) c.make_room.ensures.grown c.make_room.ensures.same)

@@ -16,7 +16,8 @@ all-past lengths text past within = ap (λ ls. cut ls text) (drop_of_length-le l
 none-left : (lengths text : List ℕ) (past : ℕ) → cut (drop past lengths) text ≡ [] → length lengths ≤ past
 none-left [] text past none = omega arith
 none-left (n ∷ ns) text zero none = absurd (omega (arith, ap length none))
-none-left (n ∷ ns) text (suc past) none = let rest : length ns ≤ past = none-left ns text past none in omega (arith, rest)
+none-left (n ∷ ns) text (suc past) none = let rest : length ns ≤ past = none-left ns text past none in
+    omega (arith, rest)
 
 pub returns : goal.returns
 returns c =
@@ -25,5 +26,6 @@ returns c =
     let text = drop inside.lent_bytes (take inside.filled inside.bytes.items) in
     rw (← c.self.view_is, count) (
       λ same. all-past inside.lengths.items text inside.lent (at-end inside.lent (length inside.lengths.items) same),
-      λ none. at-end-is inside.lent (length inside.lengths.items) c.self.invariant.0.past_within (none-left inside.lengths.items text inside.lent none),
+      λ none. at-end-is inside.lent (length inside.lengths.items) c.self.invariant.0.past_within
+          (none-left inside.lengths.items text inside.lent none),
     )

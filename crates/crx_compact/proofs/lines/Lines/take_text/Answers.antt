@@ -8,5 +8,9 @@ returns c =
     let all : length inside.lengths.items ≤ c.len-self-inside.result = search rules in
     rw (← c.self.view_is, c.deref.ensures.value) (
       (refl, λ _. tt, none-left inside.lengths.items inside.bytes.items inside.filled c.len-self-inside.result all),
-      record { value = all-lines inside.lengths.items inside.bytes.items inside.filled inside.lent inside.lent_bytes c.self.invariant.0 c.self.invariant.1; after_borrow = tt },
+      record {
+        value = all-lines inside.lengths.items inside.bytes.items
+            inside.filled inside.lent inside.lent_bytes c.self.invariant.0 c.self.invariant.1;
+        after_borrow = tt;
+      },
     )

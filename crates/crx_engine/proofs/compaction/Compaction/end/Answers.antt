@@ -1,9 +1,9 @@
 use Rattle.std.proofs.Common.{sym, refl, ◌∙◌, []}
-use Rattle.crx_engine.specs.Compactor.{compaction}
-use Rattle.crx_engine.specs.Compacting.{seen_by}
+use Rattle.crx_engine.specs.CompactionByLine.{compaction}
+use Rattle.crx_engine.specs.CompactionState.{compaction_state}
 use Rattle.crx_engine.specs.EngineSteps.{settled_seen}
 use Rattle.crx_engine.specs.RinexStages.{open_epoch}
-use Rattle.crx_engine.proofs.EngineLemmas.{held-open, same-step}
+use Rattle.crx_engine.proofs.steps.EngineLemmas.{held-open, same-step}
 use Rattle.crx_engine.proofs.compaction.Compaction.end.Goals as goal
 
 pub returns-clause-steps : goal.returns-clause-steps
@@ -11,5 +11,11 @@ returns-clause-steps c =
     let self = c.args.self.now in
     let settled = c.after_end-settled.result in
     let held = open_epoch self.reader.types self.reader.epoch in
-    same-step c.settle.result settled.answer [] [] (seen_by c.settle.new.self) (settled_seen compaction (seen_by self) held settled) c.settle.ensures.value refl c.settle.ensures.seen
-    ∙ c.after_end-settled.ensures.compaction (seen_by self) held held (record { is_phase = refl; is_open = held-open self.reader.types self.reader.stage self.reader.epoch self.reader.consistent; is_count = refl; is_skip = sym c.skip.ensures })
+    same-step c.settle.result settled.answer [] [] (compaction_state c.settle.new.self)
+    (settled_seen compaction (compaction_state self) held settled) c.settle.ensures.value refl c.settle.ensures.seen
+    ∙ c.after_end-settled.ensures.compaction (compaction_state self) held held (record {
+      is_phase = refl;
+      is_open = held-open self.reader.types self.reader.stage self.reader.epoch self.reader.consistent;
+      is_count = refl;
+      is_skip = sym c.skip.ensures;
+    })

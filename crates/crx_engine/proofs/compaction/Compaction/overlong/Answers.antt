@@ -1,10 +1,10 @@
 use Rattle.std.proofs.Common.{sym, refl, ap, ◌∙◌}
-use Rattle.crx_lines.specs.Seen.{Overlong}
-use Rattle.crx_engine.specs.Compactor.{compaction}
-use Rattle.crx_engine.specs.Compacting.{seen_by}
-use Rattle.crx_engine.specs.LineByLine.{step_of}
+use Rattle.crx_lines.specs.meaning.Seen.{Overlong}
+use Rattle.crx_engine.specs.CompactionByLine.{compaction}
+use Rattle.crx_engine.specs.CompactionState.{compaction_state}
+use Rattle.crx_engine.specs.LineByLine.{step_of_made}
 use Rattle.crx_engine.specs.RinexStages.{open_epoch}
-use Rattle.crx_engine.proofs.CompactionSteps.{overlong-made}
+use Rattle.crx_engine.proofs.steps.CompactionSteps.{overlong-made}
 use Rattle.crx_engine.proofs.compaction.Compaction.overlong.Goals as goal
 
 pub returns-in_default : goal.returns-in_default
@@ -13,7 +13,9 @@ returns-in_default c =
     let held = open_epoch self.reader.types self.reader.epoch in
     record {
       steps = c.fail.ensures.fails Overlong refl
-          ∙ sym (ap (λ made. step_of compaction (seen_by self) Overlong made) (overlong-made held self.reader.stage self.reader.types (seen_by self).kept c.in_default.not-Looking c.in_default.not-Closed c.in_default.not-Ended));
+          ∙ sym (ap (λ made. step_of_made compaction (compaction_state self) Overlong made)
+          (overlong-made held self.reader.stage self.reader.types
+          (compaction_state self).kept c.in_default.not-Looking c.in_default.not-Closed c.in_default.not-Ended));
       ended = c.fail.ensures.ended;
       drained = c.fail.ensures.drained;
       choices = c.fail.ensures.choices;

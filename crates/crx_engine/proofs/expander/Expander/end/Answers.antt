@@ -4,17 +4,17 @@ use Rattle.crx_compact.specs.OpenEpochs.{OpenRawEpoch, tail_held}
 use Rattle.crx_compact.specs.Tails.{Tail}
 use Rattle.crx_engine.specs.CompactStages.{open_in}
 use Rattle.crx_engine.specs.EngineSteps.{IsAt, step_made}
-use Rattle.crx_engine.specs.CompactReaders.{seen_in, seen_with}
-use Rattle.crx_engine.specs.Expander.{expansion, expansion_seen}
-use Rattle.crx_engine.specs.Expanding.{seen_by}
+use Rattle.crx_engine.specs.CompactReaders.{seen_in, compact_reader_state}
+use Rattle.crx_engine.specs.ExpansionByLine.{expansion, expansion_seen}
+use Rattle.crx_engine.specs.ExpanderState.{expander_state}
 use Rattle.crx_engine.specs.declared.stage.Stage.{Stage}
 use Rattle.crx_engine.specs.declared.stage.Stage.TheVariants.{Ended}
 use Rattle.crx_engine.specs.LineByLine.{Step, seen_end}
-use Rattle.crx_engine.proofs.ExpanderSteps.{held-open, settled-as}
-use Rattle.crx_engine.proofs.EngineLemmas.{failed-at}
+use Rattle.crx_engine.proofs.steps.ExpanderSteps.{held-open, settled-as}
+use Rattle.crx_engine.proofs.steps.EngineLemmas.{failed-at}
 use Rattle.crx_engine.specs.Directions.{expansion_filter}
-use Rattle.crx_engine.proofs.DirectionSteps.{expansion-goes}
-use Rattle.crx_engine.proofs.EngineAnswers.{concludes}
+use Rattle.crx_engine.proofs.following.DirectionSteps.{expansion-goes}
+use Rattle.crx_engine.proofs.steps.EngineAnswers.{concludes}
 use Rattle.crx_engine.proofs.expander.Expander.end.Goals as goal
 
 pub returns-clause-ends : goal.returns-clause-ends
@@ -23,24 +23,41 @@ returns-clause-ends c =
     let s = c.after_end-settled.result in
     let reader = c.settle.new.self in
     let held = open_in self.reader.columns in
-    let at : IsAt {O = OpenRawEpoch} {K = Option Tail} (seen_by self) held self.reader.stage c.value-number.result c.skip.result = record { is_phase = refl; is_open = held-open self.reader.stage self.reader.columns self.reader.consistent; is_count = sym c.value-number.ensures.value; is_skip = sym c.skip.ensures } in
-    let after = seen_with self.options s.number reader in
-    ap (λ (n : ℕ). step_made s.answer self.lines (seen_with self.options n reader)) c.of-self.ensures
+    let at : IsAt {O = OpenRawEpoch} {K = Option Tail}
+    (expander_state self) held self.reader.stage c.value-number.result c.skip.result =
+    record {
+      is_phase = refl;
+      is_open = held-open self.reader.stage self.reader.columns self.reader.consistent;
+      is_count = sym c.value-number.ensures.value;
+      is_skip = sym c.skip.ensures;
+    } in
+    let after = compact_reader_state self.options s.number reader in
+    ap (λ (n : ℕ). step_made s.answer self.lines (compact_reader_state self.options n reader)) c.of-self.ensures
     ∙ ap (λ (l : List (List ℕ)). step_made s.answer l after) c.requires.drained
-    ∙ settled-as (seen_by self) (open_in reader.columns) s self.options reader.stage reader.types (tail_held reader.columns) refl c.settle.ensures.stage c.settle.ensures.types c.settle.ensures.tail
-    ∙ c.after_end-settled.ensures.expansion (seen_by self) held (open_in reader.columns) at
+    ∙ settled-as (expander_state self) (open_in reader.columns) s self.options reader.stage reader.types
+    (tail_held reader.columns) refl c.settle.ensures.stage c.settle.ensures.types c.settle.ensures.tail
+    ∙ c.after_end-settled.ensures.expansion (expander_state self) held (open_in reader.columns) at
 
 pub returns-clause-repeated : goal.returns-clause-repeated
 returns-clause-repeated c = λ (at : At) (is : c.args.self.now.reader.stage ≡ Ended at).
     let self = c.args.self.now in
     let held = open_in self.reader.columns in
-    let known : IsAt {O = OpenRawEpoch} {K = Option Tail} (seen_by self) held self.reader.stage c.value-number.result c.skip.result = record { is_phase = refl; is_open = held-open self.reader.stage self.reader.columns self.reader.consistent; is_count = sym c.value-number.ensures.value; is_skip = sym c.skip.ensures } in
-    let step = c.after_end-settled.ensures.expansion (seen_by self) held None known in
+    let known : IsAt {O = OpenRawEpoch} {K = Option Tail}
+    (expander_state self) held self.reader.stage c.value-number.result c.skip.result =
+    record {
+      is_phase = refl;
+      is_open = held-open self.reader.stage self.reader.columns self.reader.consistent;
+      is_count = sym c.value-number.ensures.value;
+      is_skip = sym c.skip.ensures;
+    } in
+    let step = c.after_end-settled.ensures.expansion (expander_state self) held None known in
     failed-at c.after_end-settled.result.answer at
-    (ap (λ (s : Step OpenRawEpoch (Option Tail)). s.answer) step ∙ ap (λ (stage : Stage). (seen_end expansion (seen_in self.options self.number self.reader stage)).answer) is)
+    (ap (λ (s : Step OpenRawEpoch (Option Tail)). s.answer) step
+    ∙ ap (λ (stage : Stage). (seen_end expansion (seen_in self.options self.number self.reader stage)).answer) is)
 
 pub returns-clause-concludes : goal.returns-clause-concludes
 returns-clause-concludes c = λ lines taken.
     let self = c.args.self.now in
     let choices = self.options in
-    concludes expansion (expansion_seen choices) (expansion_filter choices) (expansion-goes choices) (seen_by self) _ lines _ _ taken (returns-clause-ends c)
+    concludes expansion (expansion_seen choices) (expansion_filter choices)
+    (expansion-goes choices) (expander_state self) _ lines _ _ taken (returns-clause-ends c)

@@ -1,24 +1,33 @@
 use Rattle.std.proofs.Common.{rules, List, ℕ, Option, refl, sym, ap, ◌∙◌}
-use Rattle.crx_lines.specs.Seen.{Overlong}
+use Rattle.crx_lines.specs.meaning.Seen.{Overlong}
 use Rattle.crx_compact.specs.OpenEpochs.{OpenRawEpoch, tail_held}
 use Rattle.crx_compact.specs.Tails.{Tail}
 use Rattle.crx_engine.specs.CompactStages.{open_in}
 use Rattle.crx_engine.specs.EngineSteps.{IsAt, step_made}
-use Rattle.crx_engine.specs.Expander.{expansion}
-use Rattle.crx_engine.specs.Expanding.{seen_by}
-use Rattle.crx_engine.specs.LineByLine.{step_of}
-use Rattle.crx_engine.proofs.ExpanderSteps.{held-open, too-long}
+use Rattle.crx_engine.specs.ExpansionByLine.{expansion}
+use Rattle.crx_engine.specs.ExpanderState.{expander_state}
+use Rattle.crx_engine.specs.LineByLine.{step_of_made}
+use Rattle.crx_engine.proofs.steps.ExpanderSteps.{held-open, too-long}
 use Rattle.crx_engine.proofs.expander.Expander.pass.Goals as goal
 
 pub returns : goal.returns
 returns c =
     let self = c.args.self.now in
     let held = open_in self.reader.columns in
-    let at : IsAt {O = OpenRawEpoch} {K = Option Tail} (seen_by self) held self.reader.stage self.number self.options.skip = record { is_phase = refl; is_open = held-open self.reader.stage self.reader.columns self.reader.consistent; is_count = refl; is_skip = refl } in
-    let failed = c.fail.ensures.fails (seen_by self) held Overlong at refl refl refl in
+    let at : IsAt {O = OpenRawEpoch} {K = Option Tail} (expander_state self)
+    held self.reader.stage self.number self.options.skip = record {
+      is_phase = refl;
+      is_open = held-open
+          self.reader.stage self.reader.columns self.reader.consistent;
+      is_count = refl;
+      is_skip = refl;
+    } in
+    let failed = c.fail.ensures.fails (expander_state self) held Overlong at refl refl refl in
     record {
-      steps = ap (λ (l : List (List ℕ)). step_made c.fail.result l (seen_by c.fail.new.self)) c.fail.ensures.drained ∙ failed
-          ∙ ap (step_of expansion (seen_by self) Overlong) (sym (too-long self.reader.stage held self.reader.types (tail_held self.reader.columns) (sym c.is_settled.ensures ∙ c.if-is_settled.false)));
+      steps = ap (λ (l : List (List ℕ)). step_made c.fail.result l (expander_state c.fail.new.self))
+          c.fail.ensures.drained ∙ failed
+          ∙ ap (step_of_made expansion (expander_state self) Overlong) (sym (too-long self.reader.stage held
+          self.reader.types (tail_held self.reader.columns) (sym c.is_settled.ensures ∙ c.if-is_settled.false)));
       options = c.fail.ensures.options;
       drained = search rules;
       ended = c.fail.ensures.ended;

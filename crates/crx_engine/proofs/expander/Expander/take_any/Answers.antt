@@ -1,11 +1,11 @@
 use Rattle.std.proofs.Common.{rules, Option, refl, sym}
 use Rattle.crx_compact.specs.OpenEpochs.{OpenRawEpoch}
 use Rattle.crx_compact.specs.Tails.{Tail}
-use Rattle.crx_lines.specs.Seen.{Content}
+use Rattle.crx_lines.specs.meaning.Seen.{Content}
 use Rattle.crx_engine.specs.CompactStages.{open_in}
 use Rattle.crx_engine.specs.EngineSteps.{IsAt}
-use Rattle.crx_engine.specs.Expanding.{seen_by}
-use Rattle.crx_engine.proofs.ExpanderSteps.{held-open, refused-line}
+use Rattle.crx_engine.specs.ExpanderState.{expander_state}
+use Rattle.crx_engine.proofs.steps.ExpanderSteps.{held-open, refused-line}
 use Rattle.crx_engine.proofs.expander.Expander.take_any.Goals as goal
 
 pub returns-in-Err-clause-steps : goal.returns-in-Err-clause-steps
@@ -13,9 +13,19 @@ returns-in-Err-clause-steps c =
     let self = c.args.self.now in
     let line = c.args.line.now in
     let held = open_in self.reader.columns in
-    let at : IsAt {O = OpenRawEpoch} {K = Option Tail} (seen_by self) held self.reader.stage self.number self.options.skip = record { is_phase = refl; is_open = held-open self.reader.stage self.reader.columns self.reader.consistent; is_count = refl; is_skip = refl } in
-    let failed = c.fail.ensures.fails (seen_by self) held (Content line) at refl (sym c.in-Err.ensures.types) (sym c.begins_epoch.ensures) in
-    refused-line (seen_by self) (seen_by c.fail.new.self) line c.in-Err.fault c.fail.result c.fail.new.self.lines failed c.fail.ensures.drained c.fail.ensures.fatal c.in-Err.ensures.refuses
+    let at : IsAt {O = OpenRawEpoch} {K = Option Tail} (expander_state self)
+    held self.reader.stage self.number self.options.skip = record {
+      is_phase = refl;
+      is_open = held-open
+          self.reader.stage self.reader.columns self.reader.consistent;
+      is_count = refl;
+      is_skip = refl;
+    } in
+    let failed = c.fail.ensures.fails
+    (expander_state self) held (Content line) at refl (sym c.in-Err.ensures.types) (sym c.begins_epoch.ensures) in
+    refused-line (expander_state self) (expander_state c.fail.new.self) line c.in-Err.fault
+    c.fail.result c.fail.new.self.lines failed c.fail.ensures.drained c.fail.ensures.fatal c.in-Err.ensures.refuses
 
 pub returns-in-Ok-clause-steps : goal.returns-in-Ok-clause-steps
-returns-in-Ok-clause-steps c = rw (c.make_ready.ensures.same c.args.self.now.options c.go_on-in-Ok.new.self, c.go_on-in-Ok.ensures) (search rules)
+returns-in-Ok-clause-steps c =
+    rw (c.make_ready.ensures.same c.args.self.now.options c.go_on-in-Ok.new.self, c.go_on-in-Ok.ensures) (search rules)

@@ -1,13 +1,13 @@
 use Rattle.std.proofs.Common.{◌≡◌, ◌∙◌, true, Option, refl, sym, ap, subst}
 use Rattle.crx_compact.specs.OpenEpochs.{OpenRawEpoch}
 use Rattle.crx_compact.specs.Tails.{Tail}
-use Rattle.crx_lines.specs.Seen.{Content}
+use Rattle.crx_lines.specs.meaning.Seen.{Content}
 use Rattle.crx_engine.specs.CompactStages.{open_in}
 use Rattle.crx_engine.specs.EngineSteps.{IsAt, is_held, seen_stage}
-use Rattle.crx_engine.specs.Expanding.{seen_by}
+use Rattle.crx_engine.specs.ExpanderState.{expander_state}
 use Rattle.crx_engine.specs.declared.stage.Stage.{Stage}
 use Rattle.crx_engine.specs.declared.stage.Stage.TheVariants.{Ended, Open}
-use Rattle.crx_engine.proofs.ExpanderSteps.{held-open, refused-line}
+use Rattle.crx_engine.proofs.steps.ExpanderSteps.{held-open, refused-line}
 use Rattle.crx_engine.proofs.expander.Expander.take_line.Goals as goal
 
 pub returns-in-Ok-true-clause-repeated : goal.returns-in-Ok-true-clause-repeated
@@ -20,6 +20,15 @@ returns-in-Err-clause-steps c =
     let self = c.args.self.now in
     let line = c.args.line.now in
     let held = open_in self.reader.columns in
-    let at : IsAt {O = OpenRawEpoch} {K = Option Tail} (seen_by self) held Open self.number self.options.skip = record { is_phase = ap (seen_stage held) c.in-Err.ensures.refused_open; is_open = subst (λ (stage : Stage). is_held stage held ≡ true) c.in-Err.ensures.refused_open (held-open self.reader.stage self.reader.columns self.reader.consistent); is_count = refl; is_skip = refl } in
-    let failed = c.fail-self.ensures.fails (seen_by self) held (Content line) at refl (sym c.in-Err.ensures.types) (sym c.begins_epoch.ensures) in
-    refused-line (seen_by self) (seen_by c.fail-self.new.self) line c.in-Err.fault c.fail-self.result c.fail-self.new.self.lines failed c.fail-self.ensures.drained c.fail-self.ensures.fatal c.in-Err.ensures.refuses
+    let at : IsAt {O = OpenRawEpoch} {K = Option Tail} (expander_state self) held Open self.number self.options.skip =
+    record {
+      is_phase = ap (seen_stage held) c.in-Err.ensures.refused_open;
+      is_open = subst (λ (stage : Stage). is_held stage held ≡ true) c.in-Err.ensures.refused_open
+          (held-open self.reader.stage self.reader.columns self.reader.consistent);
+      is_count = refl;
+      is_skip = refl;
+    } in
+    let failed = c.fail-self.ensures.fails
+    (expander_state self) held (Content line) at refl (sym c.in-Err.ensures.types) (sym c.begins_epoch.ensures) in
+    refused-line (expander_state self) (expander_state c.fail-self.new.self) line c.in-Err.fault c.fail-self.result
+    c.fail-self.new.self.lines failed c.fail-self.ensures.drained c.fail-self.ensures.fatal c.in-Err.ensures.refuses

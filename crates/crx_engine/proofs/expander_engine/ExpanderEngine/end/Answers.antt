@@ -1,9 +1,9 @@
 use Rattle.crx_engine.specs.Directions.{expansion_filter}
-use Rattle.crx_engine.specs.Expander.{expansion, expansion_seen}
-use Rattle.crx_engine.specs.Expanding.{seen_by}
-use Rattle.crx_engine.proofs.DirectionSteps.{expansion-goes}
-use Rattle.crx_engine.proofs.EngineAnswers.{concludes}
-use Rattle.crx_engine.proofs.StepCounts.{none-drained}
+use Rattle.crx_engine.specs.ExpansionByLine.{expansion, expansion_seen}
+use Rattle.crx_engine.specs.ExpanderState.{expander_state}
+use Rattle.crx_engine.proofs.following.DirectionSteps.{expansion-goes}
+use Rattle.crx_engine.proofs.steps.EngineAnswers.{concludes}
+use Rattle.crx_engine.proofs.steps.StepCounts.{none-drained}
 use Rattle.crx_engine.proofs.expander_engine.ExpanderEngine.end.Goals as goal
 
 pub returns-clause-drained : goal.returns-clause-drained
@@ -14,4 +14,5 @@ returns-clause-concludes c = λ lines shown.
     let self = c.args.self.now in
     let new = c.end.new.self in
     let choices = self.options in
-    concludes expansion (expansion_seen choices) (expansion_filter choices) (expansion-goes choices) (seen_by self) (seen_by new) lines new.lines c.end.result shown.0 c.end.ensures.ends
+    concludes expansion (expansion_seen choices) (expansion_filter choices) (expansion-goes choices)
+    (expander_state self) (expander_state new) lines new.lines c.end.result shown.0 c.end.ensures.ends

@@ -1,6 +1,7 @@
-use Rattle.std.proofs.Common.{◌≡◌, ℕ, true, not, ◌+◌, ◌<◌, List, inr, length, take, drop, slice_index, slice_range, subst, sym, ap, ◌∙◌, refl, arith}
-use Rattle.crx_lines.specs.Lines.{without_return, ends_with_return}
-use Rattle.crx_lines.specs.Reading.{Reading}
+use Rattle.std.proofs.Common.{◌≡◌, ℕ, true, not, ◌+◌, ◌<◌, List, inr, length, take, drop, slice_index, slice_range}
+use Rattle.std.proofs.Common.{subst, sym, ap, ◌∙◌, refl, arith}
+use Rattle.crx_lines.specs.meaning.Lines.{without_return, ends_with_return}
+use Rattle.crx_lines.specs.Reading.{ReaderState}
 use Rattle.crx_lines.specs.Readers.{reading}
 use Rattle.crx_lines.specs.Window.{kept}
 use Rattle.crx_lines.specs.declared.limits.TheConstants.{LINE_LIMIT}
@@ -18,14 +19,35 @@ returns-then-place-gt-LINE_LIMIT-clause-answers g c =
     let gave = λ (given : List ℕ). g.R.Source.gave c.args.reader.now given c.args.reader.now in
     let at_end = g.R.Source.at_end c.args.reader.now in
     let inside : len < length held = subst (λ (l : List ℕ). len < length l) shown c.in-Some.ensures.within.1 in
-    let feed : slice_index held len ≡ 10 = subst (λ (l : List ℕ). slice_index l len ≡ 10) shown c.in-Some.ensures.found in
-    let s = Seeking-searched gave held held 0 0 0 0 len (Seeking-start gave held 0 (g.met.R.Source.gave_none c.args.reader.now)) (omega (arith, inside))
+    let feed : slice_index held len ≡ 10 =
+    subst (λ (l : List ℕ). slice_index l len ≡ 10) shown c.in-Some.ensures.found in
+    let s = Seeking-searched gave held held 0 0 0 0 len
+    (Seeking-start gave held 0 (g.met.R.Source.gave_none c.args.reader.now)) (omega (arith, inside))
     (λ k low high. subst (λ (l : List ℕ). slice_index l k ≡ 10 → ⊥) shown (c.in-Some.ensures.first k low high)) in
-    let after : Reading = record { rest = kept c.pass.new.self; lent = old.lent + (len + 1); number = old.number + 1; phase = old.phase } in
+    let after : ReaderState = record {
+      rest = kept c.pass.new.self;
+      lent = old.lent + (len + 1);
+      number = old.number + 1;
+      phase = old.phase;
+    } in
     let now = c.pass.ensures.kept ∙ ap (λ w. drop (len + 1) (kept w)) c.deref_mut.ensures.value in
     let content = slice_range c.deref-2.result.now.bytes.items c.content-place.result.from c.content-place.result.to in
-    let long : LINE_LIMIT < length content = let over = c.if-place-gt-LINE_LIMIT.true in let e = c.content-place.ensures.len in omega (arith, over, e) in
-    (s.given, s.lead, (piece_at s.front held len true, takes gave held held 0 0 0 len at_end s true (inside, feed) (inr refl) (reading old) after (len + 1) refl refl now (omega arith) (let limit = old.limit in omega (arith, limit)) refl c.requires, content-long gave held held 0 0 0 len at_end s true content (c.content-place.ensures.value ∙ ap (λ w. without_return (take len (kept w))) c.deref-2.ensures) (inr long), refl, tally-line true _ _ _ _ refl refl))
+    let long : LINE_LIMIT < length content = let over =
+    c.if-place-gt-LINE_LIMIT.true in let e = c.content-place.ensures.len in omega (arith, over, e) in (
+      s.given,
+      s.lead,
+      (
+        piece_at s.front held len true,
+        takes gave held held 0 0 0 len at_end s true
+            (inside, feed) (inr refl) (reading old) after (len + 1) refl refl now (omega arith) (let limit = old.limit in
+            omega (arith, limit)) refl c.requires,
+        content-long gave held held 0 0 0 len at_end s true content
+            (c.content-place.ensures.value ∙ ap (λ w. without_return (take len (kept w))) c.deref-2.ensures)
+            (inr long),
+        refl,
+        tally-line true _ _ _ _ refl refl,
+      ),
+    )
 
 pub returns-clause-answers : goal.returns-clause-answers
 returns-clause-answers g c =
@@ -37,13 +59,35 @@ returns-clause-answers g c =
     let gave = λ (given : List ℕ). g.R.Source.gave c.args.reader.now given c.args.reader.now in
     let at_end = g.R.Source.at_end c.args.reader.now in
     let inside : len < length held = subst (λ (l : List ℕ). len < length l) shown c.in-Some.ensures.within.1 in
-    let feed : slice_index held len ≡ 10 = subst (λ (l : List ℕ). slice_index l len ≡ 10) shown c.in-Some.ensures.found in
-    let s = Seeking-searched gave held held 0 0 0 0 len (Seeking-start gave held 0 (g.met.R.Source.gave_none c.args.reader.now)) (omega (arith, inside))
+    let feed : slice_index held len ≡ 10 =
+    subst (λ (l : List ℕ). slice_index l len ≡ 10) shown c.in-Some.ensures.found in
+    let s = Seeking-searched gave held held 0 0 0 0 len
+    (Seeking-start gave held 0 (g.met.R.Source.gave_none c.args.reader.now)) (omega (arith, inside))
     (λ k low high. subst (λ (l : List ℕ). slice_index l k ≡ 10 → ⊥) shown (c.in-Some.ensures.first k low high)) in
-    let after : Reading = record { rest = kept c.pass.new.self; lent = old.lent + (len + 1); number = old.number + 1; phase = old.phase } in
+    let after : ReaderState = record {
+      rest = kept c.pass.new.self;
+      lent = old.lent + (len + 1);
+      number = old.number + 1;
+      phase = old.phase;
+    } in
     let now = c.pass.ensures.kept ∙ ap (λ w. drop (len + 1) (kept w)) c.deref_mut.ensures.value in
     let bytes = c.pass.ensures.bytes ∙ ap (λ w. w.bytes.items) (c.deref_mut.ensures.value ∙ sym c.deref-2.ensures) in
-    let content = ap (λ l. slice_range l place.from place.to) bytes ∙ c.content-place.ensures.value ∙ ap (λ w. without_return (take len (kept w))) c.deref-2.ensures in
-    let returns = c.content-place.ensures.has_return ∙ ap (λ w. ends_with_return (take len (kept w))) c.deref-2.ensures in
-    let whole = whole-piece gave held held 0 0 0 len at_end s refl in
-    (s.given, s.lead, (piece_at s.front held len true, takes gave held held 0 0 0 len at_end s true (inside, feed) (inr refl) (reading old) after (len + 1) refl refl now (omega arith) (let limit = old.limit in omega (arith, limit)) refl c.requires, shown-line s.front (take len held) (slice_range c.pass.new.self.bytes.items place.from place.to) true place.has_return (not place.has_return) whole content returns refl, refl, tally-line true _ _ _ _ refl refl))
+    let content = ap (λ l. slice_range l place.from place.to) bytes
+    ∙ c.content-place.ensures.value ∙ ap (λ w. without_return (take len (kept w))) c.deref-2.ensures in
+    let returns = c.content-place.ensures.has_return
+    ∙ ap (λ w. ends_with_return (take len (kept w))) c.deref-2.ensures in
+    let whole = whole-piece gave held held 0 0 0 len at_end s refl in (
+      s.given,
+      s.lead,
+      (
+        piece_at s.front held len true,
+        takes gave held held 0 0 0 len at_end s true
+            (inside, feed) (inr refl) (reading old) after (len + 1) refl refl now (omega arith) (let limit = old.limit in
+            omega (arith, limit)) refl c.requires,
+        shown-line s.front
+            (take len held) (slice_range c.pass.new.self.bytes.items place.from place.to) true place.has_return
+            (not place.has_return) whole content returns refl,
+        refl,
+        tally-line true _ _ _ _ refl refl,
+      ),
+    )

@@ -1,4 +1,5 @@
-use Rattle.std.proofs.Common.{◌≡◌, ◌≤◌, ◌+◌, ◌-◌, ◌++◌, List, ℕ, length, take, drop, ap, sym, ◌∙◌, arith, length-take-le}
+use Rattle.std.proofs.Common.{◌≡◌, ◌≤◌, ◌+◌, ◌-◌, ◌++◌, List, ℕ, length, take, drop, ap, sym, ◌∙◌, arith}
+use Rattle.std.proofs.Common.{length-take-le}
 use Rattle.std.proofs.lemmas.List.{take_at}
 use borrow.Rule.Slice.PartMut.{put_mid, same_len_mid}
 use Rattle.crx_lines.proofs.WindowLemmas.{grown, unread}
@@ -11,12 +12,18 @@ returns-in-Ok-clause-ok g c =
     let bytes = c.deref_mut.result.now in
     let room : ℕ = w.end + c.min-room.result - w.end in
     let within : w.end ≤ length w.bytes.items = omega (arith, w.within, w.whole) in
-    let long : length (put_mid w.end room bytes c.read.new.buffer) ≡ w.bytes.len = same_len_mid w.end room bytes c.read.new.buffer c.read.auto.buffer ∙ c.deref_mut.ensures.len in
+    let long : length (put_mid w.end room bytes c.read.new.buffer) ≡ w.bytes.len =
+    same_len_mid w.end room bytes c.read.new.buffer c.read.auto.buffer ∙ c.deref_mut.ensures.len in
     let more = take n c.read.new.buffer in
-    rw (take_at (put_mid w.end room bytes c.read.new.buffer) (drop (length (put_mid w.end room bytes c.read.new.buffer)) w.bytes.items) w.bytes.len long, c.deref_mut.ensures.value) (
+    rw (
+      take_at (put_mid w.end room bytes c.read.new.buffer) (drop (length
+          (put_mid w.end room bytes c.read.new.buffer)) w.bytes.items) w.bytes.len long,
+      c.deref_mut.ensures.value,
+    ) (
       more,
       length-take-le n c.read.new.buffer c.in-Ok.ensures.bound,
-      grown w.bytes.items c.read.new.buffer w.start w.end _ n w.ordered within c.in-Ok.ensures.bound ∙ ap (λ l. l ++ more) c.make_room.ensures.kept,
+      grown w.bytes.items c.read.new.buffer w.start w.end _ n w.ordered within c.in-Ok.ensures.bound
+          ∙ ap (λ l. l ++ more) c.make_room.ensures.kept,
       c.in-Ok.ensures.bytes,
     )
 
@@ -26,6 +33,11 @@ returns-in-Err-clause-kept g c =
     let bytes = c.deref_mut.result.now in
     let room : ℕ = w.end + c.min-room.result - w.end in
     let within : w.end ≤ length w.bytes.items = omega (arith, w.within, w.whole) in
-    let long : length (put_mid w.end room bytes c.read.new.buffer) ≡ w.bytes.len = same_len_mid w.end room bytes c.read.new.buffer c.read.auto.buffer ∙ c.deref_mut.ensures.len in
-    rw (take_at (put_mid w.end room bytes c.read.new.buffer) (drop (length (put_mid w.end room bytes c.read.new.buffer)) w.bytes.items) w.bytes.len long, c.deref_mut.ensures.value)
+    let long : length (put_mid w.end room bytes c.read.new.buffer) ≡ w.bytes.len =
+    same_len_mid w.end room bytes c.read.new.buffer c.read.auto.buffer ∙ c.deref_mut.ensures.len in
+    rw (
+      take_at (put_mid w.end room bytes c.read.new.buffer) (drop (length
+          (put_mid w.end room bytes c.read.new.buffer)) w.bytes.items) w.bytes.len long,
+      c.deref_mut.ensures.value,
+    )
     (unread w.bytes.items c.read.new.buffer w.start w.end _ w.ordered within ∙ c.make_room.ensures.kept)

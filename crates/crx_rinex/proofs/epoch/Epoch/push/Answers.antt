@@ -1,7 +1,9 @@
-use Rattle.std.proofs.Common.{◌≡◌, ◌<◌, ◌+◌, List, ap, sym, ◌∙◌, take, not, true, false, length, ◌++◌, ◌∷◌, [], refl, subst, inl, inr, arith}
+use Rattle.std.proofs.Common.{◌≡◌, ◌<◌, ◌+◌, List, ap, sym, ◌∙◌, take, not, true, false, length, ◌++◌, ◌∷◌, [], refl}
+use Rattle.std.proofs.Common.{subst, inl, inr, arith}
 use Rattle.std.proofs.lemmas.List.{length_push, take_all, take_more_set}
-use Rattle.crx_rinex.specs.Observations.{Row, Epoch}
-use Rattle.crx_rinex.specs.Epochs.{has_satellite, is_full_epoch, with_row, IsSoundEpoch}
+use Rattle.crx_rinex.specs.meaning.Observations.{Row, Epoch}
+use Rattle.crx_rinex.specs.meaning.Epochs.{has_satellite, IsSoundEpoch}
+use Rattle.crx_rinex.specs.Epochs.{is_full_epoch, with_row}
 use Rattle.crx_rinex.proofs.Rows.{by_names, names-long, names-next, sound-pushed, sound-put}
 use Rattle.crx_rinex.proofs.epoch.Epoch.push.Goals as goal
 
@@ -9,15 +11,18 @@ pub returns-in-Ok-false-clause-refused : goal.returns-in-Ok-false-clause-refused
 returns-in-Ok-false-clause-refused c =
     inl (
       refl,
-      by_names c.args.self.now c.self.inside.names c.self.inside.rows.items c.self.inside.count c.args.row.name c.name.result true c.name.ensures.value
-          (ap (λ (e : Epoch). e.rows) c.self.view_is) c.self.invariant.4 (c.in-Ok-false.ensures.new ∙ ap not c.in-Ok-false.field-0-test),
+      by_names c.args.self.now c.self.inside.names
+          c.self.inside.rows.items c.self.inside.count c.args.row.name c.name.result true c.name.ensures.value
+          (ap (λ (e : Epoch). e.rows) c.self.view_is) c.self.invariant.4 (c.in-Ok-false.ensures.new
+          ∙ ap not c.in-Ok-false.field-0-test),
     )
 
 pub returns-in-Err-clause-refused : goal.returns-in-Err-clause-refused
 returns-in-Err-clause-refused c =
     inr (
       refl,
-      by_names c.args.self.now c.self.inside.names c.self.inside.rows.items c.self.inside.count c.args.row.name c.name.result false c.name.ensures.value
+      by_names c.args.self.now c.self.inside.names
+          c.self.inside.rows.items c.self.inside.count c.args.row.name c.name.result false c.name.ensures.value
           (ap (λ (e : Epoch). e.rows) c.self.view_is) c.self.invariant.4 c.in-Err.ensures.err,
     )
 
@@ -25,8 +30,10 @@ pub returns-in-Err-push-clause-refused : goal.returns-in-Err-push-clause-refused
 returns-in-Err-push-clause-refused c =
     inr (
       refl,
-      by_names c.args.self.now c.self.inside.names c.self.inside.rows.items c.self.inside.count c.args.row.name c.name.result false c.name.ensures.value
-          (ap (λ (e : Epoch). e.rows) c.self.view_is) c.self.invariant.4 (c.in-Ok-true.ensures.new ∙ ap not c.in-Ok-true.field-0-test),
+      by_names c.args.self.now c.self.inside.names
+          c.self.inside.rows.items c.self.inside.count c.args.row.name c.name.result false c.name.ensures.value
+          (ap (λ (e : Epoch). e.rows) c.self.view_is) c.self.invariant.4 (c.in-Ok-true.ensures.new
+          ∙ ap not c.in-Ok-true.field-0-test),
     )
 
 pub invariant_of-self-then-self-len : goal.invariant_of-self-then-self-len
@@ -35,32 +42,44 @@ invariant_of-self-then-self-len c =
     let rows = c.self.inside.rows.items in
     let count = c.self.inside.count in
     let names = c.self.inside.names in
-    let within : count < length rows = let a = c.if-self-len.true in let b = c.self.inside.rows.ok.0 in let e = c.len.ensures in omega (arith, a, b, e) in
+    let within : count < length rows = let a =
+    c.if-self-len.true in let b = c.self.inside.rows.ok.0 in let e = c.len.ensures in omega (arith, a, b, e) in
     let next = c.in-Ok-true.ensures.next c.in-Ok-true.field-0-test in
-    let new : has_satellite c.args.row.name (take count rows) ≡ false = by_names (record { head = head.head; clock = head.clock; rows = take count rows }) names rows count c.args.row.name c.name.result false c.name.ensures.value
+    let new : has_satellite c.args.row.name (take count rows) ≡ false =
+    by_names (record {
+      head = head.head;
+      clock = head.clock;
+      rows = take count rows;
+    }) names rows count c.args.row.name c.name.result false c.name.ensures.value
     refl c.self.invariant.4 (c.in-Ok-true.ensures.new ∙ ap not c.in-Ok-true.field-0-test) in
     let grown = c.put_row.ensures.within in
     let put = c.put_row.ensures.rows (count + 1) (omega (arith, within)) in (
       subst (λ (rs : List Row). IsSoundEpoch (record { head = head.head; clock = head.clock; rows = rs })) (sym put)
-          (sound-put head.head head.clock rows count c.args.row c.self.invariant.0 within c.name.ensures.sound (ap is_full_epoch c.self.view_is ∙ c.requires) new),
+          (sound-put head.head head.clock rows count c.args.row c.self.invariant.0 within c.name.ensures.sound
+          (ap is_full_epoch c.self.view_is ∙ c.requires) new),
       omega (arith, within, grown),
       c.self.invariant.2,
       names-long names c.put.new.self count c.name.result c.self.invariant.3 next,
-      names-next names c.put.new.self rows c.put_row.new.rows.items count c.args.row c.name.result c.name.ensures.value c.self.invariant.4 next (put ∙ take_more_set rows count c.args.row within),
+      names-next names c.put.new.self rows c.put_row.new.rows.items count c.args.row
+          c.name.result c.name.ensures.value c.self.invariant.4 next (put ∙ take_more_set rows count c.args.row within),
     )
 
 pub returns-then-self-len-clause-ok : goal.returns-then-self-len-clause-ok
 returns-then-self-len-clause-ok c =
     let rows = c.self.inside.rows.items in
     let count = c.self.inside.count in
-    let within : count < length rows = let a = c.if-self-len.true in let b = c.self.inside.rows.ok.0 in let e = c.len.ensures in omega (arith, a, b, e) in
-    ap (λ (rs : List Row). record { head = c.self.inside.head.head; clock = c.self.inside.head.clock; rows = rs }) (c.put_row.ensures.rows (count + 1) (omega (arith, within)) ∙ take_more_set rows count c.args.row within)
+    let within : count < length rows = let a =
+    c.if-self-len.true in let b = c.self.inside.rows.ok.0 in let e = c.len.ensures in omega (arith, a, b, e) in
+    ap (λ (rs : List Row). record { head = c.self.inside.head.head; clock = c.self.inside.head.clock; rows = rs })
+    (c.put_row.ensures.rows (count + 1) (omega (arith, within)) ∙ take_more_set rows count c.args.row within)
     ∙ ap (λ (e : Epoch). with_row e c.args.row) c.self.view_is
 
 pub returns-then-self-len-clause-new : goal.returns-then-self-len-clause-new
 returns-then-self-len-clause-new c =
-    by_names c.args.self.now c.self.inside.names c.self.inside.rows.items c.self.inside.count c.args.row.name c.name.result false c.name.ensures.value
-    (ap (λ (e : Epoch). e.rows) c.self.view_is) c.self.invariant.4 (c.in-Ok-true.ensures.new ∙ ap not c.in-Ok-true.field-0-test)
+    by_names c.args.self.now c.self.inside.names
+    c.self.inside.rows.items c.self.inside.count c.args.row.name c.name.result false c.name.ensures.value
+    (ap (λ (e : Epoch). e.rows) c.self.view_is) c.self.invariant.4 (c.in-Ok-true.ensures.new
+    ∙ ap not c.in-Ok-true.field-0-test)
 
 pub invariant_of-self-2 : goal.invariant_of-self-2
 invariant_of-self-2 c =
@@ -68,21 +87,32 @@ invariant_of-self-2 c =
     let rows = c.self.inside.rows.items in
     let count = c.self.inside.count in
     let names = c.self.inside.names in
-    let long : count ≡ length rows = let a = c.if-self-len.false in let b = c.self.inside.rows.ok.0 in let e = c.len.ensures in let f = c.self.invariant.1 in omega (arith, a, b, e, f) in
+    let long : count ≡ length rows = let a = c.if-self-len.false in let b =
+    c.self.inside.rows.ok.0 in let e = c.len.ensures in let f = c.self.invariant.1 in omega (arith, a, b, e, f) in
     let next = c.in-Ok-true.ensures.next c.in-Ok-true.field-0-test in
-    let new : has_satellite c.args.row.name (take count rows) ≡ false = by_names (record { head = head.head; clock = head.clock; rows = take count rows }) names rows count c.args.row.name c.name.result false c.name.ensures.value
+    let new : has_satellite c.args.row.name (take count rows) ≡ false =
+    by_names (record {
+      head = head.head;
+      clock = head.clock;
+      rows = take count rows;
+    }) names rows count c.args.row.name c.name.result false c.name.ensures.value
     refl c.self.invariant.4 (c.in-Ok-true.ensures.new ∙ ap not c.in-Ok-true.field-0-test) in
     let all : take (count + 1) (rows ++ c.args.row ∷ []) ≡ take count rows ++ c.args.row ∷ [] =
-    take_all (count + 1) (rows ++ c.args.row ∷ []) (omega (arith, long, length_push rows c.args.row)) ∙ ap (λ (rs : List Row). rs ++ c.args.row ∷ []) (sym (take_all count rows (omega (arith, long)))) in
+    take_all (count + 1) (rows ++ c.args.row ∷ []) (omega (arith, long, length_push rows c.args.row))
+    ∙ ap (λ (rs : List Row). rs ++ c.args.row ∷ []) (sym (take_all count rows (omega (arith, long)))) in
     rw c.in_default.ensures.items (
-      sound-pushed head.head head.clock rows count c.args.row c.self.invariant.0 long c.name.ensures.sound (ap is_full_epoch c.self.view_is ∙ c.requires) new,
+      sound-pushed head.head head.clock rows count c.args.row c.self.invariant.0 long c.name.ensures.sound
+          (ap is_full_epoch c.self.view_is ∙ c.requires) new,
       omega (arith, long, length_push rows c.args.row),
       c.self.invariant.2,
       names-long names c.put.new.self count c.name.result c.self.invariant.3 next,
-      names-next names c.put.new.self rows (rows ++ c.args.row ∷ []) count c.args.row c.name.result c.name.ensures.value c.self.invariant.4 next all,
+      names-next names c.put.new.self rows
+          (rows ++ c.args.row ∷ []) count c.args.row c.name.result c.name.ensures.value c.self.invariant.4 next all,
     )
 
 pub returns-clause-new : goal.returns-clause-new
 returns-clause-new c =
-    by_names c.args.self.now c.self.inside.names c.self.inside.rows.items c.self.inside.count c.args.row.name c.name.result false c.name.ensures.value
-    (ap (λ (e : Epoch). e.rows) c.self.view_is) c.self.invariant.4 (c.in-Ok-true.ensures.new ∙ ap not c.in-Ok-true.field-0-test)
+    by_names c.args.self.now c.self.inside.names
+    c.self.inside.rows.items c.self.inside.count c.args.row.name c.name.result false c.name.ensures.value
+    (ap (λ (e : Epoch). e.rows) c.self.view_is) c.self.invariant.4 (c.in-Ok-true.ensures.new
+    ∙ ap not c.in-Ok-true.field-0-test)

@@ -1,12 +1,14 @@
 use Rattle.std.proofs.lemmas.Bool.{eq-eqb}
-use Rattle.std.proofs.Common.{◌≡◌, ℕ, ◌<◌, List, ap, sym, ◌∙◌, take, not, false, true, length, slice_set, refl, arith, inl, inr}
+use Rattle.std.proofs.Common.{◌≡◌, ℕ, ◌<◌, List, ap, sym, ◌∙◌, take, not, false, true, length, slice_set, refl, arith}
+use Rattle.std.proofs.Common.{inl, inr}
 use Rattle.std.proofs.lemmas.List.{length-set, take_more_set}
 use Rattle.std.specs.Prelude.{Err}
 use Rattle.crx_lines.specs.declared.fault.Fault.{Fault}
-use Rattle.crx_rinex.specs.Observations.{Row, Epoch}
-use Rattle.crx_rinex.specs.Epochs.{has_satellite, is_among, is_full_epoch, with_row}
-use Rattle.crx_rinex.specs.EpochPlaces.{row_if_new}
-use Rattle.crx_text.specs.Columns.{columns}
+use Rattle.crx_rinex.specs.meaning.Observations.{Row, Epoch}
+use Rattle.crx_rinex.specs.meaning.Epochs.{has_satellite, is_among}
+use Rattle.crx_rinex.specs.Epochs.{is_full_epoch, with_row}
+use Rattle.crx_rinex.specs.meaning.EpochPlaces.{row_if_new}
+use Rattle.crx_text.specs.meaning.Columns.{columns}
 use Rattle.crx_lines.specs.declared.limits.TheConstants.{NAME_WIDTH}
 use Rattle.crx_rinex.proofs.GoodRows.{good-new, repeated}
 use Rattle.crx_rinex.proofs.Rows.{by_names, named_rows, names-long, names-next, sound-put}
@@ -19,16 +21,20 @@ invariant_of-self-in-Ok-true c =
     let count = c.self.inside.count in
     let names = c.self.inside.names in
     let row : Row = c.read_again.new.self in
-    let within : count < length rows = let a = c.if-is_last.false in let b = c.self.inside.rows.ok.0 in let e = c.len.ensures in let f = c.self.invariant.1 in omega (arith, a, b, e, f) in
+    let within : count < length rows = let a = c.if-is_last.false in let b =
+    c.self.inside.rows.ok.0 in let e = c.len.ensures in let f = c.self.invariant.1 in omega (arith, a, b, e, f) in
     let next = c.in-Ok-true.ensures.next c.in-Ok-true.field-0-test in
     let new : has_satellite row.name (take count rows) ≡ false =
-    sym (named_rows names rows count row.name c.self.invariant.4) ∙ ap (λ (n : List ℕ). is_among (λ (m : List ℕ). m) n (take count names)) (sym c.name.ensures.value)
+    sym (named_rows names rows count row.name c.self.invariant.4)
+    ∙ ap (λ (n : List ℕ). is_among (λ (m : List ℕ). m) n (take count names)) (sym c.name.ensures.value)
     ∙ c.in-Ok-true.ensures.new ∙ ap not c.in-Ok-true.field-0-test in (
-      sound-put head.head head.clock rows count row c.self.invariant.0 within c.name.ensures.sound (ap is_full_epoch c.self.view_is ∙ c.requires) new,
+      sound-put head.head head.clock rows count row c.self.invariant.0 within c.name.ensures.sound
+          (ap is_full_epoch c.self.view_is ∙ c.requires) new,
       omega (arith, within, length-set rows count row),
       c.self.invariant.2,
       names-long names c.put.new.self count c.name.result c.self.invariant.3 next,
-      names-next names c.put.new.self rows (slice_set rows count row) count row c.name.result c.name.ensures.value c.self.invariant.4 next (take_more_set rows count row within),
+      names-next names c.put.new.self rows (slice_set rows count row)
+          count row c.name.result c.name.ensures.value c.self.invariant.4 next (take_more_set rows count row within),
     )
 
 pub returns-in-Ok-true-clause-ok : goal.returns-in-Ok-true-clause-ok
@@ -38,13 +44,17 @@ returns-in-Ok-true-clause-ok c =
     let count = c.self.inside.count in
     let names = c.self.inside.names in
     let row = c.read_again.new.self in
-    let within : count < length rows = let a = c.if-is_last.false in let b = c.self.inside.rows.ok.0 in let e = c.len.ensures in let f = c.self.invariant.1 in omega (arith, a, b, e, f) in
+    let within : count < length rows = let a = c.if-is_last.false in let b =
+    c.self.inside.rows.ok.0 in let e = c.len.ensures in let f = c.self.invariant.1 in omega (arith, a, b, e, f) in
     let read = c.in_default-read_again.ensures.ok in
-    let new : has_satellite row.name c.args.self.now.rows ≡ false = ap (λ (e : Epoch). has_satellite row.name e.rows) (sym c.self.view_is)
-    ∙ sym (named_rows names rows count row.name c.self.invariant.4) ∙ ap (λ (n : List ℕ). is_among (λ (m : List ℕ). m) n (take count names)) (sym c.name.ensures.value)
+    let new : has_satellite row.name c.args.self.now.rows ≡ false =
+    ap (λ (e : Epoch). has_satellite row.name e.rows) (sym c.self.view_is)
+    ∙ sym (named_rows names rows count row.name c.self.invariant.4)
+    ∙ ap (λ (n : List ℕ). is_among (λ (m : List ℕ). m) n (take count names)) (sym c.name.ensures.value)
     ∙ c.in-Ok-true.ensures.new ∙ ap not c.in-Ok-true.field-0-test in
     rw (read, new)
-    (ap (λ (rs : List Row). record { head = head.head; clock = head.clock; rows = rs }) (take_more_set rows count row within)
+    (ap (λ (rs : List Row). record { head = head.head; clock = head.clock; rows = rs })
+    (take_more_set rows count row within)
     ∙ ap (λ (e : Epoch). with_row e row) c.self.view_is)
 
 pub returns-in-Ok-false-clause-refused : goal.returns-in-Ok-false-clause-refused
@@ -54,8 +64,10 @@ returns-in-Ok-false-clause-refused c =
     let names = c.self.inside.names in
     let row = c.read_again.new.self in
     let read = c.in_default-read_again.ensures.ok in
-    let known : has_satellite row.name c.args.self.now.rows ≡ true = ap (λ (e : Epoch). has_satellite row.name e.rows) (sym c.self.view_is)
-    ∙ sym (named_rows names rows count row.name c.self.invariant.4) ∙ ap (λ (n : List ℕ). is_among (λ (m : List ℕ). m) n (take count names)) (sym c.name.ensures.value)
+    let known : has_satellite row.name c.args.self.now.rows ≡ true =
+    ap (λ (e : Epoch). has_satellite row.name e.rows) (sym c.self.view_is)
+    ∙ sym (named_rows names rows count row.name c.self.invariant.4)
+    ∙ ap (λ (n : List ℕ). is_among (λ (m : List ℕ). m) n (take count names)) (sym c.name.ensures.value)
     ∙ c.in-Ok-false.ensures.new ∙ ap not c.in-Ok-false.field-0-test in
     inl (rw (read, known) refl)
 
@@ -65,7 +77,8 @@ returns-in-Some-clause-refused c =
       | inl bad ↦ inl (ap (row_if_new c.args.self.now.rows) bad)
       | inr known ↦ inl (
           repeated c.args.types.now c.args.line.now c.args.self.now.rows known.1
-          (by_names c.args.self.now c.self.inside.names c.self.inside.rows.items c.self.inside.count (columns c.args.line.now 1 NAME_WIDTH) (columns c.args.line.now 1 NAME_WIDTH) true refl
+          (by_names c.args.self.now c.self.inside.names c.self.inside.rows.items c.self.inside.count
+          (columns c.args.line.now 1 NAME_WIDTH) (columns c.args.line.now 1 NAME_WIDTH) true refl
           (ap (λ (e : Epoch). e.rows) c.self.view_is) c.self.invariant.4 known.2)
           ∙ ap (λ (f : Fault). Err f) (sym known.0))
     ]
@@ -74,15 +87,18 @@ pub returns-in_default-read-clause-refused : goal.returns-in_default-read-clause
 returns-in_default-read-clause-refused c =
     inr (
       refl,
-      good-new c.args.types.now c.args.line.now c.args.self.now.rows (c.in_default.ensures.good (eq-eqb c.self.inside.count c.len.result c.if-is_last.true))
-          (by_names c.args.self.now c.self.inside.names c.self.inside.rows.items c.self.inside.count (columns c.args.line.now 1 NAME_WIDTH) (columns c.args.line.now 1 NAME_WIDTH) false refl
+      good-new c.args.types.now c.args.line.now c.args.self.now.rows
+          (c.in_default.ensures.good (eq-eqb c.self.inside.count c.len.result c.if-is_last.true))
+          (by_names c.args.self.now c.self.inside.names c.self.inside.rows.items c.self.inside.count
+          (columns c.args.line.now 1 NAME_WIDTH) (columns c.args.line.now 1 NAME_WIDTH) false refl
           (ap (λ (e : Epoch). e.rows) c.self.view_is) c.self.invariant.4 c.in_default.ensures.new),
     )
 
 pub returns-in-Err-read_again-clause-refused : goal.returns-in-Err-read_again-clause-refused
 returns-in-Err-read_again-clause-refused c =
     let new : has_satellite (columns c.args.line.now 1 NAME_WIDTH) c.args.self.now.rows ≡ false =
-    by_names c.args.self.now c.self.inside.names c.self.inside.rows.items c.self.inside.count (columns c.args.line.now 1 NAME_WIDTH) (columns c.args.line.now 1 NAME_WIDTH) false refl
+    by_names c.args.self.now c.self.inside.names c.self.inside.rows.items c.self.inside.count
+    (columns c.args.line.now 1 NAME_WIDTH) (columns c.args.line.now 1 NAME_WIDTH) false refl
     (ap (λ (e : Epoch). e.rows) c.self.view_is) c.self.invariant.4 c.in_default.ensures.new in
     elim (c.in-Err-read_again.ensures.refused) [
       | inl bad ↦ inl (ap (row_if_new c.args.self.now.rows) bad)
@@ -94,6 +110,7 @@ returns-in-Err-put-clause-refused c =
     let row = c.read_again.new.self in
     let read = c.in_default-read_again.ensures.ok in
     let new : has_satellite row.name c.args.self.now.rows ≡ false =
-    by_names c.args.self.now c.self.inside.names c.self.inside.rows.items c.self.inside.count row.name c.name.result false c.name.ensures.value
+    by_names c.args.self.now c.self.inside.names
+    c.self.inside.rows.items c.self.inside.count row.name c.name.result false c.name.ensures.value
     (ap (λ (e : Epoch). e.rows) c.self.view_is) c.self.invariant.4 c.in-Err-put.ensures.err in
     inr (refl, rw (read, new) refl)

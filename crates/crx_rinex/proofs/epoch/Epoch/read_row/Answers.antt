@@ -1,10 +1,11 @@
 use Rattle.std.proofs.Common.{◌≡◌, ◌<◌, List, ap, sym, ◌∙◌, take, false, length, slice_set, arith, inl, inr, refl}
 use Rattle.std.proofs.lemmas.List.{length-set, take_more_set}
-use Rattle.crx_text.specs.Columns.{columns}
+use Rattle.crx_text.specs.meaning.Columns.{columns}
 use Rattle.crx_lines.specs.declared.limits.TheConstants.{NAME_WIDTH}
-use Rattle.crx_rinex.specs.Observations.{Row, Epoch}
-use Rattle.crx_rinex.specs.Epochs.{has_satellite, is_full_epoch, with_row}
-use Rattle.crx_rinex.specs.EpochPlaces.{row_if_new}
+use Rattle.crx_rinex.specs.meaning.Observations.{Row, Epoch}
+use Rattle.crx_rinex.specs.meaning.Epochs.{has_satellite}
+use Rattle.crx_rinex.specs.Epochs.{is_full_epoch, with_row}
+use Rattle.crx_rinex.specs.meaning.EpochPlaces.{row_if_new}
 use Rattle.crx_rinex.proofs.GoodRows.{good-new}
 use Rattle.crx_rinex.proofs.Rows.{by_names, names-long, names-next, sound-put}
 use Rattle.crx_rinex.proofs.epoch.Epoch.read_row.Goals as goal
@@ -12,7 +13,8 @@ use Rattle.crx_rinex.proofs.epoch.Epoch.read_row.Goals as goal
 pub returns-in-Err-clause-refused : goal.returns-in-Err-clause-refused
 returns-in-Err-clause-refused c =
     let new : has_satellite (columns c.args.line.now 1 NAME_WIDTH) c.args.self.now.rows ≡ false =
-    by_names c.args.self.now c.self.inside.names c.self.inside.rows.items c.self.inside.count (columns c.args.line.now 1 NAME_WIDTH) c.identifier.result false c.identifier.ensures
+    by_names c.args.self.now c.self.inside.names c.self.inside.rows.items c.self.inside.count
+    (columns c.args.line.now 1 NAME_WIDTH) c.identifier.result false c.identifier.ensures
     (ap (λ (e : Epoch). e.rows) c.self.view_is) c.self.invariant.4 (c.if-has_at.ensures.new) in
     elim (c.in-Err.ensures.refused) [
       | inl bad ↦ inl (ap (row_if_new c.args.self.now.rows) bad)
@@ -26,16 +28,20 @@ invariant_of-self-then-has_at c =
     let count = c.self.inside.count in
     let names = c.self.inside.names in
     let row : Row = c.read_again.new.self in
-    let within : count < length rows = let a = c.if-self-len.true in let b = c.self.inside.rows.ok.0 in let e = c.len.ensures in omega (arith, a, b, e) in
+    let within : count < length rows = let a =
+    c.if-self-len.true in let b = c.self.inside.rows.ok.0 in let e = c.len.ensures in omega (arith, a, b, e) in
     let next = c.if-has_at.ensures.next in
     let named : c.identifier.result ≡ row.name = c.identifier.ensures ∙ sym c.in_default.ensures.name in
     let new : has_satellite row.name (take count rows) ≡ false =
-    by_names (record { head = head.head; clock = head.clock; rows = take count rows }) names rows count row.name c.identifier.result false named refl c.self.invariant.4 c.if-has_at.ensures.new in (
-      sound-put head.head head.clock rows count row c.self.invariant.0 within c.in_default.ensures.sound (ap is_full_epoch c.self.view_is ∙ c.requires) new,
+    by_names (record { head = head.head; clock = head.clock; rows = take count rows })
+    names rows count row.name c.identifier.result false named refl c.self.invariant.4 c.if-has_at.ensures.new in (
+      sound-put head.head head.clock rows count row c.self.invariant.0 within c.in_default.ensures.sound
+          (ap is_full_epoch c.self.view_is ∙ c.requires) new,
       omega (arith, within, length-set rows count row),
       c.self.invariant.2,
       names-long names names count c.identifier.result c.self.invariant.3 next,
-      names-next names names rows (slice_set rows count row) count row c.identifier.result named c.self.invariant.4 next (take_more_set rows count row within),
+      names-next names names rows (slice_set rows count row) count row c.identifier.result named c.self.invariant.4 next
+          (take_more_set rows count row within),
     )
 
 pub returns-then-has_at-clause-ok : goal.returns-then-has_at-clause-ok
@@ -44,11 +50,14 @@ returns-then-has_at-clause-ok c =
     let rows = c.self.inside.rows.items in
     let count = c.self.inside.count in
     let row = c.read_again.new.self in
-    let within : count < length rows = let a = c.if-self-len.true in let b = c.self.inside.rows.ok.0 in let e = c.len.ensures in omega (arith, a, b, e) in
+    let within : count < length rows = let a =
+    c.if-self-len.true in let b = c.self.inside.rows.ok.0 in let e = c.len.ensures in omega (arith, a, b, e) in
     let read = c.in_default.ensures.ok in
     let new : has_satellite row.name c.args.self.now.rows ≡ false =
-    by_names c.args.self.now c.self.inside.names rows count row.name c.identifier.result false (c.identifier.ensures ∙ sym c.in_default.ensures.name)
+    by_names c.args.self.now c.self.inside.names rows count row.name c.identifier.result false (c.identifier.ensures
+    ∙ sym c.in_default.ensures.name)
     (ap (λ (e : Epoch). e.rows) c.self.view_is) c.self.invariant.4 c.if-has_at.ensures.new in
     rw (read, new)
-    (ap (λ (rs : List Row). record { head = head.head; clock = head.clock; rows = rs }) (take_more_set rows count row within)
+    (ap (λ (rs : List Row). record { head = head.head; clock = head.clock; rows = rs })
+    (take_more_set rows count row within)
     ∙ ap (λ (e : Epoch). with_row e row) c.self.view_is)

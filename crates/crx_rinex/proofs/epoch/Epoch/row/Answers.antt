@@ -1,5 +1,5 @@
 use Rattle.std.proofs.Common.{length, ap, arith}
-use Rattle.crx_rinex.specs.Observations.{Epoch}
+use Rattle.crx_rinex.specs.meaning.Observations.{Epoch}
 use Rattle.crx_rinex.proofs.Rows.{satellites_few}
 use Rattle.crx_rinex.proofs.epoch.Epoch.row.Goals as goal
 

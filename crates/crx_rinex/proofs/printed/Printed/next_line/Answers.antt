@@ -1,6 +1,6 @@
 use Rattle.std.proofs.Common.{◌≡◌, List, Some, None, ℕ, drop, slice_get, refl, ap, sym, ◌∙◌}
 use Rattle.std.proofs.lemmas.List.{drop-drop}
-use Rattle.crx_rinex.specs.Printing.{printed_epoch}
+use Rattle.crx_rinex.specs.meaning.Printing.{printed_epoch}
 use Rattle.crx_rinex.proofs.Lines.{first_of_rest, no_next}
 use Rattle.crx_rinex.proofs.printed.Printed.next_line.Goals as goal
 
@@ -10,7 +10,8 @@ returns-then-print_line c =
     let next = c.self.inside.next in (
       (refl, λ _. tt, sym (drop-drop 1 next lines) ∙ ap (drop 1) c.self.view_is),
       record {
-        value = ap (λ (l : List ℕ). Some l) c.bytes.ensures.value ∙ sym c.if-print_line.ensures.line ∙ sym (first_of_rest lines next) ∙ ap (λ (ls : List (List ℕ)). slice_get ls 0) c.self.view_is;
+        value = ap (λ (l : List ℕ). Some l) c.bytes.ensures.value ∙ sym c.if-print_line.ensures.line
+            ∙ sym (first_of_rest lines next) ∙ ap (λ (ls : List (List ℕ)). slice_get ls 0) c.self.view_is;
         after_borrow = tt;
       },
     )

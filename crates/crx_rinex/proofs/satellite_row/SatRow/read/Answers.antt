@@ -1,5 +1,5 @@
 use Rattle.std.proofs.Common.{◌≡◌, ◌*◌, length, ap, ◌∙◌, arith}
-use Rattle.crx_rinex.specs.SatelliteLines.{is_identifier}
+use Rattle.crx_rinex.specs.meaning.SatelliteLines.{is_identifier}
 use Rattle.crx_rinex.proofs.Cells.{sound-written}
 use Rattle.crx_rinex.proofs.satellite_row.SatRow.read.Goals as goal
 
@@ -8,10 +8,14 @@ invariant_of-result c =
     let m = c.in-Some.m in
     let values_len : c.in-Ok.values.len ≡ m = c.in-Ok.ensures.len in
     let flags_len : c.in-Ok-vec.flags.len ≡ 2 * m = c.in-Ok-vec.ensures.len in
-    let values : length c.read_cells.new.values ≡ m = let a = c.read_cells.auto.values in let b = c.deref_mut.ensures.len in omega (arith, a, b, values_len) in
-    let flags : length c.read_cells.new.flags ≡ 2 * m = let a = c.read_cells.auto.flags in let b = c.deref_mut-2.ensures.len in omega (arith, a, b, flags_len) in
-    sound-written c.identifier.result c.read_cells.new.values c.in-Ok.values.items c.read_cells.new.flags c.in-Ok-vec.flags.items m c.in-Ok.values.len c.in-Ok-vec.flags.len
-    (ap is_identifier c.identifier.ensures ∙ c.in-Some.ensures.named) c.in-Some.ensures.allowed values flags values_len flags_len c.in-Ok-read_cells.ensures.ranged c.in-Ok-read_cells.ensures.kept
+    let values : length c.read_cells.new.values
+    ≡ m = let a = c.read_cells.auto.values in let b = c.deref_mut.ensures.len in omega (arith, a, b, values_len) in
+    let flags : length c.read_cells.new.flags ≡ 2 * m = let a =
+    c.read_cells.auto.flags in let b = c.deref_mut-2.ensures.len in omega (arith, a, b, flags_len) in
+    sound-written c.identifier.result c.read_cells.new.values
+    c.in-Ok.values.items c.read_cells.new.flags c.in-Ok-vec.flags.items m c.in-Ok.values.len c.in-Ok-vec.flags.len
+    (ap is_identifier c.identifier.ensures ∙ c.in-Some.ensures.named) c.in-Some.ensures.allowed
+    values flags values_len flags_len c.in-Ok-read_cells.ensures.ranged c.in-Ok-read_cells.ensures.kept
 
 pub returns-in-Ok-read_cells-clause-sound : goal.returns-in-Ok-read_cells-clause-sound
 returns-in-Ok-read_cells-clause-sound c = invariant_of-result c

@@ -1,5 +1,5 @@
 use Rattle.std.proofs.Common.{◌≡◌, drop}
-use Rattle.crx_rinex.specs.ObservationTypes.{count_of}
+use Rattle.crx_rinex.specs.meaning.ObservationTypes.{count_of}
 use Rattle.crx_rinex.proofs.types.Types.count.Given as goal
 
 -- the systems passed over are others

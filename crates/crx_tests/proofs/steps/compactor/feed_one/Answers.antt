@@ -1,11 +1,11 @@
 use Rattle.std.proofs.Common.{◌≡◌, ℕ, Ok, sym, subst}
 use Rattle.crx_lines.specs.Reading.{line_shown}
-use Rattle.crx_lines.specs.Seen.{Content}
-use Rattle.crx_engine.specs.Compactor.{compaction}
-use Rattle.crx_engine.specs.Compactors.{compactor_seen, compactor_ready}
+use Rattle.crx_lines.specs.meaning.Seen.{Content}
+use Rattle.crx_engine.specs.CompactionByLine.{compaction}
+use Rattle.crx_engine.specs.CompactorState.{compactor_seen, compactor_ready}
 use Rattle.crx_engine.specs.Engines.{taken_after}
 use Rattle.crx_engine.specs.LineByLine.{Seen}
-use Rattle.crx_engine.proofs.StepCounts.{steps-counted}
+use Rattle.crx_engine.proofs.steps.StepCounts.{steps-counted}
 use Rattle.crx_tests.proofs.steps.compactor.feed_one.Goals as goal
 
 same-number : {O K : Type 0} (before after : Seen O K) (n : ℕ) → after ≡ before → before.number ≡ n → after.number ≡ n
@@ -17,7 +17,9 @@ returns-in-Ok-clause-counted g c =
     let self = c.args.engine.now in
     let fed = c.feed.new.self in
     let answer = c.in-Ok.answer in
-    let counted = steps-counted compaction (compactor_seen self) (compactor_seen fed) (Content (line_shown c.args.line).content) (compactor_ready fed) (Ok answer) c.in-Ok.ensures.steps in
+    let counted = steps-counted compaction (compactor_seen self) (compactor_seen fed)
+    (Content (line_shown c.args.line).content) (compactor_ready fed) (Ok answer) c.in-Ok.ensures.steps in
     let by-number = subst (λ (n : ℕ). (compactor_seen fed).number ≡ taken_after answer n) c.requires.counted counted in
     let by-result = subst (λ (n : ℕ). (compactor_seen fed).number ≡ n) (sym c.counted.ensures) by-number in
-    same-number (compactor_seen fed) (compactor_seen c.take_ready.new.engine) c.counted.result c.take_ready.ensures by-result
+    same-number (compactor_seen fed)
+    (compactor_seen c.take_ready.new.engine) c.counted.result c.take_ready.ensures by-result

@@ -1,11 +1,11 @@
 use Rattle.std.proofs.Common.{◌≡◌, ℕ, Ok, sym, subst}
 use Rattle.crx_lines.specs.Reading.{line_shown}
-use Rattle.crx_lines.specs.Seen.{Content}
-use Rattle.crx_engine.specs.Expander.{expansion}
-use Rattle.crx_engine.specs.Expanding.{seen_by}
+use Rattle.crx_lines.specs.meaning.Seen.{Content}
+use Rattle.crx_engine.specs.ExpansionByLine.{expansion}
+use Rattle.crx_engine.specs.ExpanderState.{expander_state}
 use Rattle.crx_engine.specs.Engines.{taken_after}
 use Rattle.crx_engine.specs.LineByLine.{Seen}
-use Rattle.crx_engine.proofs.StepCounts.{steps-counted}
+use Rattle.crx_engine.proofs.steps.StepCounts.{steps-counted}
 use Rattle.crx_tests.proofs.steps.expander.feed_one.Goals as goal
 
 same-number : {O K : Type 0} (before after : Seen O K) (n : ℕ) → after ≡ before → before.number ≡ n → after.number ≡ n
@@ -17,7 +17,9 @@ returns-in-Ok-clause-counted g c =
     let self = c.args.engine.now in
     let fed = c.feed.new.self in
     let answer = c.in-Ok.answer in
-    let counted = steps-counted expansion (seen_by self) (seen_by fed) (Content (line_shown c.args.line).content) fed.lines (Ok answer) c.in-Ok.ensures.steps in
-    let by-number = subst (λ (n : ℕ). (seen_by fed).number ≡ taken_after answer n) c.requires.counted counted in
-    let by-result = subst (λ (n : ℕ). (seen_by fed).number ≡ n) (sym c.counted.ensures) by-number in
-    same-number (seen_by fed) (seen_by c.take_ready.new.engine) c.counted.result c.take_ready.ensures by-result
+    let counted = steps-counted expansion (expander_state self)
+    (expander_state fed) (Content (line_shown c.args.line).content) fed.lines (Ok answer) c.in-Ok.ensures.steps in
+    let by-number = subst (λ (n : ℕ). (expander_state fed).number ≡ taken_after answer n) c.requires.counted counted in
+    let by-result = subst (λ (n : ℕ). (expander_state fed).number ≡ n) (sym c.counted.ensures) by-number in
+    same-number (expander_state fed)
+    (expander_state c.take_ready.new.engine) c.counted.result c.take_ready.ensures by-result

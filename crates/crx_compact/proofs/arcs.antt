@@ -1,0 +1,7 @@
+-- Arcs: their differences, the sums of these, and how large they may grow.
+pub mod Arcs
+pub mod Weights
+pub mod Inversion
+pub mod Running
+pub mod Stepping
+pub mod Bounds

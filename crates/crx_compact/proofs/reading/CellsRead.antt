@@ -1,0 +1,245 @@
+-- The cells of a line, read from left to right.
+use Rattle.std.specs.Prelude.{◌≡◌, ◌≤◌, ◌<◌, refl, ℕ, suc, zero, ◌+◌, ◌-◌, ℤ, List, [], ◌∷◌, ◌++◌, length, map, take}
+use Rattle.std.specs.Prelude.{drop, slice_index_or, slice_set, Option, Some, None, Result, Ok, Err}
+use Rattle.std.proofs.Common.{sym, ◌∙◌, ap, arith, length-append}
+use Rattle.std.proofs.lemmas.List.{append-nil, drop-drop, length-drop, length-set, take_more_set, map-append}
+use Rattle.std.proofs.Math.ListN.{drop_of_length-le}
+use Rattle.crx_text.specs.meaning.Codes.{code_of, first_cell, after_cell}
+use Rattle.crx_text.specs.declared.code.Code.{Code}
+use Rattle.crx_lines.specs.declared.fault.Fault.{Fault}
+use Rattle.crx_lines.specs.declared.fault.Fault.TheVariants.{BadField}
+use Rattle.crx_rinex.specs.meaning.Observations.{Row}
+use Rattle.crx_compact.specs.meaning.Sequences.{and_then, before_all}
+use Rattle.crx_compact.specs.meaning.CompactPlaces.{ReadCell, cell_read, cells_read, cells_of, after_cells}
+use Rattle.crx_compact.specs.Tails.{ArcTail}
+use Rattle.crx_compact.specs.Steps.{arc_of_code}
+use Rattle.crx_compact.specs.Cells.{value_at_place, arcs_of_codes, CellsAreRead, IsCellRead}
+
+-- some cells before those of a good result
+abbrev pub onto : List ReadCell → Result (List ReadCell) Fault → Result (List ReadCell) Fault
+onto [] r = r
+onto (c ∷ cs) r = before_all c (onto cs r)
+
+onto-ok : (cs : List ReadCell) → onto cs (Ok []) ≡ Ok cs
+onto-ok [] = refl
+onto-ok (c ∷ cs) = ap (before_all c) (onto-ok cs)
+
+onto-err : (cs : List ReadCell) (fault : Fault) → onto cs (Err fault) ≡ Err fault
+onto-err [] fault = refl
+onto-err (c ∷ cs) fault = ap (before_all c) (onto-err cs fault)
+
+onto-more : (cs : List ReadCell) (c : ReadCell) (r : Result (List ReadCell) Fault)
+    → onto (cs ++ c ∷ []) r ≡ onto cs (before_all c r)
+onto-more [] c r = refl
+onto-more (d ∷ ds) c r = ap (before_all d) (onto-more ds c r)
+
+-- ---- the same values at each place read the same
+
+abbrev Values : Type 0
+Values = ℕ → Code → Result (Option ℤ) Fault
+
+cell-same : (f g : Code → Result (Option ℤ) Fault)
+    → ((c : Code) → f c ≡ g c) → (code : Option Code) → cell_read BadField f code ≡ cell_read BadField g code
+cell-same f g h None = refl
+cell-same f g h (Some code) = ap {B = Result ReadCell Fault}
+    (λ r. and_then r (λ value. Ok (record { code = code; value = value }))) (h code)
+
+pub cells-same : (f g : Values) → ((place : ℕ) (c : Code) → f place c ≡ g place c)
+    → (texts : List (List ℕ)) → cells_read f texts ≡ cells_read g texts
+cells-same f g h [] = refl
+cells-same f g h (text ∷ texts) =
+    ap {B = Result (List ReadCell) Fault}
+    (λ r. and_then r (λ cell. before_all cell (cells_read (λ place. f (suc place)) texts)))
+    (cell-same (f 0) (g 0) (h 0) (code_of text))
+    ∙ ap {B = Result (List ReadCell) Fault}
+    (λ r. and_then (cell_read BadField (g 0) (code_of text)) (λ cell. before_all cell r))
+    (cells-same (λ place. f (suc place)) (λ place. g (suc place)) (λ place c. h (suc place) c) texts)
+
+-- ---- one cell more
+
+arcs-more : (before : List (Option ArcTail)) (codes : List Code) (code : Code)
+    → arcs_of_codes before (codes ++ code ∷ [])
+    ≡ arcs_of_codes before codes ++ arc_of_code code (slice_index_or before (length codes) None) ∷ []
+arcs-more before [] code = refl
+arcs-more [] (c ∷ cs) code = ap {B = List (Option ArcTail)} (λ r. arc_of_code c None ∷ r) (arcs-more [] cs code)
+arcs-more (b ∷ bs) (c ∷ cs) code = ap {B = List (Option ArcTail)} (λ r. arc_of_code c b ∷ r) (arcs-more bs cs code)
+
+length-map : {X Y : Type 0} (f : X → Y) (xs : List X) → length (map f xs) ≡ length xs
+length-map f [] = refl
+length-map f (x ∷ xs) = ap suc (length-map f xs)
+
+-- the values from a place on
+from-next : (k : ℕ) (xs : List (Option ℤ)) → k < length xs → drop k xs ≡ slice_index_or xs k None ∷ drop (k + 1) xs
+from-next k [] h = absurd (omega (arith, h))
+from-next zero (x ∷ xs) h = refl
+from-next (suc k) (x ∷ xs) h =
+    let next : suc k + 1 ≡ suc (k + 1) = omega arith in
+    from-next k xs (omega (arith, h))
+    ∙ ap {B = List (Option ℤ)} (λ n. slice_index_or xs k None ∷ drop n (x ∷ xs)) (sym next)
+
+-- the next of some values
+set-next : (xs ys : List (Option ℤ)) (d v : Option ℤ) → slice_set (xs ++ d ∷ ys) (length xs) v ≡ (xs ++ v ∷ []) ++ ys
+set-next [] ys d v = refl
+set-next (x ∷ xs) ys d v = ap {B = List (Option ℤ)} (λ r. x ∷ r) (set-next xs ys d v)
+
+abbrev codes_in : List ReadCell → List Code
+codes_in cells = map (λ (c : ReadCell). c.code) cells
+
+abbrev values_in : List ReadCell → List (Option ℤ)
+values_in cells = map (λ (c : ReadCell). c.value) cells
+
+-- the cells up to a place are read
+pub record ReadSoFar (before : List (Option ArcTail))
+    (count : ℕ) (line : List ℕ) (k at : ℕ) (arcs : List (Option ArcTail)) (old new : Row) : Type 0 where
+  pub cells : List ReadCell
+  pub counted : length cells ≡ k
+  pub so_far : cells_read (value_at_place before) (cells_of count line)
+      ≡ onto cells (cells_read (λ p. value_at_place before (k + p)) (cells_of (count - k) (drop at line)))
+  pub marks : after_cells count line ≡ after_cells (count - k) (drop at line)
+  pub within : at ≤ length line
+  pub left : arcs ≡ arcs_of_codes before (map (λ (c : ReadCell). c.code) cells)
+  pub sized : length old.values ≡ count
+  pub shown : new ≡ record old { values = map (λ (c : ReadCell). c.value) cells ++ drop k old.values }
+
+-- what stands at a place: the text of its cell, and the rest
+at-next : (before : List (Option ArcTail)) (count : ℕ) (line : List ℕ)
+    (k at : ℕ) (arcs : List (Option ArcTail)) (old new : Row) (s : ReadSoFar before count line k at arcs old new)
+    → k < count → (code : Option Code) → code_of (first_cell (drop at line)) ≡ code
+    → cells_read (value_at_place before) (cells_of count line)
+    ≡ onto s.cells (and_then (cell_read BadField (value_at_place before k) code) (λ cell.
+    before_all cell (cells_read (λ p. value_at_place before (k + 1 + p))
+    (cells_of (count - (k + 1)) (after_cell (drop at line))))))
+at-next before count line k at arcs old new s h code e =
+    let n : ℕ = count - (k + 1) in
+    let more : count - k ≡ suc n = omega arith in
+    let here : k + 0 ≡ k = omega arith in
+    let rest : List (List ℕ) = cells_of n (after_cell (drop at line)) in
+    s.so_far
+    ∙ ap (λ m. onto s.cells (cells_read (λ p. value_at_place before (k + p)) (cells_of m (drop at line)))) more
+    ∙ ap (λ m. onto s.cells (and_then (cell_read BadField (value_at_place before m) (code_of (first_cell
+    (drop at line)))) (λ cell. before_all cell (cells_read (λ p. value_at_place before (k + suc p)) rest)))) here
+    ∙ ap (λ (r : Result (List ReadCell) Fault). onto s.cells (and_then (cell_read BadField
+    (value_at_place before k) (code_of (first_cell (drop at line)))) (λ cell. before_all cell r)))
+    (cells-same (λ p. value_at_place before (k + suc p))
+    (λ p. value_at_place before (k + 1 + p)) (λ p c. ap (λ m. value_at_place before m c) (omega arith)) rest)
+    ∙ ap (λ (o : Option Code). onto s.cells (and_then (cell_read BadField (value_at_place before k) o)
+    (λ cell. before_all cell (cells_read (λ p. value_at_place before (k + 1 + p)) rest)))) e
+
+-- a fault of the next cell is that of them all
+pub read-refused : (before : List (Option ArcTail))
+    (count : ℕ) (line : List ℕ) (k at : ℕ) (arcs : List (Option ArcTail)) (old new : Row) (fault : Fault)
+    → ReadSoFar before count line k at arcs old new
+    → k < count → cell_read BadField (value_at_place before k) (code_of (first_cell (drop at line))) ≡ Err fault
+    → cells_read (value_at_place before) (cells_of count line) ≡ Err fault
+read-refused before count line k at arcs old new fault s h e =
+    let rest : Result (List ReadCell) Fault =
+    cells_read (λ p. value_at_place before (k + 1 + p)) (cells_of (count - (k + 1)) (after_cell (drop at line))) in
+    at-next before count line k at arcs old new s h (code_of (first_cell (drop at line))) refl
+    ∙ ap (λ (r : Result ReadCell Fault). onto s.cells (and_then r (λ cell. before_all cell rest))) e
+    ∙ onto-err s.cells fault
+
+pub read-more : (before : List (Option ArcTail)) (count : ℕ) (line : List ℕ) (k at at' : ℕ)
+    (arcs arcs' : List (Option ArcTail)) (old new new' : Row) (code : Code) (value : Option ℤ) (arc : Option ArcTail)
+    → ReadSoFar before count line k at arcs old new
+    → k < count → code_of (first_cell (drop at line)) ≡ Some code → value_at_place before k code ≡ Ok value
+    → after_cell (drop at line) ≡ drop at' line → at' ≤ length line
+    → arc ≡ arc_of_code code (slice_index_or before k None)
+    → arcs' ≡ arcs ++ arc ∷ [] → new' ≡ record new { values = slice_set new.values k value }
+    → ReadSoFar before count line (k + 1) at' arcs' old new'
+read-more before count line k at at' arcs arcs' old new new' code value arc s h e v t w a l r =
+    let n : ℕ = count - (k + 1) in
+    let c : ReadCell = record { code = code; value = value } in
+    let more : count - k ≡ suc n = omega arith in
+    let rest : Result (List ReadCell) Fault =
+    cells_read (λ p. value_at_place before (k + 1 + p)) (cells_of n (after_cell (drop at line))) in
+    record {
+      cells = s.cells ++ c ∷ [];
+      counted = let count' : length s.cells ≡ k = s.counted in omega (arith, length-append s.cells (c ∷ []), count');
+      so_far =
+          at-next before count line k at arcs old new s h (Some code) e
+          ∙ ap (λ (q : Result (Option ℤ) Fault). onto s.cells
+          (and_then (and_then q (λ x. Ok (record { code = code; value = x }))) (λ cell. before_all cell rest))) v
+          ∙ sym (onto-more s.cells c rest)
+          ∙ ap (λ text. onto (s.cells ++ c ∷ [])
+          (cells_read (λ p. value_at_place before (k + 1 + p)) (cells_of n text))) t;
+      marks = s.marks ∙ ap (λ m. after_cells m (drop at line)) more ∙ ap (after_cells n) t;
+      within = w;
+      left =
+          l ∙ ap (λ xs. xs ++ arc ∷ []) s.left
+          ∙ ap {B = List (Option ArcTail)} (λ x. arcs_of_codes before (codes_in s.cells) ++ x ∷ []) (a
+          ∙ ap (λ m. arc_of_code code (slice_index_or before m None)) (sym s.counted
+          ∙ sym (length-map (λ (q : ReadCell). q.code) s.cells)))
+          ∙ sym (arcs-more before (codes_in s.cells) code)
+          ∙ ap (arcs_of_codes before) (sym (map-append (λ (q : ReadCell). q.code) s.cells (c ∷ [])));
+      shown =
+          r ∙ ap {B = Row} (λ (q : Row). record q { values = slice_set q.values k value }) s.shown
+          ∙ ap {B = Row} (λ vs. record old { values = slice_set (values_in s.cells ++ vs) k value })
+          (from-next k old.values (let sized = s.sized in omega (arith, h, sized)))
+          ∙ ap {B = Row} (λ m. record old {
+            values = slice_set
+                (values_in s.cells ++ slice_index_or old.values k None ∷ drop (k + 1) old.values) m value;
+          })
+          (sym s.counted ∙ sym (length-map (λ (q : ReadCell). q.value) s.cells))
+          ∙ ap {B = Row} (λ vs. record old { values = vs })
+          (set-next (values_in s.cells) (drop (k + 1) old.values) (slice_index_or old.values k None) value)
+          ∙ ap {B = Row} (λ vs. record old { values = vs ++ drop (k + 1) old.values })
+          (sym (map-append (λ (q : ReadCell). q.value) s.cells (c ∷ [])));
+      sized = s.sized;
+    }
+
+-- the next cell, with its arc in its place among others
+pub read-cell : (before : List (Option ArcTail)) (count : ℕ) (line : List ℕ)
+    (k at at' : ℕ) (arcs arcs' made : List (Option ArcTail)) (old new new' : Row) (value : Option ℤ) (taken : ℕ)
+    → ReadSoFar before count line k at (take k arcs) old new → k < count → length arcs ≡ count
+    → IsCellRead before k (drop at line) arcs made value taken
+    → arcs' ≡ made → at' ≡ at + taken → new' ≡ record new { values = slice_set new.values k value }
+    → ReadSoFar before count line (k + 1) at' (take (k + 1) arcs') old new' × (length arcs' ≡ count)
+read-cell before count line k at at' arcs arcs' made old new new' value taken s h counted read made_is at_is r =
+    let arc : Option ArcTail = arc_of_code read.code (slice_index_or before k None) in
+    let within : taken ≤ length (drop at line) = read.within in
+    let here : at ≤ length line = s.within in
+    let left : arcs' ≡ slice_set arcs k arc = made_is ∙ read.left in (
+      read-more before count line k at at'
+          (take k arcs) (take (k + 1) arcs') old new new' read.code value arc s h read.formed read.given
+          (sym read.after ∙ drop-drop taken at line ∙ ap (λ n. drop n line) (sym at_is))
+          (omega (arith, within, here, at_is, length-drop at line))
+          refl
+          (ap (take (k + 1)) left ∙ take_more_set arcs k arc (omega (arith, counted, h)))
+          r,
+      ap length left ∙ length-set arcs k arc ∙ counted,
+    )
+
+pub read-none : (before : List (Option ArcTail)) (count : ℕ) (line : List ℕ) (row : Row)
+    → length row.values ≡ count → ReadSoFar before count line 0 0 [] row row
+read-none before count line row e =
+    let all : count - 0 ≡ count = omega arith in
+    record {
+      cells = [];
+      counted = refl;
+      so_far =
+          cells-same (value_at_place before) (λ p. value_at_place before (0 + p))
+          (λ p c. ap (λ m. value_at_place before m c) (omega arith)) (cells_of count line)
+          ∙ ap (λ m. cells_read (λ p. value_at_place before (0 + p)) (cells_of m line)) (sym all);
+      marks = ap (λ m. after_cells m line) (sym all);
+      within = omega arith;
+      left = refl;
+      sized = e;
+      shown = refl;
+    }
+
+pub read-all : (before : List (Option ArcTail)) (count : ℕ) (line : List ℕ)
+    (k at : ℕ) (arcs : List (Option ArcTail)) (old new : Row) → ReadSoFar before count line k at arcs old new
+    → k ≡ count → CellsAreRead before count line arcs old new at
+read-all before count line k at arcs old new s e =
+    let none : count - k ≡ 0 = omega arith in
+    record {
+      cells = s.cells;
+      good = s.so_far ∙ ap (λ m. onto s.cells
+          (cells_read (λ p. value_at_place before (k + p)) (cells_of m (drop at line)))) none ∙ onto-ok s.cells;
+      marks = s.marks ∙ ap (λ m. after_cells m (drop at line)) none;
+      within = s.within;
+      left = s.left;
+      shown = s.shown ∙ ap {B = Row} (λ vs. record old { values = values_in s.cells ++ vs })
+          (drop_of_length-le old.values (let sized = s.sized in omega (arith, sized, e)))
+          ∙ ap {B = Row} (λ vs. record old { values = vs }) (append-nil (values_in s.cells));
+    }

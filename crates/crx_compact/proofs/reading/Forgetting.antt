@@ -1,0 +1,69 @@
+-- A line that begins with > forgets what was read before it.
+use Rattle.std.specs.Prelude.{◌≡◌, ℕ, true, List, [], ◌∷◌, drop, Option, Some, None, Result, Ok, Err, if◌then◌else◌}
+use Rattle.std.proofs.Common.{sym, ◌∙◌, ap}
+use Rattle.crx_lines.specs.meaning.Seen.{ReadLine, Content}
+use Rattle.crx_lines.specs.declared.fault.Fault.{Fault}
+use Rattle.crx_lines.specs.declared.fault.Fault.TheVariants.{NotAnEpoch}
+use Rattle.crx_rinex.specs.meaning.ObservationTypes.{Count}
+use Rattle.crx_rinex.specs.meaning.Places.{Place, Here, then_place, one_line, first_line}
+use Rattle.crx_rinex.specs.meaning.EpochLines.{begins_epoch}
+use Rattle.crx_compact.specs.meaning.Expansion.{RawEpoch, block_of}
+use Rattle.crx_compact.specs.meaning.Past.{Past, past_of_block, past_of_epochs, past_of_line}
+use Rattle.crx_compact.specs.meaning.CompactPlaces.{satellites_of_line, BegunEpoch, epoch_begun, ReadCell}
+use Rattle.crx_compact.specs.meaning.CompactPlaces.{clock_line_read, rows_read, ReadEpoch, epoch_of_rows}
+use Rattle.crx_compact.specs.meaning.CompactPlaces.{epoch_after_line, epoch_at}
+use Rattle.crx_compact.specs.ReadingLaws.{Forgets}
+use Rattle.crx_compact.proofs.soundness.Soundness.{thing_here, no-wrong, no-err, ok-same, Comes, then-comes, Follows}
+use Rattle.crx_compact.proofs.soundness.Soundness.{and_then-ok}
+
+begun-line : (types : List Count) (line : List ℕ) (past : Option Past) (begun : BegunEpoch)
+    → epoch_begun types line past ≡ Ok begun → begun.line ≡ line
+begun-line types line None begun e = absurd (no-err NotAnEpoch begun e)
+begun-line types line (Some past) begun e =
+    let step : Follows (satellites_of_line types past line)
+    (λ ss. Ok (record { line = line; past = past; satellites = ss })) begun =
+    and_then-ok (satellites_of_line types past line)
+    (λ ss. Ok (record { line = line; past = past; satellites = ss })) begun e in
+    sym (ap (λ (b : BegunEpoch). b.line)
+    (ok-same (record { line = line; past = past; satellites = step.from }) begun step.next))
+
+one-ok : {X : Type 0} (r : Result X Fault) (x : X) (n : ℕ) → one_line r ≡ Here x n → r ≡ Ok x
+one-ok (Ok y) x n e = ap {B = Result _ Fault} Ok (ap (thing_here y) e)
+one-ok (Err q) x n e = absurd (no-wrong 0 q x n e)
+
+after-line : (begun : BegunEpoch) (lines : List ReadLine) (read : ReadEpoch) (count : ℕ)
+    → epoch_after_line begun lines ≡ Here read count → read.raw.line ≡ begun.line
+after-line begun lines read count e =
+    let rows_next : ReadCell → List ReadLine → Place ReadEpoch = λ clock others. then_place
+    (rows_read begun.past begun.satellites others) others (λ rows rest. Here (epoch_of_rows begun clock rows) 0) in
+    let one : Comes (first_line lines (clock_line_read begun.past)) lines rows_next read count =
+    then-comes (first_line lines (clock_line_read begun.past)) lines rows_next read count e in
+    let others : List ReadLine = drop one.count lines in
+    let two : Comes (rows_read begun.past begun.satellites others) others
+    (λ rows rest. Here (epoch_of_rows begun one.from rows) 0) read one.more =
+    then-comes (rows_read begun.past begun.satellites others) others
+    (λ rows rest. Here (epoch_of_rows begun one.from rows) 0) read one.more one.later in
+    sym (ap (λ (r : ReadEpoch). r.raw.line) (ap (thing_here (epoch_of_rows begun one.from two.from)) two.later))
+
+read-line : (types : List Count)
+    (older : List RawEpoch) (line : List ℕ) (lines : List ReadLine) (read : ReadEpoch) (count : ℕ)
+    → epoch_at types older (Content line ∷ lines) ≡ Here read count → read.raw.line ≡ line
+read-line types older line lines read count e =
+    let r : Result BegunEpoch Fault = epoch_begun types line (past_of_line older line) in
+    let one : Comes (one_line r) (Content line ∷ lines) (λ begun others. epoch_after_line begun others) read count =
+    then-comes (one_line r) (Content line ∷ lines) (λ begun others. epoch_after_line begun others) read count e in
+    after-line one.from (drop one.count (Content line ∷ lines)) read one.more one.later
+    ∙ begun-line types line (past_of_line older line) one.from (one-ok r one.from one.count one.first)
+
+pub forgets : (types : List Count) (older : List RawEpoch) (line : List ℕ) (lines : List ReadLine)
+    → begins_epoch line ≡ true → Forgets types older line lines
+forgets types older line lines h = record {
+  place =
+      let new : (os : List RawEpoch) → past_of_line os line ≡ Some (past_of_block []) =
+      λ os. ap {B = Option Past} (λ b. if b then Some (past_of_block []) else past_of_epochs os) h in
+      ap {B = Place ReadEpoch} (λ p. then_place (one_line (epoch_begun types line p))
+      (Content line ∷ lines) (λ begun others. epoch_after_line begun others)) (new older ∙ sym (new []));
+  block = λ read count e.
+      ap {B = List RawEpoch} (λ b. read.raw ∷ (if b then [] else block_of older))
+      (ap begins_epoch (read-line types older line lines read count e) ∙ h);
+}

@@ -1,0 +1,352 @@
+-- The marks of a satellite line, and the row that its cells and marks make.
+use Rattle.std.specs.Prelude.{◌≡◌, refl, ℕ, suc, ◌+◌, ◌-◌, ◌*◌, ◌<◌, ◌≤◌, Bool, true, false, List, [], ◌∷◌, ◌++◌}
+use Rattle.std.specs.Prelude.{length, map, take, drop, replicate, slice_index_or, Option, None, Some, Result, Ok, Err}
+use Rattle.std.specs.Prelude.{IfOk, IfErr, OnOk, if◌then◌else◌}
+use Rattle.std.specs.List.{list_all}
+use Rattle.std.proofs.Common.{sym, ◌∙◌, ap, arith, inl, inr, ◌⊎◌}
+use Rattle.std.proofs.lemmas.List.{length-drop, length-map, take_all}
+use Rattle.crx_text.specs.meaning.Columns.{columns, is_blank}
+use Rattle.crx_text.specs.meaning.Texts.{by_position, is_printable, is_kept}
+use Rattle.crx_text.specs.Texts.{character_of, patched}
+use Rattle.crx_text.specs.declared.code.Code.{Code}
+use Rattle.crx_text.specs.declared.code.Code.TheVariants.{Missing}
+use Rattle.crx_lines.specs.declared.limits.TheConstants.{OBSERVATION_WIDTH}
+use Rattle.crx_lines.specs.declared.fault.Fault.{Fault}
+use Rattle.crx_lines.specs.declared.fault.Fault.TheVariants.{BadFlags, OutOfMemory, Truncated}
+use Rattle.crx_rinex.specs.meaning.Observations.{Row}
+use Rattle.crx_rinex.specs.SatelliteLines.{with_flags}
+use Rattle.std.proofs.Math.Path.{fun_ext}
+use Rattle.crx_text.proofs.Blanks.{columns_are}
+use Rattle.crx_rinex.specs.meaning.EachPlace.{each_place}
+use Rattle.crx_compact.specs.meaning.Sequences.{and_then}
+use Rattle.crx_rinex.specs.meaning.EpochLines.{begins_epoch}
+use Rattle.crx_compact.specs.meaning.EpochText.{Satellite}
+use Rattle.crx_compact.specs.meaning.CompactPlaces.{ReadCell, are_marks, after_cells, cells_of, cells_read}
+use Rattle.crx_compact.specs.meaning.CompactPlaces.{row_of_cells, row_of_line, row_with_marks}
+use Rattle.crx_compact.specs.meaning.Past.{Past}
+use Rattle.crx_compact.specs.Tails.{ArcTail, RowTail, Tail}
+use Rattle.crx_compact.specs.Steps.{arc_of_code, cell_of_tail, flags_held, flags_of_tail, tail_named, value_of_code}
+use Rattle.crx_compact.proofs.reading.CellsRead.{cells-same}
+use Rattle.crx_compact.specs.OpenEpochs.{HeldRow, held_row, past_of_tail}
+use Rattle.crx_compact.specs.Cells.{arcs_of_codes, value_at_place, CellsAreRead}
+use Rattle.crx_compact.specs.HeldRows.{arcs_of_tail, held_from, past_of_row, row_after, row_held, row_held_from}
+use Rattle.crx_compact.specs.HeldRows.{IsNextRow}
+use Rattle.crx_compact.proofs.wayback.Facts.{list_all-at}
+use Rattle.crx_compact.proofs.soundness.Soundness.{cells-count, texts-count}
+use Rattle.crx_compact.proofs.wayback.Overlays.{at-by_position, same_characters}
+use Rattle.crx_rinex.proofs.Characters.{at, at-without_end_blanks, columns-are, list_all-from_at}
+use Rattle.crx_rinex.proofs.SoundEpochs.{length-columns}
+use Rattle.crx_compact.proofs.wayback.Cuts.{at-padded, at-take, at-take_past, within-or_past}
+use Rattle.crx_compact.proofs.soundness.SoundTexts.{length-held}
+use Rattle.std.proofs.Math.Seq.{drop-nil}
+
+-- ---- the characters of patched indicators
+
+patched-character : (a b : ℕ) → is_kept a ≡ true → is_printable b ≡ true → is_kept (character_of a b) ≡ true
+patched-character a b h k = grind (arith, h, k)
+
+pub patched-kept : (old marks : List ℕ)
+    → list_all is_kept old ≡ true → list_all is_printable marks ≡ true → list_all is_kept (patched old marks) ≡ true
+patched-kept old marks h k =
+    list_all-from_at is_kept (patched old marks) (λ p.
+    ap is_kept (at-without_end_blanks (by_position character_of old marks) p
+    ∙ at-by_position character_of refl old marks p)
+    ∙ patched-character (at old p)
+    (at marks p) (list_all-at is_kept refl old h p) (list_all-at is_printable refl marks k p))
+
+pub flags-set : (row : Row) (flags : List ℕ) (count : ℕ) → length row.values ≡ count
+    → with_flags row (take (2 * count) flags) ≡ record row { flags = columns flags 1 (2 * count) }
+flags-set row flags count e =
+    ap {B = Row}
+    (λ n. record row { flags = take (2 * count) flags ++ replicate (2 * n - length (take (2 * count) flags)) 32 }) e
+    ∙ ap {B = Row} (λ fs. record row { flags = fs }) (sym (columns_are flags 1 (2 * count)))
+
+-- ---- no marks
+
+pub no_marks : (count : ℕ) → are_marks count [] ≡ true
+no_marks count = ap (list_all is_blank) (drop-nil {A = ℕ} (2 * count))
+
+at-unmarked : (flags : List ℕ) (p : ℕ) → at (patched flags []) p ≡ at flags p
+at-unmarked flags p = at-without_end_blanks (by_position character_of flags []) p
+    ∙ at-by_position character_of refl flags [] p
+
+-- what is held of indicators that no marks change
+pub held-left : (count : ℕ) (flags : List ℕ) → flags_held count flags ≡ flags_held count (patched flags [])
+held-left count flags = same_characters
+    (take (2 * count) flags) (take (2 * count) (patched flags [])) (λ p. cut p (within-or_past (2 * count) p))
+  where
+    cut : (p : ℕ) → (p < 2 * count) ⊎ (2 * count ≤ p)
+        → at (take (2 * count) flags) p ≡ at (take (2 * count) (patched flags [])) p
+    cut p (inl h) = at-take (2 * count) flags p h
+        ∙ sym (at-take (2 * count) (patched flags []) p h ∙ at-unmarked flags p)
+    cut p (inr h) = at-take_past (2 * count) flags p h ∙ sym (at-take_past (2 * count) (patched flags []) p h)
+
+columns-left : (count : ℕ) (flags : List ℕ)
+    → columns (flags_held count flags) 1 (2 * count) ≡ columns (patched flags []) 1 (2 * count)
+columns-left count flags =
+    columns-are (flags_held count flags) 1 (2 * count)
+    (columns (patched flags []) 1 (2 * count)) (length-columns (patched flags []) 1 (2 * count)) (λ p less.
+    let place : 1 - 1 + p ≡ p = omega arith in
+    ap (at (flags_held count flags)) place
+    ∙ at-without_end_blanks (take (2 * count) flags) p
+    ∙ at-take (2 * count) flags p less
+    ∙ sym (at-take (2 * count) (patched flags [] ++ replicate (2 * count) 32) p less
+    ∙ at-padded (2 * count) (patched flags []) p ∙ at-unmarked flags p))
+
+-- the row that they are put into
+pub flags-left : (row : Row) (flags : List ℕ) (count : ℕ) → length row.values ≡ count
+    → with_flags row (flags_held count flags) ≡ record row { flags = columns (patched flags []) 1 (2 * count) }
+flags-left row flags count e =
+    ap (with_flags row) (sym (take_all (2 * count) (flags_held count flags) (length-held count flags)))
+    ∙ flags-set row (flags_held count flags) count e
+    ∙ ap {B = Row} (λ fs. record row { flags = fs }) (columns-left count flags)
+
+-- ---- a satellite's line
+
+-- a line that begins no epoch is read by its cells
+line-cells : (arcs : List (Option ArcTail)) (flags : List ℕ) (satellite : Satellite) (line : List ℕ)
+    → begins_epoch line ≡ false
+    → (r : Result (List ReadCell) Fault) → cells_read (value_at_place arcs) (cells_of satellite.count line) ≡ r
+    → row_held_from arcs flags satellite line
+    ≡ and_then (and_then r (λ cells. row_with_marks (past_of_row arcs flags) satellite
+    (after_cells satellite.count line) cells)) (λ read. Ok (held_from arcs flags read))
+line-cells arcs flags satellite line h r e =
+    ap {B = Result HeldRow Fault} (λ b. and_then (if b then Err Truncated
+    else row_of_line (past_of_row arcs flags) satellite line) (λ read. Ok (held_from arcs flags read))) h
+    ∙ ap {B = Result HeldRow Fault} (λ (q : Result (List ReadCell) Fault). and_then (and_then q
+    (λ cells. row_with_marks (past_of_row arcs flags) satellite (after_cells satellite.count line) cells))
+    (λ read. Ok (held_from arcs flags read))) e
+
+pub line-fault : (arcs : List (Option ArcTail)) (flags : List ℕ) (satellite : Satellite) (line : List ℕ) (fault : Fault)
+    → begins_epoch line ≡ false
+    → cells_read (value_at_place arcs) (cells_of satellite.count line) ≡ Err fault
+    → row_held_from arcs flags satellite line ≡ Err fault
+line-fault arcs flags satellite line fault h e = line-cells arcs flags satellite line h (Err fault) e
+
+-- the marks decide after the cells
+line-marks : (arcs : List (Option ArcTail)) (flags : List ℕ)
+    (satellite : Satellite) (line : List ℕ) (at : ℕ) (cells : List ReadCell) (b : Bool) → begins_epoch line ≡ false
+    → cells_read (value_at_place arcs) (cells_of satellite.count line) ≡ Ok cells
+    → after_cells satellite.count line ≡ drop at line → are_marks satellite.count (drop at line) ≡ b
+    → row_held_from arcs flags satellite line
+    ≡ and_then (if b then Ok (row_of_cells (past_of_row arcs flags) satellite.name (drop at line) cells)
+    else Err BadFlags) (λ read. Ok (held_from arcs flags read))
+line-marks arcs flags satellite line at cells b h good marks e =
+    line-cells arcs flags satellite line h (Ok cells) good
+    ∙ ap {B = Result HeldRow Fault} (λ text. and_then
+    (row_with_marks (past_of_row arcs flags) satellite text cells) (λ read. Ok (held_from arcs flags read))) marks
+    ∙ ap {B = Result HeldRow Fault} (λ q. and_then (if q then Ok (row_of_cells (past_of_row arcs flags) satellite.name
+    (drop at line) cells) else Err BadFlags) (λ read. Ok (held_from arcs flags read))) e
+
+pub line-bad_marks : (arcs : List (Option ArcTail))
+    (flags : List ℕ) (satellite : Satellite) (line : List ℕ) (left : List (Option ArcTail)) (old new : Row) (at : ℕ)
+    → begins_epoch line ≡ false
+    → CellsAreRead arcs satellite.count line left old new at → are_marks satellite.count (drop at line) ≡ false
+    → row_held_from arcs flags satellite line ≡ Err BadFlags
+line-bad_marks arcs flags satellite line left old new at h read e =
+    line-marks arcs flags satellite line at read.cells false h read.good read.marks e
+
+length-values : (cells : List ReadCell) → length (map (λ (c : ReadCell). c.value) cells) ≡ length cells
+length-values [] = refl
+length-values (c ∷ cs) = ap suc (length-values cs)
+
+pub still-counted : (arcs : List (Option ArcTail)) (count : ℕ) (line : List ℕ)
+    (left : List (Option ArcTail)) (old new : Row) (at : ℕ) → CellsAreRead arcs count line left old new at
+    → length new.values ≡ count
+still-counted arcs count line left old new at read =
+    ap (λ (q : Row). length q.values) read.shown ∙ length-values read.cells
+    ∙ cells-count (value_at_place arcs) (cells_of count line) read.cells read.good ∙ texts-count count line
+
+line-read : (arcs : List (Option ArcTail))
+    (flags : List ℕ) (satellite : Satellite) (line : List ℕ) (left : List (Option ArcTail)) (old new row : Row) (at : ℕ)
+    → begins_epoch line ≡ false → old.name ≡ satellite.name
+    → CellsAreRead arcs satellite.count line left old new at → are_marks satellite.count (drop at line) ≡ true
+    → row ≡ record new { flags = columns (patched flags (drop at line)) 1 (2 * satellite.count) }
+    → row_held_from arcs flags satellite line ≡ Ok (record {
+      row = row;
+      tail = record {
+        name = satellite.name;
+        flags = flags_held satellite.count (patched flags (drop at line));
+        cells = left;
+      };
+    })
+line-read arcs flags satellite line left old new row at h name read e r =
+    let text : List ℕ = patched flags (drop at line) in
+    let codes : List Code = map (λ (c : ReadCell). c.code) read.cells in
+    let count : length read.cells ≡ satellite.count = sym (length-values read.cells) ∙ sym
+    (ap (λ (q : Row). length q.values) read.shown) ∙ still-counted arcs satellite.count line left old new at read in
+    let shown : row ≡ record {
+      name = satellite.name;
+      values = map (λ (c : ReadCell). c.value) read.cells;
+      flags = columns text 1 (2 * length read.cells);
+    } =
+    r ∙ ap {B = Row} (λ (q : Row). record q { flags = columns text 1 (2 * satellite.count) }) read.shown
+    ∙ ap {B = Row} (λ n. record {
+      name = n;
+      values = map (λ (c : ReadCell). c.value) read.cells;
+      flags = columns text 1 (2 * satellite.count);
+    }) name
+    ∙ ap {B = Row} (λ n. record {
+      name = satellite.name;
+      values = map (λ (c : ReadCell). c.value) read.cells;
+      flags = columns text 1 (2 * n);
+    }) (sym count) in
+    line-marks arcs flags satellite line at read.cells true h read.good read.marks e
+    ∙ ap {B = Result HeldRow Fault} (λ (q : Row). Ok (record {
+      row = q;
+      tail = record {
+        name = satellite.name;
+        flags = flags_held (length codes) text;
+        cells = arcs_of_codes arcs codes;
+      };
+    })) (sym shown)
+    ∙ ap {B = Result HeldRow Fault} (λ n. Ok (record {
+      row = row;
+      tail = record { name = satellite.name; flags = flags_held n text; cells = arcs_of_codes arcs codes };
+    }))
+    (length-map read.cells (λ (c : ReadCell). c.code) ∙ count)
+    ∙ ap {B = Result HeldRow Fault} (λ (cs : List (Option ArcTail)). Ok (record {
+      row = row;
+      tail = record { name = satellite.name; flags = flags_held satellite.count text; cells = cs };
+    })) (sym read.left)
+
+-- the same, where the name, the indicators and the row that are held are shown equal
+pub line-held : (arcs : List (Option ArcTail)) (flags : List ℕ) (satellite : Satellite)
+    (line : List ℕ) (left : List (Option ArcTail)) (old new row : Row) (at : ℕ) (name text : List ℕ)
+    → begins_epoch line ≡ false → old.name ≡ satellite.name
+    → CellsAreRead arcs satellite.count line left old new at → are_marks satellite.count (drop at line) ≡ true
+    → row ≡ record new { flags = columns (patched flags (drop at line)) 1 (2 * satellite.count) }
+    → name ≡ satellite.name → text ≡ flags_held satellite.count (patched flags (drop at line))
+    → row_held_from arcs flags satellite line
+    ≡ Ok (record { row = row; tail = record { name = name; flags = text; cells = left } })
+line-held arcs flags satellite line left old new row at name text h n read e r same t =
+    line-read arcs flags satellite line left old new row at h n read e r
+    ∙ ap {B = Result HeldRow Fault} (λ m. Ok (record {
+      row = row;
+      tail = record {
+        name = m;
+        flags = flags_held satellite.count (patched flags (drop at line));
+        cells = left;
+      };
+    })) (sym same)
+    ∙ ap {B = Result HeldRow Fault}
+    (λ q. Ok (record { row = row; tail = record { name = name; flags = q; cells = left } })) (sym t)
+
+-- ---- a line from a place on
+
+all : (text : List ℕ) → take (length text) text ≡ text
+all [] = refl
+all (x ∷ xs) = ap (λ r. x ∷ r) (all xs)
+
+pub line-from : (line : List ℕ) (at : ℕ) → take (length line - at) (drop at line) ≡ drop at line
+line-from line at = ap (λ n. take n (drop at line)) (sym (length-drop at line)) ∙ all (drop at line)
+
+-- ---- faults as they are reported
+
+pub cells-refused : (arcs : List (Option ArcTail))
+    (flags : List ℕ) (satellite : Satellite) (line : List ℕ) (fault : Fault) → begins_epoch line ≡ false
+    → (cells_read (value_at_place arcs) (cells_of satellite.count line) ≡ Err fault) ⊎ (fault ≡ OutOfMemory)
+    → (row_held_from arcs flags satellite line ≡ Err fault) ⊎ (fault ≡ OutOfMemory)
+cells-refused arcs flags satellite line fault h (inl e) = inl (line-fault arcs flags satellite line fault h e)
+cells-refused arcs flags satellite line fault h (inr e) = inr e
+
+pub marks-refused : (arcs : List (Option ArcTail)) (flags : List ℕ)
+    (satellite : Satellite) (line : List ℕ) (left : List (Option ArcTail)) (old new : Row) (at : ℕ) (fault : Fault)
+    → begins_epoch line ≡ false → CellsAreRead arcs satellite.count line left old new at
+    → ((are_marks satellite.count (drop at line) ≡ false) × (fault ≡ BadFlags)) ⊎ (fault ≡ OutOfMemory)
+    → (row_held_from arcs flags satellite line ≡ Err fault) ⊎ (fault ≡ OutOfMemory)
+marks-refused arcs flags satellite line left old new at fault h read (inl e) =
+    inl (line-bad_marks arcs flags satellite line left old new at h read e.0 ∙ ap Err (sym e.1))
+marks-refused arcs flags satellite line left old new at fault h read (inr e) = inr e
+
+-- ---- by what was kept of the whole epoch before
+
+cell-by_kept : (kept : Option RowTail) (place : ℕ)
+    → slice_index_or (arcs_of_tail kept) place None ≡ cell_of_tail place kept
+cell-by_kept None place = refl
+cell-by_kept (Some row) place = refl
+
+row-decided : (tail : Tail) (satellite : Satellite)
+    (marks : List ℕ) (begins good : Bool) (r : Result (List ReadCell) Fault)
+    → ◌≡◌ {A = Result HeldRow Fault}
+    (and_then (if begins then Err Truncated else and_then r (λ cells.
+    if good then Ok (row_of_cells (past_of_row (arcs_of_tail (tail_named satellite.name tail))
+    (flags_of_tail (tail_named satellite.name tail))) satellite.name marks cells) else Err BadFlags))
+    (λ read. Ok (held_from (arcs_of_tail (tail_named satellite.name tail))
+    (flags_of_tail (tail_named satellite.name tail)) read)))
+    (and_then (if begins then Err Truncated else and_then r
+    (λ cells. if good then Ok (row_of_cells (past_of_tail tail) satellite.name marks cells) else Err BadFlags))
+    (λ read. Ok (held_row tail read)))
+row-decided tail satellite marks true good r = refl
+row-decided tail satellite marks false good (Err fault) = refl
+row-decided tail satellite marks false false (Ok cells) = refl
+row-decided tail satellite marks false true (Ok cells) =
+    let kept : Option RowTail = tail_named satellite.name tail in
+    let codes : List Code = map (λ (c : ReadCell). c.code) cells in
+    ap {B = Result HeldRow Fault} (λ (cell : ℕ → Option ArcTail). Ok (record {
+      row = (row_of_cells (past_of_tail tail) satellite.name marks cells).row;
+      tail = record {
+        name = satellite.name;
+        flags = flags_held (length codes) (patched (flags_of_tail kept) marks);
+        cells = each_place (length codes) (λ place. arc_of_code (slice_index_or codes place Missing) (cell place));
+      };
+    })) (fun_ext (λ place. cell-by_kept kept place))
+
+pub row-by_tail : (tail : Tail) (satellite : Satellite) (line : List ℕ)
+    → row_held (tail_named satellite.name tail) satellite line ≡ row_after tail satellite line
+row-by_tail tail satellite line =
+    let kept : Option RowTail = tail_named satellite.name tail in
+    let past : Past = past_of_row (arcs_of_tail kept) (flags_of_tail kept) in
+    let marks : List ℕ = after_cells satellite.count line in
+    ap {B = Result HeldRow Fault} (λ (r : Result (List ReadCell) Fault).
+    and_then (if begins_epoch line then Err Truncated
+    else and_then r (λ cells. row_with_marks past satellite marks cells))
+    (λ read. Ok (held_from (arcs_of_tail kept) (flags_of_tail kept) read)))
+    (cells-same (value_at_place (arcs_of_tail kept)) ((past_of_tail tail).value satellite.name) (λ place code.
+    ap (value_of_code OBSERVATION_WIDTH code) (cell-by_kept kept place)) (cells_of satellite.count line))
+    ∙ row-decided tail satellite marks (begins_epoch line) (are_marks satellite.count marks)
+    (cells_read ((past_of_tail tail).value satellite.name) (cells_of satellite.count line))
+
+-- ---- what is reported, by a result
+
+pub if-ok : {X E : Type 0} (r : Result X E) (P Q : X → Type 0) → ((x : X) → P x → Q x) → IfOk r P → IfOk r Q
+if-ok (Ok x) P Q f h = f x h
+if-ok (Err e) P Q f h = h
+
+pub if-err : {X E : Type 0} (r : Result X E) (P Q : E → Type 0) → ((e : E) → P e → Q e) → IfErr r P → IfErr r Q
+if-err (Ok x) P Q f h = h
+if-err (Err e) P Q f h = f e h
+
+pub on-ok : {X E : Type 0} (r : Result X E) {P Q : Type 0} → (P → Q) → OnOk r P → OnOk r Q
+on-ok (Ok x) f h = f h
+on-ok (Err e) f h = h
+
+pub on-all : {X E : Type 0} (r : Result X E) {P Q R S : Type 0}
+    → (P → Q → R → S) → OnOk r P → OnOk r Q → OnOk r R → OnOk r S
+on-all (Ok x) f p q s = f p q s
+on-all (Err e) f p q s = tt
+
+pub in-any : {X E : Type 0} (r : Result X E) {P : Type 0} → P → OnOk r P
+in-any (Ok x) h = h
+in-any (Err e) h = tt
+
+-- the same fault of two results that are equal
+pub same-fault : {X : Type 0} (r s : Result X Fault)
+    → r ≡ s → (fault : Fault) → (r ≡ Err fault) ⊎ (fault ≡ OutOfMemory) → (s ≡ Err fault) ⊎ (fault ≡ OutOfMemory)
+same-fault r s e fault (inl h) = inl (sym e ∙ h)
+same-fault r s e fault (inr h) = inr h
+
+-- a row that was read is the next one
+pub next-row : (before : Tail) (kept : Option RowTail) (satellite : Satellite)
+    (line : List ℕ) (index : ℕ) (left : RowTail) (old new : Tail) → kept ≡ tail_named satellite.name before
+    → take (index + 1) new.rows ≡ take index old.rows ++ left ∷ [] → new.text ≡ old.text → new.clock ≡ old.clock
+    → (row : Row) → row_held kept satellite line ≡ Ok (record { row = row; tail = left })
+    → IsNextRow before satellite line index row old new
+next-row before kept satellite line index left old new found rows text clock row h =
+    record {
+      left = left;
+      read = sym (row-by_tail before satellite line) ∙ ap (λ k. row_held k satellite line) (sym found) ∙ h;
+      rows = rows;
+      text = text;
+      clock = clock;
+    }

@@ -1,0 +1,450 @@
+-- The lines of an epoch that have come, and what they make.
+use Rattle.std.specs.Prelude.{◌≡◌, refl, ℕ, suc, zero, ◌+◌, ◌-◌, ◌*◌, ◌≤◌, ◌<◌, List, [], ◌∷◌, ◌++◌, length, map, take}
+use Rattle.std.specs.Prelude.{drop, Option, Some, None, Ok, unwrap_or, ℤ, Bool, true, false, ◌==◌, Result, Err}
+use Rattle.std.specs.Prelude.{MatchResult, slice_get, is_some, min, IfOk, IfSome, if◌then◌else◌}
+use Rattle.std.specs.Result.{is_ok}
+use Rattle.std.proofs.Common.{sym, ◌∙◌, ap, subst, arith, inl, inr, ◌⊎◌, true≢false, add-one, get_or}
+use Rattle.std.proofs.lemmas.Option.{slice_get_within}
+use Rattle.std.proofs.lemmas.List.{length-take, length-append, length-map, length-take-le, length-drop, map-append}
+use Rattle.std.proofs.lemmas.List.{take_all}
+use Rattle.crx_lines.specs.declared.fault.Fault.{Fault}
+use Rattle.crx_lines.specs.declared.fault.Fault.TheVariants.{BadEpoch, BadFlags, OutOfMemory, Truncated}
+use Rattle.crx_rinex.specs.meaning.EpochLines.{ObservationHead, satellites_of, begins_epoch, epoch_count}
+use Rattle.crx_rinex.specs.Epochs.{begun, is_full_epoch}
+use Rattle.crx_rinex.specs.meaning.Epochs.{has_satellite, is_among, are_apart}
+use Rattle.crx_rinex.proofs.Apart.{among-names, apart-map, new_at}
+use Rattle.crx_compact.specs.meaning.CompactPlaces.{ReadCell, ReadRow, after_cells, are_marks, cells_of, cells_read}
+use Rattle.crx_compact.specs.meaning.CompactPlaces.{row_of_cells, row_of_line, row_with_marks, satellite_line_read}
+use Rattle.crx_compact.specs.meaning.CompactPlaces.{satellites_of_line}
+use Rattle.crx_compact.specs.Tails.{ArcTail, RowTail, Tail}
+use Rattle.crx_compact.specs.HeldRows.{row_after}
+use Rattle.crx_lines.specs.meaning.Seen.{Content}
+use Rattle.crx_compact.specs.OpenEpochs.{Faulty, HasMade, first_step, held_row, is_idle, line_step, opened_raw, opening}
+use Rattle.crx_compact.specs.OpenEpochs.{step_in, tail_for_line, Idle, HeldClock, HeldEpoch, HeldRow, OpenRawEpoch}
+use Rattle.crx_compact.specs.OpenEpochs.{RawStep, Going, Whole, whole_or_awaiting, past_of_tail, raw_step_with_row}
+use Rattle.crx_compact.specs.OpenLines.{IsRowAfter, columns_state, step_after, AreAnnounced, AreRowsSoFar, OpenLines}
+use Rattle.crx_compact.specs.OpenLines.{held_rows, lines_so_far, made_of, open_raw}
+use Rattle.crx_rinex.proofs.EachPlace.{length-each_place}
+use Rattle.crx_compact.proofs.reading.StepsByCode.{row-ok, row-err}
+use Rattle.crx_compact.proofs.soundness.Soundness.{ok-same, no-err, LineFacts, differ, line-facts_of}
+use Rattle.std.proofs.Math.ListN.{drop_of_length-le}
+use Rattle.crx_text.specs.meaning.Columns.{columns}
+use Rattle.crx_text.specs.Texts.{patched}
+use Rattle.crx_lines.specs.declared.limits.TheConstants.{HEAD_WIDTH, NAME_WIDTH}
+use Rattle.crx_rinex.specs.meaning.Observations.{Row, Epoch}
+use Rattle.crx_rinex.specs.meaning.ObservationTypes.{Count}
+use Rattle.crx_compact.specs.meaning.EpochText.{Satellite}
+use Rattle.crx_compact.specs.meaning.Sequences.{and_then}
+use Rattle.crx_compact.specs.declared.incoming.Stage.TheVariants.{Rows}
+use Rattle.crx_compact.proofs.Making.{taken_more, value-there}
+
+-- ---- the epoch line
+
+-- an epoch line that was read announces its satellites, and names no two of them alike
+pub announced : (types : List Count) (before old new : Tail) (line : List ℕ) (satellites : List Satellite)
+    → satellites_of_line types (past_of_tail before) line ≡ Ok satellites
+    → new ≡ record old { text = patched before.text line } → AreAnnounced new.text satellites
+announced types before old new line satellites e left =
+    let facts : LineFacts types (past_of_tail before) line satellites =
+    line-facts_of types (past_of_tail before) line satellites e in
+    let text : List ℕ = patched before.text line in
+    let names : length satellites ≡ facts.count =
+    sym (length-map satellites (λ (s : Satellite). s.name)) ∙ ap length facts.named.same
+    ∙ length-each_place facts.count (λ k. columns text (HEAD_WIDTH + 1 + NAME_WIDTH * k) NAME_WIDTH) in
+    let A : Tail → Type 0 = λ t. AreAnnounced t.text satellites in
+    subst A (sym left) (record {
+      counted = facts.counted ∙ ap {B = Option ℕ} Some (sym names);
+      apart = sym (apart-map (λ (n : List ℕ). n) (λ (s : Satellite). s.name) satellites)
+          ∙ ap differ facts.named.same ∙ facts.named.apart;
+    })
+
+-- ---- rows with what is left
+
+pub rows-held : (rows : List Row) (tails : List RowTail)
+    → length rows ≡ length tails → map (λ (r : HeldRow). r.row) (held_rows rows tails) ≡ rows
+rows-held [] tails e = refl
+rows-held (r ∷ rs) [] e = absurd (omega (arith, e))
+rows-held (r ∷ rs) (t ∷ ts) e = ap (λ q. r ∷ q) (rows-held rs ts (omega (arith, e)))
+
+pub tails-held : (rows : List Row) (tails : List RowTail)
+    → length rows ≡ length tails → map (λ (r : HeldRow). r.tail) (held_rows rows tails) ≡ tails
+tails-held [] [] e = refl
+tails-held [] (t ∷ ts) e = absurd (omega (arith, e))
+tails-held (r ∷ rs) [] e = absurd (omega (arith, e))
+tails-held (r ∷ rs) (t ∷ ts) e = ap (λ q. t ∷ q) (tails-held rs ts (omega (arith, e)))
+
+-- ---- what the lines so far have made
+
+going : (before : Tail) (text : List ℕ) (clock : HeldClock) (rows : List HeldRow) (awaited : List Satellite)
+    → 0 < length awaited
+    → made_of before (Some (record { text = text; clock = Some clock; rows = rows; awaited = awaited }))
+    ≡ Going (open_raw before (record { text = text; clock = Some clock; rows = rows; awaited = awaited }))
+going before text clock rows [] h = absurd (omega (arith, h))
+going before text clock rows (s ∷ ss) h = refl
+
+pub still-going : (before next : Tail) (count : ℕ) (satellites : List Satellite) (epoch : Epoch)
+    → count < length satellites
+    → made_of before (lines_so_far (Rows epoch) next count satellites)
+    ≡ Going (open_raw before (record {
+      text = next.text;
+      clock = Some (record {
+        value = epoch.clock;
+        arc = next.clock;
+      });
+      rows = held_rows epoch.rows (take count next.rows);
+      awaited = drop count satellites;
+    }))
+still-going before next count satellites epoch h =
+    let many : length (drop count satellites) ≡ length satellites - count = length-drop count satellites in
+    going before next.text (record { value = epoch.clock; arc = next.clock })
+    (held_rows epoch.rows (take count next.rows)) (drop count satellites) (omega (arith, many, h))
+
+pub now-whole : (before next left : Tail) (count : ℕ) (satellites : List Satellite) (epoch : Epoch)
+    → AreRowsSoFar epoch next count satellites → length satellites ≤ count
+    → left ≡ record next { rows = take count next.rows }
+    → made_of before (lines_so_far (Rows epoch) next count satellites) ≡ Whole (record { epoch = epoch; tail = left })
+now-whole before next left count satellites epoch h all e =
+    let clock : HeldClock = record { value = epoch.clock; arc = next.clock } in
+    let rows : List HeldRow = held_rows epoch.rows (take count next.rows) in
+    let paired : length epoch.rows ≡ length (take count next.rows) = h.counted
+    ∙ sym (length-take-le count next.rows h.left) in
+    ap {B = RawStep} (λ (ss : List Satellite). made_of before (Some (record {
+      text = next.text;
+      clock = Some clock;
+      rows = rows;
+      awaited = ss;
+    }))) (drop_of_length-le satellites all)
+    ∙ ap {B = RawStep} (λ (hs : List ℕ). Whole (record {
+      epoch = record { head = hs; clock = epoch.clock; rows = map (λ (r : HeldRow). r.row) rows };
+      tail = record { text = next.text; clock = next.clock; rows = map (λ (r : HeldRow). r.tail) rows };
+    })) (sym h.head)
+    ∙ ap {B = RawStep} (λ (rs : List Row). Whole (record {
+      epoch = record { head = epoch.head; clock = epoch.clock; rows = rs };
+      tail = record { text = next.text; clock = next.clock; rows = map (λ (r : HeldRow). r.tail) rows };
+    })) (rows-held epoch.rows (take count next.rows) paired)
+    ∙ ap {B = RawStep} (λ (ts : List RowTail). Whole (record {
+      epoch = epoch;
+      tail = record { text = next.text; clock = next.clock; rows = ts };
+    })) (tails-held epoch.rows (take count next.rows) paired)
+    ∙ ap {B = RawStep} (λ (t : Tail). Whole (record { epoch = epoch; tail = t })) (sym e)
+
+-- what goes on from an open epoch doesn't depend on its clock, rows and satellites, where others are given
+gone-same : (before : Tail) (text : List ℕ) (c : Option HeldClock)
+    (rs : List HeldRow) (ss : List Satellite) (c' : Option HeldClock) (rs' : List HeldRow) (ss' : List Satellite)
+    (clock : HeldClock) (rows : List HeldRow) (awaited : List Satellite)
+    → whole_or_awaiting (record { before = before; text = text; clock = c; rows = rs; awaited = ss }) clock rows awaited
+    ≡ whole_or_awaiting (record {
+      before = before;
+      text = text;
+      clock = c';
+      rows = rs';
+      awaited = ss';
+    }) clock rows awaited
+gone-same before text c rs ss c' rs' ss' clock rows [] = refl
+gone-same before text c rs ss c' rs' ss' clock rows (s ∷ awaited) = refl
+
+-- ---- the clock line
+
+pub line-made : (line : Result ObservationHead Fault) (head : List ℕ) (clock : Option ℤ)
+    → MatchResult line (λ (l : ObservationHead). (epoch_count head ≡ Some l.count)
+    × (l.head ≡ head) × (l.clock ≡ clock)) (λ fault. (epoch_count head ≡ None) × (fault ≡ BadEpoch))
+    → is_some (epoch_count head) ≡ true → is_ok line ≡ true
+line-made (Ok l) head clock h e = refl
+line-made (Err fault) head clock h e = absurd (true≢false (sym e ∙ ap {B = Bool} (λ (n : Option ℕ). is_some n) h.0))
+
+pub made-line : (line : Result ObservationHead Fault) (head : List ℕ) (clock : Option ℤ) (l : ObservationHead)
+    → MatchResult line (λ (l : ObservationHead). (epoch_count head ≡ Some l.count)
+    × (l.head ≡ head) × (l.clock ≡ clock)) (λ fault. (epoch_count head ≡ None) × (fault ≡ BadEpoch))
+    → line ≡ Ok l → begun l ≡ record { head = head; clock = clock; rows = [] }
+made-line (Ok k) head clock l h e =
+    ap begun (sym (ok-same k l e))
+    ∙ ap {B = Epoch} (λ (hs : List ℕ). record { head = hs; clock = k.clock; rows = [] }) h.1
+    ∙ ap {B = Epoch} (λ (q : Option ℤ). record { head = head; clock = q; rows = [] }) h.2
+made-line (Err fault) head clock l h e = absurd (no-err fault l e)
+
+-- ---- satellite lines
+
+pub satellite-here : (satellites : List Satellite) (count : ℕ) (s : Satellite)
+    → slice_get satellites count ≡ Some s → drop count satellites ≡ s ∷ drop (count + 1) satellites
+satellite-here satellites count s e = here satellites count s e ∙ ap (λ n. s ∷ drop n satellites) (sym (add-one count))
+  where
+    some-same : (x y : Satellite) → ◌≡◌ {A = Option Satellite} (Some x) (Some y) → x ≡ y
+    some-same x y h = ap (λ (o : Option Satellite). unwrap_or o x) h
+
+    here : (satellites : List Satellite) (count : ℕ) (s : Satellite)
+        → slice_get satellites count ≡ Some s → drop count satellites ≡ s ∷ drop (suc count) satellites
+    here [] zero s e = absurd (true≢false (sym (ap {B = Bool} (λ (o : Option Satellite). is_some o) e)))
+    here [] (suc count) s e = absurd (true≢false (sym (ap {B = Bool} (λ (o : Option Satellite). is_some o) e)))
+    here (q ∷ qs) zero s e = ap (λ x. x ∷ qs) (some-same q s e)
+    here (q ∷ qs) (suc count) s e = here qs count s e
+
+pub held-more : (rows : List Row) (tails : List RowTail) (row : Row) (tail : RowTail) → length rows ≡ length tails
+    → held_rows (rows ++ row ∷ []) (tails ++ tail ∷ []) ≡ held_rows rows tails ++ record { row = row; tail = tail } ∷ []
+held-more [] [] row tail e = refl
+held-more [] (t ∷ ts) row tail e = absurd (omega (arith, e))
+held-more (r ∷ rs) [] row tail e = absurd (omega (arith, e))
+held-more (r ∷ rs) (t ∷ ts) row tail e =
+    ap (λ (hs : List HeldRow). record { row = r; tail = t } ∷ hs) (held-more rs ts row tail (omega (arith, e)))
+
+pub row-taken : (before next later : Tail) (line : List ℕ) (count : ℕ)
+    (satellites : List Satellite) (epoch after : Epoch) (s : Satellite) → AreRowsSoFar epoch next count satellites
+    → slice_get satellites count ≡ Some s → IsRowAfter before s line count epoch after next later
+    → step_after before (lines_so_far (Rows epoch) next count satellites) line
+    ≡ made_of before (lines_so_far (Rows after) later (count + 1) satellites)
+row-taken before next later line count satellites epoch after s h e r =
+    let clock : HeldClock = record { value = epoch.clock; arc = next.clock } in
+    let rows : List HeldRow = held_rows epoch.rows (take count next.rows) in
+    let rest : List Satellite = drop (count + 1) satellites in
+    let held : HeldRow = record { row = r.row; tail = r.next.left } in
+    let so_far : OpenRawEpoch = record {
+      before = before;
+      text = next.text;
+      clock = Some clock;
+      rows = rows;
+      awaited = drop count satellites;
+    } in
+    let paired : length epoch.rows ≡ length (take count next.rows) = h.counted
+    ∙ sym (length-take-le count next.rows h.left) in
+    let more : held_rows (epoch.rows ++ r.row ∷ []) (take (count + 1) later.rows) ≡ rows ++ held ∷ [] =
+    ap (held_rows (epoch.rows ++ r.row ∷ [])) r.next.rows
+    ∙ held-more epoch.rows (take count next.rows) r.row r.next.left paired in
+    ap {B = RawStep} (λ (ss : List Satellite). line_step so_far (Some clock) ss line)
+    (satellite-here satellites count s e)
+    ∙ row-ok so_far clock s rest line held r.next.read
+    ∙ gone-same before next.text (Some clock) rows
+    (drop count satellites) (Some clock) (rows ++ held ∷ []) rest clock (rows ++ held ∷ []) rest
+    ∙ ap {B = RawStep} (λ (hs : List HeldRow).
+    made_of before (Some (record { text = next.text; clock = Some clock; rows = hs; awaited = rest }))) (sym more)
+    ∙ ap {B = RawStep} (λ (t : List ℕ). made_of before (Some (record {
+      text = t;
+      clock = Some clock;
+      rows = held_rows (epoch.rows ++ r.row ∷ []) (take (count + 1) later.rows);
+      awaited = rest;
+    }))) (sym r.next.text)
+    ∙ ap {B = RawStep} (λ (arc : Option ArcTail). made_of before
+    (Some (record {
+      text = later.text;
+      clock = Some (record { value = epoch.clock; arc = arc });
+      rows = held_rows
+          (epoch.rows ++ r.row ∷ []) (take (count + 1) later.rows);
+      awaited = rest;
+    }))) (sym r.next.clock)
+    ∙ ap {B = RawStep} (λ (q : Epoch). made_of before (lines_so_far (Rows q) later (count + 1) satellites)) (sym r.with)
+
+pub row-refused : (before next : Tail)
+    (line : List ℕ) (count : ℕ) (satellites : List Satellite) (epoch : Epoch) (s : Satellite) (fault : Fault)
+    → slice_get satellites count ≡ Some s → (row_after before s line ≡ Err fault) ⊎ (fault ≡ OutOfMemory)
+    → (step_after before (lines_so_far (Rows epoch) next count satellites) line ≡ Faulty fault) ⊎ (fault ≡ OutOfMemory)
+row-refused before next line count satellites epoch s fault e (inr h) = inr h
+row-refused before next line count satellites epoch s fault e (inl h) =
+    let clock : HeldClock = record { value = epoch.clock; arc = next.clock } in
+    let so_far : OpenRawEpoch = record {
+      before = before;
+      text = next.text;
+      clock = Some clock;
+      rows = held_rows epoch.rows (take count next.rows);
+      awaited = drop count satellites;
+    } in
+    inl (ap {B = RawStep} (λ (ss : List Satellite). line_step so_far (Some clock) ss line)
+    (satellite-here satellites count s e)
+    ∙ row-err so_far clock s (drop (count + 1) satellites) line fault h)
+
+-- a satellite's row has its identifier
+named-by_marks : (before : Tail) (s : Satellite) (marks : List ℕ) (cells : List ReadCell) (b : Bool)
+    → are_marks s.count marks ≡ b
+    → IfOk (and_then (if b then Ok (row_of_cells (past_of_tail before) s.name marks cells)
+    else Err BadFlags) (λ read. Ok (held_row before read))) (λ (held : HeldRow). held.row.name ≡ s.name)
+named-by_marks before s marks cells true e = refl
+named-by_marks before s marks cells false e = tt
+
+named-by_cells : (before : Tail) (s : Satellite) (marks : List ℕ) (cells : Result (List ReadCell) Fault)
+    → IfOk (and_then (and_then cells (λ cs. row_with_marks (past_of_tail before) s marks cs))
+    (λ read. Ok (held_row before read))) (λ (held : HeldRow). held.row.name ≡ s.name)
+named-by_cells before s marks (Err fault) = tt
+named-by_cells before s marks (Ok cells) = named-by_marks before s marks cells (are_marks s.count marks) refl
+
+named-by_line : (before : Tail) (s : Satellite) (line : List ℕ) (b : Bool)
+    → IfOk (and_then (if b then Err Truncated else row_of_line (past_of_tail before) s line)
+    (λ read. Ok (held_row before read))) (λ (held : HeldRow). held.row.name ≡ s.name)
+named-by_line before s line true = tt
+named-by_line before s line false = named-by_cells before s
+    (after_cells s.count line) (cells_read ((past_of_tail before).value s.name) (cells_of s.count line))
+
+pub name-read : (before : Tail) (s : Satellite) (line : List ℕ) (held : HeldRow)
+    → row_after before s line ≡ Ok held → held.row.name ≡ s.name
+name-read before s line held e =
+    let P : Result HeldRow Fault → Type 0 = λ r. IfOk r (λ (q : HeldRow). q.row.name ≡ s.name) in
+    subst P e (named-by_line before s line (begins_epoch line))
+
+-- the next satellite is none of those before it
+pub next-new : (next : Tail) (count : ℕ) (satellites : List Satellite) (epoch : Epoch) (s : Satellite)
+    → AreRowsSoFar epoch next count satellites → slice_get satellites count ≡ Some s
+    → has_satellite s.name epoch.rows ≡ false
+next-new next count satellites epoch s h e =
+    let inside : count < length satellites = slice_get_within satellites count s e in
+    let all : take (length satellites) satellites ≡ satellites =
+    take_all (length satellites) satellites (omega arith) in
+    let there : get_or satellites count s ≡ s = value-there satellites count s s e in
+    among-names (λ (r : Row). r.name) (λ (q : Satellite). q.name) s.name epoch.rows (take count satellites) h.named
+    ∙ ap (λ (q : Satellite). is_among (λ (w : Satellite). w.name) q.name (take count satellites)) (sym there)
+    ∙ new_at (λ (q : Satellite). q.name) (length satellites) satellites count s
+    (ap (λ (ss : List Satellite). are_apart (λ (q : Satellite). q.name) ss) all ∙ h.announced.apart) inside inside
+
+pub rows-more : (before next later : Tail) (line : List ℕ) (count : ℕ)
+    (satellites : List Satellite) (epoch after : Epoch) (s : Satellite) → AreRowsSoFar epoch next count satellites
+    → slice_get satellites count ≡ Some s
+    → IsRowAfter before s line count epoch after next later → AreRowsSoFar after later (count + 1) satellites
+rows-more before next later line count satellites epoch after s h e r =
+    let kept : length (take (count + 1) later.rows) ≡ count + 1 =
+    ap length r.next.rows ∙ length-append (take count next.rows) (r.next.left ∷ [])
+    ∙ ap (λ n. n + 1) (length-take-le count next.rows h.left) in
+    let least : length (take (count + 1) later.rows) ≡ min (count + 1) (length later.rows) =
+    length-take (count + 1) later.rows in
+    record {
+      head = ap (λ (q : Epoch). q.head) r.with ∙ h.head ∙ ap (λ t. columns t 1 HEAD_WIDTH) (sym r.next.text);
+      announced = let A : List ℕ → Type 0 = λ t. AreAnnounced t satellites in subst A (sym r.next.text) h.announced;
+      counted = ap (λ (q : Epoch). length q.rows) r.with
+          ∙ length-append epoch.rows (r.row ∷ []) ∙ ap (λ n. n + 1) h.counted;
+      named =
+          ap (λ (q : Epoch). map (λ (w : Row). w.name) q.rows) r.with
+          ∙ map-append (λ (w : Row). w.name) epoch.rows (r.row ∷ [])
+          ∙ ap (λ (n : List ℕ). map (λ (w : Row). w.name) epoch.rows ++ n ∷ [])
+          (name-read before s line (record { row = r.row; tail = r.next.left }) r.next.read)
+          ∙ ap (λ (ns : List (List ℕ)). ns ++ s.name ∷ []) h.named
+          ∙ sym (ap (map (λ (w : Satellite). w.name)) (taken_more satellites count s e)
+          ∙ map-append (λ (w : Satellite). w.name) (take count satellites) (s ∷ []));
+      within = let inside : count < length satellites = slice_get_within satellites count s e in omega (arith, inside);
+      left = omega (arith, kept, least);
+    }
+
+-- an epoch whose satellites haven't all come isn't full
+pub not-full : (next : Tail) (count : ℕ) (satellites : List Satellite) (epoch : Epoch) (s : Satellite)
+    → AreRowsSoFar epoch next count satellites → slice_get satellites count ≡ Some s
+    → is_full_epoch epoch ≡ false
+not-full next count satellites epoch s h e =
+    let inside : count < length satellites = slice_get_within satellites count s e in
+    let many : satellites_of epoch.head ≡ length satellites =
+    ap (λ (n : Option ℕ). unwrap_or n 0) (ap epoch_count h.head ∙ h.announced.counted) in
+    ap (λ n. n == satellites_of epoch.head) h.counted
+    ∙ ap (λ n. count == n) many ∙ differ_nat count (length satellites) inside
+  where
+    differ_nat : (a b : ℕ) → a < b → (a == b) ≡ false
+    differ_nat a b h = grind (arith, h)
+
+-- where all lines have come, one more changes nothing
+pub all-taken : (before next : Tail) (line : List ℕ) (count : ℕ) (satellites : List Satellite) (epoch : Epoch)
+    → slice_get satellites count ≡ None
+    → step_after before (lines_so_far (Rows epoch) next count satellites) line
+    ≡ made_of before (lines_so_far (Rows epoch) next count satellites)
+all-taken before next line count satellites epoch e =
+    let clock : HeldClock = record { value = epoch.clock; arc = next.clock } in
+    let so_far : OpenRawEpoch = record {
+      before = before;
+      text = next.text;
+      clock = Some clock;
+      rows = held_rows epoch.rows (take count next.rows);
+      awaited = drop count satellites;
+    } in
+    let none : drop count satellites ≡ [] = past satellites count e in
+    ap {B = RawStep} (λ (ss : List Satellite). line_step so_far (Some clock) ss line) none
+    ∙ sym (ap {B = RawStep} (λ (ss : List Satellite). whole_or_awaiting so_far clock so_far.rows ss) none)
+  where
+    past : (satellites : List Satellite) (count : ℕ) → slice_get satellites count ≡ None → drop count satellites ≡ []
+    past [] zero e = refl
+    past [] (suc count) e = refl
+    past (q ∷ qs) zero e = absurd (true≢false (ap {B = Bool} (λ (o : Option Satellite). is_some o) e))
+    past (q ∷ qs) (suc count) e = past qs count e
+
+-- ---- the states of a reader of epochs
+
+-- an epoch line that was read after a tail leaves an open epoch
+pub begun-state : (types : List Count) (line : List ℕ)
+    (tail held : Option Tail) (before : Tail) (incoming : Option OpenLines) → tail_for_line held line ≡ Some before
+    → IfSome incoming (λ lines. opened_raw types line (Some before) ≡ Ok (open_raw before lines))
+    → is_some incoming ≡ true
+    → HasMade (first_step types held (Content line)) (columns_state tail before incoming) None
+begun-state types line tail held before None e h k = absurd (true≢false (sym k))
+begun-state types line tail held before (Some lines) e h k = (
+  open_raw before lines,
+  ap {B = RawStep} (λ (t : Option Tail). opening (opened_raw types line t)) e
+      ∙ ap {B = RawStep} (λ (r : Result OpenRawEpoch Fault). opening r) h,
+  refl,
+)
+
+-- what a line makes in an open epoch
+pub step-in : (tail : Option Tail) (before : Tail) (incoming : Option OpenLines) (line : List ℕ)
+    → is_some incoming ≡ true
+    → step_in (columns_state tail before incoming) (Content line) ≡ step_after before incoming line
+step-in tail before None line e = absurd (true≢false (sym e))
+step-in tail before (Some lines) line e = refl
+
+-- whether an epoch is open shows in the state
+pub state-open : (tail : Option Tail) (before : Tail) (incoming : Option OpenLines)
+    → is_idle (columns_state tail before incoming) ≡ false → is_some incoming ≡ true
+state-open tail before None e = absurd (true≢false e)
+state-open tail before (Some lines) e = refl
+
+pub state-idle : (tail : Option Tail) (before : Tail) (incoming : Option OpenLines)
+    → is_idle (columns_state tail before incoming) ≡ true → incoming ≡ None
+state-idle tail before None e = refl
+state-idle tail before (Some lines) e = absurd (true≢false (sym e))
+
+-- an epoch that goes on, and a whole one
+pub still-made : (step : RawStep) (tail : Option Tail) (before : Tail) (taken : Option OpenLines)
+    → step ≡ made_of before taken → is_some taken ≡ true
+    → IfSome taken (λ lines. (t : Tail) → made_of t taken ≡ Going (open_raw t lines))
+    → HasMade step (columns_state tail before taken) None
+still-made step tail before None e k h = absurd (true≢false (sym k))
+still-made step tail before (Some lines) e k h = (open_raw before lines, e ∙ h before, refl)
+
+pub whole-made : (step : RawStep) (before left : Tail) (taken : Option OpenLines) (epoch : Epoch)
+    → step ≡ made_of before taken
+    → ((t : Tail) → made_of t taken ≡ Whole (record { epoch = epoch; tail = left }))
+    → HasMade step (Idle (Some left)) (Some epoch)
+whole-made step before left taken epoch e h = (record { epoch = epoch; tail = left }, e ∙ h before, refl, refl)
+
+-- ---- a line after which another one is awaited
+
+abbrev is_whole : RawStep → Bool
+is_whole (Going begun) = false
+is_whole (Whole held) = true
+is_whole (Faulty fault) = false
+
+row-not-whole : (begun : OpenRawEpoch)
+    (clock : HeldClock) (s : Satellite) (awaited : List Satellite) (read : Result ReadRow Fault) (held : HeldEpoch)
+    → raw_step_with_row begun clock (s ∷ awaited) read ≡ Whole held → ⊥
+row-not-whole begun clock s awaited (Ok read) held e = absurd (true≢false (sym (ap is_whole e)))
+row-not-whole begun clock s awaited (Err fault) held e = absurd (true≢false (sym (ap is_whole e)))
+
+not-whole : (begun : OpenRawEpoch) (clock : Option HeldClock)
+    (awaited : List Satellite) (line : List ℕ) (held : HeldEpoch) → is_some clock ≡ true → 1 < length awaited
+    → line_step begun clock awaited line ≡ Whole held → ⊥
+not-whole begun None awaited line held k l e = absurd (true≢false (sym k))
+not-whole begun (Some clock) [] line held k l e = absurd (omega (arith, l))
+not-whole begun (Some clock) (s ∷ []) line held k l e = absurd (omega (arith, l))
+not-whole begun (Some clock) (s ∷ t ∷ awaited) line held k l e =
+    row-not-whole begun clock t awaited (satellite_line_read (past_of_tail begun.before) s line) held e
+
+goes-on : (before : Tail) (text : List ℕ) (clock : Option HeldClock)
+    (rows : List HeldRow) (awaited : List Satellite) (step : RawStep) → ((held : HeldEpoch) → step ≡ Whole held → ⊥)
+    → step ≡ made_of before (Some (record { text = text; clock = clock; rows = rows; awaited = awaited }))
+    → made_of before (Some (record { text = text; clock = clock; rows = rows; awaited = awaited }))
+    ≡ Going (record { before = before; text = text; clock = clock; rows = rows; awaited = awaited })
+goes-on before text None rows awaited step n e = refl
+goes-on before text (Some clock) rows [] step n e = absurd (n _ e)
+goes-on before text (Some clock) rows (s ∷ awaited) step n e = refl
+
+-- where the clock has come and more than one satellite is awaited, a line that is taken leaves an open epoch
+pub early-made : (step : RawStep) (tail : Option Tail) (before : Tail) (old taken : Option OpenLines) (line : List ℕ)
+    → step ≡ step_after before old line → is_some old ≡ true
+    → IfSome old (λ lines. (is_some lines.clock ≡ true) × (1 < length lines.awaited))
+    → step ≡ made_of before taken → is_some taken ≡ true
+    → HasMade step (columns_state tail before taken) None
+early-made step tail before None taken line d k h e m = absurd (true≢false (sym k))
+early-made step tail before (Some lines) None line d k h e m = absurd (true≢false (sym m))
+early-made step tail before (Some lines) (Some later) line d k h e m = (
+  open_raw before later,
+  e ∙ goes-on before later.text later.clock later.rows later.awaited step
+      (λ held w. not-whole (open_raw before lines) lines.clock lines.awaited line held h.0 h.1 (sym d ∙ w)) e,
+  refl,
+)

@@ -1,0 +1,265 @@
+-- The tail of a block of raw epochs decides what the next one stands for, and the next tail.
+use Rattle.std.specs.Prelude.{◌≡◌, refl, ℕ, zero, suc, ◌<◌, ℤ, Bool, true, false, List, [], ◌∷◌, ◌*◌, map, length}
+use Rattle.std.specs.Prelude.{Option, Some, None, ⊤, if◌then◌else◌, unwrap_or}
+use Rattle.std.specs.List.{AllByRecursion}
+use Rattle.std.specs.Option.{option_map}
+use Rattle.std.proofs.Common.{sym, ◌∙◌, ap, arith, not-suc-le-zero}
+use Rattle.std.proofs.Math.Path.{fun_ext}
+use Rattle.std.proofs.lemmas.List.{get_or_past}
+use Rattle.crx_text.specs.Texts.{patched}
+use Rattle.crx_lines.specs.meaning.Seen.{ReadLine}
+use Rattle.crx_text.specs.declared.code.Code.{Code}
+use Rattle.crx_text.specs.declared.code.Code.TheVariants.{Missing, Start, Step}
+use Rattle.crx_lines.specs.declared.limits.TheConstants.{OBSERVATION_WIDTH, CLOCK_WIDTH}
+use Rattle.crx_rinex.specs.meaning.ObservationTypes.{Count}
+use Rattle.crx_rinex.specs.meaning.EachPlace.{each_place}
+use Rattle.crx_compact.specs.meaning.Sequences.{stretch}
+use Rattle.crx_compact.specs.meaning.Differences.{value_at}
+use Rattle.crx_rinex.specs.meaning.EpochLines.{begins_epoch}
+use Rattle.crx_compact.specs.meaning.Expansion.{RawRow, RawEpoch, Started, onto_started, since_start, block_of}
+use Rattle.crx_compact.specs.meaning.Expansion.{overlaid, raw_row_named, raw_run_of, marks_of, code_in, in_range}
+use Rattle.crx_compact.specs.meaning.Expansion.{value_since, value_of}
+use Rattle.crx_compact.specs.Expansion.{text_of}
+use Rattle.crx_compact.specs.meaning.Past.{Past, past_of_block, past_of_epochs, past_of_line}
+use Rattle.crx_compact.specs.meaning.CompactPlaces.{epoch_against, epoch_at}
+use Rattle.crx_compact.specs.Tails.{ArcTail, RowTail, Tail, started_tail, raw_row_tail, raw_row_tails, tail_of_block}
+use Rattle.crx_compact.specs.Tails.{tail_left}
+use Rattle.crx_compact.specs.Steps.{no_tail, tail_named, cell_of_tail, flags_of_tail, flags_held, value_of_code}
+use Rattle.crx_compact.specs.Steps.{arc_of_code, raw_row_tail_after, raw_tail_after}
+use Rattle.crx_compact.specs.OpenEpochs.{past_of_tail, tail_for_line, epoch_after}
+use Rattle.crx_compact.specs.ReadingLaws.{HasSingleLines, RawByTail}
+use Rattle.crx_rinex.proofs.EachPlace.{each_place-same, index-each_place}
+use Rattle.crx_compact.proofs.arcs.Inversion.{value-first}
+use Rattle.crx_compact.proofs.arcs.Stepping.{values-by_tail, first-differences}
+use Rattle.crx_compact.proofs.wayback.Overlays.{overlaid-patched}
+use Rattle.crx_compact.proofs.wayback.Cuts.{overlaid-take}
+use Rattle.crx_compact.proofs.wayback.Runs.{named-made}
+
+-- ---- one code more
+
+-- a started arc has numbers
+abbrev HasNumbers : Option Started → Type 0
+HasNumbers None = ⊤
+HasNumbers (Some arc) = 0 < length arc.numbers
+
+numbers-onto : (d : ℤ) (o : Option Started) → HasNumbers o → HasNumbers (option_map (onto_started d) o)
+numbers-onto d None h = tt
+numbers-onto d (Some arc) h = omega arith
+
+has-numbers : (cs : List Code) → HasNumbers (since_start cs)
+has-numbers [] = tt
+has-numbers (Missing ∷ cs) = tt
+has-numbers (Start n v ∷ cs) = omega arith
+has-numbers (Step d ∷ cs) = numbers-onto d (since_start cs) (has-numbers cs)
+
+value-start : (n : ℕ) (v : ℤ) → value_at n (v ∷ []) ≡ v
+value-start zero v = refl
+value-start (suc n) v = value-first n v
+
+step-value : (width : ℕ) (d : ℤ) (n : ℕ) (numbers : List ℤ) → 0 < length numbers
+    → in_range width (value_at n (d ∷ numbers))
+    ≡ value_of_code width (Step d) (started_tail (Some (record { order = n; numbers = numbers })))
+step-value width d n [] h = absurd (not-suc-le-zero h)
+step-value width d n (b ∷ bs) h = ap (in_range width) (values-by_tail n d b bs).value
+
+step-arc : (d : ℤ) (n : ℕ) (numbers : List ℤ) → 0 < length numbers
+    → started_tail (Some (record { order = n; numbers = d ∷ numbers }))
+    ≡ arc_of_code (Step d) (started_tail (Some (record { order = n; numbers = numbers })))
+step-arc d n [] h = absurd (not-suc-le-zero h)
+step-arc d n (b ∷ bs) h = ap {B = Option ArcTail} Some (values-by_tail n d b bs).tail
+
+step-value_of : (width : ℕ) (d : ℤ) (o : Option Started)
+    → HasNumbers o → value_since width (option_map (onto_started d) o) ≡ value_of_code width (Step d) (started_tail o)
+step-value_of width d None h = refl
+step-value_of width d (Some arc) h = step-value width d arc.order arc.numbers h
+
+step-arc_of : (d : ℤ) (o : Option Started)
+    → HasNumbers o → started_tail (option_map (onto_started d) o) ≡ arc_of_code (Step d) (started_tail o)
+step-arc_of d None h = refl
+step-arc_of d (Some arc) h = step-arc d arc.order arc.numbers h
+
+pub value-next : (width : ℕ) (c : Code) (cs : List Code)
+    → value_of width (c ∷ cs) ≡ value_of_code width c (started_tail (since_start cs))
+value-next width Missing cs = refl
+value-next width (Start n v) cs = ap (in_range width) (value-start n v)
+value-next width (Step d) cs = step-value_of width d (since_start cs) (has-numbers cs)
+
+pub number-next : (c : Code) (cs : List Code)
+    → started_tail (since_start (c ∷ cs)) ≡ arc_of_code c (started_tail (since_start cs))
+number-next Missing cs = refl
+number-next (Start n v) cs =
+    ap {B = Option ArcTail} (λ ds. Some (record { order = n; differences = ds })) (
+    first-differences n (value_at n (v ∷ [])) ∙ ap (λ (x : ℤ). x ∷ []) (value-start n v))
+number-next (Step d) cs = step-arc_of d (since_start cs) (has-numbers cs)
+
+-- ---- what a tail holds of a satellite
+
+cell-found : (rest : List (Option RawRow)) (found : Option RawRow) (j : ℕ)
+    → cell_of_tail j (option_map (raw_row_tail (stretch (found ∷ rest))) found)
+    ≡ started_tail (since_start (map (code_in j) (stretch (found ∷ rest))))
+cell-found rest None j = refl
+cell-found rest (Some r) j =
+    index-each_place (length r.codes) j
+    (λ i. started_tail (since_start (map (code_in i) (r ∷ stretch rest)))) None (λ le.
+    ap (λ c. started_tail (since_start (c ∷ map (code_in j) (stretch rest)))) (get_or_past r.codes j Missing le))
+
+flags-found : (rest : List (Option RawRow)) (found : Option RawRow)
+    → flags_of_tail (option_map (raw_row_tail (stretch (found ∷ rest))) found)
+    ≡ overlaid (marks_of (stretch (found ∷ rest)))
+flags-found rest None = refl
+flags-found rest (Some r) = refl
+
+cell-left : (name : List ℕ) (block : List RawEpoch) (j : ℕ)
+    → cell_of_tail j (tail_named name (tail_of_block block))
+    ≡ started_tail (since_start (map (code_in j) (raw_run_of name block)))
+cell-left name [] j = refl
+cell-left name (e ∷ es) j =
+    ap (cell_of_tail j) (named-made (λ (r : RawRow). r.name)
+    (λ (t : RowTail). t.name) (λ n r. raw_row_tail (raw_run_of n (e ∷ es)) r) (λ n r. refl) name e.rows)
+    ∙ cell-found (map (λ (q : RawEpoch). raw_row_named name q.rows) es) (raw_row_named name e.rows) j
+
+flags-left : (name : List ℕ) (block : List RawEpoch)
+    → flags_of_tail (tail_named name (tail_of_block block)) ≡ overlaid (marks_of (raw_run_of name block))
+flags-left name [] = refl
+flags-left name (e ∷ es) =
+    ap flags_of_tail (named-made (λ (r : RawRow). r.name)
+    (λ (t : RowTail). t.name) (λ n r. raw_row_tail (raw_run_of n (e ∷ es)) r) (λ n r. refl) name e.rows)
+    ∙ flags-found (map (λ (q : RawEpoch). raw_row_named name q.rows) es) (raw_row_named name e.rows)
+
+-- ---- one line more
+
+row-tail : (raw : RawEpoch) (block : List RawEpoch) (r : RawRow) → raw_row_named r.name raw.rows ≡ Some r
+    → raw_row_tail (raw_run_of r.name (raw ∷ block)) r ≡ raw_row_tail_after (tail_named r.name (tail_of_block block)) r
+row-tail raw block r own =
+    let n : ℕ = length r.codes in
+    let rs : List RawRow = raw_run_of r.name block in
+    let found : Option RowTail = tail_named r.name (tail_of_block block) in
+    let run : raw_run_of r.name (raw ∷ block) ≡ r ∷ raw_run_of r.name block =
+    ap (λ (o : Option RawRow). stretch (o ∷ map (λ (q : RawEpoch). raw_row_named r.name q.rows) block)) own in
+    let cells : each_place n (λ j. started_tail (since_start (map (code_in j) (r ∷ rs))))
+    ≡ each_place n (λ j. arc_of_code (code_in j r) (cell_of_tail j found)) =
+    each_place-same n (λ j. started_tail (since_start (map (code_in j) (r ∷ rs))))
+    (λ j. arc_of_code (code_in j r) (cell_of_tail j found)) (λ j.
+    number-next (code_in j r) (map (code_in j) rs) ∙ ap (arc_of_code (code_in j r)) (sym (cell-left r.name block j))) in
+    let flags : overlaid (marks_of (r ∷ rs)) ≡ flags_held n (patched (flags_of_tail found) r.marks) =
+    overlaid-take (2 * n) (r.marks ∷ marks_of rs)
+    ∙ ap (flags_held n) (overlaid-patched r.marks (marks_of rs)
+    ∙ ap (λ t. patched t r.marks) (sym (flags-left r.name block))) in
+    ap (λ q. raw_row_tail q r) run
+    ∙ ap {B = RowTail} (λ t. record {
+      name = r.name;
+      flags = t;
+      cells = each_place n (λ j. started_tail (since_start (map (code_in j) (r ∷ rs))));
+    }) flags
+    ∙ ap {B = RowTail}
+    (λ cs. record { name = r.name; flags = flags_held n (patched (flags_of_tail found) r.marks); cells = cs }) cells
+
+-- ---- one epoch more
+
+row-tails : (raw : RawEpoch) (block : List RawEpoch) (rows : List RawRow)
+    → AllByRecursion (λ (r : RawRow). raw_row_named r.name raw.rows ≡ Some r) rows
+    → map (λ (r : RawRow). raw_row_tail (raw_run_of r.name (raw ∷ block)) r) rows
+    ≡ map (λ (r : RawRow). raw_row_tail_after (tail_named r.name (tail_of_block block)) r) rows
+row-tails raw block [] own = refl
+row-tails raw block (r ∷ rs) own =
+    ap (λ x. x ∷ map (λ (q : RawRow). raw_row_tail (raw_run_of q.name (raw ∷ block)) q) rs) (row-tail raw block r own.0)
+    ∙ ap (λ xs. raw_row_tail_after (tail_named r.name (tail_of_block block)) r ∷ xs) (row-tails raw block rs own.1)
+
+pub raw-by_tail : (raw : RawEpoch) (block : List RawEpoch) → HasSingleLines raw → RawByTail raw block
+raw-by_tail raw block own =
+    let text : text_of (raw ∷ block) ≡ patched (text_of block) raw.line =
+    overlaid-patched raw.line (map (λ (q : RawEpoch). q.line) block) in
+    let arc : started_tail (since_start (map (λ (q : RawEpoch). q.clock) (raw ∷ block)))
+    ≡ arc_of_code raw.clock (tail_of_block block).clock =
+    number-next raw.clock (map (λ (q : RawEpoch). q.clock) block) in
+    ap {B = Tail} (λ t. record {
+      text = t;
+      clock = started_tail
+          (since_start (map (λ (q : RawEpoch). q.clock) (raw ∷ block)));
+      rows = raw_row_tails (raw ∷ block);
+    }) text
+    ∙ ap {B = Tail}
+    (λ c. record { text = patched (text_of block) raw.line; clock = c; rows = raw_row_tails (raw ∷ block) }) arc
+    ∙ ap {B = Tail} (λ rs. record {
+      text = patched (text_of block) raw.line;
+      clock = arc_of_code raw.clock (tail_of_block block).clock;
+      rows = rs;
+    }) (row-tails raw block raw.rows own)
+
+-- ---- what the tail gives to the next lines
+
+-- a block gives to the next lines what its tail does
+past-left : (block : List RawEpoch) → past_of_block block ≡ past_of_tail (tail_of_block block)
+past-left block =
+    let clocks : List Code = map (λ (q : RawEpoch). q.clock) block in
+    let lines : List (List ℕ) = map (λ (q : RawEpoch). q.line) block in
+    let tail : Tail = tail_of_block block in
+    let text : (λ line. overlaid (line ∷ lines)) ≡ (λ line. patched tail.text line) =
+    fun_ext (λ line. overlaid-patched line lines) in
+    let clock : (λ code. value_of CLOCK_WIDTH (code ∷ clocks)) ≡ (λ code. value_of_code CLOCK_WIDTH code tail.clock) =
+    fun_ext (λ code. value-next CLOCK_WIDTH code clocks) in
+    let value : (λ name place code. value_of OBSERVATION_WIDTH (code ∷ map (code_in place) (raw_run_of name block)))
+    ≡ (λ name place code. value_of_code OBSERVATION_WIDTH code (cell_of_tail place (tail_named name tail))) =
+    fun_ext (λ name. fun_ext (λ place. fun_ext (λ code.
+    value-next OBSERVATION_WIDTH code (map (code_in place) (raw_run_of name block))
+    ∙ ap (value_of_code OBSERVATION_WIDTH code) (sym (cell-left name block place))))) in
+    let flags : (λ name marks. overlaid (marks ∷ marks_of (raw_run_of name block)))
+    ≡ (λ name marks. patched (flags_of_tail (tail_named name tail)) marks) =
+    fun_ext (λ name. fun_ext (λ marks. overlaid-patched marks (marks_of (raw_run_of name block))
+    ∙ ap (λ t. patched t marks) (sym (flags-left name block)))) in
+    ap {B = Past} (λ f. record {
+      text = f;
+      clock = λ code. value_of CLOCK_WIDTH (code ∷ clocks);
+      value = λ name place code. value_of OBSERVATION_WIDTH (code ∷ map (code_in place) (raw_run_of name block));
+      flags = λ name marks. overlaid (marks ∷ marks_of (raw_run_of name block));
+    }) text
+    ∙ ap {B = Past} (λ f. record {
+      text = λ line. patched tail.text line;
+      clock = f;
+      value = λ name place code. value_of OBSERVATION_WIDTH (code ∷ map (code_in place) (raw_run_of name block));
+      flags = λ name marks. overlaid (marks ∷ marks_of (raw_run_of name block));
+    }) clock
+    ∙ ap {B = Past} (λ f. record {
+      text = λ line. patched tail.text line;
+      clock = λ code. value_of_code CLOCK_WIDTH
+          code tail.clock;
+      value = f;
+      flags = λ name marks. overlaid (marks ∷ marks_of (raw_run_of name block));
+    }) value
+    ∙ ap {B = Past} (λ f. record {
+      text = λ line. patched tail.text line;
+      clock = λ code. value_of_code CLOCK_WIDTH code tail.clock;
+      value = λ name place code.
+          value_of_code OBSERVATION_WIDTH code (cell_of_tail place (tail_named name tail));
+      flags = f;
+    }) flags
+
+epochs-left : (older : List RawEpoch) → past_of_epochs older ≡ option_map past_of_tail (tail_left older)
+epochs-left [] = refl
+epochs-left (e ∷ older) = ap {B = Option Past} Some (past-left (block_of (e ∷ older)))
+
+line-left : (older : List RawEpoch) (line : List ℕ)
+    → past_of_line older line ≡ option_map past_of_tail (tail_for_line (tail_left older) line)
+line-left older line = step (begins_epoch line)
+  where
+    step : (b : Bool) → (if b then Some (past_of_block []) else past_of_epochs older)
+        ≡ option_map past_of_tail (if b then Some no_tail else tail_left older)
+    step true = ap {B = Option Past} Some (past-left [])
+    step false = epochs-left older
+
+-- the tail decides what stands at the next lines
+pub place-by_tail : (types : List Count) (older : List RawEpoch) (lines : List ReadLine)
+    → epoch_at types older lines ≡ epoch_after types (tail_left older) lines
+place-by_tail types older lines = ap (λ f. epoch_against types f lines) (fun_ext (λ line. line-left older line))
+
+-- what a raw epoch leaves
+pub left-by_tail : (raw : RawEpoch) (older : List RawEpoch) → HasSingleLines raw
+    → tail_left (raw ∷ older) ≡ Some (raw_tail_after (unwrap_or (tail_for_line (tail_left older) raw.line) no_tail) raw)
+left-by_tail raw older own = step (begins_epoch raw.line) older
+  where
+    step : (b : Bool) (os : List RawEpoch)
+        → Some (tail_of_block (raw ∷ (if b then [] else block_of os)))
+        ≡ Some (raw_tail_after (unwrap_or (if b then Some no_tail else tail_left os) no_tail) raw)
+    step true os = ap {B = Option Tail} Some (raw-by_tail raw [] own)
+    step false [] = ap {B = Option Tail} Some (raw-by_tail raw [] own)
+    step false (e ∷ os) = ap {B = Option Tail} Some (raw-by_tail raw (block_of (e ∷ os)) own)

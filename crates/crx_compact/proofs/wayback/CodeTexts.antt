@@ -1,0 +1,53 @@
+-- The texts of codes hold no blank and no >.
+use Rattle.std.specs.Prelude.{◌≡◌, refl, ℕ, suc, ◌+◌, ◌^◌, ◌<◌, ◌≤◌, Bool, true, not, ◌&&◌, ◌==◌, ℤ, pos, negsuc, List}
+use Rattle.std.specs.Prelude.{[], ◌∷◌, ◌++◌, decimal}
+use Rattle.std.specs.Fmt.{signed_decimal}
+use Rattle.std.specs.List.{list_all}
+use Rattle.std.specs.Str.{all_ascii_digits}
+use Rattle.std.specs.Char.{is_ascii_digit}
+use Rattle.std.proofs.Common.{◌∙◌, ap, arith}
+use Rattle.std.proofs.lemmas.Fmt.{decimal_digit}
+use Rattle.crx_text.proofs.ReadBack.{decimal_is_digits}
+use Rattle.crx_text.specs.meaning.Columns.{is_blank}
+use Rattle.crx_text.specs.meaning.Texts.{is_printable}
+use Rattle.crx_text.specs.meaning.Codes.{code_text}
+use Rattle.crx_text.specs.Codes.{IsShort, IsPrintable}
+use Rattle.crx_text.specs.declared.code.Code.{Code}
+use Rattle.crx_text.specs.declared.code.Code.TheVariants.{Missing, Start, Step}
+use Rattle.crx_lines.specs.declared.limits.TheConstants.{ORDER_LIMIT, DIGITS_LIMIT}
+
+-- ---- characters of codes: digits, a minus and &
+
+abbrev pub is_code_character : ℕ → Bool
+is_code_character c = is_printable c && (not (is_blank c) && not (c == 62))
+
+digits-characters : (text : List ℕ) → all_ascii_digits text ≡ true → list_all is_code_character text ≡ true
+digits-characters [] h = refl
+digits-characters (c ∷ cs) h =
+    let first : is_ascii_digit c ≡ true = grind (arith, h) in
+    let rest : all_ascii_digits cs ≡ true = grind (arith, h) in
+    let here : is_code_character c ≡ true = grind (arith, first) in
+    ap (λ b. b && list_all is_code_character cs) here ∙ digits-characters cs rest
+
+-- a bound that both the digits of a code and those of an order meet
+small : (n : ℕ) → n < 10 ^ DIGITS_LIMIT → n < 2 ^ 64
+small n h = omega (arith, h)
+
+-- ---- codes
+
+pub signed-characters : (z : ℤ) → IsShort z → list_all is_code_character (signed_decimal z) ≡ true
+signed-characters (pos n) h = digits-characters (decimal n) (decimal_is_digits n (small n h))
+signed-characters (negsuc n) h = digits-characters (decimal (suc n)) (decimal_is_digits (suc n) (small (suc n) h))
+
+pub order-text : (n : ℕ) → n ≤ ORDER_LIMIT → decimal n ≡ (48 + n) ∷ []
+order-text n h = decimal_digit n (omega (arith, h))
+
+pub code-characters : (c : Code) → IsPrintable c → list_all is_code_character (code_text c) ≡ true
+code-characters Missing h = refl
+code-characters (Step z) h = signed-characters z h
+code-characters (Start n z) h =
+    let less : n ≤ ORDER_LIMIT = h.0 in
+    let first : is_code_character (48 + n) ≡ true = grind (arith, less) in
+    ap (λ t. list_all is_code_character (t ++ 38 ∷ signed_decimal z)) (order-text n less)
+    ∙ ap (λ b. b && list_all is_code_character (signed_decimal z)) first
+    ∙ signed-characters z h.1

@@ -1,0 +1,91 @@
+-- Texts and marks that are cut at a width.
+use Rattle.std.specs.Prelude.{◌≡◌, refl, ℕ, zero, suc, ◌+◌, ◌-◌, ◌<◌, ◌≤◌, ◌⊎◌, List, [], ◌∷◌, ◌++◌, length, map, take}
+use Rattle.std.specs.Prelude.{replicate, if◌then◌else◌}
+use Rattle.std.proofs.Common.{sym, ◌∙◌, ap, arith, inl, inr, not-suc-le-zero, le_of_suc-le-suc}
+use Rattle.crx_rinex.proofs.SoundEpochs.{length-columns}
+use Rattle.crx_text.specs.meaning.Columns.{columns, is_blank, without_end_blanks}
+use Rattle.crx_rinex.specs.meaning.EachPlace.{each_place}
+use Rattle.crx_compact.specs.meaning.Expansion.{latest_mark, shown, longest, overlaid}
+use Rattle.crx_compact.proofs.wayback.Overlays.{at_past, at-longest, at-overlaid, same_characters}
+use Rattle.crx_rinex.proofs.Characters.{at, at-without_end_blanks, columns-are}
+
+-- ---- characters of a cut text
+
+pub at-take : (n : ℕ) (text : List ℕ) (p : ℕ) → p < n → at (take n text) p ≡ at text p
+at-take zero text p h = absurd (not-suc-le-zero h)
+at-take (suc n) [] p h = refl
+at-take (suc n) (c ∷ cs) zero h = refl
+at-take (suc n) (c ∷ cs) (suc p) h = at-take n cs p (le_of_suc-le-suc h)
+
+pub at-take_past : (n : ℕ) (text : List ℕ) (p : ℕ) → n ≤ p → at (take n text) p ≡ 32
+at-take_past zero text p h = refl
+at-take_past (suc n) [] p h = refl
+at-take_past (suc n) (c ∷ cs) zero h = absurd (not-suc-le-zero h)
+at-take_past (suc n) (c ∷ cs) (suc p) h = at-take_past n cs p (le_of_suc-le-suc h)
+
+pub within-or_past : (n p : ℕ) → (p < n) ⊎ (n ≤ p)
+within-or_past zero p = inr (omega arith)
+within-or_past (suc n) zero = inl (omega arith)
+within-or_past (suc n) (suc p) = step (within-or_past n p)
+  where
+    step : (p < n) ⊎ (n ≤ p) → (suc p < suc n) ⊎ (suc n ≤ suc p)
+    step (inl h) = inl (omega (arith, h))
+    step (inr h) = inr (omega (arith, h))
+
+-- ---- marks that are cut
+
+latest-take : (n : ℕ) (marks : List (List ℕ)) (p : ℕ) → p < n → latest_mark (map (take n) marks) p ≡ latest_mark marks p
+latest-take n [] p h = refl
+latest-take n (w ∷ ws) p h =
+    ap (λ (c : ℕ). if is_blank c then latest_mark (map (take n) ws) p else c) (at-take n w p h)
+    ∙ ap (λ (c : ℕ). if is_blank (at w p) then c else at w p) (latest-take n ws p h)
+
+latest-take_past : (n : ℕ) (marks : List (List ℕ)) (p : ℕ) → n ≤ p → latest_mark (map (take n) marks) p ≡ 32
+latest-take_past n [] p h = refl
+latest-take_past n (w ∷ ws) p h =
+    ap (λ (c : ℕ). if is_blank c then latest_mark (map (take n) ws) p else c) (at-take_past n w p h)
+    ∙ latest-take_past n ws p h
+
+-- marks that are cut make the text that is cut
+pub overlaid-take : (n : ℕ) (marks : List (List ℕ))
+    → overlaid (map (take n) marks) ≡ without_end_blanks (take n (overlaid marks))
+overlaid-take n marks =
+    same_characters (each_place (longest (map (take n) marks)) (λ q. shown (latest_mark (map (take n) marks) q)))
+    (take n (overlaid marks)) (λ p.
+    at-longest (map (take n) marks) p ∙ cut p (within-or_past n p))
+  where
+    cut : (p : ℕ) → (p < n) ⊎ (n ≤ p) → shown (latest_mark (map (take n) marks) p) ≡ at (take n (overlaid marks)) p
+    cut p (inl h) = ap shown (latest-take n marks p h)
+        ∙ sym (at-overlaid marks p) ∙ sym (at-take n (overlaid marks) p h)
+    cut p (inr h) = ap shown (latest-take_past n marks p h) ∙ sym (at-take_past n (overlaid marks) p h)
+
+-- a cut doesn't shorten what is no longer
+pub trimmed-within : (n : ℕ) (text : List ℕ)
+    → length text ≤ n → without_end_blanks (take n (without_end_blanks text)) ≡ without_end_blanks text
+trimmed-within n text few = same_characters (take n (without_end_blanks text)) text (λ p. cut p (within-or_past n p))
+  where
+    cut : (p : ℕ) → (p < n) ⊎ (n ≤ p) → at (take n (without_end_blanks text)) p ≡ at text p
+    cut p (inl h) = at-take n (without_end_blanks text) p h ∙ at-without_end_blanks text p
+    cut p (inr h) = at-take_past n (without_end_blanks text) p h ∙ sym (at_past text p (omega (arith, few, h)))
+
+-- ---- columns
+
+pub at-padded : (k : ℕ) (text : List ℕ) (p : ℕ) → at (text ++ replicate k 32) p ≡ at text p
+at-padded zero [] p = refl
+at-padded (suc k) [] zero = refl
+at-padded (suc k) [] (suc p) = at-padded k [] p
+at-padded k (c ∷ cs) zero = refl
+at-padded k (c ∷ cs) (suc p) = at-padded k cs p
+
+-- the first columns of marks don't ask for what stands past them
+pub columns-cut : (n : ℕ) (marks : List (List ℕ))
+    → columns (overlaid (map (take n) marks)) 1 n ≡ columns (overlaid marks) 1 n
+columns-cut n marks =
+    ap (λ t. columns t 1 n) (overlaid-take n marks)
+    ∙ columns-are (without_end_blanks (take n (overlaid marks))) 1 n
+    (columns (overlaid marks) 1 n) (length-columns (overlaid marks) 1 n) (λ p less.
+    let place : 1 - 1 + p ≡ p = omega arith in
+    ap (at (without_end_blanks (take n (overlaid marks)))) place
+    ∙ at-without_end_blanks (take n (overlaid marks)) p
+    ∙ at-take n (overlaid marks) p less
+    ∙ sym (at-take n (overlaid marks ++ replicate n 32) p less ∙ at-padded n (overlaid marks) p))

@@ -1,0 +1,200 @@
+-- What follows of an epoch and its rows from their being ones that can be written.
+use Rattle.std.specs.Prelude.{◌≡◌, refl, ◌≢◌, ℕ, zero, suc, ◌+◌, ◌-◌, ◌*◌, ◌<◌, Bool, true, false, not, ◌&&◌, ◌==◌}
+use Rattle.std.specs.Prelude.{nat_eq, nat_le, List, [], ◌∷◌, ◌++◌, length, take, map, flat_map, Option, Some, None}
+use Rattle.std.specs.Prelude.{Result, Ok, Err, if◌then◌else◌}
+use Rattle.std.specs.List.{list_all, AllByRecursion}
+use Rattle.std.proofs.Common.{sym, ◌∙◌, ap, arith, true≢false}
+use Rattle.std.proofs.lemmas.List.{length-append}
+use Rattle.std.proofs.lemmas.Bool.{and_parts, and_from}
+use Rattle.crx_text.specs.meaning.Columns.{character_at, without_end_blanks, columns}
+use Rattle.crx_text.specs.meaning.Texts.{text_difference, mark_of, by_position, is_kept, is_printable}
+use Rattle.crx_rinex.specs.meaning.Observations.{Row, Epoch}
+use Rattle.crx_rinex.specs.meaning.Epochs.{has_satellite, are_different, IsWholeEpoch}
+use Rattle.crx_lines.specs.declared.fault.Fault.{Fault}
+use Rattle.crx_lines.specs.declared.fault.Fault.TheVariants.{RepeatedSatellite}
+use Rattle.crx_rinex.specs.meaning.EachPlace.{each_place}
+use Rattle.crx_compact.specs.meaning.Sequences.{before_all}
+use Rattle.crx_rinex.specs.meaning.EpochLines.{begins_epoch, is_observation_flag, satellites_in}
+use Rattle.crx_compact.specs.meaning.EpochText.{Satellite, satellite_before, satellites_named}
+use Rattle.crx_rinex.specs.meaning.ObservationTypes.{Count}
+use Rattle.crx_compact.specs.meaning.Compaction.{epoch_text}
+use Rattle.crx_rinex.proofs.EachPlace.{each_place-same}
+use Rattle.crx_compact.proofs.reading.Identifiers.{AreNew, new-after}
+use Rattle.crx_compact.proofs.wayback.Writable.{IsTypedRow, head-counted, sound-name, sound-name_kept, typed-rows}
+use Rattle.crx_compact.proofs.wayback.Overlays.{at-by_position, same_characters}
+use Rattle.crx_compact.proofs.wayback.Runs.{IsUnmarked}
+use Rattle.crx_rinex.proofs.Characters.{at, at-without_end_blanks, at-append, at-append_past, columns-are}
+use Rattle.crx_rinex.proofs.Characters.{list_all-from_at}
+
+-- ---- tests of all characters
+
+pub list_all-at : (p : ℕ → Bool)
+    → p 32 ≡ true → (text : List ℕ) → list_all p text ≡ true → (k : ℕ) → p (at text k) ≡ true
+list_all-at p e [] h k = e
+list_all-at p e (c ∷ cs) h zero = (and_parts (p c) (list_all p cs) h).0
+list_all-at p e (c ∷ cs) h (suc k) = list_all-at p e cs (and_parts (p c) (list_all p cs) h).1 k
+
+pub list_all-append : (p : ℕ → Bool) (xs ys : List ℕ)
+    → list_all p xs ≡ true → list_all p ys ≡ true → list_all p (xs ++ ys) ≡ true
+list_all-append p [] ys h k = k
+list_all-append p (x ∷ xs) ys h k =
+    and_from (p x) (list_all p (xs ++ ys))
+    (and_parts (p x) (list_all p xs) h).0 (list_all-append p xs ys (and_parts (p x) (list_all p xs) h).1 k)
+
+pub all-take : (p : ℕ → Bool) (n : ℕ) (xs : List ℕ) → list_all p xs ≡ true → list_all p (take n xs) ≡ true
+all-take p zero xs h = refl
+all-take p (suc n) [] h = refl
+all-take p (suc n) (x ∷ xs) h = and_from (p x) (list_all p (take n xs))
+    (and_parts (p x) (list_all p xs) h).0 (all-take p n xs (and_parts (p x) (list_all p xs) h).1)
+
+kept-unmarked : (c : ℕ) → is_kept c ≡ true → c ≢ 38
+kept-unmarked c h e =
+    let no : is_kept 38 ≡ true = ap is_kept (sym e) ∙ h in
+    true≢false (sym no)
+
+pub unmarked : (text : List ℕ) → list_all is_kept text ≡ true → IsUnmarked text
+unmarked text h p = kept-unmarked (at text p) (list_all-at is_kept refl text h p)
+
+kept-printable : (c : ℕ) → is_kept c ≡ true → is_printable c ≡ true
+kept-printable c h = (and_parts (nat_le 32 c && nat_le c 126) (not (c == 38)) h).0
+
+mark-printable : (a b : ℕ) → is_printable b ≡ true → is_printable (mark_of a b) ≡ true
+mark-printable a b h = grind (arith, h)
+
+pub at-difference : (old new : List ℕ) (p : ℕ) → at (text_difference old new) p ≡ mark_of (at old p) (at new p)
+at-difference old new p = at-without_end_blanks (by_position mark_of old new) p ∙ at-by_position mark_of refl old new p
+
+-- the marks of a text that may be written are printable
+pub difference-printable : (old new : List ℕ)
+    → list_all is_kept new ≡ true → list_all is_printable (text_difference old new) ≡ true
+difference-printable old new h =
+    list_all-from_at is_printable (text_difference old new) (λ p.
+    ap is_printable (at-difference old new p)
+    ∙ mark-printable (at old p) (at new p) (kept-printable (at new p) (list_all-at is_kept refl new h p)))
+
+-- ---- an epoch's head and text
+
+pub if_some : (b : Bool) (x : Option ℕ) (n : ℕ) → (if b then x else None) ≡ Some n → b ≡ true
+if_some true x n h = refl
+if_some false x n h = grind (arith, h)
+
+pub head_tests : (types : List Count) (e : Epoch) → IsWholeEpoch types e
+    → (begins_epoch e.head && is_observation_flag (character_at e.head 32) && list_all is_kept e.head) ≡ true
+head_tests types e h = if_some (begins_epoch e.head && is_observation_flag (character_at e.head 32)
+    && list_all is_kept e.head) (satellites_in e.head) (length e.rows) (head-counted types e h)
+
+pub head-kept : (types : List Count) (e : Epoch) → IsWholeEpoch types e → list_all is_kept e.head ≡ true
+head-kept types e h = (and_parts (begins_epoch e.head && is_observation_flag (character_at e.head 32))
+    (list_all is_kept e.head) (head_tests types e h)).1
+
+head-begins : (types : List Count) (e : Epoch) → IsWholeEpoch types e → begins_epoch e.head ≡ true
+head-begins types e h =
+    (and_parts (begins_epoch e.head) (is_observation_flag (character_at e.head 32))
+    (and_parts (begins_epoch e.head && is_observation_flag (character_at e.head 32))
+    (list_all is_kept e.head) (head_tests types e h)).0).0
+
+names-kept : (types : List Count) (rows : List Row)
+    → AllByRecursion (IsTypedRow types) rows → list_all is_kept (flat_map (λ (r : Row). r.name) rows) ≡ true
+names-kept types [] h = refl
+names-kept types (r ∷ rs) h = list_all-append is_kept r.name
+    (flat_map (λ (q : Row). q.name) rs) (sound-name_kept r h.0.0) (names-kept types rs h.1)
+
+pub text-kept : (types : List Count) (e : Epoch) → IsWholeEpoch types e → list_all is_kept (epoch_text e) ≡ true
+text-kept types e h = list_all-append is_kept e.head
+    (flat_map (λ (r : Row). r.name) e.rows) (head-kept types e h) (names-kept types e.rows (typed-rows types e h))
+
+pub text-head : (types : List Count) (e : Epoch)
+    → IsWholeEpoch types e → (p : ℕ) → p < 41 → at (epoch_text e) p ≡ at e.head p
+text-head types e h p less = at-append e.head
+    (flat_map (λ (r : Row). r.name) e.rows) p (omega (arith, less, h.sound.head_sound.width))
+
+pub text-begins : (types : List Count) (e : Epoch) → IsWholeEpoch types e → at (epoch_text e) 0 ≡ 62
+text-begins types e h =
+    let c : ℕ = at e.head 0 in
+    let first : nat_eq (at e.head 0) 62 ≡ true = head-begins types e h in
+    text-head types e h 0 (omega arith) ∙ is_same (at e.head 0) first
+  where
+    is_same : (c : ℕ) → nat_eq c 62 ≡ true → c ≡ 62
+    is_same c h = grind (arith, h)
+
+length-names : (types : List Count) (rows : List Row)
+    → AllByRecursion (IsTypedRow types) rows → length (flat_map (λ (r : Row). r.name) rows) ≡ 3 * length rows
+length-names types [] h = refl
+length-names types (r ∷ rs) h =
+    let front : length (flat_map (λ (q : Row). q.name) (r ∷ rs)) ≡ length r.name + length
+    (flat_map (λ (q : Row). q.name) rs) = length-append r.name (flat_map (λ (q : Row). q.name) rs) in
+    let rest : length (flat_map (λ (q : Row). q.name) rs) ≡ 3 * length rs = length-names types rs h.1 in
+    omega (arith, front, rest, (sound-name r h.0.0))
+
+pub length-text : (types : List Count) (e : Epoch)
+    → IsWholeEpoch types e → length (epoch_text e) ≡ 41 + 3 * length e.rows
+length-text types e h =
+    let front : length (epoch_text e) ≡ length e.head + length (flat_map (λ (r : Row). r.name) e.rows) =
+    length-append e.head (flat_map (λ (r : Row). r.name) e.rows) in
+    let rest : length (flat_map (λ (r : Row). r.name) e.rows) ≡ 3 * length e.rows =
+    length-names types e.rows (typed-rows types e h) in
+    omega (arith, front, rest, h.sound.head_sound.width)
+
+pub text-names : (types : List Count) (e : Epoch)
+    → IsWholeEpoch types e → (p : ℕ) → at (epoch_text e) (41 + p) ≡ at (flat_map (λ (r : Row). r.name) e.rows) p
+text-names types e h p = at-append_past e.head (flat_map (λ (r : Row). r.name) e.rows) 41 p h.sound.head_sound.width
+
+pub trimmed-again : (text : List ℕ) → without_end_blanks (without_end_blanks text) ≡ without_end_blanks text
+trimmed-again text = same_characters (without_end_blanks text) text (λ p. at-without_end_blanks text p)
+
+-- a difference doesn't depend on the blanks at the old text's end
+pub difference-trimmed : (old new : List ℕ) → text_difference (without_end_blanks old) new ≡ text_difference old new
+difference-trimmed old new =
+    same_characters (by_position mark_of (without_end_blanks old) new) (by_position mark_of old new) (λ p.
+    at-by_position mark_of refl (without_end_blanks old) new p
+    ∙ ap (λ c. mark_of c (at new p)) (at-without_end_blanks old p) ∙ sym (at-by_position mark_of refl old new p))
+
+-- ---- identifiers
+
+-- the identifiers that stand from an offset on
+pub names-read : (types : List Count) (text : List ℕ) (offset : ℕ) (rows : List Row)
+    → AllByRecursion (IsTypedRow types) rows
+    → ((p : ℕ) → at text (offset + p) ≡ at (flat_map (λ (r : Row). r.name) rows) p)
+    → each_place (length rows) (λ k. columns text (offset + 1 + 3 * k) 3) ≡ map (λ (r : Row). r.name) rows
+names-read types text offset [] h e = refl
+names-read types text offset (r ∷ rs) h e =
+    let first : columns text (offset + 1 + 3 * 0) 3 ≡ r.name =
+    columns-are text (offset + 1 + 3 * 0) 3 r.name (sound-name r h.0.0) (λ p less.
+    let place : offset + 1 + 3 * 0 - 1 + p ≡ offset + p = omega arith in
+    ap (at text) place
+    ∙ e p ∙ at-append r.name (flat_map (λ (q : Row). q.name) rs) p (omega (arith, less, (sound-name r h.0.0)))) in
+    let later : (k : ℕ) → columns text (offset + 1 + 3 * suc k) 3 ≡ columns text (offset + 3 + 1 + 3 * k) 3 = λ k.
+    let place : offset + 1 + 3 * suc k ≡ offset + 3 + 1 + 3 * k = omega arith in
+    ap (λ n. columns text n 3) place in
+    let rest : (p : ℕ) → at text (offset + 3 + p) ≡ at (flat_map (λ (q : Row). q.name) rs) p = λ p.
+    let place : offset + 3 + p ≡ offset + (3 + p) = omega arith in
+    ap (at text) place ∙ e (3 + p)
+    ∙ at-append_past r.name (flat_map (λ (q : Row). q.name) rs) 3 p (sound-name r h.0.0) in
+    ap (λ n. n ∷ each_place (length rs) (λ k. columns text (offset + 1 + 3 * suc k) 3)) first
+    ∙ ap (λ ns. r.name ∷ ns) (each_place-same
+    (length rs) (λ k. columns text (offset + 1 + 3 * suc k) 3) (λ k. columns text (offset + 3 + 1 + 3 * k) 3) later
+    ∙ names-read types text (offset + 3) rs h.1 rest)
+
+pub not_true : (b : Bool) → not b ≡ true → b ≡ false
+not_true b h = grind (arith, h)
+
+-- the satellites of some rows, with their counts of types
+abbrev pub satellites_of : List Row → List Satellite
+satellites_of rows = map (λ (r : Row). record { name = r.name; count = length r.values }) rows
+
+pub satellites-good : (types : List Count) (earlier : List (List ℕ)) (rows : List Row)
+    → AllByRecursion (IsTypedRow types) rows → AreNew (λ (r : Row). r.name) earlier rows → are_different rows ≡ true
+    → satellites_named types earlier (map (λ (r : Row). r.name) rows) ≡ Ok (satellites_of rows)
+satellites-good types earlier [] h new k = refl
+satellites-good types earlier (r ∷ rs) h new k =
+    let others : Result (List Satellite) Fault =
+    satellites_named types (r.name ∷ earlier) (map (λ (q : Row). q.name) rs) in
+    let alone : has_satellite r.name rs ≡ false =
+    not_true (has_satellite r.name rs) (and_parts (not (has_satellite r.name rs)) (are_different rs) k).0 in
+    let rest : satellites_named types (r.name ∷ earlier) (map (λ (q : Row). q.name) rs) ≡ Ok (satellites_of rs) =
+    satellites-good types (r.name ∷ earlier) rs h.1 (new-after (λ (q : Row). q.name) r.name earlier rs new.1 alone)
+    (and_parts (not (has_satellite r.name rs)) (are_different rs) k).1 in
+    ap (λ count. satellite_before earlier r.name count others) h.0.1
+    ∙ ap {B = Result (List Satellite) Fault} (λ b. if b then Err RepeatedSatellite
+    else before_all (record { name = r.name; count = length r.values }) others) new.0
+    ∙ ap (before_all (record { name = r.name; count = length r.values })) rest

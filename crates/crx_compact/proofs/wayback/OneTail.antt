@@ -1,0 +1,130 @@
+-- The tail of what was written is the tail of its block as it is read.
+use Rattle.std.specs.Prelude.{◌≡◌, refl, ℕ, ℤ, Bool, List, [], ◌∷◌, length, map, Option, Some, None, if◌then◌else◌}
+use Rattle.std.specs.List.{AllByRecursion}
+use Rattle.std.proofs.Common.{sym, ◌∙◌, ap, subst}
+use Rattle.crx_text.specs.meaning.Columns.{without_end_blanks}
+use Rattle.crx_lines.specs.declared.limits.TheConstants.{WRITTEN_ORDER}
+use Rattle.crx_rinex.specs.meaning.Observations.{Row, Epoch}
+use Rattle.crx_rinex.specs.meaning.ObservationTypes.{Count}
+use Rattle.crx_rinex.specs.meaning.EachPlace.{each_place}
+use Rattle.crx_compact.specs.meaning.Sequences.{back_to, stretch}
+use Rattle.crx_compact.specs.meaning.Differences.{code_at}
+use Rattle.crx_compact.specs.meaning.Compaction.{epoch_text, Marked, row_named, since_full, run_of, value_in, arc_of}
+use Rattle.crx_compact.specs.meaning.Compaction.{clock_arc, codes_of}
+use Rattle.crx_compact.specs.meaning.Expansion.{RawRow, RawEpoch, overlaid, raw_run_of, code_in, since_start}
+use Rattle.crx_compact.specs.Tails.{RowTail, Tail, arc_tail, row_tail, tail_of, values_of, started_tail, raw_row_tail}
+use Rattle.crx_compact.specs.Tails.{raw_row_tails, tail_of_block}
+use Rattle.crx_compact.specs.ReadingLaws.{raw_row, OneTail}
+use Rattle.crx_compact.specs.Laws.{AreWhole}
+use Rattle.crx_rinex.proofs.EachPlace.{each_place-same, length-each_place}
+use Rattle.crx_compact.proofs.arcs.Inversion.{numbers_of, value-numbers, started-codes}
+use Rattle.crx_compact.proofs.wayback.Runs.{raw_block, marked, block-raws, raw_run, runs-read, codes_of_values}
+use Rattle.crx_compact.proofs.wayback.Runs.{clocks-read, codes-read, started-values, text-read, marks-read, rows_before}
+use Rattle.crx_compact.proofs.reading.Identifiers.{each-own}
+use Rattle.crx_compact.proofs.wayback.Rows.{IsRowOf, run-rows, flags-run}
+use Rattle.crx_compact.proofs.wayback.Reading.{epochs-begin, epochs-unmarked}
+
+-- ---- arcs
+
+values-back : (n : ℕ) (xs : List ℤ) → values_of n (numbers_of n xs) ≡ xs
+values-back n [] = refl
+values-back n (x ∷ xs) =
+    ap (λ v. v ∷ values_of n (numbers_of n xs)) (value-numbers n xs x) ∙ ap (λ r. x ∷ r) (values-back n xs)
+
+-- the codes of values that may be missing leave what the values do
+arc-same : (os : List (Option ℤ))
+    → started_tail (since_start (codes_of_values os)) ≡ arc_tail WRITTEN_ORDER (stretch os)
+arc-same [] = refl
+arc-same (None ∷ os) = refl
+arc-same (Some x ∷ os) =
+    ap started_tail (started-values x os ∙ started-codes WRITTEN_ORDER (stretch os) x)
+    ∙ ap (arc_tail WRITTEN_ORDER) (values-back WRITTEN_ORDER (x ∷ stretch os))
+
+-- ---- rows
+
+row-same : (types : List Count) (r : Row) (rs : List Row) → AllByRecursion (IsRowOf types r.name) (r ∷ rs)
+    → raw_row_tail (raw_run (r ∷ rs)) (raw_row (r ∷ rs) r) ≡ row_tail (r ∷ rs) r
+row-same types r rs h =
+    let n : ℕ = length (codes_of (length r.values) (r ∷ rs)) in
+    let count : length (codes_of (length r.values) (r ∷ rs)) ≡ length r.values =
+    length-each_place (length r.values) (λ j. code_at WRITTEN_ORDER (arc_of j (r ∷ rs))) in
+    let cells : each_place n (λ j. started_tail (since_start (map (code_in j) (raw_run (r ∷ rs)))))
+    ≡ each_place n (λ j. arc_tail WRITTEN_ORDER (arc_of j (r ∷ rs))) =
+    each_place-same n (λ j. started_tail (since_start (map (code_in j) (raw_run (r ∷ rs)))))
+    (λ j. arc_tail WRITTEN_ORDER (arc_of j (r ∷ rs))) (λ j.
+    ap (λ cs. started_tail (since_start cs)) (codes-read j (r ∷ rs)) ∙ arc-same (map (value_in j) (r ∷ rs))) in
+    ap {B = RowTail} (λ t. record {
+      name = r.name;
+      flags = t;
+      cells = each_place n (λ j. started_tail (since_start (map (code_in j) (raw_run (r ∷ rs)))));
+    })
+    (marks-read r rs (flags-run types r.name (r ∷ rs) h))
+    ∙ ap {B = RowTail} (λ cs. record { name = r.name; flags = without_end_blanks r.flags; cells = cs }) cells
+    ∙ ap {B = RowTail} (λ k. record {
+      name = r.name;
+      flags = without_end_blanks r.flags;
+      cells = each_place k (λ j. arc_tail WRITTEN_ORDER (arc_of j (r ∷ rs)));
+    }) count
+
+row-left : (types : List Count) (full : Bool) (e : Epoch) (older : List Marked)
+    → AreWhole types (since_full (marked full e ∷ older))
+    → (r : Row) → row_named r.name e.rows ≡ Some r
+    → raw_row_tail (raw_run_of r.name (raw_block (marked full e ∷ older)))
+    (raw_row (run_of r.name (marked full e ∷ older)) r) ≡ row_tail (run_of r.name (marked full e ∷ older)) r
+row-left types full e older h r own =
+    let ms : List Marked = marked full e ∷ older in
+    let run : run_of r.name (marked full e ∷ older) ≡ r ∷ rows_before full r.name older =
+    ap (λ (o : Option Row). stretch (o ∷ map (λ (q : Epoch). row_named r.name q.rows)
+    (map (λ (m : Marked). m.epoch) (if full then [] else back_to (λ (m : Marked). m.in_full) older)))) own in
+    let P : List Row → Type 0 = λ q. AllByRecursion (IsRowOf types r.name) q in
+    let rows : AllByRecursion (IsRowOf types r.name) (r ∷ rows_before full r.name older) =
+    subst P run (run-rows types r.name (since_full (marked full e ∷ older)) h) in
+    let Q : List Row → Type 0 = λ q. raw_row_tail (raw_run q) (raw_row q r) ≡ row_tail q r in
+    ap (λ q. raw_row_tail q (raw_row (run_of r.name ms) r)) (runs-read r.name (marked full e ∷ older))
+    ∙ subst Q (sym run) (row-same types r (rows_before full r.name older) rows)
+
+rows-left : (types : List Count) (full : Bool) (e : Epoch) (older : List Marked)
+    → AreWhole types (since_full (marked full e ∷ older))
+    → (rows : List Row) → AllByRecursion (λ (r : Row). row_named r.name e.rows ≡ Some r) rows
+    → map (λ (q : RawRow). raw_row_tail (raw_run_of q.name (raw_block (marked full e ∷ older))) q)
+    (map (λ (r : Row). raw_row (run_of r.name (marked full e ∷ older)) r) rows)
+    ≡ map (λ (r : Row). row_tail (run_of r.name (marked full e ∷ older)) r) rows
+rows-left types full e older h [] own = refl
+rows-left types full e older h (r ∷ rs) own =
+    ap (λ t. t ∷ map (λ (q : RawRow). raw_row_tail (raw_run_of q.name (raw_block (marked full e ∷ older))) q) (map
+    (λ (q : Row). raw_row (run_of q.name (marked full e ∷ older)) q) rs)) (row-left types full e older h r own.0)
+    ∙ ap (λ ts. row_tail (run_of r.name (marked full e ∷ older)) r ∷ ts) (rows-left types full e older h rs own.1)
+
+-- ---- the tail
+
+tail-same : (types : List Count) (full : Bool) (e : Epoch) (older : List Marked)
+    → AreWhole types (since_full (marked full e ∷ older))
+    → tail_of_block (raw_block (marked full e ∷ older)) ≡ tail_of (marked full e ∷ older)
+tail-same types full e older h =
+    let ms : List Marked = marked full e ∷ older in
+    let text : overlaid (map (λ (q : RawEpoch). q.line) (raw_block ms)) ≡ without_end_blanks (epoch_text e) =
+    text-read ms (epochs-unmarked types (since_full (marked full e ∷ older)) h) in
+    let clock : started_tail (since_start (map (λ (q : RawEpoch). q.clock) (raw_block ms)))
+    ≡ arc_tail WRITTEN_ORDER (clock_arc (marked full e ∷ older)) =
+    ap (λ cs. started_tail (since_start cs)) (clocks-read (marked full e ∷ older))
+    ∙ arc-same (map (λ (q : Epoch). q.clock) (since_full (marked full e ∷ older))) in
+    ap {B = Tail} (λ t. record {
+      text = t;
+      clock = started_tail
+          (since_start (map (λ (q : RawEpoch). q.clock) (raw_block ms)));
+      rows = raw_row_tails (raw_block ms);
+    }) text
+    ∙ ap {B = Tail}
+    (λ c. record { text = without_end_blanks (epoch_text e); clock = c; rows = raw_row_tails (raw_block ms) }) clock
+    ∙ ap {B = Tail} (λ rs. record {
+      text = without_end_blanks (epoch_text e);
+      clock = arc_tail WRITTEN_ORDER (clock_arc (marked full e ∷ older));
+      rows = rs;
+    })
+    (rows-left types full e older h e.rows (each-own (λ (r : Row). r.name) e.rows h.0.sound.apart))
+
+pub one-tail : OneTail
+one-tail types m older h =
+    ap {B = Option Tail} (λ b. Some (tail_of_block b))
+    (block-raws (m ∷ older) (epochs-begin types (since_full (m ∷ older)) h))
+    ∙ ap {B = Option Tail} Some (tail-same types m.in_full m.epoch older h)

@@ -1,0 +1,98 @@
+-- Texts by their characters: what a difference marks comes back, and marks laid over one another are patches in turn.
+use Rattle.std.specs.Prelude.{◌≡◌, refl, ◌≢◌, ℕ, zero, suc, ◌≤◌, if◌then◌else◌, List, [], ◌∷◌, length, All}
+use Rattle.std.proofs.Common.{sym, ◌∙◌, ap, arith, not-suc-le-zero, le_of_suc-le-suc}
+use Rattle.crx_text.specs.meaning.Columns.{is_blank, before_end_blanks, without_end_blanks}
+use Rattle.crx_text.specs.meaning.Texts.{by_position, mark_of, text_difference}
+use Rattle.crx_text.specs.Texts.{character_of, patched}
+use Rattle.crx_rinex.specs.meaning.EachPlace.{each_place}
+use Rattle.crx_compact.specs.meaning.Expansion.{latest_mark, shown, longest, overlaid}
+use Rattle.crx_compact.specs.Laws.{patched_in_turn}
+use Rattle.crx_rinex.proofs.Characters.{at, at-without_end_blanks}
+use Rattle.crx_rinex.proofs.EachPlace.{index-each_place}
+
+-- ---- characters, blanks standing after a text
+
+before-blank : (c : ℕ) (rest : List ℕ) → c ≡ 32 → rest ≡ [] → before_end_blanks c rest ≡ []
+before-blank c rest ec er =
+    ap (before_end_blanks c) er ∙ ap (λ n. before_end_blanks n []) ec
+
+all_blank : (text : List ℕ) → ((p : ℕ) → at text p ≡ 32) → without_end_blanks text ≡ []
+all_blank [] h = refl
+all_blank (c ∷ cs) h = before-blank c (without_end_blanks cs) (h 0) (all_blank cs (λ p. h (suc p)))
+
+-- texts with the same characters are the same without the blanks at their ends
+pub same_characters : (xs ys : List ℕ) → ((p : ℕ) → at xs p ≡ at ys p) → without_end_blanks xs ≡ without_end_blanks ys
+same_characters [] ys h = sym (all_blank ys (λ p. sym (h p)))
+same_characters (x ∷ xs) [] h = all_blank (x ∷ xs) h
+same_characters (x ∷ xs) (y ∷ ys) h =
+    ap (λ c. before_end_blanks c (without_end_blanks xs)) (h 0)
+    ∙ ap (before_end_blanks y) (same_characters xs ys (λ p. h (suc p)))
+
+pub at-by_position : (f : ℕ → ℕ → ℕ)
+    → f 32 32 ≡ 32 → (as' bs : List ℕ) (p : ℕ) → at (by_position f as' bs) p ≡ f (at as' p) (at bs p)
+at-by_position f e [] [] p = sym e
+at-by_position f e (a ∷ as') [] zero = refl
+at-by_position f e (a ∷ as') [] (suc p) = at-by_position f e as' [] p
+at-by_position f e [] (b ∷ bs) zero = refl
+at-by_position f e [] (b ∷ bs) (suc p) = at-by_position f e [] bs p
+at-by_position f e (a ∷ as') (b ∷ bs) zero = refl
+at-by_position f e (a ∷ as') (b ∷ bs) (suc p) = at-by_position f e as' bs p
+
+-- ---- patch after difference
+
+pub character-mark : (a b : ℕ) → b ≢ 38 → character_of a (mark_of a b) ≡ b
+character-mark a b h = grind arith
+
+-- a character that All speaks of, or the blank after the text
+pub at-All : (P : ℕ → Type 0) → P 32 → (text : List ℕ) → All P text → (p : ℕ) → P (at text p)
+at-All P e [] h p = e
+at-All P e (c ∷ cs) h zero = h 0 32 (omega arith)
+at-All P e (c ∷ cs) h (suc p) = at-All P e cs (λ k d less. h (suc k) d (omega (arith, less))) p
+
+pub patched-difference : (old new : List ℕ)
+    → All (λ c. c ≢ 38) new → patched old (text_difference old new) ≡ without_end_blanks new
+patched-difference old new h =
+    same_characters (by_position character_of old (text_difference old new)) new (λ p.
+    at-by_position character_of refl old (text_difference old new) p
+    ∙ ap (character_of (at old p)) (at-without_end_blanks (by_position mark_of old new) p
+    ∙ at-by_position mark_of refl old new p)
+    ∙ character-mark (at old p) (at new p) (at-All (λ c. c ≢ 38) (omega arith) new h p))
+
+-- ---- marks over one another
+
+pub at_past : (text : List ℕ) (p : ℕ) → length text ≤ p → at text p ≡ 32
+at_past [] p h = refl
+at_past (c ∷ cs) zero h = absurd (not-suc-le-zero h)
+at_past (c ∷ cs) (suc p) h = at_past cs p (le_of_suc-le-suc h)
+
+past_longest : (marks : List (List ℕ)) (p : ℕ) → longest marks ≤ p → latest_mark marks p ≡ 32
+past_longest [] p h = refl
+past_longest (w ∷ ws) p h =
+    let blank : at w p ≡ 32 = at_past w p (omega (arith, h)) in
+    ap (λ (c : ℕ). if is_blank c then latest_mark ws p else at w p) blank ∙ past_longest ws p (omega (arith, h))
+
+pub at-longest : (marks : List (List ℕ)) (p : ℕ)
+    → at (each_place (longest marks) (λ q. shown (latest_mark marks q))) p ≡ shown (latest_mark marks p)
+at-longest marks p = index-each_place
+    (longest marks) p (λ q. shown (latest_mark marks q)) 32 (λ h. ap shown (past_longest marks p h))
+
+pub at-overlaid : (marks : List (List ℕ)) (p : ℕ) → at (overlaid marks) p ≡ shown (latest_mark marks p)
+at-overlaid marks p =
+    at-without_end_blanks (each_place (longest marks) (λ q. shown (latest_mark marks q))) p
+    ∙ at-longest marks p
+
+character-shown : (old c : ℕ) → character_of (shown old) c ≡ shown (if is_blank c then old else c)
+character-shown old c = grind arith
+
+pub overlaid-patched : (w : List ℕ) (ws : List (List ℕ)) → overlaid (w ∷ ws) ≡ patched (overlaid ws) w
+overlaid-patched w ws =
+    same_characters (each_place (longest (w ∷ ws)) (λ q. shown (latest_mark (w ∷ ws) q)))
+    (by_position character_of (overlaid ws) w) (λ p.
+    at-longest (w ∷ ws) p
+    ∙ sym (at-by_position character_of refl (overlaid ws) w p
+    ∙ ap (λ n. character_of n (at w p)) (at-overlaid ws p)
+    ∙ character-shown (latest_mark ws p) (at w p)))
+
+pub overlaid-in_turn : (marks : List (List ℕ)) → overlaid marks ≡ patched_in_turn marks
+overlaid-in_turn [] = refl
+overlaid-in_turn (w ∷ ws) = overlaid-patched w ws ∙ ap (λ u. patched u w) (overlaid-in_turn ws)

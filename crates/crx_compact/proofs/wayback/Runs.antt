@@ -1,0 +1,287 @@
+-- Runs and arcs of what was written, as a reader finds them.
+use Rattle.std.specs.Prelude.{◌≡◌, refl, ◌≢◌, ℕ, ◌*◌, min, ℤ, Bool, true, false, cond, ◌&&◌, nat_eq, List, [], ◌∷◌}
+use Rattle.std.specs.Prelude.{length, map, take, Option, Some, None, Result, Ok, Err, if◌then◌else◌}
+use Rattle.std.specs.List.{AllByRecursion}
+use Rattle.std.specs.Option.{option_map}
+use Rattle.std.specs.Str.{bytes_eq}
+use Rattle.std.proofs.Common.{sym, ◌∙◌, ap, arith}
+use Rattle.std.proofs.lemmas.List.{get_or_past}
+use Rattle.crx_text.specs.meaning.Columns.{without_end_blanks}
+use Rattle.crx_text.specs.meaning.Texts.{text_difference, mark_of, by_position}
+use Rattle.crx_text.specs.Texts.{patched, character_of}
+use Rattle.crx_rinex.specs.meaning.Observations.{Row, Epoch}
+use Rattle.crx_text.specs.declared.code.Code.{Code}
+use Rattle.crx_text.specs.declared.code.Code.TheVariants.{Missing}
+use Rattle.crx_lines.specs.declared.fault.Fault.{Fault}
+use Rattle.crx_lines.specs.declared.fault.Fault.TheVariants.{OutOfRange}
+use Rattle.crx_lines.specs.declared.limits.TheConstants.{WRITTEN_ORDER}
+use Rattle.crx_compact.specs.meaning.Sequences.{back_to, named, stretch}
+use Rattle.crx_compact.specs.meaning.Differences.{code_at, difference}
+use Rattle.crx_compact.specs.meaning.Compaction.{Marked, epoch_text, row_named, since_full, run_of, value_in, arc_of}
+use Rattle.crx_compact.specs.meaning.Compaction.{clock_arc, codes_of, indicators_before, newest_text}
+use Rattle.crx_compact.specs.meaning.Expansion.{RawRow, RawEpoch, block_of, raw_row_named, raw_run_of, marks_of}
+use Rattle.crx_compact.specs.meaning.Expansion.{code_in, since_start, onto_started, in_range, value_since, value_of}
+use Rattle.crx_compact.specs.meaning.Expansion.{overlaid}
+use Rattle.crx_compact.specs.Laws.{codes_of_arc}
+use Rattle.crx_rinex.proofs.EachPlace.{index-each_place, length-each_place}
+use Rattle.crx_text.specs.meaning.Numbers.{IsMissingOrWithin}
+use Rattle.crx_compact.proofs.arcs.Bounds.{within-is}
+use Rattle.crx_compact.specs.ReadingLaws.{raw_row, raw_of, raws_of}
+use Rattle.crx_compact.proofs.arcs.Inversion.{value-numbers, started-codes}
+use Rattle.crx_compact.proofs.wayback.Overlays.{at-by_position, same_characters, character-mark, overlaid-patched}
+use Rattle.crx_compact.proofs.wayback.Cuts.{overlaid-take, trimmed-within}
+use Rattle.crx_rinex.proofs.Characters.{at, at-without_end_blanks}
+
+-- ---- identifiers
+
+pub bytes_eq-same : (a : List ℕ) → bytes_eq a a ≡ true
+bytes_eq-same [] = refl
+bytes_eq-same (c ∷ cs) =
+    let first : nat_eq c c ≡ true = grind arith in
+    ap (λ b. b && bytes_eq cs cs) first ∙ bytes_eq-same cs
+
+pub bytes_eq-is : (a b : List ℕ) → bytes_eq a b ≡ true → a ≡ b
+bytes_eq-is [] [] h = refl
+bytes_eq-is [] (d ∷ ds) h = grind (arith, h)
+bytes_eq-is (c ∷ cs) [] h = grind (arith, h)
+bytes_eq-is (c ∷ cs) (d ∷ ds) h =
+    let first : c ≡ d = grind (arith, h) in
+    let rest : bytes_eq cs ds ≡ true = grind (arith, h) in
+    ap (λ n. n ∷ cs) first ∙ ap (λ r. d ∷ r) (bytes_eq-is cs ds rest)
+
+-- ---- the block that a reader finds
+
+-- the raw epochs since the latest full one
+abbrev pub raw_block : List Marked → List RawEpoch
+raw_block [] = []
+raw_block (m ∷ older) = raw_of m older ∷ (if m.in_full then [] else raw_block older)
+
+abbrev pub marked : Bool → Epoch → Marked
+marked in_full epoch = record { in_full = in_full; epoch = epoch }
+
+abbrev pub Begins : List Marked → Type 0
+Begins ms = AllByRecursion (λ (e : Epoch). at (epoch_text e) 0 ≡ 62) (since_full ms)
+
+first_mark : (old new : List ℕ) → at (text_difference old new) 0 ≡ mark_of (at old 0) (at new 0)
+first_mark old new = at-without_end_blanks (by_position mark_of old new) 0 ∙ at-by_position mark_of refl old new 0
+
+-- whether an epoch's line begins with >, where its text does and the one before does
+pub begins_full : (text : List ℕ) → at text 0 ≡ 62 → nat_eq (at (text_difference [] text) 0) 62 ≡ true
+begins_full text h = ap (λ c. nat_eq c 62) (first_mark [] text ∙ ap (mark_of 32) h)
+
+pub begins_later : (old new : List ℕ)
+    → at old 0 ≡ 62 → at new 0 ≡ 62 → nat_eq (at (text_difference old new) 0) 62 ≡ false
+begins_later old new h k = ap (λ c. nat_eq c 62) (first_mark old new
+    ∙ ap (λ c. mark_of c (at new 0)) h ∙ ap (mark_of 62) k)
+
+block-step : (full : Bool) (e : Epoch) (older : List Marked)
+    → (Begins older → block_of (raws_of older) ≡ raw_block older)
+    → Begins (marked full e ∷ older) → block_of (raws_of (marked full e ∷ older)) ≡ raw_block (marked full e ∷ older)
+block-step true e older next h =
+    ap (λ b. raw_of (marked true e) older ∷ (if b then [] else block_of (raws_of older)))
+    (begins_full (epoch_text e) h.0)
+block-step false e [] next h =
+    ap (λ b. raw_of (marked false e) [] ∷ (if b then [] else [])) (begins_full (epoch_text e) h.0)
+block-step false e (m ∷ older) next h =
+    ap (λ b. raw_of (marked false e) (m ∷ older) ∷ (if b then [] else block_of (raws_of (m ∷ older))))
+    (begins_later (epoch_text m.epoch) (epoch_text e) h.1.0 h.0)
+    ∙ ap (λ r. raw_of (marked false e) (m ∷ older) ∷ r) (next h.1)
+
+pub block-raws : (ms : List Marked) → Begins ms → block_of (raws_of ms) ≡ raw_block ms
+block-raws [] h = refl
+block-raws (m ∷ older) h = block-step m.in_full m.epoch older (block-raws older) h
+
+-- ---- runs
+
+-- how the rows of a run read
+abbrev pub raw_run : List Row → List RawRow
+raw_run [] = []
+raw_run (r ∷ rs) = raw_row (r ∷ rs) r ∷ raw_run rs
+
+-- the search by an identifier among what is made of other things, each under its own identifier
+pub named-made : {X Y : Type 0} (name_x : X → List ℕ) (name_y : Y → List ℕ) (make : List ℕ → X → Y)
+    → ((n : List ℕ) (x : X) → name_y (make n x) ≡ name_x x) → (name : List ℕ) (xs : List X)
+    → named name_y name (map (λ x. make (name_x x) x) xs) ≡ option_map (make name) (named name_x name xs)
+named-made name_x name_y make h name [] = refl
+named-made name_x name_y make h name (x ∷ xs) =
+    ap (λ n. cond (bytes_eq n name) (Some (make (name_x x) x)) (named name_y name (map (λ y. make (name_x y) y) xs)))
+    (h (name_x x) x)
+    ∙ step (bytes_eq (name_x x) name) refl (named-made name_x name_y make h name xs)
+  where
+    step : (b : Bool) → bytes_eq (name_x x) name ≡ b
+        → named name_y name (map (λ y. make (name_x y) y) xs) ≡ option_map (make name) (named name_x name xs)
+        → cond b (Some (make (name_x x) x)) (named name_y name (map (λ y. make (name_x y) y) xs))
+        ≡ option_map (make name) (cond b (Some x) (named name_x name xs))
+    step true e next = ap (λ n. Some (make n x)) (bytes_eq-is (name_x x) name e)
+    step false e next = next
+
+-- the rows of a satellite in the epochs before one, back to the latest in full; none before one in full
+abbrev pub rows_before : Bool → List ℕ → List Marked → List Row
+rows_before full name older = stretch (map (λ (q : Epoch). row_named name q.rows)
+    (map (λ (m : Marked). m.epoch) (if full then [] else back_to (λ (m : Marked). m.in_full) older)))
+
+abbrev rows_of : List ℕ → List Epoch → List Row
+rows_of name epochs = stretch (map (λ (e : Epoch). row_named name e.rows) epochs)
+
+run-step : (full : Bool) (name : List ℕ) (e : Epoch) (older : List Marked) (found : Option Row)
+    → row_named name e.rows ≡ found
+    → raw_run_of name (raw_block older) ≡ raw_run (run_of name older)
+    → stretch (option_map (raw_row (run_of name (marked full e ∷ older))) found
+    ∷ map (λ (q : RawEpoch). raw_row_named name q.rows) (if full then [] else raw_block older))
+    ≡ raw_run (run_of name (marked full e ∷ older))
+run-step full name e older None h next =
+    ap (λ o. raw_run (stretch (o ∷ map (λ (q : Epoch). row_named name q.rows)
+    (map (λ (m : Marked). m.epoch) (if full then [] else back_to (λ (m : Marked). m.in_full) older))))) (sym h)
+run-step true name e older (Some r) h next =
+    let run : run_of name (marked true e ∷ older) ≡ r ∷ [] = ap (λ (o : Option Row). stretch (o ∷ [])) h in
+    ap (λ rs. raw_row rs r ∷ []) run ∙ sym (ap raw_run run)
+run-step false name e older (Some r) h next =
+    let run : run_of name (marked false e ∷ older) ≡ r ∷ run_of name older =
+    ap (λ (o : Option Row). stretch (o ∷ map (λ (q : Epoch). row_named name q.rows) (since_full older))) h in
+    ap (λ rs. raw_row rs r ∷ raw_run_of name (raw_block older)) run
+    ∙ ap (λ rest. raw_row (r ∷ run_of name older) r ∷ rest) next
+    ∙ sym (ap raw_run run)
+
+-- a reader finds the runs that were written
+pub runs-read : (name : List ℕ) (ms : List Marked) → raw_run_of name (raw_block ms) ≡ raw_run (run_of name ms)
+runs-read name [] = refl
+runs-read name (m ∷ older) =
+    let head : raw_row_named name (raw_of m older).rows
+    ≡ option_map (raw_row (run_of name (m ∷ older))) (row_named name m.epoch.rows) =
+    named-made (λ (r : Row). r.name)
+    (λ (r : RawRow). r.name) (λ n r. raw_row (run_of n (m ∷ older)) r) (λ n r. refl) name m.epoch.rows in
+    ap (λ o. stretch (o ∷ map (λ (q : RawEpoch). raw_row_named name q.rows)
+    (if m.in_full then [] else raw_block older))) head
+    ∙ run-step m.in_full name m.epoch older (row_named name m.epoch.rows) refl (runs-read name older)
+
+-- ---- arcs
+
+-- the codes of values that may be missing, each by the values up to it
+abbrev pub codes_of_values : List (Option ℤ) → List Code
+codes_of_values [] = []
+codes_of_values (o ∷ os) = code_at WRITTEN_ORDER (stretch (o ∷ os)) ∷ codes_of_values os
+
+clock-step : (full : Bool) (e : Epoch) (older : List Marked) → map (λ (q : RawEpoch). q.clock) (raw_block older)
+    ≡ codes_of_values (map (λ (q : Epoch). q.clock) (since_full older))
+    → map (λ (q : RawEpoch). q.clock) (raw_block (marked full e ∷ older))
+    ≡ codes_of_values (map (λ (q : Epoch). q.clock) (since_full (marked full e ∷ older)))
+clock-step true e older next = refl
+clock-step false e older next = ap (λ cs. code_at WRITTEN_ORDER (clock_arc (marked false e ∷ older)) ∷ cs) next
+
+pub clocks-read : (ms : List Marked)
+    → map (λ (q : RawEpoch). q.clock) (raw_block ms) ≡ codes_of_values (map (λ (q : Epoch). q.clock) (since_full ms))
+clocks-read [] = refl
+clocks-read (m ∷ older) = clock-step m.in_full m.epoch older (clocks-read older)
+
+pub codes-read : (j : ℕ) (run : List Row) → map (code_in j) (raw_run run) ≡ codes_of_values (map (value_in j) run)
+codes-read j [] = refl
+codes-read j (r ∷ rs) =
+    let here : code_in j (raw_row (r ∷ rs) r) ≡ code_at WRITTEN_ORDER (arc_of j (r ∷ rs)) =
+    index-each_place (length r.values) j (λ i. code_at WRITTEN_ORDER (arc_of i (r ∷ rs))) Missing (λ le.
+    ap (λ (o : Option ℤ). code_at WRITTEN_ORDER (stretch (o ∷ map (value_in j) rs)))
+    (get_or_past r.values j None le)) in
+    ap (λ c. c ∷ map (code_in j) (raw_run rs)) here
+    ∙ ap (λ cs. code_at WRITTEN_ORDER (arc_of j (r ∷ rs)) ∷ cs) (codes-read j rs)
+
+-- the codes since a present value's start are those of its arc
+pub started-values : (x : ℤ) (os : List (Option ℤ))
+    → since_start (codes_of_values (Some x ∷ os)) ≡ since_start (codes_of_arc WRITTEN_ORDER (x ∷ stretch os))
+started-values x [] = refl
+started-values x (None ∷ os) = refl
+started-values x (Some y ∷ os) =
+    ap (option_map (onto_started (difference (min (length (y ∷ stretch os)) WRITTEN_ORDER) (x ∷ y ∷ stretch os))))
+    (started-values y os)
+
+value-present : (width : ℕ) (x : ℤ) (arc : List ℤ) (cs : List Code)
+    → value_of width (code_at WRITTEN_ORDER (x ∷ arc) ∷ cs)
+    ≡ value_since width (since_start (code_at WRITTEN_ORDER (x ∷ arc) ∷ cs))
+value-present width x [] cs = refl
+value-present width x (y ∷ ys) cs = refl
+
+-- a value within its columns comes back from its code and those before it
+pub value-back : (width : ℕ) (o : Option ℤ) (os : List (Option ℤ))
+    → IsMissingOrWithin width o → value_of width (codes_of_values (o ∷ os)) ≡ Ok o
+value-back width None os h = refl
+value-back width (Some x) os h =
+    value-present width x (stretch os) (codes_of_values os)
+    ∙ ap (value_since width) (started-values x os ∙ started-codes WRITTEN_ORDER (stretch os) x)
+    ∙ ap (in_range width) (value-numbers WRITTEN_ORDER (stretch os) x)
+    ∙ ap {B = Result (Option ℤ) Fault} (λ b. if b then Ok (Some x) else Err OutOfRange) ((within-is width x).1 h)
+
+-- ---- texts
+
+-- no & in a text
+abbrev pub IsUnmarked : List ℕ → Type 0
+IsUnmarked text = (p : ℕ) → at text p ≢ 38
+
+-- a patch of a text whose end blanks are gone
+pub patched-back : (old new : List ℕ)
+    → IsUnmarked new → patched (without_end_blanks old) (text_difference old new) ≡ without_end_blanks new
+patched-back old new h =
+    same_characters (by_position character_of (without_end_blanks old) (text_difference old new)) new (λ p.
+    at-by_position character_of refl (without_end_blanks old) (text_difference old new) p
+    ∙ ap (λ c. character_of c (at (text_difference old new) p)) (at-without_end_blanks old p)
+    ∙ ap (character_of (at old p)) (at-without_end_blanks (by_position mark_of old new) p
+    ∙ at-by_position mark_of refl old new p)
+    ∙ character-mark (at old p) (at new p) (h p))
+
+first_overlay : (new : List ℕ) → IsUnmarked new → overlaid (text_difference [] new ∷ []) ≡ without_end_blanks new
+first_overlay new h = overlaid-patched (text_difference [] new) [] ∙ patched-back [] new h
+
+next_overlay : (old new : List ℕ) (marks : List (List ℕ)) → IsUnmarked new → overlaid marks ≡ without_end_blanks old
+    → overlaid (text_difference old new ∷ marks) ≡ without_end_blanks new
+next_overlay old new marks h e =
+    overlaid-patched (text_difference old new) marks
+    ∙ ap (λ t. patched t (text_difference old new)) e ∙ patched-back old new h
+
+abbrev pub AreUnmarked : List Marked → Type 0
+AreUnmarked ms = AllByRecursion (λ (e : Epoch). IsUnmarked (epoch_text e)) (since_full ms)
+
+abbrev lines_of : List RawEpoch → List (List ℕ)
+lines_of raws = map (λ (q : RawEpoch). q.line) raws
+
+text-step : (full : Bool) (e : Epoch) (older : List Marked)
+    → (AreUnmarked older → overlaid (lines_of (raw_block older)) ≡ without_end_blanks (newest_text older))
+    → AreUnmarked (marked full e ∷ older)
+    → overlaid (lines_of (raw_block (marked full e ∷ older))) ≡ without_end_blanks (epoch_text e)
+text-step true e older next h = first_overlay (epoch_text e) h.0
+text-step false e [] next h = first_overlay (epoch_text e) h.0
+text-step false e (m ∷ older) next h =
+    next_overlay (epoch_text m.epoch) (epoch_text e) (lines_of (raw_block (m ∷ older))) h.0 (next h.1)
+
+-- a reader finds the newest epoch's text
+pub text-read : (ms : List Marked)
+    → AreUnmarked ms → overlaid (lines_of (raw_block ms)) ≡ without_end_blanks (newest_text ms)
+text-read [] h = refl
+text-read (m ∷ older) h = text-step m.in_full m.epoch older (text-read older) h
+
+-- no & among the indicators of a row, and two of them for each type
+pub record HasFlags (row : Row) : Type 0 where
+  pub unmarked : IsUnmarked row.flags
+  pub counted : length row.flags ≡ 2 * length row.values
+
+-- nothing of them stands past the types of the row's line
+marks-cut : (r : Row) (rs : List Row) → HasFlags r → overlaid
+    (text_difference (indicators_before (r ∷ rs)) r.flags ∷ marks_of (raw_run rs)) ≡ without_end_blanks r.flags
+    → overlaid (marks_of (raw_run (r ∷ rs))) ≡ without_end_blanks r.flags
+marks-cut r rs h e =
+    let n : ℕ = 2 * length (codes_of (length r.values) (r ∷ rs)) in
+    let count : length (codes_of (length r.values) (r ∷ rs)) ≡ length r.values =
+    length-each_place (length r.values) (λ j. code_at WRITTEN_ORDER (arc_of j (r ∷ rs))) in
+    overlaid-take n (text_difference (indicators_before (r ∷ rs)) r.flags ∷ marks_of (raw_run rs))
+    ∙ ap (λ t. without_end_blanks (take n t)) e
+    ∙ trimmed-within n r.flags (omega (arith, count, h.counted))
+
+-- a reader finds the indicators of a run's newest row, by its marks over those before
+pub marks-new : (r : Row) (rs : List Row) → AllByRecursion HasFlags (r ∷ rs)
+    → overlaid (text_difference (indicators_before (r ∷ rs)) r.flags ∷ marks_of (raw_run rs))
+    ≡ without_end_blanks r.flags
+marks-new r [] h = first_overlay r.flags h.0.unmarked
+marks-new r (q ∷ qs) h = next_overlay q.flags r.flags
+    (marks_of (raw_run (q ∷ qs))) h.0.unmarked (marks-cut q qs h.1.0 (marks-new q qs h.1))
+
+pub marks-read : (r : Row) (rs : List Row)
+    → AllByRecursion HasFlags (r ∷ rs) → overlaid (marks_of (raw_run (r ∷ rs))) ≡ without_end_blanks r.flags
+marks-read r rs h = marks-cut r rs h.0 (marks-new r rs h)
+
+-- ---- columns

@@ -1,0 +1,175 @@
+-- The compact lines of an epoch can stand in a file.
+use Rattle.std.specs.Prelude.{◌≡◌, refl, ℕ, Bool, true, false, ◌&&◌, ◌||◌, List, [], ◌∷◌, ◌++◌, length, map, flat_map}
+use Rattle.std.specs.Prelude.{if◌then◌else◌}
+use Rattle.std.specs.List.{list_all, AllByRecursion}
+use Rattle.std.proofs.Common.{◌∙◌, ap, arith}
+use Rattle.std.proofs.lemmas.Bool.{and_parts, and_from}
+use Rattle.crx_text.specs.meaning.Columns.{character_at, without_end_blanks}
+use Rattle.crx_text.specs.meaning.Texts.{text_difference, is_printable, mark_of, is_kept}
+use Rattle.crx_text.specs.meaning.Codes.{code_text}
+use Rattle.crx_text.specs.declared.code.Code.{Code}
+use Rattle.crx_lines.specs.declared.limits.TheConstants.{WRITTEN_ORDER}
+use Rattle.crx_rinex.specs.meaning.Observations.{Row, Epoch}
+use Rattle.crx_rinex.specs.meaning.ObservationTypes.{Count}
+use Rattle.crx_rinex.specs.meaning.EpochLines.{begins_epoch, is_event_flag, is_event_line, is_observation_flag}
+use Rattle.crx_compact.specs.meaning.Compaction.{Marked, epoch_text, since_full, run_of, arc_of, clock_arc, newest_text}
+use Rattle.crx_compact.specs.meaning.Compaction.{indicators_before, cell_text, codes_of, satellite_line, epoch_line}
+use Rattle.crx_compact.specs.meaning.Differences.{code_at}
+use Rattle.crx_compact.specs.Laws.{AreWhole, has_no_epochs, LinesCanStand}
+use Rattle.crx_rinex.proofs.EachPlace.{length-each_place}
+use Rattle.crx_rinex.specs.meaning.Epochs.{IsWholeEpoch}
+use Rattle.crx_compact.proofs.wayback.Writable.{IsTypedRow, typed-rows}
+use Rattle.crx_compact.proofs.wayback.CodeTexts.{is_code_character, code-characters}
+use Rattle.crx_compact.proofs.wayback.Cells.{AreWritten}
+use Rattle.crx_compact.proofs.wayback.Runs.{marked, begins_full, begins_later}
+use Rattle.crx_compact.proofs.wayback.Facts.{list_all-at, list_all-append, head_tests, text-kept, text-head}
+use Rattle.crx_compact.proofs.wayback.Facts.{text-begins, at-difference, difference-printable}
+use Rattle.crx_compact.proofs.wayback.Rows.{IsRowOf, run-rows, clock-printable, written-codes, line-begins}
+use Rattle.crx_compact.proofs.wayback.Reading.{text-other}
+use Rattle.crx_rinex.proofs.Characters.{at, at-without_end_blanks, list_all-from_at}
+
+-- ---- characters
+
+code-printable : (text : List ℕ) → list_all is_code_character text ≡ true → list_all is_printable text ≡ true
+code-printable [] h = refl
+code-printable (c ∷ cs) h =
+    let first : is_code_character c ≡ true = (and_parts (is_code_character c) (list_all is_code_character cs) h).0 in
+    and_from (is_printable c) (list_all is_printable cs) (and_parts (is_printable c) _ first).0
+    (code-printable cs (and_parts (is_code_character c) (list_all is_code_character cs) h).1)
+
+cells-printable : (codes : List Code) → AreWritten codes → list_all is_printable (flat_map cell_text codes) ≡ true
+cells-printable [] h = refl
+cells-printable (c ∷ cs) h =
+    list_all-append is_printable (code_text c ++ 32 ∷ []) (flat_map cell_text cs)
+    (list_all-append is_printable (code_text c) (32 ∷ []) (code-printable (code_text c) h.0) refl)
+    (cells-printable cs h.1)
+
+trimmed-printable : (text : List ℕ)
+    → list_all is_printable text ≡ true → list_all is_printable (without_end_blanks text) ≡ true
+trimmed-printable text h =
+    list_all-from_at is_printable (without_end_blanks text)
+    (λ p. ap is_printable (at-without_end_blanks text p) ∙ list_all-at is_printable refl text h p)
+
+-- ---- satellite lines
+
+row-printable : (types : List Count) (name : List ℕ) (run : List Row) (r : Row)
+    → AllByRecursion (IsRowOf types name) run → IsTypedRow types r
+    → list_all is_printable (satellite_line run r) ≡ true
+row-printable types name run r h k =
+    trimmed-printable (flat_map cell_text (codes_of (length r.values) run)
+    ++ text_difference (indicators_before run) r.flags)
+    (list_all-append is_printable (flat_map cell_text (codes_of (length r.values) run))
+    (text_difference (indicators_before run) r.flags)
+    (cells-printable (codes_of (length r.values) run) (written-codes types name (length r.values) run h))
+    (difference-printable (indicators_before run) r.flags k.0.kept))
+
+row-begins : (types : List Count) (name : List ℕ) (run : List Row) (r : Row)
+    → AllByRecursion (IsRowOf types name) run → IsTypedRow types r
+    → begins_epoch (satellite_line run r) ≡ false
+row-begins types name run r h k =
+    let count : length (codes_of (length r.values) run) ≡ length r.values =
+    length-each_place (length r.values) (λ j. code_at WRITTEN_ORDER (arc_of j run)) in
+    line-begins (codes_of (length r.values) run) (text_difference (indicators_before run) r.flags)
+    (omega (arith, count, k.0.counted.0)) (written-codes types name (length r.values) run h)
+
+rows-printable : (types : List Count) (ms : List Marked) (rows : List Row)
+    → AreWhole types (since_full ms) → AllByRecursion (IsTypedRow types) rows
+    → AllByRecursion (λ (line : List ℕ). list_all is_printable line ≡ true)
+    (map (λ (r : Row). satellite_line (run_of r.name ms) r) rows)
+rows-printable types ms [] h k = tt
+rows-printable types ms (r ∷ rs) h k = (
+  row-printable types r.name (run_of r.name ms) r
+      (run-rows types r.name (since_full ms) h) k.0,
+  rows-printable types ms rs h k.1,
+)
+
+rows-begin : (types : List Count) (ms : List Marked) (rows : List Row)
+    → AreWhole types (since_full ms) → AllByRecursion (IsTypedRow types) rows
+    → AllByRecursion (λ (line : List ℕ). begins_epoch line ≡ false)
+    (map (λ (r : Row). satellite_line (run_of r.name ms) r) rows)
+rows-begin types ms [] h k = tt
+rows-begin types ms (r ∷ rs) h k = (
+  row-begins types r.name (run_of r.name ms) r
+      (run-rows types r.name (since_full ms) h) k.0,
+  rows-begin types ms rs h k.1,
+)
+
+no-event : (lines : List (List ℕ)) → AllByRecursion (λ (line : List ℕ). begins_epoch line ≡ false) lines
+    → AllByRecursion (λ (line : List ℕ). is_event_line line ≡ false) lines
+no-event [] h = tt
+no-event (l ∷ ls) h = (ap (λ b. b && is_event_flag (character_at l 32)) h.0, no-event ls h.1)
+
+-- ---- the epoch line
+
+line-begins_epoch : (types : List Count) (full : Bool) (e : Epoch) (older : List Marked)
+    → AreWhole types (since_full (marked full e ∷ older))
+    → begins_epoch (epoch_line (marked full e) older) ≡ (full || has_no_epochs older)
+line-begins_epoch types true e older h = begins_full (epoch_text e) (text-begins types e h.0)
+line-begins_epoch types false e [] h = begins_full (epoch_text e) (text-begins types e h.0)
+line-begins_epoch types false e (m ∷ older) h =
+    begins_later (epoch_text m.epoch) (epoch_text e) (text-begins types m.epoch h.1.0) (text-begins types e h.0)
+
+-- the flag of an epoch's text is one of observations, and so is its mark in a line from the empty text
+flag-mark : (c : ℕ) → is_observation_flag c ≡ true → is_event_flag (mark_of 32 c) ≡ false
+flag-mark c h = grind (arith, h)
+
+full-no_event : (types : List Count) (e : Epoch)
+    → IsWholeEpoch types e → is_event_line (text_difference [] (epoch_text e)) ≡ false
+full-no_event types e h =
+    let line : List ℕ = text_difference [] (epoch_text e) in
+    let flag : is_observation_flag (at e.head 31) ≡ true =
+    (and_parts (begins_epoch e.head) (is_observation_flag (character_at e.head 32))
+    (and_parts (begins_epoch e.head && is_observation_flag (character_at e.head 32))
+    (list_all is_kept e.head) (head_tests types e h)).0).1 in
+    let none : is_event_flag (at line 31) ≡ false =
+    ap is_event_flag (at-difference [] (epoch_text e) 31 ∙ ap (mark_of 32) (text-head types e h 31 (omega arith)))
+    ∙ flag-mark (at e.head 31) flag in
+    ap (λ b. begins_epoch line && b) none ∙ false-right (begins_epoch line)
+  where
+    false-right : (b : Bool) → (b && false) ≡ false
+    false-right true = refl
+    false-right false = refl
+
+line-no_event : (types : List Count) (full : Bool) (e : Epoch) (older : List Marked)
+    → AreWhole types (since_full (marked full e ∷ older))
+    → is_event_line (epoch_line (marked full e) older) ≡ false
+line-no_event types true e older h = full-no_event types e h.0
+line-no_event types false e [] h = full-no_event types e h.0
+line-no_event types false e (m ∷ older) h =
+    ap (λ b. b && is_event_flag (character_at (epoch_line (marked false e) (m ∷ older)) 32))
+    (line-begins_epoch types false e (m ∷ older) h)
+
+-- ---- all lines
+
+pub lines-stand : (types : List Count) (full : Bool) (e : Epoch) (older : List Marked)
+    → AreWhole types (since_full (marked full e ∷ older))
+    → LinesCanStand (marked full e) older
+lines-stand types full e older h =
+    let ms : List Marked = marked full e ∷ older in
+    let clock : list_all is_code_character
+    (code_text (code_at WRITTEN_ORDER (clock_arc (marked full e ∷ older)))) ≡ true =
+    code-characters (code_at WRITTEN_ORDER (clock_arc (marked full e ∷ older)))
+    (clock-printable types (since_full (marked full e ∷ older)) h) in
+    let others : AllByRecursion (λ (line : List ℕ). begins_epoch line ≡ false) (code_text
+    (code_at WRITTEN_ORDER (clock_arc ms)) ∷ map (λ (r : Row). satellite_line (run_of r.name ms) r) e.rows) = (
+      text-other (code_text (code_at WRITTEN_ORDER (clock_arc ms))) clock,
+      rows-begin types ms e.rows h
+          (typed-rows types e h.0),
+    ) in
+    record {
+      printable = (
+        difference-printable (if full then [] else newest_text older) (epoch_text e) (text-kept types e h.0),
+        (
+          code-printable (code_text (code_at WRITTEN_ORDER (clock_arc ms))) clock,
+          rows-printable types ms e.rows h
+              (typed-rows types e h.0),
+        ),
+      );
+      no_event = (
+        line-no_event types full e older h,
+        no-event (code_text (code_at WRITTEN_ORDER (clock_arc ms))
+            ∷ map (λ (r : Row). satellite_line (run_of r.name ms) r) e.rows) others,
+      );
+      first = line-begins_epoch types full e older h;
+      others = others;
+    }

@@ -1,0 +1,13 @@
+-- A direction that goes line by line comes to what it comes to for all lines at once.
+pub mod Following
+pub mod Lines
+pub mod Rinex
+pub mod Compaction
+pub mod Expansion
+pub mod Check
+pub mod CompactedOn
+pub mod ExpandedOn
+pub mod CheckedOn
+pub mod Lawful
+pub mod CheckLawful
+pub mod DirectionSteps

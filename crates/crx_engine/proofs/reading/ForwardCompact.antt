@@ -1,0 +1,103 @@
+-- What stands at a line of compact text is certain as soon as its last line has come.
+use Rattle.std.proofs.Common.{ℕ, ◌<◌, true, false, cond, List, [], ◌∷◌, ◌++◌, length, Result, Ok, Err, refl, ap, arith}
+use Rattle.crx_lines.specs.meaning.Seen.{Content, Overlong}
+use Rattle.crx_lines.specs.declared.fault.Fault.{Fault}
+use Rattle.crx_rinex.specs.meaning.Places.{Place, Here, Wrong, Wanted, then_place, one_line, first_line}
+use Rattle.crx_rinex.specs.Steady.{IsSteady, Remains, IsDecidedAfter}
+use Rattle.crx_rinex.specs.meaning.EpochLines.{is_event_line}
+use Rattle.crx_rinex.specs.meaning.ObservationTypes.{Count}
+use Rattle.crx_rinex.proofs.Steady.{steady-here, steady-first_line, steady-then}
+use Rattle.crx_compact.specs.meaning.EpochText.{Satellite}
+use Rattle.crx_compact.specs.meaning.Expansion.{RawEpoch}
+use Rattle.crx_compact.specs.meaning.Past.{Past, past_of_line}
+use Rattle.crx_compact.specs.meaning.CompactPlaces.{ReadEpoch, BegunEpoch, epoch_begun, clock_line_read}
+use Rattle.crx_compact.specs.meaning.CompactPlaces.{satellite_line_read, rows_read, epoch_of_rows, epoch_after_line}
+use Rattle.crx_compact.specs.meaning.CompactPlaces.{epoch_at}
+use Rattle.crx_engine.specs.meaning.Items.{types_in_force}
+use Rattle.crx_engine.specs.meaning.Expanded.{raws_kept, event_line, as_observation, compact_epoch_place, compact_place}
+use Rattle.crx_engine.specs.meaning.Expanded.{crinex_version, crinex_program, first_lines}
+use Rattle.crx_engine.specs.Laws.{IsReadForward}
+use Rattle.crx_engine.proofs.reading.Forward.{unit_place-forward}
+
+steady-rows_read : (past : Past) (satellites : List Satellite) → IsSteady (rows_read past satellites)
+steady-rows_read past [] = steady-here []
+steady-rows_read past (satellite ∷ satellites) =
+    steady-then (λ lines. first_line lines (satellite_line_read past satellite))
+    (λ row others. then_place (rows_read past satellites others) others (λ rows rest. Here (row ∷ rows) 0))
+    (steady-first_line (satellite_line_read past satellite))
+    (λ row. steady-then (rows_read past satellites)
+    (λ rows rest. Here (row ∷ rows) 0) (steady-rows_read past satellites) (λ rows. steady-here (row ∷ rows)))
+
+steady-after_line : (begun : BegunEpoch) → IsSteady (epoch_after_line begun)
+steady-after_line begun =
+    steady-then (λ lines. first_line lines (clock_line_read begun.past))
+    (λ clock others. then_place (rows_read begun.past begun.satellites others) others
+    (λ rows rest. Here (epoch_of_rows begun clock rows) 0))
+    (steady-first_line (clock_line_read begun.past))
+    (λ clock. steady-then (rows_read begun.past begun.satellites) (λ rows rest. Here (epoch_of_rows begun clock rows) 0)
+    (steady-rows_read begun.past begun.satellites) (λ rows. steady-here (epoch_of_rows begun clock rows)))
+
+pub steady-epoch_at : (types : List Count) (older : List RawEpoch) → IsSteady (epoch_at types older)
+steady-epoch_at types older =
+    steady-then (λ lines. first_line lines (λ line. epoch_begun types line (past_of_line older line))) epoch_after_line
+    (steady-first_line (λ line. epoch_begun types line (past_of_line older line))) steady-after_line
+
+-- ---- where an epoch or an event may begin
+
+observation-decided : {E : Type 0} (count : ℕ) (p : Place E)
+    → IsDecidedAfter count p → IsDecidedAfter count (as_observation p)
+observation-decided count (Here epoch n) h = h
+observation-decided count (Wrong k fault) h = h
+observation-decided count Wanted h = tt
+
+observation-remains : {E : Type 0} (count : ℕ) (now later : Place E)
+    → Remains count now later → Remains count (as_observation now) (as_observation later)
+observation-remains count (Here epoch n) later h = (h.0, ap as_observation h.1)
+observation-remains count (Wrong k fault) later h = (h.0, ap as_observation h.1)
+observation-remains count Wanted later h = observation-decided count later h
+
+line-decided : {X : Type 0} (r : Result X Fault) → IsDecidedAfter 0 (one_line r)
+line-decided (Ok x) = omega arith
+line-decided (Err fault) = omega arith
+
+line-remains : {X : Type 0} (count : ℕ) (r : Result X Fault) → 0 < count → Remains count (one_line r) (one_line r)
+line-remains count (Ok x) h = (omega (arith, h), refl)
+line-remains count (Err fault) h = (omega (arith, h), refl)
+
+steady-compact : (types : List Count) (older : List RawEpoch) → IsSteady (compact_epoch_place types older)
+steady-compact types older [] [] = tt
+steady-compact types older [] (Overlong ∷ more) =
+    observation-decided 0 (epoch_at types older (Overlong ∷ more)) (steady-epoch_at types older [] (Overlong ∷ more))
+steady-compact types older [] (Content line ∷ more) =
+    elim (is_event_line line) as (λ b. IsDecidedAfter 0 (cond b
+    (one_line (event_line {E = ReadEpoch} line)) (as_observation (epoch_at types older (Content line ∷ more))))) [
+      | true ↦ line-decided (event_line line)
+      | false ↦ observation-decided 0
+          (epoch_at types older (Content line ∷ more)) (steady-epoch_at types older [] (Content line ∷ more))
+    ]
+steady-compact types older (Overlong ∷ lines) more =
+    observation-remains (length (Overlong ∷ lines)) (epoch_at types older (Overlong ∷ lines))
+    (epoch_at types older (Overlong ∷ (lines ++ more))) (steady-epoch_at types older (Overlong ∷ lines) more)
+steady-compact types older (Content line ∷ lines) more =
+    elim (is_event_line line) as (λ b. Remains (length (Content line ∷ lines)) (cond b (one_line
+    (event_line {E = ReadEpoch} line)) (as_observation (epoch_at types older (Content line ∷ lines)))) (cond b
+    (one_line (event_line line)) (as_observation (epoch_at types older (Content line ∷ (lines ++ more)))))) [
+      | true ↦ line-remains (length (Content line ∷ lines)) (event_line line) (omega arith)
+      | false ↦ observation-remains (length (Content line ∷ lines))
+          (epoch_at types older (Content line ∷ lines)) (epoch_at types older (Content line ∷ (lines ++ more)))
+          (steady-epoch_at types older (Content line ∷ lines) more)
+    ]
+
+pub compact-forward : IsReadForward compact_place
+compact-forward =
+    unit_place-forward _ (λ items. steady-compact (types_in_force items) (raws_kept items)) (λ items. refl)
+
+-- ---- the first two lines
+
+pub steady-first_lines : IsSteady first_lines
+steady-first_lines =
+    steady-then (λ lines. first_line lines crinex_version) (λ version others.
+    then_place (first_line others crinex_program) others (λ program rest. Here (version ∷ program ∷ []) 0))
+    (steady-first_line crinex_version)
+    (λ version. steady-then (λ lines. first_line lines crinex_program) (λ program rest. Here (version ∷ program ∷ []) 0)
+    (steady-first_line crinex_program) (λ program. steady-here (version ∷ program ∷ [])))

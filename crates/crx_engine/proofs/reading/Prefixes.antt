@@ -1,0 +1,145 @@
+-- What is written for some lines stands at the beginning of what is written for more lines.
+use Rattle.std.proofs.Common.{ℕ, zero, suc, ◌≡◌, ◌+◌, max, Bool, true, false, cond, List, [], ◌∷◌, ◌++◌, length, drop}
+use Rattle.std.proofs.Common.{Option, Some, None, refl, ap, sym, subst, ◌∙◌, append_assoc, append-nil}
+use Rattle.std.proofs.lemmas.Grind.{flat_map-append}
+use Rattle.crx_lines.specs.meaning.Seen.{ReadLine}
+use Rattle.crx_lines.specs.declared.fault.Fault.{Fault}
+use Rattle.crx_lines.specs.declared.fault.At.{At}
+use Rattle.crx_rinex.specs.meaning.Places.{Place}
+use Rattle.crx_rinex.specs.meaning.Units.{Unit as FileUnit}
+use Rattle.crx_engine.specs.meaning.Items.{Item, Accepted, Warned}
+use Rattle.crx_engine.specs.meaning.Reading.{Reading, Stop, AtFault, AtLines, Looking, WholeReading, is_skipped}
+use Rattle.crx_engine.specs.meaning.Reading.{can_go_on, looked_for, reading_within, reading_from, fault_at_end}
+use Rattle.crx_engine.specs.meaning.Reading.{ended_reading, ended_with, whole_reading}
+use Rattle.crx_engine.specs.Laws.{continued_reading, IsReadForward}
+use Rattle.crx_rinex.specs.meaning.Printing.{lines_text}
+use Rattle.crx_engine.specs.meaning.Results.{written_lines, Begins}
+use Rattle.crx_engine.proofs.reading.Resuming.{by_bool, by_place, within-here, within-wrong, within-wanted}
+use Rattle.crx_engine.proofs.reading.Resuming.{fault-skipped, fault-ends, looked-here, looked-on, resumed}
+
+-- some items with others before them
+pub record AreMore {E : Type 0} (items all : List (Item E)) : Type 0 where
+  pub news : List (Item E)
+  pub same : all ≡ news ++ items
+
+pub no_more : {E : Type 0} (items : List (Item E)) → AreMore items items
+no_more items = record { news = []; same = refl }
+
+pub one_more : {E : Type 0} (item : Item E) (items all : List (Item E)) → AreMore (item ∷ items) all → AreMore items all
+one_more item items all h = record {
+  news = h.news ++ item ∷ [];
+  same = h.same ∙ sym (append_assoc h.news (item ∷ []) items);
+}
+
+pub more_of_more : {E : Type 0} (items some_more all : List (Item E))
+    → AreMore items some_more → AreMore some_more all → AreMore items all
+more_of_more items some_more all h k = record {
+  news = k.news ++ h.news;
+  same = k.same ∙ ap (λ l. k.news ++ l) h.same ∙ sym (append_assoc k.news h.news items);
+}
+
+looked-items : {E : Type 0} (items all : List (Item E)) (read : ℕ
+    → List ReadLine → Reading E) (number : ℕ) (lines : List ReadLine)
+    → AreMore items all → ((number : ℕ) (lines : List ReadLine) → AreMore items (read number lines).items)
+    → AreMore items (looked_for read all number lines).items
+looked-items items all read number [] h k = h
+looked-items items all read number (line ∷ lines) h k = by_bool (can_go_on line)
+    (λ on. subst (λ r. AreMore items (Reading.items r))
+    (sym (looked-here read all number line lines on)) (k number (line ∷ lines)))
+    (λ off. subst (λ r. AreMore items (Reading.items r))
+    (sym (looked-on read all number line lines off)) (looked-items items all read (number + 1) lines h k))
+
+pub within-items : {E : Type 0} (place : List (Item E) → List ReadLine
+    → Place (FileUnit E)) (skip : Bool) (units : ℕ) (items : List (Item E)) (number : ℕ) (lines : List ReadLine)
+    → AreMore items (reading_within place skip units items number lines).items
+within-items place skip zero items number lines = no_more items
+within-items place skip (suc units) items number lines = by_place (place items lines)
+    (λ unit count e. subst (λ r. AreMore items (Reading.items r))
+    (sym (within-here place skip units items number lines unit count e))
+    (one_more (Accepted unit) items
+    _ (within-items place skip units (Accepted unit ∷ items) (number + count) (drop count lines))))
+    (λ offset fault e. subst (λ r. AreMore items (Reading.items r))
+    (sym (within-wrong place skip units items number lines offset fault e))
+    (by_bool (is_skipped skip items fault)
+    (λ on.
+    let at : At = record { line = number + offset; fault = fault } in
+    subst (λ r. AreMore items (Reading.items r))
+    (sym (fault-skipped skip (reading_within place skip units) items number lines offset fault on))
+    (looked-items items (Warned at ∷ items)
+    (reading_within place skip units (Warned at ∷ items)) (number + max offset 1) (drop (max offset 1) lines)
+    (one_more (Warned at) items (Warned at ∷ items) (no_more (Warned at ∷ items)))
+    (λ m ls. one_more (Warned at) items _ (within-items place skip units (Warned at ∷ items) m ls))))
+    (λ off. subst (λ r. AreMore items (Reading.items r))
+    (sym (fault-ends skip (reading_within place skip units) items number lines offset fault off)) (no_more items))))
+    (λ e. subst (λ r. AreMore items (Reading.items r))
+    (sym (within-wanted place skip units items number lines e)) (no_more items))
+
+pub continued_reading-items : {E : Type 0} (place : List (Item E)
+    → List ReadLine → Place (FileUnit E)) (skip : Bool) (items : List (Item E)) (stop : Stop) (more : List ReadLine)
+    → AreMore items (continued_reading place skip (record { items = items; stop = stop }) more).items
+continued_reading-items place skip items (AtFault at) more = no_more items
+continued_reading-items place skip items (AtLines number lines) more =
+    within-items place skip (length (lines ++ more) + 1) items number (lines ++ more)
+continued_reading-items place skip items (Looking number) more =
+    looked-items items items (reading_from place skip items) number more
+    (no_more items) (λ m ls. within-items place skip (length ls + 1) items m ls)
+
+ended_with-items : {E : Type 0} (skip : Bool) (items : List (Item E)) (number : ℕ) (fault : Option Fault)
+    → AreMore items (ended_with skip items number fault).items
+ended_with-items skip items number None = no_more items
+ended_with-items skip items number (Some fault) =
+    elim (is_skipped skip items fault) as (λ b. AreMore items
+    (WholeReading.items (cond b (record {
+      items = Warned (record { line = number; fault = fault }) ∷ items;
+      fault = None;
+    }) (record { items = items; fault = Some (record { line = number; fault = fault }) })))) [
+      | true ↦ one_more (Warned (record { line = number; fault = fault })) items _ (no_more _)
+      | false ↦ no_more items
+    ]
+
+pub ended-items : {E : Type 0} (skip : Bool) (items : List (Item E)) (stop : Stop)
+    → AreMore items (ended_reading skip (record { items = items; stop = stop })).items
+ended-items skip items (AtFault at) = no_more items
+ended-items skip items (AtLines number lines) =
+    ended_with-items skip items (number + length lines) (fault_at_end items lines)
+ended-items skip items (Looking number) = no_more items
+
+-- ---- the text of more items
+
+pub written-more : {E : Type 0} (unit_lines : List (Item E) → FileUnit E → List (List ℕ)) (news items : List (Item E))
+    → (rest : List (List ℕ)) × (written_lines unit_lines (news ++ items) ≡ written_lines unit_lines items ++ rest)
+written-more unit_lines [] items = ([], sym (append-nil (written_lines unit_lines items)))
+written-more unit_lines (Accepted unit ∷ news) items =
+    let h = written-more unit_lines news items in (
+      h.0 ++ unit_lines (news ++ items) unit,
+      ap (λ l. l ++ unit_lines (news ++ items) unit) h.1
+          ∙ append_assoc (written_lines unit_lines items) h.0 (unit_lines (news ++ items) unit),
+    )
+written-more unit_lines (Warned at ∷ news) items = written-more unit_lines news items
+
+pub text-more : {E : Type 0} (unit_lines : List (Item E)
+    → FileUnit E → List (List ℕ)) (items all : List (Item E)) → AreMore items all
+    → Begins (lines_text (written_lines unit_lines all)) (lines_text (written_lines unit_lines items))
+text-more unit_lines items all h =
+    let m = written-more unit_lines h.news items in
+    record {
+      rest = lines_text m.0;
+      same = ap (λ l. lines_text (written_lines unit_lines l)) h.same ∙ ap lines_text m.1
+          ∙ flat_map-append (λ (line : List ℕ). line ++ 10 ∷ []) (written_lines unit_lines items) m.0;
+    }
+
+-- the items of the reading of some lines and more
+pub reading-items : {E : Type 0} (place : List (Item E) → List ReadLine → Place (FileUnit E))
+    → IsReadForward place → (skip : Bool) (number : ℕ) (lines more : List ReadLine)
+    → AreMore (reading_from place skip [] number lines).items (reading_from place skip [] number (lines ++ more)).items
+reading-items place h skip number lines more =
+    let r : Reading _ = reading_from place skip [] number lines in
+    subst (λ s. AreMore r.items (Reading.items s))
+    (sym (resumed place h skip [] number lines more)) (continued_reading-items place skip r.items r.stop more)
+
+pub whole-items : {E : Type 0} (place : List (Item E) → List ReadLine → Place (FileUnit E))
+    → IsReadForward place → (skip : Bool) (number : ℕ) (lines more : List ReadLine)
+    → AreMore (reading_from place skip [] number lines).items (whole_reading place skip number (lines ++ more)).items
+whole-items place h skip number lines more =
+    let all : Reading _ = reading_from place skip [] number (lines ++ more) in
+    more_of_more _ all.items _ (reading-items place h skip number lines more) (ended-items skip all.items all.stop)

@@ -1,0 +1,4 @@
+-- Which files a check names as standard.
+pub mod CheckLines
+pub mod CheckEnded
+pub mod CheckStandard

@@ -1,0 +1,13 @@
+-- What an engine makes of one line, and what it answers.
+pub mod EngineLemmas
+pub mod EngineAnswers
+pub mod CompactionSteps
+pub mod CompactSteps
+pub mod RinexSteps
+pub mod ExpanderSteps
+pub mod ExpanderLines
+pub mod CompactorLines
+pub mod StepCounts
+pub mod Checkers
+pub mod CheckerSteps
+pub mod CheckerEnds

@@ -1,0 +1,94 @@
+-- A checker takes the end of the input.
+use Rattle.std.proofs.Common.{ℕ, ◌≡◌, true, false, List, Option, Some, None, Result, Ok, Err, refl, ap, sym, ◌∙◌}
+use Rattle.crx_lines.specs.meaning.Lines.{InputLine}
+use Rattle.crx_lines.specs.declared.fault.At.{At}
+use Rattle.crx_rinex.specs.meaning.EpochPlaces.{OpenEpoch}
+use Rattle.crx_rinex.specs.meaning.Observations.{Epoch}
+use Rattle.crx_rinex.specs.meaning.ObservationTypes.{Count}
+use Rattle.crx_engine.specs.CompactionByLine.{Written, compaction}
+use Rattle.crx_engine.specs.EngineSteps.{SettlesEnd, is_held, answer_of_step}
+use Rattle.crx_engine.specs.Laws.{failed_by}
+use Rattle.crx_engine.specs.LineByLine.{Phase, InFirstLines, InHeader, BetweenUnits, InEvent, InEpoch, LookingOn}
+use Rattle.crx_engine.specs.LineByLine.{Closed as SeenClosed, Ended as SeenEnded, Step as SeenStep, seen_end}
+use Rattle.crx_engine.specs.RinexReaders.{reader_phase}
+use Rattle.crx_engine.specs.RinexStages.{open_epoch, is_rinex_stage}
+use Rattle.crx_engine.specs.meaning.Standard.{whole_reading_of, findings_of}
+use Rattle.crx_engine.specs.CheckByLine.{Totals, checking, CheckSeen, no_choices, check_seen, found_by}
+use Rattle.crx_engine.specs.CheckerState.{checker_state_with, found_held}
+use Rattle.crx_engine.specs.declared.engine.Step.{Step}
+use Rattle.crx_engine.specs.declared.engine.Step.TheVariants.{Quiet, Ready, Warned}
+use Rattle.crx_engine.specs.declared.report.Totals.{Totals as Held}
+use Rattle.crx_engine.specs.declared.rinex_reader.RinexReader.{RinexReader}
+use Rattle.crx_engine.specs.declared.settled.Settled.{Settled}
+use Rattle.crx_engine.specs.declared.stage.Stage.{Stage}
+use Rattle.crx_engine.specs.declared.stage.Stage.TheVariants.{FirstLines, Header, Between, Event, Open, Looking, Closed}
+use Rattle.crx_engine.specs.declared.stage.Stage.TheVariants.{Ended}
+use Rattle.crx_engine.proofs.standard.CheckEnded.{check-ended}
+use Rattle.crx_engine.proofs.following.Following.{seen_in}
+use Rattle.crx_engine.proofs.following.Lines.{false-true}
+
+-- the end is the same whatever is kept of the epochs
+end-same : (number : ℕ) (phase : Phase OpenEpoch) (types : List Count) (totals : Totals) (kept : Written)
+    → (seen_end checking (seen_in no_choices number phase types totals)).answer
+    ≡ (seen_end compaction (seen_in no_choices number phase types kept)).answer
+end-same number (InFirstLines count) types totals kept = refl
+end-same number (InHeader is_first) types totals kept = refl
+end-same number BetweenUnits types totals kept = refl
+end-same number (InEvent left counted) types totals kept = refl
+end-same number (InEpoch so_far) types totals kept = refl
+end-same number LookingOn types totals kept = refl
+end-same number SeenClosed types totals kept = refl
+end-same number (SeenEnded at) types totals kept = refl
+
+held-open : (stage : Stage) (types : List Count) (epoch : Option Epoch)
+    → is_rinex_stage stage epoch ≡ true → is_held stage (open_epoch types epoch) ≡ true
+held-open (FirstLines count) types epoch e = refl
+held-open (Header is_first) types epoch e = refl
+held-open Between types epoch e = refl
+held-open (Event left counted) types epoch e = refl
+held-open Open types None e = false-true e
+held-open Open types (Some epoch) e = refl
+held-open Looking types epoch e = refl
+held-open Closed types epoch e = refl
+held-open (Ended at) types epoch e = refl
+
+ok-none : (step : Step) → failed_by (answer_of_step (Ok step)) ≡ None
+ok-none Quiet = refl
+ok-none Ready = refl
+ok-none (Warned notice again) = refl
+
+-- the fault of the whole reading is the one that is answered
+pub end-fault : (reader : RinexReader)
+    (number : ℕ) (totals : Held) (named : Option ℕ) (lines : List InputLine) (settled : Settled)
+    → SettlesEnd compaction reader.stage number false settled → is_rinex_stage reader.stage reader.epoch ≡ true
+    → checker_state_with reader number totals named ≡ check_seen lines
+    → (whole_reading_of lines).fault ≡ failed_by (answer_of_step settled.answer)
+end-fault reader number totals named lines settled settles consistent same =
+    let kept : Written = record { index = 0; tail = None } in
+    let now : CheckSeen = checker_state_with reader number totals named in
+    let step = settles (seen_in no_choices number (reader_phase reader) reader.types kept)
+    (open_epoch reader.types reader.epoch) None
+    (record {
+      is_phase = refl;
+      is_open = held-open reader.stage reader.types reader.epoch consistent;
+      is_count = refl;
+      is_skip = refl;
+    }) in
+    (check-ended lines).fault
+    ∙ ap (λ (b : CheckSeen). failed_by (seen_end checking b.reading).answer) (sym same)
+    ∙ ap failed_by (end-same number (reader_phase reader) reader.types now.reading.kept kept)
+    ∙ ap (λ (s : SeenStep OpenEpoch Written). failed_by s.answer) (sym step)
+
+pub good-end : (lines : List InputLine) (answer : Result Step At) (step : Step) → (whole_reading_of lines).fault
+    ≡ failed_by (answer_of_step answer) → answer ≡ Ok step → (whole_reading_of lines).fault ≡ None
+good-end lines answer step e is = e ∙ ap (λ a. failed_by (answer_of_step a)) is ∙ ok-none step
+
+pub bad-end : (lines : List InputLine) (answer : Result Step At) (at : At) → (whole_reading_of lines).fault
+    ≡ failed_by (answer_of_step answer) → answer ≡ Err at → (whole_reading_of lines).fault ≡ Some at
+bad-end lines answer at e is = e ∙ ap (λ a. failed_by (answer_of_step a)) is
+
+-- what is held then is what there is to find
+pub found-there : (reader : RinexReader) (number : ℕ) (totals : Held) (named : Option ℕ) (lines : List InputLine)
+    → checker_state_with reader number totals named ≡ check_seen lines → (whole_reading_of lines).fault ≡ None
+    → found_held totals reader.types named ≡ findings_of lines
+found-there reader number totals named lines same good = ap found_by same ∙ (check-ended lines).found good

@@ -1,0 +1,14 @@
+-- What was compacted comes back.
+pub mod WayBack
+pub mod Cut
+pub mod First
+pub mod Items
+pub mod Reading
+pub mod Standard
+pub mod Converse
+pub mod Carried
+pub mod NormalForm
+pub mod ExpandedWhole
+pub mod Returns
+pub mod ReturnsRead
+pub mod ReturnsLost

@@ -1,0 +1,102 @@
+-- Lines that are written and cut again are these lines; and what is read of an input holds no LF and isn't too long.
+use Rattle.std.proofs.Common.{ℕ, ◌≡◌, ◌≢◌, ◌≤◌, true, false, cond, ◌⊎◌, inl, inr, List, [], ◌∷◌, ◌++◌, map, length}
+use Rattle.std.proofs.Common.{refl, ap, sym, ◌∙◌, subst, append_assoc}
+use Rattle.std.specs.Prelude.{⊤, ◌==◌, nat_lt}
+use Rattle.std.specs.List.{AllByRecursion}
+use Rattle.std.proofs.lemmas.List.Elements.{All-head, All-tail, All-cons, All-nil}
+use Rattle.std.proofs.lemmas.Bool.{ltb-false, le-ltb}
+use Rattle.std.proofs.lemmas.Bool.Decides.{eqb_tells}
+use Rattle.crx_lines.specs.meaning.Lines.{Piece, InputLine, pieces_of, onto_first, ends_with_return, without_return}
+use Rattle.crx_lines.specs.meaning.Lines.{line_of, lines_of, is_long}
+use Rattle.crx_lines.specs.Reading.{HasNoFeed}
+use Rattle.crx_lines.specs.meaning.Seen.{ReadLine, Content, Overlong, seen}
+use Rattle.crx_lines.specs.declared.limits.TheConstants.{LINE_LIMIT}
+use Rattle.crx_lines.proofs.PieceLemmas.{pieces-first, NoFeed}
+use Rattle.crx_rinex.specs.meaning.Printing.{lines_text}
+use Rattle.crx_engine.proofs.reading.Resuming.{by_bool}
+
+-- a line that is read as it was written
+pub record IsClean (line : List ℕ) : Type 0 where
+  pub one_line : HasNoFeed line
+  pub no_return : ends_with_return line ≡ false
+  pub short : length line ≤ LINE_LIMIT
+
+pub return-kept : (line : List ℕ) → ends_with_return line ≡ false → without_return line ≡ line
+return-kept [] e = refl
+return-kept (b ∷ []) e = rw e refl
+return-kept (b ∷ c ∷ bs) e = ap (λ l. b ∷ l) (return-kept (c ∷ bs) e)
+
+seen-short : (l : InputLine) → length l.content ≤ LINE_LIMIT → seen l ≡ Content l.content
+seen-short l h = let test : nat_lt LINE_LIMIT (length l.content) ≡ false = le-ltb LINE_LIMIT (length l.content) h in
+    rw test refl
+
+pub seen-clean : (line : List ℕ)
+    → IsClean line → seen (line_of (record { bytes = line; is_ended = true })) ≡ Content line
+seen-clean line h =
+    let kept : without_return line ≡ line = return-kept line h.no_return in
+    seen-short (line_of (record { bytes = line; is_ended = true }))
+    (subst (λ l. length l ≤ LINE_LIMIT) (sym kept) h.short) ∙ ap Content kept
+
+pub lines-cut : (lines : List (List ℕ))
+    → AllByRecursion IsClean lines → map seen (lines_of (lines_text lines)) ≡ map Content lines
+lines-cut [] h = refl
+lines-cut (line ∷ lines) h =
+    let text : lines_text (line ∷ lines) ≡ line ++ 10 ∷ lines_text lines =
+    append_assoc line (10 ∷ []) (lines_text lines) in
+    let pieces : pieces_of (line ++ 10 ∷ lines_text lines) ≡ record { bytes = line; is_ended = true }
+    ∷ pieces_of (lines_text lines) = pieces-first line (lines_text lines) (IsClean.one_line h.0) in
+    ap (λ t. map seen (lines_of t)) text ∙ ap (λ ps. map seen (map line_of ps)) pieces
+    ∙ ap (λ l. l ∷ map seen (lines_of (lines_text lines))) (seen-clean line h.0)
+    ∙ ap (λ ls. Content line ∷ ls) (lines-cut lines h.1)
+
+-- ---- what is read of an input
+
+-- a line's content holds no LF and isn't too long
+abbrev pub CanStand : List ℕ → Type 0
+CanStand line = HasNoFeed line × (length line ≤ LINE_LIMIT)
+
+-- what holds of a line's content
+abbrev pub OfContent : (List ℕ → Type 0) → ReadLine → Type 0
+OfContent P (Content line) = P line
+OfContent P Overlong = ⊤
+
+abbrev FeedsNone : Piece → Type 0
+FeedsNone p = HasNoFeed p.bytes
+
+onto-no_feed : (b : ℕ) (ps : List Piece)
+    → b ≢ 10 → AllByRecursion FeedsNone ps → AllByRecursion FeedsNone (onto_first b ps)
+onto-no_feed b [] other h = (All-cons NoFeed b [] other (All-nil NoFeed), tt)
+onto-no_feed b (p ∷ ps) other h = (All-cons NoFeed b p.bytes other h.0, h.1)
+
+by-byte : (b : ℕ) (ps : List Piece)
+    → AllByRecursion FeedsNone ps → ((b == 10) ≡ true) × (b ≡ 10) ⊎ ((b == 10) ≡ false) × (b ≢ 10)
+    → AllByRecursion FeedsNone (cond (b == 10) (record { bytes = []; is_ended = true } ∷ ps) (onto_first b ps))
+by-byte b ps h (inl is) = subst (λ t. AllByRecursion FeedsNone
+    (cond t (record { bytes = []; is_ended = true } ∷ ps) (onto_first b ps))) (sym is.0) (All-nil NoFeed, h)
+by-byte b ps h (inr is) = subst (λ t. AllByRecursion FeedsNone
+    (cond t (record { bytes = []; is_ended = true } ∷ ps) (onto_first b ps))) (sym is.0) (onto-no_feed b ps is.1 h)
+
+pieces-no_feed : (input : List ℕ) → AllByRecursion FeedsNone (pieces_of input)
+pieces-no_feed [] = tt
+pieces-no_feed (b ∷ bs) = by-byte b (pieces_of bs) (pieces-no_feed bs) (eqb_tells b 10)
+
+no_feed-without_return : (bytes : List ℕ) → HasNoFeed bytes → HasNoFeed (without_return bytes)
+no_feed-without_return [] h = h
+no_feed-without_return (b ∷ []) h =
+    elim (b == 13) as (λ t. HasNoFeed (cond t [] (b ∷ []))) [ true ↦ All-nil NoFeed | false ↦ h ]
+no_feed-without_return (b ∷ c ∷ bs) h = All-cons NoFeed b (without_return (c ∷ bs))
+    (All-head NoFeed b (c ∷ bs) h) (no_feed-without_return (c ∷ bs) (All-tail NoFeed b (c ∷ bs) h))
+
+seen-stands : (l : InputLine) → HasNoFeed l.content → OfContent CanStand (seen l)
+seen-stands l h = by_bool (is_long l)
+    (λ long. subst (λ b. OfContent CanStand (cond b Overlong (Content l.content))) (sym long) tt)
+    (λ short. subst (λ b. OfContent CanStand (cond b Overlong (Content l.content)))
+    (sym short) (h, ltb-false LINE_LIMIT (length l.content) short))
+
+pieces-stand : (ps : List Piece)
+    → AllByRecursion FeedsNone ps → AllByRecursion (OfContent CanStand) (map seen (map line_of ps))
+pieces-stand [] h = tt
+pieces-stand (p ∷ ps) h = (seen-stands (line_of p) (no_feed-without_return p.bytes h.0), pieces-stand ps h.1)
+
+pub input-stands : (input : List ℕ) → AllByRecursion (OfContent CanStand) (map seen (lines_of input))
+input-stands input = pieces-stand (pieces_of input) (pieces-no_feed input)

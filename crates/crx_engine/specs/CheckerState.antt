@@ -1,0 +1,103 @@
+-- What a checker is seen as.
+use Rattle.std.specs.Prelude.{◌≡◌, ◌≤◌, ◌*◌, ⊤, ℕ, Bool, true, false, List, [], ◌∷◌, ◌++◌, drop, length, Option, Some}
+use Rattle.std.specs.Prelude.{None}
+use Rattle.std.proofs.Common.{ap}
+use Rattle.crx_lines.specs.meaning.Lines.{InputLine}
+use Rattle.crx_lines.specs.declared.limits.TheConstants.{SATELLITES_LIMIT, TYPES_LIMIT}
+use Rattle.crx_rinex.specs.meaning.EpochPlaces.{OpenEpoch}
+use Rattle.crx_rinex.specs.meaning.Observations.{Epoch}
+use Rattle.crx_rinex.specs.meaning.ObservationTypes.{Count}
+use Rattle.crx_engine.specs.Engines.{Awaited}
+use Rattle.crx_engine.specs.LineByLine.{Made, Completes, Moves, Fails, Repeats, Phase, InHeader, BetweenUnits, InEvent}
+use Rattle.crx_engine.specs.LineByLine.{InEpoch}
+use Rattle.crx_engine.specs.RinexReaders.{reader_phase}
+use Rattle.crx_engine.specs.meaning.Standard.{Findings, version_in, report_lines, findings_of}
+use Rattle.crx_engine.specs.CheckByLine.{Totals as TotalsSeen, CheckSeen, printed_open, no_choices, check_seen}
+use Rattle.crx_engine.specs.declared.checker.Checker.{Checker}
+use Rattle.crx_engine.specs.declared.report.Totals.{Totals}
+use Rattle.crx_engine.specs.declared.rinex_reader.RinexReader.{RinexReader}
+
+-- the totals that are held
+abbrev pub totals_held : Totals → TotalsSeen
+totals_held t = record {
+  version = version_in t.version;
+  epochs = t.epochs;
+  events = t.events;
+  observations = t.observations;
+}
+
+-- what is found, by what is held
+abbrev pub found_held : Totals → List Count → Option ℕ → Findings
+found_held t types not_standard = record {
+  version = version_in t.version;
+  systems = types;
+  epochs = t.epochs;
+  events = t.events;
+  observations = t.observations;
+  not_standard = not_standard;
+}
+
+-- no more epochs and events than lines, and no more observations than so many epochs may have
+pub record AreBounded (t : Totals) (number : ℕ) : Type 0 where
+  pub epochs : t.epochs ≤ number
+  pub events : t.events ≤ number
+  pub observations : t.observations ≤ SATELLITES_LIMIT * TYPES_LIMIT * t.epochs
+
+-- where a line moves a reading on within an epoch, the epoch has a printed line
+abbrev pub HasPrinted : Made Epoch OpenEpoch → Type 0
+HasPrinted (Completes unit) = ⊤
+HasPrinted (Moves phase) = (lines : List (List ℕ)) × (line : List ℕ) × (printed_open phase ≡ lines ++ line ∷ [])
+HasPrinted (Fails fault) = ⊤
+HasPrinted (Repeats at) = ⊤
+
+-- ---- what a checker is seen as
+
+abbrev pub checker_state_with : RinexReader → ℕ → Totals → Option ℕ → CheckSeen
+checker_state_with reader number totals not_standard = record {
+  reading = record {
+    choices = no_choices;
+    number = number;
+    phase = reader_phase reader;
+    types = reader.types;
+    kept = totals_held totals;
+  };
+  not_standard = not_standard;
+}
+
+abbrev pub checker_state : Checker → CheckSeen
+checker_state c = checker_state_with c.reader c.number c.totals c.not_standard
+
+-- what is pending, once the end was good
+abbrev pub report_left : Option ℕ → Findings → List (List ℕ)
+report_left None found = []
+report_left (Some lent) found = drop lent (report_lines found)
+
+abbrev pub pending_report : Checker → List (List ℕ)
+pending_report c = report_left c.lent (found_held c.totals c.reader.types c.not_standard)
+
+-- whether lines can come, where nothing is skipped
+abbrev pub is_reading : Phase OpenEpoch → Bool
+is_reading (InHeader is_first) = true
+is_reading BetweenUnits = true
+is_reading (InEvent left counted) = true
+is_reading (InEpoch so_far) = true
+is_reading phase = false
+
+-- a checker that can take lines
+pub record CheckerIsOpen (c : Checker) : Type 0 where
+  pub reading : is_reading (reader_phase c.reader) ≡ true
+  pub bounded : AreBounded c.totals c.number
+  pub unlent : c.lent ≡ None
+
+-- it has taken these lines; no line comes a second time
+abbrev pub CheckerHasTaken : Checker → List InputLine → List Awaited → Type 0
+CheckerHasTaken c lines notices = (notices ≡ []) × (checker_state c ≡ check_seen lines)
+
+-- the end was taken after these lines: the checker knows whether they are standard
+abbrev pub HasEnded : Checker → List InputLine → Type 0
+HasEnded c lines = c.not_standard ≡ (findings_of lines).not_standard
+
+-- as many lines were taken as its number says
+pub taken_counted : (c : Checker) (lines : List InputLine)
+    → checker_state c ≡ check_seen lines → c.number ≡ length lines
+taken_counted c lines same = ap (λ (seen : CheckSeen). seen.reading.number) same

@@ -1,0 +1,86 @@
+-- What runs bring back, save and judge: the laws of the way back, of damage and of standard files, as promises about
+-- runs.
+use Rattle.std.specs.Prelude.{◌≡◌, ◌≤◌, ◌↔◌, ℕ, List, [], ◌++◌, length, map, Option, None, true}
+use Rattle.crx_lines.specs.meaning.Lines.{lines_of}
+use Rattle.crx_lines.specs.meaning.Seen.{seen}
+use Rattle.crx_lines.specs.declared.fault.At.{At}
+use Rattle.crx_lines.specs.declared.fault.Fault.TheVariants.{OutOfMemory}
+use Rattle.crx_lines.specs.declared.limits.TheConstants.{INPUT_LIMIT}
+use Rattle.crx_rinex.specs.meaning.Observations.{Epoch}
+use Rattle.crx_engine.specs.meaning.Choices.{Choices, is_date}
+use Rattle.crx_engine.specs.meaning.Compacted.{whole_rinex, compacted}
+use Rattle.crx_engine.specs.meaning.Damage.{IsDamaged, IsSalvaged}
+use Rattle.crx_engine.specs.meaning.Expanded.{expanded}
+use Rattle.crx_engine.specs.meaning.WayBack.{HasNormalForm, HaveNoReturns, written_well}
+use Rattle.crx_engine.specs.meaning.Reading.{WholeReading}
+use Rattle.crx_engine.specs.meaning.Results.{FilterResult}
+use Rattle.crx_rinex.specs.meaning.Printing.{lines_text}
+use Rattle.crx_engine.specs.meaning.Standard.{Findings, IsStandard, normal_form, printed_items, report_lines, whole_of}
+use Rattle.crx_filter.specs.meaning.Spans.{Input, Device}
+use Rattle.crx_filter.specs.meaning.Runs.{FaultIs, IsResult, NoneFailed}
+
+-- a promise about whole inputs holds of a run whose reader gave these bytes
+pub record IsPromiseKept (promise : List ℕ
+    → Type 0) (input : Input) (given : List ℕ) (writer messages : Device) (fault : Option At) : Type 0 where
+  -- where no device failed and memory didn't run out: for every input within the limit that begins with these bytes,
+  -- and is these bytes where its end was reported
+  pub whole : NoneFailed input.start.failures input.counted.failures
+      → NoneFailed writer.before.failures writer.after.failures
+      → NoneFailed messages.before.failures messages.after.failures → (FaultIs OutOfMemory fault → ⊥)
+      → (rest : List ℕ) → (input.at_end → rest ≡ []) → length (given ++ rest) ≤ INPUT_LIMIT → promise (given ++ rest)
+  -- where no fault stands: for these bytes
+  pub good : fault ≡ None → promise given
+
+-- the reader gave some bytes, and with these the run keeps a promise about whole inputs
+abbrev pub Keeps : (List ℕ → Type 0) → Input → Device → Device → Option At → Type 0
+Keeps promise input writer messages fault = (given : List ℕ)
+    × input.gave given × IsPromiseKept promise input given writer messages fault
+
+-- ---- the way back
+
+-- an expansion brings a file back from what its compaction wrote, whatever was chosen for that
+pub record BringsBack (writer messages : Device)
+    (status : ℕ) (fault : Option At) (text : List ℕ) (file : List ℕ) (compacting : Choices) : Type 0 where
+  -- a standard file byte for byte, with no message and status 0
+  pub standard : IsStandard file → IsResult (written_well file) writer messages status fault
+  -- any other that is read to its good end in its normal form, unless a copied line ends in CR
+  pub normal : HasNormalForm file → IsResult (written_well (normal_form file)) writer messages status fault
+  -- where faults were skipped, all units that were accepted, as RINEX prints them
+  pub accepted :
+      let whole : WholeReading Epoch = whole_rinex compacting.skip (map seen (lines_of file)) in
+      whole.fault ≡ None → HaveNoReturns whole.items
+      → IsResult (written_well (lines_text (printed_items whole.items))) writer messages status fault
+
+abbrev pub BringsBackWhatWasCompacted : Device → Device → ℕ → Option At → List ℕ → Type 0
+BringsBackWhatWasCompacted writer messages status fault text =
+    (file : List ℕ) (compacting : Choices) → is_date compacting.date ≡ true → text ≡ (compacted file compacting).output
+    → BringsBack writer messages status fault text file compacting
+
+-- ---- damage
+
+-- an expansion that skips faults saves all but the block that is damaged: what it wrote, reported and answered is what
+-- `IsSalvaged` says of the damaged text
+abbrev pub SavesAllElse : Choices → Device → Device → ℕ → Option At → List ℕ → Type 0
+SavesAllElse expanding writer messages status fault damaged =
+    (file : List ℕ) (compacting : Choices)
+    → is_date compacting.date ≡ true → expanding.skip ≡ true → (damage : IsDamaged file compacting damaged)
+    → (saved : FilterResult) × IsSalvaged file compacting damaged damage saved
+    × IsResult saved writer messages status fault
+
+-- ---- standard files
+
+-- a check said whether a file is standard
+pub record IsJudged (writer : Device) (status : ℕ) (file : List ℕ) : Type 0 where
+  -- the six lines of its report were written, and the last one says yes exactly where the status is 0
+  pub found : Findings
+  pub report : writer.took (lines_text (report_lines found))
+  pub says_yes : (status ≡ 0) ↔ (found.not_standard ≡ None)
+  -- that is where the file is standard
+  pub standard : (status ≡ 0) ↔ IsStandard file
+  -- and where expanding its compaction gives it back byte for byte, by any choices
+  pub comes_back : (compacting expanding : Choices) → is_date compacting.date ≡ true
+      → (status ≡ 0) ↔ ((expanded (compacted file compacting).output expanding).output ≡ file)
+
+-- it does so of every file that is read to its good end
+abbrev pub JudgesStandard : Device → ℕ → List ℕ → Type 0
+JudgesStandard writer status file = (whole_of file).fault ≡ None → IsJudged writer status file

@@ -1,0 +1,35 @@
+-- What is counted of a device: its failures, and how often it reported its end.
+use Rattle.std.specs.Prelude.{ℕ, ◌+◌, ◌-◌, ◌^◌, min}
+
+-- a count after one more; it stops at the greatest value of 64 bits
+abbrev pub one_more : ℕ → ℕ
+one_more count = min (count + 1) (2 ^ 64 - 1)
+
+-- what was counted of a source: the reads that failed, and those that reported the end
+pub record Tally : Type 0 where
+  pub failures : ℕ
+  pub ends : ℕ
+
+abbrev pub tally_of : ℕ → ℕ → Tally
+tally_of failures ends = record { failures = failures; ends = ends }
+
+-- a tally after one more failure
+abbrev pub with_failure : Tally → Tally
+with_failure t = record { failures = one_more t.failures; ends = t.ends }
+
+-- what was counted of a sink: the writes and flushes that failed, and the flushes that were asked for
+pub record SinkTally : Type 0 where
+  pub failures : ℕ
+  pub flushes : ℕ
+
+-- a sink's tally after one more write that failed
+abbrev pub with_failed_write : SinkTally → SinkTally
+with_failed_write t = record { failures = one_more t.failures; flushes = t.flushes }
+
+-- a sink's tally after one more flush that was good
+abbrev pub with_flush : SinkTally → SinkTally
+with_flush t = record { failures = t.failures; flushes = one_more t.flushes }
+
+-- a sink's tally after one more flush that failed
+abbrev pub with_failed_flush : SinkTally → SinkTally
+with_failed_flush t = record { failures = one_more t.failures; flushes = one_more t.flushes }

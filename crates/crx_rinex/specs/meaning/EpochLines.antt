@@ -1,0 +1,95 @@
+-- Epoch lines: RINEX 3.05, table A3, EPOCH record.
+use Rattle.std.specs.Prelude.{◌≡◌, ◌≤◌, ◌+◌, ℕ, ℤ, Bool, length, ◌||◌, ◌&&◌, ◌-◌, List, ◌==◌, Option, Some, None}
+use Rattle.std.specs.Prelude.{Result, Ok, Err, if◌then◌else◌, nat_le, unwrap_or, not, drop}
+use Rattle.std.specs.List.{list_all}
+use Rattle.std.specs.Option.{option_and_then}
+use Rattle.crx_text.specs.meaning.Columns.{columns, character_at, is_blank}
+use Rattle.crx_text.specs.meaning.Numbers.{clock_of, IsMissingOrWithin}
+use Rattle.crx_text.specs.meaning.Texts.{is_kept}
+use Rattle.crx_lines.specs.declared.limits.TheConstants.{SATELLITES_LIMIT, HEAD_WIDTH, CLOCK_WIDTH}
+use Rattle.crx_lines.specs.declared.fault.Fault.{Fault}
+use Rattle.crx_lines.specs.declared.fault.Fault.TheVariants.{NotAnEpoch, BadEpoch, BadClock}
+use Rattle.crx_rinex.specs.meaning.Label.{number_in}
+
+-- what a line that begins with > stands for: an event with its flag and the count of its records, or an observation
+-- epoch with columns 1 to 41, the count of its satellites, and the receiver clock offset
+pub data HeadLine : Type 0 where
+  EventHead : ℕ → ℕ → HeadLine
+  EpochHead : List ℕ → ℕ → Option ℤ → HeadLine
+
+-- an epoch line begins with >
+abbrev pub begins_epoch : List ℕ → Bool
+begins_epoch line = character_at line 1 == 62
+
+-- the flag's digit in column 32: 2 to 5 are events, and 6 (cycle slip records) is read as one
+abbrev pub is_event_flag : ℕ → Bool
+is_event_flag flag = nat_le 50 flag && nat_le flag 54
+
+-- the flags of observations: 0 good, 1 a power failure before
+abbrev pub is_observation_flag : ℕ → Bool
+is_observation_flag flag = (flag == 48) || (flag == 49)
+
+-- a line that begins an event
+abbrev pub is_event_line : List ℕ → Bool
+is_event_line line = begins_epoch line && is_event_flag (character_at line 32)
+
+-- the count of an event's records in columns 33 to 35; blank is none
+abbrev pub records_in : List ℕ → Option ℕ
+records_in line = if list_all is_blank (columns line 33 3) then Some 0 else number_in (columns line 33 3)
+
+abbrev pub count_within_limit : ℕ → Option ℕ
+count_within_limit count = if nat_le count SATELLITES_LIMIT then Some count else None
+
+-- the count of an observation epoch's satellites in columns 33 to 35
+abbrev pub satellites_in : List ℕ → Option ℕ
+satellites_in line = option_and_then count_within_limit (number_in (columns line 33 3))
+
+-- the count that an epoch line's columns before the clock announce, where they are those of an observation epoch: >, a
+-- flag of 0 or 1, a count, and no character but those kept
+abbrev pub epoch_count : List ℕ → Option ℕ
+epoch_count head = if begins_epoch head
+    && is_observation_flag (character_at head 32) && list_all is_kept head then satellites_in head else None
+
+abbrev pub event_head : ℕ → Option ℕ → Result HeadLine Fault
+event_head flag None = Err BadEpoch
+event_head flag (Some count) = Ok (EventHead (flag - 48) count)
+
+abbrev pub with_clock : List ℕ → ℕ → Option (Option ℤ) → Result HeadLine Fault
+with_clock head count None = Err BadClock
+with_clock head count (Some clock) = Ok (EpochHead head count clock)
+
+-- an observation epoch's line: columns 1 to 41, the clock in columns 42 to 56, and blanks after it
+abbrev pub epoch_head : List ℕ → Option ℕ → Result HeadLine Fault
+epoch_head line None = Err BadEpoch
+epoch_head line (Some count) = if list_all is_blank (drop (HEAD_WIDTH + CLOCK_WIDTH) line) then with_clock
+    (columns line 1 HEAD_WIDTH) count (clock_of (columns line (HEAD_WIDTH + 1) CLOCK_WIDTH)) else Err BadEpoch
+
+-- what stands in a line where an epoch may begin, or its first fault: no >, then the flag, the count and the columns,
+-- then the clock
+abbrev pub head_of : List ℕ → Result HeadLine Fault
+head_of line =
+    if not (begins_epoch line) then Err NotAnEpoch
+    else if is_event_flag (character_at line 32) then event_head (character_at line 32) (records_in line)
+    else epoch_head line (epoch_count (columns line 1 HEAD_WIDTH))
+
+-- an observation epoch's line: columns 1 to 41, the count of satellites that they announce, and the receiver clock
+-- offset
+pub record ObservationHead : Type 0 where
+  pub head : List ℕ
+  pub count : ℕ
+  pub clock : Option ℤ
+
+-- how many satellites columns 1 to 41 announce
+abbrev pub satellites_of : List ℕ → ℕ
+satellites_of head = unwrap_or (epoch_count head) 0
+
+-- a clock that fits its columns, or none
+abbrev pub IsClockOffset : Option ℤ → Type 0
+IsClockOffset clock = IsMissingOrWithin CLOCK_WIDTH clock
+
+-- what is true of every observation epoch's line: its columns are those of one, and its clock fits its columns
+pub record IsObservationHead (line : ObservationHead) : Type 0 where
+  pub width : length line.head ≡ HEAD_WIDTH
+  pub counted : epoch_count line.head ≡ Some line.count
+  pub within : line.count ≤ SATELLITES_LIMIT
+  pub ranged : IsClockOffset line.clock

@@ -1,0 +1,84 @@
+-- Satellite lines: RINEX 3.05, table A3, OBSERVATION record, A1,I2.2,m(F14.3,I1,I1).
+use Rattle.std.specs.Prelude.{◌≡◌, ℕ, ℤ, Bool, true, ◌==◌, ◌||◌, ◌&&◌, ◌+◌, ◌*◌, List, [], ◌∷◌, Option, Some, None}
+use Rattle.std.specs.Prelude.{Result, Ok, Err, if◌then◌else◌, not, drop, length, All}
+use Rattle.std.specs.Char.{is_ascii_digit}
+use Rattle.std.specs.List.{list_all, concat}
+use Rattle.std.specs.Option.{option_and_then}
+use Rattle.crx_text.specs.meaning.Columns.{columns, character_at, is_blank}
+use Rattle.crx_text.specs.meaning.Numbers.{observation_of, IsMissingOrWithin}
+use Rattle.crx_rinex.specs.meaning.EachPlace.{each_place}
+use Rattle.crx_rinex.specs.meaning.Observations.{Row}
+use Rattle.crx_lines.specs.declared.limits.TheConstants.{OBSERVATION_WIDTH, NAME_WIDTH, CELL_WIDTH}
+use Rattle.crx_lines.specs.declared.fault.Fault.{Fault}
+use Rattle.crx_lines.specs.declared.fault.Fault.TheVariants.{BadSatellite, BadField, BadFlags}
+use Rattle.crx_text.specs.meaning.Texts.{is_kept}
+use Rattle.crx_rinex.specs.meaning.ObservationTypes.{Count, IsAllowedCount, count_of, is_system}
+
+-- whether columns 2 and 3 of a satellite line go on with an identifier: a digit or a blank, and a digit
+abbrev pub has_number : List ℕ → Bool
+has_number line = (is_ascii_digit (character_at line 2) || is_blank (character_at line 2))
+    && is_ascii_digit (character_at line 3)
+
+-- how many types the satellite of a line has, where it has an identifier of a system with types
+abbrev pub types_of_satellite : List Count → List ℕ → Option ℕ
+types_of_satellite types line = if has_number line then count_of types (character_at line 1) else None
+
+-- the field of type k, from 0
+abbrev pub field : List ℕ → ℕ → List ℕ
+field line k = columns line (CELL_WIDTH * k + NAME_WIDTH + 1) OBSERVATION_WIDTH
+
+-- all of the values, if each text spells one or is missing
+abbrev pub all_some : List (Option (Option ℤ)) → Option (List (Option ℤ))
+all_some [] = Some []
+all_some (None ∷ rest) = None
+all_some (Some value ∷ rest) = option_and_then (λ values. Some (value ∷ values)) (all_some rest)
+
+-- the values of m types, if each field is a number or blank
+abbrev pub values_in : ℕ → List ℕ → Option (List (Option ℤ))
+values_in m line = all_some (each_place m (λ k. observation_of (field line k)))
+
+-- the two indicators of type k, from 0: loss of lock and signal strength
+abbrev pub flags_at : List ℕ → ℕ → List ℕ
+flags_at line k = character_at line (CELL_WIDTH * k + (NAME_WIDTH + OBSERVATION_WIDTH + 1))
+    ∷ character_at line (CELL_WIDTH * k + (NAME_WIDTH + OBSERVATION_WIDTH + 2)) ∷ []
+
+-- those of each of m types
+abbrev pub flags_in : ℕ → List ℕ → List ℕ
+flags_in m line = concat (each_place m (flags_at line))
+
+-- a row of m types, or its first fault: a field that is no number, or text after the last cell; then an indicator
+abbrev pub row_with : ℕ → List ℕ → Option (List (Option ℤ)) → Result Row Fault
+row_with m line None = Err BadField
+row_with m line (Some values) =
+    if not (list_all is_blank (drop (CELL_WIDTH * m + NAME_WIDTH) line)) then Err BadField
+    else if not (list_all is_kept (flags_in m line)) then Err BadFlags
+    else Ok (record { name = columns line 1 NAME_WIDTH; values = values; flags = flags_in m line })
+
+abbrev pub row_of_types : List ℕ → Option ℕ → Result Row Fault
+row_of_types line None = Err BadSatellite
+row_of_types line (Some m) = row_with m line (values_in m line)
+
+-- a satellite's row, or the first fault of its line
+abbrev pub row_of : List Count → List ℕ → Result Row Fault
+row_of types line = row_of_types line (types_of_satellite types line)
+
+-- an identifier: the letter of a system, a digit or a blank, and a digit
+abbrev pub is_identifier : List ℕ → Bool
+is_identifier name = (length name == NAME_WIDTH) && (is_system (character_at name 1) && has_number name)
+
+-- a value that fits its columns, or none
+abbrev pub IsValue : Option ℤ → Type 0
+IsValue value = IsMissingOrWithin OBSERVATION_WIDTH value
+
+-- what is true of every row: its identifier has the form of one; it has as many values as a system may have types, each
+-- within its columns; and two indicators for each, of the characters that may stand there
+pub record IsSoundRow (row : Row) : Type 0 where
+  pub named : is_identifier row.name ≡ true
+  pub counted : IsAllowedCount (length row.values)
+  pub ranged : All IsValue row.values
+  pub paired : length row.flags ≡ 2 * length row.values
+  pub kept : list_all is_kept row.flags ≡ true
+
+-- a row has a value for each of its system's types
+abbrev pub HasItsTypes : List Count → Row → Type 0
+HasItsTypes types row = types_of_satellite types row.name ≡ Some (length row.values)

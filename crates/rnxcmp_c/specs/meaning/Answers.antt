@@ -1,0 +1,71 @@
+-- What a call answers, and what stands in the caller's memory after it.
+use Rattle.std.specs.Prelude.{◌≡◌, ℕ, List, ◌++◌, take, drop, length, nat_le, Option, Some, None, if◌then◌else◌}
+use Rattle.crx_lines.specs.meaning.Faults.{code_of_fault}
+use Rattle.crx_lines.specs.declared.fault.At.{At}
+use Rattle.crx_lines.specs.declared.fault.Fault.TheVariants.{InputTooLong, OutOfMemory}
+use Rattle.crx_engine.specs.meaning.Results.{FilterResult}
+use Rattle.rnxcmp_c.specs.declared.answer.Answer.{Answer}
+use Rattle.rnxcmp_c.specs.declared.answer.TheConstants.{NO_ROOM, BAD_DATE}
+
+-- the bytes in the caller's two rooms, at one moment
+pub record Rooms : Type 0 where
+  pub output : List ℕ
+  pub messages : List ℕ
+
+abbrev pub rooms : List ℕ → List ℕ → Rooms
+rooms output messages = record { output = output; messages = messages }
+
+-- some room once a text was put there: the text as far as it fits, and after it what stood there
+abbrev pub placed : List ℕ → List ℕ → List ℕ
+placed text room = take (length room) text ++ drop (length text) room
+
+-- the number of the fault that ended a run, and its line; 0 where none did
+abbrev pub fault_code_in : Option At → ℕ
+fault_code_in None = 0
+fault_code_in (Some at) = code_of_fault at.fault
+
+abbrev pub line_in : Option At → ℕ
+line_in None = 0
+line_in (Some at) = at.line
+
+-- the status of a result in so much room for its output
+abbrev pub status_in : FilterResult → ℕ → ℕ
+status_in result room = if nat_le (length result.output) room then result.status else NO_ROOM
+
+-- a call answered this result, and put its output and its messages into the caller's rooms
+pub record IsAnswer (result : FilterResult) (answer : Answer) (before after : Rooms) : Type 0 where
+  pub status : answer.status ≡ status_in result (length before.output)
+  pub code : answer.code ≡ fault_code_in result.fault
+  pub line : answer.line ≡ line_in result.fault
+  pub output_length : answer.output_length ≡ length result.output
+  pub messages_length : answer.messages_length ≡ length result.messages
+  pub output : after.output ≡ placed result.output before.output
+  pub messages : after.messages ≡ placed result.messages before.messages
+
+-- ---- where there is no result
+
+-- an answer with a status, a line and a fault's number alone
+abbrev pub bare_answer : ℕ → ℕ → ℕ → Answer
+bare_answer status line code =
+    record { line = line; output_length = 0; messages_length = 0; status = status; code = code }
+
+-- nothing in the caller's rooms was changed
+abbrev pub IsUntouched : Rooms → Rooms → Type 0
+IsUntouched before after = after ≡ before
+
+-- the date was refused
+abbrev pub IsDateRefused : Answer → Rooms → Rooms → Type 0
+IsDateRefused answer before after = (answer ≡ bare_answer BAD_DATE 0 0) × IsUntouched before after
+
+-- the input is longer than the limit
+abbrev pub IsTooLong : Answer → Rooms → Rooms → Type 0
+IsTooLong answer before after = (answer ≡ bare_answer 1 0 (code_of_fault InputTooLong)) × IsUntouched before after
+
+-- the number that says that memory ran out
+abbrev pub HasNoMemory : Answer → Type 0
+HasNoMemory answer = answer.code ≡ code_of_fault OutOfMemory
+
+-- memory ran out, at some line
+abbrev pub CallIsOutOfMemory : Answer → Rooms → Rooms → Type 0
+CallIsOutOfMemory answer before after = (answer ≡ bare_answer 1 answer.line (code_of_fault OutOfMemory))
+    × IsUntouched before after

@@ -1,0 +1,47 @@
+-- What the expansion and the check promise of the files that they were made of, in the caller's memory.
+-- `holds result` says that a call answered this result, and put its texts into the caller's rooms.
+use Rattle.std.specs.Prelude.{◌≡◌, ◌↔◌, ℕ, List, map, None, true}
+use Rattle.crx_lines.specs.meaning.Lines.{lines_of}
+use Rattle.crx_lines.specs.meaning.Seen.{seen}
+use Rattle.crx_rinex.specs.meaning.Observations.{Epoch}
+use Rattle.crx_engine.specs.meaning.Choices.{Choices, is_date}
+use Rattle.crx_engine.specs.meaning.Compacted.{whole_rinex, compacted}
+use Rattle.crx_engine.specs.meaning.Damage.{IsDamaged, IsSalvaged}
+use Rattle.crx_engine.specs.meaning.WayBack.{HasNormalForm, HaveNoReturns, written_well}
+use Rattle.crx_engine.specs.meaning.Reading.{WholeReading}
+use Rattle.crx_engine.specs.meaning.Results.{FilterResult}
+use Rattle.crx_rinex.specs.meaning.Printing.{lines_text}
+use Rattle.crx_engine.specs.meaning.Standard.{IsStandard, normal_form, printed_items, whole_of}
+
+-- ---- the way back
+
+-- of what was compacted of a file, whatever was chosen for that, an expansion brings the file back
+pub record CallBringsBack (holds : FilterResult → Type 0) (file : List ℕ) (compacting : Choices) : Type 0 where
+  -- a standard file byte for byte, with no message and status 0
+  pub standard : IsStandard file → holds (written_well file)
+  -- any other that is read to its good end in its normal form, unless a copied line ends in CR
+  pub normal : HasNormalForm file → holds (written_well (normal_form file))
+  -- where faults were skipped, all units that were accepted, as RINEX prints them
+  pub accepted :
+      let whole : WholeReading Epoch = whole_rinex compacting.skip (map seen (lines_of file)) in
+      whole.fault ≡ None → HaveNoReturns whole.items → holds (written_well (lines_text (printed_items whole.items)))
+
+abbrev pub CallBringsBackWhatWasCompacted : (FilterResult → Type 0) → List ℕ → Type 0
+CallBringsBackWhatWasCompacted holds text =
+    (file : List ℕ) (compacting : Choices) → is_date compacting.date ≡ true → text ≡ (compacted file compacting).output
+    → CallBringsBack holds file compacting
+
+-- ---- damage
+
+-- an expansion that skips faults saves all but the block that is damaged
+abbrev pub CallSavesAllElse : (FilterResult → Type 0) → List ℕ → Type 0
+CallSavesAllElse holds damaged =
+    (file : List ℕ) (compacting : Choices)
+    → is_date compacting.date ≡ true → (damage : IsDamaged file compacting damaged)
+    → (saved : FilterResult) × IsSalvaged file compacting damaged damage saved × holds saved
+
+-- ---- standard files
+
+-- where a file is read to its good end, the status of its check is 0 exactly where it is standard
+abbrev pub CallJudgesStandard : ℕ → List ℕ → Type 0
+CallJudgesStandard status file = (whole_of file).fault ≡ None → (status ≡ 0) ↔ IsStandard file
