@@ -6,7 +6,7 @@ use Rattle.crx_rinex.specs.meaning.Units.{Unit}
 use Rattle.crx_engine.specs.meaning.Items.{Item, Accepted, Warned}
 use Rattle.crx_engine.specs.meaning.Reading.{WholeReading}
 use Rattle.crx_engine.specs.meaning.Messages.{warnings_in, notices_text, error_text}
-pub use Rattle.crx_compact.specs.LineLists.{lines_text}
+pub use Rattle.crx_rinex.specs.meaning.Printing.{lines_text}
 
 -- the lines that are written for some items, by what is written for each unit after those before it
 abbrev pub written_lines : {E : Type 0} → (List (Item E) → Unit E → List (List ℕ)) → List (Item E) → List (List ℕ)
