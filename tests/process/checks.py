@@ -80,9 +80,35 @@ def run_short_of_memory(program, words, given, whole):
     return wrong if short else [*wrong, "no run was short of memory"]
 
 
+def run_on_a_small_stack(program):
+    """What is wrong in runs on a stack of 128 KiB, as lines: each writes, reports and answers what it does on a greater one."""
+    wrong = []
+    damaged = COMPACT_FIVE.replace(b"\n", b"\n\n", 40)
+    for words, given in (
+        (DATED, FIVE),
+        (["crx2rnx"], COMPACT_FIVE),
+        (["crx2rnx", "-s"], damaged),
+        (["crx2rnx"], damaged),
+        (["check"], FIVE),
+        (["--help"], b""),
+        (["rnx2crx", "--help"], b""),
+        (["rnx2crx", "-x"], b""),
+        (["crx2rnx", "missing.crx"], b""),
+    ):
+        both = [
+            subprocess.run(["sh", "-c", f'ulimit -s {kilobytes} && exec "$@"', "sh", str(program), *words], input=given, capture_output=True, timeout=60)
+            for kilobytes in (8192, 128)
+        ]
+        whole, small = [(run.returncode, run.stdout, run.stderr) for run in both]
+        if small != whole:
+            wrong.append(f"{' '.join(words)}: status {small[0]}, not {whole[0]}; messages {small[2][:200]!r}, not {whole[2][:200]!r}")
+    return wrong
+
+
 def checks(program):
-    """Each case, and runs with less and less memory."""
+    """Each case, runs with less and less memory, and runs on a small stack."""
     yield from ((case.name, lambda case=case: run_case(program, case)) for case in CASES)
     yield "compaction, short of memory", lambda: run_short_of_memory(program, DATED, FIVE, COMPACT_FIVE)
     yield "expansion, short of memory", lambda: run_short_of_memory(program, ["crx2rnx"], COMPACT_FIVE, FIVE)
+    yield "a stack of 128 KiB", lambda: run_on_a_small_stack(program)
     yield from ((name, lambda check=check: check(program)) for name, check in CHECKS)
