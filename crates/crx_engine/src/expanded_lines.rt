@@ -72,12 +72,16 @@ impl CopiedLine {
     }
 }
 
+/// How long a text of an epoch's lines may be to be made in one piece; a longer one is written line by line. That of 40 satellites with 20
+/// types has some 10 KiB.
+const TEXT_ROOM: usize = 65536;
+
 /// The lines that an expansion has ready: a line that is copied, or those of an epoch.
 #[derive(Drop)]
 pub(crate) struct ExpandedLines {
     copied: CopiedLine,
     printed: Option<Printed>,
-    /// The memory of the text of an epoch.
+    /// The memory of the text of an epoch, which never grows.
     text: Vec<u8>,
 }
 
@@ -90,15 +94,16 @@ impl Model for ExpandedLines {
 }
 
 impl ExpandedLines {
-    /// No lines; it takes memory for every line that is copied.
+    /// No lines; it takes memory for every line that is copied, and for an epoch's text.
     pub(crate) fn new(alloc: Global) -> Result<ExpandedLines, AllocError>
         ensures { IfOk result (λ lines. lines ≡ []) }
     {
         let copied = CopiedLine::new(alloc)?;
+        let text = vec![in alloc; 0; TEXT_ROOM]?;
         Ok(ExpandedLines {
             copied,
             printed: None,
-            text: Vec::new(alloc),
+            text,
         })
     }
 
@@ -146,8 +151,8 @@ impl ExpandedLines {
         }
     }
 
-    /// Lends all lines as one text, each followed by LF, after which none is left. `None` comes where a line is copied, or memory refuses
-    /// to grow, and then they stay as they are.
+    /// Lends all lines as one text, each followed by LF, after which none is left. After `None`, as where a line is copied, or where the
+    /// text may be longer than [`TEXT_ROOM`], they stay as they are.
     pub(crate) fn take_text(&mut self) -> Option<&[u8]>
         ensures value { IfSome result (λ text. text.now ≡ lines_text self.old) }
         ensures* after_borrow { sem 𝓛 (Rests the_row self.entry
@@ -164,19 +169,15 @@ impl ExpandedLines {
 }
 
 /// Puts the lines of an epoch that are pending in place of bytes, each followed by LF, and gives how many bytes these are. `None`
-/// comes where there is no epoch, or memory refuses to grow, and then all lines are left.
-fn take_printed(printed: &mut Option<Printed>, bytes: &mut Vec<u8>) -> Option<usize>
-    ensures text { IfSome result
-        (λ count. take count bytes.new.items ≡ lines_text (unwrap_or printed.old [])) }
-    ensures within { IfSome result (λ count. count ≤ length bytes.new.items) }
+/// comes where there is no epoch, or the bytes may be too few, and then all lines are left.
+fn take_printed(printed: &mut Option<Printed>, bytes: &mut [u8]) -> Option<usize>
+    ensures text { IfSome result (λ count. take count bytes.new ≡ lines_text (unwrap_or printed.old [])) }
+    ensures within { IfSome result (λ count. count ≤ length bytes.new) }
     ensures drained { OnSome result (unwrap_or printed.new [] ≡ []) }
     ensures same { IfNone result (printed.new ≡ printed.old) }
 {
     let Some(printed) = printed else {
         return None;
     };
-    match printed.take_text(bytes) {
-        Ok(count) => Some(count),
-        Err(_) => None,
-    }
+    printed.take_text(bytes)
 }

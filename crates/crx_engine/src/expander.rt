@@ -81,8 +81,8 @@ impl Expander {
         self.lines.next_line()
     }
 
-    /// Lends all lines that are ready as one text, each followed by LF; `None` where a line is copied, or memory refuses to grow, and then
-    /// they stay.
+    /// Lends all lines that are ready as one text, each followed by LF; after `None`, as where a line is copied, or the text is
+    /// long, they stay.
     pub(crate) fn take_text(&mut self) -> Option<&[u8]>
         ensures value { IfSome result (λ text. text.now ≡ lines_text self.old.lines) }
         ensures* after_borrow { sem 𝓛 (Rests the_row self.entry

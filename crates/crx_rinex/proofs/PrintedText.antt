@@ -1,6 +1,6 @@
 -- The text of an epoch's printed lines, a line after another.
-use Rattle.std.proofs.Common.{◌≡◌, ◌≤◌, ◌<◌, ℕ, zero, suc, ◌+◌, List, [], ◌∷◌, ◌++◌, Option, Some, None, Result, Ok}
-use Rattle.std.proofs.Common.{Err, IfOk, length, take, drop, map, slice_get, refl, sym, ap, ◌∙◌, append_assoc, add-one}
+use Rattle.std.proofs.Common.{◌≡◌, ◌≤◌, ◌<◌, ℕ, zero, suc, ◌+◌, List, [], ◌∷◌, ◌++◌, Option, Some, None}
+use Rattle.std.proofs.Common.{IfSome, length, take, drop, map, slice_get, refl, sym, ap, ◌∙◌, append_assoc, add-one}
 use Rattle.std.proofs.Common.{arith}
 use Rattle.std.proofs.lemmas.Option.{same_Some}
 use Rattle.crx_rinex.specs.meaning.Printing.{lines_text}
@@ -31,8 +31,8 @@ text-on text more whole line lines left first next is =
     ∙ ap (λ (ls : List (List ℕ)). text ++ lines_text ls) (sym first)
     ∙ is
 
--- what a result says of a text, said of the same text in other words
-pub same-text : {E : Type 0} (result : Result ℕ E) (new one other : List ℕ)
-    → IfOk result (λ count. take count new ≡ one) → one ≡ other → IfOk result (λ count. take count new ≡ other)
-same-text (Ok count) new one other h e = h ∙ e
-same-text (Err x) new one other h e = h
+-- what an answer says of a text, said of the same text in other words
+pub same-text : (answer : Option ℕ) (new one other : List ℕ) → IfSome answer (λ count. take count new ≡ one) → one ≡ other
+    → IfSome answer (λ count. take count new ≡ other)
+same-text (Some count) new one other h e = h ∙ e
+same-text None new one other h e = h

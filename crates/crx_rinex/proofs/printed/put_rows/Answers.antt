@@ -17,7 +17,7 @@ loop-row-preserved c =
 pub returns-clause-text : goal.returns-clause-text
 returns-clause-text c =
     let rows = c.args.epoch.now.rows in
-    let text : List ℕ = take c.loop-row.end c.loop-row.bytes.items in
+    let text : List ℕ = take c.loop-row.end c.loop-row.bytes in
     sym (append-nil text) ∙ ap (λ (ls : List (List ℕ)). text ++ lines_text ls)
     (sym (drop-none printed_row rows c.loop-row.index (sym c.in_default.ensures.value)))
     ∙ c.loop-row.invariant.text

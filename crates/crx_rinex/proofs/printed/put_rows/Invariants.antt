@@ -5,9 +5,9 @@ use Rattle.crx_rinex.proofs.printed.put_rows.Given as goal
 -- the lines of the rows that are left complete the text up to the end
 abbrev pub invariant-loop-row : goal.invariant-loop-row
 invariant-loop-row l = record {
-  text : take l.end l.bytes.items ++ lines_text (drop l.index (map printed_row l.epoch.rows))
-      ≡ take l.start l.initial.bytes.items ++ lines_text (drop l.place (map printed_row l.epoch.rows));
-  within : l.end ≤ length l.bytes.items;
+  text : take l.end l.bytes ++ lines_text (drop l.index (map printed_row l.epoch.rows))
+      ≡ take l.start l.initial.bytes ++ lines_text (drop l.place (map printed_row l.epoch.rows));
+  within : l.end ≤ length l.bytes;
 }
 
 abbrev pub decreases-loop-row : goal.decreases-loop-row
