@@ -18,10 +18,12 @@ PROMISES = (
     ("Expansion", ("expanded",), "the same of `expand`"),
     ("The report", ("checked",), "the same of `check`, with what a standard file is"),
     ("Failing devices and memory", ("Runs", "Keeps", "span", "reader_span"), "what a run is where a reader, a writer or memory fails: the clause `runs`"),
+    ("What a run has done by a line", ("compaction_filter", "expansion_filter", "check_filter"),
+        "what `runs` says of a run that ends early: what the lines so far make, and at which lines memory may run out"),
     ("The way back", ("BringsBackWhatWasCompacted", "CallBringsBackWhatWasCompacted"), "the clause `way_back` of `expand`"),
     ("Damage", ("SavesAllElse", "CallSavesAllElse"), "the clause `salvage` of `expand`"),
     ("Standard files", ("JudgesStandard", "CallJudgesStandard"), "the clause `standard` of `check`"),
-    ("The program", ("plan_of", "IsRefused", "IsHelped"), "what the arguments ask for, and what is shown where nothing is run: the clauses `refused` and `help` of `run`"),
+    ("The program", ("plan_of", "IsRefused", "IsHelped", "IsJobDone"), "what the arguments ask for, what is shown where nothing is run, and what a run over files does: the clauses `refused`, `help` and `done` of `run`"),
     ("The library for C", ("IsAnswer", "IsDateRefused", "IsTooLong", "HasNoMemory", "CallIsOutOfMemory", "rooms", "choices_of"),
         "what its calls answer, and what stands in the caller's memory after them"),
 )
@@ -29,12 +31,14 @@ PROMISES = (
 HEAD = """# Reading
 
 What has to be read, and believed, to know what is claimed. A proof can be wrong in one place that no prover sees: the definitions may
-say something else than RINEX 3.05 and Compact RINEX 3.0 do. They stand in `crates/*/specs/meaning`. This page lists those that the
-main promises stand on, file by file, each file after those that it uses; the files beside that folder say how code and proofs see
-things, and need not be believed. `docs/reading.py` writes this page from the sources, and the gate compares it.
+say something else than RINEX 3.05 and Compact RINEX 3.0 do. What a whole input means stands in `crates/*/specs/meaning`; what a run has
+done by a line that isn't the last, and what the program does with files, stands in some files beside that folder. This page lists both,
+file by file, each file after those that it uses. All other files of `specs` say how code and proofs see things, and need not be
+believed. `docs/reading.py` writes this page from the sources, and the gate compares it.
 
 Beside the definitions: the four public calls `compact`, `expand` and `check` (`crates/crx_filter/src`) and `run`
-(`crates/rnxcmp/src/program.rt`) with their clauses, docs/FORMATS.md for the formats in words, and README.md for what else is trusted.
+(`crates/rnxcmp/src/program.rt`) with their clauses, the constants that they and the definitions cite (`limits.rt` of crx_lines, `labels.rt`
+of crx_rinex, `crinex.rt` of crx_engine), docs/FORMATS.md for the formats in words, and README.md for what else is trusted.
 
 ## How to read a definition
 
