@@ -18,35 +18,75 @@ PROMISES = (
     ("Expansion", ("expanded",), "the same of `expand`"),
     ("The report", ("checked",), "the same of `check`, with what a standard file is"),
     ("Failing devices and memory", ("Runs", "Keeps", "span", "reader_span"), "what a run is where a reader, a writer or memory fails: the clause `runs`"),
-    ("What a run has done by a line", ("compaction_filter", "expansion_filter", "check_filter"),
-        "what `runs` says of a run that ends early: what the lines so far make, and at which lines memory may run out"),
     ("The way back", ("BringsBackWhatWasCompacted", "CallBringsBackWhatWasCompacted"), "the clause `way_back` of `expand`"),
     ("Damage", ("SavesAllElse", "CallSavesAllElse"), "the clause `salvage` of `expand`"),
     ("Standard files", ("JudgesStandard", "CallJudgesStandard"), "the clause `standard` of `check`"),
-    ("The program", ("plan_of", "IsRefused", "IsHelped", "IsJobDone"), "what the arguments ask for, what is shown where nothing is run, and what a run over files does: the clauses `refused`, `help` and `done` of `run`"),
+    ("The program", ("plan_of", "IsRefused", "IsHelped"), "what the arguments ask for, and what is shown where nothing is run: the clauses `refused` and `help` of `run`"),
     ("The library for C", ("IsAnswer", "IsDateRefused", "IsTooLong", "HasNoMemory", "CallIsOutOfMemory", "rooms", "choices_of"),
         "what its calls answer, and what stands in the caller's memory after them"),
 )
 
+# what clauses of the public calls name and no folder `meaning` has: what is written for the lines so far, and what a run of the program is
+OUTSIDE = ("compaction_filter", "expansion_filter", "check_filter", "IsJobDone", "IsNotBegun")
+
 HEAD = """# Reading
 
-What has to be read, and believed, to know what is claimed. A proof can be wrong in one place that no prover sees: the definitions may
-say something else than RINEX 3.05 and Compact RINEX 3.0 do. What a whole input means stands in `crates/*/specs/meaning`; what a run has
-done by a line that isn't the last, and what the program does with files, stands in some files beside that folder. This page lists both,
-file by file, each file after those that it uses. All other files of `specs` say how code and proofs see things, and need not be
-believed. `docs/reading.py` writes this page from the sources, and the gate compares it.
+This page lists what one has to read, and believe, to know what is claimed. A proof can't find one kind of error: the definitions may say
+something else than RINEX 3.05 and Compact RINEX 3.0 do. The definitions to believe stand in the folders `crates/*/specs/meaning`. This
+page lists those that the main promises use, file by file, each file after those that it uses. The other files of `crates/*/specs` say how
+code and proofs see things, and need not be believed, but for those that the last section names. `docs/reading.py` writes this page from
+the sources, and the gate compares it.
 
-Beside the definitions: the four public calls `compact`, `expand` and `check` (`crates/crx_filter/src`) and `run`
-(`crates/rnxcmp/src/program.rt`) with their clauses, the constants that they and the definitions cite (`limits.rt` of crx_lines, `labels.rt`
-of crx_rinex, `crinex.rt` of crx_engine), docs/FORMATS.md for the formats in words, and README.md for what else is trusted.
+More has to be read. The public calls `compact`, `expand` and `check` (`crates/crx_filter/src`) and `run` (`crates/rnxcmp/src/program.rt`)
+have the contracts that use these definitions. The traits `Source` and `Sink` (`crates/crx_lines/src/device.rt`) say what readers and
+writers are. Contracts and definitions cite constants: `limits.rt` of crx_lines, `labels.rt` of crx_rinex and `crinex.rt` of crx_engine
+have them. README.md says what else is trusted. docs/FORMATS.md describes the formats in words.
+
+## The words of the subject
+
+- A *RINEX observation file* is a text: header lines, then units. An *observation epoch* is a line that begins with `>`, with the time of
+  the measurements, and a line for each satellite. An *event* is a line that begins with `>` too, with other lines after it, its
+  *records*, which are copied.
+- A satellite's line, its *row*, has a *cell* for each *observation type* of its system (GPS, Galileo and so on): a *value*, that may be
+  missing, and two *indicators* (`flags` in the definitions), a character each. *Types lines* in the header say how many types each system
+  has. The epoch's line may have a *clock offset*, a number.
+- *Compact text* writes an epoch as the differences from those before. An *arc* is a row of values of one cell in epochs one after
+  another, none missing. Each value is written as a *code*: the first one of an arc as it is, the others as differences of up to third
+  order. Other characters are written as *marks*, where they differ from those before.
+- An epoch *in full* is written without the epochs before it. A *block* is an epoch in full and those after it, up to the next line that
+  begins with `>`.
+
+docs/pictures/epoch.svg shows two epochs with their compact text.
 
 ## How to read a definition
 
-A definition is one or more equations. `x ∷ rest` is a list with the first element x, `[]` the empty list, `++` joins lists, `λ x. ..` is a
-function, `record { .. }` a value with named fields, `A × B` is *A and B*, `A ⊎ B` is *A or B*, `(x : T) → P x` is *for every x*,
-`(x : T) × P x` is *there is an x*, `⊥` is *false*, `≡` is *equals*. Lists of units, epochs and values have the newest first, where the
-definition doesn't say otherwise.
+Files that end in `.antt` hold definitions and proofs, files that end in `.rt` code with contracts. `abbrev` and `unfoldable` both begin a
+definition, which has one or more equations; `record` and `data` begin a type. `use` names what is taken from other files: `Rattle.std`
+and `Rattle.core` are the standard library, and `specs.declared` of a crate holds the types and constants of its code (the constant
+`LINE_LIMIT` of `src/limits.rt`, for instance).
+
+`x ∷ rest` is a list with the first element x, `[]` the empty list, `++` joins lists, `λ x. ..` is a function, `record { .. }` a value
+with named fields, `elim (x) [ | C y ↦ .. ]` tells the cases of x apart, `{X : Type 0}` is an argument that is left out in a call, `A × B`
+is *A and B*, `A ⊎ B` is *A or B*, `A ↔ B` is *A if and only if B*, `(x : T) → P x` is *for every x*, `(x : T) × P x` is *there is an x*,
+`⊥` is *false*, `⊤` *true*, `≡` is *equals*, and `-` of two numbers of `ℕ` is 0 if the second is greater. A text is a list of bytes, each
+a number. Lists of units, epochs and values have the newest first, where the definition doesn't say otherwise.
+
+In a contract `requires` is what a caller has to meet and `ensures` what the call promises. `x.old` and `x.new` are an argument before and
+after the call, `x.now` one that the call doesn't change, and `result` is what it returns.
 """
+
+OUTSIDE_WORDS = """
+## Definitions outside these folders
+
+Two promises name definitions that stand outside the folders `meaning`. One who relies on them has to read these too.
+
+- What is written and reported where a device fails or memory runs out: `runs` names `compaction_filter`, `expansion_filter` and `check_filter`,
+  which say what is to be written for the lines so far, and where memory may run out.
+- What the program does where its arguments are right: `done` of `run` names `IsJobDone`.
+
+With what they use, these are {definitions} more definitions of {lines} lines, in these files:
+
+{files}"""
 
 
 def sources():
@@ -133,6 +173,9 @@ def page():
             at = {name: texts_at for texts_at, (_, name) in enumerate(k for k in texts if k[0] == path)}
             names = sorted((name for _, name in keys), key=lambda name: at[name])
             out.append(f"- `{path.relative_to(TOP)}` ({lines_of(keys, texts)} lines): " + ", ".join(f"`{it}`" for it in names) + "\n")
+    outside = closure(OUTSIDE, texts, taken) - read
+    files = sorted({str(path.relative_to(TOP)) for path, _ in outside})
+    out.append(OUTSIDE_WORDS.format(definitions=len(outside), lines=lines_of(outside, texts), files="".join(f"- `{it}`\n" for it in files)))
     return "".join(out)
 
 

@@ -14,6 +14,9 @@ A line of a text is a word, names and numbers, and after `|` the texts that are 
     type ROW KIND |TEXT                    a line of a file, of which {NAME:TEXT} is a part with a name; a blank is shown as a dot
     arrow FROM TO                          from one box or part to another
     note ROW COLUMN | TEXT                 a remark beside lines of a file, COLUMN in characters
+    panels | TITLE | ..                    bars beside each other, in a panel for each title
+    series | NAME | ..                     whose bars they are, with a colour for each name
+    bars | TEXT | NUMBERS | ..             for each panel a bar for each name of the series; a panel's longest bar is its greatest number
 """
 
 import re
@@ -24,10 +27,12 @@ from pathlib import Path
 HERE = Path(__file__).resolve().parent
 TOP = HERE.parents[1]
 CHARACTER, ROW, LEFT = 8, 30, 80  # of lines of a file: the width of a character, the height of a row, what stands left of them
+NAMES, LONGEST, PANEL, BAR = 190, 280, 360, 20  # of bars: what stands left of them, the longest one, a panel's width, a bar's height
 STYLE = """<style>
 text { font: 13px sans-serif; fill: #1a1a1a } .code { font: 12px monospace } .type { font: 13px monospace }
 .head { font-weight: bold } .faint { fill: #666666 } .dot { fill: #b0b0b0 }
 .box { fill: #eef3f8; stroke: #4a6785 } .part { fill: #fbeecb; stroke: #c9a64a } .arrow { stroke: #4a6785; fill: none; marker-end: url(#tip) }
+.bar0 { fill: #4a6785 } .bar1 { fill: #d9b44a; stroke: #8a6d1f }
 </style>
 <defs><marker id="tip" viewBox="0 0 8 8" refX="7" refY="4" markerWidth="7" markerHeight="7" orient="auto"><path d="M0 0L8 4L0 8z" fill="#4a6785"/></marker></defs>"""
 
@@ -35,6 +40,7 @@ text { font: 13px sans-serif; fill: #1a1a1a } .code { font: 12px monospace } .ty
 class Picture:
     def __init__(self):
         self.drawn, self.places, self.crates = [], {}, {}
+        self.panels, self.series, self.bars = [], [], []
         self.grid = (260, 90)
         self.right = self.bottom = 0
 
@@ -109,6 +115,26 @@ class Picture:
                     same = self.crates[name][0] == self.crates[other][0] and layer[name] - layer[other] > 1
                     (self.elbow if same else self.arrow)(name, other)
 
+    def charts(self):
+        """The bars of all panels, below the names of the series."""
+        for index, name in enumerate(self.series):
+            x = 20 + NAMES + 130 * index
+            self.drawn.append(f'<rect x="{x}" y="20" width="14" height="14" class="bar{index}"/>')
+            self.text(x + 22, 32, name)
+        for panel, title in enumerate(self.panels):
+            left = 20 + NAMES + PANEL * panel
+            self.text(left, 66, title, "head")
+            greatest = max(float(number) for _, numbers in self.bars for number in numbers[panel])
+            for group, (name, numbers) in enumerate(self.bars):
+                top = 80 + group * (len(self.series) * BAR + 18)
+                if panel == 0:
+                    self.text(left - 12, top + len(self.series) * BAR / 2 + 3, name, anchor="end")
+                for index, number in enumerate(numbers[panel]):
+                    width, y = LONGEST * float(number) / greatest, top + index * BAR
+                    self.drawn.append(f'<rect x="{left}" y="{y}" width="{width:.0f}" height="{BAR - 4}" class="bar{index}"/>')
+                    self.text(left + round(width) + 8, y + 13, number)
+                self.reach(left + LONGEST + 50, top + len(self.series) * BAR)
+
     def line(self, words, texts):
         if words[0] == "grid":
             self.grid = (int(words[1]), int(words[2]))
@@ -126,6 +152,12 @@ class Picture:
             x, y = LEFT + float(words[2]) * CHARACTER, 34 + float(words[1]) * ROW
             self.text(x, y, texts[0].strip())
             self.reach(x + 7 * len(texts[0]), y)
+        elif words[0] == "panels":
+            self.panels = [text.strip() for text in texts]
+        elif words[0] == "series":
+            self.series = [text.strip() for text in texts]
+        elif words[0] == "bars":
+            self.bars.append((texts[0].strip(), [text.split() for text in texts[1:]]))
         else:
             raise ValueError(f"no word of a picture: {words[0]}")
 
@@ -136,6 +168,7 @@ def drawing(path):
         if line.strip() and not line.startswith("#"):
             words, *texts = line.split("|")
             picture.line(words.split(), texts)
+    picture.charts()
     size = f'width="{picture.right + 20:g}" height="{picture.bottom + 16:g}"'
     head = f'<svg xmlns="http://www.w3.org/2000/svg" {size}>\n{STYLE}\n<rect {size} fill="#ffffff"/>'
     return "\n".join([head, *picture.drawn, "</svg>", ""])

@@ -91,11 +91,20 @@ def example(program):
     return wrong + ([] if subprocess.run([program, "crx2rnx"], input=made, capture_output=True, text=True, timeout=60).stdout == rinex else ["they don't come back"])
 
 
+def figures():
+    """The numbers of docs/pictures/speed.txt that bench/README.md doesn't have in a cell of a table."""
+    table = (TOP / "bench/README.md").read_text(encoding="utf-8")
+    cells = {cell.strip() for row in re.findall(r"^\|(.*)\|$", table, re.M) for cell in row.split("|")}
+    bars = re.findall(r"^bars \|[^|]*\|(.*)$", (TOP / "docs/pictures/speed.txt").read_text(encoding="utf-8"), re.M)
+    return [f"docs/pictures/speed.txt: bench/README.md has no {it}" for it in re.findall(r"[\d.]+", " ".join(bars)) if it not in cells]
+
+
 def checks(program):
     yield "docs/CONTRACTS.md", lambda: written("contracts.py")
     yield "docs/READING.md", lambda: written("reading.py")
     yield "docs/pictures", lambda: written("pictures/draw.py")
     yield "docs/pictures/epoch.txt", lambda: example(program)
+    yield "docs/pictures/speed.txt", figures
     known = contracts()
     for page in PAGES:
         if not (TOP / page).exists():
