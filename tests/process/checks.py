@@ -81,7 +81,7 @@ def run_short_of_memory(program, words, given, whole):
 
 
 def run_on_a_small_stack(program):
-    """What is wrong in runs on a stack of 128 KiB, as lines: each writes, reports and answers what it does on a greater one."""
+    """What is wrong in runs on a stack of 256 KiB, as lines: each writes, reports and answers what it does on a greater one."""
     wrong = []
     damaged = COMPACT_FIVE.replace(b"\n", b"\n\n", 40)
     for words, given in (
@@ -97,7 +97,7 @@ def run_on_a_small_stack(program):
     ):
         both = [
             subprocess.run(["sh", "-c", f'ulimit -s {kilobytes} && exec "$@"', "sh", str(program), *words], input=given, capture_output=True, timeout=60)
-            for kilobytes in (8192, 128)
+            for kilobytes in (8192, 256)
         ]
         whole, small = [(run.returncode, run.stdout, run.stderr) for run in both]
         if small != whole:
@@ -110,5 +110,5 @@ def checks(program):
     yield from ((case.name, lambda case=case: run_case(program, case)) for case in CASES)
     yield "compaction, short of memory", lambda: run_short_of_memory(program, DATED, FIVE, COMPACT_FIVE)
     yield "expansion, short of memory", lambda: run_short_of_memory(program, ["crx2rnx"], COMPACT_FIVE, FIVE)
-    yield "a stack of 128 KiB", lambda: run_on_a_small_stack(program)
+    yield "a stack of 256 KiB", lambda: run_on_a_small_stack(program)
     yield from ((name, lambda check=check: check(program)) for name, check in CHECKS)
