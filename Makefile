@@ -6,7 +6,7 @@
 #             (what the prover prints goes into out/gate.log)
 # make memory-test runs the program that make built with each growth of memory refused in turn (tests/memory)
 # make archive-test runs each recipe of docs/ARCHIVES.md over 200 files, some of them bad, with kills and full disks (tests/archives)
-# make cluster-test runs the recipes for several machines, with Slurm and sshd on this one (tests/cluster)
+# make cluster-test runs the recipes for several machines over 200 files, with Slurm and sshd on this one (tests/cluster; 11 minutes)
 # make debian11-test tries what make dist made in a root of Debian 11, in out/debian11 (tests/debian11)
 # make install PREFIX=/usr/local
 #             puts the program that make built, its manual pages, completions and other names in place

@@ -6,7 +6,7 @@ phases are smooth, Doppler shifts fit them, and signal strengths follow the elev
 near the horizon and now and then above it, phases slip, and whole epochs are missing now and then.
 
 The file is standard: each line ends with LF alone, no line of an epoch has blanks at its end, and each
-number is spelt in the one way in which it is printed (right justified, at least one digit before the
+number is written in the one way in which it is printed (right justified, at least one digit before the
 point, no other leading zero, no sign at zero).
 
 Examples:
@@ -246,7 +246,7 @@ def epochs(args, satellites, kinds, start, interval, rng):
     receiver = (math.radians(args.latitude), math.radians(args.longitude))
     horizon = math.sin(math.radians(args.mask))
     clock = ReceiverClock(rng)
-    told_epochs = 0
+    with_clock = 0
     ticks = 0
     while True:
         seconds = ticks / TICKS
@@ -261,9 +261,9 @@ def epochs(args, satellites, kinds, start, interval, rng):
             line = satellite_line(satellite, kinds, distance, rate, sine, clock.offset * LIGHT, rng)
             if line is not None:
                 rows.append(line)
-        told = args.clock and (args.clock_epochs is None or told_epochs < args.clock_epochs)
-        told_epochs += told
-        given = clock.offset if told else None
+        has_clock = args.clock and (args.clock_epochs is None or with_clock < args.clock_epochs)
+        with_clock += has_clock
+        given = clock.offset if has_clock else None
         yield epoch_line(start, ticks, len(rows), given) + "".join(row + "\n" for row in rows)
         ticks += interval
         if rng.random() < args.gaps:

@@ -17,25 +17,24 @@ PROMISES = (
     ("Compaction", ("compacted",), "what `compact` writes, reports and answers, for a whole input"),
     ("Expansion", ("expanded",), "the same of `expand`"),
     ("The report", ("checked",), "the same of `check`, with what a standard file is"),
-    ("Failing devices and memory", ("Runs", "Keeps", "span", "reader_span"), "what a run is where a reader, a writer or memory fails: the clause `runs`"),
+    ("Failing devices and memory", ("Runs", "Keeps", "span", "reader_span", "compaction_filter", "expansion_filter", "check_filter"), "what a run is where a reader, a writer or memory fails: the clause `runs`"),
     ("The way back", ("BringsBackWhatWasCompacted", "CallBringsBackWhatWasCompacted"), "the clause `way_back` of `expand`"),
     ("Damage", ("SavesAllElse", "CallSavesAllElse"), "the clause `salvage` of `expand`"),
     ("Standard files", ("JudgesStandard", "CallJudgesStandard"), "the clause `standard` of `check`"),
-    ("The program", ("plan_of", "IsRefused", "IsHelped"), "what the arguments ask for, and what is shown where nothing is run: the clauses `refused` and `help` of `run`"),
+    ("The program", ("plan_of", "IsRefused", "IsHelped", "IsJobDone", "IsNotBegun"), "what the arguments ask for, what is done, and what is shown where nothing is run: the clauses `done`, `refused` and `help` of `run`"),
     ("The library for C", ("IsAnswer", "IsDateRefused", "IsTooLong", "HasNoMemory", "CallIsOutOfMemory", "rooms", "choices_of"),
-        "what its calls answer, and what stands in the caller's memory after them"),
+        "what its calls over whole inputs answer, and what stands in the caller's memory after them"),
 )
-
-# what clauses of the public calls name and no folder `meaning` has: what is written for the lines so far, and what a run of the program is
-OUTSIDE = ("compaction_filter", "expansion_filter", "check_filter", "IsJobDone", "IsNotBegun")
 
 HEAD = """# Reading
 
 This page lists what one has to read, and believe, to know what is claimed. A proof can't find one kind of error: the definitions may say
 something else than RINEX 3.05 and Compact RINEX 3.0 do. The definitions to believe stand in the folders `crates/*/specs/meaning`. This
-page lists those that the main promises use, file by file, each file after those that it uses. The other files of `crates/*/specs` say how
-code and proofs see things, and need not be believed, but for those that the last section names. `docs/reading.py` writes this page from
-the sources, and the gate compares it.
+page lists those that the promises use, file by file, each file after those that it uses. The other files of `crates/*/specs` say how
+code and proofs see things, and need not be believed for these promises, which are those of `compact`, `expand`, `check`, `run` and the
+library for C: `docs/reading.py`, which writes this page from the sources, stops where one of them uses a definition of theirs. The
+gate compares the page. Clauses of the engines' own calls (`Compactor`, `Expander`), and of the readers for C that take an input in pieces,
+name the state of an engine too: for the latter read `Going`, `Handles` and `Opened` of `crates/rnxcmp_c/specs`.
 
 More has to be read. The public calls `compact`, `expand` and `check` (`crates/crx_filter/src`) and `run` (`crates/rnxcmp/src/program.rt`)
 have the contracts that use these definitions. The traits `Source` and `Sink` (`crates/crx_lines/src/device.rt`) say what readers and
@@ -74,20 +73,6 @@ a number. Lists of units, epochs and values have the newest first, where the def
 In a contract `requires` is what a caller has to meet and `ensures` what the call promises. `x.old` and `x.new` are an argument before and
 after the call, `x.now` one that the call doesn't change, and `result` is what it returns.
 """
-
-OUTSIDE_WORDS = """
-## Definitions outside these folders
-
-Two promises name definitions that stand outside the folders `meaning`. One who relies on them has to read these too.
-
-- What is written and reported where a device fails or memory runs out: `runs` names `compaction_filter`, `expansion_filter` and `check_filter`,
-  which say what is to be written for the lines so far, and where memory may run out.
-- What the program does where its arguments are right: `done` of `run` names `IsJobDone`.
-
-With what they use, these are {definitions} more definitions of {lines} lines, in these files:
-
-{files}"""
-
 
 def sources():
     """The definitions: (file, name) to text; and for each file what it takes from others."""
@@ -162,6 +147,9 @@ def page():
         out.append(f"| {title}: {words} | {len(keys)} | {lines_of(keys, texts)} | {len(fresh)} |\n")
         parts.append((title, words, fresh))
         read |= keys
+    others = sorted(f"{path.relative_to(TOP)}: {name}" for path, name in read if "meaning" not in path.parts)
+    if others:
+        sys.exit("promises use definitions that stand outside the folders meaning:\n" + "\n".join(others))
     out.append(f"\nAll of them are {len(read)} definitions of {lines_of(read, texts)} lines, in {len({k[0] for k in read})} files.\n")
     depths = depth_of({key[0] for key in read}, taken)
     for title, words, fresh in parts:
@@ -173,9 +161,6 @@ def page():
             at = {name: texts_at for texts_at, (_, name) in enumerate(k for k in texts if k[0] == path)}
             names = sorted((name for _, name in keys), key=lambda name: at[name])
             out.append(f"- `{path.relative_to(TOP)}` ({lines_of(keys, texts)} lines): " + ", ".join(f"`{it}`" for it in names) + "\n")
-    outside = closure(OUTSIDE, texts, taken) - read
-    files = sorted({str(path.relative_to(TOP)) for path, _ in outside})
-    out.append(OUTSIDE_WORDS.format(definitions=len(outside), lines=lines_of(outside, texts), files="".join(f"- `{it}`\n" for it in files)))
     return "".join(out)
 
 

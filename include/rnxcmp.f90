@@ -11,15 +11,17 @@
 !
 ! The program is linked with -lrnxcmp. A room may have the length 0.
 module rnxcmp
-    use, intrinsic :: iso_c_binding, only: c_int, c_int32_t, c_int64_t, c_size_t, c_char, c_ptr, c_null_ptr, c_f_pointer
+    use, intrinsic :: iso_c_binding, only: c_int, c_int32_t, c_int64_t, c_size_t, c_char, c_ptr, c_null_ptr, c_f_pointer, &
+        c_signed_char
     implicit none
     private
     public :: rnxcmp_compact, rnxcmp_expand, rnxcmp_check, rnxcmp_words, rnxcmp_version
-    public :: rnxcmp_options, rnxcmp_answer
+    public :: rnxcmp_open_compact, rnxcmp_open_expand, rnxcmp_open_check, rnxcmp_feed, rnxcmp_end, rnxcmp_take, rnxcmp_close
+    public :: rnxcmp_options, rnxcmp_answer, rnxcmp_handle
     public :: c_int, c_size_t, c_char
 
     integer(c_int), parameter, public :: RNXCMP_GOOD = 0, RNXCMP_FAULT = 1, RNXCMP_WARNINGS = 2, RNXCMP_NO_ROOM = 3, &
-        RNXCMP_BAD_DATE = 4, RNXCMP_BAD_PROCESSOR = 5
+        RNXCMP_BAD_DATE = 4, RNXCMP_BAD_PROCESSOR = 5, RNXCMP_MISUSED = 6
     integer(c_int32_t), parameter, public :: RNXCMP_INPUT_TOO_LONG = 2, RNXCMP_OUT_OF_MEMORY = 22
 
     ! date is c_null_ptr, or c_loc of a text (a target) that ends with c_null_char
@@ -37,7 +39,64 @@ module rnxcmp
         integer(c_int32_t) :: code = 0
     end type
 
+    ! a run that goes on from call to call; it is closed as it is declared
+    type, bind(c) :: rnxcmp_handle
+        private
+        type(c_ptr) :: place = c_null_ptr
+        integer(c_signed_char) :: is_open = 0
+    end type
+
     interface
+        integer(c_int) function rnxcmp_open_compact(handle, options, answer) bind(c, name="rnxcmp_open_compact")
+            import :: c_int, rnxcmp_handle, rnxcmp_options, rnxcmp_answer
+            type(rnxcmp_handle), intent(inout) :: handle
+            type(rnxcmp_options), intent(in) :: options
+            type(rnxcmp_answer), intent(out) :: answer
+        end function
+
+        integer(c_int) function rnxcmp_open_expand(handle, options, answer) bind(c, name="rnxcmp_open_expand")
+            import :: c_int, rnxcmp_handle, rnxcmp_options, rnxcmp_answer
+            type(rnxcmp_handle), intent(inout) :: handle
+            type(rnxcmp_options), intent(in) :: options
+            type(rnxcmp_answer), intent(out) :: answer
+        end function
+
+        integer(c_int) function rnxcmp_open_check(handle, answer) bind(c, name="rnxcmp_open_check")
+            import :: c_int, rnxcmp_handle, rnxcmp_answer
+            type(rnxcmp_handle), intent(inout) :: handle
+            type(rnxcmp_answer), intent(out) :: answer
+        end function
+
+        integer(c_int) function rnxcmp_feed(handle, bytes, length, answer) bind(c, name="rnxcmp_feed")
+            import :: c_int, c_size_t, c_char, rnxcmp_handle, rnxcmp_answer
+            type(rnxcmp_handle), intent(inout) :: handle
+            character(kind=c_char), intent(in) :: bytes(*)
+            integer(c_size_t), value :: length
+            type(rnxcmp_answer), intent(out) :: answer
+        end function
+
+        integer(c_int) function rnxcmp_end(handle, answer) bind(c, name="rnxcmp_end")
+            import :: c_int, rnxcmp_handle, rnxcmp_answer
+            type(rnxcmp_handle), intent(inout) :: handle
+            type(rnxcmp_answer), intent(out) :: answer
+        end function
+
+        integer(c_int) function rnxcmp_take(handle, output, output_room, messages, messages_room, answer) &
+                bind(c, name="rnxcmp_take")
+            import :: c_int, c_size_t, c_char, rnxcmp_handle, rnxcmp_answer
+            type(rnxcmp_handle), intent(inout) :: handle
+            character(kind=c_char), intent(inout) :: output(*)
+            integer(c_size_t), value :: output_room
+            character(kind=c_char), intent(inout) :: messages(*)
+            integer(c_size_t), value :: messages_room
+            type(rnxcmp_answer), intent(out) :: answer
+        end function
+
+        subroutine rnxcmp_close(handle) bind(c, name="rnxcmp_close")
+            import :: rnxcmp_handle
+            type(rnxcmp_handle), intent(inout) :: handle
+        end subroutine
+
         integer(c_int) function rnxcmp_compact(input, input_length, options, output, output_room, messages, messages_room, answer) &
                 bind(c, name="rnxcmp_compact")
             import :: c_int, c_size_t, c_char, rnxcmp_options, rnxcmp_answer

@@ -18,7 +18,7 @@ $CC $flags -I "$top/include" -I "$work" -DRNXCMP_VERSION="\"$version\"" -c "$top
 
 # the archive holds one object, in which the header's names alone are global
 ld -r -o "$work/all.o" "$work/rnxcmp.o" "$work/heap.o" --whole-archive "$proved" --no-whole-archive
-names=$(sed -n 's/^ *\(rnxcmp_[a-z]*\);$/\1/p' "$top/library/symbols.map")
+names=$(sed -n 's/^ *\(rnxcmp_[a-z_]*\);$/\1/p' "$top/library/symbols.map")
 for name in $names; do
     echo "$name"
 done > "$work/names"

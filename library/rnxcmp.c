@@ -15,6 +15,14 @@ rnxcmp_answer rnxcmp_c_expand(const void *input, size_t input_length, bool skip,
 rnxcmp_answer rnxcmp_c_check(const void *input, size_t input_length, void *output, size_t output_room, void *messages,
                              size_t messages_room);
 
+rnxcmp_answer rnxcmp_c_open_compact(rnxcmp_handle *handle, uint32_t every, bool skip, const void *date, size_t date_length);
+rnxcmp_answer rnxcmp_c_open_expand(rnxcmp_handle *handle, bool skip);
+rnxcmp_answer rnxcmp_c_open_check(rnxcmp_handle *handle);
+rnxcmp_answer rnxcmp_c_feed(rnxcmp_handle *handle, const void *bytes, size_t length);
+rnxcmp_answer rnxcmp_c_end(rnxcmp_handle *handle);
+rnxcmp_answer rnxcmp_c_take(rnxcmp_handle *handle, void *output, size_t output_room, void *messages, size_t messages_room);
+void rnxcmp_c_close(rnxcmp_handle *handle);
+
 /* The words of all faults, made of crates/crx_lines/src/fault.rt by words.py. */
 static const char *const words[] = {
 #include "words.inc"
@@ -80,6 +88,58 @@ int rnxcmp_check(const void *input, size_t input_length, void *output, size_t ou
         return answered(bad_processor, answer);
     }
     return answered(rnxcmp_c_check(input_at(input), input_length, place_of(output), output_room, place_of(messages), messages_room), answer);
+}
+
+int rnxcmp_open_compact(rnxcmp_handle *handle, const rnxcmp_options *options, rnxcmp_answer *answer) {
+    if (!RNXCMP_PROCESSOR_IS_GOOD) {
+        return answered(bad_processor, answer);
+    }
+    const rnxcmp_options *chosen = options != NULL ? options : &no_options;
+    const char *date = chosen->date != NULL ? chosen->date : "";
+    return answered(rnxcmp_c_open_compact(handle, chosen->every, chosen->skip != 0, date, strlen(date)), answer);
+}
+
+int rnxcmp_open_expand(rnxcmp_handle *handle, const rnxcmp_options *options, rnxcmp_answer *answer) {
+    if (!RNXCMP_PROCESSOR_IS_GOOD) {
+        return answered(bad_processor, answer);
+    }
+    const rnxcmp_options *chosen = options != NULL ? options : &no_options;
+    return answered(rnxcmp_c_open_expand(handle, chosen->skip != 0), answer);
+}
+
+int rnxcmp_open_check(rnxcmp_handle *handle, rnxcmp_answer *answer) {
+    if (!RNXCMP_PROCESSOR_IS_GOOD) {
+        return answered(bad_processor, answer);
+    }
+    return answered(rnxcmp_c_open_check(handle), answer);
+}
+
+/* On a processor that is too old no handle is open, and what follows would be RNXCMP_MISUSED. */
+int rnxcmp_feed(rnxcmp_handle *handle, const void *bytes, size_t length, rnxcmp_answer *answer) {
+    if (!RNXCMP_PROCESSOR_IS_GOOD) {
+        return answered(bad_processor, answer);
+    }
+    return answered(rnxcmp_c_feed(handle, input_at(bytes), length), answer);
+}
+
+int rnxcmp_end(rnxcmp_handle *handle, rnxcmp_answer *answer) {
+    if (!RNXCMP_PROCESSOR_IS_GOOD) {
+        return answered(bad_processor, answer);
+    }
+    return answered(rnxcmp_c_end(handle), answer);
+}
+
+int rnxcmp_take(rnxcmp_handle *handle, void *output, size_t output_room, void *messages, size_t messages_room, rnxcmp_answer *answer) {
+    if (!RNXCMP_PROCESSOR_IS_GOOD) {
+        return answered(bad_processor, answer);
+    }
+    return answered(rnxcmp_c_take(handle, place_of(output), output_room, place_of(messages), messages_room), answer);
+}
+
+void rnxcmp_close(rnxcmp_handle *handle) {
+    if (RNXCMP_PROCESSOR_IS_GOOD) {
+        rnxcmp_c_close(handle);
+    }
 }
 
 const char *rnxcmp_words(uint32_t code) {

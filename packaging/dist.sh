@@ -34,11 +34,14 @@ gcc -static -s -Wl,--build-id=none -o "$work/rnxcmp" "$object" "$kit/c/libos_c.a
 # the archive
 name=rnxcmp-$version-linux-x86_64
 "$top/packaging/install.sh" "$work/$name" "$work/rnxcmp"
+install -m 644 "$top/packaging/LGPL-2.1.txt" "$work/$name/share/doc/rnxcmp"
 "$top/packaging/parts.py" "$SOURCE_DATE_EPOCH" > "$work/$name/share/doc/rnxcmp/parts.spdx.json"
 if [ -n "$library" ]; then
     mkdir "$work/$name/lib"
     cp -P "$library"/rnxcmp.* "$library"/librnxcmp.* "$work/$name/lib"
-    cp "$top/docs/LIBRARY.md" "$work/$name/share/doc/rnxcmp"
+    install -m 644 "$top/docs/LIBRARY.md" "$work/$name/share/doc/rnxcmp"
+    install -d "$work/$name/share/doc/rnxcmp/examples"
+    install -m 644 "$top"/examples/compact.* "$top/examples/stream.c" "$work/$name/share/doc/rnxcmp/examples"
 fi
 tar -C "$work" --sort=name --mtime="@$SOURCE_DATE_EPOCH" --owner=0 --group=0 --numeric-owner --format=gnu -cf - "$name" |
     gzip -9n > "$to/$name.tar.gz"

@@ -3,11 +3,15 @@
 import re
 import shutil
 import subprocess
+import traceback
 
 # programs that a command may need and a machine may lack
 TOOLS = ("awk", "bash", "cmp", "find", "fish", "groff", "gzip", "less", "make", "man", "mandoc", "nproc", "parallel", "sort", "xargs", "zsh")
 # programs that some tests use, and are left out without
-LIKED = ("strace", "valgrind", "parallel", "mandoc", "gfortran", "fish", "zsh", "rnx2rtkp")
+LIKED = (
+    *("strace", "valgrind", "parallel", "mandoc", "man", "groff", "fish", "zsh", "less", "rnx2rtkp"),
+    *("gcc", "g++", "gfortran", "nm", "readelf", "pkg-config", "git", "dpkg", "dpkg-deb", "sha256sum"),
+)
 
 
 def missing_tools(command):
@@ -24,6 +28,8 @@ def tally(kind, checks):
             wrong = check()
         except subprocess.TimeoutExpired as late:
             wrong = [f"it didn't end within {late.timeout:.0f} seconds"]
+        except Exception:  # a check that can't go on has failed, and the others are run
+            wrong = traceback.format_exc().splitlines()
         if isinstance(wrong, str):
             print(f"{kind} {name} ... left out: {wrong}", flush=True)
             continue

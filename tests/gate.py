@@ -138,12 +138,25 @@ def began():
     return not ends
 
 
+def below(name, libraries):
+    """The crates that a crate stands on, each after those that it stands on itself."""
+    found = []
+    for each in libraries[name]:
+        found += [it for it in (*below(each, libraries), each) if it not in found]
+    return found
+
+
 def build():
-    """Proves and builds the program; whether that went well."""
-    status, _ = followed(["rt", "run", "--", "--help"], CRATES / "rnxcmp", Progress().of_a_build)
-    if status:
-        show_log()
-    return status == 0
+    """Proves and builds the program, after the libraries below it: a build of all in one begins with another pass over all sources.
+    Whether that went well."""
+    progress = Progress()
+    steps = [(name, ["rt", "lib"]) for name in below("rnxcmp", crates())] + [("rnxcmp", ["rt", "run", "--", "--help"])]
+    for name, command in steps:
+        status, _ = followed(command, CRATES / name, progress.of_a_build)
+        if status:
+            show_log()
+            return False
+    return True
 
 
 def ci(program):

@@ -5,6 +5,8 @@
     data = rnxcmp.crx2rnx(compact)
     report = rnxcmp.check(data)               # report.is_standard, report.epochs, ...
 
+    stream = rnxcmp.Stream.expanding()        # an input that comes in pieces: stream.feed(piece), stream.end()
+
     rnxcmp.decompress("abcd0010.24d.gz")      # a file or bytes, gzipped or not, to the bytes of RINEX
     rnxcmp.decompress_on_disk("abcd0010.24d.gz")
     rnxcmp.compress("abcd0010.24o")           # to gzipped compact bytes
@@ -13,13 +15,14 @@ The names and arguments of these are those of the package ``hatanaka``. A fault 
 skipped (``skip_strange_epochs``) is a :class:`RnxcmpWarning`.
 """
 
-from ._calls import Report, RnxcmpError, RnxcmpWarning, check, crx2rnx, rnx2crx, version
+from ._calls import Report, RnxcmpError, RnxcmpWarning, Stream, check, crx2rnx, rnx2crx, version
 from ._files import UnsupportedError, compress, compress_on_disk, decompress, decompress_on_disk, get_decompressed_path
 
 __all__ = [
     "Report",
     "RnxcmpError",
     "RnxcmpWarning",
+    "Stream",
     "UnsupportedError",
     "check",
     "compress",

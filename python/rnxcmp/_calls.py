@@ -8,7 +8,7 @@ from dataclasses import dataclass
 from datetime import datetime, timezone
 from typing import Callable, Dict, List, Optional, Union
 
-from ._library import BAD_DATE, BAD_PROCESSOR, FAULT, LIBRARY, NO_ROOM, Answer, Options
+from ._library import BAD_DATE, BAD_PROCESSOR, FAULT, LIBRARY, MISUSED, NO_ROOM, Answer, Handle, Options
 
 BytesLike = Union[bytes, bytearray, memoryview]
 
@@ -113,6 +113,8 @@ def _output_of(rooms: _Rooms) -> bytes:
         raise ValueError("bad date: at most 20 characters, each printable ASCII")
     if answer.status == BAD_PROCESSOR:
         raise RnxcmpError("this processor is older than x86-64-v2")
+    if answer.status == MISUSED:
+        raise ValueError("the run has ended, or is closed")
     if answer.status == NO_ROOM:
         raise RnxcmpError("the output changed between two calls")
     return output
@@ -121,6 +123,21 @@ def _output_of(rooms: _Rooms) -> bytes:
 def _date_of(moment: datetime) -> str:
     """A moment in UTC as it stands in compact text, whatever the locale."""
     return f"{moment.day:02}-{_MONTHS[moment.month - 1]}-{moment.year % 100:02} {moment.hour:02}:{moment.minute:02}"
+
+
+def _options_of(skip_strange_epochs: bool, reinit_every_nth: Optional[int], date: Optional[str]) -> Options:
+    """What is chosen for a compaction."""
+    every = 0 if reinit_every_nth is None else reinit_every_nth
+    if not 0 <= every < 2**32:
+        raise ValueError("reinit_every_nth is out of range")
+    text = _date_of(datetime.now(timezone.utc)) if date is None else date
+    try:
+        dated = text.encode("ascii")
+    except UnicodeEncodeError:
+        dated = b"\n"
+    if b"\0" in dated:
+        dated = b"\n"
+    return Options(every, int(bool(skip_strange_epochs)), dated)
 
 
 def rnx2crx(
@@ -137,17 +154,7 @@ def rnx2crx(
     :param date: the date of the second line, at most 20 printable ASCII characters; else the present moment, in UTC.
     :raises RnxcmpError: where a fault ended the run.
     """
-    every = 0 if reinit_every_nth is None else reinit_every_nth
-    if not 0 <= every < 2**32:
-        raise ValueError("reinit_every_nth is out of range")
-    text = _date_of(datetime.now(timezone.utc)) if date is None else date
-    try:
-        dated = text.encode("ascii")
-    except UnicodeEncodeError:
-        dated = b"\n"
-    if b"\0" in dated:
-        dated = b"\n"
-    options = Options(every, int(bool(skip_strange_epochs)), dated)
+    options = _options_of(skip_strange_epochs, reinit_every_nth, date)
     content = bytes(data)
     return _output_of(_filled(LIBRARY.rnxcmp_compact, [content, len(content), ctypes.byref(options)], len(content) + 4096))
 
@@ -183,6 +190,78 @@ def check(data: BytesLike) -> Report:
         observations=int(found["observations"]),
         first_not_standard=int(standard[1]) if len(standard) == 2 else None,
     )
+
+
+class Stream:
+    """A run over an input that comes in pieces: :meth:`feed` takes bytes and gives the output so far, :meth:`end` gives the rest.
+
+        with rnxcmp.Stream.expanding() as stream:
+            for piece in pieces:
+                write(stream.feed(piece))
+            write(stream.end())
+
+    What is given in all is what :func:`rnx2crx`, :func:`crx2rnx` or the text of :func:`check` gives for the whole input. A fault raises
+    :class:`RnxcmpError`, whose ``output`` is what wasn't given yet. One thread at a time may use it.
+    """
+
+    def __init__(self, opening: Callable[..., int], arguments: List[object]) -> None:
+        self._handle = Handle()
+        rooms = _Rooms(0, 0)
+        opening(ctypes.byref(self._handle), *arguments, ctypes.byref(rooms.answer))
+        _output_of(rooms)
+
+    @classmethod
+    def compacting(
+        cls, *, skip_strange_epochs: bool = False, reinit_every_nth: Optional[int] = None, date: Optional[str] = None
+    ) -> "Stream":
+        """Compacts, with the choices of :func:`rnx2crx`."""
+        options = _options_of(skip_strange_epochs, reinit_every_nth, date)
+        return cls(LIBRARY.rnxcmp_open_compact, [ctypes.byref(options)])
+
+    @classmethod
+    def expanding(cls, *, skip_strange_epochs: bool = False) -> "Stream":
+        """Expands, with the choice of :func:`crx2rnx`."""
+        options = Options(0, int(bool(skip_strange_epochs)), None)
+        return cls(LIBRARY.rnxcmp_open_expand, [ctypes.byref(options)])
+
+    @classmethod
+    def checking(cls) -> "Stream":
+        """Checks: the output is the text of the report, after the end."""
+        return cls(LIBRARY.rnxcmp_open_check, [])
+
+    def _taken(self, answer: Answer) -> bytes:
+        """What is kept; raises the error and issues the warnings of a call."""
+        rooms = _Rooms(answer.output_length, answer.messages_length)
+        if answer.status not in (MISUSED, BAD_PROCESSOR):
+            LIBRARY.rnxcmp_take(ctypes.byref(self._handle), *rooms.arguments())
+        rooms.answer = answer
+        return _output_of(rooms)
+
+    def feed(self, data: BytesLike) -> bytes:
+        """Takes bytes of the input, which may end anywhere; gives what is ready of the output."""
+        content, answer = bytes(data), Answer()
+        LIBRARY.rnxcmp_feed(ctypes.byref(self._handle), content, len(content), ctypes.byref(answer))
+        return self._taken(answer)
+
+    def end(self) -> bytes:
+        """Takes the end of the input; gives the rest of the output."""
+        answer = Answer()
+        LIBRARY.rnxcmp_end(ctypes.byref(self._handle), ctypes.byref(answer))
+        return self._taken(answer)
+
+    def close(self) -> None:
+        """Frees what it holds."""
+        LIBRARY.rnxcmp_close(ctypes.byref(self._handle))
+
+    def __enter__(self) -> "Stream":
+        return self
+
+    def __exit__(self, *_: object) -> None:
+        self.close()
+
+    def __del__(self) -> None:
+        if hasattr(self, "_handle"):
+            self.close()
 
 
 def version() -> str:

@@ -5,9 +5,9 @@
 
 Machines are daemons of the test's own, in a temporary folder, with keys, ports and configurations of their own: an sshd each for GNU
 parallel; slurmctld, munged and a slurmd each for Slurm. `one` and `two` see the disk and the program; from `bare` the program is hidden,
-and from `far` the disk. Files, ten of them bad, are compacted there; runs and single jobs are killed in the middle and begun again. Then
-nothing is lost, each bad file is named, and the statuses are right. All that was started ends with the test, and all folders go. It needs
-root, for what is hidden. The last line is `N passed, M failed`.
+and from `far` the disk. 200 files, ten of them bad and one unreadable, are compacted there; runs and single jobs are killed in the middle
+and begun again, and a disk is full and grows. Then nothing is lost, each bad file is named, and the statuses are right. All that was
+started ends with the test, and all folders go. It needs root, for what is hidden and mounted. The last line is `N passed, M failed`.
 """
 
 import argparse
@@ -24,7 +24,7 @@ from pathlib import Path
 TOP = Path(__file__).resolve().parents[2]
 sys.path[:0] = [str(TOP / "tests"), str(TOP / "tests/archives")]
 from checking import tally  # noqa: E402
-from many import OLD, Files, Recipe, Run, judge  # noqa: E402
+from many import FILES, OLD, ROOM, Disk, Files, Recipe, Run, judge  # noqa: E402
 from recipes import recipes  # noqa: E402
 
 NEEDED = {  # by kind: programs, and the packages of Debian that have them
@@ -32,8 +32,9 @@ NEEDED = {  # by kind: programs, and the packages of Debian that have them
     "Slurm": (("slurmctld", "slurmd", "sbatch", "scontrol", "scancel", "munged"), "slurmctld slurmd slurm-client munge"),
 }
 RECIPE = Recipe(".24o", ".24d.gz", "^$")
-SHARED, COPIED, ARRAY = 60, 24, 120  # files: over ssh on a shared disk, copied there and back, and in an array job
-SLOTS = 2  # jobs of a machine at a time
+FEW = 60  # files, where copies of them have to fill a disk
+SLOTS = 3  # jobs of a machine at a time
+LIMITS = "-dac_override,-dac_read_search"  # what root may not do on the machines: read what its owner may not
 SOON = 6  # outputs that are there when a run is killed
 JOBS = 4  # of an array
 SECONDS = 300  # in which each step is to end
@@ -50,7 +51,8 @@ def free_port():
 
 
 class Machines:
-    """What is shared: a folder with the tools, one with the disk, and the daemons that were started."""
+    """What is shared: a folder with the tools, one with the disk, on which an archive has a small one of its own, and the daemons that were
+    started."""
 
     def __init__(self, program, top):
         self.top = top
@@ -60,12 +62,14 @@ class Machines:
             folder.mkdir()
         shutil.copy(program, self.tools / "rnxcmp")
         shutil.copy(TOP / "packaging/bin/rnxcmp-file", self.tools)
+        (self.disk / "small").mkdir()
+        self.small = Disk(self.disk / "small/archive", "64m")
         self.daemons = []
         self.made = []  # folders of the machine that weren't there
 
     def start(self, *command, hidden=()):
         """Starts a daemon, from which folders are hidden."""
-        script = 'while [ "$1" != -- ]; do mount -t tmpfs tmpfs "$1" || exit 1; shift; done; shift; exec "$@"'
+        script = f'while [ "$1" != -- ]; do mount -t tmpfs tmpfs "$1" || exit 1; shift; done; shift; exec setpriv --bounding-set={LIMITS} "$@"'
         full = ["unshare", "--mount", "sh", "-c", script, "sh", *map(str, hidden), "--", *map(str, command)]
         with (self.top / "log").open("ab") as log:
             self.daemons.append(subprocess.Popen(full, stdin=subprocess.DEVNULL, stdout=log, stderr=log, start_new_session=True))
@@ -81,17 +85,36 @@ class Machines:
                 daemon.wait()
         for folder in self.made:
             folder.rmdir()
+        self.small.remove()
 
     def log(self):
         return (self.top / "log").read_text(errors="replace")[-600:]
 
-    def new_work(self, count):
+    def new_work(self, count=FILES):
         """A folder on the disk with so many files."""
         work = Path(tempfile.mkdtemp(dir=self.disk))
         work.chmod(0o755)
+        return work, self.write_files(work, count)
+
+    def write_files(self, work, count=FILES):
         files = Files(RECIPE, count)
         files.write(work)
-        (work / "archive" / files.unreadable).unlink()  # root reads all
+        for path in [work, *work.rglob("*")]:
+            os.chown(path, 0, 0)
+        return files
+
+    def new_small_work(self, count=FILES, room=ROOM):
+        """A folder whose archive is on the small disk, which has room for so many bytes more."""
+        work = self.disk / "small"
+        for path in work.iterdir():
+            if path.name != "archive":
+                path.unlink()
+        for path in (work / "archive").iterdir():
+            shutil.rmtree(path) if path.is_dir() else path.unlink()
+        self.small.grow("64m")
+        files = self.write_files(work, count)
+        state = os.statvfs(self.small.folder)
+        self.small.grow((state.f_blocks - state.f_bfree) * state.f_frsize + room)
         return work, files
 
 
@@ -109,11 +132,18 @@ def outputs(work):
 
 
 def judged(program, work, files, done):
-    (work / "archive" / files.unreadable).touch()  # which isn't among these files
     wrong = judge(program, work, files, done)
-    (work / "archive" / files.unreadable).unlink()
     late = [path.name for path in (work / "archive").rglob("*.24d.gz") if path.stat().st_mtime != OLD]
     return wrong + ([f"not the input's time: {late[:3]}"] if late else [])
+
+
+def failing(files):
+    return {*files.bad, files.unreadable}
+
+
+def without_output(work, files):
+    """The good files that have no output yet."""
+    return [name for name in files.good if not (work / "archive" / files.output_of(name)).exists()]
 
 
 def not_named(text, names):
@@ -201,36 +231,51 @@ def job_log(work):
 
 
 def check_jobs(work, files):
-    """What is wrong in the log: other files than the bad ones have a status other than 0."""
+    """What is wrong in the log: other files than the bad ones, and the one that can't be read, have a status other than 0."""
     failed = {command.partition("archive/")[2].replace("\\", "") for command, (_, status) in job_log(work).items() if status}
-    return [] if failed == set(files.bad) else [f"failed: {sorted(failed ^ set(files.bad))[:4]}"]
+    return [] if failed == failing(files) else [f"failed: {sorted(failed ^ failing(files))[:4]}"]
 
 
-def check_parallel(machines, program, block, hosts, count):
+def check_parallel(machines, program, block, hosts):
     """Killed in the middle, and begun again; once more, which starts only what failed."""
-    work, files = machines.new_work(count)
+    work, files = machines.new_work()
     wrong = [] if start_recipe(machines, block, work, hosts).kill_at(SOON) else ["it was at its end before it was killed"]
     wrong += [f"after the kill: {line}" for line in judged(program, work, files, False)]
     text = start_recipe(machines, block, work).end()
-    wrong += [f"second run: {line}" for line in judged(program, work, files, True) + not_named(text, files.bad) + check_jobs(work, files)]
+    wrong += [f"second run: {line}" for line in judged(program, work, files, True) + not_named(text, failing(files)) + check_jobs(work, files)]
     used = {host for host, _ in job_log(work).values()}
     wrong += [] if used == set(hosts) else [f"machines used: {used}"]
     before = {path: path.stat().st_ino for path in (work / "archive").rglob("*.24d.gz")}
     text = start_recipe(machines, block, work).end()
     after = {path: path.stat().st_ino for path in (work / "archive").rglob("*.24d.gz")}
-    wrong += [f"third run: {line}" for line in not_named(text, files.bad)] + ([] if before == after else ["third run: outputs were made anew"])
+    wrong += [f"third run: {line}" for line in not_named(text, failing(files))] + ([] if before == after else ["third run: outputs were made anew"])
+    return wrong + ([f"printed: {text[-500:]!r}"] if wrong else [])
+
+
+def check_small_disk(machines, program, block, hosts, small, named):
+    """A disk that fills up, and grows before the second run. What a run says of files whose output has no room is `named`: the file, or
+    that there is no space."""
+    work, files = machines.new_small_work(*small)
+    text = start_recipe(machines, block, work, hosts).end()
+    left = without_output(work, files)
+    wrong = [f"full: {line}" for line in judged(program, work, files, False)] + ([] if left else ["the disk wasn't full"])
+    wrong += [f"full: {line}" for line in not_named(text, {*left, *failing(files)} if named else failing(files))]
+    wrong += [] if named or "No space left" in text else ["full: nothing is said of it"]
+    machines.small.grow("64m")
+    text = start_recipe(machines, block, work).end()
+    wrong += [f"greater: {line}" for line in judged(program, work, files, True) + not_named(text, failing(files)) + check_jobs(work, files)]
     return wrong + ([f"printed: {text[-500:]!r}"] if wrong else [])
 
 
 def check_bare_machine(machines, program, block):
     """A machine without the program: its jobs have status 127 in the log, and are done once it is gone from the list."""
-    work, files = machines.new_work(SHARED)
+    work, files = machines.new_work()
     text = start_recipe(machines, block, work, ["one", "bare"]).end()
     statuses = {status for host, status in job_log(work).values() if host == "bare"}
     wrong = [] if statuses == {127} else [f"statuses of the machine without the program: {statuses}"]
     wrong += judged(program, work, files, False)
     text = start_recipe(machines, block, work, ["one"]).end()
-    wrong += [f"second run: {line}" for line in judged(program, work, files, True) + not_named(text, files.bad) + check_jobs(work, files)]
+    wrong += [f"second run: {line}" for line in judged(program, work, files, True) + not_named(text, failing(files)) + check_jobs(work, files)]
     return wrong + ([f"printed: {text[-500:]!r}"] if wrong else [])
 
 
@@ -246,9 +291,11 @@ def ssh_checks(machines, program):
     start_ssh(machines)
     shared, unshared = [block for heading, block in recipes() if heading == "GNU parallel over several machines"]
     yield "the machines", lambda: check_ssh(machines)
-    yield "a shared disk, killed in the middle", lambda: check_parallel(machines, program, shared, ["one", "two"], SHARED)
+    yield "a shared disk, killed in the middle", lambda: check_parallel(machines, program, shared, ["one", "two"])
+    yield "a shared disk that is full", lambda: check_small_disk(machines, program, shared, ["one", "two"], (), True)
     yield "a machine without the program", lambda: check_bare_machine(machines, program, shared)
-    yield "a disk that isn't shared, killed in the middle", lambda: check_parallel(machines, program, unshared, ["far"], COPIED)
+    yield "a disk that isn't shared, killed in the middle", lambda: check_parallel(machines, program, unshared, ["far"])
+    yield "a disk that isn't shared and is full", lambda: check_small_disk(machines, program, unshared, ["far"], (FEW, ROOM // 5), False)
     yield "nothing is left there", lambda: check_nothing_left(machines)
 
 
@@ -337,9 +384,9 @@ def written(work):
     return "".join(path.read_text(errors="replace") for path in sorted(work.glob("slurm-*.out")))
 
 
-def prepare(machines):
-    """Files, and the recipe's script and list; the loop that stands for the batch system isn't run."""
-    work, files = machines.new_work(ARRAY)
+def prepare(work_and_files):
+    """The recipe's script and list beside the files; the loop that stands for the batch system isn't run."""
+    work, files = work_and_files
     block = next(block for heading, block in recipes() if heading == "An array job of a batch system")
     subprocess.run(["sh", "-c", block.partition("for job in")[0]], cwd=work, check=True, timeout=SECONDS)
     return work, files
@@ -348,7 +395,7 @@ def prepare(machines):
 def expected(work, files):
     """Of each task whether a bad file is among its own."""
     lines = (work / "files.txt").read_text().splitlines()
-    return {task: any(line.removeprefix("archive/") in files.bad for line in lines[task::JOBS]) for task in range(JOBS)}
+    return {task: any(line.removeprefix("archive/") in failing(files) for line in lines[task::JOBS]) for task in range(JOBS)}
 
 
 def differing(states, wanted):
@@ -366,14 +413,14 @@ def check_slurm(slurm):
 
 def check_array(slurm, program):
     """An array job on a shared disk: a task fails exactly where one of its files does."""
-    work, files = prepare(slurm.machines)
+    work, files = prepare(slurm.machines.new_work())
     states = slurm.end_of(slurm.submit(work, f"0-{JOBS - 1}", "--nodelist=one"))
-    return differing(states, expected(work, files)) + judged(program, work, files, True) + not_named(written(work), files.bad)
+    return differing(states, expected(work, files)) + judged(program, work, files, True) + not_named(written(work), failing(files))
 
 
 def check_killed_task(slurm, program):
     """Two tasks are killed in the middle; these alone are submitted again."""
-    work, files = prepare(slurm.machines)
+    work, files = prepare(slurm.machines.new_work())
     job = slurm.submit(work, f"0-{JOBS - 1}", "--nodelist=one")
     wait_for(lambda: outputs(work) >= SOON)
     slurm.call("scancel", f"{job}_0", f"{job}_1")
@@ -384,14 +431,26 @@ def check_killed_task(slurm, program):
     again = slurm.end_of(slurm.submit(work, "0,1", "--nodelist=one"), 2)
     wanted = expected(work, files)
     wrong += differing(again, {task: wanted[task] for task in (0, 1)})
-    wrong += [f"after all: {line}" for line in judged(program, work, files, True) + not_named(written(work), files.bad)]
+    wrong += [f"after all: {line}" for line in judged(program, work, files, True) + not_named(written(work), failing(files))]
     changed = [path.name for path, number in before.items() if path.stat().st_ino != number]
     return wrong + ([f"made anew: {changed[:3]}"] if changed else [])
 
 
+def check_full_disk(slurm, program):
+    """A shared disk that fills up: tasks fail, and name the files; it grows, and the same array does what is left."""
+    work, files = prepare(slurm.machines.new_small_work())
+    states = slurm.end_of(slurm.submit(work, f"0-{JOBS - 1}", "--nodelist=one"))
+    left = without_output(work, files)
+    wrong = [] if left and all(state == "FAILED" for state, _ in states.values()) else [f"full: tasks {states}, {len(left)} without an output"]
+    wrong += [f"full: {line}" for line in judged(program, work, files, False) + not_named(written(work), {*left, *failing(files)})]
+    slurm.machines.small.grow("64m")
+    states = slurm.end_of(slurm.submit(work, f"0-{JOBS - 1}", "--nodelist=one"))
+    return wrong + [f"greater: {line}" for line in differing(states, expected(work, files)) + judged(program, work, files, True)]
+
+
 def check_bare_node(slurm, program):
     """A machine without the program: its tasks fail with 127, nothing is lost, and on another machine all is done."""
-    work, files = prepare(slurm.machines)
+    work, files = prepare(slurm.machines.new_work())
     states = slurm.end_of(slurm.submit(work, f"0-{JOBS - 1}", "--nodelist=bare"))
     wrong = [] if set(states.values()) == {("FAILED", "127:0")} else [f"tasks {states}"]
     wrong += judged(program, work, files, False) + ([] if outputs(work) == 0 else ["there are outputs"])
@@ -401,7 +460,7 @@ def check_bare_node(slurm, program):
 
 def check_far_node(slurm, program):
     """A machine that doesn't see the disk: its tasks fail, where their messages can be written too; nothing is lost."""
-    work, files = prepare(slurm.machines)
+    work, files = prepare(slurm.machines.new_work())
     states = slurm.end_of(slurm.submit(work, f"0-{JOBS - 1}", "--nodelist=far"))
     wrong = [] if len(states) == JOBS and {state for state, _ in states.values()} == {"FAILED"} else [f"tasks {states}"]
     states = slurm.end_of(slurm.submit(work, "0", "--nodelist=far", "--output=/dev/null", "--chdir=/"), 1)
@@ -413,6 +472,7 @@ def slurm_checks(machines, program):
     slurm = Slurm(machines, start_slurm(machines))
     yield "the machines", lambda: check_slurm(slurm)
     yield "an array job on a shared disk", lambda: check_array(slurm, program)
+    yield "a shared disk that is full", lambda: check_full_disk(slurm, program)
     yield "tasks that are killed", lambda: check_killed_task(slurm, program)
     yield "a machine without the program", lambda: check_bare_node(slurm, program)
     yield "a machine that doesn't see the disk", lambda: check_far_node(slurm, program)
@@ -430,6 +490,9 @@ def main():
     if reasons:
         print("\n".join(["no test of several machines:", *reasons]))
         return 1
+    if "MOUNTS" not in os.environ:  # what is mounted is to be seen here alone
+        command = ["unshare", "--mount", sys.executable, __file__, *sys.argv[1:]]
+        os.execvpe(command[0], command, {**os.environ, "MOUNTS": "own"})
     counts = []
     for kind, checks in (("parallel over ssh", ssh_checks), ("Slurm", slurm_checks)):
         with tempfile.TemporaryDirectory() as name:

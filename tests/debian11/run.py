@@ -151,7 +151,7 @@ def main():
         return 1
     with tempfile.TemporaryDirectory(prefix="debian11-") as name:
         copy, empty = Path(name) / "root", Path(name) / "empty"
-        subprocess.run(["cp", "-a", root, copy], check=True, timeout=SECONDS)
+        subprocess.run(["cp", "-ax", root, copy], check=True, timeout=SECONDS)
         shutil.copytree(dist, copy / "tmp/dist")
         empty.mkdir()
         passed, failed = tally("Debian 11", checks(copy, empty))

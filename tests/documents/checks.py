@@ -99,12 +99,31 @@ def figures():
     return [f"docs/pictures/speed.txt: bench/README.md has no {it}" for it in re.findall(r"[\d.]+", " ".join(bars)) if it not in cells]
 
 
+def definitions():
+    """Whether README.md says how many definitions docs/READING.md lists."""
+    count, lines = re.search(r"All of them are (\d+) definitions of (\d+) lines", (TOP / "docs/READING.md").read_text(encoding="utf-8")).groups()
+    said = f"{count}, in {lines} lines"
+    return [] if said in (TOP / "README.md").read_text(encoding="utf-8") else [f"README.md doesn't say {said}"]
+
+
+def modules():
+    """The names that two modules of tests have, but for `checks` and `run`: all kinds of tests are read into one process, where the
+    module that is read first would stand for both."""
+    seen = {}
+    for path in sorted((TOP / "tests").rglob("*.py")):
+        if path.stem not in ("checks", "run"):
+            seen.setdefault(path.stem, []).append(str(path.relative_to(TOP)))
+    return [f"one name: {', '.join(paths)}" for paths in seen.values() if len(paths) > 1]
+
+
 def checks(program):
+    yield "modules of tests", modules
     yield "docs/CONTRACTS.md", lambda: written("contracts.py")
     yield "docs/READING.md", lambda: written("reading.py")
     yield "docs/pictures", lambda: written("pictures/draw.py")
     yield "docs/pictures/epoch.txt", lambda: example(program)
     yield "docs/pictures/speed.txt", figures
+    yield "README.md: definitions", definitions
     known = contracts()
     for page in PAGES:
         if not (TOP / page).exists():

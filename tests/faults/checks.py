@@ -15,7 +15,7 @@ from pathlib import Path
 TESTS = Path(__file__).resolve().parents[1]
 sys.path[:0] = [str(TESTS / "process"), str(TESTS / "archives")]
 from script import GOOD, Place  # noqa: E402
-from cases import BAD_INDICATOR, COMPACT_FIVE, DATED, FIVE, H, epoch, text  # noqa: E402
+from cases import BAD_INDICATOR, COMPACT_FIVE, COMPACT_LONG, DATED, FIVE, H, epoch, text  # noqa: E402
 
 SECONDS = 60  # in which each run is to end
 WRITE_FAILED = rb"ERROR line [0-9]+ code 21: write failed\n"
@@ -27,7 +27,8 @@ MANY = text(*H, *[line for second in range(9000) for line in (epoch(second % 10,
 
 
 class Run:
-    """A run below strace: its calls on open files in order, each a name, a stream and an answer; what it wrote, and how it ended."""
+    """A run below strace, whose input is a file, so that each run reads in the same pieces: its calls on open files in order, each a name, a
+    stream and an answer; what it wrote, and how it ended."""
 
     def __init__(self, program, words, given, fault=None):
         with tempfile.TemporaryDirectory() as name:
@@ -35,7 +36,8 @@ class Run:
             trace = folder / "trace"
             command = ["strace", "-y", "-o", trace, "-e", "trace=read,write", *(["-e", f"inject={fault}"] if fault else []), program, *words]
             (folder / "a.rnx").write_bytes(given)
-            run = subprocess.run(command, cwd=folder, input=given, capture_output=True, timeout=SECONDS)
+            with (folder / "a.rnx").open("rb") as source:
+                run = subprocess.run(command, cwd=folder, stdin=source, capture_output=True, timeout=SECONDS)
             self.status, self.output, self.messages = run.returncode, run.stdout, run.stderr
             written = folder / "a.crx"
             self.file = written.read_bytes() if written.exists() else None
@@ -219,8 +221,9 @@ def where_traced(check):
 def checks(program):
     for name, check in (
         ("writes of a compaction", lambda: failed_writes(program, DATED, MANY, 3)),
-        ("writes of an expansion", lambda: failed_writes(program, ["crx2rnx"], COMPACT_FIVE, 1)),
+        ("writes of an expansion", lambda: failed_writes(program, ["crx2rnx"], COMPACT_LONG, 3)),
         ("writes of a check", lambda: failed_writes(program, ["check"], FIVE, 1)),
+        ("writes of the help", lambda: failed_writes(program, ["--help"], b"", 1)),
         ("writes to a file", lambda: failed_writes_to_a_file(program)),
         ("reads of a compaction", lambda: failed_reads(program, DATED, MANY)),
         ("reads of an expansion", lambda: failed_reads(program, ["crx2rnx"], COMPACT_FIVE)),

@@ -26,6 +26,7 @@ TOP = HERE.parents[1]
 sys.path[:0] = [str(HERE), str(TOP / "tests")]
 from answers import KINDS, Call, answers_of_cases, run_program  # noqa: E402
 from checking import tally  # noqa: E402
+import pieces  # noqa: E402
 
 LIBRARY = TOP / "out/library"
 WHEELS = TOP / "out/python"
@@ -33,7 +34,8 @@ SAMPLE = TOP / "samples/station.rnx"
 PROVED = TOP / "crates/rnxcmp_c/out/librnxcmp_c.a"
 NO_ROOM, BAD_DATE, BAD_PROCESSOR = 3, 4, 5
 INPUTS = 2000
-NAMES = ["rnxcmp_check", "rnxcmp_compact", "rnxcmp_expand", "rnxcmp_version", "rnxcmp_words"]
+NAMES = """rnxcmp_check rnxcmp_close rnxcmp_compact rnxcmp_end rnxcmp_expand rnxcmp_feed rnxcmp_open_check rnxcmp_open_compact
+rnxcmp_open_expand rnxcmp_take rnxcmp_version rnxcmp_words""".split()
 
 
 # ---- the calls
@@ -184,11 +186,16 @@ def random_rooms(rng, result):
     )
 
 
+def texts_to_damage(program):
+    """The sample, and its compact texts."""
+    sample = SAMPLE.read_bytes()
+    return [sample], [run_program(program, Call(0, sample, every=every)).output for every in (0, 3)]
+
+
 def check_random(program, server, count, seed=1):
     """Random and damaged inputs, in random rooms."""
     rng = random.Random(seed)
-    sample = SAMPLE.read_bytes()
-    texts = ([sample], [run_program(program, Call(0, sample, every=every)).output for every in (0, 3)])
+    texts = texts_to_damage(program)
     wrong, kinds = [], {}
     with ThreadPoolExecutor(os.cpu_count() or 1) as pool:
         for start in range(0, count, 500):
@@ -213,16 +220,17 @@ def compile_and_run(command, target, words, environment=None):
     return [] if run.returncode == 0 and "the same again" in run.stdout and "not" not in run.stdout else [f"{run.returncode}: {run.stdout} {run.stderr}"]
 
 
-def check_example(work, ending):
-    """An example, linked with the shared library, or in Fortran and C with the archive."""
+def check_example(work, name):
+    """An example, linked with the shared library, and with the archive."""
+    ending = name.partition(".")[2]
     compiler = {"c": "gcc", "cpp": "g++", "f90": "gfortran"}[ending]
     if not shutil.which(compiler):
         return f"there is no {compiler}"
-    sources = ([str(LIBRARY / "rnxcmp.f90")] if ending == "f90" else []) + [str(TOP / f"examples/compact.{ending}")]
+    sources = ([str(LIBRARY / "rnxcmp.f90")] if ending == "f90" else []) + [str(TOP / "examples" / name)]
     flags = ["-O1", "-Wall", "-I", str(LIBRARY), *sources]
     shared = ["-L", str(LIBRARY), "-lrnxcmp", f"-Wl,-rpath,{LIBRARY}"]
-    wrong = compile_and_run([compiler, *flags, *shared], work / f"shared_{ending}", [str(SAMPLE)])
-    return wrong + compile_and_run([compiler, *flags, str(LIBRARY / "librnxcmp.a")], work / f"static_{ending}", [str(SAMPLE)])
+    wrong = compile_and_run([compiler, *flags, *shared], work / f"shared_{name}.out", [str(SAMPLE)])
+    return wrong + compile_and_run([compiler, *flags, str(LIBRARY / "librnxcmp.a")], work / f"static_{name}.out", [str(SAMPLE)])
 
 
 def names_in(command):
@@ -272,7 +280,9 @@ def check_processor(work):
         '#include <rnxcmp.h>\n#include <string.h>\nint main(void) { rnxcmp_answer a, none; memset(&none, 0, sizeof none); none.status = RNXCMP_BAD_PROCESSOR;\n'
         "int s = rnxcmp_compact(\"x\", 1, NULL, NULL, 0, NULL, 0, &a); if (s != 5 || memcmp(&a, &none, sizeof a)) return 1;\n"
         "s = rnxcmp_expand(\"x\", 1, NULL, NULL, 0, NULL, 0, &a); if (s != 5 || memcmp(&a, &none, sizeof a)) return 1;\n"
-        "s = rnxcmp_check(\"x\", 1, NULL, 0, NULL, 0, NULL); return s != 5; }\n"
+        "rnxcmp_handle h = RNXCMP_CLOSED; if (rnxcmp_open_compact(&h, NULL, &a) != 5 || rnxcmp_open_expand(&h, NULL, &a) != 5 || rnxcmp_open_check(&h, &a) != 5) return 1;\n"
+        "if (rnxcmp_feed(&h, \"x\", 1, &a) != 5 || rnxcmp_end(&h, &a) != 5 || rnxcmp_take(&h, NULL, 0, NULL, 0, &a) != 5 || memcmp(&a, &none, sizeof a) || h.is_open) return 1;\n"
+        "rnxcmp_close(&h); s = rnxcmp_check(\"x\", 1, NULL, 0, NULL, 0, NULL); return s != 5; }\n"
     )
     sources = [str(work / "old.c"), str(TOP / "library/rnxcmp.c"), str(TOP / "library/heap.c"), str(PROVED)]
     command = ["gcc", "-DRNXCMP_PROCESSOR_IS_GOOD=0", '-DRNXCMP_VERSION="0"', "-I", str(TOP / "include"), "-I", str(work), *sources, "-o", str(work / "old")]
@@ -318,6 +328,27 @@ def check_no_memory(program, work):
     return wrong
 
 
+def check_handles_without_memory(program, work):
+    """With each growth of memory refused in turn, a handle's run ends with code 22, and nothing leaks; else it ends as the program's."""
+    if not shutil.which("gcc"):
+        return "there is no gcc"
+    command = ["gcc", "-g", "-Wl,--wrap=malloc,--wrap=realloc", "-I", str(LIBRARY), str(HERE / "refused.c"), str(LIBRARY / "librnxcmp.a"), "-o", str(work / "refused")]
+    for sanitizers in (["-fsanitize=address,undefined"], []):
+        built = subprocess.run(command + sanitizers, capture_output=True, text=True, timeout=60)
+        if built.returncode == 0:
+            break
+    else:
+        return [built.stderr[-1000:]]
+    (work / "compact").write_bytes(run_program(program, Call(0, SAMPLE.read_bytes())).output)
+    (work / "faulty").write_bytes(with_strange_epochs(SAMPLE.read_bytes()))
+    wrong = []
+    for kind, file, code in (("0", SAMPLE, 0), ("1", work / "compact", 0), ("2", SAMPLE, 0), ("0", work / "faulty", 13)):
+        run = subprocess.run([work / "refused", kind, file], capture_output=True, text=True, timeout=60)
+        if run.returncode != 0 or int(run.stdout.split()[0]) < 3 or int(run.stdout.split()[1]) != code:
+            wrong.append(f"{KINDS[int(kind)]} {file.name}: {run.returncode} {run.stdout} {run.stderr[-500:]}")
+    return wrong
+
+
 # ---- Python
 
 
@@ -344,9 +375,9 @@ def check_python(program, python):
 
 
 def check_python_cases(python, answers):
-    """The runs of tests/cases through the package."""
-    calls = [(c.kind, c.data, c.skip, c.every, c.date, r.output, r.messages) for c, r in answers]
-    run = subprocess.run([python, HERE / "cases.py"], input=pickle.dumps(calls), capture_output=True, timeout=100)
+    """The runs of tests/cases through the package, at once and in pieces."""
+    calls = [(c.kind, c.data, c.skip, c.every, c.date, r.output, r.messages, r.status) for c, r in answers]
+    run = subprocess.run([python, HERE / "installed.py"], input=pickle.dumps(calls), capture_output=True, timeout=100)
     return [] if run.returncode == 0 else [run.stdout.decode()[-2000:], run.stderr.decode()[-2000:]]
 
 
@@ -368,6 +399,24 @@ def build_calls(work):
         if built.returncode == 0:
             return work / "calls", None
     return None, [built.stderr[-2000:]]
+
+
+def build_pieces(work):
+    """The path of pieces.c, with AddressSanitizer where the compiler has it."""
+    command = ["gcc", "-O1", "-g", "-Wall", "-I", str(LIBRARY), str(HERE / "pieces.c"), str(LIBRARY / "librnxcmp.a"), "-o", str(work / "pieces")]
+    for sanitizers in (["-fsanitize=address,undefined"], []):
+        built = subprocess.run(command + sanitizers, capture_output=True, text=True, timeout=120)
+        if built.returncode == 0:
+            return work / "pieces"
+    raise RuntimeError(built.stderr[-2000:])
+
+
+def check_pieces(program, work, answers, count):
+    """Handles: the runs of tests/cases and of the sample, and so many random and damaged inputs, in pieces."""
+    rng = random.Random(2)
+    texts = texts_to_damage(program)
+    calls = sample_calls(program) + [random_call(rng, texts) for _ in range(count)]
+    return pieces.check_pieces(build_pieces(work), answers + [(call, run_program(program, call)) for call in calls])
 
 
 def check_limit(calls):
@@ -399,6 +448,8 @@ def checks_of_c(program, work, count, answers):
     yield "refused dates", lambda: check_date(server)
     yield f"{count} random and damaged inputs", lambda: check_random(program, server, count)
     yield "no leak", server.close
+    fewer = count // 10
+    yield f"{len(answers)} runs of tests/cases, samples, {fewer} damaged inputs through handles", lambda: check_pieces(program, work, answers, fewer)
     yield "an input over the limit", lambda: check_limit(calls)
     yield "four threads", lambda: [] if subprocess.run([calls, "4", "20"], input=SAMPLE.read_bytes(), timeout=100).returncode == 0 else ["a thread got something else"]
 
@@ -423,8 +474,9 @@ def checks(program, count=INPUTS):
         yield from checks_of_c(program, work, count, answers)
         yield "an old processor", lambda: check_processor(work)
         yield "each growth of memory refused", lambda: check_no_memory(program, work)
-        for ending in ("c", "cpp", "f90"):
-            yield f"examples/compact.{ending}", lambda: check_example(work, ending)
+        yield "each growth of a handle's memory refused", lambda: check_handles_without_memory(program, work)
+        for example in ("compact.c", "compact.cpp", "compact.f90", "stream.c"):
+            yield f"examples/{example}", lambda: check_example(work, example)
         yield "pkg-config", lambda: check_pkg_config(work)
         if not any(WHEELS.glob("*.whl")):
             yield "wheel", lambda: "there is none: make python"
@@ -434,7 +486,7 @@ def checks(program, count=INPUTS):
         yield "wheel, installed without a network", lambda: lacking
         if python is not None:
             yield "calls from Python", lambda: check_python(program, python)
-            yield f"{len(answers)} runs of tests/cases from Python", lambda: check_python_cases(python, answers)
+            yield f"{len(answers)} runs of tests/cases from Python, at once and in pieces", lambda: check_python_cases(python, answers)
             yield "examples/compact.py", lambda: check_python_example(python)
 
 

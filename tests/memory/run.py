@@ -68,6 +68,25 @@ INPUTS = {
 }
 
 
+# what is made of the lines of an epoch in full of compact text: a fault in the epoch's line, or in the first satellite's line
+FAULTS = {
+    "columns": lambda lines: [lines[0][:33] + b"x" + lines[0][34:], *lines[1:]],
+    "a satellite": lambda lines: [lines[0].replace(b"G01", b"X01"), *lines[1:]],
+    "a repeated satellite": lambda lines: [lines[0].replace(b"R01", b"G01"), *lines[1:]],
+    "a field": lambda lines: [*lines[:2], lines[2].replace(b"3&", b"3x", 1), *lines[3:]],
+    "a difference without an arc": lambda lines: [*lines[:2], lines[2].replace(b"3&", b"", 1), *lines[3:]],
+    "a value out of range": lambda lines: [*lines[:2], lines[2].replace(b"3&", b"3&9999999", 1), *lines[3:]],
+    "an indicator": lambda lines: [*lines[:2], lines[2].replace(b"\n", b"\x1f\n"), *lines[3:]],
+}
+
+
+def with_fault(compact, fault):
+    """Compact text whose epochs are in full, with this fault in the first one."""
+    lines = compact.splitlines(keepends=True)
+    first, second = [at for at, line in enumerate(lines) if line.startswith(b">")][:2]
+    return b"".join([*lines[:first], *fault(lines[first:second]), *lines[second:]])
+
+
 def library(folder):
     """Builds refusing.c."""
     compiler = os.environ.get("CC") or str(Path(shutil.which("rt")).resolve().parents[1] / "toolchain/bin/clang")
@@ -196,6 +215,11 @@ def runs(program):
         made = subprocess.run([program.path, *DATED, "-s"], input=content, capture_output=True).stdout
         yield Run(f"expansion, {name}", ["crx2rnx"], made)
         yield Run(f"expansion with -s, {name}", ["crx2rnx", "-s"], made)
+    # no growth is asked for at a line with a fault: each that is refused ends the run, though faults are skipped
+    full = subprocess.run([program.path, *DATED, "-e", "1"], input=INPUTS["seven systems"], capture_output=True, check=True).stdout
+    for name, fault in FAULTS.items():
+        yield Run(f"expansion, a fault: {name}", ["crx2rnx"], with_fault(full, fault))
+        yield Run(f"expansion with -s, a fault: {name}", ["crx2rnx", "-s"], with_fault(full, fault))
     yield Run("the date of the moment", ["rnx2crx"], INPUTS["a header"])
     yield Run("a file to a file", [*DATED, "a.rnx"], FIVE, {"a.rnx": FIVE}, "a.crx")
     for words in (["--help"], ["rnx2crx", "-h"], ["crx2rnx", "-h"], ["check", "--help"], [], ["rnx2crx", "-e", "0"], ["check", "-", "-"],

@@ -77,8 +77,19 @@ EACH = ["rnx2crx", "-e", "1", "--date", "D"]
 DATED = ["rnx2crx", "--date", "D"]
 
 
-def is_help(out):
-    return b"Usage: rnxcmp" in out and b"Exit status: 0" in out
+def help_with(*parts):
+    """Whether an output is a help that holds these parts, in lines of at most 80 characters."""
+
+    def holds(out):
+        lines = out.decode().splitlines()
+        return all(part.encode() in out for part in ("Usage: rnxcmp", "Exit status: 0", *parts)) and max(map(len, lines)) <= 80
+
+    return holds
+
+
+# What the help of each subcommand holds.
+OF_EACH = ["-h, --help", "Examples:", "[FILE]..."]
+OF_ALL = ["rnx2crx", "crx2rnx", "check", ".24o <-> .24d", "ERROR line 7 code 18: bad indicator", "gzip -dc a.crx.gz | rnxcmp crx2rnx > a.rnx"]
 
 
 def is_refusal(out):
@@ -115,10 +126,10 @@ CASES = [
     Case("-s in a check", ["check", "-s"], stderr=is_refusal, status=1),
     Case("a word that isn't text", ["check", b"\xff.rnx"], stderr=is_refusal, status=1),
     # Help.
-    Case("help", ["--help"], stdout=is_help),
-    Case("help of rnx2crx", ["rnx2crx", "-h"], stdout=is_help),
-    Case("help of crx2rnx", ["crx2rnx", "a.crx", "--help"], stdout=is_help),
-    Case("help of check", ["check", "-h"], stdout=is_help),
+    Case("help", ["--help"], stdout=help_with("Usage: rnxcmp <COMMAND>", *OF_ALL)),
+    Case("help of rnx2crx", ["rnx2crx", "-h"], stdout=help_with("Usage: rnxcmp rnx2crx", "-e <N>", "--date <TEXT>", ".rnx becomes .crx", *OF_EACH)),
+    Case("help of crx2rnx", ["crx2rnx", "a.crx", "--help"], stdout=help_with("Usage: rnxcmp crx2rnx", "  -s", "  -f", ".crx becomes .rnx", *OF_EACH)),
+    Case("help of check", ["check", "-h"], stdout=help_with("Usage: rnxcmp check", "six lines", "byte for byte", "not standard", *OF_EACH)),
     Case("help to a full device", ["--help"], stdout=FULL, stderr=text("ERROR line 0 code 21: write failed"), status=1),
     # Devices that fail.
     Case("a full device", DATED, FIVE, stdout=FULL, stderr=is_write_failed, status=1),

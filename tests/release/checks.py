@@ -11,7 +11,7 @@ import tempfile
 from pathlib import Path
 
 sys.path.insert(0, str(Path(__file__).parent))
-from empty_root import check_in_empty_root  # noqa: E402
+from empty_root import check_archive_in_empty_root, check_in_empty_root  # noqa: E402
 
 TOP = Path(__file__).resolve().parents[2]
 SAMPLE = TOP / "samples/station.rnx"
@@ -86,17 +86,17 @@ def check_archive(made_in, folder):
     folder.mkdir()
     name = f"rnxcmp-{VERSION}-linux-x86_64"
     subprocess.run(["tar", "-xzf", made_in / f"{name}.tar.gz", "-C", folder], check=True, timeout=SECONDS)
-    return check_unpacked(folder / name, ["NOTICES", "CHANGELOG.md"])
+    return check_unpacked(folder / name, ["NOTICES", "LGPL-2.1.txt", "CHANGELOG.md", "USE.md", "ARCHIVES.md", "GUARANTEES.md"])
 
 
 def check_library(folder):
-    """A program in C that is compiled with the archive's library, linked both ways."""
+    """The archive's example in C, compiled with the archive's library, linked both ways."""
     lib = folder / f"rnxcmp-{VERSION}-linux-x86_64/lib"
     if not lib.exists():
         return "there is no library: make library"
-    wrong = []
+    wrong, example = [], lib.parent / "share/doc/rnxcmp/examples/compact.c"
     for linked in ([lib / "librnxcmp.a"], [f"-L{lib}", "-lrnxcmp", f"-Wl,-rpath,{lib}"]):
-        built = subprocess.run(["gcc", TOP / "examples/compact.c", "-I", lib, *linked, "-o", folder / "compact"], capture_output=True, text=True, timeout=SECONDS)
+        built = subprocess.run(["gcc", example, "-I", lib, *linked, "-o", folder / "compact"], capture_output=True, text=True, timeout=SECONDS)
         run = built.returncode or subprocess.run([folder / "compact", SAMPLE], capture_output=True, timeout=SECONDS).returncode
         wrong += [f"{linked}: {built.stderr[-300:]!r}, status {run}"] if run else []
     return wrong
@@ -116,6 +116,18 @@ def check_package(made_in, folder):
     fields = subprocess.run(["dpkg-deb", "-f", package, "Package", "Version", "Depends"], capture_output=True, text=True, timeout=SECONDS).stdout
     wrong = [] if fields == f"Package: rnxcmp\nVersion: {VERSION}\n" else [f"fields {fields!r}"]
     return wrong + check_unpacked(folder / "usr", ["copyright", "changelog.gz"])
+
+
+def check_printed(made_in, folder):
+    """The commands of docs/USE.md that install a release, as they stand there, in a folder that holds it; the manual is then found too."""
+    shutil.copytree(made_in, folder)
+    page = (TOP / "docs/USE.md").read_text()
+    lines = re.findall(r"^    (.*)$", page[page.index("## Install a release") : page.index("## Arguments")], re.M)
+    more = [f"command -v {name}" for name in ("rnxcmp", "rnxcmp-file", "RNX2CRX", "crx2rnx")]
+    more += [f"man -w {name}" for name in ("rnxcmp", "rnxcmp-file", "CRX2RNX")] if shutil.which("man") else []
+    run = subprocess.run(["sh", "-ec", "\n".join([*lines, *more])], cwd=folder, capture_output=True, text=True, timeout=SECONDS)
+    found = [line for line in run.stdout.splitlines() if line.startswith(f"{folder}/rnxcmp-{VERSION}-linux-x86_64/")]
+    return [] if run.returncode == 0 and not run.stderr and len(lines) == 4 and len(found) == len(more) else [f"{run}"]
 
 
 def check_source(made_in, folder):
@@ -151,12 +163,12 @@ def check_version(program):
 
 
 def check_notices():
-    """Each library of the kit that the crates stand on is named in NOTICES."""
+    """Each library of the kit that the crates stand on is named in NOTICES, in a row of its own or as part of the standard library."""
     lines = [line.split(":") for line in (TOP / "crates.txt").read_text().splitlines() if line and not line.startswith("#")]
     own = {line[0].split()[0] for line in lines}
     used = {name for line in lines for name in line[1].split()} - own
     notices = (TOP / "NOTICES").read_text()
-    return [f"{name} isn't named in NOTICES" for name in sorted(used) if not re.search(rf"^{name} ", notices, re.M)]
+    return [f"{name} isn't named in NOTICES" for name in sorted(used) if not re.search(rf"^{name} |^rattle .*\b{name}\b", notices, re.M)]
 
 
 def checks(program):
@@ -172,6 +184,8 @@ def checks(program):
             ("the archive's library", lambda: check_library(folder / "archive")),
             ("the archive's program", lambda: check_static(folder / "archive")),
             ("the package", lambda: check_package(one, folder / "package")),
+            ("the archive in an empty root", lambda: check_archive_in_empty_root(one / f"rnxcmp-{VERSION}-linux-x86_64.tar.gz", folder / "empty_too")),
+            ("the printed commands", lambda: check_printed(one, folder / "printed")),
             ("the package in an empty root", lambda: check_in_empty_root(one / f"rnxcmp_{VERSION}_amd64.deb", folder / "empty")),
             ("the source archive", lambda: check_source(one, folder / "source")),
             ("made from the source archive", lambda: check_made_from_source(program, one, folder / "source")),

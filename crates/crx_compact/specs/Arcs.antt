@@ -1,4 +1,4 @@
--- What is kept of an arc in code: its order and its differences, and how large they may grow.
+-- An arc as code stores it: its order and its differences, and how large they may grow.
 use Rattle.std.specs.Prelude.{◌≤◌, ℕ, suc, ◌+◌, ◌^◌, ℤ, pos, neg_ℤ, ◌<ℤ◌, List, [], ◌∷◌, Option, Some, None}
 use Rattle.crx_lines.specs.declared.limits.TheConstants.{ORDER_LIMIT, CLOCK_WIDTH}
 use Rattle.crx_compact.specs.Tails.{ArcTail}

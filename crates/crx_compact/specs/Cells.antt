@@ -18,7 +18,7 @@ use Rattle.crx_compact.specs.Tails.{ArcTail}
 use Rattle.crx_compact.specs.meaning.Compaction.{value_in}
 use Rattle.crx_compact.specs.Steps.{arc_of_code, arc_of_value, code_of_value, value_of_code}
 
--- the arc and the code of the cell at a place, the arcs before being given; a place past them has none
+-- the arc and the code of the cell at a place, given the arcs of the epoch before; a place after the last of these has no arc
 abbrev pub arc_at_place : List (Option ArcTail) → Row → ℕ → Option ArcTail
 arc_at_place before row place = arc_of_value (value_in place row) (slice_index_or before place None)
 
@@ -32,7 +32,7 @@ arcs_of_row before row = each_place (length row.values) (arc_at_place before row
 abbrev pub codes_of_row : List (Option ArcTail) → Row → List Code
 codes_of_row before row = each_place (length row.values) (code_at_place before row)
 
--- indicators that may be kept: no more than a line holds, of the characters that may stand there
+-- indicators that a history may have: no more than a line has, of the characters that may stand there
 pub record AreHeldFlags (flags : List ℕ) : Type 0 where
   pub within : length flags ≤ LINE_LIMIT
   pub kept : list_all is_kept flags ≡ true

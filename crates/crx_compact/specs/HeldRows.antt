@@ -1,4 +1,4 @@
--- A satellite's line read after what was kept of the satellite in the epoch before.
+-- A satellite's line read after the history of the satellite.
 use Rattle.std.specs.Prelude.{◌≡◌, ℕ, ◌≤◌, ◌+◌, ◌++◌, ◌∷◌, length, map, take, List, [], Option, None, Some, Result, Ok}
 use Rattle.crx_text.specs.Texts.{patched}
 use Rattle.crx_lines.specs.declared.fault.Fault.{Fault}
@@ -12,7 +12,7 @@ use Rattle.crx_compact.specs.Steps.{flags_of_tail, flags_held}
 use Rattle.crx_compact.specs.OpenEpochs.{HeldRow, held_row, past_of_tail}
 use Rattle.crx_compact.specs.Cells.{arcs_of_codes, value_at_place}
 
--- the arcs that were kept of a satellite; none where it was absent
+-- the arcs of a satellite's history; none where the satellite has none
 abbrev pub arcs_of_tail : Option RowTail → List (Option ArcTail)
 arcs_of_tail None = []
 arcs_of_tail (Some kept) = kept.cells
@@ -44,16 +44,16 @@ abbrev pub row_held_from : List (Option ArcTail) → List ℕ → Satellite → 
 row_held_from arcs flags satellite line =
     and_then (satellite_line_read (past_of_row arcs flags) satellite line) (λ read. Ok (held_from arcs flags read))
 
--- the same after what was kept of the satellite
+-- a satellite's line read after the satellite's history, or after none
 abbrev pub row_held : Option RowTail → Satellite → List ℕ → Result HeldRow Fault
 row_held kept satellite line = row_held_from (arcs_of_tail kept) (flags_of_tail kept) satellite line
 
--- the same after what was kept of the whole epoch before
+-- a satellite's line read after the history of all satellites
 abbrev pub row_after : Tail → Satellite → List ℕ → Result HeldRow Fault
 row_after tail satellite line =
     and_then (satellite_line_read (past_of_tail tail) satellite line) (λ read. Ok (held_row tail read))
 
--- a row that was read after the epoch before: what it leaves stands after what the so many rows before it left
+-- a row that was read after the epoch before: its history stands after those of the so many rows before it
 pub record IsNextRow (before : Tail)
     (satellite : Satellite) (line : List ℕ) (index : ℕ) (row : Row) (old new : Tail) : Type 0 where
   pub left : RowTail

@@ -127,7 +127,7 @@ abbrev pub ArePrintable : Type 0
 ArePrintable =
     (types : List Count) (m : Marked) (older : List Marked) → AreWhole types (since_full (m ∷ older)) → CodesFit m older
 
--- what is left of whole epochs is within the limits
+-- the tail of whole epochs is within the limits
 abbrev pub WrittenAreBounded : Type 0
 WrittenAreBounded = (types : List Count) (m : Marked) (older : List Marked)
     → AreWhole types (since_full (m ∷ older)) → IsBoundedTail WRITTEN_ORDER (tail_of (m ∷ older))

@@ -7,7 +7,7 @@ abbrev pub cut : List ℕ → List ℕ → List (List ℕ)
 cut [] text = []
 cut (count ∷ counts) text = take count text ∷ cut counts (drop (suc count) text)
 
--- lengths and a text that belong together, of which so many lines, and with them so many bytes, are past
+-- lengths and a text that belong together, of which so many lines, and with them so many bytes, were borrowed already
 pub record AreCut (lengths text : List ℕ) (past past_bytes : ℕ) : Type 0 where
   pub past_within : past ≤ length lengths
   pub bytes_within : past_bytes ≤ length text

@@ -1,4 +1,4 @@
--- Compact text read line by line, by the tail alone: what is held between two lines, and what one line more makes of
+-- Compact text read line by line, by the tail alone: the state between two lines, and what one line more makes of
 -- it.
 use Rattle.std.specs.Prelude.{◌≡◌, ◌≤◌, ◌+◌, ◌*◌, ⊤, length, IfSome, ℕ, suc, ℤ, Bool, true, false, List, [], ◌∷◌, ◌++◌}
 use Rattle.std.specs.Prelude.{map, Option, Some, None, Result, Ok, Err, if◌then◌else◌, is_some, unwrap_or}
@@ -35,27 +35,27 @@ past_of_tail tail =
       flags = λ name marks. patched (flags_of_tail (tail_named name tail)) marks;
     }
 
--- the tail that an epoch line is read after, where a tail is held or nothing: where it begins with >, all starts anew
+-- the tail that an epoch line is read after, by the tail before it, or none: where the line begins with >, the empty one
 abbrev pub tail_for_line : Option Tail → List ℕ → Option Tail
 tail_for_line tail line = if begins_epoch line then Some no_tail else tail
 
--- the observation epoch at the first of some lines, which begins no event, by the tail that is held, or nothing
+-- the observation epoch at the first of some lines, which begins no event, by the tail before it, or none
 abbrev pub epoch_after : List Count → Option Tail → List ReadLine → Place ReadEpoch
 epoch_after types tail lines = epoch_against types (λ line. option_map past_of_tail (tail_for_line tail line)) lines
 
 -- ---- an epoch whose lines have come in part
 
--- the clock's value, and what is left of its arc
+-- the clock's value, and its arc's tail after it
 pub record HeldClock : Type 0 where
   pub value : Option ℤ
   pub arc : Option ArcTail
 
--- a satellite's row, and what is left of the satellite
+-- a satellite's row, and the satellite's tail after it
 pub record HeldRow : Type 0 where
   pub row : Row
   pub tail : RowTail
 
--- an epoch, and what is left after it
+-- an epoch, and the tail after it
 pub record HeldEpoch : Type 0 where
   pub epoch : Epoch
   pub tail : Tail
@@ -75,6 +75,12 @@ pub data RawStep : Type 0 where
   Whole : HeldEpoch → RawStep
   Faulty : Fault → RawStep
 
+-- whether a line has a fault
+abbrev pub is_faulty : RawStep → Bool
+is_faulty (Going begun) = false
+is_faulty (Whole held) = false
+is_faulty (Faulty fault) = true
+
 -- ---- the epoch line
 
 abbrev pub opened_raw : List Count → List ℕ → Option Tail → Result OpenRawEpoch Fault
@@ -87,7 +93,7 @@ abbrev pub opening : Result OpenRawEpoch Fault → RawStep
 opening (Ok begun) = Going begun
 opening (Err fault) = Faulty fault
 
--- what an epoch line makes, by the tail that is held, or nothing
+-- what an epoch line makes, by the tail before it, or none
 abbrev pub first_step : List Count → Option Tail → ReadLine → RawStep
 first_step types tail Overlong = Faulty LineTooLong
 first_step types tail (Content line) = opening (opened_raw types line (tail_for_line tail line))
@@ -146,7 +152,7 @@ placed_as f (Here x count) = Here (f x) count
 placed_as f (Wrong offset fault) = Wrong offset fault
 placed_as f Wanted = Wanted
 
--- what a read epoch leaves, where a tail was held or nothing
+-- the tail after an epoch that was read, by the tail before it, or none
 abbrev pub held_after : Option Tail → ReadEpoch → HeldEpoch
 held_after tail read =
     record { epoch = read.epoch; tail = raw_tail_after (unwrap_or (tail_for_line tail read.raw.line) no_tail) read.raw }
@@ -202,7 +208,7 @@ abbrev pub awaits_row : ColumnsState → Bool
 awaits_row (Idle tail) = false
 awaits_row (Reading begun) = is_some begun.clock
 
--- the tail that is held between two epochs
+-- the tail between two epochs
 abbrev pub tail_held : ColumnsState → Option Tail
 tail_held (Idle tail) = tail
 tail_held (Reading begun) = None
@@ -220,7 +226,7 @@ HasMade step after (Some epoch) = (held : HeldEpoch)
 
 -- ---- bounds
 
--- a row that is held within the limits
+-- a row within the limits, with its satellite's tail
 pub record IsBoundedHeld (row : HeldRow) : Type 0 where
   pub name : length row.row.name ≡ NAME_WIDTH
   pub values : length row.row.values ≤ TYPES_LIMIT

@@ -1,4 +1,4 @@
--- What the lines of an epoch that are read so far have given, and how they are kept.
+-- What the lines of an epoch that are read so far have given, and how code stores it.
 use Rattle.std.specs.Prelude.{◌≡◌, ℕ, ◌≤◌, List, [], ◌∷◌, length, map, take, drop, true, Option, Some, None, ⊤, Ok}
 use Rattle.crx_text.specs.meaning.Columns.{columns}
 use Rattle.crx_lines.specs.declared.limits.TheConstants.{HEAD_WIDTH}
@@ -33,13 +33,13 @@ open_raw before lines = record {
   awaited = lines.awaited;
 }
 
--- rows with what is left of their satellites
+-- rows with the tails of their satellites
 abbrev pub held_rows : List Row → List RowTail → List HeldRow
 held_rows [] tails = []
 held_rows (row ∷ rows) [] = []
 held_rows (row ∷ rows) (tail ∷ tails) = record { row = row; tail = tail } ∷ held_rows rows tails
 
--- ---- how they are kept: how far the lines have come, what is left of them, how many rows have come, and all
+-- ---- how code stores it: how far the lines have come, the tail that they make, how many rows have come, and all
 -- satellites
 
 abbrev pub lines_so_far : Stage → Tail → ℕ → List Satellite → Option OpenLines
@@ -96,7 +96,7 @@ columns_state tail before None = Idle tail
 columns_state tail before (Some lines) = Reading (open_raw before lines)
 
 -- the clock line read after a tail: the epoch that it begins has the columns of the text and the clock's value, and
--- what is left of the clock is kept
+-- the tail of the clock's arc is stored
 pub record HasClock (before : Tail) (line : List ℕ) (old new : Tail) (epoch : Epoch) : Type 0 where
   pub cell : ReadCell
   pub read : clock_line_read (past_of_tail before) line ≡ Ok cell

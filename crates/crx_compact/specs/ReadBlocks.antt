@@ -15,8 +15,8 @@ abbrev pub IsReading : List Count → List RawEpoch → List ReadLine → Column
 IsReading types older lines state = (begun : OpenRawEpoch)
     × (open_raw_with types (tail_left older) lines ≡ Some begun) × (state ≡ Reading begun)
 
--- what was made of the last of some lines: more are wanted; or they are the lines of an epoch, which is given, and what
--- is held then is what is left of the raw epochs with this one
+-- what was made of the last of some lines: more are needed; or they are the lines of an epoch, which is given, and the
+-- state then is the tail of the raw epochs with this one
 abbrev pub HasReadTo : List Count → List RawEpoch → List ReadLine → ColumnsState → Option Epoch → Type 0
 HasReadTo types older lines state None = IsReading types older lines state
 HasReadTo types older lines state (Some epoch) =

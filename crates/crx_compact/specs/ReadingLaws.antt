@@ -58,7 +58,7 @@ lines_of_epoch epochs = map Content (compact_epoch epochs)
 
 -- the compact lines of an epoch read as that epoch, whatever lines follow, and the reader's block is then that of the
 -- epochs written so far; where the epochs since the latest full one are whole by the counts of types in force, and the
--- reader's block is that of the epochs before. Of an epoch in full the reader's state is left open
+-- reader's block is that of the epochs before. Before an epoch in full the reader's block may be any
 pub record EpochReadsBack (types : List Count) (m : Marked) (older : List Marked) (raws : List RawEpoch) : Type 0 where
   pub reads : (rest : List ReadLine)
       → epoch_at types raws (lines_of_epoch (m ∷ older) ++ rest) ≡ Here (read_of m older) (2 + length m.epoch.rows)
@@ -164,8 +164,8 @@ ReadsWholeLists =
 abbrev pub RawByTail : RawEpoch → List RawEpoch → Type 0
 RawByTail raw block = tail_of_block (raw ∷ block) ≡ raw_tail_after (tail_of_block block) raw
 
--- what is left of the raw epochs before decides what stands at the next lines, faults too, and what an epoch that was
--- read there leaves
+-- the tail of the raw epochs before decides what stands at the next lines, faults too, and the tail after an epoch that was
+-- read there
 pub record TailDecides (types : List Count) (older : List RawEpoch) (lines : List ReadLine) : Type 0 where
   pub place : epoch_at types older lines ≡ epoch_after types (tail_left older) lines
   pub next : (read : ReadEpoch) (count : ℕ) → epoch_at types older lines ≡ Here read count
@@ -218,8 +218,8 @@ StepsFromOpen =
     (types : List Count) (tail : Option Tail) (lines : List ReadLine) (line : ReadLine) (begun : OpenRawEpoch)
     → open_raw_with types tail lines ≡ Some begun → StepFromOpen types tail lines line begun
 
--- the lines of an epoch that was written, read one by one after what was left before it, give the epoch with the last
--- of them, and leave what the writer has left; where the epoch stands in full, after whatever was left before it
+-- the lines of an epoch that was written, read one by one after the tail before it, give the epoch with the last
+-- of them, and the tail that the writer has; where the epoch stands in full, after any tail
 abbrev pub StepsReadBack : Type 0
 StepsReadBack =
     (types : List Count) (m : Marked) (older : List Marked) (tail : Option Tail)
@@ -230,8 +230,8 @@ StepsReadBack =
 
 -- ---- bounds
 
--- whatever was read before, what is held of an epoch whose lines have come in part, and what is left of a whole one, is
--- within the limits: each line keeps it so
+-- whatever was read before, the state in an epoch whose lines have come in part, and the tail after a whole one, are
+-- within the limits: each line leaves them so
 pub record ReadAreBounded : Type 0 where
   pub first : (types : List Count) (tail : Option Tail) (line : ReadLine)
       → AreCounts types → IfSome tail (IsBoundedTail ORDER_LIMIT) → IsBoundedStep (first_step types tail line)

@@ -88,7 +88,7 @@ arc_of_code (Step number) (Some arc) = Some (arc_after_number number arc)
 
 -- ---- what a tail holds of a satellite
 
--- what is left where everything starts anew
+-- the tail where everything starts anew
 abbrev pub no_tail : Tail
 no_tail = record { text = []; clock = None; rows = [] }
 
@@ -118,11 +118,11 @@ row_tail_after tail row =
       cells = each_place (length row.values) (λ place. arc_of_value (value_in place row) (cell_of_tail place tail));
     }
 
--- a row's line, what is kept of its satellite being given
+-- a row's line, given the tail of its satellite
 abbrev pub row_line_after : Option RowTail → Row → List ℕ
 row_line_after tail row = line_of_codes (codes_after tail row) (flags_of_tail tail) row.flags
 
--- what a row leaves, and its line, what is kept of all satellites being given
+-- a row's tail and its line, given the tails of all satellites
 abbrev pub row_tail_in : List RowTail → Row → RowTail
 row_tail_in before row = row_tail_after (named (λ (r : RowTail). r.name) row.name before) row
 
@@ -145,13 +145,13 @@ tail_after tail epoch =
       rows = map (row_tail_in tail.rows) epoch.rows;
     }
 
--- what an epoch is written after, where a tail is held or nothing: an epoch in full starts everything anew
+-- the tail that an epoch is written after, by the tail before it or none: an epoch in full starts everything anew
 abbrev pub tail_written_after : Bool → Option Tail → Tail
 tail_written_after in_full tail = if in_full then no_tail else unwrap_or tail no_tail
 
 -- ---- a raw epoch after a tail, in expansion
 
--- what is held of indicators by so many types: two for each of them, without the blanks at their end
+-- a tail's indicators by so many types: two for each of them, without the blanks at their end
 abbrev pub flags_held : ℕ → List ℕ → List ℕ
 flags_held count flags = without_end_blanks (take (2 * count) flags)
 

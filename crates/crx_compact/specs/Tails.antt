@@ -1,4 +1,4 @@
--- What is left of the past between two epochs: all that the next epoch's codes, marks and values depend on.
+-- Tails: what later epochs need of the earlier ones, for codes, marks and values. Comments of code call it the history.
 use Rattle.std.specs.Prelude.{◌≡◌, ℕ, suc, ◌-◌, min, ℤ, List, [], ◌∷◌, map, length, Option, Some, None, ◌≤◌, ◌+◌, ◌*◌}
 use Rattle.std.specs.Prelude.{IfSome}
 use Rattle.std.specs.List.{AllByRecursion}
@@ -62,7 +62,7 @@ tail_of epochs =
       rows = row_tails epochs;
     }
 
--- what is left of some epochs, newest first: nothing where there is none
+-- the tail of some epochs, newest first: none where there is no epoch
 abbrev pub tail_or_nothing : List Marked → Option Tail
 tail_or_nothing [] = None
 tail_or_nothing (m ∷ older) = Some (tail_of (m ∷ older))
@@ -99,7 +99,7 @@ tail_of_block block =
       rows = raw_row_tails block;
     }
 
--- what is left of the raw epochs accepted since the reader's state was last emptied, newest first: nothing where there
+-- the tail of the raw epochs accepted since the reader's state was last emptied, newest first: none where there
 -- is none
 abbrev pub tail_left : List RawEpoch → Option Tail
 tail_left [] = None
@@ -112,15 +112,15 @@ pub record IsBoundedArc (limit : ℕ) (arc : ArcTail) : Type 0 where
   pub order : arc.order ≤ limit
   pub few : length arc.differences ≤ arc.order + 1
 
--- what is left of a satellite within the limits: its identifier, two indicators and one cell for each type
+-- a satellite's tail within the limits: its identifier, two indicators and one cell for each type
 pub record IsBoundedRowTail (limit : ℕ) (row : RowTail) : Type 0 where
   pub name : length row.name ≡ NAME_WIDTH
   pub flags : length row.flags ≤ 2 * TYPES_LIMIT
   pub few : length row.cells ≤ TYPES_LIMIT
   pub cells : AllByRecursion (λ (cell : Option ArcTail). IfSome cell (IsBoundedArc limit)) row.cells
 
--- a tail within the limits, by the highest order of an arc: whatever was read or written before, no more than this is
--- left of it
+-- a tail within the limits, by the highest order of an arc: whatever was read or written before, no tail is
+-- greater than this
 pub record IsBoundedTail (limit : ℕ) (tail : Tail) : Type 0 where
   pub text : length tail.text ≤ HEAD_WIDTH + NAME_WIDTH * SATELLITES_LIMIT
   pub clock : IfSome tail.clock (IsBoundedArc limit)

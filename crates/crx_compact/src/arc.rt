@@ -1,5 +1,5 @@
 //! Arcs: Hatanaka's Compact RINEX 3.0, data arcs. An arc's values become codes and come back from them by running
-//! differences: what is kept is the arc's order and its latest differences of order 0, 1, .. up to it.
+//! differences: an arc is stored as its order and its latest differences of order 0, 1, .. up to it.
 
 ghost use Rattle.std.specs.Prelude.{◌≡◌, ◌≤◌, ◌<◌, ◌+◌, ◌*◌, ◌^◌, ◌++◌, ◌∷◌, [], ℕ, ℤ, List, Option, None, Some, Ok, length, take, IfSome, OnSome, IfNone, OnOk, OnErr, MatchResult};
 ghost use Rattle.crx_text.specs.Codes.{IsPrintable, IsShort};
@@ -18,7 +18,7 @@ use crx_lines::limits::{CLOCK_WIDTH, OBSERVATION_WIDTH, ORDER_LIMIT, WRITTEN_ORD
 use crx_text::{Code, Fault};
 use std::marker::Model;
 
-/// The most differences that an arc keeps: those of order 0 to [`ORDER_LIMIT`].
+/// The most differences that an arc stores: those of order 0 to [`ORDER_LIMIT`].
 const KEPT_LIMIT: usize = ORDER_LIMIT as usize + 1;
 
 /// The arc of an observation, in thousandths of its unit.
@@ -31,9 +31,10 @@ pub type ClockArc = Arc<CLOCK_WIDTH>;
 /// it or as far as its values go. It takes no memory elsewhere.
 #[derive(Drop)]
 pub struct Arc<const WIDTH: usize> {
-    differences: [i64; KEPT_LIMIT],
+    // These stand before the differences, so that most arcs are read and written in their first 48 bytes of 96.
     count: usize,
     order: usize,
+    differences: [i64; KEPT_LIMIT],
 }
 
 impl<const WIDTH: usize> Model for Arc<WIDTH> {
@@ -80,7 +81,8 @@ fn go_on(differences: &mut [i64], order: usize, value: i64) -> i64
     highest
 }
 
-/// The step of [`go_on_from`] for order 3, that of most arcs.
+/// Does what [`go_on_from`] does, for order 3: three differences in place of a copy and a loop over the order. This program writes all
+/// arcs with order 3.
 #[inline(always)]
 fn third_from(before: &[i64], value: i64, differences: &mut [i64]) -> i64
     requires within { 3 < length before.now }
@@ -100,8 +102,8 @@ fn third_from(before: &[i64], value: i64, differences: &mut [i64]) -> i64
     third
 }
 
-/// Puts the differences at a next value, of order 0 up to the given one, in place of others, those at the value before it
-/// being given, and gives the difference of that order.
+/// Replaces some differences by those at a next value, of order 0 up to the given one, and gives the difference of that order. The
+/// differences at the value before it are given.
 #[inline(always)]
 fn go_on_from(before: &[i64], order: usize, value: i64, differences: &mut [i64]) -> i64
     requires room { length differences.old ≡ length before.now }
@@ -119,7 +121,7 @@ fn go_on_from(before: &[i64], order: usize, value: i64, differences: &mut [i64])
     go_on(differences, order, value)
 }
 
-/// The step of [`value_after`] for order 3, that of most arcs.
+/// Gives the value that [`value_after`] gives, for order 3: three sums in place of a loop over the order. Most arcs have order 3.
 #[inline(always)]
 fn value_after_three(differences: &[i64], number: i64) -> i64
     requires three { length differences.now ≡ 3 }
@@ -180,9 +182,9 @@ impl<const WIDTH: usize> Arc<WIDTH> {
         ensures { result ≡ None }
     {
         Arc {
-            differences: [0; KEPT_LIMIT],
             count: 0,
             order: 0,
+            differences: [0; KEPT_LIMIT],
         }
     }
 
@@ -191,9 +193,9 @@ impl<const WIDTH: usize> Arc<WIDTH> {
         ensures { result ≡ self.now }
     {
         Arc {
-            differences: self.differences,
             count: self.count,
             order: self.order,
+            differences: self.differences,
         }
     }
 
@@ -242,7 +244,8 @@ impl<const WIDTH: usize> Arc<WIDTH> {
         Code::Step(highest)
     }
 
-    /// The difference that [`Arc::push_after`] gives where it is one of order 3, that of most arcs. `None` comes where the arc
+    /// Does what [`Arc::push_after`] does where the code is a difference of order 3, as that of most values is, and gives that difference:
+    /// no other code has to be tried, and the differences are written once, without a copy of the arc before. `None` comes where the arc
     /// before has another order or fewer values, and then this one is as it was.
     #[inline(always)]
     pub(crate) fn push_third(&mut self, before: &Self, value: i64) -> Option<i64>
@@ -281,7 +284,7 @@ impl<const WIDTH: usize> Arc<WIDTH> {
         self.apply_after(&before, code)
     }
 
-    /// The step of [`Arc::apply`] after another arc, in whose place this one goes on.
+    /// Does what [`Arc::apply`] does to a copy of an earlier arc, and replaces this one by it.
     #[inline(always)]
     pub(crate) fn apply_after(&mut self, earlier: &Self, code: Code) -> Result<Option<i64>, Fault>
         requires { IsPrintable code }
@@ -320,8 +323,9 @@ impl<const WIDTH: usize> Arc<WIDTH> {
         }
     }
 
-    /// The step of [`Arc::apply_after`] at a difference of order 3, that of most arcs. `None` comes where the earlier arc has
-    /// another order or fewer values, or where the value doesn't fit, and then this one is as it was.
+    /// Does what [`Arc::apply_after`] does at a difference of order 3, as most codes are, and gives the value: three sums, without a copy
+    /// of the earlier arc. `None` comes where the earlier arc has another order or fewer values, or where the value doesn't fit, and then
+    /// this one is as it was.
     #[inline(always)]
     pub(crate) fn apply_third(&mut self, earlier: &Self, number: i64) -> Option<i64>
         requires { IsShort number }

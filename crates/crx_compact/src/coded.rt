@@ -33,7 +33,7 @@ impl Coded {
         Coded { epoch, lines }
     }
 
-    /// Lends the next line, without its line end; `None` once none is pending.
+    /// Borrows the next pending line, without its line end; `None` once none is pending.
     pub fn next_line(&mut self) -> Option<&[u8]>
         ensures value { option_copied result ≡ slice_get self.old.lines 0 }
         // That line is no longer pending.

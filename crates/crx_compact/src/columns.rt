@@ -1,9 +1,7 @@
-//! Epochs to compact lines, and compact lines to epochs, by what is kept of the epoch before: Hatanaka's Compact
-//! RINEX 3.0.
+//! Epochs to compact lines, and compact lines to epochs, by the history, which is what they need of earlier epochs: Hatanaka's
+//! Compact RINEX 3.0.
 
 ghost use Rattle.std.specs.Prelude.{◌≡◌, ◌≤◌, ◌++◌, ◌∷◌, List, if◌then◌else◌, [], Some, None, true, false, length, IfOk, IfErr, OnOk, OnErr, Err};
-ghost use Rattle.std.specs.List.{list_all};
-ghost use Rattle.crx_text.specs.meaning.Texts.{is_printable};
 ghost use Rattle.crx_rinex.specs.Epochs.{is_full_epoch};
 ghost use Rattle.std.specs.Prelude.{◌⊎◌};
 ghost use Rattle.crx_lines.specs.meaning.Seen.{Content, ReadLine};
@@ -14,7 +12,7 @@ ghost use Rattle.crx_compact.specs.meaning.CompactPlaces.{epoch_at};
 ghost use Rattle.crx_compact.specs.ReadBlocks.{HasReadTo, IsReading};
 ghost use Rattle.crx_lines.specs.declared.limits.TheConstants.{LINE_LIMIT};
 ghost use Rattle.crx_rinex.specs.meaning.EpochLines.{begins_epoch, is_event_line};
-ghost use Rattle.crx_compact.specs.OpenEpochs.{awaits_row, is_idle, tail_held, first_step, step_in, Faulty, HasMade};
+ghost use Rattle.crx_compact.specs.OpenEpochs.{awaits_row, is_faulty, is_idle, tail_held, first_step, step_in, Faulty, HasMade};
 ghost use Rattle.crx_compact.specs.OpenEpochs.ColumnsState.{Idle};
 ghost use Rattle.crx_compact.specs.meaning.Compaction.{Marked, compact_epoch};
 ghost use Rattle.crx_compact.specs.Tails.{tail_left, tail_or_nothing};
@@ -38,7 +36,7 @@ pub struct Columns {
     kept: KeptEpoch,
     next: KeptEpoch,
     nothing: KeptEpoch,
-    /// The epoch whose lines have come in part, and whether they are read after what is kept, or after nothing.
+    /// The epoch whose lines have come in part, and whether they are read after the history, or after nothing.
     incoming: Incoming,
     goes_on: bool,
     lines: Lines,
@@ -61,7 +59,7 @@ impl Model for Columns {
 }
 
 impl Columns {
-    /// Columns that keep nothing of any epoch.
+    /// Columns without a history.
     pub fn new(alloc: Global) -> Columns
         ensures { result ≡ Idle None }
     {
@@ -93,8 +91,8 @@ impl Columns {
         !self.incoming.is_open()
     }
 
-    /// Makes the compact lines of an epoch that has all its rows: in full, where that is asked for or nothing is kept of
-    /// an epoch before, else after the one before.
+    /// Makes the compact lines of an epoch that has all its rows: in full, where that is asked for or there is no history, else as
+    /// differences from the epoch before.
     ///
     /// `OutOfMemory` is its one refusal: it hands the epoch back, and the columns are as they were.
     pub fn encode(&mut self, epoch: Epoch, full: bool) -> Result<Coded, (Epoch, Fault)>
@@ -109,7 +107,7 @@ impl Columns {
             ≡ Idle (Some (tail_after (tail_written_after full (tail_held self.old)) epoch))) }
         ensures refused { IfErr result (λ refused. (refused.0 ≡ epoch) × (refused.1 ≡ Fault.OutOfMemory)) }
         ensures err { OnErr result (self.new ≡ self.old) }
-        // After any epochs at all, the lines are those of their compact text, and their tail is kept.
+        // After any epochs at all, the lines are those of their compact text, and the columns have their tail.
         ensures left { (epochs : List Marked) → tail_held self.old ≡ tail_or_nothing epochs
             → OnOk result (self.new ≡ Idle
             (tail_or_nothing (record { in_full = full; epoch = epoch } ∷ epochs))) }
@@ -122,7 +120,7 @@ impl Columns {
         self.encode_next(epoch, full)
     }
 
-    /// The step of [`Columns::encode`].
+    /// Makes the compact lines of an epoch for [`Columns::encode`].
     fn encode_next(&mut self, epoch: Epoch, full: bool) -> Result<Coded, (Epoch, Fault)>
         requires whole { is_full_epoch epoch ≡ true }
         requires idle { is_idle self.old ≡ true }
@@ -173,9 +171,9 @@ impl Columns {
     /// Begins an epoch with its epoch line, which is read after the epoch before; a line that begins with `>` is read after
     /// nothing. The counts of types hold for all lines of the epoch.
     ///
-    /// `NotAnEpoch` comes where nothing is kept of an epoch before and the line doesn't begin with `>`; then `BadEpoch`,
-    /// `BadSatellite` and `RepeatedSatellite`; `OutOfMemory` where something can't grow, which is after `NotAnEpoch` and the check of
-    /// the line's characters. After a refusal everything is forgotten.
+    /// `NotAnEpoch` comes where there is no history and the line doesn't begin with `>`; then `BadEpoch`,
+    /// `BadSatellite` and `RepeatedSatellite`; `OutOfMemory` where something can't grow and the line has no fault. After a refusal everything
+    /// is forgotten.
     pub fn begin(&mut self, types: &Types, line: &[u8]) -> Result<(), Fault>
         requires idle { is_idle self.old ≡ true }
         requires short { length line.now ≤ LINE_LIMIT }
@@ -185,11 +183,9 @@ impl Columns {
         ensures refused { IfErr result (λ fault. (first_step types.now (tail_held self.old) (Content line.now)
             ≡ Faulty fault) ⊎ (fault ≡ Fault.OutOfMemory)) }
         ensures emptied { OnErr result (self.new ≡ Idle None) }
-        // Memory is taken only after these checks: that an epoch may begin so, and that no character is outside 32 to 126.
-        ensures no_epoch { begins_epoch line.now ≡ false
-            → tail_held self.old ≡ None → result ≡ Err Fault.NotAnEpoch }
+        // Memory runs out only at a line without a fault.
         ensures memory { IfErr result (λ fault. fault ≡ Fault.OutOfMemory
-            → list_all is_printable line.now ≡ true) }
+            → is_faulty (first_step types.now (tail_held self.old) (Content line.now)) ≡ false) }
         // After the raw epochs accepted since everything was last forgotten, the line makes what it makes by them.
         ensures block { (older : List RawEpoch) → tail_held self.old ≡ tail_left older
             → OnOk result (IsReading types.now older (Content line.now ∷ []) self.new) }
@@ -200,7 +196,7 @@ impl Columns {
         self.begin_next(types, line)
     }
 
-    /// The step of [`Columns::begin`].
+    /// Begins an epoch for [`Columns::begin`], which forgets everything after a refusal.
     fn begin_next(&mut self, types: &Types, line: &[u8]) -> Result<(), Fault>
         requires idle { is_idle self.old ≡ true }
         requires short { length line.now ≤ LINE_LIMIT }
@@ -210,17 +206,15 @@ impl Columns {
         ensures refused { IfErr result (λ fault. (first_step types.now (tail_held self.old) (Content line.now)
             ≡ Faulty fault) ⊎ (fault ≡ Fault.OutOfMemory)) }
         ensures emptied { OnErr result (self.new ≡ Idle None) }
-        ensures no_epoch { begins_epoch line.now ≡ false
-            → tail_held self.old ≡ None → result ≡ Err Fault.NotAnEpoch }
         ensures memory { IfErr result (λ fault. fault ≡ Fault.OutOfMemory
-            → list_all is_printable line.now ≡ true) }
+            → is_faulty (first_step types.now (tail_held self.old) (Content line.now)) ≡ false) }
     {
         let goes_on = !begins_epoch(line);
         if goes_on && !self.is_kept {
             return Err(Fault::NotAnEpoch);
         }
         let before = stands_after(&self.nothing, &self.kept, goes_on);
-        match self.incoming.begin(types, before, line) {
+        match self.incoming.begin(types, before, line, &mut self.part) {
             Ok(()) => {
                 self.goes_on = goes_on;
                 Ok(())
@@ -236,17 +230,18 @@ impl Columns {
     /// gives the epoch.
     ///
     /// `Truncated` comes where the line begins with `>`; then `BadClock` for the clock line, `BadField` for a satellite line,
-    /// for both `NoArc` and `OutOfRange`, for a satellite line `BadFlags`; `OutOfMemory` where something can't grow. After a
-    /// refusal everything is forgotten.
+    /// for both `NoArc` and `OutOfRange`, for a satellite line `BadFlags`; `OutOfMemory` where something can't grow and the line has no
+    /// fault. After a refusal everything is forgotten.
     pub fn feed(&mut self, line: &[u8]) -> Result<Option<Epoch>, Fault>
         requires open { is_idle self.old ≡ false }
         requires short { length line.now ≤ LINE_LIMIT }
         ensures made { IfOk result (λ given. HasMade (step_in self.old (Content line.now)) self.new given) }
         ensures refused { IfErr result
             (λ fault. (step_in self.old (Content line.now) ≡ Faulty fault) ⊎ (fault ≡ Fault.OutOfMemory)) }
-        // Memory is taken only for a satellite's line.
+        // Memory runs out only at a satellite's line without a fault.
         ensures memory { IfErr result (λ fault. fault ≡ Fault.OutOfMemory
-            → (begins_epoch line.now ≡ false) × (awaits_row self.old ≡ true)) }
+            → (begins_epoch line.now ≡ false) × (awaits_row self.old ≡ true)
+            × (is_faulty (step_in self.old (Content line.now)) ≡ false)) }
         ensures emptied { OnErr result (self.new ≡ Idle None) }
         // After the raw epochs accepted since everything was last forgotten, and the lines of the epoch so far, the line makes
         // what it makes by them: the epoch that is given is the one that stands at these lines.
@@ -261,7 +256,7 @@ impl Columns {
         self.feed_next(line)
     }
 
-    /// The step of [`Columns::feed`].
+    /// Takes the next line of the epoch for [`Columns::feed`], which forgets everything after a refusal.
     fn feed_next(&mut self, line: &[u8]) -> Result<Option<Epoch>, Fault>
         requires open { is_idle self.old ≡ false }
         requires short { length line.now ≤ LINE_LIMIT }
@@ -269,11 +264,12 @@ impl Columns {
         ensures refused { IfErr result
             (λ fault. (step_in self.old (Content line.now) ≡ Faulty fault) ⊎ (fault ≡ Fault.OutOfMemory)) }
         ensures memory { IfErr result (λ fault. fault ≡ Fault.OutOfMemory
-            → (begins_epoch line.now ≡ false) × (awaits_row self.old ≡ true)) }
+            → (begins_epoch line.now ≡ false) × (awaits_row self.old ≡ true)
+            × (is_faulty (step_in self.old (Content line.now)) ≡ false)) }
         ensures emptied { OnErr result (self.new ≡ Idle None) }
     {
         let before = stands_after(&self.nothing, &self.kept, self.goes_on);
-        match self.incoming.take_line(before, line) {
+        match self.incoming.take_line(before, line, &mut self.part) {
             Ok(()) => match self.incoming.finish(&mut self.kept) {
                 Some(epoch) => {
                     self.is_kept = true;
@@ -289,7 +285,8 @@ impl Columns {
     }
 
     /// Takes the next line of the epoch that was begun as [`Columns::feed`] does, with its refusals, where it is a satellite line that
-    /// isn't the last one of the epoch; else `false` comes, and nothing changes.
+    /// isn't the last one of the epoch; else `false` comes, and nothing changes. Most lines of compact text are such lines; the answer
+    /// holds no epoch, so that nothing large is moved from call to call.
     pub fn feed_early(&mut self, line: &[u8]) -> Result<bool, Fault>
         requires open { is_idle self.old ≡ false }
         requires short { length line.now ≤ LINE_LIMIT }
@@ -299,14 +296,15 @@ impl Columns {
         ensures refused { IfErr result
             (λ fault. (step_in self.old (Content line.now) ≡ Faulty fault) ⊎ (fault ≡ Fault.OutOfMemory)) }
         ensures memory { IfErr result (λ fault. fault ≡ Fault.OutOfMemory
-            → (begins_epoch line.now ≡ false) × (awaits_row self.old ≡ true)) }
+            → (begins_epoch line.now ≡ false) × (awaits_row self.old ≡ true)
+            × (is_faulty (step_in self.old (Content line.now)) ≡ false)) }
         ensures emptied { OnErr result (self.new ≡ Idle None) }
     {
         if !self.incoming.is_early() {
             return Ok(false);
         }
         let before = stands_after(&self.nothing, &self.kept, self.goes_on);
-        if let Err(fault) = self.incoming.take_line(before, line) {
+        if let Err(fault) = self.incoming.take_line(before, line, &mut self.part) {
             self.reset();
             return Err(fault);
         }

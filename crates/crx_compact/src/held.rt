@@ -1,7 +1,8 @@
-//! What is kept of a satellite between two epochs: Hatanaka's Compact RINEX 3.0, satellite lines.
+//! The history of a satellite, which is what later epochs need of it: Hatanaka's Compact RINEX 3.0, satellite lines.
 
 ghost use Rattle.std.specs.Prelude.{◌≡◌, ◌≤◌, ◌<◌, ◌+◌, OnErr, ◌++◌, ◌∷◌, ◌⊎◌, ◌*◌, [], None, Ok, Err, true, false, length, slice_index_or, slice_set, take, OnOk, IfOk, IfErr, IfSome, IfNone, OnSome, Some, Option, ℤ};
 ghost use Rattle.std.specs.List.{flat_map, list_all};
+ghost use Rattle.std.specs.Result.{is_ok};
 ghost use Rattle.crx_text.specs.Numbers.{IsObservation};
 ghost use Rattle.crx_rinex.specs.meaning.EpochLines.{begins_epoch};
 ghost use Rattle.crx_rinex.specs.meaning.SatelliteLines.{IsValue};
@@ -27,6 +28,7 @@ ghost use Rattle.crx_compact.specs.Tails.{RowTail};
 use crate::arc::ObsArc;
 use crate::awaited::AwaitedSatellite;
 use crate::lines::Lines;
+use crate::refusals::fault_of_row;
 use crx_lines::limits::{DIGITS_LIMIT, NAME_WIDTH};
 use crx_rinex::{SatRow, after_columns, all_blank};
 use crx_text::block::put_text;
@@ -40,8 +42,9 @@ use std::marker::Model;
 /// The room for a cell in a satellite line: a code, with its sign, order and `&`, its blank, and what its digits are written with.
 pub(crate) const CELL_ROOM: usize = DIGITS_LIMIT + 6;
 
-/// Leaves in a text what changes from a text to another one.
-#[inline]
+/// Replaces a text by the difference of two others. Texts that are the same, as a satellite's indicators in two epochs mostly are,
+/// are only compared: their difference is empty.
+#[inline(always)]
 pub(crate) fn mark_change(old: &[u8], new: &[u8], part: &mut Text)
     requires old_short { length old.now ≤ LINE_LIMIT }
     requires new_short { length new.now ≤ LINE_LIMIT }
@@ -49,12 +52,24 @@ pub(crate) fn mark_change(old: &[u8], new: &[u8], part: &mut Text)
 {
     part.clear();
     if old != new {
-        append_difference(old, new, part);
-        part.trim_end_blanks();
+        append_change(old, new, part);
     }
 }
 
-/// Puts the line of what changes from a text to another one after other lines.
+/// Puts the difference of two texts into an empty text. Most texts stay as they are, and so this is no part of [`mark_change`], which
+/// would save and restore all registers for it.
+#[inline(never)]
+fn append_change(old: &[u8], new: &[u8], part: &mut Text)
+    requires old_short { length old.now ≤ LINE_LIMIT }
+    requires new_short { length new.now ≤ LINE_LIMIT }
+    requires empty { part.old ≡ [] }
+    ensures { part.new ≡ text_difference old.now new.now }
+{
+    append_difference(old, new, part);
+    part.trim_end_blanks();
+}
+
+/// Puts the difference of two texts after other lines, as a line.
 pub(crate) fn push_change(
     old: &[u8],
     new: &[u8],
@@ -69,7 +84,7 @@ pub(crate) fn push_change(
     lines.push(part.bytes())
 }
 
-/// Puts the line of a code after other lines.
+/// Puts a code after other lines, as a line.
 pub(crate) fn push_code(code: Code, part: &mut Text, lines: &mut Lines) -> Result<(), AllocError>
     requires { IsPrintable code }
     ensures { OnOk result (lines.new ≡ lines.old ++ code_text code ∷ []) }
@@ -79,7 +94,8 @@ pub(crate) fn push_code(code: Code, part: &mut Text, lines: &mut Lines) -> Resul
     lines.push(part.bytes())
 }
 
-/// Replaces an arc by that of a cell after its next value, and gives the value's code.
+/// Replaces an arc by the one that a cell has after its next value, and gives the value's code. The arcs before are those of the
+/// epoch before, of which the cell's is at a place, where there is one.
 #[inline(always)]
 fn renew_arc(before: &[ObsArc], place: usize, value: Option<i64>, arc: &mut ObsArc) -> Code
     requires { IsValue value }
@@ -96,7 +112,7 @@ fn renew_arc(before: &[ObsArc], place: usize, value: Option<i64>, arc: &mut ObsA
     }
 }
 
-/// The difference of order 3 that is the code of a cell's value, where it is one, as by [`ObsArc::push_third`].
+/// The code of a cell's value where it is a difference of order 3, as by [`ObsArc::push_third`]; `None` where it is another code.
 #[inline(always)]
 fn third_at(before: &[ObsArc], place: usize, value: i64, arc: &mut ObsArc) -> Option<i64>
     requires { IsObservation value }
@@ -109,7 +125,7 @@ fn third_at(before: &[ObsArc], place: usize, value: i64, arc: &mut ObsArc) -> Op
 }
 
 /// Writes the code of a cell's next value and a blank from an index on, gives the index after them, and replaces an arc by the
-/// one after the value.
+/// one after the value. It takes values of any kind, and is called for the few that [`write_value`] doesn't write itself.
 #[inline(never)]
 fn write_any_value(
     before: &[ObsArc],
@@ -131,7 +147,8 @@ fn write_any_value(
     write_cell(bytes, at, code)
 }
 
-/// The same as [`write_any_value`], quicker where the value is missing, and where its code is a difference of order 3.
+/// Writes a cell as [`write_any_value`] does. Most values are missing, or have a difference of order 3 as their code: these two are
+/// written here, without a call and without asking which code it is, and only the others by a call.
 #[inline(always)]
 fn write_value(
     before: &[ObsArc],
@@ -181,8 +198,9 @@ fn apply_at(
     }
 }
 
-/// Reads the cell that a text begins with, in the general form: puts its arc after that of the epoch before in its place among
-/// others, and gives its value, and the index after the cell and its blank.
+/// Reads the cell that a text begins with, whatever its code is: replaces the arc at the cell's place by the one after the code, and
+/// gives the cell's value, and the index after the cell and its blank. It is called for the few cells that [`read_usual_cell`] doesn't
+/// read.
 ///
 /// `BadField` comes where the cell is no code, `NoArc` and `OutOfRange` come as by [`ObsArc::apply`].
 #[inline(never)]
@@ -200,13 +218,15 @@ fn read_any_cell(
     let Ok((code, length)) = code_before_blank(text) else {
         return Err(Fault::BadField);
     };
-    match apply_at(before, place, code, arcs) {
-        Ok(value) => Ok((value, length)),
-        Err(fault) => Err(fault),
-    }
+    let value = apply_at(before, place, code, arcs)?;
+    Ok((value, length))
 }
 
-/// The same of a difference of order 3, that of most cells; `None` where the cell is another one, or at its fault.
+/// Reads the cell that a text begins with where its code is a difference of order 3, as that of most cells is; `None` where it is
+/// another code, has more than seven digits, or has a fault, and then the arcs are as they were.
+///
+/// Seven digits and the blank after them fit a vector of eight characters, and are read at once, the sign having been put aside.
+/// That takes 53 instructions; digit by digit one digit takes 60 and seven take 126 (bench/README.md).
 #[inline(always)]
 fn read_third(
     before: &[ObsArc],
@@ -225,7 +245,7 @@ fn read_third(
     Some((value, length))
 }
 
-/// The same, also of a cell without a code.
+/// Reads the cell that a text begins with as [`read_third`] does, and also a cell without a code.
 #[inline(always)]
 fn read_usual_cell(
     before: &[ObsArc],
@@ -250,7 +270,7 @@ fn read_usual_cell(
     Some((Some(value), length))
 }
 
-/// Gives arcs the count of a row's cells, which they mostly have; those that come are without values.
+/// Makes arcs as many as a row has cells. They mostly are, which one comparison finds; arcs that are added have no values.
 #[inline(always)]
 fn resize_arcs(arcs: &mut Vec<ObsArc>, count: usize) -> Result<(), AllocError>
     ensures { OnOk result (length arcs.new.items ≡ count) }
@@ -261,7 +281,7 @@ fn resize_arcs(arcs: &mut Vec<ObsArc>, count: usize) -> Result<(), AllocError>
     resize_other_arcs(arcs, count)
 }
 
-/// The same where the count is another one.
+/// Makes arcs as many as a row has cells, where there are more or fewer: drops the last ones, or adds some without values.
 #[inline(never)]
 fn resize_other_arcs(arcs: &mut Vec<ObsArc>, count: usize) -> Result<(), AllocError>
     ensures { OnOk result (length arcs.new.items ≡ count) }
@@ -273,8 +293,8 @@ fn resize_other_arcs(arcs: &mut Vec<ObsArc>, count: usize) -> Result<(), AllocEr
     Ok(())
 }
 
-/// Writes the codes of a row's values, each followed by a blank, from an index on, gives the index after them, and puts the arcs
-/// after the values in place of as many others.
+/// Writes the codes of a row's values, each followed by a blank, from an index on, gives the index after them, and replaces as many
+/// arcs by those after the values.
 fn write_cells(
     before: &[ObsArc],
     row: &SatRow,
@@ -290,16 +310,15 @@ fn write_cells(
     ensures from { at ≤ result }
     ensures within { result ≤ at + CELL_ROOM * length row.now.values }
 {
+    let values = row.values();
     let mut end = at;
-    let mut place = 0;
-    while let Some(value) = row.value(place) {
-        end = write_value(before, place, value, &mut arcs[place], bytes, end);
-        place += 1;
+    for place in 0..values.len() {
+        end = write_value(before, place, values[place], &mut arcs[place], bytes, end);
     }
     end
 }
 
-/// What is kept of a satellite: its identifier, its indicators, and an arc for each cell.
+/// The history of a satellite: its identifier, its indicators, and an arc for each cell.
 #[derive(Drop)]
 pub(crate) struct HeldSatellite {
     name: [u8; NAME_WIDTH],
@@ -350,8 +369,14 @@ impl HeldSatellite {
         self.arcs.len()
     }
 
-    /// Replaces what is kept by what a row leaves after what was kept of its satellite in the epoch before, and puts the
-    /// row's line after others.
+    /// `false` says that the history may have to ask for memory to have an arc for each of so many types.
+    #[inline(always)]
+    pub(crate) fn has_room_for(&self, count: usize) -> bool {
+        self.arcs.capacity() >= count
+    }
+
+    /// Replaces the history by the one after a row, given the history of the row's satellite before it, and puts the row's line
+    /// after others.
     pub(crate) fn encode(
         &mut self,
         before: Option<&HeldSatellite>,
@@ -381,8 +406,8 @@ impl HeldSatellite {
         renew_flags(&mut self.flags, trim_end(row.flags()))
     }
 
-    /// Replaces the arcs by those that a row leaves after others, and writes the row's line from an index on, of which the marks
-    /// are given: gives its length.
+    /// Replaces the arcs by those after a row, given the arcs before it, and writes the row's line from an index on; the line's marks
+    /// are given. Gives the line's length.
     pub(crate) fn write_line(
         &mut self,
         arcs: &[ObsArc],
@@ -404,8 +429,8 @@ impl HeldSatellite {
         trim_end(&bytes[at..end]).len()
     }
 
-    /// Reads a satellite's line after what was kept of it in the epoch before: replaces what is kept, and fills the row, which
-    /// has its identifier and its size. What was kept of cells and indicators past the satellite's count of types is dropped.
+    /// Reads a satellite's line, given the satellite's history before it: replaces the history by the one after the line, and fills
+    /// the row, which has the satellite's identifier and size. Arcs and indicators past the satellite's count of types are dropped.
     ///
     /// The line begins no epoch. The first cell with a fault decides: `BadField` where its
     /// text is no code, then `NoArc` and `OutOfRange` as by [`ObsArc::apply`]; then `BadFlags` where the marks hold a character
@@ -434,7 +459,7 @@ impl HeldSatellite {
         }
     }
 
-    /// The same, from the arcs and the indicators of the epoch before.
+    /// Reads a satellite's line as [`HeldSatellite::read`] does, given the arcs and the indicators of the history before it.
     fn read_from(
         &mut self,
         row: &mut SatRow,
@@ -459,10 +484,7 @@ impl HeldSatellite {
         let Ok(()) = resize_arcs(&mut self.arcs, count) else {
             return Err(Fault::OutOfMemory);
         };
-        let at = match read_cells(arcs, count, line, &mut self.arcs, row) {
-            Ok(at) => at,
-            Err(fault) => return Err(fault),
-        };
+        let at = read_cells(arcs, count, line, &mut self.arcs, row)?;
         self.name = satellite.name();
         read_indicators(flags, count, &line[at..], row, &mut self.flags, part)
     }
@@ -488,7 +510,7 @@ fn first_bytes(text: &[u8], count: usize) -> &[u8]
     &text[..count.min(text.len())]
 }
 
-/// What is held of indicators by so many types: two for each of them, without the blanks at their end.
+/// The indicators that a history has by so many types: two for each of them, without the blanks at their end.
 fn held_flags(flags: &[u8], count: usize) -> &[u8]
     requires held { AreHeldFlags flags.now }
     requires allowed { IsAllowedCount count }
@@ -498,8 +520,8 @@ fn held_flags(flags: &[u8], count: usize) -> &[u8]
     trim_end(first_bytes(flags, 2 * count))
 }
 
-/// Reads a line's marks after a satellite's indicators in the epoch before: puts the indicators that they make into the row, and
-/// what is held of them in place of others. Most lines have no marks.
+/// Reads a line's marks, given the satellite's indicators in the epoch before: puts the indicators that they make into the row and
+/// into the history. Most lines have no marks, and then the indicators are copied and no difference is read.
 ///
 /// `BadFlags` comes as by [`read_marks`], then `OutOfMemory` where something can't grow.
 #[inline(always)]
@@ -530,7 +552,7 @@ fn read_indicators(
     patch_flags(before, count, marks, row, held, part)
 }
 
-/// The same where there are no marks: the indicators stay.
+/// Puts a satellite's indicators in the epoch before into the row and into the history, as a line without marks leaves them.
 #[inline(always)]
 fn keep_flags(
     before: &[u8],
@@ -552,7 +574,8 @@ fn keep_flags(
     hold_flags(flags, held)
 }
 
-/// The same where there are marks.
+/// Reads marks, given the satellite's indicators in the epoch before: puts the indicators that they make into the row and into the
+/// history. The faults are those of [`read_indicators`].
 #[inline(never)]
 fn patch_flags(
     before: &[u8],
@@ -575,13 +598,11 @@ fn patch_flags(
     ensures err { IfErr result (λ fault. ((are_marks count marks.now ≡ false) × (fault ≡ Fault.BadFlags))
         ⊎ (fault ≡ Fault.OutOfMemory)) }
 {
-    match read_marks(before, count, marks, row, part) {
-        Ok(()) => hold_flags(held_flags(part.bytes(), count), held),
-        Err(fault) => Err(fault),
-    }
+    read_marks(before, count, marks, row, part)?;
+    hold_flags(held_flags(part.bytes(), count), held)
 }
 
-/// Holds indicators in place of others. `OutOfMemory` comes where there is no room for them.
+/// Replaces a history's indicators by others. `OutOfMemory` comes where there is no room for them.
 #[inline(always)]
 fn hold_flags(flags: &[u8], held: &mut Vec<u8>) -> Result<(), Fault>
     requires { AreHeldFlags flags.now }
@@ -589,14 +610,13 @@ fn hold_flags(flags: &[u8], held: &mut Vec<u8>) -> Result<(), Fault>
     ensures kept { AreHeldFlags held.new.items }
     ensures err { IfErr result (λ fault. fault ≡ Fault.OutOfMemory) }
 {
-    held.clear();
-    match held.extend_from_slice(flags) {
+    match renew_flags(held, flags) {
         Ok(()) => Ok(()),
         Err(_) => Err(Fault::OutOfMemory),
     }
 }
 
-/// Reads a line's marks after a satellite's indicators in the epoch before: leaves the indicators that they make in a text,
+/// Reads a line's marks, given the satellite's indicators in the epoch before: replaces a text by the indicators that they make,
 /// and puts those of the row's types into the row.
 ///
 /// `BadFlags` comes where the marks hold a character outside 32 to 126, or anything but blanks past two for each type.
@@ -628,7 +648,25 @@ fn read_marks(
     Ok(())
 }
 
-/// What is kept of a satellite among some others.
+/// The first fault of a satellite's line, given the satellite's history, or `OutOfMemory` where it has none, as by [`fault_of_row`].
+pub(crate) fn fault_after(
+    before: Option<&HeldSatellite>,
+    satellite: &AwaitedSatellite,
+    line: &[u8],
+) -> Fault
+    requires other { begins_epoch line.now ≡ false }
+    ensures fault { (row_held (option_copied before.entry) satellite.now line.now ≡ Err result)
+        ⊎ (result ≡ Fault.OutOfMemory) }
+    ensures memory { result ≡ Fault.OutOfMemory
+        → is_ok (row_held (option_copied before.entry) satellite.now line.now) ≡ true }
+{
+    match before {
+        Some(held) => fault_of_row(&held.arcs, satellite, line),
+        None => fault_of_row(&[], satellite, line),
+    }
+}
+
+/// The history of the satellite with an identifier, looked for from the first one on; `None` where there is none.
 pub(crate) fn find<'a>(
     held: &'a [HeldSatellite],
     name: [u8; NAME_WIDTH],
@@ -638,8 +676,9 @@ pub(crate) fn find<'a>(
     held.iter().find(|satellite| satellite.name() == name)
 }
 
-/// Reads the cells of a line for as many types as a row has, after the arcs of the epoch before: puts their
-/// values into the row, and the arcs after them in place of others, and gives the index at which the marks begin.
+/// Reads the cells of a line for as many types as a row has, given the arcs of the epoch before: puts their values into the row,
+/// replaces other arcs by those after the cells, and gives the index at which the marks begin. Its calls stay: a loop without them,
+/// meant to keep all in registers, took more instructions (.2 a byte of RINEX, bench/README.md).
 ///
 /// The first cell with a fault decides: `BadField` where its text is no code, then `NoArc` and `OutOfRange` as by
 /// [`ObsArc::apply`].
@@ -664,13 +703,11 @@ fn read_cells(
                 row.set(place, value);
                 at += length;
             }
-            None => match read_any_cell(before, place, text, arcs) {
-                Ok((value, length)) => {
-                    row.set(place, value);
-                    at += length;
-                }
-                Err(fault) => return Err(fault),
-            },
+            None => {
+                let (value, length) = read_any_cell(before, place, text, arcs)?;
+                row.set(place, value);
+                at += length;
+            }
         }
     }
     Ok(at)

@@ -8,12 +8,11 @@ ghost use Rattle.crx_rinex.specs.meaning.Observations.{Row, Epoch as Observation
 ghost use Rattle.crx_rinex.specs.Epochs.{begun, is_full_epoch, with_row};
 ghost use Rattle.crx_rinex.specs.meaning.Epochs.{has_satellite};
 ghost use Rattle.crx_compact.specs.Tails.{Tail};
-ghost use Rattle.crx_compact.specs.OpenEpochs.{opened_raw, Going, Whole, Faulty};
+ghost use Rattle.crx_compact.specs.OpenEpochs.{opened_raw, is_faulty, Going, Whole, Faulty};
 ghost use Rattle.crx_compact.specs.HeldRows.{row_after, IsNextRow};
-ghost use Rattle.std.specs.List.{list_all};
+ghost use Rattle.std.specs.Result.{is_ok};
 ghost use Rattle.crx_rinex.specs.meaning.EpochLines.{begins_epoch};
 ghost use Rattle.crx_text.specs.meaning.Columns.{columns};
-ghost use Rattle.crx_text.specs.meaning.Texts.{is_printable};
 ghost use Rattle.crx_lines.specs.declared.limits.TheConstants.{HEAD_WIDTH};
 ghost use Rattle.crx_rinex.specs.meaning.EpochLines.{epoch_count};
 ghost use Rattle.crx_compact.specs.meaning.CompactPlaces.{clock_line_read};
@@ -22,9 +21,10 @@ ghost use Rattle.crx_compact.specs.OpenLines.{open_raw, made_of, step_after, Has
 
 use crate::awaited::AwaitedSatellite;
 use crate::kept::KeptEpoch;
+use crx_lines::limits::SATELLITES_LIMIT;
 use crx_rinex::{Epoch, EpochLine, SatRow, Types, begins_epoch, padded};
 use crx_text::{Fault, Text};
-use std::alloc::Global;
+use std::alloc::{AllocError, Global};
 use std::marker::Model;
 use std::mem;
 
@@ -46,7 +46,6 @@ pub(crate) struct Incoming {
     next: KeptEpoch,
     count: usize,
     satellites: Vec<AwaitedSatellite>,
-    part: Text,
     /// The row that a line is read into, before it is put into the epoch.
     row: Option<SatRow>,
     /// An epoch that was given out and handed back, whose memory serves the next one.
@@ -75,7 +74,6 @@ impl Incoming {
             next: KeptEpoch::new(alloc),
             count: 0,
             satellites: Vec::new(alloc),
-            part: Text::new(),
             row: None,
             spare: None,
             alloc,
@@ -89,7 +87,7 @@ impl Incoming {
         self.stage = Stage::Unbegun;
     }
 
-    /// Whether an epoch line has come, but not all lines of its epoch.
+    /// Whether the epoch line has come, but not all lines of the epoch.
     pub(crate) fn is_open(&self) -> bool
         ensures { result ≡ is_some self.now }
     {
@@ -103,12 +101,13 @@ impl Incoming {
         self.spare = Some(epoch);
     }
 
-    /// Takes an epoch line, which is read after what was kept of the epoch before.
+    /// Takes an epoch line, which is read after the history.
     pub(crate) fn begin(
         &mut self,
         types: &Types,
         before: &KeptEpoch,
         line: &[u8],
+        part: &mut Text,
     ) -> Result<(), Fault>
         requires short { length line.now ≤ LINE_LIMIT }
         ensures ok { OnOk result (IfSome self.new
@@ -116,33 +115,53 @@ impl Incoming {
         ensures open { OnOk result (is_some self.new ≡ true) }
         ensures err { IfErr result (λ fault. (opened_raw types.now line.now (Some before.now) ≡ Err fault)
             ⊎ (fault ≡ Fault.OutOfMemory)) }
+        // Memory runs out only at a line without a fault.
         ensures memory { IfErr result (λ fault. fault ≡ Fault.OutOfMemory
-            → list_all is_printable line.now ≡ true) }
+            → is_ok (opened_raw types.now line.now (Some before.now)) ≡ true) }
     {
         self.stage = Stage::Unbegun;
         self.satellites.clear();
+        if !self.next.is_roomy() {
+            // Memory is asked for only at a line without a fault.
+            match before.fault_of_epoch_line(types, line, part) {
+                Fault::OutOfMemory => {}
+                fault => return Err(fault),
+            }
+            let Ok(()) = make_room(&mut self.next, &mut self.satellites) else {
+                return Err(Fault::OutOfMemory);
+            };
+        }
         match self
             .next
-            .read_epoch_line(types, before, line, &mut self.satellites, &mut self.part)
+            .read_epoch_line(types, before, line, &mut self.satellites, part)
         {
             Ok(()) => {
                 self.stage = Stage::Clock;
                 Ok(())
             }
+            Err(Fault::OutOfMemory) => Err(before.fault_of_epoch_line(types, line, part)),
             Err(fault) => Err(fault),
         }
     }
+
     /// Takes the next line of an epoch whose epoch line has come: the clock line, then a line for each satellite. Where all
     /// lines have come, nothing changes.
-    pub(crate) fn take_line(&mut self, before: &KeptEpoch, line: &[u8]) -> Result<(), Fault>
+    pub(crate) fn take_line(
+        &mut self,
+        before: &KeptEpoch,
+        line: &[u8],
+        part: &mut Text,
+    ) -> Result<(), Fault>
         requires open { is_some self.old ≡ true }
         requires short { length line.now ≤ LINE_LIMIT }
         ensures ok { OnOk result (step_after before.now self.old line.now ≡ made_of before.now self.new) }
         ensures open { OnOk result (is_some self.new ≡ true) }
         ensures err { IfErr result (λ fault. (step_after before.now self.old line.now ≡ Faulty fault)
             ⊎ (fault ≡ Fault.OutOfMemory)) }
+        // Memory runs out only at a satellite's line without a fault.
         ensures memory { IfErr result (λ fault. fault ≡ Fault.OutOfMemory
-            → (begins_epoch line.now ≡ false) × IfSome self.old (λ lines. is_some lines.clock ≡ true)) }
+            → (begins_epoch line.now ≡ false) × IfSome self.old (λ lines. is_some lines.clock ≡ true)
+            × (is_faulty (step_after before.now self.old line.now) ≡ false)) }
     {
         match &mut self.stage {
             Stage::Unbegun => Err(Fault::NotAnEpoch),
@@ -171,7 +190,7 @@ impl Incoming {
                     self.count,
                     satellite,
                     line,
-                    &mut self.part,
+                    part,
                 ) {
                     Ok(()) => {
                         self.count += 1;
@@ -197,7 +216,7 @@ impl Incoming {
         }
     }
 
-    /// The epoch, where all its lines have come. What they leave then is what is kept.
+    /// The epoch, where all its lines have come. The history is then the one after it.
     pub(crate) fn finish(&mut self, kept: &mut KeptEpoch) -> Option<Epoch>
         requires open { is_some self.old ≡ true }
         ensures whole { IfSome result (λ epoch. (before : Tail)
@@ -222,6 +241,30 @@ impl Incoming {
     }
 }
 
+/// Asks for room that each epoch line fits into.
+fn make_room(next: &mut KeptEpoch, satellites: &mut Vec<AwaitedSatellite>) -> Result<(), AllocError>
+    ensures next { next.new ≡ next.old }
+    ensures satellites { satellites.new.items ≡ satellites.old.items }
+{
+    satellites.reserve(SATELLITES_LIMIT)?;
+    next.make_roomy()
+}
+
+/// `false` says that the line of the satellite at a place may ask for memory before its cells are read.
+#[inline(always)]
+fn has_room(
+    held: &Option<SatRow>,
+    next: &KeptEpoch,
+    index: usize,
+    satellite: &AwaitedSatellite,
+) -> bool {
+    let count = satellite.count();
+    match held {
+        Some(row) => row.has_room_for(count) && next.has_room_at(index, count),
+        None => false,
+    }
+}
+
 /// The satellite at a place, from 0.
 fn satellite_at(satellites: &[AwaitedSatellite], index: usize) -> Option<&AwaitedSatellite>
     ensures { option_copied result ≡ slice_get satellites.now index }
@@ -229,7 +272,7 @@ fn satellite_at(satellites: &[AwaitedSatellite], index: usize) -> Option<&Awaite
     satellites.get(index)
 }
 
-/// Reads a clock line after what was kept of the epoch before: from then on satellite lines are awaited.
+/// Reads a clock line after the history: from then on satellite lines are awaited.
 #[inline(never)]
 fn begin_rows(
     alloc: Global,
@@ -250,7 +293,7 @@ fn begin_rows(
     Ok(())
 }
 
-/// Reads a clock line after what was kept of the epoch before, and begins the epoch of an epoch text with its clock.
+/// Reads a clock line after the history, and begins the epoch of an epoch text with its clock.
 fn begun_epoch(
     alloc: Global,
     spare: &mut Option<Epoch>,
@@ -262,10 +305,7 @@ fn begun_epoch(
     ensures ok { IfOk result (λ epoch. HasClock before.now line.now next.old next.new epoch) }
     ensures err { IfErr result (λ fault. clock_line_read (past_of_tail before.now) line.now ≡ Err fault) }
 {
-    let value = match next.read_clock(before, line) {
-        Ok((_, value)) => value,
-        Err(fault) => return Err(fault),
-    };
+    let (_, value) = next.read_clock(before, line)?;
     let head = EpochLine::new(padded(next.text(), 1), value).unwrap();
     Ok(epoch_with(alloc, spare, head))
 }
@@ -283,8 +323,8 @@ fn epoch_with(alloc: Global, spare: &mut Option<Epoch>, head: EpochLine) -> Epoc
     }
 }
 
-/// Reads the next satellite line of an epoch after what was kept of the epoch before, and puts its row after the others. Their
-/// satellites are others, so that only `OutOfMemory` is left to refuse the row.
+/// Reads the next satellite line of an epoch after the history, and puts its row after the others. Each row has another satellite,
+/// so only `OutOfMemory` can refuse the row, and it comes only where the line has no fault.
 fn next_row(
     alloc: Global,
     epoch: &mut Epoch,
@@ -304,28 +344,66 @@ fn next_row(
         (IsRowAfter before.now satellite.now line.now count epoch.old epoch.new next.old next.new) }
     ensures err { IfErr result (λ fault. (row_after before.now satellite.now line.now ≡ Err fault)
         ⊎ (fault ≡ Fault.OutOfMemory)) }
-    ensures memory { IfErr result (λ fault. fault ≡ Fault.OutOfMemory → begins_epoch line.now ≡ false) }
+    ensures memory { IfErr result (λ fault. fault ≡ Fault.OutOfMemory
+        → (begins_epoch line.now ≡ false) × (is_ok (row_after before.now satellite.now line.now) ≡ true)) }
 {
     if begins_epoch(line) {
         return Err(Fault::Truncated);
     }
+    if !has_room(held, next, count, satellite) {
+        // Memory is asked for only at a line without a fault.
+        match before.fault_of_row(count, satellite, line) {
+            Fault::OutOfMemory => {}
+            fault => return Err(fault),
+        }
+    }
+    let put = put_row(
+        alloc, epoch, held, next, before, count, satellite, line, part,
+    );
+    if let Err(Fault::OutOfMemory) = put {
+        // The line has no fault, or no memory was asked for; this is asked for the contract.
+        return Err(before.fault_of_row(count, satellite, line));
+    }
+    put
+}
+
+/// Reads the line for [`next_row`], where it begins no epoch; `OutOfMemory` may come at a line with a fault.
+#[inline(always)]
+fn put_row(
+    alloc: Global,
+    epoch: &mut Epoch,
+    held: &mut Option<SatRow>,
+    next: &mut KeptEpoch,
+    before: &KeptEpoch,
+    count: usize,
+    satellite: &AwaitedSatellite,
+    line: &[u8],
+    part: &mut Text,
+) -> Result<(), Fault>
+    requires wanted { is_full_epoch epoch.old ≡ false }
+    requires new { has_satellite satellite.now.name epoch.old.rows ≡ false }
+    requires left { count ≤ length next.old.rows }
+    requires short { length line.now ≤ LINE_LIMIT }
+    requires other { begins_epoch line.now ≡ false }
+    ensures ok { OnOk result
+        (IsRowAfter before.now satellite.now line.now count epoch.old epoch.new next.old next.new) }
+    ensures err { IfErr result (λ fault. (row_after before.now satellite.now line.now ≡ Err fault)
+        ⊎ (fault ≡ Fault.OutOfMemory)) }
+{
     let Ok(()) = renew_row(alloc, epoch, held, satellite) else {
         return Err(Fault::OutOfMemory);
     };
     let Some(row) = held else {
         return Err(Fault::OutOfMemory);
     };
-    match next.read_row(before, count, satellite, line, row, part) {
-        Ok(()) => {}
-        Err(fault) => return Err(fault),
-    }
+    next.read_row(before, count, satellite, line, row, part)?;
     if epoch.exchange(row) {
         return Ok(());
     }
     push_held(epoch, held)
 }
 
-/// Holds a row for a satellite: in the memory of the one that is held, else of a spare one of the epoch.
+/// Makes the stored row one for a satellite. Its memory is used again from line to line, so that no row is moved.
 fn renew_row(
     alloc: Global,
     epoch: &mut Epoch,
@@ -342,7 +420,7 @@ fn renew_row(
     hold_row(alloc, epoch, held, satellite)
 }
 
-/// The same where no row is held.
+/// Stores a row for a satellite where none is stored: in the memory of a spare one of the epoch, where it has one.
 #[inline(never)]
 fn hold_row(
     alloc: Global,
@@ -360,8 +438,7 @@ fn hold_row(
     Ok(())
 }
 
-/// Puts the row that is held after the others of an epoch. No satellite is awaited twice, so that it is refused for its memory
-/// alone.
+/// Puts the stored row after the others of an epoch. No satellite is awaited twice, so only `OutOfMemory` can refuse it.
 #[inline(never)]
 fn push_held(epoch: &mut Epoch, held: &mut Option<SatRow>) -> Result<(), Fault>
     requires wanted { is_full_epoch epoch.old ≡ false }

@@ -11,6 +11,7 @@ mod incoming;
 mod kept;
 pub mod lines;
 pub mod read_back;
+mod refusals;
 
 pub use arc::{ClockArc, ObsArc};
 pub use coded::Coded;

@@ -1,4 +1,4 @@
-//! Lines that are made one after another and lent in that order, one by one or as one text.
+//! Lines that are made one after another and borrowed in that order, one by one or as one text.
 
 ghost use Rattle.std.specs.Prelude.{ℕ, ◌≡◌, ◌≤◌, ◌<◌, ◌+◌, ◌++◌, ◌∷◌, [], drop, length, slice_get, take, OnOk, OnErr, IsTrue, ◌↔◌};
 ghost use Rattle.std.specs.Borrow.{sem};
@@ -19,10 +19,10 @@ use crx_text::block::{grow, put_line};
 use std::alloc::{AllocError, Global};
 use std::marker::Model;
 
-/// Lines that are pending, each followed by LF, in memory that is kept for those after them.
+/// Lines that are pending, each followed by LF, in memory that is used again for those after them.
 #[derive(Drop)]
 pub struct Lines {
-    /// The lines, and after them what is left of longer ones.
+    /// The lines; the bytes after them are of earlier, longer texts, and mean nothing.
     bytes: Vec<u8>,
     /// How many of the bytes are lines.
     filled: usize,
@@ -57,7 +57,7 @@ impl Lines {
         }
     }
 
-    /// Drops all lines, and keeps their memory for new ones.
+    /// Drops all lines; their memory is used again for new ones.
     pub fn clear(&mut self)
         ensures { self.new ≡ [] }
     {
@@ -83,8 +83,8 @@ impl Lines {
         Ok(())
     }
 
-    /// Puts a row's line after the others, as its satellite's arcs and indicators in the epoch before make it, and replaces
-    /// what is kept of a satellite by what the row leaves.
+    /// Puts a row's line after the others, as its satellite's arcs and indicators in the epoch before make it, and replaces a satellite's
+    /// history by the one after the row. Room for the longest line of so many codes is asked for once, so that no write of a code asks.
     pub(crate) fn push_row(
         &mut self,
         satellite: &mut HeldSatellite,
@@ -123,7 +123,7 @@ impl Lines {
         self.lent == self.lengths.len()
     }
 
-    /// Lends the next line, without its line end; `None` once none is pending.
+    /// Borrows the next pending line, without its line end; `None` once none is pending.
     pub fn next_line(&mut self) -> Option<&[u8]>
         ensures value { option_copied result ≡ slice_get self.old 0 }
         // That line is no longer pending.
@@ -139,7 +139,7 @@ impl Lines {
         Some(&self.bytes[start..end])
     }
 
-    /// Lends the text of all lines that are pending, each followed by LF.
+    /// Borrows the text of all lines that are pending, each followed by LF. From then on none is pending.
     pub fn take_text(&mut self) -> &[u8]
         ensures value { result.now ≡ lines_text self.old }
         // No line is pending.

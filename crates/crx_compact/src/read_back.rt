@@ -21,7 +21,8 @@ fn is_readable(line: &[u8]) -> bool
     line.len() <= LINE_LIMIT && !is_event_line(line)
 }
 
-/// Reads compact lines that are borrowed one after another, up to the epoch that they make; `None` where they want more.
+/// Reads compact lines that are borrowed one after another, up to the epoch that they make; `None` where more lines are
+/// needed.
 ///
 /// The faults are those of [`Columns::begin`] and [`Columns::feed`]; `NotAnEpoch` comes at an event's line too, and at one that
 /// is longer than a line may be.
@@ -43,17 +44,13 @@ fn read_lent(
     if !is_readable(first) {
         return Err(Fault::NotAnEpoch);
     }
-    if let Err(fault) = columns.begin(types, first) {
-        return Err(fault);
-    }
+    columns.begin(types, first)?;
     while let Some(line) = coded.next_line() {
         if !is_readable(line) {
             return Err(Fault::NotAnEpoch);
         }
-        match columns.feed(line) {
-            Ok(Some(epoch)) => return Ok(Some(epoch)),
-            Ok(None) => {}
-            Err(fault) => return Err(fault),
+        if let Some(epoch) = columns.feed(line)? {
+            return Ok(Some(epoch));
         }
     }
     Ok(None)
@@ -61,8 +58,8 @@ fn read_lent(
 
 /// Reads the compact lines of an epoch that was coded, by the counts of types that its rows have: gives the epoch back.
 ///
-/// Only `OutOfMemory` is left to refuse it, where the columns hold what is left of the epochs before, or the epoch stands in
-/// full. Else there are the faults of [`Columns::begin`] and [`Columns::feed`]. `NotAnEpoch` comes also at an event's line and at
+/// Where the columns have the history of the epochs before, or the epoch stands in full, only `OutOfMemory` can refuse it. Otherwise
+/// the faults are those of [`Columns::begin`] and [`Columns::feed`]. `NotAnEpoch` comes also at an event's line and at
 /// one that is longer than a line may be; where that isn't the first line, the columns stay in the midst of an epoch.
 pub fn read_back(
     columns: &mut Columns,
@@ -70,8 +67,8 @@ pub fn read_back(
     coded: &mut Coded,
 ) -> Result<Option<Epoch>, Fault>
     requires idle { is_idle columns.old ≡ true }
-    // After any epochs at all, written so that they can be read: the lines give the newest of them, and what is held then is
-    // what the writer holds.
+    // After any epochs at all, written so that they can be read: the lines give the newest of them, and the reader then has the
+    // history that the writer has.
     ensures epoch { (m : Marked) (older : List Marked)
         → AreWhole types.now (since_full (m ∷ older)) → coded.old.lines ≡ compact_epoch (m ∷ older)
         → (m.in_full ≡ false → tail_held columns.old ≡ tail_or_nothing older)

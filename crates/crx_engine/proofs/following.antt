@@ -10,4 +10,7 @@ pub mod ExpandedOn
 pub mod CheckedOn
 pub mod Lawful
 pub mod CheckLawful
+pub mod Memory
+pub mod MemoryOfCompactText
+pub mod MemoryOfRinex
 pub mod DirectionSteps

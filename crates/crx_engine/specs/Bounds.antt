@@ -1,4 +1,4 @@
--- What is held between two lines is bounded, however long the input is.
+-- The state between two lines is bounded, however long the input is.
 use Rattle.std.specs.Prelude.{ℕ, ◌≡◌, ◌≤◌, ◌+◌, ◌*◌, ⊤, true, List, [], ◌∷◌, length, Option, IfSome}
 use Rattle.std.specs.List.{AllByRecursion}
 use Rattle.crx_lines.specs.declared.limits.TheConstants.{LINE_LIMIT, SATELLITES_LIMIT, TYPES_LIMIT, HEAD_WIDTH}
@@ -15,9 +15,9 @@ use Rattle.crx_compact.specs.OpenEpochs.{OpenRawEpoch, IsBoundedOpen}
 use Rattle.crx_engine.specs.meaning.Choices.{Choices, is_date}
 use Rattle.crx_engine.specs.meaning.Items.{Item, Accepted, Warned}
 use Rattle.crx_engine.specs.meaning.Compacted.{compact_unit}
-use Rattle.crx_engine.specs.Compacted.{rinex_reading}
+use Rattle.crx_engine.specs.meaning.Directions.{rinex_reading}
 use Rattle.crx_engine.specs.meaning.Expanded.{expanded_unit}
-use Rattle.crx_engine.specs.Expanded.{compact_reading}
+use Rattle.crx_engine.specs.meaning.Directions.{compact_reading}
 use Rattle.crx_engine.specs.LineByLine.{Phase, InEpoch, Seen}
 use Rattle.crx_engine.specs.CompactionByLine.{Written}
 
@@ -41,7 +41,7 @@ abbrev pub OfOpen : {O : Type 0} → (O → Type 0) → Phase O → Type 0
 OfOpen P (InEpoch so_far) = P so_far
 OfOpen P phase = ⊤
 
--- what a compaction holds: a count for each system at most; of the epochs before, what is left of the last, with the
+-- the state of a compaction: a count for each system at most; the tail of the epochs before, with the
 -- numbers of the order that is written; and of an epoch whose rows have come in part, as many rows as an epoch may have
 pub record IsBoundedCompaction (seen : Seen OpenEpoch Written) : Type 0 where
   pub systems : length seen.types ≤ length system_letters
@@ -49,7 +49,7 @@ pub record IsBoundedCompaction (seen : Seen OpenEpoch Written) : Type 0 where
   pub tail : IfSome seen.kept.tail (IsBoundedTail WRITTEN_ORDER)
   pub open_epoch : OfOpen IsBoundedEpoch seen.phase
 
--- the same of an expansion, with the numbers of the highest order that is read
+-- the state of an expansion: as that of a compaction, with the numbers of the highest order that is read
 pub record IsBoundedExpansion (seen : Seen OpenRawEpoch (Option Tail)) : Type 0 where
   pub systems : length seen.types ≤ length system_letters
   pub counts : AreCounts seen.types
@@ -96,7 +96,7 @@ longest_printed (EventLine line) = LINE_LIMIT
 longest_printed (EventRecord line) = LINE_LIMIT
 longest_printed (Observation read) = NAME_WIDTH + CELL_WIDTH * TYPES_LIMIT
 
--- the same of the units that an expansion accepts
+-- the state after the units that an expansion accepts is bounded
 abbrev pub ExpandedIsLendable : Choices → List ReadLine → Type 0
 ExpandedIsLendable choices lines =
     AllByRecursion IsNotTooLong lines

@@ -12,14 +12,14 @@ use Rattle.crx_rinex.specs.meaning.EpochPlaces.{OpenEpoch, epoch_of}
 use Rattle.crx_engine.specs.meaning.Choices.{Choices}
 use Rattle.crx_engine.specs.meaning.Items.{Item, Accepted, Warned, is_at_start}
 use Rattle.crx_engine.specs.meaning.Reading.{Reading}
-use Rattle.crx_engine.specs.meaning.Compacted.{epochs_accepted}
-use Rattle.crx_engine.specs.Compacted.{rinex_reading}
+use Rattle.crx_engine.specs.meaning.Compacted.{epochs_accepted, rinex_place}
+use Rattle.crx_engine.specs.meaning.Directions.{rinex_reading}
 use Rattle.crx_engine.specs.LineByLine.{Phase, InEpoch, Seen, Made, Completes, Moves, Fails, Repeats, Direction, Step}
 use Rattle.crx_engine.specs.LineByLine.{made_in, seen_next, seen_of, phase_of}
 use Rattle.crx_engine.specs.CompactionByLine.{rinex_begins, rinex_continues, rinex_open, is_before_header, is_next_row}
 use Rattle.crx_engine.specs.meaning.Filters.{Filter}
-use Rattle.crx_engine.specs.Memory.{takes_memory}
-use Rattle.crx_engine.specs.Laws.{fault_of_stop}
+use Rattle.crx_engine.specs.meaning.Memory.{check_takes, memory_allowed}
+use Rattle.crx_engine.specs.meaning.Reading.{fault_of_stop}
 use Rattle.crx_engine.specs.meaning.Standard.{Findings, printed_items, version_in, events_accepted}
 use Rattle.crx_engine.specs.meaning.Standard.{observations_accepted, is_standard_line, first_not_standard, findings_of}
 use Rattle.crx_engine.specs.meaning.Standard.{report_lines, whole_reading_of}
@@ -152,26 +152,4 @@ found_by end = record {
   events = end.reading.kept.events;
   observations = end.reading.kept.observations;
   not_standard = end.not_standard;
-}
-
--- ---- as a filter
-
--- the fault that ended the reading of some lines
-abbrev pub fault_so_far : List InputLine → Option At
-fault_so_far lines = fault_of_stop (rinex_reading false (map seen lines)).stop
-
-abbrev pub report_unless : Option At → Findings → List ℕ
-report_unless None found = lines_text (report_lines found)
-report_unless (Some at) found = []
-
--- nothing is written before the end, and then the report, or nothing where there is a fault; a check warns of nothing
-abbrev pub check_filter : Filter
-check_filter = record {
-  so_far = λ lines. record { output = []; warnings = []; fault = fault_so_far lines };
-  whole = λ lines. record {
-    output = report_unless (whole_reading_of lines).fault (findings_of lines);
-    warnings = [];
-    fault = (whole_reading_of lines).fault;
-  };
-  memory_after = λ lines line. if takes_memory checking (check_seen lines).reading (seen line) then Some [] else None;
 }

@@ -17,7 +17,7 @@ use Rattle.crx_engine.specs.declared.checker.Checker.{Checker}
 use Rattle.crx_engine.specs.declared.report.Totals.{Totals}
 use Rattle.crx_engine.specs.declared.rinex_reader.RinexReader.{RinexReader}
 
--- the totals that are held
+-- the totals in the state
 abbrev pub totals_held : Totals → TotalsSeen
 totals_held t = record {
   version = version_in t.version;
@@ -26,7 +26,7 @@ totals_held t = record {
   observations = t.observations;
 }
 
--- what is found, by what is held
+-- what is found, by the state
 abbrev pub found_held : Totals → List Count → Option ℕ → Findings
 found_held t types not_standard = record {
   version = version_in t.version;

@@ -7,7 +7,8 @@ use Rattle.crx_rinex.specs.meaning.Printing.{printed_epoch}
 use Rattle.crx_compact.specs.OpenEpochs.{OpenRawEpoch, HeldEpoch, tail_held}
 use Rattle.crx_compact.specs.Tails.{Tail}
 use Rattle.crx_engine.specs.meaning.Choices.{Choices}
-use Rattle.crx_engine.specs.ExpansionByLine.{expansion, is_clock_read, may_be_epoch_line}
+use Rattle.crx_engine.specs.ExpansionByLine.{expansion, is_good_beginning, is_good_row}
+use Rattle.crx_rinex.specs.meaning.ObservationTypes.{Count}
 use Rattle.crx_engine.specs.LineByLine.{Phase, Seen, Made, Fails, Answer, Quiet, Ready, made_in, step_of_made}
 use Rattle.crx_engine.specs.Memory.{may_take_memory}
 use Rattle.crx_engine.specs.EngineSteps.{seen_stage}
@@ -62,7 +63,9 @@ TakesCompactLine made line before after step = record {
   next = counted after;
 } ≡ step_of_made expansion before (Content line) made
 
--- a fault is that of the line, or memory ran out at a line that may take some, by what is kept of the epochs before
-abbrev pub RefusesCompactLine : Option Tail → Made HeldEpoch OpenRawEpoch → Phase OpenRawEpoch → List ℕ → Fault → Type 0
-RefusesCompactLine tail made phase line fault = (made ≡ Fails fault) ⊎ ((fault ≡ OutOfMemory)
-    × (may_take_memory (may_be_epoch_line tail) (λ so_far next. is_clock_read so_far) phase (Content line) ≡ true))
+-- a fault is that of the line, or memory ran out at a line that may take some, by the types in force and the tail of
+-- the epochs before
+abbrev pub RefusesCompactLine : List Count
+    → Option Tail → Made HeldEpoch OpenRawEpoch → Phase OpenRawEpoch → List ℕ → Fault → Type 0
+RefusesCompactLine types tail made phase line fault = (made ≡ Fails fault) ⊎ ((fault ≡ OutOfMemory)
+    × (may_take_memory (is_good_beginning types tail) is_good_row phase (Content line) ≡ true))

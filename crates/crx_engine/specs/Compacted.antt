@@ -1,4 +1,5 @@
 -- Beside meaning/Compacted: what code and proofs see of it.
+use Rattle.crx_engine.specs.meaning.Directions.{rinex_reading}
 use Rattle.std.specs.Prelude.{ℕ, Bool, List, []}
 use Rattle.crx_lines.specs.meaning.Seen.{ReadLine}
 use Rattle.crx_rinex.specs.meaning.Observations.{Epoch}
@@ -9,10 +10,6 @@ use Rattle.crx_rinex.specs.meaning.Printing.{lines_text}
 use Rattle.crx_engine.specs.meaning.Compacted.{rinex_place, compact_lines}
 
 -- ---- whole files
-
--- the reading of the lines of a RINEX file so far
-abbrev pub rinex_reading : Bool → List ReadLine → Reading Epoch
-rinex_reading skip lines = reading_from rinex_place skip [] 1 lines
 
 abbrev pub compact_text : Choices → List (Item Epoch) → List ℕ
 compact_text choices items = lines_text (compact_lines choices items)

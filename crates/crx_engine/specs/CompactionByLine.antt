@@ -1,4 +1,4 @@
--- Compaction line by line: what is kept between two lines, by the tail of the epochs alone.
+-- Compaction line by line: the state between two lines, by the tail of the epochs alone.
 use Rattle.std.specs.Prelude.{ℕ, Bool, true, false, ◌+◌, List, [], ◌∷◌, ◌++◌, length, Option, Some, None, Result, Ok}
 use Rattle.std.specs.Prelude.{Err, if◌then◌else◌}
 use Rattle.std.specs.Result.{is_ok}
@@ -18,9 +18,9 @@ use Rattle.crx_engine.specs.LineByLine.{Phase, InHeader, InEpoch, Seen, Made, Co
 use Rattle.crx_engine.specs.LineByLine.{made_of_line, Direction, seen_of}
 use Rattle.crx_engine.specs.meaning.Compacted.{epochs_accepted, is_interrupted, is_at_every, marked_epochs}
 use Rattle.crx_engine.specs.meaning.Compacted.{lines_before_header}
-use Rattle.crx_engine.specs.Compacted.{rinex_reading}
+use Rattle.crx_engine.specs.meaning.Directions.{rinex_reading}
 
--- what is kept of the epochs: the next one's index, from 0; and the tail of those before it, or nothing where the next
+-- the state of the epochs: the next one's index, from 0; and the tail of those before it, or none where the next
 -- one is the first or an event or a warning stands before it
 pub record Written : Type 0 where
   pub index : ℕ
@@ -66,9 +66,9 @@ epoch_written types kept line = is_whole_at_once (rinex_begins types kept (Conte
 abbrev pub is_next_row : OpenEpoch → List ℕ → Bool
 is_next_row so_far line = is_ok (next_row so_far line)
 
--- ---- what is kept, and what is written
+-- ---- the state, and what is written
 
--- the tail that the next epoch is written after: none where its index is one of every so many, or nothing is kept
+-- the tail that the next epoch is written after: none where its index is one of every so many, or where there is none
 abbrev pub tail_before_epoch : Seen OpenEpoch Written → Tail
 tail_before_epoch seen = tail_written_after (is_at_every seen.choices.every seen.kept.index) seen.kept.tail
 
@@ -107,7 +107,7 @@ compaction = record {
 
 -- ---- what is seen after some lines
 
--- what is kept of the epochs of some items
+-- the state after the epochs of some items
 abbrev pub written_of : Option ℕ → List (Item Epoch) → Written
 written_of every items = record {
   index = epochs_accepted items;

@@ -16,7 +16,7 @@ compaction_state c = record {
   kept = record { index = c.index; tail = tail_held c.columns };
 }
 
--- the same with what a reader was before
+-- a compaction's state, but with the phase and the types of this reader
 abbrev pub compaction_state_with : RinexReader → Compaction → Seen OpenEpoch Written
 compaction_state_with reader c = record {
   choices = c.options;

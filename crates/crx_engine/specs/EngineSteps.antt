@@ -20,12 +20,12 @@ use Rattle.crx_engine.specs.declared.stage.Stage.TheVariants.{Ended}
 
 -- ---- stages
 
--- in the epoch that is held open
+-- in the open epoch
 abbrev pub phase_of_open : {O : Type 0} → Option O → SeenPhase O
 phase_of_open None = BetweenUnits
 phase_of_open (Some so_far) = InEpoch so_far
 
--- a stage with the epoch that is held open in it
+-- a stage with its open epoch
 abbrev pub seen_stage : {O : Type 0} → Option O → Stage → SeenPhase O
 seen_stage held (FirstLines count) = InFirstLines count
 seen_stage held (Header is_first) = InHeader is_first
@@ -36,7 +36,7 @@ seen_stage held Looking = LookingOn
 seen_stage held Closed = SeenClosed
 seen_stage held (Ended at) = SeenEnded at
 
--- in the stage of an open epoch one is held
+-- in the stage of an open epoch there is one
 abbrev pub is_held : {O : Type 0} → Stage → Option O → Bool
 is_held Open None = false
 is_held Open (Some so_far) = true
@@ -90,7 +90,7 @@ Steps direction before line result ready after = (step_made result ready after �
 
 -- ---- faults and the end of the input
 
--- what is known of a run at a line with a fault, or at the end of the input: its stage, with the epoch that is held
+-- what is known of a run at a line with a fault, or at the end of the input: its stage, with the epoch that is
 -- open in it, the last line's number, and whether faults are skipped
 pub record IsAt {O K : Type 0}
     (seen : Seen O K) (held : Option O) (stage : Stage) (count : ℕ) (skips : Bool) : Type 0 where
@@ -99,7 +99,7 @@ pub record IsAt {O K : Type 0}
   pub is_count : seen.number ≡ count
   pub is_skip : seen.choices.skip ≡ skips
 
--- a run that has stopped so: whatever is held open, none is
+-- a run that has stopped so: no epoch is open, whatever was open before
 abbrev pub settled_seen : {U O K : Type 0} → Direction U O K → Seen O K → Option O → Settled → Seen O K
 settled_seen direction before held s =
     record before {

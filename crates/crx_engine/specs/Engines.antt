@@ -23,7 +23,7 @@ IsDrainedAfter Ready ready = ⊤
 IsDrainedAfter Quiet ready = ready ≡ []
 IsDrainedAfter (Warned notice again) ready = ready ≡ []
 
--- the answer to a line: that nothing is to be done, or the one that is kept
+-- the answer to a line: that nothing is to be done, or the answer that is stored
 abbrev pub answer_given : Bool → Result Step At → Result Step At
 answer_given true kept = Ok Quiet
 answer_given false kept = kept

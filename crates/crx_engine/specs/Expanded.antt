@@ -1,4 +1,5 @@
 -- Beside meaning/Expanded: what code and proofs see of it.
+use Rattle.crx_engine.specs.meaning.Directions.{compact_reading}
 use Rattle.std.specs.Prelude.{ℕ, Bool, ◌+◌, List, [], drop}
 use Rattle.crx_lines.specs.meaning.Seen.{ReadLine}
 use Rattle.crx_rinex.specs.meaning.Places.{Here, Wrong, Wanted}
@@ -11,15 +12,6 @@ use Rattle.crx_engine.specs.meaning.Results.{written_lines}
 use Rattle.crx_engine.specs.meaning.Expanded.{compact_place, first_lines, expanded_unit}
 
 -- ---- whole files
-
--- the reading of the lines of compact text so far; its first two lines make no unit
-abbrev pub compact_reading : Bool → List ReadLine → Reading ReadEpoch
-compact_reading skip lines =
-    elim (first_lines lines) [
-      | Here two count ↦ reading_from compact_place skip [] (count + 1) (drop count lines)
-      | Wrong offset fault ↦ record { items = []; stop = AtFault (record { line = offset + 1; fault = fault }) }
-      | Wanted ↦ record { items = []; stop = AtLines 1 lines }
-    ]
 
 -- the lines of the RINEX text for some items
 abbrev pub expanded_lines : List (Item ReadEpoch) → List (List ℕ)

@@ -1,10 +1,8 @@
--- Expansion line by line: what is kept between two lines, by the tail of the epochs alone.
-use Rattle.std.specs.Prelude.{ℕ, Bool, false, ◌||◌, ◌&&◌, List, [], ◌∷◌, length, Option, Some, None, if◌then◌else◌}
+-- Expansion line by line: the state between two lines, by the tail of the epochs alone.
+use Rattle.std.specs.Prelude.{ℕ, Bool, false, not, ◌&&◌, List, [], ◌∷◌, length, Option, Some, None, if◌then◌else◌}
 use Rattle.std.specs.Option.{is_some}
 use Rattle.crx_lines.specs.meaning.Seen.{ReadLine, Content, Overlong}
-use Rattle.std.specs.List.{list_all}
-use Rattle.crx_text.specs.meaning.Texts.{is_printable}
-use Rattle.crx_rinex.specs.meaning.EpochLines.{begins_epoch, is_event_line}
+use Rattle.crx_rinex.specs.meaning.EpochLines.{is_event_line}
 use Rattle.crx_rinex.specs.meaning.Places.{Here, Wrong, Wanted}
 use Rattle.crx_rinex.specs.meaning.Units.{Unit, HeaderLine, EventLine, EventRecord, Observation, printed_unit}
 use Rattle.crx_rinex.specs.meaning.ObservationTypes.{Count}
@@ -12,13 +10,13 @@ use Rattle.crx_rinex.specs.meaning.Observations.{Epoch}
 use Rattle.crx_compact.specs.meaning.CompactPlaces.{ReadEpoch}
 use Rattle.crx_compact.specs.Tails.{Tail, tail_left}
 use Rattle.crx_compact.specs.OpenEpochs.{OpenRawEpoch, HeldEpoch, RawStep, Going, Whole, Faulty, first_step, next_step}
-use Rattle.crx_compact.specs.OpenEpochs.{open_raw_with}
+use Rattle.crx_compact.specs.OpenEpochs.{is_faulty, open_raw_with}
 use Rattle.crx_engine.specs.meaning.Choices.{Choices}
 use Rattle.crx_engine.specs.meaning.Items.{Item, types_in_force}
 use Rattle.crx_engine.specs.LineByLine.{Phase, InFirstLines, InEpoch, Seen, Made, Completes, Moves, Fails, made_of_line}
 use Rattle.crx_engine.specs.LineByLine.{made_of_unit, are_types_counted, Direction, seen_of}
 use Rattle.crx_engine.specs.meaning.Expanded.{raws_kept, empties_state, event_line, first_lines}
-use Rattle.crx_engine.specs.Expanded.{compact_reading}
+use Rattle.crx_engine.specs.meaning.Directions.{compact_reading}
 
 -- ---- what a line makes
 
@@ -27,7 +25,7 @@ made_of_raw_step (Going so_far) = Moves (InEpoch so_far)
 made_of_raw_step (Whole held) = Completes (Observation held)
 made_of_raw_step (Faulty fault) = Fails fault
 
--- where an epoch or an event may begin, by the tail that is held, or nothing
+-- where an epoch or an event may begin, by the tail of the epochs before, or none
 abbrev pub compact_begins : List Count → Option Tail → ReadLine → Made HeldEpoch OpenRawEpoch
 compact_begins types tail line =
     made_of_line (λ content. if is_event_line content then made_of_unit (event_line content)
@@ -39,16 +37,15 @@ compact_continues so_far line = made_of_raw_step (next_step so_far line)
 
 -- ---- what takes memory
 
--- an epoch's line takes memory where it begins with > or an epoch is kept before it, and no character of it is outside
--- 32 to 126
-abbrev pub may_be_epoch_line : Option Tail → List ℕ → Bool
-may_be_epoch_line tail line = (is_some tail || begins_epoch line) && list_all is_printable line
+-- an epoch's line takes memory where it has no fault
+abbrev pub is_good_beginning : List Count → Option Tail → List ℕ → Bool
+is_good_beginning types tail line = not (is_faulty (first_step types tail (Content line)))
 
--- after it, a satellite's line does
-abbrev pub is_clock_read : OpenRawEpoch → Bool
-is_clock_read so_far = is_some so_far.clock
+-- a satellite's line takes memory where it has no fault; the clock line before it takes none
+abbrev pub is_good_row : OpenRawEpoch → List ℕ → Bool
+is_good_row so_far line = is_some so_far.clock && not (is_faulty (next_step so_far (Content line)))
 
--- ---- what is kept, and what is written
+-- ---- the state, and what is written
 
 -- a types line that is accepted among an event's records empties the reader's state, and so does all before the first
 -- epoch
@@ -58,7 +55,7 @@ tail_kept seen (EventLine line) = seen.kept
 tail_kept seen (EventRecord line) = if empties_state (are_types_counted seen.phase) line then None else seen.kept
 tail_kept seen (Observation held) = Some held.tail
 
--- a unit with the epoch that is held
+-- a unit with its epoch
 abbrev pub held_unit : Unit HeldEpoch → Unit Epoch
 held_unit (HeaderLine line) = HeaderLine line
 held_unit (EventLine line) = EventLine line
@@ -70,8 +67,8 @@ abbrev pub expansion : Direction HeldEpoch OpenRawEpoch (Option Tail)
 expansion = record {
   begins = compact_begins;
   continues = compact_continues;
-  memory_first = λ types tail line. may_be_epoch_line tail line;
-  memory_next = λ so_far line. is_clock_read so_far;
+  memory_first = is_good_beginning;
+  memory_next = is_good_row;
   kept_after = tail_kept;
   kept_open = λ tail. None;
   emptied = λ tail. None;
@@ -80,7 +77,7 @@ expansion = record {
 
 -- ---- what is seen after some lines
 
--- what is kept of the epochs of some items
+-- the state after the epochs of some items
 abbrev pub tail_of_items : List (Item ReadEpoch) → Option Tail
 tail_of_items items = tail_left (raws_kept items)
 

@@ -1,4 +1,5 @@
 -- What the laws of both filters say, where it is long.
+use Rattle.crx_engine.specs.meaning.Reading.{fault_of_stop}
 use Rattle.std.specs.Prelude.{◌≡◌, ◌<◌, if◌then◌else◌, ℕ, Bool, true, false, List, [], ◌∷◌, ◌++◌, Option, Some, None}
 use Rattle.std.specs.Prelude.{map, ⊤, ◌+◌}
 use Rattle.crx_lines.specs.meaning.Seen.{ReadLine, seen}
@@ -22,9 +23,11 @@ use Rattle.crx_engine.specs.LineByLine.{Direction, Seen, Step, Answer, Quiet, Re
 use Rattle.crx_engine.specs.LineByLine.{seen_end}
 use Rattle.crx_rinex.specs.meaning.Observations.{Epoch}
 use Rattle.crx_compact.specs.meaning.CompactPlaces.{ReadEpoch}
-use Rattle.crx_engine.specs.Compacted.{rinex_reading, compaction_so_far}
+use Rattle.crx_engine.specs.Compacted.{compaction_so_far}
+use Rattle.crx_engine.specs.meaning.Directions.{rinex_reading}
 use Rattle.crx_engine.specs.meaning.Compacted.{whole_rinex, compact_lines}
-use Rattle.crx_engine.specs.Expanded.{compact_reading, expanded_lines, expansion_so_far}
+use Rattle.crx_engine.specs.Expanded.{expanded_lines, expansion_so_far}
+use Rattle.crx_engine.specs.meaning.Directions.{compact_reading}
 use Rattle.crx_engine.specs.meaning.Expanded.{whole_compact}
 use Rattle.crx_engine.specs.CompactionByLine.{compaction, compaction_seen}
 use Rattle.crx_engine.specs.ExpansionByLine.{expansion, expansion_seen}
@@ -115,12 +118,6 @@ fed direction seen line =
     let one : Step _ _ = seen_next direction seen line in
     elim (is_again one.answer) [ true ↦ fed_twice one (seen_next direction one.next line) | false ↦ fed_once one ]
 
--- the fault that a reading stopped at
-abbrev pub fault_of_stop : Stop → Option At
-fault_of_stop (AtFault at) = Some at
-fault_of_stop (AtLines number lines) = None
-fault_of_stop (Looking number) = None
-
 -- one line more, as it is fed and as it is read: what is seen then, the lines that are written more, the warnings that
 -- come, and the fault that has ended the run by then
 pub record IsFollowed {O K : Type 0} (seen_then : Seen O K) (written_before written_then : List (List ℕ))
@@ -141,7 +138,7 @@ IsCompactedOn choices lines line =
     (warnings_in before.items) (warnings_in after.items)
     (fault_of_stop after.stop) (fed compaction (compaction_seen choices lines) line)
 
--- the same of an expansion
+-- an expansion is given one line more: it has seen, written and reported what the expansion of all these lines has
 abbrev pub IsExpandedOn : Choices → List ReadLine → ReadLine → Type 0
 IsExpandedOn choices lines line =
     let before : Reading ReadEpoch = compact_reading choices.skip lines in

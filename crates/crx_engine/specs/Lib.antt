@@ -18,7 +18,6 @@ pub mod RinexReaders
 pub mod ReadyLines
 pub mod CompactionState
 pub mod CompactorState
-pub mod Directions
 pub mod CompactStages
 pub mod CompactReaders
 pub mod CheckByLine

@@ -1,6 +1,6 @@
--- A run line by line: what is kept between two lines, and what one line more makes of it. Both directions go this way;
--- what differs between them stands in a `Direction`. O is what is held of an epoch whose lines have come in part, K
--- what is kept of the epochs before, and U what a whole epoch gives.
+-- A run line by line: the state between two lines, and what one line more makes of it. Both directions go this way;
+-- what differs between them stands in a `Direction`. O is the state of an epoch whose lines have come in part, K
+-- that of the epochs before, and U what a whole epoch gives.
 use Rattle.std.specs.Prelude.{ℕ, zero, suc, Bool, true, false, not, ◌&&◌, ◌+◌, ◌-◌, List, [], Option, Some, None}
 use Rattle.std.specs.Prelude.{Result, Ok, Err, if◌then◌else◌}
 use Rattle.crx_lines.specs.meaning.Seen.{ReadLine, Content, Overlong}
@@ -22,7 +22,7 @@ use Rattle.crx_engine.specs.meaning.Expanded.{crinex_version, crinex_program, fa
 -- ---- what is seen between two lines
 
 -- where a run is: so many of the first two lines of compact text are read; in the header, before its first line or
--- later; between two units; in an event, with so many records left, among which types lines count or don't; in an
+-- later; between two units; in an event, with so many records still to come, among which types lines count or don't; in an
 -- epoch; after a warning, where a line that begins with > is looked for; after the end of the input; or ended by a
 -- fault
 pub data Phase (O : Type 0) : Type 0 where
@@ -35,7 +35,7 @@ pub data Phase (O : Type 0) : Type 0 where
   Closed : Phase O
   Ended : At → Phase O
 
--- the user's choices, the last line's number, the phase, the observation types in force, and what is kept of the epochs
+-- the user's choices, the last line's number, the phase, the observation types in force, and the state of the epochs
 pub record Seen (O K : Type 0) : Type 0 where
   pub choices : Choices
   pub number : ℕ
@@ -53,7 +53,7 @@ pub data Made (U O : Type 0) : Type 0 where
   Repeats : At → Made U O
 
 -- what differs between the two directions: what a line makes where an epoch or an event may begin; what it makes in an
--- epoch; whether a line may take memory where an epoch begins, and in an epoch; what is kept after a unit, while an
+-- epoch; whether a line may take memory where an epoch begins, and in an epoch; the state after a unit, while an
 -- epoch is open, and after a fault; and the lines written for a unit
 pub record Direction (U O K : Type 0) : Type 0 where
   pub begins : List Count → K → ReadLine → Made U O
@@ -101,7 +101,7 @@ made_in direction (Ended at) types kept line = Repeats at
 
 -- ---- after a unit
 
--- so many records of an event are left
+-- so many records of an event are still to come
 abbrev pub with_records_left : {O : Type 0} → ℕ → Bool → Phase O
 with_records_left zero counted = BetweenUnits
 with_records_left (suc left) counted = InEvent (suc left) counted
@@ -158,7 +158,7 @@ is_in_epoch phase = false
 abbrev pub is_skipped_in : {O K : Type 0} → Seen O K → Fault → Bool
 is_skipped_in seen fault = seen.choices.skip && (may_skip seen.phase && is_skippable fault)
 
--- what is kept in a phase: an open epoch may hold it, and a fault empties it
+-- the state of the epochs in a phase: an open epoch may have it, and a fault empties it
 abbrev pub kept_in : {U O K : Type 0} → Direction U O K → Phase O → K → K
 kept_in direction (InEpoch so_far) kept = direction.kept_open kept
 kept_in direction (Ended at) kept = direction.emptied kept
@@ -173,7 +173,7 @@ after_unit direction seen unit = record {
   kept = direction.kept_after seen unit;
 }
 
--- the next line's phase, and what is kept in it
+-- the next line's phase, and the state of the epochs in it
 abbrev pub with_phase : {U O K : Type 0} → Direction U O K → Seen O K → Phase O → Seen O K
 with_phase direction seen phase =
     record seen { number = seen.number + 1; phase = phase; kept = kept_in direction phase seen.kept }
@@ -268,7 +268,7 @@ phase_of open_with r =
       | Looking number ↦ LookingOn
     ]
 
--- what is seen after so many lines, by where their reading stops and what is kept of its items
+-- the state after so many lines, by where their reading stops and by the epochs of its items
 abbrev pub seen_of : {E U O K : Type 0} → Direction U O K
     → (List (Item E) → List ReadLine → Option O) → (List (Item E) → K) → Choices → ℕ → Reading E → Seen O K
 seen_of direction open_with kept_of choices count r = record {

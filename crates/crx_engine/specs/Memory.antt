@@ -1,4 +1,4 @@
--- At which lines memory may run out.
+-- Beside meaning/Memory: at which lines memory may run out, by what is seen before them.
 use Rattle.std.specs.Prelude.{ℕ, Bool, true, false, not, ◌&&◌, List, [], ◌∷◌, Option, Some, None, is_none}
 use Rattle.std.specs.Prelude.{if◌then◌else◌}
 use Rattle.std.specs.Option.{is_some}
@@ -12,7 +12,7 @@ use Rattle.crx_engine.specs.LineByLine.{Closed, Ended, Seen, Direction, Answer, 
 
 -- whether a line may take memory in a phase: a good types line where these count; where an epoch or an event may begin,
 -- a line that begins no event, as the direction says; and in an epoch a line that doesn't begin with >, as the
--- direction says. No other does, and none that has a fault which is found before
+-- direction says. No other does, and none that has a fault
 abbrev pub may_take_memory : {O : Type 0} → (List ℕ → Bool) → (O → List ℕ → Bool) → Phase O → ReadLine → Bool
 may_take_memory first next phase Overlong = false
 may_take_memory first next (InFirstLines count) (Content line) = false
@@ -29,21 +29,3 @@ may_take_memory first next (Ended at) (Content line) = false
 abbrev pub takes_memory : {U O K : Type 0} → Direction U O K → Seen O K → ReadLine → Bool
 takes_memory direction before line =
     may_take_memory (direction.memory_first before.types before.kept) direction.memory_next before.phase line
-
--- the same of a line that comes again after a warning: memory may run out after that warning, where the line may take
--- memory then
-abbrev pub memory_again : {U O K : Type 0} → Direction U O K → ReadLine → Answer → Seen O K → Option (List At)
-memory_again direction line Quiet next = None
-memory_again direction line Ready next = None
-memory_again direction line (Notice notice true) next =
-    if takes_memory direction next line then Some (notice ∷ []) else None
-memory_again direction line (Notice notice false) next = None
-memory_again direction line (Failed at) next = None
-
--- the warnings of a line after which memory may run out at it, where it may at all: none, for a line that may take
--- memory at once; or the first one, where faults are skipped and the line, which begins with >, cuts an epoch off and
--- comes again. No line may take memory both times
-abbrev pub memory_after : {U O K : Type 0} → Direction U O K → Seen O K → ReadLine → Option (List At)
-memory_after direction before line =
-    if takes_memory direction before line then Some []
-    else memory_again direction line (seen_next direction before line).answer (seen_next direction before line).next

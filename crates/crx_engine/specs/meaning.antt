@@ -10,4 +10,6 @@ pub mod Expanded
 pub mod Standard
 pub mod Damage
 pub mod Filters
+pub mod Memory
+pub mod Directions
 pub mod WayBack

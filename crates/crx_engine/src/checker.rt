@@ -6,7 +6,8 @@ ghost use Rattle.crx_rinex.specs.meaning.EpochPlaces.{OpenEpoch};
 ghost use Rattle.crx_rinex.specs.meaning.Observations.{Epoch as ObservationEpoch};
 ghost use Rattle.crx_lines.specs.meaning.Lines.{InputLine};
 ghost use Rattle.crx_lines.specs.Reading.{line_shown, line_number};
-ghost use Rattle.crx_engine.specs.CheckByLine.{check_filter, check_seen, earliest, fault_so_far, printed_made, totals_made};
+ghost use Rattle.crx_engine.specs.CheckByLine.{check_seen, earliest, printed_made, totals_made};
+ghost use Rattle.crx_engine.specs.meaning.Directions.{check_filter, fault_so_far};
 ghost use Rattle.crx_engine.specs.CheckerState.{AreBounded, HasEnded, HasPrinted, CheckerHasTaken, CheckerIsOpen, pending_report, checker_state, totals_held};
 ghost use Rattle.crx_engine.specs.CompactionByLine.{is_before_header};
 ghost use Rattle.crx_engine.specs.Engines.{RunsOutAt};
@@ -27,7 +28,8 @@ use crx_lines::limits::VERSION_WIDTH;
 use crx_text::{At, Fault, Line, Text};
 use std::alloc::Global;
 
-/// Checks a RINEX file, whose lines it takes one at a time; once the whole input was accepted, it lends the six lines of the report.
+/// Checks a RINEX file, whose lines it takes one at a time; once the whole input was accepted, the six lines of the
+/// report are borrowed from it.
 #[derive(Drop)]
 pub struct Checker {
     reader: RinexReader,

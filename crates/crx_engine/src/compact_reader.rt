@@ -1,4 +1,4 @@
-//! Compact RINEX 3.0, one line at a time: what each line is, the types in force, and the epoch whose lines come.
+//! Compact RINEX 3.0, one line at a time: what each line is, the observation types in force, and the epoch whose lines come.
 
 ghost use Rattle.std.specs.Prelude.{◌≡◌, ◌≤◌, ℕ, if◌then◌else◌, [], None, true, false, length, IfOk, IfErr, OnErr};
 ghost use Rattle.crx_lines.specs.declared.limits.TheConstants.{LINE_LIMIT};
@@ -70,7 +70,7 @@ impl CompactReader {
         ensures takes { (choices : Choices) (number : ℕ)
             → IfOk result (TakesCompactLine (made_of_first_lines count line.now) line.now (seen_in
             choices number self.old (FirstLines count)) (compact_reader_state choices number self.new)) }
-        ensures refuses { IfErr result (RefusesCompactLine (tail_held self.old.columns) (made_of_first_lines
+        ensures refuses { IfErr result (RefusesCompactLine self.old.types (tail_held self.old.columns) (made_of_first_lines
             count line.now) (seen_stage (open_in self.old.columns) (FirstLines count)) line.now) }
         ensures types { OnErr result (self.new.types ≡ self.old.types) }
     {
@@ -93,7 +93,7 @@ impl CompactReader {
             → IfOk result (TakesCompactLine (made_of_unit (header_line is_first line.now)) line.now (seen_in
             choices number self.old (Header is_first)) (compact_reader_state choices number self.new)) }
         ensures refuses { IfErr result
-            (RefusesCompactLine (tail_held self.old.columns) (made_of_unit (header_line is_first line.now))
+            (RefusesCompactLine self.old.types (tail_held self.old.columns) (made_of_unit (header_line is_first line.now))
             (seen_stage (open_in self.old.columns) (Header is_first)) line.now) }
         ensures types { OnErr result (self.new.types ≡ self.old.types) }
     {
@@ -113,7 +113,7 @@ impl CompactReader {
             → IfOk result (TakesCompactLine (made_of_unit (event_record counted line.now)) line.now (seen_in
             choices number self.old (Event left counted)) (compact_reader_state choices number self.new)) }
         ensures refuses { IfErr result
-            (RefusesCompactLine (tail_held self.old.columns) (made_of_unit (event_record counted line.now))
+            (RefusesCompactLine self.old.types (tail_held self.old.columns) (made_of_unit (event_record counted line.now))
             (seen_stage (open_in self.old.columns) (Event left counted)) line.now) }
         ensures types { OnErr result (self.new.types ≡ self.old.types) }
     {
@@ -134,7 +134,7 @@ impl CompactReader {
             (TakesCompactLine (compact_begins self.old.types (tail_held self.old.columns) (Content line.now))
             line.now (seen_in choices number self.old stage) (compact_reader_state choices number self.new)) }
         ensures refuses { IfErr result
-            (λ fault. RefusesCompactLine (tail_held self.old.columns) (compact_begins self.old.types
+            (λ fault. RefusesCompactLine self.old.types (tail_held self.old.columns) (compact_begins self.old.types
             (tail_held self.old.columns) (Content line.now)) BetweenUnits line.now fault) }
         ensures types { OnErr result (self.new.types ≡ self.old.types) }
     {
@@ -157,7 +157,7 @@ impl CompactReader {
         ensures takes { (choices : Choices) (number : ℕ) → IfOk result (TakesCompactLine (made_in expansion
             (seen_stage (open_in self.old.columns) Open) self.old.types None (Content line.now)) line.now
             (seen_in choices number self.old Open) (compact_reader_state choices number self.new)) }
-        ensures refuses { IfErr result (RefusesCompactLine (tail_held self.old.columns)
+        ensures refuses { IfErr result (RefusesCompactLine self.old.types (tail_held self.old.columns)
             (made_in expansion (seen_stage (open_in self.old.columns) Open) self.old.types None
             (Content line.now)) (seen_stage (open_in self.old.columns) Open) line.now) }
         ensures types { OnErr result (self.new.types ≡ self.old.types) }
@@ -181,7 +181,8 @@ impl CompactReader {
     }
 
     /// Takes the next line of the input as [`CompactReader::read`] does, with its refusals, where it is a satellite line that isn't the
-    /// last one of its epoch; else `false` comes, and nothing changes.
+    /// last one of its epoch; else `false` comes, and nothing changes. Most lines are such lines, and the answer holds no epoch, so that
+    /// nothing large is moved from call to call.
     pub(crate) fn read_early(&mut self, line: &[u8]) -> Result<bool, Fault>
         requires short { length line.now ≤ LINE_LIMIT }
         ensures takes { (choices : Choices) (number : ℕ) → IfOk result (λ is_taken. is_taken ≡ true
@@ -190,7 +191,7 @@ impl CompactReader {
         ensures open { IfOk result (λ is_taken. is_taken ≡ true → self.old.stage ≡ Open) }
         ensures refused_open { OnErr result (self.old.stage ≡ Open) }
         ensures same { IfOk result (λ is_taken. is_taken ≡ false → self.new ≡ self.old) }
-        ensures refuses { IfErr result (RefusesCompactLine (tail_held self.old.columns)
+        ensures refuses { IfErr result (RefusesCompactLine self.old.types (tail_held self.old.columns)
             (made_next self.old line.now) (compact_reader_phase self.old) line.now) }
         ensures types { OnErr result (self.new.types ≡ self.old.types) }
     {
@@ -211,15 +212,14 @@ impl CompactReader {
 
     /// Takes the next line of the input: what it is, or its first fault.
     ///
-    /// `OutOfMemory` comes only at a good types line that counts, at an epoch's line of which no character is outside 32 to 126, and
-    /// at a satellite's line.
+    /// `OutOfMemory` comes only at a line without a fault: a types line that counts, an epoch's line, and a satellite's line.
     pub(crate) fn read(&mut self, line: &[u8]) -> Result<CompactStep, Fault>
         requires running { is_ended self.old.stage ≡ false }
         requires short { length line.now ≤ LINE_LIMIT }
         ensures takes { (choices : Choices) (number : ℕ)
             → IfOk result (TakesCompactLine (made_next self.old line.now) line.now
             (compact_reader_state choices number self.old) (compact_reader_state choices number self.new)) }
-        ensures refuses { IfErr result (RefusesCompactLine (tail_held self.old.columns)
+        ensures refuses { IfErr result (RefusesCompactLine self.old.types (tail_held self.old.columns)
             (made_next self.old line.now) (compact_reader_phase self.old) line.now) }
         ensures types { OnErr result (self.new.types ≡ self.old.types) }
     {
@@ -251,7 +251,7 @@ impl CompactReader {
         ensures takes { (choices : Choices) (number : ℕ)
             → IfOk result (TakesCompactLine (made_next self.old line.now) line.now
             (compact_reader_state choices number self.old) (compact_reader_state choices number self.new)) }
-        ensures refuses { IfErr result (RefusesCompactLine (tail_held self.old.columns)
+        ensures refuses { IfErr result (RefusesCompactLine self.old.types (tail_held self.old.columns)
             (made_next self.old line.now) (compact_reader_phase self.old) line.now) }
         ensures types { OnErr result (self.new.types ≡ self.old.types) }
     {
@@ -261,8 +261,8 @@ impl CompactReader {
         Ok(CompactStep::Nothing)
     }
 
-    /// Goes to the stage after a fault or after the end of the input, where no epoch is open; nothing is kept of the epochs
-    /// before where that is said.
+    /// Goes to the stage after a fault or after the end of the input, where no epoch is open, and empties the columns where that is
+    /// asked for.
     pub(crate) fn settle(&mut self, stage: Stage, is_emptied: bool)
         requires settled { is_settled stage ≡ true }
         ensures stage { self.new.stage ≡ stage }
@@ -284,7 +284,7 @@ fn empties_columns(counted: bool, line: &[u8]) -> bool
     counted && is_types(line)
 }
 
-/// Empties columns between two epochs, where that is wanted.
+/// Empties columns between two epochs, where that is asked for.
 fn reset_if(columns: &mut Columns, is_emptied: bool)
     requires idle { is_idle columns.old ≡ true }
     ensures tail { tail_held columns.new ≡ (if is_emptied then None else tail_held columns.old) }

@@ -198,7 +198,7 @@ impl Compaction {
 
     /// Takes the next line: see [`Compactor::feed`](crate::compactor::Compactor::feed). `true` says that nothing is to be written or
     /// reported after it; else the answer is put into its place.
-    #[inline]
+    #[inline(always)]
     pub(crate) fn feed(
         &mut self,
         line: &[u8],

@@ -7,7 +7,8 @@ use crate::ready_lines::ReadyLines;
 use crx_text::{At, Line};
 use std::alloc::{AllocError, Global};
 
-/// Makes Compact RINEX 3.0 of the lines of a RINEX file, which it takes one at a time; it lends the lines to be written.
+/// Makes Compact RINEX 3.0 of the lines of a RINEX file, which it takes one at a time; the lines to be written are
+/// borrowed from it.
 #[derive(Drop)]
 pub struct Compactor {
     compaction: Compaction,
@@ -30,7 +31,7 @@ impl Compactor {
     ghost use Rattle.crx_engine.specs.LineByLine.{Ended, seen_next, seen_end};
     ghost use Rattle.crx_engine.specs.EngineSteps.{Steps, step_made};
     ghost use Rattle.crx_engine.specs.CompactorState.{compactor_seen, compactor_ready, compactor_took};
-    ghost use Rattle.crx_engine.specs.Directions.{compaction_filter};
+    ghost use Rattle.crx_engine.specs.meaning.Directions.{compaction_filter};
     ghost use Rattle.crx_rinex.specs.meaning.Printing.{lines_text};
     ghost use Rattle.crx_engine.specs.Engines.{EngineAnswers, answer_given, Awaited, Concludes, IsAwaited};
     ghost use Rattle.crx_engine.specs.contracts.compactor.Compactor.{the_row};
@@ -56,7 +57,7 @@ impl Compactor {
         self.ready.is_empty()
     }
 
-    /// Lends the next of the lines that are ready, without its line end; `None` once none is pending.
+    /// Borrows the next of the lines that are ready, without its line end; `None` once none is pending.
     pub fn next_line(&mut self) -> Option<&[u8]>
         ensures value { option_copied result ≡ slice_get (compactor_ready self.old) 0 }
         // That line is no longer pending, and nothing else changes.
@@ -66,7 +67,7 @@ impl Compactor {
         self.ready.next_line()
     }
 
-    /// Lends all lines that are ready as one text, each followed by LF; `None` where the next one is copied, and then they stay.
+    /// Borrows all lines that are ready as one text, each followed by LF; `None` where the next one is copied, and then they stay.
     pub(crate) fn take_text(&mut self) -> Option<&[u8]>
         ensures value { IfSome result (λ text. text.now ≡ lines_text (compactor_ready self.old)) }
         ensures* after_borrow { sem 𝓛 (Rests the_row self.entry
@@ -76,7 +77,7 @@ impl Compactor {
         self.ready.take_text()
     }
 
-    /// Takes the next line. `Quiet`: nothing is to be written yet; `Ready`: [`Compactor::next_line`] lends the lines; `Warned`: a fault is
+    /// Takes the next line. `Quiet`: nothing is to be written yet; `Ready`: [`Compactor::next_line`] gives the lines; `Warned`: a fault is
     /// skipped, and where reading goes on at this very line, it doesn't count yet and is to be fed once more.
     ///
     /// The error is the fault that ends the run, at this line: in the header `MissingVersion`, `UnsupportedVersion` and
@@ -104,8 +105,8 @@ impl Compactor {
         answer_given(is_quiet, self.answer)
     }
 
-    /// Takes the content of a line. `true` says that nothing is to be written or reported after it; else the answer is kept.
-    #[inline]
+    /// Takes the content of a line. `true` says that nothing is to be written or reported after it; else the answer is stored.
+    #[inline(always)]
     pub(crate) fn take_line(&mut self, line: &[u8]) -> bool
         requires drained { compactor_ready self.old ≡ [] }
         requires short { length line.now ≤ LINE_LIMIT }

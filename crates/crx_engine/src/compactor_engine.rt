@@ -1,7 +1,7 @@
 //! The compactor as an engine.
 
 ghost use Rattle.std.specs.Prelude.{◌≡◌, ⊤, length};
-ghost use Rattle.crx_engine.specs.Directions.{compaction_filter};
+ghost use Rattle.crx_engine.specs.meaning.Directions.{compaction_filter};
 ghost use Rattle.crx_engine.specs.EngineLines.{HasTaken};
 ghost use Rattle.crx_engine.specs.CompactionByLine.{compaction, compaction_seen};
 ghost use Rattle.crx_engine.specs.CompactorState.{compactor_seen, compactor_ready};
@@ -27,6 +27,7 @@ impl Engine for Compactor {
 
     ghost answer = { λ c. c.answer };
 
+    #[inline(always)]
     fn take(&mut self, line: Line<'_>) -> bool {
         self.take_line(line.bytes())
     }

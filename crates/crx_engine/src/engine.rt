@@ -1,4 +1,4 @@
-//! Engines: what takes the lines of an input one at a time, and lends what is to be written.
+//! Engines: they take the lines of an input one at a time, and what is to be written is borrowed from them.
 
 ghost use Rattle.std.specs.Prelude.{◌≡◌, ◌≤◌, ◌+◌, ℕ, List, [], drop, length, slice_get, Result, if◌then◌else◌, is_some, IfOk, IfSome, IsTrue, OnErr, true};
 ghost use Rattle.std.specs.Borrow.{sem};
@@ -19,7 +19,7 @@ use crx_text::{At, Line};
 pub enum Step {
     /// Nothing is to be written yet.
     Quiet,
-    /// Lines are to be lent.
+    /// Lines are ready to be borrowed and written.
     Ready,
     /// A fault is skipped.
     Warned {
@@ -30,14 +30,14 @@ pub enum Step {
     },
 }
 
-/// The answer to a line: that nothing is to be done, or the one that is kept.
+/// The answer to a line: that nothing is to be done, or the answer that is stored.
 pub fn answer_given(is_quiet: bool, kept: Result<Step, At>) -> Result<Step, At>
     ensures { result ≡ answer_given is_quiet kept }
 {
     if is_quiet { Ok(Step::Quiet) } else { kept }
 }
 
-/// A filter that takes the lines of an input one at a time, and lends the lines that are to be written.
+/// A filter that takes the lines of an input one at a time; the lines that are to be written are borrowed from it.
 pub trait Engine {
     ghost use Rattle.crx_engine.specs.declared.engine.Step.{Step};
 
@@ -115,7 +115,7 @@ pub trait Engine {
         ensures ended { (lines : List InputLine)
             → shows self.old lines [] → IfOk result (λ _. has_ended self.new lines) };
 
-    /// Lends the next of the lines that are ready, without its line end; `None` once none is pending.
+    /// Borrows the next of the lines that are ready, without its line end; `None` once none is pending.
     fn next_line(&mut self) -> Option<&[u8]>
         ensures value { option_copied result ≡ slice_get (ready self.old) 0 }
         ensures* after_borrow { sem 𝓛 (Rests Self.row self.entry (λ new.
@@ -125,8 +125,8 @@ pub trait Engine {
             × (is_open self.old → is_open new)
             × ((lines : List InputLine) → has_ended self.old lines → has_ended new lines))) };
 
-    /// Lends all lines that are ready as one text, each followed by LF, after which none is left. After `None` they stay as they
-    /// are, and [`Engine::next_line`] lends them.
+    /// Borrows all lines that are ready as one text, each followed by LF, after which none is pending. After `None` they stay as they
+    /// are, and [`Engine::next_line`] gives them.
     fn take_text(&mut self) -> Option<&[u8]>
         ensures value { IfSome result (λ text. text.now ≡ lines_text (ready self.old)) }
         ensures* after_borrow { sem 𝓛 (Rests Self.row self.entry (λ new.

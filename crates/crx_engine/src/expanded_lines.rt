@@ -1,4 +1,4 @@
-//! The lines that an expansion has ready, lent one after another.
+//! The lines that an expansion has ready, borrowed one after another.
 
 ghost use Rattle.std.specs.Prelude.{◌≡◌, ◌≤◌, ◌↔◌, [], ◌∷◌, IsTrue, drop, length, slice_get, take, if◌then◌else◌, is_some, unwrap_or, IfOk, IfSome, IfNone, OnSome};
 ghost use Rattle.std.specs.Borrow.{sem};
@@ -14,7 +14,7 @@ use crx_text::Text;
 use std::alloc::{AllocError, Global};
 use std::marker::Model;
 
-/// A line that is borrowed as it came, out of memory that is kept for the lines after it.
+/// A line that is borrowed as it came, out of memory that is used again for the lines after it.
 #[derive(Drop)]
 pub(crate) struct CopiedLine {
     text: Box<Text>,
@@ -58,7 +58,7 @@ impl CopiedLine {
         !self.is_ready
     }
 
-    /// Lends the line, once.
+    /// Borrows the line, once.
     pub(crate) fn next_line(&mut self) -> Option<&[u8]>
         ensures value { option_copied result ≡ slice_get self.old 0 }
         // That line is no longer pending.
@@ -72,8 +72,8 @@ impl CopiedLine {
     }
 }
 
-/// How long a text of an epoch's lines may be to be made in one piece; a longer one is written line by line. That of 40 satellites with 20
-/// types has some 10 KiB.
+/// How long the text of an epoch's lines may be to be made and written in one piece; a longer one is written line by line. The text of 40
+/// satellites with 20 types has some 13,000 bytes, so nearly all epochs are written by one call, into memory that never grows.
 const TEXT_ROOM: usize = 65536;
 
 /// The lines that an expansion has ready: a line that is copied, or those of an epoch.
@@ -136,7 +136,7 @@ impl ExpandedLines {
         self.copied.is_drained() && self.printed.as_ref().is_none_or(Printed::is_drained)
     }
 
-    /// Lends the next line, without its line end; `None` once none is pending.
+    /// Borrows the next line, without its line end; `None` once none is pending.
     pub(crate) fn next_line(&mut self) -> Option<&[u8]>
         ensures value { option_copied result ≡ slice_get self.old 0 }
         // That line is no longer pending.
@@ -151,8 +151,8 @@ impl ExpandedLines {
         }
     }
 
-    /// Lends all lines as one text, each followed by LF, after which none is left. After `None`, as where a line is copied, or where the
-    /// text may be longer than [`TEXT_ROOM`], they stay as they are.
+    /// Borrows all lines as one text, each followed by LF, after which none is pending. `None` comes where a line is copied, or where the
+    /// text may be longer than [`TEXT_ROOM`], and then the lines stay as they are.
     pub(crate) fn take_text(&mut self) -> Option<&[u8]>
         ensures value { IfSome result (λ text. text.now ≡ lines_text self.old) }
         ensures* after_borrow { sem 𝓛 (Rests the_row self.entry
@@ -168,8 +168,8 @@ impl ExpandedLines {
     }
 }
 
-/// Puts the lines of an epoch that are pending in place of bytes, each followed by LF, and gives how many bytes these are. `None`
-/// comes where there is no epoch, or the bytes may be too few, and then all lines are left.
+/// Writes the pending lines of an epoch over bytes, each followed by LF, and gives how many bytes these are. `None` comes where there
+/// is no epoch, or where the bytes may be too few, and then all lines stay pending.
 fn take_printed(printed: &mut Option<Printed>, bytes: &mut [u8]) -> Option<usize>
     ensures text { IfSome result (λ count. take count bytes.new ≡ lines_text (unwrap_or printed.old [])) }
     ensures within { IfSome result (λ count. count ≤ length bytes.new) }

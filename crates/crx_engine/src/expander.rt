@@ -8,7 +8,7 @@ ghost use Rattle.crx_lines.specs.declared.fault.At.{At};
 ghost use Rattle.crx_lines.specs.declared.limits.TheConstants.{INPUT_LIMIT, LINE_LIMIT};
 ghost use Rattle.crx_engine.specs.meaning.Choices.{Choices};
 ghost use Rattle.crx_engine.specs.CompactReaders.{answer_for, lent_for, compact_reader_state};
-ghost use Rattle.crx_engine.specs.Directions.{expansion_filter};
+ghost use Rattle.crx_engine.specs.meaning.Directions.{expansion_filter};
 ghost use Rattle.crx_engine.specs.Engines.{EngineAnswers, answer_given, Awaited, Concludes, IsAwaited};
 ghost use Rattle.crx_engine.specs.EngineSteps.{Steps, answer_of_step, step_made};
 ghost use Rattle.crx_engine.specs.LineByLine.{seen_end, seen_next};
@@ -27,7 +27,7 @@ use crx_rinex::begins_epoch;
 use crx_text::{At, Fault, Line};
 use std::alloc::{AllocError, Global};
 
-/// Makes RINEX of the lines of Compact RINEX 3.0, which it takes one at a time; it lends the lines to be written.
+/// Makes RINEX of the lines of Compact RINEX 3.0, which it takes one at a time; the lines to be written are borrowed from it.
 #[derive(Drop)]
 pub struct Expander {
     options: Options,
@@ -71,7 +71,7 @@ impl Expander {
         self.lines.is_drained()
     }
 
-    /// Lends the next of the lines that are ready, without its line end; `None` once none is pending.
+    /// Borrows the next of the lines that are ready, without its line end; `None` once none is pending.
     pub fn next_line(&mut self) -> Option<&[u8]>
         ensures value { option_copied result ≡ slice_get self.old.lines 0 }
         // That line is no longer pending.
@@ -81,8 +81,8 @@ impl Expander {
         self.lines.next_line()
     }
 
-    /// Lends all lines that are ready as one text, each followed by LF; after `None`, as where a line is copied, or the text is
-    /// long, they stay.
+    /// Borrows all lines that are ready as one text, each followed by LF. `None` comes where a line is copied, or where the text is long,
+    /// and then the lines stay ready.
     pub(crate) fn take_text(&mut self) -> Option<&[u8]>
         ensures value { IfSome result (λ text. text.now ≡ lines_text self.old.lines) }
         ensures* after_borrow { sem 𝓛 (Rests the_row self.entry
@@ -97,8 +97,8 @@ impl Expander {
     /// answered again from then on: `NotCompact` and `BadProgLine` at the first two lines; `MissingVersion`, `UnsupportedVersion`,
     /// `NotObservation` and `BadTypesLine` in the header; `BadTypesLine` among an event's records, where types lines count; and where
     /// faults aren't skipped those of an event's first line and of [`Columns::begin`](crx_compact::Columns::begin) and
-    /// [`Columns::feed`](crx_compact::Columns::feed). `OutOfMemory` comes only at a good types line that counts, at an epoch's
-    /// line of which no character is outside 32 to 126, and at a satellite's line.
+    /// [`Columns::feed`](crx_compact::Columns::feed). `OutOfMemory` comes only at a line without a fault: a types line
+    /// that counts, an epoch's first line, and a satellite's line.
     pub fn feed(&mut self, line: Line<'_>) -> Result<Step, At>
         requires drained { self.old.lines ≡ [] }
         requires next { line_number line ≡ self.old.number + 1 }
@@ -190,8 +190,9 @@ impl Expander {
         self.fail(stage, Fault::LineTooLong, false)
     }
 
-    /// Takes the content of a line: see [`Expander::feed`]. `true` says that nothing is to be written or reported after it; else the
-    /// answer is kept.
+    /// Takes the content of a line: see [`Expander::feed`]. `true` says that nothing is to be written or reported after it, as after
+    /// most lines; otherwise the answer is stored, and asked for by another call. An answer that held a notice would be copied from call
+    /// to call at every line.
     #[inline]
     pub(crate) fn take_line(&mut self, line: &[u8]) -> bool
         requires drained { self.old.lines ≡ [] }
@@ -221,7 +222,7 @@ impl Expander {
         }
     }
 
-    /// The same of a line of any kind.
+    /// Takes the content of a line of any kind, for the lines that [`CompactReader::read_early`] doesn't take: see [`Expander::feed`].
     #[inline(never)]
     fn take_any(&mut self, line: &[u8]) -> Result<Step, At>
         requires drained { self.old.lines ≡ [] }

@@ -32,7 +32,7 @@ pub(crate) enum Turn {
 }
 
 /// The lines that a compaction has ready: the two before the header, a line that is copied, and those that are made of an
-/// epoch. All but the last stand in memory that is held from the beginning.
+/// epoch. All but the last stand in memory that is taken at the beginning.
 #[derive(Drop)]
 pub(crate) struct ReadyLines {
     turn: Turn,
@@ -149,7 +149,7 @@ impl ReadyLines {
         columns.encode_into(epoch, full, &mut self.made)
     }
 
-    /// Lends the next line, without its line end; `None` once none is pending.
+    /// Borrows the next line, without its line end; `None` once none is pending.
     pub(crate) fn next_line(&mut self) -> Option<&[u8]>
         ensures value { option_copied result ≡ slice_get (pending_lines self.old) 0 }
         // That line is no longer pending.
@@ -173,8 +173,8 @@ impl ReadyLines {
         }
     }
 
-    /// Lends all lines as one text, each followed by LF, after which none is left. `None` comes where one that is held
-    /// elsewhere is the next, and then they stay as they are.
+    /// Borrows all lines as one text, each followed by LF, after which none is pending. `None` comes where the next one stands in other
+    /// memory, and then all stay as they are.
     pub(crate) fn take_text(&mut self) -> Option<&[u8]>
         ensures value { IfSome result (λ text. text.now ≡ lines_text (pending_lines self.old)) }
         ensures made { self.old.turn ≡ Turn.Made → IsSome result }

@@ -84,6 +84,7 @@ impl RinexReader {
     /// records `BadTypesLine`, where types lines count. Where an epoch or an event may begin, the faults of [`Head::read`]. In an epoch
     /// `Truncated` where the line begins with `>`, then those of [`Epoch::read_row`]. `OutOfMemory` comes only at a line without a
     /// fault: a types line that counts, or a satellite's line. After a fault the reader is as it was.
+    #[inline(always)]
     pub(crate) fn take(&mut self, line: &[u8]) -> Result<RinexStep, Fault>
         requires running { is_ended self.old.stage ≡ false }
         ensures takes { (kept : Written) → IfOk result
@@ -111,6 +112,7 @@ impl RinexReader {
     }
 
     /// Takes a header line.
+    #[inline(never)]
     fn header_line(&mut self, is_first: bool, line: &[u8]) -> Result<RinexStep, Fault>
         requires stage { self.old.stage ≡ Stage.Header is_first }
         ensures takes { (kept : Written) → IfOk result
@@ -129,6 +131,7 @@ impl RinexReader {
     }
 
     /// Takes a record of an event.
+    #[inline(never)]
     fn record(&mut self, left: usize, counted: bool, line: &[u8]) -> Result<RinexStep, Fault>
         requires stage { self.old.stage ≡ Stage.Event left counted }
         ensures takes { (kept : Written) → IfOk result
@@ -147,6 +150,7 @@ impl RinexReader {
     }
 
     /// Takes a line where an epoch or an event may begin.
+    #[inline(never)]
     fn begin(&mut self, line: &[u8]) -> Result<RinexStep, Fault>
         requires stage { (self.old.stage ≡ Stage.Between)
             ⊎ ((self.old.stage ≡ Stage.Looking) × (begins_epoch line.now ≡ true)) }
@@ -189,6 +193,7 @@ impl RinexReader {
     }
 
     /// Takes a line of an epoch whose rows have come in part.
+    #[inline(always)]
     fn row(&mut self, line: &[u8]) -> Result<RinexStep, Fault>
         requires stage { self.old.stage ≡ Stage.Open }
         ensures takes { (kept : Written) → IfOk result

@@ -21,7 +21,7 @@ pub(crate) struct Settled {
     pub(crate) stage: Stage,
     /// The number of the last line that counts.
     pub(crate) number: u64,
-    /// Whether nothing is kept of the epochs before.
+    /// Whether the history of the epochs before is dropped.
     pub(crate) is_emptied: bool,
 }
 

@@ -87,7 +87,7 @@ pub(crate) fn after_header_line(line: &[u8]) -> Stage
     }
 }
 
-/// The stage with so many records of an event left.
+/// The stage with so many records of an event still to come.
 pub(crate) fn with_records_left(left: usize, counted: bool) -> Stage
     ensures rinex { (held : Option OpenEpoch) → seen_stage held result ≡ with_records_left left counted }
     ensures compact { (held : Option OpenRawEpoch) → seen_stage held result ≡ with_records_left left counted }

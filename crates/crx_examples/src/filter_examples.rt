@@ -137,7 +137,7 @@ pub fn steps_of_a_compaction()
         ∷ epoch_line_at 0 0 ∷ []) ≡ (Ready, 3) ∷ (Ready, 1) ∷ (Ready, 1) ∷ (Ready, 2) ∷ (Ready, 2) ∷ [] }
 {}
 
-/// The same of an expansion.
+/// What an expansion answers line by line: nothing at the first two lines, a header line at once, and an epoch with its last line.
 pub fn steps_of_an_expansion()
     ensures one { expansion_answers plain_choices
         (first_two ++ header ++ full_line_at 0 1 (codes "G01") ∷ [] ∷ codes "3&20000000000" ∷ []) ≡ (Quiet, 0)

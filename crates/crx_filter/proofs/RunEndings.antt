@@ -18,8 +18,8 @@ use Rattle.crx_filter.specs.meaning.Spans.{Device, TookAll, AreNext, Input, IsPa
 use Rattle.crx_filter.specs.Running.{EndsAt, WellDone, StoppedByReader, StoppedByLine, StoppedByEnd, StoppedAtStart}
 use Rattle.crx_filter.specs.Endings.{Finishes, IsReported, IsFlushed, FlushFailed, write_failed_at}
 use Rattle.crx_engine.specs.Lawful.{IsLawful, is_of_lines}
-use Rattle.crx_filter.specs.meaning.Salvage.{complete_lines, IsTurn, IsWritten, AreReported, NoMemoryAtLine, FaultFound}
-use Rattle.crx_filter.specs.meaning.Salvage.{Stands, IsFrontPart}
+use Rattle.crx_filter.specs.meaning.Interruptions.{complete_lines, IsTurn, IsWritten, AreReported, NoMemoryAtLine, FaultFound}
+use Rattle.crx_filter.specs.meaning.Interruptions.{Stands, IsFrontPart}
 use Rattle.crx_filter.proofs.TakingTwice.{all-all}
 use Rattle.crx_filter.proofs.RunningSteps.{took-same, took-part}
 use Rattle.crx_filter.proofs.Salvaged.{complete-stopped, all-read, all-of, taken-read, begins-itself, begins-taken}

@@ -17,7 +17,7 @@ use Rattle.crx_engine.specs.meaning.Results.{Course, Begins}
 use Rattle.crx_engine.specs.meaning.Filters.{Filter, with_next}
 use Rattle.crx_filter.specs.meaning.Spans.{Input}
 use Rattle.crx_engine.specs.Lawful.{IsLawful}
-use Rattle.crx_filter.specs.meaning.Salvage.{complete_lines, AreAll, AreTaken, IsTurn}
+use Rattle.crx_filter.specs.meaning.Interruptions.{complete_lines, AreAll, AreTaken, IsTurn}
 
 -- ---- what was read
 

@@ -2,7 +2,7 @@
 
 ghost use Rattle.std.specs.Prelude.{◌≡◌, ℕ, List};
 ghost use Rattle.crx_engine.specs.meaning.Compacted.{compacted};
-ghost use Rattle.crx_engine.specs.Directions.{compaction_filter, expansion_filter};
+ghost use Rattle.crx_engine.specs.meaning.Directions.{compaction_filter, expansion_filter};
 ghost use Rattle.crx_engine.specs.meaning.Expanded.{expanded};
 ghost use Rattle.crx_filter.specs.meaning.Promises.{BringsBackWhatWasCompacted, Keeps, SavesAllElse};
 ghost use Rattle.crx_filter.specs.meaning.Runs.{Runs};

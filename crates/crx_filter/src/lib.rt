@@ -10,7 +10,7 @@ mod ready;
 mod run;
 mod start;
 mod step;
-mod taking;
+pub mod taking;
 mod work;
 
 pub use checks::check;

@@ -10,7 +10,7 @@ ghost use Rattle.crx_rinex.specs.meaning.Printing.{lines_text};
 use crx_engine::engine::Engine;
 use crx_text::{Sink, WriteFailed, write_all_counted};
 
-/// Writes the lines that an engine has ready, each with LF: as one text where the engine lends them so, else one by one.
+/// Writes the lines that an engine has ready, each with LF: as one text where the engine has them as one, else one by one.
 pub(crate) fn write_ready<E: Engine, W: Sink>(
     engine: &mut E,
     writer: &mut W,

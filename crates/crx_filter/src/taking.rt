@@ -21,7 +21,7 @@ use crx_text::{At, Line, Sink, write_all_counted};
 
 /// What ended a run.
 #[derive(Clone, Copy, Debug, PartialEq, Eq)]
-pub(crate) enum Halt {
+pub enum Halt {
     /// A fault of the input or of its reader, or memory that ran out.
     Fault(At),
     /// The writer failed.
@@ -256,8 +256,8 @@ fn take_answered<E: Engine, W: Sink, M: Sink>(
 
 /// Takes a line of the input: gives it to the engine, a second time where reading goes on at it, writes what it makes
 /// ready, and reports its warnings; whether there was one.
-#[inline]
-pub(crate) fn take_line<E: Engine, W: Sink, M: Sink>(
+#[inline(always)]
+pub fn take_line<E: Engine, W: Sink, M: Sink>(
     engine: &mut E,
     writer: &mut W,
     messages: &mut M,
@@ -293,7 +293,7 @@ pub(crate) fn take_line<E: Engine, W: Sink, M: Sink>(
 }
 
 /// Takes a line of the input that is too long, by its number, in the same way.
-pub(crate) fn take_overlong<E: Engine, W: Sink, M: Sink>(
+pub fn take_overlong<E: Engine, W: Sink, M: Sink>(
     engine: &mut E,
     writer: &mut W,
     messages: &mut M,
@@ -326,7 +326,7 @@ pub(crate) fn take_overlong<E: Engine, W: Sink, M: Sink>(
 }
 
 /// Takes the end of the input: writes what it makes ready, and reports its warning; whether there was one.
-pub(crate) fn take_end<E: Engine, W: Sink, M: Sink>(
+pub fn take_end<E: Engine, W: Sink, M: Sink>(
     engine: &mut E,
     writer: &mut W,
     messages: &mut M,

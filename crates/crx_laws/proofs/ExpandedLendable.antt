@@ -30,7 +30,7 @@ use Rattle.crx_engine.specs.meaning.Reading.{Reading, AtFault, AtLines, is_skipp
 use Rattle.crx_engine.specs.meaning.Reading.{reading_within, reading_from}
 use Rattle.crx_engine.specs.meaning.Expanded.{raws_kept, event_line, as_observation, compact_epoch_place, compact_place}
 use Rattle.crx_engine.specs.meaning.Expanded.{first_lines, expanded_unit}
-use Rattle.crx_engine.specs.Expanded.{compact_reading}
+use Rattle.crx_engine.specs.meaning.Directions.{compact_reading}
 use Rattle.crx_engine.specs.Bounds.{AreLendable, OfUnits, longest_printed, IsNotTooLong, ExpandedIsLendable}
 use Rattle.crx_engine.proofs.reading.Resuming.{by_bool, by_place, within-here, within-wrong, within-wanted}
 use Rattle.crx_engine.proofs.reading.Resuming.{fault-skipped, fault-ends, looked-here, looked-on}

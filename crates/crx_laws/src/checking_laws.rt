@@ -2,7 +2,7 @@
 
 ghost use Rattle.std.specs.Prelude.{◌≡◌, [], List, ℕ, None, true};
 ghost use Rattle.crx_lines.specs.meaning.Lines.{InputLine};
-ghost use Rattle.crx_engine.specs.CheckByLine.{check_filter};
+ghost use Rattle.crx_engine.specs.meaning.Directions.{check_filter};
 ghost use Rattle.crx_engine.specs.meaning.Choices.{Choices, is_date};
 ghost use Rattle.crx_engine.specs.CheckingLaws.{IsCheckedOn, IsCheckEnded, IsNamedWhereNot, IsStandardExactlyWhereSame};
 ghost use Rattle.crx_laws.specs.SmallFiles.{file_of_five, plain_choices, returned_text};

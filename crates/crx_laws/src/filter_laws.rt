@@ -12,13 +12,16 @@ ghost use Rattle.crx_engine.specs.CompactionByLine.{compaction, compaction_seen}
 ghost use Rattle.crx_laws.specs.SmallFiles.{header, line_at, one_type_line, full_line_at, second_changed};
 ghost use Rattle.crx_engine.specs.ExpansionByLine.{expansion, expansion_seen};
 ghost use Rattle.crx_engine.specs.meaning.Compacted.{rinex_place, whole_rinex, compacted};
-ghost use Rattle.crx_engine.specs.Compacted.{rinex_reading, compacted_so_far};
-ghost use Rattle.crx_engine.specs.Directions.{compaction_filter, expansion_filter};
+ghost use Rattle.crx_engine.specs.Compacted.{compacted_so_far};
+ghost use Rattle.crx_engine.specs.meaning.Directions.{rinex_reading};
+ghost use Rattle.crx_engine.specs.meaning.Directions.{compaction_filter, expansion_filter};
 ghost use Rattle.crx_engine.specs.Lawful.{IsLawful};
 ghost use Rattle.crx_engine.specs.meaning.Expanded.{compact_place, whole_compact, expanded};
-ghost use Rattle.crx_engine.specs.Expanded.{compact_reading, expanded_so_far};
+ghost use Rattle.crx_engine.specs.Expanded.{expanded_so_far};
+ghost use Rattle.crx_engine.specs.meaning.Directions.{compact_reading};
 ghost use Rattle.crx_rinex.specs.meaning.Printing.{lines_text};
-ghost use Rattle.crx_engine.specs.Laws.{IsReadForward, IsResumed, IsWrittenFirst, IsCompactedOn, IsExpandedOn, IsCompactionEnded, IsExpansionEnded, StaysEnded, ItemsAreRead, AreInPlace, IsReadyWhereLent, fault_of_stop};
+ghost use Rattle.crx_engine.specs.Laws.{IsReadForward, IsResumed, IsWrittenFirst, IsCompactedOn, IsExpandedOn, IsCompactionEnded, IsExpansionEnded, StaysEnded, ItemsAreRead, AreInPlace, IsReadyWhereLent};
+ghost use Rattle.crx_engine.specs.meaning.Reading.{fault_of_stop};
 
 /// What stands at a line of a RINEX file is certain as soon as its last line has come; so the reading of some lines and more goes on
 /// from where the reading of the first lines stopped.
@@ -27,7 +30,8 @@ pub fn resumed_rinex()
     ensures resumed { IsResumed rinex_place }
 {}
 
-/// The same of compact text from its third line on.
+/// What stands at a line of compact text, from the third line on, is certain as soon as its last line has come; so the reading of some
+/// lines and more goes on from where the reading of the first lines stopped.
 pub fn resumed_compact()
     ensures forward { IsReadForward compact_place }
     ensures resumed { IsResumed compact_place }
@@ -64,7 +68,8 @@ pub fn compaction_ends()
     ensures { (choices : Choices) (lines : List ReadLine) → IsCompactionEnded choices lines }
 {}
 
-/// The same of an expansion.
+/// The end of the input, after any lines, is what it is for the expansion of all of them: nothing more is written, and the fault or
+/// the warning is that of the whole reading.
 pub fn expansion_ends()
     ensures { (choices : Choices) (lines : List ReadLine) → IsExpansionEnded choices lines }
 {}
@@ -130,7 +135,7 @@ pub fn lines_that_start_anew()
 {}
 
 /// A line is answered as ready exactly where lines are borrowed.
-pub fn ready_where_lent()
+pub fn ready_where_borrowed()
     ensures compaction { IsReadyWhereLent compaction }
     ensures expansion { IsReadyWhereLent expansion }
 {}

@@ -83,7 +83,7 @@ AnswersAs shown numbered old given at_end before after (Ok None) new =
 AnswersAs shown numbered old given at_end before after (Err at) new =
     AnswersFault old given at_end before after at at.fault new
 
--- the same of a line that is borrowed
+-- what a reader answers, as `AnswersAs` says, of a line that is borrowed
 abbrev pub ReaderAnswers : ReaderState
     → List ℕ → Type 0 → Tally → Tally → Result (Option Line) At → ReaderState → Type 0
 ReaderAnswers old given at_end before after r new = AnswersAs line_shown line_number old given at_end before after r new

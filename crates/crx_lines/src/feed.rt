@@ -39,7 +39,7 @@ fn feed_in_rest(bytes: &[u8], from: usize) -> Option<usize>
 }
 
 /// The place of the first LF, from a place on.
-pub(crate) fn feed_from(bytes: &[u8], from: usize) -> Option<usize>
+pub fn feed_from(bytes: &[u8], from: usize) -> Option<usize>
     requires { from ≤ length bytes.now }
     ensures within { IfSome result (λ at. (from ≤ at) × (at < length bytes.now)) }
     ensures found { IfSome result (λ at. slice_index bytes.now at ≡ 10) }

@@ -4,7 +4,7 @@
 
 pub mod device;
 pub mod fault;
-mod feed;
+pub mod feed;
 pub mod laws;
 pub mod limits;
 pub mod line;

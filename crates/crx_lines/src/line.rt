@@ -27,6 +27,19 @@ pub struct Line<'a> {
 impl<'a> Line<'a> {
     ghost use Rattle.crx_lines.specs.Reading.{line_shown, line_number};
 
+    /// A line of this content, without its line end.
+    pub fn of(content: &'a [u8], number: u64, is_plain: bool) -> Line<'a>
+        requires { length content.now ≤ LINE_LIMIT }
+        ensures shown { line_shown result ≡ record { content = content.now; is_plain = is_plain } }
+        ensures number { line_number result ≡ number }
+    {
+        Line {
+            content,
+            number,
+            is_plain,
+        }
+    }
+
     /// The line's content: at most `LINE_LIMIT` bytes, without LF and without a CR before it.
     pub fn bytes(&self) -> &'a [u8]
         ensures content { result.now ≡ (line_shown self.now).content }
@@ -152,7 +165,7 @@ impl LineReader {
         }))
     }
 
-    /// The same where the line's end may be still to be read.
+    /// Gives the next line where its end may still have to be read.
     #[inline(never)]
     fn advance_by_reading<R: Source>(&mut self, reader: &mut R) -> Result<Option<Part>, At>
         requires { self.old.phase ≡ Phase.Open }
@@ -222,6 +235,7 @@ impl LineReader {
     /// counts, and the next call goes on after it. `InputTooLong` is the answer where a byte past
     /// `INPUT_LIMIT` was given and no LF before it is left, `ReadFailed` where a read failed. Both
     /// are repeated from then on, as None is after the end, and `reader` isn't asked again.
+    #[inline(always)]
     pub fn next_line<'a, R: Source>(&'a mut self, reader: &mut R) -> Result<Option<Line<'a>>, At>
         ensures open { (reading self.old).phase ≡ Phase.Open → (given : List ℕ) × (new : ReaderState)
             × R.gave reader.old given reader.new

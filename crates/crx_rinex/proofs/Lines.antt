@@ -36,7 +36,7 @@ none-copied false None is = absurd (true≢false (sym is))
 none-copied true (Some x) is = absurd (true≢false is)
 none-copied false (Some x) is = ((λ t. absurd (true≢false (sym t))), (λ t. absurd (true≢false (sym t))))
 
--- lines that are a first one and others are all lent where no other stands at the last place
+-- lines that are a first one and others are all borrowed where no other stands at the last place
 pub all-lent : {A B : Type 0} (f : A → B) (first : B) (xs : List A) (n : ℕ) (b : Bool) (o : Option (Bor A))
     → 0 < n → is_some o ≡ not b → option_copied o ≡ slice_get xs (n - 1)
     → IsTrue b ↔ (drop n (first ∷ map f xs) ≡ [])

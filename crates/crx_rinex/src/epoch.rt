@@ -135,6 +135,7 @@ impl Epoch {
     /// Reads a satellite line and puts its row after the others, into the memory of an earlier row where there is one: the
     /// faults of [`SatRow::read`], then `RepeatedSatellite` as by [`Epoch::push`], then `OutOfMemory`. After a refusal the epoch is
     /// as it was.
+    #[inline(always)]
     pub fn read_row(&mut self, types: &Types, line: &[u8]) -> Result<(), Fault>
         requires { is_full_epoch self.old ≡ false }
         ensures ok { OnOk result (AddsRow self.old
@@ -146,9 +147,10 @@ impl Epoch {
             × (is_ok (row_if_new self.old.rows (row_of types.now line.now)) ≡ true))) }
         ensures err { OnErr result (self.new ≡ self.old) }
     {
-        if self.count < self.rows.len() && self.names.has_at(self.count, identifier(line, 1)) {
+        let name = identifier(line, 1);
+        if self.count < self.rows.len() && self.names.has_at(self.count, name) {
             let row = &mut self.rows[self.count];
-            if let Err(fault) = row.read_again(types, line) {
+            if let Err(fault) = row.read_named(types, line, name) {
                 return Err(fault);
             }
             self.count += 1;
@@ -157,7 +159,7 @@ impl Epoch {
         self.read_other_row(types, line)
     }
 
-    /// The same where the place has no row yet, or that of another satellite.
+    /// Reads a row as [`Epoch::read_row`] does, where the place has no row yet, or that of another satellite.
     #[inline(never)]
     fn read_other_row(&mut self, types: &Types, line: &[u8]) -> Result<(), Fault>
         requires { is_full_epoch self.old ≡ false }

@@ -40,6 +40,15 @@ impl Identifiers {
         }
     }
 
+    /// Asks for room for so many identifiers more, after which [`Identifiers::put`] asks for none for as many.
+    pub fn reserve(&mut self, count: usize) -> Result<(), AllocError>
+        ensures { self.new ≡ self.old }
+    {
+        self.names.reserve(count)?;
+        self.places.reserve(count)?;
+        Ok(())
+    }
+
     /// `true` says that this identifier stands at a place, and that those before it are others; `false` says nothing, and what
     /// asks does without: a body that is always `false` would be slower, and right.
     #[inline(always)]
@@ -90,7 +99,7 @@ impl Identifiers {
         self.put_other(place, name)
     }
 
-    /// The same where another identifier stands at the place, or none: it goes, and so do those after it.
+    /// Puts an identifier at a place, where another one stands there, or none: it is dropped, and so are those after it.
     #[inline(never)]
     fn put_other(&mut self, place: usize, name: [u8; NAME_WIDTH]) -> Result<bool, AllocError>
         requires within { place ≤ length self.old }

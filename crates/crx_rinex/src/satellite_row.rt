@@ -1,6 +1,6 @@
 //! Satellite lines. RINEX 3.05, table A3, OBSERVATION record, A1,I2.2,m(F14.3,I1,I1).
 
-ghost use Rattle.std.specs.Prelude.{◌≡◌, ◌≤◌, ◌<◌, ◌+◌, ◌-◌, ◌*◌, ◌++◌, ◌∷◌, [], ◌⊎◌, replicate, true, None, Some, Ok, Err, is_some, length, All, IfOk, IfErr, IfSome, OnOk, OnErr, OnSome, IfNone, MatchBool, ◌≢◌, MatchResult, slice_get, take};
+ghost use Rattle.std.specs.Prelude.{ℕ, ◌≡◌, ◌≤◌, ◌<◌, ◌+◌, ◌-◌, ◌*◌, ◌++◌, ◌∷◌, [], ◌⊎◌, replicate, slice_set, true, None, Some, Ok, Err, is_some, length, All, IfOk, IfErr, IfSome, OnOk, OnErr, OnSome, IfNone, MatchBool, ◌≢◌, MatchResult, slice_get, take};
 ghost use Rattle.std.specs.Bool.{OnTrue, OnFalse};
 ghost use Rattle.std.specs.List.{list_all};
 ghost use Rattle.std.specs.Option.{option_map, ForSome};
@@ -21,7 +21,8 @@ use crate::types::Types;
 use crx_lines::limits::{CELL_WIDTH, NAME_WIDTH, OBSERVATION_WIDTH, TYPES_LIMIT};
 use crx_text::block::put_text;
 use crx_text::{
-    Fault, Text, all_kept, obs_print_cell, obs_print_cell_into, obs_read, obs_read_usual, trim_end,
+    Fault, Text, all_kept, obs_print_cell, obs_print_cell_into, obs_read, obs_read_into,
+    obs_read_usual, trim_end,
 };
 use std::alloc::Global;
 use std::marker::Model;
@@ -95,6 +96,29 @@ impl SatRow {
             ⊎ (((fault ≡ Fault.BadField) ⊎ (fault ≡ Fault.BadFlags))
             × (self.new ≡ blank_row self.old.name (length self.new.values)))) }
     {
+        self.read_named(types, line, identifier(line, 1))
+    }
+
+    /// The same, by the identifier that the line begins with, which the caller has made already: to make it again takes 14 instructions.
+    #[inline(always)]
+    pub(crate) fn read_named(
+        &mut self,
+        types: &Types,
+        line: &[u8],
+        identifier: [u8; NAME_WIDTH],
+    ) -> Result<(), Fault>
+        requires { identifier ≡ columns line.now 1 NAME_WIDTH }
+        ensures ok { OnOk result (row_of types.now line.now ≡ Ok self.new) }
+        ensures name { OnOk result (self.new.name ≡ columns line.now 1 NAME_WIDTH) }
+        ensures sound { OnOk result (IsSoundRow self.new) }
+        // A row that has as many types takes no memory, and a bad line takes none.
+        ensures refused { IfErr result (λ fault. (row_of types.now line.now ≡ Err fault)
+            ⊎ ((fault ≡ Fault.OutOfMemory) × (is_ok (row_of types.now line.now) ≡ true)
+            × (types_of_satellite types.now line.now ≢ Some (length self.old.values)))) }
+        ensures err { IfErr result (λ fault. (self.new ≡ self.old)
+            ⊎ (((fault ≡ Fault.BadField) ⊎ (fault ≡ Fault.BadFlags))
+            × (self.new ≡ blank_row self.old.name (length self.new.values)))) }
+    {
         let Some(count) = types_of_satellite(types, line) else {
             return Err(Fault::BadSatellite);
         };
@@ -106,7 +130,7 @@ impl SatRow {
             self.flags.fill(b' ');
             return Err(fault);
         }
-        self.name = identifier(line, 1);
+        self.name = identifier;
         Ok(())
     }
 
@@ -145,6 +169,12 @@ impl SatRow {
         };
         row.begin_again(name, m)?;
         Ok(row)
+    }
+
+    /// `false` says that the row may have to ask for memory to have so many types.
+    #[inline(always)]
+    pub fn has_room_for(&self, m: usize) -> bool {
+        self.values.capacity() >= m && self.flags.capacity() / 2 >= m
     }
 
     /// Makes the row one of another satellite with so many types, whose values and indicators are still to be replaced.
@@ -194,6 +224,14 @@ impl SatRow {
         ensures sound { IsSoundRow self.now }
     {
         self.values.get(k).copied()
+    }
+
+    /// The values, one for each type, as [`SatRow::value`] gives them.
+    pub fn values(&self) -> &[Option<i64>]
+        ensures value { result.now ≡ self.now.values }
+        ensures sound { IsSoundRow self.now }
+    {
+        &self.values
     }
 
     /// The indicators, two for each type: loss of lock and signal strength.
@@ -338,7 +376,7 @@ fn read_cells(line: &[u8], values: &mut [Option<i64>], flags: &mut [u8]) -> Resu
     Ok(())
 }
 
-/// What is wrong with the cells of a satellite line for so many types, told without memory.
+/// The first fault of the cells of a satellite line for so many types, found without memory.
 #[inline(never)]
 fn cells_fault(line: &[u8], m: usize) -> Option<Fault>
     requires { m ≤ TYPES_LIMIT }
@@ -353,7 +391,7 @@ fn cells_fault(line: &[u8], m: usize) -> Option<Fault>
     }
 }
 
-/// What is wrong with a satellite line, told without memory.
+/// The first fault of a satellite line, found without memory.
 pub(crate) fn row_fault(types: &Types, line: &[u8]) -> Option<Fault>
     ensures some { IfSome result (λ fault. row_of types.now line.now ≡ Err fault) }
     ensures none { IfNone result (is_ok (row_of types.now line.now) ≡ true) }
@@ -373,15 +411,71 @@ fn split_cells(line: &[u8], values: &mut [Option<i64>], flags: &mut [u8]) -> boo
     ensures flags { OnTrue result (flags.new ≡ flags_in (length values.old) line.now) }
     ensures ranged { OnTrue result (All IsValue values.new) }
 {
-    for k in 0..values.len() {
+    let mut k = split_plain_cells(line, values, flags);
+    while k < values.len() {
         let Some((value, lock, strength)) = cell(line, k) else {
             return false;
         };
         values[k] = value;
         flags[2 * k] = lock;
         flags[2 * k + 1] = strength;
+        k += 1;
     }
     true
+}
+
+/// Takes the values and the indicators out of a line's first cells, and gives how many: it stops where a field isn't within the line,
+/// or isn't written as files mostly have it. One by one, each as an `Option` of a value and its indicators, a cell
+/// takes 16 instructions more: that is set to zero, and then tested and copied part by part.
+fn split_plain_cells(line: &[u8], values: &mut [Option<i64>], flags: &mut [u8]) -> usize
+    requires paired { length flags.old ≡ 2 * length values.old }
+    requires few { length values.old ≤ TYPES_LIMIT }
+    ensures within { result ≤ length values.old }
+    ensures values { values_in result line.now ≡ Some (take result values.new) }
+    ensures flags { take (2 * result) flags.new ≡ flags_in result line.now }
+    ensures ranged { All IsValue (take result values.new) }
+{
+    let count = fields_within(line, values.len());
+    for k in 0..count {
+        let start = CELL_WIDTH * k + NAME_WIDTH;
+        if !obs_read_into(&line[start..start + OBSERVATION_WIDTH], &mut values[k]) {
+            return k;
+        }
+        put_indicators(line, k, flags);
+    }
+    count
+}
+
+/// How many of so many fields stand within a line.
+#[inline(always)]
+fn fields_within(line: &[u8], m: usize) -> usize
+    ensures few { result ≤ m }
+    ensures within { (k : ℕ) → k < result
+        → CELL_WIDTH * k + (NAME_WIDTH + OBSERVATION_WIDTH) ≤ length line.now }
+{
+    m.min(line.len().saturating_sub(1) / CELL_WIDTH)
+}
+
+/// Puts the two indicators of type k, from 0, in their places.
+#[inline(always)]
+fn put_indicators(line: &[u8], k: usize, flags: &mut [u8])
+    requires few { k < TYPES_LIMIT }
+    requires within { 2 * k + 1 < length flags.old }
+    ensures { flags.new ≡ slice_set (slice_set flags.old (2 * k)
+        (character_at line.now (CELL_WIDTH * k + (NAME_WIDTH + OBSERVATION_WIDTH + 1)))) (2 * k + 1)
+        (character_at line.now (CELL_WIDTH * k + (NAME_WIDTH + OBSERVATION_WIDTH + 2))) }
+{
+    let end = CELL_WIDTH * k + NAME_WIDTH + CELL_WIDTH;
+    if end <= line.len() {
+        // Both become one load and one store.
+        let (lock, strength) = (line[end - 2], line[end - 1]);
+        flags[2 * k] = lock;
+        flags[2 * k + 1] = strength;
+        return;
+    }
+    let (lock, strength) = indicators(line, k);
+    flags[2 * k] = lock;
+    flags[2 * k + 1] = strength;
 }
 
 /// How many types the satellite of a line has, where the line begins with an identifier of a system with types.
@@ -432,7 +526,7 @@ fn cell(line: &[u8], k: usize) -> Option<(Option<i64>, u8, u8)>
     }
 }
 
-/// The same of a cell whose field may end after the line does, and in the general form.
+/// What [`cell`] gives, where the line may end within the cell, or its field isn't one that [`obs_read_usual`] reads.
 #[inline(never)]
 fn cell_in_any_spelling(line: &[u8], k: usize) -> Option<(Option<i64>, u8, u8)>
     requires { k < TYPES_LIMIT }
@@ -492,8 +586,23 @@ fn put_flags(held: &mut [u8], flags: &[u8])
     requires { length flags.now ≤ length held.old }
     ensures { held.new ≡ flags.now ++ replicate (length held.old - length flags.now) 32 }
 {
+    if are_put(held, flags) {
+        return;
+    }
     held[..flags.len()].copy_from_slice(flags);
     held[flags.len()..].fill(b' ');
+}
+
+/// Whether indicators stand in their places already, with blanks after them. They mostly do, and a copy and a filling are two calls of
+/// the C library.
+#[inline(always)]
+fn are_put(held: &[u8], flags: &[u8]) -> bool
+    requires { length flags.now ≤ length held.now }
+    ensures { OnTrue result
+        (held.now ≡ flags.now ++ replicate (length held.now - length flags.now) 32) }
+{
+    let count = flags.len();
+    &held[..count] == flags && all_blank(&held[count..])
 }
 
 /// Appends cells: each value in its columns, and its two indicators.

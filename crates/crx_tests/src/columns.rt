@@ -25,21 +25,16 @@ fn no_columns(alloc: Global) -> Owned<Columns>
 const ONE_TYPE: &[u8] =
     b"G    1 C1C                                                  SYS / # / OBS TYPES";
 
-/// An epoch with no rows yet.
-fn begun(alloc: Global, line: &[u8]) -> Result<Owned<Epoch>, Fault> {
-    match Head::read(line)? {
-        Head::Epoch(head) => Ok(Owned::of(Epoch::new(alloc, head))),
-        Head::Event { .. } => Err(Fault::NotAnEpoch),
-    }
-}
-
 /// The epoch of RINEX lines that are separated by `|`.
 fn epoch_of(alloc: Global, types: &Types, lines: &str) -> Result<Owned<Epoch>, Fault> {
     let mut rows = lines.split('|');
     let Some(first) = rows.next() else {
         return Err(Fault::Truncated);
     };
-    let mut epoch = begun(alloc, first.as_bytes())?;
+    let Head::Epoch(head) = Head::read(first.as_bytes())? else {
+        return Err(Fault::NotAnEpoch);
+    };
+    let mut epoch = Owned::of(Epoch::new(alloc, head));
     for line in rows {
         if epoch.value.is_full() {
             return Err(Fault::BadEpoch);

@@ -1,11 +1,9 @@
 //! What a device of std is asked, call by call: `Std` neither tries again nor leaves out a call.
 
-use crx_text::{Fault, LineReader, Sink, Source, Std};
-use std::alloc::Global;
+use crx_text::{Fault, Sink, Source, Std};
 use std::io;
 use std::io::{Read, Write};
 use std::process::Abort;
-use std::test::Fail;
 
 /// Counts the calls. The first one of each kind fails, the second write takes nothing, the third read
 /// gives nothing; each other read gives one byte, and each other write takes one.
@@ -52,15 +50,6 @@ impl Write for Counting {
     }
 }
 
-fn failing_with(kind: io::ErrorKind) -> Std<Counting> {
-    Std::new(Counting {
-        kind,
-        reads: 0,
-        writes: 0,
-        flushes: 0,
-    })
-}
-
 /// A call of a device.
 enum Call<'a> {
     /// A read into so many bytes, at most four.
@@ -87,19 +76,13 @@ fn answer(device: &mut Std<Counting>, call: &Call<'_>) -> Result<usize, Fault> {
         .map_err(|_| Fault::ReadFailed)
 }
 
-/// The reads, writes and flushes of the inner device.
-fn counts(device: Std<Counting>) -> [u32; 3] {
-    let inner = device.into_inner();
-    [inner.reads, inner.writes, inner.flushes]
-}
-
 /// Calls one after another, what each answers, and the counts after it.
 const CALLS: &[(Call<'_>, Result<usize, Fault>, [u32; 3])] = &[
     (Call::Read(4), Err(Fault::ReadFailed), [1, 0, 0]),
     (Call::Read(4), Ok(1), [2, 0, 0]),
     (Call::Read(4), Ok(0), [3, 0, 0]),
     (Call::Read(0), Ok(0), [4, 0, 0]),
-    (Call::Write(b"ab"), Err(Fault::WriteFailed), [4, 1, 0]),
+    (Call::Write(b""), Err(Fault::WriteFailed), [4, 1, 0]),
     (Call::Write(b"ab"), Err(Fault::WriteFailed), [4, 2, 0]),
     (Call::Write(b"ab"), Ok(1), [4, 3, 0]),
     (Call::Write(b""), Ok(0), [4, 4, 0]),
@@ -111,11 +94,17 @@ const CALLS: &[(Call<'_>, Result<usize, Fault>, [u32; 3])] = &[
 
 fn expect_one_call_each(rt: &impl Abort, kind: io::ErrorKind) {
     for (place, (_, _, after)) in CALLS.iter().enumerate() {
-        let mut device = failing_with(kind);
+        let mut device = Std::new(Counting {
+            kind,
+            reads: 0,
+            writes: 0,
+            flushes: 0,
+        });
         for (call, want, _) in CALLS.iter().take(place.saturating_add(1)) {
             assert!(rt; answer(&mut device, call) == *want);
         }
-        assert!(rt; counts(device) == *after);
+        let inner = device.into_inner();
+        assert!(rt; [inner.reads, inner.writes, inner.flushes] == *after);
     }
 }
 
@@ -128,51 +117,4 @@ fn asks_the_inner_device_once_a_call(rt: HostRuntime) {
     ] {
         expect_one_call_each(&rt, kind);
     }
-}
-
-/// Gives its text in one read, then reports the end, and counts the reads.
-#[derive(Drop)]
-struct OnePiece<'a> {
-    text: &'a [u8],
-    reads: u32,
-}
-
-impl Read for OnePiece<'_> {
-    fn read(&mut self, buffer: &mut [u8]) -> io::Result<usize> {
-        self.reads = self.reads.saturating_add(1);
-        let count = self.text.len().min(buffer.len());
-        buffer[..count].copy_from_slice(&self.text[..count]);
-        self.text = &self.text[count..];
-        Ok(count)
-    }
-}
-
-/// How many reads were made after so many calls of the reader of lines.
-fn reads_after(alloc: Global, text: &[u8], calls: usize) -> Result<Option<u32>, Fail> {
-    let mut reader = Std::new(OnePiece { text, reads: 0 });
-    let mut lines = LineReader::new(alloc)?;
-    for _ in 0..calls {
-        if lines.next_line(&mut reader).is_err() {
-            return Ok(None);
-        }
-    }
-    Ok(Some(reader.into_inner().reads))
-}
-
-/// A text, and how many reads were made after each call of the reader of lines.
-const PIECES: &[(&[u8], &[u32])] = &[
-    (b"", &[0, 1, 1, 1]),
-    (b"a\nb\n", &[0, 1, 1, 2, 2, 2]),
-    (b"a\nb", &[0, 1, 2, 2, 2]),
-    (b"\n", &[0, 1, 2, 2]),
-];
-
-#[test]
-fn asks_for_each_piece_once(rt: HostRuntime) -> Result<(), Fail> {
-    for (text, wanted) in PIECES {
-        for (calls, reads) in wanted.iter().enumerate() {
-            assert!(rt; reads_after(rt.alloc(), text, calls)? == Some(*reads));
-        }
-    }
-    Ok(())
 }

@@ -2,7 +2,7 @@
 
 use crate::texts::shown;
 use crx_lines::limits::LINE_LIMIT;
-use crx_text::{Text, diff_text, patch_bytes, patch_text, trim_end};
+use crx_text::{Text, diff_text, patch_text, trim_end};
 use std::process::Abort;
 
 #[test]
@@ -129,46 +129,6 @@ fn one_other_character_at_each_length(rt: HostRuntime) {
                 expect_refused(&rt, &old, &new[..length], may_be_marks);
             }
             new[place] = before;
-        }
-    }
-}
-
-/// Expects the marks between two texts of which one goes on after the other, and the new one back.
-fn expect_marks_after(rt: &impl Abort, old: &Text, new: &[u8]) {
-    let mut marks = Text::new();
-    let mut back = Text::new();
-    if new.len() > LINE_LIMIT {
-        return;
-    }
-    assert!(rt; diff_text(old, new, &mut marks).is_ok());
-    let common = old.len().min(new.len());
-    let length = if old.len() == new.len() {
-        0
-    } else {
-        old.len().max(new.len())
-    };
-    assert_eq!(rt; marks.len(), length, "{} bytes", new.len());
-    for (place, mark) in marks.bytes().iter().enumerate() {
-        let wanted = if place < common {
-            b' '
-        } else {
-            *new.get(place).unwrap_or(&b'&')
-        };
-        assert_eq!(rt; *mark, wanted, "{place} of {}", new.len());
-    }
-    assert!(rt; patch_bytes(old.bytes(), marks.bytes(), &mut back).is_ok());
-    assert!(rt; back.bytes() == new, "{} bytes", new.len());
-}
-
-#[test]
-fn texts_of_other_lengths(rt: HostRuntime) {
-    let text = letters();
-    let mut old = Text::new();
-    for some in [0, 1, 31, 32, 33, 64, 130, LINE_LIMIT] {
-        old.clear();
-        assert!(rt; old.extend(&text[..some.min(LINE_LIMIT)]).is_ok());
-        for count in lengths() {
-            expect_marks_after(&rt, &old, &text[..count.min(LINE_LIMIT)]);
         }
     }
 }

@@ -1,6 +1,6 @@
-//! The texts of all faults, of a fault at a line, and of the other errors.
+//! The texts of all faults, alone and at a line.
 
-use crx_text::{At, BadCharacter, BadField, Fault, ReadFailed, TextFull, WriteFailed};
+use crx_text::{At, Fault};
 use std::test::Fail;
 
 /// Each fault, its number, its words, and its text at line 7.
@@ -143,34 +143,5 @@ fn texts_of_faults(rt: HostRuntime) -> Result<(), Fail> {
         let at = At { line: 7, fault };
         assert_eq!(rt; at.to_string(rt.alloc())?.as_str(), text);
     }
-    Ok(())
-}
-
-#[test]
-fn texts_of_faults_at_lines(rt: HostRuntime) -> Result<(), Fail> {
-    let table = [
-        (0, Fault::OutOfMemory, "line 0 code 22: out of memory"),
-        (1, Fault::LineTooLong, "line 1 code 1: line too long"),
-        (
-            u64::MAX,
-            Fault::NoArc,
-            "line 18446744073709551615 code 16: no arc",
-        ),
-    ];
-    for (line, fault, text) in table {
-        let at = At { line, fault };
-        assert_eq!(rt; at.to_string(rt.alloc())?.as_str(), text);
-    }
-    Ok(())
-}
-
-#[test]
-fn texts_of_errors(rt: HostRuntime) -> Result<(), Fail> {
-    let alloc = rt.alloc();
-    assert_eq!(rt; BadField.to_string(alloc)?.as_str(), "bad field");
-    assert_eq!(rt; BadCharacter.to_string(alloc)?.as_str(), "bad character");
-    assert_eq!(rt; TextFull.to_string(alloc)?.as_str(), "the text is full");
-    assert_eq!(rt; ReadFailed.to_string(alloc)?.as_str(), "the read failed");
-    assert_eq!(rt; WriteFailed.to_string(alloc)?.as_str(), "the write failed");
     Ok(())
 }

@@ -4,8 +4,6 @@
 #![tactic(auto)]
 
 #[cfg(test)]
-mod arcs;
-#[cfg(test)]
 mod codes;
 #[cfg(test)]
 mod columns;
@@ -13,12 +11,6 @@ mod columns;
 mod devices;
 #[cfg(test)]
 mod differences;
-#[cfg(test)]
-mod empty_writes;
-#[cfg(test)]
-mod failing_sinks;
-#[cfg(test)]
-mod failing_sources;
 #[cfg(test)]
 mod failures;
 #[cfg(test)]
@@ -34,12 +26,8 @@ mod options;
 #[cfg(test)]
 mod owned;
 #[cfg(test)]
-mod pending_lines;
-#[cfg(test)]
 mod rinex;
 #[cfg(test)]
 mod steps;
 #[cfg(test)]
 mod texts;
-#[cfg(test)]
-mod writes;

@@ -49,27 +49,3 @@ fn finds_an_lf_at_each_place(rt: HostRuntime) -> Result<(), Fail> {
     }
     Ok(())
 }
-
-/// The places of two LF in a text of 130 bytes, and the lengths of its lines.
-const TWO: &[(usize, usize, &[usize])] = &[
-    (0, 1, &[0, 0, 128]),
-    (3, 31, &[3, 27, 98]),
-    (31, 32, &[31, 0, 97]),
-    (32, 63, &[32, 30, 66]),
-    (40, 129, &[40, 88]),
-    (128, 129, &[128, 0]),
-];
-
-#[test]
-fn finds_each_of_two(rt: HostRuntime) -> Result<(), Fail> {
-    for (first, second, lengths) in TWO {
-        let mut bytes = vec![in rt.alloc(); 138u8; 130]?;
-        for at in [*first, *second] {
-            if let Some(byte) = bytes.get_mut(at) {
-                *byte = b'\n';
-            }
-        }
-        expect_lengths(&rt, rt.alloc(), bytes.as_slice(), lengths)?;
-    }
-    Ok(())
-}

@@ -1,10 +1,9 @@
-//! Lines with each kind of line end, out of a slice, byte by byte, and out of a reader that fails.
+//! Lines with each kind of line end, out of a slice and out of a reader that fails.
 
+use crx_devices::{FailingSource, Plan, When};
 use crx_lines::limits::LINE_LIMIT;
-use crx_text::{At, Fault, Line, LineReader, ReadFailed, Source, Std};
+use crx_text::{At, Fault, Line, LineReader, Source, Std};
 use std::alloc::Global;
-use std::io;
-use std::io::Read;
 use std::process::Abort;
 use std::test::Fail;
 
@@ -44,24 +43,6 @@ fn expect_answers<R: Source>(
     Ok(())
 }
 
-/// Gives one byte at a time.
-#[derive(Drop)]
-struct OneByOne<'a> {
-    rest: &'a [u8],
-}
-
-impl Read for OneByOne<'_> {
-    fn read(&mut self, buffer: &mut [u8]) -> io::Result<usize> {
-        let rest = self.rest;
-        if buffer.is_empty() || rest.is_empty() {
-            return Ok(0);
-        }
-        buffer[0] = rest[0];
-        self.rest = &rest[1..];
-        Ok(1)
-    }
-}
-
 #[test]
 fn reads_each_line_end(rt: HostRuntime) -> Result<(), Fail> {
     let table: [(&[u8], &[Answer<'_>]); 6] = [
@@ -97,60 +78,21 @@ fn reads_each_line_end(rt: HostRuntime) -> Result<(), Fail> {
     ];
     for (bytes, wanted) in table {
         expect_answers(&rt, rt.alloc(), &mut Std::new(bytes), wanted)?;
-        let mut slow = Std::new(OneByOne { rest: bytes });
-        expect_answers(&rt, rt.alloc(), &mut slow, wanted)?;
     }
     Ok(())
 }
 
-/// Gives what it has, one byte at a time, and fails from then on.
-#[derive(Drop)]
-struct Broken<'a> {
-    rest: &'a [u8],
-    failures: u64,
-}
-
-impl Source for Broken<'_> {
-    ghost gave = { λ a bytes b. Unit {0} };
-
-    ghost at_end = { λ s. Unit {0} };
-
-    ghost failures = { λ s. s.failures };
-
-    ghost ends = { λ s. 0 };
-
-    fn read(&mut self, buffer: &mut [u8]) -> Result<usize, ReadFailed> {
-        let rest = self.rest;
-        if buffer.is_empty() {
-            return Ok(0);
-        }
-        if rest.is_empty() {
-            self.failures = self.failures.saturating_add(1);
-            return Err(ReadFailed);
-        }
-        buffer[0] = rest[0];
-        self.rest = &rest[1..];
-        Ok(1)
-    }
-
-    ghost gave_none = { λ s. tt };
-
-    ghost gave_both = { λ a b c xs ys p q. tt };
-}
-
 #[test]
 fn stops_at_a_failed_read(rt: HostRuntime) -> Result<(), Fail> {
-    let mut reader = Broken {
-        rest: b"a\nbc",
-        failures: 0,
-    };
+    let plan = Plan::from_then_on(When::AfterBytes(4));
+    let mut reader = FailingSource::new(b"a\nbc", 1, plan);
     let wanted = [
         Answer::Line(b"a", 1, true),
         Answer::Fault(2, Fault::ReadFailed),
         Answer::Fault(2, Fault::ReadFailed),
     ];
     expect_answers(&rt, rt.alloc(), &mut reader, &wanted)?;
-    assert_eq!(rt; reader.failures, 1);
+    assert_eq!(rt; reader.failures(), 1);
     Ok(())
 }
 

@@ -1,8 +1,7 @@
-//! Which dates are taken, what counts as every how many epochs, and the text of the error.
+//! Which dates are taken.
 
 use crate::texts::shown;
 use crx_engine::{BadDate, Options};
-use std::test::Fail;
 
 #[test]
 fn refuses_long_dates_and_other_bytes(rt: HostRuntime) {
@@ -25,28 +24,4 @@ fn refuses_long_dates_and_other_bytes(rt: HostRuntime) {
             Err(BadDate) => assert!(rt; !good, "{}", shown(date)),
         }
     }
-}
-
-#[test]
-fn takes_every_0_as_none(rt: HostRuntime) {
-    for (given, kept) in [
-        (None, None),
-        (Some(0), None),
-        (Some(1), Some(1)),
-        (Some(30), Some(30)),
-    ] {
-        match Options::new(given, false, b"") {
-            Ok(options) => {
-                assert!(rt; options.every() == kept);
-                assert!(rt; !options.skip());
-            }
-            Err(BadDate) => assert!(rt; false),
-        }
-    }
-}
-
-#[test]
-fn text_of_the_error(rt: HostRuntime) -> Result<(), Fail> {
-    assert_eq!(rt; BadDate.to_string(rt.alloc())?.as_str(), "bad date");
-    Ok(())
 }

@@ -21,6 +21,14 @@ struct Answer {
     again: Option<Step>,
 }
 
+/// A run of an engine: whether it skips, the lines of its input, the answers to them, and the fault of one more line.
+struct Run {
+    skip: bool,
+    lines: &'static str,
+    answers: &'static [Answer],
+    fault: Option<At>,
+}
+
 /// Nothing is to be written.
 const QUIET: Answer = Answer {
     step: Step::Quiet,
@@ -28,14 +36,26 @@ const QUIET: Answer = Answer {
     again: None,
 };
 
-/// So many lines are ready.
-const fn ready(count: usize) -> Answer {
-    Answer {
-        step: Step::Ready,
-        ready: count,
-        again: None,
-    }
-}
+/// One line is ready.
+const ONE: Answer = Answer {
+    step: Step::Ready,
+    ready: 1,
+    again: None,
+};
+
+/// Two lines are ready.
+const TWO: Answer = Answer {
+    step: Step::Ready,
+    ready: 2,
+    again: None,
+};
+
+/// Three lines are ready.
+const THREE: Answer = Answer {
+    step: Step::Ready,
+    ready: 3,
+    again: None,
+};
 
 /// A line that gives two warnings.
 const TWICE: Answer = Answer {

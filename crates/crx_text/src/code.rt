@@ -86,7 +86,7 @@ pub fn step_print_cell(difference: i64, text: &mut Text) -> Result<(), TextFull>
     Ok(())
 }
 
-// The same as `code_print`, where there may be no room for every code.
+// Does what `code_print` does, where there may be no room for every code.
 #[cold]
 #[inline(never)]
 #[tactic(auto, using(crate::proofs::CodeTexts::code_text_length))]
@@ -101,7 +101,7 @@ fn code_print_at_end(code: Code, text: &mut Text) -> Result<(), TextFull>
     text.extend(&printed[..end])
 }
 
-// The same as `code_print_cell`.
+// Does what `code_print_cell` does, where there may be no room for every code.
 #[cold]
 #[inline(never)]
 #[tactic(auto, using(crate::proofs::CodeTexts::code_text_length))]
@@ -116,7 +116,7 @@ fn cell_print_at_end(code: Code, text: &mut Text) -> Result<(), TextFull>
     text.extend(&printed[..end])
 }
 
-// The same as `step_print_cell`.
+// Does what `step_print_cell` does, where there may be no room for every code.
 #[cold]
 #[inline(never)]
 fn step_print_at_end(difference: i64, text: &mut Text) -> Result<(), TextFull>

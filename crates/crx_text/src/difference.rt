@@ -31,8 +31,8 @@ pub fn diff_text(old: &Text, new: &[u8], out: &mut Text) -> Result<(), BadCharac
     diff_bytes(old.bytes(), new, out)
 }
 
-/// The same of an old text in a slice: it asks for at most
-/// [`LINE_LIMIT`](crx_lines::limits::LINE_LIMIT) bytes there too.
+/// Writes the marks that lead from an old text to a new one, as [`diff_text`] does, where the old one is a slice. It asks for at most
+/// [`LINE_LIMIT`](crx_lines::limits::LINE_LIMIT) bytes in each.
 pub fn diff_bytes(old: &[u8], new: &[u8], out: &mut Text) -> Result<(), BadCharacter>
     requires old_fits { length old.now ≤ LINE_LIMIT }
     requires new_fits { length new.now ≤ LINE_LIMIT }
@@ -72,8 +72,8 @@ pub fn patch_text(old: &Text, marks: &[u8], out: &mut Text) -> Result<(), BadCha
     patch_bytes(old.bytes(), marks, out)
 }
 
-/// The same of an old text in a slice: it asks for at most
-/// [`LINE_LIMIT`](crx_lines::limits::LINE_LIMIT) bytes there too.
+/// Writes the text that marks make of an old one, as [`patch_text`] does, where the old one is a slice. It asks for at most
+/// [`LINE_LIMIT`](crx_lines::limits::LINE_LIMIT) bytes in each.
 pub fn patch_bytes(old: &[u8], marks: &[u8], out: &mut Text) -> Result<(), BadCharacter>
     requires old_fits { length old.now ≤ LINE_LIMIT }
     requires marks_fit { length marks.now ≤ LINE_LIMIT }

@@ -51,9 +51,11 @@ pub(crate) fn digits_before_blank(text: &[u8]) -> Option<(u64, usize)>
     }
 }
 
-// The same where fewer digits than a row has stand before a blank, or before the text's end; else None, whatever there is.
-// Where fewer characters than a row has are left of a line, the digits are read one by one: they are few, and so a line's
-// last code takes 50 to 100 instructions, as others do, and not 250 by a way of its own.
+// What `digits_before_blank` gives, where fewer digits than a row has stand before a blank, or before the text's end; else
+// None, whatever there is. A row is a vector of eight characters: seven digits and their blank fit it, and most codes have
+// no more, so they take 53 instructions in place of 60 to 126. Where fewer characters than a row has are left of a line, the
+// digits are read one by one: they are few, and so a line's last code takes 50 to 100 instructions, as others do, and not
+// 250 by a way of its own.
 #[inline(always)]
 pub(crate) fn few_digits_before_blank(text: &[u8]) -> Option<(u64, usize)>
     ensures value { IfSome result (λ cell. counted_digits (first_cell text.now) ≡ Some cell.0) }
@@ -70,7 +72,7 @@ pub(crate) fn few_digits_before_blank(text: &[u8]) -> Option<(u64, usize)>
     ended_digits(text, size, count)
 }
 
-// The same, digit by digit.
+// What `digits_before_blank` gives, read digit by digit: numbers of eight digits or more, and the last code of a line.
 #[inline(always)]
 fn digits_before_blank_singly(text: &[u8]) -> Option<(u64, usize)>
     ensures value { option_map (λ cell. cell.0) result ≡ counted_digits (first_cell text.now) }
@@ -255,7 +257,7 @@ fn write_decimal(buffer: &mut [u8], at: usize, size: u64) -> usize
     middle + 4
 }
 
-// The same of what stands before a number's last four digits.
+// Writes what stands before a number's last four digits. Of up to eight digits it is written here, without a call.
 #[inline(always)]
 fn write_front(buffer: &mut [u8], at: usize, size: u64) -> usize
     requires { at + length (decimal size) + 3 ≤ length buffer.old }
@@ -268,7 +270,7 @@ fn write_front(buffer: &mut [u8], at: usize, size: u64) -> usize
     write_long(buffer, at, size)
 }
 
-// The same of a number of any count of digits, four at a time.
+// Writes a number of any count of digits, four at a time, the first ones first: it calls itself for those before the last four.
 fn write_long(buffer: &mut [u8], at: usize, size: u64) -> usize
     requires { at + length (decimal size) + 3 ≤ length buffer.old }
     ensures written { take result buffer.new ≡ take at buffer.old ++ decimal size }
@@ -283,7 +285,7 @@ fn write_long(buffer: &mut [u8], at: usize, size: u64) -> usize
     middle + 4
 }
 
-// The same of a number of at most four digits. Its four columns are made in one word, the word is shifted by the zeros
+// Writes a number of at most four digits. Its four columns are made in one word, the word is shifted by the zeros
 // before the number, and it is written by one store. A branch on the count of digits takes 5 to 17 instructions less, but
 // is mispredicted where the count differs from value to value: 7.9 ns a call in place of 4.4 over random numbers.
 #[inline(always)]

@@ -28,6 +28,6 @@ pub use difference::{
 };
 pub use number::{
     BadField, clock_print, clock_read, obs_print, obs_print_cell, obs_print_cell_into, obs_read,
-    obs_read_usual,
+    obs_read_into, obs_read_usual,
 };
 pub use text::{Text, TextFull, trim_end};

@@ -2,6 +2,7 @@
 //! (RINEX 3.05, table A3). They are read leniently and printed in one spelling.
 
 ghost use Rattle.std.specs.Prelude.{◌≡◌, ◌+◌, ◌-◌, ◌*◌, ◌<◌, ◌≤◌, ◌^◌, ◌%◌, ◌++◌, ◌∷◌, [], Option, length, take, drop, replicate, decimal, if◌then◌else◌, IfOk, IfSome, Some};
+ghost use Rattle.std.specs.Bool.{OnFalse, OnTrue};
 ghost use Rattle.std.specs.Option.{ForSome};
 ghost use Rattle.std.specs.Result.{result_ok};
 ghost use Rattle.crx_text.specs.declared.digits.TheConstants.{WIDEST};
@@ -47,17 +48,35 @@ pub fn obs_read_usual(field: &[u8]) -> Option<Option<i64>>
     ensures value { IfSome result (λ value. observation_of field.now ≡ Some value) }
     ensures in_range { IfSome result (λ value. IfSome value IsObservation) }
 {
-    if field.len() != OBSERVATION_WIDTH {
-        return None;
-    }
-    let columns = field::columns(field);
-    if field::is_blank(columns) {
-        return Some(None);
-    }
-    if field::is_plain(columns) {
-        return Some(Some(field::value(columns)));
+    let mut value = None;
+    if obs_read_into(field, &mut value) {
+        return Some(value);
     }
     None
+}
+
+/// Reads an observation as [`obs_read_usual`] does, into a place; `false` comes where that gives `None`, and then the place stays as
+/// it was. A result that holds a value beside a mark of its own is set to zero before each call, and copied after it. Few fields
+/// are blank, so that is tested last.
+#[inline(always)]
+pub fn obs_read_into(field: &[u8], value: &mut Option<i64>) -> bool
+    ensures value { OnTrue result (observation_of field.now ≡ Some value.new) }
+    ensures in_range { OnTrue result (IfSome value.new IsObservation) }
+    ensures same { OnFalse result (value.new ≡ value.old) }
+{
+    if field.len() != OBSERVATION_WIDTH {
+        return false;
+    }
+    let columns = field::columns(field);
+    if field::is_plain(columns) {
+        *value = Some(field::value(columns));
+        return true;
+    }
+    if field::is_blank(columns) {
+        *value = None;
+        return true;
+    }
+    false
 }
 
 // Reads an observation in the general form, column by column.

@@ -124,8 +124,17 @@ fn end_blanks(text: &[u8]) -> usize
     ensures within { result ≤ length text.now }
 {
     let mut end = text.len();
-    if end > 0 && text[end - 1] != b' ' {
-        return end;
+    if end > 2 {
+        if text[end - 1] != b' ' {
+            return end;
+        }
+        // One blank stands after the last code of most compact lines, two where the last cell of a row has no indicators.
+        if text[end - 2] != b' ' {
+            return end - 1;
+        }
+        if text[end - 3] != b' ' {
+            return end - 2;
+        }
     }
     while end >= LANES {
         let start = end - LANES;
@@ -163,7 +172,7 @@ fn kept_in(characters: u8x16) -> usize
 // Half as many characters as there are lanes: the indicators of four types are as many, and one by one they take 6 instructions each.
 const EIGHT: usize = 8;
 
-// The same of 8 characters.
+// How many of 8 characters stand before the blanks at their end.
 #[inline(always)]
 fn kept_in_eight(characters: u8x8) -> usize
     ensures kept { take result characters ≡ without_end_blanks characters }
@@ -174,7 +183,7 @@ fn kept_in_eight(characters: u8x8) -> usize
     64 - others.leading_zeros() as usize
 }
 
-// The same, where only blanks stand from an index on.
+// How many characters of a text stand before the blanks at its end, where only blanks stand from an index on: one by one.
 fn end_blanks_singly(text: &[u8], from: usize) -> usize
     requires within { from ≤ length text.now }
     requires blanks { without_end_blanks (take from text.now) ≡ without_end_blanks text.now }

@@ -10,8 +10,8 @@ use Rattle.jiff.specs.Types.{DateTime}
 use Rattle.jiff.specs.Words.{days_in_month}
 use Rattle.crx_text.specs.meaning.Texts.{is_printable}
 use Rattle.crx_engine.specs.meaning.Choices.{is_date}
-use Rattle.rnxcmp.specs.Dates.{IsDateText, date_text_of, months, two_digits}
-use Rattle.rnxcmp.specs.Program.{IsDefaultDate}
+use Rattle.rnxcmp.specs.meaning.Dates.{IsDateText, date_text_of, months, two_digits}
+use Rattle.rnxcmp.specs.meaning.Jobs.{IsDefaultDate}
 
 -- a text of so many bytes at most, each printable
 record Fits (most : ℕ) (text : List ℕ) : Type 0 where

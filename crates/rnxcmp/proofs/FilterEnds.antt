@@ -4,7 +4,7 @@ use Rattle.crx_lines.specs.declared.device.Sink.{Ghosts as SinkGhosts}
 use Rattle.crx_lines.specs.declared.device.Source.{Ghosts as SourceGhosts}
 use Rattle.crx_engine.specs.meaning.Choices.{Choices}
 use Rattle.crx_filter.specs.meaning.Spans.{Input, Device, reader_span}
-use Rattle.rnxcmp.specs.Program.{IsJobDone, IsFilteredFrom, IsFilteredInto, IsNotBegun}
+use Rattle.rnxcmp.specs.meaning.Jobs.{IsJobDone, IsFilteredFrom, IsFilteredInto, IsNotBegun}
 use Rattle.rnxcmp.specs.declared.job.Job.{Job}
 use Rattle.rnxcmp.specs.declared.job.Tool.{Tool}
 

@@ -3,3 +3,5 @@ pub mod Commands
 pub mod Names
 pub mod Planning
 pub mod Program
+pub mod Dates
+pub mod Jobs

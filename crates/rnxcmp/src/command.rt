@@ -214,7 +214,7 @@ fn top<'a>(alloc: Global) -> Command<'a>
 }
 
 /// The whole command line: `rnx2crx`, `crx2rnx` and `check`, each with its options and its help. The
-/// words come without the program's name.
+/// arguments come without the program's name.
 pub fn command<'a>(alloc: Global) -> Result<Command<'a>, AllocError>
     ensures { IfOk result (λ c. app_of c ≡ program) }
 {
@@ -222,86 +222,4 @@ pub fn command<'a>(alloc: Global) -> Result<Command<'a>, AllocError>
         .subcommand(rnx2crx(alloc)?)?
         .subcommand(crx2rnx(alloc)?)?
         .subcommand(checker(alloc)?)
-}
-
-#[cfg(test)]
-mod tests {
-    use super::*;
-    use std::process::Abort;
-    use std::test::Fail;
-
-    // The help that some words ask for.
-    fn help(alloc: Global, line: &str) -> Result<String, Fail> {
-        let mut words = Vec::new(alloc);
-        for word in line.split(' ') {
-            words.push(String::from_str(alloc, word)?)?;
-        }
-        match command(alloc)?.try_get_matches_from(words.as_slice()) {
-            Ok(_) => Err(Fail::from("no help")),
-            Err(error) => Ok(format!(in alloc; "{error}")?),
-        }
-    }
-
-    fn holds(rt: &impl Abort, text: &str, parts: &[&str]) {
-        for part in parts {
-            assert!(rt; text.contains(*part), "{part}: {text}");
-        }
-        for line in text.lines() {
-            assert!(rt; line.len() <= 80, "{line}");
-        }
-    }
-
-    #[test]
-    fn the_help_of_the_program(rt: HostRuntime) -> Result<(), Fail> {
-        let text = help(rt.alloc(), "--help")?;
-        holds(
-            &rt,
-            text.as_str(),
-            &[
-                "Usage: rnxcmp <COMMAND>",
-                "rnx2crx",
-                "crx2rnx",
-                "check",
-                ".24o <-> .24d",
-                "ERROR line 7 code 18: bad indicator",
-                "Exit status: 0",
-                "gzip -dc a.crx.gz | rnxcmp crx2rnx > a.rnx",
-            ],
-        );
-        Ok(())
-    }
-
-    #[test]
-    fn the_help_of_each_subcommand(rt: HostRuntime) -> Result<(), Fail> {
-        let common = ["-h, --help", "Exit status: 0", "Examples:", "[FILE]..."];
-        for (words, parts) in [
-            (
-                "rnx2crx --help",
-                [
-                    "Usage: rnxcmp rnx2crx",
-                    "-e <N>",
-                    "--date <TEXT>",
-                    ".rnx becomes .crx",
-                ],
-            ),
-            (
-                "crx2rnx --help",
-                ["Usage: rnxcmp crx2rnx", "  -s", "  -f", ".crx becomes .rnx"],
-            ),
-            (
-                "check --help",
-                [
-                    "Usage: rnxcmp check",
-                    "six lines",
-                    "byte for byte",
-                    "not standard",
-                ],
-            ),
-        ] {
-            let text = help(rt.alloc(), words)?;
-            holds(&rt, text.as_str(), parts.as_slice());
-            holds(&rt, text.as_str(), common.as_slice());
-        }
-        Ok(())
-    }
 }

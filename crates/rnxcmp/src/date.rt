@@ -1,7 +1,7 @@
 //! The date in the second line of Compact RINEX 3.0.
 
 ghost use Rattle.std.specs.Prelude.{◌≡◌, ◌<◌, ◌-◌, ◌⊎◌, ◌++◌, ℤ, [], IfOk, OnOk, string_bytes};
-ghost use Rattle.rnxcmp.specs.Dates.{IsDateText, date_text_of, months, two_digits};
+ghost use Rattle.rnxcmp.specs.meaning.Dates.{IsDateText, date_text_of, months, two_digits};
 ghost use Rattle.std.specs.List.{slice_index_or};
 
 use jiff::Timestamp;
@@ -48,8 +48,8 @@ fn shown(alloc: Global, at: DateTime) -> Result<String, AllocError>
 }
 
 /// A moment in UTC, as `31-Dec-23 23:59`: the day, the English name of the month in three letters,
-/// the last two digits of the year (its sign left out), the hour and the minute. What is past the
-/// minute is left out, so each text stands for the minute that it names, before 1970 too.
+/// the last two digits of the year (its sign left out), the hour and the minute. Seconds are
+/// left out, so each text stands for the minute that it names, before 1970 too.
 pub fn date_text(alloc: Global, at: Timestamp) -> Result<String, AllocError>
     ensures { IfOk result (λ text. IsDateText at.nanosecond (string_bytes text)) }
 {
@@ -70,9 +70,7 @@ pub fn default_date<C: Clock>(clock: &C, alloc: Global) -> Result<String, AllocE
 #[cfg(test)]
 mod tests {
     use super::*;
-    use std::io;
     use std::test::Fail;
-    use std::time::Duration;
 
     #[test]
     fn shows_moments_in_utc(rt: HostRuntime) -> Result<(), Fail> {
@@ -116,31 +114,6 @@ mod tests {
             let text = date_text(rt.alloc(), Timestamp::new(day * 86_400, 0)?)?;
             assert!(rt; text.as_str().contains(month), "{text}");
         }
-        Ok(())
-    }
-
-    // A clock that stands still, or gives no moment.
-    #[derive(Drop)]
-    struct Still(Option<Duration>);
-
-    impl Clock for Still {
-        fn monotonic(&self) -> io::Result<Duration> {
-            Ok(Duration::from_secs(0))
-        }
-
-        fn since_1970(&self) -> io::Result<Duration> {
-            self.0.ok_or(io::Error::from(io::ErrorKind::Other))
-        }
-    }
-
-    #[test]
-    fn the_default_is_the_moment_of_the_clock(rt: HostRuntime) -> Result<(), Fail> {
-        let late = Still(Some(Duration::new(1_704_067_199, 5)));
-        assert!(rt; default_date(&late, rt.alloc())?.as_str() == "31-Dec-23 23:59");
-        let none = Still(None);
-        assert!(rt; default_date(&none, rt.alloc())?.as_str() == "");
-        let now = default_date(&rt, rt.alloc())?;
-        assert!(rt; now.len() == 15, "{now}");
         Ok(())
     }
 }

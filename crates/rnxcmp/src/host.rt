@@ -1,4 +1,4 @@
-//! The program's words and its standard streams.
+//! The program's arguments and its standard streams.
 
 use crate::job::UsageFault;
 use crate::output::UntilFailure;
@@ -14,7 +14,7 @@ use std::{env, fs, io};
 /// What can be opened on each machine, and neither read nor written: the folder of all others.
 const NO_STREAM: &str = "/";
 
-/// Why there are no words: no memory was left for them, or they aren't text.
+/// Why there are no arguments: the system refused memory for them, or they aren't text.
 fn no_words(alloc: Global, error: &io::Error) -> UsageFault {
     if error.kind() == io::ErrorKind::OutOfMemory {
         return UsageFault::Memory;
@@ -34,9 +34,9 @@ fn words_given(rt: &HostRuntime) -> Result<Vec<String>, UsageFault> {
 /// Does what the arguments ask for, over the standard streams (see [`run`]), and
 /// answers the exit status. The output goes through a buffer.
 ///
-/// Where no memory is left for the words or the buffer, that is fault 22 at line 0, status 1. Words
-/// that aren't text are refused as such. A standard stream that was closed before the program began stays closed: a file
-/// that the words name doesn't take its place.
+/// If the system refuses memory for the arguments or the buffer, that is fault 22 at line 0, status 1. Arguments that aren't text
+/// are refused as such. A standard stream that was closed before the program began stays closed: a file that the arguments name
+/// doesn't take its place.
 pub fn run_host(rt: &HostRuntime) -> ExitCode {
     // The system gives the lowest number that is free, and numbers 0 to 2 are the standard streams.
     let _places = [

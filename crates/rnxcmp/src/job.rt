@@ -38,7 +38,7 @@ pub struct Job {
     pub date: Option<Word>,
 }
 
-/// What the words ask for.
+/// What the arguments ask for.
 #[derive(Debug, Drop)]
 pub enum Decision {
     /// To show this help text.
@@ -47,11 +47,11 @@ pub enum Decision {
     Run(Job),
 }
 
-/// Why the words ask for nothing that can be done.
+/// Why the arguments ask for nothing that can be done.
 #[derive(Debug, Drop, Error)]
 #[error("{}{}", self.words(), self.subject())]
 pub enum UsageFault {
-    /// The words aren't those of the program, or an option's value isn't one that it takes. It holds
+    /// The arguments aren't those of the program, or an option's value isn't one that it takes. It holds
     /// the text for the user.
     Parse(Word),
     /// `-` stands twice.
@@ -62,7 +62,7 @@ pub enum UsageFault {
     BadDate,
     /// The name of the input file, which has no ending from which the output's name is made.
     NoName(Word),
-    /// No memory was left.
+    /// The system refused memory.
     Memory,
 }
 
@@ -81,7 +81,7 @@ impl UsageFault {
         }
     }
 
-    /// The text or the name that it holds, which stands after the words; empty where it holds none.
+    /// The text or the name that it holds, which stands after what is wrong; empty where it holds none.
     pub fn subject(&self) -> &str
         ensures { result.now ≡ subject_of_usage self.now }
     {

@@ -100,7 +100,7 @@ fn ends_in_year(stem: &str) -> bool
     is_year(&bytes[bytes.len().saturating_sub(3)..])
 }
 
-/// What is kept of a name with this ending; `None` where the name hasn't it.
+/// The part of a name with this ending that the output's name has too; `None` where the name hasn't this ending.
 fn stem_of<'a>(name: &'a str, ending: &Ending) -> Option<&'a str>
     ensures { option_map (λ stem. stem.now) result ≡ stem_of (renaming_of ending.now) name.now }
 {
@@ -111,7 +111,7 @@ fn stem_of<'a>(name: &'a str, ending: &Ending) -> Option<&'a str>
     Some(stem)
 }
 
-/// What is kept of the name, and the ending that it gets, by the first ending that it has.
+/// The part of the name that the output's name has too, and the ending that it gets, by the first ending that it has.
 fn renamed<'a>(endings: &[Ending], name: &'a str) -> Option<(&'a str, &'static str)>
     ensures { option_map (λ p. p.0.now ++ p.1.now) result
         ≡ first_renamed (map renaming_of endings.now) name.now }

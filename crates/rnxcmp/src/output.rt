@@ -8,7 +8,7 @@ ghost use Rattle.std.specs.IoError.{error_kind};
 use std::io;
 use std::io::{ErrorKind, Write};
 
-/// A writer that is left alone once a write or a flush of it has failed: each later one fails too, and
+/// A writer that isn't called any more once a write or a flush of it has failed: each later one fails too, and
 /// doesn't reach it.
 ///
 /// std's buffer keeps the bytes that it couldn't write, and tries them again at its next flush. Above this

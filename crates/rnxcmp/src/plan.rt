@@ -221,7 +221,7 @@ fn tool_named(name: &str) -> Tool
     }
 }
 
-/// What the words ask for where they fit the command line.
+/// What the arguments ask for where they fit the command line.
 fn matched(alloc: Global, matches: &ArgMatches<'_>) -> Result<Decision, UsageFault>
     ensures { IfSome (plan_in result) (λ plan. plan ≡ of_subcommand (subcommand_rows_of matches.now)) }
 {
@@ -231,7 +231,7 @@ fn matched(alloc: Global, matches: &ArgMatches<'_>) -> Result<Decision, UsageFau
     }
 }
 
-/// What the parser answers where nothing is to be run: the help that was asked for, or that the words are refused.
+/// What the parser answers where nothing is to be run: the help that was asked for, or that the arguments are refused.
 fn not_run(alloc: Global, error: &Error) -> Result<Decision, UsageFault>
     ensures { IfSome (plan_in result)
         (λ plan. (plan ≡ by_kind (kind_of error.now)) × (kind_of error.now ≢ ErrorKind.OutOfMemory)) }
@@ -245,12 +245,12 @@ fn not_run(alloc: Global, error: &Error) -> Result<Decision, UsageFault>
 
 /// What the arguments ask for; they come without the program's name.
 ///
-/// `Help` holds the help that `-h` or `--help` asks for. Words that aren't those of the command line
-/// are `Parse`, with the text for the user. Then come, in this order: `DashTwice` where `-` stands
+/// `Help` holds the help that `-h` or `--help` asks for. Arguments that aren't those of the command
+/// line are `Parse`, with the text for the user. Then come, in this order: `DashTwice` where `-` stands
 /// more than once, `TwoFiles` where there is more than one file name, `BadDate` where the date has
 /// more than 20 bytes or a byte outside 32 to 126, and `NoName` where the output would go to a file
 /// but the input's name has no ending that can be changed (see [`output_name`]). `Memory` comes where
-/// no memory was left, at any of these places.
+/// the system refused memory, at any of these places.
 ///
 /// Without a file name standard input is read. `check`, and the others without a file name or with
 /// `-`, write to standard output.
@@ -269,7 +269,7 @@ mod tests {
     use std::process::Abort;
     use std::test::Fail;
 
-    // The plan of some words, as one text: what is asked for, the input, the output, and the choices.
+    // The plan of some arguments, as one text: what is asked for, the input, the output, and the choices.
     fn shown(alloc: Global, line: &str) -> Result<String, Fail> {
         let mut words = Vec::new(alloc);
         for word in line.split('|') {
@@ -294,7 +294,7 @@ mod tests {
         Ok(text)
     }
 
-    // Each case is words with `|` between them, and the plan of them.
+    // Each case is arguments with `|` between them, and the plan of them.
     fn agree(rt: &impl Abort, alloc: Global, cases: &[(&str, &str)]) -> Result<(), Fail> {
         for (words, want) in cases {
             let text = shown(alloc, words)?;
@@ -432,17 +432,5 @@ mod tests {
                 ("crx2rnx|a.Crx", "no output name for a.Crx"),
             ],
         )
-    }
-
-    #[test]
-    fn no_words_at_all(rt: HostRuntime) -> Result<(), Fail> {
-        let planned = plan(rt.alloc(), Vec::new(rt.alloc()));
-        match &planned {
-            Err(UsageFault::Parse(text)) => {
-                assert!(rt; text.text().contains("requires a subcommand"), "{text}");
-            }
-            _ => assert!(rt; false),
-        }
-        Ok(())
     }
 }

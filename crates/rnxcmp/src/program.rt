@@ -4,7 +4,7 @@ ghost use Rattle.std.specs.Prelude.{◌≡◌, ◌⊎◌, IfOk, is_some, map, st
 ghost use Rattle.std.specs.Option.{option_map_or};
 ghost use Rattle.crx_engine.specs.meaning.Choices.{choices_of, is_date};
 ghost use Rattle.rnxcmp.specs.meaning.Planning.{Help, Refusal, Refused, Run, plan_of};
-ghost use Rattle.rnxcmp.specs.Program.{IsChosen, IsJobDone, IsFiltered, IsFilteredFrom, IsFilteredInto, IsFilteredToFile, IsNotBegun};
+ghost use Rattle.rnxcmp.specs.meaning.Jobs.{IsChosen, IsJobDone, IsFiltered, IsFilteredFrom, IsFilteredInto, IsFilteredToFile, IsNotBegun};
 ghost use Rattle.rnxcmp.specs.meaning.Program.{IsHelped, IsRefused, IsShown, at_start};
 ghost use Rattle.crx_filter.specs.meaning.Spans.{span, reader_span};
 
@@ -22,8 +22,8 @@ use std::io::{BufWriter, ErrorKind, Write};
 use std::rt::{Clock, Files};
 use std::{fs, io};
 
-/// How many bytes of the output are held before they are written: a system call a line would cost more
-/// than all other work. Input is read in pieces of that size by the reader of lines itself.
+/// How many bytes of the output are collected before they are written: a system call for each line would cost more than all
+/// other work. The reader of lines itself reads the input in pieces of that size.
 pub const OUTPUT_BUFFER: usize = 65536;
 
 /// The job's choices, with a date that fits its columns.
@@ -34,7 +34,7 @@ fn options_with(job: &Job, date: &str) -> Options
     Options::new(job.every, job.skip, date.as_bytes()).unwrap()
 }
 
-/// What the user chose: the date among the words, else that of the clock's moment where one is needed.
+/// What the user chose: the date among the arguments, else that of the clock's moment where one is needed.
 fn options_of<C: Clock>(clock: &C, alloc: Global, job: &Job) -> Result<Options, AllocError>
     requires { option_map_or is_date job.now.date true ≡ true }
     ensures { IfOk result (λ options. IsChosen job.now.tool job.now.date job.now.every job.now.skip options) }
@@ -210,9 +210,9 @@ fn show_help<W: Sink, M: Sink>(text: &Word, output: &mut W, messages: &mut M) ->
 ///
 /// A run's status is that of its filter: 0 where no message was written, 1 where an error ended it, and
 /// 2 where there were warnings alone or, for `check`, where the file isn't standard. Help is written to
-/// `output`, status 0. All else is a line of the messages, status 1: words that are refused (see
+/// `output`, status 0. All else is a line of the messages, status 1: arguments that are refused (see
 /// [`plan`]), `ERROR: cannot read NAME`, `ERROR: file exists: NAME` where the output file exists and
-/// `-f` isn't given, and `ERROR: cannot create NAME`. Where no memory is left before the filter runs,
+/// `-f` isn't given, and `ERROR: cannot create NAME`. If the system refuses memory before the filter runs,
 /// that is fault 22 at line 0, and a help that can't be written is fault 21 at line 0.
 ///
 /// The default date is made first, where one is needed; then the input file is opened, then the output

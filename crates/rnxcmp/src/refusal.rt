@@ -37,8 +37,8 @@ pub fn report_at_start<M: Sink>(messages: &mut M, fault: Fault) -> u8
     FAILED
 }
 
-/// Reports what is wrong in words and a name, as `ERROR: file exists: a.crx`, and answers the exit
-/// status. Where no memory is left for the line, it reports that.
+/// Reports what is wrong, and a name, as `ERROR: file exists: a.crx`, and answers the exit status. If the system refuses memory
+/// for the line, it reports that.
 pub fn report<M: Sink>(alloc: Global, messages: &mut M, words: &str, name: &str) -> u8
     ensures shown { IsShownOr (span M.Sink messages.old messages.new) (error_line words.now name.now) }
     ensures status { result ≡ 1 }
@@ -52,7 +52,7 @@ pub fn report<M: Sink>(alloc: Global, messages: &mut M, words: &str, name: &str)
     }
 }
 
-/// Reports why the words ask for nothing that can be done, and answers the exit status.
+/// Reports why the arguments ask for nothing that can be done, and answers the exit status.
 pub fn refuse<M: Sink>(alloc: Global, messages: &mut M, fault: &UsageFault) -> u8
     ensures memory { fault.now ≡ UsageFault.Memory
         → IsShown (span M.Sink messages.old messages.new) (at_start Fault.OutOfMemory) }

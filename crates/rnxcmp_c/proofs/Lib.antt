@@ -1,1 +1,7 @@
+pub mod Cut
+pub mod GoingLemmas
+pub mod HandleLemmas
 pub mod Kept
+mod LooseValues
+mod PlaceValues
+pub mod ReaderLemmas

@@ -14,6 +14,9 @@ pub const NO_ROOM: u32 = 3;
 /// The status where the date is refused.
 pub const BAD_DATE: u32 = 4;
 
+/// The status where a handle isn't open, or its run has ended.
+pub const MISUSED: u32 = 6;
+
 /// What a call answers.
 #[repr(C)]
 #[derive(Clone, Copy, Debug, PartialEq, Eq)]
@@ -43,11 +46,25 @@ fn bare(status: u32, line: u64, code: u32) -> Answer
     }
 }
 
+/// All went well, and there is nothing else to say.
+pub(crate) fn good() -> Answer
+    ensures { result ≡ bare_answer 0 0 0 }
+{
+    bare(0, 0, 0)
+}
+
 /// The date is refused.
 pub(crate) fn date_refused() -> Answer
     ensures { result ≡ bare_answer BAD_DATE 0 0 }
 {
     bare(BAD_DATE, 0, 0)
+}
+
+/// The handle isn't open, or its run has ended.
+pub(crate) fn misused() -> Answer
+    ensures { result ≡ bare_answer MISUSED 0 0 }
+{
+    bare(MISUSED, 0, 0)
 }
 
 /// The input is longer than the limit.

@@ -1,8 +1,10 @@
 //! The devices of a run over memory: what gives the caller's input, and what collects the output or the messages.
 
-ghost use Rattle.std.specs.Prelude.{◌≡◌, ◌++◌, [], Some, false, true};
+ghost use Rattle.std.specs.Prelude.{◌≡◌, ◌++◌, [], Some, drop, false, length, true};
 ghost use Rattle.std.proofs.KnownBytes.{Appends-nil, Appends-trans, Consumes-nil, Consumes-trans};
+ghost use Rattle.rnxcmp_c.specs.meaning.Answers.{placed};
 
+use crate::answer::place;
 use crx_text::{ReadFailed, Sink, Source, WriteFailed};
 use std::alloc::Global;
 
@@ -77,6 +79,32 @@ impl Collected {
         ensures { result ≡ false → self.now.failures ≡ 0 }
     {
         self.failures != 0
+    }
+
+    /// How many bytes are kept.
+    pub(crate) fn count(&self) -> usize
+        ensures { result ≡ length self.now.bytes.items }
+    {
+        self.bytes.len()
+    }
+
+    /// Takes a text at its end; `false` says that memory ran out.
+    pub(crate) fn add(&mut self, text: &[u8]) -> bool
+        ensures { result ≡ true → self.new.bytes.items ≡ self.old.bytes.items ++ text.now }
+    {
+        self.bytes.extend_from_slice(text).is_ok()
+    }
+
+    /// Moves its first bytes to the front of the room, as many as fit.
+    pub(crate) fn hand_out(&mut self, room: &mut [u8])
+        ensures room { room.new ≡ placed self.old.bytes.items room.old }
+        ensures left { self.new.bytes.items ≡ drop (length room.old) self.old.bytes.items }
+    {
+        place(&self.bytes, room);
+        let count = self.bytes.len().min(room.len());
+        let left = self.bytes.len() - count;
+        self.bytes.copy_within(count.., 0);
+        self.bytes.truncate(left);
     }
 
     /// All bytes that were written.

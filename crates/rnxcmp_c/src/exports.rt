@@ -62,7 +62,7 @@ pub extern "C" fn rnxcmp_c_compact(
 }
 
 /// The choices of an expansion: it uses alone whether faults are skipped.
-fn expansion_options(skip: bool) -> Options
+pub(crate) fn expansion_options(skip: bool) -> Options
     ensures { result.skip ≡ skip }
 {
     match Options::new(None, skip, b"") {

@@ -1,8 +1,15 @@
-//! The filters and the check over memory of a C program: one export for each. `include/rnxcmp.h` is what a C program sees of them;
-//! `library/border.c` tests the processor, takes null pointers, and calls these.
+//! The filters and the check over memory of a C program: one export for each, and handles that go on from call to call.
+//! `include/rnxcmp.h` is what a C program sees of them; `library/border.c` tests the processor, takes null pointers, and calls these.
 #![tactic(auto)]
 
 mod answer;
 mod devices;
+mod engines;
 mod exports;
+mod handle;
+mod held;
+mod lines;
+mod loose;
+mod place;
+mod reader;
 mod runs;

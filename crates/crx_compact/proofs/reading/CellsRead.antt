@@ -1,8 +1,8 @@
 -- The cells of a line, read from left to right.
 use Rattle.std.specs.Prelude.{◌≡◌, ◌≤◌, ◌<◌, refl, ℕ, suc, zero, ◌+◌, ◌-◌, ℤ, List, [], ◌∷◌, ◌++◌, length, map, take}
-use Rattle.std.specs.Prelude.{drop, slice_index_or, slice_set, Option, Some, None, Result, Ok, Err}
+use Rattle.std.specs.Prelude.{drop, replicate, slice_index_or, slice_set, Option, Some, None, Result, Ok, Err}
 use Rattle.std.proofs.Common.{sym, ◌∙◌, ap, arith, length-append}
-use Rattle.std.proofs.lemmas.List.{append-nil, drop-drop, length-drop, length-set, take_more_set, map-append}
+use Rattle.std.proofs.lemmas.List.{append-nil, drop-drop, length-drop, length-replicate, length-set, take_more_set, map-append}
 use Rattle.std.proofs.Math.ListN.{drop_of_length-le}
 use Rattle.crx_text.specs.meaning.Codes.{code_of, first_cell, after_cell}
 use Rattle.crx_text.specs.declared.code.Code.{Code}
@@ -242,4 +242,30 @@ read-all before count line k at arcs old new s e =
       shown = s.shown ∙ ap {B = Row} (λ vs. record old { values = values_in s.cells ++ vs })
           (drop_of_length-le old.values (let sized = s.sized in omega (arith, sized, e)))
           ∙ ap {B = Row} (λ vs. record old { values = vs }) (append-nil (values_in s.cells));
+    }
+
+-- the cells up to a place are read, whatever is kept of them
+pub record AreReadTo (before : List (Option ArcTail)) (count : ℕ) (line : List ℕ) (k at : ℕ) : Type 0 where
+  pub arcs : List (Option ArcTail)
+  pub old : Row
+  pub new : Row
+  pub so_far : ReadSoFar before count line k at arcs old new
+
+pub to-none : (before : List (Option ArcTail)) (count : ℕ) (line : List ℕ) → AreReadTo before count line 0 0
+to-none before count line =
+    let row : Row = record { name = []; values = replicate count None; flags = [] } in
+    record { arcs = []; old = row; new = row; so_far = read-none before count line row (length-replicate count None) }
+
+pub to-more : (before : List (Option ArcTail)) (count : ℕ) (line : List ℕ) (k at at' : ℕ) (code : Code) (value : Option ℤ)
+    → AreReadTo before count line k at → k < count → code_of (first_cell (drop at line)) ≡ Some code
+    → value_at_place before k code ≡ Ok value → after_cell (drop at line) ≡ drop at' line → at' ≤ length line
+    → AreReadTo before count line (k + 1) at'
+to-more before count line k at at' code value r h e v t w =
+    let arc : Option ArcTail = arc_of_code code (slice_index_or before k None) in
+    record {
+      arcs = r.arcs ++ arc ∷ [];
+      old = r.old;
+      new = record r.new { values = slice_set r.new.values k value };
+      so_far = read-more before count line k at at' r.arcs (r.arcs ++ arc ∷ []) r.old r.new
+          (record r.new { values = slice_set r.new.values k value }) code value arc r.so_far h e v t w refl refl refl;
     }

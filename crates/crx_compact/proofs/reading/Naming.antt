@@ -1,14 +1,19 @@
 -- The identifiers of an epoch text, read from left to right.
-use Rattle.std.specs.Prelude.{◌≡◌, refl, ℕ, ◌+◌, Bool, true, false, ◌||◌, List, [], ◌∷◌, ◌++◌, drop, Option, Some, None}
+use Rattle.std.specs.Prelude.{◌≡◌, ◌<◌, refl, ℕ, zero, suc, ◌+◌, ◌*◌, Bool, true, false, ◌||◌, List, [], ◌∷◌, ◌++◌, drop, map, take, Option, Some, None}
 use Rattle.std.specs.Prelude.{Result, Ok, Err, if◌then◌else◌}
 use Rattle.std.specs.List.{list_any}
 use Rattle.std.specs.Str.{bytes_eq}
-use Rattle.std.proofs.Common.{sym, ◌∙◌, ap}
+use Rattle.std.proofs.Common.{sym, ◌∙◌, ap, arith}
+use Rattle.crx_rinex.specs.meaning.EachPlace.{each_place}
+use Rattle.crx_rinex.proofs.EachPlace.{drop-each_place, each_place-more}
+use Rattle.crx_rinex.proofs.Apart.{among-map}
+use Rattle.crx_rinex.specs.meaning.Epochs.{is_among}
+use Rattle.crx_text.specs.meaning.Columns.{columns}
 use Rattle.crx_lines.specs.declared.fault.Fault.{Fault}
 use Rattle.crx_lines.specs.declared.fault.Fault.TheVariants.{BadSatellite, RepeatedSatellite}
 use Rattle.crx_rinex.specs.meaning.ObservationTypes.{Count}
 use Rattle.crx_compact.specs.meaning.Sequences.{before_all}
-use Rattle.crx_compact.specs.meaning.EpochText.{Satellite, satellite_before, satellites_named}
+use Rattle.crx_compact.specs.meaning.EpochText.{Satellite, names_in, satellite_before, satellites_named}
 use Rattle.crx_rinex.specs.meaning.SatelliteLines.{types_of_satellite}
 use Rattle.crx_compact.proofs.wayback.Runs.{bytes_eq-same, bytes_eq-is}
 
@@ -148,3 +153,43 @@ pub named-all : (types : List Count) (all : List (List ℕ)) (place : ℕ) (foun
     → satellites_named types [] all ≡ Ok found
 named-all types all place found n e = n.so_far
     ∙ ap (λ names. onto found (satellites_named types (names_after found []) names)) e ∙ onto-ok found
+
+-- ---- an identifier among those of a text
+
+pub any-at : (P : List ℕ → Bool) (n k : ℕ) (f : ℕ → List ℕ) → k < n → P (f k) ≡ true → list_any P (each_place n f) ≡ true
+any-at P zero k f h e = absurd (omega (arith, h))
+any-at P (suc n) zero f h e = ap (λ b. b || list_any P (each_place n (λ i. f (suc i)))) e
+any-at P (suc n) (suc k) f h e = or-true (P (f 0)) _ (any-at P n k (λ i. f (suc i)) (omega (arith, h)) e)
+  where
+    or-true : (a b : Bool) → b ≡ true → (a || b) ≡ true
+    or-true true b e = refl
+    or-true false b e = e
+
+any-append : (P : List ℕ → Bool) (xs : List (List ℕ)) (x : List ℕ)
+    → list_any P xs ≡ false → P x ≡ false → list_any P (xs ++ x ∷ []) ≡ false
+any-append P [] x h e = ap (λ b. b || false) e
+any-append P (y ∷ ys) x h e = both (P y) (list_any P ys) (list_any P (ys ++ x ∷ [])) h (λ k. any-append P ys x k e)
+  where
+    both : (a b c : Bool) → (a || b) ≡ false → (b ≡ false → c ≡ false) → (a || c) ≡ false
+    both true b c h k = h
+    both false b c h k = k h
+
+pub any-more : (P : List ℕ → Bool) (n : ℕ) (f : ℕ → List ℕ)
+    → list_any P (each_place n f) ≡ false → P (f n) ≡ false → list_any P (each_place (n + 1) f) ≡ false
+any-more P n f h e = ap (list_any P) (each_place-more n f) ∙ any-append P (each_place n f) (f n) h e
+
+-- the identifier at a place, which was read
+pub next-name : (text : List ℕ) (count place : ℕ) (name : List ℕ) → place < count → name ≡ columns text (42 + 3 * place) 3
+    → drop place (names_in text count) ≡ name ∷ drop (place + 1) (names_in text count)
+next-name text count place name h e =
+    drop-each_place count place (λ k. columns text (42 + 3 * k) 3) h
+    ∙ ap (λ n. n ∷ drop (place + 1) (names_in text count)) (sym e)
+
+-- whether an identifier stands among those of the satellites so far
+pub among-named : (satellites : List Satellite) (names : List (List ℕ)) (name : List ℕ) (place : ℕ) (b : Bool)
+    → take place names ≡ map (λ (s : Satellite). s.name) satellites
+    → is_among (λ (n : List ℕ). n) name (take place names) ≡ b
+    → list_any (λ (s : Satellite). bytes_eq s.name name) satellites ≡ b
+among-named satellites names name place b placed is =
+    sym (among-map (λ (n : List ℕ). n) (λ (s : Satellite). s.name) name satellites)
+    ∙ ap (is_among (λ (n : List ℕ). n) name) (sym placed) ∙ is

@@ -19,7 +19,7 @@ use Rattle.crx_compact.specs.meaning.CompactPlaces.{satellites_of_line}
 use Rattle.crx_compact.specs.Tails.{ArcTail, RowTail, Tail}
 use Rattle.crx_compact.specs.HeldRows.{row_after}
 use Rattle.crx_lines.specs.meaning.Seen.{Content}
-use Rattle.crx_compact.specs.OpenEpochs.{Faulty, HasMade, first_step, held_row, is_idle, line_step, opened_raw, opening}
+use Rattle.crx_compact.specs.OpenEpochs.{is_faulty, Faulty, HasMade, first_step, held_row, is_idle, line_step, opened_raw, opening}
 use Rattle.crx_compact.specs.OpenEpochs.{step_in, tail_for_line, Idle, HeldClock, HeldEpoch, HeldRow, OpenRawEpoch}
 use Rattle.crx_compact.specs.OpenEpochs.{RawStep, Going, Whole, whole_or_awaiting, past_of_tail, raw_step_with_row}
 use Rattle.crx_compact.specs.OpenLines.{IsRowAfter, columns_state, step_after, AreAnnounced, AreRowsSoFar, OpenLines}
@@ -230,6 +230,39 @@ row-taken before next later line count satellites epoch after s h e r =
       awaited = rest;
     }))) (sym r.next.clock)
     ∙ ap {B = RawStep} (λ (q : Epoch). made_of before (lines_so_far (Rows q) later (count + 1) satellites)) (sym r.with)
+
+-- a row that is good makes no fault
+pub row-good : (before next : Tail)
+    (line : List ℕ) (count : ℕ) (satellites : List Satellite) (epoch : Epoch) (s : Satellite)
+    → slice_get satellites count ≡ Some s → is_ok (row_after before s line) ≡ true
+    → is_faulty (step_after before (lines_so_far (Rows epoch) next count satellites) line) ≡ false
+row-good before next line count satellites epoch s e good = by_result (row_after before s line) refl good
+  where
+    clock : HeldClock
+    clock = record { value = epoch.clock; arc = next.clock }
+
+    so_far : OpenRawEpoch
+    so_far = record {
+      before = before;
+      text = next.text;
+      clock = Some clock;
+      rows = held_rows epoch.rows (take count next.rows);
+      awaited = drop count satellites;
+    }
+
+    none-faulty : (rows : List HeldRow) (awaited : List Satellite)
+        → is_faulty (whole_or_awaiting so_far clock rows awaited) ≡ false
+    none-faulty rows [] = refl
+    none-faulty rows (a ∷ awaited) = refl
+
+    by_result : (r : Result HeldRow Fault) → row_after before s line ≡ r → is_ok r ≡ true
+        → is_faulty (step_after before (lines_so_far (Rows epoch) next count satellites) line) ≡ false
+    by_result (Err fault) is h = absurd (cc)
+    by_result (Ok held) is h =
+        ap is_faulty (ap {B = RawStep} (λ (ss : List Satellite). line_step so_far (Some clock) ss line)
+        (satellite-here satellites count s e)
+        ∙ row-ok so_far clock s (drop (count + 1) satellites) line held is)
+        ∙ none-faulty (so_far.rows ++ held ∷ []) (drop (count + 1) satellites)
 
 pub row-refused : (before next : Tail)
     (line : List ℕ) (count : ℕ) (satellites : List Satellite) (epoch : Epoch) (s : Satellite) (fault : Fault)

@@ -42,7 +42,7 @@ value_in place row = slice_index_or row.values place None
 abbrev pub arc_of : ℕ → List Row → List ℤ
 arc_of place rows = stretch (map (value_in place) rows)
 
--- the same of the receiver clock offset, which has no satellite
+-- the receiver clock offsets over the longest stretch of epochs, from the newest on, in which there is one
 abbrev pub clock_arc : List Marked → List ℤ
 clock_arc epochs = stretch (map (λ (e : Epoch). e.clock) (since_full epochs))
 

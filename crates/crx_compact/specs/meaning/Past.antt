@@ -7,8 +7,8 @@ use Rattle.crx_lines.specs.declared.limits.TheConstants.{OBSERVATION_WIDTH, CLOC
 use Rattle.crx_rinex.specs.meaning.EpochLines.{begins_epoch}
 use Rattle.crx_compact.specs.meaning.Expansion.{RawEpoch, block_of, overlaid, code_in, raw_run_of, marks_of, value_of}
 
--- the epoch text that an epoch line makes; the value that the clock's code gives, or its fault; the same of a
--- satellite's code at a place, counted from 0; and the indicators that a satellite's marks make
+-- the epoch text that an epoch line makes; the value that the clock's code gives, or its fault; the value
+-- that a satellite's code at a place, counted from 0, gives, or its fault; and the indicators that a satellite's marks make
 pub record Past : Type 0 where
   pub text : List ℕ → List ℕ
   pub clock : Code → Result (Option ℤ) Fault

@@ -8,9 +8,10 @@ use Rattle.crx_rinex.specs.meaning.EpochPlaces.{epoch_place}
 use Rattle.crx_engine.specs.meaning.Items.{Item, types_in_force}
 use Rattle.crx_engine.specs.meaning.Messages.{warnings_in}
 use Rattle.crx_engine.specs.meaning.Reading.{Reading}
-use Rattle.crx_engine.specs.Laws.{continued_reading, IsFollowed, IsEndedBy, fed, fault_of_stop}
+use Rattle.crx_engine.specs.Laws.{continued_reading, IsFollowed, IsEndedBy, fed}
+use Rattle.crx_engine.specs.meaning.Reading.{fault_of_stop}
 use Rattle.crx_engine.specs.meaning.Compacted.{rinex_place, whole_rinex}
-use Rattle.crx_engine.specs.Compacted.{rinex_reading}
+use Rattle.crx_engine.specs.meaning.Directions.{rinex_reading}
 use Rattle.crx_engine.specs.CompactionByLine.{rinex_open}
 use Rattle.crx_engine.specs.LineByLine.{seen_of, seen_end}
 use Rattle.crx_engine.specs.meaning.Standard.{printed_items}

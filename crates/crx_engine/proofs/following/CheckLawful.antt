@@ -7,7 +7,7 @@ use Rattle.crx_engine.specs.meaning.Reading.{WholeReading}
 use Rattle.crx_engine.specs.Lawful.{IsLawful}
 use Rattle.crx_engine.specs.meaning.Compacted.{whole_rinex}
 use Rattle.crx_engine.specs.meaning.Standard.{whole_reading_of, findings_of}
-use Rattle.crx_engine.specs.CheckByLine.{report_unless, check_filter}
+use Rattle.crx_engine.specs.meaning.Directions.{report_unless, check_filter}
 use Rattle.crx_engine.proofs.reading.StaysEnded.{rinex-stays}
 use Rattle.crx_engine.proofs.reading.FineReadings.{rinex-found, rinex-found-at-end}
 

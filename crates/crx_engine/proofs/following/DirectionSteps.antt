@@ -8,16 +8,21 @@ use Rattle.crx_lines.specs.meaning.Seen.{ReadLine, seen}
 use Rattle.crx_lines.specs.declared.fault.At.{At}
 use Rattle.crx_engine.specs.meaning.Choices.{Choices}
 use Rattle.crx_engine.specs.CompactionByLine.{compaction, compaction_seen}
-use Rattle.crx_engine.specs.Compacted.{compaction_so_far, rinex_reading}
+use Rattle.crx_engine.specs.Compacted.{compaction_so_far}
+use Rattle.crx_engine.specs.meaning.Directions.{rinex_reading}
 use Rattle.crx_engine.specs.ExpansionByLine.{expansion, expansion_seen}
-use Rattle.crx_engine.specs.Expanded.{expansion_so_far, compact_reading}
-use Rattle.crx_engine.specs.Directions.{compaction_filter, expansion_filter}
+use Rattle.crx_engine.specs.Expanded.{expansion_so_far}
+use Rattle.crx_engine.specs.meaning.Directions.{compact_reading}
+use Rattle.crx_engine.specs.meaning.Directions.{compaction_filter, expansion_filter}
 use Rattle.crx_rinex.specs.meaning.Printing.{lines_text}
-use Rattle.crx_engine.specs.Laws.{noticed_by, fault_of_stop}
+use Rattle.crx_engine.specs.Laws.{noticed_by}
+use Rattle.crx_engine.specs.meaning.Reading.{fault_of_stop}
 use Rattle.crx_engine.specs.meaning.Messages.{warnings_in}
 use Rattle.crx_engine.specs.LineByLine.{seen_end}
 use Rattle.crx_engine.proofs.following.CompactedOn.{compacted-on}
 use Rattle.crx_engine.proofs.following.ExpandedOn.{expanded-on}
+use Rattle.crx_engine.proofs.following.MemoryOfCompactText.{expansion-allowed, expansion-allowed-again}
+use Rattle.crx_engine.proofs.following.MemoryOfRinex.{compaction-allowed, compaction-allowed-again}
 use Rattle.crx_engine.proofs.reading.Ended.{compaction-ended, expansion-ended}
 use Rattle.crx_engine.proofs.output.Readiness.{compaction-ready, expansion-ready}
 use Rattle.crx_engine.proofs.steps.EngineAnswers.{GoesLineByLine}
@@ -59,7 +64,10 @@ compaction-goes choices = record {
         fault = h.failed;
       };
   number = λ (lines : List InputLine). length-map lines seen;
-  memory = λ lines line. refl;
+  memory_first = λ (lines : List InputLine) (line : InputLine) e.
+      compaction-allowed choices (map seen lines) (seen line) e;
+  memory_again = λ (lines : List InputLine) (line : InputLine) next notice step e.
+      compaction-allowed-again choices (map seen lines) (seen line) next notice step e;
   ready = compaction-ready;
 }
 
@@ -87,6 +95,9 @@ expansion-goes choices = record {
         fault = h.failed;
       };
   number = λ (lines : List InputLine). length-map lines seen;
-  memory = λ lines line. refl;
+  memory_first = λ (lines : List InputLine) (line : InputLine) e.
+      expansion-allowed choices (map seen lines) (seen line) e;
+  memory_again = λ (lines : List InputLine) (line : InputLine) next notice step e.
+      expansion-allowed-again choices (map seen lines) (seen line) next notice step e;
   ready = expansion-ready;
 }

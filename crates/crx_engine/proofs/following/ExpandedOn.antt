@@ -12,7 +12,8 @@ use Rattle.crx_compact.specs.OpenEpochs.{OpenRawEpoch}
 use Rattle.crx_compact.specs.Tails.{Tail}
 use Rattle.crx_engine.specs.meaning.Choices.{Choices}
 use Rattle.crx_engine.specs.meaning.Reading.{Reading, AtFault, AtLines, reading_from}
-use Rattle.crx_engine.specs.Laws.{continued_reading, IsFollowed, IsExpandedOn, fed, fed_once, fault_of_stop}
+use Rattle.crx_engine.specs.Laws.{continued_reading, IsFollowed, IsExpandedOn, fed, fed_once}
+use Rattle.crx_engine.specs.meaning.Reading.{fault_of_stop}
 use Rattle.crx_lines.specs.meaning.Faults.{is_skippable}
 use Rattle.crx_engine.specs.meaning.Messages.{warnings_in}
 use Rattle.crx_engine.specs.LineByLine.{Phase, InFirstLines, InHeader, Ended, Seen, Fails, moved_to, step_of_made}

@@ -35,7 +35,7 @@ use Rattle.crx_engine.proofs.following.Following.{IsSameEpoch, AgreeOn, IsCarrie
 abbrev pub compact_beginning : List (Item ReadEpoch) → List ReadLine → Place (FileUnit ReadEpoch)
 compact_beginning items = compact_epoch_place (types_in_force items) (raws_kept items)
 
-abbrev Agrees : Choices → List (Item ReadEpoch) → List ReadLine → Made HeldEpoch OpenRawEpoch → Type 0
+abbrev pub Agrees : Choices → List (Item ReadEpoch) → List ReadLine → Made HeldEpoch OpenRawEpoch → Type 0
 Agrees choices items lines made =
     AgreeOn compact_beginning expansion compact_open tail_of_items expanded_unit choices items lines made
 
@@ -137,7 +137,7 @@ agree-event : (choices : Choices) (items : List (Item ReadEpoch)) (content : Lis
 agree-event choices items content is None e = (0, rw is (rw (e, event_line) refl))
 agree-event choices items content is (Some count) e = (1, rw is (rw (e, event_line) refl), refl)
 
-agree-content : (choices : Choices) (items : List (Item ReadEpoch)) (content : List ℕ) (b : Bool)
+pub agree-content : (choices : Choices) (items : List (Item ReadEpoch)) (content : List ℕ) (b : Bool)
     → is_event_line content ≡ b
     → Agrees choices items (Content content ∷ []) (cond b (made_of_unit (event_line content))
     (made_of_raw_step (first_step (types_in_force items) (tail_of_items items) (Content content))))
@@ -178,7 +178,7 @@ same-beginning : (line : ReadLine) (lines more : List ReadLine)
 same-beginning Overlong lines more e = refl
 same-beginning (Content content) lines more e = e
 
-agree-continues : (choices : Choices) (items : List (Item ReadEpoch))
+pub agree-continues : (choices : Choices) (items : List (Item ReadEpoch))
     (lines : List ReadLine) (line : ReadLine) (so_far : OpenRawEpoch) → compact_open items lines ≡ Some so_far
     → Agrees choices items (lines ++ line ∷ []) (made_of_raw_step (next_step so_far line))
 agree-continues choices items [] line so_far opens = absurd (none-some so_far opens)

@@ -27,7 +27,8 @@ use Rattle.crx_engine.specs.LineByLine.{Ready, Notice, Failed, Step, with_record
 use Rattle.crx_engine.specs.LineByLine.{types_after, may_skip, is_in_epoch, is_skipped_in, kept_in, after_unit}
 use Rattle.crx_engine.specs.LineByLine.{with_phase, after_warning, failed_step, step_of_made, seen_next, phase_in_body}
 use Rattle.crx_engine.specs.LineByLine.{phase_after_items, seen_of}
-use Rattle.crx_engine.specs.Laws.{IsReadForward, IsFollowed, Fed, fed, fed_once, fed_twice, is_again, fault_of_stop}
+use Rattle.crx_engine.specs.Laws.{IsReadForward, IsFollowed, Fed, fed, fed_once, fed_twice, is_again}
+use Rattle.crx_engine.specs.meaning.Reading.{fault_of_stop}
 use Rattle.crx_engine.proofs.reading.Resuming.{by_bool, here-within, wrong-within, within-here, within-wrong}
 use Rattle.crx_engine.proofs.reading.Resuming.{within-wanted, fault-skipped, fault-ends, looked-here, looked-on}
 
@@ -209,7 +210,7 @@ here-last place h items rest line unit count wanted e =
     let all : length (rest ++ line ∷ []) ≡ length rest + 1 = length-append rest (line ∷ []) in
     omega (arith, past, most, all)
 
-wrong-last : {E : Type 0} (place : List (Item E) → List ReadLine → Place (FileUnit E)) → IsReadForward place
+pub wrong-last : {E : Type 0} (place : List (Item E) → List ReadLine → Place (FileUnit E)) → IsReadForward place
     → (items : List (Item E)) (rest : List ReadLine) (line : ReadLine) (offset : ℕ) (fault : Fault)
     → place items rest ≡ Wanted → place items (rest ++ line ∷ []) ≡ Wrong offset fault → offset ≡ length rest
 wrong-last place h items rest line offset fault wanted e =

@@ -33,10 +33,10 @@ use Rattle.crx_engine.specs.meaning.Reading.{Reading, Stop, AtFault, AtLines, Lo
 use Rattle.crx_engine.specs.LineByLine.{Phase, InFirstLines, InHeader, BetweenUnits, InEvent, InEpoch, LookingOn}
 use Rattle.crx_engine.specs.LineByLine.{Closed, Ended, kept_in, phase_in_body, phase_after_items, phase_of}
 use Rattle.crx_engine.specs.meaning.Compacted.{marked_epochs, rinex_place}
-use Rattle.crx_engine.specs.Compacted.{rinex_reading}
+use Rattle.crx_engine.specs.meaning.Directions.{rinex_reading}
 use Rattle.crx_engine.specs.CompactionByLine.{Written, compaction, written_of, rinex_open, compaction_seen}
 use Rattle.crx_engine.specs.meaning.Expanded.{compact_place, empties_state, raws_kept, first_lines}
-use Rattle.crx_engine.specs.Expanded.{compact_reading}
+use Rattle.crx_engine.specs.meaning.Directions.{compact_reading}
 use Rattle.crx_engine.specs.ExpansionByLine.{expansion, tail_of_items, begins_event, compact_open}
 use Rattle.crx_engine.specs.ExpansionByLine.{phase_from_first_lines, expansion_seen}
 use Rattle.crx_engine.specs.Laws.{ItemsAreRead, AreInPlace}

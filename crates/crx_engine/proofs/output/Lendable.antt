@@ -11,7 +11,7 @@ use Rattle.crx_compact.proofs.wayback.Lengths.{lines-short}
 use Rattle.crx_engine.specs.meaning.Choices.{Choices, is_date}
 use Rattle.crx_engine.specs.meaning.Items.{Item, Accepted, Warned, is_at_start, types_in_force}
 use Rattle.crx_engine.specs.meaning.Compacted.{lines_before_header, marked_epochs, compact_unit, rinex_place}
-use Rattle.crx_engine.specs.Compacted.{rinex_reading}
+use Rattle.crx_engine.specs.meaning.Directions.{rinex_reading}
 use Rattle.crx_engine.specs.Laws.{AreInPlace}
 use Rattle.crx_engine.specs.meaning.WayBack.{OfCopiedLine, OfCopiedLines}
 use Rattle.crx_engine.specs.Bounds.{AreLendable, OfUnits, longest_of, IsNotTooLong, CompactIsLendable}

@@ -9,7 +9,8 @@ use Rattle.crx_engine.specs.meaning.Choices.{Choices}
 use Rattle.crx_engine.specs.meaning.Items.{Item}
 use Rattle.crx_engine.specs.meaning.Reading.{Reading, WholeReading, reading_from, whole_reading}
 use Rattle.crx_engine.specs.meaning.Expanded.{first_lines, compact_place, whole_compact, expanded_unit, expanded}
-use Rattle.crx_engine.specs.Expanded.{compact_reading, expanded_lines, expanded_so_far}
+use Rattle.crx_engine.specs.Expanded.{expanded_lines, expanded_so_far}
+use Rattle.crx_engine.specs.meaning.Directions.{compact_reading}
 use Rattle.crx_rinex.specs.meaning.Printing.{lines_text}
 use Rattle.crx_engine.specs.meaning.Results.{Begins}
 use Rattle.crx_engine.specs.Laws.{IsWrittenFirst}

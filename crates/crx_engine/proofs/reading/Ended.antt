@@ -15,7 +15,7 @@ use Rattle.crx_lines.specs.meaning.Faults.{is_skippable}
 use Rattle.crx_engine.specs.meaning.Messages.{warnings_in}
 use Rattle.crx_engine.specs.LineByLine.{InFirstLines, Seen, seen_end, is_skipped_in}
 use Rattle.crx_engine.specs.meaning.Compacted.{rinex_place, compact_unit}
-use Rattle.crx_engine.specs.Compacted.{rinex_reading}
+use Rattle.crx_engine.specs.meaning.Directions.{rinex_reading}
 use Rattle.crx_engine.specs.CompactionByLine.{compaction, rinex_open, written_of}
 use Rattle.crx_engine.specs.meaning.Expanded.{compact_place, first_lines, fault_in_first_lines, expanded_unit}
 use Rattle.crx_engine.specs.Expanded.{expanded_lines}

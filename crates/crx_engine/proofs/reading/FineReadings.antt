@@ -12,10 +12,10 @@ use Rattle.crx_engine.specs.meaning.Reading.{Reading, Stop, AtFault, AtLines, Lo
 use Rattle.crx_engine.specs.meaning.Reading.{looked_for, reading_within, reading_from, fault_at_end, ended_with}
 use Rattle.crx_engine.specs.meaning.Reading.{ended_reading, whole_reading}
 use Rattle.crx_engine.specs.meaning.Compacted.{rinex_place, whole_rinex}
-use Rattle.crx_engine.specs.Compacted.{rinex_reading}
+use Rattle.crx_engine.specs.meaning.Directions.{rinex_reading}
 use Rattle.crx_engine.specs.meaning.Expanded.{compact_place, first_lines, whole_compact, fault_in_first_lines}
-use Rattle.crx_engine.specs.Expanded.{compact_reading}
-use Rattle.crx_engine.specs.Laws.{fault_of_stop}
+use Rattle.crx_engine.specs.meaning.Directions.{compact_reading}
+use Rattle.crx_engine.specs.meaning.Reading.{fault_of_stop}
 use Rattle.crx_engine.specs.Lawful.{is_of_lines}
 use Rattle.crx_engine.proofs.reading.Resuming.{by_bool, by_place, within-here, within-wrong, within-wanted}
 use Rattle.crx_engine.proofs.reading.Resuming.{fault-skipped, fault-ends, looked-here, looked-on}

@@ -12,7 +12,7 @@ use Rattle.crx_engine.specs.meaning.Reading.{Reading, AtFault, AtLines, is_skipp
 use Rattle.crx_engine.specs.meaning.Reading.{reading_within, reading_from}
 use Rattle.crx_lines.specs.meaning.Faults.{is_skippable}
 use Rattle.crx_engine.specs.meaning.Expanded.{compact_place, first_lines}
-use Rattle.crx_engine.specs.Expanded.{compact_reading}
+use Rattle.crx_engine.specs.meaning.Directions.{compact_reading}
 use Rattle.crx_engine.specs.Laws.{ItemsAreRead}
 use Rattle.crx_engine.proofs.reading.Resuming.{by_bool, by_place, within-here, within-wrong, within-wanted}
 use Rattle.crx_engine.proofs.reading.Resuming.{fault-skipped, fault-ends, looked-here, looked-on}

@@ -20,7 +20,7 @@ use Rattle.crx_engine.specs.meaning.Items.{is_at_start, records_announced, count
 use Rattle.crx_engine.specs.meaning.UnitPlaces.{unless_wrong, types_fault, header_line_fault}
 use Rattle.crx_engine.specs.meaning.Reading.{Reading, Stop, AtFault, AtLines, Looking, reading_within}
 use Rattle.crx_engine.specs.meaning.Compacted.{rinex_place}
-use Rattle.crx_engine.specs.Compacted.{rinex_reading}
+use Rattle.crx_engine.specs.meaning.Directions.{rinex_reading}
 use Rattle.crx_engine.specs.CompactionByLine.{made_of_epoch_step, made_of_beginning, rinex_open}
 use Rattle.crx_engine.specs.LineByLine.{Phase, InFirstLines, InHeader, BetweenUnits, InEvent, InEpoch, LookingOn}
 use Rattle.crx_engine.specs.LineByLine.{Closed, Ended, Made, Completes, Moves, Fails, Repeats, Step, made_of_unit}

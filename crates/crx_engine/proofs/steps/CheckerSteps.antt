@@ -1,4 +1,5 @@
 -- A checker takes a line, by what its reader makes of it.
+use Rattle.std.proofs.Common.{map}
 use Rattle.std.proofs.Common.{ℕ, zero, suc, ◌≡◌, ◌⊎◌, inl, inr, ◌+◌, ◌-◌, ◌≤◌, rules, Bool, true, false, cond, List, []}
 use Rattle.std.proofs.Common.{◌∷◌, ◌++◌, length, Option, Some, None, refl, ap, sym, subst, ◌∙◌}
 use Rattle.crx_lines.specs.meaning.Lines.{InputLine, is_long}
@@ -26,7 +27,7 @@ use Rattle.crx_engine.specs.RinexReaders.{reader_phase, made_at, Completed, Take
 use Rattle.crx_engine.specs.meaning.Standard.{is_standard_line}
 use Rattle.crx_engine.specs.CheckByLine.{Totals, checking, totals_with, totals_made, printed_open, printed_made}
 use Rattle.crx_engine.specs.CheckByLine.{earliest, CheckSeen, no_choices, check_seen, check_step, check_next}
-use Rattle.crx_engine.specs.CheckByLine.{check_filter, fault_so_far}
+use Rattle.crx_engine.specs.meaning.Directions.{check_filter, fault_so_far}
 use Rattle.crx_engine.specs.CheckerState.{totals_held, checker_state_with, is_reading, HasPrinted}
 use Rattle.crx_engine.specs.declared.report.Totals.{Totals as Held}
 use Rattle.crx_engine.specs.declared.rinex_reader.RinexReader.{RinexReader}
@@ -34,6 +35,12 @@ use Rattle.crx_engine.specs.declared.rinex_reader.RinexStep.{RinexStep}
 use Rattle.crx_engine.specs.declared.rinex_reader.RinexStep.TheVariants.{Nothing, Header, Event, Record, Epoch}
 use Rattle.crx_engine.proofs.steps.EngineAnswers.{seen-short, seen-long}
 use Rattle.crx_engine.proofs.following.Following.{seen_in}
+use Rattle.crx_engine.proofs.following.MemoryOfRinex.{check-allowed}
+use Rattle.std.proofs.lemmas.List.{length-map}
+use Rattle.crx_engine.specs.CompactionByLine.{rinex_open}
+use Rattle.crx_engine.specs.CheckByLine.{totals_of}
+use Rattle.crx_engine.specs.LineByLine.{seen_of}
+use Rattle.crx_engine.specs.meaning.Directions.{rinex_reading}
 use Rattle.crx_engine.proofs.standard.CheckLines.{IsReached, Grows, line-grows}
 use Rattle.crx_engine.proofs.following.CheckedOn.{checked-on}
 use Rattle.crx_engine.proofs.standard.CheckEnded.{kept-always}
@@ -228,9 +235,13 @@ failed-line before number totals named line lines fault is same =
     (checked-on lines line).fault ∙ ap (λ (b : CheckSeen). failed_by (check_step b line).answer) (sym same)
     ∙ ap (λ m. failed_by (step_of_made checking now.reading (seen line) m).answer) is
 
--- a check reports no warnings: memory runs out after none of them
-abbrev memory_if : Bool → Option (List At)
-memory_if taken = cond taken (Some []) None
+-- memory may run out at a line of an input as it may by what is seen
+check-allowed-of : (lines : List InputLine) (line : InputLine)
+    → takes_memory checking (check_seen lines).reading (seen line) ≡ true → check_filter.memory_after lines line ≡ Some []
+check-allowed-of lines line e =
+    check-allowed (map seen lines) (seen line)
+    (ap (λ n. takes_memory checking (seen_of checking rinex_open totals_of no_choices n
+    (rinex_reading false (map seen lines))) (seen line)) (length-map lines seen) ∙ e)
 
 pub refused-line : (before : RinexReader)
     (number : ℕ) (totals : Held) (named : Option ℕ) (line : InputLine) (lines : List InputLine) (fault : Fault)
@@ -246,7 +257,7 @@ refused-line before number totals named line lines fault short (inr memory) same
     inl (record {
       fault = memory.0;
       place = ap (λ n. n + 1) (ap (λ (b : CheckSeen). b.reading.number) same);
-      allowed = ap memory_if
+      allowed = check-allowed-of lines line
           (ap (λ l. takes_memory checking (check_seen lines).reading l) (seen-short line short)
           ∙ ap (λ (b : CheckSeen). takes_memory checking b.reading (Content line.content)) (sym same) ∙ memory.1);
     })

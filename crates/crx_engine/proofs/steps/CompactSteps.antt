@@ -17,7 +17,7 @@ use Rattle.crx_compact.specs.OpenEpochs.{opening, past_of_tail, tail_for_line, i
 use Rattle.crx_engine.specs.RinexStages.{is_rinex_stage as is_consistent_in_rinex}
 use Rattle.crx_engine.specs.CompactStages.{is_compact_stage, wants_line, wants_lines}
 use Rattle.crx_engine.specs.CompactReaders.{RefusesCompactLine}
-use Rattle.crx_engine.specs.ExpansionByLine.{compact_begins, expansion, may_be_epoch_line}
+use Rattle.crx_engine.specs.ExpansionByLine.{compact_begins, expansion, is_good_beginning}
 use Rattle.crx_engine.specs.LineByLine.{BetweenUnits, LookingOn, Moves, made_in}
 use Rattle.crx_engine.specs.declared.compact_reader.CompactStep.{CompactStep}
 use Rattle.crx_engine.specs.declared.stage.Stage.{Stage}
@@ -67,9 +67,9 @@ begun-wants types tail line after (begun, going, is) = ap wants_lines is
 
 pub look-refused : (types : List Count) (tail : Option Tail) (line : List ℕ) (result : Result CompactStep Fault)
     → begins_epoch line ≡ true
-    → IfErr result (λ fault. RefusesCompactLine tail (compact_begins types tail (Content line)) BetweenUnits line fault)
+    → IfErr result (λ fault. RefusesCompactLine types tail (compact_begins types tail (Content line)) BetweenUnits line fault)
     → IfErr result
-    (λ fault. RefusesCompactLine tail (made_in expansion LookingOn types tail (Content line)) LookingOn line fault)
+    (λ fault. RefusesCompactLine types tail (made_in expansion LookingOn types tail (Content line)) LookingOn line fault)
 look-refused types tail line (Ok step) begins refused = tt
 look-refused types tail line (Err fault) begins (inl fails) =
     let same : made_in expansion LookingOn types tail (Content line) ≡ compact_begins types tail (Content line) =
@@ -79,4 +79,4 @@ look-refused types tail line (Err fault) begins (inl fails) =
     if-true : {X : Type 0} (b : Bool) (x y : X) → b ≡ true → (if b then x else y) ≡ x
     if-true b x y e = rw e refl
 look-refused types tail line (Err fault) begins (inr out) =
-    inr (out.0, and_from (begins_epoch line) (not (is_event_line line) && may_be_epoch_line tail line) begins out.1)
+    inr (out.0, and_from (begins_epoch line) (not (is_event_line line) && is_good_beginning types tail line) begins out.1)

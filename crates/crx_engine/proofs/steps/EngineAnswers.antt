@@ -18,7 +18,7 @@ use Rattle.crx_engine.specs.LineByLine.{Phase, InFirstLines, InHeader, BetweenUn
 use Rattle.crx_engine.specs.LineByLine.{Closed, Ended, Seen, Direction, Made, Completes, Moves, Fails, Repeats, Notice}
 use Rattle.crx_engine.specs.LineByLine.{Step as SeenStep, made_in, may_skip, is_in_epoch, is_skipped_in, failed_step}
 use Rattle.crx_engine.specs.LineByLine.{step_of_made, seen_next, seen_end}
-use Rattle.crx_engine.specs.Memory.{may_take_memory, takes_memory, memory_again, memory_after}
+use Rattle.crx_engine.specs.Memory.{takes_memory}
 use Rattle.crx_engine.specs.meaning.Reading.{can_go_on}
 use Rattle.crx_lines.specs.meaning.Faults.{is_skippable}
 use Rattle.crx_engine.specs.declared.engine.Step.{Step}
@@ -49,8 +49,14 @@ pub record GoesLineByLine {U O K : Type 0} (direction : Direction U O K) (seen_a
       (seen_after (map seen (with_next lines line))) (fed direction (seen_after (map seen lines)) (seen line))
   pub ends : (lines : List InputLine) → EndsBy filter lines (seen_end direction (seen_after (map seen lines)))
   pub number : (lines : List InputLine) → (seen_after (map seen lines)).number ≡ length lines
-  pub memory : (lines : List InputLine) (line : InputLine)
-      → filter.memory_after lines line ≡ memory_after direction (seen_after (map seen lines)) (seen line)
+  -- memory may run out at a line at once, or after the warning of one that comes again
+  pub memory_first : (lines : List InputLine) (line : InputLine)
+      → takes_memory direction (seen_after (map seen lines)) (seen line) ≡ true
+      → filter.memory_after lines line ≡ Some []
+  pub memory_again : (lines : List InputLine) (line : InputLine) (next : Seen O K) (notice : At)
+      → record { answer = Notice notice true; lent = []; next = next }
+      ≡ seen_next direction (seen_after (map seen lines)) (seen line) → takes_memory direction next (seen line) ≡ true
+      → filter.memory_after lines line ≡ Some (notice ∷ [])
   pub ready : IsReadyWhereLent direction
 
 -- ---- a line that comes again
@@ -124,36 +130,6 @@ pub comes-again : {U O K : Type 0}
     → ComesAgain before next line
 comes-again direction before next line at lent e =
     again-by-made direction before next line at lent (made_in direction before.phase before.types before.kept line) e
-
--- memory may run out at the line the first time or the second
-taken-first : {U O K : Type 0} (direction : Direction U O K) (before : Seen O K) (line : ReadLine)
-    → takes_memory direction before line ≡ true → memory_after direction before line ≡ Some []
-taken-first direction before line e = rw e refl
-
--- a line that begins with > takes no memory in an epoch
-none-in-epoch : (O : Type 0) (first : List ℕ → Bool) (next : O → List ℕ → Bool) (phase : Phase O) (line : ReadLine)
-    → is_in_epoch phase ≡ true → can_go_on line ≡ true → may_take_memory first next phase line ≡ false
-none-in-epoch O first next (InEpoch so_far) (Content line) epoch fits = rw fits refl
-none-in-epoch O first next phase Overlong epoch fits = refl
-none-in-epoch O first next (InFirstLines count) (Content line) epoch fits = absurd (cc)
-none-in-epoch O first next (InHeader is_first) (Content line) epoch fits = absurd (cc)
-none-in-epoch O first next BetweenUnits (Content line) epoch fits = absurd (cc)
-none-in-epoch O first next (InEvent left counted) (Content line) epoch fits = absurd (cc)
-none-in-epoch O first next LookingOn (Content line) epoch fits = absurd (cc)
-none-in-epoch O first next Closed (Content line) epoch fits = absurd (cc)
-none-in-epoch O first next (Ended at) (Content line) epoch fits = absurd (cc)
-
-taken-again : {U O K : Type 0} (direction : Direction U O K) (before next : Seen O K) (line : ReadLine) (notice : At)
-    → record { answer = Notice notice true; lent = []; next = next } ≡ seen_next direction before line
-    → takes_memory direction next line ≡ true → memory_after direction before line ≡ Some (notice ∷ [])
-taken-again {O = O} {K = K} direction before next line notice step e =
-    let again = comes-again direction before next line notice [] step in
-    let first : takes_memory direction before line ≡ false = none-in-epoch O (direction.memory_first
-    before.types before.kept) direction.memory_next before.phase line again.epoch again.fits in
-    let second : memory_again direction line (Notice notice true) next ≡ Some (notice ∷ []) = rw e refl in
-    ap (λ (taken : Bool). cond taken (Some []) (memory_again direction line
-    (seen_next direction before line).answer (seen_next direction before line).next)) first
-    ∙ ap (λ (s : SeenStep O K). memory_again direction line s.answer s.next) (sym step) ∙ second
 
 -- ---- one answer
 
@@ -315,7 +291,7 @@ module _ {U O K : Type 0} (direction : Direction U O K) (seen_after : List ReadL
     ran-out : (shows : List InputLine → List Awaited
         → Type 0) (ready : List (List ℕ)) (notices : List Awaited) (number : ℕ) (at : At) (result : Result Step At)
         → result ≡ Err at → at.fault ≡ OutOfMemory → at.line ≡ number + 1
-        → number ≡ length lines → memory_after direction first (seen line) ≡ Some (awaited_notices notices)
+        → number ≡ length lines → filter.memory_after lines line ≡ Some (awaited_notices notices)
         → EngineAnswers filter shows ready lines notices line result
     ran-out shows ready notices number at result is fault place same allowed =
         subst (λ (r : Result Step At). EngineAnswers filter shows ready lines notices line r) (sym is)
@@ -323,7 +299,7 @@ module _ {U O K : Type 0} (direction : Direction U O K) (seen_after : List ReadL
           fault = fault;
           place = place
               ∙ ap (λ (n : ℕ). n + 1) same;
-          allowed = goes.memory lines line ∙ allowed;
+          allowed = allowed;
         }))
 
   -- an engine's own step, or memory that ran out, is an answer
@@ -338,8 +314,8 @@ module _ {U O K : Type 0} (direction : Direction U O K) (seen_after : List ReadL
   answers-line shows before now lines [] line ready result showing taken awaited (inr r) =
       ran-out lines line shows ready
       [] before.number r.at result r.is r.fault r.place (ap (λ (s : Seen O K). s.number) taken ∙ goes.number lines)
-      (taken-first direction (seen_after (map seen lines))
-      (seen line) (subst (λ (s : Seen O K). takes_memory direction s (seen line) ≡ true) taken r.allowed))
+      (goes.memory_first lines line
+      (subst (λ (s : Seen O K). takes_memory direction s (seen line) ≡ true) taken r.allowed))
   answers-line shows before now lines (a ∷ []) line ready result showing taken awaited steps =
       subst (λ (l : InputLine). EngineAnswers filter shows ready lines
       (record { notice = a.notice; line = l } ∷ []) line result) (sym awaited)
@@ -359,7 +335,7 @@ module _ {U O K : Type 0} (direction : Direction U O K) (seen_after : List ReadL
             notice = a.notice;
             line = line;
           } ∷ []) before.number r.at result r.is r.fault r.place (again.number ∙ goes.number lines)
-          (taken-again direction (seen_after (map seen lines)) before (seen line) a.notice one r.allowed)
+          (goes.memory_again lines line before a.notice one r.allowed)
   answers-line shows before now lines (a ∷ b ∷ others) line ready result showing taken awaited steps = absurd taken
 
   -- ---- the end of the input

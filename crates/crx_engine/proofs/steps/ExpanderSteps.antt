@@ -74,7 +74,7 @@ pub refused-line : (before after : Seen OpenRawEpoch (Option Tail))
     (line : List ℕ) (fault : Fault) (result : Result Step At) (lines : List (List ℕ))
     → step_made result [] after ≡ failed_step expansion before (Content line) fault → lines ≡ []
     → (is_skippable fault ≡ false → result ≡ Err (record { line = before.number + 1; fault = fault }))
-    → RefusesCompactLine before.kept
+    → RefusesCompactLine before.types before.kept
     (made_in expansion before.phase before.types before.kept (Content line)) before.phase line fault
     → Steps expansion before (Content line) result lines after
 refused-line before after line fault result lines failed drained fatal (inl fails) =

@@ -13,7 +13,7 @@ use Rattle.crx_engine.specs.EngineSteps.{Steps, answer_of_step, step_made}
 use Rattle.crx_engine.specs.declared.engine.Step.{Step}
 use Rattle.crx_engine.specs.declared.engine.Step.TheVariants.{Quiet, Ready, Warned}
 
--- a line counts unless it comes again, and only where the answer is that lines are ready are some lent
+-- a line counts unless it comes again, and only where the answer is that lines are ready are some borrowed
 abbrev Counts : ℕ → Answer → ℕ → List (List ℕ) → Type 0
 Counts before SeenQuiet after lent = (after ≡ before + 1) × (lent ≡ [])
 Counts before SeenReady after lent = after ≡ before + 1

@@ -31,7 +31,7 @@ use Rattle.crx_engine.specs.meaning.Reading.{Reading, WholeReading, Stop, AtFaul
 use Rattle.crx_engine.specs.meaning.Reading.{fault_at_end, ended_with, ended_reading}
 use Rattle.crx_engine.specs.meaning.Messages.{warnings_in}
 use Rattle.crx_engine.specs.meaning.Compacted.{rinex_place, whole_rinex}
-use Rattle.crx_engine.specs.Compacted.{rinex_reading}
+use Rattle.crx_engine.specs.meaning.Directions.{rinex_reading}
 use Rattle.crx_engine.specs.meaning.Standard.{printed_items, whole_of, normal_form}
 use Rattle.crx_engine.specs.Laws.{AreInPlace}
 use Rattle.crx_engine.specs.meaning.WayBack.{OfCopiedLines, HaveNoReturns}

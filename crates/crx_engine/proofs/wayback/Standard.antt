@@ -21,7 +21,7 @@ use Rattle.crx_engine.specs.meaning.Reading.{Reading, WholeReading, Stop, AtFaul
 use Rattle.crx_engine.specs.meaning.Reading.{reading_within, fault_at_end, ended_with, ended_reading}
 use Rattle.crx_rinex.specs.meaning.Printing.{lines_text}
 use Rattle.crx_engine.specs.meaning.Compacted.{rinex_place, whole_rinex}
-use Rattle.crx_engine.specs.Compacted.{rinex_reading}
+use Rattle.crx_engine.specs.meaning.Directions.{rinex_reading}
 use Rattle.crx_engine.specs.meaning.Standard.{printed_items, whole_of}
 use Rattle.crx_engine.specs.meaning.WayBack.{OfCopiedLines, HaveNoReturns, written_well}
 use Rattle.crx_engine.specs.WayBack.{NormalFormComesBack, StandardComesBack}

@@ -26,7 +26,7 @@ use Rattle.crx_engine.specs.meaning.Messages.{warnings_in}
 use Rattle.crx_engine.specs.meaning.Results.{written_lines, result_of_course, result_of}
 use Rattle.crx_engine.specs.meaning.Compacted.{rinex_place, marked_epochs, version_line, program_line, whole_rinex}
 use Rattle.crx_engine.specs.meaning.Compacted.{compact_lines}
-use Rattle.crx_engine.specs.Compacted.{rinex_reading}
+use Rattle.crx_engine.specs.meaning.Directions.{rinex_reading}
 use Rattle.crx_engine.specs.meaning.Expanded.{compact_place, whole_compact, expanded_unit, expansion_result, expanded}
 use Rattle.crx_engine.specs.meaning.Standard.{printed_items}
 use Rattle.crx_engine.specs.Laws.{AreInPlace}

@@ -68,6 +68,12 @@ abbrev pub reading_from : {E : Type 0}
     → (List (Item E) → List ReadLine → Place (Unit E)) → Bool → List (Item E) → ℕ → List ReadLine → Reading E
 reading_from place skip items number lines = reading_within place skip (length lines + 1) items number lines
 
+-- the fault that a reading stopped at
+abbrev pub fault_of_stop : Stop → Option At
+fault_of_stop (AtFault at) = Some at
+fault_of_stop (AtLines number lines) = None
+fault_of_stop (Looking number) = None
+
 -- ---- the end of the input
 
 -- what the end of the input means where more lines could make a unit: before the first line, in the header, among an

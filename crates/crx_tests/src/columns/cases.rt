@@ -371,13 +371,3 @@ pub const READ_ALONE: &[Table] = &[
         )],
     ),
 ];
-
-/// An epoch that comes after all is forgotten: it stands in full, though it isn't asked to.
-pub const AFTER_A_RESET: Table = (
-    "an epoch after a reset",
-    &[(
-        NEXT,
-        "> 2024 01 01 00 00  4.0000000  0  1|G01  20000408.000",
-        "> 2024 01 01 00 00  4.0000000  0  1      G01||3&20000408000",
-    )],
-);

@@ -12,14 +12,6 @@ fn lines_in(bytes: &[u8], given: usize) -> usize {
         .count()
 }
 
-/// Whether the run had ended before the line after these.
-fn has_ended(case: &Case, lines: usize) -> bool {
-    match case.outcome.fault {
-        Some(at) => at.line <= lines as u64,
-        None => false,
-    }
-}
-
 /// A source that gives one byte a call, and fails after so many: the output is that of the lines whose LF was given.
 fn fails_after(
     rt: &impl Abort,
@@ -39,7 +31,8 @@ fn fails_after(
         texts.is_output_after(case, lines, writer.contents()),
         "after {given} bytes"
     );
-    if has_ended(case, lines) {
+    // The run had ended before the line after these
+    if matches!(case.outcome.fault, Some(at) if at.line <= lines as u64) {
         assert!(rt; outcome == case.outcome);
         return Ok(());
     }

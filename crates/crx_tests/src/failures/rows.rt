@@ -42,25 +42,6 @@ fn passes(alloc: Global, row: &Row) -> Result<bool, Fail> {
     )
 }
 
-const NEVER: Plan = Plan {
-    when: When::Never,
-    once: false,
-};
-
-const fn after_bytes(count: usize) -> Plan {
-    Plan {
-        when: When::AfterBytes(count),
-        once: false,
-    }
-}
-
-const fn at(line: u64, fault: Fault) -> Outcome {
-    Outcome {
-        status: 1,
-        fault: Some(At { line, fault }),
-    }
-}
-
 #[test]
 fn a_device_fails(rt: HostRuntime) -> Result<(), Fail> {
     let rows = [
@@ -68,61 +49,76 @@ fn a_device_fails(rt: HostRuntime) -> Result<(), Fail> {
         Row {
             input: FIVE_EPOCHS,
             skip: false,
-            reads: after_bytes(343),
-            writes: NEVER,
-            reports: NEVER,
+            reads: Plan::from_then_on(When::AfterBytes(343)),
+            writes: Plan::never(),
+            reports: Plan::never(),
             output: b"",
             lines: "K|H|> 2024 01 01 00 00  0.0000000  0  1      G01||3&20000000000|                    1||100500",
             messages: "ERROR line 8 code 20: read failed",
-            outcome: at(8, Fault::ReadFailed),
+            outcome: ended(At {
+                line: 8,
+                fault: Fault::ReadFailed,
+            }),
         },
         // It fails after the first 3 bytes of line 7
         Row {
             input: FIVE_EPOCHS,
             skip: false,
-            reads: after_bytes(328),
-            writes: NEVER,
-            reports: NEVER,
+            reads: Plan::from_then_on(When::AfterBytes(328)),
+            writes: Plan::never(),
+            reports: Plan::never(),
             output: b"",
             lines: FIRST_EPOCH,
             messages: "ERROR line 7 code 20: read failed",
-            outcome: at(7, Fault::ReadFailed),
+            outcome: ended(At {
+                line: 7,
+                fault: Fault::ReadFailed,
+            }),
         },
         // The writer fails after 30 bytes
         Row {
             input: "H",
             skip: false,
-            reads: NEVER,
-            writes: after_bytes(30),
-            reports: NEVER,
+            reads: Plan::never(),
+            writes: Plan::from_then_on(When::AfterBytes(30)),
+            reports: Plan::never(),
             output: b"3.0                 COMPACT RI",
             lines: "",
             messages: "ERROR line 1 code 21: write failed",
-            outcome: at(1, Fault::WriteFailed),
+            outcome: ended(At {
+                line: 1,
+                fault: Fault::WriteFailed,
+            }),
         },
         // A warning can't be written
         Row {
             input: BAD_INDICATOR,
             skip: true,
-            reads: NEVER,
-            writes: NEVER,
-            reports: after_bytes(0),
+            reads: Plan::never(),
+            writes: Plan::never(),
+            reports: Plan::from_then_on(When::AfterBytes(0)),
             output: b"",
             lines: FIRST_EPOCH,
             messages: "",
-            outcome: at(7, Fault::WriteFailed),
+            outcome: ended(At {
+                line: 7,
+                fault: Fault::WriteFailed,
+            }),
         },
         // The message of a fault can't be written
         Row {
             input: BAD_INDICATOR,
             skip: false,
-            reads: NEVER,
-            writes: NEVER,
-            reports: after_bytes(0),
+            reads: Plan::never(),
+            writes: Plan::never(),
+            reports: Plan::from_then_on(When::AfterBytes(0)),
             output: b"",
             lines: FIRST_EPOCH,
             messages: "",
-            outcome: at(7, Fault::BadFlags),
+            outcome: ended(At {
+                line: 7,
+                fault: Fault::BadFlags,
+            }),
         },
     ];
     for (place, row) in rows.iter().enumerate() {

@@ -111,88 +111,60 @@ fn feed_all(
 }
 
 /// Whether an engine gives these answers to the lines of a text.
-fn answers_so(
-    rt: &impl Abort,
-    alloc: Global,
-    skip: bool,
-    lines: &str,
-    answers: &[Answer],
-    fault: Option<At>,
-) -> Result<(), Fail> {
-    let input = text(alloc, lines)?;
-    let options = Options::new(None, skip, b"D")?;
+fn answers_so(rt: &impl Abort, alloc: Global, run: &Run) -> Result<(), Fail> {
+    let input = text(alloc, run.lines)?;
+    let options = Options::new(None, run.skip, b"D")?;
     let mut engine = Owned::of(Compactor::new(alloc, options)?);
     feed_all(
         rt,
         &mut engine.value,
         alloc,
         input.as_slice(),
-        answers,
-        fault,
+        run.answers,
+        run.fault,
     )
 }
 
-#[test]
-fn five_epochs(rt: HostRuntime) -> Result<(), Fail> {
-    answers_so(
-        &rt,
-        rt.alloc(),
-        false,
-        "H|> 2024 01 01 00 00  0.0000000  0  1|G01  20000000.000|> 2024 01 01 00 00  1.0000000  0  1|G01  20000100.500|> 2024 01 01 00 00  2.0000000  0  1|G01  20000202.000|> 2024 01 01 00 00  3.0000000  0  1|G01  20000304.500|> 2024 01 01 00 00  4.0000000  0  1|G01  20000408.000",
-        &[
-            ready(3),
-            ready(1),
-            ready(1),
-            QUIET,
-            ready(3),
-            QUIET,
-            ready(3),
-            QUIET,
-            ready(3),
-            QUIET,
-            ready(3),
-            QUIET,
-            ready(3),
+const RUNS: [Run; 4] = [
+    // Five epochs
+    Run {
+        skip: false,
+        lines: "H|> 2024 01 01 00 00  0.0000000  0  1|G01  20000000.000|> 2024 01 01 00 00  1.0000000  0  1|G01  20000100.500|> 2024 01 01 00 00  2.0000000  0  1|G01  20000202.000|> 2024 01 01 00 00  3.0000000  0  1|G01  20000304.500|> 2024 01 01 00 00  4.0000000  0  1|G01  20000408.000",
+        answers: &[
+            THREE, ONE, ONE, QUIET, THREE, QUIET, THREE, QUIET, THREE, QUIET, THREE, QUIET, THREE,
         ],
-        None,
-    )
-}
-
-#[test]
-fn epochs_without_satellites(rt: HostRuntime) -> Result<(), Fail> {
-    answers_so(
-        &rt,
-        rt.alloc(),
-        false,
-        "H|> 2024 01 01 00 00  0.0000000  0  0|> 2024 01 01 00 00  0.0000000  0  0",
-        &[ready(3), ready(1), ready(1), ready(2), ready(2)],
-        None,
-    )
-}
-
-#[test]
-fn a_line_that_gives_two_warnings(rt: HostRuntime) -> Result<(), Fail> {
-    answers_so(
-        &rt,
-        rt.alloc(),
-        true,
-        "H|> 2024 01 01 00 00  0.0000000  0  1|>|> 2024 01 01 00 00  1.0000000  0  1|G01         1.000",
-        &[ready(3), ready(1), ready(1), QUIET, TWICE, QUIET, ready(3)],
-        None,
-    )
-}
-
-#[test]
-fn a_fault(rt: HostRuntime) -> Result<(), Fail> {
-    answers_so(
-        &rt,
-        rt.alloc(),
-        false,
-        "H|> 2024 01 01 00 00  0.0000000  0  1|G01  20000000.000|> 2024 01 01 00 00  1.0000000  0  1|G01  20000100.500&",
-        &[ready(3), ready(1), ready(1), QUIET, ready(3), QUIET],
-        Some(At {
+        fault: None,
+    },
+    // Epochs without satellites
+    Run {
+        skip: false,
+        lines: "H|> 2024 01 01 00 00  0.0000000  0  0|> 2024 01 01 00 00  0.0000000  0  0",
+        answers: &[THREE, ONE, ONE, TWO, TWO],
+        fault: None,
+    },
+    // A line that gives two warnings
+    Run {
+        skip: true,
+        lines: "H|> 2024 01 01 00 00  0.0000000  0  1|>|> 2024 01 01 00 00  1.0000000  0  1|G01         1.000",
+        answers: &[THREE, ONE, ONE, QUIET, TWICE, QUIET, THREE],
+        fault: None,
+    },
+    // A fault
+    Run {
+        skip: false,
+        lines: "H|> 2024 01 01 00 00  0.0000000  0  1|G01  20000000.000|> 2024 01 01 00 00  1.0000000  0  1|G01  20000100.500&",
+        answers: &[THREE, ONE, ONE, QUIET, THREE, QUIET],
+        fault: Some(At {
             line: 7,
             fault: Fault::BadFlags,
         }),
-    )
+    },
+];
+
+#[test]
+fn answers_to_each_line(rt: HostRuntime) -> Result<(), Fail> {
+    for run in RUNS.iter() {
+        answers_so(&rt, rt.alloc(), run)?;
+    }
+    Ok(())
 }

@@ -111,93 +111,54 @@ fn feed_all(
 }
 
 /// Whether an engine gives these answers to the lines of a text.
-fn answers_so(
-    rt: &impl Abort,
-    alloc: Global,
-    skip: bool,
-    lines: &str,
-    answers: &[Answer],
-    fault: Option<At>,
-) -> Result<(), Fail> {
-    let input = text(alloc, lines)?;
-    let options = Options::new(None, skip, b"D")?;
+fn answers_so(rt: &impl Abort, alloc: Global, run: &Run) -> Result<(), Fail> {
+    let input = text(alloc, run.lines)?;
+    let options = Options::new(None, run.skip, b"D")?;
     let mut engine = Owned::of(Expander::new(alloc, options)?);
     feed_all(
         rt,
         &mut engine.value,
         alloc,
         input.as_slice(),
-        answers,
-        fault,
+        run.answers,
+        run.fault,
     )
 }
 
-#[test]
-fn five_epochs(rt: HostRuntime) -> Result<(), Fail> {
-    answers_so(
-        &rt,
-        rt.alloc(),
-        false,
-        "K|H|> 2024 01 01 00 00  0.0000000  0  1      G01||3&20000000000|                    1||100500|                    2||1000|                    3||0|                    4||0",
-        &[
-            QUIET,
-            QUIET,
-            ready(1),
-            ready(1),
-            ready(1),
-            QUIET,
-            QUIET,
-            ready(2),
-            QUIET,
-            QUIET,
-            ready(2),
-            QUIET,
-            QUIET,
-            ready(2),
-            QUIET,
-            QUIET,
-            ready(2),
-            QUIET,
-            QUIET,
-            ready(2),
+const RUNS: [Run; 3] = [
+    // Five epochs
+    Run {
+        skip: false,
+        lines: "K|H|> 2024 01 01 00 00  0.0000000  0  1      G01||3&20000000000|                    1||100500|                    2||1000|                    3||0|                    4||0",
+        answers: &[
+            QUIET, QUIET, ONE, ONE, ONE, QUIET, QUIET, TWO, QUIET, QUIET, TWO, QUIET, QUIET, TWO,
+            QUIET, QUIET, TWO, QUIET, QUIET, TWO,
         ],
-        None,
-    )
-}
-
-#[test]
-fn epochs_without_satellites(rt: HostRuntime) -> Result<(), Fail> {
-    answers_so(
-        &rt,
-        rt.alloc(),
-        false,
-        "K|H|> 2024 01 01 00 00  0.0000000  0  0|||",
-        &[
-            QUIET,
-            QUIET,
-            ready(1),
-            ready(1),
-            ready(1),
-            QUIET,
-            ready(1),
-            QUIET,
-            ready(1),
-        ],
-        None,
-    )
-}
-
-#[test]
-fn a_fault(rt: HostRuntime) -> Result<(), Fail> {
-    answers_so(
-        &rt,
-        rt.alloc(),
-        false,
-        "K|H|> 2024 01 01 00 00  0.0000000  0  1      G01||5",
-        &[QUIET, QUIET, ready(1), ready(1), ready(1), QUIET, QUIET],
-        Some(At {
+        fault: None,
+    },
+    // Epochs without satellites
+    Run {
+        skip: false,
+        lines: "K|H|> 2024 01 01 00 00  0.0000000  0  0|||",
+        answers: &[QUIET, QUIET, ONE, ONE, ONE, QUIET, ONE, QUIET, ONE],
+        fault: None,
+    },
+    // A fault
+    Run {
+        skip: false,
+        lines: "K|H|> 2024 01 01 00 00  0.0000000  0  1      G01||5",
+        answers: &[QUIET, QUIET, ONE, ONE, ONE, QUIET, QUIET],
+        fault: Some(At {
             line: 8,
             fault: Fault::NoArc,
         }),
-    )
+    },
+];
+
+#[test]
+fn answers_to_each_line(rt: HostRuntime) -> Result<(), Fail> {
+    for run in RUNS.iter() {
+        answers_so(&rt, rt.alloc(), run)?;
+    }
+    Ok(())
 }

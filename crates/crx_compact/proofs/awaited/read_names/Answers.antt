@@ -8,40 +8,24 @@ use Rattle.std.specs.Str.{bytes_eq}
 use Rattle.crx_text.specs.meaning.Columns.{columns}
 use Rattle.crx_compact.specs.meaning.EpochText.{Satellite, names_in}
 use Rattle.crx_rinex.proofs.EachPlace.{drop-each_place, drop_all-each_place}
-use Rattle.crx_compact.proofs.reading.Naming.{named-bad, named-twice, named-more, named-all}
+use Rattle.crx_compact.proofs.reading.Naming.{among-named, named-bad, named-twice, named-more, named-all, next-name}
 use Rattle.crx_rinex.proofs.Rows.{names-long}
 use Rattle.crx_compact.proofs.awaited.read_names.Goals as goal
-
--- the identifier at a place, which was read
-next : (text : List ℕ) (count place : ℕ) (name : List ℕ) → place < count → name ≡ columns text (42 + 3 * place) 3
-    → drop place (names_in text count) ≡ name ∷ drop (place + 1) (names_in text count)
-next text count place name h e =
-    drop-each_place count place (λ k. columns text (42 + 3 * k) 3) h
-    ∙ ap (λ n. n ∷ drop (place + 1) (names_in text count)) (sym e)
-
--- whether an identifier stands among those of the satellites so far
-among : (satellites : List Satellite) (names : List (List ℕ)) (name : List ℕ) (place : ℕ) (b : Bool)
-    → take place names ≡ map (λ (s : Satellite). s.name) satellites
-    → is_among (λ (n : List ℕ). n) name (take place names) ≡ b
-    → list_any (λ (s : Satellite). bytes_eq s.name name) satellites ≡ b
-among satellites names name place b placed is =
-    sym (among-map (λ (n : List ℕ). n) (λ (s : Satellite). s.name) name satellites)
-    ∙ ap (is_among (λ (n : List ℕ). n) name) (sym placed) ∙ is
 
 pub returns-in_default-clause-err : goal.returns-in_default-clause-err
 returns-in_default-clause-err c =
     inl (named-bad c.args.types.now (names_in c.args.text.now c.args.count)
     c.loop-place.place c.loop-place.satellites.items c.identifier-name.result c.loop-place.invariant.so_far
-    (next c.args.text.now c.args.count c.loop-place.place
+    (next-name c.args.text.now c.args.count c.loop-place.place
     c.identifier-name.result c.loop-place-test.true c.identifier-name.ensures) (sym c.in_default.ensures.value))
 
 pub returns-in-Ok-false-clause-err : goal.returns-in-Ok-false-clause-err
 returns-in-Ok-false-clause-err c =
     inl (named-twice c.args.types.now (names_in c.args.text.now c.args.count) c.loop-place.place
     c.loop-place.satellites.items c.identifier-name.result c.in-Some.types c.loop-place.invariant.so_far
-    (next c.args.text.now c.args.count c.loop-place.place
+    (next-name c.args.text.now c.args.count c.loop-place.place
     c.identifier-name.result c.loop-place-test.true c.identifier-name.ensures) (sym c.in-Some.ensures.value)
-    (among c.loop-place.satellites.items c.loop-place.names c.identifier-name.result c.loop-place.place
+    (among-named c.loop-place.satellites.items c.loop-place.names c.identifier-name.result c.loop-place.place
     true c.loop-place.invariant.placed (c.in-Ok-false.ensures.new ∙ ap not c.in-Ok-false.field-0-test)))
 
 pub loop-place-preserved : goal.loop-place-preserved
@@ -55,9 +39,9 @@ loop-place-preserved c =
           named-more c.args.types.now (names_in c.args.text.now c.args.count)
           c.loop-place.place c.loop-place.satellites.items
           c.push.new.self.items c.identifier-name.result c.in-Some.types c.loop-place.invariant.so_far
-          (next c.args.text.now c.args.count c.loop-place.place
+          (next-name c.args.text.now c.args.count c.loop-place.place
           c.identifier-name.result c.loop-place-test.true c.identifier-name.ensures) (sym c.in-Some.ensures.value)
-          (among c.loop-place.satellites.items c.loop-place.names c.identifier-name.result c.loop-place.place
+          (among-named c.loop-place.satellites.items c.loop-place.names c.identifier-name.result c.loop-place.place
           false c.loop-place.invariant.placed (c.in-Ok-true.ensures.new ∙ ap not c.in-Ok-true.field-0-test))
           pushed;
       within = names-long c.loop-place.names c.put.new.self c.loop-place.place c.identifier-name.result within put;

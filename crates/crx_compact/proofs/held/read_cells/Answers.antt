@@ -1,8 +1,9 @@
+use Rattle.std.proofs.lemmas.Result.{err_from_is_err_and}
 use Rattle.std.proofs.Common.{◌≡◌, ◌∷◌, [], ◌-◌, refl, List, ℕ, length, take, drop, sym, ap, ◌∙◌, arith}
 use Rattle.std.proofs.lemmas.List.{length-drop}
 use Rattle.crx_compact.proofs.reading.CellsRead.{read-cell, read-refused, read-none, read-all}
 use Rattle.crx_compact.proofs.held.read_cells.Goals as goal
-use Rattle.crx_compact.proofs.held.read_cells.Goals.{in-Some, in-None+in-Ok}
+use Rattle.crx_compact.proofs.held.read_cells.Goals.{in-Some, in-None+in_ok-value-in-None}
 
 -- a line from a place on
 all : {X : Type 0} (text : List X) → take (length text) text ≡ text
@@ -16,10 +17,12 @@ pub loop-place-init : goal.loop-place-init
 loop-place-init c =
     (read-none c.args.before.now c.args.count c.args.line.now c.args.row.now c.requires.sized, c.requires.counted)
 
-pub returns-in-Err-clause-err : goal.returns-in-Err-clause-err
-returns-in-Err-clause-err c =
-    read-refused _ _ _ _ _ _ _ _ c.in-Err.fault c.loop-place.invariant.0 c.loop-place-test.true
-    (rw (from c.args.line.now c.loop-place.at) at c.in-Err.ensures.err)
+pub returns-in_err-value-in-None-clause-err : goal.returns-in_err-value-in-None-clause-err
+returns-in_err-value-in-None-clause-err c =
+    let p = err_from_is_err_and c.from_residual.result c.from_residual.ensures.1 in
+    rw (p.1, p.2) (
+    read-refused _ _ _ _ _ _ _ _ _ c.loop-place.invariant.0 c.loop-place-test.true
+    (rw (from c.args.line.now c.loop-place.at) at c.in_err-value-in-None.ensures.err))
 
 pub loop-place-preserved : goal.loop-place-preserved
 loop-place-preserved c =
@@ -29,11 +32,11 @@ loop-place-preserved c =
           w.in-Some.length c.loop-place.invariant.0 c.loop-place-test.true c.loop-place.invariant.1
           (rw (from c.args.line.now c.loop-place.at) at w.in-Some.ensures.some)
           w.arcs-is w.at-is (w.row-is ∙ w.set.ensures.value)
-      | in-None+in-Ok w ↦
-          read-cell _ _ _ _ _ _ _ _ _ _ _ _ w.in-Ok.value
-          w.in-Ok.length c.loop-place.invariant.0 c.loop-place-test.true c.loop-place.invariant.1
-          (rw (from c.args.line.now c.loop-place.at, w.in-None.ensures.none) at w.in-Ok.ensures.ok)
-          w.arcs-is w.at-is (w.row-is ∙ w.set-in-Ok.ensures.value)
+      | in-None+in_ok-value-in-None w ↦
+          read-cell _ _ _ _ _ _ _ _ _ _ _ _ w.in_ok-value-in-None.value
+          w.in_ok-value-in-None.length c.loop-place.invariant.0 c.loop-place-test.true c.loop-place.invariant.1
+          (rw (from c.args.line.now c.loop-place.at, w.in-None.ensures.none) at w.in_ok-value-in-None.ensures.ok)
+          w.arcs-is w.at-is (w.row-is ∙ w.set-in-None.ensures.value)
     ]
 
 pub returns-clause-ok : goal.returns-clause-ok

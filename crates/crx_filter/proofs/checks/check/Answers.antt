@@ -1,4 +1,4 @@
-use Rattle.crx_engine.specs.CheckByLine.{check_filter}
+use Rattle.crx_engine.specs.meaning.Directions.{check_filter}
 use Rattle.crx_engine.specs.meaning.Standard.{checked}
 use Rattle.crx_filter.specs.meaning.Promises.{JudgesStandard}
 use Rattle.crx_filter.specs.meaning.Spans.{Input, reader_span, Device, span}

@@ -6,7 +6,7 @@ use Rattle.crx_engine.specs.declared.expander.Expander.{Expander}
 use Rattle.crx_engine.specs.LineByLine.{Seen}
 use Rattle.crx_engine.specs.meaning.Expanded.{expanded}
 use Rattle.crx_engine.specs.ExpanderState.{expander_state}
-use Rattle.crx_engine.specs.Directions.{expansion_filter}
+use Rattle.crx_engine.specs.meaning.Directions.{expansion_filter}
 use Rattle.crx_filter.specs.meaning.Spans.{Input, reader_span, Device, span}
 use Rattle.std.proofs.lemmas.Result.{IfOk-weaker}
 use Rattle.crx_engine.proofs.following.Lawful.{expansion-lawful}

@@ -33,4 +33,5 @@ loop-k-preserved c =
           c.in-Some.strength room inv.2 c.in-Some.ensures.flags.0 c.in-Some.ensures.flags.1,
       length-set values k value ∙ inv.3,
       length-set _ (2 * k + 1) c.in-Some.strength ∙ length-set flags (2 * k) c.in-Some.lock ∙ inv.4,
+      omega (arith, within, length-set values k value),
     )

@@ -1,4 +1,4 @@
-use Rattle.std.proofs.Common.{◌≡◌, ◌*◌, Some, length, take, All}
+use Rattle.std.proofs.Common.{◌≡◌, ◌≤◌, ◌*◌, ◌-◌, Some, length, take, All}
 use Rattle.crx_rinex.specs.meaning.SatelliteLines.{values_in, flags_in, IsValue}
 use Rattle.crx_rinex.proofs.satellite_row.split_cells.Given as goal
 
@@ -7,4 +7,7 @@ abbrev pub invariant-loop-k : goal.invariant-loop-k
 invariant-loop-k l =
     (values_in l.k l.line ≡ Some (take l.k l.values))
     × All IsValue (take l.k l.values) × (take (2 * l.k) l.flags ≡ flags_in l.k l.line)
-    × (length l.values ≡ length l.fn.values) × (length l.flags ≡ length l.fn.flags)
+    × (length l.values ≡ length l.fn.values) × (length l.flags ≡ length l.fn.flags) × (l.k ≤ length l.values)
+
+abbrev pub decreases-loop-k : goal.decreases-loop-k
+decreases-loop-k l = length l.values - l.k

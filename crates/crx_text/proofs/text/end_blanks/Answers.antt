@@ -1,8 +1,8 @@
-use Rattle.std.proofs.Common.{length, take, ap, sym, ◌≡◌, ◌-◌, ◌∙◌, arith}
+use Rattle.std.proofs.Common.{ℕ, length, take, get_or, ap, sym, subst, ◌≡◌, ◌≢◌, ◌<◌, ◌-◌, ◌∙◌, arith}
 use Rattle.crx_text.proofs.EndBlanks.{kept_before, kept_in_piece, none_in_piece, kept_in_first}
 use Rattle.std.proofs.lemmas.List.{take_all}
 use Rattle.crx_text.specs.meaning.Columns.{without_end_blanks}
-use Rattle.crx_text.proofs.Positions.{trim_done}
+use Rattle.crx_text.proofs.Positions.{trim_blank, trim_done}
 use Rattle.crx_text.proofs.text.end_blanks.Goals as goal
 
 pub returns-then-count-gt0-clause-kept : goal.returns-then-count-gt0-clause-kept
@@ -35,8 +35,34 @@ pub returns-then-text-end-ne32-clause-kept : goal.returns-then-text-end-ne32-cla
 returns-then-text-end-ne32-clause-kept c =
     let text = c.args.text.now in
     let whole : take (length text) text ≡ text = take_all (length text) text (omega arith) in
-    sym (trim_done text (length text) c.if-end-gt0.true (omega arith) c.if-text-end-ne32.true)
+    sym (trim_done text (length text) (omega (arith, c.if-end-gt2.true)) (omega arith) c.if-text-end-ne32.true)
     ∙ ap without_end_blanks whole
+
+pub returns-then-text-end-ne32-2-clause-kept : goal.returns-then-text-end-ne32-2-clause-kept
+returns-then-text-end-ne32-2-clause-kept c =
+    let text = c.args.text.now in
+    let some : 2 < length text = omega (arith, c.if-end-gt2.true) in
+    let before : length text - 2 ≡ length text - 1 - 1 = omega arith in
+    let whole : take (length text) text ≡ text = take_all (length text) text (omega arith) in
+    sym (trim_done text (length text - 1) (omega (arith, some)) (omega arith)
+    (subst (λ (n : ℕ). get_or text n 0 ≢ 32) before c.if-text-end-ne32-2.true))
+    ∙ (trim_blank text (length text) (omega (arith, some)) (omega arith) c.if-text-end-ne32.false
+    ∙ ap without_end_blanks whole)
+
+pub returns-then-text-end-ne32-3-clause-kept : goal.returns-then-text-end-ne32-3-clause-kept
+returns-then-text-end-ne32-3-clause-kept c =
+    let text = c.args.text.now in
+    let some : 2 < length text = omega (arith, c.if-end-gt2.true) in
+    let first : length text - 2 ≡ length text - 1 - 1 = omega arith in
+    let second : length text - 3 ≡ length text - 2 - 1 = omega arith in
+    let whole : take (length text) text ≡ text = take_all (length text) text (omega arith) in
+    sym (trim_done text (length text - 2) (omega (arith, some)) (omega arith)
+    (subst (λ (n : ℕ). get_or text n 0 ≢ 32) second c.if-text-end-ne32-3.true))
+    ∙ (ap (λ (n : ℕ). without_end_blanks (take n text)) first
+    ∙ (trim_blank text (length text - 1) (omega (arith, some)) (omega arith)
+    (subst (λ (n : ℕ). get_or text n 0 ≡ 32) first c.if-text-end-ne32-2.false)
+    ∙ (trim_blank text (length text) (omega (arith, some)) (omega arith) c.if-text-end-ne32.false
+    ∙ ap without_end_blanks whole)))
 
 pub returns-then-count-gt0-2-clause-kept : goal.returns-then-count-gt0-2-clause-kept
 returns-then-count-gt0-2-clause-kept c =

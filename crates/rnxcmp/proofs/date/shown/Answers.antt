@@ -2,7 +2,7 @@ use Rattle.std.proofs.Common.{rules, ◌≡◌, ◌++◌, ◌∙◌, ◌-◌, �
 use Rattle.std.proofs.Common.{append_assoc}
 use Rattle.std.specs.List.{slice_index_or}
 use Rattle.std.specs.Prelude.{unsigned_abs}
-use Rattle.rnxcmp.specs.Dates.{date_text_of, months, two_digits}
+use Rattle.rnxcmp.specs.meaning.Dates.{date_text_of, months, two_digits}
 use Rattle.rnxcmp.proofs.date.shown.Goals as goal
 
 -- a text with a piece more

@@ -1,5 +1,5 @@
 use Rattle.std.proofs.Common.{subst, sym}
-use Rattle.rnxcmp.specs.Program.{IsFiltered}
+use Rattle.rnxcmp.specs.meaning.Jobs.{IsFiltered}
 use Rattle.crx_filter.specs.meaning.Spans.{span, reader_span}
 use Rattle.rnxcmp.specs.declared.job.Tool.{Tool}
 use Rattle.rnxcmp.proofs.program.filter.Goals as goal

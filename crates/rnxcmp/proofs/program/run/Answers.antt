@@ -1,6 +1,6 @@
 use Rattle.std.proofs.Common.{◌≡◌, ◌∙◌, map, inl, inr, refl, string_bytes}
 use Rattle.rnxcmp.specs.meaning.Planning.{Run, plan_of}
-use Rattle.rnxcmp.specs.Program.{NoMemory}
+use Rattle.rnxcmp.specs.meaning.Jobs.{NoMemory}
 use Rattle.crx_filter.specs.meaning.Spans.{span, reader_span}
 use Rattle.rnxcmp.specs.declared.job.Job.{Job}
 use Rattle.rnxcmp.proofs.FilterEnds.{done_for}

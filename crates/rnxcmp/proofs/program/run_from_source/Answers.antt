@@ -1,5 +1,5 @@
 use Rattle.std.proofs.Common.{◌≡◌, ◌∙◌, Some, ap, inl, inr, is_some, refl, sym, true}
-use Rattle.rnxcmp.specs.Program.{CannotRead}
+use Rattle.rnxcmp.specs.meaning.Jobs.{CannotRead}
 use Rattle.crx_filter.specs.meaning.Spans.{span, reader_span}
 use Rattle.rnxcmp.proofs.FilterEnds.{from_file, still_not_begun}
 use Rattle.rnxcmp.proofs.program.run_from_source.Goals as goal

@@ -1,5 +1,5 @@
 use Rattle.std.proofs.Common.{inl, inr, refl}
-use Rattle.rnxcmp.specs.Program.{NoMemory}
+use Rattle.rnxcmp.specs.meaning.Jobs.{NoMemory}
 use Rattle.rnxcmp.proofs.program.run_job.Goals as goal
 
 pub returns-in-Ok-clause-done : goal.returns-in-Ok-clause-done

@@ -1,5 +1,5 @@
 use Rattle.std.proofs.Common.{◌∙◌, Some, ap, inr, refl, sym}
-use Rattle.rnxcmp.specs.Program.{CannotCreate, FileExists}
+use Rattle.rnxcmp.specs.meaning.Jobs.{CannotCreate, FileExists}
 use Rattle.rnxcmp.proofs.program.run_to_target.Goals as goal
 
 pub returns-in-Err-clause-done : goal.returns-in-Err-clause-done

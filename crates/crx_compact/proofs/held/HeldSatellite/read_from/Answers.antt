@@ -1,29 +1,32 @@
+use Rattle.std.proofs.lemmas.Result.{err_from_is_err_and}
 use Rattle.std.proofs.Common.{◌≡◌, drop, length, inl, arith}
 use Rattle.std.proofs.lemmas.List.{take_at}
 use Rattle.crx_compact.proofs.reading.Marks.{cells-refused, if-err, line-from, line-held, marks-refused, on-all}
 use Rattle.crx_compact.proofs.reading.Marks.{still-counted}
 use Rattle.crx_compact.proofs.held.HeldSatellite.read_from.Goals as goal
 
-pub returns-in-Err-clause-err : goal.returns-in-Err-clause-err
-returns-in-Err-clause-err c =
-    cells-refused c.args.arcs.now c.args.flags.now c.args.satellite.now c.args.line.now c.in-Err.fault c.requires.other
-    (inl (rw (c.count-count.ensures.value) at c.in-Err.ensures.err))
+pub returns-in_err-at-clause-err : goal.returns-in_err-at-clause-err
+returns-in_err-at-clause-err c =
+    let p = err_from_is_err_and c.from_residual.result c.from_residual.ensures.1 in
+    rw (p.1, p.2) (
+    cells-refused c.args.arcs.now c.args.flags.now c.args.satellite.now c.args.line.now _ c.requires.other
+    (inl (rw (c.count-count.ensures.value) at c.in_err-at.ensures.err)))
 
 pub returns-clause-err : goal.returns-clause-err
 returns-clause-err c =
-    let read = rw (c.count-count.ensures.value) at c.in-Ok-read_cells.ensures.ok in
+    let read = rw (c.count-count.ensures.value) at c.in_ok-at.ensures.ok in
     let refused = rw (
       line-from c.args.line.now
-          c.in-Ok-read_cells.at,
+          c.in_ok-at.at,
       c.count-count.ensures.value,
     ) at c.read_indicators.ensures.err in
     if-err c.read_indicators.result _ _ (λ fault. marks-refused
-    c.args.arcs.now c.args.flags.now c.args.satellite.now c.args.line.now _ _ _ c.in-Ok-read_cells.at fault
+    c.args.arcs.now c.args.flags.now c.args.satellite.now c.args.line.now _ _ _ c.in_ok-at.at fault
     c.requires.other read) refused
 
 pub returns-clause-ok : goal.returns-clause-ok
 returns-clause-ok c =
-    let at = c.in-Ok-read_cells.at in
+    let at = c.in_ok-at.at in
     let marks = rw (line-from c.args.line.now at, c.count-count.ensures.value) at c.read_indicators.ensures.marks in
     let row = rw (line-from c.args.line.now at, c.count-count.ensures.value) at c.read_indicators.ensures.row in
     let held = rw (line-from c.args.line.now at, c.count-count.ensures.value) at c.read_indicators.ensures.held in
@@ -34,10 +37,10 @@ returns-clause-ok c =
     (on-all c.read_indicators.result (λ good shown kept.
     line-held c.args.arcs.now c.args.flags.now c.args.satellite.now
     c.args.line.now arcs _ c.read_cells.new.row c.read_indicators.new.row at _ _ c.requires.other
-    c.requires.named (rw (c.count-count.ensures.value) at c.in-Ok-read_cells.ensures.ok)
+    c.requires.named (rw (c.count-count.ensures.value) at c.in_ok-at.ensures.ok)
     good shown c.name-self-inside.ensures.value kept) marks row held)
 
 pub read_indicators-requires-clause-counted : goal.read_indicators-requires-clause-counted
 read_indicators-requires-clause-counted c =
     still-counted c.args.arcs.now c.count-count.result
-    c.args.line.now _ _ c.read_cells.new.row c.in-Ok-read_cells.at c.in-Ok-read_cells.ensures.ok
+    c.args.line.now _ _ c.read_cells.new.row c.in_ok-at.at c.in_ok-at.ensures.ok

@@ -1,6 +1,24 @@
+use Rattle.std.proofs.Common.{◌≡◌, true, false, refl, Result, Ok, Err}
+use Rattle.std.specs.Result.{is_ok}
+use Rattle.crx_lines.specs.declared.fault.Fault.{Fault}
+use Rattle.crx_compact.specs.meaning.Sequences.{and_then}
 use Rattle.crx_compact.proofs.reading.Opening.{announced}
 use Rattle.crx_compact.proofs.incoming.Incoming.begin.Goals as goal
 
-pub invariant_of-self : goal.invariant_of-self
-invariant_of-self c = announced c.args.types.now c.args.before.now c.self.inside.next c.read_epoch_line.new.self
-    c.args.line.now c.read_epoch_line.new.satellites.items c.in-Ok.ensures.ok c.in-Ok.ensures.text
+pub invariant_of-self-in-Ok-read_epoch_line : goal.invariant_of-self-in-Ok-read_epoch_line
+invariant_of-self-in-Ok-read_epoch_line c = announced c.args.types.now c.args.before.now c.if-not-is_roomy.self-inside.next c.read_epoch_line.new.self
+    c.args.line.now c.read_epoch_line.new.satellites.items c.in-Ok-read_epoch_line.ensures.ok c.in-Ok-read_epoch_line.ensures.text
+
+-- what goes on from a good result is good
+still-good : {X Y : Type 0} (r : Result X Fault) (f : X → Y)
+    → is_ok r ≡ true → is_ok (and_then {Y = Y} r (λ (x : X). Ok (f x))) ≡ true
+still-good (Ok x) f e = refl
+still-good (Err fault) f e = absurd (cc)
+
+pub returns-in-Err-OutOfMemory-clause-memory : goal.returns-in-Err-OutOfMemory-clause-memory
+returns-in-Err-OutOfMemory-clause-memory c = λ out.
+    still-good _ _ (c.fault_of_epoch_line-in-Err-OutOfMemory.ensures.memory out)
+
+pub returns-in_default-make_room-clause-memory : goal.returns-in_default-make_room-clause-memory
+returns-in_default-make_room-clause-memory c = λ out.
+    still-good _ _ (c.fault_of_epoch_line.ensures.memory c.in-OutOfMemory.is)

@@ -1,12 +1,13 @@
-use Rattle.std.proofs.Common.{ap, ◌∙◌, sym, subst, ◌≡◌, Option, Some, None, List}
-use Rattle.std.specs.Prelude.{slice_get, ◌⊎◌}
+use Rattle.std.proofs.Common.{refl, ap, ◌∙◌, sym, subst, ◌≡◌, Option, Some, None, List, true, false}
+use Rattle.std.specs.Prelude.{is_some, slice_get, ◌⊎◌, IfSome}
 use Rattle.crx_lines.specs.declared.fault.Fault.TheVariants.{OutOfMemory}
 use Rattle.crx_compact.specs.meaning.EpochText.{Satellite}
-use Rattle.crx_compact.specs.OpenEpochs.{Faulty, RawStep}
+use Rattle.crx_rinex.specs.meaning.EpochLines.{begins_epoch}
+use Rattle.crx_compact.specs.OpenEpochs.{is_faulty, Faulty, RawStep}
 use Rattle.crx_compact.specs.OpenLines.{OpenLines, AreLinesSoFar, AreRowsSoFar, lines_so_far, step_after}
 use Rattle.crx_compact.specs.declared.incoming.Stage.{Stage}
 use Rattle.crx_compact.specs.declared.incoming.Stage.TheVariants.{Rows}
-use Rattle.crx_compact.proofs.reading.Opening.{all-taken, next-new, not-full, row-refused, row-taken, rows-more}
+use Rattle.crx_compact.proofs.reading.Opening.{all-taken, next-new, not-full, row-good, row-refused, row-taken, rows-more}
 use Rattle.crx_compact.proofs.incoming.Incoming.take_line.Goals as goal
 
 pub returns-in_default-clause-ok : goal.returns-in_default-clause-ok
@@ -84,3 +85,21 @@ returns-in-Err-clause-err c =
     ⊎ (c.in-Err.fault ≡ OutOfMemory) in
     subst P state (row-refused c.args.before.now self.next c.args.line.now self.count
     self.satellites.items c.in-Rows.epoch c.in-Some.satellite.now c.in-Err.fault here c.in-Err.ensures.err)
+
+pub returns-in-Err-clause-memory : goal.returns-in-Err-clause-memory
+returns-in-Err-clause-memory c = λ out.
+    let self = c.self.inside in
+    let here : slice_get self.satellites.items self.count ≡ Some c.in-Some.satellite.now =
+    ap {B = Option Satellite} (λ (ss : List Satellite). slice_get ss self.count) (sym c.deref.ensures.value)
+    ∙ sym c.in-Some.ensures in
+    let state : lines_so_far (Rows c.in-Rows.epoch) self.next self.count self.satellites.items ≡ c.args.self.now =
+    ap {B = Option OpenLines} (λ (s : Stage). lines_so_far s self.next self.count self.satellites.items)
+    (sym c.in-Rows.is) ∙ c.self.view_is in
+    let P : Option OpenLines → Type 0 = λ o. (begins_epoch c.args.line.now ≡ false) × IfSome o (λ (lines : OpenLines). is_some lines.clock ≡ true)
+    × (is_faulty (step_after c.args.before.now o c.args.line.now) ≡ false) in
+    subst P state (
+      (c.in-Err.ensures.memory out).0,
+      refl,
+      row-good c.args.before.now self.next c.args.line.now self.count
+          self.satellites.items c.in-Rows.epoch c.in-Some.satellite.now here (c.in-Err.ensures.memory out).1,
+    )

@@ -1,3 +1,4 @@
+use Rattle.std.proofs.lemmas.Result.{err_from_is_err_and}
 use Rattle.std.proofs.Common.{◌≡◌, ◌≤◌, ◌++◌, ◌∷◌, [], List, ℕ, length, slice_set, take, ap, sym, ◌∙◌, subst, arith}
 use Rattle.std.proofs.lemmas.List.{length-set, take_more_set, take-set-le}
 use Rattle.crx_compact.specs.meaning.Sequences.{named}
@@ -27,15 +28,17 @@ returns-clause-ok c =
     ∙ ap (λ (t : Tail). take index t.rows) c.self.view_is))
     (ap (λ (t : Tail). t.text) c.self.view_is)
     (ap (λ (t : Tail). t.clock) c.self.view_is)
-    c.read.new.row c.in-Ok-read.ensures.ok
+    c.read.new.row c.in_ok-read.ensures.ok
 
-pub returns-in-Err-clause-err : goal.returns-in-Err-clause-err
-returns-in-Err-clause-err c =
+pub returns-in_err-read-clause-err : goal.returns-in_err-read-clause-err
+returns-in_err-read-clause-err c =
+    let p = err_from_is_err_and c.from_residual.result c.from_residual.ensures.1 in
+    rw (p.1, p.2) (
     let before = c.args.before.now in
     let found = c.find-kept.ensures
     ∙ ap (λ (name : List ℕ). named (λ (r : RowTail). r.name) name before.rows) c.name-name.ensures.value in
     same-fault _ _ (ap (λ kept. row_held kept c.args.satellite.now c.args.line.now) found
-    ∙ row-by_tail before c.args.satellite.now c.args.line.now) c.in-Err.fault c.in-Err.ensures.err
+    ∙ row-by_tail before c.args.satellite.now c.args.line.now) _ c.in_err-read.ensures.err)
 
 -- the satellites before a place keep their identifiers
 fewer : (placed index count : ℕ) (names : List (List ℕ)) (old room : List RowTail) (left : RowTail)
@@ -47,8 +50,8 @@ fewer placed index count names old room left h few before grown same =
     (omega (arith, within, few, grown, length-set room index left))
     (take-set-le count room index left before ∙ same count (omega (arith, within, few)))
 
-pub invariant_of-self-in-Err : goal.invariant_of-self-in-Err
-invariant_of-self-in-Err c =
+pub invariant_of-self-in_err-read : goal.invariant_of-self-in_err-read
+invariant_of-self-in_err-read c =
     let few = c.min-self-inside.ensures in (
       c.self.invariant.0,
       fewer c.self.inside.placed c.args.index c.min-self-inside.result c.self.inside.names

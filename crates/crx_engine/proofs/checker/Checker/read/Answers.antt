@@ -2,7 +2,7 @@ use Rattle.std.proofs.Common.{◌≡◌, ◌⊎◌, ◌≤◌, [], None, Some, l
 use Rattle.crx_lines.specs.Reading.{line_shown}
 use Rattle.crx_lines.specs.declared.limits.TheConstants.{LINE_LIMIT}
 use Rattle.crx_lines.specs.declared.fault.At.{At}
-use Rattle.crx_engine.specs.CheckByLine.{check_filter, fault_so_far}
+use Rattle.crx_engine.specs.meaning.Directions.{check_filter, fault_so_far}
 use Rattle.crx_engine.specs.CheckerState.{is_reading, checker_state_with}
 use Rattle.crx_engine.specs.Engines.{RunsOutAt}
 use Rattle.crx_engine.specs.meaning.Filters.{with_next}

@@ -17,6 +17,6 @@ returns-then-begins_epoch-clause-refuses c =
     let line = c.args.line.now in
     let tail = tail_held self.columns in
     let held = open_in self.columns in
-    subst (λ (s : Stage). IfErr c.begin.result (RefusesCompactLine tail (made_in expansion
+    subst (λ (s : Stage). IfErr c.begin.result (RefusesCompactLine self.types tail (made_in expansion
     (seen_stage held s) self.types tail (Content line)) (seen_stage held s) line)) (sym c.requires.looking)
     (look-refused self.types tail line c.begin.result (sym c.if-begins_epoch.ensures) c.begin.ensures.refuses)

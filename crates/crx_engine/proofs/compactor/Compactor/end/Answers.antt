@@ -1,4 +1,4 @@
-use Rattle.crx_engine.specs.Directions.{compaction_filter}
+use Rattle.crx_engine.specs.meaning.Directions.{compaction_filter}
 use Rattle.crx_engine.specs.CompactionByLine.{compaction, compaction_seen}
 use Rattle.crx_engine.specs.CompactionState.{compaction_state}
 use Rattle.crx_engine.proofs.following.DirectionSteps.{compaction-goes}

@@ -1,6 +1,6 @@
 use Rattle.std.proofs.Common.{◌≡◌, inl, sym, subst}
 use Rattle.crx_lines.specs.meaning.Seen.{ReadLine}
-use Rattle.crx_engine.specs.Directions.{compaction_filter}
+use Rattle.crx_engine.specs.meaning.Directions.{compaction_filter}
 use Rattle.crx_engine.specs.EngineSteps.{step_made}
 use Rattle.crx_engine.specs.CompactionByLine.{compaction, compaction_seen}
 use Rattle.crx_engine.specs.CompactionState.{compaction_state}

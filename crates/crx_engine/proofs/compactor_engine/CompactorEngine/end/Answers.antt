@@ -1,6 +1,6 @@
 use Rattle.std.proofs.Common.{ap, ◌∙◌}
 use Rattle.crx_engine.specs.EngineSteps.{step_made}
-use Rattle.crx_engine.specs.Directions.{compaction_filter}
+use Rattle.crx_engine.specs.meaning.Directions.{compaction_filter}
 use Rattle.crx_engine.specs.CompactionByLine.{compaction, compaction_seen}
 use Rattle.crx_engine.specs.CompactorState.{compactor_seen, compactor_ready}
 use Rattle.crx_engine.proofs.following.DirectionSteps.{compaction-goes}

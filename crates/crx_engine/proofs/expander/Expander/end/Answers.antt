@@ -12,7 +12,7 @@ use Rattle.crx_engine.specs.declared.stage.Stage.TheVariants.{Ended}
 use Rattle.crx_engine.specs.LineByLine.{Step, seen_end}
 use Rattle.crx_engine.proofs.steps.ExpanderSteps.{held-open, settled-as}
 use Rattle.crx_engine.proofs.steps.EngineLemmas.{failed-at}
-use Rattle.crx_engine.specs.Directions.{expansion_filter}
+use Rattle.crx_engine.specs.meaning.Directions.{expansion_filter}
 use Rattle.crx_engine.proofs.following.DirectionSteps.{expansion-goes}
 use Rattle.crx_engine.proofs.steps.EngineAnswers.{concludes}
 use Rattle.crx_engine.proofs.expander.Expander.end.Goals as goal

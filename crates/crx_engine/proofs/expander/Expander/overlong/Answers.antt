@@ -1,6 +1,6 @@
 use Rattle.std.proofs.Common.{◌≡◌, inl, sym, subst}
 use Rattle.crx_lines.specs.meaning.Seen.{ReadLine}
-use Rattle.crx_engine.specs.Directions.{expansion_filter}
+use Rattle.crx_engine.specs.meaning.Directions.{expansion_filter}
 use Rattle.crx_engine.specs.EngineSteps.{step_made}
 use Rattle.crx_engine.specs.ExpansionByLine.{expansion, expansion_seen}
 use Rattle.crx_engine.specs.ExpanderState.{expander_state}

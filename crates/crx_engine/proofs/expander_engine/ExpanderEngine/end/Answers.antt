@@ -1,4 +1,4 @@
-use Rattle.crx_engine.specs.Directions.{expansion_filter}
+use Rattle.crx_engine.specs.meaning.Directions.{expansion_filter}
 use Rattle.crx_engine.specs.ExpansionByLine.{expansion, expansion_seen}
 use Rattle.crx_engine.specs.ExpanderState.{expander_state}
 use Rattle.crx_engine.proofs.following.DirectionSteps.{expansion-goes}

@@ -14,7 +14,7 @@ pub returns-in-Err-clause-refused : goal.returns-in-Err-clause-refused
 returns-in-Err-clause-refused c =
     let new : has_satellite (columns c.args.line.now 1 NAME_WIDTH) c.args.self.now.rows ≡ false =
     by_names c.args.self.now c.self.inside.names c.self.inside.rows.items c.self.inside.count
-    (columns c.args.line.now 1 NAME_WIDTH) c.identifier.result false c.identifier.ensures
+    (columns c.args.line.now 1 NAME_WIDTH) c.identifier-name.result false c.identifier-name.ensures
     (ap (λ (e : Epoch). e.rows) c.self.view_is) c.self.invariant.4 (c.if-has_at.ensures.new) in
     elim (c.in-Err.ensures.refused) [
       | inl bad ↦ inl (ap (row_if_new c.args.self.now.rows) bad)
@@ -27,20 +27,20 @@ invariant_of-self-then-has_at c =
     let rows = c.self.inside.rows.items in
     let count = c.self.inside.count in
     let names = c.self.inside.names in
-    let row : Row = c.read_again.new.self in
+    let row : Row = c.read_named.new.self in
     let within : count < length rows = let a =
     c.if-self-len.true in let b = c.self.inside.rows.ok.0 in let e = c.len.ensures in omega (arith, a, b, e) in
     let next = c.if-has_at.ensures.next in
-    let named : c.identifier.result ≡ row.name = c.identifier.ensures ∙ sym c.in_default.ensures.name in
+    let named : c.identifier-name.result ≡ row.name = c.identifier-name.ensures ∙ sym c.in_default.ensures.name in
     let new : has_satellite row.name (take count rows) ≡ false =
     by_names (record { head = head.head; clock = head.clock; rows = take count rows })
-    names rows count row.name c.identifier.result false named refl c.self.invariant.4 c.if-has_at.ensures.new in (
+    names rows count row.name c.identifier-name.result false named refl c.self.invariant.4 c.if-has_at.ensures.new in (
       sound-put head.head head.clock rows count row c.self.invariant.0 within c.in_default.ensures.sound
           (ap is_full_epoch c.self.view_is ∙ c.requires) new,
       omega (arith, within, length-set rows count row),
       c.self.invariant.2,
-      names-long names names count c.identifier.result c.self.invariant.3 next,
-      names-next names names rows (slice_set rows count row) count row c.identifier.result named c.self.invariant.4 next
+      names-long names names count c.identifier-name.result c.self.invariant.3 next,
+      names-next names names rows (slice_set rows count row) count row c.identifier-name.result named c.self.invariant.4 next
           (take_more_set rows count row within),
     )
 
@@ -49,12 +49,12 @@ returns-then-has_at-clause-ok c =
     let head = c.self.inside.head in
     let rows = c.self.inside.rows.items in
     let count = c.self.inside.count in
-    let row = c.read_again.new.self in
+    let row = c.read_named.new.self in
     let within : count < length rows = let a =
     c.if-self-len.true in let b = c.self.inside.rows.ok.0 in let e = c.len.ensures in omega (arith, a, b, e) in
     let read = c.in_default.ensures.ok in
     let new : has_satellite row.name c.args.self.now.rows ≡ false =
-    by_names c.args.self.now c.self.inside.names rows count row.name c.identifier.result false (c.identifier.ensures
+    by_names c.args.self.now c.self.inside.names rows count row.name c.identifier-name.result false (c.identifier-name.ensures
     ∙ sym c.in_default.ensures.name)
     (ap (λ (e : Epoch). e.rows) c.self.view_is) c.self.invariant.4 c.if-has_at.ensures.new in
     rw (read, new)

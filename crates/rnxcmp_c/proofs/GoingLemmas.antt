@@ -1,0 +1,292 @@
+-- A run goes on by the bytes that are fed.
+use Rattle.std.proofs.Common.{◌≡◌, ◌≢◌, ◌⊎◌, inl, inr, ℕ, ◌+◌, ◌<◌, ◌≤◌, Bool, true, false, ◌||◌, List, [], ◌∷◌, ◌++◌}
+use Rattle.std.proofs.Common.{length, take, drop, slice_index, Some, None, refl, sym, ap, ◌∙◌, subst, arith, append-nil}
+use Rattle.std.proofs.Common.{append_assoc, length-append, length-take}
+use Rattle.std.proofs.lemmas.List.{drop_more, get_or-take, take-append-drop}
+use Rattle.std.proofs.lemmas.List.Elements.{All-append, All-from_get_or}
+use Rattle.crx_lines.specs.meaning.Lines.{InputLine, lines_of}
+use Rattle.crx_lines.specs.meaning.Seen.{ended_lines_of}
+use Rattle.crx_lines.specs.Reading.{HasNoFeed}
+use Rattle.crx_lines.specs.declared.fault.At.{At}
+use Rattle.crx_lines.proofs.ProgressLemmas.{lines-first, lines-last, ended_lines-first, ended_lines-none}
+use Rattle.crx_engine.specs.Engines.{Awaited}
+use Rattle.crx_engine.specs.Lawful.{IsLawful}
+use Rattle.crx_engine.specs.meaning.Filters.{Filter, with_next}
+use Rattle.crx_engine.specs.meaning.Messages.{notices_text, warning_text}
+use Rattle.crx_engine.specs.meaning.Results.{Course, are_some}
+use Rattle.rnxcmp_c.specs.declared.held.Held.{Held}
+use Rattle.rnxcmp_c.specs.Going.{HandlePast, fed_with, IsText, IsGoing, IsBroken, Breaks, IsKept, MovesOn, EndsThere, LineStops}
+use Rattle.rnxcmp_c.specs.Going.{piece_line, IsAll, IsFailed, LineFails}
+
+-- the bytes before the first LF have none
+pub no_feed-before : (bytes : List ℕ) (n : ℕ) → n ≤ length bytes
+    → ((k : ℕ) → k < n → slice_index bytes k ≢ 10) → HasNoFeed (take n bytes)
+no_feed-before bytes n within none =
+    All-from_get_or (λ b. b ≢ 10) (take n bytes) 0
+    (λ k h. let inside : k < n = omega (arith, h, length-take n bytes) in rw (get_or-take n bytes k 0) (none k inside))
+
+-- the bytes up to an LF, and those after it
+pub cut-at : (bytes : List ℕ) (n : ℕ) → n < length bytes → slice_index bytes n ≡ 10
+    → bytes ≡ take n bytes ++ 10 ∷ drop (n + 1) bytes
+cut-at bytes n within feed =
+    sym (take-append-drop n bytes) ∙ ap (λ l. take n bytes ++ l)
+    (drop_more bytes n 0 within ∙ ap (λ b. b ∷ drop (n + 1) bytes) feed)
+
+notices-both : (xs ys : List At) → notices_text (xs ++ ys) ≡ notices_text xs ++ notices_text ys
+notices-both [] ys = refl
+notices-both (x ∷ xs) ys =
+    ap (λ t. warning_text x ++ t) (notices-both xs ys) ∙ sym (append_assoc (warning_text x) (notices_text xs) (notices_text ys))
+
+some-both : (xs ys : List At) → are_some (xs ++ ys) ≡ (are_some xs || are_some ys)
+some-both [] ys = refl
+some-both (x ∷ xs) ys = refl
+
+-- texts grow at their ends
+more-text : (whole taken kept more then : List ℕ) (after : List ℕ) → after ≡ whole ++ more → whole ≡ taken ++ kept
+    → then ≡ kept ++ more → after ≡ taken ++ then
+more-text whole taken kept more then after grows is was =
+    grows ∙ ap (λ t. t ++ more) is ∙ append_assoc taken kept more ∙ ap (λ t. taken ++ t) (sym was)
+
+-- what is held of a run, but for the bytes of its last line
+pub record IsSame (old new : Held) : Type 0 where
+  pub number : new.number ≡ old.number
+  pub warned : new.warned ≡ old.warned
+  pub output : new.output.bytes.items ≡ old.output.bytes.items
+  pub messages : new.messages.bytes.items ≡ old.messages.bytes.items
+
+module _ (filter : Filter) (shows : List InputLine → List Awaited → Type 0)
+    (held : Held) (past : HandlePast) (is : IsGoing filter shows held past) where
+  abbrev lines : List InputLine
+  lines = ended_lines_of past.fed
+
+  -- bytes without LF are kept
+  pub keeps-going : (new : Held) (bytes : List ℕ) → IsSame held new → new.tail.items ≡ held.tail.items ++ bytes
+      → HasNoFeed bytes → IsGoing filter shows new (fed_with past bytes)
+  keeps-going new bytes same tail none =
+      let no_feed : HasNoFeed (held.tail.items ++ bytes) =
+      All-append (λ b. b ≢ 10) held.tail.items bytes is.no_feed none in
+      let still : ended_lines_of (past.fed ++ bytes) ≡ ended_lines_of past.fed =
+      is.cut_ended bytes ∙ ap (λ l. ended_lines_of past.fed ++ l) (ended_lines-none (held.tail.items ++ bytes) no_feed)
+      ∙ append-nil (ended_lines_of past.fed) in
+      let over : (F : List ℕ → List InputLine) (more : List ℕ)
+      → ((y : List ℕ) → F (past.fed ++ y) ≡ ended_lines_of past.fed ++ F (held.tail.items ++ y))
+      → F ((past.fed ++ bytes) ++ more) ≡ ended_lines_of (past.fed ++ bytes) ++ F (new.tail.items ++ more) =
+      λ F more so_far. ap F (append_assoc past.fed bytes more) ∙ so_far (bytes ++ more)
+      ∙ ap (λ t. ended_lines_of past.fed ++ F t) (sym (append_assoc held.tail.items bytes more)
+      ∙ ap (λ t. t ++ more) (sym tail))
+      ∙ ap (λ ls. ls ++ F (new.tail.items ++ more)) (sym still) in
+      record {
+        shown = subst (λ ls. shows ls []) (sym still) is.shown;
+        good = subst (λ ls. (filter.so_far ls).fault ≡ None) (sym still) is.good;
+        text = record {
+          wrote = ap (λ ls. (filter.so_far ls).output) still ∙ is.text.wrote
+              ∙ ap (λ t. past.output ++ t) (sym same.output);
+          reported = ap (λ ls. notices_text (filter.so_far ls).warnings) still ∙ is.text.reported
+              ∙ ap (λ t. past.messages ++ t) (sym same.messages);
+        };
+        flag = same.warned ∙ is.flag ∙ ap (λ ls. are_some (filter.so_far ls).warnings) (sym still);
+        number = same.number ∙ is.number ∙ ap length (sym still);
+        no_feed = subst HasNoFeed (sym tail) no_feed;
+        cut = λ more. over lines_of more is.cut;
+        cut_ended = λ more. over ended_lines_of more is.cut_ended;
+        counted = omega (arith, is.counted, same.number, ap length tail, length-append held.tail.items bytes, length-append past.fed bytes);
+      }
+
+  -- a line's bytes, and its LF
+  module _ (mid : Held) (piece : List ℕ) (same : IsSame held mid)
+      (tail : mid.tail.items ≡ held.tail.items ++ piece) (none : HasNoFeed piece) where
+    abbrev line : InputLine
+    line = piece_line mid.tail.items true
+
+    abbrev fed : List ℕ
+    fed = piece ++ 10 ∷ []
+
+    whole : HasNoFeed mid.tail.items
+    whole = subst HasNoFeed (sym tail) (All-append (λ b. b ≢ 10) held.tail.items piece is.no_feed none)
+
+    joined : (more : List ℕ) → held.tail.items ++ (fed ++ more) ≡ mid.tail.items ++ 10 ∷ more
+    joined more =
+        ap (λ t. held.tail.items ++ t) (append_assoc piece (10 ∷ []) more)
+        ∙ sym (append_assoc held.tail.items piece (10 ∷ more)) ∙ ap (λ t. t ++ 10 ∷ more) (sym tail)
+
+    one-more : ended_lines_of (past.fed ++ fed) ≡ with_next (ended_lines_of past.fed) line
+    one-more =
+        is.cut_ended fed ∙ ap (λ t. ended_lines_of past.fed ++ ended_lines_of t)
+        (ap (λ t. held.tail.items ++ t) (sym (append-nil fed)) ∙ joined [])
+        ∙ ap (λ ls. ended_lines_of past.fed ++ ls) (ended_lines-first mid.tail.items [] whole)
+
+    pub line-first : (more : List ℕ) → lines_of (past.fed ++ (fed ++ more)) ≡ with_next (ended_lines_of past.fed) line ++ lines_of more
+    line-first more =
+        is.cut (fed ++ more) ∙ ap (λ t. ended_lines_of past.fed ++ lines_of t) (joined more)
+        ∙ ap (λ ls. ended_lines_of past.fed ++ ls) (lines-first mid.tail.items more whole)
+        ∙ sym (append_assoc (ended_lines_of past.fed) (line ∷ []) (lines_of more))
+
+    ended-first : (more : List ℕ)
+        → ended_lines_of (past.fed ++ (fed ++ more)) ≡ with_next (ended_lines_of past.fed) line ++ ended_lines_of more
+    ended-first more =
+        is.cut_ended (fed ++ more) ∙ ap (λ t. ended_lines_of past.fed ++ ended_lines_of t) (joined more)
+        ∙ ap (λ ls. ended_lines_of past.fed ++ ls) (ended_lines-first mid.tail.items more whole)
+        ∙ sym (append_assoc (ended_lines_of past.fed) (line ∷ []) (ended_lines_of more))
+
+    pub goes-on : (then : List InputLine → List Awaited → Type 0) (new : Held)
+        → MovesOn (filter.so_far (ended_lines_of past.fed)) (filter.so_far (with_next (ended_lines_of past.fed) line))
+        (then (with_next (ended_lines_of past.fed) line) []) mid new
+        → new.number ≡ mid.number + 1 → new.tail.items ≡ [] → IsGoing filter then new (fed_with past fed)
+    goes-on then new moved number empty =
+        let kept = moved.kept in
+        let before = filter.so_far (ended_lines_of past.fed) in
+        let over : (F : List ℕ → List InputLine) (more : List ℕ)
+        → F (past.fed ++ (fed ++ more)) ≡ with_next (ended_lines_of past.fed) line ++ F more
+        → F ((past.fed ++ fed) ++ more) ≡ ended_lines_of (past.fed ++ fed) ++ F (new.tail.items ++ more) =
+        λ F more first. ap F (append_assoc past.fed fed more) ∙ first
+        ∙ ap (λ t. with_next (ended_lines_of past.fed) line ++ F (t ++ more)) (sym empty)
+        ∙ ap (λ ls. ls ++ F (new.tail.items ++ more)) (sym one-more) in
+        record {
+          shown = subst (λ ls. then ls []) (sym one-more) kept.is_shown;
+          good = subst (λ ls. (filter.so_far ls).fault ≡ None) (sym one-more) kept.good;
+          text = record {
+            wrote = ap (λ ls. (filter.so_far ls).output) one-more
+                ∙ more-text before.output past.output held.output.bytes.items kept.text new.output.bytes.items _
+                kept.output_is is.text.wrote (kept.wrote ∙ ap (λ t. t ++ kept.text) same.output);
+            reported = ap (λ ls. notices_text (filter.so_far ls).warnings) one-more
+                ∙ more-text (notices_text before.warnings) past.messages held.messages.bytes.items (notices_text kept.notices)
+                new.messages.bytes.items _ (ap notices_text kept.warnings_are ∙ notices-both before.warnings kept.notices)
+                is.text.reported (kept.reported ∙ ap (λ t. t ++ notices_text kept.notices) same.messages);
+          };
+          flag = moved.flag ∙ ap (λ b. b || moved.warned) (same.warned ∙ is.flag)
+              ∙ ap (λ b. are_some before.warnings || b) kept.flag ∙ sym (some-both before.warnings kept.notices)
+              ∙ ap are_some (sym kept.warnings_are) ∙ ap (λ ls. are_some (filter.so_far ls).warnings) (sym one-more);
+          number = number ∙ ap (λ n. n + 1) (same.number ∙ is.number)
+              ∙ sym (length-append (ended_lines_of past.fed) (line ∷ [])) ∙ ap length (sym one-more);
+          no_feed = subst HasNoFeed (sym empty) (λ k d h. absurd (omega (arith, h)));
+          cut = λ more. over lines_of more (line-first more);
+          cut_ended = λ more. over ended_lines_of more (ended-first more);
+          counted = omega (arith, is.counted, same.number, number, ap length empty, length-append past.fed fed, length-append piece (10 ∷ []));
+        }
+
+    breaks-there : (new : Held) (rest : List ℕ) (at : At)
+        → EndsThere (filter.so_far (ended_lines_of past.fed)) (filter.so_far (with_next (ended_lines_of past.fed) line))
+        mid.output new.output mid.messages new.messages at
+        → IsBroken filter new (fed_with past (piece ++ 10 ∷ rest)) at
+    breaks-there new rest at ends =
+        let before = filter.so_far (ended_lines_of past.fed) in
+        record {
+          lines = with_next (ended_lines_of past.fed) line;
+          first = λ more. (
+            lines_of (rest ++ more),
+            ap lines_of (append_assoc past.fed (piece ++ 10 ∷ rest) more
+                ∙ ap (λ t. past.fed ++ t) (append_assoc piece (10 ∷ rest) more ∙ sym (append_assoc piece (10 ∷ []) (rest ++ more))))
+                ∙ line-first (rest ++ more),
+          );
+          fault = ends.fault;
+          text = record {
+            wrote = ends.output_is ∙ is.text.wrote ∙ ap (λ t. past.output ++ t) (sym (ends.wrote ∙ same.output));
+            reported = more-text (notices_text before.warnings) past.messages held.messages.bytes.items
+                (notices_text ends.notices) new.messages.bytes.items _
+                (ap notices_text ends.warnings_are ∙ notices-both before.warnings ends.notices) is.text.reported
+                (ends.reported ∙ ap (λ t. t ++ notices_text ends.notices) same.messages);
+          };
+        }
+
+    pub breaks : (new : Held) (rest : List ℕ) (at : At)
+        → LineStops (filter.so_far (ended_lines_of past.fed)) (filter.so_far (with_next (ended_lines_of past.fed) line))
+        mid.output new.output mid.messages new.messages at
+        → Breaks filter new (fed_with past (piece ++ 10 ∷ rest)) at
+    breaks new rest at (inl memory) = inl memory
+    breaks new rest at (inr ends) = inr (breaks-there new rest at ends)
+
+-- ---- the end
+
+text-grows : (before after : Course) (shown : Type 0) (old new : Held) (past : HandlePast)
+    → IsText before old past → MovesOn before after shown old new → IsText after new past
+text-grows before after shown old new past text moved =
+    let kept = moved.kept in
+    record {
+      wrote = more-text before.output past.output old.output.bytes.items kept.text new.output.bytes.items _
+          kept.output_is text.wrote kept.wrote;
+      reported = more-text (notices_text before.warnings) past.messages old.messages.bytes.items (notices_text kept.notices)
+          new.messages.bytes.items _ (ap notices_text kept.warnings_are ∙ notices-both before.warnings kept.notices)
+          text.reported kept.reported;
+    }
+
+flag-grows : (before after : Course) (shown : Type 0) (old new : Held)
+    → old.warned ≡ are_some before.warnings → MovesOn before after shown old new → new.warned ≡ are_some after.warnings
+flag-grows before after shown old new flag moved =
+    moved.flag ∙ ap (λ b. b || moved.warned) flag ∙ ap (λ b. are_some before.warnings || b) moved.kept.flag
+    ∙ sym (some-both before.warnings moved.kept.notices) ∙ ap are_some (sym moved.kept.warnings_are)
+
+text-ends : (before after : Course) (old new : Held) (past : HandlePast) (at : At) → IsText before old past
+    → EndsThere before after old.output new.output old.messages new.messages at → IsText after new past
+text-ends before after old new past at text ends = record {
+  wrote = ends.output_is ∙ text.wrote ∙ ap (λ t. past.output ++ t) (sym ends.wrote);
+  reported = more-text (notices_text before.warnings) past.messages old.messages.bytes.items (notices_text ends.notices)
+      new.messages.bytes.items _ (ap notices_text ends.warnings_are ∙ notices-both before.warnings ends.notices)
+      text.reported ends.reported;
+}
+
+-- the end after some lines
+module _ (filter : Filter) (mid : Held) (past : HandlePast) (lines : List InputLine)
+    (text : IsText (filter.so_far lines) mid past) (flag : mid.warned ≡ are_some (filter.so_far lines).warnings)
+    (whole : lines_of past.fed ≡ lines) (new : Held) where
+  pub ends-well : (shown : Type 0) → MovesOn (filter.so_far lines) (filter.whole lines) shown mid new
+      → IsAll (filter.whole (lines_of past.fed)) new past
+  ends-well shown moved =
+      subst (λ ls. IsAll (filter.whole ls) new past) (sym whole) (record {
+        good = moved.kept.good;
+        text = text-grows (filter.so_far lines) (filter.whole lines) shown mid new past text moved;
+        flag = flag-grows (filter.so_far lines) (filter.whole lines) shown mid new flag moved;
+      })
+
+  pub ends-badly : (at : At)
+      → LineStops (filter.so_far lines) (filter.whole lines) mid.output new.output mid.messages new.messages at
+      → LineFails (filter.whole (lines_of past.fed)) new past at
+  ends-badly at (inl memory) = inl memory
+  ends-badly at (inr ends) =
+      inr (subst (λ ls. IsFailed (filter.whole ls) new past at) (sym whole) (record {
+        fault = ends.fault;
+        text = text-ends (filter.so_far lines) (filter.whole lines) mid new past at text ends;
+      }))
+
+module _ (filter : Filter) (shows : List InputLine → List Awaited → Type 0)
+    (held : Held) (past : HandlePast) (is : IsGoing filter shows held past) where
+  all-cut : lines_of past.fed ≡ ended_lines_of past.fed ++ lines_of held.tail.items
+  all-cut =
+      ap lines_of (sym (append-nil past.fed)) ∙ is.cut []
+      ∙ ap (λ t. ended_lines_of past.fed ++ lines_of t) (append-nil held.tail.items)
+
+  -- nothing stands after the last LF
+  pub all-ended : held.tail.items ≡ [] → lines_of past.fed ≡ ended_lines_of past.fed
+  all-ended none =
+      all-cut ∙ ap (λ t. ended_lines_of past.fed ++ lines_of t) none ∙ append-nil (ended_lines_of past.fed)
+
+  -- a line without LF stands there
+  pub all-but_last : 0 < length held.tail.items
+      → lines_of past.fed ≡ with_next (ended_lines_of past.fed) (piece_line held.tail.items false)
+  all-but_last some =
+      all-cut ∙ ap (λ ls. ended_lines_of past.fed ++ ls) (lines-last held.tail.items is.no_feed some)
+
+  -- that line was taken
+  module _ (mid : Held) (some : 0 < length held.tail.items) where
+    abbrev last : List InputLine
+    last = with_next (ended_lines_of past.fed) (piece_line held.tail.items false)
+
+    module _ (shown : Type 0)
+        (moved : MovesOn (filter.so_far (ended_lines_of past.fed)) (filter.so_far last) shown held mid) where
+      pub last-text : IsText (filter.so_far last) mid past
+      last-text = text-grows (filter.so_far (ended_lines_of past.fed)) (filter.so_far last) shown held mid past is.text moved
+
+      pub last-flag : mid.warned ≡ are_some (filter.so_far last).warnings
+      last-flag = flag-grows (filter.so_far (ended_lines_of past.fed)) (filter.so_far last) shown held mid is.flag moved
+
+    -- it ended the run
+    pub last-fails : IsLawful filter → (at : At)
+        → LineStops (filter.so_far (ended_lines_of past.fed)) (filter.so_far last) held.output mid.output held.messages mid.messages at
+        → LineFails (filter.whole (lines_of past.fed)) mid past at
+    last-fails lawful at (inl memory) = inl memory
+    last-fails lawful at (inr ends) =
+        let decided : filter.whole (lines_of past.fed) ≡ filter.so_far last =
+        ap filter.whole (all-but_last some ∙ sym (append-nil last)) ∙ lawful.decided last [] at ends.fault in
+        inr (subst (λ c. IsFailed c mid past at) (sym decided) (record {
+          fault = ends.fault;
+          text = text-ends (filter.so_far (ended_lines_of past.fed)) (filter.so_far last) held mid past at is.text ends;
+        }))

@@ -1,0 +1,96 @@
+-- A handle stays sound from call to call.
+use Rattle.std.proofs.Common.{◌≡◌, ◌⊎◌, inl, inr, ℕ, ◌+◌, ◌<◌, ◌≤◌, List, [], ◌∷◌, length, Option, Some, None, Bool, true, false}
+use Rattle.std.proofs.Common.{◌++◌, nat_lt, arith, refl, sym, ap, ◌∙◌, subst, append-nil, ⊎_elim}
+use Rattle.std.proofs.lemmas.Bool.{ltb-true, ltb-false}
+use Rattle.crx_lines.specs.meaning.Lines.{lines_of}
+use Rattle.crx_lines.specs.meaning.Seen.{ended_lines_of}
+use Rattle.crx_lines.specs.Reading.{HasNoFeed}
+use Rattle.crx_engine.specs.Lawful.{IsLawful}
+use Rattle.crx_engine.specs.meaning.Filters.{Filter}
+use Rattle.crx_engine.specs.meaning.Messages.{notices_text}
+use Rattle.crx_engine.specs.meaning.Results.{Course, are_some}
+use Rattle.crx_lines.specs.declared.limits.TheConstants.{INPUT_LIMIT}
+use Rattle.crx_filter.specs.declared.outcome.Outcome.{Outcome}
+use Rattle.rnxcmp_c.specs.Going.{HandlePast, fed_with}
+use Rattle.rnxcmp_c.specs.Handles.{IsFresh, ReaderRuns, filter_for, engine_filter, nothing_fed}
+use Rattle.rnxcmp_c.specs.Handles.{Ends, ReaderEndsBy, Feeds, FeedsBy, HasEndedBy, HasFedBy, ReaderIsOver, ReaderStands, StandsBy, Task, result_for}
+use Rattle.rnxcmp_c.specs.declared.answer.Answer.{Answer}
+use Rattle.rnxcmp_c.specs.declared.engines.AnyEngine.{AnyEngine}
+use Rattle.rnxcmp_c.specs.declared.held.Held.{Held}
+use Rattle.rnxcmp_c.proofs.ReaderLemmas.{filter-is, lawful-for}
+use Rattle.rnxcmp_c.specs.declared.reader.Reader.{Reader}
+
+first_or : Reader → List Reader → Reader
+first_or other [] = other
+first_or other (reader ∷ more) = reader
+
+-- a handle holds one reader
+pub one-held : (held : List Reader) (a b : Reader) → held ≡ a ∷ [] → held ≡ b ∷ [] → a ≡ b
+unfolding first_or
+one-held held a b first second = ap (first_or a) (sym first ∙ second)
+
+-- what is fed or ended stands
+fed-stands : (task : Task) (reader : Reader) (past : HandlePast) (outcome : Option Outcome)
+    → HasFedBy task reader past outcome → StandsBy task reader past outcome
+fed-stands task reader past None fed = fed
+fed-stands task reader past (Some outcome) (inl memory) = inl memory
+fed-stands task reader past (Some outcome) (inr over) =
+    inr (subst (λ (bytes : List ℕ). ReaderIsOver (result_for task bytes) reader outcome past) (append-nil past.fed) (over []))
+
+ended-stands : (task : Task) (reader : Reader) (past : HandlePast) (outcome : Option Outcome)
+    → HasEndedBy task reader past outcome → StandsBy task reader past outcome
+ended-stands task reader past None ended = absurd ended
+ended-stands task reader past (Some outcome) ended = ended
+
+-- whether bytes are too many
+either : (b : Bool) → (b ≡ true) ⊎ (b ≡ false)
+either true = inl refl
+either false = inr refl
+
+within-or : (n m : ℕ) → (n ≤ m) ⊎ (m < n)
+within-or n m = ⊎_elim (λ e. inr (ltb-true m n e)) (λ e. inl (ltb-false m n e)) (either (nat_lt m n))
+
+pub feeds-stands : (task : Task) (old new : Reader) (past : HandlePast) (bytes : List ℕ) (answer : Answer)
+    (outcome : Option Outcome) → ReaderStands task old past → FeedsBy task old new past bytes answer outcome
+    → (then : HandlePast) × ReaderStands task new then
+feeds-stands task old new past bytes answer None stands feeds =
+    ⊎_elim (λ fits. (fed_with past bytes, fed-stands task new (fed_with past bytes) new.outcome (feeds.fed fits).0))
+    (λ long. (past, subst (λ (r : Reader). ReaderStands task r past) (sym (feeds.long long).1) stands))
+    (within-or (length past.fed + length bytes) INPUT_LIMIT)
+feeds-stands task old new past bytes answer (Some outcome) stands feeds =
+    (past, subst (λ (r : Reader). ReaderStands task r past) (sym feeds.1) stands)
+
+pub ends-stands : (task : Task) (old new : Reader) (past : HandlePast) (answer : Answer)
+    (outcome : Option Outcome) → ReaderStands task old past → ReaderEndsBy task old new past answer outcome
+    → (then : HandlePast) × ReaderStands task new then
+ends-stands task old new past answer None stands ends = (past, ended-stands task new past new.outcome ends.0)
+ends-stands task old new past answer (Some outcome) stands ends =
+    (past, subst (λ (r : Reader). ReaderStands task r past) (sym ends.1) stands)
+
+-- before the first byte
+pub fresh-stands : (task : Task) (engine : AnyEngine) (held : Held) → IsFresh task engine → held.tail.items ≡ []
+    → held.number ≡ 0 → held.warned ≡ false → held.output.bytes.items ≡ [] → held.messages.bytes.items ≡ []
+    → ReaderRuns task (record { engine = engine; held = held; fed = 0; outcome = None }) nothing_fed
+fresh-stands task engine held fresh tail number warned output messages =
+    let nothing = IsLawful.nothing (subst IsLawful (sym (filter-is task engine fresh.is_of)) (lawful-for task)) in
+    record {
+      is_of = fresh.is_of;
+      drained = fresh.drained;
+      takes = fresh.takes;
+      going = record {
+        shown = fresh.shown;
+        good = ap (λ (c : Course). c.fault) nothing;
+        text = record {
+          wrote = ap (λ (c : Course). c.output) nothing ∙ sym output;
+          reported = ap (λ (c : Course). notices_text c.warnings) nothing ∙ sym messages;
+        };
+        flag = warned ∙ ap (λ (c : Course). are_some c.warnings) (sym nothing);
+        number = number;
+        no_feed = subst HasNoFeed (sym tail) (λ k d h. absurd (omega (arith, h)));
+        cut = λ more. ap (λ (t : List ℕ). lines_of (t ++ more)) (sym tail);
+        cut_ended = λ more. ap (λ (t : List ℕ). ended_lines_of (t ++ more)) (sym tail);
+        counted = omega (arith, number, ap length tail);
+      };
+      counted = refl;
+      within = omega arith;
+    }

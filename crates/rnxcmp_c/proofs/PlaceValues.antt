@@ -1,0 +1,25 @@
+-- The machine value of a `Place`. Assumes `Logic`.
+use Rattle.std.proofs.Common.{List, [], ◌∷◌, refl}
+use seplogic.Ra.Ura.{Ura}
+use mir.Val.{Val, vstruct, vcons, vnil}
+use types.Logic.{Logic}
+use types.Kit.{Item, Goal, Step, step, ‵, ◌$◌, fjoin, fpack, feq_i}
+use denote.RattleType.{RattleType, Valss}
+use denote.Builtin.{RawPtr}
+use denote.RawPtr.{Ptr, ptr_val}
+use denote.Steps.{nothing}
+use denote.Struct.Struct.{within}
+use denote.Struct.Owning.{shape}
+use Rattle.rnxcmp_c.specs.Places.{place_owns}
+use Rattle.rnxcmp_c.specs.declared.reader.Reader.{Reader}
+use Rattle.rnxcmp_c.specs.contracts.place.Place as place
+
+abbrev pub word : Ptr → Val
+word p = vstruct (vcons (ptr_val p) vnil)
+
+module _ {M : Type 1} {𝓤 : Ura M} {𝓛 : Logic 𝓤} {K : Type 0} {Γ : List (Item 𝓤)} {G : Goal 𝓤 𝓛.H} where
+  pub place_in : K → (p : Ptr) (held : List Reader)
+      → Step K 𝓛 (‵ ((place.the_row).own_val (record { at = p; held = held }) (word p ∷ [])) ∷ Γ) G (‵ (place_owns p held) ∷ Γ) G
+  place_in t p held = step (λ s.
+      nothing t $ feq_i t (List Val) (ptr_val p ∷ []) (ptr_val p ∷ []) refl $ fjoin t $ feq_i t (List Val) (word p ∷ []) (word p ∷ []) refl $ fjoin t $
+      fpack t (Valss (RawPtr ∷ [])) (within (shape place.the_type) (p, tt) (word p ∷ [])) (ptr_val p ∷ [], tt) $ fjoin t $ s)

@@ -1,0 +1,16 @@
+use Rattle.std.proofs.Common.{sym, subst}
+use Rattle.rnxcmp_c.specs.Handles.{ReaderStands, Task, nothing_fed}
+use Rattle.rnxcmp_c.specs.declared.reader.Reader.{Reader}
+use Rattle.rnxcmp_c.proofs.HandleLemmas.{fresh-stands}
+use Rattle.rnxcmp_c.proofs.handle.open.Goals as goal
+
+pub returns-in-Ok-clause-opened : goal.returns-in-Ok-clause-opened
+returns-in-Ok-clause-opened c = λ (task : Task) fresh zero.
+    let held = c.new.ensures in
+    record {
+      reader = c.in-Ok.reader.value;
+      is_open = c.put_in.ensures.opened;
+      holds = c.put_in.ensures.reader;
+      stands = subst (λ (r : Reader). ReaderStands task r nothing_fed) (sym c.in-Ok.ensures.ok)
+          (fresh-stands task c.args.engine c.new.result fresh held.tail held.number held.warned held.output held.messages);
+    }

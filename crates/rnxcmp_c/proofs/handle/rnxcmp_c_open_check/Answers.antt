@@ -1,0 +1,12 @@
+use Rattle.std.proofs.Common.{refl}
+use Rattle.rnxcmp_c.specs.Handles.{Check}
+use Rattle.rnxcmp_c.proofs.handle.rnxcmp_c_open_check.Goals as goal
+
+pub returns-clause-opened : goal.returns-clause-opened
+returns-clause-opened c =
+    c.open.ensures.opened Check (record {
+      is_of = tt;
+      drained = c.new.ensures.drained;
+      takes = c.new.ensures.running;
+      shown = c.new.ensures.taken;
+    })

@@ -1,0 +1,20 @@
+use Rattle.std.proofs.Common.{◌≡◌, [], refl, sym, ap, ◌∙◌}
+use Rattle.crx_rinex.specs.meaning.EpochPlaces.{OpenEpoch}
+use Rattle.crx_engine.specs.CompactionByLine.{Written, compaction_seen}
+use Rattle.crx_engine.specs.CompactorState.{compactor_seen}
+use Rattle.crx_engine.specs.meaning.Directions.{compaction_filter}
+use Rattle.crx_engine.specs.LineByLine.{Seen}
+use Rattle.crx_engine.specs.meaning.Choices.{Choices}
+use Rattle.rnxcmp_c.specs.Handles.{Compact}
+use Rattle.rnxcmp_c.proofs.handle.rnxcmp_c_open_compact.Goals as goal
+
+pub returns-in-Ok-new-clause-opened : goal.returns-in-Ok-new-clause-opened
+returns-in-Ok-new-clause-opened c =
+    let seen = c.in-Ok-new.ensures.seen in
+    let same : (compactor_seen c.in-Ok-new.compactor).choices ≡ c.in-Ok.options = ap (λ (s : Seen OpenEpoch Written). s.choices) seen in
+    c.open.ensures.opened (Compact _) (record {
+      is_of = ap compaction_filter (same ∙ c.in-Ok.ensures.0);
+      drained = c.in-Ok-new.ensures.drained;
+      takes = tt;
+      shown = (seen ∙ ap (λ (o : Choices). compaction_seen o []) (sym same), ap (λ (s : Seen OpenEpoch Written). s.number) seen);
+    })

@@ -1,0 +1,23 @@
+use Rattle.std.proofs.Common.{◌≡◌, [], Option, refl, sym, ap, ◌∙◌}
+use Rattle.crx_compact.specs.OpenEpochs.{OpenRawEpoch}
+use Rattle.crx_compact.specs.Tails.{Tail}
+use Rattle.crx_engine.specs.meaning.Directions.{expansion_filter}
+use Rattle.crx_engine.specs.ExpansionByLine.{expansion_seen}
+use Rattle.crx_engine.specs.LineByLine.{Seen}
+use Rattle.crx_engine.specs.meaning.Choices.{Choices}
+use Rattle.rnxcmp_c.specs.Handles.{Expand}
+use Rattle.rnxcmp_c.proofs.handle.rnxcmp_c_open_expand.Goals as goal
+
+pub returns-in-Ok-clause-opened : goal.returns-in-Ok-clause-opened
+returns-in-Ok-clause-opened c = λ zero.
+    let seen = c.in-Ok.ensures.seen in
+    let same : c.in-Ok.expander.options ≡ c.expansion_options.result = ap (λ (s : Seen OpenRawEpoch (Option Tail)). s.choices) seen in (
+      c.expansion_options.result,
+      c.expansion_options.ensures,
+      c.open.ensures.opened (Expand c.expansion_options.result) (record {
+        is_of = ap expansion_filter same;
+        drained = c.in-Ok.ensures.drained;
+        takes = tt;
+        shown = (seen ∙ ap (λ (o : Choices). expansion_seen o []) (sym same), ap (λ (s : Seen OpenRawEpoch (Option Tail)). s.number) seen);
+      }) zero,
+    )

@@ -1,0 +1,61 @@
+use Rattle.std.proofs.Common.{List, [], ◌∷◌, length, take, sym, ap, ◌∙◌, subst}
+use Rattle.rnxcmp_c.specs.Going.{HandlePast}
+use Rattle.rnxcmp_c.specs.Handles.{ReaderStands, Task, taken_with}
+use Rattle.rnxcmp_c.specs.Opened.{messages_kept, output_kept}
+use Rattle.rnxcmp_c.specs.meaning.Answers.{placed}
+use Rattle.rnxcmp_c.specs.declared.reader.Reader.{Reader}
+use Rattle.rnxcmp_c.proofs.HandleLemmas.{one-held}
+use Rattle.rnxcmp_c.proofs.handle.rnxcmp_c_take.Goals as goal
+
+pub take_out-reader-requires : goal.take_out-reader-requires
+take_out-reader-requires c =
+    let sound = c.requires c.if-not-handle.false in
+    (sound.2.reader, sound.2.holds)
+
+pub returns-clause-output : goal.returns-clause-output
+returns-clause-output c = λ is_open.
+    let holds = c.take_out-reader.ensures.reader ∙ ap (λ (r : Reader). r ∷ []) (sym c.deref_mut.ensures.value) in
+    c.hand_out-answer.ensures.output ∙ ap (λ (l : List Reader). placed (output_kept l) c.args.output.now) (sym holds)
+
+pub returns-clause-messages : goal.returns-clause-messages
+returns-clause-messages c = λ is_open.
+    let holds = c.take_out-reader.ensures.reader ∙ ap (λ (r : Reader). r ∷ []) (sym c.deref_mut.ensures.value) in
+    c.hand_out-answer.ensures.messages ∙ ap (λ (l : List Reader). placed (messages_kept l) c.args.messages.now) (sym holds)
+
+pub returns-clause-answer : goal.returns-clause-answer
+returns-clause-answer c = λ is_open. record {
+  reader = c.hand_out-answer.new.self;
+  holds = c.put_in.ensures.reader;
+  answers = c.hand_out-answer.ensures.answer;
+}
+
+pub returns-clause-stands : goal.returns-clause-stands
+returns-clause-stands c = λ (task : Task) (past : HandlePast) stands.
+    let holds = c.take_out-reader.ensures.reader ∙ ap (λ (r : Reader). r ∷ []) (sym c.deref_mut.ensures.value) in
+    let same = one-held c.args.handle.now.place.held stands.reader c.deref_mut.result.now stands.holds holds in
+    let new = c.hand_out-answer.new.self in
+    record {
+      reader = new;
+      is_open = c.put_in.ensures.opened;
+      holds = c.put_in.ensures.reader;
+      stands = subst (λ (l : List Reader). ReaderStands task new (taken_with past (take (length c.args.output.now) (output_kept l))
+          (take (length c.args.messages.now) (messages_kept l)))) (sym holds)
+          (c.hand_out-answer.ensures.stands task past (subst (λ (r : Reader). ReaderStands task r past) same stands.stands));
+    }
+
+pub returns-clause-sound : goal.returns-clause-sound
+returns-clause-sound c = λ is_open.
+    let sound = c.requires c.if-not-handle.false in
+    let task = sound.0 in
+    let past = sound.1 in
+    let holds = c.take_out-reader.ensures.reader ∙ ap (λ (r : Reader). r ∷ []) (sym c.deref_mut.ensures.value) in
+    let same = one-held c.args.handle.now.place.held sound.2.reader c.deref_mut.result.now sound.2.holds holds in (
+      task,
+      _,
+      record {
+        reader = c.hand_out-answer.new.self;
+        is_open = c.put_in.ensures.opened;
+        holds = c.put_in.ensures.reader;
+        stands = c.hand_out-answer.ensures.stands task past (subst (λ (r : Reader). ReaderStands task r past) same sound.2.stands);
+      },
+    )

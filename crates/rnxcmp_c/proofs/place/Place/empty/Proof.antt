@@ -1,0 +1,51 @@
+-- `empty` makes a null pointer, which owns nothing.
+use Rattle.std.proofs.Common.{◌≡◌, ℕ, List, [], ◌∷◌, ◌++◌, refl, sym, ap, ◌∙◌, subst, lit<}
+use mir.Raw.{raw as bare}
+use mir.Val.{Val, vint, vptr, vstruct, vcons, vnil, of_list}
+use base.Logic.{SProp, ent, emp, id⊢, never, fst∗}
+use base.Fml.{Fml, ftrue, fsep}
+use prog.Wp.{WpFn}
+use types.Logic.{sem}
+use types.Kit.{‵, raw, ◌⊛◌, ◌$◌, ◌∵◌, !, qed, by, move, keep, drop, split, join, fsplit, fsplit3, fjoin, fpick, suffices, use0, use1, rewrite, feq_l, done}
+use types.Run.{stop, fld, lit, of_opd, no_more, and_then, returns, enter}
+use types.ByLocal.{alloc_all, pass_all, free_all, look_at, get, get_in, sets}
+use types.Part.{agg, sub, whole}
+use contract.Monad.{fact, fact_i}
+use contract.Running.{tables}
+use denote.Exit.{yes}
+use denote.RattleType.{RattleType}
+use denote.Signature.{plain}
+use denote.RawPtr.{Ptr, block_ptr, null_ptr, ptr_val, in_a_block}
+use denote.Memory.{lone}
+use denote.Steps.{nothing, heard}
+use denote.Triple.Walked.{says, Stays, stay_dropped, walk_of, ends_at, Goes-dropped}
+use Rattle.std.proofs.raw_atomic.Walks.{proved_at, leaves}
+use Rattle.core.proofs.alloc.Calls.{Al, handle_tells}
+use Rattle.std_alloc.specs.Box.Ownership.{box_owns}
+use Rattle.libc.specs.Heap.{chunk}
+use Rattle.std_heap.specs.contracts.Global as heap
+use Rattle.std_heap.specs.contracts.GlobalAllocator.TheImpl.{ghosts, dict}
+use Rattle.std_heap.proofs.Global.TheLaws as heap_laws
+use Rattle.rnxcmp_c.specs.Places.{place_owns}
+use Rattle.rnxcmp_c.specs.declared.reader.Reader.{Reader}
+use Rattle.rnxcmp_c.specs.contracts.reader.Reader as reader
+use Rattle.rnxcmp_c.specs.contracts.place.Place as place
+use Rattle.rnxcmp_c.proofs.LooseValues.{both, Loose, loose_good, loose_in, loose_out}
+use Rattle.rnxcmp_c.proofs.PlaceValues.{word, place_in}
+use Rattle.rnxcmp_c.specs.contracts.place.Place.empty.{ended, clauses}
+use Rattle.rnxcmp_c.specs.contracts.place.Place.empty.Key.{name as #self}
+use Rattle.rnxcmp_c.proofs.place.Place.empty.Statement.{statement}
+use Rattle.rnxcmp_c.proofs.place.Place.empty.Code as code
+
+pub empty_spec : {M : Type 1} → statement M
+empty_spec 𝓤 𝓛 𝓜 𝓡 wired =
+    let H = 𝓛.H in let 𝓣 = tables 𝓤 H 𝓜 𝓡 𝓡.env in let c = clauses 𝓛 𝓜.mem 𝓡.returns in
+    proved_at 𝓛 ended tt c 𝓜 𝓡 tt #self code.function (code.unfolded 𝓤 H 𝓜 𝓡 wired) (λ z are.
+    let Post : Val → SProp 𝓤 = (walk_of 𝓛 ended tt c).post z in
+    qed 𝓛 ((‵ ftrue ⊛ ‵ ftrue) ∷ raw (emp 𝓤) ∷ []) ∵ drop ! $
+    enter ! 𝓣.C 𝓣.Λ code.function [] Post $ alloc_all ! (λ l. pass_all ! refl tt $
+    sets ! (agg ! (and_then ! (lit ! tt) (no_more !))) refl (tt, (record { fits = lit< tt }, tt)) $
+    returns ! (look_at ! 0 refl) $ free_all ! refl $
+    nothing ! $ place_in ! null_ptr [] $ let held : List Reader = [] in
+    use0 𝓛 (raw (fact 𝓤 (held ≡ []))) (fact_i 𝓤 (held ≡ []) (emp 𝓤) refl) $ nothing ! $ nothing ! $ keep ! (0 ∷ 1 ∷ 3 ∷ 2 ∷ []) $
+    by ! (leaves 𝓛 ended tt c z (word null_ptr) (record { at = null_ptr; held = [] }) tt tt)))

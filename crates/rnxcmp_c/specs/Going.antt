@@ -1,0 +1,120 @@
+-- A run between two calls, by the bytes that were fed and the texts that were taken.
+use Rattle.std.specs.Prelude.{◌≡◌, ◌⊎◌, ◌≤◌, ⊤, ℕ, ◌+◌, Bool, ◌||◌, List, [], ◌++◌, length, Some, None}
+use Rattle.crx_lines.specs.meaning.Lines.{InputLine, line_of, lines_of}
+use Rattle.crx_lines.specs.meaning.Seen.{ended_lines_of}
+use Rattle.crx_lines.specs.Reading.{HasNoFeed}
+use Rattle.crx_lines.specs.declared.fault.At.{At}
+use Rattle.crx_lines.specs.declared.fault.Fault.TheVariants.{OutOfMemory}
+use Rattle.crx_engine.specs.Engines.{Awaited}
+use Rattle.crx_engine.specs.meaning.Filters.{Filter}
+use Rattle.crx_engine.specs.meaning.Messages.{notices_text}
+use Rattle.crx_engine.specs.meaning.Results.{Course, are_some}
+use Rattle.crx_filter.specs.declared.taking.Halt.{Halt}
+use Rattle.crx_filter.specs.declared.taking.Halt.TheVariants.{Fault, Unwritten, Unreported}
+use Rattle.rnxcmp_c.specs.declared.devices.Collected.{Collected}
+use Rattle.rnxcmp_c.specs.declared.held.Held.{Held}
+
+-- the line of some bytes, by whether an LF followed them
+abbrev pub piece_line : List ℕ → Bool → InputLine
+piece_line bytes is_ended = line_of (record { bytes = bytes; is_ended = is_ended })
+
+-- ---- one line, or the end
+
+-- a line was taken, or the end: what it adds was kept
+pub record IsKept (before after : Course)
+    (shown : Type 0) (output then_output messages then_messages : Collected) (warned : Bool) : Type 0 where
+  pub is_shown : shown
+  pub good : after.fault ≡ None
+  pub text : List ℕ
+  pub notices : List At
+  pub output_is : after.output ≡ before.output ++ text
+  pub warnings_are : after.warnings ≡ before.warnings ++ notices
+  pub wrote : then_output.bytes.items ≡ output.bytes.items ++ text
+  pub reported : then_messages.bytes.items ≡ messages.bytes.items ++ notices_text notices
+  pub flag : warned ≡ are_some notices
+
+-- the same of what is held between two calls
+pub record MovesOn (before after : Course) (shown : Type 0) (old new : Held) : Type 0 where
+  pub warned : Bool
+  pub kept : IsKept before after shown old.output new.output old.messages new.messages warned
+  pub flag : new.warned ≡ (old.warned || warned)
+
+-- a fault ended the run there, after some warnings
+pub record EndsThere (before after : Course) (output then_output messages then_messages : Collected) (at : At) : Type 0 where
+  pub fault : after.fault ≡ Some at
+  pub notices : List At
+  pub output_is : after.output ≡ before.output
+  pub warnings_are : after.warnings ≡ before.warnings ++ notices
+  pub wrote : then_output.bytes.items ≡ output.bytes.items
+  pub reported : then_messages.bytes.items ≡ messages.bytes.items ++ notices_text notices
+
+-- memory ran out, or a fault ended the run
+abbrev pub LineStops : Course → Course → Collected → Collected → Collected → Collected → At → Type 0
+LineStops before after output then_output messages then_messages at =
+    (at.fault ≡ OutOfMemory) ⊎ EndsThere before after output then_output messages then_messages at
+
+abbrev pub StopsBy : Course → Course → Collected → Collected → Collected → Collected → Halt → Type 0
+StopsBy before after output then_output messages then_messages (Fault at) =
+    LineStops before after output then_output messages then_messages at
+StopsBy before after output then_output messages then_messages Unwritten = ⊤
+StopsBy before after output then_output messages then_messages Unreported = ⊤
+
+-- ---- a run
+
+-- what came before: the bytes that were fed, and what was taken of the output and of the messages
+pub record HandlePast : Type 0 where
+  pub fed : List ℕ
+  pub output : List ℕ
+  pub messages : List ℕ
+
+-- more bytes were fed
+abbrev pub fed_with : HandlePast → List ℕ → HandlePast
+fed_with past bytes = record { fed = past.fed ++ bytes; output = past.output; messages = past.messages }
+
+-- a text was written and reported: what was taken of it, and then what is kept
+pub record IsText (course : Course) (held : Held) (past : HandlePast) : Type 0 where
+  pub wrote : course.output ≡ past.output ++ held.output.bytes.items
+  pub reported : notices_text course.warnings ≡ past.messages ++ held.messages.bytes.items
+
+-- the lines whose LF was fed were taken, and no fault ended the run; what they make was taken by the caller or is kept,
+-- and so are the bytes after them
+pub record IsGoing (filter : Filter)
+    (shows : List InputLine → List Awaited → Type 0) (held : Held) (past : HandlePast) : Type 0 where
+  pub shown : shows (ended_lines_of past.fed) []
+  pub good : (filter.so_far (ended_lines_of past.fed)).fault ≡ None
+  pub text : IsText (filter.so_far (ended_lines_of past.fed)) held past
+  pub flag : held.warned ≡ are_some (filter.so_far (ended_lines_of past.fed)).warnings
+  pub number : held.number ≡ length (ended_lines_of past.fed)
+  pub no_feed : HasNoFeed held.tail.items
+  pub cut : (more : List ℕ) → lines_of (past.fed ++ more) ≡ ended_lines_of past.fed ++ lines_of (held.tail.items ++ more)
+  pub cut_ended : (more : List ℕ)
+      → ended_lines_of (past.fed ++ more) ≡ ended_lines_of past.fed ++ ended_lines_of (held.tail.items ++ more)
+  pub counted : held.number + length held.tail.items ≤ length past.fed
+
+-- a fault of some of the first lines ended the run, whatever follows
+pub record IsBroken (filter : Filter) (held : Held) (past : HandlePast) (at : At) : Type 0 where
+  pub lines : List InputLine
+  pub first : (more : List ℕ) → (rest : List InputLine) × (lines_of (past.fed ++ more) ≡ lines ++ rest)
+  pub fault : (filter.so_far lines).fault ≡ Some at
+  pub text : IsText (filter.so_far lines) held past
+
+-- memory ran out, or a fault ended the run
+abbrev pub Breaks : Filter → Held → HandlePast → At → Type 0
+Breaks filter held past at = (at.fault ≡ OutOfMemory) ⊎ IsBroken filter held past at
+
+-- ---- the end
+
+-- the whole input was taken, and no fault ended the run
+pub record IsAll (course : Course) (held : Held) (past : HandlePast) : Type 0 where
+  pub good : course.fault ≡ None
+  pub text : IsText course held past
+  pub flag : held.warned ≡ are_some course.warnings
+
+-- a fault ended the run
+pub record IsFailed (course : Course) (held : Held) (past : HandlePast) (at : At) : Type 0 where
+  pub fault : course.fault ≡ Some at
+  pub text : IsText course held past
+
+-- memory ran out, or a fault ended the run
+abbrev pub LineFails : Course → Held → HandlePast → At → Type 0
+LineFails course held past at = (at.fault ≡ OutOfMemory) ⊎ IsFailed course held past at

@@ -1,0 +1,217 @@
+-- A handle between two calls.
+use Rattle.std.specs.Prelude.{◌≡◌, ◌⊎◌, ◌<◌, ◌≤◌, ⊤, ℕ, ◌+◌, Bool, true, false, List, [], ◌∷◌, ◌++◌, length, Option, Some, None}
+use Rattle.crx_lines.specs.meaning.Lines.{InputLine}
+use Rattle.crx_lines.specs.declared.limits.TheConstants.{INPUT_LIMIT}
+use Rattle.crx_lines.specs.declared.fault.At.{At}
+use Rattle.crx_lines.specs.declared.fault.Fault.TheVariants.{InputTooLong, OutOfMemory}
+use Rattle.crx_lines.specs.meaning.Faults.{code_of_fault}
+use Rattle.crx_engine.specs.meaning.Choices.{Choices}
+use Rattle.crx_engine.specs.meaning.Compacted.{compacted}
+use Rattle.crx_engine.specs.meaning.Expanded.{expanded}
+use Rattle.crx_engine.specs.meaning.Filters.{Filter}
+use Rattle.crx_engine.specs.meaning.Results.{FilterResult, good_status}
+use Rattle.crx_engine.specs.meaning.Messages.{error_text}
+use Rattle.crx_engine.specs.meaning.Standard.{checked, report_status}
+use Rattle.crx_engine.specs.meaning.Directions.{check_filter}
+use Rattle.crx_engine.specs.CheckerState.{CheckerHasTaken, CheckerIsOpen, HasEnded as CheckerHasEnded, pending_report}
+use Rattle.crx_engine.specs.CompactionByLine.{compaction, compaction_seen}
+use Rattle.crx_engine.specs.CompactorState.{compactor_ready, compactor_seen}
+use Rattle.crx_engine.specs.meaning.Directions.{compaction_filter, expansion_filter}
+use Rattle.crx_engine.specs.EngineLines.{HasTaken}
+use Rattle.crx_engine.specs.Engines.{Awaited}
+use Rattle.crx_engine.specs.ExpanderState.{expander_state}
+use Rattle.crx_engine.specs.ExpansionByLine.{expansion, expansion_seen}
+use Rattle.crx_filter.specs.declared.outcome.Outcome.{Outcome}
+use Rattle.crx_filter.specs.meaning.Runs.{FaultIs}
+use Rattle.rnxcmp_c.specs.Going.{IsGoing, HandlePast, fed_with}
+use Rattle.rnxcmp_c.specs.meaning.Answers.{bare_answer, fault_code_in, line_in}
+use Rattle.rnxcmp_c.specs.declared.answer.Answer.{Answer}
+use Rattle.rnxcmp_c.specs.declared.answer.TheConstants.{MISUSED}
+use Rattle.rnxcmp_c.specs.declared.engines.AnyEngine.{AnyEngine}
+use Rattle.rnxcmp_c.specs.declared.engines.AnyEngine.TheVariants.{Compacting, Expanding, Checking}
+use Rattle.rnxcmp_c.specs.declared.held.Held.{Held}
+use Rattle.rnxcmp_c.specs.declared.reader.Reader.{Reader}
+
+-- ---- what a run is of
+
+-- what was chosen for a run
+pub data Task : Type 0 where
+  Compact : Choices → Task
+  Expand : Choices → Task
+  Check : Task
+
+-- what the whole run of an input writes, reports and answers
+abbrev pub result_for : Task → List ℕ → FilterResult
+result_for (Compact choices) input = compacted input choices
+result_for (Expand choices) input = expanded input choices
+result_for Check input = checked input
+
+abbrev pub filter_for : Task → Filter
+filter_for (Compact choices) = compaction_filter choices
+filter_for (Expand choices) = expansion_filter choices
+filter_for Check = check_filter
+
+-- ---- the engine of a run
+
+abbrev pub engine_filter : AnyEngine → Filter
+engine_filter (Compacting c) = compaction_filter (compactor_seen c).choices
+engine_filter (Expanding e) = expansion_filter e.options
+engine_filter (Checking c) = check_filter
+
+abbrev pub shows_of : AnyEngine → List InputLine → List Awaited → Type 0
+shows_of (Compacting c) lines notices =
+    HasTaken compaction (compaction_seen (compactor_seen c).choices) (compactor_seen c) lines notices
+    × ((compactor_seen c).number ≡ length lines)
+shows_of (Expanding e) lines notices =
+    HasTaken expansion (expansion_seen e.options) (expander_state e) lines notices × (e.number ≡ length lines)
+shows_of (Checking c) lines notices = CheckerHasTaken c lines notices
+
+abbrev pub ready_of : AnyEngine → List (List ℕ)
+ready_of (Compacting c) = compactor_ready c
+ready_of (Expanding e) = e.lines
+ready_of (Checking c) = pending_report c
+
+abbrev pub is_open_of : AnyEngine → Type 0
+is_open_of (Compacting c) = ⊤
+is_open_of (Expanding e) = ⊤
+is_open_of (Checking c) = CheckerIsOpen c
+
+abbrev pub has_ended_of : AnyEngine → List InputLine → Type 0
+has_ended_of (Compacting c) lines = ⊤
+has_ended_of (Expanding e) lines = ⊤
+has_ended_of (Checking c) lines = CheckerHasEnded c lines
+
+-- an engine is of a task
+abbrev pub IsOf : Task → AnyEngine → Type 0
+IsOf (Compact choices) (Compacting c) = compaction_filter (compactor_seen c).choices ≡ compaction_filter choices
+IsOf (Expand choices) (Expanding e) = expansion_filter e.options ≡ expansion_filter choices
+IsOf Check (Checking c) = ⊤
+IsOf task engine = ⊥
+
+-- the status after the end of the input where no fault stands
+abbrev pub status_at_end : AnyEngine → Bool → ℕ
+status_at_end (Compacting c) warned = good_status warned
+status_at_end (Expanding e) warned = good_status warned
+status_at_end (Checking c) warned = report_status c.not_standard
+
+-- ---- a reader
+
+-- the run goes on
+pub record ReaderRuns (task : Task) (reader : Reader) (past : HandlePast) : Type 0 where
+  pub is_of : IsOf task reader.engine
+  pub drained : ready_of reader.engine ≡ []
+  pub takes : is_open_of reader.engine
+  pub going : IsGoing (engine_filter reader.engine) (shows_of reader.engine) reader.held past
+  pub counted : reader.fed ≡ length past.fed
+  pub within : reader.fed ≤ INPUT_LIMIT
+
+-- the run has ended with this result: what was taken of its texts, and then what is kept
+pub record ReaderIsOver (result : FilterResult) (reader : Reader) (outcome : Outcome) (past : HandlePast) : Type 0 where
+  pub status : outcome.status ≡ result.status
+  pub fault : outcome.fault ≡ result.fault
+  pub output : result.output ≡ past.output ++ reader.held.output.bytes.items
+  pub messages : result.messages ≡ past.messages ++ reader.held.messages.bytes.items
+
+-- where a run is: it goes on; or it has ended, with the result of the bytes that were fed, unless memory ran out
+abbrev pub StandsBy : Task → Reader → HandlePast → Option Outcome → Type 0
+StandsBy task reader past None = ReaderRuns task reader past
+StandsBy task reader past (Some outcome) = FaultIs OutOfMemory outcome.fault
+    ⊎ ReaderIsOver (result_for task past.fed) reader outcome past
+
+abbrev pub ReaderStands : Task → Reader → HandlePast → Type 0
+ReaderStands task reader past = StandsBy task reader past reader.outcome
+
+-- where it is after some bytes: where a fault has ended it, the result is that of every input that begins with them
+abbrev pub HasFedBy : Task → Reader → HandlePast → Option Outcome → Type 0
+HasFedBy task reader past None = ReaderRuns task reader past
+HasFedBy task reader past (Some outcome) = FaultIs OutOfMemory outcome.fault
+    ⊎ ((more : List ℕ) → ReaderIsOver (result_for task (past.fed ++ more)) reader outcome past)
+
+abbrev pub HasFed : Task → Reader → HandlePast → Type 0
+HasFed task reader past = HasFedBy task reader past reader.outcome
+
+-- after its end
+abbrev pub HasEndedBy : Task → Reader → HandlePast → Option Outcome → Type 0
+HasEndedBy task reader past None = ⊥
+HasEndedBy task reader past (Some outcome) = FaultIs OutOfMemory outcome.fault
+    ⊎ ReaderIsOver (result_for task past.fed) reader outcome past
+
+abbrev pub ReaderHasEnded : Task → Reader → HandlePast → Type 0
+ReaderHasEnded task reader past = HasEndedBy task reader past reader.outcome
+
+-- a fault was put down: its message was kept, and its status is 1; or memory ran out
+pub record IsPutDown (old new : Held) (outcome : Outcome) (at : At) : Type 0 where
+  pub status : outcome.status ≡ 1
+  pub fault : outcome.fault ≡ Some at
+  pub output : new.output.bytes.items ≡ old.output.bytes.items
+  pub messages : new.messages.bytes.items ≡ old.messages.bytes.items ++ error_text (Some at)
+
+abbrev pub IsPut : Held → Held → At → Option Outcome → Type 0
+IsPut old new at None = ⊥
+IsPut old new at (Some outcome) = FaultIs OutOfMemory outcome.fault ⊎ IsPutDown old new outcome at
+
+-- ---- what a call answers
+
+abbrev pub status_now : Option Outcome → ℕ
+status_now None = 0
+status_now (Some outcome) = outcome.status
+
+abbrev pub fault_now : Option Outcome → Option At
+fault_now None = None
+fault_now (Some outcome) = outcome.fault
+
+-- how the run stands, 0 while it goes on; the fault that ended it; and how many bytes are kept of the output and of the
+-- messages
+abbrev pub answer_now : Reader → Answer
+answer_now reader = record {
+  line = line_in (fault_now reader.outcome);
+  output_length = length reader.held.output.bytes.items;
+  messages_length = length reader.held.messages.bytes.items;
+  status = status_now reader.outcome;
+  code = fault_code_in (fault_now reader.outcome);
+}
+
+-- the handle isn't open, or its run has ended; nothing was done
+abbrev pub IsMisused : Answer → Type 0
+IsMisused answer = answer ≡ bare_answer MISUSED 0 0
+
+-- more bytes were fed; where these would be more than an input may have, nothing was done
+pub record FeedsBytes (task : Task) (old new : Reader) (past : HandlePast) (bytes : List ℕ) (answer : Answer) : Type 0 where
+  pub long : INPUT_LIMIT < length past.fed + length bytes
+      → (answer ≡ bare_answer 1 0 (code_of_fault InputTooLong)) × (new ≡ old)
+  pub fed : length past.fed + length bytes ≤ INPUT_LIMIT
+      → HasFed task new (fed_with past bytes) × (answer ≡ answer_now new)
+
+abbrev pub FeedsBy : Task → Reader → Reader → HandlePast → List ℕ → Answer → Option Outcome → Type 0
+FeedsBy task old new past bytes answer None = FeedsBytes task old new past bytes answer
+FeedsBy task old new past bytes answer (Some outcome) = IsMisused answer × (new ≡ old)
+
+abbrev pub Feeds : Task → Reader → Reader → HandlePast → List ℕ → Answer → Type 0
+Feeds task old new past bytes answer = FeedsBy task old new past bytes answer old.outcome
+
+-- the end of the input was reported
+abbrev pub ReaderEndsBy : Task → Reader → Reader → HandlePast → Answer → Option Outcome → Type 0
+ReaderEndsBy task old new past answer None = ReaderHasEnded task new past × (answer ≡ answer_now new)
+ReaderEndsBy task old new past answer (Some outcome) = IsMisused answer × (new ≡ old)
+
+abbrev pub Ends : Task → Reader → Reader → HandlePast → Answer → Type 0
+Ends task old new past answer = ReaderEndsBy task old new past answer old.outcome
+
+-- more was taken of the output and of the messages
+abbrev pub taken_with : HandlePast → List ℕ → List ℕ → HandlePast
+taken_with past output messages = record {
+  fed = past.fed;
+  output = past.output ++ output;
+  messages = past.messages ++ messages;
+}
+
+-- nothing was fed, and nothing taken
+abbrev pub nothing_fed : HandlePast
+nothing_fed = record { fed = []; output = []; messages = [] }
+
+-- an engine of a task before its first line
+pub record IsFresh (task : Task) (engine : AnyEngine) : Type 0 where
+  pub is_of : IsOf task engine
+  pub drained : ready_of engine ≡ []
+  pub takes : is_open_of engine
+  pub shown : shows_of engine [] []

@@ -1,0 +1,57 @@
+-- What a handle is, between two calls.
+use Rattle.std.specs.Prelude.{◌≡◌, ℕ, Bool, true, false, List, [], ◌∷◌}
+use Rattle.rnxcmp_c.specs.Going.{HandlePast}
+use Rattle.rnxcmp_c.specs.Handles.{Ends, Feeds, ReaderStands, Task, answer_now}
+use Rattle.rnxcmp_c.specs.declared.answer.Answer.{Answer}
+use Rattle.rnxcmp_c.specs.declared.handle.Handle.{Handle}
+use Rattle.rnxcmp_c.specs.declared.reader.Reader.{Reader}
+
+-- a handle holds a reader
+abbrev pub Holds : Handle → Reader → Type 0
+Holds handle reader = handle.place.held ≡ reader ∷ []
+
+-- it is open, and its run stands so
+pub record HandleStands (task : Task) (handle : Handle) (past : HandlePast) : Type 0 where
+  pub reader : Reader
+  pub is_open : handle.is_open ≡ true
+  pub holds : Holds handle reader
+  pub stands : ReaderStands task reader past
+
+-- a handle that is closed, or as a call left it: what a C program owes
+abbrev pub IsSoundHandle : Handle → Type 0
+IsSoundHandle handle = handle.is_open ≡ true → (task : Task) × (past : HandlePast) × HandleStands task handle past
+
+-- nothing was done to it
+abbrev pub IsUnchanged : Handle → Handle → Type 0
+IsUnchanged old new = new ≡ old
+
+-- the texts that are kept
+abbrev pub output_kept : List Reader → List ℕ
+output_kept [] = []
+output_kept (reader ∷ more) = reader.held.output.bytes.items
+
+abbrev pub messages_kept : List Reader → List ℕ
+messages_kept [] = []
+messages_kept (reader ∷ more) = reader.held.messages.bytes.items
+
+-- what became of a handle's run by some bytes, by the end of the input, and by a look at it
+pub record FeedsHandle (task : Task) (old new : Handle) (past : HandlePast) (bytes : List ℕ) (answer : Answer) : Type 0 where
+  pub before : Reader
+  pub after : Reader
+  pub held : Holds old before
+  pub holds : Holds new after
+  pub is_open : new.is_open ≡ true
+  pub feeds : Feeds task before after past bytes answer
+
+pub record EndsHandle (task : Task) (old new : Handle) (past : HandlePast) (answer : Answer) : Type 0 where
+  pub before : Reader
+  pub after : Reader
+  pub held : Holds old before
+  pub holds : Holds new after
+  pub is_open : new.is_open ≡ true
+  pub ends : Ends task before after past answer
+
+pub record AnswersHandle (handle : Handle) (answer : Answer) : Type 0 where
+  pub reader : Reader
+  pub holds : Holds handle reader
+  pub answers : answer ≡ answer_now reader

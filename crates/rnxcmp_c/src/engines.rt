@@ -1,0 +1,80 @@
+//! The engines of the three tasks, as one type.
+
+ghost use Rattle.std.specs.Prelude.{◌≡◌, ◌≤◌, ◌+◌, [], length, OnOk, IfErr};
+ghost use Rattle.crx_lines.specs.declared.limits.TheConstants.{INPUT_LIMIT};
+ghost use Rattle.crx_lines.specs.meaning.Lines.{lines_of};
+ghost use Rattle.crx_engine.specs.Lawful.{IsLawful};
+ghost use Rattle.rnxcmp_c.specs.Going.{Breaks, LineFails, IsAll, IsGoing, HandlePast, fed_with};
+ghost use Rattle.rnxcmp_c.specs.Handles.{IsOf, Task, engine_filter, has_ended_of, is_open_of, ready_of, shows_of, status_at_end};
+
+use crate::held::Held;
+use crate::lines::{take_bytes, take_last};
+use crx_engine::checker::Checker;
+use crx_engine::{Compactor, Expander};
+use crx_text::At;
+
+/// The engine of a run.
+#[derive(Drop)]
+pub enum AnyEngine {
+    /// It compacts.
+    Compacting(Compactor),
+    /// It expands.
+    Expanding(Expander),
+    /// It checks.
+    Checking(Checker),
+}
+
+/// Takes some bytes.
+pub(crate) fn take_any(engine: &mut AnyEngine, held: &mut Held, bytes: &[u8]) -> Result<(), At>
+    requires drained { ready_of engine.old ≡ [] }
+    requires running { is_open_of engine.old }
+    requires going { (past : HandlePast) × IsGoing (engine_filter engine.old) (shows_of engine.old) held.old past
+        × (length past.fed + length bytes.now ≤ INPUT_LIMIT) }
+    ensures of { (task : Task) → IsOf task engine.old → IsOf task engine.new }
+    ensures running { OnOk result (is_open_of engine.new) }
+    ensures drained { OnOk result (ready_of engine.new ≡ []) }
+    ensures going { (past : HandlePast) → IsGoing (engine_filter engine.old) (shows_of engine.old) held.old past
+        → OnOk result (IsGoing (engine_filter engine.new) (shows_of engine.new) held.new (fed_with past bytes.now)) }
+    ensures breaks { (past : HandlePast) → IsGoing (engine_filter engine.old) (shows_of engine.old) held.old past
+        → IfErr result (λ at. Breaks (engine_filter engine.old) held.new (fed_with past bytes.now) at) }
+{
+    match engine {
+        AnyEngine::Compacting(compactor) => take_bytes(compactor, held, bytes),
+        AnyEngine::Expanding(expander) => take_bytes(expander, held, bytes),
+        AnyEngine::Checking(checker) => take_bytes(checker, held, bytes),
+    }
+}
+
+/// Takes the end of the input.
+pub(crate) fn end_any(engine: &mut AnyEngine, held: &mut Held) -> Result<(), At>
+    requires drained { ready_of engine.old ≡ [] }
+    requires running { is_open_of engine.old }
+    requires going { (past : HandlePast) × IsGoing (engine_filter engine.old) (shows_of engine.old) held.old past
+        × (length past.fed ≤ INPUT_LIMIT) }
+    ensures of { (task : Task) → IsOf task engine.old → IsOf task engine.new }
+    ensures ended { (past : HandlePast) → IsGoing (engine_filter engine.old) (shows_of engine.old) held.old past
+        → OnOk result (has_ended_of engine.new (lines_of past.fed)) }
+    ensures done { (past : HandlePast) → IsGoing (engine_filter engine.old) (shows_of engine.old) held.old past
+        → OnOk result (IsAll ((engine_filter engine.old).whole (lines_of past.fed)) held.new past) }
+    ensures fails { (past : HandlePast) → IsGoing (engine_filter engine.old) (shows_of engine.old) held.old past
+        → IfErr result (λ at. LineFails ((engine_filter engine.old).whole (lines_of past.fed)) held.new past at) }
+{
+    match engine {
+        AnyEngine::Compacting(compactor) => take_last(compactor, held),
+        AnyEngine::Expanding(expander) => take_last(expander, held),
+        AnyEngine::Checking(checker) => take_last(checker, held),
+    }
+}
+
+/// The status after the end of an input where no fault stands.
+pub(crate) fn status_at_end(engine: &AnyEngine, warned: bool) -> u8
+    ensures { result ≡ status_at_end engine.now warned }
+{
+    match engine {
+        AnyEngine::Checking(checker) => match checker.not_standard() {
+            None => 0,
+            Some(_) => 2,
+        },
+        AnyEngine::Compacting(_) | AnyEngine::Expanding(_) => { if warned { 2 } else { 0 } }
+    }
+}

@@ -1,0 +1,230 @@
+//! Handles that a C program holds, and what it calls with them: a run goes on from call to call.
+//!
+//! A handle is closed where it is all zeros. From the call that opens it to the one that closes it only these calls touch it, one at
+//! a time. The bytes that were fed in all have a defined result; what was taken in all, and then what is kept, is a prefix of its
+//! texts while the run goes on, and the whole of them after its end.
+
+ghost use Rattle.std.specs.Prelude.{◌≡◌, ◌⊎◌, [], length, take, Some, true, false};
+ghost use Rattle.crx_engine.specs.meaning.Choices.{Choices, choices_of, is_date};
+ghost use Rattle.crx_lines.specs.declared.fault.Fault.TheVariants.{OutOfMemory};
+ghost use Rattle.crx_lines.specs.meaning.Faults.{code_of_fault};
+ghost use Rattle.rnxcmp_c.specs.Going.{HandlePast};
+ghost use Rattle.rnxcmp_c.specs.Handles.{IsFresh, IsMisused, Task, nothing_fed, taken_with};
+ghost use Rattle.rnxcmp_c.specs.Opened.{AnswersHandle, EndsHandle, FeedsHandle, HandleStands, Holds, IsSoundHandle, IsUnchanged, messages_kept, output_kept};
+ghost use Rattle.rnxcmp_c.specs.declared.reader.Reader.{Reader};
+ghost use Rattle.rnxcmp_c.specs.meaning.Answers.{bare_answer, placed};
+
+use crate::answer::{Answer, BAD_DATE, date_refused, good, misused, out_of_memory};
+use crate::engines::AnyEngine;
+use crate::exports::expansion_options;
+use crate::held::Held;
+use crate::loose::Loose;
+use crate::place::Place;
+use crate::reader::Reader;
+use crx_engine::checker::Checker;
+use crx_filter::{Compactor, Expander, Options};
+use std::alloc::Global;
+use std::mem::replace;
+
+/// A handle. Zeros make a closed one.
+#[repr(C)]
+#[derive(Drop)]
+pub struct Handle {
+    place: Place,
+    is_open: bool,
+}
+
+/// A closed handle.
+fn closed() -> Handle
+    ensures place { result.place.held ≡ [] }
+    ensures closed { result.is_open ≡ false }
+{
+    Handle {
+        place: Place::empty(),
+        is_open: false,
+    }
+}
+
+/// Takes the reader out of a handle, which is closed then.
+fn take_out(handle: &mut Handle, alloc: Global) -> Box<Reader>
+    requires { (reader : Reader) × Holds handle.old reader }
+    ensures reader { Holds handle.old result.value }
+    ensures place { handle.new.place.held ≡ [] }
+    ensures closed { handle.new.is_open ≡ false }
+{
+    let held = replace(handle, closed());
+    held.place.into_loose(alloc).into_box()
+}
+
+/// Puts a reader into a handle, which is open then.
+fn put_in(handle: &mut Handle, reader: Box<Reader>)
+    ensures reader { Holds handle.new reader.value }
+    ensures opened { handle.new.is_open ≡ true }
+{
+    *handle = Handle {
+        place: Place::of(Loose::of(reader)),
+        is_open: true,
+    };
+}
+
+/// Opens a closed handle for a run of this engine.
+fn open(alloc: Global, handle: &mut Handle, engine: AnyEngine) -> Answer
+    ensures opened { (task : Task) → IsFresh task engine → result.status ≡ 0 → HandleStands task handle.new nothing_fed }
+    ensures answer { (result ≡ bare_answer 0 0 0) ⊎ (result ≡ bare_answer 1 0 (code_of_fault OutOfMemory)) }
+    ensures unchanged { (result.status ≡ 0 → ⊥) → IsUnchanged handle.old handle.new }
+{
+    let reader = Reader {
+        engine,
+        held: Held::new(alloc),
+        fed: 0,
+        outcome: None,
+    };
+    match Box::new(alloc, reader) {
+        Ok(reader) => {
+            put_in(handle, reader);
+            good()
+        }
+        Err(_) => out_of_memory(0),
+    }
+}
+
+/// Opens a closed handle for a compaction: with what [`rnxcmp_c_compact`](crate::exports::rnxcmp_c_compact) takes.
+#[unsafe(no_mangle)]
+pub extern "C" fn rnxcmp_c_open_compact(
+    alloc: Global,
+    handle: &mut Handle,
+    every: u32,
+    skip: bool,
+    date: &[u8],
+) -> Answer
+    ensures opened { result.status ≡ 0
+        → HandleStands (Task.Compact (choices_of (Some every) skip date.now)) handle.new nothing_fed }
+    ensures unchanged { (result.status ≡ 0 → ⊥) → IsUnchanged handle.old handle.new }
+    ensures misused { handle.old.is_open ≡ true → IsMisused result }
+    ensures date { handle.old.is_open ≡ false → is_date date.now ≡ false → result ≡ bare_answer BAD_DATE 0 0 }
+    ensures answer { handle.old.is_open ≡ false → is_date date.now ≡ true
+        → (result ≡ bare_answer 0 0 0) ⊎ (result ≡ bare_answer 1 0 (code_of_fault OutOfMemory)) }
+{
+    if handle.is_open {
+        return misused();
+    }
+    let Ok(options) = Options::new(Some(every), skip, date) else {
+        return date_refused();
+    };
+    match Compactor::new(alloc, options) {
+        Ok(compactor) => open(alloc, handle, AnyEngine::Compacting(compactor)),
+        Err(_) => out_of_memory(0),
+    }
+}
+
+/// Opens a closed handle for an expansion.
+#[unsafe(no_mangle)]
+pub extern "C" fn rnxcmp_c_open_expand(alloc: Global, handle: &mut Handle, skip: bool) -> Answer
+    ensures opened { result.status ≡ 0 → (choices : Choices) × (choices.skip ≡ skip)
+        × HandleStands (Task.Expand choices) handle.new nothing_fed }
+    ensures unchanged { (result.status ≡ 0 → ⊥) → IsUnchanged handle.old handle.new }
+    ensures misused { handle.old.is_open ≡ true → IsMisused result }
+    ensures answer { handle.old.is_open ≡ false
+        → (result ≡ bare_answer 0 0 0) ⊎ (result ≡ bare_answer 1 0 (code_of_fault OutOfMemory)) }
+{
+    if handle.is_open {
+        return misused();
+    }
+    match Expander::new(alloc, expansion_options(skip)) {
+        Ok(expander) => open(alloc, handle, AnyEngine::Expanding(expander)),
+        Err(_) => out_of_memory(0),
+    }
+}
+
+/// Opens a closed handle for a check.
+#[unsafe(no_mangle)]
+pub extern "C" fn rnxcmp_c_open_check(alloc: Global, handle: &mut Handle) -> Answer
+    ensures opened { result.status ≡ 0 → HandleStands Task.Check handle.new nothing_fed }
+    ensures unchanged { (result.status ≡ 0 → ⊥) → IsUnchanged handle.old handle.new }
+    ensures misused { handle.old.is_open ≡ true → IsMisused result }
+    ensures answer { handle.old.is_open ≡ false
+        → (result ≡ bare_answer 0 0 0) ⊎ (result ≡ bare_answer 1 0 (code_of_fault OutOfMemory)) }
+{
+    if handle.is_open {
+        return misused();
+    }
+    open(alloc, handle, AnyEngine::Checking(Checker::new(alloc)))
+}
+
+/// Takes some bytes of the input, which may end anywhere.
+#[unsafe(no_mangle)]
+pub extern "C" fn rnxcmp_c_feed(alloc: Global, handle: &mut Handle, bytes: &[u8]) -> Answer
+    requires { IsSoundHandle handle.old }
+    ensures closed { handle.old.is_open ≡ false → IsMisused result × IsUnchanged handle.old handle.new }
+    ensures feeds { (task : Task) (past : HandlePast) → HandleStands task handle.old past
+        → FeedsHandle task handle.old handle.new past bytes.now result }
+    ensures sound { IsSoundHandle handle.new }
+{
+    if !handle.is_open {
+        return misused();
+    }
+    let mut reader = take_out(handle, alloc);
+    let answer = reader.take_in(bytes);
+    put_in(handle, reader);
+    answer
+}
+
+/// Takes the end of the input.
+#[unsafe(no_mangle)]
+pub extern "C" fn rnxcmp_c_end(alloc: Global, handle: &mut Handle) -> Answer
+    requires { IsSoundHandle handle.old }
+    ensures closed { handle.old.is_open ≡ false → IsMisused result × IsUnchanged handle.old handle.new }
+    ensures ends { (task : Task) (past : HandlePast) → HandleStands task handle.old past
+        → EndsHandle task handle.old handle.new past result }
+    ensures sound { IsSoundHandle handle.new }
+{
+    if !handle.is_open {
+        return misused();
+    }
+    let mut reader = take_out(handle, alloc);
+    let answer = reader.take_end();
+    put_in(handle, reader);
+    answer
+}
+
+/// Moves what is kept of the output and of the messages into two rooms, as far as it fits, and answers how the run stands and how much
+/// is left.
+#[unsafe(no_mangle)]
+pub extern "C" fn rnxcmp_c_take(
+    alloc: Global,
+    handle: &mut Handle,
+    output: &mut [u8],
+    messages: &mut [u8],
+) -> Answer
+    requires { IsSoundHandle handle.old }
+    ensures closed { handle.old.is_open ≡ false → IsMisused result × IsUnchanged handle.old handle.new
+        × (output.new ≡ output.old) × (messages.new ≡ messages.old) }
+    ensures output { handle.old.is_open ≡ true → output.new ≡ placed (output_kept handle.old.place.held) output.old }
+    ensures messages { handle.old.is_open ≡ true
+        → messages.new ≡ placed (messages_kept handle.old.place.held) messages.old }
+    ensures answer { handle.old.is_open ≡ true → AnswersHandle handle.new result }
+    ensures stands { (task : Task) (past : HandlePast) → HandleStands task handle.old past
+        → HandleStands task handle.new (taken_with past (take (length output.old) (output_kept handle.old.place.held))
+        (take (length messages.old) (messages_kept handle.old.place.held))) }
+    ensures sound { IsSoundHandle handle.new }
+{
+    if !handle.is_open {
+        return misused();
+    }
+    let mut reader = take_out(handle, alloc);
+    let answer = reader.hand_out(output, messages);
+    put_in(handle, reader);
+    answer
+}
+
+/// Closes a handle, and frees what it holds.
+#[unsafe(no_mangle)]
+pub extern "C" fn rnxcmp_c_close(alloc: Global, handle: &mut Handle)
+    requires { IsSoundHandle handle.old }
+    ensures closed { handle.new.is_open ≡ false }
+    ensures nothing { handle.old.is_open ≡ true → handle.new.place.held ≡ [] }
+{
+    if handle.is_open {
+        drop(take_out(handle, alloc));
+    }
+}

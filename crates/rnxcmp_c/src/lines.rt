@@ -1,0 +1,258 @@
+//! Lines out of the bytes that are fed, through an engine.
+
+ghost use Rattle.std.specs.Prelude.{◌≡◌, ◌≤◌, ◌<◌, ◌+◌, ℕ, List, [], length, take, drop, false, true, OnOk, IfOk, IfErr};
+ghost use Rattle.crx_lines.specs.declared.fault.At.{At};
+ghost use Rattle.crx_lines.specs.declared.limits.TheConstants.{INPUT_LIMIT};
+ghost use Rattle.crx_lines.specs.meaning.Lines.{InputLine, ends_with_return, lines_of, without_return};
+ghost use Rattle.crx_engine.specs.Lawful.{IsLawful};
+ghost use Rattle.crx_engine.specs.meaning.Filters.{with_next};
+ghost use Rattle.rnxcmp_c.specs.Going.{Breaks, LineFails, IsAll, IsGoing, IsKept, MovesOn, HandlePast, LineStops, StopsBy, fed_with, piece_line};
+
+use crate::devices::Collected;
+use crate::held::Held;
+use crx_engine::engine::Engine;
+use crx_filter::taking::{Halt, take_end, take_line, take_overlong};
+use crx_lines::feed::feed_from;
+use crx_lines::limits::LINE_LIMIT;
+use crx_text::{At, Fault, Line};
+
+/// The fault that ended a run at a line: where the output or the messages couldn't be kept, memory ran out.
+fn fault_of(halt: Halt, line: u64) -> At
+    ensures fault { (at : At) → halt ≡ Halt.Fault at → result ≡ at }
+    ensures unwritten { halt ≡ Halt.Unwritten → result.fault ≡ Fault.OutOfMemory }
+    ensures unreported { halt ≡ Halt.Unreported → result.fault ≡ Fault.OutOfMemory }
+{
+    match halt {
+        Halt::Fault(at) => at,
+        Halt::Unwritten | Halt::Unreported => At {
+            line,
+            fault: Fault::OutOfMemory,
+        },
+    }
+}
+
+/// Whether a CR ends some bytes.
+fn has_return(bytes: &[u8]) -> bool
+    ensures { result ≡ ends_with_return bytes.now }
+{
+    match bytes.split_last() {
+        Some((last, _)) => *last == b'\r',
+        None => false,
+    }
+}
+
+/// A line's bytes without the CR that may end them.
+fn content_of(bytes: &[u8]) -> &[u8]
+    ensures { result.now ≡ without_return bytes.now }
+{
+    match bytes.split_last() {
+        Some((last, front)) => { if *last == b'\r' { front } else { bytes } }
+        None => bytes,
+    }
+}
+
+/// Gives a line to an engine, by its bytes and whether an LF followed them; whether there was a warning.
+fn give_line<E: Engine>(
+    engine: &mut E,
+    output: &mut Collected,
+    messages: &mut Collected,
+    bytes: &[u8],
+    number: u64,
+    is_ended: bool,
+) -> Result<bool, Halt>
+    requires drained { E.ready engine.old ≡ [] }
+    requires running { E.is_open engine.old }
+    requires next { number ≡ E.taken engine.old + 1 }
+    requires within { number ≤ INPUT_LIMIT }
+    ensures filter { E.filter engine.new ≡ E.filter engine.old }
+    ensures running { OnOk result (E.is_open engine.new) }
+    ensures drained { OnOk result (E.ready engine.new ≡ []) }
+    ensures done { (lines : List InputLine) → E.shows engine.old lines []
+        → IfOk result (λ warned. IsKept ((E.filter engine.old).so_far lines)
+        ((E.filter engine.old).so_far (with_next lines (piece_line bytes.now is_ended)))
+        (E.shows engine.new (with_next lines (piece_line bytes.now is_ended)) [])
+        output.old output.new messages.old messages.new warned) }
+    ensures stops { (lines : List InputLine) → E.shows engine.old lines []
+        → IfErr result (λ halt. StopsBy ((E.filter engine.old).so_far lines)
+        ((E.filter engine.old).so_far (with_next lines (piece_line bytes.now is_ended)))
+        output.old output.new messages.old messages.new halt) }
+{
+    let content = content_of(bytes);
+    if content.len() > LINE_LIMIT {
+        return take_overlong(engine, output, messages, number);
+    }
+    let is_plain = is_ended && !has_return(bytes);
+    take_line(
+        engine,
+        output,
+        messages,
+        Line::of(content, number, is_plain),
+    )
+}
+
+/// Takes what is kept of a line as a line, and lets go of it.
+fn take_piece<E: Engine>(engine: &mut E, held: &mut Held, is_ended: bool) -> Result<(), At>
+    requires drained { E.ready engine.old ≡ [] }
+    requires running { E.is_open engine.old }
+    requires next { held.old.number ≡ E.taken engine.old }
+    requires within { held.old.number < INPUT_LIMIT }
+    ensures filter { E.filter engine.new ≡ E.filter engine.old }
+    ensures running { OnOk result (E.is_open engine.new) }
+    ensures drained { OnOk result (E.ready engine.new ≡ []) }
+    ensures number { OnOk result (held.new.number ≡ held.old.number + 1) }
+    ensures tail { OnOk result (held.new.tail.items ≡ []) }
+    ensures done { (lines : List InputLine) → E.shows engine.old lines []
+        → OnOk result (MovesOn ((E.filter engine.old).so_far lines)
+        ((E.filter engine.old).so_far (with_next lines (piece_line held.old.tail.items is_ended)))
+        (E.shows engine.new (with_next lines (piece_line held.old.tail.items is_ended)) [])
+        held.old held.new) }
+    ensures stops { (lines : List InputLine) → E.shows engine.old lines []
+        → IfErr result (λ at. LineStops ((E.filter engine.old).so_far lines)
+        ((E.filter engine.old).so_far (with_next lines (piece_line held.old.tail.items is_ended)))
+        held.old.output held.new.output held.old.messages held.new.messages at) }
+{
+    let number = held.number + 1;
+    match give_line(
+        engine,
+        &mut held.output,
+        &mut held.messages,
+        &held.tail,
+        number,
+        is_ended,
+    ) {
+        Ok(warned) => {
+            held.tail.clear();
+            held.number = number;
+            held.warned = held.warned || warned;
+            Ok(())
+        }
+        Err(halt) => Err(fault_of(halt, number)),
+    }
+}
+
+/// Memory ran out in the line after this one.
+fn no_memory(number: u64) -> At
+    ensures { result.fault ≡ Fault.OutOfMemory }
+{
+    At {
+        line: number.saturating_add(1),
+        fault: Fault::OutOfMemory,
+    }
+}
+
+/// Takes the first of some bytes, and answers how many: a line's, with its LF; where no LF is among them, all of them are kept.
+fn take_next<E: Engine>(engine: &mut E, held: &mut Held, bytes: &[u8]) -> Result<usize, At>
+    requires drained { E.ready engine.old ≡ [] }
+    requires running { E.is_open engine.old }
+    requires going { (past : HandlePast) × IsGoing (E.filter engine.old) (E.shows engine.old) held.old past
+        × (length past.fed + length bytes.now ≤ INPUT_LIMIT) }
+    ensures filter { E.filter engine.new ≡ E.filter engine.old }
+    ensures running { OnOk result (E.is_open engine.new) }
+    ensures drained { OnOk result (E.ready engine.new ≡ []) }
+    ensures count { IfOk result (λ n. (n ≤ length bytes.now) × (0 < length bytes.now → 0 < n)) }
+    ensures going { (past : HandlePast) → IsGoing (E.filter engine.old) (E.shows engine.old) held.old past
+        → IfOk result (λ n. IsGoing (E.filter engine.old) (E.shows engine.new) held.new
+        (fed_with past (take n bytes.now))) }
+    ensures breaks { (past : HandlePast) → IsGoing (E.filter engine.old) (E.shows engine.old) held.old past
+        → IfErr result (λ at. Breaks (E.filter engine.old) held.new (fed_with past bytes.now) at) }
+{
+    match feed_from(bytes, 0) {
+        None => match held.tail.extend_from_slice(bytes) {
+            Ok(()) => Ok(bytes.len()),
+            Err(_) => Err(no_memory(held.number)),
+        },
+        Some(end) => match held.tail.extend_from_slice(&bytes[..end]) {
+            Ok(()) => match take_piece(engine, held, true) {
+                Ok(()) => Ok(end + 1),
+                Err(at) => Err(at),
+            },
+            Err(_) => Err(no_memory(held.number)),
+        },
+    }
+}
+
+/// The bytes after the first ones.
+fn rest_after(bytes: &[u8], count: usize) -> &[u8]
+    requires { count ≤ length bytes.now }
+    ensures { result.now ≡ drop count bytes.now }
+{
+    &bytes[count..]
+}
+
+/// Takes some bytes: the lines whose LF is among them, and keeps the rest.
+pub(crate) fn take_bytes<E: Engine>(engine: &mut E, held: &mut Held, bytes: &[u8]) -> Result<(), At>
+    requires drained { E.ready engine.old ≡ [] }
+    requires running { E.is_open engine.old }
+    requires going { (past : HandlePast) × IsGoing (E.filter engine.old) (E.shows engine.old) held.old past
+        × (length past.fed + length bytes.now ≤ INPUT_LIMIT) }
+    ensures filter { E.filter engine.new ≡ E.filter engine.old }
+    ensures running { OnOk result (E.is_open engine.new) }
+    ensures drained { OnOk result (E.ready engine.new ≡ []) }
+    ensures going { (past : HandlePast) → IsGoing (E.filter engine.old) (E.shows engine.old) held.old past
+        → OnOk result (IsGoing (E.filter engine.old) (E.shows engine.new) held.new (fed_with past bytes.now)) }
+    ensures breaks { (past : HandlePast) → IsGoing (E.filter engine.old) (E.shows engine.old) held.old past
+        → IfErr result (λ at. Breaks (E.filter engine.old) held.new (fed_with past bytes.now) at) }
+{
+    let mut left = bytes;
+    'bytes: while !left.is_empty() {
+        match take_next(engine, held, left) {
+            Ok(count) => left = rest_after(left, count),
+            Err(at) => return Err(at),
+        }
+    }
+    Ok(())
+}
+
+/// Gives the end of the input to an engine.
+fn end_run<E: Engine>(engine: &mut E, held: &mut Held) -> Result<(), At>
+    requires drained { E.ready engine.old ≡ [] }
+    requires running { E.is_open engine.old }
+    requires within { E.taken engine.old ≤ INPUT_LIMIT }
+    ensures filter { E.filter engine.new ≡ E.filter engine.old }
+    ensures done { (lines : List InputLine) → E.shows engine.old lines []
+        → OnOk result (MovesOn ((E.filter engine.old).so_far lines) ((E.filter engine.old).whole lines)
+        (E.has_ended engine.new lines) held.old held.new) }
+    ensures stops { (lines : List InputLine) → E.shows engine.old lines []
+        → IfErr result (λ at. LineStops ((E.filter engine.old).so_far lines) ((E.filter engine.old).whole lines)
+        held.old.output held.new.output held.old.messages held.new.messages at) }
+{
+    match take_end(engine, &mut held.output, &mut held.messages) {
+        Ok(warned) => {
+            held.warned = held.warned || warned;
+            Ok(())
+        }
+        Err(halt) => Err(fault_of(halt, held.number)),
+    }
+}
+
+/// Whether there are no bytes.
+fn is_blank(bytes: &[u8]) -> bool
+    ensures none { result ≡ true → bytes.now ≡ [] }
+    ensures some { result ≡ false → 0 < length bytes.now }
+{
+    bytes.is_empty()
+}
+
+/// Takes the end of the input, and before it the last line, where no LF ended it.
+pub(crate) fn take_last<E: Engine>(engine: &mut E, held: &mut Held) -> Result<(), At>
+    requires drained { E.ready engine.old ≡ [] }
+    requires running { E.is_open engine.old }
+    requires lawful { IsLawful (E.filter engine.old) }
+    requires going { (past : HandlePast) × IsGoing (E.filter engine.old) (E.shows engine.old) held.old past
+        × (length past.fed ≤ INPUT_LIMIT) }
+    ensures filter { E.filter engine.new ≡ E.filter engine.old }
+    ensures ended { (past : HandlePast) → IsGoing (E.filter engine.old) (E.shows engine.old) held.old past
+        → OnOk result (E.has_ended engine.new (lines_of past.fed)) }
+    ensures done { (past : HandlePast) → IsGoing (E.filter engine.old) (E.shows engine.old) held.old past
+        → OnOk result (IsAll ((E.filter engine.old).whole (lines_of past.fed)) held.new past) }
+    ensures fails { (past : HandlePast) → IsGoing (E.filter engine.old) (E.shows engine.old) held.old past
+        → IfErr result (λ at. LineFails ((E.filter engine.old).whole (lines_of past.fed)) held.new past at) }
+{
+    if is_blank(&held.tail) {
+        return end_run(engine, held);
+    }
+    match take_piece(engine, held, false) {
+        Ok(()) => end_run(engine, held),
+        Err(at) => Err(at),
+    }
+}
