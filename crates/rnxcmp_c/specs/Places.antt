@@ -6,13 +6,18 @@ use base.Stored.{Coded}
 use denote.RattleType.{RattleType}
 use denote.RawPtr.{Ptr}
 use Rattle.std.specs.Box.Ownership.{box_owns}
-use Rattle.libc.specs.Heap.{chunk}
+use Rattle.std_heap.specs.declared.Global.{Global}
+use Rattle.std_heap.specs.contracts.GlobalAllocator.TheImpl.{ghosts}
 use Rattle.rnxcmp_c.specs.contracts.reader.Reader.{the_row}
 use Rattle.rnxcmp_c.specs.declared.reader.Reader.{Reader}
 
+-- the heap, which is the same for each box
+abbrev pub heap : Global
+heap = record { memory = record { seal = tt } }
+
 abbrev pub place_owns : Ptr → List Reader → Fml
 place_owns at [] = ftrue
-place_owns at (value ∷ more) = box_owns chunk the_row at value
+place_owns at (value ∷ more) = box_owns (ghosts.dealloc_token heap) the_row at value
 
 abbrev pub held_coded : Coded (List Reader)
 held_coded = coded_list the_row.coded

@@ -22,11 +22,10 @@ use denote.Triple.Walked.{says, Stays, stay_dropped, walk_of, ends_at, Goes-drop
 use Rattle.std.proofs.raw_atomic.Walks.{proved_at}
 use Rattle.core.proofs.alloc.Calls.{Al, handle_tells}
 use Rattle.std_alloc.specs.Box.Ownership.{box_owns}
-use Rattle.libc.specs.Heap.{chunk}
 use Rattle.std_heap.specs.contracts.Global as heap
 use Rattle.std_heap.specs.contracts.GlobalAllocator.TheImpl.{ghosts, dict}
 use Rattle.std_heap.proofs.Global.TheLaws as heap_laws
-use Rattle.rnxcmp_c.specs.Places.{place_owns}
+use Rattle.rnxcmp_c.specs.Places.{heap, place_owns}
 use Rattle.rnxcmp_c.specs.declared.reader.Reader.{Reader}
 use Rattle.rnxcmp_c.specs.contracts.reader.Reader as reader
 use Rattle.rnxcmp_c.specs.contracts.place.Place as place
@@ -51,7 +50,7 @@ into_loose_spec 𝓤 𝓛 𝓜 𝓡 wired =
     fpick ! (λ vss. fsplit ! $ feq_l ! (λ ev. fsplit ! $ feq_l ! (λ ep. drop ! $
     -- [what the place owns; the handle and nothing]
     rewrite ! 0 (λ (held : List Reader). ‵ (place_owns v.at held)) asked.1 refl $
-    in_a_block ! v.at (λ p. box_owns chunk R p x) (fst∗ 𝓤 (never 𝓤) (sem 𝓛 (chunk (bare (lone R.mir)) null_ptr))) (λ b o e.
+    in_a_block ! v.at (λ p. box_owns (ghosts.dealloc_token heap) R p x) (fst∗ 𝓤 (never 𝓤) (sem 𝓛 (ghosts.dealloc_token heap (bare (lone R.mir)) null_ptr))) (λ b o e.
     move ! (1 ∷ []) $ fsplit ! $ handle_tells al ! a z.0.4.1.0 (λ h eh fits. move ! (1 ∷ []) $ drop ! $ move ! (1 ∷ 0 ∷ []) $
     let w : Val = word (block_ptr b o) in let made = both (vptr b o) h in let good = loose_good R Z LZ ghosts b o h fits in
     let ew : z.0.4.0 ≡ w ∷ [] = ev ∙ (λ j. vstruct (of_list ((ep ∙ ap (λ (π : Ptr). ptr_val π ∷ []) e) j ++ [])) ∷ []) in
