@@ -93,8 +93,6 @@ CASES = [
 ] + [
     ("code_print, %d digits" % digits, "code_print", numbers(digits), 1) for digits in (1, 2, 4, 6, 8, 11, 13)
 ] + [
-    ("code_print_cell, %d digits" % digits, "code_print_cell", numbers(digits), 1) for digits in (1, 2, 4, 6, 8, 11, 13)
-] + [
     ("diff_text, %d columns, a byte" % columns, "diff_text", [flags(k)[:columns] for k in range(LINES)], columns) for columns in (8, 18, 31)
 ] + [
     ("patch_text, %d columns, a byte" % columns, "patch_text", [flags(k)[:columns] for k in range(LINES)], columns) for columns in (8, 18, 31)

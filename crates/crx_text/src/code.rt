@@ -54,38 +54,6 @@ pub fn code_print(code: Code, text: &mut Text) -> Result<(), TextFull>
     Ok(())
 }
 
-/// Appends a code's printed text and a blank, both or none; else as [`code_print`].
-#[inline(always)]
-#[tactic(auto, using(crate::proofs::CodeTexts::code_text_length))]
-pub fn code_print_cell(code: Code, text: &mut Text) -> Result<(), TextFull>
-    requires { IsPrintable code }
-    ensures ok { OnOk result (text.new ≡ text.old ++ (code_text code ++ 32 ∷ [])) }
-    ensures full { IsErr result ↔ (LINE_LIMIT < length text.old + length (code_text code) + 1) }
-    ensures err { OnErr result (text.new ≡ text.old) }
-{
-    if LINE_LIMIT - text.len < CODE_WIDTH {
-        return cell_print_at_end(code, text);
-    }
-    text.len = write_cell(&mut text.bytes, text.len, code);
-    Ok(())
-}
-
-/// Appends a difference as [`code_print_cell`] does.
-#[inline(always)]
-#[tactic(auto, using(crate::proofs::CodeTexts::code_text_length))]
-pub fn step_print_cell(difference: i64, text: &mut Text) -> Result<(), TextFull>
-    requires { IsShort difference }
-    ensures ok { OnOk result (text.new ≡ text.old ++ (code_text (Step difference) ++ 32 ∷ [])) }
-    ensures full { IsErr result ↔ (LINE_LIMIT < length text.old + length (code_text (Step difference)) + 1) }
-    ensures err { OnErr result (text.new ≡ text.old) }
-{
-    if LINE_LIMIT - text.len < CODE_WIDTH {
-        return step_print_at_end(difference, text);
-    }
-    text.len = write_cell(&mut text.bytes, text.len, Code::Step(difference));
-    Ok(())
-}
-
 // Does what `code_print` does, where there may be no room for every code.
 #[cold]
 #[inline(never)]
@@ -99,33 +67,6 @@ fn code_print_at_end(code: Code, text: &mut Text) -> Result<(), TextFull>
     let mut printed = [b' '; CODE_WIDTH];
     let end = write_code(&mut printed, 0, code);
     text.extend(&printed[..end])
-}
-
-// Does what `code_print_cell` does, where there may be no room for every code.
-#[cold]
-#[inline(never)]
-#[tactic(auto, using(crate::proofs::CodeTexts::code_text_length))]
-fn cell_print_at_end(code: Code, text: &mut Text) -> Result<(), TextFull>
-    requires { IsPrintable code }
-    ensures ok { OnOk result (text.new ≡ text.old ++ (code_text code ++ 32 ∷ [])) }
-    ensures full { IsErr result ↔ (LINE_LIMIT < length text.old + length (code_text code) + 1) }
-    ensures err { OnErr result (text.new ≡ text.old) }
-{
-    let mut printed = [b' '; CODE_WIDTH];
-    let end = write_cell(&mut printed, 0, code);
-    text.extend(&printed[..end])
-}
-
-// Does what `step_print_cell` does, where there may be no room for every code.
-#[cold]
-#[inline(never)]
-fn step_print_at_end(difference: i64, text: &mut Text) -> Result<(), TextFull>
-    requires { IsShort difference }
-    ensures ok { OnOk result (text.new ≡ text.old ++ (code_text (Step difference) ++ 32 ∷ [])) }
-    ensures full { IsErr result ↔ (LINE_LIMIT < length text.old + length (code_text (Step difference)) + 1) }
-    ensures err { OnErr result (text.new ≡ text.old) }
-{
-    cell_print_at_end(Code::Step(difference), text)
 }
 
 /// Writes a code's printed text and a blank from an index on, and answers the index after them. What stands before them stays; up

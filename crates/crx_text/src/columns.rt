@@ -4,7 +4,7 @@ ghost use Rattle.std.specs.Prelude.{◌≡◌, ◌≤◌, ◌-◌, take, drop, l
 ghost use Rattle.std.specs.List.{list_all};
 ghost use Rattle.crx_text.specs.meaning.Columns.{character_at, columns, is_blank, without_blanks, without_end_blanks, without_first_blanks};
 
-use crate::text::{Text, trim_end};
+use crate::text::trim_end;
 
 /// The character in a column, from 1: a blank after the line's end.
 pub fn character(line: &[u8], column: usize) -> u8
@@ -93,13 +93,4 @@ pub fn padded<const N: usize>(line: &[u8], first: usize) -> [u8; N]
     let found = part(line, first, N);
     text[..found.len()].copy_from_slice(found);
     text
-}
-
-/// Replaces a text by a line without the blanks at its end.
-#[tactic(auto, using(crate::proofs::EndBlanks::few_kept))]
-pub fn put_trimmed(text: &mut Text, line: &Text)
-    ensures { text.new ≡ without_end_blanks line.now }
-{
-    text.clear();
-    let _ = text.extend(trim_end(line.bytes()));
 }

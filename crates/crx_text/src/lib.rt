@@ -15,10 +15,7 @@ mod lanes;
 pub mod number;
 pub mod text;
 
-pub use code::{
-    Code, code_before_blank, code_print, code_print_cell, code_read, step_before_blank,
-    step_print_cell, write_cell,
-};
+pub use code::{Code, code_before_blank, code_print, code_read, step_before_blank, write_cell};
 pub use crx_lines::{
     At, Fault, Line, LineReader, ReadFailed, Sink, Source, Std, WriteFailed, write_all_counted,
 };

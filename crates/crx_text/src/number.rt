@@ -100,7 +100,7 @@ pub fn obs_print(value: Option<i64>, field: &mut [u8; OBSERVATION_WIDTH])
 
 /// Prints an observation as [`obs_print`] does, into 14 columns of a longer text.
 #[inline(always)]
-pub fn obs_print_into(value: Option<i64>, columns: &mut [u8])
+pub(crate) fn obs_print_into(value: Option<i64>, columns: &mut [u8])
     requires width { length columns.old ≡ OBSERVATION_WIDTH }
     requires in_range { ForSome value IsObservation }
     ensures { columns.new ≡ observation_text value }

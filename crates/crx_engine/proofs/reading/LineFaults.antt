@@ -15,7 +15,8 @@ use Rattle.crx_lines.specs.declared.fault.Fault.TheVariants.{BadTypesLine, NotCo
 use Rattle.crx_lines.specs.declared.fault.Fault.TheVariants.{BadEpoch, RepeatedSatellite, BadField, BadFlags, Truncated}
 use Rattle.crx_text.specs.meaning.Texts.{is_kept}
 use Rattle.crx_rinex.specs.meaning.Header.{is_supported, first_header_fault}
-use Rattle.crx_rinex.specs.meaning.Label.{has_label, version_label}
+use Rattle.crx_rinex.specs.declared.labels.TheConstants.{VERSION_LABEL}
+use Rattle.crx_rinex.specs.meaning.Label.{has_label}
 use Rattle.crx_rinex.specs.meaning.EpochLines.{HeadLine, EventHead, EpochHead, is_event_flag, is_event_line, records_in}
 use Rattle.crx_rinex.specs.meaning.EpochLines.{epoch_count, event_head, with_clock, epoch_head, head_of, begins_epoch}
 use Rattle.crx_rinex.specs.meaning.EpochPlaces.{OpenEpoch, Beginning, EventBegins, EpochBegins, opened, rows_wanted}
@@ -105,7 +106,7 @@ types-fine line = fault-if (is_bad_types_line line) (Some BadTypesLine) None ref
 
 version-fine : (line : List ℕ) → IsFineFault (first_header_fault line)
 version-fine line =
-    fault-if (not (has_label version_label line)) (Some MissingVersion) _ refl
+    fault-if (not (has_label VERSION_LABEL line)) (Some MissingVersion) _ refl
     (fault-if (not (is_supported (without_blanks (columns line 1 9)))) (Some UnsupportedVersion) _ refl
     (fault-if (not (character_at line 21 == 79)) (Some NotObservation) None refl tt))
 

@@ -7,7 +7,8 @@ use Rattle.crx_text.specs.meaning.Columns.{columns, character_at, without_blanks
 use Rattle.crx_lines.specs.declared.limits.TheConstants.{VERSION_WIDTH}
 use Rattle.crx_lines.specs.declared.fault.Fault.{Fault}
 use Rattle.crx_lines.specs.declared.fault.Fault.TheVariants.{MissingVersion, UnsupportedVersion, NotObservation}
-use Rattle.crx_rinex.specs.meaning.Label.{has_label, version_label, end_label}
+use Rattle.crx_rinex.specs.declared.labels.TheConstants.{VERSION_LABEL, END_LABEL}
+use Rattle.crx_rinex.specs.meaning.Label.{has_label}
 
 -- 3.0 and one digit
 abbrev pub is_version_with_digit : List ℕ → Bool
@@ -21,11 +22,11 @@ is_supported version = bytes_eq version (codes "3") || (bytes_eq version (codes 
 -- what is wrong with the first header line: its label, its version in columns 1 to 9, its type in column 21
 abbrev pub first_header_fault : List ℕ → Option Fault
 first_header_fault line =
-    if not (has_label version_label line) then Some MissingVersion
+    if not (has_label VERSION_LABEL line) then Some MissingVersion
     else if not (is_supported (without_blanks (columns line 1 VERSION_WIDTH))) then Some UnsupportedVersion
     else if not (character_at line 21 == 79) then Some NotObservation
     else None
 
 -- the line that ends the header
 abbrev pub is_end_of_header : List ℕ → Bool
-is_end_of_header line = has_label end_label line
+is_end_of_header line = has_label END_LABEL line

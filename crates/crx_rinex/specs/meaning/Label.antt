@@ -4,7 +4,6 @@ use Rattle.std.specs.Char.{is_ascii_digit}
 use Rattle.std.specs.List.{list_all}
 use Rattle.std.specs.Str.{bytes_eq}
 use Rattle.std.specs.Str.Parse.{digits_value}
-use Rattle.crx_rinex.specs.declared.labels.TheConstants.{VERSION_LABEL, TYPES_LABEL, END_LABEL}
 use Rattle.crx_text.specs.meaning.Columns.{columns, without_blanks, without_end_blanks}
 
 -- the label of a header line: columns 61 to 80 without the blanks at their end
@@ -14,15 +13,6 @@ label_of line = without_end_blanks (columns line 61 20)
 -- whether a line has this label
 abbrev pub has_label : List ℕ → List ℕ → Bool
 has_label label line = bytes_eq (label_of line) label
-
-abbrev pub version_label : List ℕ
-version_label = VERSION_LABEL
-
-abbrev pub types_label : List ℕ
-types_label = TYPES_LABEL
-
-abbrev pub end_label : List ℕ
-end_label = END_LABEL
 
 -- the number that digits spell; no digits spell none
 abbrev pub number_of_digits : List ℕ → Option ℕ

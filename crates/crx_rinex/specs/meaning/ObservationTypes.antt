@@ -5,7 +5,8 @@ use Rattle.std.specs.List.{filter_map, list_any}
 use Rattle.std.specs.Option.{option_and_then}
 use Rattle.crx_text.specs.meaning.Columns.{columns, character_at, is_blank}
 use Rattle.crx_lines.specs.declared.limits.TheConstants.{TYPES_LIMIT}
-use Rattle.crx_rinex.specs.meaning.Label.{has_label, types_label, number_in}
+use Rattle.crx_rinex.specs.declared.labels.TheConstants.{TYPES_LABEL}
+use Rattle.crx_rinex.specs.meaning.Label.{has_label, number_in}
 
 -- the letters of the systems: GPS, GLONASS, Galileo, QZSS, BDS, NavIC/IRNSS, SBAS
 abbrev pub system_letters : List ℕ
@@ -16,7 +17,7 @@ is_system letter = list_any (λ c. c == letter) system_letters
 
 -- a line that begins the list of a system's types; where column 1 is blank it goes on with one, and counts nothing
 abbrev pub is_types_line : List ℕ → Bool
-is_types_line line = has_label types_label line && not (is_blank (character_at line 1))
+is_types_line line = has_label TYPES_LABEL line && not (is_blank (character_at line 1))
 
 -- a system's letter and how many types it has
 abbrev pub Count : Type 0
