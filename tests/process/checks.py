@@ -8,7 +8,7 @@ import tempfile
 from pathlib import Path
 
 sys.path.insert(0, str(Path(__file__).parent))
-from cases import CASES, CLOSED, COMPACT_FIVE, DATED, FIVE, FULL, SHUT  # noqa: E402
+from cases import BAD_INDICATOR, CASES, CLOSED, COMPACT_FIVE, DATED, FIVE, FULL, SHUT  # noqa: E402
 from streams import CHECKS  # noqa: E402
 
 
@@ -81,15 +81,19 @@ def run_short_of_memory(program, words, given, whole):
 
 
 def run_on_a_small_stack(program):
-    """What is wrong in runs on a stack of 256 KiB, as lines: each writes, reports and answers what it does on a greater one."""
+    """What is wrong in runs on a stack of 128 KiB, as lines: each writes, reports and answers what it does on a greater one."""
     wrong = []
     damaged = COMPACT_FIVE.replace(b"\n", b"\n\n", 40)
     for words, given in (
         (DATED, FIVE),
+        (DATED, BAD_INDICATOR),
+        ([*DATED, "-s"], BAD_INDICATOR),
         (["crx2rnx"], COMPACT_FIVE),
+        (["crx2rnx", "-s"], COMPACT_FIVE.replace(b"1000\n", b"x\n")),
         (["crx2rnx", "-s"], damaged),
         (["crx2rnx"], damaged),
         (["check"], FIVE),
+        (["check"], BAD_INDICATOR),
         (["--help"], b""),
         (["rnx2crx", "--help"], b""),
         (["rnx2crx", "-x"], b""),
@@ -97,7 +101,7 @@ def run_on_a_small_stack(program):
     ):
         both = [
             subprocess.run(["sh", "-c", f'ulimit -s {kilobytes} && exec "$@"', "sh", str(program), *words], input=given, capture_output=True, timeout=60)
-            for kilobytes in (8192, 256)
+            for kilobytes in (8192, 128)
         ]
         whole, small = [(run.returncode, run.stdout, run.stderr) for run in both]
         if small != whole:
@@ -110,5 +114,5 @@ def checks(program):
     yield from ((case.name, lambda case=case: run_case(program, case)) for case in CASES)
     yield "compaction, short of memory", lambda: run_short_of_memory(program, DATED, FIVE, COMPACT_FIVE)
     yield "expansion, short of memory", lambda: run_short_of_memory(program, ["crx2rnx"], COMPACT_FIVE, FIVE)
-    yield "a stack of 256 KiB", lambda: run_on_a_small_stack(program)
+    yield "a stack of 128 KiB", lambda: run_on_a_small_stack(program)
     yield from ((name, lambda check=check: check(program)) for name, check in CHECKS)

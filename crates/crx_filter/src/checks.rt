@@ -56,6 +56,7 @@ fn check_by<R: Source, W: Sink, M: Sink>(
 /// Checks a RINEX file: writes its report once the whole input is accepted, and else reports the fault that ended the check. The status
 /// is 0 where the file is standard, 2 where it isn't, and 1 after a fault: one of a line, or `ReadFailed`, `WriteFailed`, `InputTooLong` and
 /// `OutOfMemory` where a device or memory failed or the input is longer.
+#[inline(never)]
 pub fn check<R: Source, W: Sink, M: Sink>(
     alloc: Global,
     reader: &mut R,

@@ -21,6 +21,7 @@ use std::alloc::Global;
 /// Where no device failed and memory didn't run out, the output, the messages, the status and the fault are those of the compaction of
 /// the whole input, of at most [`INPUT_LIMIT`](crx_lines::limits::INPUT_LIMIT) bytes. `ReadFailed`, `WriteFailed`, `InputTooLong` and
 /// `OutOfMemory` come where a device or memory failed or the input is longer; what was written by then is a prefix of the defined output.
+#[inline(never)]
 pub fn compact<R: Source, W: Sink, M: Sink>(
     alloc: Global,
     reader: &mut R,
@@ -47,6 +48,7 @@ pub fn compact<R: Source, W: Sink, M: Sink>(
 /// Where no device failed and memory didn't run out, the output, the messages, the status and the fault are those of the expansion of
 /// the whole input, of at most [`INPUT_LIMIT`](crx_lines::limits::INPUT_LIMIT) bytes. `ReadFailed`, `WriteFailed`, `InputTooLong` and
 /// `OutOfMemory` come where a device or memory failed or the input is longer; what was written by then is a prefix of the defined output.
+#[inline(never)]
 pub fn expand<R: Source, W: Sink, M: Sink>(
     alloc: Global,
     reader: &mut R,

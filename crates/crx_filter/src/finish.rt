@@ -12,6 +12,7 @@ use crate::work::Work;
 use crx_text::{At, Fault, Sink, write_all_counted};
 
 /// Reports a fault; a failure ends its message where it comes.
+#[inline(never)]
 fn report<M: Sink>(messages: &mut M, at: At) -> Outcome
     ensures reported { IsReported (span M.Sink messages.old messages.new) at }
     ensures fault { result.fault ≡ Some at }

@@ -254,6 +254,7 @@ fn not_run(alloc: Global, error: &Error) -> Result<Decision, UsageFault>
 ///
 /// Without a file name standard input is read. `check`, and the others without a file name or with
 /// `-`, write to standard output.
+#[inline(never)]
 pub fn plan(alloc: Global, words: Vec<String>) -> Result<Decision, UsageFault>
     ensures { IfSome (plan_in result) (λ plan. plan ≡ plan_of (map string_bytes words.items)) }
 {

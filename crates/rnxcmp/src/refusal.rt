@@ -26,6 +26,7 @@ fn show<M: Sink>(messages: &mut M, line: &[u8])
 }
 
 /// Reports a fault that came before the first line was read, and answers the exit status.
+#[inline(never)]
 pub fn report_at_start<M: Sink>(messages: &mut M, fault: Fault) -> u8
     ensures shown { IsShown (span M.Sink messages.old messages.new) (at_start fault) }
     ensures status { result ≡ 1 }
