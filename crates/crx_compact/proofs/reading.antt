@@ -2,6 +2,7 @@
 pub mod CellsRead
 pub mod Marks
 pub mod Naming
+pub mod SameIdentifiers
 pub mod Named
 pub mod Identifiers
 pub mod Opening

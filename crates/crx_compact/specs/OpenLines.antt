@@ -11,7 +11,8 @@ use Rattle.crx_compact.specs.OpenEpochs.{HeldClock, HeldRow, OpenRawEpoch, RawSt
 use Rattle.crx_compact.specs.OpenEpochs.{line_step, ColumnsState, Idle, Reading, past_of_tail}
 use Rattle.crx_rinex.specs.meaning.Epochs.{are_apart}
 use Rattle.crx_rinex.specs.Epochs.{with_row}
-use Rattle.crx_compact.specs.meaning.CompactPlaces.{ReadCell, clock_line_read}
+use Rattle.crx_compact.specs.meaning.CompactPlaces.{ReadCell, clock_line_read, satellites_of_text}
+use Rattle.crx_rinex.specs.meaning.ObservationTypes.{Count}
 use Rattle.crx_compact.specs.Steps.{arc_of_code}
 use Rattle.crx_compact.specs.HeldRows.{IsNextRow}
 use Rattle.crx_compact.specs.declared.incoming.Stage.{Stage}
@@ -58,6 +59,11 @@ lines_so_far (Rows epoch) next count satellites =
 pub record AreAnnounced (text : List ℕ) (satellites : List Satellite) : Type 0 where
   pub counted : epoch_count (columns text 1 HEAD_WIDTH) ≡ Some (length satellites)
   pub apart : are_apart (λ (s : Satellite). s.name) satellites ≡ true
+
+-- satellites were read from what stands after the columns of an epoch text, by counts of types
+abbrev pub WereRead : List Count → List ℕ → List Satellite → Type 0
+WereRead types rest satellites = (text : List ℕ)
+    × (drop HEAD_WIDTH text ≡ rest) × (satellites_of_text types text ≡ Ok satellites)
 
 -- the epoch of the rows so far: it has the columns of the text, which announce the satellites, and the rows of the
 -- first so many of these

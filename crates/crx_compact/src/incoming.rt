@@ -19,9 +19,8 @@ ghost use Rattle.crx_compact.specs.meaning.CompactPlaces.{clock_line_read};
 ghost use Rattle.crx_compact.specs.OpenEpochs.{past_of_tail};
 ghost use Rattle.crx_compact.specs.OpenLines.{open_raw, made_of, step_after, HasClock, IsRowAfter};
 
-use crate::awaited::AwaitedSatellite;
+use crate::awaited::{AwaitedSatellite, AwaitedSatellites};
 use crate::kept::KeptEpoch;
-use crx_lines::limits::SATELLITES_LIMIT;
 use crx_rinex::{Epoch, EpochLine, SatRow, Types, begins_epoch, padded};
 use crx_text::{Fault, Text};
 use std::alloc::{AllocError, Global};
@@ -45,7 +44,7 @@ pub(crate) struct Incoming {
     stage: Stage,
     next: KeptEpoch,
     count: usize,
-    satellites: Vec<AwaitedSatellite>,
+    satellites: AwaitedSatellites,
     /// The row that a line is read into, before it is put into the epoch.
     row: Option<SatRow>,
     /// An epoch that was given out and handed back, whose memory serves the next one.
@@ -59,9 +58,9 @@ impl Model for Incoming {
 
     ghost Value = { Option OpenLines };
 
-    ghost view = { λ incoming. lines_so_far incoming.stage incoming.next incoming.count incoming.satellites.items };
+    ghost view = { λ incoming. lines_so_far incoming.stage incoming.next incoming.count incoming.satellites };
 
-    ghost invariant = { λ incoming. AreLinesSoFar incoming.stage incoming.next incoming.count incoming.satellites.items };
+    ghost invariant = { λ incoming. AreLinesSoFar incoming.stage incoming.next incoming.count incoming.satellites };
 }
 
 impl Incoming {
@@ -73,7 +72,7 @@ impl Incoming {
             stage: Stage::Unbegun,
             next: KeptEpoch::new(alloc),
             count: 0,
-            satellites: Vec::new(alloc),
+            satellites: AwaitedSatellites::new(alloc),
             row: None,
             spare: None,
             alloc,
@@ -120,7 +119,6 @@ impl Incoming {
             → is_ok (opened_raw types.now line.now (Some before.now)) ≡ true) }
     {
         self.stage = Stage::Unbegun;
-        self.satellites.clear();
         if !self.next.is_roomy() {
             // Memory is asked for only at a line without a fault.
             match before.fault_of_epoch_line(types, line, part) {
@@ -166,7 +164,7 @@ impl Incoming {
         match &mut self.stage {
             Stage::Unbegun => Err(Fault::NotAnEpoch),
             Stage::Clock => {
-                self.stage = Stage::Unbegun;
+                give_up(&mut self.stage);
                 self.count = 0;
                 begin_rows(
                     self.alloc,
@@ -178,7 +176,7 @@ impl Incoming {
                 )
             }
             Stage::Rows(epoch) => {
-                let Some(satellite) = satellite_at(&self.satellites, self.count) else {
+                let Some(satellite) = satellite_at(self.satellites.as_slice(), self.count) else {
                     return Ok(());
                 };
                 match next_row(
@@ -197,7 +195,7 @@ impl Incoming {
                         Ok(())
                     }
                     Err(fault) => {
-                        self.stage = Stage::Unbegun;
+                        give_up(&mut self.stage);
                         Err(fault)
                     }
                 }
@@ -211,7 +209,7 @@ impl Incoming {
             (λ lines. (is_some lines.clock ≡ true) × (1 < length lines.awaited))) }
     {
         match &self.stage {
-            Stage::Rows(_) => self.satellites.len() - self.count > 1,
+            Stage::Rows(_) => self.satellites.count() - self.count > 1,
             _ => false,
         }
     }
@@ -229,7 +227,7 @@ impl Incoming {
         let Stage::Rows(_) = &self.stage else {
             return None;
         };
-        if self.count < self.satellites.len() {
+        if self.count < self.satellites.count() {
             return None;
         }
         let Stage::Rows(epoch) = mem::replace(&mut self.stage, Stage::Unbegun) else {
@@ -242,12 +240,21 @@ impl Incoming {
 }
 
 /// Asks for room that each epoch line fits into.
-fn make_room(next: &mut KeptEpoch, satellites: &mut Vec<AwaitedSatellite>) -> Result<(), AllocError>
+fn make_room(next: &mut KeptEpoch, satellites: &mut AwaitedSatellites) -> Result<(), AllocError>
     ensures next { next.new ≡ next.old }
-    ensures satellites { satellites.new.items ≡ satellites.old.items }
+    ensures satellites { satellites.new ≡ satellites.old }
 {
-    satellites.reserve(SATELLITES_LIMIT)?;
+    satellites.make_roomy()?;
     next.make_roomy()
+}
+
+/// Goes to the stage before the first line. The stage that is dropped would be a local of [`Incoming::take_line`] otherwise, which is set
+/// to zero at every line.
+#[inline(never)]
+fn give_up(stage: &mut Stage)
+    ensures { stage.new ≡ Stage.Unbegun }
+{
+    *stage = Stage::Unbegun;
 }
 
 /// `false` says that the line of the satellite at a place may ask for memory before its cells are read.

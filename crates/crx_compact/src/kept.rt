@@ -21,12 +21,12 @@ ghost use Rattle.crx_compact.specs.Tails.{RowTail};
 ghost use Rattle.crx_compact.specs.HeldRows.{row_after, AreNamed, IsNextRow};
 
 use crate::arc::ClockArc;
-use crate::awaited::{AwaitedSatellite, read_satellites};
+use crate::awaited::{AwaitedSatellite, AwaitedSatellites};
 use crate::held::{HeldSatellite, fault_after, find, push_change, push_code};
 use crate::lines::Lines;
 use crate::refusals::fault_of_text;
-use crx_lines::limits::{LINE_LIMIT, NAME_WIDTH, SATELLITES_LIMIT};
-use crx_rinex::{Epoch, Identifiers, SatRow, Types, begins_epoch};
+use crx_lines::limits::{HEAD_WIDTH, LINE_LIMIT, NAME_WIDTH, SATELLITES_LIMIT};
+use crx_rinex::{Epoch, Identifiers, SatRow, Types, after_columns, begins_epoch};
 use crx_text::difference::patch_bytes;
 use crx_text::{Code, Fault, Text, code_read, trim_end};
 use std::alloc::{AllocError, Global};
@@ -173,13 +173,12 @@ impl KeptEpoch {
         types: &Types,
         before: &KeptEpoch,
         line: &[u8],
-        satellites: &mut Vec<AwaitedSatellite>,
+        satellites: &mut AwaitedSatellites,
         part: &mut Text,
     ) -> Result<(), Fault>
         requires short { length line.now ≤ LINE_LIMIT }
-        requires none { satellites.old.items ≡ [] }
         ensures ok { OnOk result (satellites_of_line types.now (past_of_tail before.now) line.now
-            ≡ Ok satellites.new.items) }
+            ≡ Ok satellites.new) }
         ensures text { OnOk result (self.new ≡ record self.old { text = patched before.now.text line.now }) }
         ensures err { IfErr result
             (λ fault. (satellites_of_line types.now (past_of_tail before.now) line.now ≡ Err fault)
@@ -190,12 +189,14 @@ impl KeptEpoch {
         if patch_bytes(&before.text, line, part).is_err() {
             return Err(Fault::BadEpoch);
         }
+        // The text that is replaced is the one whose identifiers were put at their places last.
+        let is_placed = has_identifiers_of(&self.text, part.bytes());
         self.text.clear();
         if self.text.extend_from_slice(part.bytes()).is_err() {
             return Err(Fault::OutOfMemory);
         }
         self.placed = 0;
-        read_satellites(types, &self.text, &mut self.names, satellites)
+        satellites.read(types, &self.text, is_placed, &mut self.names)
     }
 
     /// `false` says that an epoch line may ask for memory.
@@ -319,6 +320,11 @@ impl KeptEpoch {
         self.placed = known_placed(&self.names, &self.satellites, self.placed, index);
         Ok(())
     }
+}
+
+/// Whether the same stands after the columns of two epoch texts.
+fn has_identifiers_of(text: &[u8], other: &[u8]) -> bool {
+    after_columns(text, HEAD_WIDTH) == after_columns(other, HEAD_WIDTH)
 }
 
 /// Replaces a text by an epoch's text without the blanks at its end; after `AllocError` it is empty.

@@ -1,4 +1,4 @@
-use Rattle.std.proofs.Common.{◌≡◌, true, false, refl, Result, Ok, Err}
+use Rattle.std.proofs.Common.{◌≡◌, true, refl, Result, Ok, Err}
 use Rattle.std.specs.Result.{is_ok}
 use Rattle.crx_lines.specs.declared.fault.Fault.{Fault}
 use Rattle.crx_compact.specs.meaning.Sequences.{and_then}
@@ -7,7 +7,7 @@ use Rattle.crx_compact.proofs.incoming.Incoming.begin.Goals as goal
 
 pub invariant_of-self-in-Ok-read_epoch_line : goal.invariant_of-self-in-Ok-read_epoch_line
 invariant_of-self-in-Ok-read_epoch_line c = announced c.args.types.now c.args.before.now c.if-not-is_roomy.self-inside.next c.read_epoch_line.new.self
-    c.args.line.now c.read_epoch_line.new.satellites.items c.in-Ok-read_epoch_line.ensures.ok c.in-Ok-read_epoch_line.ensures.text
+    c.args.line.now c.read_epoch_line.new.satellites c.in-Ok-read_epoch_line.ensures.ok c.in-Ok-read_epoch_line.ensures.text
 
 -- what goes on from a good result is good
 still-good : {X Y : Type 0} (r : Result X Fault) (f : X → Y)

@@ -13,87 +13,87 @@ use Rattle.crx_compact.proofs.incoming.Incoming.take_line.Goals as goal
 pub returns-in_default-clause-ok : goal.returns-in_default-clause-ok
 returns-in_default-clause-ok c =
     let self = c.self.inside in
-    let state : c.args.self.now ≡ lines_so_far (Rows c.in-Rows.epoch) self.next self.count self.satellites.items =
+    let state : c.args.self.now ≡ lines_so_far (Rows c.in-Rows.epoch) self.next self.count self.satellites =
     sym c.self.view_is ∙ ap {B = Option OpenLines}
-    (λ (s : Stage). lines_so_far s self.next self.count self.satellites.items) c.in-Rows.is in
-    let none : slice_get self.satellites.items self.count ≡ None =
-    ap {B = Option Satellite} (λ (ss : List Satellite). slice_get ss self.count) (sym c.deref.ensures.value)
+    (λ (s : Stage). lines_so_far s self.next self.count self.satellites) c.in-Rows.is in
+    let none : slice_get self.satellites self.count ≡ None =
+    ap {B = Option Satellite} (λ (ss : List Satellite). slice_get ss self.count) (sym c.as_slice.ensures)
     ∙ sym c.in_default.ensures in
     ap {B = RawStep} (λ (o : Option OpenLines). step_after c.args.before.now o c.args.line.now) state
-    ∙ all-taken c.args.before.now self.next c.args.line.now self.count self.satellites.items c.in-Rows.epoch none
+    ∙ all-taken c.args.before.now self.next c.args.line.now self.count self.satellites c.in-Rows.epoch none
 
 pub next_row-requires-clause-wanted : goal.next_row-requires-clause-wanted
 next_row-requires-clause-wanted c =
     let self = c.self.inside in
-    let P : Stage → Type 0 = λ (s : Stage). AreLinesSoFar s self.next self.count self.satellites.items in
-    let rows : AreRowsSoFar c.in-Rows.epoch self.next self.count self.satellites.items =
+    let P : Stage → Type 0 = λ (s : Stage). AreLinesSoFar s self.next self.count self.satellites in
+    let rows : AreRowsSoFar c.in-Rows.epoch self.next self.count self.satellites =
     subst P c.in-Rows.is c.self.invariant in
-    let here : slice_get self.satellites.items self.count ≡ Some c.in-Some.satellite.now =
-    ap {B = Option Satellite} (λ (ss : List Satellite). slice_get ss self.count) (sym c.deref.ensures.value)
+    let here : slice_get self.satellites self.count ≡ Some c.in-Some.satellite.now =
+    ap {B = Option Satellite} (λ (ss : List Satellite). slice_get ss self.count) (sym c.as_slice.ensures)
     ∙ sym c.in-Some.ensures in
-    not-full self.next self.count self.satellites.items c.in-Rows.epoch c.in-Some.satellite.now rows here
+    not-full self.next self.count self.satellites c.in-Rows.epoch c.in-Some.satellite.now rows here
 
 pub next_row-requires-clause-new : goal.next_row-requires-clause-new
 next_row-requires-clause-new c =
     let self = c.self.inside in
-    let P : Stage → Type 0 = λ (s : Stage). AreLinesSoFar s self.next self.count self.satellites.items in
-    let rows : AreRowsSoFar c.in-Rows.epoch self.next self.count self.satellites.items =
+    let P : Stage → Type 0 = λ (s : Stage). AreLinesSoFar s self.next self.count self.satellites in
+    let rows : AreRowsSoFar c.in-Rows.epoch self.next self.count self.satellites =
     subst P c.in-Rows.is c.self.invariant in
-    let here : slice_get self.satellites.items self.count ≡ Some c.in-Some.satellite.now =
-    ap {B = Option Satellite} (λ (ss : List Satellite). slice_get ss self.count) (sym c.deref.ensures.value)
+    let here : slice_get self.satellites self.count ≡ Some c.in-Some.satellite.now =
+    ap {B = Option Satellite} (λ (ss : List Satellite). slice_get ss self.count) (sym c.as_slice.ensures)
     ∙ sym c.in-Some.ensures in
-    next-new self.next self.count self.satellites.items c.in-Rows.epoch c.in-Some.satellite.now rows here
+    next-new self.next self.count self.satellites c.in-Rows.epoch c.in-Some.satellite.now rows here
 
 pub invariant_of-self-in-Ok : goal.invariant_of-self-in-Ok
 invariant_of-self-in-Ok c =
     let self = c.self.inside in
-    let P : Stage → Type 0 = λ (s : Stage). AreLinesSoFar s self.next self.count self.satellites.items in
-    let rows : AreRowsSoFar c.in-Rows.epoch self.next self.count self.satellites.items =
+    let P : Stage → Type 0 = λ (s : Stage). AreLinesSoFar s self.next self.count self.satellites in
+    let rows : AreRowsSoFar c.in-Rows.epoch self.next self.count self.satellites =
     subst P c.in-Rows.is c.self.invariant in
-    let here : slice_get self.satellites.items self.count ≡ Some c.in-Some.satellite.now =
-    ap {B = Option Satellite} (λ (ss : List Satellite). slice_get ss self.count) (sym c.deref.ensures.value)
+    let here : slice_get self.satellites self.count ≡ Some c.in-Some.satellite.now =
+    ap {B = Option Satellite} (λ (ss : List Satellite). slice_get ss self.count) (sym c.as_slice.ensures)
     ∙ sym c.in-Some.ensures in
     rows-more c.args.before.now self.next c.next_row.new.next c.args.line.now self.count
-    self.satellites.items c.in-Rows.epoch c.next_row.new.epoch c.in-Some.satellite.now rows here c.in-Ok.ensures.ok
+    self.satellites c.in-Rows.epoch c.next_row.new.epoch c.in-Some.satellite.now rows here c.in-Ok.ensures.ok
 
 pub returns-in-Ok-clause-ok : goal.returns-in-Ok-clause-ok
 returns-in-Ok-clause-ok c =
     let self = c.self.inside in
-    let P : Stage → Type 0 = λ (s : Stage). AreLinesSoFar s self.next self.count self.satellites.items in
-    let rows : AreRowsSoFar c.in-Rows.epoch self.next self.count self.satellites.items =
+    let P : Stage → Type 0 = λ (s : Stage). AreLinesSoFar s self.next self.count self.satellites in
+    let rows : AreRowsSoFar c.in-Rows.epoch self.next self.count self.satellites =
     subst P c.in-Rows.is c.self.invariant in
-    let here : slice_get self.satellites.items self.count ≡ Some c.in-Some.satellite.now =
-    ap {B = Option Satellite} (λ (ss : List Satellite). slice_get ss self.count) (sym c.deref.ensures.value)
+    let here : slice_get self.satellites self.count ≡ Some c.in-Some.satellite.now =
+    ap {B = Option Satellite} (λ (ss : List Satellite). slice_get ss self.count) (sym c.as_slice.ensures)
     ∙ sym c.in-Some.ensures in
-    let state : c.args.self.now ≡ lines_so_far (Rows c.in-Rows.epoch) self.next self.count self.satellites.items =
+    let state : c.args.self.now ≡ lines_so_far (Rows c.in-Rows.epoch) self.next self.count self.satellites =
     sym c.self.view_is ∙ ap {B = Option OpenLines}
-    (λ (s : Stage). lines_so_far s self.next self.count self.satellites.items) c.in-Rows.is in
+    (λ (s : Stage). lines_so_far s self.next self.count self.satellites) c.in-Rows.is in
     ap {B = RawStep} (λ (o : Option OpenLines). step_after c.args.before.now o c.args.line.now) state
     ∙ row-taken c.args.before.now self.next c.next_row.new.next c.args.line.now self.count
-    self.satellites.items c.in-Rows.epoch c.next_row.new.epoch c.in-Some.satellite.now rows here c.in-Ok.ensures.ok
+    self.satellites c.in-Rows.epoch c.next_row.new.epoch c.in-Some.satellite.now rows here c.in-Ok.ensures.ok
 
 pub returns-in-Err-clause-err : goal.returns-in-Err-clause-err
 returns-in-Err-clause-err c =
     let self = c.self.inside in
-    let here : slice_get self.satellites.items self.count ≡ Some c.in-Some.satellite.now =
-    ap {B = Option Satellite} (λ (ss : List Satellite). slice_get ss self.count) (sym c.deref.ensures.value)
+    let here : slice_get self.satellites self.count ≡ Some c.in-Some.satellite.now =
+    ap {B = Option Satellite} (λ (ss : List Satellite). slice_get ss self.count) (sym c.as_slice.ensures)
     ∙ sym c.in-Some.ensures in
-    let state : lines_so_far (Rows c.in-Rows.epoch) self.next self.count self.satellites.items ≡ c.args.self.now =
-    ap {B = Option OpenLines} (λ (s : Stage). lines_so_far s self.next self.count self.satellites.items)
+    let state : lines_so_far (Rows c.in-Rows.epoch) self.next self.count self.satellites ≡ c.args.self.now =
+    ap {B = Option OpenLines} (λ (s : Stage). lines_so_far s self.next self.count self.satellites)
     (sym c.in-Rows.is) ∙ c.self.view_is in
     let P : Option OpenLines → Type 0 = λ o. (step_after c.args.before.now o c.args.line.now ≡ Faulty c.in-Err.fault)
     ⊎ (c.in-Err.fault ≡ OutOfMemory) in
     subst P state (row-refused c.args.before.now self.next c.args.line.now self.count
-    self.satellites.items c.in-Rows.epoch c.in-Some.satellite.now c.in-Err.fault here c.in-Err.ensures.err)
+    self.satellites c.in-Rows.epoch c.in-Some.satellite.now c.in-Err.fault here c.in-Err.ensures.err)
 
 pub returns-in-Err-clause-memory : goal.returns-in-Err-clause-memory
 returns-in-Err-clause-memory c = λ out.
     let self = c.self.inside in
-    let here : slice_get self.satellites.items self.count ≡ Some c.in-Some.satellite.now =
-    ap {B = Option Satellite} (λ (ss : List Satellite). slice_get ss self.count) (sym c.deref.ensures.value)
+    let here : slice_get self.satellites self.count ≡ Some c.in-Some.satellite.now =
+    ap {B = Option Satellite} (λ (ss : List Satellite). slice_get ss self.count) (sym c.as_slice.ensures)
     ∙ sym c.in-Some.ensures in
-    let state : lines_so_far (Rows c.in-Rows.epoch) self.next self.count self.satellites.items ≡ c.args.self.now =
-    ap {B = Option OpenLines} (λ (s : Stage). lines_so_far s self.next self.count self.satellites.items)
+    let state : lines_so_far (Rows c.in-Rows.epoch) self.next self.count self.satellites ≡ c.args.self.now =
+    ap {B = Option OpenLines} (λ (s : Stage). lines_so_far s self.next self.count self.satellites)
     (sym c.in-Rows.is) ∙ c.self.view_is in
     let P : Option OpenLines → Type 0 = λ o. (begins_epoch c.args.line.now ≡ false) × IfSome o (λ (lines : OpenLines). is_some lines.clock ≡ true)
     × (is_faulty (step_after c.args.before.now o c.args.line.now) ≡ false) in
@@ -101,5 +101,5 @@ returns-in-Err-clause-memory c = λ out.
       (c.in-Err.ensures.memory out).0,
       refl,
       row-good c.args.before.now self.next c.args.line.now self.count
-          self.satellites.items c.in-Rows.epoch c.in-Some.satellite.now here (c.in-Err.ensures.memory out).1,
+          self.satellites c.in-Rows.epoch c.in-Some.satellite.now here (c.in-Err.ensures.memory out).1,
     )
