@@ -190,8 +190,10 @@ def options(program):
     use = (TOP / "docs/USE.md").read_text(encoding="utf-8")
     manual = (TOP / "packaging/man/rnxcmp.1").read_text(encoding="utf-8").replace("\\-", "-")
     for tool in ("rnx2crx", "crx2rnx", "check"):
-        shown = subprocess.run([program, tool, "--help"], capture_output=True, text=True, timeout=60).stdout
-        for option in re.findall(r"(?<!\S)--?[a-z][\w-]*(?=,| )", shown.partition("Options:")[2].partition("\n\n")[0]):
+        shown = subprocess.run([program, tool, "-h"], capture_output=True, text=True, timeout=60).stdout
+        listed = re.findall(r"(?<!\S)--?[a-z][\w-]*(?=,| )", shown.partition("Options:")[2].partition("\n\n")[0])
+        wrong += [] if "--help" in listed else [f"the help of {tool} lists no options"]
+        for option in listed:
             told = {
                 "docs/USE.md": re.search(rf"^\| [^|]*`{option}\b[^|]*\| (all|[^|]*`{tool}`)", use, re.M),
                 "the manual page": re.search(rf"^\.B.* {option}\b", manual, re.M),
