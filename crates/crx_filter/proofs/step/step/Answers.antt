@@ -58,7 +58,8 @@ returns-in_ok-take_line-in-Ok-Some-clause-goes g c = λ r0 w0 m0 (lines : List I
     goes-by filter input then old new lines writer1 writer2 writer messages1 messages2 messages
     refl refl refl (λ xs ys a b. g.met.W.Sink.took_both w0 w1 w2 xs ys a b)
     refl refl refl (λ xs ys a b. g.met.M.Sink.took_both m0 m1 m2 xs ys a b)
-    running line number read (g.E.Engine.shows c.take_line.new.engine) _ (c.in_ok-take_line-in-Ok-Some.ensures.done lines shown)
+    running line number read (g.E.Engine.shows c.take_line.new.engine) _
+    (c.in_ok-take_line-in-Ok-Some.ensures.done lines shown)
 
 pub returns-in_err-take_line-in-Ok-Some-clause-stops : goal.returns-in_err-take_line-in-Ok-Some-clause-stops
 returns-in_err-take_line-in-Ok-Some-clause-stops g c = λ r0 w0 m0 (lines : List InputLine) shown running.
@@ -209,7 +210,8 @@ returns-in_err-take_overlong-in-LineTooLong-clause-stops g c = λ r0 w0 m0 (line
     let messages1 : Device = span g.M.Sink m0 m1 in
     let messages2 : Device = span g.M.Sink m1 m2 in
     let messages : Device = span g.M.Sink m0 m2 in
-    let p = err_from_is_err_and c.from_residual-in_err-take_overlong-in-LineTooLong.result c.from_residual-in_err-take_overlong-in-LineTooLong.ensures.1 in
+    let made = c.from_residual-in_err-take_overlong-in-LineTooLong in
+    let p = err_from_is_err_and made.result made.ensures.1 in
     rw (p.1, p.2) (inr (ends-by filter input then old new lines writer1 writer2 writer messages1 messages2 messages
     refl refl refl (λ xs ys a b. g.met.W.Sink.took_both w0 w1 w2 xs ys a b)
     refl refl refl (λ xs ys a b. g.met.M.Sink.took_both m0 m1 m2 xs ys a b)
@@ -252,7 +254,8 @@ returns-in_ok-take_line-in-Ok-Some-clause-farther g c =
     c.next_line.follows.holds-at-none.0 (λ e. (c.next_line.ensures.ended e).0) c.in-Ok-Some.line (c.in-Ok-Some.is
     ∙ ap Ok c.in-Ok-Some.field-0-is)
 
-pub returns-in_ok-take_overlong-in-LineTooLong-clause-farther : goal.returns-in_ok-take_overlong-in-LineTooLong-clause-farther
+pub returns-in_ok-take_overlong-in-LineTooLong-clause-farther :
+    goal.returns-in_ok-take_overlong-in-LineTooLong-clause-farther
 returns-in_ok-take_overlong-in-LineTooLong-clause-farther g c =
     let counts = λ (r : g.row.R.Denot). tally_of (g.R.Source.failures r) (g.R.Source.ends r) in
     overlong-lent (λ given. g.R.Source.gave c.args.reader.now given c.next_line.new.reader)

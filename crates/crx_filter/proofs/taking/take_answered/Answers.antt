@@ -43,7 +43,8 @@ returns-in_ok-take_once-in-Again-clause-done g c =
     refl refl refl (λ xs ys a b. g.met.W.Sink.took_both w0 w1 w2 xs ys a b)
     refl refl refl (λ xs ys a b. g.met.M.Sink.took_both m0 m1 m2 xs ys a b)
     first.notice first.next first.wrote first.reported (g.E.Engine.shows c.take_once.new.engine) _
-    (c.in_ok-take_once-in-Again.ensures.once lines (record { notice = first.notice; line = line } ∷ []) line first.shown refl taken)
+    (c.in_ok-take_once-in-Again.ensures.once lines
+    (record { notice = first.notice; line = line } ∷ []) line first.shown refl taken)
 
 pub returns-in_err-take_once-in-Again-clause-cut : goal.returns-in_err-take_once-in-Again-clause-cut
 returns-in_err-take_once-in-Again-clause-cut g c =
@@ -65,7 +66,8 @@ returns-in_err-take_once-in-Again-clause-cut g c =
     let first : IsAgain (filter.so_far lines) (filter.so_far (with_next lines line)) line
     (shows lines) writer1 messages1 [] = subst (λ (once : Once). IsOnce filter shows writer1 messages1 lines
     [] line once) c.in-Again.is (c.in_ok-warned.ensures.once filter lines [] line answers) in
-    let p = err_from_is_err_and c.from_residual-in_err-take_once-in-Again.result c.from_residual-in_err-take_once-in-Again.ensures.1 in
+    let made = c.from_residual-in_err-take_once-in-Again in
+    let p = err_from_is_err_and made.result made.ensures.1 in
     rw (p.1, p.2) (halted-twice filter then (c.respond.ensures.filter
     ∙ same) lines line writer1 writer2 writer messages1 messages2 messages
     refl refl refl (λ xs ys a b. g.met.W.Sink.took_both w0 w1 w2 xs ys a b)
