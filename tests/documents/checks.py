@@ -1,5 +1,6 @@
 """The documents against the sources: the pages and pictures that scripts make are those that they would make today, the picture of an
-epoch is what the program makes, and each clause, name of code, file and make target that a document names is there (see tests/run.py)."""
+epoch is what the program makes, each clause, name of code, file and make target that a document names is there, and the limits, faults and
+options of the program are those that texts beside it have (see tests/run.py)."""
 
 import re
 import subprocess
@@ -99,6 +100,111 @@ def figures():
     return [f"docs/pictures/speed.txt: bench/README.md has no {it}" for it in re.findall(r"[\d.]+", " ".join(bars)) if it not in cells]
 
 
+def numbers():
+    """The limits by their names, and what follows from them: how long the longest lines of an epoch are, and how many it has. FAULTS is how
+    many faults there are, EVERY the greatest N of -e."""
+    limits = (TOP / "crates/crx_lines/src/limits.rt").read_text(encoding="utf-8")
+    command = (TOP / "crates/rnxcmp/src/command.rt").read_text(encoding="utf-8")
+    found = {name: int(number) for name, number in re.findall(r"const (\w+): \w+ = ([\d_]+);", limits)}
+    return {
+        **found,
+        "INPUT_LIMIT": f"2^{found['INPUT_LIMIT'].bit_length() - 1}",
+        "LINES_OF_EPOCH": found["SATELLITES_LIMIT"] + 2,
+        "COMPACT_LINE": 18 * found["TYPES_LIMIT"],
+        "PRINTED_LINE": found["NAME_WIDTH"] + found["CELL_WIDTH"] * found["TYPES_LIMIT"],
+        "FAULTS": len(faults()),
+        "EVERY": int(re.search(r"range\(1\.\.=([\d_]+)\)", command)[1]),
+    }
+
+
+# Texts that have one of these numbers: the file, and phrases with the name in place of the number. Who changes a number changes these.
+STATED = {
+    "docs/FORMATS.md": (
+        "content of more than LINE_LIMIT bytes is fault 1", "| a content of more than LINE_LIMIT bytes |", "input of more than INPUT_LIMIT bytes",
+        "after the first INPUT_LIMIT |", "1 to TYPES_LIMIT (bound: profile)", "(0 to SATELLITES_LIMIT)", "1 to DIGITS_LIMIT digits",
+        "one digit from 0 to ORDER_LIMIT", "with the order WRITTEN_ORDER;", "orders from 0 to ORDER_LIMIT",
+    ),
+    "docs/DECISIONS.md": ("an input beyond INPUT_LIMIT bytes", "`-e` is from 1 to EVERY."),
+    "docs/GUARANTEES.md": (
+        "lines of at most LINE_LIMIT bytes", "grows past LINE_LIMIT bytes", "a code from 1 to FAULTS.", "stops after INPUT_LIMIT bytes",
+        "has at most INPUT_LIMIT bytes", "a byte past INPUT_LIMIT (2)", "at most INPUT_LIMIT bytes and the date",
+    ),
+    "docs/LIBRARY.md": (
+        "if the input has at most INPUT_LIMIT bytes and memory", "the input has at most INPUT_LIMIT bytes and the date", "and the input has at most INPUT_LIMIT bytes.",
+    ),
+    "docs/USE.md": ("N is from 1 to EVERY", "at most DATE_LIMIT bytes", "lists the FAULTS codes"),
+    "packaging/man/rnxcmp.1": (
+        "at most DATE_LIMIT bytes", "Limits: LINE_LIMIT bytes a line", "INPUT_LIMIT bytes of input", "TYPES_LIMIT types of a system",
+        "SATELLITES_LIMIT satellites of an epoch", "is from 1 to EVERY.", "N from 1 to EVERY",
+    ),
+    "packaging/completions/_rnxcmp": ("N from 1 to EVERY", "at most DATE_LIMIT bytes"),
+    "include/rnxcmp.h": (
+        "more than DATE_LIMIT bytes", "of faults, of FAULTS,", "ended the run, from 1 to FAULTS;", "isn't from 1 to FAULTS.", "at most INPUT_LIMIT.",
+        "more than INPUT_LIMIT,",
+    ),
+    "python/rnxcmp/_calls.py": ("number, from 1 to FAULTS;", "bad date: at most DATE_LIMIT characters", "line, at most DATE_LIMIT printable"),
+    "crates/crx_lines/src/fault.rt": ("in messages, from 1 to FAULTS.",),
+    "crates/crx_laws/src/compact_laws.rt": ("at most COMPACT_LINE bytes: TYPES_LIMIT codes",),
+    "crates/crx_laws/src/compact_reading.rt": ("at most SATELLITES_LIMIT satellites of TYPES_LIMIT types",),
+    "crates/crx_laws/src/filter_laws.rt": (
+        "at most SATELLITES_LIMIT rows", "at most TYPES_LIMIT values", "SATELLITES_LIMIT satellites of at most TYPES_LIMIT cells",
+        "at most LINES_OF_EPOCH lines, of at most LINE_LIMIT bytes each", "COMPACT_LINE bytes each in compact text", "PRINTED_LINE bytes each in RINEX",
+    ),
+    "crates/crx_laws/src/salvage.rt": ("at most LINE_LIMIT bytes",),
+    "crates/crx_engine/src/line_number.rt": ("at most INPUT_LIMIT lines",),
+    "crates/rnxcmp/src/command.rt": ("N from 1 to EVERY.", "at most EVERY", "at most DATE_LIMIT bytes"),
+    "crates/rnxcmp/src/job.rt": ("more than DATE_LIMIT bytes",),
+    "crates/rnxcmp/src/plan.rt": ("more than DATE_LIMIT bytes",),
+    "crates/rnxcmp_c/src/answer.rt": ("ended the run, from 1 to FAULTS;",),
+}
+
+
+def stated(file, phrases):
+    """The phrases that a file doesn't have, with the numbers for the names."""
+    text = re.sub(r"\s+(?://[/!] |\* )?", " ", (TOP / file).read_text(encoding="utf-8"))
+    found = numbers()
+    said = [re.sub("|".join(sorted(found, key=len, reverse=True)), lambda name: str(found[name[0]]), phrase) for phrase in phrases]
+    return [f"{file} doesn't say: {phrase}" for phrase in said if phrase not in text]
+
+
+def faults():
+    """The words of the faults by their numbers."""
+    source = (TOP / "crates/crx_lines/src/fault.rt").read_text(encoding="utf-8")
+    words = dict(re.findall(r'Fault::(\w+) => "([^"]*)",', source))
+    return {int(number): words[name] for name, number in re.findall(r"Fault::(\w+) => (\d+),", source)}
+
+
+def faults_listed():
+    """Whether docs/FORMATS.md and the manual page list the faults as they are."""
+    table = dict(re.findall(r"^\| (\d+) \| `([^`]*)` \|", (TOP / "docs/FORMATS.md").read_text(encoding="utf-8").partition("| Code | Text | Where")[2], re.M))
+    manual = " ".join((TOP / "packaging/man/rnxcmp.1").read_text(encoding="utf-8").split())
+    wrong = [] if table == {str(number): words for number, words in faults().items()} else ["docs/FORMATS.md has another table"]
+    listed = "Codes: " + ", ".join(f"{number} {words}" for number, words in faults().items()) + "."
+    return wrong + ([] if listed in manual else ["the manual page has another list"])
+
+
+def options(program):
+    """The options that a subcommand's help lists and that the page of use, the manual page or the completions don't have with it."""
+    wrong = []
+    bash, fish, zsh = ((TOP / "packaging/completions" / name).read_text(encoding="utf-8") for name in ("rnxcmp.bash", "rnxcmp.fish", "_rnxcmp"))
+    use = (TOP / "docs/USE.md").read_text(encoding="utf-8")
+    manual = (TOP / "packaging/man/rnxcmp.1").read_text(encoding="utf-8").replace("\\-", "-")
+    for tool in ("rnx2crx", "crx2rnx", "check"):
+        shown = subprocess.run([program, tool, "-h"], capture_output=True, text=True, timeout=60).stdout
+        listed = re.findall(r"(?<!\S)--?[a-z][\w-]*(?=,| )", shown.partition("Options:")[2].partition("\n\n")[0])
+        wrong += [] if "--help" in listed else [f"the help of {tool} lists no options"]
+        for option in listed:
+            told = {
+                "docs/USE.md": re.search(rf"^\| [^|]*`{option}\b[^|]*\| (all|[^|]*`{tool}`)", use, re.M),
+                "the manual page": re.search(rf"^\.B.* {option}\b", manual, re.M),
+                "rnxcmp.bash": re.search(rf"^ +{tool}\).*\n.*-W '[^']*{option}\b", bash, re.M),
+                "rnxcmp.fish": re.search(rf"-(s|l) {option.lstrip('-')} ", fish),
+                "_rnxcmp": re.search(rf"_rnxcmp_{tool}\(\) \{{[^}}]*?{option}\b", zsh),
+            }
+            wrong += [f"{where} doesn't have {option} of {tool}" for where, found in told.items() if not found]
+    return wrong
+
+
 def definitions():
     """Whether README.md says how many definitions docs/READING.md lists."""
     count, lines = re.search(r"All of them are (\d+) definitions of (\d+) lines", (TOP / "docs/READING.md").read_text(encoding="utf-8")).groups()
@@ -124,6 +230,10 @@ def checks(program):
     yield "docs/pictures/epoch.txt", lambda: example(program)
     yield "docs/pictures/speed.txt", figures
     yield "README.md: definitions", definitions
+    yield "faults", faults_listed
+    yield "options", lambda: options(program)
+    for file, phrases in STATED.items():
+        yield f"{file}: numbers", lambda file=file, phrases=phrases: stated(file, phrases)
     known = contracts()
     for page in PAGES:
         if not (TOP / page).exists():

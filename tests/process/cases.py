@@ -103,7 +103,8 @@ def is_write_failed(out):
 def is_dated_by_the_moment(out):
     want = text(K[0], "@", *H).split(b"@")
     line = out[len(want[0]):len(out) - len(want[1])]
-    date = rb"RNX2CRX profile 1\.0 {21}[0-3][0-9]-[A-Z][a-z][a-z]-[0-9][0-9] [0-2][0-9]:[0-5][0-9] {5}CRINEX PROG / DATE"
+    name, label = (re.escape(part.encode()) for part in (K[1][:40], K[1][60:]))
+    date = name + rb"[0-3][0-9]-[A-Z][a-z][a-z]-[0-9][0-9] [0-2][0-9]:[0-5][0-9] {5}" + label
     return out.startswith(want[0]) and out.endswith(want[1]) and re.fullmatch(date, line) is not None
 
 

@@ -14,9 +14,8 @@ pub(crate) fn records_announced(line: &[u8]) -> Result<usize, Fault>
         (λ count. records_in line.now ≡ Some count)
         (λ fault. (records_in line.now ≡ None) × (fault ≡ Fault.BadEpoch)) }
 {
-    match Head::read(line) {
-        Ok(Head::Event { count, .. }) => Ok(count),
-        Ok(Head::Epoch(_)) => Err(Fault::BadEpoch),
-        Err(fault) => Err(fault),
+    match Head::read(line)? {
+        Head::Event { count, .. } => Ok(count),
+        Head::Epoch(_) => Err(Fault::BadEpoch),
     }
 }

@@ -123,9 +123,7 @@ impl RinexReader {
         ensures same_types { OnErr result (self.new.types ≡ self.old.types) }
         ensures same_epoch { OnErr result (self.new.epoch ≡ self.old.epoch) }
     {
-        if let Err(fault) = accept_header_line(&mut self.types, is_first, line) {
-            return Err(fault);
-        }
+        accept_header_line(&mut self.types, is_first, line)?;
         self.stage = after_header_line(line);
         Ok(RinexStep::Header { is_first })
     }
@@ -142,9 +140,7 @@ impl RinexReader {
         ensures same_types { OnErr result (self.new.types ≡ self.old.types) }
         ensures same_epoch { OnErr result (self.new.epoch ≡ self.old.epoch) }
     {
-        if let Err(fault) = accept_record(&mut self.types, counted, line) {
-            return Err(fault);
-        }
+        accept_record(&mut self.types, counted, line)?;
         self.stage = with_records_left(left.saturating_sub(1), counted);
         Ok(RinexStep::Record)
     }
@@ -162,13 +158,12 @@ impl RinexReader {
         ensures same_types { OnErr result (self.new.types ≡ self.old.types) }
         ensures same_epoch { OnErr result (self.new.epoch ≡ self.old.epoch) }
     {
-        match Head::read(line) {
-            Ok(Head::Event { count, .. }) => {
+        match Head::read(line)? {
+            Head::Event { count, .. } => {
                 self.stage = with_records_left(count, counts_types(line));
                 Ok(RinexStep::Event)
             }
-            Ok(Head::Epoch(head)) => Ok(self.begin_epoch(head)),
-            Err(fault) => Err(fault),
+            Head::Epoch(head) => Ok(self.begin_epoch(head)),
         }
     }
 
@@ -210,9 +205,7 @@ impl RinexReader {
         let Some(epoch) = &mut self.epoch else {
             unreachable!()
         };
-        if let Err(fault) = epoch.read_row(&self.types, line) {
-            return Err(fault);
-        }
+        epoch.read_row(&self.types, line)?;
         if epoch.is_full() {
             self.stage = Stage::Between;
             return Ok(RinexStep::Epoch);

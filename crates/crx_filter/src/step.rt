@@ -56,16 +56,10 @@ pub(crate) fn step<E: Engine, R: Source, W: Sink, M: Sink>(
         (reading input.new) lines halt) }
 {
     match input.next_line(reader) {
-        Ok(Some(line)) => match take_line(engine, writer, messages, line) {
-            Ok(warned) => Ok(Some(warned)),
-            Err(halt) => Err(halt),
-        },
+        Ok(Some(line)) => Ok(Some(take_line(engine, writer, messages, line)?)),
         Ok(None) => Ok(None),
         Err(at) => match at.fault {
-            Fault::LineTooLong => match take_overlong(engine, writer, messages, at.line) {
-                Ok(warned) => Ok(Some(warned)),
-                Err(halt) => Err(halt),
-            },
+            Fault::LineTooLong => Ok(Some(take_overlong(engine, writer, messages, at.line)?)),
             _ => Err(Halt::Fault(at)),
         },
     }

@@ -11,6 +11,7 @@ ghost use Rattle.crx_rinex.specs.meaning.Printing.{lines_text};
 ghost use Rattle.crx_engine.specs.meaning.Messages.{warning_text, notices_text};
 ghost use Rattle.crx_engine.specs.Engines.{EngineAnswers, Awaited, IsAwaited, awaited_notices as warnings_awaited, Concludes, IsDrainedAfter, taken_after};
 ghost use Rattle.crx_engine.specs.meaning.Filters.{with_next};
+ghost use Rattle.crx_filter.specs.declared.taking.Halt.TheVariants as halts;
 ghost use Rattle.crx_filter.specs.Taking.{TakenIs, number_taken, is_warning, step_notices, EndedBefore, IsOnce, IsHalted, IsDone, IsCut};
 ghost use Rattle.crx_filter.specs.meaning.Spans.{span};
 
@@ -28,6 +29,14 @@ pub enum Halt {
     Unwritten,
     /// A warning couldn't be written.
     Unreported,
+}
+
+impl From<At> for Halt {
+    ghost from_gives = { λ at halt. halt ≡ halts.Fault at };
+
+    fn from(at: At) -> Halt {
+        Halt::Fault(at)
+    }
 }
 
 /// A line of the input as it was taken.
@@ -123,10 +132,10 @@ fn settle<E: Engine, W: Sink, M: Sink>(
             Ok(()) => Ok(false),
             Err(_) => Err(Halt::Unwritten),
         },
-        Step::Warned { notice, .. } => match warn(messages, notice) {
-            Ok(()) => Ok(true),
-            Err(halt) => Err(halt),
-        },
+        Step::Warned { notice, .. } => {
+            warn(messages, notice)?;
+            Ok(true)
+        }
     }
 }
 
@@ -158,10 +167,7 @@ fn respond<E: Engine, W: Sink, M: Sink>(
         (span M.Sink messages.old messages.new)
         (warnings_awaited earlier) halt) }
 {
-    let step = match answer {
-        Ok(step) => step,
-        Err(at) => return Err(Halt::Fault(at)),
-    };
+    let step = answer?;
     if let Step::Quiet = step {
         return Ok(Once::Done(false));
     }
@@ -244,13 +250,12 @@ fn take_answered<E: Engine, W: Sink, M: Sink>(
         (span M.Sink messages.old messages.new)
         halt) }
 {
-    match respond(engine, writer, messages, answer) {
-        Ok(Once::Done(warned)) => Ok(warned),
-        Ok(Once::Again) => match take_once(engine, writer, messages, taken) {
-            Ok(_) => Ok(true),
-            Err(halt) => Err(halt),
-        },
-        Err(halt) => Err(halt),
+    match respond(engine, writer, messages, answer)? {
+        Once::Done(warned) => Ok(warned),
+        Once::Again => {
+            take_once(engine, writer, messages, taken)?;
+            Ok(true)
+        }
     }
 }
 
@@ -348,8 +353,6 @@ pub fn take_end<E: Engine, W: Sink, M: Sink>(
         (span M.Sink messages.old messages.new)
         [] halt) }
 {
-    match engine.end() {
-        Ok(step) => settle(engine, writer, messages, step),
-        Err(at) => Err(Halt::Fault(at)),
-    }
+    let step = engine.end()?;
+    settle(engine, writer, messages, step)
 }

@@ -150,9 +150,7 @@ impl Epoch {
         let name = identifier(line, 1);
         if self.count < self.rows.len() && self.names.has_at(self.count, name) {
             let row = &mut self.rows[self.count];
-            if let Err(fault) = row.read_named(types, line, name) {
-                return Err(fault);
-            }
+            row.read_named(types, line, name)?;
             self.count += 1;
             return Ok(());
         }
@@ -185,9 +183,7 @@ impl Epoch {
             };
         }
         let row = &mut self.rows[self.count];
-        if let Err(fault) = row.read_again(types, line) {
-            return Err(fault);
-        }
+        row.read_again(types, line)?;
         match self.names.put(self.count, row.name()) {
             Ok(true) => {
                 self.count += 1;

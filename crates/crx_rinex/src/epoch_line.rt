@@ -135,10 +135,7 @@ impl Head {
                 None => Err(Fault::BadEpoch),
             };
         }
-        match observation_head(line) {
-            Ok(head) => Ok(Head::Epoch(head)),
-            Err(fault) => Err(fault),
-        }
+        Ok(Head::Epoch(observation_head(line)?))
     }
 }
 

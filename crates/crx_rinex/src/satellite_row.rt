@@ -69,14 +69,12 @@ impl SatRow {
         let Ok(mut flags) = vec![in alloc; b' '; 2 * m] else {
             return Err(Fault::OutOfMemory);
         };
-        match read_cells(line, &mut values, &mut flags) {
-            Ok(()) => Ok(SatRow {
-                name: identifier(line, 1),
-                values,
-                flags,
-            }),
-            Err(fault) => Err(fault),
-        }
+        read_cells(line, &mut values, &mut flags)?;
+        Ok(SatRow {
+            name: identifier(line, 1),
+            values,
+            flags,
+        })
     }
 
     /// Reads another satellite line into the row, with the meaning and the faults of [`SatRow::read`], and then `OutOfMemory`:
@@ -122,9 +120,7 @@ impl SatRow {
         let Some(count) = types_of_satellite(types, line) else {
             return Err(Fault::BadSatellite);
         };
-        if let Err(fault) = resize_for(&mut self.values, &mut self.flags, count, line) {
-            return Err(fault);
-        }
+        resize_for(&mut self.values, &mut self.flags, count, line)?;
         if let Err(fault) = read_cells(line, &mut self.values, &mut self.flags) {
             self.values.fill(None);
             self.flags.fill(b' ');

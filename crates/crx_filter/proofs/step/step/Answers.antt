@@ -1,4 +1,5 @@
 use Rattle.std.proofs.Common.{◌≡◌, inl, inr, ℕ, ◌+◌, List, Ok, refl, sym, ap, subst, ◌∙◌}
+use Rattle.std.proofs.lemmas.Result.{err_from_is_err_and}
 use Rattle.crx_lines.specs.meaning.Devices.{tally_of}
 use Rattle.crx_lines.specs.meaning.Lines.{InputLine}
 use Rattle.crx_lines.specs.Readers.{reading}
@@ -22,8 +23,8 @@ take_overlong-requires-clause-next g c =
     (λ e. (c.next_line.ensures.ended e).0) c.in-Err.at c.in-Err.is c.in-LineTooLong.is
     ∙ ap (λ n. n + 1) c.requires.next
 
-pub returns-in-Ok-clause-goes : goal.returns-in-Ok-clause-goes
-returns-in-Ok-clause-goes g c = λ r0 w0 m0 (lines : List InputLine) shown running.
+pub returns-in_ok-take_line-in-Ok-Some-clause-goes : goal.returns-in_ok-take_line-in-Ok-Some-clause-goes
+returns-in_ok-take_line-in-Ok-Some-clause-goes g c = λ r0 w0 m0 (lines : List InputLine) shown running.
     let filter = g.E.Engine.filter c.args.engine.now in
     let r1 = c.args.reader.now in
     let r2 = c.next_line.new.reader in
@@ -57,10 +58,11 @@ returns-in-Ok-clause-goes g c = λ r0 w0 m0 (lines : List InputLine) shown runni
     goes-by filter input then old new lines writer1 writer2 writer messages1 messages2 messages
     refl refl refl (λ xs ys a b. g.met.W.Sink.took_both w0 w1 w2 xs ys a b)
     refl refl refl (λ xs ys a b. g.met.M.Sink.took_both m0 m1 m2 xs ys a b)
-    running line number read (g.E.Engine.shows c.take_line.new.engine) c.in-Ok.warned (c.in-Ok.ensures.done lines shown)
+    running line number read (g.E.Engine.shows c.take_line.new.engine) _
+    (c.in_ok-take_line-in-Ok-Some.ensures.done lines shown)
 
-pub returns-in-Err-take_line-clause-stops : goal.returns-in-Err-take_line-clause-stops
-returns-in-Err-take_line-clause-stops g c = λ r0 w0 m0 (lines : List InputLine) shown running.
+pub returns-in_err-take_line-in-Ok-Some-clause-stops : goal.returns-in_err-take_line-in-Ok-Some-clause-stops
+returns-in_err-take_line-in-Ok-Some-clause-stops g c = λ r0 w0 m0 (lines : List InputLine) shown running.
     let filter = g.E.Engine.filter c.args.engine.now in
     let r1 = c.args.reader.now in
     let r2 = c.next_line.new.reader in
@@ -91,10 +93,11 @@ returns-in-Err-take_line-clause-stops g c = λ r0 w0 m0 (lines : List InputLine)
     let messages1 : Device = span g.M.Sink m0 m1 in
     let messages2 : Device = span g.M.Sink m1 m2 in
     let messages : Device = span g.M.Sink m0 m2 in
-    inr (ends-by filter input then old new lines writer1 writer2 writer messages1 messages2 messages
+    let p = err_from_is_err_and c.from_residual.result c.from_residual.ensures.1 in
+    rw (p.1, p.2) (inr (ends-by filter input then old new lines writer1 writer2 writer messages1 messages2 messages
     refl refl refl (λ xs ys a b. g.met.W.Sink.took_both w0 w1 w2 xs ys a b)
     refl refl refl (λ xs ys a b. g.met.M.Sink.took_both m0 m1 m2 xs ys a b)
-    running line number read c.in-Err-take_line.halt (c.in-Err-take_line.ensures.cut lines shown))
+    running line number read _ (c.in_err-take_line-in-Ok-Some.ensures.cut lines shown)))
 
 pub returns-in-Ok-None-clause-goes : goal.returns-in-Ok-None-clause-goes
 returns-in-Ok-None-clause-goes g c = λ r0 w0 m0 (lines : List InputLine) shown running.
@@ -133,8 +136,8 @@ returns-in-Ok-None-clause-goes g c = λ r0 w0 m0 (lines : List InputLine) shown 
       ended = over.1;
     }
 
-pub returns-in-Ok-take_overlong-clause-goes : goal.returns-in-Ok-take_overlong-clause-goes
-returns-in-Ok-take_overlong-clause-goes g c = λ r0 w0 m0 (lines : List InputLine) shown running.
+pub returns-in_ok-take_overlong-in-LineTooLong-clause-goes : goal.returns-in_ok-take_overlong-in-LineTooLong-clause-goes
+returns-in_ok-take_overlong-in-LineTooLong-clause-goes g c = λ r0 w0 m0 (lines : List InputLine) shown running.
     let filter = g.E.Engine.filter c.args.engine.now in
     let r1 = c.args.reader.now in
     let r2 = c.next_line.new.reader in
@@ -170,11 +173,11 @@ returns-in-Ok-take_overlong-clause-goes g c = λ r0 w0 m0 (lines : List InputLin
     goes-by filter input then old new lines writer1 writer2 writer messages1 messages2 messages
     refl refl refl (λ xs ys a b. g.met.W.Sink.took_both w0 w1 w2 xs ys a b)
     refl refl refl (λ xs ys a b. g.met.M.Sink.took_both m0 m1 m2 xs ys a b)
-    running line number read (g.E.Engine.shows c.take_overlong.new.engine) c.in-Ok-take_overlong.warned
-    (c.in-Ok-take_overlong.ensures.done lines line shown taken)
+    running line number read (g.E.Engine.shows c.take_overlong.new.engine) _
+    (c.in_ok-take_overlong-in-LineTooLong.ensures.done lines line shown taken)
 
-pub returns-in-Err-take_overlong-clause-stops : goal.returns-in-Err-take_overlong-clause-stops
-returns-in-Err-take_overlong-clause-stops g c = λ r0 w0 m0 (lines : List InputLine) shown running.
+pub returns-in_err-take_overlong-in-LineTooLong-clause-stops : goal.returns-in_err-take_overlong-in-LineTooLong-clause-stops
+returns-in_err-take_overlong-in-LineTooLong-clause-stops g c = λ r0 w0 m0 (lines : List InputLine) shown running.
     let filter = g.E.Engine.filter c.args.engine.now in
     let r1 = c.args.reader.now in
     let r2 = c.next_line.new.reader in
@@ -207,10 +210,12 @@ returns-in-Err-take_overlong-clause-stops g c = λ r0 w0 m0 (lines : List InputL
     let messages1 : Device = span g.M.Sink m0 m1 in
     let messages2 : Device = span g.M.Sink m1 m2 in
     let messages : Device = span g.M.Sink m0 m2 in
-    inr (ends-by filter input then old new lines writer1 writer2 writer messages1 messages2 messages
+    let made = c.from_residual-in_err-take_overlong-in-LineTooLong in
+    let p = err_from_is_err_and made.result made.ensures.1 in
+    rw (p.1, p.2) (inr (ends-by filter input then old new lines writer1 writer2 writer messages1 messages2 messages
     refl refl refl (λ xs ys a b. g.met.W.Sink.took_both w0 w1 w2 xs ys a b)
     refl refl refl (λ xs ys a b. g.met.M.Sink.took_both m0 m1 m2 xs ys a b)
-    running line number read c.in-Err-take_overlong.halt (c.in-Err-take_overlong.ensures.cut lines line shown taken))
+    running line number read _ (c.in_err-take_overlong-in-LineTooLong.ensures.cut lines line shown taken)))
 
 pub returns-in_default-clause-stops : goal.returns-in_default-clause-stops
 returns-in_default-clause-stops g c = λ r0 w0 m0 (lines : List InputLine) shown running.
@@ -240,8 +245,8 @@ returns-in_default-clause-stops g c = λ r0 w0 m0 (lines : List InputLine) shown
       },
     )
 
-pub returns-in-Ok-clause-farther : goal.returns-in-Ok-clause-farther
-returns-in-Ok-clause-farther g c =
+pub returns-in_ok-take_line-in-Ok-Some-clause-farther : goal.returns-in_ok-take_line-in-Ok-Some-clause-farther
+returns-in_ok-take_line-in-Ok-Some-clause-farther g c =
     let counts = λ (r : g.row.R.Denot). tally_of (g.R.Source.failures r) (g.R.Source.ends r) in
     line-lent (λ given. g.R.Source.gave c.args.reader.now given c.next_line.new.reader)
     (g.R.Source.at_end c.next_line.new.reader) (counts c.args.reader.now) (counts c.next_line.new.reader)
@@ -249,8 +254,9 @@ returns-in-Ok-clause-farther g c =
     c.next_line.follows.holds-at-none.0 (λ e. (c.next_line.ensures.ended e).0) c.in-Ok-Some.line (c.in-Ok-Some.is
     ∙ ap Ok c.in-Ok-Some.field-0-is)
 
-pub returns-in-Ok-take_overlong-clause-farther : goal.returns-in-Ok-take_overlong-clause-farther
-returns-in-Ok-take_overlong-clause-farther g c =
+pub returns-in_ok-take_overlong-in-LineTooLong-clause-farther :
+    goal.returns-in_ok-take_overlong-in-LineTooLong-clause-farther
+returns-in_ok-take_overlong-in-LineTooLong-clause-farther g c =
     let counts = λ (r : g.row.R.Denot). tally_of (g.R.Source.failures r) (g.R.Source.ends r) in
     overlong-lent (λ given. g.R.Source.gave c.args.reader.now given c.next_line.new.reader)
     (g.R.Source.at_end c.next_line.new.reader) (counts c.args.reader.now) (counts c.next_line.new.reader)

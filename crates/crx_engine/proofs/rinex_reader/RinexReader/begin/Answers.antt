@@ -13,22 +13,22 @@ event-phase : (line : List ℕ) (count : ℕ) (counted : Bool)
     → with_records_left {O = OpenEpoch} count counted ≡ with_records_left (records_announced line) (counts_types line)
 event-phase line count counted is same = rw (is, same) refl
 
-pub returns-in-Ok-Event-clause-takes : goal.returns-in-Ok-Event-clause-takes
-returns-in-Ok-Event-clause-takes c = λ (kept : Written).
+pub returns-in-Event-clause-takes : goal.returns-in-Event-clause-takes
+returns-in-Event-clause-takes c = λ (kept : Written).
     let self = c.args.self.now in
     let line = c.args.line.now in
     record {
-      unit_made = begin-made self line kept c.requires.stage ∙ event-made self.types line _ c.in-Ok-Event.count
-          (c.in-Ok-Event.ensures ∙ ap (λ (h : Head). Ok (head_line h)) c.in-Ok-Event.field-0-is);
-      phase_then = c.with_records_left-self.ensures.rinex _ ∙ event-phase c.args.line.now c.in-Ok-Event.count
-          c.counts_types.result (event-counts c.args.line.now _ c.in-Ok-Event.count (c.in-Ok-Event.ensures
-          ∙ ap (λ (h : Head). Ok (head_line h)) c.in-Ok-Event.field-0-is)) c.counts_types.ensures;
+      unit_made = begin-made self line kept c.requires.stage ∙ event-made self.types line _ c.in-Event.count
+          (c.in_ok-count.ensures ∙ ap (λ (h : Head). Ok (head_line h)) c.in-Event.is);
+      phase_then = c.with_records_left-self.ensures.rinex _ ∙ event-phase c.args.line.now c.in-Event.count
+          c.counts_types.result (event-counts c.args.line.now _ c.in-Event.count (c.in_ok-count.ensures
+          ∙ ap (λ (h : Head). Ok (head_line h)) c.in-Event.is)) c.counts_types.ensures;
       types_then = refl;
     }
 
-pub returns-in-Ok-Epoch-clause-takes : goal.returns-in-Ok-Epoch-clause-takes
-returns-in-Ok-Epoch-clause-takes c = λ (kept : Written).
-    begun-taken c.args.self.now c.begin_epoch.new.self c.args.line.now kept c.in-Ok-Epoch.head c.begin_epoch.result
-    c.requires.stage (c.in-Ok-Epoch.ensures ∙ ap (λ (h : Head). Ok (head_line h)) c.in-Ok-Epoch.field-0-is)
+pub returns-in-Epoch-clause-takes : goal.returns-in-Epoch-clause-takes
+returns-in-Epoch-clause-takes c = λ (kept : Written).
+    begun-taken c.args.self.now c.begin_epoch.new.self c.args.line.now kept c.in-Epoch.head c.begin_epoch.result
+    c.requires.stage (c.in_ok-count.ensures ∙ ap (λ (h : Head). Ok (head_line h)) c.in-Epoch.is)
     c.begin_epoch.ensures.counted c.begin_epoch.ensures.sound
     c.begin_epoch.ensures.held c.begin_epoch.ensures.types c.begin_epoch.ensures.stage c.begin_epoch.ensures.value

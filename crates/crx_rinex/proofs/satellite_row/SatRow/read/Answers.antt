@@ -15,7 +15,7 @@ invariant_of-result c =
     sound-written c.identifier.result c.read_cells.new.values
     c.in-Ok.values.items c.read_cells.new.flags c.in-Ok-vec.flags.items m c.in-Ok.values.len c.in-Ok-vec.flags.len
     (ap is_identifier c.identifier.ensures ∙ c.in-Some.ensures.named) c.in-Some.ensures.allowed
-    values flags values_len flags_len c.in-Ok-read_cells.ensures.ranged c.in-Ok-read_cells.ensures.kept
+    values flags values_len flags_len c.in_ok-read_cells.ensures.ranged c.in_ok-read_cells.ensures.kept
 
-pub returns-in-Ok-read_cells-clause-sound : goal.returns-in-Ok-read_cells-clause-sound
-returns-in-Ok-read_cells-clause-sound c = invariant_of-result c
+pub returns-clause-sound : goal.returns-clause-sound
+returns-clause-sound c = invariant_of-result c

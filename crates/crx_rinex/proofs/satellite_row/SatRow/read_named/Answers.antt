@@ -3,22 +3,22 @@ use Rattle.crx_rinex.specs.meaning.SatelliteLines.{is_identifier, IsSoundRow}
 use Rattle.crx_rinex.proofs.Cells.{sound-written, sound-blank}
 use Rattle.crx_rinex.proofs.satellite_row.SatRow.read_named.Goals as goal
 
-pub invariant_of-self-in-Err-read_cells : goal.invariant_of-self-in-Err-read_cells
-invariant_of-self-in-Err-read_cells c =
+pub invariant_of-self-in-Err : goal.invariant_of-self-in-Err
+invariant_of-self-in-Err c =
     let m = c.in-Some.count in
-    let sized = c.in_default-resize_for.ensures.ok in
+    let sized = c.in_ok-resize_for.ensures.ok in
     let values_len : c.resize_for.new.values.len
     ≡ m = let a = sized.0 in let b = c.resize_for.new.values.ok.0 in omega (arith, a, b) in
     let flags_len : c.resize_for.new.flags.len
     ≡ 2 * m = let a = sized.1 in let b = c.resize_for.new.flags.ok.0 in omega (arith, a, b) in
     let values : c.fill.new.self.items ≡ replicate {A = Option ℤ} m None = search rules
     ∙ ap (λ n. replicate {A = Option ℤ} n None) values_len in
-    let flags : c.fill-in-Err-read_cells.new.self.items ≡ replicate {A = ℕ} (2 * m) 32 =
-    c.fill-in-Err-read_cells.ensures.items (λ y h. h) ∙ ap (λ n. replicate {A = ℕ} n 32) flags_len in
+    let flags : c.fill-in-Err.new.self.items ≡ replicate {A = ℕ} (2 * m) 32 =
+    c.fill-in-Err.ensures.items (λ y h. h) ∙ ap (λ n. replicate {A = ℕ} n 32) flags_len in
     subst (λ (vs : List (Option ℤ)). IsSoundRow (record {
       name = c.self.inside.name;
       values = vs;
-      flags = c.fill-in-Err-read_cells.new.self.items;
+      flags = c.fill-in-Err.new.self.items;
     })) (sym values)
     (subst (λ (fs : List ℕ). IsSoundRow
     (record { name = c.self.inside.name; values = replicate {A = Option ℤ} m None; flags = fs })) (sym flags)
@@ -27,7 +27,7 @@ invariant_of-self-in-Err-read_cells c =
 pub invariant_of-self-2 : goal.invariant_of-self-2
 invariant_of-self-2 c =
     let m = c.in-Some.count in
-    let sized = c.in_default-resize_for.ensures.ok in
+    let sized = c.in_ok-resize_for.ensures.ok in
     let values_len : c.resize_for.new.values.len
     ≡ m = let a = sized.0 in let b = c.resize_for.new.values.ok.0 in omega (arith, a, b) in
     let flags_len : c.resize_for.new.flags.len
