@@ -25,6 +25,7 @@ pub(crate) struct Work {
 }
 
 /// Takes the lines of an input one after another, and its end.
+#[inline(never)]
 pub(crate) fn take_all<E: Engine, R: Source, W: Sink, M: Sink>(
     engine: &mut E,
     input: &mut LineReader,
