@@ -329,10 +329,11 @@ def check_no_memory(program, work):
 
 
 def check_handles_without_memory(program, work):
-    """With each growth of memory refused in turn, a handle's run ends with code 22, and nothing leaks; else it ends as the program's."""
+    """With each growth of memory refused in turn, a handle's run ends with status 1 and code 22, its texts are front parts of the whole
+    ones, and nothing leaks; else it ends as the program's."""
     if not shutil.which("gcc"):
         return "there is no gcc"
-    command = ["gcc", "-g", "-Wl,--wrap=malloc,--wrap=realloc", "-I", str(LIBRARY), str(HERE / "refused.c"), str(LIBRARY / "librnxcmp.a"), "-o", str(work / "refused")]
+    command = ["gcc", "-g", "-Wl,--wrap=malloc,--wrap=realloc,--wrap=free", "-I", str(LIBRARY), str(HERE / "refused.c"), str(LIBRARY / "librnxcmp.a"), "-o", str(work / "refused")]
     for sanitizers in (["-fsanitize=address,undefined"], []):
         built = subprocess.run(command + sanitizers, capture_output=True, text=True, timeout=60)
         if built.returncode == 0:
@@ -342,8 +343,8 @@ def check_handles_without_memory(program, work):
     (work / "compact").write_bytes(run_program(program, Call(0, SAMPLE.read_bytes())).output)
     (work / "faulty").write_bytes(with_strange_epochs(SAMPLE.read_bytes()))
     wrong = []
-    for kind, file, code in (("0", SAMPLE, 0), ("1", work / "compact", 0), ("2", SAMPLE, 0), ("0", work / "faulty", 13)):
-        run = subprocess.run([work / "refused", kind, file], capture_output=True, text=True, timeout=60)
+    for kind, skip, file, code in (("0", "0", SAMPLE, 0), ("1", "0", work / "compact", 0), ("2", "0", SAMPLE, 0), ("0", "0", work / "faulty", 13), ("0", "1", work / "faulty", 0)):
+        run = subprocess.run([work / "refused", kind, skip, file], capture_output=True, text=True, timeout=60)
         if run.returncode != 0 or int(run.stdout.split()[0]) < 3 or int(run.stdout.split()[1]) != code:
             wrong.append(f"{KINDS[int(kind)]} {file.name}: {run.returncode} {run.stdout} {run.stderr[-500:]}")
     return wrong

@@ -15,7 +15,7 @@ use Rattle.crx_engine.proofs.following.Lawful.{compaction-lawful, expansion-lawf
 use Rattle.crx_filter.specs.declared.outcome.Outcome.{Outcome}
 use Rattle.crx_filter.specs.meaning.Runs.{FaultIs}
 use Rattle.rnxcmp_c.specs.Going.{Breaks, LineFails, IsAll, IsText, HandlePast}
-use Rattle.rnxcmp_c.specs.Handles.{Task, Compact, Expand, Check, IsOf, ReaderIsOver, IsPutDown, filter_for, engine_filter, has_ended_of}
+use Rattle.rnxcmp_c.specs.Handles.{Task, Compact, Expand, Check, IsOf, ReaderIsOver, IsPutDown, RunIsOutOfMemory, filter_for, engine_filter, has_ended_of}
 use Rattle.rnxcmp_c.specs.Handles.{result_for, status_at_end}
 use Rattle.rnxcmp_c.specs.declared.engines.AnyEngine.{AnyEngine}
 use Rattle.rnxcmp_c.specs.declared.engines.AnyEngine.TheVariants.{Compacting, Expanding, Checking}
@@ -64,16 +64,17 @@ course-over course reader mid outcome past at fault text put = record {
       ∙ ap (λ t. past.messages ++ t) (sym put.messages);
 }
 
-memory-put : (outcome : Outcome) (at : At) → outcome.fault ≡ Some at → at.fault ≡ OutOfMemory → FaultIs OutOfMemory outcome.fault
-memory-put outcome at is memory = subst (FaultIs OutOfMemory) (sym is) memory
+memory-put : (outcome : Outcome) (at : At) → outcome.fault ≡ Some at → outcome.status ≡ 1 → at.fault ≡ OutOfMemory
+    → RunIsOutOfMemory outcome
+memory-put outcome at is status memory = (subst (FaultIs OutOfMemory) (sym is) memory, status)
 
 module _ (task : Task) (engine : AnyEngine) (is : IsOf task engine)
     (reader : Reader) (mid : Held) (outcome : Outcome) (past : HandlePast) (at : At) where
   pub breaks-over : Breaks (engine_filter engine) mid past at
-      → FaultIs OutOfMemory outcome.fault ⊎ IsPutDown mid reader.held outcome at
-      → FaultIs OutOfMemory outcome.fault ⊎ ((more : List ℕ) → ReaderIsOver (result_for task (past.fed ++ more)) reader outcome past)
+      → RunIsOutOfMemory outcome ⊎ IsPutDown mid reader.held outcome at
+      → RunIsOutOfMemory outcome ⊎ ((more : List ℕ) → ReaderIsOver (result_for task (past.fed ++ more)) reader outcome past)
   breaks-over breaks (inl memory) = inl memory
-  breaks-over (inl memory) (inr put) = inl (memory-put outcome at put.fault memory)
+  breaks-over (inl memory) (inr put) = inl (memory-put outcome at put.fault put.status memory)
   breaks-over (inr broken) (inr put) = inr (λ more.
       let filter = filter_for task in
       let rest = broken.first more in
@@ -89,10 +90,10 @@ module _ (task : Task) (engine : AnyEngine) (is : IsOf task engine)
       (course-over (filter.so_far broken.lines) reader mid outcome past at fault text put))
 
   pub fails-over : LineFails ((engine_filter engine).whole (lines_of past.fed)) mid past at
-      → FaultIs OutOfMemory outcome.fault ⊎ IsPutDown mid reader.held outcome at
-      → FaultIs OutOfMemory outcome.fault ⊎ ReaderIsOver (result_for task past.fed) reader outcome past
+      → RunIsOutOfMemory outcome ⊎ IsPutDown mid reader.held outcome at
+      → RunIsOutOfMemory outcome ⊎ ReaderIsOver (result_for task past.fed) reader outcome past
   fails-over fails (inl memory) = inl memory
-  fails-over (inl memory) (inr put) = inl (memory-put outcome at put.fault memory)
+  fails-over (inl memory) (inr put) = inl (memory-put outcome at put.fault put.status memory)
   fails-over (inr failed) (inr put) =
       let whole = (filter_for task).whole (lines_of past.fed) in
       let same : (engine_filter engine).whole (lines_of past.fed) ≡ whole =

@@ -112,10 +112,14 @@ pub record ReaderIsOver (result : FilterResult) (reader : Reader) (outcome : Out
   pub output : result.output ≡ past.output ++ reader.held.output.bytes.items
   pub messages : result.messages ≡ past.messages ++ reader.held.messages.bytes.items
 
+-- memory ran out, which is status 1
+abbrev pub RunIsOutOfMemory : Outcome → Type 0
+RunIsOutOfMemory outcome = FaultIs OutOfMemory outcome.fault × (outcome.status ≡ 1)
+
 -- where a run is: it goes on; or it has ended, with the result of the bytes that were fed, unless memory ran out
 abbrev pub StandsBy : Task → Reader → HandlePast → Option Outcome → Type 0
 StandsBy task reader past None = ReaderRuns task reader past
-StandsBy task reader past (Some outcome) = FaultIs OutOfMemory outcome.fault
+StandsBy task reader past (Some outcome) = RunIsOutOfMemory outcome
     ⊎ ReaderIsOver (result_for task past.fed) reader outcome past
 
 abbrev pub ReaderStands : Task → Reader → HandlePast → Type 0
@@ -124,7 +128,7 @@ ReaderStands task reader past = StandsBy task reader past reader.outcome
 -- where it is after some bytes: where a fault has ended it, the result is that of every input that begins with them
 abbrev pub HasFedBy : Task → Reader → HandlePast → Option Outcome → Type 0
 HasFedBy task reader past None = ReaderRuns task reader past
-HasFedBy task reader past (Some outcome) = FaultIs OutOfMemory outcome.fault
+HasFedBy task reader past (Some outcome) = RunIsOutOfMemory outcome
     ⊎ ((more : List ℕ) → ReaderIsOver (result_for task (past.fed ++ more)) reader outcome past)
 
 abbrev pub HasFed : Task → Reader → HandlePast → Type 0
@@ -133,7 +137,7 @@ HasFed task reader past = HasFedBy task reader past reader.outcome
 -- after its end
 abbrev pub HasEndedBy : Task → Reader → HandlePast → Option Outcome → Type 0
 HasEndedBy task reader past None = ⊥
-HasEndedBy task reader past (Some outcome) = FaultIs OutOfMemory outcome.fault
+HasEndedBy task reader past (Some outcome) = RunIsOutOfMemory outcome
     ⊎ ReaderIsOver (result_for task past.fed) reader outcome past
 
 abbrev pub ReaderHasEnded : Task → Reader → HandlePast → Type 0
@@ -148,7 +152,7 @@ pub record IsPutDown (old new : Held) (outcome : Outcome) (at : At) : Type 0 whe
 
 abbrev pub IsPut : Held → Held → At → Option Outcome → Type 0
 IsPut old new at None = ⊥
-IsPut old new at (Some outcome) = FaultIs OutOfMemory outcome.fault ⊎ IsPutDown old new outcome at
+IsPut old new at (Some outcome) = RunIsOutOfMemory outcome ⊎ IsPutDown old new outcome at
 
 -- ---- what a call answers
 

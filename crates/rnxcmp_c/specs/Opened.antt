@@ -55,3 +55,9 @@ pub record AnswersHandle (handle : Handle) (answer : Answer) : Type 0 where
   pub reader : Reader
   pub holds : Holds handle reader
   pub answers : answer ≡ answer_now reader
+
+-- the run of a handle goes on, or ended, as that of a reader
+pub record EndedAlike (before : Reader) (handle : Handle) : Type 0 where
+  pub reader : Reader
+  pub holds : Holds handle reader
+  pub outcome : reader.outcome ≡ before.outcome

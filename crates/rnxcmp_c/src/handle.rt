@@ -10,7 +10,7 @@ ghost use Rattle.crx_lines.specs.declared.fault.Fault.TheVariants.{OutOfMemory};
 ghost use Rattle.crx_lines.specs.meaning.Faults.{code_of_fault};
 ghost use Rattle.rnxcmp_c.specs.Going.{HandlePast};
 ghost use Rattle.rnxcmp_c.specs.Handles.{IsFresh, IsMisused, Task, nothing_fed, taken_with};
-ghost use Rattle.rnxcmp_c.specs.Opened.{AnswersHandle, EndsHandle, FeedsHandle, HandleStands, Holds, IsSoundHandle, IsUnchanged, messages_kept, output_kept};
+ghost use Rattle.rnxcmp_c.specs.Opened.{AnswersHandle, EndedAlike, EndsHandle, FeedsHandle, HandleStands, Holds, IsSoundHandle, IsUnchanged, messages_kept, output_kept};
 ghost use Rattle.rnxcmp_c.specs.declared.reader.Reader.{Reader};
 ghost use Rattle.rnxcmp_c.specs.meaning.Answers.{bare_answer, placed};
 
@@ -203,6 +203,7 @@ pub extern "C" fn rnxcmp_c_take(
     ensures messages { handle.old.is_open ≡ true
         → messages.new ≡ placed (messages_kept handle.old.place.held) messages.old }
     ensures answer { handle.old.is_open ≡ true → AnswersHandle handle.new result }
+    ensures same { handle.old.is_open ≡ true → (reader : Reader) → Holds handle.old reader → EndedAlike reader handle.new }
     ensures stands { (task : Task) (past : HandlePast) → HandleStands task handle.old past
         → HandleStands task handle.new (taken_with past (take (length output.old) (output_kept handle.old.place.held))
         (take (length messages.old) (messages_kept handle.old.place.held))) }
@@ -223,6 +224,7 @@ pub extern "C" fn rnxcmp_c_close(alloc: Global, handle: &mut Handle)
     requires { IsSoundHandle handle.old }
     ensures closed { handle.new.is_open ≡ false }
     ensures nothing { handle.old.is_open ≡ true → handle.new.place.held ≡ [] }
+    ensures same { handle.old.is_open ≡ false → IsUnchanged handle.old handle.new }
 {
     if handle.is_open {
         drop(take_out(handle, alloc));

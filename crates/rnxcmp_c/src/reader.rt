@@ -136,6 +136,7 @@ impl Reader {
         ensures output { output.new ≡ placed self.old.held.output.bytes.items output.old }
         ensures messages { messages.new ≡ placed self.old.held.messages.bytes.items messages.old }
         ensures answer { result ≡ answer_now self.new }
+        ensures same { self.new.outcome ≡ self.old.outcome }
         ensures stands { (task : Task) (past : HandlePast) → ReaderStands task self.old past → ReaderStands task self.new (taken_with past
             (take (length output.old) self.old.held.output.bytes.items)
             (take (length messages.old) self.old.held.messages.bytes.items)) }

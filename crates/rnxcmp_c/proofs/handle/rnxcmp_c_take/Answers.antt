@@ -29,6 +29,16 @@ returns-clause-answer c = λ is_open. record {
   answers = c.hand_out-answer.ensures.answer;
 }
 
+pub returns-clause-same : goal.returns-clause-same
+returns-clause-same c = λ is_open (before : Reader) held.
+    let holds = c.take_out-reader.ensures.reader ∙ ap (λ (r : Reader). r ∷ []) (sym c.deref_mut.ensures.value) in
+    record {
+      reader = c.hand_out-answer.new.self;
+      holds = c.put_in.ensures.reader;
+      outcome = c.hand_out-answer.ensures.same
+          ∙ ap (λ (r : Reader). r.outcome) (one-held c.args.handle.now.place.held c.deref_mut.result.now before holds held);
+    }
+
 pub returns-clause-stands : goal.returns-clause-stands
 returns-clause-stands c = λ (task : Task) (past : HandlePast) stands.
     let holds = c.take_out-reader.ensures.reader ∙ ap (λ (r : Reader). r ∷ []) (sym c.deref_mut.ensures.value) in
