@@ -329,8 +329,8 @@ def check_no_memory(program, work):
 
 
 def check_handles_without_memory(program, work):
-    """With each growth of memory refused in turn, a handle's run ends with status 1 and code 22, its texts are front parts of the whole
-    ones, and nothing leaks; else it ends as the program's."""
+    """With each growth of memory refused in turn, a handle's run ends with status 1 and code 22, its texts are prefixes of the whole ones,
+    and nothing leaks; else it ends as the program's."""
     if not shutil.which("gcc"):
         return "there is no gcc"
     command = ["gcc", "-g", "-Wl,--wrap=malloc,--wrap=realloc,--wrap=free", "-I", str(LIBRARY), str(HERE / "refused.c"), str(LIBRARY / "librnxcmp.a"), "-o", str(work / "refused")]

@@ -100,22 +100,22 @@ static unsigned code_of_run(int kind, int skip, struct texts *texts, rnxcmp_answ
     return answer->code;
 }
 
-/* Whether some text is the front of another one. */
+/* Whether another text begins with a text. */
 static int begins(const char *text, size_t count, const char *other, size_t other_count) {
     return count <= other_count && memcmp(text, other, count) == 0;
 }
 
 /* What a run left in which memory ran out. */
-static void demand_front(const rnxcmp_answer *answer) {
+static void demand_prefixes(const rnxcmp_answer *answer) {
     char last[100];
     size_t count = (size_t)snprintf(last, sizeof last, "ERROR line %llu code 22: out of memory\n", (unsigned long long)answer->line);
-    size_t front = cut.messages_length;
-    if (front >= count && memcmp(cut.messages + front - count, last, count) == 0) {
-        front -= count;
+    size_t warned = cut.messages_length;
+    if (warned >= count && memcmp(cut.messages + warned - count, last, count) == 0) {
+        warned -= count;
     }
     demand(answer->status == RNXCMP_FAULT, "the status");
-    demand(begins(cut.output, cut.output_length, whole.output, whole.output_length), "the output isn't a front part");
-    demand(begins(cut.messages, front, whole.messages, whole.messages_length), "the messages aren't a front part");
+    demand(begins(cut.output, cut.output_length, whole.output, whole.output_length), "the output isn't a prefix");
+    demand(begins(cut.messages, warned, whole.messages, whole.messages_length), "the messages aren't a prefix");
 }
 
 int main(int count, char **words) {
@@ -137,7 +137,7 @@ int main(int count, char **words) {
         code = code_of_run(kind, skip, &cut, &answer);
         demand(blocks == 0, "memory isn't freed");
         if (code == 22) {
-            demand_front(&answer);
+            demand_prefixes(&answer);
         } else {
             demand(code == good && cut.output_length == whole.output_length && cut.messages_length == whole.messages_length, "another end");
             printf("%ld %u\n", growths, code);
