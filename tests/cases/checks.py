@@ -1,5 +1,5 @@
-"""Whole runs as texts: each NAME.case of this folder (README.md explains the form), and runs whose texts are too long for one (see
-tests/run.py).
+"""Whole runs as texts: each SUBJECT/NAME.case of this folder (README.md explains the form), and runs whose texts are too long for one
+(see tests/run.py).
 
 A case with an input runs over standard input, at once, byte by byte and in small pieces, and over a file of that input. A case without
 one runs in a folder that has its files.
@@ -263,16 +263,27 @@ def a_thousand_epochs(program):
 LONG = [the_greatest_epoch, a_hundred_satellites_of_a_hundred_types, one_satellite_more_than_there_are, a_thousand_epochs]
 
 
+def cases():
+    """The case files, by name: each stands in the folder of its subject."""
+    return sorted(HERE.glob("*/*.case"), key=lambda path: path.stem)
+
+
 def named_in_the_list():
-    """Each case is named in the list by subject, and nothing else is."""
+    """Each case is named in the list by subject, with its folder, and nothing else is."""
     page = (HERE.parent / "README.md").read_text()
-    named = re.findall(r"`([^`]+)`", page.partition("## The cases, by subject")[2].partition("\n## ")[0])
-    there = [path.stem for path in HERE.glob("*.case")] + [check.__name__ for check in LONG]
-    wrong = [f"{name} isn't named in tests/README.md" for name in sorted({*there} - {*named})]
-    return wrong + [f"tests/README.md names {name}, which isn't there" for name in sorted({*named} - {*there, "check"})]
+    subjects = page.partition("## The cases, by subject")[2].partition("\n## ")[0].split("\n- ")[1:]
+    named = {}
+    for subject in subjects:
+        folder, *names = re.findall(r"`([^`]+)`", re.sub(r"^[^(]*", "", subject))
+        named.update(dict.fromkeys(names, folder))
+    there = {path.stem: path.parent.name for path in cases()}
+    made = {check.__name__ for check in LONG}
+    wrong = [f"{name} isn't named in tests/README.md" for name in sorted({*there, *made} - {*named})]
+    wrong += [f"tests/README.md names {name}, which isn't there" for name in sorted({*named} - {*there} - made)]
+    return wrong + [f"tests/README.md says that {name} is in {named[name]}" for name in sorted(there) if named.get(name, there[name]) != there[name]]
 
 
 def checks(program):
     yield "the list by subject", named_in_the_list
-    yield from ((path.stem, lambda path=path: run_file(program, path)) for path in sorted(HERE.glob("*.case")))
+    yield from ((path.stem, lambda path=path: run_file(program, path)) for path in cases())
     yield from ((check.__name__, lambda check=check: check(program)) for check in LONG)

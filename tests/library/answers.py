@@ -116,5 +116,5 @@ def long_answers(cases, program):
 def answers_of_cases(program):
     """The runs of tests/cases as calls with their answers."""
     cases = case_checks()
-    found = [answer for path in sorted(CASES.glob("*.case")) for answer in answers_of(cases.read_case(path))]
+    found = [answer for path in cases.cases() for answer in answers_of(cases.read_case(path))]
     return found + list(long_answers(cases, program))
