@@ -7,8 +7,8 @@ A growth is a call of the C library that takes memory: refusing.c stands in fron
 each run the first growth is refused, then the second, until a run meets none; first that one alone, then it and all later ones.
 Where memory ran out at line L, the output is to be that of the lines before it, the messages the warnings before it and then the
 error, the status 1. One growth of a run may be refused without harm: the list of words asks for its room beforehand, and once more
-where that is refused. A compaction and a check of more epochs like those before meet no more growths than one of a few. The last
-line counts the points and those that went wrong; the status is 0 where none did.
+where that is refused. A run over more epochs like those before meets no more growths than one over a few, with a fault in each epoch
+too. The last line counts the points and those that went wrong; the status is 0 where none did.
 """
 
 import os
@@ -192,11 +192,24 @@ def tried(program, run):
     return points, wrong
 
 
-def growths(program, words, epochs):
-    """How many growths a run over so many epochs of seven systems meets."""
+# Runs whose memory is to be the same however many epochs there are; of the last two each epoch has a line with a fault, which is skipped.
+STEADY = {
+    "compacting": (DATED, b""),
+    "compacting, every second epoch in full": ([*DATED, "-e", "2"], b""),
+    "expanding": (["crx2rnx"], b""),
+    "checking": (["check"], b""),
+    "compacting with -s, a fault an epoch": ([*DATED, "-s"], b"x\n"),
+    "expanding with -s, a fault an epoch": (["crx2rnx", "-s"], b"x\n"),
+}
+
+
+def growths(program, words, epochs, fault=b""):
+    """How many growths a run over so many epochs of seven systems meets, each after a line with a fault where one is given."""
     content = file_of(NAMES, 5, epochs)
-    if words == ["crx2rnx"]:
-        content = subprocess.run([program.path, *DATED], input=content, capture_output=True, check=True).stdout
+    if words[0] == "crx2rnx":
+        made = [*DATED, *(["-e", "1"] if fault else [])]
+        content = subprocess.run([program.path, *made], input=content, capture_output=True, check=True).stdout
+    content = content.replace(b"\n>", b"\n" + fault + b">")
     run, below, above = Run("", words, content), 0, 1
     while program.answer(run, above).refused:
         below, above = above, 2 * above
@@ -204,6 +217,12 @@ def growths(program, words, epochs):
         middle = (below + above) // 2
         below, above = (middle, above) if program.answer(run, middle).refused else (below, middle)
     return below
+
+
+def steady(program, name):
+    """How many growths a run meets over 20 epochs, and over 400."""
+    words, fault = STEADY[name]
+    return growths(program, words, 20, fault), growths(program, words, 400, fault)
 
 
 def runs(program):
@@ -240,10 +259,10 @@ def main():
             print(f"memory {run.name}: {count} points ... {'FAILED' if wrong else 'ok'}", flush=True)
             for line in wrong[:10]:
                 print(f"    {line}")
-        for words in (DATED, ["crx2rnx"], ["check"]):
-            few, many = growths(program, words, 20), growths(program, words, 400)
+        for name in STEADY:
+            few, many = steady(program, name)
             failed += few != many
-            print(f"memory {' '.join(words)}: {few} growths over 20 epochs, {many} over 400 ... {'ok' if few == many else 'FAILED'}", flush=True)
+            print(f"memory {name}: {few} growths over 20 epochs, {many} over 400 ... {'ok' if few == many else 'FAILED'}", flush=True)
     print(f"{points} points of failure tried, {failed} went wrong")
     return 1 if failed else 0
 
