@@ -1,5 +1,5 @@
 -- A run goes on by a line, or ends at it.
-use Rattle.std.proofs.Common.{◌≡◌, inl, inr, ℕ, ◌+◌, List, [], ◌++◌, length, take, Option, refl, sym, ap, subst, ◌∙◌}
+use Rattle.std.proofs.Common.{◌≡◌, inl, inr, ℕ, ◌+◌, List, [], ◌∷◌, ◌++◌, length, take, Option, refl, sym, ap, subst, ◌∙◌}
 use Rattle.std.proofs.Common.{arith, append-nil, length-append}
 use Rattle.std.proofs.Math.Seq.{take-append-add}
 use Rattle.std.proofs.lemmas.List.{take-append-le}
@@ -68,36 +68,37 @@ module _ (before after : Course) (writer1 writer2 writer messages1 messages2 mes
 
   pub ends-at : (memory : Option (List At)) (number : ℕ) (halt : Halt)
       → IsCut before after memory number writer2 messages2 halt → EndsAt memory number writer messages before after halt
-  ends-at memory number (Fault at) (inl r) =
+  ends-at memory number (Fault at) (notices, inl r) =
       inl (record {
         allowed = r.allowed;
         fault = r.fault;
         place = r.place;
-        notices = r.notices;
+        notices = notices;
         next = r.next;
         wrote = same-written before.output r.wrote refl;
-        reported = more-reported r.notices (before.warnings ++ r.notices) r.reported refl;
+        reported = more-reported notices (before.warnings ++ notices) r.reported refl;
       })
-  ends-at memory number (Fault at) (inr r) =
+  ends-at memory number (Fault at) (notices, inr r) =
       inr (record {
         fault = r.ends.fault;
         wrote = same-written after.output r.wrote r.ends.output;
-        reported = more-reported r.notices after.warnings r.reported r.ends.warnings;
+        reported = more-reported notices after.warnings r.reported r.ends.warnings;
       })
-  ends-at memory number Unwritten r =
+  ends-at memory number Unwritten (notices, r) =
       record {
         good = r.adds.good;
         wrote = took-part writer1 writer2 writer wsame wstart wend wjoined before.output r.text
             [] after.output wrote r.wrote (r.adds.output ∙ sym (append-nil (before.output ++ r.text)));
-        reported = more-reported r.notices after.warnings r.reported r.adds.warnings;
+        reported = more-reported notices after.warnings r.reported r.adds.warnings;
       }
-  ends-at memory number Unreported r =
+  ends-at memory number Unreported (here, r) =
+      let notices = here ++ r.notice ∷ [] in
       let whole : notices_text after.warnings
-      ≡ (notices_text before.warnings ++ notices_text r.notices) ++ notices_text r.next.0 =
-      ap notices_text r.next.1 ∙ notices-append (before.warnings ++ r.notices) r.next.0
-      ∙ ap (λ (t : List ℕ). t ++ notices_text r.next.0) (notices-append before.warnings r.notices) in
+      ≡ (notices_text before.warnings ++ notices_text notices) ++ notices_text r.next.0 =
+      ap notices_text r.next.1 ∙ notices-append (before.warnings ++ notices) r.next.0
+      ∙ ap (λ (t : List ℕ). t ++ notices_text r.next.0) (notices-append before.warnings notices) in
       record {
         wrote = same-written before.output r.wrote refl;
         reported = took-part messages1 messages2 messages msame mstart mend mjoined (notices_text before.warnings)
-            (notices_text r.notices) (notices_text r.next.0) (notices_text after.warnings) reported r.reported whole;
+            (notices_text notices) (notices_text r.next.0) (notices_text after.warnings) reported r.reported whole;
       }

@@ -40,27 +40,6 @@ module _ (first second both : Device)
     end ∙ b.1 ∙ ap with_failed_write (same ∙ a.1 ∙ sym start),
   )
 
--- a line that was given once
-pub cut-once : (before after : Course) (memory : Option (List At)) (number : ℕ) (writer messages : Device) (halt : Halt)
-    → IsHalted before after memory number writer messages [] halt
-    → IsCut before after memory number writer messages halt
-cut-once before after memory number writer messages (Fault at) (inl r) =
-    inl (record {
-      allowed = r.allowed;
-      fault = r.fault;
-      place = r.line;
-      notices = [];
-      next = inl refl;
-      wrote = r.wrote;
-      reported = r.reported;
-    })
-cut-once before after memory number writer messages (Fault at) (inr r) =
-    inr (record { notices = []; ends = r.ends; wrote = r.wrote; reported = r.reported })
-cut-once before after memory number writer messages Unwritten r =
-    record { text = r.text; notices = []; adds = r.adds; wrote = r.wrote; reported = r.reported }
-cut-once before after memory number writer messages Unreported r =
-    record { notices = r.notice ∷ []; next = r.next; wrote = r.wrote; reported = r.reported }
-
 -- a line that was given a second time, after its first warning
 module _ (before after : Course) (writer1 writer2 writer messages1 messages2 messages : Device)
     (wsame : writer2.before ≡ writer1.after)
@@ -94,24 +73,22 @@ module _ (before after : Course) (writer1 writer2 writer messages1 messages2 mes
   }
 
   pub cut-twice : (memory : Option (List At)) (number : ℕ) (halt : Halt)
-      → IsHalted before after memory number writer2 messages2 (notice ∷ []) halt
-      → IsCut before after memory number writer messages halt
+      → IsHalted before after memory number writer2 messages2 (notice ∷ []) [] halt
+      → IsHalted before after memory number writer messages [] (notice ∷ []) halt
   cut-twice memory number (Fault at) (inl r) =
       inl (record {
         allowed = r.allowed;
         fault = r.fault;
-        place = r.line;
-        notices = notice ∷ [];
+        place = r.place;
         next = inr next;
         wrote = wrote-none r.wrote;
         reported = reported-none r.reported;
       })
-  cut-twice memory number (Fault at) (inr r) = inr
-      (record { notices = notice ∷ []; ends = r.ends; wrote = wrote-none r.wrote; reported = reported-none r.reported })
+  cut-twice memory number (Fault at) (inr r) =
+      inr (record { ends = r.ends; wrote = wrote-none r.wrote; reported = reported-none r.reported })
   cut-twice memory number Unwritten r =
       record {
         text = r.text;
-        notices = notice ∷ [];
         adds = r.adds;
         wrote = all-part writer1
             writer2 writer wsame wstart wend wjoined [] r.text wrote1 r.wrote;
@@ -119,7 +96,7 @@ module _ (before after : Course) (writer1 writer2 writer messages1 messages2 mes
       }
   cut-twice memory number Unreported r =
       record {
-        notices = notice ∷ r.notice ∷ [];
+        notice = r.notice;
         next = r.next;
         wrote = wrote-none r.wrote;
         reported = subst (TookPart messages) (sym (notices-append (notice ∷ []) (r.notice ∷ [])))
@@ -155,10 +132,12 @@ module _ (filter then : Filter) (is : then ≡ filter)
   once-twice shows Again r = absurd (omega (arith, ap length r.none))
 
   pub halted-twice : (number : ℕ) (halt : Halt) → IsHalted (then.so_far lines)
-      (then.so_far (with_next lines line)) (then.memory_after lines line) number writer2 messages2 (notice ∷ []) halt
+      (then.so_far (with_next lines line)) (then.memory_after lines line) number writer2 messages2 (notice ∷ []) [] halt
       → IsCut before after (filter.memory_after lines line) number writer messages halt
-  halted-twice number halt r =
-      cut-twice before after writer1 writer2 writer messages1 messages2 messages wsame wstart
-      wend wjoined msame mstart mend mjoined notice next wrote1 told1 (filter.memory_after lines line) number halt
-      (subst (λ (f : Filter). IsHalted (f.so_far lines) (f.so_far (with_next lines line))
-      (f.memory_after lines line) number writer2 messages2 (notice ∷ []) halt) is r)
+  halted-twice number halt r = (
+    notice ∷ [],
+    cut-twice before after writer1 writer2 writer messages1 messages2 messages wsame wstart
+        wend wjoined msame mstart mend mjoined notice next wrote1 told1 (filter.memory_after lines line) number halt
+        (subst (λ (f : Filter). IsHalted (f.so_far lines) (f.so_far (with_next lines line))
+        (f.memory_after lines line) number writer2 messages2 (notice ∷ []) [] halt) is r),
+  )

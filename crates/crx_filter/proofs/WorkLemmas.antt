@@ -11,7 +11,6 @@ use Rattle.crx_filter.specs.meaning.Spans.{Device, Input}
 use Rattle.crx_filter.specs.Taking.{IsDone, IsHalted}
 use Rattle.crx_engine.specs.meaning.Results.{are_some}
 use Rattle.crx_filter.specs.Running.{IsRunning, GoesOnBy, ComesToEnd, StopsAt, WellDone, StoppedByEnd, WorkEnds}
-use Rattle.crx_filter.proofs.TakingTwice.{cut-once}
 use Rattle.crx_filter.proofs.RunningSteps.{ends-at, more-written, more-reported}
 
 are-some-append : (xs ys : List At) → are_some (xs ++ ys) ≡ (are_some xs || are_some ys)
@@ -74,7 +73,7 @@ module _ (filter : Filter) (shows : List InputLine → List Awaited → Type 0) 
       }
 
   pub stopped-end : (halt : Halt) → IsHalted (filter.so_far lines) (filter.whole lines) None
-      (length lines) writer2 messages2 [] halt → StoppedByEnd filter input writer messages now last halt
+      (length lines) writer2 messages2 [] [] halt → StoppedByEnd filter input writer messages now last halt
   stopped-end halt h =
       let before = filter.so_far lines in
       let after = filter.whole lines in
@@ -84,7 +83,7 @@ module _ (filter : Filter) (shows : List InputLine → List Awaited → Type 0) 
         ended = comes.ended;
         ends = ends-at before after writer1 writer2 writer messages1 messages2 messages wsame wstart
             wend wjoined msame mstart mend mjoined comes.running.wrote comes.running.reported None (length lines) halt
-            (cut-once before after None (length lines) writer2 messages2 halt h);
+            ([], h);
         last_is = last-line;
       }
 

@@ -86,78 +86,52 @@ IsOnce filter shows writer messages lines earlier line Again =
     IsAgain (filter.so_far lines) (filter.so_far (with_next lines line)) line
     (shows lines) writer messages (warnings_awaited earlier)
 
--- memory ran out at a line that may take some, after its earlier warnings
-pub record RunsOut (memory : Option (List At))
-    (writer messages : Device) (number : ℕ) (earlier : List At) (at : At) : Type 0 where
-  pub allowed : memory ≡ Some earlier
-  pub fault : at.fault ≡ OutOfMemory
-  pub line : at.line ≡ number
-  pub wrote : TookAll writer []
-  pub reported : TookAll messages []
+-- ---- how a line, or the end, ended the run
 
-pub record IsFaulty (before after : Course) (writer messages : Device) (earlier : List At) (at : At) : Type 0 where
-  pub ends : EndsWith before after earlier at
-  pub wrote : TookAll writer []
-  pub reported : TookAll messages []
+-- Each of these says what a step left that ended the run: of the line's warnings `earlier` were reported before the
+-- step, and `here` by it.
 
-pub record IsUnwritten (before after : Course) (writer messages : Device) (earlier : List At) : Type 0 where
-  pub text : List ℕ
-  pub adds : Adds before after text earlier
-  pub wrote : TookPart writer text
-  pub reported : TookAll messages []
-
-pub record IsUnreported (before after : Course) (writer messages : Device) (earlier : List At) : Type 0 where
-  pub notice : At
-  pub next : AreNext before after (earlier ++ notice ∷ [])
-  pub wrote : TookAll writer []
-  pub reported : TookPart messages (notices_text (notice ∷ []))
-
--- a line that was given once ended the run; memory may have run out at it, or not
-abbrev pub IsHalted : Course → Course → Option (List At) → ℕ → Device → Device → List At → Halt → Type 0
-IsHalted before after memory number writer messages earlier (Fault at) =
-    RunsOut memory writer messages number earlier at ⊎ IsFaulty before after writer messages earlier at
-IsHalted before after memory number writer messages earlier Unwritten = IsUnwritten before after writer messages earlier
-IsHalted before after memory number writer messages earlier Unreported =
-    IsUnreported before after writer messages earlier
-
--- ---- a line that may come twice
-
--- memory ran out for a line, after those of its warnings after which it may
-pub record IsOutOfMemory (before after : Course)
-    (memory : Option (List At)) (number : ℕ) (writer messages : Device) (at : At) : Type 0 where
-  pub notices : List At
-  pub allowed : memory ≡ Some notices
+-- memory ran out at a line that may take some, after those of its warnings after which it may
+pub record RunsOut (before after : Course) (memory : Option (List At))
+    (number : ℕ) (writer messages : Device) (earlier here : List At) (at : At) : Type 0 where
+  pub allowed : memory ≡ Some (earlier ++ here)
   pub fault : at.fault ≡ OutOfMemory
   pub place : at.line ≡ number
-  pub next : (notices ≡ []) ⊎ AreNext before after notices
+  pub next : (here ≡ []) ⊎ AreNext before after (earlier ++ here)
   pub wrote : TookAll writer []
-  pub reported : TookAll messages (notices_text notices)
+  pub reported : TookAll messages (notices_text here)
 
--- a fault ends the run, after the line's warnings
-pub record IsEnded (before after : Course) (writer messages : Device) (at : At) : Type 0 where
-  pub notices : List At
-  pub ends : EndsWith before after notices at
+-- a fault ended the run, after all warnings of the line
+pub record IsFaulty (before after : Course) (writer messages : Device) (earlier here : List At) (at : At) : Type 0 where
+  pub ends : EndsWith before after (earlier ++ here) at
   pub wrote : TookAll writer []
-  pub reported : TookAll messages (notices_text notices)
+  pub reported : TookAll messages (notices_text here)
 
 -- a text couldn't be written whole
-pub record IsCutText (before after : Course) (writer messages : Device) : Type 0 where
+pub record IsUnwritten (before after : Course) (writer messages : Device) (earlier here : List At) : Type 0 where
   pub text : List ℕ
-  pub notices : List At
-  pub adds : Adds before after text notices
+  pub adds : Adds before after text (earlier ++ here)
   pub wrote : TookPart writer text
-  pub reported : TookAll messages (notices_text notices)
+  pub reported : TookAll messages (notices_text here)
 
--- warnings couldn't be written whole
-pub record IsCutNotice (before after : Course) (writer messages : Device) : Type 0 where
-  pub notices : List At
-  pub next : AreNext before after notices
+-- the next warning couldn't be written whole
+pub record IsUnreported (before after : Course) (writer messages : Device) (earlier here : List At) : Type 0 where
+  pub notice : At
+  pub next : AreNext before after (earlier ++ here ++ notice ∷ [])
   pub wrote : TookAll writer []
-  pub reported : TookPart messages (notices_text notices)
+  pub reported : TookPart messages (notices_text (here ++ notice ∷ []))
 
--- a line, or the end, ended the run
+-- any of these; memory may have run out at the line, or not
+abbrev pub IsHalted : Course → Course → Option (List At) → ℕ → Device → Device → List At → List At → Halt → Type 0
+IsHalted before after memory number writer messages earlier here (Fault at) =
+    RunsOut before after memory number writer messages earlier here at
+    ⊎ IsFaulty before after writer messages earlier here at
+IsHalted before after memory number writer messages earlier here Unwritten =
+    IsUnwritten before after writer messages earlier here
+IsHalted before after memory number writer messages earlier here Unreported =
+    IsUnreported before after writer messages earlier here
+
+-- a line that may come twice ended the run, or the end, after those of its warnings that were reported
 abbrev pub IsCut : Course → Course → Option (List At) → ℕ → Device → Device → Halt → Type 0
-IsCut before after memory number writer messages (Fault at) =
-    IsOutOfMemory before after memory number writer messages at ⊎ IsEnded before after writer messages at
-IsCut before after memory number writer messages Unwritten = IsCutText before after writer messages
-IsCut before after memory number writer messages Unreported = IsCutNotice before after writer messages
+IsCut before after memory number writer messages halt = (here : List At)
+    × IsHalted before after memory number writer messages [] here halt

@@ -1,6 +1,6 @@
 //! One line of the input, through an engine to the writer and the messages.
 
-ghost use Rattle.std.specs.Prelude.{◌≡◌, ◌+◌, ◌<◌, ◌≤◌, ℕ, List, [], ◌∷◌, length, take, IfOk, IfErr, OnOk, OnErr, None, true};
+ghost use Rattle.std.specs.Prelude.{◌≡◌, ◌+◌, ◌<◌, ◌≤◌, ℕ, List, [], length, take, IfOk, IfErr, OnOk, OnErr, None, true};
 ghost use Rattle.crx_lines.specs.meaning.Lines.{InputLine, is_long};
 ghost use Rattle.crx_lines.specs.Reading.{line_shown, line_number};
 ghost use Rattle.crx_lines.specs.meaning.Devices.{one_more};
@@ -9,7 +9,7 @@ ghost use Rattle.crx_lines.specs.declared.limits.TheConstants.{INPUT_LIMIT};
 ghost use Rattle.crx_engine.specs.meaning.Filters.{Filter};
 ghost use Rattle.crx_rinex.specs.meaning.Printing.{lines_text};
 ghost use Rattle.crx_engine.specs.meaning.Messages.{warning_text, notices_text};
-ghost use Rattle.crx_engine.specs.Engines.{EngineAnswers, Awaited, IsAwaited, awaited_notices as warnings_awaited, Concludes, IsDrainedAfter, taken_after};
+ghost use Rattle.crx_engine.specs.Engines.{EngineAnswers, Awaited, IsAwaited, awaited_notices as warnings_awaited, IsDrainedAfter, taken_after};
 ghost use Rattle.crx_engine.specs.meaning.Filters.{with_next};
 ghost use Rattle.crx_filter.specs.declared.taking.Halt.TheVariants as halts;
 ghost use Rattle.crx_filter.specs.Taking.{TakenIs, number_taken, is_warning, step_notices, EndedBefore, IsOnce, IsHalted, IsDone, IsCut};
@@ -165,7 +165,7 @@ fn respond<E: Engine, W: Sink, M: Sink>(
         (filter.so_far (with_next lines line)) (filter.memory_after lines line) (length lines + 1)
         (span W.Sink writer.old writer.new)
         (span M.Sink messages.old messages.new)
-        (warnings_awaited earlier) halt) }
+        (warnings_awaited earlier) [] halt) }
 {
     let step = answer?;
     if let Step::Quiet = step {
@@ -209,7 +209,7 @@ fn take_once<E: Engine, W: Sink, M: Sink>(
         (with_next lines line)) ((E.filter engine.old).memory_after lines line) (length lines + 1)
         (span W.Sink writer.old writer.new)
         (span M.Sink messages.old messages.new)
-        (warnings_awaited earlier) halt) }
+        (warnings_awaited earlier) [] halt) }
 {
     let answer = give(engine, taken);
     respond(engine, writer, messages, answer)
@@ -351,7 +351,7 @@ pub fn take_end<E: Engine, W: Sink, M: Sink>(
         ((E.filter engine.old).so_far lines) ((E.filter engine.old).whole lines) None (length lines)
         (span W.Sink writer.old writer.new)
         (span M.Sink messages.old messages.new)
-        [] halt) }
+        [] [] halt) }
 {
     let step = engine.end()?;
     settle(engine, writer, messages, step)

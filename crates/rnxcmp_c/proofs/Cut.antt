@@ -16,16 +16,16 @@ pub cut-stops : (before after : Course) (memory : Option (List At)) (number : �
     → ((t : List ℕ) → messages.took t → then_kept.bytes.items ≡ kept.bytes.items ++ t)
     → (halt : Halt) → IsCut before after memory number writer messages halt
     → StopsBy before after output then_output kept then_kept halt
-cut-stops before after memory number writer messages output then_output kept then_kept wrote reported (Fault at) (inl out) =
+cut-stops before after memory number writer messages output then_output kept then_kept wrote reported (Fault at) (here, inl out) =
     inl out.fault
-cut-stops before after memory number writer messages output then_output kept then_kept wrote reported (Fault at) (inr ended) =
+cut-stops before after memory number writer messages output then_output kept then_kept wrote reported (Fault at) (here, inr ended) =
     inr (record {
       fault = ended.ends.fault;
-      notices = ended.notices;
+      notices = here;
       output_is = ended.ends.output;
       warnings_are = ended.ends.warnings;
       wrote = wrote [] ended.wrote.0 ∙ append-nil output.bytes.items;
-      reported = reported (notices_text ended.notices) ended.reported.0;
+      reported = reported (notices_text here) ended.reported.0;
     })
 cut-stops before after memory number writer messages output then_output kept then_kept wrote reported Unwritten cut = tt
 cut-stops before after memory number writer messages output then_output kept then_kept wrote reported Unreported cut = tt
@@ -35,18 +35,7 @@ pub halted-stops : (before after : Course) (memory : Option (List At)) (number :
     (output then_output kept then_kept : Collected)
     → ((t : List ℕ) → writer.took t → then_output.bytes.items ≡ output.bytes.items ++ t)
     → ((t : List ℕ) → messages.took t → then_kept.bytes.items ≡ kept.bytes.items ++ t)
-    → (halt : Halt) → IsHalted before after memory number writer messages [] halt
+    → (halt : Halt) → IsHalted before after memory number writer messages [] [] halt
     → StopsBy before after output then_output kept then_kept halt
-halted-stops before after memory number writer messages output then_output kept then_kept wrote reported (Fault at) (inl out) =
-    inl out.fault
-halted-stops before after memory number writer messages output then_output kept then_kept wrote reported (Fault at) (inr faulty) =
-    inr (record {
-      fault = faulty.ends.fault;
-      notices = [];
-      output_is = faulty.ends.output;
-      warnings_are = faulty.ends.warnings;
-      wrote = wrote [] faulty.wrote.0 ∙ append-nil output.bytes.items;
-      reported = reported [] faulty.reported.0;
-    })
-halted-stops before after memory number writer messages output then_output kept then_kept wrote reported Unwritten cut = tt
-halted-stops before after memory number writer messages output then_output kept then_kept wrote reported Unreported cut = tt
+halted-stops before after memory number writer messages output then_output kept then_kept wrote reported halt halted =
+    cut-stops before after memory number writer messages output then_output kept then_kept wrote reported halt ([], halted)

@@ -5,7 +5,7 @@ use Rattle.crx_filter.specs.declared.taking.Once.{Once}
 use Rattle.crx_engine.specs.meaning.Filters.{with_next}
 use Rattle.crx_filter.specs.meaning.Spans.{Device, span}
 use Rattle.crx_filter.specs.Taking.{IsAgain, IsOnce}
-use Rattle.crx_filter.proofs.TakingTwice.{cut-once, once-twice, halted-twice}
+use Rattle.crx_filter.proofs.TakingTwice.{once-twice, halted-twice}
 use Rattle.crx_filter.proofs.taking.take_answered.Goals as goal
 
 pub take_once-requires : goal.take_once-requires
@@ -88,8 +88,4 @@ pub returns-in_err-warned-clause-cut : goal.returns-in_err-warned-clause-cut
 returns-in_err-warned-clause-cut g c =
     λ filter (lines : List InputLine) (line : InputLine) same answers taken.
     let p = err_from_is_err_and c.from_residual.result c.from_residual.ensures.1 in
-    rw (p.1, p.2) (cut-once (filter.so_far lines)
-    (filter.so_far (with_next lines line)) (filter.memory_after lines line) (length lines + 1)
-    (span g.W.Sink c.args.writer.now c.respond.new.writer)
-    (span g.M.Sink c.args.messages.now c.respond.new.messages)
-    _ (c.in_err-warned.ensures.halted filter lines [] line answers))
+    rw (p.1, p.2) ([], c.in_err-warned.ensures.halted filter lines [] line answers)

@@ -252,9 +252,9 @@ returns-in-Err-take_end g c =
     let messages2 : Device = span g.M.Sink m2 m3 in
     let messages : Device = span g.M.Sink m0 m3 in
     let halted : IsHalted (filter.so_far lines)
-    (filter.whole lines) None (length lines) writer2 messages2 [] c.in-Err-take_end.halt =
+    (filter.whole lines) None (length lines) writer2 messages2 [] [] c.in-Err-take_end.halt =
     subst (λ (f : Filter). IsHalted (f.so_far lines) (f.whole lines) None (length lines) writer2 messages2
-    [] c.in-Err-take_end.halt) same (c.in-Err-take_end.ensures.cut lines comes.shown) in
+    [] [] c.in-Err-take_end.halt) same (c.in-Err-take_end.ensures.cut lines comes.shown) in
     inr (inr (inl (stopped-end filter shows input now lines writer1 writer2 writer messages1 messages2 messages
     refl refl refl (λ xs ys a b. g.met.W.Sink.took_both w0 w2 w3 xs ys a b)
     refl refl refl (λ xs ys a b. g.met.M.Sink.took_both m0 m2 m3 xs ys a b)
