@@ -3,6 +3,7 @@ pub mod ClockColumns
 pub mod ClockTexts
 pub mod CodeReads
 pub mod CodeTexts
+pub mod CopiedTexts
 pub mod CellReads
 pub mod DigitPairs
 pub mod DigitRows
