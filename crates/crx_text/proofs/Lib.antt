@@ -8,6 +8,7 @@ pub mod CellReads
 pub mod DigitPairs
 pub mod DigitRows
 pub mod EndBlanks
+pub mod GroupHalves
 pub mod LaneBits
 pub mod LaneTexts
 pub mod LaneWords
