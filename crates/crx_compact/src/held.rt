@@ -34,7 +34,8 @@ use crx_rinex::{SatRow, after_columns, all_blank};
 use crx_text::block::put_text;
 use crx_text::difference::{append_difference, patch_bytes};
 use crx_text::{
-    Code, Fault, Text, code_before_blank, code_print, step_before_blank, trim_end, write_cell,
+    Code, Fault, Text, code_before_blank, code_print, copy_text, step_before_blank, trim_end,
+    write_cell,
 };
 use std::alloc::{AllocError, Global};
 use std::marker::Model;
@@ -490,16 +491,27 @@ impl HeldSatellite {
     }
 }
 
-/// Replaces indicators by others, which mostly are the same.
+/// Replaces indicators by others, which mostly are as many: then they are copied in place.
 #[inline]
 fn renew_flags(flags: &mut Vec<u8>, next: &[u8]) -> Result<(), AllocError>
     ensures ok { OnOk result (flags.new.items ≡ next.now) }
     ensures err { OnErr result (flags.new.items ≡ []) }
 {
-    if flags.as_slice() != next {
-        flags.clear();
-        flags.extend_from_slice(next)?;
+    if flags.len() == next.len() {
+        copy_text(flags, next);
+        return Ok(());
     }
+    refill_flags(flags, next)
+}
+
+/// Replaces indicators by others that are more or fewer.
+#[inline(never)]
+fn refill_flags(flags: &mut Vec<u8>, next: &[u8]) -> Result<(), AllocError>
+    ensures ok { OnOk result (flags.new.items ≡ next.now) }
+    ensures err { OnErr result (flags.new.items ≡ []) }
+{
+    flags.clear();
+    flags.extend_from_slice(next)?;
     Ok(())
 }
 

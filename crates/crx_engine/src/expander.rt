@@ -14,7 +14,7 @@ ghost use Rattle.crx_engine.specs.EngineSteps.{Steps, answer_of_step, step_made}
 ghost use Rattle.crx_engine.specs.LineByLine.{seen_end, seen_next};
 ghost use Rattle.crx_engine.specs.ExpansionByLine.{expansion, expansion_seen};
 ghost use Rattle.crx_lines.specs.meaning.Faults.{is_skippable};
-ghost use Rattle.crx_engine.specs.declared.stage.Stage.TheVariants.{Ended};
+ghost use Rattle.crx_engine.specs.declared.stage.Stage.TheVariants.{Ended, Open};
 
 use crate::compact_reader::{CompactReader, CompactStep};
 use crate::engine::{Step, answer_given};
@@ -212,18 +212,49 @@ impl Expander {
                 true
             }
             Ok(false) => {
-                self.answer = self.take_any(line);
+                self.store_any(line);
                 false
             }
             Err(fault) => {
-                self.answer = self.fail(Stage::Open, fault, begins_epoch(line));
+                self.store_fault(fault, begins_epoch(line));
                 false
             }
         }
     }
 
-    /// Takes the content of a line of any kind, for the lines that [`CompactReader::read_early`] doesn't take: see [`Expander::feed`].
+    /// Takes the content of a line of any kind, and stores the answer. An answer that took its place within [`Expander::take_line`] would
+    /// be set to zero at every line.
     #[inline(never)]
+    fn store_any(&mut self, line: &[u8])
+        requires drained { self.old.lines ≡ [] }
+        requires short { length line.now ≤ LINE_LIMIT }
+        requires within { self.old.number < INPUT_LIMIT }
+        ensures steps { Steps expansion (expander_state self.old) (Content line.now)
+            self.new.answer self.new.lines (expander_state self.new) }
+        ensures options { self.new.options ≡ self.old.options }
+        ensures drained { OnErr self.new.answer (self.new.lines ≡ []) }
+        ensures ended { IfErr self.new.answer (λ at. self.new.reader.stage ≡ Ended at) }
+        ensures repeated { (at : At) → self.old.reader.stage ≡ Ended at → self.new.answer ≡ Err at }
+    {
+        self.answer = self.take_any(line);
+    }
+
+    /// Stores the answer to a fault of the next line of an epoch that is open, which reading may go on at or not.
+    #[inline(never)]
+    fn store_fault(&mut self, fault: Fault, goes_on: bool)
+        requires within { self.old.number < INPUT_LIMIT }
+        requires drained { self.old.lines ≡ [] }
+        ensures fails { Fails self.old Open fault goes_on self.new.answer self.new }
+        ensures drained { self.new.lines ≡ [] }
+        ensures options { self.new.options ≡ self.old.options }
+        ensures ended { IfErr self.new.answer (λ at. self.new.reader.stage ≡ Ended at) }
+        ensures fatal { is_skippable fault ≡ false
+            → self.new.answer ≡ Err (record { line = self.old.number + 1; fault = fault }) }
+    {
+        self.answer = self.fail(Stage::Open, fault, goes_on);
+    }
+
+    /// Takes the content of a line of any kind, for the lines that [`CompactReader::read_early`] doesn't take: see [`Expander::feed`].
     fn take_any(&mut self, line: &[u8]) -> Result<Step, At>
         requires drained { self.old.lines ≡ [] }
         requires short { length line.now ≤ LINE_LIMIT }
@@ -250,7 +281,6 @@ impl Expander {
     }
 
     /// Answers to a fault of the next line, which reading may go on at or not.
-    #[inline(never)]
     fn fail(&mut self, stage: Stage, fault: Fault, goes_on: bool) -> Result<Step, At>
         requires within { self.old.number < INPUT_LIMIT }
         requires drained { self.old.lines ≡ [] }

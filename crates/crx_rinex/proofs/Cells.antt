@@ -2,14 +2,14 @@
 use Rattle.std.proofs.Common.{◌≡◌, ℕ, ℤ, ◌+◌, ◌-◌, ◌*◌, ◌<◌, ◌≤◌, true, ◌&&◌, All, List, [], ◌∷◌, ◌++◌, Option, Some}
 use Rattle.std.proofs.Common.{None, length, take, drop, replicate, get_or, refl, ap, sym, subst, ◌∙◌, arith, suc, zero}
 use Rattle.std.specs.List.{concat, list_all}
-use Rattle.std.proofs.lemmas.Bool.{and_from, and_parts, eqb-true}
+use Rattle.std.proofs.lemmas.Bool.{and_from}
 use Rattle.std.proofs.lemmas.List.Elements.{All-replicate}
 use Rattle.std.proofs.lemmas.List.Folds.{concat-append, list_all-append}
 use Rattle.std.specs.Prelude.{slice_set}
 use Rattle.std.proofs.lemmas.List.{take_more_set, length-set, take_at, take-append-le, drop_all, length-drop}
 use Rattle.std.proofs.lemmas.List.{length-append, length-replicate, append_assoc}
 use Rattle.std.proofs.lemmas.Option.{option_and_then_some, same_Some, none-some}
-use Rattle.crx_text.specs.meaning.Columns.{character_at, columns, is_blank}
+use Rattle.crx_text.specs.meaning.Columns.{character_at, columns}
 use Rattle.crx_rinex.specs.meaning.EachPlace.{each_place}
 use Rattle.crx_rinex.specs.meaning.Observations.{Row}
 use Rattle.crx_text.specs.meaning.Numbers.{observation_of, number_of}
@@ -98,13 +98,6 @@ pair_pushed line k flags a b room h ha hb =
     ∙ ap (λ (fs : List ℕ). fs ++ a ∷ b ∷ []) h ∙ ap (λ (x : ℕ). flags_in k line ++ x ∷ b ∷ []) ha
     ∙ ap (λ (x : ℕ). flags_in k line ++ character_at line (16 * k + 18) ∷ x ∷ []) hb
     ∙ sym (flags_in_more line k)
-
--- a text of blanks alone
-pub blanks-are : (xs : List ℕ) → list_all is_blank xs ≡ true → xs ≡ replicate (length xs) 32
-blanks-are [] h = refl
-blanks-are (x ∷ xs) h =
-    let parts = and_parts (is_blank x) (list_all is_blank xs) h in
-    ap (λ (y : ℕ). y ∷ xs) (eqb-true x 32 parts.0) ∙ ap (λ (ys : List ℕ). 32 ∷ ys) (blanks-are xs parts.1)
 
 all_kept_blanks : (n : ℕ) → list_all is_kept (replicate n 32) ≡ true
 all_kept_blanks zero = refl

@@ -21,8 +21,8 @@ use crate::types::Types;
 use crx_lines::limits::{CELL_WIDTH, NAME_WIDTH, OBSERVATION_WIDTH, TYPES_LIMIT};
 use crx_text::block::put_text;
 use crx_text::{
-    Fault, Text, all_kept, obs_print_cell, obs_print_cell_into, obs_read, obs_read_into,
-    obs_read_usual, trim_end,
+    Fault, Text, all_kept, copy_text, obs_print_cell, obs_print_cell_into, obs_read, obs_read_into,
+    obs_read_usual, put_blanks, trim_end,
 };
 use std::alloc::Global;
 use std::marker::Model;
@@ -579,26 +579,12 @@ fn observation(line: &[u8], k: usize) -> Option<Option<i64>>
 
 /// Puts indicators in place of held ones, and blanks in place of those after them.
 fn put_flags(held: &mut [u8], flags: &[u8])
-    requires { length flags.now ≤ length held.old }
+    requires fitting { length flags.now ≤ length held.old }
+    requires few { length held.old ≤ LINE_LIMIT }
     ensures { held.new ≡ flags.now ++ replicate (length held.old - length flags.now) 32 }
 {
-    if are_put(held, flags) {
-        return;
-    }
-    held[..flags.len()].copy_from_slice(flags);
-    held[flags.len()..].fill(b' ');
-}
-
-/// Whether indicators stand in their places already, with blanks after them. They mostly do, and a copy and a filling are two calls of
-/// the C library.
-#[inline(always)]
-fn are_put(held: &[u8], flags: &[u8]) -> bool
-    requires { length flags.now ≤ length held.now }
-    ensures { OnTrue result
-        (held.now ≡ flags.now ++ replicate (length held.now - length flags.now) 32) }
-{
-    let count = flags.len();
-    &held[..count] == flags && all_blank(&held[count..])
+    copy_text(&mut held[..flags.len()], flags);
+    put_blanks(&mut held[flags.len()..]);
 }
 
 /// Appends cells: each value in its columns, and its two indicators.

@@ -34,8 +34,8 @@ module _ (size : ℕ) (small : size < 10 ^ 13) where
   fraction = size - size / 10 ^ 12 * 10 ^ 12
 
   pub clock_written : (field lanes : List ℕ) → length field ≡ 15
-      → lanes ≡ plus (side_by_side (group_digits (fraction / 10 ^ 9
-      ∷ fraction / 10 ^ 6 % 1000 ∷ fraction / 1000 % 1000 ∷ fraction % 1000 ∷ []))) (replicate 16 48)
+      → lanes ≡ plus (side_by_side (group_digits (fraction / 10 ^ 6 % 1000
+      ∷ fraction / 10 ^ 9 ∷ fraction % 1000 ∷ fraction / 1000 % 1000 ∷ []))) (replicate 16 48)
       → set (set (set (take 3 field ++ take 12 lanes) 0 32) 1 (48 + size / 10 ^ 12)) 2 46 ≡ 32 ∷ size_text 12 size
   clock_written field lanes wide is =
       let rest : fraction ≡ size % 10 ^ 12 = omega arith in

@@ -109,3 +109,10 @@ zip2-last_piece f xs ys out made i n some same passed within written long last =
     let ys_all : take (m + n) ys ≡ ys = take_all (m + n) ys (omega (arith, whole, same)) in
     sym all ∙ (last ∙ (ap (λ (t : List ℕ). t ++ zip2 f (chunk m n xs) (chunk m n ys)) kept
     ∙ (sym (zip2-piece f xs ys m n (omega arith) same) ∙ (rw (xs_all, ys_all) refl))))
+
+-- the rule that leaves the second text
+pub zip2-second : (xs ys : List ℕ) → length xs ≡ length ys → zip2 (λ (x y : ℕ). y) xs ys ≡ ys
+zip2-second [] [] same = refl
+zip2-second [] (y ∷ ys) same = absurd (omega arith)
+zip2-second (x ∷ xs) [] same = absurd (omega arith)
+zip2-second (x ∷ xs) (y ∷ ys) same = ap (λ t. y ∷ t) (zip2-second xs ys (omega arith))

@@ -3,10 +3,12 @@ pub mod ClockColumns
 pub mod ClockTexts
 pub mod CodeReads
 pub mod CodeTexts
+pub mod CopiedTexts
 pub mod CellReads
 pub mod DigitPairs
 pub mod DigitRows
 pub mod EndBlanks
+pub mod GroupHalves
 pub mod LaneBits
 pub mod LaneTexts
 pub mod LaneWords

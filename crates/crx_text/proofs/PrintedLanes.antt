@@ -13,24 +13,13 @@ use Rattle.crx_text.proofs.LaneBits.{fourteen, sixteen, no_bit, top_lane}
 
 -- ---- a group's digits
 
-abbrev pub group_hundreds : ℕ → ℕ
-group_hundreds g = g * 41 % 2 ^ 32 / 2 ^ 12
-
-abbrev pub group_rest : ℕ → ℕ
-group_rest g = (g + (2 ^ 32 - group_hundreds g * 100 % 2 ^ 32)) % 2 ^ 32
-
-abbrev pub group_tens : ℕ → ℕ
-group_tens g = group_rest g * 103 % 2 ^ 32 / 2 ^ 10
-
-abbrev pub group_ones : ℕ → ℕ
-group_ones g = (group_rest g + (2 ^ 32 - group_tens g * 10 % 2 ^ 32)) % 2 ^ 32
-
 -- the three digits in the bytes of one lane
 abbrev pub group_word : ℕ → ℕ
-group_word g = ((group_hundreds g + group_tens g * 2 ^ 8 % 2 ^ 32) % 2 ^ 32 + group_ones g * 2 ^ 16 % 2 ^ 32) % 2 ^ 32
+group_word g = ((g + g * 205 % 2 ^ 32 / 2 ^ 11 * 246 % 2 ^ 32) % 2 ^ 32
+    + g * 41 % 2 ^ 32 / 2 ^ 12 * 62976 % 2 ^ 32) % 2 ^ 32
 
 abbrev digits_word : ℕ → ℕ
-digits_word g = g / 100 + g / 10 % 10 * 256 + g % 10 * 65536
+digits_word g = g % 10 + g / 10 % 10 * 256 + g / 100 * 65536
 
 word_is : (g : ℕ) → g < 1000 → group_word g ≡ digits_word g
 word_is g small = eqb-true _ _ (agree_below_at (λ x. eqb (group_word x) (digits_word x)) (λ _. true) 1000 g refl small)
@@ -39,13 +28,13 @@ word_fits : (g : ℕ) → g < 1000 → group_word g < 2 ^ 32
 word_fits g small = omega arith
 
 module _ (g : ℕ) (small : g < 1000) where
-  byte_zero : group_word g / 256 ^ 0 % 256 ≡ g / 100
+  byte_zero : group_word g / 256 ^ 0 % 256 ≡ g % 10
   byte_zero = rw (word_is g small) (omega arith)
 
   byte_one : group_word g / 256 ^ 1 % 256 ≡ g / 10 % 10
   byte_one = rw (word_is g small) (omega arith)
 
-  byte_two : group_word g / 256 ^ 2 % 256 ≡ g % 10
+  byte_two : group_word g / 256 ^ 2 % 256 ≡ g / 100
   byte_two = rw (word_is g small) (omega arith)
 
   byte_three : group_word g / 256 ^ 3 % 256 ≡ 0
@@ -79,41 +68,41 @@ module _ (c : ℕ → ℕ) (small : (i : ℕ) → i < 4 → c i < 1000) where
       let s1 = small 1 (omega arith) in
       let s2 = small 2 (omega arith) in
       let s3 = small 3 (omega arith) in
-      let e0 : get_or bytes 0 0 ≡ c 0 / 100 = at 0 0 (omega arith) (omega arith) ∙ byte_zero (c 0) s0 in
+      let e0 : get_or bytes 0 0 ≡ c 0 % 10 = at 0 0 (omega arith) (omega arith) ∙ byte_zero (c 0) s0 in
       let e1 : get_or bytes 1 0 ≡ c 0 / 10 % 10 = at 0 1 (omega arith) (omega arith) ∙ byte_one (c 0) s0 in
-      let e2 : get_or bytes 2 0 ≡ c 0 % 10 = at 0 2 (omega arith) (omega arith) ∙ byte_two (c 0) s0 in
+      let e2 : get_or bytes 2 0 ≡ c 0 / 100 = at 0 2 (omega arith) (omega arith) ∙ byte_two (c 0) s0 in
       let e3 : get_or bytes 3 0 ≡ 0 = at 0 3 (omega arith) (omega arith) ∙ byte_three (c 0) s0 in
-      let e4 : get_or bytes 4 0 ≡ c 1 / 100 = at 1 0 (omega arith) (omega arith) ∙ byte_zero (c 1) s1 in
+      let e4 : get_or bytes 4 0 ≡ c 1 % 10 = at 1 0 (omega arith) (omega arith) ∙ byte_zero (c 1) s1 in
       let e5 : get_or bytes 5 0 ≡ c 1 / 10 % 10 = at 1 1 (omega arith) (omega arith) ∙ byte_one (c 1) s1 in
-      let e6 : get_or bytes 6 0 ≡ c 1 % 10 = at 1 2 (omega arith) (omega arith) ∙ byte_two (c 1) s1 in
+      let e6 : get_or bytes 6 0 ≡ c 1 / 100 = at 1 2 (omega arith) (omega arith) ∙ byte_two (c 1) s1 in
       let e7 : get_or bytes 7 0 ≡ 0 = at 1 3 (omega arith) (omega arith) ∙ byte_three (c 1) s1 in
-      let e8 : get_or bytes 8 0 ≡ c 2 / 100 = at 2 0 (omega arith) (omega arith) ∙ byte_zero (c 2) s2 in
+      let e8 : get_or bytes 8 0 ≡ c 2 % 10 = at 2 0 (omega arith) (omega arith) ∙ byte_zero (c 2) s2 in
       let e9 : get_or bytes 9 0 ≡ c 2 / 10 % 10 = at 2 1 (omega arith) (omega arith) ∙ byte_one (c 2) s2 in
-      let e10 : get_or bytes 10 0 ≡ c 2 % 10 = at 2 2 (omega arith) (omega arith) ∙ byte_two (c 2) s2 in
+      let e10 : get_or bytes 10 0 ≡ c 2 / 100 = at 2 2 (omega arith) (omega arith) ∙ byte_two (c 2) s2 in
       let e11 : get_or bytes 11 0 ≡ 0 = at 2 3 (omega arith) (omega arith) ∙ byte_three (c 2) s2 in
-      let e12 : get_or bytes 12 0 ≡ c 3 / 100 = at 3 0 (omega arith) (omega arith) ∙ byte_zero (c 3) s3 in
+      let e12 : get_or bytes 12 0 ≡ c 3 % 10 = at 3 0 (omega arith) (omega arith) ∙ byte_zero (c 3) s3 in
       let e13 : get_or bytes 13 0 ≡ c 3 / 10 % 10 = at 3 1 (omega arith) (omega arith) ∙ byte_one (c 3) s3 in
-      let e14 : get_or bytes 14 0 ≡ c 3 % 10 = at 3 2 (omega arith) (omega arith) ∙ byte_two (c 3) s3 in
+      let e14 : get_or bytes 14 0 ≡ c 3 / 100 = at 3 2 (omega arith) (omega arith) ∙ byte_two (c 3) s3 in
       let e15 : get_or bytes 15 0 ≡ 0 = at 3 3 (omega arith) (omega arith) ∙ byte_three (c 3) s3 in
       ap (λ (b : ℕ). b ∷ drop 1 bytes) e0
-      ∙ ap (λ (b : ℕ). c 0 / 100 ∷ b ∷ drop 2 bytes) e1
-      ∙ ap (λ (b : ℕ). c 0 / 100 ∷ c 0 / 10 % 10 ∷ b ∷ drop 3 bytes) e2
-      ∙ ap (λ (b : ℕ). c 0 / 100 ∷ c 0 / 10 % 10 ∷ c 0 % 10 ∷ b ∷ drop 4 bytes) e3
-      ∙ ap (λ (r : List ℕ). c 0 / 100 ∷ c 0 / 10 % 10 ∷ c 0 % 10 ∷ 0 ∷ r) (
+      ∙ ap (λ (b : ℕ). c 0 % 10 ∷ b ∷ drop 2 bytes) e1
+      ∙ ap (λ (b : ℕ). c 0 % 10 ∷ c 0 / 10 % 10 ∷ b ∷ drop 3 bytes) e2
+      ∙ ap (λ (b : ℕ). c 0 % 10 ∷ c 0 / 10 % 10 ∷ c 0 / 100 ∷ b ∷ drop 4 bytes) e3
+      ∙ ap (λ (r : List ℕ). c 0 % 10 ∷ c 0 / 10 % 10 ∷ c 0 / 100 ∷ 0 ∷ r) (
       ap (λ (b : ℕ). b ∷ drop 5 bytes) e4
-      ∙ ap (λ (b : ℕ). c 1 / 100 ∷ b ∷ drop 6 bytes) e5
-      ∙ ap (λ (b : ℕ). c 1 / 100 ∷ c 1 / 10 % 10 ∷ b ∷ drop 7 bytes) e6
-      ∙ ap (λ (b : ℕ). c 1 / 100 ∷ c 1 / 10 % 10 ∷ c 1 % 10 ∷ b ∷ drop 8 bytes) e7
-      ∙ ap (λ (r : List ℕ). c 1 / 100 ∷ c 1 / 10 % 10 ∷ c 1 % 10 ∷ 0 ∷ r) (
+      ∙ ap (λ (b : ℕ). c 1 % 10 ∷ b ∷ drop 6 bytes) e5
+      ∙ ap (λ (b : ℕ). c 1 % 10 ∷ c 1 / 10 % 10 ∷ b ∷ drop 7 bytes) e6
+      ∙ ap (λ (b : ℕ). c 1 % 10 ∷ c 1 / 10 % 10 ∷ c 1 / 100 ∷ b ∷ drop 8 bytes) e7
+      ∙ ap (λ (r : List ℕ). c 1 % 10 ∷ c 1 / 10 % 10 ∷ c 1 / 100 ∷ 0 ∷ r) (
       ap (λ (b : ℕ). b ∷ drop 9 bytes) e8
-      ∙ ap (λ (b : ℕ). c 2 / 100 ∷ b ∷ drop 10 bytes) e9
-      ∙ ap (λ (b : ℕ). c 2 / 100 ∷ c 2 / 10 % 10 ∷ b ∷ drop 11 bytes) e10
-      ∙ ap (λ (b : ℕ). c 2 / 100 ∷ c 2 / 10 % 10 ∷ c 2 % 10 ∷ b ∷ drop 12 bytes) e11
-      ∙ ap (λ (r : List ℕ). c 2 / 100 ∷ c 2 / 10 % 10 ∷ c 2 % 10 ∷ 0 ∷ r) (
+      ∙ ap (λ (b : ℕ). c 2 % 10 ∷ b ∷ drop 10 bytes) e9
+      ∙ ap (λ (b : ℕ). c 2 % 10 ∷ c 2 / 10 % 10 ∷ b ∷ drop 11 bytes) e10
+      ∙ ap (λ (b : ℕ). c 2 % 10 ∷ c 2 / 10 % 10 ∷ c 2 / 100 ∷ b ∷ drop 12 bytes) e11
+      ∙ ap (λ (r : List ℕ). c 2 % 10 ∷ c 2 / 10 % 10 ∷ c 2 / 100 ∷ 0 ∷ r) (
       ap (λ (b : ℕ). b ∷ drop 13 bytes) e12
-      ∙ ap (λ (b : ℕ). c 3 / 100 ∷ b ∷ drop 14 bytes) e13
-      ∙ ap (λ (b : ℕ). c 3 / 100 ∷ c 3 / 10 % 10 ∷ b ∷ drop 15 bytes) e14
-      ∙ ap (λ (b : ℕ). c 3 / 100 ∷ c 3 / 10 % 10 ∷ c 3 % 10 ∷ b ∷ []) e15
+      ∙ ap (λ (b : ℕ). c 3 % 10 ∷ b ∷ drop 14 bytes) e13
+      ∙ ap (λ (b : ℕ). c 3 % 10 ∷ c 3 / 10 % 10 ∷ b ∷ drop 15 bytes) e14
+      ∙ ap (λ (b : ℕ). c 3 % 10 ∷ c 3 / 10 % 10 ∷ c 3 / 100 ∷ b ∷ []) e15
       )))
 
 -- the words as the code makes them of the groups
@@ -121,14 +110,10 @@ abbrev pub words_of : List ℕ → List ℕ
 words_of groups =
     let times = zip2 (λ a b. a * b % 2 ^ 32) in
     let plus = zip2 (λ a b. (a + b) % 2 ^ 32) in
-    let less = zip2 (λ a b. (a + (2 ^ 32 - b)) % 2 ^ 32) in
-    let up = zip2 (λ a b. a * 2 ^ b % 2 ^ 32) in
     let down = zip2 (λ a b. a / 2 ^ b) in
-    let hundreds = down (times groups (replicate 4 41)) (replicate 4 12) in
-    let rest = less groups (times hundreds (replicate 4 100)) in
-    let tens = down (times rest (replicate 4 103)) (replicate 4 10) in
-    let ones = less rest (times tens (replicate 4 10)) in
-    plus (plus hundreds (up tens (replicate 4 8))) (up ones (replicate 4 16))
+    let tenths = down (times groups (replicate 4 205)) (replicate 4 11) in
+    let hundredths = down (times groups (replicate 4 41)) (replicate 4 12) in
+    plus (plus groups (times tenths (replicate 4 246))) (times hundredths (replicate 4 62976))
 
 each_below : (groups : List ℕ) (i : ℕ) → Each1 (λ g. g < 1000) groups → get_or groups i 0 < 1000
 each_below [] i h = omega arith

@@ -1,21 +1,21 @@
 -- A number's digits in a row of lanes, on the way to its text.
 use Rattle.std.specs.Prelude.{ℕ, suc, ◌/◌, ◌%◌, ◌==◌, if◌then◌else◌, List, [], ◌∷◌}
 
--- each group's hundreds, tens and ones, and a 0
+-- each group's ones, tens and hundreds, and a 0
 abbrev pub group_digits : List ℕ → List ℕ
 group_digits [] = []
-group_digits (group ∷ groups) = group / 100 ∷ group / 10 % 10 ∷ group % 10 ∷ 0 ∷ group_digits groups
+group_digits (group ∷ groups) = group % 10 ∷ group / 10 % 10 ∷ group / 100 ∷ 0 ∷ group_digits groups
 
--- four groups in their columns: a column without a digit, nine digits, the column of the point, three digits
+-- four groups, the second one first and the fourth one before the third, in their columns: a column without a digit, nine digits, the column of the point, three digits
 abbrev pub spread : List ℕ → List ℕ
 spread (a ∷ b ∷ c ∷ x ∷ d ∷ e ∷ f ∷ y ∷ g ∷ h ∷ i ∷ z ∷ j ∷ k ∷ l ∷ w ∷ rest) =
-    x ∷ a ∷ b ∷ c ∷ d ∷ e ∷ f ∷ g ∷ h ∷ i ∷ 254 ∷ j ∷ k ∷ l ∷ x ∷ x ∷ []
+    x ∷ f ∷ e ∷ d ∷ c ∷ b ∷ a ∷ l ∷ k ∷ j ∷ 254 ∷ i ∷ h ∷ g ∷ x ∷ x ∷ []
 spread other = []
 
--- four groups one after another
+-- four such groups one after another
 abbrev pub side_by_side : List ℕ → List ℕ
 side_by_side (a ∷ b ∷ c ∷ x ∷ d ∷ e ∷ f ∷ y ∷ g ∷ h ∷ i ∷ z ∷ j ∷ k ∷ l ∷ w ∷ rest) =
-    a ∷ b ∷ c ∷ d ∷ e ∷ f ∷ g ∷ h ∷ i ∷ j ∷ k ∷ l ∷ x ∷ x ∷ x ∷ x ∷ []
+    f ∷ e ∷ d ∷ c ∷ b ∷ a ∷ l ∷ k ∷ j ∷ i ∷ h ∷ g ∷ x ∷ x ∷ x ∷ x ∷ []
 side_by_side other = []
 
 -- the zeros before a number's first digit, its last one apart

@@ -17,7 +17,7 @@ const SECOND: u64 = 1_000_000_000_000;
 fn glyphs(digits: u8x16) -> u8x16
     ensures { result ≡ zip2 (λ digit base. (digit + base) % 256) (side_by_side digits) (replicate 16 48) }
 {
-    digits.swizzle([0, 1, 2, 4, 5, 6, 8, 9, 10, 12, 13, 14, 3, 3, 3, 3]) + u8x16::splat(b'0')
+    digits.swizzle([6, 5, 4, 2, 1, 0, 14, 13, 12, 10, 9, 8, 3, 3, 3, 3]) + u8x16::splat(b'0')
 }
 
 /// Puts the first 12 lanes into the columns after the point.

@@ -183,7 +183,7 @@ impl Rule for Characters {
     }
 }
 
-static BLANKS: [u8; LINE_LIMIT] = [b' '; LINE_LIMIT];
+pub(crate) static BLANKS: [u8; LINE_LIMIT] = [b' '; LINE_LIMIT];
 
 // Writes what the rule makes of two texts, blanks standing after the shorter one, and answers how
 // many characters that makes.

@@ -1,7 +1,7 @@
 //! An observation's text by lanes: the digits of its 14 columns in one row, and then the blanks
 //! before the first of them.
 
-ghost use Rattle.std.specs.Prelude.{◌≡◌, ◌+◌, ◌-◌, ◌/◌, ◌%◌, ◌^◌, ◌<◌, ◌≤◌, ◌∷◌, ◌++◌, [], length, slice_index, take, drop, replicate};
+ghost use Rattle.std.specs.Prelude.{◌≡◌, ◌+◌, ◌-◌, ◌/◌, ◌%◌, ◌^◌, ◌<◌, ◌≤◌, ◌∷◌, ◌++◌, [], ◌*◌, length, map, slice_index, take, drop, replicate};
 ghost use Rattle.std.specs.Simd.Lanes.{Each1, zip2};
 ghost use Rattle.crx_lines.specs.declared.limits.TheConstants.{OBSERVATION_WIDTH, OBSERVATION_DECIMALS};
 ghost use Rattle.crx_text.specs.FieldTexts.{group_digits, spread, leading_zeros};
@@ -9,30 +9,39 @@ ghost use Rattle.crx_text.specs.meaning.Numbers.{size_text};
 
 use std::simd::prelude::*;
 
-/// The groups of three digits of a size, the highest first.
+/// The groups of three digits of a size, of its upper half and of its lower half, in each the lower group first.
 #[inline(always)]
 pub(crate) fn groups(size: u64) -> u32x4
     requires { size < 10 ^ 12 }
-    ensures { result ≡ size / 10 ^ 9 ∷ size / 10 ^ 6 % 1000 ∷ size / 1000 % 1000 ∷ size % 1000 ∷ [] }
+    ensures { result ≡ size / 10 ^ 6 % 1000 ∷ size / 10 ^ 9 ∷ size % 1000 ∷ size / 1000 % 1000 ∷ [] }
 {
     let high = (size / 1_000_000) as u32;
     let low = (size - u64::from(high) * 1_000_000) as u32;
-    let first = high / 1000;
-    let third = low / 1000;
-    u32x4::from_array([first, high - first * 1000, third, low - third * 1000])
+    u32x4::from_le_bytes(halves(u64x2::from_array([u64::from(high), u64::from(low)])).to_le_bytes())
 }
 
-/// Each group's three digits and a 0, by products in place of divisions.
+/// Each half's rest by 1000, and its thousands in the upper 32 bits.
+#[inline(always)]
+fn halves(halves: u64x2) -> u64x2
+    requires { Each1 (λ half. half < 10 ^ 6) halves }
+    ensures { result ≡ map (λ half. half % 1000 + half / 1000 * 2 ^ 32) halves }
+{
+    let thousands = (halves * u64x2::splat(274_877_907)) >> u64x2::splat(38);
+    halves + thousands * u64x2::splat((1 << 32) - 1000)
+}
+
+/// Each group's three digits, the last one first, and a 0: a group, its tenth and its hundredth, each times what turns them into digits,
+/// so that four products are enough and no division is made.
 #[inline(always)]
 pub(crate) fn digits(groups: u32x4) -> u8x16
     requires { Each1 (λ group. group < 1000) groups }
     ensures { result ≡ group_digits groups }
 {
-    let hundreds = (groups * u32x4::splat(41)) >> u32x4::splat(12);
-    let rest = groups - hundreds * u32x4::splat(100);
-    let tens = (rest * u32x4::splat(103)) >> u32x4::splat(10);
-    let ones = rest - tens * u32x4::splat(10);
-    (hundreds + (tens << u32x4::splat(8)) + (ones << u32x4::splat(16))).to_le_bytes()
+    let tenths = (groups * u32x4::splat(205)) >> u32x4::splat(11);
+    let hundredths = (groups * u32x4::splat(41)) >> u32x4::splat(12);
+    (groups
+        + tenths * u32x4::splat(256 - 10)
+        + hundredths * u32x4::splat(65536 - 2560)).to_le_bytes()
 }
 
 /// The digits in their columns, with what becomes the point once 48 is added.
@@ -42,7 +51,7 @@ fn columns(digits: u8x16) -> u8x16
 {
     digits.shuffle(
         u8x16::splat(254),
-        [3, 0, 1, 2, 4, 5, 6, 8, 9, 10, 16, 12, 13, 14, 3, 3],
+        [3, 6, 5, 4, 2, 1, 0, 14, 13, 12, 16, 10, 9, 8, 3, 3],
     )
 }
 

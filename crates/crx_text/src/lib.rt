@@ -7,6 +7,7 @@ mod clock_field;
 mod clock_text;
 pub mod code;
 pub mod columns;
+mod copies;
 pub mod difference;
 mod digits;
 mod field;
@@ -16,6 +17,7 @@ pub mod number;
 pub mod text;
 
 pub use code::{Code, code_before_blank, code_print, code_read, step_before_blank, write_cell};
+pub use copies::{copy_text, put_blanks};
 pub use crx_lines::{
     At, Fault, Line, LineReader, ReadFailed, Sink, Source, Std, WriteFailed, write_all_counted,
 };

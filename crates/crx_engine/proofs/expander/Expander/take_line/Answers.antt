@@ -28,7 +28,7 @@ returns-in-Err-clause-steps c =
       is_count = refl;
       is_skip = refl;
     } in
-    let failed = c.fail-self.ensures.fails
+    let failed = c.store_fault.ensures.fails
     (expander_state self) held (Content line) at refl (sym c.in-Err.ensures.types) (sym c.begins_epoch.ensures) in
-    refused-line (expander_state self) (expander_state c.fail-self.new.self) line c.in-Err.fault c.fail-self.result
-    c.fail-self.new.self.lines failed c.fail-self.ensures.drained c.fail-self.ensures.fatal c.in-Err.ensures.refuses
+    refused-line (expander_state self) (expander_state c.store_fault.new.self) line c.in-Err.fault c.store_fault.new.self.answer
+    c.store_fault.new.self.lines failed c.store_fault.ensures.drained c.store_fault.ensures.fatal c.in-Err.ensures.refuses

@@ -1,0 +1,74 @@
+-- A size's groups of three digits, two halves at a time.
+use Rattle.std.proofs.Common.{◌≡◌, ℕ, zero, suc, ◌+◌, ◌*◌, ◌/◌, ◌%◌, ◌^◌, ◌<◌, List, [], ◌∷◌, length, map, arith, refl, ap, ◌∙◌}
+use Rattle.std.proofs.Math.Nat.{pow-suc}
+use lib.Lanes.{Each1, zip2, digits_l, number_l}
+
+-- ---- the halves
+
+abbrev half_word : ℕ → ℕ
+half_word x = (x + x * 274877907 % 2 ^ 64 / 2 ^ 38 * 4294966296 % 2 ^ 64) % 2 ^ 64
+
+half_is : (x : ℕ) → x < 10 ^ 6 → half_word x ≡ x % 1000 + x / 1000 * 2 ^ 32
+half_is x small =
+    let whole : x * 274877907 % 2 ^ 64 ≡ x * 274877907 = omega (arith, small) in
+    let thousands : x * 274877907 / 2 ^ 38 ≡ x / 1000 = omega (arith, small) in
+    rw (whole, thousands) (omega (arith, small))
+
+-- the halves as the code makes them
+abbrev pub halves_of : List ℕ → List ℕ
+halves_of v =
+    let times = zip2 (λ a b. a * b % 2 ^ 64) in
+    let plus = zip2 (λ a b. (a + b) % 2 ^ 64) in
+    let down = zip2 (λ a b. a / 2 ^ b) in
+    plus v (times (down (times v (274877907 ∷ 274877907 ∷ [])) (38 ∷ 38 ∷ [])) (4294966296 ∷ 4294966296 ∷ []))
+
+pub halves_are : (v : List ℕ) → length v ≡ 2 → Each1 (λ half. half < 10 ^ 6) v
+    → halves_of v ≡ map (λ half. half % 1000 + half / 1000 * 2 ^ 32) v
+halves_are [] long small = absurd (omega arith)
+halves_are (x ∷ []) long small = absurd (omega arith)
+halves_are (x ∷ y ∷ []) long small = rw (half_is x small.0, half_is y small.1.0) refl
+halves_are (x ∷ y ∷ z ∷ v) long small = absurd (omega arith)
+
+-- ---- the groups in them
+
+bytes_back : (n x : ℕ) → x < 256 ^ n → number_l 256 (digits_l 256 n x) ≡ x
+bytes_back zero x h = omega (arith, h)
+bytes_back (suc n) x h =
+    ap (λ (m : ℕ). x % 256 + 256 * m) (bytes_back n (x / 256) (omega (arith, h, pow-suc 256 n))) ∙ omega arith
+
+next_lane : (n r y : ℕ) → r < 2 ^ 32 → digits_l (2 ^ 32) (suc n) (r + 2 ^ 32 * y) ≡ r ∷ digits_l (2 ^ 32) n y
+next_lane n r y small =
+    let rest : (r + 2 ^ 32 * y) % 2 ^ 32 ≡ r = omega (arith, small) in
+    let more : (r + 2 ^ 32 * y) / 2 ^ 32 ≡ y = omega (arith, small) in
+    ap (λ (k : ℕ). k ∷ digits_l (2 ^ 32) n ((r + 2 ^ 32 * y) / 2 ^ 32)) rest
+    ∙ ap (λ (k : ℕ). r ∷ digits_l (2 ^ 32) n k) more
+
+-- the lanes of two halves
+abbrev pub lanes_of : List ℕ → List ℕ
+lanes_of v = digits_l (2 ^ 32) 4 (number_l 256 (digits_l 256 16 (number_l (2 ^ 64) v)))
+
+module _ (a b c d : ℕ) (as_small : a < 1000) (bs_small : b < 1000) (cs_small : c < 1000) (ds_small : d < 1000) where
+  number_is : number_l (2 ^ 64) ((a + b * 2 ^ 32) ∷ (c + d * 2 ^ 32) ∷ [])
+      ≡ a + 2 ^ 32 * (b + 2 ^ 32 * (c + 2 ^ 32 * (d + 2 ^ 32 * 0)))
+  number_is = omega arith
+
+  pub lanes_are : lanes_of ((a + b * 2 ^ 32) ∷ (c + d * 2 ^ 32) ∷ []) ≡ a ∷ b ∷ c ∷ d ∷ []
+  lanes_are =
+      let number : ℕ = number_l (2 ^ 64) ((a + b * 2 ^ 32) ∷ (c + d * 2 ^ 32) ∷ []) in
+      ap (digits_l (2 ^ 32) 4) (bytes_back 16 number (omega (arith, as_small, bs_small, cs_small, ds_small)) ∙ number_is)
+      ∙ next_lane 3 a (b + 2 ^ 32 * (c + 2 ^ 32 * (d + 2 ^ 32 * 0))) (omega (arith, as_small))
+      ∙ ap (λ (t : List ℕ). a ∷ t) (next_lane 2 b (c + 2 ^ 32 * (d + 2 ^ 32 * 0)) (omega (arith, bs_small))
+      ∙ ap (λ (t : List ℕ). b ∷ t) (next_lane 1 c (d + 2 ^ 32 * 0) (omega (arith, cs_small))
+      ∙ ap (λ (t : List ℕ). c ∷ t) (next_lane 0 d 0 (omega (arith, ds_small)))))
+
+pub groups_are : (size high low : ℕ) → size < 10 ^ 12 → high ≡ size / 10 ^ 6 → low ≡ size % 10 ^ 6
+    → lanes_of ((high % 1000 + high / 1000 * 2 ^ 32) ∷ (low % 1000 + low / 1000 * 2 ^ 32) ∷ [])
+    ≡ size / 10 ^ 6 % 1000 ∷ size / 10 ^ 9 ∷ size % 1000 ∷ size / 1000 % 1000 ∷ []
+groups_are size high low small is rest =
+    let a : high % 1000 ≡ size / 10 ^ 6 % 1000 = ap (λ (n : ℕ). n % 1000) is in
+    let b : high / 1000 ≡ size / 10 ^ 9 = omega (arith, is) in
+    let c : low % 1000 ≡ size % 1000 = omega (arith, rest) in
+    let d : low / 1000 ≡ size / 1000 % 1000 = omega (arith, rest) in
+    lanes_are (high % 1000) (high / 1000) (low % 1000)
+    (low / 1000) (omega arith) (omega (arith, small, b)) (omega arith) (omega (arith, d))
+    ∙ (rw (a, b, c, d) refl)
