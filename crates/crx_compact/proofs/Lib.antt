@@ -3,4 +3,5 @@ pub mod arcs
 pub mod wayback
 pub mod soundness
 pub mod Making
+pub mod SameTexts
 pub mod LineTexts

@@ -29,6 +29,7 @@ use crate::arc::ObsArc;
 use crate::awaited::AwaitedSatellite;
 use crate::lines::Lines;
 use crate::refusals::fault_of_row;
+use crate::same::is_same_text;
 use crx_lines::limits::{DIGITS_LIMIT, NAME_WIDTH};
 use crx_rinex::{SatRow, after_columns, all_blank};
 use crx_text::block::put_text;
@@ -52,7 +53,7 @@ pub(crate) fn mark_change(old: &[u8], new: &[u8], part: &mut Text)
     ensures { part.new ≡ text_difference old.now new.now }
 {
     part.clear();
-    if old != new {
+    if !is_same_text(old, new) {
         append_change(old, new, part);
     }
 }

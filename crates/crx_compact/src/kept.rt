@@ -2,12 +2,13 @@
 
 ghost use Rattle.std.specs.Prelude.{ℕ, min, ◌≡◌, ◌≤◌, ◌<◌, ◌+◌, false, ◌++◌, ◌∷◌, [], true, Ok, Err, length, take, map, ◌⊎◌, OnOk, OnSome, IfOk, IfErr};
 ghost use Rattle.std.specs.Bool.{OnTrue};
-ghost use Rattle.std.specs.List.{list_all};
+ghost use Rattle.std.specs.List.{flat_map, list_all};
 ghost use Rattle.std.specs.Result.{is_ok};
 ghost use Rattle.crx_text.specs.meaning.Columns.{without_end_blanks};
 ghost use Rattle.crx_text.specs.meaning.Texts.{is_kept, is_printable};
-ghost use Rattle.crx_lines.specs.declared.limits.TheConstants.{LINE_LIMIT};
+ghost use Rattle.crx_lines.specs.declared.limits.TheConstants.{LINE_LIMIT, NAME_WIDTH};
 ghost use Rattle.crx_rinex.specs.meaning.EpochLines.{begins_epoch};
+ghost use Rattle.crx_rinex.specs.meaning.Observations.{Row};
 ghost use Rattle.crx_rinex.specs.meaning.Epochs.{IsSoundEpoch};
 ghost use Rattle.crx_compact.specs.meaning.Compaction.{epoch_text};
 ghost use Rattle.crx_text.specs.Texts.{patched};
@@ -354,12 +355,34 @@ fn push_epoch_text(text: &mut Vec<u8>, epoch: &Epoch) -> Result<(), AllocError>
     ensures { OnOk result (text.new.items ≡ text.old.items ++ epoch_text epoch.now) }
 {
     text.extend_from_slice(epoch.head().columns())?;
+    push_names(text, epoch)
+}
+
+/// Appends the identifiers of an epoch's satellites. Room is asked for once; to append them one by one takes 60 instructions each.
+fn push_names(text: &mut Vec<u8>, epoch: &Epoch) -> Result<(), AllocError>
+    ensures { OnOk result (text.new.items ≡ text.old.items ++ flat_map (λ (row : Row). row.name) epoch.now.rows) }
+{
+    let start = text.len();
+    text.resize(start + NAME_WIDTH * epoch.count(), b' ')?;
+    let mut at = start;
     let mut index = 0;
     while let Some(row) = epoch.row(index) {
-        text.extend_from_slice(&row.name())?;
+        put_name(text, at, row.name());
+        at += NAME_WIDTH;
         index += 1;
     }
     Ok(())
+}
+
+/// Puts an identifier in place of the bytes from an index on.
+#[inline(always)]
+fn put_name(bytes: &mut [u8], at: usize, name: [u8; NAME_WIDTH])
+    requires { at + NAME_WIDTH ≤ length bytes.old }
+    ensures { take (at + NAME_WIDTH) bytes.new ≡ take at bytes.old ++ name }
+{
+    bytes[at] = name[0];
+    bytes[at + 1] = name[1];
+    bytes[at + 2] = name[2];
 }
 
 /// Makes sure that there is a satellite at a place, which may be the one right after the last.

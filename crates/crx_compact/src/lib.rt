@@ -12,6 +12,7 @@ mod kept;
 pub mod lines;
 pub mod read_back;
 mod refusals;
+mod same;
 
 pub use arc::{ClockArc, ObsArc};
 pub use coded::Coded;

@@ -197,9 +197,35 @@ impl Compaction {
     }
 
     /// Takes the next line: see [`Compactor::feed`](crate::compactor::Compactor::feed). `true` says that nothing is to be written or
-    /// reported after it; else the answer is put into its place.
+    /// reported after it; else the answer is put into its place. Most lines are rows of an open epoch: they are taken without an answer
+    /// and a step, which would be set to zero at each line.
     #[inline(always)]
     pub(crate) fn feed(
+        &mut self,
+        line: &[u8],
+        ready: &mut ReadyLines,
+        answer: &mut Result<Step, At>,
+    ) -> bool
+        requires within { self.old.number < INPUT_LIMIT }
+        requires short { length line.now ≤ LINE_LIMIT }
+        requires drained { pending_lines ready.old ≡ [] }
+        ensures steps { Steps compaction (compaction_state self.old) (Content line.now)
+            (answer_given result answer.new) (pending_lines ready.new) (compaction_state self.new) }
+        ensures ended { IfErr (answer_given result answer.new)
+            (λ at. (compaction_state self.new).phase ≡ Ended at) }
+        ensures nothing { OnErr (answer_given result answer.new) (pending_lines ready.new ≡ []) }
+        ensures choices { (compaction_state self.new).choices ≡ (compaction_state self.old).choices }
+    {
+        if self.reader.take_row(line) {
+            self.number += 1;
+            return true;
+        }
+        self.feed_other(line, ready, answer)
+    }
+
+    /// Takes the next line as [`Compaction::feed`] does, where it isn't a row that the reader takes at once.
+    #[inline(never)]
+    fn feed_other(
         &mut self,
         line: &[u8],
         ready: &mut ReadyLines,

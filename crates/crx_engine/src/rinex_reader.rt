@@ -42,6 +42,7 @@ pub(crate) struct RinexReader {
 
 impl RinexReader {
     ghost use Rattle.std.specs.Prelude.{◌⊎◌, [], None, Some, false, if◌then◌else◌, IfOk, IfErr, OnErr};
+    ghost use Rattle.std.specs.Bool.{OnFalse, OnTrue};
     ghost use Rattle.std.specs.Option.{option_copied};
     ghost use Rattle.crx_rinex.specs.meaning.EpochLines.{begins_epoch};
     ghost use Rattle.crx_rinex.specs.Epochs.{is_full_epoch};
@@ -109,6 +110,31 @@ impl RinexReader {
             }
             Stage::FirstLines { .. } | Stage::Closed | Stage::Ended(_) => Ok(RinexStep::Nothing),
         }
+    }
+
+    /// Takes a satellite line of an epoch whose rows have come in part, where it is one that [`Epoch::read_known_row`] reads: most lines
+    /// of a file are. `false` comes for the others, and for one with a fault, and then the reader is as it was.
+    #[inline(always)]
+    pub(crate) fn take_row(&mut self, line: &[u8]) -> bool
+        ensures takes { (kept : Written) → OnTrue result
+            (TakesRinexLine (made_at self.old line.now kept) self.old line.now RinexStep.Nothing self.new) }
+        ensures same_stage { self.new.stage ≡ self.old.stage }
+        ensures same_types { self.new.types ≡ self.old.types }
+        ensures same_epoch { OnFalse result (self.new.epoch ≡ self.old.epoch) }
+    {
+        let Stage::Open = self.stage else {
+            return false;
+        };
+        if begins_epoch(line) {
+            return false;
+        }
+        let Some(epoch) = &mut self.epoch else {
+            return false;
+        };
+        if !epoch.read_known_row(&self.types, line) {
+            return false;
+        }
+        true
     }
 
     /// Takes a header line.

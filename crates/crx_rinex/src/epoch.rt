@@ -157,6 +157,33 @@ impl Epoch {
         self.read_other_row(types, line)
     }
 
+    /// Reads a satellite line as [`Epoch::read_row`] does, where its row isn't the epoch's last one, and stands where a row of the same
+    /// satellite stood in the epoch before. Most lines of a file are such lines; `false` comes for the others, and for one with a fault,
+    /// and then the epoch is as it was.
+    #[inline(always)]
+    pub fn read_known_row(&mut self, types: &Types, line: &[u8]) -> bool
+        ensures put { OnTrue result (AddsRow self.old
+            (row_if_new self.old.rows (row_of types.now line.now)) self.new) }
+        ensures open { OnTrue result (is_full_epoch self.new ≡ false) }
+        ensures sound { OnTrue result (IsSoundEpoch self.new) }
+        ensures same { OnFalse result (self.new ≡ self.old) }
+    {
+        let place = self.count;
+        if place + 1 >= self.head.count() || place >= self.rows.len() {
+            return false;
+        }
+        let name = identifier(line, 1);
+        if !self.names.has_at(place, name) {
+            return false;
+        }
+        let row = &mut self.rows[place];
+        let Ok(()) = row.read_named(types, line, name) else {
+            return false;
+        };
+        self.count = place + 1;
+        true
+    }
+
     /// Reads a row as [`Epoch::read_row`] does, where the place has no row yet, or that of another satellite.
     #[inline(never)]
     fn read_other_row(&mut self, types: &Types, line: &[u8]) -> Result<(), Fault>

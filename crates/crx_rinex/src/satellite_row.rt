@@ -409,14 +409,39 @@ fn split_cells(line: &[u8], values: &mut [Option<i64>], flags: &mut [u8]) -> boo
 {
     let mut k = split_plain_cells(line, values, flags);
     while k < values.len() {
-        let Some((value, lock, strength)) = cell(line, k) else {
+        if !read_cell(line, k, &mut values[k], flags) {
             return false;
-        };
-        values[k] = value;
-        flags[2 * k] = lock;
-        flags[2 * k + 1] = strength;
+        }
         k += 1;
     }
+    true
+}
+
+/// Takes the value and the indicators of type k, from 0, out of a line's cell; `false` where the field is neither blank nor a number.
+/// Most cells that [`split_plain_cells`] leaves are past the line's end: blanks at a line's end are cut.
+#[inline(always)]
+fn read_cell(line: &[u8], k: usize, value: &mut Option<i64>, flags: &mut [u8]) -> bool
+    requires few { k < TYPES_LIMIT }
+    requires within { 2 * k + 1 < length flags.old }
+    ensures value { MatchBool result (observation_of (field line.now k) ≡ Some value.new)
+        (observation_of (field line.now k) ≡ None) }
+    ensures ranged { OnTrue result (IsValue value.new) }
+    ensures flags { OnTrue result (flags.new ≡ slice_set (slice_set flags.old (2 * k)
+        (character_at line.now (CELL_WIDTH * k + (NAME_WIDTH + OBSERVATION_WIDTH + 1)))) (2 * k + 1)
+        (character_at line.now (CELL_WIDTH * k + (NAME_WIDTH + OBSERVATION_WIDTH + 2)))) }
+{
+    if line.len() <= CELL_WIDTH * k + NAME_WIDTH {
+        *value = None;
+        flags[2 * k] = b' ';
+        flags[2 * k + 1] = b' ';
+        return true;
+    }
+    let Some((found, lock, strength)) = cell(line, k) else {
+        return false;
+    };
+    *value = found;
+    flags[2 * k] = lock;
+    flags[2 * k + 1] = strength;
     true
 }
 
@@ -475,6 +500,7 @@ fn put_indicators(line: &[u8], k: usize, flags: &mut [u8])
 }
 
 /// How many types the satellite of a line has, where the line begins with an identifier of a system with types.
+#[inline(always)]
 pub fn types_of_satellite(types: &Types, line: &[u8]) -> Option<usize>
     ensures value { result ≡ types_of_satellite types.now line.now }
     ensures allowed { IfSome result IsAllowedCount }
@@ -488,6 +514,7 @@ pub fn types_of_satellite(types: &Types, line: &[u8]) -> Option<usize>
 }
 
 /// Whether columns 2 and 3 go on with an identifier: a digit or a blank, and a digit.
+#[inline(always)]
 fn has_number(line: &[u8]) -> bool
     ensures { result ≡ has_number line.now }
 {
@@ -508,9 +535,6 @@ fn cell(line: &[u8], k: usize) -> Option<(Option<i64>, u8, u8)>
     let start = CELL_WIDTH * k + NAME_WIDTH;
     let end = start + OBSERVATION_WIDTH;
     if line.len() < end {
-        if line.len() <= start {
-            return Some((None, b' ', b' '));
-        }
         return cell_in_any_spelling(line, k);
     }
     match obs_read_usual(&line[start..end]) {

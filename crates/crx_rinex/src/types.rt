@@ -71,6 +71,7 @@ impl Types {
     }
 
     /// How many types a system has, by its letter.
+    #[inline(always)]
     pub fn count(&self, letter: u8) -> Option<usize>
         ensures value { result ≡ count_of self.now letter }
         ensures allowed { IfSome result IsAllowedCount }
@@ -95,6 +96,7 @@ impl Types {
     }
 
     /// The letter of the system that appeared at this place, from 0, and how many types it has.
+    #[inline(always)]
     pub fn entry(&self, index: usize) -> Option<(u8, usize)>
         ensures value { result ≡ slice_get self.now index }
         ensures allowed { IfSome result IsCount }

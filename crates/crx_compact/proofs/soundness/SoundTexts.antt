@@ -2,10 +2,7 @@
 use Rattle.std.specs.Prelude.{◌≡◌, ◌≤◌, refl, ℕ, zero, suc, ◌*◌, true, ◌&&◌, if◌then◌else◌, List, [], ◌∷◌, ◌++◌, length}
 use Rattle.std.specs.Prelude.{take, flat_map, All}
 use Rattle.std.specs.List.{list_all}
-use Rattle.std.specs.Str.{bytes_eq}
 use Rattle.std.proofs.lemmas.Bool.Decides.{Decides-eqb}
-use Rattle.std.proofs.lemmas.List.{append-nil}
-use Rattle.std.proofs.lemmas.Slice.Eq.{bytes_eq-Decides}
 use Rattle.std.proofs.lemmas.Bool.{and_parts}
 use Rattle.std.proofs.Common.{ap, arith, length-append, ◌∙◌, sym}
 use Rattle.crx_lines.specs.declared.limits.TheConstants.{LINE_LIMIT}
@@ -80,15 +77,10 @@ difference-trimmed old new =
 mark-same : (c : ℕ) → mark_of c c ≡ 32
 mark-same c = ap (λ b. if b then 32 else if is_blank c then 38 else c) ((Decides-eqb c c).1 refl)
 
-same-text : (text : List ℕ) → text_difference text text ≡ []
+pub same-text : (text : List ℕ) → text_difference text text ≡ []
 same-text [] = refl
 same-text (c ∷ cs) =
     ap (λ m. before_end_blanks m (text_difference cs cs)) (mark-same c) ∙ ap (before_end_blanks 32) (same-text cs)
-
-pub unmarked : (line old new : List ℕ) → bytes_eq old new ≡ true → line ≡ line ++ text_difference old new
-unmarked line old new h =
-    sym (append-nil line) ∙ ap (λ (t : List ℕ). line ++ t) (sym (same-text old)
-    ∙ ap (text_difference old) ((bytes_eq-Decides old new).0 h))
 
 pub flags-held : (row : Row) → IsSoundRow row → AreHeldFlags (without_end_blanks row.flags)
 flags-held row h =

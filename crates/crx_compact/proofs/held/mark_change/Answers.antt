@@ -1,9 +1,9 @@
-use Rattle.std.proofs.Common.{rules, ◌≡◌, true, [], ◌∙◌}
-use Rattle.std.specs.Str.{bytes_eq}
-use Rattle.crx_compact.proofs.soundness.SoundTexts.{unmarked}
+use Rattle.std.proofs.Common.{ap, sym, ◌∙◌}
+use Rattle.crx_text.specs.meaning.Texts.{text_difference}
+use Rattle.crx_compact.proofs.soundness.SoundTexts.{same-text}
 use Rattle.crx_compact.proofs.held.mark_change.Goals as goal
 
-pub returns-else-ne : goal.returns-else-ne
-returns-else-ne c =
-    let same : bytes_eq c.args.old.now c.args.new.now ≡ true = search rules in
-    c.clear.ensures ∙ unmarked [] c.args.old.now c.args.new.now same
+pub returns-else-not-is_same_text : goal.returns-else-not-is_same_text
+returns-else-not-is_same_text c =
+    c.clear.ensures ∙ (sym (same-text c.args.old.now)
+    ∙ ap (text_difference c.args.old.now) c.if-not-is_same_text.ensures)

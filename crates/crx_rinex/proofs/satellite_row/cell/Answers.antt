@@ -1,11 +1,8 @@
-use Rattle.std.proofs.Common.{ap, sym, ◌∙◌, arith}
+use Rattle.std.proofs.Common.{ap, sym, ◌∙◌}
 use Rattle.crx_text.specs.meaning.Numbers.{observation_of}
-use Rattle.crx_rinex.proofs.Cells.{field_past, read_inside}
+use Rattle.crx_rinex.proofs.Cells.{read_inside}
 use Rattle.crx_rinex.proofs.satellite_row.cell.Goals as goal
 
 pub returns-in-Some-clause-value : goal.returns-in-Some-clause-value
 returns-in-Some-clause-value c =
     sym (ap observation_of (sym (read_inside c.args.line.now c.args.k c.if-line-end.false)) ∙ c.in-Some.ensures.value)
-
-pub returns-then-line-start-clause-value : goal.returns-then-line-start-clause-value
-returns-then-line-start-clause-value c = sym (field_past c.args.line.now c.args.k (omega arith))

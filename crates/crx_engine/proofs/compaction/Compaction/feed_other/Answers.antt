@@ -4,7 +4,7 @@ use Rattle.crx_engine.specs.CompactionState.{compaction_state}
 use Rattle.crx_engine.specs.RinexReaders.{made_at, TakesRinexLine}
 use Rattle.crx_engine.specs.declared.rinex_reader.RinexStep.{RinexStep}
 use Rattle.crx_engine.proofs.steps.CompactionSteps.{quiet-step, refused-step, seen-again, whole-held}
-use Rattle.crx_engine.proofs.compaction.Compaction.feed.Goals as goal
+use Rattle.crx_engine.proofs.compaction.Compaction.feed_other.Goals as goal
 
 pub accept-requires : goal.accept-requires
 accept-requires c =

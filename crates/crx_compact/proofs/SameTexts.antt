@@ -1,0 +1,57 @@
+-- Texts are the same where their two ends are, which meet: compared as lanes.
+use Rattle.std.proofs.Common.{true, false, ℕ, ◌≡◌, ◌+◌, ◌-◌, ◌*◌, ◌%◌, ◌^◌, ◌≤◌, Bool, not, cond, nat_eq, eqb}
+use Rattle.std.proofs.Common.{List, [], ◌∷◌, ◌++◌, length, take, drop, map, w8, refl, ap, sym, ◌∙◌, arith}
+use Rattle.std.proofs.Math.Seq.{take-take}
+use Rattle.std.proofs.lemmas.Bool.Decides.{nat_tests, Decides-eqb}
+use Rattle.std.proofs.lemmas.List.{length-drop, length-take-le, take_all, take-append-drop}
+use Rattle.std.proofs.lemmas.Simd.{length-chunk, length-zip2, mask_l-mod, tops_compared}
+use lib.Lanes.{chunk, mask_l, top, zip2}
+
+abbrev differs : ℕ → ℕ → Bool
+differs a b = not (eqb a b)
+
+-- the lanes of two rows that differ, as vectors are compared
+abbrev pub others : List ℕ → List ℕ → ℕ
+others xs ys = mask_l (map (top 7) (zip2 (λ a b. cond (differs a b) 255 0) xs ys)) % 2 ^ 64
+
+no_first : (b : Bool) (m : ℕ) → cond b 1 0 + 2 * m ≡ 0 → (b ≡ false) × (m ≡ 0)
+no_first true m e = absurd (omega arith)
+no_first false m e = (refl, omega arith)
+
+equal : (a b : ℕ) → differs a b ≡ false → a ≡ b
+equal a b e = grind (arith, nat_tests)
+
+none_differ : (xs ys : List ℕ) → length ys ≡ length xs → mask_l (zip2 differs xs ys) ≡ 0 → xs ≡ ys
+none_differ [] [] long none = refl
+none_differ [] (y ∷ ys) long none = absurd (omega arith)
+none_differ (x ∷ xs) [] long none = absurd (omega arith)
+none_differ (x ∷ xs) (y ∷ ys) long none =
+    let parts = no_first (differs x y) (mask_l (zip2 differs xs ys)) none in
+    ap (λ z. z ∷ xs) (equal x y parts.0) ∙ ap (λ zs. y ∷ zs) (none_differ xs ys (omega arith) parts.1)
+
+same_rows : (xs ys : List ℕ) → length ys ≡ length xs → length xs ≤ 64 → others xs ys ≡ 0 → xs ≡ ys
+same_rows xs ys long few same =
+    let lanes : List Bool = zip2 differs xs ys in
+    let mask : others xs ys ≡ mask_l lanes =
+    ap (λ ms. mask_l ms % 2 ^ 64) (tops_compared w8 differs xs ys)
+    ∙ mask_l-mod lanes 64 (omega (arith, length-zip2 differs xs ys (sym long), few)) in
+    none_differ xs ys long (sym mask ∙ same)
+
+pub same_ends : (n : ℕ) (xs ys : List ℕ) → n ≤ 64 → n ≤ length xs → length xs ≤ n + n → length ys ≡ length xs
+    → others (take n xs) (take n ys) ≡ 0
+    → nat_eq (others (chunk (length xs - n) n xs) (chunk (length xs - n) n ys)) 0 ≡ true → xs ≡ ys
+same_ends n xs ys narrow some few long first last =
+    let m : ℕ = length xs - n in
+    let front : take n xs ≡ take n ys = same_rows (take n xs) (take n ys)
+    (length-take-le n ys (omega (arith, some, long)) ∙ sym (length-take-le n xs some))
+    (omega (arith, length-take-le n xs some, narrow)) first in
+    let one : length (chunk m n xs) ≡ n = length-chunk m n xs (omega (arith, some)) in
+    let two : length (chunk m n ys) ≡ n = length-chunk m n ys (omega (arith, some, long)) in
+    let back : chunk m n xs ≡ chunk m n ys =
+    same_rows (chunk m n xs) (chunk m n ys) (two ∙ sym one) (omega (arith, one, narrow)) ((Decides-eqb _ 0).0 last) in
+    let rest : drop m xs ≡ drop m ys = sym (take_all n (drop m xs) (omega (arith, length-drop m xs)))
+    ∙ (back ∙ take_all n (drop m ys) (omega (arith, length-drop m ys, long))) in
+    let begin : take m xs ≡ take m ys = sym (take-take m n xs (omega (arith, few, some)))
+    ∙ (ap (take m) front ∙ take-take m n ys (omega (arith, few, some))) in
+    sym (take-append-drop m xs) ∙ (ap (λ (t : List ℕ). t ++ drop m xs) begin
+    ∙ (ap (λ (t : List ℕ). take m ys ++ t) rest ∙ take-append-drop m ys))
