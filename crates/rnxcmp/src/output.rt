@@ -44,6 +44,9 @@ impl<W: Write> Write for UntilFailure<W> {
         ensures noted { IfErr result (λ e. error_kind e ≢ ErrorKind.Interrupted → self.new.failed ≡ true) }
         ensures none_noted { IfOk result (λ n. n ≡ 0 → 0 < length buf.now → self.new.failed ≡ true) }
         ensures good { IfOk result (λ n. 0 < n → self.new.failed ≡ false) }
+        ensures interrupted { IfErr result (λ e. error_kind e ≡ ErrorKind.Interrupted
+            → (self.old.failed ≡ false) × (self.new.failed ≡ false)) }
+        ensures none_asked { length buf.now ≡ 0 → OnOk result (self.new.failed ≡ false) }
     {
         if self.failed {
             return Err(ErrorKind::BrokenPipe.into());
