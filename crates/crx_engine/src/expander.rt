@@ -193,7 +193,7 @@ impl Expander {
     /// Takes the content of a line: see [`Expander::feed`]. `true` says that nothing is to be written or reported after it, as after
     /// most lines; otherwise the answer is stored, and asked for by another call. An answer that held a notice would be copied from call
     /// to call at every line.
-    #[inline]
+    #[inline(always)]
     pub(crate) fn take_line(&mut self, line: &[u8]) -> bool
         requires drained { self.old.lines ≡ [] }
         requires short { length line.now ≤ LINE_LIMIT }

@@ -27,6 +27,7 @@ impl Engine for Expander {
 
     ghost answer = { λ e. e.answer };
 
+    #[inline(always)]
     fn take(&mut self, line: Line<'_>) -> bool {
         self.take_line(line.bytes())
     }

@@ -1,7 +1,7 @@
 -- A text copied by its two ends, which may overlap.
 use Rattle.std.proofs.Common.{ℕ, ◌≡◌, ◌+◌, ◌-◌, ◌≤◌, List, [], ◌++◌, length, drop, take, arith, ap, ◌∙◌}
 use Rattle.std.proofs.Math.Seq.{take-take}
-use Rattle.std.proofs.lemmas.List.{append-nil, drop_all, length-drop, length-take-le, take_all, take_at, take-append-drop}
+use Rattle.std.proofs.lemmas.List.{append-nil, drop_all, length-drop, length-take-le, take_all, take-append-drop}
 use Rattle.std.proofs.lemmas.List.{take-append-le}
 use Rattle.std.proofs.lemmas.Simd.{length-put_chunk, put_chunk_is}
 use Rattle.std.specs.Simd.Lanes.{chunk, put_chunk}

@@ -6,6 +6,7 @@ use Rattle.std.proofs.Math.Nat.{pow-suc, mul-le-mul_right}
 use Rattle.std.proofs.lemmas.Bool.{agree_below_at, and_parts, ne_eqb}
 use Rattle.std.proofs.lemmas.List.Sums.{prefix_len_stops}
 use Rattle.std.proofs.lemmas.List.{length-map, length-append, length-take-le, take-append-drop, take-take, get_or-take}
+use Rattle.std.proofs.lemmas.List.{take-append-le}
 use Rattle.std.proofs.lemmas.Simd.{map-map, mask_l-mod, pick_l_whole, zip2_splat, zip2_splat_left, leading_from_mask_l}
 use Rattle.std.proofs.lemmas.Simd.{trailing_mask_l}
 use Rattle.std.specs.Char.{digit_value, is_ascii_digit}
@@ -205,22 +206,18 @@ value_small size (c ∷ cs) digits =
     rw power (omega (arith, less, grows))
 
 -- so many digits, which a text begins with, and no digit after them
-pub first_digits_of : (text : List ℕ) (size count : ℕ) → count < 8 → 8 ≤ length text → count ≡ prefix_len is_ascii_digit
-    (take 8 text) → size ≡ digits_value 10 (take count (take 8 text)) → HasFirstDigits text size count
-first_digits_of text size count few long count_is size_is =
-    let row : List ℕ = take 8 text in
-    let eight : length row ≡ 8 = length-take-le 8 text long in
-    let front : take count row ≡ take count text = take-take count 8 text (omega arith) in
-    let digits : all_ascii_digits (take count text) ≡ true = rw (← front, count_is) (prefix_digits row) in
+digits_found : (text : List ℕ) (size count : ℕ) → count < 8 → count ≤ length text
+    → all_ascii_digits (take count text) ≡ true → size ≡ digits_value_after 10 0 (take count text)
+    → (count < length text → is_ascii_digit (get_or text count 0) ≡ false) → HasFirstDigits text size count
+digits_found text size count few long digits value stop =
     let whole : text ≡ take count text ++ drop count text = sym (take-append-drop count text) in
     let rest = drop count text in
     let cell : first_cell text ≡ take count text ++ first_cell rest = ap first_cell whole
     ∙ first_cell-digits (take count text) rest digits in
-    let within : length (take count text) ≡ count = length-take-le count text (omega arith) in
-    let value : size ≡ digits_value_after 10 0 (take count text) = size_is ∙ ap (digits_value_after 10 0) front in
+    let within : length (take count text) ≡ count = length-take-le count text long in
     record {
       few = omega arith;
-      within = omega arith;
+      within = long;
       small = let less = value_small 0 (take count text) digits in let power : 10 ^ length (take count text)
           ≡ 10 ^ count = ap (λ (n : ℕ). 10 ^ n) within in omega (arith, value, less, power);
       digits = sym (ap all_ascii_digits cell ∙ digits_before (take count text) (first_cell rest) digits);
@@ -229,8 +226,52 @@ first_digits_of text size count few long count_is size_is =
       long = ap length cell ∙ (length-append (take count text) (first_cell rest)
           ∙ ap (λ (n : ℕ). n + length (first_cell rest)) within);
       after = sym (ap after_cell whole ∙ after_cell-digits (take count text) rest digits);
-      stops = λ most more.
-          let stop = prefix_len_stops is_ascii_digit row 0 (omega (arith, eight, count_is)) in
-          sym (ap is_ascii_digit (get_or-take 8 text count 0 (omega arith)))
-          ∙ (ap (λ (n : ℕ). is_ascii_digit (get_or row n 0)) count_is ∙ stop);
+      stops = λ most more. stop more;
     }
+
+-- in a whole row
+pub first_digits_of : (text : List ℕ) (size count : ℕ) → count < 8 → 8 ≤ length text → count ≡ prefix_len is_ascii_digit
+    (take 8 text) → size ≡ digits_value 10 (take count (take 8 text)) → HasFirstDigits text size count
+first_digits_of text size count few long count_is size_is =
+    let row : List ℕ = take 8 text in
+    let eight : length row ≡ 8 = length-take-le 8 text long in
+    let front : take count row ≡ take count text = take-take count 8 text (omega arith) in
+    let digits : all_ascii_digits (take count text) ≡ true = rw (← front, count_is) (prefix_digits row) in
+    digits_found text size count few (omega arith) digits (size_is ∙ ap (digits_value_after 10 0) front) (λ more.
+    let stop = prefix_len_stops is_ascii_digit row 0 (omega (arith, eight, count_is)) in
+    sym (ap is_ascii_digit (get_or-take 8 text count 0 (omega arith)))
+    ∙ (ap (λ (n : ℕ). is_ascii_digit (get_or row n 0)) count_is ∙ stop))
+
+-- ---- the same of fewer characters than a row has, with zeros after them
+
+pub padded_prefix : (text : List ℕ) (more : ℕ)
+    → prefix_len is_ascii_digit (text ++ replicate more 0) ≡ prefix_len is_ascii_digit text
+padded_prefix [] zero = refl
+padded_prefix [] (suc more) = refl
+padded_prefix (c ∷ cs) more = ap (λ (n : ℕ). cond (is_ascii_digit c) (1 + n) 0) (padded_prefix cs more)
+
+pub prefix_within : (text : List ℕ) → prefix_len is_ascii_digit text ≤ length text
+prefix_within [] = omega arith
+prefix_within (c ∷ cs) = go (is_ascii_digit c) (prefix_within cs)
+  where
+    go : (t : Bool) → prefix_len is_ascii_digit cs ≤ length cs
+        → cond t (1 + prefix_len is_ascii_digit cs) 0 ≤ length (c ∷ cs)
+    go true rest = omega (arith, rest)
+    go false rest = omega arith
+
+module _ (text : List ℕ) (more size count : ℕ) (count_is : count ≡ prefix_len is_ascii_digit (text ++ replicate more 0)) where
+  pub few_within : count ≤ length text
+  few_within = omega (arith, count_is, padded_prefix text more, prefix_within text)
+
+  pub few_digits : all_ascii_digits (take count (text ++ replicate more 0)) ≡ true
+  few_digits = rw count_is (prefix_digits (text ++ replicate more 0))
+
+  pub few_digits_of : length text < 8 → size ≡ digits_value 10 (take count (text ++ replicate more 0)) → HasFirstDigits text size count
+  few_digits_of short size_is =
+      let front : take count (text ++ replicate more 0) ≡ take count text =
+      take-append-le count text (replicate more 0) few_within in
+      let same : count ≡ prefix_len is_ascii_digit text = count_is ∙ padded_prefix text more in
+      digits_found text size count (omega (arith, few_within, short)) few_within
+      (ap all_ascii_digits (sym front) ∙ few_digits) (size_is ∙ ap (digits_value_after 10 0) front) (λ less.
+      ap (λ (n : ℕ). is_ascii_digit (get_or text n 0)) same
+      ∙ prefix_len_stops is_ascii_digit text 0 (omega (arith, same, less)))

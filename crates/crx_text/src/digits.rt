@@ -14,6 +14,7 @@ ghost use Rattle.crx_text.specs.Codes.{counted_digits};
 ghost use Rattle.crx_text.specs.FirstDigits.{HasFirstDigits};
 ghost use Rattle.crx_lines.specs.declared.limits.TheConstants.{DIGITS_LIMIT};
 
+use crate::copies::copy_text;
 use crx_lines::limits::DIGITS_LIMIT;
 use std::simd::prelude::*;
 
@@ -53,26 +54,26 @@ pub(crate) fn digits_before_blank(text: &[u8]) -> Option<(u64, usize)>
 
 // What `digits_before_blank` gives, where fewer digits than a row has stand before a blank, or before the text's end; else
 // None, whatever there is. A row is a vector of eight characters: seven digits and their blank fit it, and most codes have
-// no more, so they take 53 instructions in place of 60 to 126. Where fewer characters than a row has are left of a line, the
-// digits are read one by one: they are few, and so a line's last code takes 50 to 100 instructions, as others do, and not
-// 250 by a way of its own.
+// no more, so they take 53 instructions in place of 60 to 126. Where fewer characters than a row has are left of a line, they
+// are copied into a row: one by one a line's last code takes 50 to 100 instructions.
 #[inline(always)]
 pub(crate) fn few_digits_before_blank(text: &[u8]) -> Option<(u64, usize)>
     ensures value { IfSome result (λ cell. counted_digits (first_cell text.now) ≡ Some cell.0) }
     ensures next { IfSome result (λ cell. drop cell.1 text.now ≡ after_cell text.now) }
     ensures within { IfSome result (λ cell. (cell.0 < 10 ^ DIGITS_LIMIT) × (cell.1 ≤ length text.now)) }
 {
-    if text.len() < ROW {
-        return digits_before_blank_singly(text);
-    }
-    let (size, count) = digits_in_front(text);
+    let (size, count) = if text.len() < ROW {
+        digits_of_few(text)
+    } else {
+        digits_in_front(text)
+    };
     if count == 0 || count >= ROW {
         return None;
     }
     ended_digits(text, size, count)
 }
 
-// What `digits_before_blank` gives, read digit by digit: numbers of eight digits or more, and the last code of a line.
+// What `digits_before_blank` gives, read digit by digit: numbers of eight digits or more.
 #[inline(always)]
 fn digits_before_blank_singly(text: &[u8]) -> Option<(u64, usize)>
     ensures value { option_map (λ cell. cell.0) result ≡ counted_digits (first_cell text.now) }
@@ -144,6 +145,19 @@ fn digits_in_front(text: &[u8]) -> (u64, usize)
     if count >= ROW {
         return (0, ROW);
     }
+    (row_size(row, count), count)
+}
+
+// What `digits_in_front` gives of fewer characters than a row has, which are copied into one.
+#[inline(always)]
+fn digits_of_few(text: &[u8]) -> (u64, usize)
+    requires { length text.now < ROW }
+    ensures { HasFirstDigits text.now result.0 result.1 }
+{
+    let mut characters = [0; ROW];
+    copy_text(&mut characters[..text.len()], text);
+    let row = u8x8::from_array(characters);
+    let count = digits_in_row(row);
     (row_size(row, count), count)
 }
 
