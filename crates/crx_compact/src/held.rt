@@ -177,6 +177,35 @@ fn write_value(
     }
 }
 
+/// Writes a cell as [`write_value`] does, where the epoch before has an arc at the place: whether it has isn't asked for each cell.
+#[inline(always)]
+fn write_known_value(
+    before: &[ObsArc],
+    place: usize,
+    value: Option<i64>,
+    arc: &mut ObsArc,
+    bytes: &mut [u8],
+    at: usize,
+) -> usize
+    requires known { place < length before.now }
+    requires value { IsValue value }
+    requires room { at + CELL_ROOM ≤ length bytes.old }
+    ensures arc { arc.new ≡ arc_of_value value (slice_index_or before.now place None) }
+    ensures written { take result bytes.new
+        ≡ take at bytes.old ++ cell_text (code_of_value value (slice_index_or before.now place None)) }
+    ensures from { at ≤ result }
+    ensures within { result ≤ at + CELL_ROOM }
+{
+    let Some(present) = value else {
+        arc.end();
+        return write_cell(bytes, at, Code::Missing);
+    };
+    match arc.push_third(&before[place], present) {
+        Some(difference) => write_cell(bytes, at, Code::Step(difference)),
+        None => write_any_value(before, place, value, arc, bytes, at),
+    }
+}
+
 /// Puts the arc of a cell after its next code in its place among others, and gives the code's value.
 ///
 /// `NoArc` and `OutOfRange` come as by [`ObsArc::apply`].
@@ -297,6 +326,55 @@ fn resize_other_arcs(arcs: &mut Vec<ObsArc>, count: usize) -> Result<(), AllocEr
 /// Writes the codes of a row's values, each followed by a blank, from an index on, gives the index after them, and replaces as many
 /// arcs by those after the values.
 fn write_cells(
+    before: &[ObsArc],
+    row: &SatRow,
+    arcs: &mut [ObsArc],
+    bytes: &mut [u8],
+    at: usize,
+) -> usize
+    requires counted { length arcs.old ≡ length row.now.values }
+    requires room { at + CELL_ROOM * length row.now.values ≤ length bytes.old }
+    ensures arcs { arcs.new ≡ arcs_of_row before.now row.now }
+    ensures written { take result bytes.new
+        ≡ take at bytes.old ++ flat_map cell_text (codes_of_row before.now row.now) }
+    ensures from { at ≤ result }
+    ensures within { result ≤ at + CELL_ROOM * length row.now.values }
+{
+    if row.values().len() <= before.len() {
+        return write_known_cells(before, row, arcs, bytes, at);
+    }
+    write_other_cells(before, row, arcs, bytes, at)
+}
+
+/// Writes cells as [`write_cells`] does, where the epoch before has an arc for each of them.
+#[inline(always)]
+fn write_known_cells(
+    before: &[ObsArc],
+    row: &SatRow,
+    arcs: &mut [ObsArc],
+    bytes: &mut [u8],
+    at: usize,
+) -> usize
+    requires known { length row.now.values ≤ length before.now }
+    requires counted { length arcs.old ≡ length row.now.values }
+    requires room { at + CELL_ROOM * length row.now.values ≤ length bytes.old }
+    ensures arcs { arcs.new ≡ arcs_of_row before.now row.now }
+    ensures written { take result bytes.new
+        ≡ take at bytes.old ++ flat_map cell_text (codes_of_row before.now row.now) }
+    ensures from { at ≤ result }
+    ensures within { result ≤ at + CELL_ROOM * length row.now.values }
+{
+    let values = row.values();
+    let mut end = at;
+    for place in 0..values.len() {
+        end = write_known_value(before, place, values[place], &mut arcs[place], bytes, end);
+    }
+    end
+}
+
+/// Writes cells as [`write_cells`] does, where the epoch before may have fewer arcs, or none.
+#[inline(never)]
+fn write_other_cells(
     before: &[ObsArc],
     row: &SatRow,
     arcs: &mut [ObsArc],
