@@ -196,11 +196,10 @@ impl Epoch {
             × (is_ok (row_if_new self.old.rows (row_of types.now line.now)) ≡ true))) }
         ensures err { OnErr result (self.new ≡ self.old) }
     {
-        let is_last = self.count == self.rows.len();
-        if let Some(fault) = fault_before_memory(&self.names, self.count, is_last, types, line) {
-            return Err(fault);
-        }
-        if is_last {
+        if self.count == self.rows.len() {
+            if let Some(fault) = fault_before_memory(&self.names, self.count, true, types, line) {
+                return Err(fault);
+            }
             let Ok(row) = SatRow::read(self.alloc, types, line) else {
                 return Err(Fault::OutOfMemory);
             };
@@ -210,7 +209,21 @@ impl Epoch {
             };
         }
         let row = &mut self.rows[self.count];
-        row.read_again(types, line)?;
+        match row.read_again(types, line) {
+            Ok(()) => {}
+            Err(fault) => {
+                if let Some(first) = fault_before_memory(
+                    &self.names,
+                    self.count,
+                    false,
+                    types,
+                    line,
+                ) {
+                    return Err(first);
+                }
+                return Err(fault);
+            }
+        }
         match self.names.put(self.count, row.name()) {
             Ok(true) => {
                 self.count += 1;
