@@ -14,11 +14,12 @@ ghost use Rattle.crx_rinex.specs.meaning.EpochPlaces.{row_if_new};
 ghost use Rattle.crx_rinex.specs.meaning.Observations.{observations_in, observations_of};
 ghost use Rattle.crx_rinex.specs.meaning.SatelliteLines.{row_of, IsSoundRow};
 
-use crate::columns::identifier;
+use crate::columns::{first_identifier, identifier};
 use crate::epoch_line::EpochLine;
 use crate::identifiers::Identifiers;
 use crate::satellite_row::{SatRow, row_fault};
 use crate::types::Types;
+use crx_lines::limits::NAME_WIDTH;
 use crx_text::Fault;
 use std::alloc::Global;
 use std::marker::Model;
@@ -172,7 +173,10 @@ impl Epoch {
         if place + 1 >= self.head.count() || place >= self.rows.len() {
             return false;
         }
-        let name = identifier(line, 1);
+        if line.len() < NAME_WIDTH {
+            return false;
+        }
+        let name = first_identifier(line);
         if !self.names.has_at(place, name) {
             return false;
         }
