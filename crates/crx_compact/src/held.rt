@@ -127,6 +127,7 @@ fn third_at(before: &[ObsArc], place: usize, value: i64, arc: &mut ObsArc) -> Op
 
 /// Writes the code of a cell's next value and a blank from an index on, gives the index after them, and replaces an arc by the
 /// one after the value. It takes values of any kind, and is called for the few that [`write_value`] doesn't write itself.
+#[cold]
 #[inline(never)]
 fn write_any_value(
     before: &[ObsArc],
@@ -312,6 +313,7 @@ fn resize_arcs(arcs: &mut Vec<ObsArc>, count: usize) -> Result<(), AllocError>
 }
 
 /// Makes arcs as many as a row has cells, where there are more or fewer: drops the last ones, or adds some without values.
+#[cold]
 #[inline(never)]
 fn resize_other_arcs(arcs: &mut Vec<ObsArc>, count: usize) -> Result<(), AllocError>
     ensures { OnOk result (length arcs.new.items ≡ count) }
