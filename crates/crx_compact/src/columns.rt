@@ -164,6 +164,7 @@ impl Columns {
         let before = stands_after(&self.nothing, &self.kept, self.is_kept && !full);
         self.next.encode(before, epoch, &mut self.part, lines)?;
         mem::swap(&mut self.kept, &mut self.next);
+        self.kept.take_names(&mut self.next);
         self.is_kept = true;
         Ok(())
     }

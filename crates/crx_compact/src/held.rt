@@ -128,6 +128,7 @@ fn third_at(before: &[ObsArc], place: usize, value: i64, arc: &mut ObsArc) -> Op
 
 /// Writes the code of a cell's next value and a blank from an index on, gives the index after them, and replaces an arc by the
 /// one after the value. It takes values of any kind, and is called for the few that [`write_value`] doesn't write itself.
+#[cold]
 #[inline(never)]
 fn write_any_value(
     before: &[ObsArc],
@@ -173,6 +174,35 @@ fn write_value(
         return write_cell(bytes, at, Code::Missing);
     };
     match third_at(before, place, present, arc) {
+        Some(difference) => write_cell(bytes, at, Code::Step(difference)),
+        None => write_any_value(before, place, value, arc, bytes, at),
+    }
+}
+
+/// Writes a cell as [`write_value`] does, where the epoch before has an arc at the place: whether it has isn't asked for each cell.
+#[inline(always)]
+fn write_known_value(
+    before: &[ObsArc],
+    place: usize,
+    value: Option<i64>,
+    arc: &mut ObsArc,
+    bytes: &mut [u8],
+    at: usize,
+) -> usize
+    requires known { place < length before.now }
+    requires value { IsValue value }
+    requires room { at + CELL_ROOM ≤ length bytes.old }
+    ensures arc { arc.new ≡ arc_of_value value (slice_index_or before.now place None) }
+    ensures written { take result bytes.new
+        ≡ take at bytes.old ++ cell_text (code_of_value value (slice_index_or before.now place None)) }
+    ensures from { at ≤ result }
+    ensures within { result ≤ at + CELL_ROOM }
+{
+    let Some(present) = value else {
+        arc.end();
+        return write_cell(bytes, at, Code::Missing);
+    };
+    match arc.push_third(&before[place], present) {
         Some(difference) => write_cell(bytes, at, Code::Step(difference)),
         None => write_any_value(before, place, value, arc, bytes, at),
     }
@@ -284,6 +314,7 @@ fn resize_arcs(arcs: &mut Vec<ObsArc>, count: usize) -> Result<(), AllocError>
 }
 
 /// Makes arcs as many as a row has cells, where there are more or fewer: drops the last ones, or adds some without values.
+#[cold]
 #[inline(never)]
 fn resize_other_arcs(arcs: &mut Vec<ObsArc>, count: usize) -> Result<(), AllocError>
     ensures { OnOk result (length arcs.new.items ≡ count) }
@@ -298,6 +329,55 @@ fn resize_other_arcs(arcs: &mut Vec<ObsArc>, count: usize) -> Result<(), AllocEr
 /// Writes the codes of a row's values, each followed by a blank, from an index on, gives the index after them, and replaces as many
 /// arcs by those after the values.
 fn write_cells(
+    before: &[ObsArc],
+    row: &SatRow,
+    arcs: &mut [ObsArc],
+    bytes: &mut [u8],
+    at: usize,
+) -> usize
+    requires counted { length arcs.old ≡ length row.now.values }
+    requires room { at + CELL_ROOM * length row.now.values ≤ length bytes.old }
+    ensures arcs { arcs.new ≡ arcs_of_row before.now row.now }
+    ensures written { take result bytes.new
+        ≡ take at bytes.old ++ flat_map cell_text (codes_of_row before.now row.now) }
+    ensures from { at ≤ result }
+    ensures within { result ≤ at + CELL_ROOM * length row.now.values }
+{
+    if row.values().len() <= before.len() {
+        return write_known_cells(before, row, arcs, bytes, at);
+    }
+    write_other_cells(before, row, arcs, bytes, at)
+}
+
+/// Writes cells as [`write_cells`] does, where the epoch before has an arc for each of them.
+#[inline(always)]
+fn write_known_cells(
+    before: &[ObsArc],
+    row: &SatRow,
+    arcs: &mut [ObsArc],
+    bytes: &mut [u8],
+    at: usize,
+) -> usize
+    requires known { length row.now.values ≤ length before.now }
+    requires counted { length arcs.old ≡ length row.now.values }
+    requires room { at + CELL_ROOM * length row.now.values ≤ length bytes.old }
+    ensures arcs { arcs.new ≡ arcs_of_row before.now row.now }
+    ensures written { take result bytes.new
+        ≡ take at bytes.old ++ flat_map cell_text (codes_of_row before.now row.now) }
+    ensures from { at ≤ result }
+    ensures within { result ≤ at + CELL_ROOM * length row.now.values }
+{
+    let values = row.values();
+    let mut end = at;
+    for place in 0..values.len() {
+        end = write_known_value(before, place, values[place], &mut arcs[place], bytes, end);
+    }
+    end
+}
+
+/// Writes cells as [`write_cells`] does, where the epoch before may have fewer arcs, or none.
+#[inline(never)]
+fn write_other_cells(
     before: &[ObsArc],
     row: &SatRow,
     arcs: &mut [ObsArc],

@@ -32,6 +32,7 @@ use crx_text::difference::patch_bytes;
 use crx_text::{Code, Fault, Text, code_read, trim_end};
 use std::alloc::{AllocError, Global};
 use std::marker::Model;
+use std::mem;
 
 /// The history up to an epoch: the epoch's text, the clock's arc, and the histories of its satellites in the order of the file.
 #[derive(Drop)]
@@ -161,8 +162,18 @@ impl KeptEpoch {
         self.clock = before.clock.copied();
         push_code(self.clock.push(epoch.head().clock()), part, lines)?;
         encode_rows(self.alloc, before, epoch, &mut self.satellites, part, lines)?;
-        self.placed = put_names(&self.satellites, &mut self.names)?;
         Ok(())
+    }
+
+    /// Takes the identifiers of an earlier history, most of which stand at the same places in this one, and puts those of this one at
+    /// their places, so that its satellites are found by them.
+    pub(crate) fn take_names(&mut self, earlier: &mut KeptEpoch)
+        ensures same { self.new ≡ self.old }
+        ensures earlier { earlier.new ≡ earlier.old }
+    {
+        mem::swap(&mut self.names, &mut earlier.names);
+        earlier.placed = 0;
+        self.placed = put_names(&self.satellites, &mut self.names);
     }
 
     /// Reads an epoch line, given the history before it: replaces the text, and gives the satellites.
@@ -435,16 +446,28 @@ fn known_placed(
 }
 
 /// Puts the identifiers of satellites at their places, and gives how many of the first ones are there: all of them, where they
-/// are different.
-fn put_names(satellites: &[HeldSatellite], names: &mut Identifiers) -> Result<usize, AllocError>
-    ensures { IfOk result (λ placed. AreNamed placed names.new satellites.now) }
+/// are different and there is memory for them.
+fn put_names(satellites: &[HeldSatellite], names: &mut Identifiers) -> usize
+    ensures { AreNamed result names.new satellites.now }
+{
+    for place in named_before(satellites, names)..satellites.len() {
+        let Ok(true) = names.put(place, satellites[place].name()) else {
+            return place;
+        };
+    }
+    satellites.len()
+}
+
+/// How many of the first satellites have the identifiers that stand at their places already.
+fn named_before(satellites: &[HeldSatellite], names: &Identifiers) -> usize
+    ensures { AreNamed result names.now satellites.now }
 {
     for place in 0..satellites.len() {
-        if !names.put(place, satellites[place].name())? {
-            return Ok(place);
+        if !names.has_at(place, satellites[place].name()) {
+            return place;
         }
     }
-    Ok(satellites.len())
+    satellites.len()
 }
 
 /// Makes the satellite lines of an epoch, and the histories of its satellites after it.

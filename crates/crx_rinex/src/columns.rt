@@ -58,3 +58,12 @@ pub fn identifier(line: &[u8], first: usize) -> [u8; NAME_WIDTH]
         character(line, first + 2),
     ]
 }
+
+/// The identifier in the first three columns of a line that has as many: no column is asked for past the line's end.
+#[inline(always)]
+pub(crate) fn first_identifier(line: &[u8]) -> [u8; NAME_WIDTH]
+    requires { NAME_WIDTH ≤ length line.now }
+    ensures { result ≡ columns line.now 1 NAME_WIDTH }
+{
+    [line[0], line[1], line[2]]
+}

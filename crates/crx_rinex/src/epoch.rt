@@ -14,11 +14,12 @@ ghost use Rattle.crx_rinex.specs.meaning.EpochPlaces.{row_if_new};
 ghost use Rattle.crx_rinex.specs.meaning.Observations.{observations_in, observations_of};
 ghost use Rattle.crx_rinex.specs.meaning.SatelliteLines.{row_of, IsSoundRow};
 
-use crate::columns::identifier;
+use crate::columns::{first_identifier, identifier};
 use crate::epoch_line::EpochLine;
 use crate::identifiers::Identifiers;
 use crate::satellite_row::{SatRow, row_fault};
 use crate::types::Types;
+use crx_lines::limits::NAME_WIDTH;
 use crx_text::Fault;
 use std::alloc::Global;
 use std::marker::Model;
@@ -172,7 +173,10 @@ impl Epoch {
         if place + 1 >= self.head.count() || place >= self.rows.len() {
             return false;
         }
-        let name = identifier(line, 1);
+        if line.len() < NAME_WIDTH {
+            return false;
+        }
+        let name = first_identifier(line);
         if !self.names.has_at(place, name) {
             return false;
         }
@@ -196,11 +200,10 @@ impl Epoch {
             × (is_ok (row_if_new self.old.rows (row_of types.now line.now)) ≡ true))) }
         ensures err { OnErr result (self.new ≡ self.old) }
     {
-        let is_last = self.count == self.rows.len();
-        if let Some(fault) = fault_before_memory(&self.names, self.count, is_last, types, line) {
-            return Err(fault);
-        }
-        if is_last {
+        if self.count == self.rows.len() {
+            if let Some(fault) = fault_before_memory(&self.names, self.count, true, types, line) {
+                return Err(fault);
+            }
             let Ok(row) = SatRow::read(self.alloc, types, line) else {
                 return Err(Fault::OutOfMemory);
             };
@@ -210,7 +213,21 @@ impl Epoch {
             };
         }
         let row = &mut self.rows[self.count];
-        row.read_again(types, line)?;
+        match row.read_again(types, line) {
+            Ok(()) => {}
+            Err(fault) => {
+                if let Some(first) = fault_before_memory(
+                    &self.names,
+                    self.count,
+                    false,
+                    types,
+                    line,
+                ) {
+                    return Err(first);
+                }
+                return Err(fault);
+            }
+        }
         match self.names.put(self.count, row.name()) {
             Ok(true) => {
                 self.count += 1;

@@ -337,6 +337,31 @@ fn resize_for(
     if values.len() == m {
         return Ok(());
     }
+    resize_other(values, flags, m, line)
+}
+
+/// Gives cells the size for m types as [`resize_for`] does, where they have another. The line is read for its fault only where memory
+/// has to be asked for.
+#[inline(never)]
+fn resize_other(
+    values: &mut Vec<Option<i64>>,
+    flags: &mut Vec<u8>,
+    m: usize,
+    line: &[u8],
+) -> Result<(), Fault>
+    requires paired { length flags.old.items ≡ 2 * length values.old.items }
+    requires few { m ≤ TYPES_LIMIT }
+    ensures ok { OnOk result ((length values.new.items ≡ m) × (length flags.new.items ≡ 2 * m)) }
+    ensures same { OnErr result ((values.new.items ≡ values.old.items)
+        × (flags.new.items ≡ flags.old.items)) }
+    ensures refused { IfErr result (λ fault. (row_with m line.now (values_in m line.now) ≡ Err fault)
+        ⊎ ((fault ≡ Fault.OutOfMemory)
+        × (is_ok (row_with m line.now (values_in m line.now)) ≡ true))) }
+{
+    let has_room = values.capacity() >= m && flags.capacity() / 2 >= m;
+    if has_room && resize_cells(values, flags, m) {
+        return Ok(());
+    }
     if let Some(fault) = cells_fault(line, m) {
         return Err(fault);
     }

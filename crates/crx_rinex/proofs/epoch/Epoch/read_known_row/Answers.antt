@@ -29,15 +29,15 @@ invariant_of-self-2 c =
     let wants = not-full head rows count c.count.result
     c.self.invariant.2 within c.count.ensures.value (omega (arith, c.if-place-count.false)) in
     let next = c.if-not-has_at.ensures.next in
-    let named : c.identifier-name.result ≡ row.name = c.identifier-name.ensures ∙ sym c.in-Ok.ensures.name in
+    let named : c.first_identifier-name.result ≡ row.name = c.first_identifier-name.ensures ∙ sym c.in-Ok.ensures.name in
     let new : has_satellite row.name (take count rows) ≡ false =
     by_names (record { head = head.head; clock = head.clock; rows = take count rows })
-    names rows count row.name c.identifier-name.result false named refl c.self.invariant.4 c.if-not-has_at.ensures.new in (
+    names rows count row.name c.first_identifier-name.result false named refl c.self.invariant.4 c.if-not-has_at.ensures.new in (
       sound-put head.head head.clock rows count row c.self.invariant.0 within c.in-Ok.ensures.sound wants new,
       omega (arith, within, length-set rows count row),
       c.self.invariant.2,
-      names-long names names count c.identifier-name.result c.self.invariant.3 next,
-      names-next names names rows (slice_set rows count row) count row c.identifier-name.result named c.self.invariant.4 next
+      names-long names names count c.first_identifier-name.result c.self.invariant.3 next,
+      names-next names names rows (slice_set rows count row) count row c.first_identifier-name.result named c.self.invariant.4 next
           (take_more_set rows count row within),
     )
 
@@ -51,7 +51,7 @@ returns-clause-put c =
     c.if-place-len.false in let b = c.self.inside.rows.ok.0 in let e = c.len.ensures in omega (arith, a, b, e) in
     let read = c.in-Ok.ensures.ok in
     let new : has_satellite row.name c.args.self.now.rows ≡ false =
-    by_names c.args.self.now c.self.inside.names rows count row.name c.identifier-name.result false (c.identifier-name.ensures
+    by_names c.args.self.now c.self.inside.names rows count row.name c.first_identifier-name.result false (c.first_identifier-name.ensures
     ∙ sym c.in-Ok.ensures.name)
     (ap (λ (e : Epoch). e.rows) c.self.view_is) c.self.invariant.4 c.if-not-has_at.ensures.new in
     rw (read, new)
@@ -70,8 +70,8 @@ returns-clause-sound c =
     c.if-place-len.false in let b = c.self.inside.rows.ok.0 in let e = c.len.ensures in omega (arith, a, b, e) in
     let wants = not-full head rows count c.count.result
     c.self.invariant.2 within c.count.ensures.value (omega (arith, c.if-place-count.false)) in
-    let named : c.identifier-name.result ≡ row.name = c.identifier-name.ensures ∙ sym c.in-Ok.ensures.name in
+    let named : c.first_identifier-name.result ≡ row.name = c.first_identifier-name.ensures ∙ sym c.in-Ok.ensures.name in
     let new : has_satellite row.name (take count rows) ≡ false =
     by_names (record { head = head.head; clock = head.clock; rows = take count rows })
-    names rows count row.name c.identifier-name.result false named refl c.self.invariant.4 c.if-not-has_at.ensures.new in
+    names rows count row.name c.first_identifier-name.result false named refl c.self.invariant.4 c.if-not-has_at.ensures.new in
     sound-put head.head head.clock rows count row c.self.invariant.0 within c.in-Ok.ensures.sound wants new

@@ -1,8 +1,6 @@
-use Rattle.std.proofs.lemmas.Bool.{eq-eqb}
 use Rattle.std.proofs.Common.{◌≡◌, ℕ, ◌<◌, List, ap, sym, ◌∙◌, take, not, false, true, length, slice_set, refl, arith}
 use Rattle.std.proofs.Common.{inl, inr}
 use Rattle.std.proofs.lemmas.List.{length-set, take_more_set}
-use Rattle.std.proofs.lemmas.Result.{err_from_is_err_and}
 use Rattle.std.specs.Prelude.{Err}
 use Rattle.crx_lines.specs.declared.fault.Fault.{Fault}
 use Rattle.crx_rinex.specs.meaning.Observations.{Row, Epoch}
@@ -22,7 +20,7 @@ invariant_of-self-in-Ok-true c =
     let count = c.self.inside.count in
     let names = c.self.inside.names in
     let row : Row = c.read_again.new.self in
-    let within : count < length rows = let a = c.if-is_last.false in let b =
+    let within : count < length rows = let a = c.if-self-len.false in let b =
     c.self.inside.rows.ok.0 in let e = c.len.ensures in let f = c.self.invariant.1 in omega (arith, a, b, e, f) in
     let next = c.in-Ok-true.ensures.next c.in-Ok-true.field-0-test in
     let new : has_satellite row.name (take count rows) ≡ false =
@@ -45,9 +43,9 @@ returns-in-Ok-true-clause-ok c =
     let count = c.self.inside.count in
     let names = c.self.inside.names in
     let row = c.read_again.new.self in
-    let within : count < length rows = let a = c.if-is_last.false in let b =
+    let within : count < length rows = let a = c.if-self-len.false in let b =
     c.self.inside.rows.ok.0 in let e = c.len.ensures in let f = c.self.invariant.1 in omega (arith, a, b, e, f) in
-    let read = c.in_ok-read_again.ensures.ok in
+    let read = c.in-Ok-read_again.ensures.ok in
     let new : has_satellite row.name c.args.self.now.rows ≡ false =
     ap (λ (e : Epoch). has_satellite row.name e.rows) (sym c.self.view_is)
     ∙ sym (named_rows names rows count row.name c.self.invariant.4)
@@ -64,7 +62,7 @@ returns-in-Ok-false-clause-refused c =
     let count = c.self.inside.count in
     let names = c.self.inside.names in
     let row = c.read_again.new.self in
-    let read = c.in_ok-read_again.ensures.ok in
+    let read = c.in-Ok-read_again.ensures.ok in
     let known : has_satellite row.name c.args.self.now.rows ≡ true =
     ap (λ (e : Epoch). has_satellite row.name e.rows) (sym c.self.view_is)
     ∙ sym (named_rows names rows count row.name c.self.invariant.4)
@@ -84,33 +82,44 @@ returns-in-Some-clause-refused c =
           ∙ ap (λ (f : Fault). Err f) (sym known.0))
     ]
 
+pub returns-in-Some-fault_before_memory-clause-refused : goal.returns-in-Some-fault_before_memory-clause-refused
+returns-in-Some-fault_before_memory-clause-refused c =
+    elim (c.in-Some-fault_before_memory.ensures.some) [
+      | inl bad ↦ inl (ap (row_if_new c.args.self.now.rows) bad)
+      | inr known ↦ inl (
+          repeated c.args.types.now c.args.line.now c.args.self.now.rows known.1
+          (by_names c.args.self.now c.self.inside.names c.self.inside.rows.items c.self.inside.count
+          (columns c.args.line.now 1 NAME_WIDTH) (columns c.args.line.now 1 NAME_WIDTH) true refl
+          (ap (λ (e : Epoch). e.rows) c.self.view_is) c.self.invariant.4 known.2)
+          ∙ ap (λ (f : Fault). Err f) (sym known.0))
+    ]
+
 pub returns-in_default-read-clause-refused : goal.returns-in_default-read-clause-refused
 returns-in_default-read-clause-refused c =
     inr (
       refl,
       good-new c.args.types.now c.args.line.now c.args.self.now.rows
-          (c.in_default.ensures.good (eq-eqb c.self.inside.count c.len.result c.if-is_last.true))
+          (c.in_default.ensures.good refl)
           (by_names c.args.self.now c.self.inside.names c.self.inside.rows.items c.self.inside.count
           (columns c.args.line.now 1 NAME_WIDTH) (columns c.args.line.now 1 NAME_WIDTH) false refl
           (ap (λ (e : Epoch). e.rows) c.self.view_is) c.self.invariant.4 c.in_default.ensures.new),
     )
 
-pub returns-in_err-read_again-clause-refused : goal.returns-in_err-read_again-clause-refused
-returns-in_err-read_again-clause-refused c =
+pub returns-in-Err-read_again-clause-refused : goal.returns-in-Err-read_again-clause-refused
+returns-in-Err-read_again-clause-refused c =
     let new : has_satellite (columns c.args.line.now 1 NAME_WIDTH) c.args.self.now.rows ≡ false =
     by_names c.args.self.now c.self.inside.names c.self.inside.rows.items c.self.inside.count
     (columns c.args.line.now 1 NAME_WIDTH) (columns c.args.line.now 1 NAME_WIDTH) false refl
-    (ap (λ (e : Epoch). e.rows) c.self.view_is) c.self.invariant.4 c.in_default.ensures.new in
-    let p = err_from_is_err_and c.from_residual.result c.from_residual.ensures.1 in
-    rw (p.1, p.2) (elim (c.in_err-read_again.ensures.refused) [
+    (ap (λ (e : Epoch). e.rows) c.self.view_is) c.self.invariant.4 c.in_default-fault_before_memory.ensures.new in
+    elim (c.in-Err-read_again.ensures.refused) [
       | inl bad ↦ inl (ap (row_if_new c.args.self.now.rows) bad)
       | inr out ↦ inr (out.0, good-new c.args.types.now c.args.line.now c.args.self.now.rows out.1 new)
-    ])
+    ]
 
 pub returns-in-Err-put-clause-refused : goal.returns-in-Err-put-clause-refused
 returns-in-Err-put-clause-refused c =
     let row = c.read_again.new.self in
-    let read = c.in_ok-read_again.ensures.ok in
+    let read = c.in-Ok-read_again.ensures.ok in
     let new : has_satellite row.name c.args.self.now.rows ≡ false =
     by_names c.args.self.now c.self.inside.names
     c.self.inside.rows.items c.self.inside.count row.name c.name.result false c.name.ensures.value

@@ -5,7 +5,7 @@ use Rattle.crx_compact.specs.Tails.{ArcTail}
 use Rattle.std.proofs.lemmas.Option.{slice_get-get_or}
 use Rattle.crx_compact.proofs.Making.{cells-more}
 use Rattle.crx_compact.specs.declared.held.TheConstants.{CELL_ROOM}
-use Rattle.crx_compact.proofs.held.write_cells.Goals as goal
+use Rattle.crx_compact.proofs.held.write_other_cells.Goals as goal
 
 pub write_value-end-requires-clause-room : goal.write_value-end-requires-clause-room
 write_value-end-requires-clause-room c =
