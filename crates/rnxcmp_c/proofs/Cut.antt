@@ -1,5 +1,6 @@
 -- What ended a run at a line, by what is kept.
-use Rattle.std.proofs.Common.{◌≡◌, ◌⊎◌, ℕ, inl, inr, List, [], ◌++◌, take, drop, Option, Some, None, Bool, Result, Ok, Err, IfErr, MatchResult, refl, sym, ap, subst, ◌∙◌, append-nil}
+use Rattle.std.proofs.Common.{◌≡◌, ◌⊎◌, ℕ, inl, inr, List, [], ◌++◌, take, drop, Option, Some, None, Bool, Result, Ok}
+use Rattle.std.proofs.Common.{Err, IfErr, MatchResult, refl, sym, ap, subst, ◌∙◌, append-nil}
 use Rattle.std.proofs.Common.{append_assoc}
 use Rattle.std.proofs.lemmas.List.{take-append-drop}
 use Rattle.crx_lines.specs.declared.fault.At.{At}
@@ -22,9 +23,11 @@ pub cut-stops : (before after : Course) (memory : Option (List At)) (number : �
     → ((t : List ℕ) → messages.took t → then_kept.bytes.items ≡ kept.bytes.items ++ t)
     → (halt : Halt) → IsCut before after memory number writer messages halt
     → StopsBy number before after output then_output kept then_kept halt
-cut-stops before after memory number writer messages output then_output kept then_kept wrote reported (Fault at) (here, inl out) =
+cut-stops before after memory number writer messages output then_output kept then_kept wrote reported (Fault at)
+    (here, inl out) =
     inl ((out.fault, out.place), record { text = []; wrote = wrote [] out.wrote.0; first = inl refl })
-cut-stops before after memory number writer messages output then_output kept then_kept wrote reported (Fault at) (here, inr ended) =
+cut-stops before after memory number writer messages output then_output kept then_kept wrote reported (Fault at)
+    (here, inr ended) =
     inr (record {
       fault = ended.ends.fault;
       notices = here;
@@ -33,7 +36,8 @@ cut-stops before after memory number writer messages output then_output kept the
       wrote = wrote [] ended.wrote.0 ∙ append-nil output.bytes.items;
       reported = reported (notices_text here) ended.reported.0;
     })
-cut-stops before after memory number writer messages output then_output kept then_kept wrote reported Unwritten (here, cut) =
+cut-stops before after memory number writer messages output then_output kept then_kept wrote reported Unwritten
+    (here, cut) =
     let count = cut.wrote.0.0 in
     record {
       text = take count cut.text;
@@ -44,7 +48,8 @@ cut-stops before after memory number writer messages output then_output kept the
             ∙ sym (append_assoc before.output (take count cut.text) (drop count cut.text));
       });
     }
-cut-stops before after memory number writer messages output then_output kept then_kept wrote reported Unreported (here, cut) =
+cut-stops before after memory number writer messages output then_output kept then_kept wrote reported Unreported
+    (here, cut) =
     record { text = []; wrote = wrote [] cut.wrote.0; first = inl refl }
 
 -- the same of the end, at which memory may run out for the texts alone
@@ -54,17 +59,23 @@ pub halted-stops : (before after : Course) (number last : ℕ) (writer messages 
     → ((t : List ℕ) → messages.took t → then_kept.bytes.items ≡ kept.bytes.items ++ t)
     → (halt : Halt) → IsHalted before after None last writer messages [] [] halt
     → StopsBy number before after output then_output kept then_kept halt
-halted-stops before after number last writer messages output then_output kept then_kept wrote reported (Fault at) (inl out) =
+halted-stops before after number last writer messages output then_output kept then_kept wrote reported (Fault at)
+    (inl out) =
     absurd (none-not-some out.allowed)
-halted-stops before after number last writer messages output then_output kept then_kept wrote reported (Fault at) (inr faulty) =
-    cut-stops before after None number writer messages output then_output kept then_kept wrote reported (Fault at) ([], inr faulty)
+halted-stops before after number last writer messages output then_output kept then_kept wrote reported (Fault at)
+    (inr faulty) =
+    cut-stops before after None number writer messages output then_output kept then_kept wrote reported (Fault at)
+    ([], inr faulty)
 halted-stops before after number last writer messages output then_output kept then_kept wrote reported Unwritten cut =
-    cut-stops before after None number writer messages output then_output kept then_kept wrote reported Unwritten ([], cut)
+    cut-stops before after None number writer messages output then_output kept then_kept wrote reported Unwritten
+    ([], cut)
 halted-stops before after number last writer messages output then_output kept then_kept wrote reported Unreported cut =
-    cut-stops before after None number writer messages output then_output kept then_kept wrote reported Unreported ([], cut)
+    cut-stops before after None number writer messages output then_output kept then_kept wrote reported Unreported
+    ([], cut)
 
 -- the fault at the line where it ended the run
-pub stops-at : (number : ℕ) (before after : Course) (output then_output kept then_kept : Collected) (halt : Halt) (at : At)
+pub stops-at : (number : ℕ) (before after : Course) (output then_output kept then_kept : Collected) (halt : Halt)
+    (at : At)
     → ((other : At) → halt ≡ Fault other → at ≡ other) → (halt ≡ Unwritten → at.fault ≡ OutOfMemory)
     → (halt ≡ Unreported → at.fault ≡ OutOfMemory) → ((halt ≡ Unwritten) ⊎ (halt ≡ Unreported) → at.line ≡ number)
     → StopsBy number before after output then_output kept then_kept halt

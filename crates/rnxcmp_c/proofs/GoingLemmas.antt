@@ -36,7 +36,8 @@ cut-at bytes n within feed =
 notices-both : (xs ys : List At) → notices_text (xs ++ ys) ≡ notices_text xs ++ notices_text ys
 notices-both [] ys = refl
 notices-both (x ∷ xs) ys =
-    ap (λ t. warning_text x ++ t) (notices-both xs ys) ∙ sym (append_assoc (warning_text x) (notices_text xs) (notices_text ys))
+    ap (λ t. warning_text x ++ t) (notices-both xs ys) ∙ sym (append_assoc (warning_text x) (notices_text xs)
+    (notices_text ys))
 
 some-both : (xs ys : List At) → are_some (xs ++ ys) ≡ (are_some xs || are_some ys)
 some-both [] ys = refl
@@ -55,7 +56,8 @@ text-short : (before after : Course) (old new : Collected) (taken : List ℕ)
 text-short before after old new taken is short =
     ⊎_elim (λ none. inl (record {
       rest = [];
-      same = is ∙ ap (λ t. taken ++ t) (sym (short.wrote ∙ ap (λ t. old.bytes.items ++ t) none ∙ append-nil old.bytes.items))
+      same = is ∙ ap (λ t. taken ++ t) (sym (short.wrote ∙ ap (λ t. old.bytes.items ++ t) none
+          ∙ append-nil old.bytes.items))
           ∙ sym (append-nil (taken ++ new.bytes.items));
     }))
     (λ begins. inr (record {
@@ -114,11 +116,19 @@ module _ (filter : Filter) (shows : List InputLine → List Awaited → Type 0)
         no_feed = subst HasNoFeed (sym tail) no_feed;
         cut = λ more. over lines_of more is.cut;
         cut_ended = λ more. over ended_lines_of more is.cut_ended;
-        counted = omega (arith, is.counted, same.number, ap length tail, length-append held.tail.items bytes, length-append past.fed bytes);
+        counted = omega (
+          arith,
+          is.counted,
+          same.number,
+          ap length tail,
+          length-append held.tail.items bytes,
+          length-append past.fed bytes,
+        );
       }
 
   -- memory ran out before a line was taken
-  first-lines : (bytes more : List ℕ) → (rest : List InputLine) × (lines_of ((past.fed ++ bytes) ++ more) ≡ ended_lines_of past.fed ++ rest)
+  first-lines : (bytes more : List ℕ) → (rest : List InputLine) × (lines_of
+      ((past.fed ++ bytes) ++ more) ≡ ended_lines_of past.fed ++ rest)
   first-lines bytes more = (
     lines_of (held.tail.items ++ (bytes ++ more)),
     ap lines_of (append_assoc past.fed bytes more) ∙ is.cut (bytes ++ more),
@@ -145,7 +155,8 @@ module _ (filter : Filter) (shows : List InputLine → List Awaited → Type 0)
         first = first-lines bytes;
         output = record {
           rest = [];
-          same = is.text.wrote ∙ ap (λ t. past.output ++ t) (sym same) ∙ sym (append-nil (past.output ++ new.output.bytes.items));
+          same = is.text.wrote ∙ ap (λ t. past.output ++ t) (sym same)
+              ∙ sym (append-nil (past.output ++ new.output.bytes.items));
         };
       })
 
@@ -172,7 +183,8 @@ module _ (filter : Filter) (shows : List InputLine → List Awaited → Type 0)
         (ap (λ t. held.tail.items ++ t) (sym (append-nil fed)) ∙ joined [])
         ∙ ap (λ ls. ended_lines_of past.fed ++ ls) (ended_lines-first mid.tail.items [] whole)
 
-    pub line-first : (more : List ℕ) → lines_of (past.fed ++ (fed ++ more)) ≡ with_next (ended_lines_of past.fed) line ++ lines_of more
+    pub line-first : (more : List ℕ) → lines_of (past.fed ++ (fed ++ more)) ≡ with_next
+        (ended_lines_of past.fed) line ++ lines_of more
     line-first more =
         is.cut (fed ++ more) ∙ ap (λ t. ended_lines_of past.fed ++ lines_of t) (joined more)
         ∙ ap (λ ls. ended_lines_of past.fed ++ ls) (lines-first mid.tail.items more whole)
@@ -206,8 +218,10 @@ module _ (filter : Filter) (shows : List InputLine → List Awaited → Type 0)
                 ∙ more-text before.output past.output held.output.bytes.items kept.text new.output.bytes.items _
                 kept.output_is is.text.wrote (kept.wrote ∙ ap (λ t. t ++ kept.text) same.output);
             reported = ap (λ ls. notices_text (filter.so_far ls).warnings) one-more
-                ∙ more-text (notices_text before.warnings) past.messages held.messages.bytes.items (notices_text kept.notices)
-                new.messages.bytes.items _ (ap notices_text kept.warnings_are ∙ notices-both before.warnings kept.notices)
+                ∙ more-text (notices_text before.warnings) past.messages held.messages.bytes.items
+                (notices_text kept.notices)
+                new.messages.bytes.items _ (ap notices_text kept.warnings_are
+                ∙ notices-both before.warnings kept.notices)
                 is.text.reported (kept.reported ∙ ap (λ t. t ++ notices_text kept.notices) same.messages);
           };
           flag = moved.flag ∙ ap (λ b. b || moved.warned) (same.warned ∙ is.flag)
@@ -218,7 +232,15 @@ module _ (filter : Filter) (shows : List InputLine → List Awaited → Type 0)
           no_feed = subst HasNoFeed (sym empty) (λ k d h. absurd (omega (arith, h)));
           cut = λ more. over lines_of more (line-first more);
           cut_ended = λ more. over ended_lines_of more (ended-first more);
-          counted = omega (arith, is.counted, same.number, number, ap length empty, length-append past.fed fed, length-append piece (10 ∷ []));
+          counted = omega (
+            arith,
+            is.counted,
+            same.number,
+            number,
+            ap length empty,
+            length-append past.fed fed,
+            length-append piece (10 ∷ []),
+          );
         }
 
     line-then : (rest more : List ℕ) → (others : List InputLine)
@@ -226,7 +248,8 @@ module _ (filter : Filter) (shows : List InputLine → List Awaited → Type 0)
     line-then rest more = (
       lines_of (rest ++ more),
       ap lines_of (append_assoc past.fed (piece ++ 10 ∷ rest) more
-          ∙ ap (λ t. past.fed ++ t) (append_assoc piece (10 ∷ rest) more ∙ sym (append_assoc piece (10 ∷ []) (rest ++ more))))
+          ∙ ap (λ t. past.fed ++ t) (append_assoc piece (10 ∷ rest) more
+          ∙ sym (append_assoc piece (10 ∷ []) (rest ++ more))))
           ∙ line-first (rest ++ more),
     )
 
@@ -250,7 +273,8 @@ module _ (filter : Filter) (shows : List InputLine → List Awaited → Type 0)
         }
 
     breaks-short : (new : Held) (rest : List ℕ) (at : At) → RanOutAt (length (ended_lines_of past.fed) + 1) at
-        → IsCutShort (filter.so_far (ended_lines_of past.fed)) (filter.so_far (with_next (ended_lines_of past.fed) line)) mid.output new.output
+        → IsCutShort (filter.so_far (ended_lines_of past.fed)) (filter.so_far (with_next
+        (ended_lines_of past.fed) line)) mid.output new.output
         → RunsShort filter new (fed_with past (piece ++ 10 ∷ rest)) at
     breaks-short new rest at memory short =
         let before = filter.so_far (ended_lines_of past.fed) in
@@ -274,7 +298,8 @@ module _ (filter : Filter) (shows : List InputLine → List Awaited → Type 0)
           first = λ more. line-then rest more;
           output = prefix;
         })
-        (text-short before after mid.output new.output past.output (is.text.wrote ∙ ap (λ t. past.output ++ t) (sym same.output)) short)
+        (text-short before after mid.output new.output past.output (is.text.wrote
+        ∙ ap (λ t. past.output ++ t) (sym same.output)) short)
 
     pub breaks : (new : Held) (rest : List ℕ) (at : At)
         → LineStops (length (ended_lines_of past.fed) + 1) (filter.so_far (ended_lines_of past.fed))
@@ -292,7 +317,8 @@ text-grows before after shown old new past text moved =
     record {
       wrote = more-text before.output past.output old.output.bytes.items kept.text new.output.bytes.items _
           kept.output_is text.wrote kept.wrote;
-      reported = more-text (notices_text before.warnings) past.messages old.messages.bytes.items (notices_text kept.notices)
+      reported = more-text (notices_text before.warnings) past.messages old.messages.bytes.items
+          (notices_text kept.notices)
           new.messages.bytes.items _ (ap notices_text kept.warnings_are ∙ notices-both before.warnings kept.notices)
           text.reported kept.reported;
     }
@@ -329,13 +355,15 @@ module _ (filter : Filter) (mid : Held) (past : HandlePast) (lines : List InputL
       → LineStops number (filter.so_far lines) (filter.whole lines) mid.output new.output mid.messages new.messages at
       → LineFails (filter.whole (lines_of past.fed)) new past at
   ends-badly lawful number last at (inl memory) =
-      let first = subst (λ ls. Begins (filter.whole ls).output (filter.so_far lines).output) (append-nil lines) (lawful.goes_on lines []) in
+      let first = subst (λ ls. Begins (filter.whole ls).output (filter.so_far lines).output) (append-nil lines)
+      (lawful.goes_on lines []) in
       let output : Begins (filter.whole lines).output (past.output ++ new.output.bytes.items) =
       ⊎_elim (λ prefix. begins-then _ _ _ first prefix) (λ prefix. prefix)
       (text-short (filter.so_far lines) (filter.whole lines) mid.output new.output past.output text.wrote memory.1) in
       inl (record {
         ran_out = (memory.0.0, memory.0.1 ∙ last ∙ ap length (sym whole));
-        output = subst (λ ls. Begins (filter.whole ls).output (past.output ++ new.output.bytes.items)) (sym whole) output;
+        output = subst (λ ls. Begins (filter.whole ls).output (past.output ++ new.output.bytes.items))
+            (sym whole) output;
       })
   ends-badly lawful number last at (inr ends) =
       inr (subst (λ ls. IsFailed (filter.whole ls) new past at) (sym whole) (record {
@@ -369,14 +397,16 @@ module _ (filter : Filter) (shows : List InputLine → List Awaited → Type 0)
     module _ (shown : Type 0)
         (moved : MovesOn (filter.so_far (ended_lines_of past.fed)) (filter.so_far last) shown held mid) where
       pub last-text : IsText (filter.so_far last) mid past
-      last-text = text-grows (filter.so_far (ended_lines_of past.fed)) (filter.so_far last) shown held mid past is.text moved
+      last-text = text-grows (filter.so_far (ended_lines_of past.fed)) (filter.so_far last) shown held mid past is.text
+          moved
 
       pub last-flag : mid.warned ≡ are_some (filter.so_far last).warnings
       last-flag = flag-grows (filter.so_far (ended_lines_of past.fed)) (filter.so_far last) shown held mid is.flag moved
 
     -- it ended the run
     pub last-fails : IsLawful filter → (at : At)
-        → LineStops (length (ended_lines_of past.fed) + 1) (filter.so_far (ended_lines_of past.fed)) (filter.so_far last)
+        → LineStops (length (ended_lines_of past.fed) + 1) (filter.so_far (ended_lines_of past.fed))
+        (filter.so_far last)
         held.output mid.output held.messages mid.messages at
         → LineFails (filter.whole (lines_of past.fed)) mid past at
     last-fails lawful at (inl memory) =
@@ -386,10 +416,12 @@ module _ (filter : Filter) (shows : List InputLine → List Awaited → Type 0)
         let before : Begins (filter.whole last).output (filter.so_far ended).output =
         lawful.goes_on ended (piece_line held.tail.items false ∷ []) in
         let after : Begins (filter.whole last).output (filter.so_far last).output =
-        subst (λ ls. Begins (filter.whole ls).output (filter.so_far last).output) (append-nil last) (lawful.goes_on last []) in
+        subst (λ ls. Begins (filter.whole ls).output (filter.so_far last).output) (append-nil last)
+        (lawful.goes_on last []) in
         let output : Begins (filter.whole last).output written =
         ⊎_elim (λ prefix. begins-then _ _ _ before prefix) (λ prefix. begins-then _ _ _ after prefix)
-        (text-short (filter.so_far ended) (filter.so_far last) held.output mid.output past.output is.text.wrote memory.1) in
+        (text-short (filter.so_far ended) (filter.so_far last) held.output mid.output past.output is.text.wrote
+        memory.1) in
         inl (record {
           ran_out = (
             memory.0.0,

@@ -1,5 +1,6 @@
 -- A handle stays sound from call to call.
-use Rattle.std.proofs.Common.{◌≡◌, ◌⊎◌, inl, inr, ℕ, ◌+◌, ◌<◌, ◌≤◌, List, [], ◌∷◌, length, Option, Some, None, Bool, true, false}
+use Rattle.std.proofs.Common.{◌≡◌, ◌⊎◌, inl, inr, ℕ, ◌+◌, ◌<◌, ◌≤◌, List, [], ◌∷◌, length, Option, Some, None, Bool}
+use Rattle.std.proofs.Common.{true, false}
 use Rattle.std.proofs.Common.{◌++◌, nat_lt, arith, refl, sym, ap, ◌∙◌, subst, append-nil, length-append, ⊎_elim}
 use Rattle.std.proofs.lemmas.Bool.{ltb-true, ltb-false}
 use Rattle.crx_lines.specs.meaning.Lines.{lines_of}
@@ -13,7 +14,8 @@ use Rattle.crx_lines.specs.declared.limits.TheConstants.{INPUT_LIMIT}
 use Rattle.crx_filter.specs.declared.outcome.Outcome.{Outcome}
 use Rattle.rnxcmp_c.specs.Going.{HandlePast, fed_with}
 use Rattle.rnxcmp_c.specs.Handles.{IsFresh, ReaderRuns, nothing_fed}
-use Rattle.rnxcmp_c.specs.Handles.{ReaderEndsBy, FeedsBy, HasEndedBy, HasFedBy, IsLineOf, ReaderIsOver, ReaderStands, StandsBy, Task}
+use Rattle.rnxcmp_c.specs.Handles.{ReaderEndsBy, FeedsBy, HasEndedBy, HasFedBy, IsLineOf, ReaderIsOver, ReaderStands}
+use Rattle.rnxcmp_c.specs.Handles.{StandsBy, Task}
 use Rattle.rnxcmp_c.specs.Handles.{RunIsOutOfMemory, result_for}
 use Rattle.rnxcmp_c.specs.meaning.Answers.{line_in}
 use Rattle.rnxcmp_c.specs.declared.answer.Answer.{Answer}
@@ -45,7 +47,8 @@ lines-within fed =
 
 -- memory ran out at a line of more kinds
 line-weaker : (P Q : ℕ → Type 0) (result : FilterResult) (reader : Reader) (outcome : Outcome) (past : HandlePast)
-    → ((n : ℕ) → P n → Q n) → RunIsOutOfMemory P result reader outcome past → RunIsOutOfMemory Q result reader outcome past
+    → ((n : ℕ) → P n → Q n) → RunIsOutOfMemory P result reader outcome past
+    → RunIsOutOfMemory Q result reader outcome past
 line-weaker P Q result reader outcome past weaker ran = record {
   memory = ran.memory;
   status = ran.status;
@@ -59,10 +62,12 @@ fed-stands : (task : Task) (reader : Reader) (past : HandlePast) (outcome : Opti
 fed-stands task reader past None fed = fed
 fed-stands task reader past (Some outcome) (inl memory) =
     inl (line-weaker _ (IsLineOf past.fed) (result_for task past.fed) reader outcome past (λ n at. at.1)
-    (subst (λ (bytes : List ℕ). RunIsOutOfMemory (λ line. (0 < line) × IsLineOf past.fed line) (result_for task bytes) reader outcome past)
+    (subst (λ (bytes : List ℕ). RunIsOutOfMemory (λ line. (0 < line) × IsLineOf past.fed line)
+    (result_for task bytes) reader outcome past)
     (append-nil past.fed) (memory [])))
 fed-stands task reader past (Some outcome) (inr over) =
-    inr (subst (λ (bytes : List ℕ). ReaderIsOver (result_for task bytes) reader outcome past) (append-nil past.fed) (over []))
+    inr (subst (λ (bytes : List ℕ). ReaderIsOver (result_for task bytes) reader outcome past) (append-nil past.fed)
+    (over []))
 
 ended-stands : (task : Task) (reader : Reader) (past : HandlePast) (outcome : Option Outcome)
     → HasEndedBy task reader past outcome → StandsBy task reader past outcome

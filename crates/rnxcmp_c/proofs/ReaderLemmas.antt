@@ -15,7 +15,8 @@ use Rattle.crx_engine.proofs.following.Lawful.{compaction-lawful, expansion-lawf
 use Rattle.crx_filter.specs.declared.outcome.Outcome.{Outcome}
 use Rattle.crx_filter.specs.meaning.Runs.{FaultIs}
 use Rattle.rnxcmp_c.specs.Going.{Breaks, LineFails, IsAll, IsText, HandlePast}
-use Rattle.rnxcmp_c.specs.Handles.{Task, Compact, Expand, Check, IsOf, ReaderIsOver, IsPut, IsPutDown, IsPutSilently, RunIsOutOfMemory, filter_for}
+use Rattle.rnxcmp_c.specs.Handles.{Task, Compact, Expand, Check, IsOf, ReaderIsOver, IsPut, IsPutDown, IsPutSilently}
+use Rattle.rnxcmp_c.specs.Handles.{RunIsOutOfMemory, filter_for}
 use Rattle.rnxcmp_c.specs.Handles.{HasFedBy, HasEndedBy, engine_filter, has_ended_of}
 use Rattle.rnxcmp_c.specs.meaning.Answers.{line_in}
 use Rattle.rnxcmp_c.proofs.GoingLemmas.{begins-then}
@@ -44,7 +45,8 @@ lawful-for Check = check-lawful
 -- ---- a fault
 
 checked-faulty : (fault : Option At) (found : Findings) (at : At) → fault ≡ Some at
-    → result_of_course (record { output = report_unless fault found; warnings = []; fault = fault }) ≡ checked_by fault found
+    → result_of_course (record { output = report_unless fault found; warnings = []; fault = fault }) ≡ checked_by fault
+    found
 checked-faulty (Some other) found at is = refl
 checked-faulty None found at is = absurd (cc)
 
@@ -74,7 +76,8 @@ checked-output (Some at) found = refl
 checked-output None found = refl
 
 -- the output of a result is that of the filter
-output-for : (task : Task) (input : List ℕ) → (result_for task input).output ≡ ((filter_for task).whole (lines_of input)).output
+output-for : (task : Task) (input : List ℕ) → (result_for task input).output ≡ ((filter_for task).whole
+    (lines_of input)).output
 output-for (Compact choices) input = refl
 output-for (Expand choices) input = refl
 output-for Check input = checked-output (whole_of input).fault (findings_of (lines_of input))
@@ -86,7 +89,8 @@ record IsShort (mid new : Held) (outcome : Outcome) (line : ℕ) : Type 0 where
   pub line_is : line_in outcome.fault ≡ line
   pub output : new.output.bytes.items ≡ mid.output.bytes.items
 
-put-silently : (mid new : Held) (outcome : Outcome) (at : At) → IsPutSilently mid new outcome at → IsShort mid new outcome at.line
+put-silently : (mid new : Held) (outcome : Outcome) (at : At) → IsPutSilently mid new outcome at
+    → IsShort mid new outcome at.line
 put-silently mid new outcome at put = record {
   memory = subst (FaultIs OutOfMemory) (sym put.fault) refl;
   status = put.status;
@@ -124,7 +128,13 @@ module _ (is_line : ℕ → Type 0) (result : FilterResult) (reader : Reader) (m
   }
 
   short-fault : line ≡ line_in result.fault → RunIsOutOfMemory is_line result reader outcome past
-  short-fault at = record { memory = short.memory; status = short.status; line = inr (short.line_is ∙ at); output = still }
+  short-fault at = record {
+    memory = short.memory;
+    status = short.status;
+    line = inr (short.line_is
+        ∙ at);
+    output = still;
+  }
 
 module _ (task : Task) (engine : AnyEngine) (is : IsOf task engine)
     (reader : Reader) (mid : Held) (outcome : Outcome) (past : HandlePast) (at : At) where
@@ -137,7 +147,8 @@ module _ (task : Task) (engine : AnyEngine) (is : IsOf task engine)
       let same : result_of_course course ≡ result_for task input =
       sym (ap result_of_course whole) ∙ result-faulty task input at (ap (λ (c : Course). c.fault) whole ∙ fault) in
       subst (λ r. RunIsOutOfMemory is_line r reader outcome past) same
-      (short-fault is_line (result_of_course course) reader mid outcome past at.line (put-silently mid reader.held outcome at put)
+      (short-fault is_line (result_of_course course) reader mid outcome past at.line
+      (put-silently mid reader.held outcome at put)
       (record { rest = []; same = text.wrote ∙ sym (append-nil (past.output ++ mid.output.bytes.items)) })
       (ap line_in (sym fault)))
 
@@ -152,7 +163,8 @@ module _ (task : Task) (engine : AnyEngine) (is : IsOf task engine)
       let all : Begins (filter.whole (lines_of (past.fed ++ more))).output (filter.so_far ran.lines).output =
       subst (λ ls. Begins (filter.whole ls).output (filter.so_far ran.lines).output) (sym rest.1)
       ((lawful-for task).goes_on ran.lines rest.0) in
-      short-at _ (result_for task (past.fed ++ more)) reader mid outcome past at.line (put-short mid reader.held outcome at ran.fault put)
+      short-at _ (result_for task (past.fed ++ more)) reader mid outcome past at.line
+      (put-short mid reader.held outcome at ran.fault put)
       (subst (λ t. Begins t written) (sym (output-for task (past.fed ++ more))) (begins-then _ _ _ all first))
       (ran.some, ran.within))
   breaks-over (inr broken) put =
@@ -172,12 +184,14 @@ module _ (task : Task) (engine : AnyEngine) (is : IsOf task engine)
       (course-over (filter.so_far broken.lines) reader mid outcome past at fault text down)))
       put
 
-  pub fails-over : LineFails ((engine_filter engine).whole (lines_of past.fed)) mid past at → IsPut mid reader.held at (Some outcome)
+  pub fails-over : LineFails ((engine_filter engine).whole (lines_of past.fed)) mid past at
+      → IsPut mid reader.held at (Some outcome)
       → HasEndedBy task reader past (Some outcome)
   fails-over (inl ran) put =
       let written : List ℕ = past.output ++ mid.output.bytes.items in
       let output : Begins ((filter_for task).whole (lines_of past.fed)).output written =
-      subst (λ (f : Filter). Begins (f.whole (lines_of past.fed)).output written) (filter-is task engine is) ran.output in
+      subst (λ (f : Filter). Begins (f.whole (lines_of past.fed)).output written)
+      (filter-is task engine is) ran.output in
       inl (short-at _ (result_for task past.fed) reader mid outcome past at.line
       (put-short mid reader.held outcome at ran.ran_out.0 put)
       (subst (λ t. Begins t written) (sym (output-for task past.fed)) output) ran.ran_out.1)
@@ -224,13 +238,15 @@ pub all-over : (task : Task) (engine then : AnyEngine) → IsOf task engine → 
     → ReaderIsOver (result_for task past.fed) reader outcome past
 all-over (Compact choices) engine (Compacting c) is now reader outcome past none status all ended =
     course-well _ reader outcome past none status
-    (subst (λ (f : Filter). IsAll (f.whole (lines_of past.fed)) reader.held past) (filter-is (Compact choices) engine is) all)
+    (subst (λ (f : Filter). IsAll (f.whole (lines_of past.fed)) reader.held past) (filter-is
+    (Compact choices) engine is) all)
 all-over (Compact choices) engine (Expanding c) is now reader outcome past none status all ended = absurd now
 all-over (Compact choices) engine (Checking c) is now reader outcome past none status all ended = absurd now
 all-over (Expand choices) engine (Compacting c) is now reader outcome past none status all ended = absurd now
 all-over (Expand choices) engine (Expanding c) is now reader outcome past none status all ended =
     course-well _ reader outcome past none status
-    (subst (λ (f : Filter). IsAll (f.whole (lines_of past.fed)) reader.held past) (filter-is (Expand choices) engine is) all)
+    (subst (λ (f : Filter). IsAll (f.whole (lines_of past.fed)) reader.held past) (filter-is
+    (Expand choices) engine is) all)
 all-over (Expand choices) engine (Checking c) is now reader outcome past none status all ended = absurd now
 all-over Check engine (Compacting c) is now reader outcome past none status all ended = absurd now
 all-over Check engine (Expanding c) is now reader outcome past none status all ended = absurd now

@@ -40,7 +40,8 @@ pub record MovesOn (before after : Course) (shown : Type 0) (old new : Held) : T
   pub flag : new.warned ≡ (old.warned || warned)
 
 -- a fault ended the run there, after some warnings
-pub record EndsThere (before after : Course) (output then_output messages then_messages : Collected) (at : At) : Type 0 where
+pub record EndsThere (before after : Course) (output then_output messages then_messages : Collected)
+    (at : At) : Type 0 where
   pub fault : after.fault ≡ Some at
   pub notices : List At
   pub output_is : after.output ≡ before.output
@@ -99,7 +100,8 @@ pub record IsGoing (filter : Filter)
   pub flag : held.warned ≡ are_some (filter.so_far (ended_lines_of past.fed)).warnings
   pub number : held.number ≡ length (ended_lines_of past.fed)
   pub no_feed : HasNoFeed held.tail.items
-  pub cut : (more : List ℕ) → lines_of (past.fed ++ more) ≡ ended_lines_of past.fed ++ lines_of (held.tail.items ++ more)
+  pub cut : (more : List ℕ) → lines_of (past.fed ++ more) ≡ ended_lines_of past.fed ++ lines_of
+      (held.tail.items ++ more)
   pub cut_ended : (more : List ℕ)
       → ended_lines_of (past.fed ++ more) ≡ ended_lines_of past.fed ++ ended_lines_of (held.tail.items ++ more)
   pub counted : held.number + length held.tail.items ≤ length past.fed
@@ -111,8 +113,8 @@ pub record IsBroken (filter : Filter) (held : Held) (past : HandlePast) (at : At
   pub fault : (filter.so_far lines).fault ≡ Some at
   pub text : IsText (filter.so_far lines) held past
 
--- memory ran out in a line, at the latest in the one after those whose LF was fed. What was taken of the output and then
--- what is kept is a prefix of what some of the first lines make, whatever follows
+-- memory ran out in a line, at the latest in the one after those whose LF was fed. What was taken of the output and
+-- then what is kept is a prefix of what some of the first lines make, whatever follows
 pub record RunsShort (filter : Filter) (held : Held) (past : HandlePast) (at : At) : Type 0 where
   pub fault : at.fault ≡ OutOfMemory
   pub some : 0 < at.line
@@ -138,8 +140,8 @@ pub record IsFailed (course : Course) (held : Held) (past : HandlePast) (at : At
   pub fault : course.fault ≡ Some at
   pub text : IsText course held past
 
--- memory ran out at the last line, or at the end after it. What was taken of the output and then what is kept is a prefix
--- of it
+-- memory ran out at the last line, or at the end after it. What was taken of the output and then what is kept is a
+-- prefix of it
 pub record EndsShort (course : Course) (held : Held) (past : HandlePast) (at : At) : Type 0 where
   pub ran_out : RanOutAt (length (lines_of past.fed)) at
   pub output : Begins course.output (past.output ++ held.output.bytes.items)

@@ -113,8 +113,8 @@ pub record ReaderIsOver (result : FilterResult) (reader : Reader) (outcome : Out
   pub output : result.output ≡ past.output ++ reader.held.output.bytes.items
   pub messages : result.messages ≡ past.messages ++ reader.held.messages.bytes.items
 
--- memory ran out, which is status 1: at such a line, or for the message of the fault that the result has. What was taken
--- of the output and then what is kept is a prefix of it
+-- memory ran out, which is status 1: at such a line, or for the message of the fault that the result has. What was
+-- taken of the output and then what is kept is a prefix of it
 pub record RunIsOutOfMemory (is_line : ℕ → Type 0)
     (result : FilterResult) (reader : Reader) (outcome : Outcome) (past : HandlePast) : Type 0 where
   pub memory : FaultIs OutOfMemory outcome.fault
@@ -200,7 +200,8 @@ abbrev pub IsMisused : Answer → Type 0
 IsMisused answer = answer ≡ bare_answer MISUSED 0 0
 
 -- more bytes were fed; where these would be more than an input may have, nothing was done
-pub record FeedsBytes (task : Task) (old new : Reader) (past : HandlePast) (bytes : List ℕ) (answer : Answer) : Type 0 where
+pub record FeedsBytes (task : Task) (old new : Reader) (past : HandlePast) (bytes : List ℕ)
+    (answer : Answer) : Type 0 where
   pub long : INPUT_LIMIT < length past.fed + length bytes
       → (answer ≡ bare_answer 1 0 (code_of_fault InputTooLong)) × (new ≡ old)
   pub fed : length past.fed + length bytes ≤ INPUT_LIMIT

@@ -188,7 +188,8 @@ pub(crate) fn take_bytes<E: Engine>(engine: &mut E, held: &mut Held, bytes: &[u8
     ensures running { OnOk result (E.is_open engine.new) }
     ensures drained { OnOk result (E.ready engine.new ≡ []) }
     ensures going { (past : HandlePast) → IsGoing (E.filter engine.old) (E.shows engine.old) held.old past
-        → OnOk result (IsGoing (E.filter engine.old) (E.shows engine.new) held.new (fed_with past bytes.now)) }
+        → OnOk result (IsGoing (E.filter engine.old)
+        (E.shows engine.new) held.new (fed_with past bytes.now)) }
     ensures breaks { (past : HandlePast) → IsGoing (E.filter engine.old) (E.shows engine.old) held.old past
         → IfErr result (λ at. Breaks (E.filter engine.old) held.new (fed_with past bytes.now) at) }
 {

@@ -14,9 +14,11 @@ pub returns-then-content-gt-LINE_LIMIT-clause-stops :
     goal.returns-then-content-gt-LINE_LIMIT-clause-stops
 returns-then-content-gt-LINE_LIMIT-clause-stops g c = λ (lines : List InputLine) shown.
     let long : LINE_LIMIT < length (piece_line c.args.bytes.now c.args.is_ended).content =
-    subst (λ (bs : List Prim.Native.Nat.ℕ). LINE_LIMIT < length bs) c.content_of-content.ensures c.if-content-gt-LINE_LIMIT.true in
+    subst (λ (bs : List Prim.Native.Nat.ℕ). LINE_LIMIT < length bs) c.content_of-content.ensures
+    c.if-content-gt-LINE_LIMIT.true in
     IfErr-weaker c.take_overlong.result _ _
-    (λ halt cut. cut-stops _ _ _ _ _ _ c.args.output.now c.take_overlong.new.writer c.args.messages.now c.take_overlong.new.messages
+    (λ halt cut. cut-stops _ _ _ _ _ _ c.args.output.now c.take_overlong.new.writer c.args.messages.now
+    c.take_overlong.new.messages
     (λ t took. took) (λ t took. took) halt cut)
     (c.take_overlong.ensures.cut lines (piece_line c.args.bytes.now c.args.is_ended) shown (lt-ltb _ _ long))
 
@@ -29,6 +31,7 @@ returns-clause-stops g c = λ (lines : List InputLine) shown.
     (filter.so_far lines) (filter.so_far (with_next lines line))
     c.args.output.now c.take_line.new.writer c.args.messages.now c.take_line.new.messages halt)) same
     (IfErr-weaker c.take_line.result _ _
-    (λ halt cut. cut-stops _ _ _ _ _ _ c.args.output.now c.take_line.new.writer c.args.messages.now c.take_line.new.messages
+    (λ halt cut. cut-stops _ _ _ _ _ _ c.args.output.now c.take_line.new.writer c.args.messages.now
+    c.take_line.new.messages
     (λ t took. took) (λ t took. took) halt cut)
     (c.take_line.ensures.cut lines shown))

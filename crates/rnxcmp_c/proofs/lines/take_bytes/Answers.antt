@@ -21,8 +21,14 @@ bytes-preserved g c =
             ∙ sym (append_assoc done some (drop c.in_ok-count.count left))
             ∙ ap (λ (l : List ℕ). (done ++ some) ++ l) (sym c.rest_after-left.ensures),
         λ (past : HandlePast) is.
-            let going = subst (λ (f : Filter). IsGoing f shows c.bytes.held (fed_with past done)) (sym i.1) (i.0.2 past is) in
-            subst (λ (fed : List ℕ). IsGoing first then held (record { fed = fed; output = past.output; messages = past.messages }))
+            let going = subst (λ (f : Filter). IsGoing f shows c.bytes.held (fed_with past done)) (sym i.1)
+            (i.0.2 past is) in
+            subst (λ (fed : List ℕ). IsGoing first then held (record {
+              fed = fed;
+              output = past.output;
+              messages =
+                  past.messages;
+            }))
             (append_assoc past.fed done some)
             (subst (λ (f : Filter). IsGoing f then held (fed_with (fed_with past done) some)) i.1
             (c.in_ok-count.ensures.going (fed_with past done) going)),
@@ -44,7 +50,8 @@ returns-in_err-count-clause-breaks g c = λ (past : HandlePast) is.
     let going = subst (λ (f : Filter). IsGoing f shows c.bytes.held (fed_with past done)) (sym i.1) (i.0.2 past is) in
     let p = err_from_is_err_and c.from_residual.result c.from_residual.ensures.1 in
     rw (p.1, p.2)
-    (subst (λ (fed : List ℕ). Breaks first held (record { fed = fed; output = past.output; messages = past.messages }) at)
+    (subst (λ (fed : List ℕ). Breaks first held (record { fed = fed; output = past.output; messages = past.messages })
+    at)
     (append_assoc past.fed done left ∙ ap (λ (l : List ℕ). past.fed ++ l) (sym i.0.1))
     (subst (λ (f : Filter). Breaks f held (fed_with (fed_with past done) left) at) i.1
     (c.in_err-count.ensures.breaks (fed_with past done) going)))

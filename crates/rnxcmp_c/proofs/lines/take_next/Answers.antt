@@ -21,7 +21,8 @@ returns-in-Ok-clause-going g c = λ (past : HandlePast) is.
     (keeps-going filter shows c.args.held.now past is new bytes
     (record { number = refl; warned = refl; output = refl; messages = refl }) c.in-Ok.ensures.items none)
 
-pub returns-in_ok-take_piece-in-Ok-extend_from_slice-clause-going : goal.returns-in_ok-take_piece-in-Ok-extend_from_slice-clause-going
+pub returns-in_ok-take_piece-in-Ok-extend_from_slice-clause-going :
+    goal.returns-in_ok-take_piece-in-Ok-extend_from_slice-clause-going
 returns-in_ok-take_piece-in-Ok-extend_from_slice-clause-going g c = λ (past : HandlePast) is.
     let bytes = c.args.bytes.now in
     let end = c.in-Some.end in
@@ -29,16 +30,20 @@ returns-in_ok-take_piece-in-Ok-extend_from_slice-clause-going g c = λ (past : H
     let then = g.E.Engine.shows c.take_piece.new.engine in
     let mid : Held = record c.args.held.now { tail = c.extend_from_slice-in-Some.new.self } in
     let new = c.take_piece.new.held in
-    let none = no_feed-before bytes end (omega (arith, c.in-Some.ensures.within.1)) (λ k h. c.in-Some.ensures.first k (omega arith) h) in
+    let none = no_feed-before bytes end (omega (arith, c.in-Some.ensures.within.1)) (λ k h. c.in-Some.ensures.first k
+    (omega arith) h) in
     let all : take (end + 1) bytes ≡ take end bytes ++ 10 ∷ [] =
-    take_more bytes end 0 c.in-Some.ensures.within.1 ∙ ap (λ (b : ℕ). take end bytes ++ b ∷ []) c.in-Some.ensures.found in
+    take_more bytes end 0 c.in-Some.ensures.within.1 ∙ ap (λ (b : ℕ). take end bytes ++ b ∷ []) c.in-Some.ensures.found
+    in
     subst (λ (bs : List ℕ). IsGoing filter then new (fed_with past bs)) (sym all)
     (goes-on filter (g.E.Engine.shows c.args.engine.now) c.args.held.now past is mid (take end bytes)
-    (record { number = refl; warned = refl; output = refl; messages = refl }) c.in-Ok-extend_from_slice.ensures.items none
+    (record { number = refl; warned = refl; output = refl; messages = refl }) c.in-Ok-extend_from_slice.ensures.items
+    none
     then new (c.in_ok-take_piece-in-Ok-extend_from_slice.ensures.done (ended_lines_of past.fed) is.shown)
     c.in_ok-take_piece-in-Ok-extend_from_slice.ensures.number c.in_ok-take_piece-in-Ok-extend_from_slice.ensures.tail)
 
-pub returns-in_err-take_piece-in-Ok-extend_from_slice-clause-breaks : goal.returns-in_err-take_piece-in-Ok-extend_from_slice-clause-breaks
+pub returns-in_err-take_piece-in-Ok-extend_from_slice-clause-breaks :
+    goal.returns-in_err-take_piece-in-Ok-extend_from_slice-clause-breaks
 returns-in_err-take_piece-in-Ok-extend_from_slice-clause-breaks g c = λ (past : HandlePast) is.
     let bytes = c.args.bytes.now in
     let end = c.in-Some.end in
@@ -47,13 +52,16 @@ returns-in_err-take_piece-in-Ok-extend_from_slice-clause-breaks g c = λ (past :
     let new = c.take_piece.new.held in
     let made = c.from_residual in
     let p = err_from_is_err_and made.result made.ensures.1 in
-    let none = no_feed-before bytes end (omega (arith, c.in-Some.ensures.within.1)) (λ k h. c.in-Some.ensures.first k (omega arith) h) in
+    let none = no_feed-before bytes end (omega (arith, c.in-Some.ensures.within.1)) (λ k h. c.in-Some.ensures.first k
+    (omega arith) h) in
     let at = c.in_err-take_piece-in-Ok-extend_from_slice.field-0.0 in
     rw (p.1, p.2) (subst (λ (bs : List ℕ). Breaks filter new (fed_with past bs) at)
     (sym (cut-at bytes end c.in-Some.ensures.within.1 c.in-Some.ensures.found))
     (breaks filter (g.E.Engine.shows c.args.engine.now) c.args.held.now past is mid (take end bytes)
-    (record { number = refl; warned = refl; output = refl; messages = refl }) c.in-Ok-extend_from_slice.ensures.items none
-    new (drop (end + 1) bytes) at (c.in_err-take_piece-in-Ok-extend_from_slice.ensures.stops (ended_lines_of past.fed) is.shown)))
+    (record { number = refl; warned = refl; output = refl; messages = refl }) c.in-Ok-extend_from_slice.ensures.items
+    none
+    new (drop (end + 1) bytes) at (c.in_err-take_piece-in-Ok-extend_from_slice.ensures.stops
+    (ended_lines_of past.fed) is.shown)))
 
 pub returns-in-Err-clause-breaks : goal.returns-in-Err-clause-breaks
 returns-in-Err-clause-breaks g c = λ (past : HandlePast) is.
