@@ -3,8 +3,9 @@
  * In the first run none is refused; then the first growth is in the next run, the second in the one after, and so on, until none is. Each
  * run with a refusal is to end with status 1 and the number of memory that ran out, and the calls after it are to be refused. What was
  * taken of its output in all is to be the front of what the first run wrote; its messages are to be the front of those of the first run,
- * and then the message of memory that ran out, where that could be kept. Each run is to free all that it took. It prints how many growths
- * there were, and the number that the last run ended with; status 3 says that something else came, and standard error what.
+ * and then the message of memory that ran out, where that could be kept. The line at which memory ran out is never to be before that of
+ * the run before, and to be past 0 in the end. Each run is to free all that it took. It prints how many growths there were, and the
+ * number that the last run ended with; status 3 says that something else came, and standard error what.
  */
 #include <rnxcmp.h>
 #include <stdio.h>
@@ -132,16 +133,20 @@ int main(int count, char **words) {
     unsigned good = code_of_run(kind, skip, &whole, &answer);
     demand(good != 22 && blocks == 0, "a run without refusals");
     long growths = 0;
+    uint64_t line = 0;
     for (unsigned code = 22; code == 22; growths++) {
         left = growths;
         code = code_of_run(kind, skip, &cut, &answer);
         demand(blocks == 0, "memory isn't freed");
         if (code == 22) {
             demand_prefixes(&answer);
+            demand(answer.line >= line, "the line goes back from run to run");
+            line = answer.line;
         } else {
             demand(code == good && cut.output_length == whole.output_length && cut.messages_length == whole.messages_length, "another end");
             printf("%ld %u\n", growths, code);
         }
     }
+    demand(line > 0, "no run got past line 0");
     return 0;
 }

@@ -1,6 +1,10 @@
 -- What ended a run at a line, by what is kept.
-use Rattle.std.proofs.Common.{◌≡◌, ℕ, inl, inr, List, [], ◌++◌, Option, ◌∙◌, append-nil}
+use Rattle.std.proofs.Common.{◌≡◌, ◌⊎◌, ℕ, inl, inr, List, [], ◌++◌, take, drop, Option, Some, None, Bool, Result, Ok}
+use Rattle.std.proofs.Common.{Err, IfErr, MatchResult, refl, sym, ap, subst, ◌∙◌, append-nil}
+use Rattle.std.proofs.Common.{append_assoc}
+use Rattle.std.proofs.lemmas.List.{take-append-drop}
 use Rattle.crx_lines.specs.declared.fault.At.{At}
+use Rattle.crx_lines.specs.declared.fault.Fault.TheVariants.{OutOfMemory}
 use Rattle.crx_engine.specs.meaning.Results.{Course}
 use Rattle.crx_engine.specs.meaning.Messages.{notices_text}
 use Rattle.crx_filter.specs.declared.taking.Halt.{Halt}
@@ -8,17 +12,22 @@ use Rattle.crx_filter.specs.declared.taking.Halt.TheVariants.{Fault, Unwritten, 
 use Rattle.crx_filter.specs.meaning.Spans.{Device}
 use Rattle.crx_filter.specs.Taking.{IsCut, IsHalted}
 use Rattle.rnxcmp_c.specs.declared.devices.Collected.{Collected}
-use Rattle.rnxcmp_c.specs.Going.{StopsBy}
+use Rattle.rnxcmp_c.specs.Going.{LineStops, StopsBy}
+
+none-not-some : {notices : List At} → ◌≡◌ {A = Option (List At)} None (Some notices) → ⊥
+none-not-some e = cc
 
 pub cut-stops : (before after : Course) (memory : Option (List At)) (number : ℕ) (writer messages : Device)
     (output then_output kept then_kept : Collected)
     → ((t : List ℕ) → writer.took t → then_output.bytes.items ≡ output.bytes.items ++ t)
     → ((t : List ℕ) → messages.took t → then_kept.bytes.items ≡ kept.bytes.items ++ t)
     → (halt : Halt) → IsCut before after memory number writer messages halt
-    → StopsBy before after output then_output kept then_kept halt
-cut-stops before after memory number writer messages output then_output kept then_kept wrote reported (Fault at) (here, inl out) =
-    inl out.fault
-cut-stops before after memory number writer messages output then_output kept then_kept wrote reported (Fault at) (here, inr ended) =
+    → StopsBy number before after output then_output kept then_kept halt
+cut-stops before after memory number writer messages output then_output kept then_kept wrote reported (Fault at)
+    (here, inl out) =
+    inl ((out.fault, out.place), record { text = []; wrote = wrote [] out.wrote.0; first = inl refl })
+cut-stops before after memory number writer messages output then_output kept then_kept wrote reported (Fault at)
+    (here, inr ended) =
     inr (record {
       fault = ended.ends.fault;
       notices = here;
@@ -27,15 +36,63 @@ cut-stops before after memory number writer messages output then_output kept the
       wrote = wrote [] ended.wrote.0 ∙ append-nil output.bytes.items;
       reported = reported (notices_text here) ended.reported.0;
     })
-cut-stops before after memory number writer messages output then_output kept then_kept wrote reported Unwritten cut = tt
-cut-stops before after memory number writer messages output then_output kept then_kept wrote reported Unreported cut = tt
+cut-stops before after memory number writer messages output then_output kept then_kept wrote reported Unwritten
+    (here, cut) =
+    let count = cut.wrote.0.0 in
+    record {
+      text = take count cut.text;
+      wrote = wrote (take count cut.text) cut.wrote.0.2;
+      first = inr (record {
+        rest = drop count cut.text;
+        same = cut.adds.output ∙ ap (λ t. before.output ++ t) (sym (take-append-drop count cut.text))
+            ∙ sym (append_assoc before.output (take count cut.text) (drop count cut.text));
+      });
+    }
+cut-stops before after memory number writer messages output then_output kept then_kept wrote reported Unreported
+    (here, cut) =
+    record { text = []; wrote = wrote [] cut.wrote.0; first = inl refl }
 
--- the same of the end
-pub halted-stops : (before after : Course) (memory : Option (List At)) (number : ℕ) (writer messages : Device)
+-- the same of the end, at which memory may run out for the texts alone
+pub halted-stops : (before after : Course) (number last : ℕ) (writer messages : Device)
     (output then_output kept then_kept : Collected)
     → ((t : List ℕ) → writer.took t → then_output.bytes.items ≡ output.bytes.items ++ t)
     → ((t : List ℕ) → messages.took t → then_kept.bytes.items ≡ kept.bytes.items ++ t)
-    → (halt : Halt) → IsHalted before after memory number writer messages [] [] halt
-    → StopsBy before after output then_output kept then_kept halt
-halted-stops before after memory number writer messages output then_output kept then_kept wrote reported halt halted =
-    cut-stops before after memory number writer messages output then_output kept then_kept wrote reported halt ([], halted)
+    → (halt : Halt) → IsHalted before after None last writer messages [] [] halt
+    → StopsBy number before after output then_output kept then_kept halt
+halted-stops before after number last writer messages output then_output kept then_kept wrote reported (Fault at)
+    (inl out) =
+    absurd (none-not-some out.allowed)
+halted-stops before after number last writer messages output then_output kept then_kept wrote reported (Fault at)
+    (inr faulty) =
+    cut-stops before after None number writer messages output then_output kept then_kept wrote reported (Fault at)
+    ([], inr faulty)
+halted-stops before after number last writer messages output then_output kept then_kept wrote reported Unwritten cut =
+    cut-stops before after None number writer messages output then_output kept then_kept wrote reported Unwritten
+    ([], cut)
+halted-stops before after number last writer messages output then_output kept then_kept wrote reported Unreported cut =
+    cut-stops before after None number writer messages output then_output kept then_kept wrote reported Unreported
+    ([], cut)
+
+-- the fault at the line where it ended the run
+pub stops-at : (number : ℕ) (before after : Course) (output then_output kept then_kept : Collected) (halt : Halt)
+    (at : At)
+    → ((other : At) → halt ≡ Fault other → at ≡ other) → (halt ≡ Unwritten → at.fault ≡ OutOfMemory)
+    → (halt ≡ Unreported → at.fault ≡ OutOfMemory) → ((halt ≡ Unwritten) ⊎ (halt ≡ Unreported) → at.line ≡ number)
+    → StopsBy number before after output then_output kept then_kept halt
+    → LineStops number before after output then_output kept then_kept at
+stops-at number before after output then_output kept then_kept (Fault other) at fault unwritten unreported line stops =
+    subst (LineStops number before after output then_output kept then_kept) (sym (fault other refl)) stops
+stops-at number before after output then_output kept then_kept Unwritten at fault unwritten unreported line short =
+    inl ((unwritten refl, line (inl refl)), short)
+stops-at number before after output then_output kept then_kept Unreported at fault unwritten unreported line short =
+    inl ((unreported refl, line (inr refl)), short)
+
+err-not-ok : (at : At) (warned : Bool) → ◌≡◌ {A = Result Bool At} (Err at) (Ok warned) → ⊥
+err-not-ok at warned e = cc
+
+-- what a call answered whose error another was made of
+pub made-of : (r : Result Bool Halt) (at : At) (Stops Made : Halt → Type 0) (Claim : Type 0)
+    → MatchResult r (λ (warned : Bool). ◌≡◌ {A = Result Bool At} (Err at) (Ok warned)) Made
+    → IfErr r Stops → ((halt : Halt) → Stops halt → Made halt → Claim) → Claim
+made-of (Ok warned) at Stops Made Claim made stops then = absurd (err-not-ok at warned made)
+made-of (Err halt) at Stops Made Claim made stops then = then halt stops made

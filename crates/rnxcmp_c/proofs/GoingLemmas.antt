@@ -1,6 +1,6 @@
 -- A run goes on by the bytes that are fed.
-use Rattle.std.proofs.Common.{◌≡◌, ◌≢◌, ◌⊎◌, inl, inr, ℕ, ◌+◌, ◌<◌, ◌≤◌, Bool, true, false, ◌||◌, List, [], ◌∷◌, ◌++◌}
-use Rattle.std.proofs.Common.{length, take, drop, slice_index, Some, None, refl, sym, ap, ◌∙◌, subst, arith, append-nil}
+use Rattle.std.proofs.Common.{◌≡◌, ◌≢◌, ◌⊎◌, inl, inr, ℕ, ◌+◌, ◌<◌, ◌≤◌, true, false, ◌||◌, List, [], ◌∷◌, ◌++◌, ⊎_elim}
+use Rattle.std.proofs.Common.{length, take, drop, slice_index, None, refl, sym, ap, ◌∙◌, subst, arith, append-nil}
 use Rattle.std.proofs.Common.{append_assoc, length-append, length-take}
 use Rattle.std.proofs.lemmas.List.{drop_more, get_or-take, take-append-drop}
 use Rattle.std.proofs.lemmas.List.Elements.{All-append, All-from_get_or}
@@ -13,10 +13,11 @@ use Rattle.crx_engine.specs.Engines.{Awaited}
 use Rattle.crx_engine.specs.Lawful.{IsLawful}
 use Rattle.crx_engine.specs.meaning.Filters.{Filter, with_next}
 use Rattle.crx_engine.specs.meaning.Messages.{notices_text, warning_text}
-use Rattle.crx_engine.specs.meaning.Results.{Course, are_some}
+use Rattle.crx_engine.specs.meaning.Results.{Begins, Course, are_some}
 use Rattle.rnxcmp_c.specs.declared.held.Held.{Held}
-use Rattle.rnxcmp_c.specs.Going.{HandlePast, fed_with, IsText, IsGoing, IsBroken, Breaks, IsKept, MovesOn, EndsThere, LineStops}
-use Rattle.rnxcmp_c.specs.Going.{piece_line, IsAll, IsFailed, LineFails}
+use Rattle.rnxcmp_c.specs.declared.devices.Collected.{Collected}
+use Rattle.rnxcmp_c.specs.Going.{HandlePast, fed_with, IsText, IsGoing, IsBroken, Breaks, MovesOn, EndsThere, LineStops}
+use Rattle.rnxcmp_c.specs.Going.{piece_line, IsAll, IsFailed, LineFails, IsCutShort, RanOutAt, RunsShort}
 
 -- the bytes before the first LF have none
 pub no_feed-before : (bytes : List ℕ) (n : ℕ) → n ≤ length bytes
@@ -35,7 +36,8 @@ cut-at bytes n within feed =
 notices-both : (xs ys : List At) → notices_text (xs ++ ys) ≡ notices_text xs ++ notices_text ys
 notices-both [] ys = refl
 notices-both (x ∷ xs) ys =
-    ap (λ t. warning_text x ++ t) (notices-both xs ys) ∙ sym (append_assoc (warning_text x) (notices_text xs) (notices_text ys))
+    ap (λ t. warning_text x ++ t) (notices-both xs ys) ∙ sym (append_assoc (warning_text x) (notices_text xs)
+    (notices_text ys))
 
 some-both : (xs ys : List At) → are_some (xs ++ ys) ≡ (are_some xs || are_some ys)
 some-both [] ys = refl
@@ -46,6 +48,31 @@ more-text : (whole taken kept more then : List ℕ) (after : List ℕ) → after
     → then ≡ kept ++ more → after ≡ taken ++ then
 more-text whole taken kept more then after grows is was =
     grows ∙ ap (λ t. t ++ more) is ∙ append_assoc taken kept more ∙ ap (λ t. taken ++ t) (sym was)
+
+-- what was taken of an output that was cut short, and then what is kept, is a prefix of it
+text-short : (before after : Course) (old new : Collected) (taken : List ℕ)
+    → before.output ≡ taken ++ old.bytes.items → IsCutShort before after old new
+    → Begins before.output (taken ++ new.bytes.items) ⊎ Begins after.output (taken ++ new.bytes.items)
+text-short before after old new taken is short =
+    ⊎_elim (λ none. inl (record {
+      rest = [];
+      same = is ∙ ap (λ t. taken ++ t) (sym (short.wrote ∙ ap (λ t. old.bytes.items ++ t) none
+          ∙ append-nil old.bytes.items))
+          ∙ sym (append-nil (taken ++ new.bytes.items));
+    }))
+    (λ begins. inr (record {
+      rest = begins.rest;
+      same = begins.same ∙ ap (λ t. t ++ begins.rest) (ap (λ t. t ++ short.text) is
+          ∙ append_assoc taken old.bytes.items short.text ∙ ap (λ t. taken ++ t) (sym short.wrote));
+    }))
+    short.first
+
+-- a prefix of a prefix
+pub begins-then : (all mid first : List ℕ) → Begins all mid → Begins mid first → Begins all first
+begins-then all mid first a b = record {
+  rest = b.rest ++ a.rest;
+  same = a.same ∙ ap (λ t. t ++ a.rest) b.same ∙ append_assoc first b.rest a.rest;
+}
 
 -- what is held of a run, but for the bytes of its last line
 pub record IsSame (old new : Held) : Type 0 where
@@ -89,8 +116,49 @@ module _ (filter : Filter) (shows : List InputLine → List Awaited → Type 0)
         no_feed = subst HasNoFeed (sym tail) no_feed;
         cut = λ more. over lines_of more is.cut;
         cut_ended = λ more. over ended_lines_of more is.cut_ended;
-        counted = omega (arith, is.counted, same.number, ap length tail, length-append held.tail.items bytes, length-append past.fed bytes);
+        counted = omega (
+          arith,
+          is.counted,
+          same.number,
+          ap length tail,
+          length-append held.tail.items bytes,
+          length-append past.fed bytes,
+        );
       }
+
+  -- memory ran out before a line was taken
+  first-lines : (bytes more : List ℕ) → (rest : List InputLine) × (lines_of
+      ((past.fed ++ bytes) ++ more) ≡ ended_lines_of past.fed ++ rest)
+  first-lines bytes more = (
+    lines_of (held.tail.items ++ (bytes ++ more)),
+    ap lines_of (append_assoc past.fed bytes more) ∙ is.cut (bytes ++ more),
+  )
+
+  few-lines : (bytes : List ℕ) (n : ℕ) → n ≡ length (ended_lines_of past.fed) + 1
+      → n ≤ length (ended_lines_of (past.fed ++ bytes)) + 1
+  few-lines bytes n number =
+      omega (
+        arith,
+        number,
+        ap length (is.cut_ended bytes),
+        length-append (ended_lines_of past.fed) (ended_lines_of (held.tail.items ++ bytes)),
+      )
+
+  pub breaks-before : (new : Held) (bytes : List ℕ) (at : At) → new.output.bytes.items ≡ held.output.bytes.items
+      → RanOutAt (held.number + 1) at → Breaks filter new (fed_with past bytes) at
+  breaks-before new bytes at same memory =
+      inl (record {
+        fault = memory.0;
+        some = omega (arith, memory.1);
+        within = few-lines bytes at.line (memory.1 ∙ ap (λ n. n + 1) is.number);
+        lines = ended_lines_of past.fed;
+        first = first-lines bytes;
+        output = record {
+          rest = [];
+          same = is.text.wrote ∙ ap (λ t. past.output ++ t) (sym same)
+              ∙ sym (append-nil (past.output ++ new.output.bytes.items));
+        };
+      })
 
   -- a line's bytes, and its LF
   module _ (mid : Held) (piece : List ℕ) (same : IsSame held mid)
@@ -115,7 +183,8 @@ module _ (filter : Filter) (shows : List InputLine → List Awaited → Type 0)
         (ap (λ t. held.tail.items ++ t) (sym (append-nil fed)) ∙ joined [])
         ∙ ap (λ ls. ended_lines_of past.fed ++ ls) (ended_lines-first mid.tail.items [] whole)
 
-    pub line-first : (more : List ℕ) → lines_of (past.fed ++ (fed ++ more)) ≡ with_next (ended_lines_of past.fed) line ++ lines_of more
+    pub line-first : (more : List ℕ) → lines_of (past.fed ++ (fed ++ more)) ≡ with_next
+        (ended_lines_of past.fed) line ++ lines_of more
     line-first more =
         is.cut (fed ++ more) ∙ ap (λ t. ended_lines_of past.fed ++ lines_of t) (joined more)
         ∙ ap (λ ls. ended_lines_of past.fed ++ ls) (lines-first mid.tail.items more whole)
@@ -149,8 +218,10 @@ module _ (filter : Filter) (shows : List InputLine → List Awaited → Type 0)
                 ∙ more-text before.output past.output held.output.bytes.items kept.text new.output.bytes.items _
                 kept.output_is is.text.wrote (kept.wrote ∙ ap (λ t. t ++ kept.text) same.output);
             reported = ap (λ ls. notices_text (filter.so_far ls).warnings) one-more
-                ∙ more-text (notices_text before.warnings) past.messages held.messages.bytes.items (notices_text kept.notices)
-                new.messages.bytes.items _ (ap notices_text kept.warnings_are ∙ notices-both before.warnings kept.notices)
+                ∙ more-text (notices_text before.warnings) past.messages held.messages.bytes.items
+                (notices_text kept.notices)
+                new.messages.bytes.items _ (ap notices_text kept.warnings_are
+                ∙ notices-both before.warnings kept.notices)
                 is.text.reported (kept.reported ∙ ap (λ t. t ++ notices_text kept.notices) same.messages);
           };
           flag = moved.flag ∙ ap (λ b. b || moved.warned) (same.warned ∙ is.flag)
@@ -161,8 +232,26 @@ module _ (filter : Filter) (shows : List InputLine → List Awaited → Type 0)
           no_feed = subst HasNoFeed (sym empty) (λ k d h. absurd (omega (arith, h)));
           cut = λ more. over lines_of more (line-first more);
           cut_ended = λ more. over ended_lines_of more (ended-first more);
-          counted = omega (arith, is.counted, same.number, number, ap length empty, length-append past.fed fed, length-append piece (10 ∷ []));
+          counted = omega (
+            arith,
+            is.counted,
+            same.number,
+            number,
+            ap length empty,
+            length-append past.fed fed,
+            length-append piece (10 ∷ []),
+          );
         }
+
+    line-then : (rest more : List ℕ) → (others : List InputLine)
+        × (lines_of ((past.fed ++ (piece ++ 10 ∷ rest)) ++ more) ≡ with_next (ended_lines_of past.fed) line ++ others)
+    line-then rest more = (
+      lines_of (rest ++ more),
+      ap lines_of (append_assoc past.fed (piece ++ 10 ∷ rest) more
+          ∙ ap (λ t. past.fed ++ t) (append_assoc piece (10 ∷ rest) more
+          ∙ sym (append_assoc piece (10 ∷ []) (rest ++ more))))
+          ∙ line-first (rest ++ more),
+    )
 
     breaks-there : (new : Held) (rest : List ℕ) (at : At)
         → EndsThere (filter.so_far (ended_lines_of past.fed)) (filter.so_far (with_next (ended_lines_of past.fed) line))
@@ -172,12 +261,7 @@ module _ (filter : Filter) (shows : List InputLine → List Awaited → Type 0)
         let before = filter.so_far (ended_lines_of past.fed) in
         record {
           lines = with_next (ended_lines_of past.fed) line;
-          first = λ more. (
-            lines_of (rest ++ more),
-            ap lines_of (append_assoc past.fed (piece ++ 10 ∷ rest) more
-                ∙ ap (λ t. past.fed ++ t) (append_assoc piece (10 ∷ rest) more ∙ sym (append_assoc piece (10 ∷ []) (rest ++ more))))
-                ∙ line-first (rest ++ more),
-          );
+          first = λ more. line-then rest more;
           fault = ends.fault;
           text = record {
             wrote = ends.output_is ∙ is.text.wrote ∙ ap (λ t. past.output ++ t) (sym (ends.wrote ∙ same.output));
@@ -188,11 +272,40 @@ module _ (filter : Filter) (shows : List InputLine → List Awaited → Type 0)
           };
         }
 
+    breaks-short : (new : Held) (rest : List ℕ) (at : At) → RanOutAt (length (ended_lines_of past.fed) + 1) at
+        → IsCutShort (filter.so_far (ended_lines_of past.fed)) (filter.so_far (with_next
+        (ended_lines_of past.fed) line)) mid.output new.output
+        → RunsShort filter new (fed_with past (piece ++ 10 ∷ rest)) at
+    breaks-short new rest at memory short =
+        let before = filter.so_far (ended_lines_of past.fed) in
+        let after = filter.so_far (with_next (ended_lines_of past.fed) line) in
+        let bytes : List ℕ = piece ++ 10 ∷ rest in
+        let within = few-lines bytes at.line memory.1 in
+        let some : 0 < at.line = omega (arith, memory.1) in
+        ⊎_elim (λ (prefix : Begins before.output (past.output ++ new.output.bytes.items)). record {
+          fault = memory.0;
+          some = some;
+          within = within;
+          lines = ended_lines_of past.fed;
+          first = first-lines bytes;
+          output = prefix;
+        })
+        (λ (prefix : Begins after.output (past.output ++ new.output.bytes.items)). record {
+          fault = memory.0;
+          some = some;
+          within = within;
+          lines = with_next (ended_lines_of past.fed) line;
+          first = λ more. line-then rest more;
+          output = prefix;
+        })
+        (text-short before after mid.output new.output past.output (is.text.wrote
+        ∙ ap (λ t. past.output ++ t) (sym same.output)) short)
+
     pub breaks : (new : Held) (rest : List ℕ) (at : At)
-        → LineStops (filter.so_far (ended_lines_of past.fed)) (filter.so_far (with_next (ended_lines_of past.fed) line))
-        mid.output new.output mid.messages new.messages at
+        → LineStops (length (ended_lines_of past.fed) + 1) (filter.so_far (ended_lines_of past.fed))
+        (filter.so_far (with_next (ended_lines_of past.fed) line)) mid.output new.output mid.messages new.messages at
         → Breaks filter new (fed_with past (piece ++ 10 ∷ rest)) at
-    breaks new rest at (inl memory) = inl memory
+    breaks new rest at (inl memory) = inl (breaks-short new rest at memory.0 memory.1)
     breaks new rest at (inr ends) = inr (breaks-there new rest at ends)
 
 -- ---- the end
@@ -204,7 +317,8 @@ text-grows before after shown old new past text moved =
     record {
       wrote = more-text before.output past.output old.output.bytes.items kept.text new.output.bytes.items _
           kept.output_is text.wrote kept.wrote;
-      reported = more-text (notices_text before.warnings) past.messages old.messages.bytes.items (notices_text kept.notices)
+      reported = more-text (notices_text before.warnings) past.messages old.messages.bytes.items
+          (notices_text kept.notices)
           new.messages.bytes.items _ (ap notices_text kept.warnings_are ∙ notices-both before.warnings kept.notices)
           text.reported kept.reported;
     }
@@ -237,11 +351,21 @@ module _ (filter : Filter) (mid : Held) (past : HandlePast) (lines : List InputL
         flag = flag-grows (filter.so_far lines) (filter.whole lines) shown mid new flag moved;
       })
 
-  pub ends-badly : (at : At)
-      → LineStops (filter.so_far lines) (filter.whole lines) mid.output new.output mid.messages new.messages at
+  pub ends-badly : IsLawful filter → (number : ℕ) → number ≡ length lines → (at : At)
+      → LineStops number (filter.so_far lines) (filter.whole lines) mid.output new.output mid.messages new.messages at
       → LineFails (filter.whole (lines_of past.fed)) new past at
-  ends-badly at (inl memory) = inl memory
-  ends-badly at (inr ends) =
+  ends-badly lawful number last at (inl memory) =
+      let first = subst (λ ls. Begins (filter.whole ls).output (filter.so_far lines).output) (append-nil lines)
+      (lawful.goes_on lines []) in
+      let output : Begins (filter.whole lines).output (past.output ++ new.output.bytes.items) =
+      ⊎_elim (λ prefix. begins-then _ _ _ first prefix) (λ prefix. prefix)
+      (text-short (filter.so_far lines) (filter.whole lines) mid.output new.output past.output text.wrote memory.1) in
+      inl (record {
+        ran_out = (memory.0.0, memory.0.1 ∙ last ∙ ap length (sym whole));
+        output = subst (λ ls. Begins (filter.whole ls).output (past.output ++ new.output.bytes.items))
+            (sym whole) output;
+      })
+  ends-badly lawful number last at (inr ends) =
       inr (subst (λ ls. IsFailed (filter.whole ls) new past at) (sym whole) (record {
         fault = ends.fault;
         text = text-ends (filter.so_far lines) (filter.whole lines) mid new past at text ends;
@@ -273,16 +397,38 @@ module _ (filter : Filter) (shows : List InputLine → List Awaited → Type 0)
     module _ (shown : Type 0)
         (moved : MovesOn (filter.so_far (ended_lines_of past.fed)) (filter.so_far last) shown held mid) where
       pub last-text : IsText (filter.so_far last) mid past
-      last-text = text-grows (filter.so_far (ended_lines_of past.fed)) (filter.so_far last) shown held mid past is.text moved
+      last-text = text-grows (filter.so_far (ended_lines_of past.fed)) (filter.so_far last) shown held mid past is.text
+          moved
 
       pub last-flag : mid.warned ≡ are_some (filter.so_far last).warnings
       last-flag = flag-grows (filter.so_far (ended_lines_of past.fed)) (filter.so_far last) shown held mid is.flag moved
 
     -- it ended the run
     pub last-fails : IsLawful filter → (at : At)
-        → LineStops (filter.so_far (ended_lines_of past.fed)) (filter.so_far last) held.output mid.output held.messages mid.messages at
+        → LineStops (length (ended_lines_of past.fed) + 1) (filter.so_far (ended_lines_of past.fed))
+        (filter.so_far last)
+        held.output mid.output held.messages mid.messages at
         → LineFails (filter.whole (lines_of past.fed)) mid past at
-    last-fails lawful at (inl memory) = inl memory
+    last-fails lawful at (inl memory) =
+        let ended = ended_lines_of past.fed in
+        let written : List ℕ = past.output ++ mid.output.bytes.items in
+        let whole : lines_of past.fed ≡ last = all-but_last some in
+        let before : Begins (filter.whole last).output (filter.so_far ended).output =
+        lawful.goes_on ended (piece_line held.tail.items false ∷ []) in
+        let after : Begins (filter.whole last).output (filter.so_far last).output =
+        subst (λ ls. Begins (filter.whole ls).output (filter.so_far last).output) (append-nil last)
+        (lawful.goes_on last []) in
+        let output : Begins (filter.whole last).output written =
+        ⊎_elim (λ prefix. begins-then _ _ _ before prefix) (λ prefix. begins-then _ _ _ after prefix)
+        (text-short (filter.so_far ended) (filter.so_far last) held.output mid.output past.output is.text.wrote
+        memory.1) in
+        inl (record {
+          ran_out = (
+            memory.0.0,
+            memory.0.1 ∙ sym (ap length whole ∙ length-append ended (piece_line held.tail.items false ∷ [])),
+          );
+          output = subst (λ ls. Begins (filter.whole ls).output written) (sym whole) output;
+        })
     last-fails lawful at (inr ends) =
         let decided : filter.whole (lines_of past.fed) ≡ filter.so_far last =
         ap filter.whole (all-but_last some ∙ sym (append-nil last)) ∙ lawful.decided last [] at ends.fault in

@@ -1,19 +1,23 @@
 -- A handle stays sound from call to call.
-use Rattle.std.proofs.Common.{◌≡◌, ◌⊎◌, inl, inr, ℕ, ◌+◌, ◌<◌, ◌≤◌, List, [], ◌∷◌, length, Option, Some, None, Bool, true, false}
-use Rattle.std.proofs.Common.{◌++◌, nat_lt, arith, refl, sym, ap, ◌∙◌, subst, append-nil, ⊎_elim}
+use Rattle.std.proofs.Common.{◌≡◌, ◌⊎◌, inl, inr, ℕ, ◌+◌, ◌<◌, ◌≤◌, List, [], ◌∷◌, length, Option, Some, None, Bool}
+use Rattle.std.proofs.Common.{true, false}
+use Rattle.std.proofs.Common.{◌++◌, nat_lt, arith, refl, sym, ap, ◌∙◌, subst, append-nil, length-append, ⊎_elim}
 use Rattle.std.proofs.lemmas.Bool.{ltb-true, ltb-false}
 use Rattle.crx_lines.specs.meaning.Lines.{lines_of}
 use Rattle.crx_lines.specs.meaning.Seen.{ended_lines_of}
 use Rattle.crx_lines.specs.Reading.{HasNoFeed}
+use Rattle.crx_lines.proofs.ProgressLemmas.{ended_lines-come_first, lines-last}
 use Rattle.crx_engine.specs.Lawful.{IsLawful}
-use Rattle.crx_engine.specs.meaning.Filters.{Filter}
 use Rattle.crx_engine.specs.meaning.Messages.{notices_text}
-use Rattle.crx_engine.specs.meaning.Results.{Course, are_some}
+use Rattle.crx_engine.specs.meaning.Results.{Course, FilterResult, are_some}
 use Rattle.crx_lines.specs.declared.limits.TheConstants.{INPUT_LIMIT}
 use Rattle.crx_filter.specs.declared.outcome.Outcome.{Outcome}
 use Rattle.rnxcmp_c.specs.Going.{HandlePast, fed_with}
-use Rattle.rnxcmp_c.specs.Handles.{IsFresh, ReaderRuns, filter_for, engine_filter, nothing_fed}
-use Rattle.rnxcmp_c.specs.Handles.{Ends, ReaderEndsBy, Feeds, FeedsBy, HasEndedBy, HasFedBy, ReaderIsOver, ReaderStands, StandsBy, Task, result_for}
+use Rattle.rnxcmp_c.specs.Handles.{IsFresh, ReaderRuns, nothing_fed}
+use Rattle.rnxcmp_c.specs.Handles.{ReaderEndsBy, FeedsBy, HasEndedBy, HasFedBy, IsLineOf, ReaderIsOver, ReaderStands}
+use Rattle.rnxcmp_c.specs.Handles.{StandsBy, Task}
+use Rattle.rnxcmp_c.specs.Handles.{RunIsOutOfMemory, result_for}
+use Rattle.rnxcmp_c.specs.meaning.Answers.{line_in}
 use Rattle.rnxcmp_c.specs.declared.answer.Answer.{Answer}
 use Rattle.rnxcmp_c.specs.declared.engines.AnyEngine.{AnyEngine}
 use Rattle.rnxcmp_c.specs.declared.held.Held.{Held}
@@ -29,18 +33,49 @@ pub one-held : (held : List Reader) (a b : Reader) → held ≡ a ∷ [] → hel
 unfolding first_or
 one-held held a b first second = ap (first_or a) (sym first ∙ second)
 
+-- the lines of some bytes are those that an LF ends, and one more at most
+few-lines : (rest : List ℕ) → HasNoFeed rest → length (lines_of rest) ≤ 1
+few-lines [] none = omega arith
+few-lines (b ∷ bs) none = omega (arith, ap length (lines-last (b ∷ bs) none (omega arith)))
+
+lines-within : (fed : List ℕ) → length (lines_of fed) ≤ length (ended_lines_of fed) + 1
+lines-within fed =
+    let first = ended_lines-come_first fed in
+    let all : lines_of fed ≡ ended_lines_of fed ++ lines_of first.0 =
+    ap lines_of (sym (append-nil fed)) ∙ first.2 [] ∙ ap (λ t. ended_lines_of fed ++ lines_of t) (append-nil first.0) in
+    omega (arith, ap length all, length-append (ended_lines_of fed) (lines_of first.0), few-lines first.0 first.1)
+
+-- memory ran out at a line of more kinds
+line-weaker : (P Q : ℕ → Type 0) (result : FilterResult) (reader : Reader) (outcome : Outcome) (past : HandlePast)
+    → ((n : ℕ) → P n → Q n) → RunIsOutOfMemory P result reader outcome past
+    → RunIsOutOfMemory Q result reader outcome past
+line-weaker P Q result reader outcome past weaker ran = record {
+  memory = ran.memory;
+  status = ran.status;
+  line = ⊎_elim (λ at. inl (weaker (line_in outcome.fault) at)) (λ same. inr same) ran.line;
+  output = ran.output;
+}
+
 -- what is fed or ended stands
 fed-stands : (task : Task) (reader : Reader) (past : HandlePast) (outcome : Option Outcome)
     → HasFedBy task reader past outcome → StandsBy task reader past outcome
 fed-stands task reader past None fed = fed
-fed-stands task reader past (Some outcome) (inl memory) = inl memory
+fed-stands task reader past (Some outcome) (inl memory) =
+    inl (line-weaker _ (IsLineOf past.fed) (result_for task past.fed) reader outcome past (λ n at. at.1)
+    (subst (λ (bytes : List ℕ). RunIsOutOfMemory (λ line. (0 < line) × IsLineOf past.fed line)
+    (result_for task bytes) reader outcome past)
+    (append-nil past.fed) (memory [])))
 fed-stands task reader past (Some outcome) (inr over) =
-    inr (subst (λ (bytes : List ℕ). ReaderIsOver (result_for task bytes) reader outcome past) (append-nil past.fed) (over []))
+    inr (subst (λ (bytes : List ℕ). ReaderIsOver (result_for task bytes) reader outcome past) (append-nil past.fed)
+    (over []))
 
 ended-stands : (task : Task) (reader : Reader) (past : HandlePast) (outcome : Option Outcome)
     → HasEndedBy task reader past outcome → StandsBy task reader past outcome
 ended-stands task reader past None ended = absurd ended
-ended-stands task reader past (Some outcome) ended = ended
+ended-stands task reader past (Some outcome) (inl memory) =
+    inl (line-weaker _ (IsLineOf past.fed) (result_for task past.fed) reader outcome past
+    (λ n last. omega (arith, last, lines-within past.fed)) memory)
+ended-stands task reader past (Some outcome) (inr over) = inr over
 
 -- whether bytes are too many
 either : (b : Bool) → (b ≡ true) ⊎ (b ≡ false)

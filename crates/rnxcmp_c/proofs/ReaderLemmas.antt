@@ -1,21 +1,25 @@
 -- A reader's run has ended as the whole run of its input does.
-use Rattle.std.proofs.Common.{◌≡◌, ◌⊎◌, inl, inr, ℕ, Bool, List, [], ◌++◌, Option, Some, None, refl, sym, ap, ◌∙◌, subst}
+use Rattle.std.proofs.Common.{◌≡◌, inl, inr, ⊎_elim, ℕ, List, [], ◌++◌, Option, Some, None, refl, sym, ap, ◌∙◌, subst}
 use Rattle.std.proofs.Common.{append-nil, append_assoc}
-use Rattle.crx_lines.specs.meaning.Lines.{InputLine, lines_of}
+use Rattle.crx_lines.specs.meaning.Lines.{lines_of}
 use Rattle.crx_lines.specs.declared.fault.At.{At}
 use Rattle.crx_lines.specs.declared.fault.Fault.TheVariants.{OutOfMemory}
 use Rattle.crx_engine.specs.meaning.Directions.{check_filter, report_unless}
 use Rattle.crx_engine.specs.Lawful.{IsLawful}
 use Rattle.crx_engine.specs.meaning.Filters.{Filter}
 use Rattle.crx_engine.specs.meaning.Messages.{error_text, notices_text}
-use Rattle.crx_engine.specs.meaning.Results.{Course, FilterResult, are_some, good_status, result_of_course, status_after}
-use Rattle.crx_engine.specs.meaning.Standard.{Findings, checked, checked_by, findings_of, report_status, whole_of}
+use Rattle.crx_engine.specs.meaning.Results.{Begins, Course, FilterResult, good_status, result_of_course, status_after}
+use Rattle.crx_engine.specs.meaning.Standard.{Findings, checked_by, findings_of, report_status, whole_of}
 use Rattle.crx_engine.proofs.following.CheckLawful.{check-lawful}
 use Rattle.crx_engine.proofs.following.Lawful.{compaction-lawful, expansion-lawful}
 use Rattle.crx_filter.specs.declared.outcome.Outcome.{Outcome}
 use Rattle.crx_filter.specs.meaning.Runs.{FaultIs}
 use Rattle.rnxcmp_c.specs.Going.{Breaks, LineFails, IsAll, IsText, HandlePast}
-use Rattle.rnxcmp_c.specs.Handles.{Task, Compact, Expand, Check, IsOf, ReaderIsOver, IsPutDown, RunIsOutOfMemory, filter_for, engine_filter, has_ended_of}
+use Rattle.rnxcmp_c.specs.Handles.{Task, Compact, Expand, Check, IsOf, ReaderIsOver, IsPut, IsPutDown, IsPutSilently}
+use Rattle.rnxcmp_c.specs.Handles.{RunIsOutOfMemory, filter_for}
+use Rattle.rnxcmp_c.specs.Handles.{HasFedBy, HasEndedBy, engine_filter, has_ended_of}
+use Rattle.rnxcmp_c.specs.meaning.Answers.{line_in}
+use Rattle.rnxcmp_c.proofs.GoingLemmas.{begins-then}
 use Rattle.rnxcmp_c.specs.Handles.{result_for, status_at_end}
 use Rattle.rnxcmp_c.specs.declared.engines.AnyEngine.{AnyEngine}
 use Rattle.rnxcmp_c.specs.declared.engines.AnyEngine.TheVariants.{Compacting, Expanding, Checking}
@@ -41,7 +45,8 @@ lawful-for Check = check-lawful
 -- ---- a fault
 
 checked-faulty : (fault : Option At) (found : Findings) (at : At) → fault ≡ Some at
-    → result_of_course (record { output = report_unless fault found; warnings = []; fault = fault }) ≡ checked_by fault found
+    → result_of_course (record { output = report_unless fault found; warnings = []; fault = fault }) ≡ checked_by fault
+    found
 checked-faulty (Some other) found at is = refl
 checked-faulty None found at is = absurd (cc)
 
@@ -64,43 +69,142 @@ course-over course reader mid outcome past at fault text put = record {
       ∙ ap (λ t. past.messages ++ t) (sym put.messages);
 }
 
-memory-put : (outcome : Outcome) (at : At) → outcome.fault ≡ Some at → outcome.status ≡ 1 → at.fault ≡ OutOfMemory
-    → RunIsOutOfMemory outcome
-memory-put outcome at is status memory = (subst (FaultIs OutOfMemory) (sym is) memory, status)
+-- ---- memory
+
+checked-output : (fault : Option At) (found : Findings) → (checked_by fault found).output ≡ report_unless fault found
+checked-output (Some at) found = refl
+checked-output None found = refl
+
+-- the output of a result is that of the filter
+output-for : (task : Task) (input : List ℕ) → (result_for task input).output ≡ ((filter_for task).whole
+    (lines_of input)).output
+output-for (Compact choices) input = refl
+output-for (Expand choices) input = refl
+output-for Check input = checked-output (whole_of input).fault (findings_of (lines_of input))
+
+-- memory ran out at this line, before a fault was put down or for its message
+record IsShort (mid new : Held) (outcome : Outcome) (line : ℕ) : Type 0 where
+  pub memory : FaultIs OutOfMemory outcome.fault
+  pub status : outcome.status ≡ 1
+  pub line_is : line_in outcome.fault ≡ line
+  pub output : new.output.bytes.items ≡ mid.output.bytes.items
+
+put-silently : (mid new : Held) (outcome : Outcome) (at : At) → IsPutSilently mid new outcome at
+    → IsShort mid new outcome at.line
+put-silently mid new outcome at put = record {
+  memory = subst (FaultIs OutOfMemory) (sym put.fault) refl;
+  status = put.status;
+  line_is = ap line_in put.fault;
+  output = put.output;
+}
+
+put-down : (mid new : Held) (outcome : Outcome) (at : At)
+    → at.fault ≡ OutOfMemory → IsPutDown mid new outcome at → IsShort mid new outcome at.line
+put-down mid new outcome at memory put = record {
+  memory = subst (FaultIs OutOfMemory) (sym put.fault) memory;
+  status = put.status;
+  line_is = ap line_in put.fault;
+  output = put.output;
+}
+
+put-short : (mid new : Held) (outcome : Outcome) (at : At)
+    → at.fault ≡ OutOfMemory → IsPut mid new at (Some outcome) → IsShort mid new outcome at.line
+put-short mid new outcome at memory (inl put) = put-silently mid new outcome at put
+put-short mid new outcome at memory (inr put) = put-down mid new outcome at memory put
+
+-- the run is out of memory: at such a line, or at that of the result's fault
+module _ (is_line : ℕ → Type 0) (result : FilterResult) (reader : Reader) (mid : Held)
+    (outcome : Outcome) (past : HandlePast) (line : ℕ) (short : IsShort mid reader.held outcome line)
+    (output : Begins result.output (past.output ++ mid.output.bytes.items)) where
+  still : Begins result.output (past.output ++ reader.held.output.bytes.items)
+  still = subst (λ t. Begins result.output (past.output ++ t)) (sym short.output) output
+
+  short-at : is_line line → RunIsOutOfMemory is_line result reader outcome past
+  short-at at = record {
+    memory = short.memory;
+    status = short.status;
+    line = inl (subst is_line (sym short.line_is) at);
+    output = still;
+  }
+
+  short-fault : line ≡ line_in result.fault → RunIsOutOfMemory is_line result reader outcome past
+  short-fault at = record {
+    memory = short.memory;
+    status = short.status;
+    line = inr (short.line_is
+        ∙ at);
+    output = still;
+  }
 
 module _ (task : Task) (engine : AnyEngine) (is : IsOf task engine)
     (reader : Reader) (mid : Held) (outcome : Outcome) (past : HandlePast) (at : At) where
-  pub breaks-over : Breaks (engine_filter engine) mid past at
-      → RunIsOutOfMemory outcome ⊎ IsPutDown mid reader.held outcome at
-      → RunIsOutOfMemory outcome ⊎ ((more : List ℕ) → ReaderIsOver (result_for task (past.fed ++ more)) reader outcome past)
-  breaks-over breaks (inl memory) = inl memory
-  breaks-over (inl memory) (inr put) = inl (memory-put outcome at put.fault put.status memory)
-  breaks-over (inr broken) (inr put) = inr (λ more.
+  -- a fault of the result whose message couldn't be kept
+  fault-short : (is_line : ℕ → Type 0) (input : List ℕ) (course : Course)
+      → (filter_for task).whole (lines_of input) ≡ course → course.fault ≡ Some at → IsText course mid past
+      → IsPutSilently mid reader.held outcome at
+      → RunIsOutOfMemory is_line (result_for task input) reader outcome past
+  fault-short is_line input course whole fault text put =
+      let same : result_of_course course ≡ result_for task input =
+      sym (ap result_of_course whole) ∙ result-faulty task input at (ap (λ (c : Course). c.fault) whole ∙ fault) in
+      subst (λ r. RunIsOutOfMemory is_line r reader outcome past) same
+      (short-fault is_line (result_of_course course) reader mid outcome past at.line
+      (put-silently mid reader.held outcome at put)
+      (record { rest = []; same = text.wrote ∙ sym (append-nil (past.output ++ mid.output.bytes.items)) })
+      (ap line_in (sym fault)))
+
+  pub breaks-over : Breaks (engine_filter engine) mid past at → IsPut mid reader.held at (Some outcome)
+      → HasFedBy task reader past (Some outcome)
+  breaks-over (inl ran) put = inl (λ more.
       let filter = filter_for task in
-      let rest = broken.first more in
+      let written : List ℕ = past.output ++ mid.output.bytes.items in
+      let rest = ran.first more in
+      let first : Begins (filter.so_far ran.lines).output written =
+      subst (λ (f : Filter). Begins (f.so_far ran.lines).output written) (filter-is task engine is) ran.output in
+      let all : Begins (filter.whole (lines_of (past.fed ++ more))).output (filter.so_far ran.lines).output =
+      subst (λ ls. Begins (filter.whole ls).output (filter.so_far ran.lines).output) (sym rest.1)
+      ((lawful-for task).goes_on ran.lines rest.0) in
+      short-at _ (result_for task (past.fed ++ more)) reader mid outcome past at.line
+      (put-short mid reader.held outcome at ran.fault put)
+      (subst (λ t. Begins t written) (sym (output-for task (past.fed ++ more))) (begins-then _ _ _ all first))
+      (ran.some, ran.within))
+  breaks-over (inr broken) put =
+      let filter = filter_for task in
       let fault : (filter.so_far broken.lines).fault ≡ Some at =
       subst (λ (f : Filter). (f.so_far broken.lines).fault ≡ Some at) (filter-is task engine is) broken.fault in
       let text : IsText (filter.so_far broken.lines) mid past =
       subst (λ (f : Filter). IsText (f.so_far broken.lines) mid past) (filter-is task engine is) broken.text in
-      let whole : filter.whole (lines_of (past.fed ++ more)) ≡ filter.so_far broken.lines =
-      ap filter.whole rest.1 ∙ (lawful-for task).decided broken.lines rest.0 at fault in
+      let whole : (more : List ℕ) → filter.whole (lines_of (past.fed ++ more)) ≡ filter.so_far broken.lines = λ more.
+      ap filter.whole (broken.first more).1 ∙ (lawful-for task).decided broken.lines (broken.first more).0 at fault in
+      ⊎_elim (λ silently. inl (λ more.
+      fault-short _ (past.fed ++ more) (filter.so_far broken.lines) (whole more) fault text silently))
+      (λ down. inr (λ more.
       subst (λ r. ReaderIsOver r reader outcome past)
-      (sym (ap result_of_course whole)
-      ∙ result-faulty task (past.fed ++ more) at (ap (λ (c : Course). c.fault) whole ∙ fault))
-      (course-over (filter.so_far broken.lines) reader mid outcome past at fault text put))
+      (sym (ap result_of_course (whole more))
+      ∙ result-faulty task (past.fed ++ more) at (ap (λ (c : Course). c.fault) (whole more) ∙ fault))
+      (course-over (filter.so_far broken.lines) reader mid outcome past at fault text down)))
+      put
 
   pub fails-over : LineFails ((engine_filter engine).whole (lines_of past.fed)) mid past at
-      → RunIsOutOfMemory outcome ⊎ IsPutDown mid reader.held outcome at
-      → RunIsOutOfMemory outcome ⊎ ReaderIsOver (result_for task past.fed) reader outcome past
-  fails-over fails (inl memory) = inl memory
-  fails-over (inl memory) (inr put) = inl (memory-put outcome at put.fault put.status memory)
-  fails-over (inr failed) (inr put) =
+      → IsPut mid reader.held at (Some outcome)
+      → HasEndedBy task reader past (Some outcome)
+  fails-over (inl ran) put =
+      let written : List ℕ = past.output ++ mid.output.bytes.items in
+      let output : Begins ((filter_for task).whole (lines_of past.fed)).output written =
+      subst (λ (f : Filter). Begins (f.whole (lines_of past.fed)).output written)
+      (filter-is task engine is) ran.output in
+      inl (short-at _ (result_for task past.fed) reader mid outcome past at.line
+      (put-short mid reader.held outcome at ran.ran_out.0 put)
+      (subst (λ t. Begins t written) (sym (output-for task past.fed)) output) ran.ran_out.1)
+  fails-over (inr failed) put =
       let whole = (filter_for task).whole (lines_of past.fed) in
       let same : (engine_filter engine).whole (lines_of past.fed) ≡ whole =
       ap (λ (f : Filter). f.whole (lines_of past.fed)) (filter-is task engine is) in
       let fault : whole.fault ≡ Some at = subst (λ (c : Course). c.fault ≡ Some at) same failed.fault in
-      inr (subst (λ r. ReaderIsOver r reader outcome past) (result-faulty task past.fed at fault)
-      (course-over whole reader mid outcome past at fault (subst (λ (c : Course). IsText c mid past) same failed.text) put))
+      let text : IsText whole mid past = subst (λ (c : Course). IsText c mid past) same failed.text in
+      ⊎_elim (λ silently. inl (fault-short _ past.fed whole refl fault text silently))
+      (λ down. inr (subst (λ r. ReaderIsOver r reader outcome past) (result-faulty task past.fed at fault)
+      (course-over whole reader mid outcome past at fault text down)))
+      put
 
 -- ---- the end
 
@@ -134,13 +238,15 @@ pub all-over : (task : Task) (engine then : AnyEngine) → IsOf task engine → 
     → ReaderIsOver (result_for task past.fed) reader outcome past
 all-over (Compact choices) engine (Compacting c) is now reader outcome past none status all ended =
     course-well _ reader outcome past none status
-    (subst (λ (f : Filter). IsAll (f.whole (lines_of past.fed)) reader.held past) (filter-is (Compact choices) engine is) all)
+    (subst (λ (f : Filter). IsAll (f.whole (lines_of past.fed)) reader.held past) (filter-is
+    (Compact choices) engine is) all)
 all-over (Compact choices) engine (Expanding c) is now reader outcome past none status all ended = absurd now
 all-over (Compact choices) engine (Checking c) is now reader outcome past none status all ended = absurd now
 all-over (Expand choices) engine (Compacting c) is now reader outcome past none status all ended = absurd now
 all-over (Expand choices) engine (Expanding c) is now reader outcome past none status all ended =
     course-well _ reader outcome past none status
-    (subst (λ (f : Filter). IsAll (f.whole (lines_of past.fed)) reader.held past) (filter-is (Expand choices) engine is) all)
+    (subst (λ (f : Filter). IsAll (f.whole (lines_of past.fed)) reader.held past) (filter-is
+    (Expand choices) engine is) all)
 all-over (Expand choices) engine (Checking c) is now reader outcome past none status all ended = absurd now
 all-over Check engine (Compacting c) is now reader outcome past none status all ended = absurd now
 all-over Check engine (Expanding c) is now reader outcome past none status all ended = absurd now

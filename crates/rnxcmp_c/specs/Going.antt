@@ -1,5 +1,5 @@
 -- A run between two calls, by the bytes that were fed and the texts that were taken.
-use Rattle.std.specs.Prelude.{◌≡◌, ◌⊎◌, ◌≤◌, ⊤, ℕ, ◌+◌, Bool, ◌||◌, List, [], ◌++◌, length, Some, None}
+use Rattle.std.specs.Prelude.{◌≡◌, ◌⊎◌, ◌<◌, ◌≤◌, ℕ, ◌+◌, Bool, ◌||◌, List, [], ◌++◌, length, Some, None}
 use Rattle.crx_lines.specs.meaning.Lines.{InputLine, line_of, lines_of}
 use Rattle.crx_lines.specs.meaning.Seen.{ended_lines_of}
 use Rattle.crx_lines.specs.Reading.{HasNoFeed}
@@ -8,7 +8,7 @@ use Rattle.crx_lines.specs.declared.fault.Fault.TheVariants.{OutOfMemory}
 use Rattle.crx_engine.specs.Engines.{Awaited}
 use Rattle.crx_engine.specs.meaning.Filters.{Filter}
 use Rattle.crx_engine.specs.meaning.Messages.{notices_text}
-use Rattle.crx_engine.specs.meaning.Results.{Course, are_some}
+use Rattle.crx_engine.specs.meaning.Results.{Begins, Course, are_some}
 use Rattle.crx_filter.specs.declared.taking.Halt.{Halt}
 use Rattle.crx_filter.specs.declared.taking.Halt.TheVariants.{Fault, Unwritten, Unreported}
 use Rattle.rnxcmp_c.specs.declared.devices.Collected.{Collected}
@@ -40,7 +40,8 @@ pub record MovesOn (before after : Course) (shown : Type 0) (old new : Held) : T
   pub flag : new.warned ≡ (old.warned || warned)
 
 -- a fault ended the run there, after some warnings
-pub record EndsThere (before after : Course) (output then_output messages then_messages : Collected) (at : At) : Type 0 where
+pub record EndsThere (before after : Course) (output then_output messages then_messages : Collected)
+    (at : At) : Type 0 where
   pub fault : after.fault ≡ Some at
   pub notices : List At
   pub output_is : after.output ≡ before.output
@@ -48,16 +49,29 @@ pub record EndsThere (before after : Course) (output then_output messages then_m
   pub wrote : then_output.bytes.items ≡ output.bytes.items
   pub reported : then_messages.bytes.items ≡ messages.bytes.items ++ notices_text notices
 
--- memory ran out, or a fault ended the run
-abbrev pub LineStops : Course → Course → Collected → Collected → Collected → Collected → At → Type 0
-LineStops before after output then_output messages then_messages at =
-    (at.fault ≡ OutOfMemory) ⊎ EndsThere before after output then_output messages then_messages at
+-- memory ran out at a line of this number
+abbrev pub RanOutAt : ℕ → At → Type 0
+RanOutAt number at = (at.fault ≡ OutOfMemory) × (at.line ≡ number)
 
-abbrev pub StopsBy : Course → Course → Collected → Collected → Collected → Collected → Halt → Type 0
-StopsBy before after output then_output messages then_messages (Fault at) =
-    LineStops before after output then_output messages then_messages at
-StopsBy before after output then_output messages then_messages Unwritten = ⊤
-StopsBy before after output then_output messages then_messages Unreported = ⊤
+-- of what a line adds to the output, or the end, a prefix was kept
+pub record IsCutShort (before after : Course) (output then_output : Collected) : Type 0 where
+  pub text : List ℕ
+  pub wrote : then_output.bytes.items ≡ output.bytes.items ++ text
+  pub first : (text ≡ []) ⊎ Begins after.output (before.output ++ text)
+
+-- memory ran out, or a fault ended the run
+abbrev pub LineStops : ℕ → Course → Course → Collected → Collected → Collected → Collected → At → Type 0
+LineStops number before after output then_output messages then_messages at =
+    (RanOutAt number at × IsCutShort before after output then_output)
+    ⊎ EndsThere before after output then_output messages then_messages at
+
+abbrev pub StopsBy : ℕ → Course → Course → Collected → Collected → Collected → Collected → Halt → Type 0
+StopsBy number before after output then_output messages then_messages (Fault at) =
+    LineStops number before after output then_output messages then_messages at
+StopsBy number before after output then_output messages then_messages Unwritten =
+    IsCutShort before after output then_output
+StopsBy number before after output then_output messages then_messages Unreported =
+    IsCutShort before after output then_output
 
 -- ---- a run
 
@@ -86,7 +100,8 @@ pub record IsGoing (filter : Filter)
   pub flag : held.warned ≡ are_some (filter.so_far (ended_lines_of past.fed)).warnings
   pub number : held.number ≡ length (ended_lines_of past.fed)
   pub no_feed : HasNoFeed held.tail.items
-  pub cut : (more : List ℕ) → lines_of (past.fed ++ more) ≡ ended_lines_of past.fed ++ lines_of (held.tail.items ++ more)
+  pub cut : (more : List ℕ) → lines_of (past.fed ++ more) ≡ ended_lines_of past.fed ++ lines_of
+      (held.tail.items ++ more)
   pub cut_ended : (more : List ℕ)
       → ended_lines_of (past.fed ++ more) ≡ ended_lines_of past.fed ++ ended_lines_of (held.tail.items ++ more)
   pub counted : held.number + length held.tail.items ≤ length past.fed
@@ -98,9 +113,19 @@ pub record IsBroken (filter : Filter) (held : Held) (past : HandlePast) (at : At
   pub fault : (filter.so_far lines).fault ≡ Some at
   pub text : IsText (filter.so_far lines) held past
 
+-- memory ran out in a line, at the latest in the one after those whose LF was fed. What was taken of the output and
+-- then what is kept is a prefix of what some of the first lines make, whatever follows
+pub record RunsShort (filter : Filter) (held : Held) (past : HandlePast) (at : At) : Type 0 where
+  pub fault : at.fault ≡ OutOfMemory
+  pub some : 0 < at.line
+  pub within : at.line ≤ length (ended_lines_of past.fed) + 1
+  pub lines : List InputLine
+  pub first : (more : List ℕ) → (rest : List InputLine) × (lines_of (past.fed ++ more) ≡ lines ++ rest)
+  pub output : Begins (filter.so_far lines).output (past.output ++ held.output.bytes.items)
+
 -- memory ran out, or a fault ended the run
 abbrev pub Breaks : Filter → Held → HandlePast → At → Type 0
-Breaks filter held past at = (at.fault ≡ OutOfMemory) ⊎ IsBroken filter held past at
+Breaks filter held past at = RunsShort filter held past at ⊎ IsBroken filter held past at
 
 -- ---- the end
 
@@ -115,6 +140,12 @@ pub record IsFailed (course : Course) (held : Held) (past : HandlePast) (at : At
   pub fault : course.fault ≡ Some at
   pub text : IsText course held past
 
+-- memory ran out at the last line, or at the end after it. What was taken of the output and then what is kept is a
+-- prefix of it
+pub record EndsShort (course : Course) (held : Held) (past : HandlePast) (at : At) : Type 0 where
+  pub ran_out : RanOutAt (length (lines_of past.fed)) at
+  pub output : Begins course.output (past.output ++ held.output.bytes.items)
+
 -- memory ran out, or a fault ended the run
 abbrev pub LineFails : Course → Held → HandlePast → At → Type 0
-LineFails course held past at = (at.fault ≡ OutOfMemory) ⊎ IsFailed course held past at
+LineFails course held past at = EndsShort course held past at ⊎ IsFailed course held past at

@@ -1,6 +1,7 @@
 -- A handle between two calls.
-use Rattle.std.specs.Prelude.{◌≡◌, ◌⊎◌, ◌<◌, ◌≤◌, ⊤, ℕ, ◌+◌, Bool, true, false, List, [], ◌∷◌, ◌++◌, length, Option, Some, None}
-use Rattle.crx_lines.specs.meaning.Lines.{InputLine}
+use Rattle.std.specs.Prelude.{◌≡◌, ◌⊎◌, ◌<◌, ◌≤◌, ⊤, ℕ, ◌+◌, Bool, List, [], ◌++◌, length, Option, Some, None}
+use Rattle.crx_lines.specs.meaning.Lines.{InputLine, lines_of}
+use Rattle.crx_lines.specs.meaning.Seen.{ended_lines_of}
 use Rattle.crx_lines.specs.declared.limits.TheConstants.{INPUT_LIMIT}
 use Rattle.crx_lines.specs.declared.fault.At.{At}
 use Rattle.crx_lines.specs.declared.fault.Fault.TheVariants.{InputTooLong, OutOfMemory}
@@ -9,7 +10,7 @@ use Rattle.crx_engine.specs.meaning.Choices.{Choices}
 use Rattle.crx_engine.specs.meaning.Compacted.{compacted}
 use Rattle.crx_engine.specs.meaning.Expanded.{expanded}
 use Rattle.crx_engine.specs.meaning.Filters.{Filter}
-use Rattle.crx_engine.specs.meaning.Results.{FilterResult, good_status}
+use Rattle.crx_engine.specs.meaning.Results.{Begins, FilterResult, good_status}
 use Rattle.crx_engine.specs.meaning.Messages.{error_text}
 use Rattle.crx_engine.specs.meaning.Standard.{checked, report_status}
 use Rattle.crx_engine.specs.meaning.Directions.{check_filter}
@@ -112,14 +113,24 @@ pub record ReaderIsOver (result : FilterResult) (reader : Reader) (outcome : Out
   pub output : result.output ≡ past.output ++ reader.held.output.bytes.items
   pub messages : result.messages ≡ past.messages ++ reader.held.messages.bytes.items
 
--- memory ran out, which is status 1
-abbrev pub RunIsOutOfMemory : Outcome → Type 0
-RunIsOutOfMemory outcome = FaultIs OutOfMemory outcome.fault × (outcome.status ≡ 1)
+-- memory ran out, which is status 1: at such a line, or for the message of the fault that the result has. What was
+-- taken of the output and then what is kept is a prefix of it
+pub record RunIsOutOfMemory (is_line : ℕ → Type 0)
+    (result : FilterResult) (reader : Reader) (outcome : Outcome) (past : HandlePast) : Type 0 where
+  pub memory : FaultIs OutOfMemory outcome.fault
+  pub status : outcome.status ≡ 1
+  pub line : is_line (line_in outcome.fault) ⊎ (line_in outcome.fault ≡ line_in result.fault)
+  pub output : Begins result.output (past.output ++ reader.held.output.bytes.items)
+
+-- the number of a line of some bytes, at the latest of the one after those that an LF ends
+abbrev pub IsLineOf : List ℕ → ℕ → Type 0
+IsLineOf fed line = line ≤ length (ended_lines_of fed) + 1
 
 -- where a run is: it goes on; or it has ended, with the result of the bytes that were fed, unless memory ran out
 abbrev pub StandsBy : Task → Reader → HandlePast → Option Outcome → Type 0
 StandsBy task reader past None = ReaderRuns task reader past
-StandsBy task reader past (Some outcome) = RunIsOutOfMemory outcome
+StandsBy task reader past (Some outcome) =
+    RunIsOutOfMemory (IsLineOf past.fed) (result_for task past.fed) reader outcome past
     ⊎ ReaderIsOver (result_for task past.fed) reader outcome past
 
 abbrev pub ReaderStands : Task → Reader → HandlePast → Type 0
@@ -128,7 +139,8 @@ ReaderStands task reader past = StandsBy task reader past reader.outcome
 -- where it is after some bytes: where a fault has ended it, the result is that of every input that begins with them
 abbrev pub HasFedBy : Task → Reader → HandlePast → Option Outcome → Type 0
 HasFedBy task reader past None = ReaderRuns task reader past
-HasFedBy task reader past (Some outcome) = RunIsOutOfMemory outcome
+HasFedBy task reader past (Some outcome) = ((more : List ℕ) → RunIsOutOfMemory
+    (λ line. (0 < line) × IsLineOf past.fed line) (result_for task (past.fed ++ more)) reader outcome past)
     ⊎ ((more : List ℕ) → ReaderIsOver (result_for task (past.fed ++ more)) reader outcome past)
 
 abbrev pub HasFed : Task → Reader → HandlePast → Type 0
@@ -137,22 +149,30 @@ HasFed task reader past = HasFedBy task reader past reader.outcome
 -- after its end
 abbrev pub HasEndedBy : Task → Reader → HandlePast → Option Outcome → Type 0
 HasEndedBy task reader past None = ⊥
-HasEndedBy task reader past (Some outcome) = RunIsOutOfMemory outcome
+HasEndedBy task reader past (Some outcome) = RunIsOutOfMemory
+    (λ line. line ≡ length (lines_of past.fed)) (result_for task past.fed) reader outcome past
     ⊎ ReaderIsOver (result_for task past.fed) reader outcome past
 
 abbrev pub ReaderHasEnded : Task → Reader → HandlePast → Type 0
 ReaderHasEnded task reader past = HasEndedBy task reader past reader.outcome
 
--- a fault was put down: its message was kept, and its status is 1; or memory ran out
+-- a fault was put down: its message was kept, and its status is 1
 pub record IsPutDown (old new : Held) (outcome : Outcome) (at : At) : Type 0 where
   pub status : outcome.status ≡ 1
   pub fault : outcome.fault ≡ Some at
   pub output : new.output.bytes.items ≡ old.output.bytes.items
   pub messages : new.messages.bytes.items ≡ old.messages.bytes.items ++ error_text (Some at)
 
+-- its message couldn't be kept, which is out of memory at its line; both texts are as they were
+pub record IsPutSilently (old new : Held) (outcome : Outcome) (at : At) : Type 0 where
+  pub status : outcome.status ≡ 1
+  pub fault : outcome.fault ≡ Some (record { line = at.line; fault = OutOfMemory })
+  pub output : new.output.bytes.items ≡ old.output.bytes.items
+  pub messages : new.messages.bytes.items ≡ old.messages.bytes.items
+
 abbrev pub IsPut : Held → Held → At → Option Outcome → Type 0
 IsPut old new at None = ⊥
-IsPut old new at (Some outcome) = RunIsOutOfMemory outcome ⊎ IsPutDown old new outcome at
+IsPut old new at (Some outcome) = IsPutSilently old new outcome at ⊎ IsPutDown old new outcome at
 
 -- ---- what a call answers
 
@@ -180,7 +200,8 @@ abbrev pub IsMisused : Answer → Type 0
 IsMisused answer = answer ≡ bare_answer MISUSED 0 0
 
 -- more bytes were fed; where these would be more than an input may have, nothing was done
-pub record FeedsBytes (task : Task) (old new : Reader) (past : HandlePast) (bytes : List ℕ) (answer : Answer) : Type 0 where
+pub record FeedsBytes (task : Task) (old new : Reader) (past : HandlePast) (bytes : List ℕ)
+    (answer : Answer) : Type 0 where
   pub long : INPUT_LIMIT < length past.fed + length bytes
       → (answer ≡ bare_answer 1 0 (code_of_fault InputTooLong)) × (new ≡ old)
   pub fed : length past.fed + length bytes ≤ INPUT_LIMIT

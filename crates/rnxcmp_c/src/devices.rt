@@ -90,7 +90,8 @@ impl Collected {
 
     /// Takes a text at its end; `false` says that memory ran out.
     pub(crate) fn add(&mut self, text: &[u8]) -> bool
-        ensures { result ≡ true → self.new.bytes.items ≡ self.old.bytes.items ++ text.now }
+        ensures taken { result ≡ true → self.new.bytes.items ≡ self.old.bytes.items ++ text.now }
+        ensures unchanged { result ≡ false → self.new.bytes.items ≡ self.old.bytes.items }
     {
         self.bytes.extend_from_slice(text).is_ok()
     }

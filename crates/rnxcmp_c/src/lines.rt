@@ -1,12 +1,12 @@
 //! Lines out of the bytes that are fed, through an engine.
 
-ghost use Rattle.std.specs.Prelude.{◌≡◌, ◌≤◌, ◌<◌, ◌+◌, ℕ, List, [], length, take, drop, false, true, OnOk, IfOk, IfErr};
+ghost use Rattle.std.specs.Prelude.{◌≡◌, ◌⊎◌, ◌≤◌, ◌<◌, ◌+◌, List, [], length, take, drop, false, true, OnOk, IfOk, IfErr};
 ghost use Rattle.crx_lines.specs.declared.fault.At.{At};
 ghost use Rattle.crx_lines.specs.declared.limits.TheConstants.{INPUT_LIMIT};
 ghost use Rattle.crx_lines.specs.meaning.Lines.{InputLine, ends_with_return, lines_of, without_return};
 ghost use Rattle.crx_engine.specs.Lawful.{IsLawful};
 ghost use Rattle.crx_engine.specs.meaning.Filters.{with_next};
-ghost use Rattle.rnxcmp_c.specs.Going.{Breaks, LineFails, IsAll, IsGoing, IsKept, MovesOn, HandlePast, LineStops, StopsBy, fed_with, piece_line};
+ghost use Rattle.rnxcmp_c.specs.Going.{Breaks, LineFails, IsAll, IsGoing, IsKept, MovesOn, HandlePast, LineStops, RanOutAt, StopsBy, fed_with, piece_line};
 
 use crate::devices::Collected;
 use crate::held::Held;
@@ -21,6 +21,7 @@ fn fault_of(halt: Halt, line: u64) -> At
     ensures fault { (at : At) → halt ≡ Halt.Fault at → result ≡ at }
     ensures unwritten { halt ≡ Halt.Unwritten → result.fault ≡ Fault.OutOfMemory }
     ensures unreported { halt ≡ Halt.Unreported → result.fault ≡ Fault.OutOfMemory }
+    ensures line { (halt ≡ Halt.Unwritten) ⊎ (halt ≡ Halt.Unreported) → result.line ≡ line }
 {
     match halt {
         Halt::Fault(at) => at,
@@ -73,7 +74,7 @@ fn give_line<E: Engine>(
         (E.shows engine.new (with_next lines (piece_line bytes.now is_ended)) [])
         output.old output.new messages.old messages.new warned) }
     ensures stops { (lines : List InputLine) → E.shows engine.old lines []
-        → IfErr result (λ halt. StopsBy ((E.filter engine.old).so_far lines)
+        → IfErr result (λ halt. StopsBy (length lines + 1) ((E.filter engine.old).so_far lines)
         ((E.filter engine.old).so_far (with_next lines (piece_line bytes.now is_ended)))
         output.old output.new messages.old messages.new halt) }
 {
@@ -107,35 +108,33 @@ fn take_piece<E: Engine>(engine: &mut E, held: &mut Held, is_ended: bool) -> Res
         (E.shows engine.new (with_next lines (piece_line held.old.tail.items is_ended)) [])
         held.old held.new) }
     ensures stops { (lines : List InputLine) → E.shows engine.old lines []
-        → IfErr result (λ at. LineStops ((E.filter engine.old).so_far lines)
+        → IfErr result (λ at. LineStops (length lines + 1) ((E.filter engine.old).so_far lines)
         ((E.filter engine.old).so_far (with_next lines (piece_line held.old.tail.items is_ended)))
         held.old.output held.new.output held.old.messages held.new.messages at) }
 {
     let number = held.number + 1;
-    match give_line(
+    let warned = give_line(
         engine,
         &mut held.output,
         &mut held.messages,
         &held.tail,
         number,
         is_ended,
-    ) {
-        Ok(warned) => {
-            held.tail.clear();
-            held.number = number;
-            held.warned = held.warned || warned;
-            Ok(())
-        }
-        Err(halt) => Err(fault_of(halt, number)),
-    }
+    )
+    .map_err(|halt| fault_of(halt, number))?;
+    held.tail.clear();
+    held.number = number;
+    held.warned = held.warned || warned;
+    Ok(())
 }
 
 /// Memory ran out in the line after this one.
 fn no_memory(number: u64) -> At
-    ensures { result.fault ≡ Fault.OutOfMemory }
+    requires { number ≤ INPUT_LIMIT }
+    ensures { RanOutAt (number + 1) result }
 {
     At {
-        line: number.saturating_add(1),
+        line: number + 1,
         fault: Fault::OutOfMemory,
     }
 }
@@ -162,10 +161,10 @@ fn take_next<E: Engine>(engine: &mut E, held: &mut Held, bytes: &[u8]) -> Result
             Err(_) => Err(no_memory(held.number)),
         },
         Some(end) => match held.tail.extend_from_slice(&bytes[..end]) {
-            Ok(()) => match take_piece(engine, held, true) {
-                Ok(()) => Ok(end + 1),
-                Err(at) => Err(at),
-            },
+            Ok(()) => {
+                take_piece(engine, held, true)?;
+                Ok(end + 1)
+            }
             Err(_) => Err(no_memory(held.number)),
         },
     }
@@ -189,16 +188,15 @@ pub(crate) fn take_bytes<E: Engine>(engine: &mut E, held: &mut Held, bytes: &[u8
     ensures running { OnOk result (E.is_open engine.new) }
     ensures drained { OnOk result (E.ready engine.new ≡ []) }
     ensures going { (past : HandlePast) → IsGoing (E.filter engine.old) (E.shows engine.old) held.old past
-        → OnOk result (IsGoing (E.filter engine.old) (E.shows engine.new) held.new (fed_with past bytes.now)) }
+        → OnOk result (IsGoing (E.filter engine.old)
+        (E.shows engine.new) held.new (fed_with past bytes.now)) }
     ensures breaks { (past : HandlePast) → IsGoing (E.filter engine.old) (E.shows engine.old) held.old past
         → IfErr result (λ at. Breaks (E.filter engine.old) held.new (fed_with past bytes.now) at) }
 {
     let mut left = bytes;
     'bytes: while !left.is_empty() {
-        match take_next(engine, held, left) {
-            Ok(count) => left = rest_after(left, count),
-            Err(at) => return Err(at),
-        }
+        let count = take_next(engine, held, left)?;
+        left = rest_after(left, count);
     }
     Ok(())
 }
@@ -213,16 +211,16 @@ fn end_run<E: Engine>(engine: &mut E, held: &mut Held) -> Result<(), At>
         → OnOk result (MovesOn ((E.filter engine.old).so_far lines) ((E.filter engine.old).whole lines)
         (E.has_ended engine.new lines) held.old held.new) }
     ensures stops { (lines : List InputLine) → E.shows engine.old lines []
-        → IfErr result (λ at. LineStops ((E.filter engine.old).so_far lines) ((E.filter engine.old).whole lines)
+        → IfErr result (λ at. LineStops held.old.number
+        ((E.filter engine.old).so_far lines) ((E.filter engine.old).whole lines)
         held.old.output held.new.output held.old.messages held.new.messages at) }
 {
-    match take_end(engine, &mut held.output, &mut held.messages) {
-        Ok(warned) => {
-            held.warned = held.warned || warned;
-            Ok(())
-        }
-        Err(halt) => Err(fault_of(halt, held.number)),
-    }
+    let number = held.number;
+    let warned = take_end(engine, &mut held.output, &mut held.messages).map_err(|halt| fault_of(
+        halt, number,
+    ))?;
+    held.warned = held.warned || warned;
+    Ok(())
 }
 
 /// Whether there are no bytes.
@@ -251,8 +249,6 @@ pub(crate) fn take_last<E: Engine>(engine: &mut E, held: &mut Held) -> Result<()
     if is_blank(&held.tail) {
         return end_run(engine, held);
     }
-    match take_piece(engine, held, false) {
-        Ok(()) => end_run(engine, held),
-        Err(at) => Err(at),
-    }
+    take_piece(engine, held, false)?;
+    end_run(engine, held)
 }
