@@ -204,6 +204,7 @@ fn apply_at(
 /// read.
 ///
 /// `BadField` comes where the cell is no code, `NoArc` and `OutOfRange` come as by [`ObsArc::apply`].
+#[cold]
 #[inline(never)]
 fn read_any_cell(
     before: &[ObsArc],
@@ -283,6 +284,7 @@ fn resize_arcs(arcs: &mut Vec<ObsArc>, count: usize) -> Result<(), AllocError>
 }
 
 /// Makes arcs as many as a row has cells, where there are more or fewer: drops the last ones, or adds some without values.
+#[cold]
 #[inline(never)]
 fn resize_other_arcs(arcs: &mut Vec<ObsArc>, count: usize) -> Result<(), AllocError>
     ensures { OnOk result (length arcs.new.items ≡ count) }

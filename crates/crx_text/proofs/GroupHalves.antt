@@ -72,3 +72,17 @@ groups_are size high low small is rest =
     lanes_are (high % 1000) (high / 1000) (low % 1000)
     (low / 1000) (omega arith) (omega (arith, small, b)) (omega arith) (omega (arith, d))
     ∙ (rw (a, b, c, d) refl)
+
+-- ---- the halves beside each other
+
+abbrev pub wide_of : List ℕ → List ℕ
+wide_of v = digits_l (2 ^ 64) 2 (number_l 256 (digits_l 256 16 (number_l (2 ^ 32) v)))
+
+pub wide_are : (high low : ℕ) → high < 2 ^ 32 → low < 2 ^ 32 → wide_of (high ∷ 0 ∷ low ∷ 0 ∷ []) ≡ high ∷ low ∷ []
+wide_are high low first second =
+    let number : ℕ = number_l (2 ^ 32) (high ∷ 0 ∷ low ∷ 0 ∷ []) in
+    let number_is : number ≡ high + 2 ^ 64 * low = omega arith in
+    let one : (high + 2 ^ 64 * low) % 2 ^ 64 ≡ high = omega (arith, first) in
+    let two : (high + 2 ^ 64 * low) / 2 ^ 64 % 2 ^ 64 ≡ low = omega (arith, first, second) in
+    ap (digits_l (2 ^ 64) 2) (bytes_back 16 number (omega (arith, first, second)) ∙ number_is)
+    ∙ (rw (one, two) refl)
