@@ -204,7 +204,6 @@ fn apply_at(
 /// read.
 ///
 /// `BadField` comes where the cell is no code, `NoArc` and `OutOfRange` come as by [`ObsArc::apply`].
-#[cold]
 #[inline(never)]
 fn read_any_cell(
     before: &[ObsArc],
