@@ -428,6 +428,7 @@ fn renew_row(
 }
 
 /// Stores a row for a satellite where none is stored: in the memory of a spare one of the epoch, where it has one.
+#[cold]
 #[inline(never)]
 fn hold_row(
     alloc: Global,
@@ -446,6 +447,7 @@ fn hold_row(
 }
 
 /// Puts the stored row after the others of an epoch. No satellite is awaited twice, so only `OutOfMemory` can refuse it.
+#[cold]
 #[inline(never)]
 fn push_held(epoch: &mut Epoch, held: &mut Option<SatRow>) -> Result<(), Fault>
     requires wanted { is_full_epoch epoch.old ≡ false }

@@ -416,6 +416,7 @@ fn make_room(
 }
 
 /// Puts a satellite without a name after some others.
+#[cold]
 #[inline(never)]
 fn add_room(alloc: Global, satellites: &mut Vec<HeldSatellite>) -> Result<(), AllocError>
     ensures room { OnOk result (length satellites.new.items ≡ length satellites.old.items + 1) }

@@ -658,7 +658,7 @@ fn put_cells(values: &[Option<i64>], flags: &[u8], bytes: &mut [u8], at: usize) 
 {
     let mut end = at;
     for k in 0..values.len() {
-        obs_print_cell_into(values[k], flags[2 * k], flags[2 * k + 1], bytes, end);
+        obs_print_cell_into(values[k], flags, 2 * k, bytes, end);
         end += CELL_WIDTH;
     }
     end

@@ -259,14 +259,16 @@ prefix_within (c ∷ cs) = go (is_ascii_digit c) (prefix_within cs)
     go true rest = omega (arith, rest)
     go false rest = omega arith
 
-module _ (text : List ℕ) (more size count : ℕ) (count_is : count ≡ prefix_len is_ascii_digit (text ++ replicate more 0)) where
+module _ (text : List ℕ) (more size count : ℕ)
+    (count_is : count ≡ prefix_len is_ascii_digit (text ++ replicate more 0)) where
   pub few_within : count ≤ length text
   few_within = omega (arith, count_is, padded_prefix text more, prefix_within text)
 
   pub few_digits : all_ascii_digits (take count (text ++ replicate more 0)) ≡ true
   few_digits = rw count_is (prefix_digits (text ++ replicate more 0))
 
-  pub few_digits_of : length text < 8 → size ≡ digits_value 10 (take count (text ++ replicate more 0)) → HasFirstDigits text size count
+  pub few_digits_of : length text < 8
+      → size ≡ digits_value 10 (take count (text ++ replicate more 0)) → HasFirstDigits text size count
   few_digits_of short size_is =
       let front : take count (text ++ replicate more 0) ≡ take count text =
       take-append-le count text (replicate more 0) few_within in

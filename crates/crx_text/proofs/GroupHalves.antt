@@ -1,5 +1,6 @@
 -- A size's groups of three digits, two halves at a time.
-use Rattle.std.proofs.Common.{◌≡◌, ℕ, zero, suc, ◌+◌, ◌*◌, ◌/◌, ◌%◌, ◌^◌, ◌<◌, List, [], ◌∷◌, length, map, arith, refl, ap, ◌∙◌}
+use Rattle.std.proofs.Common.{◌≡◌, ℕ, zero, suc, ◌+◌, ◌*◌, ◌/◌, ◌%◌, ◌^◌, ◌<◌, List, [], ◌∷◌, length, map}
+use Rattle.std.proofs.Common.{arith, refl, ap, ◌∙◌}
 use Rattle.std.proofs.Math.Nat.{pow-suc}
 use lib.Lanes.{Each1, zip2, digits_l, number_l}
 
@@ -55,7 +56,8 @@ module _ (a b c d : ℕ) (as_small : a < 1000) (bs_small : b < 1000) (cs_small :
   pub lanes_are : lanes_of ((a + b * 2 ^ 32) ∷ (c + d * 2 ^ 32) ∷ []) ≡ a ∷ b ∷ c ∷ d ∷ []
   lanes_are =
       let number : ℕ = number_l (2 ^ 64) ((a + b * 2 ^ 32) ∷ (c + d * 2 ^ 32) ∷ []) in
-      ap (digits_l (2 ^ 32) 4) (bytes_back 16 number (omega (arith, as_small, bs_small, cs_small, ds_small)) ∙ number_is)
+      ap (digits_l (2 ^ 32) 4)
+      (bytes_back 16 number (omega (arith, as_small, bs_small, cs_small, ds_small)) ∙ number_is)
       ∙ next_lane 3 a (b + 2 ^ 32 * (c + 2 ^ 32 * (d + 2 ^ 32 * 0))) (omega (arith, as_small))
       ∙ ap (λ (t : List ℕ). a ∷ t) (next_lane 2 b (c + 2 ^ 32 * (d + 2 ^ 32 * 0)) (omega (arith, bs_small))
       ∙ ap (λ (t : List ℕ). b ∷ t) (next_lane 1 c (d + 2 ^ 32 * 0) (omega (arith, cs_small))
@@ -72,3 +74,17 @@ groups_are size high low small is rest =
     lanes_are (high % 1000) (high / 1000) (low % 1000)
     (low / 1000) (omega arith) (omega (arith, small, b)) (omega arith) (omega (arith, d))
     ∙ (rw (a, b, c, d) refl)
+
+-- ---- the halves beside each other
+
+abbrev pub wide_of : List ℕ → List ℕ
+wide_of v = digits_l (2 ^ 64) 2 (number_l 256 (digits_l 256 16 (number_l (2 ^ 32) v)))
+
+pub wide_are : (high low : ℕ) → high < 2 ^ 32 → low < 2 ^ 32 → wide_of (high ∷ 0 ∷ low ∷ 0 ∷ []) ≡ high ∷ low ∷ []
+wide_are high low first second =
+    let number : ℕ = number_l (2 ^ 32) (high ∷ 0 ∷ low ∷ 0 ∷ []) in
+    let number_is : number ≡ high + 2 ^ 64 * low = omega arith in
+    let one : (high + 2 ^ 64 * low) % 2 ^ 64 ≡ high = omega (arith, first) in
+    let two : (high + 2 ^ 64 * low) / 2 ^ 64 % 2 ^ 64 ≡ low = omega (arith, first, second) in
+    ap (digits_l (2 ^ 64) 2) (bytes_back 16 number (omega (arith, first, second)) ∙ number_is)
+    ∙ (rw (one, two) refl)

@@ -6,7 +6,8 @@ abbrev pub group_digits : List ℕ → List ℕ
 group_digits [] = []
 group_digits (group ∷ groups) = group % 10 ∷ group / 10 % 10 ∷ group / 100 ∷ 0 ∷ group_digits groups
 
--- four groups, the second one first and the fourth one before the third, in their columns: a column without a digit, nine digits, the column of the point, three digits
+-- four groups, the second one first and the fourth one before the third, in their columns: a column without a digit,
+-- nine digits, the column of the point, three digits
 abbrev pub spread : List ℕ → List ℕ
 spread (a ∷ b ∷ c ∷ x ∷ d ∷ e ∷ f ∷ y ∷ g ∷ h ∷ i ∷ z ∷ j ∷ k ∷ l ∷ w ∷ rest) =
     x ∷ f ∷ e ∷ d ∷ c ∷ b ∷ a ∷ l ∷ k ∷ j ∷ 254 ∷ i ∷ h ∷ g ∷ x ∷ x ∷ []

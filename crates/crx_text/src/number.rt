@@ -1,7 +1,7 @@
 //! Numbers in columns: observations in format F14.3 and receiver clock offsets in format F15.12
 //! (RINEX 3.05, table A3). They are read leniently and printed in one spelling.
 
-ghost use Rattle.std.specs.Prelude.{◌≡◌, ◌+◌, ◌-◌, ◌*◌, ◌<◌, ◌≤◌, ◌^◌, ◌%◌, ◌++◌, ◌∷◌, [], Option, length, take, drop, replicate, decimal, if◌then◌else◌, IfOk, IfSome, Some};
+ghost use Rattle.std.specs.Prelude.{slice_index, ◌≡◌, ◌+◌, ◌-◌, ◌*◌, ◌<◌, ◌≤◌, ◌^◌, ◌%◌, ◌++◌, ◌∷◌, [], Option, length, take, drop, replicate, decimal, if◌then◌else◌, IfOk, IfSome, Some};
 ghost use Rattle.std.specs.Bool.{OnFalse, OnTrue};
 ghost use Rattle.std.specs.Option.{ForSome};
 ghost use Rattle.std.specs.Result.{result_ok};
@@ -129,20 +129,29 @@ pub fn obs_print_cell(value: Option<i64>, lock: u8, strength: u8, text: &mut Tex
     ensures value { text.new ≡ text.old ++ (observation_text value ++ lock ∷ strength ∷ []) }
     ensures long { length text.new ≡ length text.old + CELL_WIDTH }
 {
-    obs_print_cell_into(value, lock, strength, &mut text.bytes, text.len);
+    obs_print_cell_into(value, &[lock, strength], 0, &mut text.bytes, text.len);
     text.len += CELL_WIDTH;
 }
 
-/// Prints an observation's cell as [`obs_print_cell`] does in place of the bytes from an index on.
+/// Prints an observation's cell as [`obs_print_cell`] does in place of the bytes from an index on, with the two of some indicators that
+/// stand at an index and after it: they become one load and one store.
 #[inline(always)]
-pub fn obs_print_cell_into(value: Option<i64>, lock: u8, strength: u8, bytes: &mut [u8], at: usize)
+pub fn obs_print_cell_into(
+    value: Option<i64>,
+    indicators: &[u8],
+    first: usize,
+    bytes: &mut [u8],
+    at: usize,
+)
     requires in_range { ForSome value IsObservation }
+    requires two { first + 1 < length indicators.now }
     requires room { at + CELL_WIDTH ≤ length bytes.old }
-    ensures { take (at + CELL_WIDTH) bytes.new
-        ≡ take at bytes.old ++ (observation_text value ++ lock ∷ strength ∷ []) }
+    ensures { take (at + CELL_WIDTH) bytes.new ≡ take at bytes.old ++ (observation_text value
+        ++ slice_index indicators.now first ∷ slice_index indicators.now (first + 1) ∷ []) }
 {
     let end = at + OBSERVATION_WIDTH;
     obs_print_into(value, &mut bytes[at..end]);
+    let (lock, strength) = (indicators[first], indicators[first + 1]);
     bytes[end] = lock;
     bytes[end + 1] = strength;
 }

@@ -1,9 +1,10 @@
-use Rattle.std.proofs.Common.{ap, ◌∙◌, arith}
+use Rattle.std.proofs.Common.{ℕ, ◌+◌, ◌-◌, ◌*◌, ◌/◌, ◌%◌, ◌^◌, map, refl, ap, ◌∙◌, arith}
 use Rattle.crx_text.proofs.GroupHalves.{groups_are, lanes_of}
 use Rattle.crx_text.proofs.field_text.groups.Goals as goal
 
 pub returns : goal.returns
 returns c =
-    ap lanes_of c.halves.ensures
-    ∙ groups_are c.args.size c.from-2.result c.from-3.result c.requires c.from-2.ensures
-    (omega (arith, c.from.ensures, c.from-3.ensures))
+    let size = c.args.size in
+    let parted = map (λ (half : ℕ). half % 1000 + half / 1000 * 2 ^ 32) in
+    ap lanes_of (c.halves.ensures ∙ ap parted c.beside.ensures)
+    ∙ groups_are size (size / 10 ^ 6) (size - c.from.result * 10 ^ 6) c.requires refl (omega (arith, c.from.ensures))

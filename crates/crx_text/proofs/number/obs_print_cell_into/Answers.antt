@@ -1,5 +1,5 @@
 use Rattle.std.proofs.Common.{◌≡◌, ◌≤◌, ℕ, ◌+◌, ◌-◌, List, [], ◌∷◌, ◌++◌, length, take, drop, set, refl, sym, ap, ◌∙◌}
-use Rattle.std.proofs.Common.{append_assoc, arith}
+use Rattle.std.proofs.Common.{get_or, append_assoc, arith}
 use Rattle.std.proofs.lemmas.Grind.{take-set_at}
 use Rattle.std.proofs.lemmas.List.{length-set, length-take-le, length-drop}
 use Rattle.std.proofs.lemmas.Slice.{take-put_mid}
@@ -34,8 +34,10 @@ returns c =
     length-take-le (at + 14 - at) (drop at bytes) (omega (arith, length-drop at bytes, room)) in
     let same = c.obs_print_into.auto.columns in
     let long : length c.obs_print_into.new.columns ≡ 14 = omega (arith, same, cut) in
-    let after : List ℕ = set (set (put_mid at (at + 14 - at) bytes c.obs_print_into.new.columns) (at + 14) c.args.lock)
-    (at + 14 + 1) c.args.strength in
+    let lock : ℕ = get_or c.args.indicators.now c.args.first 0 in
+    let strength : ℕ = get_or c.args.indicators.now (c.args.first + 1) 0 in
+    let after : List ℕ = set (set (put_mid at (at + 14 - at) bytes c.obs_print_into.new.columns) (at + 14) lock)
+    (at + 14 + 1) strength in
     ap (λ (n : ℕ). take n after) {x = at + CELL_WIDTH} {y = at + 14 + 2} (omega arith)
-    ∙ cell_written bytes c.obs_print_into.new.columns at _ c.args.lock c.args.strength long (omega arith) room
-    ∙ ap (λ (t : List ℕ). take at bytes ++ (t ++ c.args.lock ∷ c.args.strength ∷ [])) c.obs_print_into.ensures
+    ∙ cell_written bytes c.obs_print_into.new.columns at _ lock strength long (omega arith) room
+    ∙ ap (λ (t : List ℕ). take at bytes ++ (t ++ lock ∷ strength ∷ [])) c.obs_print_into.ensures

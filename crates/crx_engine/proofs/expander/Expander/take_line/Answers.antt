@@ -30,5 +30,6 @@ returns-in-Err-clause-steps c =
     } in
     let failed = c.store_fault.ensures.fails
     (expander_state self) held (Content line) at refl (sym c.in-Err.ensures.types) (sym c.begins_epoch.ensures) in
-    refused-line (expander_state self) (expander_state c.store_fault.new.self) line c.in-Err.fault c.store_fault.new.self.answer
-    c.store_fault.new.self.lines failed c.store_fault.ensures.drained c.store_fault.ensures.fatal c.in-Err.ensures.refuses
+    let new = c.store_fault.new.self in
+    refused-line (expander_state self) (expander_state new) line c.in-Err.fault new.answer
+    new.lines failed c.store_fault.ensures.drained c.store_fault.ensures.fatal c.in-Err.ensures.refuses
