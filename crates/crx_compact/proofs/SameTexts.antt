@@ -55,3 +55,18 @@ same_ends n xs ys narrow some few long first last =
     ∙ (ap (take m) front ∙ take-take m n ys (omega (arith, few, some))) in
     sym (take-append-drop m xs) ∙ (ap (λ (t : List ℕ). t ++ drop m xs) begin
     ∙ (ap (λ (t : List ℕ). take m ys ++ t) rest ∙ take-append-drop m ys))
+
+-- a text whose first characters were put, and then its last ones
+pub both_ends : (n : ℕ) (text one two : List ℕ) → n ≤ length text → length text ≤ n + n → length two ≡ length text
+    → take (0 + n) one ≡ take n text
+    → take (length text - n + n) two ≡ take (length text - n) one ++ chunk (length text - n) n text → two ≡ text
+both_ends n text one two some few long first last =
+    let m : ℕ = length text - n in
+    let sum : n ≡ 0 + n = omega arith in
+    let front : take n one ≡ take n text = ap (λ k. take k one) sum ∙ first in
+    let begin : take m one ≡ take m text = sym (take-take m n one (omega (arith, few, some)))
+    ∙ (ap (take m) front ∙ take-take m n text (omega (arith, few, some))) in
+    let rest : chunk m n text ≡ drop m text = take_all n (drop m text) (omega (arith, length-drop m text)) in
+    sym (take_all (m + n) two (omega (arith, some, long))) ∙ (last
+    ∙ (ap (λ (t : List ℕ). t ++ chunk m n text) begin
+    ∙ (ap (λ (t : List ℕ). take m text ++ t) rest ∙ take-append-drop m text)))

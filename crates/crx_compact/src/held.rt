@@ -29,7 +29,7 @@ use crate::arc::ObsArc;
 use crate::awaited::AwaitedSatellite;
 use crate::lines::Lines;
 use crate::refusals::fault_of_row;
-use crate::same::is_same_text;
+use crate::same::{copy_text, is_same_text};
 use crx_lines::limits::{DIGITS_LIMIT, NAME_WIDTH};
 use crx_rinex::{SatRow, after_columns, all_blank};
 use crx_text::block::put_text;
@@ -571,16 +571,27 @@ impl HeldSatellite {
     }
 }
 
-/// Replaces indicators by others, which mostly are the same.
+/// Replaces indicators by others, which mostly are as many.
 #[inline]
 fn renew_flags(flags: &mut Vec<u8>, next: &[u8]) -> Result<(), AllocError>
     ensures ok { OnOk result (flags.new.items ≡ next.now) }
     ensures err { OnErr result (flags.new.items ≡ []) }
 {
-    if !is_same_text(flags, next) {
-        flags.clear();
-        flags.extend_from_slice(next)?;
+    if flags.len() == next.len() {
+        copy_text(next, flags);
+        return Ok(());
     }
+    resize_flags(flags, next)
+}
+
+/// Replaces indicators by others, which are more or fewer.
+#[inline(never)]
+fn resize_flags(flags: &mut Vec<u8>, next: &[u8]) -> Result<(), AllocError>
+    ensures ok { OnOk result (flags.new.items ≡ next.now) }
+    ensures err { OnErr result (flags.new.items ≡ []) }
+{
+    flags.clear();
+    flags.extend_from_slice(next)?;
     Ok(())
 }
 

@@ -371,7 +371,8 @@ fn push_epoch_text(text: &mut Vec<u8>, epoch: &Epoch) -> Result<(), AllocError>
 
 /// Appends the identifiers of an epoch's satellites. Room is asked for once; to append them one by one takes 60 instructions each.
 fn push_names(text: &mut Vec<u8>, epoch: &Epoch) -> Result<(), AllocError>
-    ensures { OnOk result (text.new.items ≡ text.old.items ++ flat_map (λ (row : Row). row.name) epoch.now.rows) }
+    ensures { OnOk result (text.new.items
+        ≡ text.old.items ++ flat_map (λ (row : Row). row.name) epoch.now.rows) }
 {
     let start = text.len();
     text.resize(start + NAME_WIDTH * epoch.count(), b' ')?;
