@@ -163,8 +163,8 @@ impl Columns {
         let _ = epoch.is_full();
         let before = stands_after(&self.nothing, &self.kept, self.is_kept && !full);
         self.next.encode(before, epoch, &mut self.part, lines)?;
+        self.next.take_names(&mut self.kept)?;
         mem::swap(&mut self.kept, &mut self.next);
-        self.kept.take_names(&mut self.next);
         self.is_kept = true;
         Ok(())
     }

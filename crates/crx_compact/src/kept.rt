@@ -167,13 +167,15 @@ impl KeptEpoch {
 
     /// Takes the identifiers of an earlier history, most of which stand at the same places in this one, and puts those of this one at
     /// their places, so that its satellites are found by them.
-    pub(crate) fn take_names(&mut self, earlier: &mut KeptEpoch)
+    pub(crate) fn take_names(&mut self, earlier: &mut KeptEpoch) -> Result<(), AllocError>
         ensures same { self.new ≡ self.old }
         ensures earlier { earlier.new ≡ earlier.old }
     {
-        mem::swap(&mut self.names, &mut earlier.names);
+        self.placed = 0;
         earlier.placed = 0;
-        self.placed = put_names(&self.satellites, &mut self.names);
+        mem::swap(&mut self.names, &mut earlier.names);
+        self.placed = put_names(&self.satellites, &mut self.names)?;
+        Ok(())
     }
 
     /// Reads an epoch line, given the history before it: replaces the text, and gives the satellites.
@@ -371,7 +373,8 @@ fn push_epoch_text(text: &mut Vec<u8>, epoch: &Epoch) -> Result<(), AllocError>
 
 /// Appends the identifiers of an epoch's satellites. Room is asked for once; to append them one by one takes 60 instructions each.
 fn push_names(text: &mut Vec<u8>, epoch: &Epoch) -> Result<(), AllocError>
-    ensures { OnOk result (text.new.items ≡ text.old.items ++ flat_map (λ (row : Row). row.name) epoch.now.rows) }
+    ensures { OnOk result (text.new.items
+        ≡ text.old.items ++ flat_map (λ (row : Row). row.name) epoch.now.rows) }
 {
     let start = text.len();
     text.resize(start + NAME_WIDTH * epoch.count(), b' ')?;
@@ -447,16 +450,16 @@ fn known_placed(
 }
 
 /// Puts the identifiers of satellites at their places, and gives how many of the first ones are there: all of them, where they
-/// are different and there is memory for them.
-fn put_names(satellites: &[HeldSatellite], names: &mut Identifiers) -> usize
-    ensures { AreNamed result names.new satellites.now }
+/// are different.
+fn put_names(satellites: &[HeldSatellite], names: &mut Identifiers) -> Result<usize, AllocError>
+    ensures { IfOk result (λ placed. AreNamed placed names.new satellites.now) }
 {
     for place in named_before(satellites, names)..satellites.len() {
-        let Ok(true) = names.put(place, satellites[place].name()) else {
-            return place;
-        };
+        if !names.put(place, satellites[place].name())? {
+            return Ok(place);
+        }
     }
-    satellites.len()
+    Ok(satellites.len())
 }
 
 /// How many of the first satellites have the identifiers that stand at their places already.

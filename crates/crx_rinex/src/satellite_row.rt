@@ -316,8 +316,8 @@ fn resize_cells(values: &mut Vec<Option<i64>>, flags: &mut Vec<u8>, m: usize) ->
     true
 }
 
-/// Gives cells the size for m types, which they mostly have. Where they don't, the fault of a line of so many types comes
-/// first, and `OutOfMemory` for a good line alone; after either they are as they were.
+/// Gives cells the size for m types, which they mostly have. Where memory has to be asked for, the fault of a line of so many types
+/// comes first, and `OutOfMemory` for a good line alone; after either they are as they were.
 #[inline(always)]
 fn resize_for(
     values: &mut Vec<Option<i64>>,

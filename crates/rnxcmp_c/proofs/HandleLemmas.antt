@@ -14,7 +14,7 @@ use Rattle.crx_lines.specs.declared.limits.TheConstants.{INPUT_LIMIT}
 use Rattle.crx_filter.specs.declared.outcome.Outcome.{Outcome}
 use Rattle.rnxcmp_c.specs.Going.{HandlePast, fed_with}
 use Rattle.rnxcmp_c.specs.Handles.{IsFresh, ReaderRuns, nothing_fed}
-use Rattle.rnxcmp_c.specs.Handles.{ReaderEndsBy, FeedsBy, HasEndedBy, HasFedBy, IsLineOf, ReaderIsOver, ReaderStands}
+use Rattle.rnxcmp_c.specs.Handles.{ReaderEndsBy, FeedsBy, HasEndedBy, HasFedBy, IsLineReached, ReaderIsOver, ReaderStands}
 use Rattle.rnxcmp_c.specs.Handles.{StandsBy, Task}
 use Rattle.rnxcmp_c.specs.Handles.{RunIsOutOfMemory, result_for}
 use Rattle.rnxcmp_c.specs.meaning.Answers.{line_in}
@@ -61,8 +61,8 @@ fed-stands : (task : Task) (reader : Reader) (past : HandlePast) (outcome : Opti
     → HasFedBy task reader past outcome → StandsBy task reader past outcome
 fed-stands task reader past None fed = fed
 fed-stands task reader past (Some outcome) (inl memory) =
-    inl (line-weaker _ (IsLineOf past.fed) (result_for task past.fed) reader outcome past (λ n at. at.1)
-    (subst (λ (bytes : List ℕ). RunIsOutOfMemory (λ line. (0 < line) × IsLineOf past.fed line)
+    inl (line-weaker _ (IsLineReached past.fed) (result_for task past.fed) reader outcome past (λ n at. at.1)
+    (subst (λ (bytes : List ℕ). RunIsOutOfMemory (λ line. (0 < line) × IsLineReached past.fed line)
     (result_for task bytes) reader outcome past)
     (append-nil past.fed) (memory [])))
 fed-stands task reader past (Some outcome) (inr over) =
@@ -73,7 +73,7 @@ ended-stands : (task : Task) (reader : Reader) (past : HandlePast) (outcome : Op
     → HasEndedBy task reader past outcome → StandsBy task reader past outcome
 ended-stands task reader past None ended = absurd ended
 ended-stands task reader past (Some outcome) (inl memory) =
-    inl (line-weaker _ (IsLineOf past.fed) (result_for task past.fed) reader outcome past
+    inl (line-weaker _ (IsLineReached past.fed) (result_for task past.fed) reader outcome past
     (λ n last. omega (arith, last, lines-within past.fed)) memory)
 ended-stands task reader past (Some outcome) (inr over) = inr over
 

@@ -123,14 +123,14 @@ pub record RunIsOutOfMemory (is_line : ℕ → Type 0)
   pub output : Begins result.output (past.output ++ reader.held.output.bytes.items)
 
 -- the number of a line of some bytes, at the latest of the one after those that an LF ends
-abbrev pub IsLineOf : List ℕ → ℕ → Type 0
-IsLineOf fed line = line ≤ length (ended_lines_of fed) + 1
+abbrev pub IsLineReached : List ℕ → ℕ → Type 0
+IsLineReached fed line = line ≤ length (ended_lines_of fed) + 1
 
 -- where a run is: it goes on; or it has ended, with the result of the bytes that were fed, unless memory ran out
 abbrev pub StandsBy : Task → Reader → HandlePast → Option Outcome → Type 0
 StandsBy task reader past None = ReaderRuns task reader past
 StandsBy task reader past (Some outcome) =
-    RunIsOutOfMemory (IsLineOf past.fed) (result_for task past.fed) reader outcome past
+    RunIsOutOfMemory (IsLineReached past.fed) (result_for task past.fed) reader outcome past
     ⊎ ReaderIsOver (result_for task past.fed) reader outcome past
 
 abbrev pub ReaderStands : Task → Reader → HandlePast → Type 0
@@ -140,7 +140,7 @@ ReaderStands task reader past = StandsBy task reader past reader.outcome
 abbrev pub HasFedBy : Task → Reader → HandlePast → Option Outcome → Type 0
 HasFedBy task reader past None = ReaderRuns task reader past
 HasFedBy task reader past (Some outcome) = ((more : List ℕ) → RunIsOutOfMemory
-    (λ line. (0 < line) × IsLineOf past.fed line) (result_for task (past.fed ++ more)) reader outcome past)
+    (λ line. (0 < line) × IsLineReached past.fed line) (result_for task (past.fed ++ more)) reader outcome past)
     ⊎ ((more : List ℕ) → ReaderIsOver (result_for task (past.fed ++ more)) reader outcome past)
 
 abbrev pub HasFed : Task → Reader → HandlePast → Type 0

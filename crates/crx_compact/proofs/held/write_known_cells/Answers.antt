@@ -1,4 +1,5 @@
-use Rattle.std.proofs.Common.{◌≡◌, ◌<◌, ◌≤◌, ◌+◌, ◌*◌, ◌∙◌, List, Option, None, ℕ, ℤ, get_or, ap, sym, refl, arith, length}
+use Rattle.std.proofs.Common.{◌≡◌, ◌<◌, ◌≤◌, ◌+◌, ◌*◌, ◌∙◌, List, Option, None, ℕ, ℤ, get_or, ap, sym, refl}
+use Rattle.std.proofs.Common.{arith, length}
 use Rattle.std.specs.Prelude.{slice_get}
 use Rattle.std.proofs.lemmas.List.{take_more_set, length-set}
 use Rattle.crx_compact.specs.Tails.{ArcTail}
@@ -38,5 +39,6 @@ loop-place-preserved c =
           (ap (λ (vs : List (Option ℤ)). slice_get vs place) (sym c.values-values.ensures.value)
           ∙ slice_get-get_or values place None c.loop-place-test.true)
           refl c.write_known_value-end.ensures.arc
-          c.write_known_value-end.ensures.written (take_more_set c.loop-place.arcs place _ (omega (arith, there, counted)));
+          c.write_known_value-end.ensures.written
+          (take_more_set c.loop-place.arcs place _ (omega (arith, there, counted)));
     }

@@ -1,4 +1,5 @@
-use Rattle.std.proofs.Common.{◌≡◌, ◌<◌, ◌≤◌, ◌+◌, ◌*◌, ◌∙◌, List, Option, None, ℕ, ℤ, get_or, ap, sym, refl, arith, length}
+use Rattle.std.proofs.Common.{◌≡◌, ◌<◌, ◌≤◌, ◌+◌, ◌*◌, ◌∙◌, List, Option, None, ℕ, ℤ, get_or, ap, sym, refl}
+use Rattle.std.proofs.Common.{arith, length}
 use Rattle.std.specs.Prelude.{slice_get}
 use Rattle.std.proofs.lemmas.List.{take_more_set, length-set}
 use Rattle.crx_compact.specs.Tails.{ArcTail}

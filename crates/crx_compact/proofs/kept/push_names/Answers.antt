@@ -1,4 +1,5 @@
-use Rattle.std.proofs.Common.{rules, ◌≡◌, ◌+◌, ◌*◌, ◌<◌, ◌-◌, ◌++◌, ◌∙◌, List, ℕ, ap, arith, drop, length, replicate, sym, take}
+use Rattle.std.proofs.Common.{rules, ◌≡◌, ◌+◌, ◌*◌, ◌<◌, ◌-◌, ◌++◌, ◌∙◌, List, ℕ}
+use Rattle.std.proofs.Common.{ap, arith, drop, length, replicate, sym, take}
 use Rattle.std.specs.List.{flat_map}
 use Rattle.std.proofs.Math.Seq.{take-append_seam}
 use Rattle.std.proofs.lemmas.List.{append-nil, length-append, length-replicate, length-take, take_all, take_at}
@@ -23,7 +24,8 @@ pub loop-row-init : goal.loop-row-init
 loop-row-init c =
     let start : c.len-start.result ≡ length c.args.text.now.items = search rules in
     let rows = c.count.ensures.value in
-    let items : c.resize.new.self.items ≡ take (c.len-start.result + 3 * length c.args.epoch.now.rows) c.args.text.now.items
+    let items : c.resize.new.self.items
+    ≡ take (c.len-start.result + 3 * length c.args.epoch.now.rows) c.args.text.now.items
     ++ replicate (c.len-start.result + 3 * length c.args.epoch.now.rows - c.len-start.result) 32 = search rules in
     (omega arith, (resized _ _ _ _ start items).0, sym (append-nil _))
 
@@ -61,7 +63,8 @@ pub returns : goal.returns
 returns c =
     let names = flat_map (λ (r : Row). r.name) c.args.epoch.now.rows in
     let start : c.len-start.result ≡ length c.args.text.now.items = search rules in
-    let items : c.resize.new.self.items ≡ take (c.len-start.result + 3 * length c.args.epoch.now.rows) c.args.text.now.items
+    let items : c.resize.new.self.items
+    ≡ take (c.len-start.result + 3 * length c.args.epoch.now.rows) c.args.text.now.items
     ++ replicate (c.len-start.result + 3 * length c.args.epoch.now.rows - c.len-start.result) 32 = search rules in
     let none = sym c.in_default.ensures.value in
     let all = ap length (taken_all c.args.epoch.now.rows c.loop-row.index none) in

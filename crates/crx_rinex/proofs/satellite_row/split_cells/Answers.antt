@@ -1,4 +1,5 @@
-use Rattle.std.proofs.Common.{ℤ, ◌+◌, ◌*◌, ◌<◌, List, Option, Some, length, take, ap, sym, ◌∙◌, arith, ◌++◌, ◌∷◌, [], refl}
+use Rattle.std.proofs.Common.{ℤ, ◌+◌, ◌*◌, ◌<◌, List, Option, Some, length, take, ap, sym, ◌∙◌, arith}
+use Rattle.std.proofs.Common.{◌++◌, ◌∷◌, [], refl}
 use Rattle.std.proofs.lemmas.List.{take_more_set, length-set}
 use Rattle.std.proofs.lemmas.List.Elements.{All-push, All-same}
 use Rattle.crx_text.specs.meaning.Columns.{character_at}
@@ -28,7 +29,8 @@ loop-k-preserved c =
       values_in_more line k (take k values) value inv.0 c.if-not-read_cell.ensures.value
           ∙ ap (λ (vs : List (Option ℤ)). Some vs) (sym more),
       All-same IsValue (take (k + 1) _)
-          (take k values ++ value ∷ []) more (All-push IsValue (take k values) value inv.1 c.if-not-read_cell.ensures.ranged),
+          (take k values ++ value ∷ []) more
+          (All-push IsValue (take k values) value inv.1 c.if-not-read_cell.ensures.ranged),
       ap (take (2 * (k + 1))) c.if-not-read_cell.ensures.flags
           ∙ pair_pushed line k flags (character_at line (16 * k + 18))
           (character_at line (16 * k + 19)) room inv.2 refl refl,

@@ -1,4 +1,5 @@
-use Rattle.std.proofs.Common.{◌≡◌, ◌<◌, ◌+◌, List, ap, sym, ◌∙◌, take, false, length, slice_set, arith, refl, unwrap_or, ℕ, Option}
+use Rattle.std.proofs.Common.{◌≡◌, ◌<◌, ◌+◌, List, ap, sym, ◌∙◌, take, false, length, slice_set, arith, refl}
+use Rattle.std.proofs.Common.{unwrap_or, ℕ, Option}
 use Rattle.std.proofs.lemmas.List.{length-set, length-take-le, take_more_set}
 use Rattle.std.proofs.lemmas.Bool.{ne_eqb}
 use Rattle.crx_rinex.specs.meaning.EpochLines.{satellites_of, IsObservationHead, ObservationHead}
@@ -29,15 +30,16 @@ invariant_of-self-2 c =
     let wants = not-full head rows count c.count.result
     c.self.invariant.2 within c.count.ensures.value (omega (arith, c.if-place-count.false)) in
     let next = c.if-not-has_at.ensures.next in
-    let named : c.first_identifier-name.result ≡ row.name = c.first_identifier-name.ensures ∙ sym c.in-Ok.ensures.name in
+    let identifier = c.first_identifier-name.result in
+    let named : identifier ≡ row.name = c.first_identifier-name.ensures ∙ sym c.in-Ok.ensures.name in
     let new : has_satellite row.name (take count rows) ≡ false =
     by_names (record { head = head.head; clock = head.clock; rows = take count rows })
-    names rows count row.name c.first_identifier-name.result false named refl c.self.invariant.4 c.if-not-has_at.ensures.new in (
+    names rows count row.name identifier false named refl c.self.invariant.4 c.if-not-has_at.ensures.new in (
       sound-put head.head head.clock rows count row c.self.invariant.0 within c.in-Ok.ensures.sound wants new,
       omega (arith, within, length-set rows count row),
       c.self.invariant.2,
-      names-long names names count c.first_identifier-name.result c.self.invariant.3 next,
-      names-next names names rows (slice_set rows count row) count row c.first_identifier-name.result named c.self.invariant.4 next
+      names-long names names count identifier c.self.invariant.3 next,
+      names-next names names rows (slice_set rows count row) count row identifier named c.self.invariant.4 next
           (take_more_set rows count row within),
     )
 
@@ -51,8 +53,8 @@ returns-clause-put c =
     c.if-place-len.false in let b = c.self.inside.rows.ok.0 in let e = c.len.ensures in omega (arith, a, b, e) in
     let read = c.in-Ok.ensures.ok in
     let new : has_satellite row.name c.args.self.now.rows ≡ false =
-    by_names c.args.self.now c.self.inside.names rows count row.name c.first_identifier-name.result false (c.first_identifier-name.ensures
-    ∙ sym c.in-Ok.ensures.name)
+    by_names c.args.self.now c.self.inside.names rows count row.name c.first_identifier-name.result false
+    (c.first_identifier-name.ensures ∙ sym c.in-Ok.ensures.name)
     (ap (λ (e : Epoch). e.rows) c.self.view_is) c.self.invariant.4 c.if-not-has_at.ensures.new in
     rw (read, new)
     (ap (λ (rs : List Row). record { head = head.head; clock = head.clock; rows = rs })
@@ -70,8 +72,9 @@ returns-clause-sound c =
     c.if-place-len.false in let b = c.self.inside.rows.ok.0 in let e = c.len.ensures in omega (arith, a, b, e) in
     let wants = not-full head rows count c.count.result
     c.self.invariant.2 within c.count.ensures.value (omega (arith, c.if-place-count.false)) in
-    let named : c.first_identifier-name.result ≡ row.name = c.first_identifier-name.ensures ∙ sym c.in-Ok.ensures.name in
+    let identifier = c.first_identifier-name.result in
+    let named : identifier ≡ row.name = c.first_identifier-name.ensures ∙ sym c.in-Ok.ensures.name in
     let new : has_satellite row.name (take count rows) ≡ false =
     by_names (record { head = head.head; clock = head.clock; rows = take count rows })
-    names rows count row.name c.first_identifier-name.result false named refl c.self.invariant.4 c.if-not-has_at.ensures.new in
+    names rows count row.name identifier false named refl c.self.invariant.4 c.if-not-has_at.ensures.new in
     sound-put head.head head.clock rows count row c.self.invariant.0 within c.in-Ok.ensures.sound wants new
