@@ -294,7 +294,8 @@ def check_processor(work):
 
 
 def check_no_memory(program, work):
-    """With each growth of memory refused in turn, the answer is code 22 and both rooms are as they were; else it is the program's."""
+    """With each growth of memory refused in turn, the answer is code 22 and both rooms are as they were, at a line that never goes back and
+    is past 0 in the end; else it is the program's."""
     if not shutil.which("gcc"):
         return "there is no gcc"
     (work / "refusing.c").write_text(
@@ -304,12 +305,14 @@ def check_no_memory(program, work):
         "void *__wrap_malloc(size_t n) { return left-- == 0 ? NULL : __real_malloc(n); }\n"
         "void *__wrap_realloc(void *p, size_t n) { return left-- == 0 ? NULL : __real_realloc(p, n); }\n"
         "int main(int c, char **w) { int kind = atoi(w[1]); FILE *f = fopen(w[2], \"rb\"); size_t n = fread(in, 1, sizeof in, f); (void)c;\n"
-        "memset(as_before, '#', sizeof as_before);\n"
+        "uint64_t line = 0; memset(as_before, '#', sizeof as_before);\n"
         "for (long k = 0;; k++) { rnxcmp_answer a; memset(out, '#', sizeof out); memset(told, '#', sizeof told); left = k;\n"
         "int s = kind == 0 ? rnxcmp_compact(in, n, NULL, out, sizeof out, told, sizeof told, &a) : kind == 1 ? rnxcmp_expand(in, n, NULL, out, sizeof out, told, sizeof told, &a)"
         " : rnxcmp_check(in, n, out, sizeof out, told, sizeof told, &a);\n"
         "int met = left < 0; left = -1;\n"
-        "if (!met) { printf(\"%ld %d\\n\", k, s); return a.code == 22; }\n"
+        "if (!met) { printf(\"%ld %d\\n\", k, s); return a.code == 22 || line == 0; }\n"
+        "if (a.line < line) { printf(\"growth %ld: line %llu\\n\", k, (unsigned long long)a.line); return 1; }\n"
+        "line = a.line;\n"
         "if (s != 1 || a.code != 22 || a.output_length || a.messages_length || memcmp(out, as_before, sizeof out) || memcmp(told, as_before, sizeof told)) { printf(\"growth %ld: %d %u\\n\", k, s, a.code); return 1; } } }\n"
     )
     (work / "words.inc").write_bytes(subprocess.run([sys.executable, TOP / "library/words.py", TOP / "crates/crx_lines/src/fault.rt"], capture_output=True).stdout)

@@ -1,6 +1,6 @@
 //! The devices of a run over memory: what gives the caller's input, and what collects the output or the messages.
 
-ghost use Rattle.std.specs.Prelude.{◌≡◌, ◌++◌, [], Some, drop, false, length, true};
+ghost use Rattle.std.specs.Prelude.{◌≡◌, ◌≢◌, ◌++◌, [], Some, drop, false, length, true};
 ghost use Rattle.std.proofs.KnownBytes.{Appends-nil, Appends-trans, Consumes-nil, Consumes-trans};
 ghost use Rattle.rnxcmp_c.specs.meaning.Answers.{placed};
 
@@ -76,7 +76,8 @@ impl Collected {
 
     /// Whether memory ran out in a write.
     pub(crate) fn has_failed(&self) -> bool
-        ensures { result ≡ false → self.now.failures ≡ 0 }
+        ensures good { result ≡ false → self.now.failures ≡ 0 }
+        ensures failed { result ≡ true → self.now.failures ≢ 0 }
     {
         self.failures != 0
     }

@@ -1,12 +1,14 @@
 //! Runs over the caller's input, whose output and messages are collected.
 
-ghost use Rattle.std.specs.Prelude.{◌≡◌, ◌≤◌, length, IfOk};
+ghost use Rattle.std.specs.Prelude.{◌≡◌, ◌≢◌, ◌⊎◌, ◌≤◌, length, IfErr, IfOk, OnErr};
 ghost use Rattle.crx_engine.specs.meaning.Compacted.{compacted};
 ghost use Rattle.crx_engine.specs.meaning.Expanded.{expanded};
 ghost use Rattle.crx_engine.specs.meaning.Results.{FilterResult};
 ghost use Rattle.crx_engine.specs.meaning.Standard.{checked};
 ghost use Rattle.crx_lines.specs.declared.limits.TheConstants.{INPUT_LIMIT};
-ghost use Rattle.rnxcmp_c.specs.meaning.Answers.{IsAnswer, fault_code_in, rooms};
+ghost use Rattle.crx_lines.specs.declared.fault.Fault.TheVariants.{OutOfMemory};
+ghost use Rattle.crx_lines.specs.meaning.Faults.{code_of_fault};
+ghost use Rattle.rnxcmp_c.specs.meaning.Answers.{IsAnswer, fault_code_in, line_in, rooms};
 ghost use Rattle.rnxcmp_c.specs.Collecting.{HasMemory, IsCollected, IsRun};
 
 use crate::answer::{Answer, NO_ROOM, code_in, line_in, place};
@@ -49,7 +51,10 @@ impl Run {
 
 /// What was collected of a run; where memory ran out in it or in collecting, the line.
 fn collected(outcome: Outcome, output: Collected, messages: Collected) -> Result<Run, u64>
-    ensures { IfOk result (IsCollected outcome output messages) }
+    ensures whole { IfOk result (IsCollected outcome output messages) }
+    ensures line { IfErr result (λ line. line ≡ line_in outcome.fault) }
+    ensures memory { OnErr result ((fault_code_in outcome.fault ≡ code_of_fault OutOfMemory)
+        ⊎ ((output.failures ≢ 0) ⊎ (messages.failures ≢ 0))) }
 {
     let no_memory = code_in(outcome.fault) == u32::from(Fault::OutOfMemory.code());
     if no_memory || output.has_failed() || messages.has_failed() {
