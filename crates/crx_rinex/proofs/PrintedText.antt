@@ -1,7 +1,6 @@
 -- The text of an epoch's printed lines, a line after another.
-use Rattle.std.proofs.Common.{◌≡◌, ◌≤◌, ◌<◌, ℕ, zero, suc, ◌+◌, List, [], ◌∷◌, ◌++◌, Option, Some, None}
-use Rattle.std.proofs.Common.{IfSome, length, take, drop, map, slice_get, refl, sym, ap, ◌∙◌, append_assoc, add-one}
-use Rattle.std.proofs.Common.{arith}
+use Rattle.std.proofs.Common.{◌≡◌, ℕ, zero, suc, ◌+◌, List, [], ◌∷◌, ◌++◌, Option, Some, None}
+use Rattle.std.proofs.Common.{IfSome, take, drop, map, slice_get, refl, sym, ap, ◌∙◌, append_assoc, add-one}
 use Rattle.std.proofs.lemmas.Option.{same_Some}
 use Rattle.crx_rinex.specs.meaning.Printing.{lines_text}
 

@@ -1,5 +1,5 @@
 -- Beside meaning/SatelliteLines: what code and proofs see of it.
-use Rattle.std.specs.Prelude.{ℕ, ℤ, ◌+◌, ◌*◌, ◌-◌, List, ◌++◌, Option, None, length, replicate, slice_set}
+use Rattle.std.specs.Prelude.{ℕ, ℤ, ◌*◌, ◌-◌, List, ◌++◌, Option, None, length, replicate, slice_set}
 use Rattle.crx_rinex.specs.meaning.Observations.{Row}
 
 -- a row of m missing values with blank indicators

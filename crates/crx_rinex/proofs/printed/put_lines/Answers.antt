@@ -1,4 +1,4 @@
-use Rattle.std.proofs.Common.{◌≡◌, ◌+◌, ◌++◌, ◌∷◌, [], List, ℕ, Option, ℤ, length, take, map, drop, sym, ap, ◌∙◌, arith}
+use Rattle.std.proofs.Common.{◌≡◌, ◌+◌, ◌++◌, ◌∷◌, [], List, ℕ, Option, ℤ, length, take, map, drop, ap, ◌∙◌, arith}
 use Rattle.crx_rinex.specs.meaning.Printing.{lines_text, printed_epoch, printed_head, printed_row}
 use Rattle.crx_rinex.proofs.PrintedText.{same-text}
 use Rattle.crx_rinex.proofs.printed.put_lines.Goals as goal

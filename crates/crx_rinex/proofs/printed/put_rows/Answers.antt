@@ -1,4 +1,4 @@
-use Rattle.std.proofs.Common.{◌++◌, List, [], ℕ, take, map, drop, sym, ap, ◌∙◌, append-nil}
+use Rattle.std.proofs.Common.{◌++◌, List, ℕ, take, sym, ap, ◌∙◌, append-nil}
 use Rattle.crx_rinex.specs.meaning.Printing.{lines_text, printed_row}
 use Rattle.crx_rinex.proofs.PrintedText.{drop-next, drop-none, text-on}
 use Rattle.crx_rinex.proofs.printed.put_rows.Goals as goal

@@ -1,4 +1,4 @@
-use Rattle.std.proofs.Common.{◌≡◌, ℤ, ◌+◌, ◌*◌, ◌<◌, ◌≤◌, List, Option, Some, length, take, ap, sym, ◌∙◌, arith, ◌++◌, ◌∷◌, [], refl}
+use Rattle.std.proofs.Common.{ℤ, ◌+◌, ◌*◌, ◌<◌, ◌≤◌, List, Option, Some, length, take, ap, sym, ◌∙◌, arith, ◌++◌, ◌∷◌, [], refl}
 use Rattle.std.proofs.lemmas.List.{take_more_set, length-set}
 use Rattle.std.proofs.lemmas.List.Elements.{All-push, All-same}
 use Rattle.crx_text.specs.meaning.Numbers.{observation_of}

@@ -1,4 +1,4 @@
-use Rattle.std.proofs.Common.{◌≡◌, ◌≤◌, ◌+◌, ◌-◌, ◌++◌, List, ℕ, length, take, drop, ap, sym, ◌∙◌, arith}
+use Rattle.std.proofs.Common.{◌≡◌, ◌≤◌, ◌+◌, ◌-◌, ◌++◌, ℕ, length, take, drop, ap, ◌∙◌, arith}
 use Rattle.std.proofs.Common.{length-take-le}
 use Rattle.std.proofs.lemmas.List.{take_at}
 use borrow.Rule.Slice.PartMut.{put_mid, same_len_mid}

@@ -1,5 +1,4 @@
 use Rattle.std.proofs.Common.{◌+◌, ◌++◌, List, ℕ, ℤ, Option, length, take, ap, ◌∙◌, arith}
-use Rattle.crx_lines.specs.declared.limits.TheConstants.{NAME_WIDTH}
 use Rattle.crx_text.specs.meaning.Columns.{without_end_blanks}
 use Rattle.crx_rinex.specs.meaning.Observations.{Row}
 use Rattle.crx_rinex.specs.meaning.Printing.{printed_cells, printed_row}
