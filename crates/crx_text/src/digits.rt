@@ -62,11 +62,14 @@ pub(crate) fn few_digits_before_blank(text: &[u8]) -> Option<(u64, usize)>
     ensures next { IfSome result (λ cell. drop cell.1 text.now ≡ after_cell text.now) }
     ensures within { IfSome result (λ cell. (cell.0 < 10 ^ DIGITS_LIMIT) × (cell.1 ≤ length text.now)) }
 {
-    let (size, count) = if text.len() < ROW {
-        digits_of_few(text)
-    } else {
-        digits_in_front(text)
-    };
+    if text.len() < ROW {
+        let (size, count) = digits_of_few(text);
+        if count == 0 || count >= ROW {
+            return None;
+        }
+        return ended_digits(text, size, count);
+    }
+    let (size, count) = digits_in_front(text);
     if count == 0 || count >= ROW {
         return None;
     }
