@@ -2,10 +2,9 @@
 use Rattle.std.specs.Prelude.{◌≡◌, ◌≤◌, ◌<◌, refl, ℕ, zero, suc, ◌+◌, ◌-◌, List, [], ◌∷◌, ◌++◌, length, set, take, drop}
 use Rattle.std.specs.Prelude.{get_or, slice_get, Option, Some}
 use Rattle.std.proofs.Common.{sym, ◌∙◌, ap, subst, arith, append_assoc}
-use Rattle.std.proofs.lemmas.List.{drop-append-le, drop-drop, drop-take, drop_more, take-append-le, take-take, drop_at}
-use Rattle.std.proofs.lemmas.List.{take_at, take_more_set, length-append, length-drop, length-take-le}
+use Rattle.std.proofs.lemmas.List.{drop-append-le, drop-drop, drop-take, drop_more, take-append-le, take-take}
+use Rattle.std.proofs.lemmas.List.{length-append, length-drop, length-take-le}
 use Rattle.std.proofs.Math.ListN.{drop_of_length-le}
-use Rattle.std.proofs.Math.Seq.{take-append-add}
 use Rattle.crx_text.proofs.WrittenTexts.{counted-line, line-ended}
 use Rattle.crx_compact.specs.LineLists.{cut, lines_text, AreCut}
 

@@ -1,5 +1,5 @@
 -- Lines one after another in one text, each followed by LF.
-use Rattle.std.specs.Prelude.{◌≡◌, ◌≤◌, ℕ, suc, List, [], ◌∷◌, ◌++◌, length, take, drop}
+use Rattle.std.specs.Prelude.{◌≡◌, ◌≤◌, ℕ, suc, List, [], ◌∷◌, length, take, drop}
 pub use Rattle.crx_rinex.specs.meaning.Printing.{lines_text}
 
 -- the lines of these lengths in a text in which one character follows each of them

@@ -3,26 +3,21 @@
 use Rattle.std.specs.Prelude.{ℕ, Bool, false, ◌+◌, List, [], ◌∷◌, ◌++◌, length, map, Option, Some, None, if◌then◌else◌}
 use Rattle.crx_lines.specs.meaning.Lines.{InputLine}
 use Rattle.crx_lines.specs.meaning.Seen.{seen}
-use Rattle.crx_lines.specs.declared.fault.At.{At}
 use Rattle.crx_rinex.specs.meaning.Observations.{Epoch, observations_in}
 use Rattle.crx_rinex.specs.meaning.Units.{Unit, HeaderLine, EventLine, EventRecord, Observation, printed_unit}
-use Rattle.crx_rinex.specs.meaning.Printing.{printed_epoch, lines_text}
+use Rattle.crx_rinex.specs.meaning.Printing.{printed_epoch}
 use Rattle.crx_rinex.specs.Printing.{last_line}
 use Rattle.crx_rinex.specs.meaning.EpochPlaces.{OpenEpoch, epoch_of}
 use Rattle.crx_engine.specs.meaning.Choices.{Choices}
 use Rattle.crx_engine.specs.meaning.Items.{Item, Accepted, Warned, is_at_start}
 use Rattle.crx_engine.specs.meaning.Reading.{Reading}
-use Rattle.crx_engine.specs.meaning.Compacted.{epochs_accepted, rinex_place}
+use Rattle.crx_engine.specs.meaning.Compacted.{epochs_accepted}
 use Rattle.crx_engine.specs.meaning.Directions.{rinex_reading}
 use Rattle.crx_engine.specs.LineByLine.{Phase, InEpoch, Seen, Made, Completes, Moves, Fails, Repeats, Direction, Step}
 use Rattle.crx_engine.specs.LineByLine.{made_in, seen_next, seen_of, phase_of}
 use Rattle.crx_engine.specs.CompactionByLine.{rinex_begins, rinex_continues, rinex_open, is_before_header, is_next_row}
-use Rattle.crx_engine.specs.meaning.Filters.{Filter}
-use Rattle.crx_engine.specs.meaning.Memory.{check_takes, memory_allowed}
-use Rattle.crx_engine.specs.meaning.Reading.{fault_of_stop}
 use Rattle.crx_engine.specs.meaning.Standard.{Findings, printed_items, version_in, events_accepted}
-use Rattle.crx_engine.specs.meaning.Standard.{observations_accepted, is_standard_line, first_not_standard, findings_of}
-use Rattle.crx_engine.specs.meaning.Standard.{report_lines, whole_reading_of}
+use Rattle.crx_engine.specs.meaning.Standard.{observations_accepted, is_standard_line, first_not_standard}
 
 -- ---- the units so far
 

@@ -1,15 +1,13 @@
 -- Beside meaning/Expanded: what code and proofs see of it.
 use Rattle.crx_engine.specs.meaning.Directions.{compact_reading}
-use Rattle.std.specs.Prelude.{ℕ, Bool, ◌+◌, List, [], drop}
+use Rattle.std.specs.Prelude.{ℕ, List}
 use Rattle.crx_lines.specs.meaning.Seen.{ReadLine}
-use Rattle.crx_rinex.specs.meaning.Places.{Here, Wrong, Wanted}
 use Rattle.crx_compact.specs.meaning.CompactPlaces.{ReadEpoch}
 use Rattle.crx_engine.specs.meaning.Choices.{Choices}
 use Rattle.crx_engine.specs.meaning.Items.{Item}
-use Rattle.crx_engine.specs.meaning.Reading.{Reading, AtFault, AtLines, reading_from}
 use Rattle.crx_rinex.specs.meaning.Printing.{lines_text}
 use Rattle.crx_engine.specs.meaning.Results.{written_lines}
-use Rattle.crx_engine.specs.meaning.Expanded.{compact_place, first_lines, expanded_unit}
+use Rattle.crx_engine.specs.meaning.Expanded.{expanded_unit}
 
 -- ---- whole files
 

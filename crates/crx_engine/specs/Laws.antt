@@ -1,7 +1,7 @@
 -- What the laws of both filters say, where it is long.
 use Rattle.crx_engine.specs.meaning.Reading.{fault_of_stop}
 use Rattle.std.specs.Prelude.{◌≡◌, ◌<◌, if◌then◌else◌, ℕ, Bool, true, false, List, [], ◌∷◌, ◌++◌, Option, Some, None}
-use Rattle.std.specs.Prelude.{map, ⊤, ◌+◌}
+use Rattle.std.specs.Prelude.{map, ⊤}
 use Rattle.crx_lines.specs.meaning.Seen.{ReadLine, seen}
 use Rattle.crx_rinex.specs.meaning.Places.{Place, Here, Wanted}
 use Rattle.crx_rinex.specs.Steady.{IsSteady}
@@ -15,7 +15,7 @@ use Rattle.crx_lines.specs.declared.fault.At.{At}
 use Rattle.crx_engine.specs.meaning.Choices.{Choices}
 use Rattle.crx_engine.specs.meaning.Items.{Item, Accepted, Warned, is_at_start, header_has_ended, records_left}
 use Rattle.crx_engine.specs.meaning.Items.{records_count_types, types_in_force}
-use Rattle.crx_engine.specs.meaning.Reading.{Reading, Stop, AtFault, AtLines, Looking, WholeReading, reading_from}
+use Rattle.crx_engine.specs.meaning.Reading.{Reading, AtFault, AtLines, Looking, WholeReading, reading_from}
 use Rattle.crx_engine.specs.meaning.Reading.{looked_for}
 use Rattle.crx_lines.specs.meaning.Faults.{is_skippable}
 use Rattle.crx_engine.specs.meaning.Messages.{warnings_in}

@@ -1,14 +1,12 @@
 -- Beside meaning/Memory: at which lines memory may run out, by what is seen before them.
-use Rattle.std.specs.Prelude.{ℕ, Bool, true, false, not, ◌&&◌, List, [], ◌∷◌, Option, Some, None, is_none}
-use Rattle.std.specs.Prelude.{if◌then◌else◌}
+use Rattle.std.specs.Prelude.{ℕ, Bool, false, not, ◌&&◌, List, is_none}
 use Rattle.std.specs.Option.{is_some}
 use Rattle.crx_lines.specs.meaning.Seen.{ReadLine, Content, Overlong}
-use Rattle.crx_lines.specs.declared.fault.At.{At}
 use Rattle.crx_rinex.specs.meaning.EpochLines.{begins_epoch, is_event_line}
 use Rattle.crx_rinex.specs.meaning.ObservationTypes.{count_of_types_line}
 use Rattle.crx_engine.specs.meaning.UnitPlaces.{header_line_fault}
 use Rattle.crx_engine.specs.LineByLine.{Phase, InFirstLines, InHeader, BetweenUnits, InEvent, InEpoch, LookingOn}
-use Rattle.crx_engine.specs.LineByLine.{Closed, Ended, Seen, Direction, Answer, Quiet, Ready, Notice, Failed, seen_next}
+use Rattle.crx_engine.specs.LineByLine.{Closed, Ended, Seen, Direction}
 
 -- whether a line may take memory in a phase: a good types line where these count; where an epoch or an event may begin,
 -- a line that begins no event, as the direction says; and in an epoch a line that doesn't begin with >, as the

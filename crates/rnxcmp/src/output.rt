@@ -74,3 +74,41 @@ impl<W: Write> Write for UntilFailure<W> {
         flushed
     }
 }
+
+#[cfg(test)]
+mod tests {
+    use super::UntilFailure;
+    use std::io;
+    use std::io::Write;
+
+    /// Counts the calls; each of them is done.
+    #[derive(Drop)]
+    struct Counting {
+        writes: u32,
+        flushes: u32,
+    }
+
+    impl Write for Counting {
+        fn write(&mut self, bytes: &[u8]) -> io::Result<usize> {
+            self.writes = self.writes.saturating_add(1);
+            Ok(bytes.len().min(1))
+        }
+
+        fn flush(&mut self) -> io::Result<()> {
+            self.flushes = self.flushes.saturating_add(1);
+            Ok(())
+        }
+    }
+
+    #[test]
+    fn each_call_reaches_the_inner_writer_once(rt: HostRuntime) {
+        let mut writer = UntilFailure::new(Counting {
+            writes: 0,
+            flushes: 0,
+        });
+        assert!(rt; matches!(writer.write(b"ab"), Ok(1)));
+        assert!(rt; (writer.inner.writes, writer.inner.flushes) == (1, 0));
+        assert!(rt; writer.flush().is_ok());
+        assert!(rt; (writer.inner.writes, writer.inner.flushes) == (1, 1));
+    }
+}

@@ -1,5 +1,5 @@
 -- The text of an epoch as the reader of RINEX makes it: how long it is, and of which characters.
-use Rattle.std.specs.Prelude.{◌≡◌, ◌≤◌, refl, ℕ, zero, suc, ◌*◌, true, ◌&&◌, if◌then◌else◌, List, [], ◌∷◌, ◌++◌, length}
+use Rattle.std.specs.Prelude.{◌≡◌, ◌≤◌, refl, ℕ, zero, suc, ◌*◌, true, ◌&&◌, if◌then◌else◌, List, [], ◌∷◌, length}
 use Rattle.std.specs.Prelude.{take, flat_map, All}
 use Rattle.std.specs.List.{list_all}
 use Rattle.std.proofs.lemmas.Bool.Decides.{Decides-eqb}

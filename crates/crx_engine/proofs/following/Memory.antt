@@ -1,26 +1,25 @@
 -- Where memory may run out at a line by what is seen before it, it may by what stands there.
-use Rattle.std.proofs.Common.{ℕ, zero, suc, ◌≡◌, ◌+◌, ◌<◌, Bool, true, false, not, cond, List, [], ◌∷◌, ◌++◌, length}
+use Rattle.std.proofs.Common.{ℕ, zero, suc, ◌≡◌, ◌+◌, Bool, true, false, not, cond, List, [], ◌∷◌, ◌++◌, length}
 use Rattle.std.proofs.Common.{Option, Some, None, refl, ap, sym, subst, ◌∙◌, arith}
 use Rattle.std.specs.Prelude.{◌&&◌, nat_lt, is_none}
 use Rattle.std.specs.Option.{is_some}
 use Rattle.crx_lines.specs.meaning.Seen.{ReadLine, Content, Overlong}
 use Rattle.crx_lines.specs.declared.fault.Fault.{Fault}
-use Rattle.crx_lines.specs.declared.fault.Fault.TheVariants.{BadTypesLine}
 use Rattle.crx_lines.specs.declared.fault.At.{At}
 use Rattle.crx_rinex.specs.meaning.EpochLines.{begins_epoch, is_event_line}
-use Rattle.crx_rinex.specs.meaning.ObservationTypes.{Count, count_in, count_of_types_line, is_bad_types_line, is_types_line}
-use Rattle.crx_rinex.specs.meaning.Places.{Place, Here, Wrong, Wanted, first_line, one_line}
+use Rattle.crx_rinex.specs.meaning.ObservationTypes.{Count, count_in, count_of_types_line, is_types_line}
+use Rattle.crx_rinex.specs.meaning.Places.{Place, Wrong, Wanted, first_line, one_line}
 use Rattle.crx_rinex.specs.meaning.Units.{Unit as FileUnit, HeaderLine, EventRecord}
 use Rattle.crx_engine.specs.meaning.Choices.{Choices}
 use Rattle.crx_engine.specs.meaning.Items.{Item, Warned, is_at_start, header_has_ended, records_left}
 use Rattle.crx_engine.specs.meaning.Items.{records_count_types, types_in_force}
 use Rattle.crx_engine.specs.meaning.Memory.{line_takes, memory_allowed, place_takes, takes_after_warning}
-use Rattle.crx_engine.specs.meaning.Reading.{Reading, Stop, AtFault, AtLines, Looking, is_skipped, can_go_on}
+use Rattle.crx_engine.specs.meaning.Reading.{Stop, AtFault, AtLines, Looking, is_skipped, can_go_on}
 use Rattle.crx_engine.specs.meaning.UnitPlaces.{event_record, header_line, header_line_fault, types_fault, unit_place}
 use Rattle.crx_engine.specs.meaning.UnitPlaces.{unless_wrong}
 use Rattle.crx_engine.specs.Laws.{is_again}
 use Rattle.crx_engine.specs.LineByLine.{Answer, BetweenUnits, Completes, Direction, Ended, Failed, Fails, InEpoch, InEvent}
-use Rattle.crx_engine.specs.LineByLine.{InHeader, LookingOn, Made, Moves, Notice, Phase, Quiet, Ready, Repeats, Seen, Step}
+use Rattle.crx_engine.specs.LineByLine.{InHeader, Made, Moves, Notice, Phase, Quiet, Ready, Repeats, Seen, Step}
 use Rattle.crx_engine.specs.LineByLine.{after_warning, is_in_epoch, is_skipped_in, kept_in, phase_after_items, phase_in_body}
 use Rattle.crx_engine.specs.LineByLine.{seen_next, seen_of, step_of_made, with_phase}
 use Rattle.crx_engine.specs.Memory.{may_take_memory, takes_memory}

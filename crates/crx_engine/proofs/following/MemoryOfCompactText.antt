@@ -1,12 +1,10 @@
 -- The memory that an expansion takes, as its lines stand.
-use Rattle.std.proofs.Common.{ℕ, zero, suc, ◌≡◌, Bool, true, false, List, [], ◌∷◌, ◌++◌, length, Option, Some, None, Result}
+use Rattle.std.proofs.Common.{ℕ, ◌≡◌, Bool, true, false, List, [], ◌∷◌, ◌++◌, length, Option, Some, None, Result}
 use Rattle.std.proofs.Common.{Ok, Err, refl, ap, sym, ◌∙◌, not}
-use Rattle.std.specs.Prelude.{◌&&◌}
 use Rattle.std.specs.Option.{is_some}
 use Rattle.std.proofs.lemmas.Option.{none-some}
 use Rattle.crx_lines.specs.meaning.Seen.{ReadLine, Content, Overlong}
 use Rattle.crx_lines.specs.declared.fault.Fault.{Fault}
-use Rattle.crx_rinex.specs.meaning.EpochLines.{is_event_line}
 use Rattle.crx_rinex.specs.meaning.ObservationTypes.{Count}
 use Rattle.crx_compact.specs.meaning.CompactPlaces.{ReadEpoch, satellites_of_line}
 use Rattle.crx_compact.specs.meaning.EpochText.{Satellite}

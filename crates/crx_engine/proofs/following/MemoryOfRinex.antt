@@ -1,6 +1,6 @@
 -- The memory that a compaction and a check take, as their lines stand.
-use Rattle.std.proofs.Common.{ℕ, zero, suc, ◌≡◌, Bool, true, false, List, [], ◌∷◌, ◌++◌, length, Option, Some, None, Result}
-use Rattle.std.proofs.Common.{Ok, Err, refl, ap, sym, ◌∙◌, ◌+◌, arith}
+use Rattle.std.proofs.Common.{ℕ, zero, suc, ◌≡◌, Bool, true, false, List, [], ◌∷◌, ◌++◌, length, Some, Result}
+use Rattle.std.proofs.Common.{Ok, Err, refl, ap, ◌∙◌, ◌+◌, arith}
 use Rattle.crx_lines.specs.declared.fault.At.{At}
 use Rattle.std.specs.Result.{is_ok}
 use Rattle.std.proofs.lemmas.Option.{none-some}
@@ -10,7 +10,7 @@ use Rattle.crx_rinex.specs.meaning.EpochPlaces.{OpenEpoch, epoch_place, next_row
 use Rattle.crx_rinex.specs.meaning.Observations.{Epoch, Row}
 use Rattle.crx_rinex.specs.meaning.Places.{Place}
 use Rattle.crx_rinex.specs.meaning.Units.{Unit as FileUnit, HeaderLine, EventLine, EventRecord, Observation}
-use Rattle.crx_rinex.specs.EpochPlaces.{EpochStep, Going, Whole, Faulty, after_row, epoch_step, whole_or_going, when_wanted}
+use Rattle.crx_rinex.specs.EpochPlaces.{EpochStep, Going, Whole, Faulty, after_row, epoch_step, when_wanted}
 use Rattle.crx_engine.specs.meaning.Choices.{Choices}
 use Rattle.crx_engine.specs.meaning.Items.{Item, types_in_force}
 use Rattle.crx_engine.specs.meaning.Memory.{check_takes, compaction_takes, memory_allowed, place_takes}
@@ -18,7 +18,7 @@ use Rattle.crx_engine.specs.meaning.Directions.{rinex_reading}
 use Rattle.crx_engine.specs.meaning.Reading.{Reading}
 use Rattle.crx_engine.specs.Memory.{takes_memory}
 use Rattle.crx_engine.specs.CheckByLine.{checking, no_choices, totals_of}
-use Rattle.crx_engine.specs.CompactionByLine.{compaction, is_whole_at_once, made_of_epoch_step, rinex_begins, rinex_continues}
+use Rattle.crx_engine.specs.CompactionByLine.{compaction, is_whole_at_once, made_of_epoch_step, rinex_begins}
 use Rattle.crx_engine.specs.CompactionByLine.{Written, compaction_seen, rinex_open, written_of}
 use Rattle.crx_engine.specs.LineByLine.{Completes, Direction, Fails, Made, Moves, Notice, Repeats, Seen, seen_next, seen_of}
 use Rattle.crx_engine.specs.meaning.Compacted.{compact_unit, rinex_place}

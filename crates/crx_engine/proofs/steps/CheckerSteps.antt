@@ -14,7 +14,6 @@ use Rattle.crx_rinex.specs.meaning.ObservationTypes.{Count}
 use Rattle.crx_rinex.specs.Printing.{last_line}
 use Rattle.crx_rinex.specs.meaning.Units.{Unit, HeaderLine, EventLine, EventRecord, Observation}
 use Rattle.crx_engine.specs.CompactionByLine.{compaction, is_before_header}
-use Rattle.crx_lines.specs.declared.fault.At.{At}
 use Rattle.crx_engine.specs.meaning.Filters.{with_next}
 use Rattle.crx_engine.specs.Engines.{RunsOutAt}
 use Rattle.crx_engine.specs.meaning.Items.{records_announced, counts_types}

@@ -14,8 +14,8 @@ use Rattle.crx_engine.specs.EngineLines.{HasTaken}
 use Rattle.crx_engine.specs.EngineSteps.{step_made, Steps}
 use Rattle.crx_engine.specs.Laws.{noticed_by, failed_by, is_again, is_ready, has_lines, Fed, fed_once, fed_twice, fed}
 use Rattle.crx_engine.specs.Laws.{IsReadyWhereLent}
-use Rattle.crx_engine.specs.LineByLine.{Phase, InFirstLines, InHeader, BetweenUnits, InEvent, InEpoch, LookingOn}
-use Rattle.crx_engine.specs.LineByLine.{Closed, Ended, Seen, Direction, Made, Completes, Moves, Fails, Repeats, Notice}
+use Rattle.crx_engine.specs.LineByLine.{LookingOn}
+use Rattle.crx_engine.specs.LineByLine.{Seen, Direction, Made, Completes, Moves, Fails, Repeats, Notice}
 use Rattle.crx_engine.specs.LineByLine.{Step as SeenStep, made_in, may_skip, is_in_epoch, is_skipped_in, failed_step}
 use Rattle.crx_engine.specs.LineByLine.{step_of_made, seen_next, seen_end}
 use Rattle.crx_engine.specs.Memory.{takes_memory}

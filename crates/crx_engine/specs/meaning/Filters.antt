@@ -1,5 +1,5 @@
 -- What a filter is to write and to report, for the lines of an input that have come so far and for all of them.
-use Rattle.std.specs.Prelude.{List, Option, ◌+◌, [], ◌∷◌, ◌++◌}
+use Rattle.std.specs.Prelude.{List, Option, [], ◌∷◌, ◌++◌}
 pub use Rattle.crx_engine.specs.meaning.Results.{lines_text}
 pub use Rattle.crx_engine.specs.meaning.Results.{Course}
 use Rattle.crx_lines.specs.meaning.Lines.{InputLine}

@@ -1,5 +1,5 @@
 -- A reader and a writer between two moments: what may have gone through them in between, and what was counted of them.
-use Rattle.std.specs.Prelude.{◌≡◌, ◌<◌, ◌≤◌, ℕ, ◌+◌, List, ◌++◌, length, take}
+use Rattle.std.specs.Prelude.{◌≡◌, ◌<◌, ◌≤◌, ℕ, List, ◌++◌, length, take}
 use Rattle.crx_lines.specs.meaning.Devices.{Tally, tally_of, with_failed_write, SinkTally}
 use Rattle.crx_lines.specs.declared.device.Source.{Ghosts}
 use Rattle.crx_lines.specs.declared.fault.At.{At}

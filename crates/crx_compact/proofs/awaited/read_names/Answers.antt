@@ -1,13 +1,9 @@
-use Rattle.std.proofs.Common.{rules, ◌≡◌, ◌<◌, ◌+◌, ◌*◌, ◌++◌, ◌∷◌, [], ℕ, List, Bool, not, true, false, take, map}
+use Rattle.std.proofs.Common.{rules, ◌≡◌, ◌+◌, ◌*◌, ◌++◌, ◌∷◌, [], ℕ, List, not, true, false, map}
 use Rattle.std.proofs.Common.{drop, sym, ap, ◌∙◌, inl, arith}
 use Rattle.std.proofs.lemmas.List.{map-append}
-use Rattle.crx_rinex.specs.meaning.Epochs.{is_among}
-use Rattle.crx_rinex.proofs.Apart.{among-map}
-use Rattle.std.specs.List.{list_any}
-use Rattle.std.specs.Str.{bytes_eq}
 use Rattle.crx_text.specs.meaning.Columns.{columns}
 use Rattle.crx_compact.specs.meaning.EpochText.{Satellite, names_in}
-use Rattle.crx_rinex.proofs.EachPlace.{drop-each_place, drop_all-each_place}
+use Rattle.crx_rinex.proofs.EachPlace.{drop_all-each_place}
 use Rattle.crx_compact.proofs.reading.Naming.{among-named, named-bad, named-twice, named-more, named-all, next-name}
 use Rattle.crx_rinex.proofs.Rows.{names-long}
 use Rattle.crx_compact.proofs.awaited.read_names.Goals as goal

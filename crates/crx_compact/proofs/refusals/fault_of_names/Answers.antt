@@ -1,5 +1,5 @@
-use Rattle.std.proofs.Common.{◌≡◌, ◌<◌, ◌+◌, ◌*◌, ◌++◌, ◌∷◌, [], ℕ, List, Bool, not, true, false, map, Option, Some, None}
-use Rattle.std.proofs.Common.{sym, ap, ◌∙◌, inl, arith, drop, refl, rules}
+use Rattle.std.proofs.Common.{◌≡◌, ◌+◌, ◌*◌, ◌++◌, ◌∷◌, [], ℕ, List, Bool, not, true, false, map, Option, Some, None}
+use Rattle.std.proofs.Common.{sym, ap, ◌∙◌, inl, arith, drop, refl}
 use Rattle.std.specs.Result.{is_ok}
 use Rattle.std.specs.Option.{is_some}
 use Rattle.std.proofs.lemmas.List.{map-append}

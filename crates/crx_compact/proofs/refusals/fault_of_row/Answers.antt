@@ -1,4 +1,4 @@
-use Rattle.std.proofs.Common.{◌≡◌, refl, inl, inr, drop, ap, sym, ◌∙◌, ℕ, Bool, true, false}
+use Rattle.std.proofs.Common.{◌≡◌, refl, inl, ap, sym, ◌∙◌, Bool, true, false}
 use Rattle.std.specs.Prelude.{◌&&◌}
 use Rattle.std.specs.List.{list_all}
 use Rattle.crx_text.specs.meaning.Columns.{is_blank}

@@ -1,14 +1,10 @@
 use Rattle.std.proofs.lemmas.Result.{err_from_is_err_and}
-use Rattle.std.proofs.Common.{◌≡◌, ◌+◌, ◌∙◌, ap, sym, length, drop, arith, Option, Some, None, Result, Ok, Err}
-use Rattle.std.specs.Option.{option_map}
-use Rattle.std.specs.Result.{result_ok}
+use Rattle.std.proofs.Common.{◌≡◌, ◌+◌, ◌∙◌, ap, sym, arith, Result, Ok}
 use Rattle.std.proofs.lemmas.List.{drop-drop, length-drop}
 use Rattle.crx_lines.specs.declared.fault.Fault.TheVariants.{BadField}
-use Rattle.crx_text.specs.declared.code.Code.{Code}
 use Rattle.crx_compact.specs.meaning.CompactPlaces.{ReadCell, cell_read}
 use Rattle.crx_compact.specs.Cells.{value_at_place}
 use Rattle.crx_compact.specs.meaning.Sequences.{and_then}
-use Rattle.crx_text.specs.meaning.Codes.{code_of, first_cell, after_cell}
 use Rattle.crx_lines.specs.declared.fault.Fault.{Fault}
 use Rattle.crx_compact.proofs.reading.CellsRead.{read-refused, read-all, to-more, to-none}
 use Rattle.crx_compact.proofs.reading.Marks.{line-from}

@@ -1,4 +1,4 @@
-use Rattle.std.proofs.Common.{◌≡◌, ◌+◌, Bool, false, true, List, [], Result, IfOk, refl, sym, ap, subst}
+use Rattle.std.proofs.Common.{◌≡◌, Bool, List, [], Result, IfOk, refl, sym, subst}
 use Rattle.crx_lines.specs.meaning.Lines.{InputLine}
 use Rattle.crx_lines.specs.Reading.{line_shown}
 use Rattle.crx_lines.specs.declared.fault.At.{At}

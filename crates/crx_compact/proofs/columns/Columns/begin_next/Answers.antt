@@ -1,7 +1,6 @@
-use Rattle.std.proofs.Common.{ℕ, List, false, refl, ap, ◌∙◌, sym, subst, ◌≡◌, Bool, not, Option, Some, None, Ok}
+use Rattle.std.proofs.Common.{ap, ◌∙◌, sym, subst, ◌≡◌, Bool, not, Option, Some, None, Ok}
 use Rattle.std.proofs.Common.{if◌then◌else◌}
 use Rattle.std.specs.Prelude.{IfSome}
-use Rattle.crx_rinex.specs.meaning.EpochLines.{begins_epoch}
 use Rattle.crx_compact.specs.Tails.{Tail}
 use Rattle.crx_compact.specs.Steps.{no_tail}
 use Rattle.crx_compact.specs.OpenEpochs.{is_idle, opened_raw, tail_held, tail_for_line}
