@@ -1,28 +1,27 @@
 -- The kinds of error that a parse may have at some words come to one plan: help is never among others.
-use Rattle.std.proofs.Common.{⊎_elim, ◌≡◌, ◌⊎◌, ◌+◌, ◌&&◌, ◌==◌, ◌||◌, ℕ, Bool, zero, suc, true, false, not, cond}
-use Rattle.std.proofs.Common.{codes, refl, sym, ap, List, [], ◌∷◌, min, length, drop, nat_lt, Option, Some, None}
+use Rattle.std.proofs.Common.{⊎_elim, ◌≡◌, ◌+◌, ◌&&◌, ◌==◌, ℕ, Bool, zero, suc, true, false, not, cond}
+use Rattle.std.proofs.Common.{codes, refl, ap, List, [], ◌∷◌, min, length, nat_lt, Option, Some, None}
 use Rattle.std.proofs.Common.{is_some}
-use Rattle.std.specs.Prelude.{encode_utf8, find, option_map, slice_get}
+use Rattle.std.specs.Prelude.{find, slice_get}
 use Rattle.std.specs.Option.{option_map_or}
 use Rattle.std.specs.Str.{bytes_eq, chars}
 use Rattle.clap.specs.Lexer.{long_of, short_of}
 use Rattle.clap.specs.Facts.{parser_of_value, unwrap_or_range}
 use Rattle.clap.specs.Matches.{count_text}
-use Rattle.clap.specs.Values.{refused_kind}
 use Rattle.clap.specs.ValueTests.{accepts}
 use Rattle.clap.specs.Walk.{Held, Names, Row, Rule, Step, Text, Waiting, Walk, action_of, answers_to, arg_by_id}
-use Rattle.clap.specs.Walk.{arg_by_index, arg_by_long, arg_by_short, attached_value, count_of, finished, most_values}
+use Rattle.clap.specs.Walk.{arg_by_index, arg_by_long, arg_by_short, attached_value, count_of, most_values}
 use Rattle.clap.specs.Walk.{nothing_held, reacted, settled, subcommand_met, takes_values, values_or_missing, walk}
-use Rattle.clap.specs.Walk.{walk_from, walked, with_default, word_met, has_row, idle, is_empty, is_pending, next}
-use Rattle.clap.specs.Walk.{option, positional, subcommand, takes_several, trailing, value}
-use Rattle.clap.specs.Simple.{App, Shape, argument_words, built, entered, label_of, names_of}
+use Rattle.clap.specs.Walk.{walk_from, walked, with_default, word_met, idle, next}
+use Rattle.clap.specs.Walk.{option, positional, subcommand, trailing, value}
+use Rattle.clap.specs.Simple.{App, Shape, argument_words, built, label_of, names_of}
 use Rattle.clap.specs.Kinds.{IsAmong, Kinds, check_kinds, or_else, range_kinds, request_kinds, value_kinds}
 use Rattle.clap.specs.Kinds.{values_kinds}
-use Rattle.clap.specs.Faults.{action_fault, built_fault, bundle_fault, bundle_step_fault, check_fault, count_fault}
+use Rattle.clap.specs.Faults.{action_fault, built_fault, bundle_step_fault, count_fault}
 use Rattle.clap.specs.Faults.{default_fault, defaults_fault, entered_fault, fault_of, flag_word_fault, flags_fault}
-use Rattle.clap.specs.Faults.{given_default_fault, level_fault, long_fault, option_fault, other_fault, positional_fault}
+use Rattle.clap.specs.Faults.{level_fault, long_fault, option_fault, other_fault, positional_fault}
 use Rattle.clap.specs.Faults.{react_fault, repeat_fault, set_fault, settle_fault, short_fault, step_fault, stray_fault}
-use Rattle.clap.specs.Faults.{turn_fault, use_fault, values_fault, walk_fault, word_fault}
+use Rattle.clap.specs.Faults.{turn_fault, use_fault, walk_fault, word_fault}
 use Rattle.clap.specs.declared.builder.ArgAction.{ArgAction}
 use Rattle.clap.specs.declared.builder.ArgAction.TheVariants as action
 use Rattle.clap.specs.declared.builder.ValueParser.{ValueParser}

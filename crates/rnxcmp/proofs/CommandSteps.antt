@@ -1,5 +1,5 @@
 -- What one more argument or subcommand makes of a command.
-use Rattle.std.proofs.Common.{◌≡◌, ◌∙◌, ap, ap₂, false, true, Result, Ok, Err, IfOk, Some}
+use Rattle.std.proofs.Common.{◌≡◌, ◌∙◌, ap, ap₂, false, true}
 use Rattle.clap.specs.Built.{AddsArg, AddsSubcommand}
 use Rattle.clap.specs.Simple.{App, Shape, app_of, shape_of, with_rule, with_subcommand}
 use Rattle.clap.specs.Walk.{Rule, rule_of}

@@ -11,7 +11,7 @@ use Rattle.clap.specs.declared.error.ErrorKind.TheVariants as kind
 use Rattle.crx_engine.specs.meaning.Choices.{is_date}
 use Rattle.rnxcmp.specs.meaning.Commands.{program}
 use Rattle.rnxcmp.specs.meaning.Names.{output_name}
-use Rattle.rnxcmp.specs.meaning.Planning.{Given, Plan, Help, Run, Refused, by_kind, by_kinds, given_in, job_of, judged}
+use Rattle.rnxcmp.specs.meaning.Planning.{Given, Plan, Help, Run, Refused, by_kind, by_kinds, given_in, judged}
 use Rattle.rnxcmp.specs.meaning.Planning.{of_subcommand, plan_of, tool_named, with_source, with_target, writes_file}
 use Rattle.rnxcmp.specs.declared.job.Job.{Job}
 use Rattle.rnxcmp.specs.declared.job.Tool.{Tool}

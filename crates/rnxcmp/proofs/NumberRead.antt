@@ -1,5 +1,5 @@
 -- A number that `u32` reads from a text.
-use Rattle.std.proofs.Common.{◌≡◌, ◌<◌, ◌^◌, ◌&&◌, ℕ, Bool, true, false, refl, List, [], ◌∷◌, length, nat_lt, Option}
+use Rattle.std.proofs.Common.{◌≡◌, ◌^◌, ◌&&◌, ℕ, Bool, true, false, refl, List, [], ◌∷◌, length, nat_lt, Option}
 use Rattle.std.proofs.Common.{Some, None, Result, Ok, Err, lt-ltb, ltb-true}
 use Rattle.std.specs.Char.{digit_value}
 use Rattle.std.specs.List.{list_all}

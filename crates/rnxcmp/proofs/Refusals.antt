@@ -6,7 +6,7 @@ use Rattle.crx_lines.specs.declared.fault.Fault.TheVariants.{OutOfMemory}
 use Rattle.rnxcmp.specs.meaning.Planning.{Plan, Help, Run, Refused, Refusal, Parse, DashTwice, TwoFiles, BadDate}
 use Rattle.rnxcmp.specs.meaning.Planning.{NoName}
 use Rattle.rnxcmp.specs.Planning.{plan_in}
-use Rattle.rnxcmp.specs.meaning.Program.{IsLineOf, IsRefused, IsShown, at_start, error_line}
+use Rattle.rnxcmp.specs.meaning.Program.{IsLineOf, IsRefused, IsShown, at_start}
 use Rattle.rnxcmp.specs.declared.job.Job.{Job}
 use Rattle.rnxcmp.specs.declared.job.UsageFault.{UsageFault}
 use Rattle.rnxcmp.specs.declared.job.UsageFault.TheVariants as usage_fault

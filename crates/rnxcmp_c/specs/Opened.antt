@@ -1,5 +1,5 @@
 -- What a handle is, between two calls.
-use Rattle.std.specs.Prelude.{◌≡◌, ℕ, Bool, true, false, List, [], ◌∷◌}
+use Rattle.std.specs.Prelude.{◌≡◌, ℕ, true, List, [], ◌∷◌}
 use Rattle.rnxcmp_c.specs.Going.{HandlePast}
 use Rattle.rnxcmp_c.specs.Handles.{Ends, Feeds, ReaderStands, Task, answer_now}
 use Rattle.rnxcmp_c.specs.declared.answer.Answer.{Answer}

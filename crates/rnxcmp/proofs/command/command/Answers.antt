@@ -1,4 +1,4 @@
-use Rattle.std.proofs.Common.{rules, ◌≡◌, ap, refl}
+use Rattle.std.proofs.Common.{refl}
 use Rattle.std.proofs.lemmas.Result.{IfOk-weaker}
 use Rattle.rnxcmp.proofs.CommandSteps.{subcommand_more}
 use Rattle.rnxcmp.proofs.command.command.Goals as goal

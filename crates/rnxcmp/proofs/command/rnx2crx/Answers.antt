@@ -1,4 +1,4 @@
-use Rattle.std.proofs.Common.{rules, ◌≡◌, codes, ap, refl}
+use Rattle.std.proofs.Common.{rules, ◌≡◌, codes, ap}
 use Rattle.std.proofs.lemmas.Result.{IfOk-weaker}
 use Rattle.clap.specs.Simple.{App, app_of, new_app}
 use Rattle.rnxcmp.proofs.CommandSteps.{one_more}

@@ -1,8 +1,8 @@
-use Rattle.std.proofs.Common.{rules, ◌≡◌, ◌++◌, ◌∙◌, ◌-◌, ◌%◌, ap, sym, refl, codes, [], List, ℕ, string_bytes}
+use Rattle.std.proofs.Common.{rules, ◌≡◌, ◌++◌, ◌∙◌, ◌-◌, ◌%◌, ap, codes, [], List, ℕ, string_bytes}
 use Rattle.std.proofs.Common.{append_assoc}
 use Rattle.std.specs.List.{slice_index_or}
 use Rattle.std.specs.Prelude.{unsigned_abs}
-use Rattle.rnxcmp.specs.meaning.Dates.{date_text_of, months, two_digits}
+use Rattle.rnxcmp.specs.meaning.Dates.{months, two_digits}
 use Rattle.rnxcmp.proofs.date.shown.Goals as goal
 
 -- a text with a piece more

@@ -1,4 +1,4 @@
-use Rattle.std.proofs.Common.{rules, arith, ◌≡◌, ◌≢◌, ◌++◌, ◌∙◌, ◌+◌, ap, sym, refl, subst, cond, option_map, ℕ, ◌-◌}
+use Rattle.std.proofs.Common.{arith, ◌≡◌, ◌≢◌, ◌++◌, ◌∙◌, ◌+◌, ap, sym, refl, option_map, ℕ, ◌-◌}
 use Rattle.std.proofs.Common.{length, take, drop, Bool, true, false, List, Bor, Option, Some, None, MatchOption}
 use Rattle.std.proofs.Common.{take-append-drop}
 use Rattle.std.specs.Str.{bytes_eq}

@@ -1,4 +1,4 @@
-use Rattle.std.proofs.Common.{◌≡◌, ◌∙◌, ap, codes, count_by, List, ℕ, Option, unwrap_or, []}
+use Rattle.std.proofs.Common.{◌∙◌, ap, codes, count_by, List, ℕ, Option, unwrap_or, []}
 use Rattle.clap.specs.Matches.{found_of}
 use Rattle.clap.proofs.WalkLemmas.{raw_values-rows}
 use Rattle.rnxcmp.specs.meaning.Planning.{is_file}

@@ -1,7 +1,7 @@
-use Rattle.std.proofs.Common.{◌≡◌, ◌∙◌, ap, ap₂, map, sym, subst, string_bytes, List, ℕ, Some}
-use Rattle.clap.specs.Kinds.{FailsBy, HasKind}
+use Rattle.std.proofs.Common.{◌≡◌, ◌∙◌, ap, ap₂, map, sym, subst, string_bytes}
+use Rattle.clap.specs.Kinds.{HasKind}
 use Rattle.clap.specs.Faults.{fault_of, is_simple_and_free}
-use Rattle.clap.specs.Simple.{App, app_of, is_simple, subcommand_of, subcommand_rows_of}
+use Rattle.clap.specs.Simple.{app_of, is_simple, subcommand_of}
 use Rattle.rnxcmp.specs.meaning.Commands.{program}
 use Rattle.rnxcmp.specs.meaning.Planning.{by_kinds, of_subcommand}
 use Rattle.rnxcmp.specs.Planning.{plan_in}

@@ -1,4 +1,4 @@
-use Rattle.std.proofs.Common.{List, [], ◌∷◌, sym, ap, ◌∙◌, subst}
+use Rattle.std.proofs.Common.{[], ◌∷◌, sym, ap, ◌∙◌, subst}
 use Rattle.rnxcmp_c.specs.Going.{HandlePast}
 use Rattle.rnxcmp_c.specs.Handles.{ReaderStands, Task}
 use Rattle.rnxcmp_c.specs.declared.reader.Reader.{Reader}

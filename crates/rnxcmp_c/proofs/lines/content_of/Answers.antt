@@ -1,4 +1,4 @@
-use Rattle.std.proofs.Common.{◌==◌, ◌∷◌, [], sym, ap, ◌∙◌, eq-eqb}
+use Rattle.std.proofs.Common.{sym, ap, ◌∙◌, eq-eqb}
 use Rattle.std.proofs.lemmas.Bool.{ne_eqb}
 use Rattle.crx_lines.specs.meaning.Lines.{without_return}
 use Rattle.crx_lines.proofs.ReturnLemmas.{without_return-cr, without_return-other}

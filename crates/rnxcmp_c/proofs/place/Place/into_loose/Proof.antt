@@ -1,13 +1,13 @@
 -- `into_loose` moves the pointer, and what the place owned goes with it.
-use Rattle.std.proofs.Common.{◌≡◌, ℕ, List, [], ◌∷◌, ◌++◌, refl, sym, ap, ◌∙◌, subst, lit<}
+use Rattle.std.proofs.Common.{◌≡◌, List, [], ◌∷◌, ◌++◌, refl, sym, ap, ◌∙◌, subst}
 use mir.Raw.{raw as bare}
-use mir.Val.{Val, vint, vptr, vstruct, vcons, vnil, of_list}
-use base.Logic.{SProp, ent, emp, id⊢, never, fst∗}
-use base.Fml.{Fml, ftrue, fsep}
+use mir.Val.{Val, vptr, vstruct, of_list}
+use base.Logic.{SProp, ent, id⊢, never, fst∗}
+use base.Fml.{ftrue, fsep}
 use prog.Wp.{WpFn}
 use types.Logic.{sem}
-use types.Kit.{‵, raw, ◌⊛◌, ◌$◌, ◌∵◌, !, qed, by, move, keep, drop, split, join, fsplit, fsplit3, fjoin, fpick, suffices, use1, rewrite, feq_l, done}
-use types.Run.{stop, fld, lit, of_opd, no_more, and_then, returns, enter}
+use types.Kit.{‵, raw, ◌⊛◌, ◌$◌, ◌∵◌, !, qed, move, drop, split, join, fsplit, fjoin, fpick, suffices, rewrite, feq_l, done}
+use types.Run.{stop, fld, of_opd, no_more, and_then, returns, enter}
 use types.ByLocal.{alloc_all, pass_all, free_all, look_at, get, get_in, sets}
 use types.Part.{agg, sub, whole}
 use contract.Monad.{fact}
@@ -29,8 +29,8 @@ use Rattle.rnxcmp_c.specs.Places.{heap, place_owns}
 use Rattle.rnxcmp_c.specs.declared.reader.Reader.{Reader}
 use Rattle.rnxcmp_c.specs.contracts.reader.Reader as reader
 use Rattle.rnxcmp_c.specs.contracts.place.Place as place
-use Rattle.rnxcmp_c.proofs.LooseValues.{both, Loose, loose_good, loose_in, loose_out}
-use Rattle.rnxcmp_c.proofs.PlaceValues.{word, place_in}
+use Rattle.rnxcmp_c.proofs.LooseValues.{both, loose_good, loose_in}
+use Rattle.rnxcmp_c.proofs.PlaceValues.{word}
 use Rattle.rnxcmp_c.specs.contracts.place.Place.into_loose.{ended, clauses}
 use Rattle.rnxcmp_c.specs.contracts.place.Place.into_loose.Key.{name as #self}
 use Rattle.rnxcmp_c.proofs.place.Place.into_loose.Statement.{statement}

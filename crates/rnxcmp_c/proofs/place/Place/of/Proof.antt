@@ -1,35 +1,26 @@
 -- `of` moves the pointer, and what the parts owned goes with it.
-use Rattle.std.proofs.Common.{◌≡◌, ℕ, List, [], ◌∷◌, ◌++◌, refl, sym, ap, ◌∙◌, subst, lit<}
-use mir.Raw.{raw as bare}
-use mir.Val.{Val, vint, vptr, vstruct, vcons, vnil, of_list}
-use base.Logic.{SProp, ent, emp, id⊢, never, fst∗}
-use base.Fml.{Fml, ftrue, fsep}
+use Rattle.std.proofs.Common.{List, [], ◌∷◌, ◌++◌, refl, sym, subst}
+use mir.Val.{Val, vptr}
+use base.Logic.{SProp, ent, emp, id⊢}
+use base.Fml.{ftrue, fsep}
 use prog.Wp.{WpFn}
-use types.Logic.{sem}
-use types.Kit.{‵, raw, ◌⊛◌, ◌$◌, ◌∵◌, !, qed, by, move, keep, drop, split, join, fsplit, fsplit3, fjoin, fpick, suffices, use1, rewrite, feq_l, done}
-use types.Run.{stop, fld, lit, of_opd, no_more, and_then, returns, enter}
+use types.Kit.{‵, raw, ◌⊛◌, ◌$◌, ◌∵◌, !, qed, move, keep, drop, split, join, fsplit, fjoin, suffices, done}
+use types.Run.{stop, fld, of_opd, no_more, and_then, returns, enter}
 use types.ByLocal.{alloc_all, pass_all, free_all, look_at, get, get_in, sets}
 use types.Part.{agg, sub, whole}
-use contract.Monad.{fact}
 use contract.Running.{tables}
 use denote.Exit.{yes}
 use denote.RattleType.{RattleType}
 use denote.Signature.{plain}
-use denote.RawPtr.{Ptr, block_ptr, null_ptr, ptr_val, in_a_block}
-use denote.Memory.{lone}
-use denote.Steps.{nothing, heard}
+use denote.RawPtr.{block_ptr}
+use denote.Steps.{nothing}
 use denote.Triple.Walked.{says, Stays, stay_dropped, walk_of, ends_at, Goes-dropped}
 use Rattle.std.proofs.raw_atomic.Walks.{proved_at}
-use Rattle.core.proofs.alloc.Calls.{Al, handle_tells}
-use Rattle.std_alloc.specs.Box.Ownership.{box_owns}
 use Rattle.std_heap.specs.contracts.Global as heap
-use Rattle.std_heap.specs.contracts.GlobalAllocator.TheImpl.{ghosts, dict}
+use Rattle.std_heap.specs.contracts.GlobalAllocator.TheImpl.{ghosts}
 use Rattle.std_heap.proofs.Global.TheLaws as heap_laws
-use Rattle.rnxcmp_c.specs.Places.{place_owns}
-use Rattle.rnxcmp_c.specs.declared.reader.Reader.{Reader}
 use Rattle.rnxcmp_c.specs.contracts.reader.Reader as reader
-use Rattle.rnxcmp_c.specs.contracts.place.Place as place
-use Rattle.rnxcmp_c.proofs.LooseValues.{both, Loose, loose_good, loose_in, loose_out}
+use Rattle.rnxcmp_c.proofs.LooseValues.{both, Loose, loose_good, loose_out}
 use Rattle.rnxcmp_c.proofs.PlaceValues.{word, place_in}
 use Rattle.rnxcmp_c.specs.contracts.place.Place.of.{ended, clauses}
 use Rattle.rnxcmp_c.specs.contracts.place.Place.of.Key.{name as #self}
