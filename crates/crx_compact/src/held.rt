@@ -1,48 +1,39 @@
 //! The history of a satellite, which is what later epochs need of it: Hatanaka's Compact RINEX 3.0, satellite lines.
 
-ghost use Rattle.std.specs.Prelude.{◌≡◌, ◌≤◌, ◌<◌, ◌+◌, OnErr, ◌++◌, ◌∷◌, ◌⊎◌, ◌*◌, [], None, Ok, Err, true, false, length, slice_index_or, slice_set, take, OnOk, IfOk, IfErr, IfSome, IfNone, OnSome, Some, Option, ℤ};
-ghost use Rattle.std.specs.List.{flat_map, list_all};
+ghost use Rattle.std.specs.Prelude.{◌≡◌, ◌≤◌, ◌<◌, ◌+◌, OnErr, ◌++◌, ◌∷◌, ◌⊎◌, ◌*◌, [], None, Ok, Err, true, false, length, take, OnOk, IfErr, Some, Option};
+ghost use Rattle.std.specs.List.{flat_map};
 ghost use Rattle.std.specs.Result.{is_ok};
-ghost use Rattle.crx_text.specs.Numbers.{IsObservation};
 ghost use Rattle.crx_rinex.specs.meaning.EpochLines.{begins_epoch};
-ghost use Rattle.crx_rinex.specs.meaning.SatelliteLines.{IsValue};
-ghost use Rattle.crx_text.specs.meaning.Codes.{code_of, code_text, first_cell};
-ghost use Rattle.crx_text.specs.Codes.{IsPrintable, IsShort};
-ghost use Rattle.crx_text.specs.meaning.Texts.{is_kept, text_difference};
+ghost use Rattle.crx_text.specs.meaning.Codes.{code_text};
+ghost use Rattle.crx_text.specs.Codes.{IsPrintable};
+ghost use Rattle.crx_text.specs.meaning.Texts.{text_difference};
 ghost use Rattle.crx_text.specs.Texts.{patched};
 ghost use Rattle.crx_lines.specs.declared.limits.TheConstants.{LINE_LIMIT, TYPES_LIMIT};
-ghost use Rattle.crx_compact.specs.declared.held.TheConstants.{CELL_ROOM};
+ghost use Rattle.crx_compact.specs.declared.cells.TheConstants.{CELL_ROOM};
 ghost use Rattle.std.specs.Option.{option_copied};
 ghost use Rattle.crx_text.specs.meaning.Columns.{columns, without_end_blanks};
-ghost use Rattle.crx_compact.specs.Cells.{arcs_of_row, codes_of_row, value_at_place, AreHeldFlags, CellsAreRead, IsCellRead};
-ghost use Rattle.crx_compact.specs.meaning.CompactPlaces.{are_marks, cell_read, cells_of, cells_read};
-ghost use Rattle.crx_lines.specs.declared.fault.Fault.TheVariants.{BadField};
-ghost use Rattle.crx_text.specs.declared.code.Code.TheVariants.{Missing, Step};
+ghost use Rattle.crx_compact.specs.Cells.{arcs_of_row, codes_of_row, AreHeldFlags};
+ghost use Rattle.crx_compact.specs.meaning.CompactPlaces.{are_marks};
 ghost use Rattle.crx_compact.specs.HeldRows.{row_held, row_held_from};
 ghost use Rattle.crx_rinex.specs.meaning.ObservationTypes.{IsAllowedCount};
-ghost use Rattle.crx_compact.specs.meaning.Compaction.{cell_text, line_of_codes};
+ghost use Rattle.crx_compact.specs.meaning.Compaction.{cell_text};
 ghost use Rattle.crx_compact.specs.meaning.Sequences.{named};
-ghost use Rattle.crx_compact.specs.Steps.{arc_of_code, arc_of_value, code_of_value, flags_held, row_line_after, row_tail_after, value_of_code};
+ghost use Rattle.crx_compact.specs.Steps.{flags_held, row_line_after, row_tail_after};
 ghost use Rattle.crx_compact.specs.Tails.{RowTail};
 
 use crate::arc::ObsArc;
 use crate::awaited::AwaitedSatellite;
+use crate::cells::{read_cells, write_cells};
 use crate::lines::Lines;
 use crate::refusals::fault_of_row;
 use crate::same::is_same_text;
-use crx_lines::limits::{DIGITS_LIMIT, NAME_WIDTH};
+use crx_lines::limits::NAME_WIDTH;
 use crx_rinex::{SatRow, after_columns, all_blank};
 use crx_text::block::put_text;
 use crx_text::difference::{append_difference, patch_bytes};
-use crx_text::{
-    Code, Fault, Text, code_before_blank, code_print, copy_text, step_before_blank, trim_end,
-    write_cell,
-};
+use crx_text::{Code, Fault, Text, code_print, copy_text, trim_end};
 use std::alloc::{AllocError, Global};
 use std::marker::Model;
-
-/// The room for a cell in a satellite line: a code, with its sign, order and `&`, its blank, and what its digits are written with.
-pub(crate) const CELL_ROOM: usize = DIGITS_LIMIT + 6;
 
 /// Replaces a text by the difference of two others. Texts that are the same, as a satellite's indicators in two epochs mostly are,
 /// are only compared: their difference is empty.
@@ -96,212 +87,6 @@ pub(crate) fn push_code(code: Code, part: &mut Text, lines: &mut Lines) -> Resul
     lines.push(part.bytes())
 }
 
-/// Replaces an arc by the one that a cell has after its next value, and gives the value's code. The arcs before are those of the
-/// epoch before, of which the cell's is at a place, where there is one.
-#[inline(always)]
-fn renew_arc(before: &[ObsArc], place: usize, value: Option<i64>, arc: &mut ObsArc) -> Code
-    requires { IsValue value }
-    ensures code { result ≡ code_of_value value (slice_index_or before.now place None) }
-    ensures printable { IsPrintable result }
-    ensures arc { arc.new ≡ arc_of_value value (slice_index_or before.now place None) }
-{
-    match before.get(place) {
-        Some(kept) => arc.push_after(kept, value),
-        None => {
-            *arc = ObsArc::new();
-            arc.push(value)
-        }
-    }
-}
-
-/// The code of a cell's value where it is a difference of order 3, as by [`ObsArc::push_third`]; `None` where it is another code.
-#[inline(always)]
-fn third_at(before: &[ObsArc], place: usize, value: i64, arc: &mut ObsArc) -> Option<i64>
-    requires { IsObservation value }
-    ensures code { IfSome result
-        (λ number. code_of_value (Some value) (slice_index_or before.now place None) ≡ Step number) }
-    ensures short { IfSome result IsShort }
-    ensures arc { OnSome result (arc.new ≡ arc_of_value (Some value) (slice_index_or before.now place None)) }
-{
-    arc.push_third(before.get(place)?, value)
-}
-
-/// Writes the code of a cell's next value and a blank from an index on, gives the index after them, and replaces an arc by the
-/// one after the value. It takes values of any kind, and is called for the few that [`write_value`] doesn't write itself.
-#[cold]
-#[inline(never)]
-fn write_any_value(
-    before: &[ObsArc],
-    place: usize,
-    value: Option<i64>,
-    arc: &mut ObsArc,
-    bytes: &mut [u8],
-    at: usize,
-) -> usize
-    requires value { IsValue value }
-    requires room { at + CELL_ROOM ≤ length bytes.old }
-    ensures arc { arc.new ≡ arc_of_value value (slice_index_or before.now place None) }
-    ensures written { take result bytes.new
-        ≡ take at bytes.old ++ cell_text (code_of_value value (slice_index_or before.now place None)) }
-    ensures from { at ≤ result }
-    ensures within { result ≤ at + CELL_ROOM }
-{
-    let code = renew_arc(before, place, value, arc);
-    write_cell(bytes, at, code)
-}
-
-/// Writes a cell as [`write_any_value`] does. Most values are missing, or have a difference of order 3 as their code: these two are
-/// written here, without a call and without asking which code it is, and only the others by a call.
-#[inline(always)]
-fn write_value(
-    before: &[ObsArc],
-    place: usize,
-    value: Option<i64>,
-    arc: &mut ObsArc,
-    bytes: &mut [u8],
-    at: usize,
-) -> usize
-    requires value { IsValue value }
-    requires room { at + CELL_ROOM ≤ length bytes.old }
-    ensures arc { arc.new ≡ arc_of_value value (slice_index_or before.now place None) }
-    ensures written { take result bytes.new
-        ≡ take at bytes.old ++ cell_text (code_of_value value (slice_index_or before.now place None)) }
-    ensures from { at ≤ result }
-    ensures within { result ≤ at + CELL_ROOM }
-{
-    let Some(present) = value else {
-        arc.end();
-        return write_cell(bytes, at, Code::Missing);
-    };
-    match third_at(before, place, present, arc) {
-        Some(difference) => write_cell(bytes, at, Code::Step(difference)),
-        None => write_any_value(before, place, value, arc, bytes, at),
-    }
-}
-
-/// Writes a cell as [`write_value`] does, where the epoch before has an arc at the place: whether it has isn't asked for each cell.
-#[inline(always)]
-fn write_known_value(
-    before: &[ObsArc],
-    place: usize,
-    value: Option<i64>,
-    arc: &mut ObsArc,
-    bytes: &mut [u8],
-    at: usize,
-) -> usize
-    requires known { place < length before.now }
-    requires value { IsValue value }
-    requires room { at + CELL_ROOM ≤ length bytes.old }
-    ensures arc { arc.new ≡ arc_of_value value (slice_index_or before.now place None) }
-    ensures written { take result bytes.new
-        ≡ take at bytes.old ++ cell_text (code_of_value value (slice_index_or before.now place None)) }
-    ensures from { at ≤ result }
-    ensures within { result ≤ at + CELL_ROOM }
-{
-    let Some(present) = value else {
-        arc.end();
-        return write_cell(bytes, at, Code::Missing);
-    };
-    match arc.push_third(&before[place], present) {
-        Some(difference) => write_cell(bytes, at, Code::Step(difference)),
-        None => write_any_value(before, place, value, arc, bytes, at),
-    }
-}
-
-/// Puts the arc of a cell after its next code in its place among others, and gives the code's value.
-///
-/// `NoArc` and `OutOfRange` come as by [`ObsArc::apply`].
-fn apply_at(
-    before: &[ObsArc],
-    place: usize,
-    code: Code,
-    arcs: &mut [ObsArc],
-) -> Result<Option<i64>, Fault>
-    requires printable { IsPrintable code }
-    requires within { place < length arcs.old }
-    ensures value { result ≡ value_at_place before.now place code }
-    ensures arc { OnOk result (arcs.new
-        ≡ slice_set arcs.old place (arc_of_code code (slice_index_or before.now place None))) }
-    ensures counted { length arcs.new ≡ length arcs.old }
-{
-    match before.get(place) {
-        Some(arc) => arcs[place].apply_after(arc, code),
-        None => arcs[place].apply_after(&ObsArc::new(), code),
-    }
-}
-
-/// Reads the cell that a text begins with, whatever its code is: replaces the arc at the cell's place by the one after the code, and
-/// gives the cell's value, and the index after the cell and its blank. It is called for the few cells that [`read_usual_cell`] doesn't
-/// read.
-///
-/// `BadField` comes where the cell is no code, `NoArc` and `OutOfRange` come as by [`ObsArc::apply`].
-#[inline(never)]
-fn read_any_cell(
-    before: &[ObsArc],
-    place: usize,
-    text: &[u8],
-    arcs: &mut [ObsArc],
-) -> Result<(Option<i64>, usize), Fault>
-    requires within { place < length arcs.old }
-    ensures ok { IfOk result (λ cell. IsCellRead before.now place text.now arcs.old arcs.new cell.0 cell.1) }
-    ensures err { IfErr result (λ fault.
-        cell_read BadField (value_at_place before.now place) (code_of (first_cell text.now)) ≡ Err fault) }
-{
-    let Ok((code, length)) = code_before_blank(text) else {
-        return Err(Fault::BadField);
-    };
-    let value = apply_at(before, place, code, arcs)?;
-    Ok((value, length))
-}
-
-/// Reads the cell that a text begins with where its code is a difference of order 3, as that of most cells is; `None` where it is
-/// another code, has more than seven digits, or has a fault, and then the arcs are as they were.
-///
-/// Seven digits and the blank after them fit a vector of eight characters, and are read at once, the sign having been put aside.
-/// That takes 53 instructions; digit by digit one digit takes 60 and seven take 126 (bench/README.md).
-#[inline(always)]
-fn read_third(
-    before: &[ObsArc],
-    place: usize,
-    text: &[u8],
-    arcs: &mut [ObsArc],
-) -> Option<(i64, usize)>
-    requires within { place < length arcs.old }
-    ensures some { IfSome result
-        (λ cell. IsCellRead before.now place text.now arcs.old arcs.new (Some cell.0) cell.1) }
-    ensures none { IfNone result (arcs.new ≡ arcs.old) }
-{
-    let (number, length) = step_before_blank(text)?;
-    let arc = before.get(place)?;
-    let value = arcs[place].apply_third(arc, number)?;
-    Some((value, length))
-}
-
-/// Reads the cell that a text begins with as [`read_third`] does, and also a cell without a code.
-#[inline(always)]
-fn read_usual_cell(
-    before: &[ObsArc],
-    place: usize,
-    text: &[u8],
-    arcs: &mut [ObsArc],
-) -> Option<(Option<i64>, usize)>
-    requires within { place < length arcs.old }
-    ensures some { IfSome result
-        (λ cell. IsCellRead before.now place text.now arcs.old arcs.new cell.0 cell.1) }
-    ensures none { IfNone result (arcs.new ≡ arcs.old) }
-{
-    let Some(first) = text.first() else {
-        arcs[place].end();
-        return Some((None, 0));
-    };
-    if *first == b' ' {
-        arcs[place].end();
-        return Some((None, 1));
-    }
-    let (value, length) = read_third(before, place, text, arcs)?;
-    Some((Some(value), length))
-}
-
 /// Makes arcs as many as a row has cells. They mostly are, which one comparison finds; arcs that are added have no values.
 #[inline(always)]
 fn resize_arcs(arcs: &mut Vec<ObsArc>, count: usize) -> Result<(), AllocError>
@@ -324,80 +109,6 @@ fn resize_other_arcs(arcs: &mut Vec<ObsArc>, count: usize) -> Result<(), AllocEr
         arcs.push(ObsArc::new())?;
     }
     Ok(())
-}
-
-/// Writes the codes of a row's values, each followed by a blank, from an index on, gives the index after them, and replaces as many
-/// arcs by those after the values.
-fn write_cells(
-    before: &[ObsArc],
-    row: &SatRow,
-    arcs: &mut [ObsArc],
-    bytes: &mut [u8],
-    at: usize,
-) -> usize
-    requires counted { length arcs.old ≡ length row.now.values }
-    requires room { at + CELL_ROOM * length row.now.values ≤ length bytes.old }
-    ensures arcs { arcs.new ≡ arcs_of_row before.now row.now }
-    ensures written { take result bytes.new
-        ≡ take at bytes.old ++ flat_map cell_text (codes_of_row before.now row.now) }
-    ensures from { at ≤ result }
-    ensures within { result ≤ at + CELL_ROOM * length row.now.values }
-{
-    if row.values().len() <= before.len() {
-        return write_known_cells(before, row, arcs, bytes, at);
-    }
-    write_other_cells(before, row, arcs, bytes, at)
-}
-
-/// Writes cells as [`write_cells`] does, where the epoch before has an arc for each of them.
-#[inline(always)]
-fn write_known_cells(
-    before: &[ObsArc],
-    row: &SatRow,
-    arcs: &mut [ObsArc],
-    bytes: &mut [u8],
-    at: usize,
-) -> usize
-    requires known { length row.now.values ≤ length before.now }
-    requires counted { length arcs.old ≡ length row.now.values }
-    requires room { at + CELL_ROOM * length row.now.values ≤ length bytes.old }
-    ensures arcs { arcs.new ≡ arcs_of_row before.now row.now }
-    ensures written { take result bytes.new
-        ≡ take at bytes.old ++ flat_map cell_text (codes_of_row before.now row.now) }
-    ensures from { at ≤ result }
-    ensures within { result ≤ at + CELL_ROOM * length row.now.values }
-{
-    let values = row.values();
-    let mut end = at;
-    for place in 0..values.len() {
-        end = write_known_value(before, place, values[place], &mut arcs[place], bytes, end);
-    }
-    end
-}
-
-/// Writes cells as [`write_cells`] does, where the epoch before may have fewer arcs, or none.
-#[inline(never)]
-fn write_other_cells(
-    before: &[ObsArc],
-    row: &SatRow,
-    arcs: &mut [ObsArc],
-    bytes: &mut [u8],
-    at: usize,
-) -> usize
-    requires counted { length arcs.old ≡ length row.now.values }
-    requires room { at + CELL_ROOM * length row.now.values ≤ length bytes.old }
-    ensures arcs { arcs.new ≡ arcs_of_row before.now row.now }
-    ensures written { take result bytes.new
-        ≡ take at bytes.old ++ flat_map cell_text (codes_of_row before.now row.now) }
-    ensures from { at ≤ result }
-    ensures within { result ≤ at + CELL_ROOM * length row.now.values }
-{
-    let values = row.values();
-    let mut end = at;
-    for place in 0..values.len() {
-        end = write_value(before, place, values[place], &mut arcs[place], bytes, end);
-    }
-    end
 }
 
 /// The history of a satellite: its identifier, its indicators, and an arc for each cell.
@@ -767,41 +478,4 @@ pub(crate) fn find<'a>(
     ensures { option_copied result ≡ named (λ (row : RowTail). row.name) name held.now }
 {
     held.iter().find(|satellite| satellite.name() == name)
-}
-
-/// Reads the cells of a line for as many types as a row has, given the arcs of the epoch before: puts their values into the row,
-/// replaces other arcs by those after the cells, and gives the index at which the marks begin. Its calls stay: a loop without them,
-/// meant to keep all in registers, took more instructions (.2 a byte of RINEX, bench/README.md).
-///
-/// The first cell with a fault decides: `BadField` where its text is no code, then `NoArc` and `OutOfRange` as by
-/// [`ObsArc::apply`].
-fn read_cells(
-    before: &[ObsArc],
-    count: usize,
-    line: &[u8],
-    arcs: &mut [ObsArc],
-    row: &mut SatRow,
-) -> Result<usize, Fault>
-    requires counted { length arcs.old ≡ count }
-    requires sized { length row.old.values ≡ count }
-    ensures ok { IfOk result (λ at. CellsAreRead before.now count line.now arcs.new row.old row.new at) }
-    ensures err { IfErr result
-        (λ fault. cells_read (value_at_place before.now) (cells_of count line.now) ≡ Err fault) }
-{
-    let mut at = 0;
-    for place in 0..count {
-        let text = &line[at..];
-        match read_usual_cell(before, place, text, arcs) {
-            Some((value, length)) => {
-                row.set(place, value);
-                at += length;
-            }
-            None => {
-                let (value, length) = read_any_cell(before, place, text, arcs)?;
-                row.set(place, value);
-                at += length;
-            }
-        }
-    }
-    Ok(at)
 }

@@ -4,6 +4,7 @@
 
 pub mod arc;
 mod awaited;
+mod cells;
 pub mod coded;
 pub mod columns;
 mod held;

@@ -12,7 +12,8 @@ ghost use Rattle.crx_compact.specs.LineLists.{lines_text};
 ghost use Rattle.crx_compact.specs.contracts.lines.Lines.{the_row};
 
 use crate::arc::ObsArc;
-use crate::held::{CELL_ROOM, HeldSatellite, mark_change};
+use crate::cells::CELL_ROOM;
+use crate::held::{HeldSatellite, mark_change};
 use crx_rinex::SatRow;
 use crx_text::Text;
 use crx_text::block::{grow, put_line};

@@ -2,8 +2,8 @@ use Rattle.std.proofs.lemmas.Result.{err_from_is_err_and}
 use Rattle.std.proofs.Common.{◌≡◌, ◌∷◌, [], ◌-◌, refl, List, ℕ, length, take, drop, sym, ap, ◌∙◌, arith}
 use Rattle.std.proofs.lemmas.List.{length-drop}
 use Rattle.crx_compact.proofs.reading.CellsRead.{read-cell, read-refused, read-none, read-all}
-use Rattle.crx_compact.proofs.held.read_cells.Goals as goal
-use Rattle.crx_compact.proofs.held.read_cells.Goals.{in-Some, in-None+in_ok-value-in-None}
+use Rattle.crx_compact.proofs.cells.read_cells.Goals as goal
+use Rattle.crx_compact.proofs.cells.read_cells.Goals.{in-Some, in-None+in_ok-value-in-None}
 
 -- a line from a place on
 all : {X : Type 0} (text : List X) → take (length text) text ≡ text

@@ -2,7 +2,7 @@ use Rattle.std.proofs.Common.{rules, arith, FitsSigned, w64}
 use Rattle.crx_text.specs.declared.code.Code.TheVariants.{Step}
 use Rattle.crx_text.proofs.CodeTexts.{code_text_length}
 use Rattle.crx_compact.proofs.arcs.Running.{same-bits}
-use Rattle.crx_compact.proofs.held.write_known_value.Goals as goal
+use Rattle.crx_compact.proofs.cells.write_known_value.Goals as goal
 
 pub write_cell-requires-in-Some-push_third-clause-room : goal.write_cell-requires-in-Some-push_third-clause-room
 write_cell-requires-in-Some-push_third-clause-room c =

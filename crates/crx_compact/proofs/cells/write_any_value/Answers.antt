@@ -1,6 +1,6 @@
 use Rattle.std.proofs.Common.{arith}
 use Rattle.crx_text.proofs.CodeTexts.{code_text_length}
-use Rattle.crx_compact.proofs.held.write_any_value.Goals as goal
+use Rattle.crx_compact.proofs.cells.write_any_value.Goals as goal
 
 pub write_cell-requires-clause-room : goal.write_cell-requires-clause-room
 write_cell-requires-clause-room c =

@@ -1,7 +1,7 @@
 use Rattle.std.proofs.Common.{◌≡◌, ◌≤◌, ◌+◌, ◌*◌, length, take}
 use Rattle.crx_compact.proofs.Making.{CellsMade}
-use Rattle.crx_compact.specs.declared.held.TheConstants.{CELL_ROOM}
-use Rattle.crx_compact.proofs.held.write_known_cells.Given as goal
+use Rattle.crx_compact.specs.declared.cells.TheConstants.{CELL_ROOM}
+use Rattle.crx_compact.proofs.cells.write_known_cells.Given as goal
 
 abbrev pub invariant-loop-place : goal.invariant-loop-place
 invariant-loop-place l = record {
