@@ -1,9 +1,9 @@
 -- Rows of digits, and the number that the first of them write.
-use Rattle.std.proofs.Common.{◌≡◌, ℕ, zero, suc, ◌+◌, ◌-◌, ◌*◌, ◌%◌, ◌^◌, ◌<◌, ◌≤◌, Bool, true, false, not, cond, T}
+use Rattle.std.proofs.Common.{◌≡◌, ℕ, zero, suc, ◌+◌, ◌-◌, ◌*◌, ◌/◌, ◌%◌, ◌^◌, ◌<◌, ◌≤◌, Bool, true, false, not, cond, ◌&&◌, T}
 use Rattle.std.proofs.Common.{ltb, eqb, List, [], ◌∷◌, ◌++◌, map, length, replicate, take, drop, get_or, subst, Fits}
 use Rattle.std.proofs.Common.{w8, refl, sym, ap, ◌∙◌, arith}
-use Rattle.std.proofs.Math.Nat.{pow-suc, mul-le-mul_right}
-use Rattle.std.proofs.lemmas.Bool.{agree_below_at, and_parts, ne_eqb}
+use Rattle.std.proofs.Math.Nat.{pow-suc, pow-le-pow_right, mul-le-mul_right}
+use Rattle.std.proofs.lemmas.Bool.{agree_below_at, and_parts, lt-ltb, ltb-true, ne_eqb}
 use Rattle.std.proofs.lemmas.List.Sums.{prefix_len_stops}
 use Rattle.std.proofs.lemmas.List.{length-map, length-append, length-take-le, take-append-drop, take-take, get_or-take}
 use Rattle.std.proofs.lemmas.List.{take-append-le}
@@ -14,7 +14,8 @@ use Rattle.std.specs.List.{range_with_len, prefix_len}
 use Rattle.std.specs.Str.{all_ascii_digits}
 use Rattle.std.specs.Str.Parse.{digits_value, digits_value_after}
 use lib.Count.{count_trailing_zeros}
-use lib.Lanes.{Each1, chunk, pick_l, mask_l, top, zip2, dots, all_below}
+use lib.Lanes.{Each1, chunk, pick_l, mask_l, top, zip2, dots, all_below, pair_sums, products}
+use Rattle.crx_text.proofs.GroupHalves.{wide_of, wide_are_four}
 use Rattle.crx_text.specs.meaning.Codes.{after_cell, first_cell}
 use Rattle.crx_text.specs.FirstDigits.{HasFirstDigits}
 use Rattle.crx_text.specs.declared.digits.TheConstants.{WEIGHTS, SCALES}
@@ -87,21 +88,42 @@ first_other row long fits some =
 abbrev pub weights_of : ℕ → List ℕ
 weights_of count = chunk 0 16 (take (128 - 16 * count) (drop (16 * count) WEIGHTS))
 
-abbrev pub scales_of : ℕ → List ℕ
-scales_of count = chunk 0 4 (take (32 - 4 * count) (drop (4 * count) SCALES))
+abbrev pub scale_of : ℕ → ℕ
+scale_of count = get_or SCALES count 0
 
-abbrev pub paired : List ℕ → List ℕ
-paired digits = pick_l 0 (digits ++ replicate 8 0) (0 ∷ 1 ∷ 8 ∷ 8 ∷ 2 ∷ 3 ∷ 8 ∷ 8 ∷ 4 ∷ 5 ∷ 8 ∷ 8 ∷ 6 ∷ 7 ∷ 8 ∷ 8 ∷ [])
+abbrev pub grouped : List ℕ → List ℕ
+grouped digits = pick_l 0 (digits ++ replicate 8 0) (0 ∷ 1 ∷ 2 ∷ 8 ∷ 3 ∷ 4 ∷ 5 ∷ 8 ∷ 6 ∷ 7 ∷ 8 ∷ 8 ∷ 8 ∷ 8 ∷ 8 ∷ 8 ∷ [])
 
-abbrev pub halves_of : List ℕ → ℕ → List ℕ
-halves_of digits count =
-    let pairs = zip2 (λ a b. a * b % 2 ^ 32) (dots (paired digits) (weights_of count)) (scales_of count) in
-    zip2 (λ a b. (a + b) % 2 ^ 32) pairs (pick_l 0 (pairs ++ pairs) (1 ∷ 0 ∷ 3 ∷ 2 ∷ []))
+abbrev pub pairs_of : List ℕ → ℕ → List ℕ
+pairs_of digits count = wide_of (dots (grouped digits) (weights_of count))
 
 abbrev pub total_of : List ℕ → ℕ → ℕ
-total_of digits count = get_or (halves_of digits count) 0 0 + get_or (halves_of digits count) 2 0
+total_of digits count =
+    get_or (pairs_of digits count) 0 0 * scale_of count % 2 ^ 64 / 2 ^ 32 + get_or (pairs_of digits count) 1 0
 
-pub weights_small : (count : ℕ) → count < 8 → T (all_below 65 (weights_of count)) × T (all_below 128 (weights_of count))
+-- two products of bytes and weights that are small together
+pub pairs_small : (xs ys : List ℕ) → Each1 (Fits w8) xs → T (all_below 128 (pair_sums ys))
+    → T (all_below 32768 (pair_sums (products xs ys)))
+pairs_small [] ys fits small = tt
+pairs_small (x ∷ xs) [] fits small = tt
+pairs_small (x ∷ []) (y ∷ ys) fits small = tt
+pairs_small (x ∷ x′ ∷ xs) (y ∷ []) fits small = tt
+pairs_small (x ∷ x′ ∷ xs) (y ∷ y′ ∷ ys) fits small =
+    go (ltb (y + y′) 128) refl small (λ (rest : T (all_below 128 (pair_sums ys))). pairs_small xs ys fits.1.1 rest)
+  where
+    go : (b : Bool) → ltb (y + y′) 128 ≡ b → T (b && all_below 128 (pair_sums ys))
+        → (T (all_below 128 (pair_sums ys)) → T (all_below 32768 (pair_sums (products xs ys))))
+        → T (ltb (x * y + x′ * y′) 32768 && all_below 32768 (pair_sums (products xs ys)))
+    go true e rest next =
+        let few : y + y′ < 128 = ltb-true (y + y′) 128 e in
+        let one : x * y ≤ 255 * y = mul-le-mul_right y (omega (arith, fits.0.fits)) in
+        let two : x′ * y′ ≤ 255 * y′ = mul-le-mul_right y′ (omega (arith, fits.1.0.fits)) in
+        let less = lt-ltb (x * y + x′ * y′) 32768 (omega (arith, few, one, two)) in
+        rw less (next rest)
+    go false e rest next = absurd rest
+
+pub weights_small : (count : ℕ) → count < 8
+    → T (all_below 128 (pair_sums (weights_of count))) × T (all_below 128 (weights_of count))
 weights_small zero few = (tt, tt)
 weights_small (suc zero) few = (tt, tt)
 weights_small (suc (suc zero)) few = (tt, tt)
@@ -112,19 +134,53 @@ weights_small (suc (suc (suc (suc (suc (suc zero)))))) few = (tt, tt)
 weights_small (suc (suc (suc (suc (suc (suc (suc zero))))))) few = (tt, tt)
 weights_small (suc (suc (suc (suc (suc (suc (suc (suc count)))))))) few = absurd (omega arith)
 
+-- what the groups of three make of the first seven digits, which are weighed by hundreds, tens and ones
 module _ (e : ℕ → ℕ) (small : (i : ℕ) → e i < 256) where
+  of_groups : (count a b c : ℕ) → dots (grouped (map e (range_with_len 0 8))) (weights_of count) ≡ a ∷ b ∷ c ∷ 0 ∷ []
+      → a < 2 ^ 32 → b < 2 ^ 32 → c < 2 ^ 32
+      → total_of (map e (range_with_len 0 8)) count ≡ (a + 2 ^ 32 * b) * scale_of count % 2 ^ 64 / 2 ^ 32 + (c + 2 ^ 32 * 0)
+  of_groups count a b c groups as_small bs_small cs_small =
+      let pairs : pairs_of (map e (range_with_len 0 8)) count ≡ (a + 2 ^ 32 * b) ∷ (c + 2 ^ 32 * 0) ∷ [] =
+      ap wide_of groups ∙ wide_are_four a b c 0 as_small bs_small cs_small (omega arith) in
+      ap (λ (v : List ℕ). get_or v 0 0 * scale_of count % 2 ^ 64 / 2 ^ 32 + get_or v 1 0) pairs
+
+  abbrev lane : ℕ → ℕ → ℕ
+  lane count j = get_or (dots (grouped (map e (range_with_len 0 8))) (weights_of count)) j 0
+
   total_explicit : (count : ℕ) → count < 8
       → total_of (map e (range_with_len 0 8)) count ≡ written 0 (take count (map e (range_with_len 0 8)))
-  total_explicit zero few = omega arith
-  total_explicit (suc zero) few = omega (arith, small 0)
-  total_explicit (suc (suc zero)) few = omega (arith, small 0, small 1)
-  total_explicit (suc (suc (suc zero))) few = omega (arith, small 0, small 1, small 2)
-  total_explicit (suc (suc (suc (suc zero)))) few = omega (arith, small 0, small 1, small 2, small 3)
-  total_explicit (suc (suc (suc (suc (suc zero))))) few = omega (arith, small 0, small 1, small 2, small 3, small 4)
+  total_explicit zero few =
+      of_groups 0 (lane 0 0) (lane 0 1) (lane 0 2) refl
+      (omega (arith, small 0, small 1, small 2)) (omega (arith, small 3, small 4, small 5)) (omega (arith, small 6))
+      ∙ omega (arith, small 0, small 1, small 2, small 3, small 4, small 5, small 6)
+  total_explicit (suc zero) few =
+      of_groups 1 (lane 1 0) (lane 1 1) (lane 1 2) refl
+      (omega (arith, small 0, small 1, small 2)) (omega (arith, small 3, small 4, small 5)) (omega (arith, small 6))
+      ∙ omega (arith, small 0, small 1, small 2, small 3, small 4, small 5, small 6)
+  total_explicit (suc (suc zero)) few =
+      of_groups 2 (lane 2 0) (lane 2 1) (lane 2 2) refl
+      (omega (arith, small 0, small 1, small 2)) (omega (arith, small 3, small 4, small 5)) (omega (arith, small 6))
+      ∙ omega (arith, small 0, small 1, small 2, small 3, small 4, small 5, small 6)
+  total_explicit (suc (suc (suc zero))) few =
+      of_groups 3 (lane 3 0) (lane 3 1) (lane 3 2) refl
+      (omega (arith, small 0, small 1, small 2)) (omega (arith, small 3, small 4, small 5)) (omega (arith, small 6))
+      ∙ omega (arith, small 0, small 1, small 2, small 3, small 4, small 5, small 6)
+  total_explicit (suc (suc (suc (suc zero)))) few =
+      of_groups 4 (lane 4 0) (lane 4 1) (lane 4 2) refl
+      (omega (arith, small 0, small 1, small 2)) (omega (arith, small 3, small 4, small 5)) (omega (arith, small 6))
+      ∙ omega (arith, small 0, small 1, small 2, small 3, small 4, small 5, small 6)
+  total_explicit (suc (suc (suc (suc (suc zero))))) few =
+      of_groups 5 (lane 5 0) (lane 5 1) (lane 5 2) refl
+      (omega (arith, small 0, small 1, small 2)) (omega (arith, small 3, small 4, small 5)) (omega (arith, small 6))
+      ∙ omega (arith, small 0, small 1, small 2, small 3, small 4, small 5, small 6)
   total_explicit (suc (suc (suc (suc (suc (suc zero)))))) few =
-      omega (arith, small 0, small 1, small 2, small 3, small 4, small 5)
+      of_groups 6 (lane 6 0) (lane 6 1) (lane 6 2) refl
+      (omega (arith, small 0, small 1, small 2)) (omega (arith, small 3, small 4, small 5)) (omega (arith, small 6))
+      ∙ omega (arith, small 0, small 1, small 2, small 3, small 4, small 5, small 6)
   total_explicit (suc (suc (suc (suc (suc (suc (suc zero))))))) few =
-      omega (arith, small 0, small 1, small 2, small 3, small 4, small 5, small 6)
+      of_groups 7 (lane 7 0) (lane 7 1) (lane 7 2) refl
+      (omega (arith, small 0, small 1, small 2)) (omega (arith, small 3, small 4, small 5)) (omega (arith, small 6))
+      ∙ omega (arith, small 0, small 1, small 2, small 3, small 4, small 5, small 6)
   total_explicit (suc (suc (suc (suc (suc (suc (suc (suc count)))))))) few = absurd (omega arith)
 
 lane_is_byte : (row : List ℕ) (i : ℕ) → get_or (map less_zero row) i 0 < 256
@@ -204,6 +260,16 @@ value_small size (c ∷ cs) digits =
     mul-le-mul_right (10 ^ length cs) next in
     let power : 10 ^ suc (length cs) ≡ 10 ^ length cs * 10 = pow-suc 10 (length cs) in
     rw power (omega (arith, less, grows))
+
+pub total_fits : (row : List ℕ) (count : ℕ) → length row ≡ 8 → count < 8
+    → all_ascii_digits (take count row) ≡ true → total_of (digit_lanes row) count < 2 ^ 64
+total_fits row count long few digits =
+    let value = total_is row count long few digits in
+    let less = value_small 0 (take count row) digits in
+    let within : length (take count row) ≡ count = length-take-le count row (omega (arith, long, few)) in
+    let short : length (take count row) ≤ 8 = omega (arith, within, few) in
+    let power : 10 ^ length (take count row) ≤ 10 ^ 8 = pow-le-pow_right (omega arith) short in
+    omega (arith, value, less, power)
 
 -- so many digits, which a text begins with, and no digit after them
 digits_found : (text : List ℕ) (size count : ℕ) → count < 8 → count ≤ length text

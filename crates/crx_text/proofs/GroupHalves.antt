@@ -80,11 +80,21 @@ groups_are size high low small is rest =
 abbrev pub wide_of : List ℕ → List ℕ
 wide_of v = digits_l (2 ^ 64) 2 (number_l 256 (digits_l 256 16 (number_l (2 ^ 32) v)))
 
+pub wide_are_four : (a b c d : ℕ) → a < 2 ^ 32 → b < 2 ^ 32 → c < 2 ^ 32 → d < 2 ^ 32
+    → wide_of (a ∷ b ∷ c ∷ d ∷ []) ≡ (a + 2 ^ 32 * b) ∷ (c + 2 ^ 32 * d) ∷ []
+wide_are_four a b c d as_small bs_small cs_small ds_small =
+    let number : ℕ = number_l (2 ^ 32) (a ∷ b ∷ c ∷ d ∷ []) in
+    let number_is : number ≡ (a + 2 ^ 32 * b) + 2 ^ 64 * (c + 2 ^ 32 * d) = omega arith in
+    let low : a + 2 ^ 32 * b < 2 ^ 64 = omega (arith, as_small, bs_small) in
+    let high : c + 2 ^ 32 * d < 2 ^ 64 = omega (arith, cs_small, ds_small) in
+    let one : ((a + 2 ^ 32 * b) + 2 ^ 64 * (c + 2 ^ 32 * d)) % 2 ^ 64 ≡ a + 2 ^ 32 * b = omega (arith, low) in
+    let two : ((a + 2 ^ 32 * b) + 2 ^ 64 * (c + 2 ^ 32 * d)) / 2 ^ 64 % 2 ^ 64 ≡ c + 2 ^ 32 * d =
+    omega (arith, low, high) in
+    ap (digits_l (2 ^ 64) 2) (bytes_back 16 number (omega (arith, as_small, bs_small, cs_small, ds_small)) ∙ number_is)
+    ∙ (rw (one, two) refl)
+
 pub wide_are : (high low : ℕ) → high < 2 ^ 32 → low < 2 ^ 32 → wide_of (high ∷ 0 ∷ low ∷ 0 ∷ []) ≡ high ∷ low ∷ []
 wide_are high low first second =
-    let number : ℕ = number_l (2 ^ 32) (high ∷ 0 ∷ low ∷ 0 ∷ []) in
-    let number_is : number ≡ high + 2 ^ 64 * low = omega arith in
-    let one : (high + 2 ^ 64 * low) % 2 ^ 64 ≡ high = omega (arith, first) in
-    let two : (high + 2 ^ 64 * low) / 2 ^ 64 % 2 ^ 64 ≡ low = omega (arith, first, second) in
-    ap (digits_l (2 ^ 64) 2) (bytes_back 16 number (omega (arith, first, second)) ∙ number_is)
-    ∙ (rw (one, two) refl)
+    let one : high + 2 ^ 32 * 0 ≡ high = omega arith in
+    let two : low + 2 ^ 32 * 0 ≡ low = omega arith in
+    wide_are_four high 0 low 0 first (omega arith) second (omega arith) ∙ (rw (one, two) refl)

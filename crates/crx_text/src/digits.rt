@@ -179,33 +179,33 @@ fn digits_in_row(row: u8x8) -> usize
     }
 }
 
-// What each digit of a row weighs in its pair, for each count of digits.
+// What each digit of a row weighs in its group of three, for each count of digits.
 #[rattlefmt::skip]
 static WEIGHTS: [u8; 16 * ROW] = [
     0, 0, 0, 0, 0, 0, 0, 0, 0, 0, 0, 0, 0, 0, 0, 0,
     1, 0, 0, 0, 0, 0, 0, 0, 0, 0, 0, 0, 0, 0, 0, 0,
     10, 1, 0, 0, 0, 0, 0, 0, 0, 0, 0, 0, 0, 0, 0, 0,
-    10, 1, 0, 0, 1, 0, 0, 0, 0, 0, 0, 0, 0, 0, 0, 0,
-    10, 1, 0, 0, 10, 1, 0, 0, 0, 0, 0, 0, 0, 0, 0, 0,
-    10, 1, 0, 0, 10, 1, 0, 0, 1, 0, 0, 0, 0, 0, 0, 0,
-    10, 1, 0, 0, 10, 1, 0, 0, 10, 1, 0, 0, 0, 0, 0, 0,
-    10, 1, 0, 0, 10, 1, 0, 0, 10, 1, 0, 0, 1, 0, 0, 0,
+    100, 10, 1, 0, 0, 0, 0, 0, 0, 0, 0, 0, 0, 0, 0, 0,
+    100, 10, 1, 0, 1, 0, 0, 0, 0, 0, 0, 0, 0, 0, 0, 0,
+    100, 10, 1, 0, 10, 1, 0, 0, 0, 0, 0, 0, 0, 0, 0, 0,
+    100, 10, 1, 0, 100, 10, 1, 0, 0, 0, 0, 0, 0, 0, 0, 0,
+    100, 10, 1, 0, 100, 10, 1, 0, 1, 0, 0, 0, 0, 0, 0, 0,
 ];
 
-// What each pair weighs.
-#[rattlefmt::skip]
-static SCALES: [u32; 4 * ROW] = [
-    0, 0, 0, 0,
-    1, 0, 0, 0,
-    1, 0, 0, 0,
-    10, 1, 0, 0,
-    100, 1, 0, 0,
-    1000, 10, 1, 0,
-    10_000, 100, 1, 0,
-    100_000, 1000, 10, 1,
+// What the second group weighs, and 2^32 times what the first one does, for each count of digits; the third group weighs 1.
+static SCALES: [u64; ROW] = [
+    0,
+    1 << 32,
+    1 << 32,
+    1 << 32,
+    (10 << 32) + 1,
+    (100 << 32) + 1,
+    (1000 << 32) + 1,
+    (10_000 << 32) + 10,
 ];
 
-// The number that so many digits write, which a row begins with.
+// The number that so many digits write, which a row begins with. The first two groups of three digits are weighed by one product, whose
+// upper half is their sum.
 #[inline(always)]
 fn row_size(row: u8x8, count: usize) -> u64
     requires few { count < ROW }
@@ -214,12 +214,11 @@ fn row_size(row: u8x8, count: usize) -> u64
 {
     let digits = (row - u8x8::splat(b'0')).shuffle(
         u8x8::splat(0),
-        [0, 1, 8, 8, 2, 3, 8, 8, 4, 5, 8, 8, 6, 7, 8, 8],
+        [0, 1, 2, 8, 3, 4, 5, 8, 6, 7, 8, 8, 8, 8, 8, 8],
     );
-    let pairs = digits.dot4(u8x16::from_slice(&WEIGHTS[16 * count..]))
-        * u32x4::from_slice(&SCALES[4 * count..]);
-    let halves = (pairs + pairs.swizzle([1, 0, 3, 2])).to_array();
-    u64::from(halves[0]) + u64::from(halves[2])
+    let groups = digits.dot4(u8x16::from_slice(&WEIGHTS[16 * count..]));
+    let pairs = u64x2::from_le_bytes(groups.to_le_bytes()).to_array();
+    (pairs[0].wrapping_mul(SCALES[count]) >> 32) + pairs[1]
 }
 
 // Whether a minus begins the text, and the text without it.
