@@ -180,8 +180,8 @@ fn read_any_cell(
     Ok((value, length))
 }
 
-/// Reads the cell that a text begins with where its code is a difference of order 3, as that of most cells is; `None` where it is
-/// another code, has more than seven digits, or has a fault, and then the arcs are as they were.
+/// Reads the cell that a text begins with, at a place where the epoch before has an arc, where its code is a difference of order 3, as that
+/// of most cells is; `None` where it is another code, has more than seven digits, or has a fault, and then the arcs are as they were.
 ///
 /// Seven digits and the blank after them fit a vector of eight characters, and are read at once, the sign having been put aside.
 /// That takes 53 instructions; digit by digit one digit takes 60 and seven take 126 (bench/README.md).
@@ -192,14 +192,14 @@ fn read_third(
     text: &[u8],
     arcs: &mut [ObsArc],
 ) -> Option<(i64, usize)>
+    requires known { place < length before.now }
     requires within { place < length arcs.old }
     ensures some { IfSome result
         (λ cell. IsCellRead before.now place text.now arcs.old arcs.new (Some cell.0) cell.1) }
     ensures none { IfNone result (arcs.new ≡ arcs.old) }
 {
     let (number, length) = step_before_blank(text)?;
-    let arc = before.get(place)?;
-    let value = arcs[place].apply_third(arc, number)?;
+    let value = arcs[place].apply_third(&before[place], number)?;
     Some((value, length))
 }
 
@@ -211,6 +211,7 @@ fn read_usual_cell(
     text: &[u8],
     arcs: &mut [ObsArc],
 ) -> Option<(Option<i64>, usize)>
+    requires known { place < length before.now }
     requires within { place < length arcs.old }
     ensures some { IfSome result
         (λ cell. IsCellRead before.now place text.now arcs.old arcs.new cell.0 cell.1) }
@@ -303,11 +304,11 @@ fn write_other_cells(
 }
 
 /// Reads the cells of a line for as many types as a row has, given the arcs of the epoch before: puts their values into the row,
-/// replaces other arcs by those after the cells, and gives the index at which the marks begin. Its calls stay: a loop without them,
-/// meant to keep all in registers, took more instructions (.2 a byte of RINEX, bench/README.md).
+/// replaces other arcs by those after the cells, and gives the index at which the marks begin.
 ///
 /// The first cell with a fault decides: `BadField` where its text is no code, then `NoArc` and `OutOfRange` as by
 /// [`ObsArc::apply`].
+#[inline(always)]
 pub(crate) fn read_cells(
     before: &[ObsArc],
     count: usize,
@@ -315,6 +316,29 @@ pub(crate) fn read_cells(
     arcs: &mut [ObsArc],
     row: &mut SatRow,
 ) -> Result<usize, Fault>
+    requires counted { length arcs.old ≡ count }
+    requires sized { length row.old.values ≡ count }
+    ensures ok { IfOk result (λ at. CellsAreRead before.now count line.now arcs.new row.old row.new at) }
+    ensures err { IfErr result
+        (λ fault. cells_read (value_at_place before.now) (cells_of count line.now) ≡ Err fault) }
+{
+    if count <= before.len() {
+        return read_known_cells(before, count, line, arcs, row);
+    }
+    read_other_cells(before, count, line, arcs, row)
+}
+
+/// Reads cells as [`read_cells`] does, where the epoch before has an arc for each of them. Its calls stay: a loop without them,
+/// meant to keep all in registers, took more instructions (.2 a byte of RINEX, bench/README.md).
+#[inline(always)]
+fn read_known_cells(
+    before: &[ObsArc],
+    count: usize,
+    line: &[u8],
+    arcs: &mut [ObsArc],
+    row: &mut SatRow,
+) -> Result<usize, Fault>
+    requires known { count ≤ length before.now }
     requires counted { length arcs.old ≡ count }
     requires sized { length row.old.values ≡ count }
     ensures ok { IfOk result (λ at. CellsAreRead before.now count line.now arcs.new row.old row.new at) }
@@ -335,6 +359,30 @@ pub(crate) fn read_cells(
                 at += length;
             }
         }
+    }
+    Ok(at)
+}
+
+/// Reads cells as [`read_cells`] does, where the epoch before may have fewer arcs, or none.
+#[inline(never)]
+fn read_other_cells(
+    before: &[ObsArc],
+    count: usize,
+    line: &[u8],
+    arcs: &mut [ObsArc],
+    row: &mut SatRow,
+) -> Result<usize, Fault>
+    requires counted { length arcs.old ≡ count }
+    requires sized { length row.old.values ≡ count }
+    ensures ok { IfOk result (λ at. CellsAreRead before.now count line.now arcs.new row.old row.new at) }
+    ensures err { IfErr result
+        (λ fault. cells_read (value_at_place before.now) (cells_of count line.now) ≡ Err fault) }
+{
+    let mut at = 0;
+    for place in 0..count {
+        let (value, length) = read_any_cell(before, place, &line[at..], arcs)?;
+        row.set(place, value);
+        at += length;
     }
     Ok(at)
 }

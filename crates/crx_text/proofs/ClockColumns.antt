@@ -16,7 +16,7 @@ use Rattle.crx_text.specs.meaning.Numbers.{IsWithin, number_of, missing_or_numbe
 use Rattle.crx_text.proofs.DigitRows.{less_zero, value_small}
 use Rattle.crx_text.proofs.LaneBits.{all_bits}
 use Rattle.crx_text.proofs.PlainLanes.{all_at}
-use Rattle.crx_text.proofs.PlainSizes.{half_is, joined_halves, twelve}
+use Rattle.crx_text.proofs.PlainSizes.{joined_of, twelve}
 use Rattle.crx_text.proofs.PlainSpellings.{decimal_whole, weighed_digits}
 use Rattle.crx_text.proofs.PowersOfTen.{digit_range}
 use Rattle.crx_text.proofs.ReadBack.{digits_behind}
@@ -36,11 +36,9 @@ digit_row field =
 abbrev pub digit_bits : List ℕ → ℕ
 digit_bits field = mask_l (map (top 7) (zip2 (λ a b. cond (ltb a b) 255 0) (digit_row field) (replicate 16 10)))
 
-abbrev pub halves_of : List ℕ → List ℕ
-halves_of field =
-    let groups = zip2 (λ a b. a * b % 2 ^ 32) (dots (digit_row field)
-    (100 ∷ 10 ∷ 1 ∷ 0 ∷ 100 ∷ 10 ∷ 1 ∷ 0 ∷ 100 ∷ 10 ∷ 1 ∷ 0 ∷ 100 ∷ 10 ∷ 1 ∷ 0 ∷ [])) (1000 ∷ 1 ∷ 1000 ∷ 1 ∷ []) in
-    zip2 (λ a b. (a + b) % 2 ^ 32) groups (pick_l 0 (groups ++ groups) (1 ∷ 0 ∷ 3 ∷ 2 ∷ []))
+abbrev pub groups_of : List ℕ → List ℕ
+groups_of field =
+    dots (digit_row field) (100 ∷ 10 ∷ 1 ∷ 0 ∷ 100 ∷ 10 ∷ 1 ∷ 0 ∷ 100 ∷ 10 ∷ 1 ∷ 0 ∷ 100 ∷ 10 ∷ 1 ∷ 0 ∷ [])
 
 abbrev bit : ℕ → Bool
 bit x = top 7 (cond (ltb (less_zero x) 10) 255 0)
@@ -77,15 +75,10 @@ module _ (c : ℕ → ℕ) (small : (i : ℕ)
       (bits_of c) 10 all)) (and_from _ _ (digit_at 12 (all_at (bits_of c) 12 all)) (and_from _ _ (digit_at 13
       (all_at (bits_of c) 13 all)) (and_from _ _ (digit_at 14 (all_at (bits_of c) 14 all)) (refl))))))))))))
 
-  value_explicit : joined_halves (halves_of (map c (range_with_len 0 15)))
+  value_explicit : joined_of (groups_of (map c (range_with_len 0 15)))
       ≡ digits_value 10 (drop 3 (map c (range_with_len 0 15)))
   value_explicit =
       let d = λ (i : ℕ). less_zero (c i) in
-      let fits = λ (i : ℕ). lane_fits (c i) in
-      let first = half_is (d 3) (d 4)
-      (d 5) (d 6) (d 7) (d 8) (d 3) (fits 3) (fits 4) (fits 5) (fits 6) (fits 7) (fits 8) in
-      let second = half_is (d 9) (d 10)
-      (d 11) (d 12) (d 13) (d 14) (d 3) (fits 9) (fits 10) (fits 11) (fits 12) (fits 13) (fits 14) in
       let whole = weighed_digits 0 (drop 3 (map c (range_with_len 0 15))) digits_explicit in
       let s3 = lane_digit (c 3) (digit_at 3 (all_at (bits_of c) 0 all)) in
       let s4 = lane_digit (c 4) (digit_at 4 (all_at (bits_of c) 1 all)) in
@@ -99,8 +92,8 @@ module _ (c : ℕ → ℕ) (small : (i : ℕ)
       let s12 = lane_digit (c 12) (digit_at 12 (all_at (bits_of c) 12 all)) in
       let s13 = lane_digit (c 13) (digit_at 13 (all_at (bits_of c) 13 all)) in
       let s14 = lane_digit (c 14) (digit_at 14 (all_at (bits_of c) 14 all)) in
-      rw (first, second) (twelve (d 3) (d 4) (d 5) (d 6) (d 7) (d 8) (d 9) (d 10) (d 11) (d 12) (d 13) (d 14)
-      ∙ ((rw (s3, s4, s5, s6, s7, s8, s9, s10, s11, s12, s13, s14) refl) ∙ whole))
+      twelve (d 3) (d 4) (d 5) (d 6) (d 7) (d 8) (d 9) (d 10) (d 11) (d 12) (d 13) (d 14) (d 3)
+      ∙ ((rw (s3, s4, s5, s6, s7, s8, s9, s10, s11, s12, s13, s14) refl) ∙ whole)
 
 pub fraction_digits : (field : List ℕ) → length field ≡ 15
     → ((i : ℕ) → get_or field i 0 < 256) → digit_bits field % 2 ^ 64 ≡ 65535 → all_ascii_digits (drop 3 field) ≡ true
@@ -109,9 +102,9 @@ fraction_digits field long small =
     (sym (fifteen field long)) (digits_explicit (λ (i : ℕ). get_or field i 0) small)
 
 pub fraction_value : (field : List ℕ) → length field ≡ 15 → ((i : ℕ) → get_or field i 0 < 256)
-    → digit_bits field % 2 ^ 64 ≡ 65535 → joined_halves (halves_of field) ≡ digits_value 10 (drop 3 field)
+    → digit_bits field % 2 ^ 64 ≡ 65535 → joined_of (groups_of field) ≡ digits_value 10 (drop 3 field)
 fraction_value field long small =
-    subst (λ (f : List ℕ). digit_bits f % 2 ^ 64 ≡ 65535 → joined_halves (halves_of f) ≡ digits_value 10 (drop 3 f))
+    subst (λ (f : List ℕ). digit_bits f % 2 ^ 64 ≡ 65535 → joined_of (groups_of f) ≡ digits_value 10 (drop 3 f))
     (sym (fifteen field long)) (value_explicit (λ (i : ℕ). get_or field i 0) small)
 
 -- ---- what the columns spell

@@ -1,8 +1,9 @@
 -- The number that a row of lanes weighs, three digits at a time.
 use Rattle.std.proofs.Common.{◌≡◌, ℕ, suc, ◌+◌, ◌-◌, ◌*◌, ◌%◌, ◌^◌, ◌<◌, ◌≤◌, Bool, true, false, cond, ◌&&◌, ◌||◌, ltb}
-use Rattle.std.proofs.Common.{leb, eqb, List, [], ◌∷◌, ◌++◌, map, length, replicate, get_or, subst, Fits, w8, refl, sym}
+use Rattle.std.proofs.Common.{bit_and, ◌/◌, ap, leb, eqb, List, [], ◌∷◌, ◌++◌, map, length, replicate, get_or, subst, Fits, w8, refl, sym}
 use Rattle.std.proofs.Common.{◌∙◌, ltb-true, ltb-false, eqb-true, inl, inr, arith}
 use Rattle.std.proofs.Math.Nat.{pow-suc, mul-le-mul_right}
+use Rattle.std.proofs.lemmas.Nat.{and_mask}
 use Rattle.std.proofs.lemmas.Bool.{and_parts, or_cases, leb-true, le-leb}
 use Rattle.std.specs.Char.{is_ascii_digit}
 use Rattle.std.specs.List.{range_with_len, list_all}
@@ -10,6 +11,7 @@ use Rattle.std.specs.Str.{all_ascii_digits}
 use lib.Lanes.{Each1, pick_l, top, zip2, sel_l, dots}
 use Rattle.crx_text.specs.Fields.{IsPlain, is_plain_after, weighed, plain_digits}
 use Rattle.crx_text.specs.meaning.Numbers.{IsWithin, signed_number}
+use Rattle.crx_text.proofs.GroupHalves.{wide_of, wide_are_four}
 use Rattle.crx_text.proofs.LaneBits.{sixteen}
 use Rattle.crx_text.proofs.PlainLanes.{lane_fits}
 use Rattle.crx_text.proofs.PowersOfTen.{digit_range}
@@ -35,51 +37,66 @@ size_parts v =
     dots (pick_l 0 (digits ++ digits) (1 ∷ 2 ∷ 3 ∷ 0 ∷ 4 ∷ 5 ∷ 6 ∷ 0 ∷ 7 ∷ 8 ∷ 9 ∷ 0 ∷ 11 ∷ 12 ∷ 13 ∷ 0 ∷ []))
     (100 ∷ 10 ∷ 1 ∷ 0 ∷ 100 ∷ 10 ∷ 1 ∷ 0 ∷ 100 ∷ 10 ∷ 1 ∷ 0 ∷ 100 ∷ 10 ∷ 1 ∷ 0 ∷ [])
 
--- two groups in one lane, the first and the third
-abbrev pub size_halves : List ℕ → List ℕ
-size_halves v =
-    let groups = zip2 (λ a b. a * b % 2 ^ 32) (size_parts v) (1000 ∷ 1 ∷ 1000 ∷ 1 ∷ []) in
-    zip2 (λ a b. (a + b) % 2 ^ 32) groups (pick_l 0 (groups ++ groups) (1 ∷ 0 ∷ 3 ∷ 2 ∷ []))
+-- four groups of three digits joined
+abbrev pub joined_of : List ℕ → ℕ
+joined_of groups =
+    ((get_or groups 0 0 * 1000 + get_or groups 1 0) * 1000 + get_or groups 2 0) * 1000 + get_or groups 3 0
 
-abbrev pub joined_halves : List ℕ → ℕ
-joined_halves halves = get_or halves 0 0 * 1000000 + get_or halves 2 0
+-- the groups joined two at a time, as the code does it
+abbrev pub joined_pairs : List ℕ → List ℕ
+joined_pairs groups =
+    let pairs = wide_of groups in
+    let first = zip2 bit_and pairs (replicate 2 4294967295) in
+    zip2 (λ a b. (a + b) % 2 ^ 64) (zip2 (λ a b. a * b % 2 ^ 64) first (replicate 2 1000))
+    (zip2 (λ a b. a / 2 ^ b) pairs (replicate 2 32))
+
+pair_is : (a b : ℕ) → a < 2 ^ 16 → b < 2 ^ 16
+    → (bit_and (a + 2 ^ 32 * b) 4294967295 * 1000 % 2 ^ 64 + (a + 2 ^ 32 * b) / 2 ^ 32) % 2 ^ 64 ≡ a * 1000 + b
+pair_is a b as_small bs_small =
+    let low : bit_and (a + 2 ^ 32 * b) 4294967295 ≡ a = and_mask (a + 2 ^ 32 * b) 32 ∙ omega (arith, as_small) in
+    rw low (omega (arith, as_small, bs_small))
+
+pub pairs_are : (groups : List ℕ) → length groups ≡ 4 → Each1 (λ group. group < 2 ^ 16) groups
+    → joined_pairs groups ≡ (get_or groups 0 0 * 1000 + get_or groups 1 0)
+    ∷ (get_or groups 2 0 * 1000 + get_or groups 3 0) ∷ []
+pairs_are [] long small = absurd (omega arith)
+pairs_are (a ∷ []) long small = absurd (omega arith)
+pairs_are (a ∷ b ∷ []) long small = absurd (omega arith)
+pairs_are (a ∷ b ∷ c ∷ []) long small = absurd (omega arith)
+pairs_are (a ∷ b ∷ c ∷ d ∷ []) long small =
+    let wide = wide_are_four a b c d (omega (arith, small.0)) (omega (arith, small.1.0))
+    (omega (arith, small.1.1.0)) (omega (arith, small.1.1.1.0)) in
+    let joined = λ (v : List ℕ). zip2 (λ a b. (a + b) % 2 ^ 64)
+    (zip2 (λ a b. a * b % 2 ^ 64) (zip2 bit_and v (replicate 2 4294967295)) (replicate 2 1000))
+    (zip2 (λ a b. a / 2 ^ b) v (replicate 2 32)) in
+    ap joined wide ∙ (rw (pair_is a b small.0 small.1.0, pair_is c d small.1.1.0 small.1.1.1.0) refl)
+pairs_are (a ∷ b ∷ c ∷ d ∷ e ∷ more) long small = absurd (omega arith)
 
 -- three digits, as the weights add them up
 abbrev pub group_of : ℕ → ℕ → ℕ → ℕ → ℕ
 group_of a b c x = (a * 100 + b * 10) + (c * 1 + x * 0)
 
-pub half_is : (a b c d e f x : ℕ) → a < 256 → b < 256 → c < 256 → d < 256 → e < 256 → f < 256 →
-    (group_of a b c x * 1000 % 2 ^ 32 + group_of d e f x * 1 % 2 ^ 32) % 2 ^ 32
-    ≡ ((((a * 10 + b) * 10 + c) * 10 + d) * 10 + e) * 10 + f
-half_is a b c d e f x a_small b_small c_small d_small e_small f_small = omega arith
-
-pub twelve : (a b c d e f g h i j k l : ℕ) →
-    (((((a * 10 + b) * 10 + c) * 10 + d) * 10 + e) * 10 + f) * 1000000
-    + (((((g * 10 + h) * 10 + i) * 10 + j) * 10 + k) * 10 + l)
+pub twelve : (a b c d e f g h i j k l x : ℕ) →
+    ((group_of a b c x * 1000 + group_of d e f x) * 1000 + group_of g h i x) * 1000 + group_of j k l x
     ≡ (((((((((((0 * 10 + a) * 10 + b) * 10 + c) * 10 + d) * 10 + e) * 10 + f) * 10 + g) * 10 + h) * 10
     + i) * 10 + j) * 10 + k) * 10 + l
-twelve a b c d e f g h i j k l = omega arith
+twelve a b c d e f g h i j k l x = omega arith
 
 digit_fits : (c : ℕ) → digit_lane c < 256
 digit_fits c = omega arith
 
 size_of_lanes : (c : ℕ → ℕ) → ((i : ℕ) → c i < 256)
-    → joined_halves (size_halves (map c (range_with_len 0 16))) ≡ weighed 0 (plain_digits (map c (range_with_len 0 16)))
+    → joined_of (size_parts (map c (range_with_len 0 16))) ≡ weighed 0 (plain_digits (map c (range_with_len 0 16)))
 size_of_lanes c small =
     let same = λ (i : ℕ). digit_lane_is (c i) (small i) in
-    let fits = λ (i : ℕ). digit_fits (c i) in
     let d = λ (i : ℕ). digit_lane (c i) in
-    let first = half_is (d 1) (d 2)
-    (d 3) (d 4) (d 5) (d 6) (d 0) (fits 1) (fits 2) (fits 3) (fits 4) (fits 5) (fits 6) in
-    let second = half_is (d 7) (d 8)
-    (d 9) (d 11) (d 12) (d 13) (d 0) (fits 7) (fits 8) (fits 9) (fits 11) (fits 12) (fits 13) in
-    rw (first, second) (twelve (d 1) (d 2) (d 3) (d 4) (d 5) (d 6) (d 7) (d 8) (d 9) (d 11) (d 12) (d 13)
-    ∙ (rw (same 1, same 2, same 3, same 4, same 5, same 6, same 7, same 8, same 9, same 11, same 12, same 13) refl))
+    twelve (d 1) (d 2) (d 3) (d 4) (d 5) (d 6) (d 7) (d 8) (d 9) (d 11) (d 12) (d 13) (d 0)
+    ∙ (rw (same 1, same 2, same 3, same 4, same 5, same 6, same 7, same 8, same 9, same 11, same 12, same 13) refl)
 
-pub size_from_halves : (v : List ℕ)
-    → length v ≡ 16 → Each1 (Fits w8) v → joined_halves (size_halves v) ≡ weighed 0 (plain_digits v)
-size_from_halves v long fits =
-    subst (λ (w : List ℕ). joined_halves (size_halves w) ≡ weighed 0 (plain_digits w))
+pub size_from_parts : (v : List ℕ)
+    → length v ≡ 16 → Each1 (Fits w8) v → joined_of (size_parts v) ≡ weighed 0 (plain_digits v)
+size_from_parts v long fits =
+    subst (λ (w : List ℕ). joined_of (size_parts w) ≡ weighed 0 (plain_digits w))
     (sym (sixteen v long)) (size_of_lanes (λ (i : ℕ). get_or v i 0) (λ (i : ℕ). lane_fits v i fits))
 
 -- ---- the range

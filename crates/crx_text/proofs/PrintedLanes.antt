@@ -1,7 +1,8 @@
 -- The lanes of a printed observation: three digits of each group, and where the number begins.
 use Rattle.std.proofs.Common.{◌≡◌, ℕ, zero, suc, ◌+◌, ◌-◌, ◌*◌, ◌/◌, ◌%◌, ◌^◌, ◌<◌, ◌≤◌, Bool, true, false, not, cond}
-use Rattle.std.proofs.Common.{leb, eqb, List, [], ◌∷◌, ◌++◌, map, length, replicate, take, drop, get_or, subst, refl}
+use Rattle.std.proofs.Common.{bit_and, leb, eqb, List, [], ◌∷◌, ◌++◌, map, length, replicate, take, drop, get_or, subst, refl}
 use Rattle.std.proofs.Common.{sym, ap, ◌∙◌, eqb-true, arith}
+use Rattle.std.proofs.lemmas.Nat.{and_mask}
 use Rattle.std.proofs.lemmas.Bool.{agree_below_at, le-leb, ne_eqb}
 use Rattle.std.proofs.lemmas.Bool.Decides.{nat_tests}
 use Rattle.std.proofs.lemmas.Simd.{get_or_narrower, trailing_mask_l, mask_l-mod, pick_l_whole}
@@ -14,15 +15,20 @@ use Rattle.crx_text.proofs.LaneBits.{fourteen, sixteen, no_bit, top_lane}
 -- ---- a group's digits
 
 -- the three digits in the bytes of one lane
+abbrev small_word : ℕ → ℕ
+small_word g = (g + (g * 205 % 2 ^ 32 / 2 ^ 11 + g * 41 % 2 ^ 32 / 2 ^ 12 * 2 ^ 8 % 2 ^ 32) % 2 ^ 32 * 246 % 2 ^ 32) % 2 ^ 32
+
 abbrev pub group_word : ℕ → ℕ
-group_word g = ((g + g * 205 % 2 ^ 32 / 2 ^ 11 * 246 % 2 ^ 32) % 2 ^ 32
-    + g * 41 % 2 ^ 32 / 2 ^ 12 * 62976 % 2 ^ 32) % 2 ^ 32
+group_word g = small_word (bit_and g 1023)
 
 abbrev digits_word : ℕ → ℕ
 digits_word g = g % 10 + g / 10 % 10 * 256 + g / 100 * 65536
 
 word_is : (g : ℕ) → g < 1000 → group_word g ≡ digits_word g
-word_is g small = eqb-true _ _ (agree_below_at (λ x. eqb (group_word x) (digits_word x)) (λ _. true) 1000 g refl small)
+word_is g small =
+    let whole : bit_and g 1023 ≡ g = and_mask g 10 ∙ omega (arith, small) in
+    ap small_word whole
+    ∙ eqb-true _ _ (agree_below_at (λ x. eqb (small_word x) (digits_word x)) (λ _. true) 1000 g refl small)
 
 word_fits : (g : ℕ) → g < 1000 → group_word g < 2 ^ 32
 word_fits g small = omega arith
@@ -111,9 +117,11 @@ words_of groups =
     let times = zip2 (λ a b. a * b % 2 ^ 32) in
     let plus = zip2 (λ a b. (a + b) % 2 ^ 32) in
     let down = zip2 (λ a b. a / 2 ^ b) in
-    let tenths = down (times groups (replicate 4 205)) (replicate 4 11) in
-    let hundredths = down (times groups (replicate 4 41)) (replicate 4 12) in
-    plus (plus groups (times tenths (replicate 4 246))) (times hundredths (replicate 4 62976))
+    let up = zip2 (λ a b. a * 2 ^ b % 2 ^ 32) in
+    let small = zip2 bit_and groups (replicate 4 1023) in
+    let tenths = down (times small (replicate 4 205)) (replicate 4 11) in
+    let hundredths = down (times small (replicate 4 41)) (replicate 4 12) in
+    plus small (times (plus tenths (up hundredths (replicate 4 8))) (replicate 4 246))
 
 each_below : (groups : List ℕ) (i : ℕ) → Each1 (λ g. g < 1000) groups → get_or groups i 0 < 1000
 each_below [] i h = omega arith

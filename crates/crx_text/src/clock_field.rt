@@ -11,7 +11,7 @@ ghost use Rattle.crx_text.specs.Numbers.{IsClock};
 ghost use Rattle.crx_text.specs.meaning.Numbers.{clock_of};
 
 use crate::digits::signed;
-use crate::field::{self, WEIGHTS};
+use crate::field::{self, WEIGHTS, of_groups};
 use std::simd::prelude::*;
 
 /// Whether every column is blank.
@@ -87,7 +87,5 @@ fn fraction(field: &[u8]) -> Option<u64>
     if digits.simd_lt(u8x16::splat(10)).to_bitmask() != 0xffff {
         return None;
     }
-    let groups = digits.dot4(u8x16::from_array(WEIGHTS)) * u32x4::from_array([1000, 1, 1000, 1]);
-    let halves = (groups + groups.swizzle([1, 0, 3, 2])).to_array();
-    Some(u64::from(halves[0]) * 1_000_000 + u64::from(halves[2]))
+    Some(of_groups(digits.dot4(u8x16::from_array(WEIGHTS))))
 }

@@ -1,8 +1,9 @@
 //! An observation's 14 columns in one row of lanes: blanks, perhaps a minus, digits, and the point
 //! in column 11. That is how nearly every field is written.
 
-ghost use Rattle.std.specs.Prelude.{◌≡◌, ◌==◌, ◌++◌, ◌∷◌, [], length, slice_index, IsTrue};
+ghost use Rattle.std.specs.Prelude.{◌≡◌, ◌==◌, ◌++◌, ◌+◌, ◌*◌, ◌^◌, ◌<◌, ◌∷◌, [], length, slice_index, IsTrue};
 ghost use Rattle.std.specs.List.{list_all, list_any};
+ghost use Rattle.std.specs.Simd.Lanes.{Each1};
 ghost use Rattle.crx_lines.specs.declared.limits.TheConstants.{OBSERVATION_WIDTH};
 ghost use Rattle.crx_text.specs.Fields.{IsPlain, weighed, plain_digits};
 ghost use Rattle.crx_text.specs.Numbers.{IsObservation};
@@ -75,9 +76,21 @@ fn size(columns: u8x16) -> u64
     let digits = columns
         .saturating_sub(u8x16::splat(b'0'))
         .swizzle([1, 2, 3, 0, 4, 5, 6, 0, 7, 8, 9, 0, 11, 12, 13, 0]);
-    let groups = digits.dot4(u8x16::from_array(WEIGHTS)) * u32x4::from_array([1000, 1, 1000, 1]);
-    let halves = (groups + groups.swizzle([1, 0, 3, 2])).to_array();
-    u64::from(halves[0]) * 1_000_000 + u64::from(halves[2])
+    of_groups(digits.dot4(u8x16::from_array(WEIGHTS)))
+}
+
+/// The number whose digits stand in four groups of three, the first ones first. The groups are joined two at a time, in lanes of 64 bits,
+/// whose products are the fastest ones.
+#[inline(always)]
+pub(crate) fn of_groups(groups: u32x4) -> u64
+    requires { Each1 (λ group. group < 2 ^ 16) groups }
+    ensures { result ≡ ((slice_index groups 0 * 1000 + slice_index groups 1) * 1000 + slice_index groups 2) * 1000
+        + slice_index groups 3 }
+{
+    let pairs = u64x2::from_le_bytes(groups.to_le_bytes());
+    let first = pairs & u64x2::splat(0xffff_ffff);
+    let joined = (first * u64x2::splat(1000) + (pairs >> u64x2::splat(32))).to_array();
+    joined[0] * 1_000_000 + joined[1]
 }
 
 /// The number in plain columns.

@@ -39,18 +39,18 @@ fn halves(halves: u64x2) -> u64x2
     halves + thousands * u64x2::splat((1 << 32) - 1000)
 }
 
-/// Each group's three digits, the last one first, and a 0: a group, its tenth and its hundredth, each times what turns them into digits,
-/// so that four products are enough and no division is made.
+/// Each group's three digits, the last one first, and a 0: a group, its tenth and its hundredth, which one product turns into digits,
+/// so that no division is made. The mask tells the compiler that all factors are small, for which it has a product that is faster.
 #[inline(always)]
 pub(crate) fn digits(groups: u32x4) -> u8x16
     requires { Each1 (λ group. group < 1000) groups }
     ensures { result ≡ group_digits groups }
 {
+    let groups = groups & u32x4::splat(1023);
     let tenths = (groups * u32x4::splat(205)) >> u32x4::splat(11);
     let hundredths = (groups * u32x4::splat(41)) >> u32x4::splat(12);
-    (groups
-        + tenths * u32x4::splat(256 - 10)
-        + hundredths * u32x4::splat(65536 - 2560)).to_le_bytes()
+    let parts = tenths + (hundredths << u32x4::splat(8));
+    (groups + parts * u32x4::splat(256 - 10)).to_le_bytes()
 }
 
 /// The digits in their columns, with what becomes the point once 48 is added.

@@ -269,3 +269,12 @@ to-more before count line k at at' code value r h e v t w =
       so_far = read-more before count line k at at' r.arcs (r.arcs ++ arc ∷ []) r.old r.new
           (record r.new { values = slice_set r.new.values k value }) code value arc r.so_far h e v t w refl refl refl;
     }
+
+-- ---- a line from a place on
+
+pub all : {X : Type 0} (text : List X) → take (length text) text ≡ text
+all [] = refl
+all (x ∷ xs) = ap (λ r. x ∷ r) (all xs)
+
+pub from : (line : List ℕ) (at : ℕ) → take (length line - at) (drop at line) ≡ drop at line
+from line at = ap (λ n. take n (drop at line)) (sym (length-drop at line)) ∙ all (drop at line)

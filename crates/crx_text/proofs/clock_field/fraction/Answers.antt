@@ -1,5 +1,5 @@
-use Rattle.std.proofs.Common.{◌≡◌, ◌<◌, ℕ, get_or}
-use Rattle.crx_text.proofs.ClockColumns.{halves_of, fraction_digits, fraction_value}
+use Rattle.std.proofs.Common.{◌<◌, ◌∙◌, ℕ, get_or}
+use Rattle.crx_text.proofs.ClockColumns.{fraction_digits, fraction_value}
 use Rattle.crx_text.proofs.clock_field.fraction.Goals as goal
 
 pub returns-clause-digits : goal.returns-clause-digits
@@ -10,7 +10,4 @@ returns-clause-digits c =
 pub returns-clause-value : goal.returns-clause-value
 returns-clause-value c =
     let small : (i : ℕ) → get_or c.args.field.now i 0 < 256 = λ i. (c.type_inv.field i).fits in
-    let halves = halves_of c.args.field.now in
-    let first : c.from.result ≡ get_or halves 0 0 = c.from.ensures in
-    let second : c.from-2.result ≡ get_or halves 2 0 = c.from-2.ensures in
-    rw (first, second) (fraction_value c.args.field.now c.requires small c.if-digits-ne65535.false)
+    c.of_groups.ensures ∙ fraction_value c.args.field.now c.requires small c.if-digits-ne65535.false

@@ -1,6 +1,6 @@
 use Rattle.std.specs.Prelude.{◌≡◌, length, take}
 use Rattle.crx_compact.proofs.reading.CellsRead.{ReadSoFar}
-use Rattle.crx_compact.proofs.cells.read_cells.Given as goal
+use Rattle.crx_compact.proofs.cells.read_known_cells.Given as goal
 
 abbrev pub invariant-loop-place : goal.invariant-loop-place
 invariant-loop-place l =

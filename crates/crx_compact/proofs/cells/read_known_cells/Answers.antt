@@ -1,17 +1,8 @@
 use Rattle.std.proofs.lemmas.Result.{err_from_is_err_and}
-use Rattle.std.proofs.Common.{◌≡◌, ◌∷◌, [], ◌-◌, refl, List, ℕ, length, take, drop, sym, ap, ◌∙◌, arith}
-use Rattle.std.proofs.lemmas.List.{length-drop}
-use Rattle.crx_compact.proofs.reading.CellsRead.{read-cell, read-refused, read-none, read-all}
-use Rattle.crx_compact.proofs.cells.read_cells.Goals as goal
-use Rattle.crx_compact.proofs.cells.read_cells.Goals.{in-Some, in-None+in_ok-value-in-None}
-
--- a line from a place on
-all : {X : Type 0} (text : List X) → take (length text) text ≡ text
-all [] = refl
-all (x ∷ xs) = ap (λ r. x ∷ r) (all xs)
-
-from : (line : List ℕ) (at : ℕ) → take (length line - at) (drop at line) ≡ drop at line
-from line at = ap (λ n. take n (drop at line)) (sym (length-drop at line)) ∙ all (drop at line)
+use Rattle.std.proofs.Common.{◌≡◌, length, take, sym, ap, ◌∙◌, arith}
+use Rattle.crx_compact.proofs.reading.CellsRead.{all, from, read-cell, read-refused, read-none, read-all}
+use Rattle.crx_compact.proofs.cells.read_known_cells.Goals as goal
+use Rattle.crx_compact.proofs.cells.read_known_cells.Goals.{in-Some, in-None+in_ok-value-in-None}
 
 pub loop-place-init : goal.loop-place-init
 loop-place-init c =
