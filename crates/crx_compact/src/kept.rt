@@ -27,7 +27,7 @@ use crate::held::{HeldSatellite, fault_after, find, push_change, push_code};
 use crate::lines::Lines;
 use crate::refusals::fault_of_text;
 use crx_lines::limits::{HEAD_WIDTH, LINE_LIMIT, NAME_WIDTH, SATELLITES_LIMIT};
-use crx_rinex::{Epoch, Identifiers, SatRow, Types, after_columns, begins_epoch};
+use crx_rinex::{Epoch, Identifiers, SatRow, Types, after_columns, begins_epoch, put_identifier};
 use crx_text::difference::patch_bytes;
 use crx_text::{Code, Fault, Text, code_read, trim_end};
 use std::alloc::{AllocError, Global};
@@ -84,12 +84,12 @@ impl KeptEpoch {
         &self.text
     }
 
-    /// Drops the satellites after so many of them.
+    /// Drops the satellites after so many of them, and finds out how many of those that are left the map has at their places.
     pub(crate) fn truncate(&mut self, count: usize)
         ensures { self.new ≡ record self.old { rows = take count self.old.rows } }
     {
         self.satellites.truncate(count);
-        self.placed = self.placed.min(count);
+        self.placed = named_before(&self.satellites, &self.names);
     }
 
     /// The history of the satellite at a place, where that is the one with this identifier.
@@ -328,10 +328,9 @@ impl KeptEpoch {
         };
         let name = satellite.name();
         let kept = before.find(index, name);
-        self.placed = self.placed.min(index);
-        let next = &mut self.satellites[index];
-        next.read(row, kept, satellite, line, part)?;
-        self.placed = known_placed(&self.names, &self.satellites, self.placed, index);
+        // Which satellites the map has is found out once the epoch's last line has come (`truncate`).
+        self.placed = 0;
+        self.satellites[index].read(row, kept, satellite, line, part)?;
         Ok(())
     }
 }
@@ -381,22 +380,11 @@ fn push_names(text: &mut Vec<u8>, epoch: &Epoch) -> Result<(), AllocError>
     let mut at = start;
     let mut index = 0;
     while let Some(row) = epoch.row(index) {
-        put_name(text, at, row.name());
+        put_identifier(text, at, row.name());
         at += NAME_WIDTH;
         index += 1;
     }
     Ok(())
-}
-
-/// Puts an identifier in place of the bytes from an index on.
-#[inline(always)]
-fn put_name(bytes: &mut [u8], at: usize, name: [u8; NAME_WIDTH])
-    requires { at + NAME_WIDTH ≤ length bytes.old }
-    ensures { take (at + NAME_WIDTH) bytes.new ≡ take at bytes.old ++ name }
-{
-    bytes[at] = name[0];
-    bytes[at + 1] = name[1];
-    bytes[at + 2] = name[2];
 }
 
 /// Makes sure that there is a satellite at a place, which may be the one right after the last.
@@ -429,24 +417,6 @@ fn add_room(alloc: Global, satellites: &mut Vec<HeldSatellite>) -> Result<(), Al
 {
     satellites.push(HeldSatellite::new(alloc))?;
     Ok(())
-}
-
-/// How many of the first satellites a map is known to have at their places: one more than before where the satellite at this index is the
-/// next one and the map has it there.
-fn known_placed(
-    names: &Identifiers,
-    satellites: &[HeldSatellite],
-    placed: usize,
-    index: usize,
-) -> usize
-    requires within { index < length satellites.now }
-    requires before { AreNamed placed names.now satellites.now }
-    ensures { AreNamed result names.now satellites.now }
-{
-    if placed == index && names.has_at(index, satellites[index].name()) {
-        return index + 1;
-    }
-    placed
 }
 
 /// Puts the identifiers of satellites at their places, and gives how many of the first ones are there: all of them, where they

@@ -1,7 +1,7 @@
 //! Labels of header lines and numbers in columns, with the columns of a line.
 //! RINEX 3.05, tables A1 and A2.
 
-ghost use Rattle.std.specs.Prelude.{◌≡◌, ◌≤◌, ◌<◌, length, IfSome};
+ghost use Rattle.std.specs.Prelude.{◌≡◌, ◌≤◌, ◌<◌, ◌+◌, ◌++◌, length, take, IfSome};
 ghost use Rattle.crx_lines.specs.declared.limits.TheConstants.{LINE_LIMIT, NAME_WIDTH};
 ghost use Rattle.crx_text.specs.meaning.Columns.{columns};
 ghost use Rattle.crx_rinex.specs.meaning.Label.{has_label, number_in, number_of_digits};
@@ -57,6 +57,18 @@ pub fn identifier(line: &[u8], first: usize) -> [u8; NAME_WIDTH]
         character(line, first + 1),
         character(line, first + 2),
     ]
+}
+
+/// Puts an identifier in place of the bytes from an index on. Three bytes are stored singly: a copy would test whether the two texts
+/// overlap.
+#[inline(always)]
+pub fn put_identifier(bytes: &mut [u8], at: usize, name: [u8; NAME_WIDTH])
+    requires { at + NAME_WIDTH ≤ length bytes.old }
+    ensures { take (at + NAME_WIDTH) bytes.new ≡ take at bytes.old ++ name }
+{
+    bytes[at] = name[0];
+    bytes[at + 1] = name[1];
+    bytes[at + 2] = name[2];
 }
 
 /// The identifier in the first three columns of a line that has as many: no column is asked for past the line's end.

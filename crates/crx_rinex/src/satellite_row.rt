@@ -16,10 +16,9 @@ ghost use Rattle.crx_rinex.specs.meaning.Printing.{printed_cells, printed_row};
 ghost use Rattle.crx_rinex.specs.SatelliteLines.{blank_row, with_flags, with_value};
 ghost use Rattle.crx_rinex.specs.meaning.SatelliteLines.{field, flags_in, has_number, is_identifier, row_of, row_with, types_of_satellite, values_in, IsSoundRow, IsValue};
 
-use crate::columns::{after_columns, all_blank, character, identifier, padded};
+use crate::columns::{after_columns, all_blank, character, identifier, padded, put_identifier};
 use crate::types::Types;
 use crx_lines::limits::{CELL_WIDTH, NAME_WIDTH, OBSERVATION_WIDTH, TYPES_LIMIT};
-use crx_text::block::put_text;
 use crx_text::{
     Fault, Text, all_kept, copy_text, obs_print_cell, obs_print_cell_into, obs_read, obs_read_into,
     obs_read_usual, put_blanks, trim_end,
@@ -289,8 +288,8 @@ impl SatRow {
         ensures line { take (at + result) bytes.new ≡ take at bytes.old ++ printed_row self.now }
         ensures within { result ≤ NAME_WIDTH + CELL_WIDTH * length self.now.values }
     {
-        let cells = put_text(bytes, at, &self.name);
-        let end = put_cells(&self.values, &self.flags, bytes, cells);
+        put_identifier(bytes, at, self.name);
+        let end = put_cells(&self.values, &self.flags, bytes, at + NAME_WIDTH);
         trim_end(&bytes[at..end]).len()
     }
 }

@@ -29,8 +29,8 @@ loop-row-init c =
     ++ replicate (c.len-start.result + 3 * length c.args.epoch.now.rows - c.len-start.result) 32 = search rules in
     (omega arith, (resized _ _ _ _ start items).0, sym (append-nil _))
 
-pub put_name-requires : goal.put_name-requires
-put_name-requires c =
+pub put_identifier-requires : goal.put_identifier-requires
+put_identifier-requires c =
     let there : c.loop-row.index < length c.args.epoch.now.rows =
     some-there c.args.epoch.now.rows c.loop-row.index c.in-Some.row.now (sym c.in-Some.ensures.value) in
     let at = c.loop-row.invariant.0 in
@@ -41,9 +41,9 @@ put_name-requires c =
 
 pub loop-row-preserved : goal.loop-row-preserved
 loop-row-preserved c =
-    let new = c.put_name.new.bytes in
+    let new = c.put_identifier.new.bytes in
     let at = c.loop-row.invariant.0 in
-    let one = c.put_name.auto.bytes in
+    let one = c.put_identifier.auto.bytes in
     let two = c.deref_mut.ensures.len in
     let seen = ap length c.deref_mut.ensures.value in
     let many = c.loop-row.invariant.1 in
@@ -54,7 +54,7 @@ loop-row-preserved c =
       texts_more (λ (r : Row). r.name) _ c.args.epoch.now.rows c.loop-row.index c.in-Some.row.now
           (take c.loop-row.at c.loop-row.text.items) (take (c.loop-row.at + 3) new) c.loop-row.invariant.2
           (sym c.in-Some.ensures.value)
-          (c.put_name.ensures
+          (c.put_identifier.ensures
           ∙ ap (λ (t : List ℕ). take c.loop-row.at t ++ c.name.result) c.deref_mut.ensures.value
           ∙ ap (λ (t : List ℕ). take c.loop-row.at c.loop-row.text.items ++ t) c.name.ensures.value),
     )

@@ -1,10 +1,9 @@
 use Rattle.std.proofs.lemmas.Result.{err_from_is_err_and}
-use Rattle.std.proofs.Common.{◌≡◌, ◌≤◌, ◌++◌, ◌∷◌, [], List, ℕ, length, slice_set, take, ap, sym, ◌∙◌, subst, arith}
-use Rattle.std.proofs.lemmas.List.{length-set, take_more_set, take-set-le}
+use Rattle.std.proofs.Common.{◌++◌, ◌∷◌, [], List, ℕ, length, slice_set, take, ap, ◌∙◌, arith}
+use Rattle.std.proofs.lemmas.List.{take_more_set}
 use Rattle.crx_compact.specs.meaning.Sequences.{named}
 use Rattle.crx_compact.specs.Tails.{RowTail, Tail}
-use Rattle.crx_compact.specs.HeldRows.{row_held, AreNamed}
-use Rattle.crx_compact.proofs.reading.Named.{named-fewer, named-same}
+use Rattle.crx_compact.specs.HeldRows.{row_held}
 use Rattle.crx_compact.proofs.reading.Marks.{next-row, row-by_tail, same-fault}
 use Rattle.crx_compact.proofs.kept.KeptEpoch.read_row.Goals as goal
 
@@ -39,30 +38,3 @@ returns-in_err-read-clause-err c =
     ∙ ap (λ (name : List ℕ). named (λ (r : RowTail). r.name) name before.rows) c.name-name.ensures.value in
     same-fault _ _ (ap (λ kept. row_held kept c.args.satellite.now c.args.line.now) found
     ∙ row-by_tail before c.args.satellite.now c.args.line.now) _ c.in_err-read.ensures.err)
-
--- the satellites before a place keep their identifiers
-fewer : (placed index count : ℕ) (names : List (List ℕ)) (old room : List RowTail) (left : RowTail)
-    → AreNamed placed names old → count ≤ placed → count ≤ index → length old ≤ length room
-    → ((m : ℕ) → m ≤ length old → take m room ≡ take m old) → AreNamed count names (slice_set room index left)
-fewer placed index count names old room left h few before grown same =
-    let within = h.0 in
-    named-same count names old (slice_set room index left) (named-fewer placed count names old few h)
-    (omega (arith, within, few, grown, length-set room index left))
-    (take-set-le count room index left before ∙ same count (omega (arith, within, few)))
-
-pub invariant_of-self-in_err-read : goal.invariant_of-self-in_err-read
-invariant_of-self-in_err-read c =
-    let few = c.min-self-inside.ensures in (
-      c.self.invariant.0,
-      fewer c.self.inside.placed c.args.index c.min-self-inside.result c.self.inside.names
-          c.self.inside.satellites.items c.make_room.new.satellites.items c.read.new.self c.self.invariant.1
-          (omega (arith, few)) (omega (arith, few)) c.make_room.ensures.grown c.make_room.ensures.same,
-    )
-
-pub known_placed-self-inside-requires-clause-before : goal.known_placed-self-inside-requires-clause-before
-known_placed-self-inside-requires-clause-before c =
-    let few = c.min-self-inside.ensures in
-    subst (λ (rs : List RowTail). AreNamed c.min-self-inside.result c.self.inside.names rs) (sym c.deref.ensures.value)
-    (fewer c.self.inside.placed c.args.index c.min-self-inside.result c.self.inside.names
-    c.self.inside.satellites.items c.make_room.new.satellites.items c.read.new.self c.self.invariant.1
-    (omega (arith, few)) (omega (arith, few)) c.make_room.ensures.grown c.make_room.ensures.same)

@@ -13,13 +13,12 @@ returns-clause-line c =
     let seen = ap (λ (row : Row). length row.values) c.self.view_is in
     let count = ap length c.deref.ensures.value in
     let end = c.put_cells-end.ensures.end in
-    let begins = c.put_text-cells.ensures.end in
-    let same = c.put_text-cells.auto.bytes in
+    let same = c.put_identifier.auto.bytes in
     let same' = c.put_cells-end.auto.bytes in
     let written : LineWritten c.put_cells-end.new.bytes c.args.bytes.now name cells c.args.at c.put_cells-end.result =
     line-written _ _ _ _ _ _ (c.put_cells-end.ensures.cells
-    ∙ ap (λ (t : List ℕ). t ++ cells) c.put_text-cells.ensures.put)
-    (omega (arith, room, seen, count, begins, end, same, same')) (omega (arith, room)) in
+    ∙ ap (λ (t : List ℕ). t ++ cells) c.put_identifier.ensures)
+    (omega (arith, room, seen, count, end, same, same')) (omega (arith, room)) in
     let trimmed = c.trim_end.ensures ∙ ap without_end_blanks written.seen in
     let own = ap (λ (values : List (Option ℤ)).
     without_end_blanks (name ++ printed_cells values c.deref-2.result.now)) c.deref.ensures.value
@@ -37,13 +36,12 @@ returns-clause-within c =
     let seen = ap (λ (row : Row). length row.values) c.self.view_is in
     let count = ap length c.deref.ensures.value in
     let end = c.put_cells-end.ensures.end in
-    let begins = c.put_text-cells.ensures.end in
-    let same = c.put_text-cells.auto.bytes in
+    let same = c.put_identifier.auto.bytes in
     let same' = c.put_cells-end.auto.bytes in
     let written : LineWritten c.put_cells-end.new.bytes c.args.bytes.now name cells c.args.at c.put_cells-end.result =
     line-written _ _ _ _ _ _ (c.put_cells-end.ensures.cells
-    ∙ ap (λ (t : List ℕ). t ++ cells) c.put_text-cells.ensures.put)
-    (omega (arith, room, seen, count, begins, end, same, same')) (omega (arith, room)) in
+    ∙ ap (λ (t : List ℕ). t ++ cells) c.put_identifier.ensures)
+    (omega (arith, room, seen, count, end, same, same')) (omega (arith, room)) in
     let trimmed = ap length (c.trim_end.ensures ∙ ap without_end_blanks written.seen) in
     let kept = written.within in
-    omega (arith, room, seen, count, begins, end, trimmed, kept)
+    omega (arith, room, seen, count, end, trimmed, kept)
