@@ -4,7 +4,7 @@
 //! a time. The bytes that were fed in all have a defined result; what was taken in all, and then what is kept, is a prefix of its
 //! texts while the run goes on, and the whole of them after its end.
 
-ghost use Rattle.std.specs.Prelude.{◌≡◌, ◌⊎◌, [], length, take, Some, true, false};
+ghost use Rattle.std.specs.Prelude.{◌≡◌, ◌⊎◌, [], IfSome, length, take, Some, true, false};
 ghost use Rattle.crx_engine.specs.meaning.Choices.{Choices, choices_of, is_date};
 ghost use Rattle.crx_lines.specs.declared.fault.Fault.TheVariants.{OutOfMemory};
 ghost use Rattle.crx_lines.specs.meaning.Faults.{code_of_fault};
@@ -79,12 +79,23 @@ fn open(alloc: Global, handle: &mut Handle, engine: AnyEngine) -> Answer
         fed: 0,
         outcome: None,
     };
-    match Box::new(alloc, reader) {
-        Ok(reader) => {
+    match on_heap(alloc, reader) {
+        Some(reader) => {
             put_in(handle, reader);
             good()
         }
-        Err(_) => out_of_memory(0),
+        None => out_of_memory(0),
+    }
+}
+
+/// Puts a value on the heap; `None` where there is no memory for it. The type is a parameter, since the size of a reader, which holds whole
+/// lines, takes the prover minutes.
+fn on_heap<T: Drop>(alloc: Global, value: T) -> Option<Box<T>>
+    ensures { IfSome result (λ boxed. boxed.value ≡ value) }
+{
+    match Box::new(alloc, value) {
+        Ok(boxed) => Some(boxed),
+        Err(_) => None,
     }
 }
 

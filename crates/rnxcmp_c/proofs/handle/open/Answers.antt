@@ -4,13 +4,13 @@ use Rattle.rnxcmp_c.specs.declared.reader.Reader.{Reader}
 use Rattle.rnxcmp_c.proofs.HandleLemmas.{fresh-stands}
 use Rattle.rnxcmp_c.proofs.handle.open.Goals as goal
 
-pub returns-in-Ok-clause-opened : goal.returns-in-Ok-clause-opened
-returns-in-Ok-clause-opened c = λ (task : Task) fresh zero.
+pub returns-in-Some-clause-opened : goal.returns-in-Some-clause-opened
+returns-in-Some-clause-opened c = λ (task : Task) fresh zero.
     let held = c.new.ensures in
     record {
-      reader = c.in-Ok.reader.value;
+      reader = c.in-Some.reader.value;
       is_open = c.put_in.ensures.opened;
       holds = c.put_in.ensures.reader;
-      stands = subst (λ (r : Reader). ReaderStands task r nothing_fed) (sym c.in-Ok.ensures.ok)
+      stands = subst (λ (r : Reader). ReaderStands task r nothing_fed) (sym c.in-Some.ensures)
           (fresh-stands task c.args.engine c.new.result fresh held.tail held.number held.warned held.output held.messages);
     }
