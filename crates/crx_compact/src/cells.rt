@@ -184,7 +184,7 @@ fn read_any_cell(
 /// of most cells is; `None` where it is another code, has more than seven digits, or has a fault, and then the arcs are as they were.
 ///
 /// Seven digits and the blank after them fit a vector of eight characters, and are read at once, the sign having been put aside.
-/// That takes 53 instructions; digit by digit one digit takes 60 and seven take 126 (bench/README.md).
+/// That takes 52 instructions; digit by digit one digit takes 60 and seven take 126 (bench/README.md).
 #[inline(always)]
 fn read_third(
     before: &[ObsArc],

@@ -54,7 +54,7 @@ pub(crate) fn digits_before_blank(text: &[u8]) -> Option<(u64, usize)>
 
 // What `digits_before_blank` gives, where fewer digits than a row has stand before a blank, or before the text's end; else
 // None, whatever there is. A row is a vector of eight characters: seven digits and their blank fit it, and most codes have
-// no more, so they take 53 instructions in place of 60 to 126. Where fewer characters than a row has are left of a line, they
+// no more, so they take 52 instructions in place of 60 to 126. Where fewer characters than a row has are left of a line, they
 // are copied into a row: one by one a line's last code takes 50 to 100 instructions.
 #[inline(always)]
 pub(crate) fn few_digits_before_blank(text: &[u8]) -> Option<(u64, usize)>
