@@ -38,7 +38,8 @@ def clauses(lines, start):
             (asks if found[1] == "requires" else promises).append((found[3] or "_").strip())
         elif re.match(r"\s*(requires|ensures)\*?\s+(\w+)$", line):
             (asks if "requires" in line else promises).append(line.split()[-1])
-        if re.match(r"\s*\{", line) or line.rstrip().endswith("};") or line.rstrip().endswith(") {"):
+        bare = not asks and not promises and re.search(r"\)(\s*->.*)?\s*[{;]$", line.rstrip())     # a signature without clauses
+        if bare or re.match(r"\s*\{", line) or line.rstrip().endswith("};"):
             break
     return asks, promises
 
