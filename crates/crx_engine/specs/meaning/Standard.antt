@@ -130,13 +130,13 @@ report_lines found =
     ∷ (codes "standard" ++ standard_text found.not_standard)
     ∷ []
 
--- the report is written once the whole input is accepted, and nothing before; 0 where the file is standard, 2 where it
--- isn't, 1 after a fault
+-- the status of a report: 0 where the file is standard, 2 where it isn't
 abbrev pub report_status : Option ℕ → ℕ
 report_status None = 0
 report_status (Some number) = 2
 
--- the check of an input: by the fault of its reading, if there is one, and by what there is to find
+-- the check of an input: by the fault of its reading, if there is one, and by what there is to find. The report is
+-- written once the whole input is accepted, and nothing before; after a fault the status is 1
 abbrev pub checked_by : Option At → Findings → FilterResult
 checked_by None found = record {
   output = lines_text (report_lines found);

@@ -33,7 +33,7 @@ is_observation_flag flag = (flag == 48) || (flag == 49)
 abbrev pub is_event_line : List ℕ → Bool
 is_event_line line = begins_epoch line && is_event_flag (character_at line 32)
 
--- the count of an event's records in columns 33 to 35; blank is none
+-- the count of an event's records in columns 33 to 35; blank counts 0
 abbrev pub records_in : List ℕ → Option ℕ
 records_in line = if list_all is_blank (columns line 33 3) then Some 0 else number_in (columns line 33 3)
 

@@ -1,4 +1,5 @@
--- The names of files: an observation file and its compact form have one name but for its ending.
+-- The names of files: an observation file and its compact form have one name but for its ending. The endings are those
+-- of RINEX 3.05's section on the names of files, and those that Hatanaka's programs RNX2CRX and CRX2RNX give.
 use Rattle.std.specs.Prelude.{ℕ, Bool, true, false, not, ◌&&◌, ◌==◌, ◌-◌, List, [], ◌∷◌, ◌++◌, map, length, take, drop}
 use Rattle.std.specs.Prelude.{Option, Some, None, if◌then◌else◌, codes, option_map, option_and_then}
 use Rattle.std.specs.Char.{is_ascii_digit}
