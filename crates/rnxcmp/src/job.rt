@@ -2,7 +2,7 @@
 
 ghost use Rattle.std.specs.Prelude.{◌≡◌};
 ghost use Rattle.rnxcmp.specs.declared.job.UsageFault.TheVariants as usage_fault;
-ghost use Rattle.rnxcmp.specs.meaning.Program.{subject_of_usage, words_of_usage};
+ghost use Rattle.rnxcmp.specs.Program.{subject_of_usage, words_of_usage};
 
 use crate::word::Word;
 use std::alloc::AllocError;

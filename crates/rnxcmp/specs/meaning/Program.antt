@@ -6,8 +6,6 @@ use Rattle.crx_lines.specs.declared.fault.Fault.TheVariants.{OutOfMemory, WriteF
 use Rattle.crx_engine.specs.meaning.Messages.{error_text}
 use Rattle.crx_filter.specs.meaning.Spans.{Device, TookAll, TookPart}
 use Rattle.rnxcmp.specs.meaning.Planning.{Refusal, Parse, DashTwice, TwoFiles, BadDate, NoName}
-use Rattle.rnxcmp.specs.declared.job.UsageFault.{UsageFault}
-use Rattle.rnxcmp.specs.declared.job.UsageFault.TheVariants as usage_fault
 
 -- ---- lines
 
@@ -19,37 +17,13 @@ error_line words name = codes "ERROR: " ++ words ++ name ++ codes "\n"
 abbrev pub at_start : Fault → List ℕ
 at_start fault = error_text (Some (record { line = 0; fault = fault }))
 
-abbrev pub words_of_usage : UsageFault → List ℕ
-words_of_usage (usage_fault.Parse text) = []
-words_of_usage usage_fault.DashTwice = codes "- given twice"
-words_of_usage usage_fault.TwoFiles = codes "more than one file name"
-words_of_usage usage_fault.BadDate = codes "bad date"
-words_of_usage (usage_fault.NoName name) = codes "no output name for "
-words_of_usage usage_fault.Memory = codes "out of memory"
-
-abbrev pub subject_of_usage : UsageFault → List ℕ
-subject_of_usage (usage_fault.Parse text) = text
-subject_of_usage usage_fault.DashTwice = []
-subject_of_usage usage_fault.TwoFiles = []
-subject_of_usage usage_fault.BadDate = []
-subject_of_usage (usage_fault.NoName name) = name
-subject_of_usage usage_fault.Memory = []
-
--- the fault by which words are refused; where the parser refuses them, its text stands open
-abbrev pub fault_of_refusal : Refusal → UsageFault
-fault_of_refusal Parse = usage_fault.Parse []
-fault_of_refusal DashTwice = usage_fault.DashTwice
-fault_of_refusal TwoFiles = usage_fault.TwoFiles
-fault_of_refusal BadDate = usage_fault.BadDate
-fault_of_refusal (NoName name) = usage_fault.NoName name
-
-abbrev pub line_of_usage : UsageFault → List ℕ
-line_of_usage fault = error_line (words_of_usage fault) (subject_of_usage fault)
-
--- a line of a refusal; for words that the parser refuses it is the parser's text
+-- the line of a refusal; where the parser refuses the words, no clause says which line it is
 abbrev pub IsLineOf : Refusal → List ℕ → Type 0
 IsLineOf Parse line = ⊤
-IsLineOf refusal line = line ≡ line_of_usage (fault_of_refusal refusal)
+IsLineOf DashTwice line = line ≡ error_line (codes "- given twice") []
+IsLineOf TwoFiles line = line ≡ error_line (codes "more than one file name") []
+IsLineOf BadDate line = line ≡ error_line (codes "bad date") []
+IsLineOf (NoName name) line = line ≡ error_line (codes "no output name for ") name
 
 -- ---- messages
 
@@ -63,7 +37,7 @@ IsShownOr messages line = IsShown messages line ⊎ IsShown messages (at_start O
 
 -- ---- a run
 
--- the words are refused: a line says why
+-- the words are refused: the exit status is 1, and the line of the refusal is shown
 abbrev pub IsRefused : Device → Refusal → ℕ → Type 0
 IsRefused messages refusal status = (status ≡ 1) × ((line : List ℕ) × IsLineOf refusal line × IsShownOr messages line)
 
