@@ -11,12 +11,24 @@ from pathlib import Path
 
 TOP = Path(__file__).resolve().parent.parent
 PAGE = TOP / "docs" / "READING.md"
+DEVICES = TOP / "crates" / "crx_lines" / "src" / "device.rt"
+
+
+def cited(path, traits):
+    """The definitions of this repository that the clauses of some traits of a file use."""
+    text = re.sub(r"//.*", "", path.read_text(encoding="utf-8"))
+    uses = re.findall(r"^ghost use Rattle\.(?:crx_|rnxcmp)\w*\.specs\.[\w.]+\.\{([^}]*)\};", text, re.M)
+    taken = {word.strip() for use in uses for word in use.split(",")}
+    blocks = (re.search(rf"^pub trait {trait} \{{.*?^\}}", text, re.M | re.S)[0] for trait in traits)
+    return tuple(sorted(taken & set(re.findall(r"[A-Za-z_]\w*", " ".join(blocks)))))
+
 
 # the promises, each with the definitions that say it, and what it is in words
 PROMISES = (
     ("Compaction", ("compacted",), "what `compact` writes, reports and answers, for a whole input"),
     ("Expansion", ("expanded",), "the same of `expand`"),
     ("The report", ("checked",), "the same of `check`, with what a standard file is"),
+    ("Readers and writers", cited(DEVICES, ("Source", "Sink")), "what the clauses of the traits `Source` and `Sink` say of them"),
     ("Failing devices and memory", ("Runs", "Keeps", "span", "reader_span", "compaction_filter", "expansion_filter", "check_filter"), "what a run is where a reader, a writer or memory fails: the clause `runs`"),
     ("The way back", ("BringsBackWhatWasCompacted", "CallBringsBackWhatWasCompacted"), "the clause `way_back` of `expand`"),
     ("Damage", ("SavesAllElse", "CallSavesAllElse"), "the clause `salvage` of `expand`"),
@@ -32,14 +44,15 @@ This page lists what one has to read, and believe, to know what is claimed. A pr
 something else than RINEX 3.05 and Compact RINEX 3.0 do. The definitions to believe stand in the folders `crates/*/specs/meaning`. This
 page lists those that the promises use, file by file, each file after those that it uses. The other files of `crates/*/specs` say how
 code and proofs see things, and need not be believed for these promises, which are those of `compact`, `expand`, `check`, `run` and the
-library for C: `docs/reading.py`, which writes this page from the sources, stops where one of them uses a definition of theirs. The
-gate compares the page. Clauses of the engines' own calls (`Compactor`, `Expander`), and of the readers for C that take an input in pieces,
-name the state of an engine too: for the latter read `Going`, `Handles` and `Opened` of `crates/rnxcmp_c/specs`.
+library for C, and what the traits `Source` and `Sink` say of readers and writers: `docs/reading.py`, which writes this page from the
+sources, stops where one of them uses a definition of theirs. The gate compares the page. Clauses of the engines' own calls
+(`Compactor`, `Expander`), and of the readers for C that take an input in pieces, name the state of an engine too: for the latter read
+`Going`, `Handles` and `Opened` of `crates/rnxcmp_c/specs`.
 
 More has to be read. The public calls `compact`, `expand` and `check` (`crates/crx_filter/src`) and `run` (`crates/rnxcmp/src/program.rt`)
 have the contracts that use these definitions. The traits `Source` and `Sink` (`crates/crx_lines/src/device.rt`) say what readers and
-writers are. Contracts and definitions cite constants: `limits.rt` of crx_lines, `labels.rt` of crx_rinex and `crinex.rt` of crx_engine
-have them. README.md says what else is trusted. docs/FORMATS.md describes the formats in words.
+writers are. Contracts and definitions cite constants: `limits.rt` of crx_lines, `labels.rt` of crx_rinex, `crinex.rt` of crx_engine and
+`answer.rt` of rnxcmp_c have them. README.md says what else is trusted. docs/FORMATS.md describes the formats in words.
 
 ## The words of the subject
 
@@ -49,8 +62,8 @@ have them. README.md says what else is trusted. docs/FORMATS.md describes the fo
 - A satellite's line, its *row*, has a *cell* for each *observation type* of its system (GPS, Galileo and so on): a *value*, that may be
   missing, and two *indicators* (`flags` in the definitions), a character each. *Types lines* in the header say how many types each system
   has. The epoch's line may have a *clock offset*, a number.
-- *Compact text* writes an epoch as the differences from those before. An *arc* is a row of values of one cell in epochs one after
-  another, none missing. Each value is written as a *code*: the first one of an arc as it is, the others as differences of up to third
+- *Compact text* writes an epoch as the differences from those before. An *arc* is a series of values of one cell in epochs one
+  after another, none missing. Each value is written as a *code*: the first one of an arc as it is, the others as differences of up to third
   order. Other characters are written as *marks*, where they differ from those before.
 - An epoch *in full* is written without the epochs before it. A *block* is an epoch in full and those after it, up to the next line that
   begins with `>`.

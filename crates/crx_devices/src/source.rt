@@ -1,8 +1,7 @@
 //! A source over memory that fails where its plan says.
 ghost use Rattle.std.specs.Prelude.{◌≡◌, ℕ, List, [], ◌∷◌, ◌++◌, ◌+◌, ◌^◌, ◌-◌, ◌<◌, ◌≤◌, length, take, drop, min, is_err, IfOk, OnOk, OnErr};
 ghost use Rattle.crx_devices.specs.Joining.{given_both};
-ghost use Rattle.crx_lines.specs.Devices.{ends_after};
-ghost use Rattle.crx_lines.specs.meaning.Devices.{one_more};
+ghost use Rattle.crx_lines.specs.meaning.Devices.{ends_after, one_more};
 
 use crate::plan::{Plan, Watch};
 use crx_lines::{ReadFailed, Source};

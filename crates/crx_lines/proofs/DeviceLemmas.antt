@@ -1,8 +1,8 @@
 -- What a step of a reader adds to the counts of its source, and what the tallies of a sink have in common.
 use Rattle.std.proofs.Common.{◌≡◌, ◌≢◌, ℕ, Bool, true, false, cond, ap, ap₂, ◌∙◌}
 use Rattle.std.proofs.lemmas.Bool.{ne_eqb}
-use Rattle.crx_lines.specs.meaning.Devices.{SinkTally, one_more, tally_of}
-use Rattle.crx_lines.specs.Devices.{ends_after, tally_after_line}
+use Rattle.crx_lines.specs.meaning.Devices.{SinkTally, ends_after, one_more, tally_of}
+use Rattle.crx_lines.specs.Devices.{tally_after_line}
 
 -- a read that gave a byte didn't report the end
 pub ends-some : (given before after : ℕ) → given ≢ 0 → after ≡ ends_after given before → after ≡ before

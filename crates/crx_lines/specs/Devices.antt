@@ -1,10 +1,6 @@
 -- Beside meaning/Devices: what code and proofs see of it.
-use Rattle.std.specs.Prelude.{ℕ, Bool, ◌==◌, if◌then◌else◌}
+use Rattle.std.specs.Prelude.{ℕ, Bool, if◌then◌else◌}
 use Rattle.crx_lines.specs.meaning.Devices.{one_more, Tally, SinkTally}
-
--- a count of reported ends after a read that gave so many bytes: none is the end
-abbrev pub ends_after : ℕ → ℕ → ℕ
-ends_after given ends = if given == 0 then one_more ends else ends
 
 -- a tally after one more report of the end
 abbrev pub with_end : Tally → Tally

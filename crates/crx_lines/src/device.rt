@@ -4,8 +4,7 @@
 ghost use Rattle.std.specs.Prelude.{◌≡◌, ℕ, List, [], ◌++◌, ◌<◌, ◌≤◌, length, take, is_ok, true, false, IfOk, OnOk, OnErr};
 ghost use Rattle.std.specs.Io.KnownBytes.{Appends, Consumes, IsAtEnd};
 ghost use Rattle.std.proofs.KnownBytes.{Appends-nil, Appends-trans, Consumes-nil, Consumes-trans};
-ghost use Rattle.crx_lines.specs.Devices.{ends_after};
-ghost use Rattle.crx_lines.specs.meaning.Devices.{one_more};
+ghost use Rattle.crx_lines.specs.meaning.Devices.{ends_after, one_more};
 
 use std::io;
 use std::io::{Read, Write};

@@ -1,7 +1,6 @@
 //! The buffer of a reader of lines: bytes that were given and are pending, and room after them.
 ghost use Rattle.std.specs.Prelude.{◌≡◌, ℕ, ◌+◌, ◌-◌, ◌<◌, ◌≤◌, List, [], ◌++◌, length, take, drop, slice_range, IfOk, OnOk, OnErr};
-ghost use Rattle.crx_lines.specs.Devices.{ends_after};
-ghost use Rattle.crx_lines.specs.meaning.Devices.{one_more};
+ghost use Rattle.crx_lines.specs.meaning.Devices.{ends_after, one_more};
 ghost use Rattle.crx_lines.specs.meaning.Lines.{ends_with_return, without_return};
 ghost use Rattle.crx_lines.specs.declared.limits.TheConstants.{LINE_LIMIT};
 ghost use Rattle.crx_lines.specs.declared.window.TheConstants.{LEAST_ROOM, SIZE};

@@ -1,9 +1,14 @@
--- What is counted of a device: its failures, and how often it reported its end.
-use Rattle.std.specs.Prelude.{ℕ, ◌+◌, ◌-◌, ◌^◌, min}
+-- What is counted of a device: its failures, how often a source reported its end, and how many flushes a sink was asked
+-- for.
+use Rattle.std.specs.Prelude.{ℕ, ◌+◌, ◌-◌, ◌^◌, ◌==◌, if◌then◌else◌, min}
 
 -- a count after one more; it stops at the greatest value of 64 bits
 abbrev pub one_more : ℕ → ℕ
 one_more count = min (count + 1) (2 ^ 64 - 1)
+
+-- a count of reported ends after a read that gave so many bytes: none is the end
+abbrev pub ends_after : ℕ → ℕ → ℕ
+ends_after given ends = if given == 0 then one_more ends else ends
 
 -- what was counted of a source: the reads that failed, and those that reported the end
 pub record Tally : Type 0 where
