@@ -1,7 +1,7 @@
 //! Arcs: Hatanaka's Compact RINEX 3.0, data arcs. An arc's values become codes and come back from them by running
 //! differences: an arc is stored as its order and its latest differences of order 0, 1, .. up to it.
 
-ghost use Rattle.std.specs.Prelude.{◌≡◌, ◌≤◌, ◌<◌, ◌+◌, ◌*◌, ◌^◌, ◌++◌, ◌∷◌, [], ℕ, ℤ, List, Option, None, Some, Ok, length, take, IfSome, OnSome, IfNone, OnOk, OnErr, MatchResult};
+ghost use Rattle.std.specs.Prelude.{◌≡◌, ◌≤◌, ◌<◌, ◌+◌, ◌*◌, ◌^◌, ◌++◌, ◌∷◌, [], ℕ, ℤ, List, Option, None, Some, Ok, length, take, IfSome, OnSome, IfNone, OnOk, OnErr, MatchResult, IsTrue};
 ghost use Rattle.crx_text.specs.Codes.{IsPrintable, IsShort};
 ghost use Rattle.crx_text.specs.meaning.Numbers.{IsMissingOrWithin, IsWithin};
 ghost use Rattle.crx_compact.specs.Arcs.{AreBelow, IsBelow, value_bound};
@@ -31,9 +31,10 @@ pub type ClockArc = Arc<CLOCK_WIDTH>;
 /// it or as far as its values go. It takes no memory elsewhere.
 #[derive(Drop)]
 pub struct Arc<const WIDTH: usize> {
-    // These stand before the differences, so that most arcs are read and written in their first 48 bytes of 96.
-    count: usize,
-    order: usize,
+    // These two are compared and written as one number (`is_third`). They stand before the differences, so that most arcs are read and
+    // written in their first 40 bytes of 88.
+    order: u8,
+    count: u8,
     differences: [i64; KEPT_LIMIT],
 }
 
@@ -175,6 +176,15 @@ fn value_after(differences: &[i64], number: i64) -> i64
     value
 }
 
+/// Whether an arc of this order, with so many differences, has order 3 and four of them, as nearly all arcs have from their fourth value
+/// on. The two numbers are compared as one.
+#[inline(always)]
+fn is_third(order: u8, count: u8) -> bool
+    ensures { IsTrue result → (order ≡ 3) × (count ≡ 4) }
+{
+    u16::from_le_bytes([order, count]) == u16::from_le_bytes([3, 4])
+}
+
 impl<const WIDTH: usize> Arc<WIDTH> {
     /// An arc without values.
     pub fn new() -> Self
@@ -230,7 +240,7 @@ impl<const WIDTH: usize> Arc<WIDTH> {
         };
         if before.count == 0 {
             self.differences[0] = value;
-            self.order = WRITTEN_ORDER as usize;
+            self.order = WRITTEN_ORDER;
             self.count = 1;
             return Code::Start {
                 order: WRITTEN_ORDER,
@@ -238,7 +248,12 @@ impl<const WIDTH: usize> Arc<WIDTH> {
             };
         }
         let last = before.order.min(before.count);
-        let highest = go_on_from(&before.differences, last, value, &mut self.differences);
+        let highest = go_on_from(
+            &before.differences,
+            last as usize,
+            value,
+            &mut self.differences,
+        );
         self.order = before.order;
         self.count = last + 1;
         Code::Step(highest)
@@ -255,12 +270,11 @@ impl<const WIDTH: usize> Arc<WIDTH> {
         ensures arc { OnSome result (self.new ≡ arc_of_value (Some value) before.now) }
         ensures none { IfNone result (self.new ≡ self.old) }
     {
-        let order = before.order;
-        if order != 3 || before.count < 3 {
+        if !is_third(before.order, before.count) {
             return None;
         }
         let third = third_from(&before.differences, value, &mut self.differences);
-        self.order = order;
+        self.order = 3;
         self.count = 4;
         Some(third)
     }
@@ -302,7 +316,7 @@ impl<const WIDTH: usize> Arc<WIDTH> {
                     return Err(Fault::OutOfRange);
                 }
                 self.differences[0] = value;
-                self.order = order as usize;
+                self.order = order;
                 self.count = 1;
                 Ok(Some(value))
             }
@@ -311,11 +325,16 @@ impl<const WIDTH: usize> Arc<WIDTH> {
                     return Err(Fault::NoArc);
                 }
                 let last = earlier.order.min(earlier.count);
-                let value = value_after(&earlier.differences[..last], number);
+                let value = value_after(&earlier.differences[..last as usize], number);
                 if !is_within(WIDTH, value) {
                     return Err(Fault::OutOfRange);
                 }
-                go_on_from(&earlier.differences, last, value, &mut self.differences);
+                go_on_from(
+                    &earlier.differences,
+                    last as usize,
+                    value,
+                    &mut self.differences,
+                );
                 self.order = earlier.order;
                 self.count = last + 1;
                 Ok(Some(value))
@@ -334,8 +353,7 @@ impl<const WIDTH: usize> Arc<WIDTH> {
         ensures arc { OnSome result (self.new ≡ arc_of_code (Step number) earlier.now) }
         ensures none { IfNone result (self.new ≡ self.old) }
     {
-        let order = earlier.order;
-        if order != 3 || earlier.count < 3 {
+        if !is_third(earlier.order, earlier.count) {
             return None;
         }
         let (value, first, second) = sums_from_third(&earlier.differences, number);
@@ -343,7 +361,7 @@ impl<const WIDTH: usize> Arc<WIDTH> {
             return None;
         }
         put_four(&mut self.differences, value, first, second, number);
-        self.order = order;
+        self.order = 3;
         self.count = 4;
         Some(value)
     }

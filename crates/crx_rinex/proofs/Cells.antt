@@ -6,7 +6,7 @@ use Rattle.std.proofs.lemmas.Bool.{and_from}
 use Rattle.std.proofs.lemmas.List.Elements.{All-replicate}
 use Rattle.std.proofs.lemmas.List.Folds.{concat-append, list_all-append}
 use Rattle.std.specs.Prelude.{slice_set}
-use Rattle.std.proofs.lemmas.List.{take_more_set, length-set, take_at, take-append-le, drop_all, length-drop}
+use Rattle.std.proofs.lemmas.List.{take_more_set, length-set, take_at, take-append-le, drop_all, length-drop, take-take}
 use Rattle.std.proofs.lemmas.List.{length-append, length-replicate, append_assoc}
 use Rattle.std.proofs.lemmas.Option.{option_and_then_some, same_Some, none-some}
 use Rattle.crx_text.specs.meaning.Columns.{character_at, columns}
@@ -68,12 +68,13 @@ field_inside line k h =
     let e : 16 * k + 3 + 1 - 1 ≡ 16 * k + 3 = omega arith in
     rw e (take-append-le 14 (drop (16 * k + 3) line) (replicate 14 32) (omega (arith, length-drop (16 * k + 3) line)))
 
--- what is read of a line is that field
-pub read_inside : (line : List ℕ) (k : ℕ)
-    → 16 * k + 3 + 14 ≤ length line → take (16 * k + 3 + 14 - (16 * k + 3)) (drop (16 * k + 3) line) ≡ field line k
-read_inside line k h =
-    let width : 16 * k + 3 + 14 - (16 * k + 3) ≡ 14 = omega arith in
-    ap (λ (n : ℕ). take n (drop (16 * k + 3) line)) width ∙ sym (field_inside line k (omega (arith, h)))
+-- what is read of a line begins with that field
+pub read_inside : (line : List ℕ) (k n : ℕ) → 14 ≤ n → 16 * k + 3 + 14 ≤ length line
+    → take 14 (take (16 * k + 3 + n - (16 * k + 3)) (drop (16 * k + 3) line)) ≡ field line k
+read_inside line k n long h =
+    let width : 16 * k + 3 + n - (16 * k + 3) ≡ n = omega arith in
+    ap (λ (n : ℕ). take 14 (take n (drop (16 * k + 3) line))) width
+    ∙ take-take 14 n (drop (16 * k + 3) line) long ∙ sym (field_inside line k (omega (arith, h)))
 
 -- an identifier's columns
 pub identifier_columns : (line : List ℕ)

@@ -21,7 +21,7 @@ use crate::types::Types;
 use crx_lines::limits::{CELL_WIDTH, NAME_WIDTH, OBSERVATION_WIDTH, TYPES_LIMIT};
 use crx_text::{
     Fault, Text, all_kept, copy_text, obs_print_cell, obs_print_cell_into, obs_read, obs_read_into,
-    obs_read_usual, put_blanks, trim_end,
+    put_blanks, trim_end,
 };
 use std::alloc::Global;
 use std::marker::Model;
@@ -442,7 +442,7 @@ fn split_cells(line: &[u8], values: &mut [Option<i64>], flags: &mut [u8]) -> boo
 }
 
 /// Takes the value and the indicators of type k, from 0, out of a line's cell; `false` where the field is neither blank nor a number.
-/// Most cells that [`split_plain_cells`] leaves are past the line's end: blanks at a line's end are cut.
+/// Most cells that [`split_plain_cells`] leaves are past the line's end, or cut by it: blanks at a line's end are cut.
 #[inline(always)]
 fn read_cell(line: &[u8], k: usize, value: &mut Option<i64>, flags: &mut [u8]) -> bool
     requires few { k < TYPES_LIMIT }
@@ -454,23 +454,28 @@ fn read_cell(line: &[u8], k: usize, value: &mut Option<i64>, flags: &mut [u8]) -
         (character_at line.now (CELL_WIDTH * k + (NAME_WIDTH + OBSERVATION_WIDTH + 1)))) (2 * k + 1)
         (character_at line.now (CELL_WIDTH * k + (NAME_WIDTH + OBSERVATION_WIDTH + 2)))) }
 {
-    if line.len() <= CELL_WIDTH * k + NAME_WIDTH {
+    let start = CELL_WIDTH * k + NAME_WIDTH;
+    if line.len() <= start {
         *value = None;
         flags[2 * k] = b' ';
         flags[2 * k + 1] = b' ';
         return true;
     }
-    let Some((found, lock, strength)) = cell(line, k) else {
+    let end = start + OBSERVATION_WIDTH;
+    if end <= line.len() && obs_read_into(&line[start..end], value) {
+        put_indicators(line, k, flags);
+        return true;
+    }
+    let Some(found) = observation(line, k) else {
         return false;
     };
     *value = found;
-    flags[2 * k] = lock;
-    flags[2 * k + 1] = strength;
+    put_indicators(line, k, flags);
     true
 }
 
-/// Takes the values and the indicators out of a line's first cells, and gives how many: it stops where a field isn't within the line,
-/// or isn't written as files mostly have it. One by one, each as an `Option` of a value and its indicators, a cell
+/// Takes the values and the indicators out of a line's first cells, and gives how many: it stops where a cell isn't within the line,
+/// or its field isn't written as files mostly have it. One by one, each as an `Option` of a value and its indicators, a cell
 /// takes 16 instructions more: that is set to zero, and then tested and copied part by part.
 fn split_plain_cells(line: &[u8], values: &mut [Option<i64>], flags: &mut [u8]) -> usize
     requires paired { length flags.old ≡ 2 * length values.old }
@@ -480,25 +485,41 @@ fn split_plain_cells(line: &[u8], values: &mut [Option<i64>], flags: &mut [u8]) 
     ensures flags { take (2 * result) flags.new ≡ flags_in result line.now }
     ensures ranged { All IsValue (take result values.new) }
 {
-    let count = fields_within(line, values.len());
+    let count = cells_within(line, values.len());
     for k in 0..count {
         let start = CELL_WIDTH * k + NAME_WIDTH;
-        if !obs_read_into(&line[start..start + OBSERVATION_WIDTH], &mut values[k]) {
+        if !obs_read_into(&line[start..start + CELL_WIDTH], &mut values[k]) {
             return k;
         }
-        put_indicators(line, k, flags);
+        put_indicators_within(line, k, flags);
     }
     count
 }
 
-/// How many of so many fields stand within a line.
+/// How many of so many cells stand within a line.
 #[inline(always)]
-fn fields_within(line: &[u8], m: usize) -> usize
+fn cells_within(line: &[u8], m: usize) -> usize
     ensures few { result ≤ m }
-    ensures within { (k : ℕ) → k < result
-        → CELL_WIDTH * k + (NAME_WIDTH + OBSERVATION_WIDTH) ≤ length line.now }
+    ensures within { (k : ℕ) → k < result → CELL_WIDTH * k + (NAME_WIDTH + CELL_WIDTH) ≤ length line.now }
 {
-    m.min(line.len().saturating_sub(1) / CELL_WIDTH)
+    m.min(line.len().saturating_sub(NAME_WIDTH) / CELL_WIDTH)
+}
+
+/// Puts the two indicators of type k, from 0, in their places, where its cell stands within the line: both become one load and one
+/// store.
+#[inline(always)]
+fn put_indicators_within(line: &[u8], k: usize, flags: &mut [u8])
+    requires few { k < TYPES_LIMIT }
+    requires inside { CELL_WIDTH * k + (NAME_WIDTH + CELL_WIDTH) ≤ length line.now }
+    requires within { 2 * k + 1 < length flags.old }
+    ensures { flags.new ≡ slice_set (slice_set flags.old (2 * k)
+        (character_at line.now (CELL_WIDTH * k + (NAME_WIDTH + OBSERVATION_WIDTH + 1)))) (2 * k + 1)
+        (character_at line.now (CELL_WIDTH * k + (NAME_WIDTH + OBSERVATION_WIDTH + 2))) }
+{
+    let end = CELL_WIDTH * k + NAME_WIDTH + CELL_WIDTH;
+    let (lock, strength) = (line[end - 2], line[end - 1]);
+    flags[2 * k] = lock;
+    flags[2 * k + 1] = strength;
 }
 
 /// Puts the two indicators of type k, from 0, in their places.
@@ -510,14 +531,6 @@ fn put_indicators(line: &[u8], k: usize, flags: &mut [u8])
         (character_at line.now (CELL_WIDTH * k + (NAME_WIDTH + OBSERVATION_WIDTH + 1)))) (2 * k + 1)
         (character_at line.now (CELL_WIDTH * k + (NAME_WIDTH + OBSERVATION_WIDTH + 2))) }
 {
-    let end = CELL_WIDTH * k + NAME_WIDTH + CELL_WIDTH;
-    if end <= line.len() {
-        // Both become one load and one store.
-        let (lock, strength) = (line[end - 2], line[end - 1]);
-        flags[2 * k] = lock;
-        flags[2 * k + 1] = strength;
-        return;
-    }
     let (lock, strength) = indicators(line, k);
     flags[2 * k] = lock;
     flags[2 * k + 1] = strength;
@@ -546,49 +559,6 @@ fn has_number(line: &[u8]) -> bool
     (tens.is_ascii_digit() || tens == b' ') && character(line, 3).is_ascii_digit()
 }
 
-/// The value of type k, from 0, and its two indicators; `None` where its field is neither blank nor a number of format F14.3.
-#[inline(always)]
-fn cell(line: &[u8], k: usize) -> Option<(Option<i64>, u8, u8)>
-    requires { k < TYPES_LIMIT }
-    ensures value { option_map (λ cell. cell.0) result ≡ observation_of (field line.now k) }
-    ensures ranged { IfSome result (λ cell. IsValue cell.0) }
-    ensures flags { IfSome result
-        (λ cell. (cell.1 ≡ character_at line.now (CELL_WIDTH * k + (NAME_WIDTH + OBSERVATION_WIDTH + 1)))
-        × (cell.2 ≡ character_at line.now (CELL_WIDTH * k + (NAME_WIDTH + OBSERVATION_WIDTH + 2)))) }
-{
-    let start = CELL_WIDTH * k + NAME_WIDTH;
-    let end = start + OBSERVATION_WIDTH;
-    if line.len() < end {
-        return cell_in_any_spelling(line, k);
-    }
-    match obs_read_usual(&line[start..end]) {
-        Some(value) => {
-            let (lock, strength) = indicators(line, k);
-            Some((value, lock, strength))
-        }
-        None => cell_in_any_spelling(line, k),
-    }
-}
-
-/// What [`cell`] gives, where the line may end within the cell, or its field isn't one that [`obs_read_usual`] reads.
-#[inline(never)]
-fn cell_in_any_spelling(line: &[u8], k: usize) -> Option<(Option<i64>, u8, u8)>
-    requires { k < TYPES_LIMIT }
-    ensures value { option_map (λ cell. cell.0) result ≡ observation_of (field line.now k) }
-    ensures ranged { IfSome result (λ cell. IsValue cell.0) }
-    ensures flags { IfSome result
-        (λ cell. (cell.1 ≡ character_at line.now (CELL_WIDTH * k + (NAME_WIDTH + OBSERVATION_WIDTH + 1)))
-        × (cell.2 ≡ character_at line.now (CELL_WIDTH * k + (NAME_WIDTH + OBSERVATION_WIDTH + 2)))) }
-{
-    match observation(line, k) {
-        Some(value) => {
-            let (lock, strength) = indicators(line, k);
-            Some((value, lock, strength))
-        }
-        None => None,
-    }
-}
-
 /// The two indicators of type k, from 0: blanks at a line's end are mostly cut.
 #[inline(always)]
 fn indicators(line: &[u8], k: usize) -> (u8, u8)
@@ -608,6 +578,7 @@ fn indicators(line: &[u8], k: usize) -> (u8, u8)
 }
 
 /// The value of type k, from 0; `None` where its field is neither blank nor a number of format F14.3.
+#[inline(never)]
 fn observation(line: &[u8], k: usize) -> Option<Option<i64>>
     requires { k < TYPES_LIMIT }
     ensures value { result ≡ observation_of (field line.now k) }

@@ -1,16 +1,19 @@
 -- Two digits at a time.
-use Rattle.std.proofs.Common.{◌≡◌, ℕ, ℤ, pos, negsuc, w64, zero, suc, ◌+◌, ◌-◌, ◌*◌, ◌/◌, ◌%◌, ◌<◌, ◌≤◌, Bool, true}
+use Rattle.std.proofs.Common.{bit_or, ◌≡◌, ℕ, ℤ, pos, negsuc, w64, zero, suc, ◌+◌, ◌-◌, ◌*◌, ◌/◌, ◌%◌, ◌<◌, ◌≤◌, Bool, true, false}
 use Rattle.std.proofs.Common.{◌&&◌, T, eqb, List, [], ◌∷◌, ◌++◌, length, take, drop, get_or, slice_set, inl, inr, arith}
-use Rattle.std.proofs.Common.{eq-zero-or-pos, eqb→eq, append_assoc, decimal, ◌^◌, ap, sym, ◌∙◌, refl}
+use Rattle.std.proofs.Common.{eq-zero-or-pos, eqb→eq, append_assoc, decimal, ◌^◌, ap, sym, ◌∙◌, refl, subst}
 use Rattle.std.proofs.lemmas.List.{take_more_set, length-set, length-take-le, take-take}
 use Rattle.std.proofs.Math.Dec.{ltb}
 use Rattle.std.proofs.Math.Seq.{take-append-add}
 use Rattle.std.proofs.lemmas.Bool.{cases_lt, le-ltb, lt-ltb}
 use Rattle.std.proofs.lemmas.Fmt.{decimal_digit, decimal_nonempty}
+use Rattle.std.proofs.lemmas.Bool.{agree_below, agree_below_at}
+use lib.Count.{count_trailing_zeros}
 use lib.Ieee.Fits.{and_l, and_r}
 use mir.Val.{SFits, bool_byte}
 use Rattle.itoa.proofs.Decimal.{decimal_four, decimal_pair, decimal_two, length_one, length_pair, length_two, pair}
-use Rattle.std.specs.Int.{to_le_bytes, w32}
+use Rattle.std.specs.Int.{from_le_bytes, to_le_bytes, w32}
+use Rattle.std.proofs.lemmas.Nat.{from_le_bytes-to_le_bytes_4}
 use Rattle.std.specs.Fmt.{signed_decimal}
 use Rattle.crx_text.specs.declared.digits.TheConstants.{PAIRS}
 
@@ -160,3 +163,41 @@ four_written first second third size at middle many fits one two =
     (four (size - size / 10000 * 10000)) at middle (middle + 4) one two
     ∙ ap (λ (n : ℕ). take at first ++ (decimal (size / 10000) ++ four n)) low
     ∙ ap (λ (t : List ℕ). take at first ++ t) (sym (decimal_four size many fits))
+
+-- ---- the zeros before a number, by the lowest bit of its digits
+
+-- four digits beside each other, the first one lowest
+abbrev pub digits_beside : ℕ → ℕ
+digits_beside n = n / 100 / 10 + 256 * (n / 100 % 10) + 65536 * (n % 100 / 10) + 16777216 * (n % 100 % 10)
+
+abbrev pub zeros_of : ℕ → ℕ
+zeros_of n = bool_byte (ltb n 10) + bool_byte (ltb n 100) + bool_byte (ltb n 1000)
+
+abbrev pub lowest_of : ℕ → ℕ
+lowest_of n = count_trailing_zeros 32 (bit_or (digits_beside n) 268435456) / 8
+
+all_agree : agree_below (λ n. eqb (lowest_of n) (zeros_of n)) (λ n. true) 10000 ≡ true
+unfolding count_trailing_zeros
+all_agree = refl
+
+lowest_is : (n : ℕ) → n < 10000 → lowest_of n ≡ zeros_of n
+lowest_is n small =
+    let same : eqb (lowest_of n) (zeros_of n) ≡ true =
+    agree_below_at (λ n. eqb (lowest_of n) (zeros_of n)) (λ n. true) 10000 n all_agree small in
+    eqb→eq (lowest_of n) (zeros_of n) (subst T (sym same) tt)
+
+-- a word whose bytes are a number's columns, and its digits
+pub zeros_found : (n word : ℕ) → n < 10000 → word < 2 ^ 32 → to_le_bytes w32 word ≡ four n
+    → count_trailing_zeros 32 (bit_or (word - 808464432) 268435456) / 8 ≡ zeros_of n
+zeros_found n word small fits bytes =
+    let whole : word ≡ 808464432 + digits_beside n =
+    sym (from_le_bytes-to_le_bytes_4 word fits) ∙ ap (from_le_bytes w32) bytes ∙ omega arith in
+    let digits : word - 808464432 ≡ digits_beside n = omega (arith, whole) in
+    ap (λ (d : ℕ). count_trailing_zeros 32 (bit_or d 268435456) / 8) digits ∙ lowest_is n small
+
+pub few_zeros : (n : ℕ) → zeros_of n ≤ 3
+few_zeros n = omega (arith, one (ltb n 10), one (ltb n 100), one (ltb n 1000))
+  where
+    one : (b : Bool) → bool_byte b ≤ 1
+    one true = omega arith
+    one false = omega arith

@@ -265,11 +265,11 @@ fn write_decimal(buffer: &mut [u8], at: usize, size: u64) -> usize
     ensures within { result ≡ at + length (decimal size) }
 {
     if size < 10_000 {
-        return write_short(buffer, at, size as usize);
+        return write_short(buffer, at, size as u32);
     }
     let high = size / 10_000;
     let middle = write_front(buffer, at, high);
-    write_word(buffer, middle, four_digits((size - high * 10_000) as usize));
+    write_word(buffer, middle, four_digits((size - high * 10_000) as u32));
     middle + 4
 }
 
@@ -281,7 +281,7 @@ fn write_front(buffer: &mut [u8], at: usize, size: u64) -> usize
     ensures within { result ≡ at + length (decimal size) }
 {
     if size < 10_000 {
-        return write_short(buffer, at, size as usize);
+        return write_short(buffer, at, size as u32);
     }
     write_long(buffer, at, size)
 }
@@ -293,48 +293,55 @@ fn write_long(buffer: &mut [u8], at: usize, size: u64) -> usize
     ensures within { result ≡ at + length (decimal size) }
 {
     if size < 10_000 {
-        return write_short(buffer, at, size as usize);
+        return write_short(buffer, at, size as u32);
     }
     let high = size / 10_000;
     let middle = write_long(buffer, at, high);
-    write_word(buffer, middle, four_digits((size - high * 10_000) as usize));
+    write_word(buffer, middle, four_digits((size - high * 10_000) as u32));
     middle + 4
 }
 
 // Writes a number of at most four digits. Its four columns are made in one word, the word is shifted by the zeros
-// before the number, and it is written by one store. A branch on the count of digits takes 5 to 17 instructions less, but
+// before the number, and it is written by one store. A branch on the count of digits takes 3 to 15 instructions less, but
 // is mispredicted where the count differs from value to value: 7.9 ns a call in place of 4.4 over random numbers.
 #[inline(always)]
-fn write_short(buffer: &mut [u8], at: usize, size: usize) -> usize
+fn write_short(buffer: &mut [u8], at: usize, size: u32) -> usize
     requires small { size < 10000 }
     requires room { at + length (decimal size) + 3 ≤ length buffer.old }
     ensures written { take result buffer.new ≡ take at buffer.old ++ decimal size }
     ensures within { result ≡ at + length (decimal size) }
 {
-    let zeros = zeros_before(size);
-    write_word(buffer, at, four_digits(size) >> (8 * zeros));
+    let (columns, zeros) = columns_of(size);
+    write_word(buffer, at, columns >> (8 * zeros));
     at + 4 - zeros
 }
 
-// How many zeros stand before a number in four columns; 0 has a digit of its own.
+// The four digits of a number, as `four_digits` gives them, and how many zeros stand before the number; 0 has a digit of its own. The
+// lowest bit that is set among the digits says where the first one stands that isn't 0; a bit above the last one ends the search.
 #[inline(always)]
-fn zeros_before(size: usize) -> usize
-    requires { size < 10000 }
-    ensures count { result + length (decimal size) ≡ 4 }
-    ensures few { result ≤ 3 }
+fn columns_of(size: u32) -> (u32, usize)
+    requires small { size < 10000 }
+    ensures columns { to_le_bytes w32 result.0 ≡ (48 + size / 100 / 10)
+        ∷ (48 + size / 100 % 10) ∷ (48 + size % 100 / 10) ∷ (48 + size % 100 % 10) ∷ [] }
+    ensures count { result.1 + length (decimal size) ≡ 4 }
+    ensures few { result.1 ≤ 3 }
 {
-    usize::from(size < 10) + usize::from(size < 100) + usize::from(size < 1000)
+    let columns = four_digits(size);
+    let digits = columns - u32::from_le_bytes(*b"0000");
+    let zeros = (digits | 1 << 28).trailing_zeros() / 8;
+    (columns, zeros as usize)
 }
 
 // The four digits of a number, zeros among them; the first one is the word's lowest byte.
 #[inline(always)]
-fn four_digits(size: usize) -> u32
+fn four_digits(size: u32) -> u32
     requires { size < 10000 }
     ensures { to_le_bytes w32 result ≡ (48 + size / 100 / 10)
         ∷ (48 + size / 100 % 10) ∷ (48 + size % 100 / 10) ∷ (48 + size % 100 % 10) ∷ [] }
 {
     let high = size / 100;
     let low = size - high * 100;
+    let (high, low) = (high as usize, low as usize);
     u32::from_le_bytes([
         PAIRS[high * 2],
         PAIRS[high * 2 + 1],

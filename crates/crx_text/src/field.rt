@@ -1,10 +1,10 @@
 //! An observation's 14 columns in one row of lanes: blanks, perhaps a minus, digits, and the point
 //! in column 11. That is how nearly every field is written.
 
-ghost use Rattle.std.specs.Prelude.{◌≡◌, ◌==◌, ◌++◌, ◌+◌, ◌*◌, ◌^◌, ◌<◌, ◌∷◌, [], length, slice_index, IsTrue};
+ghost use Rattle.std.specs.Prelude.{take, ◌≡◌, ◌==◌, ◌++◌, ◌+◌, ◌*◌, ◌^◌, ◌<◌, ◌∷◌, [], length, slice_index, IsTrue};
 ghost use Rattle.std.specs.List.{list_all, list_any};
 ghost use Rattle.std.specs.Simd.Lanes.{Each1};
-ghost use Rattle.crx_lines.specs.declared.limits.TheConstants.{OBSERVATION_WIDTH};
+ghost use Rattle.crx_lines.specs.declared.limits.TheConstants.{CELL_WIDTH, OBSERVATION_WIDTH};
 ghost use Rattle.crx_text.specs.Fields.{IsPlain, weighed, plain_digits};
 ghost use Rattle.crx_text.specs.Numbers.{IsObservation};
 ghost use Rattle.crx_text.specs.meaning.Numbers.{signed_number};
@@ -24,6 +24,16 @@ pub(crate) fn columns(field: &[u8]) -> u8x16
         last,
         [0, 1, 2, 3, 4, 5, 6, 7, 10, 11, 12, 13, 14, 15, 15, 15],
     )
+}
+
+/// The columns of the field of a cell, which its two indicators stand after.
+#[inline(always)]
+pub(crate) fn columns_of_cell(cell: &[u8]) -> u8x16
+    requires { length cell.now ≡ CELL_WIDTH }
+    ensures { result ≡ take OBSERVATION_WIDTH cell.now
+        ++ slice_index cell.now 13 ∷ slice_index cell.now 13 ∷ [] }
+{
+    u8x16::from_slice(cell).swizzle([0, 1, 2, 3, 4, 5, 6, 7, 8, 9, 10, 11, 12, 13, 13, 13])
 }
 
 /// Whether every column is blank.

@@ -49,25 +49,26 @@ pub fn obs_read_usual(field: &[u8]) -> Option<Option<i64>>
     ensures in_range { IfSome result (λ value. IfSome value IsObservation) }
 {
     let mut value = None;
-    if obs_read_into(field, &mut value) {
+    if field.len() == OBSERVATION_WIDTH && obs_read_into(field, &mut value) {
         return Some(value);
     }
     None
 }
 
-/// Reads an observation as [`obs_read_usual`] does, into a place; `false` comes where that gives `None`, and then the place stays as
-/// it was. A result that holds a value beside a mark of its own is set to zero before each call, and copied after it. Few fields
-/// are blank, so that is tested last.
+/// Reads an observation as [`obs_read_usual`] does, out of its field or out of a whole cell, the field with two indicators after it,
+/// into a place; `false` comes where that gives `None`, and then the place stays as it was. A result that holds a value beside a mark of
+/// its own is set to zero before each call, and copied after it. Few fields are blank, so that is tested last.
 #[inline(always)]
-pub fn obs_read_into(field: &[u8], value: &mut Option<i64>) -> bool
-    ensures value { OnTrue result (observation_of field.now ≡ Some value.new) }
+pub fn obs_read_into(text: &[u8], value: &mut Option<i64>) -> bool
+    ensures value { OnTrue result (observation_of (take OBSERVATION_WIDTH text.now) ≡ Some value.new) }
     ensures in_range { OnTrue result (IfSome value.new IsObservation) }
     ensures same { OnFalse result (value.new ≡ value.old) }
 {
-    if field.len() != OBSERVATION_WIDTH {
-        return false;
-    }
-    let columns = field::columns(field);
+    let columns = match text.len() {
+        OBSERVATION_WIDTH => field::columns(text),
+        CELL_WIDTH => field::columns_of_cell(text),
+        _ => return false,
+    };
     if field::is_plain(columns) {
         *value = Some(field::value(columns));
         return true;

@@ -14,15 +14,17 @@ use Rattle.crx_compact.proofs.arc.Arc.apply_third.Goals as goal
 
 pub sums_from_third-value-requires-clause-below : goal.sums_from_third-value-requires-clause-below
 sums_from_third-value-requires-clause-below g c =
+    let third = c.is_third.ensures c.if-not-is_third.false in
     let last : IsLast c.earlier.inside.order c.earlier.inside.count 3 =
-    record { least = omega (arith, c.if-order-ne3.false, c.if-earlier-lt3.false) } in
+    record { least = omega (arith, third.0, third.1) } in
     lower-below c.earlier.inside.order
     c.earlier.inside.count 3 c.earlier.inside.differences last c.earlier.invariant.below
 
 pub invariant_of-self : goal.invariant_of-self
 invariant_of-self g c =
+    let third = c.is_third.ensures c.if-not-is_third.false in
     let last : IsLast c.earlier.inside.order c.earlier.inside.count 3 =
-    record { least = omega (arith, c.if-order-ne3.false, c.if-earlier-lt3.false) } in
+    record { least = omega (arith, third.0, third.1) } in
     let fits : FitsSigned w64 c.args.number = search rules in
     let fits0 : FitsSigned w64 c.sums_from_third-value.result.0 = search rules in
     let fits1 : FitsSigned w64 c.sums_from_third-value.result.1 = search rules in
@@ -39,18 +41,19 @@ invariant_of-self g c =
     ≡ differences_after c.sums_from_third-value.result.0 (take 3 c.earlier.inside.differences) =
     put ∙ sums ∙ by-after c.args.number (take 3 c.earlier.inside.differences)
     ∙ ap (λ v. differences_after v (take 3 c.earlier.inside.differences)) (sym (ap newest sums)) in
-    goes-on-kept g.row.WIDTH c.earlier.inside.order c.earlier.inside.count
+    rw third.0 at (goes-on-kept g.row.WIDTH c.earlier.inside.order c.earlier.inside.count
     3 c.earlier.inside.differences c.put_four.new.differences c.sums_from_third-value.result.0 last
-    c.earlier.invariant ((within-is _ _).0 is) after
+    c.earlier.invariant ((within-is _ _).0 is) after)
 
 pub returns-clause-value : goal.returns-clause-value
 returns-clause-value g c =
+    let third = c.is_third.ensures c.if-not-is_third.false in
     let fits : FitsSigned w64 c.args.number = search rules in
     let fits0 : FitsSigned w64 c.sums_from_third-value.result.0 = search rules in
     let on : StepsOn g.row.WIDTH c.earlier.inside.order
     c.earlier.inside.count 3 c.args.number c.sums_from_third-value.result.0 c.earlier.inside.differences =
-    stepped _ _ _ _ _ _ _ (omega (arith, c.if-order-ne3.false, c.if-earlier-lt3.false))
-    (omega (arith, c.if-earlier-lt3.false)) c.earlier.told (ap newest c.sums_from_third-value.ensures) fits in
+    stepped _ _ _ _ _ _ _ (omega (arith, third.0, third.1))
+    (omega (arith, third.1)) c.earlier.told (ap newest c.sums_from_third-value.ensures) fits in
     let is : is_within g.row.WIDTH c.sums_from_third-value.result.0 ≡ true =
     accepted g.row.WIDTH _ _ c.is_within.ensures c.if-not-is_within.false fits0 in
     let given : Ok (Some c.sums_from_third-value.result.0) ≡ in_range g.row.WIDTH c.sums_from_third-value.result.0 =
@@ -60,14 +63,15 @@ returns-clause-value g c =
 
 pub returns-clause-arc : goal.returns-clause-arc
 returns-clause-arc g c =
+    let third = c.is_third.ensures c.if-not-is_third.false in
     let fits : FitsSigned w64 c.args.number = search rules in
     let fits0 : FitsSigned w64 c.sums_from_third-value.result.0 = search rules in
     let fits1 : FitsSigned w64 c.sums_from_third-value.result.1 = search rules in
     let fits2 : FitsSigned w64 c.sums_from_third-value.result.2 = search rules in
     let on : StepsOn g.row.WIDTH c.earlier.inside.order
     c.earlier.inside.count 3 c.args.number c.sums_from_third-value.result.0 c.earlier.inside.differences =
-    stepped _ _ _ _ _ _ _ (omega (arith, c.if-order-ne3.false, c.if-earlier-lt3.false))
-    (omega (arith, c.if-earlier-lt3.false)) c.earlier.told (ap newest c.sums_from_third-value.ensures) fits in
+    stepped _ _ _ _ _ _ _ (omega (arith, third.0, third.1))
+    (omega (arith, third.1)) c.earlier.told (ap newest c.sums_from_third-value.ensures) fits in
     let sums : c.sums_from_third-value.result.0 ∷ c.sums_from_third-value.result.1 ∷ c.sums_from_third-value.result.2
     ∷ c.args.number ∷ [] ≡ differences_by c.args.number (take 3 c.earlier.inside.differences) =
     rw (same-bits _ fits) at c.sums_from_third-value.ensures in
@@ -79,4 +83,6 @@ returns-clause-arc g c =
     put ∙ sums ∙ by-after c.args.number (take 3 c.earlier.inside.differences)
     ∙ ap (λ v. differences_after v (take 3 c.earlier.inside.differences)) (sym (ap newest sums)) in
     rw (← c.earlier.view_is)
-    (ap (kept_tail c.earlier.inside.order) after ∙ on.tail)
+    (ap (kept_tail 3) after
+    ∙ ap (λ order. kept_tail order (differences_after c.sums_from_third-value.result.0 (take 3 c.earlier.inside.differences)))
+    (sym third.0) ∙ on.tail)

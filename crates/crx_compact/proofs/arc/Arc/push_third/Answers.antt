@@ -9,8 +9,9 @@ use Rattle.crx_compact.proofs.arc.Arc.push_third.Goals as goal
 
 pub third_from-third-requires-clause-below : goal.third_from-third-requires-clause-below
 third_from-third-requires-clause-below g c =
+    let third = c.is_third.ensures c.if-not-is_third.false in
     let last : IsLast c.before-2.inside.order c.before-2.inside.count 3 =
-    record { least = omega (arith, c.if-order-ne3.false, c.if-before-lt3.false) } in
+    record { least = omega (arith, third.0, third.1) } in
     lower-below c.before-2.inside.order
     c.before-2.inside.count 3 c.before-2.inside.differences last c.before-2.invariant.below
 
@@ -21,33 +22,36 @@ third_from-third-requires-clause-next g c =
 
 pub invariant_of-self : goal.invariant_of-self
 invariant_of-self g c =
+    let third = c.is_third.ensures c.if-not-is_third.false in
     let last : IsLast c.before-2.inside.order c.before-2.inside.count 3 =
-    record { least = omega (arith, c.if-order-ne3.false, c.if-before-lt3.false) } in
+    record { least = omega (arith, third.0, third.1) } in
     let fits : FitsSigned w64 c.args.value = search rules in
     let after : take 4 c.third_from-third.new.differences
     ≡ differences_after c.args.value (take 3 c.before-2.inside.differences) =
     rw (same-bits _ fits) at c.third_from-third.ensures.after in
-    goes-on-kept g.row.WIDTH c.before-2.inside.order
+    rw third.0 at (goes-on-kept g.row.WIDTH c.before-2.inside.order
     c.before-2.inside.count 3 c.before-2.inside.differences c.third_from-third.new.differences c.args.value last
-    c.before-2.invariant c.requires after
+    c.before-2.invariant c.requires after)
 
 pub returns-clause-code : goal.returns-clause-code
 returns-clause-code g c =
+    let third = c.is_third.ensures c.if-not-is_third.false in
     let last : IsLast c.before-2.inside.order c.before-2.inside.count 3 =
-    record { least = omega (arith, c.if-order-ne3.false, c.if-before-lt3.false) } in
+    record { least = omega (arith, third.0, third.1) } in
     let fits : FitsSigned w64 c.args.value = search rules in
     let some : 0 < length c.before-2.inside.differences = search rules in
     let on : GoesOn c.before-2.inside.order c.before-2.inside.count 3 c.args.value c.before-2.inside.differences =
     goes-on c.before-2.inside.order c.before-2.inside.count 3 c.args.value c.before-2.inside.differences last
-    (omega (arith, c.if-before-lt3.false)) some in
+    (omega (arith, third.1)) some in
     rw (← c.before-2.view_is)
     (sym (ap Step (same-bits _ (search rules)
     ∙ (rw (same-bits _ fits) at c.third_from-third.ensures.highest)) ∙ on.code))
 
 pub returns-clause-short : goal.returns-clause-short
 returns-clause-short g c =
+    let third = c.is_third.ensures c.if-not-is_third.false in
     let last : IsLast c.before-2.inside.order c.before-2.inside.count 3 =
-    record { least = omega (arith, c.if-order-ne3.false, c.if-before-lt3.false) } in
+    record { least = omega (arith, third.0, third.1) } in
     let fits : FitsSigned w64 c.args.value = search rules in
     let is : c.third_from-third.result
     ≡ highest (differences_after c.args.value (take 3 c.before-2.inside.differences)) =
@@ -61,12 +65,15 @@ returns-clause-short g c =
 
 pub returns-clause-arc : goal.returns-clause-arc
 returns-clause-arc g c =
+    let third = c.is_third.ensures c.if-not-is_third.false in
     let last : IsLast c.before-2.inside.order c.before-2.inside.count 3 =
-    record { least = omega (arith, c.if-order-ne3.false, c.if-before-lt3.false) } in
+    record { least = omega (arith, third.0, third.1) } in
     let fits : FitsSigned w64 c.args.value = search rules in
     let some : 0 < length c.before-2.inside.differences = search rules in
     let on : GoesOn c.before-2.inside.order c.before-2.inside.count 3 c.args.value c.before-2.inside.differences =
     goes-on c.before-2.inside.order c.before-2.inside.count 3 c.args.value c.before-2.inside.differences last
-    (omega (arith, c.if-before-lt3.false)) some in
+    (omega (arith, third.1)) some in
     rw (← c.before-2.view_is)
-    (ap (kept_tail c.before-2.inside.order) (rw (same-bits _ fits) at c.third_from-third.ensures.after) ∙ on.tail)
+    (ap (kept_tail 3) (rw (same-bits _ fits) at c.third_from-third.ensures.after)
+    ∙ ap (λ order. kept_tail order (differences_after c.args.value (take 3 c.before-2.inside.differences))) (sym third.0)
+    ∙ on.tail)
