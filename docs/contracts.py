@@ -24,7 +24,7 @@ a method has no clause of its own, the clauses of its trait hold.
 def first_sentence(lines):
     """The first sentence of a documentation comment."""
     text = " ".join(line.strip()[3:].strip() for line in lines)
-    found = re.match(r"(.*?[.:;])(?:\s|$)", text)
+    found = re.match(r"((?:`[^`]*`|[^`])*?[.:;])(?:\s|$)", text)
     sentence = (found[1] if found else text).rstrip(".:;")
     return re.sub(r"\[(`[^`]*`)\](?:\([^)]*\))?", r"\1", sentence)
 
