@@ -1,5 +1,6 @@
 -- Two digits at a time.
-use Rattle.std.proofs.Common.{bit_or, ◌≡◌, ℕ, ℤ, pos, negsuc, w64, zero, suc, ◌+◌, ◌-◌, ◌*◌, ◌/◌, ◌%◌, ◌<◌, ◌≤◌, Bool, true, false}
+use Rattle.std.proofs.Common.{bit_or, ◌≡◌, ℕ, ℤ, pos, negsuc, w64, zero, suc, ◌+◌, ◌-◌, ◌*◌, ◌/◌, ◌%◌, ◌<◌, ◌≤◌}
+use Rattle.std.proofs.Common.{Bool, true, false}
 use Rattle.std.proofs.Common.{◌&&◌, T, eqb, List, [], ◌∷◌, ◌++◌, length, take, drop, get_or, slice_set, inl, inr, arith}
 use Rattle.std.proofs.Common.{eq-zero-or-pos, eqb→eq, append_assoc, decimal, ◌^◌, ap, sym, ◌∙◌, refl, subst}
 use Rattle.std.proofs.lemmas.List.{take_more_set, length-set, length-take-le, take-take}

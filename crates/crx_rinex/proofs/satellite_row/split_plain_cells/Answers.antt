@@ -1,4 +1,5 @@
-use Rattle.std.proofs.Common.{ℤ, ◌+◌, ◌*◌, ◌<◌, ◌≤◌, List, Option, Some, length, take, ap, sym, ◌∙◌, arith, ◌++◌, ◌∷◌, [], refl}
+use Rattle.std.proofs.Common.{ℤ, ◌+◌, ◌*◌, ◌<◌, ◌≤◌, List, Option, Some, length, take, ap, sym, ◌∙◌}
+use Rattle.std.proofs.Common.{arith, ◌++◌, ◌∷◌, [], refl}
 use Rattle.std.proofs.lemmas.List.{take_more_set, length-set}
 use Rattle.std.proofs.lemmas.List.Elements.{All-push, All-same}
 use Rattle.crx_text.specs.meaning.Numbers.{observation_of}
@@ -17,16 +18,19 @@ loop-k-preserved c =
     let value = c.obs_read_into.new.value in
     let read = c.if-not-obs_read_into.ensures.value in
     let test = c.loop-k-test.true in
-    let inside : 16 * k + 3 + 16 ≤ length line = let at = c.cells_within-count.ensures.within k test in omega (arith, at) in
+    let inside : 16 * k + 3 + 16 ≤ length line =
+    let at = c.cells_within-count.ensures.within k test in omega (arith, at) in
+    let field_is = read_inside line k 16 (omega arith) (omega (arith, inside)) in
     let within : k < length values = let same = inv.3 in
     omega (arith, test, same, c.cells_within-count.ensures.few) in
     let more = take_more_set values k value within in
     let room : 2 * k + 1 < length flags = let pairs = c.requires.paired in let long = inv.4 in let same = inv.3 in
     omega (arith, within, pairs, long, same) in (
-      values_in_more line k (take k values) value inv.0 (ap observation_of (sym (read_inside line k 16 (omega arith) (omega (arith, inside)))) ∙ read)
+      values_in_more line k (take k values) value inv.0 (ap observation_of (sym field_is) ∙ read)
           ∙ ap (λ (vs : List (Option ℤ)). Some vs) (sym more),
       All-same IsValue (take (k + 1) _)
-          (take k values ++ value ∷ []) more (All-push IsValue (take k values) value inv.1 c.if-not-obs_read_into.ensures.in_range),
+          (take k values ++ value ∷ []) more
+          (All-push IsValue (take k values) value inv.1 c.if-not-obs_read_into.ensures.in_range),
       ap (take (2 * (k + 1))) c.put_indicators_within.ensures
           ∙ pair_pushed line k flags (character_at line (16 * k + 18))
           (character_at line (16 * k + 19)) room inv.2 refl refl,

@@ -84,5 +84,6 @@ returns-clause-arc g c =
     ∙ ap (λ v. differences_after v (take 3 c.earlier.inside.differences)) (sym (ap newest sums)) in
     rw (← c.earlier.view_is)
     (ap (kept_tail 3) after
-    ∙ ap (λ order. kept_tail order (differences_after c.sums_from_third-value.result.0 (take 3 c.earlier.inside.differences)))
+    ∙ ap (λ order. kept_tail order
+    (differences_after c.sums_from_third-value.result.0 (take 3 c.earlier.inside.differences)))
     (sym third.0) ∙ on.tail)

@@ -75,5 +75,6 @@ returns-clause-arc g c =
     (omega (arith, third.1)) some in
     rw (← c.before-2.view_is)
     (ap (kept_tail 3) (rw (same-bits _ fits) at c.third_from-third.ensures.after)
-    ∙ ap (λ order. kept_tail order (differences_after c.args.value (take 3 c.before-2.inside.differences))) (sym third.0)
+    ∙ ap (λ order. kept_tail order
+    (differences_after c.args.value (take 3 c.before-2.inside.differences))) (sym third.0)
     ∙ on.tail)
