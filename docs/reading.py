@@ -49,7 +49,7 @@ sources, stops where one of them uses a definition of theirs. The gate compares 
 (`Compactor`, `Expander`), and of the readers for C that take an input in pieces, name the state of an engine too: for the latter read
 `Going`, `Handles` and `Opened` of `crates/rnxcmp_c/specs`.
 
-More has to be read. The public calls `compact`, `expand` and `check` (`crates/crx_filter/src`) and `run` (`crates/rnxcmp/src/program.rt`)
+More has to be read. The public calls `compact`, `expand` and `check` (`crates/crx_filter/src`) and `run` (`crates/crx_program/src/program.rt`)
 have the contracts that use these definitions. The traits `Source` and `Sink` (`crates/crx_lines/src/device.rt`) say what readers and
 writers are. Contracts and definitions cite constants: `limits.rt` of crx_lines, `labels.rt` of crx_rinex, `crinex.rt` of crx_engine and
 `answer.rt` of rnxcmp_c have them. README.md says what else is trusted. docs/FORMATS.md describes the formats in words.

@@ -9,11 +9,11 @@
 
 What the prover prints goes into out/gate.log; here it is a line a crate, with the minutes so far.
 
-The program runs over whole texts (tests/cases), as a process whose streams fail or change (tests/process), by the recipes of
-docs/ARCHIVES.md (tests/archives), and by the commands that README.md, the manual page and the help print, and as it is installed
-(tests/commands). Reads, writes and flushes of it are made to fail (tests/faults), and growths of its memory (tests/memory). The library
-for C and Python is called beside it (tests/library), a release is made (tests/release), and the documents are compared with the sources
-(tests/documents). The last line is `N passed, M failed`, of all. The exit status is 0 where nothing failed.
+The program runs over whole texts (tests/cases), by tables of arguments (tests/arguments), as a process whose streams fail or change
+(tests/process), by the recipes of docs/ARCHIVES.md (tests/archives), and by the commands that README.md, the manual page and the help
+print, and as it is installed (tests/commands). Reads, writes and flushes of it are made to fail (tests/faults), and growths of its memory
+(tests/memory). The library for C and Python is called beside it (tests/library), a release is made (tests/release), and the documents are
+compared with the sources (tests/documents). The last line is `N passed, M failed`, of all. The exit status is 0 where nothing failed.
 """
 
 import argparse
@@ -31,6 +31,7 @@ from checking import LIKED, tally  # noqa: E402
 # What is run of the built program: the word that its lines begin with, and the folder of its checks.py.
 KINDS = (
     ("case", "cases"),
+    ("argument", "arguments"),
     ("process", "process"),
     ("recipe", "archives"),
     ("command", "commands"),

@@ -11,9 +11,11 @@ mod run;
 mod start;
 mod step;
 pub mod taking;
+pub mod until_failure;
 mod work;
 
 pub use checks::check;
 pub use crx_engine::{BadDate, Compactor, Expander, Options, Step};
 pub use filters::{compact, expand};
 pub use outcome::Outcome;
+pub use until_failure::UntilFailure;

@@ -1,5 +1,6 @@
-//! What a device of std is asked, call by call: `Std` neither tries again nor leaves out a call.
+//! What a device of std is asked, call by call: `Std` neither tries again nor leaves out a call, nor does `UntilFailure` before a failure.
 
+use crx_filter::UntilFailure;
 use crx_text::{Fault, Sink, Source, Std};
 use std::io;
 use std::io::{Read, Write};
@@ -117,4 +118,44 @@ fn asks_the_inner_device_once_a_call(rt: HostRuntime) {
     ] {
         expect_one_call_each(&rt, kind);
     }
+}
+
+/// Counts the calls into numbers of the caller's; each of them is done.
+#[derive(Drop)]
+struct Noting<'a> {
+    writes: &'a mut u32,
+    flushes: &'a mut u32,
+}
+
+impl Write for Noting<'_> {
+    fn write(&mut self, bytes: &[u8]) -> io::Result<usize> {
+        *self.writes = self.writes.saturating_add(1);
+        Ok(bytes.len().min(1))
+    }
+
+    fn flush(&mut self) -> io::Result<()> {
+        *self.flushes = self.flushes.saturating_add(1);
+        Ok(())
+    }
+}
+
+/// Writes two bytes, of which one is taken, and flushes where that is asked for: how many writes and flushes the inner writer saw.
+fn counts_of_calls(rt: &impl Abort, is_flushed: bool) -> (u32, u32) {
+    let (mut writes, mut flushes) = (0, 0);
+    let mut writer = UntilFailure::new(Noting {
+        writes: &mut writes,
+        flushes: &mut flushes,
+    });
+    assert!(rt; matches!(writer.write(b"ab"), Ok(1)));
+    if is_flushed {
+        assert!(rt; writer.flush().is_ok());
+    }
+    drop(writer);
+    (writes, flushes)
+}
+
+#[test]
+fn each_call_reaches_the_inner_writer_once(rt: HostRuntime) {
+    assert!(rt; counts_of_calls(&rt, false) == (1, 0));
+    assert!(rt; counts_of_calls(&rt, true) == (1, 1));
 }

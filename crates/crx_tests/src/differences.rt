@@ -1,54 +1,62 @@
 //! Position-wise differences of texts, and back.
 
+use crate::expecting::{expect, expect_at};
 use crate::texts::shown;
 use crx_lines::limits::LINE_LIMIT;
 use crx_text::{Text, diff_text, patch_text, trim_end};
 use std::process::Abort;
 
+/// The text before each of those in the tables.
+const OLD: &[u8] = b"> 21 01 01  0 30";
+
+/// New texts, whether each may stand, and the marks after it.
+const MARKS: &[(&[u8], bool, &[u8])] = &[
+    (b"> 21 01 01  1  0  2", true, b"            1 &   2"),
+    (b"> 21 01 01  0 30 ", true, b""),
+    (b"a&b", false, b""),
+    (b"a\tb", false, b""),
+];
+
+/// Whether a new text has these marks.
+fn has_marks(old: &Text, marks: &mut Text, row: &(&[u8], bool, &[u8])) -> bool {
+    let (new, may_stand, wanted) = *row;
+    new.len() <= LINE_LIMIT
+        && diff_text(old, new, marks).is_ok() == may_stand
+        && marks.bytes() == wanted
+}
+
 #[test]
 fn marks_of_texts(rt: HostRuntime) {
-    // A new text, whether it may stand, and the marks after it.
-    let table: [(&[u8], bool, &[u8]); 4] = [
-        (b"> 21 01 01  1  0  2", true, b"            1 &   2"),
-        (b"> 21 01 01  0 30 ", true, b""),
-        (b"a&b", false, b""),
-        (b"a\tb", false, b""),
-    ];
     let mut old = Text::new();
-    assert!(rt; old.extend(b"> 21 01 01  0 30").is_ok());
+    assert!(rt; old.extend(OLD).is_ok());
     let mut marks = Text::new();
-    for (new, may_stand, wanted) in table {
-        if new.len() <= LINE_LIMIT {
-            let is_ok = diff_text(&old, new, &mut marks).is_ok();
-            assert!(rt;
-                is_ok == may_stand && marks.bytes() == wanted,
-                "{}",
-                shown(new)
-            );
-        }
+    for row in MARKS {
+        expect(&rt, has_marks(&old, &mut marks, row), shown(row.0));
     }
+}
+
+/// Marks, whether they may stand, and the text after them.
+const PATCHES: &[(&[u8], bool, &[u8])] = &[
+    (b"            1 &   2", true, b"> 21 01 01  1  0  2"),
+    (b"             &&&&&&", true, b"> 21 01 01  0"),
+    (b"a\tb", false, b"> 21 01 01  0"),
+];
+
+/// Whether marks give this text.
+fn gives(old: &Text, text: &mut Text, row: &(&[u8], bool, &[u8])) -> bool {
+    let (marks, may_stand, wanted) = *row;
+    marks.len() <= LINE_LIMIT
+        && patch_text(old, marks, text).is_ok() == may_stand
+        && text.bytes() == wanted
 }
 
 #[test]
 fn texts_of_marks(rt: HostRuntime) {
-    // Marks, whether they may stand, and the text after them.
-    let table: [(&[u8], bool, &[u8]); 3] = [
-        (b"            1 &   2", true, b"> 21 01 01  1  0  2"),
-        (b"             &&&&&&", true, b"> 21 01 01  0"),
-        (b"a\tb", false, b"> 21 01 01  0"),
-    ];
     let mut old = Text::new();
-    assert!(rt; old.extend(b"> 21 01 01  0 30").is_ok());
+    assert!(rt; old.extend(OLD).is_ok());
     let mut text = Text::new();
-    for (marks, may_stand, wanted) in table {
-        if marks.len() <= LINE_LIMIT {
-            let is_ok = patch_text(&old, marks, &mut text).is_ok();
-            assert!(rt;
-                is_ok == may_stand && text.bytes() == wanted,
-                "{}",
-                shown(marks)
-            );
-        }
+    for row in PATCHES {
+        expect(&rt, gives(&old, &mut text, row), shown(row.0));
     }
 }
 
@@ -74,61 +82,70 @@ fn lengths() -> [usize; 135] {
     lengths
 }
 
-/// Expects the marks between two texts that differ at one place, and the new text back.
-fn expect_mark(rt: &impl Abort, old: &Text, new: &[u8], place: usize, mark: u8) {
+/// Whether two texts that differ at one place have this mark there and no other, and the mark gives the new text back.
+fn is_marked(old: &Text, new: &[u8], place: usize, mark: u8) -> bool {
     let mut marks = Text::new();
     let mut back = Text::new();
-    if new.len() > LINE_LIMIT {
-        return;
-    }
-    assert!(rt; diff_text(old, new, &mut marks).is_ok());
-    assert!(rt;
-        marks.bytes().iter().position(|mark| *mark != b' ') == Some(place),
-        "{place} of {}",
-        new.len()
-    );
-    assert!(rt; marks.len() == place.saturating_add(1) && marks.bytes().last() == Some(&mark));
-    assert!(rt; patch_text(old, marks.bytes(), &mut back).is_ok());
-    assert!(rt; back.bytes() == trim_end(new), "{place} of {}", new.len());
+    new.len() <= LINE_LIMIT
+        && diff_text(old, new, &mut marks).is_ok()
+        && marks.bytes().iter().position(|mark| *mark != b' ') == Some(place)
+        && marks.len() == place.saturating_add(1)
+        && marks.bytes().last() == Some(&mark)
+        && patch_text(old, marks.bytes(), &mut back).is_ok()
+        && back.bytes() == trim_end(new)
 }
 
-/// Expects that a new text may not stand, and whether it may stand as marks.
-fn expect_refused(rt: &impl Abort, old: &Text, new: &[u8], may_be_marks: bool) {
+/// Whether a new text may not stand, and this is so of it as marks.
+fn is_refused(old: &Text, new: &[u8], may_be_marks: bool) -> bool {
     let mut out = Text::new();
-    if new.len() > LINE_LIMIT {
+    new.len() <= LINE_LIMIT
+        && diff_text(old, new, &mut out).is_err()
+        && patch_text(old, new, &mut out).is_ok() == may_be_marks
+}
+
+/// Characters in place of another one: the mark of each, and those that may not stand, with whether they may be marks.
+const MARKED: &[(u8, u8)] = &[(b'#', b'#'), (b' ', b'&')];
+
+const REFUSED: &[(u8, bool)] = &[(b'&', true), (127, false), (31, false)];
+
+/// Expects what is so with each of these characters at a place of a text.
+fn expect_others(rt: &impl Abort, old: &Text, new: &mut [u8], place: usize) {
+    if place >= new.len() {
         return;
     }
-    assert!(rt;
-        diff_text(old, new, &mut out).is_err(),
-        "{} bytes",
-        new.len()
+    let before = new[place];
+    expect_at(
+        rt,
+        trim_end(&new[..place]).len() == place,
+        "blank before",
+        place,
     );
-    assert_eq!(rt; patch_text(old, new, &mut out).is_ok(), may_be_marks);
+    for (character, mark) in MARKED {
+        new[place] = *character;
+        expect_at(rt, is_marked(old, new, place, *mark), "a mark at", place);
+    }
+    for (character, may_be_marks) in REFUSED {
+        new[place] = *character;
+        expect_at(
+            rt,
+            is_refused(old, new, *may_be_marks),
+            "a character at",
+            place,
+        );
+    }
+    new[place] = before;
 }
 
 #[test]
 fn one_other_character_at_each_length(rt: HostRuntime) {
     let mut old = Text::new();
     let mut new = letters();
-    for count in lengths() {
-        let length = count.min(LINE_LIMIT);
+    for count in lengths().iter() {
+        let length = LINE_LIMIT.min(*count);
         old.clear();
         assert!(rt; old.extend(&new[..length]).is_ok());
-        for place in [0, length / 2, length.saturating_sub(1)] {
-            if place >= length {
-                continue;
-            }
-            assert_eq!(rt; trim_end(&new[..place]).len(), place);
-            let before = new[place];
-            for (character, mark) in [(b'#', b'#'), (b' ', b'&')] {
-                new[place] = character;
-                expect_mark(&rt, &old, &new[..length], place, mark);
-            }
-            for (character, may_be_marks) in [(b'&', true), (127, false), (31, false)] {
-                new[place] = character;
-                expect_refused(&rt, &old, &new[..length], may_be_marks);
-            }
-            new[place] = before;
-        }
+        expect_others(&rt, &old, &mut new[..length], 0);
+        expect_others(&rt, &old, &mut new[..length], length / 2);
+        expect_others(&rt, &old, &mut new[..length], length.saturating_sub(1));
     }
 }

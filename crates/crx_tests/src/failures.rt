@@ -1,5 +1,8 @@
 //! Whole runs over devices that fail, at each point in turn: what was written, what was reported, and how the run ended.
 
+ghost use Rattle.std.specs.Prelude.{◌≡◌, ◌<◌};
+
+use crate::expecting::expect_at;
 use crate::texts::text;
 use crx_devices::{FailingSink, FailingSource, Plan, When};
 use crx_filter::{Options, Outcome, check, compact, expand};
@@ -77,24 +80,60 @@ impl Texts {
     }
 }
 
-/// Runs a case's filter over these devices.
-fn run(
-    alloc: Global,
-    case: &Case,
-    source: &mut FailingSource<'_>,
-    writer: &mut FailingSink,
-    messages: &mut FailingSink,
-) -> Result<Outcome, Fail> {
-    let options = Options::new(None, case.skip, b"D")?;
-    Ok(match case.tool {
-        Tool::Compact => compact(alloc, source, writer, messages, options),
-        Tool::Expand => expand(alloc, source, writer, messages, options),
-        Tool::Check => check(alloc, source, writer, messages),
-    })
-}
-
 /// Room for all that a case writes.
 const ROOM: usize = 4096;
+
+/// How the devices of a run go: how many bytes they give and take a call, and when they fail.
+#[derive(Clone, Copy)]
+struct Devices {
+    at_most: usize,
+    reads: Plan,
+    writes: Plan,
+    flushes: Plan,
+    reports: Plan,
+}
+
+/// Devices that give and take so many bytes a call, and never fail.
+fn good(at_most: usize) -> Devices
+    ensures { result.at_most ≡ at_most }
+{
+    Devices {
+        at_most,
+        reads: Plan::never(),
+        writes: Plan::never(),
+        flushes: Plan::never(),
+        reports: Plan::never(),
+    }
+}
+
+/// What a run left.
+#[derive(Drop)]
+struct Left {
+    outcome: Outcome,
+    writer: FailingSink,
+    messages: FailingSink,
+}
+
+/// Runs a case's filter over these devices.
+fn run(alloc: Global, case: &Case, texts: &Texts, devices: Devices) -> Result<Left, Fail>
+    requires { 0 < devices.at_most }
+{
+    let options = Options::new(None, case.skip, b"D")?;
+    let at_most = devices.at_most;
+    let mut source = FailingSource::new(texts.input.as_slice(), at_most, devices.reads);
+    let mut writer = FailingSink::new(alloc, ROOM, at_most, devices.writes, devices.flushes)?;
+    let mut messages = sink(alloc, at_most, devices.reports)?;
+    let outcome = match case.tool {
+        Tool::Compact => compact(alloc, &mut source, &mut writer, &mut messages, options),
+        Tool::Expand => expand(alloc, &mut source, &mut writer, &mut messages, options),
+        Tool::Check => check(alloc, &mut source, &mut writer, &mut messages),
+    };
+    Ok(Left {
+        outcome,
+        writer,
+        messages,
+    })
+}
 
 /// A sink that takes so many bytes a call, and whose writes fail by this plan.
 fn sink(alloc: Global, at_most: usize, writes: Plan) -> Result<FailingSink, AllocError> {

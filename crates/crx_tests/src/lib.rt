@@ -12,6 +12,8 @@ mod devices;
 #[cfg(test)]
 mod differences;
 #[cfg(test)]
+mod expecting;
+#[cfg(test)]
 mod failures;
 #[cfg(test)]
 mod faults;

@@ -1,6 +1,7 @@
 //! An LF at each place of a text, and none.
 ghost use Rattle.std.specs.Prelude.{◌<◌};
 
+use crate::expecting::expect_at;
 use crx_text::{LineReader, Std};
 use std::alloc::Global;
 use std::process::Abort;
@@ -17,10 +18,8 @@ fn expect_lengths(
     let mut lines = LineReader::new(alloc)?;
     for length in lengths {
         let line = lines.next_line(&mut reader);
-        assert!(rt;
-            matches!(line, Ok(Some(line)) if line.bytes().len() == *length),
-            "a line of {length} bytes"
-        );
+        let is_so = matches!(line, Ok(Some(line)) if line.bytes().len() == *length);
+        expect_at(rt, is_so, "a line of bytes:", *length);
     }
     assert!(rt; matches!(lines.next_line(&mut reader), Ok(None)));
     Ok(())

@@ -1,5 +1,6 @@
 //! Lines with each kind of line end, out of a slice and out of a reader that fails.
 
+use crate::expecting::expect_at;
 use crx_devices::{FailingSource, Plan, When};
 use crx_lines::limits::LINE_LIMIT;
 use crx_text::{At, Fault, Line, LineReader, Source, Std};
@@ -38,7 +39,7 @@ fn expect_answers<R: Source>(
     let mut lines = LineReader::new(alloc)?;
     for (call, answer) in wanted.iter().enumerate() {
         let is = is_wanted(lines.next_line(reader), *answer);
-        assert!(rt; is, "call {call}");
+        expect_at(rt, is, "call", call);
     }
     Ok(())
 }

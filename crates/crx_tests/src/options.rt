@@ -1,27 +1,32 @@
 //! Which dates are taken.
 
+use crate::expecting::expect;
 use crate::texts::shown;
-use crx_engine::{BadDate, Options};
+use crx_engine::Options;
+
+/// Dates, and whether they are taken.
+const DATES: &[(&[u8], bool)] = &[
+    (b"", true),
+    (b"D", true),
+    (b"01-Jan-24 00:00", true),
+    (b"12345678901234567890", true),
+    (b"123456789012345678901", false),
+    (b" ~", true),
+    (b"a\x1f", false),
+    (b"a\x7f", false),
+];
+
+/// Whether a date is refused, or taken as it is beside the choice to skip.
+fn is_so(date: &[u8], good: bool) -> bool {
+    match Options::new(None, true, date) {
+        Ok(options) => good && options.date() == date && options.skip(),
+        Err(_) => !good,
+    }
+}
 
 #[test]
 fn refuses_long_dates_and_other_bytes(rt: HostRuntime) {
-    let cases: [(&[u8], bool); 8] = [
-        (b"", true),
-        (b"D", true),
-        (b"01-Jan-24 00:00", true),
-        (b"12345678901234567890", true),
-        (b"123456789012345678901", false),
-        (b" ~", true),
-        (b"a\x1f", false),
-        (b"a\x7f", false),
-    ];
-    for (date, good) in cases {
-        match Options::new(None, true, date) {
-            Ok(options) => {
-                assert!(rt; good && options.date() == date, "{}", shown(date));
-                assert!(rt; options.skip());
-            }
-            Err(BadDate) => assert!(rt; !good, "{}", shown(date)),
-        }
+    for (date, good) in DATES {
+        expect(&rt, is_so(date, *good), shown(date));
     }
 }

@@ -3,6 +3,7 @@
 ghost use Rattle.std.specs.Prelude.{◌≡◌, true};
 ghost use Rattle.crx_rinex.specs.meaning.SatelliteLines.{is_identifier};
 
+use crate::expecting::expect;
 use crate::owned::Owned;
 use crate::texts::shown;
 use crx_rinex::{Epoch, EpochLine, Head, Printed, SatRow, Types, header_first, is_end};
@@ -42,38 +43,47 @@ const CLOCK: &[u8] = b"> 2024 01 01 00 00  0.0000000  0  1      -0.123456789012"
 
 const EVENT: &[u8] = b"> 2024 01 01 00 00  1.0000000  4  2";
 
+/// Versions and kinds of files in the first line, and what is answered to it.
+const FIRST: &[(&[u8; 9], u8, Result<(), Fault>)] = &[
+    (b"     3.04", b'O', Ok(())),
+    (b"3        ", b'O', Ok(())),
+    (b"3.0      ", b'O', Ok(())),
+    (b"     3.10", b'O', Err(Fault::UnsupportedVersion)),
+    (b"     2.11", b'N', Err(Fault::UnsupportedVersion)),
+    (b"       3.", b'O', Err(Fault::UnsupportedVersion)),
+    (b"    03.04", b'O', Err(Fault::UnsupportedVersion)),
+    (b"    3.004", b'O', Err(Fault::UnsupportedVersion)),
+    (b"     3.04", b'N', Err(Fault::NotObservation)),
+];
+
+/// What is answered to a first line with this version and this kind.
+fn first_answer(version: &[u8; 9], kind: u8) -> Result<(), Fault> {
+    let mut line = [b' '; 80];
+    line.copy_from_slice(VERSION);
+    line[..9].copy_from_slice(version);
+    line[20] = kind;
+    header_first(&line)
+}
+
 #[test]
 fn header_lines(rt: HostRuntime) {
-    assert_eq!(rt; header_first(VERSION), Ok(()));
-    assert_eq!(rt; header_first(ONE_TYPE), Err(Fault::MissingVersion));
-    for (version, kind, want) in [
-        (b"     3.04", b'O', Ok(())),
-        (b"3        ", b'O', Ok(())),
-        (b"3.0      ", b'O', Ok(())),
-        (b"     3.10", b'O', Err(Fault::UnsupportedVersion)),
-        (b"     2.11", b'N', Err(Fault::UnsupportedVersion)),
-        (b"       3.", b'O', Err(Fault::UnsupportedVersion)),
-        (b"    03.04", b'O', Err(Fault::UnsupportedVersion)),
-        (b"    3.004", b'O', Err(Fault::UnsupportedVersion)),
-        (b"     3.04", b'N', Err(Fault::NotObservation)),
-    ] {
-        let mut line = [b' '; 80];
-        line.copy_from_slice(VERSION);
-        line[..9].copy_from_slice(version);
-        line[20] = kind;
-        assert_eq!(rt; header_first(&line), want, "{}", shown(version));
+    assert!(rt; header_first(VERSION) == Ok(()));
+    assert!(rt; header_first(ONE_TYPE) == Err(Fault::MissingVersion));
+    for (version, kind, want) in FIRST {
+        expect(&rt, first_answer(version, *kind) == *want, shown(*version));
     }
     assert!(rt; is_end(END));
     assert!(rt; !is_end(VERSION));
 }
 
-/// Expects these counts of types, by letters in their order, and no others.
-fn expect_types(rt: &impl Abort, types: &Types, entries: &[(u8, usize)]) {
+/// Whether these are the counts of types, by letters in their order, and no others.
+fn are_types(types: &Types, entries: &[(u8, usize)]) -> bool {
     for (place, entry) in entries.iter().enumerate() {
-        assert_eq!(rt; types.entry(place), Some(*entry));
-        assert_eq!(rt; types.count(entry.0), Some(entry.1));
+        if types.entry(place) != Some(*entry) || types.count(entry.0) != Some(entry.1) {
+            return false;
+        }
     }
-    assert_eq!(rt; types.entry(entries.len()), None);
+    types.entry(entries.len()).is_none()
 }
 
 /// A line, whether it is accepted, the counts of types after it, and the one of Galileo among them.
@@ -101,33 +111,39 @@ fn types_by_letter(rt: HostRuntime) {
     let mut owner = Owned::of(Types::new(rt.alloc()));
     let types = &mut owner.value;
     for (line, want, entries, galileo) in TYPES_LINES {
-        assert!(rt; types.accept_line(line) == *want, "{}", shown(line));
-        expect_types(&rt, types, entries);
-        assert_eq!(rt; types.count(b'E'), *galileo);
+        expect(&rt, types.accept_line(line) == *want, shown(line));
+        expect(&rt, are_types(types, entries), shown(line));
+        expect(&rt, types.count(b'E') == *galileo, shown(line));
     }
 }
 
 /// Lines that begin no epoch of observations.
 const NO_EPOCH: &[(&[u8], Fault)] = &[(VERSION, Fault::NotAnEpoch), (b">", Fault::BadEpoch)];
 
+/// Whether a line is refused with this fault.
+fn begins_none(line: &[u8], fault: Fault) -> bool {
+    matches!(Head::read(line), Err(given) if given == fault)
+}
+
+/// Whether a line is that of the epoch with a clock offset.
+fn is_with_clock(line: &[u8]) -> bool {
+    match Head::read(line) {
+        Ok(Head::Epoch(line)) => {
+            line.count() == 1
+                && line.clock() == Some(-123456789012)
+                && &line.columns()[..35] == HEAD
+        }
+        _ => false,
+    }
+}
+
 #[test]
-fn epoch_lines(rt: HostRuntime) -> Result<(), Fail> {
-    let Head::Epoch(line) = Head::read(CLOCK)? else {
-        return Err(Fault::NotAnEpoch.into());
-    };
-    assert_eq!(rt; line.count(), 1);
-    assert_eq!(rt; line.clock(), Some(-123456789012));
-    assert!(rt; &line.columns()[..35] == HEAD);
+fn epoch_lines(rt: HostRuntime) {
+    expect(&rt, is_with_clock(CLOCK), shown(CLOCK));
     assert!(rt; matches!(Head::read(EVENT), Ok(Head::Event { flag: 4, count: 2 })));
     for (line, fault) in NO_EPOCH {
-        let read = Head::read(line);
-        assert!(rt;
-            matches!(read, Err(given) if given == *fault),
-            "{}",
-            shown(line)
-        );
+        expect(&rt, begins_none(line, *fault), shown(line));
     }
-    Ok(())
 }
 
 /// Counts of types that a line declares.
@@ -144,13 +160,14 @@ struct Held<'a> {
     flags: &'a [u8],
 }
 
-fn expect_row(rt: &impl Abort, row: &SatRow, want: &Held<'_>) {
-    assert!(rt; row.name() == want.name);
+/// Whether a row holds this.
+fn holds(row: &SatRow, want: &Held<'_>) -> bool {
     for (place, value) in want.values.iter().enumerate() {
-        assert_eq!(rt; row.value(place), Some(*value), "{place}");
+        if row.value(place) != Some(*value) {
+            return false;
+        }
     }
-    assert_eq!(rt; row.value(want.values.len()), None);
-    assert!(rt; row.flags() == want.flags);
+    row.name() == want.name && row.value(want.values.len()).is_none() && row.flags() == want.flags
 }
 
 /// Lines with two types, and the rows that they are read as.
@@ -188,28 +205,47 @@ const BAD_LINES: &[(&[u8], Fault)] = &[
     (b"G01         1.000&                   ", Fault::BadFlags),
 ];
 
+/// Whether a line is read as this row.
+fn is_read(alloc: Global, types: &Types, line: &[u8], want: &Held<'_>) -> bool {
+    match SatRow::read(alloc, types, line) {
+        Ok(row) => holds(&row, want),
+        Err(_) => false,
+    }
+}
+
+/// Whether a line is refused as a row with this fault.
+fn is_no_row(alloc: Global, types: &Types, line: &[u8], want: Fault) -> bool {
+    matches!(SatRow::read(alloc, types, line), Err(fault) if fault == want)
+}
+
 #[test]
 fn satellite_lines(rt: HostRuntime) -> Result<(), Fail> {
     let types = types_of(rt.alloc(), TWO_TYPES)?;
     for (line, want) in GOOD_LINES {
-        expect_row(&rt, &SatRow::read(rt.alloc(), &types.value, line)?, want);
+        expect(
+            &rt,
+            is_read(rt.alloc(), &types.value, line, want),
+            shown(line),
+        );
     }
     for (line, want) in BAD_LINES {
-        let read = SatRow::read(rt.alloc(), &types.value, line);
-        assert!(rt;
-            matches!(read, Err(fault) if fault == *want),
-            "{}",
-            shown(line)
+        expect(
+            &rt,
+            is_no_row(rt.alloc(), &types.value, line, *want),
+            shown(line),
         );
     }
     Ok(())
 }
 
-/// Expects that these lines come next.
-fn expect_lines(rt: &impl Abort, lines: &mut Printed, want: &[&[u8]]) {
+/// Whether these lines come next, and no others.
+fn are_lines(lines: &mut Printed, want: &[&[u8]]) -> bool {
     for line in want {
-        assert!(rt; lines.next_line() == Some(*line), "{}", shown(line));
+        if lines.next_line() != Some(*line) {
+            return false;
+        }
     }
+    lines.next_line().is_none()
 }
 
 /// Whether an epoch takes a blank row; one that is refused is handed back.
@@ -247,7 +283,10 @@ fn epochs_of_rows(rt: HostRuntime) -> Result<(), Fail> {
     assert_eq!(rt; epoch.value.head().count(), 2);
     let mut lines = Owned::of(Printed::new(epoch.into_value()));
     let first: &[u8] = b"> 2024 01 01 00 00  0.0000000  0  2       0.000000000003";
-    expect_lines(&rt, &mut lines.value, &[first, b"G01", b"G 1"]);
-    assert!(rt; lines.value.next_line().is_none());
+    expect(
+        &rt,
+        are_lines(&mut lines.value, &[first, b"G01", b"G 1"]),
+        shown(first),
+    );
     Ok(())
 }

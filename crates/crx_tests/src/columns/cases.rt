@@ -12,8 +12,8 @@ const FULL: bool = true;
 /// An epoch that goes on from the one before it, where there is one.
 const NEXT: bool = false;
 
-/// Epochs that are written as they are read.
-pub const BOTH_WAYS: &[Table] = &[
+/// Epochs that are written as they are read: see [`both_ways`].
+const BOTH_WAYS: &[Table] = &[
     (
         "five values of one cell",
         &[
@@ -257,8 +257,8 @@ pub const BOTH_WAYS: &[Table] = &[
     ),
 ];
 
-/// Epochs whose compact lines others write.
-pub const READ_ALONE: &[Table] = &[
+/// Epochs whose compact lines others write: see [`read_alone`].
+const READ_ALONE: &[Table] = &[
     (
         "marks past the last identifier",
         &[
@@ -371,3 +371,13 @@ pub const READ_ALONE: &[Table] = &[
         )],
     ),
 ];
+
+/// Epochs that are written as they are read. One function names the table: the prover goes through it wherever it is named.
+pub fn both_ways() -> &'static [Table] {
+    BOTH_WAYS
+}
+
+/// Epochs whose compact lines others write.
+pub fn read_alone() -> &'static [Table] {
+    READ_ALONE
+}

@@ -5,8 +5,9 @@ ghost use Rattle.std.specs.Prelude.{◌≡◌, ◌≤◌, length, false};
 ghost use Rattle.crx_lines.specs.declared.limits.TheConstants.{LINE_LIMIT};
 ghost use Rattle.crx_rinex.specs.meaning.EpochLines.{is_event_line};
 
-use super::cases::{BOTH_WAYS, Case, READ_ALONE, Table};
+use super::cases::{Table, both_ways, read_alone};
 use super::*;
+use crate::expecting::expect;
 use crx_compact::read_back::read_back;
 use crx_lines::limits::LINE_LIMIT;
 use crx_rinex::{Printed, is_event_line};
@@ -66,30 +67,37 @@ fn prints(given: Option<Owned<Epoch>>, want: &str) -> bool {
     printed.value.next_line().is_none()
 }
 
+/// Whether compact lines are read as the epoch that has these RINEX lines.
+fn is_read(
+    columns: &mut Columns,
+    types: &Types,
+    compact: &str,
+    rinex: &str,
+) -> Result<bool, Fault> {
+    let given = take_all(columns, types, compact)?;
+    Ok(prints(given, rinex) && columns.is_idle())
+}
+
 /// Expects that the epochs of a table are read, one after another.
 fn expect_read(
     rt: &impl Abort,
-    alloc: Global,
     columns: &mut Columns,
+    types: &Types,
     table: &Table,
 ) -> Result<(), Fail> {
-    let (name, cases) = *table;
-    let types = types_of(alloc, ONE_TYPE)?;
-    for (_, rinex, compact) in cases {
-        let given = take_all(columns, &types.value, compact)?;
-        assert!(rt;
-            prints(given, rinex) && columns.is_idle(),
-            "{name}: {rinex}"
-        );
+    for (_, rinex, compact) in table.1 {
+        let is_so = is_read(columns, types, compact, rinex)?;
+        expect(rt, is_so, rinex);
     }
     Ok(())
 }
 
 #[test]
 fn epochs_read(rt: HostRuntime) -> Result<(), Fail> {
-    for table in BOTH_WAYS.iter().chain(READ_ALONE) {
+    let types = types_of(rt.alloc(), ONE_TYPE)?;
+    for table in both_ways().iter().chain(read_alone()) {
         let mut owner = no_columns(rt.alloc());
-        expect_read(&rt, rt.alloc(), &mut owner.value, table)?;
+        expect_read(&rt, &mut owner.value, &types.value, table)?;
     }
     Ok(())
 }
@@ -127,18 +135,15 @@ fn other_counts_of_types(rt: HostRuntime) -> Result<(), Fail> {
     let mut owner = no_columns(rt.alloc());
     for (line, compact, rinex) in OTHER_COUNTS {
         let types = types_of(rt.alloc(), line)?;
-        let given = take_all(&mut owner.value, &types.value, compact)?;
-        assert!(rt; prints(given, rinex), "{rinex}");
+        let is_so = is_read(&mut owner.value, &types.value, compact, rinex)?;
+        expect(&rt, is_so, rinex);
     }
     let types = types_of(rt.alloc(), TWO_TYPES)?;
-    let given = take_all(
-        &mut owner.value,
-        &types.value,
-        "                    4||3&1 5000",
+    let past = "                    4||3&1 5000";
+    let is_no_arc = matches!(
+        take_all(&mut owner.value, &types.value, past),
+        Err(Fault::NoArc)
     );
-    assert!(rt;
-        matches!(given, Err(Fault::NoArc)),
-        "an arc past the count of the line before"
-    );
+    expect(&rt, is_no_arc, "an arc past the count of the line before");
     Ok(())
 }

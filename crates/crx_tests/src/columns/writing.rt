@@ -1,7 +1,8 @@
 //! Epochs to compact lines.
 
-use super::cases::{BOTH_WAYS, Case, Table};
+use super::cases::{Case, Table, both_ways};
 use super::*;
+use crate::expecting::expect;
 use crx_compact::Coded;
 use crx_compact::lines::Lines;
 use std::process::Abort;
@@ -48,25 +49,22 @@ fn expect_encoded(
     rt: &impl Abort,
     alloc: Global,
     columns: &mut Columns,
+    types: &Types,
     table: &Table,
 ) -> Result<(), Fail> {
-    let (name, cases) = *table;
-    let types = types_of(alloc, ONE_TYPE)?;
-    for case in cases {
-        assert!(rt;
-            is_encoded(alloc, columns, &types.value, case)?,
-            "{name}: {}",
-            case.1
-        );
+    for case in table.1 {
+        let is_so = is_encoded(alloc, columns, types, case)?;
+        expect(rt, is_so, case.1);
     }
     Ok(())
 }
 
 #[test]
 fn epochs_encoded(rt: HostRuntime) -> Result<(), Fail> {
-    for table in BOTH_WAYS {
+    let types = types_of(rt.alloc(), ONE_TYPE)?;
+    for table in both_ways() {
         let mut owner = no_columns(rt.alloc());
-        expect_encoded(&rt, rt.alloc(), &mut owner.value, table)?;
+        expect_encoded(&rt, rt.alloc(), &mut owner.value, &types.value, table)?;
     }
     Ok(())
 }

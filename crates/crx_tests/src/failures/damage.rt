@@ -1,6 +1,6 @@
 //! Compact text that is cut off at each byte, or has each byte replaced.
 
-use super::cases::CASES;
+use super::cases::cases;
 use super::*;
 use crx_text::Std;
 
@@ -59,30 +59,33 @@ fn has_ended(run: &Run) -> bool {
     }
 }
 
+/// Whether a prefix of a case's input is expanded, with and without faults that are skipped, to what its whole lines make at least.
+fn is_expanded(alloc: Global, case: &Case, texts: &Texts, prefix: &[u8]) -> Result<bool, Fail> {
+    let lines = lines_before_last(prefix);
+    let count = case.after.get(lines).copied().unwrap_or(0);
+    let stopped = expanded(alloc, prefix, Options::new(None, false, b"")?);
+    let skipped = expanded(alloc, prefix, Options::new(None, true, b"")?);
+    let whole = texts.output.as_slice();
+    Ok(
+        has_ended(&stopped)
+            && has_ended(&skipped)
+            && has_written(&stopped, whole, count)
+            && has_written(&skipped, whole, count),
+    )
+}
+
 #[test]
 fn each_prefix_is_expanded(rt: HostRuntime) -> Result<(), Fail> {
-    let mut tried: u64 = 0;
-    for case in CASES.iter() {
+    for case in cases().iter() {
         if let Tool::Expand = case.tool {
             let texts = Texts::of(rt.alloc(), case)?;
             let input = texts.input.as_slice();
             for length in 0..input.len() {
-                let prefix = &input[..length];
-                let lines = lines_before_last(prefix);
-                let count = case.after.get(lines).copied().unwrap_or(0);
-                for skip in [false, true] {
-                    let run = expanded(rt.alloc(), prefix, Options::new(None, skip, b"")?);
-                    assert!(rt; has_ended(&run), "{length} bytes");
-                    assert!(rt;
-                        has_written(&run, texts.output.as_slice(), count),
-                        "{length} bytes"
-                    );
-                    tried = tried.saturating_add(1);
-                }
+                let is_so = is_expanded(rt.alloc(), case, &texts, &input[..length])?;
+                expect_at(&rt, is_so, case.input, length);
             }
         }
     }
-    println!(rt; "{tried} prefixes expanded")?;
     Ok(())
 }
 
@@ -101,23 +104,27 @@ fn with_byte(alloc: Global, text: &[u8], place: usize, byte: u8) -> Result<Vec<u
     Ok(damaged)
 }
 
+/// Whether a text with another byte at a place is expanded to an end, with and without faults that are skipped.
+fn has_ends(alloc: Global, text: &[u8], place: usize, byte: u8) -> Result<bool, Fail> {
+    let input = with_byte(alloc, text, place, byte)?;
+    let stopped = expanded(alloc, input.as_slice(), Options::new(None, false, b"")?);
+    let skipped = expanded(alloc, input.as_slice(), Options::new(None, true, b"")?);
+    Ok(has_ended(&stopped) && has_ended(&skipped))
+}
+
+/// The bytes that are put in place of others.
+const BYTES: &[u8] = &[0, 31, b'&', b'>', 127, 255];
+
 #[test]
 fn each_byte_is_replaced(rt: HostRuntime) -> Result<(), Fail> {
-    let mut tried: u64 = 0;
     for lines in TEXTS {
         let whole = text(rt.alloc(), lines)?;
         for place in 0..whole.len() {
-            for byte in [0, 31, b'&', b'>', 127, 255] {
-                let input = with_byte(rt.alloc(), whole.as_slice(), place, byte)?;
-                for skip in [false, true] {
-                    let options = Options::new(None, skip, b"")?;
-                    let run = expanded(rt.alloc(), input.as_slice(), options);
-                    assert!(rt; has_ended(&run), "{byte} at {place}");
-                    tried = tried.saturating_add(1);
-                }
+            for byte in BYTES {
+                let is_so = has_ends(rt.alloc(), whole.as_slice(), place, *byte)?;
+                expect_at(&rt, is_so, lines, place);
             }
         }
     }
-    println!(rt; "{tried} damaged texts expanded")?;
     Ok(())
 }

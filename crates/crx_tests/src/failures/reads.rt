@@ -1,6 +1,6 @@
 //! Each read fails in turn.
 
-use super::cases::CASES;
+use super::cases::cases;
 use super::*;
 
 /// How many lines were given whole.
@@ -12,53 +12,43 @@ fn lines_in(bytes: &[u8], given: usize) -> usize {
         .count()
 }
 
-/// A source that gives one byte a call, and fails after so many: the output is that of the lines whose LF was given.
-fn fails_after(
-    rt: &impl Abort,
-    alloc: Global,
-    case: &Case,
-    texts: &Texts,
-    given: usize,
-) -> Result<(), Fail> {
-    let plan = Plan::from_then_on(When::AfterBytes(given));
-    let mut source = FailingSource::new(texts.input.as_slice(), 1, plan);
-    let mut writer = sink(alloc, ROOM, Plan::never())?;
-    let mut messages = sink(alloc, ROOM, Plan::never())?;
-    let outcome = run(alloc, case, &mut source, &mut writer, &mut messages)?;
-    assert!(rt; writer.flushes() == 1);
-    let lines = lines_in(texts.input.as_slice(), given);
-    assert!(rt;
-        texts.is_output_after(case, lines, writer.contents()),
-        "after {given} bytes"
-    );
-    // The run had ended before the line after these
-    if matches!(case.outcome.fault, Some(at) if at.line <= lines as u64) {
-        assert!(rt; outcome == case.outcome);
-        return Ok(());
+/// Whether a run ended with the failed read after so many lines, or before it as the case does.
+fn has_stopped(alloc: Global, case: &Case, left: &Left, lines: u64) -> Result<bool, Fail> {
+    if matches!(case.outcome.fault, Some(at) if at.line <= lines) {
+        return Ok(left.outcome == case.outcome);
     }
     let at = At {
-        line: (lines as u64).saturating_add(1),
+        line: lines.saturating_add(1),
         fault: Fault::ReadFailed,
     };
-    let wanted = messages_until(alloc, case, lines as u64, at)?;
-    assert!(rt; outcome == ended(at), "after {given} bytes");
-    assert!(rt;
-        messages.contents() == wanted.as_slice(),
-        "after {given} bytes"
-    );
-    Ok(())
+    let wanted = messages_until(alloc, case, lines, at)?;
+    Ok(left.outcome == ended(at) && left.messages.contents() == wanted.as_slice())
+}
+
+/// A source that gives one byte a call, and fails after so many: the output is that of the lines whose LF was given.
+fn fails_after(alloc: Global, case: &Case, texts: &Texts, given: usize) -> Result<bool, Fail> {
+    let devices = Devices {
+        reads: Plan::from_then_on(When::AfterBytes(given)),
+        ..good(1)
+    };
+    let left = run(alloc, case, texts, devices)?;
+    let lines = lines_in(texts.input.as_slice(), given);
+    let has_stopped = has_stopped(alloc, case, &left, lines as u64)?;
+    Ok(
+        has_stopped
+            && left.writer.flushes() == 1
+            && texts.is_output_after(case, lines, left.writer.contents()),
+    )
 }
 
 #[test]
 fn each_read_fails(rt: HostRuntime) -> Result<(), Fail> {
-    let mut tried: u64 = 0;
-    for case in CASES.iter() {
+    for case in cases().iter() {
         let texts = Texts::of(rt.alloc(), case)?;
         for given in 0..texts.input.len() {
-            fails_after(&rt, rt.alloc(), case, &texts, given)?;
-            tried = tried.saturating_add(1);
+            let is_so = fails_after(rt.alloc(), case, &texts, given)?;
+            expect_at(&rt, is_so, case.input, given);
         }
     }
-    println!(rt; "{tried} reads failed")?;
     Ok(())
 }

@@ -122,7 +122,7 @@ fn a_device_fails(rt: HostRuntime) -> Result<(), Fail> {
         },
     ];
     for (place, row) in rows.iter().enumerate() {
-        assert!(rt; passes(rt.alloc(), row)?, "row {place}");
+        expect_at(&rt, passes(rt.alloc(), row)?, "row", place);
     }
     Ok(())
 }

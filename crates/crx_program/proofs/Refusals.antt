@@ -1,0 +1,55 @@
+-- What the user reads of a refusal.
+use Rattle.std.proofs.Common.{◌≡◌, ◌∙◌, List, [], ℕ, Err, Some, inr, ap, refl, Bool, true, false, true≢false}
+use Rattle.std.specs.Option.{IfSome}
+use Rattle.crx_filter.specs.meaning.Spans.{Device}
+use Rattle.crx_lines.specs.declared.fault.Fault.TheVariants.{OutOfMemory}
+use Rattle.crx_program.specs.meaning.Planning.{Plan, Help, Run, Refused, Refusal, Parse, DashTwice, TwoFiles, BadDate}
+use Rattle.crx_program.specs.meaning.Planning.{NoName}
+use Rattle.crx_program.specs.Planning.{plan_in}
+use Rattle.crx_program.specs.meaning.Program.{IsLineOf, IsRefused, IsShown, at_start}
+use Rattle.crx_program.specs.declared.job.Job.{Job}
+use Rattle.crx_program.specs.declared.job.UsageFault.{UsageFault}
+use Rattle.crx_program.specs.declared.job.UsageFault.TheVariants as usage_fault
+
+-- each refusal has a line
+some_line : (refusal : Refusal) → (line : List ℕ) × IsLineOf refusal line
+some_line Parse = ([], tt)
+some_line DashTwice = (_, refl)
+some_line TwoFiles = (_, refl)
+some_line BadDate = (_, refl)
+some_line (NoName name) = (_, refl)
+
+module _ (p : Plan) (refusal : Refusal) (messages : Device) (status : ℕ) where
+  -- words are refused by the line of their fault, or by that of the memory that ran out
+  pub refused_by : (fault : UsageFault)
+      → p ≡ Refused refusal → status ≡ 1 → (fault ≡ usage_fault.Memory → IsShown messages (at_start OutOfMemory))
+      → (plan_in (Err fault) ≡ Some (Refused refusal) → IsRefused messages refusal status)
+      → IfSome (plan_in (Err fault)) (λ plan. plan ≡ p) → IsRefused messages refusal status
+  refused_by (usage_fault.Parse text) e one memory by h = by (ap Some (h ∙ e))
+  refused_by usage_fault.DashTwice e one memory by h = by (ap Some (h ∙ e))
+  refused_by usage_fault.TwoFiles e one memory by h = by (ap Some (h ∙ e))
+  refused_by usage_fault.BadDate e one memory by h = by (ap Some (h ∙ e))
+  refused_by (usage_fault.NoName name) e one memory by h = by (ap Some (h ∙ e))
+  refused_by usage_fault.Memory e one memory by h =
+      (one, ((some_line refusal).0, (some_line refusal).1, inr (memory refl)))
+
+-- a refusal isn't a run
+abbrev is_refused : Plan → Bool
+is_refused Help = false
+is_refused (Run job) = false
+is_refused (Refused refusal) = true
+
+refused-run : (refusal : Refusal) (job : Job) → Refused refusal ≡ Run job → ⊥
+refused-run refusal job e = true≢false (ap is_refused e)
+
+-- where words that ask for a run have a fault, memory ran out
+module _ (p : Plan) (job : Job) (messages : Device) where
+  pub not_run : (fault : UsageFault)
+      → p ≡ Run job → (fault ≡ usage_fault.Memory → IsShown messages (at_start OutOfMemory))
+      → IfSome (plan_in (Err fault)) (λ plan. plan ≡ p) → IsShown messages (at_start OutOfMemory)
+  not_run (usage_fault.Parse text) e memory h = absurd (refused-run Parse job (h ∙ e))
+  not_run usage_fault.DashTwice e memory h = absurd (refused-run DashTwice job (h ∙ e))
+  not_run usage_fault.TwoFiles e memory h = absurd (refused-run TwoFiles job (h ∙ e))
+  not_run usage_fault.BadDate e memory h = absurd (refused-run BadDate job (h ∙ e))
+  not_run (usage_fault.NoName name) e memory h = absurd (refused-run (NoName name) job (h ∙ e))
+  not_run usage_fault.Memory e memory h = memory refl

@@ -1,0 +1,49 @@
+use Rattle.std.proofs.Common.{◌≡◌, ◌∙◌, map, inl, inr, refl, string_bytes}
+use Rattle.crx_program.specs.meaning.Planning.{Run, plan_of}
+use Rattle.crx_program.specs.meaning.Jobs.{NoMemory}
+use Rattle.crx_filter.specs.meaning.Spans.{span, reader_span}
+use Rattle.crx_program.specs.declared.job.Job.{Job}
+use Rattle.crx_program.proofs.FilterEnds.{done_for}
+use Rattle.crx_program.proofs.JobFits.{job_fits}
+use Rattle.crx_program.proofs.Refusals.{not_run, refused_by}
+use Rattle.crx_program.proofs.program.run.Goals as goal
+
+-- a run is of one job
+same_job : (a b : Job) → Run a ≡ Run b → a ≡ b
+same_job a b e = cc
+
+pub returns-in-Err-clause-refused : goal.returns-in-Err-clause-refused
+returns-in-Err-clause-refused g c = λ refusal e. (
+  refused_by _ refusal (span g.M.Sink c.args.messages.now c.refuse.new.messages)
+      c.refuse.result c.in-Err.fault e c.refuse.ensures.status
+      c.refuse.ensures.memory (c.refuse.ensures.refused refusal) c.in-Err.ensures,
+  refl {a = c.args.input.now},
+  refl {a = c.args.output.now},
+)
+
+pub returns-in-Err-clause-done : goal.returns-in-Err-clause-done
+returns-in-Err-clause-done g c = λ job e. inr (record {
+  why = NoMemory;
+  can = tt;
+  shown = inl (not_run _ job (span g.M.Sink c.args.messages.now c.refuse.new.messages)
+      c.in-Err.fault e c.refuse.ensures.memory c.in-Err.ensures);
+  status_is = c.refuse.ensures.status;
+  same = (refl, refl);
+})
+
+pub run_job-requires : goal.run_job-requires
+run_job-requires g c =
+    let planned : Run c.in-Ok-Run.job ≡ plan_of (map string_bytes c.args.words.items) =
+    rw c.in-Ok-Run.field-0-is at c.in-Ok-Run.ensures in
+    job_fits (map string_bytes c.args.words.items) c.in-Ok-Run.job planned
+
+pub returns-in-Ok-Run-clause-done : goal.returns-in-Ok-Run-clause-done
+returns-in-Ok-Run-clause-done g c = λ job e.
+    let planned : Run c.in-Ok-Run.job ≡ plan_of (map string_bytes c.args.words.items) =
+    rw c.in-Ok-Run.field-0-is at c.in-Ok-Run.ensures in
+    done_for _ _ c.in-Ok-Run.job job
+    (reader_span g.R.Source c.args.input.now c.run_job.new.input)
+    (span g.W.Sink c.args.output.now c.run_job.new.output)
+    (span g.M.Sink c.args.messages.now c.run_job.new.messages) c.run_job.result
+    ((c.run_job.new.input ≡ c.args.input.now) × (c.run_job.new.output ≡ c.args.output.now))
+    (same_job c.in-Ok-Run.job job (planned ∙ e)) c.run_job.ensures.done

@@ -1,0 +1,52 @@
+-- What a user reads where nothing is run, and what a run of the program leaves.
+use Rattle.std.specs.Prelude.{◌≡◌, ◌⊎◌, ⊤, ℕ, List, [], ◌++◌, Some, codes}
+use Rattle.crx_lines.specs.meaning.Devices.{with_failed_flush, with_failed_write, with_flush}
+use Rattle.crx_lines.specs.declared.fault.Fault.{Fault}
+use Rattle.crx_lines.specs.declared.fault.Fault.TheVariants.{OutOfMemory, WriteFailed}
+use Rattle.crx_engine.specs.meaning.Messages.{error_text}
+use Rattle.crx_filter.specs.meaning.Spans.{Device, TookAll, TookPart}
+use Rattle.crx_program.specs.meaning.Planning.{Refusal, Parse, DashTwice, TwoFiles, BadDate, NoName}
+
+-- ---- lines
+
+-- what is wrong, and a name or nothing
+abbrev pub error_line : List ℕ → List ℕ → List ℕ
+error_line words name = codes "ERROR: " ++ words ++ name ++ codes "\n"
+
+-- the message of a fault that came before the first line was read
+abbrev pub at_start : Fault → List ℕ
+at_start fault = error_text (Some (record { line = 0; fault = fault }))
+
+-- the line of a refusal; where the parser refuses the words, no clause says which line it is
+abbrev pub IsLineOf : Refusal → List ℕ → Type 0
+IsLineOf Parse line = ⊤
+IsLineOf DashTwice line = line ≡ error_line (codes "- given twice") []
+IsLineOf TwoFiles line = line ≡ error_line (codes "more than one file name") []
+IsLineOf BadDate line = line ≡ error_line (codes "bad date") []
+IsLineOf (NoName name) line = line ≡ error_line (codes "no output name for ") name
+
+-- ---- messages
+
+-- a line was written to the messages, whole or as far as it went
+abbrev pub IsShown : Device → List ℕ → Type 0
+IsShown messages line = TookAll messages line ⊎ TookPart messages line
+
+-- it was written, or where no memory is left for it the line that says so
+abbrev pub IsShownOr : Device → List ℕ → Type 0
+IsShownOr messages line = IsShown messages line ⊎ IsShown messages (at_start OutOfMemory)
+
+-- ---- a run
+
+-- the words are refused: the exit status is 1, and the line of the refusal is shown
+abbrev pub IsRefused : Device → Refusal → ℕ → Type 0
+IsRefused messages refusal status = (status ≡ 1) × ((line : List ℕ) × IsLineOf refusal line × IsShownOr messages line)
+
+-- the help was written and flushed once; or the writer failed, in a write, after which no flush is asked for, or in
+-- that flush, which is fault 21 at line 0; or no memory was left for it
+abbrev pub IsHelped : Device → Device → ℕ → Type 0
+IsHelped writer messages status =
+    ((status ≡ 0) × ((text : List ℕ) × writer.took text)
+    × (writer.after ≡ with_flush writer.before) × writer.flushed × TookAll messages [])
+    ⊎ (((status ≡ 1) × ((writer.after ≡ with_failed_write writer.before)
+    ⊎ (writer.after ≡ with_failed_flush writer.before)) × IsShown messages (at_start WriteFailed))
+    ⊎ ((status ≡ 1) × TookAll writer [] × IsShown messages (at_start OutOfMemory)))

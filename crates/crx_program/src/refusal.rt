@@ -1,0 +1,72 @@
+//! The lines that a user reads where nothing is run.
+
+ghost use Rattle.std.specs.Prelude.{◌≡◌, Some, Err};
+ghost use Rattle.crx_program.specs.meaning.Planning.{Refusal, Refused};
+ghost use Rattle.crx_program.specs.Planning.{plan_in};
+ghost use Rattle.crx_program.specs.meaning.Program.{IsRefused, IsShown, IsShownOr, at_start, error_line};
+ghost use Rattle.crx_filter.specs.meaning.Spans.{span};
+
+use crate::job::UsageFault;
+use crate::word::Word;
+use crx_filter::message::{Severity, message};
+use crx_text::{At, Fault, Sink, write_all_counted};
+use std::alloc::Global;
+
+/// The exit status of a run that an error ended.
+pub const FAILED: u8 = 1;
+
+/// Writes a line of the messages; a failure ends it where it comes.
+fn show<M: Sink>(messages: &mut M, line: &[u8])
+    ensures { IsShown (span M.Sink messages.old messages.new) line.now }
+{
+    match write_all_counted(messages, line) {
+        Ok(()) => {}
+        Err(_) => {}
+    }
+}
+
+/// Reports a fault that came before the first line was read, and answers the exit status.
+#[inline(never)]
+pub fn report_at_start<M: Sink>(messages: &mut M, fault: Fault) -> u8
+    ensures shown { IsShown (span M.Sink messages.old messages.new) (at_start fault) }
+    ensures status { result ≡ 1 }
+{
+    show(
+        messages,
+        message(Severity::Error, At { line: 0, fault }).bytes(),
+    );
+    FAILED
+}
+
+/// Reports what is wrong, and a name, as `ERROR: file exists: a.crx`, and answers the exit status. If the system refuses memory
+/// for the line, it reports that.
+pub fn report<M: Sink>(alloc: Global, messages: &mut M, words: &str, name: &str) -> u8
+    ensures shown { IsShownOr (span M.Sink messages.old messages.new) (error_line words.now name.now) }
+    ensures status { result ≡ 1 }
+{
+    match Word::error_line(alloc, words, name) {
+        Ok(line) => {
+            show(messages, line.text().as_bytes());
+            FAILED
+        }
+        Err(_) => report_at_start(messages, Fault::OutOfMemory),
+    }
+}
+
+/// Reports why the arguments ask for nothing that can be done, and answers the exit status.
+pub fn refuse<M: Sink>(alloc: Global, messages: &mut M, fault: &UsageFault) -> u8
+    ensures memory { fault.now ≡ UsageFault.Memory
+        → IsShown (span M.Sink messages.old messages.new) (at_start Fault.OutOfMemory) }
+    ensures refused { (refusal : Refusal) → plan_in (Err fault.now) ≡ Some (Refused refusal)
+        → IsRefused (span M.Sink messages.old messages.new) refusal result }
+    ensures status { result ≡ 1 }
+{
+    match fault {
+        UsageFault::Parse(text) => {
+            show(messages, text.text().as_bytes());
+            FAILED
+        }
+        UsageFault::Memory => report_at_start(messages, Fault::OutOfMemory),
+        other => report(alloc, messages, other.words(), other.subject()),
+    }
+}

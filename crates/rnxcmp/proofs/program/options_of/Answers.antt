@@ -1,9 +1,0 @@
-use Rattle.std.proofs.Common.{◌∙◌, ap, string_bytes}
-use Rattle.crx_engine.specs.meaning.Choices.{is_date}
-use Rattle.rnxcmp.proofs.DateFits.{default_fits}
-use Rattle.rnxcmp.proofs.program.options_of.Goals as goal
-
-pub options_with-requires-in-None-Compact : goal.options_with-requires-in-None-Compact
-options_with-requires-in-None-Compact g c =
-    ap is_date c.as_str.ensures.value
-    ∙ default_fits (string_bytes c.in_ok-date-in-None-Compact.date) c.in_ok-date-in-None-Compact.ensures

@@ -1,9 +1,0 @@
-use Rattle.std.proofs.Common.{List, ℕ, subst, ◌∙◌}
-use Rattle.rnxcmp.specs.meaning.Program.{IsShown}
-use Rattle.crx_filter.specs.meaning.Spans.{span}
-use Rattle.rnxcmp.proofs.refusal.report_at_start.Goals as goal
-
-pub returns-clause-shown : goal.returns-clause-shown
-returns-clause-shown g c =
-    subst (λ (line : List ℕ). IsShown (span g.M.Sink c.args.messages.now c.show.new.messages) line)
-    (c.bytes.ensures.value ∙ c.message.ensures) c.show.ensures
