@@ -5,20 +5,21 @@ ghost use Rattle.std.specs.Simd.Lanes.{chunk};
 
 use std::simd::prelude::*;
 
-/// How many of the 32 bytes from a place on stand before the first LF: 32 where none is LF.
+/// How many of the 32 bytes from a place on stand before the first LF; None where none is LF.
 #[inline(always)]
-fn before_feed(bytes: &[u8], at: usize) -> usize
+fn before_feed(bytes: &[u8], at: usize) -> Option<usize>
     requires { at + 32 ≤ length bytes.now }
-    ensures { result ≡ prefix_len (λ b. not (b == 10)) (chunk at 32 bytes.now) }
+    ensures some { IfSome result
+        (λ before. (before < 32) × (before ≡ prefix_len (λ b. not (b == 10)) (chunk at 32 bytes.now))) }
+    ensures none { IfNone result (32 ≡ prefix_len (λ b. not (b == 10)) (chunk at 32 bytes.now)) }
 {
     let feeds = u8x32::from_slice(&bytes[at..])
         .simd_eq(u8x32::splat(b'\n'))
         .to_bitmask();
     if feeds == 0 {
-        32
-    } else {
-        feeds.trailing_zeros() as usize
+        return None;
     }
+    Some(feeds.trailing_zeros() as usize)
 }
 
 /// The place of the first LF, from a place on, of the last 31 bytes at most.
@@ -46,10 +47,13 @@ pub fn feed_from(bytes: &[u8], from: usize) -> Option<usize>
     ensures first { IfSome result (λ at. (k : ℕ) → from ≤ k → k < at → slice_index bytes.now k ≢ 10) }
     ensures none { IfNone result ((k : ℕ) → from ≤ k → k < length bytes.now → slice_index bytes.now k ≢ 10) }
 {
+    if bytes.len() < 32 {
+        return feed_in_rest(bytes, from);
+    }
+    let last = bytes.len() - 32;
     let mut at = from;
-    while bytes.len() - at >= 32 {
-        let before = before_feed(bytes, at);
-        if before < 32 {
+    while at <= last {
+        if let Some(before) = before_feed(bytes, at) {
             return Some(at + before);
         }
         at += 32;

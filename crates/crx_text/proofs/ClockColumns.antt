@@ -13,7 +13,8 @@ use lib.Lanes.{pick_l, mask_l, top, zip2, dots}
 use Rattle.crx_text.specs.meaning.Columns.{without_first_blanks}
 use Rattle.crx_text.specs.Fields.{is_plain_after, weighed}
 use Rattle.crx_text.specs.meaning.Numbers.{IsWithin, number_of, missing_or_number, signed_number}
-use Rattle.crx_text.proofs.DigitRows.{less_zero, value_small}
+use Rattle.crx_text.specs.FirstDigits.{above_zero}
+use Rattle.crx_text.proofs.DigitRows.{value_small}
 use Rattle.crx_text.proofs.LaneBits.{all_bits}
 use Rattle.crx_text.proofs.PlainLanes.{all_at}
 use Rattle.crx_text.proofs.PlainSizes.{joined_of, twelve}
@@ -41,7 +42,7 @@ groups_of field =
     dots (digit_row field) (100 ∷ 10 ∷ 1 ∷ 0 ∷ 100 ∷ 10 ∷ 1 ∷ 0 ∷ 100 ∷ 10 ∷ 1 ∷ 0 ∷ 100 ∷ 10 ∷ 1 ∷ 0 ∷ [])
 
 abbrev bit : ℕ → Bool
-bit x = top 7 (cond (ltb (less_zero x) 10) 255 0)
+bit x = top 7 (cond (ltb (above_zero x) 10) 255 0)
 
 bit_is : (x : ℕ) → x < 256 → bit x ≡ is_ascii_digit x
 bit_is x small = agree_below_at bit is_ascii_digit 256 x refl small
@@ -50,10 +51,10 @@ abbrev bits_of : (ℕ → ℕ) → List Bool
 bits_of c = bit (c 3) ∷ bit (c 4) ∷ bit (c 5) ∷ bit (c 3) ∷ bit (c 6) ∷ bit (c 7) ∷ bit (c 8) ∷ bit (c 3)
     ∷ bit (c 9) ∷ bit (c 10) ∷ bit (c 11) ∷ bit (c 3) ∷ bit (c 12) ∷ bit (c 13) ∷ bit (c 14) ∷ bit (c 3) ∷ []
 
-lane_digit : (x : ℕ) → is_ascii_digit x ≡ true → less_zero x ≡ x - 48
+lane_digit : (x : ℕ) → is_ascii_digit x ≡ true → above_zero x ≡ x - 48
 lane_digit x is_digit = let range = digit_range x is_digit in omega (arith, range)
 
-lane_fits : (x : ℕ) → less_zero x < 256
+lane_fits : (x : ℕ) → above_zero x < 256
 lane_fits x = omega arith
 
 module _ (c : ℕ → ℕ) (small : (i : ℕ)
@@ -78,7 +79,7 @@ module _ (c : ℕ → ℕ) (small : (i : ℕ)
   value_explicit : joined_of (groups_of (map c (range_with_len 0 15)))
       ≡ digits_value 10 (drop 3 (map c (range_with_len 0 15)))
   value_explicit =
-      let d = λ (i : ℕ). less_zero (c i) in
+      let d = λ (i : ℕ). above_zero (c i) in
       let whole = weighed_digits 0 (drop 3 (map c (range_with_len 0 15))) digits_explicit in
       let s3 = lane_digit (c 3) (digit_at 3 (all_at (bits_of c) 0 all)) in
       let s4 = lane_digit (c 4) (digit_at 4 (all_at (bits_of c) 1 all)) in

@@ -1,13 +1,15 @@
 -- Rows of digits, and the number that the first of them write.
-use Rattle.std.proofs.Common.{◌≡◌, ℕ, zero, suc, ◌+◌, ◌-◌, ◌*◌, ◌/◌, ◌%◌, ◌^◌, ◌<◌, ◌≤◌, Bool, true, false, not, cond, ◌&&◌, T}
-use Rattle.std.proofs.Common.{ltb, eqb, List, [], ◌∷◌, ◌++◌, map, length, replicate, take, drop, get_or, subst, Fits}
-use Rattle.std.proofs.Common.{w8, refl, sym, ap, ◌∙◌, arith}
-use Rattle.std.proofs.Math.Nat.{pow-suc, pow-le-pow_right, mul-le-mul_right}
+use Rattle.std.proofs.Common.{◌≡◌, ℕ, zero, suc, ◌+◌, ◌-◌, ◌*◌, ◌/◌, ◌%◌, ◌^◌, ◌<◌, ◌≤◌, Bool, true, false, not, cond}
+use Rattle.std.proofs.Common.{◌&&◌, T, ltb, leb, eqb, List, [], ◌∷◌, ◌++◌, map, length, replicate, take, drop, get_or}
+use Rattle.std.proofs.Common.{subst, Fits, w8, refl, sym, ap, ◌∙◌, arith}
+use Rattle.std.proofs.Math.Nat.{pow-suc, mul-le-mul_right}
 use Rattle.std.proofs.lemmas.Bool.{agree_below_at, and_parts, lt-ltb, ltb-true, ne_eqb}
 use Rattle.std.proofs.lemmas.List.Sums.{prefix_len_stops}
-use Rattle.std.proofs.lemmas.List.{length-map, length-append, length-take-le, take-append-drop, take-take, get_or-take}
-use Rattle.std.proofs.lemmas.List.{take-append-le}
-use Rattle.std.proofs.lemmas.Simd.{map-map, mask_l-mod, pick_l_whole, zip2_splat, zip2_splat_left, leading_from_mask_l}
+use Rattle.std.proofs.lemmas.List.{length-append, length-take-le, take-append-drop, take-take, get_or-take}
+use Rattle.std.proofs.lemmas.List.{take-append-le, take-map}
+use Rattle.std.proofs.lemmas.Bool.{le-leb}
+use Rattle.std.proofs.lemmas.Bool.Decides.{nat_tests}
+use Rattle.std.proofs.lemmas.Simd.{mask_l-mod, pick_l_whole, zip2_splat}
 use Rattle.std.proofs.lemmas.Simd.{trailing_mask_l}
 use Rattle.std.specs.Char.{digit_value, is_ascii_digit}
 use Rattle.std.specs.List.{range_with_len, prefix_len}
@@ -17,89 +19,131 @@ use lib.Count.{count_trailing_zeros}
 use lib.Lanes.{Each1, chunk, pick_l, mask_l, top, zip2, dots, all_below, pair_sums, products}
 use Rattle.crx_text.proofs.GroupHalves.{wide_of, wide_are_four}
 use Rattle.crx_text.specs.meaning.Codes.{after_cell, first_cell}
-use Rattle.crx_text.specs.FirstDigits.{HasFirstDigits}
+use Rattle.crx_text.specs.FirstDigits.{HasFirstDigits, above_zero, is_below_ten, written}
 use Rattle.crx_text.specs.declared.digits.TheConstants.{WEIGHTS, SCALES}
 use Rattle.crx_text.proofs.PowersOfTen.{digit_range, digit_value_is, digits_value_after-append}
-use Rattle.crx_text.proofs.PrintedDigits.{written}
+use Rattle.crx_text.proofs.LaneBits.{sixteen, no_bit, top_lane}
+use Rattle.crx_text.proofs.PlainLanes.{lane_fits}
+
+-- ---- the lanes of a row
+
+-- a row's characters less 48, and as many zeros after them, as the code makes them
+pub lanes_are : (row : List ℕ) → length row ≡ 8 → zip2 (λ a b. (a + (256 - b)) % 256)
+    (pick_l 0 (row ++ replicate 8 0) (range_with_len 0 16)) (replicate 16 48) ≡ map above_zero (row ++ replicate 8 0)
+lanes_are row long =
+    let sixteen : length (row ++ replicate 8 0) ≡ 16 = omega (arith, length-append row (replicate 8 0), long) in
+    ap (λ (v : List ℕ). zip2 (λ a b. (a + (256 - b)) % 256) v (replicate 16 48))
+    (pick_l_whole 0 (row ++ replicate 8 0) 16 sixteen)
+    ∙ zip2_splat (λ a b. (a + (256 - b)) % 256) (row ++ replicate 8 0) 16 48 sixteen
+
+-- each of a row's characters is a byte
+abbrev pub AreBytes : List ℕ → Type 0
+AreBytes row = (i : ℕ) → get_or row i 0 < 256
+
+pub front_bytes : (n : ℕ) (text : List ℕ) → AreBytes text → AreBytes (take n text)
+front_bytes zero text small i = omega arith
+front_bytes (suc n) [] small i = omega arith
+front_bytes (suc n) (c ∷ cs) small zero = small 0
+front_bytes (suc n) (c ∷ cs) small (suc i) = front_bytes n cs (λ (j : ℕ). small (suc j)) i
+
+pub padded_bytes : (text : List ℕ) (more : ℕ) → AreBytes text → AreBytes (text ++ replicate more 0)
+padded_bytes [] zero small i = omega arith
+padded_bytes [] (suc more) small zero = omega arith
+padded_bytes [] (suc more) small (suc i) = padded_bytes [] more small i
+padded_bytes (c ∷ cs) more small zero = small 0
+padded_bytes (c ∷ cs) more small (suc i) = padded_bytes cs more (λ (j : ℕ). small (suc j)) i
 
 -- ---- how many digits a row begins with
 
-abbrev pub less_zero : ℕ → ℕ
-less_zero c = (c + (256 - 48)) % 256
+below_ten : (c : ℕ) → c < 256 → is_below_ten (above_zero c) ≡ is_ascii_digit c
+below_ten c small = agree_below_at (λ x. is_below_ten (above_zero x)) is_ascii_digit 256 c refl small
 
-abbrev pub digit_lanes : List ℕ → List ℕ
-digit_lanes row = zip2 (λ a b. (a + (256 - b)) % 256) row (replicate 8 48)
+digits_agree : (row : List ℕ) → AreBytes row
+    → prefix_len is_below_ten (map above_zero row) ≡ prefix_len is_ascii_digit row
+digits_agree [] small = refl
+digits_agree (c ∷ cs) small = rw (below_ten c (small 0))
+    (ap (λ (n : ℕ). cond (is_ascii_digit c) (1 + n) 0) (digits_agree cs (λ (i : ℕ). small (suc i))))
 
-abbrev pub other_lanes : List ℕ → List ℕ
-other_lanes row = zip2 (λ a b. cond (ltb a b) 255 0) (replicate 8 9) (digit_lanes row)
+-- where fewer of the first ones pass than they are, no more pass in all
+prefix_in_front : (p : ℕ → Bool) (n : ℕ) (xs : List ℕ)
+    → prefix_len p (take n xs) < n → prefix_len p xs ≡ prefix_len p (take n xs)
+prefix_in_front p zero xs few = absurd (omega (arith, few))
+prefix_in_front p (suc n) [] few = refl
+prefix_in_front p (suc n) (x ∷ xs) few = go (p x) few (prefix_in_front p n xs)
+  where
+    go : (b : Bool) → cond b (1 + prefix_len p (take n xs)) 0 < suc n
+        → (prefix_len p (take n xs) < n → prefix_len p xs ≡ prefix_len p (take n xs))
+        → cond b (1 + prefix_len p xs) 0 ≡ cond b (1 + prefix_len p (take n xs)) 0
+    go true less next = ap (λ (m : ℕ). 1 + m) (next (omega (arith, less)))
+    go false less next = refl
 
-digit_lanes_are : (row : List ℕ) → length row ≡ 8 → digit_lanes row ≡ map less_zero row
-digit_lanes_are row long = zip2_splat (λ a b. (a + (256 - b)) % 256) row 8 48 long
+-- the lanes before one that ends the digits in any case
+ends : (ds : List ℕ) (bits : List Bool)
+    → prefix_len (λ b. not b) (map (leb 10) ds ++ true ∷ bits) ≡ prefix_len is_below_ten ds
+ends [] bits = refl
+ends (d ∷ ds) bits =
+    let here : not (leb 10 d) ≡ is_below_ten d = grind (arith, nat_tests) in
+    rw here (ap (λ (n : ℕ). cond (is_below_ten d) (1 + n) 0) (ends ds bits))
 
-other_lane : (c : ℕ) → c < 256 → top 7 (cond (ltb 9 (less_zero c)) 255 0) ≡ not (is_ascii_digit c)
-other_lane c small = agree_below_at
-    (λ x. top 7 (cond (ltb 9 (less_zero x)) 255 0)) (λ x. not (is_ascii_digit x)) 256 c refl small
+abbrev pub end_lanes : List ℕ → List Bool
+end_lanes v = map (top 7) (zip2 (λ a b. cond (leb a b) 255 0)
+    (10 ∷ 10 ∷ 10 ∷ 10 ∷ 10 ∷ 10 ∷ 10 ∷ 0 ∷ 0 ∷ 0 ∷ 0 ∷ 0 ∷ 0 ∷ 0 ∷ 0 ∷ 0 ∷ []) v)
 
-lanes_agree : (f g : ℕ → Bool)
-    → ((c : ℕ) → c < 256 → f c ≡ g c) → (row : List ℕ) → Each1 (Fits w8) row → map f row ≡ map g row
-lanes_agree f g same [] fits = refl
-lanes_agree f g same (c ∷ cs) fits =
-    rw (same c fits.0.fits) (ap (λ (r : List Bool). g c ∷ r) (lanes_agree f g same cs fits.1))
+end_explicit : (c : ℕ → ℕ) → count_trailing_zeros 64 (mask_l (end_lanes (map c (range_with_len 0 16))) % 2 ^ 64)
+    ≡ prefix_len is_below_ten (map c (range_with_len 0 7))
+end_explicit c =
+    let lane = λ (i : ℕ). top_lane (leb 10 (c i)) in
+    let ended = λ (i : ℕ). le-leb 0 (c i) (omega arith) in
+    let bits : List Bool = map (leb 10) (map c (range_with_len 0 7)) ++ replicate 9 true in
+    let are : end_lanes (map c (range_with_len 0 16)) ≡ bits =
+    rw (
+      lane 0,
+      lane 1,
+      lane 2,
+      lane 3,
+      lane 4,
+      lane 5,
+      lane 6,
+      ended 7,
+      ended 8,
+      ended 9,
+      ended 10,
+      ended 11,
+      ended 12,
+      ended 13,
+      ended 14,
+      ended 15,
+    ) refl in
+    let some : 0 < mask_l bits = grind (arith, nat_tests, no_bit (λ (b : Bool). b) bits) in
+    let found = trailing_mask_l (λ (b : Bool). b) 64 bits (omega arith) some in
+    ap (λ m. count_trailing_zeros 64 (mask_l m % 2 ^ 64)) are
+    ∙ (ap (count_trailing_zeros 64) (mask_l-mod bits 64 (omega arith)) ∙ found)
+    ∙ ends (map c (range_with_len 0 7)) (replicate 8 true)
 
-pub other_mask : (row : List ℕ) → length row ≡ 8 → Each1 (Fits w8) row
-    → mask_l (map (top 7) (other_lanes row)) % 2 ^ 64 ≡ mask_l (map (λ c. not (is_ascii_digit c)) row)
-other_mask row long fits =
-    let lane : ℕ → Bool = λ c. top 7 (cond (ltb 9 (less_zero c)) 255 0) in
-    let first : other_lanes row ≡ map (λ d. cond (ltb 9 d) 255 0) (map less_zero row) =
-    ap (λ (r : List ℕ). zip2 (λ a b. cond (ltb a b) 255 0) (replicate 8 9) r) (digit_lanes_are row long)
-    ∙ zip2_splat_left (λ a b. cond (ltb a b) 255 0) 9 8 (map less_zero row) (length-map row less_zero ∙ long) in
-    let then : map (top 7) (other_lanes row) ≡ map (λ c. not (is_ascii_digit c)) row =
-    ap (map (top 7)) (first ∙ map-map (λ d. cond (ltb 9 d) 255 0) less_zero row)
-    ∙ map-map (top 7) (λ c. cond (ltb 9 (less_zero c)) 255 0) row
-    ∙ lanes_agree (λ c. top 7 (cond (ltb 9 (less_zero c)) 255 0)) (λ c. not (is_ascii_digit c)) other_lane row fits in
-    ap (λ m. mask_l m % 2 ^ 64) then ∙ mask_l-mod
-    (map (λ c. not (is_ascii_digit c)) row) 64 (omega (arith, length-map row (λ c. not (is_ascii_digit c)), long))
-
-not_twice : (b : Bool) → not (not b) ≡ b
-not_twice true = refl
-not_twice false = refl
-
-prefix_is : (row : List ℕ) → prefix_len (λ c. not (not (is_ascii_digit c))) row ≡ prefix_len is_ascii_digit row
-prefix_is [] = refl
-prefix_is (c ∷ cs) = rw (not_twice (is_ascii_digit c))
-    (ap (λ (n : ℕ). cond (is_ascii_digit c) (1 + n) 0) (prefix_is cs))
-
-pub all_are_digits : (row : List ℕ) → length row ≡ 8
-    → Each1 (Fits w8) row → mask_l (map (top 7) (other_lanes row)) % 2 ^ 64 ≡ 0 → 8 ≡ prefix_len is_ascii_digit row
-all_are_digits row long fits none =
-    sym (sym (prefix_is row)
-    ∙ leading_from_mask_l (λ c. not (is_ascii_digit c)) row (sym (other_mask row long fits) ∙ none) ∙ long)
-
-pub first_other : (row : List ℕ)
-    → length row ≡ 8 → Each1 (Fits w8) row → 0 < mask_l (map (top 7) (other_lanes row)) % 2 ^ 64
-    → count_trailing_zeros 64 (mask_l (map (top 7) (other_lanes row)) % 2 ^ 64) ≡ prefix_len is_ascii_digit row
-first_other row long fits some =
-    let mask = other_mask row long fits in
-    ap (count_trailing_zeros 64) mask ∙ trailing_mask_l
-    (λ c. not (is_ascii_digit c)) 64 row (omega (arith, long)) (omega (arith, mask, some)) ∙ prefix_is row
+pub end_is : (v : List ℕ) → length v ≡ 16
+    → count_trailing_zeros 64 (mask_l (end_lanes v) % 2 ^ 64) ≡ prefix_len is_below_ten (take 7 v)
+end_is v long =
+    subst (λ (w : List ℕ). count_trailing_zeros 64 (mask_l (end_lanes w) % 2 ^ 64)
+    ≡ prefix_len is_below_ten (take 7 w)) (sym (sixteen v long)) (end_explicit (λ (i : ℕ). get_or v i 0))
 
 -- ---- the number that the first digits of a row write
 
 abbrev pub weights_of : ℕ → List ℕ
-weights_of count = chunk 0 16 (take (128 - 16 * count) (drop (16 * count) WEIGHTS))
+weights_of count = pick_l 0 (chunk 0 8 (take (56 - 8 * count) (drop (8 * count) WEIGHTS)) ++ replicate 8 0)
+    (range_with_len 0 16)
 
 abbrev pub scale_of : ℕ → ℕ
 scale_of count = get_or SCALES count 0
 
 abbrev pub grouped : List ℕ → List ℕ
-grouped digits = pick_l 0 (digits ++ replicate 8 0) (0 ∷ 1 ∷ 2 ∷ 8 ∷ 3 ∷ 4 ∷ 5 ∷ 8 ∷ 6 ∷ 7 ∷ 8 ∷ 8 ∷ 8 ∷ 8 ∷ 8 ∷ 8 ∷ [])
+grouped digits = pick_l 0 (digits ++ replicate 16 0)
+    (0 ∷ 1 ∷ 2 ∷ 16 ∷ 3 ∷ 4 ∷ 5 ∷ 16 ∷ 16 ∷ 16 ∷ 16 ∷ 16 ∷ 16 ∷ 16 ∷ 16 ∷ 16 ∷ [])
 
 abbrev pub pairs_of : List ℕ → ℕ → List ℕ
 pairs_of digits count = wide_of (dots (grouped digits) (weights_of count))
 
 abbrev pub total_of : List ℕ → ℕ → ℕ
-total_of digits count =
-    get_or (pairs_of digits count) 0 0 * scale_of count % 2 ^ 64 / 2 ^ 32 + get_or (pairs_of digits count) 1 0
+total_of digits count = get_or (pairs_of digits count) 0 0 * scale_of count % 2 ^ 64 / 2 ^ 32
 
 -- two products of bytes and weights that are small together
 pub pairs_small : (xs ys : List ℕ) → Each1 (Fits w8) xs → T (all_below 128 (pair_sums ys))
@@ -122,7 +166,7 @@ pairs_small (x ∷ x′ ∷ xs) (y ∷ y′ ∷ ys) fits small =
         rw less (next rest)
     go false e rest next = absurd rest
 
-pub weights_small : (count : ℕ) → count < 8
+pub weights_small : (count : ℕ) → count ≤ 6
     → T (all_below 128 (pair_sums (weights_of count))) × T (all_below 128 (weights_of count))
 weights_small zero few = (tt, tt)
 weights_small (suc zero) few = (tt, tt)
@@ -131,85 +175,71 @@ weights_small (suc (suc (suc zero))) few = (tt, tt)
 weights_small (suc (suc (suc (suc zero)))) few = (tt, tt)
 weights_small (suc (suc (suc (suc (suc zero))))) few = (tt, tt)
 weights_small (suc (suc (suc (suc (suc (suc zero)))))) few = (tt, tt)
-weights_small (suc (suc (suc (suc (suc (suc (suc zero))))))) few = (tt, tt)
-weights_small (suc (suc (suc (suc (suc (suc (suc (suc count)))))))) few = absurd (omega arith)
+weights_small (suc (suc (suc (suc (suc (suc (suc count))))))) few = absurd (omega arith)
 
--- what the groups of three make of the first seven digits, which are weighed by hundreds, tens and ones
+-- what the groups of three make of the first six lanes, which are weighed by hundreds, tens and ones
 module _ (e : ℕ → ℕ) (small : (i : ℕ) → e i < 256) where
-  of_groups : (count a b c : ℕ) → dots (grouped (map e (range_with_len 0 8))) (weights_of count) ≡ a ∷ b ∷ c ∷ 0 ∷ []
-      → a < 2 ^ 32 → b < 2 ^ 32 → c < 2 ^ 32
-      → total_of (map e (range_with_len 0 8)) count ≡ (a + 2 ^ 32 * b) * scale_of count % 2 ^ 64 / 2 ^ 32 + (c + 2 ^ 32 * 0)
-  of_groups count a b c groups as_small bs_small cs_small =
-      let pairs : pairs_of (map e (range_with_len 0 8)) count ≡ (a + 2 ^ 32 * b) ∷ (c + 2 ^ 32 * 0) ∷ [] =
-      ap wide_of groups ∙ wide_are_four a b c 0 as_small bs_small cs_small (omega arith) in
-      ap (λ (v : List ℕ). get_or v 0 0 * scale_of count % 2 ^ 64 / 2 ^ 32 + get_or v 1 0) pairs
+  of_groups : (count a b : ℕ) → dots (grouped (map e (range_with_len 0 16))) (weights_of count) ≡ a ∷ b ∷ 0 ∷ 0 ∷ []
+      → a < 2 ^ 32 → b < 2 ^ 32
+      → total_of (map e (range_with_len 0 16)) count ≡ (a + 2 ^ 32 * b) * scale_of count % 2 ^ 64 / 2 ^ 32
+  of_groups count a b groups as_small bs_small =
+      let pairs : pairs_of (map e (range_with_len 0 16)) count ≡ (a + 2 ^ 32 * b) ∷ (0 + 2 ^ 32 * 0) ∷ [] =
+      ap wide_of groups ∙ wide_are_four a b 0 0 as_small bs_small (omega arith) (omega arith) in
+      ap (λ (v : List ℕ). get_or v 0 0 * scale_of count % 2 ^ 64 / 2 ^ 32) pairs
 
   abbrev lane : ℕ → ℕ → ℕ
-  lane count j = get_or (dots (grouped (map e (range_with_len 0 8))) (weights_of count)) j 0
+  lane count j = get_or (dots (grouped (map e (range_with_len 0 16))) (weights_of count)) j 0
 
-  total_explicit : (count : ℕ) → count < 8
-      → total_of (map e (range_with_len 0 8)) count ≡ written 0 (take count (map e (range_with_len 0 8)))
+  total_explicit : (count : ℕ) → count ≤ 6
+      → total_of (map e (range_with_len 0 16)) count ≡ written 0 (take count (map e (range_with_len 0 16)))
   total_explicit zero few =
-      of_groups 0 (lane 0 0) (lane 0 1) (lane 0 2) refl
-      (omega (arith, small 0, small 1, small 2)) (omega (arith, small 3, small 4, small 5)) (omega (arith, small 6))
-      ∙ omega (arith, small 0, small 1, small 2, small 3, small 4, small 5, small 6)
+      of_groups 0 (lane 0 0) (lane 0 1) refl
+      (omega (arith, small 0, small 1, small 2)) (omega (arith, small 3, small 4, small 5))
+      ∙ omega (arith, small 0, small 1, small 2, small 3, small 4, small 5)
   total_explicit (suc zero) few =
-      of_groups 1 (lane 1 0) (lane 1 1) (lane 1 2) refl
-      (omega (arith, small 0, small 1, small 2)) (omega (arith, small 3, small 4, small 5)) (omega (arith, small 6))
-      ∙ omega (arith, small 0, small 1, small 2, small 3, small 4, small 5, small 6)
+      of_groups 1 (lane 1 0) (lane 1 1) refl
+      (omega (arith, small 0, small 1, small 2)) (omega (arith, small 3, small 4, small 5))
+      ∙ omega (arith, small 0, small 1, small 2, small 3, small 4, small 5)
   total_explicit (suc (suc zero)) few =
-      of_groups 2 (lane 2 0) (lane 2 1) (lane 2 2) refl
-      (omega (arith, small 0, small 1, small 2)) (omega (arith, small 3, small 4, small 5)) (omega (arith, small 6))
-      ∙ omega (arith, small 0, small 1, small 2, small 3, small 4, small 5, small 6)
+      of_groups 2 (lane 2 0) (lane 2 1) refl
+      (omega (arith, small 0, small 1, small 2)) (omega (arith, small 3, small 4, small 5))
+      ∙ omega (arith, small 0, small 1, small 2, small 3, small 4, small 5)
   total_explicit (suc (suc (suc zero))) few =
-      of_groups 3 (lane 3 0) (lane 3 1) (lane 3 2) refl
-      (omega (arith, small 0, small 1, small 2)) (omega (arith, small 3, small 4, small 5)) (omega (arith, small 6))
-      ∙ omega (arith, small 0, small 1, small 2, small 3, small 4, small 5, small 6)
+      of_groups 3 (lane 3 0) (lane 3 1) refl
+      (omega (arith, small 0, small 1, small 2)) (omega (arith, small 3, small 4, small 5))
+      ∙ omega (arith, small 0, small 1, small 2, small 3, small 4, small 5)
   total_explicit (suc (suc (suc (suc zero)))) few =
-      of_groups 4 (lane 4 0) (lane 4 1) (lane 4 2) refl
-      (omega (arith, small 0, small 1, small 2)) (omega (arith, small 3, small 4, small 5)) (omega (arith, small 6))
-      ∙ omega (arith, small 0, small 1, small 2, small 3, small 4, small 5, small 6)
+      of_groups 4 (lane 4 0) (lane 4 1) refl
+      (omega (arith, small 0, small 1, small 2)) (omega (arith, small 3, small 4, small 5))
+      ∙ omega (arith, small 0, small 1, small 2, small 3, small 4, small 5)
   total_explicit (suc (suc (suc (suc (suc zero))))) few =
-      of_groups 5 (lane 5 0) (lane 5 1) (lane 5 2) refl
-      (omega (arith, small 0, small 1, small 2)) (omega (arith, small 3, small 4, small 5)) (omega (arith, small 6))
-      ∙ omega (arith, small 0, small 1, small 2, small 3, small 4, small 5, small 6)
+      of_groups 5 (lane 5 0) (lane 5 1) refl
+      (omega (arith, small 0, small 1, small 2)) (omega (arith, small 3, small 4, small 5))
+      ∙ omega (arith, small 0, small 1, small 2, small 3, small 4, small 5)
   total_explicit (suc (suc (suc (suc (suc (suc zero)))))) few =
-      of_groups 6 (lane 6 0) (lane 6 1) (lane 6 2) refl
-      (omega (arith, small 0, small 1, small 2)) (omega (arith, small 3, small 4, small 5)) (omega (arith, small 6))
-      ∙ omega (arith, small 0, small 1, small 2, small 3, small 4, small 5, small 6)
-  total_explicit (suc (suc (suc (suc (suc (suc (suc zero))))))) few =
-      of_groups 7 (lane 7 0) (lane 7 1) (lane 7 2) refl
-      (omega (arith, small 0, small 1, small 2)) (omega (arith, small 3, small 4, small 5)) (omega (arith, small 6))
-      ∙ omega (arith, small 0, small 1, small 2, small 3, small 4, small 5, small 6)
-  total_explicit (suc (suc (suc (suc (suc (suc (suc (suc count)))))))) few = absurd (omega arith)
+      of_groups 6 (lane 6 0) (lane 6 1) refl
+      (omega (arith, small 0, small 1, small 2)) (omega (arith, small 3, small 4, small 5))
+      ∙ omega (arith, small 0, small 1, small 2, small 3, small 4, small 5)
+  total_explicit (suc (suc (suc (suc (suc (suc (suc count))))))) few = absurd (omega arith)
 
-lane_is_byte : (row : List ℕ) (i : ℕ) → get_or (map less_zero row) i 0 < 256
-lane_is_byte [] i = omega arith
-lane_is_byte (c ∷ cs) zero = omega arith
-lane_is_byte (c ∷ cs) (suc i) = lane_is_byte cs i
+pub total_is : (v : List ℕ) (count : ℕ) → length v ≡ 16 → Each1 (Fits w8) v → count ≤ 6
+    → total_of v count ≡ written 0 (take count v)
+total_is v count long fits few =
+    subst (λ (w : List ℕ). total_of w count ≡ written 0 (take count w)) (sym (sixteen v long))
+    (total_explicit (λ (i : ℕ). get_or v i 0) (λ (i : ℕ). lane_fits v i fits) count few)
 
 -- the digits less 48 write what the digits write
 written_digits : (size count : ℕ) (row : List ℕ) → all_ascii_digits (take count row) ≡ true
-    → written size (take count (map less_zero row)) ≡ digits_value_after 10 size (take count row)
+    → written size (take count (map above_zero row)) ≡ digits_value_after 10 size (take count row)
 written_digits size zero row digits = refl
 written_digits size (suc count) [] digits = refl
 written_digits size (suc count) (c ∷ cs) digits =
     let parts = and_parts (is_ascii_digit c) (all_ascii_digits (take count cs)) digits in
     let range = digit_range c parts.0 in
-    let value : less_zero c ≡ c - 48 = omega (arith, range) in
-    ap (λ (d : ℕ). written (size * 10 + d) (take count (map less_zero cs))) value
+    let value : above_zero c ≡ c - 48 = omega (arith, range) in
+    ap (λ (d : ℕ). written (size * 10 + d) (take count (map above_zero cs))) value
     ∙ (written_digits (size * 10 + (c - 48)) count cs parts.1
     ∙ ap (λ (d : ℕ). digits_value_after 10 (size * 10 + d) (take count cs)) (sym (digit_value_is c parts.0)))
-
-pub total_is : (row : List ℕ) (count : ℕ) → length row ≡ 8 → count < 8
-    → all_ascii_digits (take count row) ≡ true → total_of (digit_lanes row) count ≡ digits_value 10 (take count row)
-total_is row count long few digits =
-    let lanes = digit_lanes_are row long in
-    let eight : length (map less_zero row) ≡ 8 = length-map row less_zero ∙ long in
-    let whole : total_of (map less_zero row) count ≡ written 0 (take count (map less_zero row)) =
-    subst (λ (l : List ℕ). total_of l count ≡ written 0 (take count l)) (pick_l_whole 0 (map less_zero row) 8 eight)
-    (total_explicit (λ (i : ℕ). get_or (map less_zero row) i 0) (λ (i : ℕ). lane_is_byte row i) count few) in
-    ap (λ (l : List ℕ). total_of l count) lanes ∙ (whole ∙ written_digits 0 count row digits)
 
 -- ---- a cell that begins with digits
 
@@ -223,6 +253,25 @@ prefix_digits (c ∷ cs) = go (is_ascii_digit c) refl (prefix_digits cs)
         let one : 1 + prefix_len is_ascii_digit cs ≡ suc (prefix_len is_ascii_digit cs) = omega arith in
         rw (one, e) rest
     go false e rest = refl
+
+-- what the lanes of a row say of its characters
+pub read_row : (row digits : List ℕ) (size count : ℕ) → length row ≡ 8 → AreBytes row
+    → digits ≡ map above_zero (row ++ replicate 8 0) → count ≡ prefix_len is_below_ten (take 7 digits) → count ≤ 6
+    → size ≡ written 0 (take count digits)
+    → (count ≡ prefix_len is_ascii_digit row) × (size ≡ digits_value 10 (take count row))
+read_row row digits size count long small are counted few sized =
+    let front : (n : ℕ) → n ≤ 8 → take n digits ≡ take n (map above_zero row) = λ (n : ℕ) (within : n ≤ 8).
+    ap (take n) are ∙ take-map above_zero n (row ++ replicate 8 0)
+    ∙ ap (map above_zero) (take-append-le n row (replicate 8 0) (omega (arith, long, within)))
+    ∙ sym (take-map above_zero n row) in
+    let seven : count ≡ prefix_len is_below_ten (take 7 (map above_zero row)) =
+    counted ∙ ap (prefix_len is_below_ten) (front 7 (omega arith)) in
+    let whole = prefix_in_front is_below_ten 7 (map above_zero row) (omega (arith, seven, few)) in
+    let is : count ≡ prefix_len is_ascii_digit row = seven ∙ sym whole ∙ digits_agree row small in
+    let are_digits : all_ascii_digits (take count row) ≡ true = rw is (prefix_digits row) in (
+      is,
+      sized ∙ ap (written 0) (front count (omega (arith, few))) ∙ written_digits 0 count row are_digits,
+    )
 
 no_blank : (c : ℕ) → is_ascii_digit c ≡ true → eqb c 32 ≡ false
 no_blank c digit = let range = digit_range c digit in ne_eqb c 32 (λ e. omega (arith, range))
@@ -260,16 +309,6 @@ value_small size (c ∷ cs) digits =
     mul-le-mul_right (10 ^ length cs) next in
     let power : 10 ^ suc (length cs) ≡ 10 ^ length cs * 10 = pow-suc 10 (length cs) in
     rw power (omega (arith, less, grows))
-
-pub total_fits : (row : List ℕ) (count : ℕ) → length row ≡ 8 → count < 8
-    → all_ascii_digits (take count row) ≡ true → total_of (digit_lanes row) count < 2 ^ 64
-total_fits row count long few digits =
-    let value = total_is row count long few digits in
-    let less = value_small 0 (take count row) digits in
-    let within : length (take count row) ≡ count = length-take-le count row (omega (arith, long, few)) in
-    let short : length (take count row) ≤ 8 = omega (arith, within, few) in
-    let power : 10 ^ length (take count row) ≤ 10 ^ 8 = pow-le-pow_right (omega arith) short in
-    omega (arith, value, less, power)
 
 -- so many digits, which a text begins with, and no digit after them
 digits_found : (text : List ℕ) (size count : ℕ) → count < 8 → count ≤ length text

@@ -1,58 +1,76 @@
 -- The test of a field's columns by lanes: what each lane's bit says, and all of them together.
-use Rattle.std.proofs.Common.{◌≡◌, ℕ, zero, suc, ◌+◌, ◌-◌, ◌%◌, ◌^◌, ◌<◌, Bool, true, false, cond, ◌&&◌, ◌||◌, nat_eq}
+use Rattle.std.proofs.Common.{◌≡◌, ℕ, zero, suc, ◌+◌, ◌-◌, ◌%◌, ◌<◌, Bool, true, false, cond, ◌&&◌, ◌||◌}
 use Rattle.std.proofs.Common.{ltb, eqb, bit_and, bit_or, List, [], ◌∷◌, ◌++◌, map, length, replicate, get_or, subst}
 use Rattle.std.proofs.Common.{Fits, w8, refl, sym, ap, ◌∙◌, eqb-true, arith}
 use Rattle.std.proofs.lemmas.Bool.{agree_below_at, and_from, or_right}
-use Rattle.std.proofs.lemmas.Simd.{mask_l-mod}
 use Rattle.std.specs.Char.{is_ascii_digit}
 use Rattle.std.specs.List.{list_all, range_with_len}
-use lib.Lanes.{Each1, pick_l, mask_l, top, zip2}
+use lib.Lanes.{Each1, pick_l, fold_l, sel_l, top, zip2}
 use Rattle.crx_text.specs.Fields.{IsPlain}
-use Rattle.crx_text.proofs.LaneBits.{sixteen, all_bits, or_lane, and_lane, top_lane}
+use Rattle.crx_text.proofs.LaneBits.{sixteen, or_lane, and_lane, top_lane}
+use Rattle.crx_text.proofs.LaneWords.{none_in_fold}
 
 pub lane_fits : (v : List ℕ) (i : ℕ) → Each1 (Fits w8) v → get_or v i 0 < 256
 lane_fits [] i h = omega arith
 lane_fits (x ∷ xs) zero h = h.0.fits
 lane_fits (x ∷ xs) (suc i) h = lane_fits xs i h.1
 
--- one of so many bytes from a first one on, or a blank or a minus after a blank
+-- how far a byte stands above so many from a first one on
+abbrev far : ℕ → ℕ → ℕ → ℕ
+far start most c =
+    let up : ℕ = (c + (256 - start)) % 256 in
+    (cond (top 7 (cond (ltb up most) 255 0)) most up + (256 - most)) % 256
+
+-- at most so far from a first byte on, or a blank or a minus after a blank
 abbrev pub lane : ℕ → ℕ → ℕ → ℕ → Bool
-lane start count before c = top 7 (bit_or (cond (ltb ((c + (256 - start)) % 256) count) 255 0)
-    (bit_and (cond (eqb before 32) 255 0) (bit_or (cond (eqb c 32) 255 0) (cond (eqb c 45) 255 0))))
+lane start most before c = eqb (cond (top 7 (bit_and (cond (eqb before 32) 255 0)
+    (bit_or (cond (eqb c 32) 255 0) (cond (eqb c 45) 255 0)))) 0 (far start most c)) 0
 
 abbrev pub allowed : ℕ → ℕ → Bool
 allowed before c = is_ascii_digit c || (eqb before 32 && (eqb c 32 || eqb c 45))
 
-lane_is : (start count before c : ℕ)
-    → lane start count before c ≡ (ltb ((c + (256 - start)) % 256) count || (eqb before 32 && (eqb c 32 || eqb c 45)))
-lane_is start count before c =
-    let digit : Bool = ltb ((c + (256 - start)) % 256) count in
+chosen : (k : Bool) (f : ℕ) → eqb (cond k 0 f) 0 ≡ (eqb f 0 || k)
+chosen true f = sym (right (eqb f 0))
+  where
+    right : (b : Bool) → (b || true) ≡ true
+    right true = refl
+    right false = refl
+chosen false f = sym (left (eqb f 0))
+  where
+    left : (b : Bool) → (b || false) ≡ b
+    left true = refl
+    left false = refl
+
+lane_is : (start most before c : ℕ)
+    → lane start most before c ≡ (eqb (far start most c) 0 || (eqb before 32 && (eqb c 32 || eqb c 45)))
+lane_is start most before c =
     let after : Bool = eqb before 32 in
     let either : Bool = eqb c 32 || eqb c 45 in
-    ap (λ (x : ℕ). top 7 (bit_or (cond digit 255 0) (bit_and (cond after 255 0) x))) (or_lane (eqb c 32) (eqb c 45))
-    ∙ ap (λ (x : ℕ). top 7 (bit_or (cond digit 255 0) x)) (and_lane after either)
-    ∙ ap (top 7) (or_lane digit (after && either))
-    ∙ top_lane (digit || (after && either))
+    let above : ℕ = far start most c in
+    ap (λ (x : ℕ). eqb (cond (top 7 (bit_and (cond after 255 0) x)) 0 above) 0) (or_lane (eqb c 32) (eqb c 45))
+    ∙ ap (λ (x : ℕ). eqb (cond (top 7 x) 0 above) 0) (and_lane after either)
+    ∙ ap (λ (t : Bool). eqb (cond t 0 above) 0) (top_lane (after && either))
+    ∙ chosen (after && either) above
 
 -- the lane of a column before the point
-whole_lane : (before c : ℕ) → c < 256 → lane 48 10 before c ≡ allowed before c
+whole_lane : (before c : ℕ) → c < 256 → lane 48 9 before c ≡ allowed before c
 whole_lane before c small =
-    lane_is 48 10 before c
+    lane_is 48 9 before c
     ∙ ap (λ d. d || (eqb before 32 && (eqb c 32 || eqb c 45)))
-    (agree_below_at (λ x. ltb ((x + 208) % 256) 10) is_ascii_digit 256 c refl small)
+    (agree_below_at (λ x. eqb (far 48 9 x) 0) is_ascii_digit 256 c refl small)
 
 -- that of the first column, which holds no digit
-first_lane : (c : ℕ) → c < 256 → lane 45 1 c c ≡ (eqb c 32 || eqb c 45)
-first_lane c small = agree_below_at (λ x. lane 45 1 x x) (λ x. eqb x 32 || eqb x 45) 256 c refl small
+first_lane : (c : ℕ) → c < 256 → lane 45 0 c c ≡ (eqb c 32 || eqb c 45)
+first_lane c small = agree_below_at (λ x. lane 45 0 x x) (λ x. eqb x 32 || eqb x 45) 256 c refl small
 
 first_allowed : (c : ℕ) → (eqb c 32 || eqb c 45) ≡ true → allowed 32 c ≡ true
 first_allowed c either = or_right (is_ascii_digit c) (eqb c 32 || eqb c 45) either
 
-point_lane : (c : ℕ) → c < 256 → lane 46 1 0 c ≡ eqb c 46
-point_lane c small = agree_below_at (lane 46 1 0) (λ x. eqb x 46) 256 c refl small
+point_lane : (c : ℕ) → c < 256 → lane 46 0 0 c ≡ eqb c 46
+point_lane c small = agree_below_at (lane 46 0 0) (λ x. eqb x 46) 256 c refl small
 
-fraction_lane : (c : ℕ) → c < 256 → lane 48 10 0 c ≡ is_ascii_digit c
-fraction_lane c small = agree_below_at (lane 48 10 0) is_ascii_digit 256 c refl small
+fraction_lane : (c : ℕ) → c < 256 → lane 48 9 0 c ≡ is_ascii_digit c
+fraction_lane c small = agree_below_at (lane 48 9 0) is_ascii_digit 256 c refl small
 
 pub all_at : (bits : List Bool) (i : ℕ) → list_all (λ b. b) bits ≡ true → get_or bits i true ≡ true
 all_at [] i all = refl
@@ -62,23 +80,19 @@ all_at (false ∷ bits) i all = absurd (cc)
 
 -- the bits of the lanes of a field
 abbrev pub lanes : (ℕ → ℕ) → List Bool
-lanes c = lane 45 1 (c 0) (c 0) ∷ lane 48 10 (c 0) (c 1) ∷ lane 48 10 (c 1) (c 2) ∷ lane 48 10 (c 2) (c 3)
-    ∷ lane 48 10 (c 3) (c 4) ∷ lane 48 10 (c 4) (c 5) ∷ lane 48 10 (c 5) (c 6) ∷ lane 48 10 (c 6) (c 7)
-    ∷ lane 48 10 (c 7) (c 8) ∷ lane 48 10 (c 8) (c 9) ∷ lane 46 1 0 (c 10) ∷ lane 48 10 0 (c 11)
-    ∷ lane 48 10 0 (c 12) ∷ lane 48 10 0 (c 13) ∷ lane 48 10 0 (c 14) ∷ lane 48 10 0 (c 15) ∷ []
+lanes c = lane 45 0 (c 0) (c 0) ∷ lane 48 9 (c 0) (c 1) ∷ lane 48 9 (c 1) (c 2) ∷ lane 48 9 (c 2) (c 3)
+    ∷ lane 48 9 (c 3) (c 4) ∷ lane 48 9 (c 4) (c 5) ∷ lane 48 9 (c 5) (c 6) ∷ lane 48 9 (c 6) (c 7)
+    ∷ lane 48 9 (c 7) (c 8) ∷ lane 48 9 (c 8) (c 9) ∷ lane 46 0 0 (c 10) ∷ lane 48 9 0 (c 11)
+    ∷ lane 48 9 0 (c 12) ∷ lane 48 9 0 (c 13) ∷ lane 0 255 0 (c 14) ∷ lane 0 255 0 (c 15) ∷ []
 
-module _ (c : ℕ → ℕ) (small : (i : ℕ) → c i < 256) (set : nat_eq (mask_l (lanes c) % 2 ^ 64) 65535 ≡ true) where
-  all : list_all (λ b. b) (lanes c) ≡ true
-  all = sym (all_bits (λ b. b) (lanes c))
-      ∙ (ap (λ m. nat_eq m 65535) (sym (mask_l-mod (lanes c) 64 (omega arith))) ∙ set)
-
+module _ (c : ℕ → ℕ) (small : (i : ℕ) → c i < 256) (all : list_all (λ b. b) (lanes c) ≡ true) where
   first : (eqb (c 0) 32 || eqb (c 0) 45) ≡ true
   first = sym (first_lane (c 0) (small 0)) ∙ all_at (lanes c) 0 all
 
-  whole_at : (i : ℕ) → lane 48 10 (c i) (c (suc i)) ≡ true → allowed (c i) (c (suc i)) ≡ true
+  whole_at : (i : ℕ) → lane 48 9 (c i) (c (suc i)) ≡ true → allowed (c i) (c (suc i)) ≡ true
   whole_at i bit = sym (whole_lane (c i) (c (suc i)) (small (suc i))) ∙ bit
 
-  fraction_at : (i : ℕ) → lane 48 10 0 (c i) ≡ true → is_ascii_digit (c i) ≡ true
+  fraction_at : (i : ℕ) → lane 48 9 0 (c i) ≡ true → is_ascii_digit (c i) ≡ true
   fraction_at i bit = sym (fraction_lane (c i) (small i)) ∙ bit
 
   plain_lanes : IsPlain (map c (range_with_len 0 16))
@@ -97,21 +111,26 @@ module _ (c : ℕ → ℕ) (small : (i : ℕ) → c i < 256) (set : nat_eq (mask
         _ _ (fraction_at 12 (all_at (lanes c) 12 all)) (and_from _ _ (fraction_at 13 (all_at (lanes c) 13 all)) refl));
   }
 
--- the mask as the code makes it of a row
-abbrev pub plain_mask : List ℕ → ℕ
-plain_mask v =
+-- what isn't allowed in a row, as the code makes it
+abbrev pub refused : List ℕ → List ℕ
+refused v =
     let blanks = zip2 (λ a b. cond (eqb a b) 255 0) (pick_l 0 (v ++ replicate 16 0)
     (0 ∷ 0 ∷ 1 ∷ 2 ∷ 3 ∷ 4 ∷ 5 ∷ 6 ∷ 7 ∷ 8 ∷ 16 ∷ 16 ∷ 16 ∷ 16 ∷ 16 ∷ 16 ∷ [])) (replicate 16 32) in
     let firsts = zip2 (λ a b. (a + (256 - b)) % 256) v
-    (45 ∷ 48 ∷ 48 ∷ 48 ∷ 48 ∷ 48 ∷ 48 ∷ 48 ∷ 48 ∷ 48 ∷ 46 ∷ 48 ∷ 48 ∷ 48 ∷ 48 ∷ 48 ∷ []) in
-    let digits = zip2 (λ a b. cond (ltb a b) 255 0) firsts
-    (1 ∷ 10 ∷ 10 ∷ 10 ∷ 10 ∷ 10 ∷ 10 ∷ 10 ∷ 10 ∷ 10 ∷ 1 ∷ 10 ∷ 10 ∷ 10 ∷ 10 ∷ 10 ∷ []) in
+    (45 ∷ 48 ∷ 48 ∷ 48 ∷ 48 ∷ 48 ∷ 48 ∷ 48 ∷ 48 ∷ 48 ∷ 46 ∷ 48 ∷ 48 ∷ 48 ∷ 0 ∷ 0 ∷ []) in
+    let most = 0 ∷ 9 ∷ 9 ∷ 9 ∷ 9 ∷ 9 ∷ 9 ∷ 9 ∷ 9 ∷ 9 ∷ 0 ∷ 9 ∷ 9 ∷ 9 ∷ 255 ∷ 255 ∷ [] in
+    let above = zip2 (λ a b. (a + (256 - b)) % 256)
+    (sel_l (map (top 7) (zip2 (λ a b. cond (ltb a b) 255 0) firsts most)) most firsts) most in
     let prefix = zip2 bit_or (zip2 (λ a b. cond (eqb a b) 255 0) v (replicate 16 32))
     (zip2 (λ a b. cond (eqb a b) 255 0) v (replicate 16 45)) in
-    mask_l (map (top 7) (zip2 bit_or digits (zip2 bit_and blanks prefix)))
+    sel_l (map (top 7) (zip2 bit_and blanks prefix)) (replicate 16 0) above
 
-pub plain_from_mask : (v : List ℕ)
-    → length v ≡ 16 → Each1 (Fits w8) v → nat_eq (plain_mask v % 2 ^ 64) 65535 ≡ true → IsPlain v
-plain_from_mask v long fits =
-    subst (λ (w : List ℕ). nat_eq (plain_mask w % 2 ^ 64) 65535 ≡ true → IsPlain w)
-    (sym (sixteen v long)) (plain_lanes (λ (i : ℕ). get_or v i 0) (λ (i : ℕ). lane_fits v i fits))
+explicit : (c : ℕ → ℕ) → ((i : ℕ) → c i < 256)
+    → eqb (fold_l bit_or 0 (refused (map c (range_with_len 0 16)))) 0 ≡ true → IsPlain (map c (range_with_len 0 16))
+explicit c small none = plain_lanes c small (sym (none_in_fold (refused (map c (range_with_len 0 16))) 0) ∙ none)
+
+pub plain_from_fold : (v : List ℕ)
+    → length v ≡ 16 → Each1 (Fits w8) v → eqb (fold_l bit_or 0 (refused v)) 0 ≡ true → IsPlain v
+plain_from_fold v long fits =
+    subst (λ (w : List ℕ). eqb (fold_l bit_or 0 (refused w)) 0 ≡ true → IsPlain w)
+    (sym (sixteen v long)) (explicit (λ (i : ℕ). get_or v i 0) (λ (i : ℕ). lane_fits v i fits))

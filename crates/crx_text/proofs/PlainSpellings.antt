@@ -1,6 +1,6 @@
 -- What plain columns spell.
 use Rattle.std.proofs.Common.{◌≡◌, ◌≢◌, ℕ, ℤ, pos, ◌+◌, ◌-◌, ◌*◌, ◌^◌, Bool, true, false, ◌&&◌, ◌||◌, eqb, Option, Some}
-use Rattle.std.proofs.Common.{None, List, [], ◌∷◌, ◌++◌, map, length, get_or, subst, refl, sym, ap, ◌∙◌, inl, inr}
+use Rattle.std.proofs.Common.{None, List, [], ◌∷◌, ◌++◌, map, take, length, get_or, subst, refl, sym, ap, ◌∙◌, inl, inr}
 use Rattle.std.proofs.Common.{eqb-true, arith}
 use Rattle.std.proofs.lemmas.Bool.{and_parts, or_cases, cases_eq, ne_eqb}
 use Rattle.std.specs.Char.{is_ascii_digit}
@@ -124,11 +124,8 @@ not_minus c is_digit = let range = digit_range c is_digit in ne_eqb c 45 (λ e. 
 
 -- ---- a field whose columns are plain
 
-abbrev pub lanes_of : List ℕ → List ℕ
-lanes_of field = field ++ get_or field 13 0 ∷ get_or field 13 0 ∷ []
-
 abbrev pub number_in : List ℕ → ℤ
-number_in columns = signed_number (list_any (λ c. eqb c 45) columns) (weighed 0 (plain_digits columns))
+number_in columns = signed_number (list_any (λ c. eqb c 45) (take 14 columns)) (weighed 0 (plain_digits columns))
 
 first_weighs_nothing : (c : ℕ) → (eqb c 32 || eqb c 45) ≡ true → 0 * 10 + (c - 48) ≡ 0
 first_weighs_nothing c either = elim (or_cases (eqb c 32) (eqb c 45) either) [
@@ -136,9 +133,10 @@ first_weighs_nothing c either = elim (or_cases (eqb c 32) (eqb c 45) either) [
   | inr minus ↦ omega (arith, eqb-true _ _ minus)
 ]
 
-plain_explicit : (c : ℕ → ℕ) → IsPlain (lanes_of (map c (range_with_len 0 14)))
-    → number_of 14 3 (map c (range_with_len 0 14)) ≡ Some (Some (number_in (lanes_of (map c (range_with_len 0 14)))))
-plain_explicit c plain =
+plain_explicit : (c : ℕ → ℕ) (a b : ℕ) → IsPlain (map c (range_with_len 0 14) ++ a ∷ b ∷ [])
+    → number_of 14 3 (map c (range_with_len 0 14))
+    ≡ Some (Some (number_in (map c (range_with_len 0 14) ++ a ∷ b ∷ [])))
+plain_explicit c a b plain =
     let whole = map c (range_with_len 0 10) in
     let fraction = map c (range_with_len 11 3) in
     let one = and_parts (is_ascii_digit (c 11)) _ plain.fraction in
@@ -149,8 +147,10 @@ plain_explicit c plain =
     number_of_width 14 3 (map c (range_with_len 0 14)) refl
     ∙ (rw (plain.point, not_minus (c 11) one.0, not_minus (c 12) two.0, not_minus (c 13) three.0) (rw first at reads))
 
-pub plain_number : (field : List ℕ)
-    → length field ≡ 14 → IsPlain (lanes_of field) → number_of 14 3 field ≡ Some (Some (number_in (lanes_of field)))
-plain_number field long =
-    subst (λ (f : List ℕ). IsPlain (lanes_of f) → number_of 14 3 f ≡ Some (Some (number_in (lanes_of f))))
-    (sym (fourteen field long)) (plain_explicit (λ (i : ℕ). get_or field i 0))
+-- a field, and two lanes after it
+pub plain_number : (field : List ℕ) (a b : ℕ) → length field ≡ 14
+    → IsPlain (field ++ a ∷ b ∷ []) → number_of 14 3 field ≡ Some (Some (number_in (field ++ a ∷ b ∷ [])))
+plain_number field a b long =
+    subst (λ (f : List ℕ). IsPlain (f ++ a ∷ b ∷ [])
+    → number_of 14 3 f ≡ Some (Some (number_in (f ++ a ∷ b ∷ []))))
+    (sym (fourteen field long)) (plain_explicit (λ (i : ℕ). get_or field i 0) a b)

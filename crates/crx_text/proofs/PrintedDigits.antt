@@ -7,12 +7,8 @@ use Rattle.std.proofs.lemmas.Fmt.{decimal_digit, decimal_step}
 use Rattle.std.proofs.lemmas.List.{length-map, length-drop, append-nil}
 use Rattle.std.specs.List.{list_all}
 use Rattle.crx_text.specs.FieldTexts.{leading_zeros}
+pub use Rattle.crx_text.specs.FirstDigits.{written}
 use Rattle.crx_text.specs.meaning.Numbers.{zero_padded}
-
--- the number that digits go on to write
-abbrev pub written : ℕ → List ℕ → ℕ
-written size [] = size
-written size (d ∷ ds) = written (size * 10 + d) ds
 
 abbrev pub are_digits : List ℕ → Bool
 are_digits ds = list_all (λ d. ltb d 10) ds

@@ -231,3 +231,10 @@ stored_row text field long wide =
     let lanes : List ℕ = pick_l 0 text (range_with_len 0 16) in
     subst (λ (t : List ℕ). stored t field ≡ take 14 t) (sym (sixteen text long))
     (subst (λ (f : List ℕ). stored lanes f ≡ take 14 lanes) (sym (fourteen field wide)) refl)
+
+-- one store of sixteen lanes
+pub stored_cell : (text cell : List ℕ) → length text ≡ 16 → length cell ≡ 16 → put_chunk 0 cell text ≡ text
+stored_cell text cell long wide =
+    let lanes : List ℕ = pick_l 0 text (range_with_len 0 16) in
+    subst (λ (t : List ℕ). put_chunk 0 cell t ≡ t) (sym (sixteen text long))
+    (subst (λ (f : List ℕ). put_chunk 0 f lanes ≡ lanes) (sym (sixteen cell wide)) refl)

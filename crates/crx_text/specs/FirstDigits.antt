@@ -1,5 +1,6 @@
 -- The digits that begin a cell, read one after another.
-use Rattle.std.specs.Prelude.{ℕ, false, ◌≡◌, ◌+◌, ◌<◌, ◌≤◌, ◌^◌, List, length, drop, slice_index}
+use Rattle.std.specs.Prelude.{ℕ, Bool, false, ◌≡◌, ◌+◌, ◌*◌, ◌%◌, ◌<◌, ◌≤◌, ◌^◌, nat_lt, List, [], ◌∷◌, length}
+use Rattle.std.specs.Prelude.{drop, slice_index}
 use Rattle.std.specs.Char.{is_ascii_digit}
 use Rattle.std.specs.Str.{all_ascii_digits}
 use Rattle.std.specs.Str.Parse.{digits_value, digits_value_after}
@@ -17,3 +18,17 @@ pub record HasFirstDigits (text : List ℕ) (size count : ℕ) : Type 0 where
   pub long : length (first_cell text) ≡ count + length (first_cell (drop count text))
   pub after : after_cell (drop count text) ≡ after_cell text
   pub stops : count ≤ DIGITS_LIMIT → count < length text → is_ascii_digit (slice_index text count) ≡ false
+
+-- ---- in a row of lanes
+
+-- how far a byte stands above the character 0; bytes before that one are far above all digits
+abbrev pub above_zero : ℕ → ℕ
+above_zero c = (c + 208) % 256
+
+abbrev pub is_below_ten : ℕ → Bool
+is_below_ten number = nat_lt number 10
+
+-- the number that digits go on to write
+abbrev pub written : ℕ → List ℕ → ℕ
+written size [] = size
+written size (d ∷ ds) = written (size * 10 + d) ds

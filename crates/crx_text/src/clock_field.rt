@@ -11,7 +11,7 @@ ghost use Rattle.crx_text.specs.Numbers.{IsClock};
 ghost use Rattle.crx_text.specs.meaning.Numbers.{clock_of};
 
 use crate::digits::signed;
-use crate::field::{self, WEIGHTS, of_groups};
+use crate::field::{WEIGHTS, of_groups};
 use std::simd::prelude::*;
 
 /// Whether every column is blank.
@@ -20,7 +20,7 @@ pub(crate) fn is_blank(field: &[u8]) -> bool
     requires { length field.now ≡ CLOCK_WIDTH }
     ensures { result ≡ list_all (λ c. c == 32) (field.now ++ slice_index field.now 14 ∷ []) }
 {
-    field::is_blank(columns(field))
+    columns(field).simd_eq(u8x16::splat(b' ')).to_bitmask() == 0xffff
 }
 
 /// The columns of a field; the last one stands in the last two lanes.

@@ -5,7 +5,8 @@ ghost use Rattle.std.specs.Option.{option_map};
 ghost use Rattle.std.specs.Result.{result_ok};
 
 use crate::digits::{
-    digits_before_blank, digits_read, few_digits_before_blank, signed, split_minus, write_signed,
+    ROW, digits_before_blank, digits_in_front, digits_read, few_digits_before_blank, signed,
+    split_minus, write_signed,
 };
 use crate::number::BadField;
 use crate::text::{Text, TextFull};
@@ -162,7 +163,7 @@ pub fn code_before_blank(line: &[u8]) -> Result<(Code, usize), BadField>
 
 /// Reads a difference up to a line's first blank, or up to its end, and answers it with the index after that blank, or of
 /// the line's end. `None` comes where the cell is another code or none, and also where [`code_before_blank`] is to read it:
-/// of eight digits or more.
+/// of seven digits or more.
 #[inline(always)]
 pub fn step_before_blank(line: &[u8]) -> Option<(i64, usize)>
     ensures value { IfSome result (λ cell. code_of (first_cell line.now) ≡ Some (Step cell.0)) }
@@ -171,6 +172,10 @@ pub fn step_before_blank(line: &[u8]) -> Option<(i64, usize)>
     ensures short { IfSome result (λ cell. IsShort cell.0) }
 {
     let (is_below, digits) = split_minus(line);
+    if line.len() > ROW {
+        let (size, next) = digits_in_front(digits)?;
+        return Some((signed(is_below, size), next + usize::from(is_below)));
+    }
     let (size, next) = few_digits_before_blank(digits)?;
     Some((signed(is_below, size), next + usize::from(is_below)))
 }

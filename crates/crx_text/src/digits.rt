@@ -1,6 +1,6 @@
 //! Digits and signs, as numbers in columns and numbers in codes have them.
 
-ghost use Rattle.std.specs.Prelude.{true, ◌≡◌, ◌+◌, ◌-◌, ◌*◌, ◌/◌, ◌%◌, ◌<◌, ◌≤◌, ◌^◌, Some, None, [], ◌∷◌, ◌++◌, length, take, drop, decimal, if◌then◌else◌, IfSome};
+ghost use Rattle.std.specs.Prelude.{true, ◌≡◌, ◌+◌, ◌-◌, ◌*◌, ◌/◌, ◌%◌, ◌<◌, ◌≤◌, ◌^◌, Some, None, [], ◌∷◌, ◌++◌, length, take, drop, map, replicate, decimal, if◌then◌else◌, IfSome};
 ghost use Rattle.std.specs.Fmt.{signed_decimal};
 ghost use Rattle.std.specs.Int.{to_le_bytes, w32};
 ghost use Rattle.std.specs.Option.{option_map};
@@ -11,7 +11,7 @@ ghost use Rattle.std.specs.Str.Parse.{digits_value, digits_value_after, starts_w
 ghost use Rattle.crx_text.specs.meaning.Numbers.{signed_number, without_minus};
 ghost use Rattle.crx_text.specs.meaning.Codes.{after_cell, first_cell};
 ghost use Rattle.crx_text.specs.Codes.{counted_digits};
-ghost use Rattle.crx_text.specs.FirstDigits.{HasFirstDigits};
+ghost use Rattle.crx_text.specs.FirstDigits.{HasFirstDigits, above_zero, is_below_ten, written};
 ghost use Rattle.crx_lines.specs.declared.limits.TheConstants.{DIGITS_LIMIT};
 
 use crate::copies::copy_text;
@@ -52,10 +52,10 @@ pub(crate) fn digits_before_blank(text: &[u8]) -> Option<(u64, usize)>
     }
 }
 
-// What `digits_before_blank` gives, where fewer digits than a row has stand before a blank, or before the text's end; else
-// None, whatever there is. A row is a vector of eight characters: seven digits and their blank fit it, and most codes have
-// no more, so they take 52 instructions in place of 60 to 126. Where fewer characters than a row has are left of a line, they
-// are copied into a row: one by one a line's last code takes 50 to 100 instructions.
+// What `digits_before_blank` gives, where at most six digits stand before a blank, or before the text's end; else None, whatever there
+// is. Six digits are two groups of three, which one product weighs, and most codes have no more, so they take 42 instructions in
+// place of 60 to 126. Where fewer characters than a row has are left of a line, they are copied into a row: one by one a line's last
+// code takes 50 to 100 instructions.
 #[inline(always)]
 pub(crate) fn few_digits_before_blank(text: &[u8]) -> Option<(u64, usize)>
     ensures value { IfSome result (λ cell. counted_digits (first_cell text.now) ≡ Some cell.0) }
@@ -63,20 +63,12 @@ pub(crate) fn few_digits_before_blank(text: &[u8]) -> Option<(u64, usize)>
     ensures within { IfSome result (λ cell. (cell.0 < 10 ^ DIGITS_LIMIT) × (cell.1 ≤ length text.now)) }
 {
     if text.len() < ROW {
-        let (size, count) = digits_of_few(text);
-        if count == 0 || count >= ROW {
-            return None;
-        }
-        return ended_digits(text, size, count);
+        return digits_of_few(text);
     }
-    let (size, count) = digits_in_front(text);
-    if count == 0 || count >= ROW {
-        return None;
-    }
-    ended_digits(text, size, count)
+    digits_in_front(text)
 }
 
-// What `digits_before_blank` gives, read digit by digit: numbers of eight digits or more.
+// What `digits_before_blank` gives, read digit by digit: numbers of seven digits or more.
 #[inline(always)]
 fn digits_before_blank_singly(text: &[u8]) -> Option<(u64, usize)>
     ensures value { option_map (λ cell. cell.0) result ≡ counted_digits (first_cell text.now) }
@@ -107,6 +99,20 @@ fn ended_digits(text: &[u8], size: u64, count: usize) -> Option<(u64, usize)>
     if count == text.len() {
         return Some((size, count));
     }
+    before_blank(text, size, count)
+}
+
+// What `ended_digits` gives of a text that has a character after the digits.
+#[inline(always)]
+fn before_blank(text: &[u8], size: u64, count: usize) -> Option<(u64, usize)>
+    requires digits { HasFirstDigits text.now size count }
+    requires some { 0 < count }
+    requires few { count ≤ DIGITS_LIMIT }
+    requires more { count < length text.now }
+    ensures value { option_map (λ cell. cell.0) result ≡ counted_digits (first_cell text.now) }
+    ensures next { IfSome result (λ cell. drop cell.1 text.now ≡ after_cell text.now) }
+    ensures within { IfSome result (λ cell. (cell.0 < 10 ^ DIGITS_LIMIT) × (cell.1 ≤ length text.now)) }
+{
     if text[count] == b' ' {
         return Some((size, count + 1));
     }
@@ -134,66 +140,86 @@ fn first_digits(text: &[u8]) -> (u64, usize)
 }
 
 // How many characters stand in a row of lanes.
-const ROW: usize = 8;
+pub(crate) const ROW: usize = 8;
 
-// The number that the digits at a text's beginning write, and how many they are, where these are
-// fewer than a row has; else any number, and how many a row has.
+// How many digits of a row are read at once.
+const FEW: usize = 6;
+
+// What `few_digits_before_blank` gives of a text that has as many characters as a row.
 #[inline(always)]
-fn digits_in_front(text: &[u8]) -> (u64, usize)
+pub(crate) fn digits_in_front(text: &[u8]) -> Option<(u64, usize)>
     requires { ROW ≤ length text.now }
-    ensures { result.1 < ROW → HasFirstDigits text.now result.0 result.1 }
+    ensures value { IfSome result (λ cell. counted_digits (first_cell text.now) ≡ Some cell.0) }
+    ensures next { IfSome result (λ cell. drop cell.1 text.now ≡ after_cell text.now) }
+    ensures within { IfSome result (λ cell. (cell.0 < 10 ^ DIGITS_LIMIT) × (cell.1 ≤ length text.now)) }
 {
-    let row = u8x8::from_slice(text);
-    let count = digits_in_row(row);
-    if count >= ROW {
-        return (0, ROW);
+    let digits = row_digits(text);
+    let count = digits_in_row(digits);
+    if count == 0 || count > FEW {
+        return None;
     }
-    (row_size(row, count), count)
+    before_blank(text, row_size(digits, count), count)
 }
 
-// What `digits_in_front` gives of fewer characters than a row has, which are copied into one.
+// What `few_digits_before_blank` gives of fewer characters than a row has, which are copied into one.
 #[inline(always)]
-fn digits_of_few(text: &[u8]) -> (u64, usize)
+fn digits_of_few(text: &[u8]) -> Option<(u64, usize)>
     requires { length text.now < ROW }
-    ensures { HasFirstDigits text.now result.0 result.1 }
+    ensures value { IfSome result (λ cell. counted_digits (first_cell text.now) ≡ Some cell.0) }
+    ensures next { IfSome result (λ cell. drop cell.1 text.now ≡ after_cell text.now) }
+    ensures within { IfSome result (λ cell. (cell.0 < 10 ^ DIGITS_LIMIT) × (cell.1 ≤ length text.now)) }
 {
     let mut characters = [0; ROW];
     copy_text(&mut characters[..text.len()], text);
-    let row = u8x8::from_array(characters);
-    let count = digits_in_row(row);
-    (row_size(row, count), count)
+    let digits = row_digits(&characters);
+    let count = digits_in_row(digits);
+    if count == 0 || count > FEW {
+        return None;
+    }
+    ended_digits(text, row_size(digits, count), count)
 }
 
-// How many digits a row begins with.
+// How far the characters of a row stand above `0`, and zeros after them.
 #[inline(always)]
-fn digits_in_row(row: u8x8) -> usize
-    ensures { result ≡ prefix_len is_ascii_digit row }
+fn row_digits(text: &[u8]) -> u8x16
+    requires { ROW ≤ length text.now }
+    ensures { result ≡ map above_zero (take ROW text.now ++ replicate 8 0) }
 {
-    let others = (row - u8x8::splat(b'0'))
-        .simd_gt(u8x8::splat(9))
-        .to_bitmask();
-    if others == 0 {
-        ROW
-    } else {
-        others.trailing_zeros() as usize
-    }
+    let row = u8x8::from_slice(text).shuffle(
+        u8x8::splat(0),
+        [0, 1, 2, 3, 4, 5, 6, 7, 8, 9, 10, 11, 12, 13, 14, 15],
+    );
+    row - u8x16::splat(b'0')
+}
+
+// The first number of a lane that ends the digits; the lane after the sixth digit ends them in any case.
+const ENDS: [u8; 16] = [10, 10, 10, 10, 10, 10, 10, 0, 0, 0, 0, 0, 0, 0, 0, 0];
+
+// How many of the first seven lanes come before one that is no digit.
+#[inline(always)]
+fn digits_in_row(digits: u8x16) -> usize
+    ensures { result ≡ prefix_len is_below_ten (take 7 digits) }
+{
+    digits
+        .simd_ge(u8x16::from_array(ENDS))
+        .to_bitmask()
+        .trailing_zeros() as usize
 }
 
 // What each digit of a row weighs in its group of three, for each count of digits.
 #[rattlefmt::skip]
-static WEIGHTS: [u8; 16 * ROW] = [
-    0, 0, 0, 0, 0, 0, 0, 0, 0, 0, 0, 0, 0, 0, 0, 0,
-    1, 0, 0, 0, 0, 0, 0, 0, 0, 0, 0, 0, 0, 0, 0, 0,
-    10, 1, 0, 0, 0, 0, 0, 0, 0, 0, 0, 0, 0, 0, 0, 0,
-    100, 10, 1, 0, 0, 0, 0, 0, 0, 0, 0, 0, 0, 0, 0, 0,
-    100, 10, 1, 0, 1, 0, 0, 0, 0, 0, 0, 0, 0, 0, 0, 0,
-    100, 10, 1, 0, 10, 1, 0, 0, 0, 0, 0, 0, 0, 0, 0, 0,
-    100, 10, 1, 0, 100, 10, 1, 0, 0, 0, 0, 0, 0, 0, 0, 0,
-    100, 10, 1, 0, 100, 10, 1, 0, 1, 0, 0, 0, 0, 0, 0, 0,
+static WEIGHTS: [u8; 8 * (FEW + 1)] = [
+    0, 0, 0, 0, 0, 0, 0, 0,
+    1, 0, 0, 0, 0, 0, 0, 0,
+    10, 1, 0, 0, 0, 0, 0, 0,
+    100, 10, 1, 0, 0, 0, 0, 0,
+    100, 10, 1, 0, 1, 0, 0, 0,
+    100, 10, 1, 0, 10, 1, 0, 0,
+    100, 10, 1, 0, 100, 10, 1, 0,
 ];
 
-// What the second group weighs, and 2^32 times what the first one does, for each count of digits; the third group weighs 1.
-static SCALES: [u64; ROW] = [
+// What the second group weighs, and 2^32 times what the first one does, for each count of digits.
+static SCALES: [u64; FEW + 1] = [
     0,
     1 << 32,
     1 << 32,
@@ -201,24 +227,27 @@ static SCALES: [u64; ROW] = [
     (10 << 32) + 1,
     (100 << 32) + 1,
     (1000 << 32) + 1,
-    (10_000 << 32) + 10,
 ];
 
-// The number that so many digits write, which a row begins with. The first two groups of three digits are weighed by one product, whose
+// The number that so many digits write, which a row begins with. The two groups of three digits are weighed by one product, whose
 // upper half is their sum.
 #[inline(always)]
-fn row_size(row: u8x8, count: usize) -> u64
-    requires few { count < ROW }
-    requires digits { all_ascii_digits (take count row) ≡ true }
-    ensures { result ≡ digits_value 10 (take count row) }
+fn row_size(digits: u8x16, count: usize) -> u64
+    requires { count ≤ FEW }
+    ensures { result ≡ written 0 (take count digits) }
 {
-    let digits = (row - u8x8::splat(b'0')).shuffle(
+    let weights = u8x8::from_slice(&WEIGHTS[8 * count..]).shuffle(
         u8x8::splat(0),
-        [0, 1, 2, 8, 3, 4, 5, 8, 6, 7, 8, 8, 8, 8, 8, 8],
+        [0, 1, 2, 3, 4, 5, 6, 7, 8, 9, 10, 11, 12, 13, 14, 15],
     );
-    let groups = digits.dot4(u8x16::from_slice(&WEIGHTS[16 * count..]));
+    let groups = digits
+        .shuffle(
+            u8x16::splat(0),
+            [0, 1, 2, 16, 3, 4, 5, 16, 16, 16, 16, 16, 16, 16, 16, 16],
+        )
+        .dot4(weights);
     let pairs = u64x2::from_le_bytes(groups.to_le_bytes()).to_array();
-    (pairs[0].wrapping_mul(SCALES[count]) >> 32) + pairs[1]
+    pairs[0].wrapping_mul(SCALES[count]) >> 32
 }
 
 // Whether a minus begins the text, and the text without it.
@@ -339,7 +368,7 @@ fn four_digits(size: u32) -> u32
     ensures { to_le_bytes w32 result ≡ (48 + size / 100 / 10)
         ∷ (48 + size / 100 % 10) ∷ (48 + size % 100 / 10) ∷ (48 + size % 100 % 10) ∷ [] }
 {
-    let high = size / 100;
+    let high = hundreds(size);
     let low = size - high * 100;
     let (high, low) = (high as usize, low as usize);
     u32::from_le_bytes([
@@ -348,6 +377,15 @@ fn four_digits(size: u32) -> u32
         PAIRS[low * 2],
         PAIRS[low * 2 + 1],
     ])
+}
+
+// A number's hundreds, by one product: the compiler's own division of a number that it knows less of takes three instructions more.
+#[inline(always)]
+fn hundreds(size: u32) -> u32
+    requires { size < 10000 }
+    ensures { result ≡ size / 100 }
+{
+    (size * 5243) >> 19
 }
 
 // Writes the four bytes of a word from an index on, the lowest one first.

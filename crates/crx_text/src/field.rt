@@ -26,39 +26,40 @@ pub(crate) fn columns(field: &[u8]) -> u8x16
     )
 }
 
-/// The columns of the field of a cell, which its two indicators stand after.
+/// The columns of the field of a cell, and its two indicators in the last two lanes.
 #[inline(always)]
 pub(crate) fn columns_of_cell(cell: &[u8]) -> u8x16
     requires { length cell.now ≡ CELL_WIDTH }
     ensures { result ≡ take OBSERVATION_WIDTH cell.now
-        ++ slice_index cell.now 13 ∷ slice_index cell.now 13 ∷ [] }
+        ++ slice_index cell.now 14 ∷ slice_index cell.now 15 ∷ [] }
 {
-    u8x16::from_slice(cell).swizzle([0, 1, 2, 3, 4, 5, 6, 7, 8, 9, 10, 11, 12, 13, 13, 13])
+    u8x16::from_slice(cell)
 }
 
 /// Whether every column is blank.
 #[inline(always)]
 pub(crate) fn is_blank(columns: u8x16) -> bool
-    ensures { result ≡ list_all (λ c. c == 32) columns }
+    ensures { result ≡ list_all (λ c. c == 32) (take OBSERVATION_WIDTH columns) }
 {
-    columns.simd_eq(u8x16::splat(b' ')).to_bitmask() == 0xffff
+    columns.simd_eq(u8x16::splat(b' ')).to_bitmask() & FIELD == FIELD
 }
 
 /// Whether a column has a minus.
 #[inline(always)]
 fn has_minus(columns: u8x16) -> bool
-    ensures { result ≡ list_any (λ c. c == 45) columns }
+    ensures { result ≡ list_any (λ c. c == 45) (take OBSERVATION_WIDTH columns) }
 {
-    columns.simd_eq(u8x16::splat(b'-')).to_bitmask() != 0
+    columns.simd_eq(u8x16::splat(b'-')).to_bitmask() & FIELD != 0
 }
 
-// The first byte of what a column may have beside blanks and a minus: a digit, or the point.
-const FIRST: [u8; 16] = [
-    45, 48, 48, 48, 48, 48, 48, 48, 48, 48, 46, 48, 48, 48, 48, 48,
-];
+// The lanes of a field's columns among 16; what stands in the others doesn't count.
+const FIELD: u64 = 0x3fff;
 
-// How many bytes from that one on it may have; the first column has no digit, but a minus.
-const COUNT: [u8; 16] = [1, 10, 10, 10, 10, 10, 10, 10, 10, 10, 1, 10, 10, 10, 10, 10];
+// The first byte of what a column may have beside blanks and a minus: a digit, or the point.
+const FIRST: [u8; 16] = [45, 48, 48, 48, 48, 48, 48, 48, 48, 48, 46, 48, 48, 48, 0, 0];
+
+// How far from that one on it may be; the first column has no digit, but a minus, and the lanes after the field may have anything.
+const MOST: [u8; 16] = [0, 9, 9, 9, 9, 9, 9, 9, 9, 9, 0, 9, 9, 9, 255, 255];
 
 /// Whether the columns are plain.
 #[inline(always)]
@@ -70,9 +71,10 @@ pub(crate) fn is_plain(columns: u8x16) -> bool
         u8x16::splat(0),
         [0, 0, 1, 2, 3, 4, 5, 6, 7, 8, 16, 16, 16, 16, 16, 16],
     );
-    let digit = (columns - u8x16::from_array(FIRST)).simd_lt(u8x16::from_array(COUNT));
+    let others = (columns - u8x16::from_array(FIRST)).saturating_sub(u8x16::from_array(MOST));
     let prefix = columns.simd_eq(blank) | columns.simd_eq(u8x16::splat(b'-'));
-    (digit | before.simd_eq(blank) & prefix).to_bitmask() == 0xffff
+    let refused = (before.simd_eq(blank) & prefix).select(u8x16::splat(0), others);
+    refused.reduce_or() == 0
 }
 
 /// What three digits weigh.
@@ -108,7 +110,7 @@ pub(crate) fn of_groups(groups: u32x4) -> u64
 pub(crate) fn value(columns: u8x16) -> i64
     requires { IsPlain columns }
     ensures value { result ≡ signed_number
-        (list_any (λ c. c == 45) columns) (weighed 0 (plain_digits columns)) }
+        (list_any (λ c. c == 45) (take OBSERVATION_WIDTH columns)) (weighed 0 (plain_digits columns)) }
     ensures in_range { IsObservation result }
 {
     signed(has_minus(columns), size(columns))

@@ -3,7 +3,7 @@
 
 ghost use Rattle.std.specs.Prelude.{◌≡◌, ◌+◌, ◌-◌, ◌/◌, ◌%◌, ◌^◌, ◌<◌, ◌≤◌, ◌∷◌, ◌++◌, [], ◌*◌, length, map, slice_index, take, drop, replicate};
 ghost use Rattle.std.specs.Simd.Lanes.{Each1, zip2};
-ghost use Rattle.crx_lines.specs.declared.limits.TheConstants.{OBSERVATION_WIDTH, OBSERVATION_DECIMALS};
+ghost use Rattle.crx_lines.specs.declared.limits.TheConstants.{CELL_WIDTH, OBSERVATION_WIDTH, OBSERVATION_DECIMALS};
 ghost use Rattle.crx_text.specs.FieldTexts.{group_digits, spread, leading_zeros};
 ghost use Rattle.crx_text.specs.meaning.Numbers.{size_text};
 
@@ -119,5 +119,30 @@ pub(crate) fn size_print_by_lanes(size: u64, field: &mut [u8]) -> usize
     let columns = columns(digits(groups(size)));
     let start = first_digit(columns);
     store(glyphs(columns, start), field);
+    start
+}
+
+/// Puts all lanes into a cell.
+#[inline(always)]
+fn store_cell(text: u8x16, cell: &mut [u8])
+    requires { length cell.old ≡ CELL_WIDTH }
+    ensures { cell.new ≡ text }
+{
+    text.copy_to_slice(cell);
+}
+
+/// Prints a size as [`size_print_by_lanes`] does, into the first columns of a cell; the two columns of its indicators are overwritten.
+#[inline(always)]
+pub(crate) fn size_print_in_cell(size: u64, cell: &mut [u8]) -> usize
+    requires short { size < 10 ^ 12 }
+    requires width { length cell.old ≡ CELL_WIDTH }
+    ensures start { result + length (size_text OBSERVATION_DECIMALS size) ≡ OBSERVATION_WIDTH }
+    ensures room { 1 ≤ result }
+    ensures written { drop result (take OBSERVATION_WIDTH cell.new) ≡ size_text OBSERVATION_DECIMALS size }
+    ensures before { take result (take OBSERVATION_WIDTH cell.new) ≡ replicate result 32 }
+{
+    let columns = columns(digits(groups(size)));
+    let start = first_digit(columns);
+    store_cell(glyphs(columns, start), cell);
     start
 }

@@ -1,7 +1,7 @@
 //! Numbers in columns: observations in format F14.3 and receiver clock offsets in format F15.12
 //! (RINEX 3.05, table A3). They are read leniently and printed in one spelling.
 
-ghost use Rattle.std.specs.Prelude.{slice_index, ◌≡◌, ◌+◌, ◌-◌, ◌*◌, ◌<◌, ◌≤◌, ◌^◌, ◌%◌, ◌++◌, ◌∷◌, [], Option, length, take, drop, replicate, decimal, if◌then◌else◌, IfOk, IfSome, Some};
+ghost use Rattle.std.specs.Prelude.{slice_index, ◌≡◌, ◌+◌, ◌-◌, ◌*◌, ◌<◌, ◌≤◌, ◌^◌, ◌%◌, ◌++◌, ◌∷◌, [], Option, length, take, drop, replicate, decimal, if◌then◌else◌, IfOk, IfSome, IsTrue, ◌↔◌, Some};
 ghost use Rattle.std.specs.Bool.{OnFalse, OnTrue};
 ghost use Rattle.std.specs.Option.{ForSome};
 ghost use Rattle.std.specs.Result.{result_ok};
@@ -13,7 +13,7 @@ ghost use Rattle.crx_text.specs.Numbers.{IsObservation, IsClock};
 
 use crate::columns::trim_start;
 use crate::digits::{WIDEST, digits_read, signed, split_minus};
-use crate::field_text::size_print_by_lanes;
+use crate::field_text::{size_print_by_lanes, size_print_in_cell};
 use crate::text::Text;
 use crate::{clock_field, clock_text, field};
 use crx_lines::limits::{
@@ -151,10 +151,42 @@ pub fn obs_print_cell_into(
         ++ slice_index indicators.now first ∷ slice_index indicators.now (first + 1) ∷ []) }
 {
     let end = at + OBSERVATION_WIDTH;
-    obs_print_into(value, &mut bytes[at..end]);
+    obs_print_row(value, &mut bytes[at..at + CELL_WIDTH]);
     let (lock, strength) = (indicators[first], indicators[first + 1]);
     bytes[end] = lock;
     bytes[end + 1] = strength;
+}
+
+// Prints an observation as `obs_print` does, into the first columns of a cell, by one store of the whole cell.
+#[inline(always)]
+fn obs_print_row(value: Option<i64>, cell: &mut [u8])
+    requires width { length cell.old ≡ CELL_WIDTH }
+    requires in_range { ForSome value IsObservation }
+    ensures { take OBSERVATION_WIDTH cell.new ≡ observation_text value }
+{
+    let Some(number) = value else {
+        cell.copy_from_slice(&[b' '; CELL_WIDTH]);
+        return;
+    };
+    let size = number.unsigned_abs();
+    if !is_short(size) {
+        number_print(value, OBSERVATION_DECIMALS, &mut cell[0..OBSERVATION_WIDTH]);
+        return;
+    }
+    let start = size_print_in_cell(size, cell);
+    if number < 0 {
+        cell[start - 1] = b'-';
+    }
+}
+
+// Whether a size has no digit in the first column of an observation. Its millions, which its digits are made of, are as good a test
+// as the size itself, and fit 32 bits.
+#[inline(always)]
+fn is_short(size: u64) -> bool
+    requires { size < 10 ^ 13 }
+    ensures { IsTrue result ↔ size < 10 ^ 12 }
+{
+    ((size / 1_000_000) as u32) < 1_000_000
 }
 
 // A size below it has no digit in the first column of an observation.

@@ -1,10 +1,8 @@
-use Rattle.std.proofs.Common.{◌≡◌, ◌-◌, ◌++◌, ℕ, List, length, take, drop, replicate, ap, ◌∙◌, arith}
-use Rattle.std.specs.Char.{is_ascii_digit}
-use Rattle.std.specs.List.{prefix_len}
-use Rattle.std.specs.Str.{all_ascii_digits}
-use Rattle.std.specs.Str.Parse.{digits_value}
-use Rattle.std.proofs.lemmas.List.{drop-replicate}
-use Rattle.crx_text.proofs.DigitRows.{few_within, few_digits, few_digits_of}
+use Rattle.std.proofs.Common.{◌≡◌, ◌-◌, ◌++◌, ℕ, List, length, length-append, take, drop, map, replicate, ap, ◌∙◌}
+use Rattle.std.proofs.Common.{arith}
+use Rattle.std.proofs.lemmas.List.{drop-replicate, length-replicate, take_all}
+use Rattle.crx_text.specs.FirstDigits.{above_zero}
+use Rattle.crx_text.proofs.DigitRows.{few_digits_of, padded_bytes, read_row}
 use Rattle.crx_text.proofs.digits.digits_of_few.Goals as goal
 
 -- what is copied into a row of zeros
@@ -14,29 +12,19 @@ padded copied text same =
     ap (λ (t : List ℕ). t ++ drop (length text) (replicate 8 0)) same
     ∙ ap (λ (t : List ℕ). text ++ t) (drop-replicate (length text) 8 0)
 
-pub row_size-requires-clause-few : goal.row_size-requires-clause-few
-row_size-requires-clause-few c =
+pub ended_digits-requires-clause-digits : goal.ended_digits-requires-clause-digits
+ended_digits-requires-clause-digits c =
     let text = c.args.text.now in
+    let more : ℕ = 8 - length text in
+    let row : List ℕ = text ++ replicate more 0 in
     let count = c.digits_in_row-count.result in
-    let row = padded c.copy_text.new.to text c.copy_text.ensures in
-    let within = few_within text (8 - length text) 0 count
-    (c.digits_in_row-count.ensures ∙ ap (prefix_len is_ascii_digit) row) in
-    omega (arith, within, c.requires)
-
-pub row_size-requires-clause-digits : goal.row_size-requires-clause-digits
-row_size-requires-clause-digits c =
-    let text = c.args.text.now in
-    let count = c.digits_in_row-count.result in
-    let row = padded c.copy_text.new.to text c.copy_text.ensures in
-    ap (λ (t : List ℕ). all_ascii_digits (take count t)) row
-    ∙ few_digits text (8 - length text) 0 count
-    (c.digits_in_row-count.ensures ∙ ap (prefix_len is_ascii_digit) row)
-
-pub returns : goal.returns
-returns c =
-    let text = c.args.text.now in
-    let count = c.digits_in_row-count.result in
-    let row = padded c.copy_text.new.to text c.copy_text.ensures in
-    few_digits_of text (8 - length text) c.row_size.result count
-    (c.digits_in_row-count.ensures ∙ ap (prefix_len is_ascii_digit) row) c.requires
-    (c.row_size.ensures ∙ ap (λ (t : List ℕ). digits_value 10 (take count t)) row)
+    let long : length row ≡ 8 =
+    omega (arith, length-append text (replicate more 0), length-replicate {A = ℕ} more 0, c.requires) in
+    let small = padded_bytes text more (λ (i : ℕ). (c.type_inv.text i).fits) in
+    let is = padded c.copy_text.new.to text c.copy_text.ensures in
+    let lanes : c.row_digits-digits.result ≡ map above_zero (row ++ replicate 8 0) = c.row_digits-digits.ensures
+    ∙ ap (λ (t : List ℕ). map above_zero (take 8 t ++ replicate 8 0)) is
+    ∙ ap (λ (t : List ℕ). map above_zero (t ++ replicate 8 0)) (take_all 8 row (omega (arith, long))) in
+    let read = read_row row c.row_digits-digits.result c.row_size.result count long small lanes
+    c.digits_in_row-count.ensures c.if-count-gt-FEW.false c.row_size.ensures in
+    few_digits_of text more c.row_size.result count read.0 c.requires read.1

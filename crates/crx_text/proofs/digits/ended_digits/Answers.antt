@@ -7,9 +7,3 @@ returns-then-count-text-clause-within c =
     let read = c.requires.digits in
     let small = small_number c.args.size c.args.count 18 c.requires.few read.small in
     (omega (arith, small), read.within)
-
-pub returns-then-text-count-eq32-clause-within : goal.returns-then-text-count-eq32-clause-within
-returns-then-text-count-eq32-clause-within c =
-    let read = c.requires.digits in
-    let small = small_number c.args.size c.args.count 18 c.requires.few read.small in
-    (omega (arith, small), omega (arith, read.within, c.if-count-text.false))

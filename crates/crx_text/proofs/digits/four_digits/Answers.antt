@@ -8,5 +8,5 @@ returns c =
     let low : c.args.size - c.args.size / 100 * 100 ≡ c.args.size % 100 = omega arith in
     let first = PAIRS_at (c.args.size / 100) (omega (arith, c.requires)) in
     let last = PAIRS_at (c.args.size - c.args.size / 100 * 100) (omega arith) in
-    let read = rw (first.0, first.1, last.0, last.1, low) at c.from_le_bytes.ensures in
+    let read = rw (c.hundreds-high.ensures, first.0, first.1, last.0, last.1, low) at c.from_le_bytes.ensures in
     le_bytes_4 (four c.args.size) _ refl (λ i. four_small c.args.size i c.requires) read

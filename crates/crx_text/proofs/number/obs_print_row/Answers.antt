@@ -1,0 +1,70 @@
+use Rattle.std.proofs.Common.{◌≡◌, ◌≤◌, ◌-◌, ℕ, zero, suc, List, [], ◌∷◌, length, pos, take, set, replicate}
+use Rattle.std.proofs.Common.{true, false, Some, w64, arith, rules, refl, sym, ap, ◌∙◌}
+use Rattle.std.proofs.lemmas.Int.{to_z-of_z}
+use Rattle.std.proofs.lemmas.List.{take-replicate, length-take-le, take-append-le, take_all}
+use lib.IntN.{nat_abs}
+use lib.Signed.{lt_z}
+use mir.Val.{SFits}
+use Rattle.crx_text.specs.meaning.Numbers.{number_text}
+use Rattle.crx_text.proofs.Spellings.{printed_number, printed_number_below, printed_blank, abs_within}
+use Rattle.crx_text.proofs.number.obs_print_row.Goals as goal
+
+put_in_front : (n : ℕ) (xs : List ℕ) (i x : ℕ) → take n (set xs i x) ≡ set (take n xs) i x
+put_in_front zero xs i x = refl
+put_in_front (suc n) [] i x = refl
+put_in_front (suc n) (y ∷ ys) zero x = refl
+put_in_front (suc n) (y ∷ ys) (suc i) x = ap (λ (t : List ℕ). y ∷ t) (put_in_front n ys i x)
+
+pub is_short-requires : goal.is_short-requires
+is_short-requires c =
+    let number = c.in-Some.number in
+    let fits : SFits w64 number = search rules in
+    let size_is : c.unsigned_abs-size.result ≡ nat_abs number =
+    rw (to_z-of_z w64 number fits) at c.unsigned_abs-size.ensures.value in
+    rw size_is (abs_within 14 number (c.requires.in_range number c.in-Some.is))
+
+pub returns-then-not-is_short : goal.returns-then-not-is_short
+returns-then-not-is_short c =
+    let cell = c.args.cell.now in
+    let field = c.number_print.new.field in
+    let cut : length (take 14 cell) ≡ 14 = length-take-le 14 cell (omega (arith, c.requires.width)) in
+    let same = c.number_print.auto.field in
+    let long : 14 ≤ length field = omega (arith, same, cut) in
+    take-append-le 14 field _ long ∙ take_all 14 field (omega (arith, same, cut)) ∙ c.number_print.ensures
+    ∙ ap (λ (n : ℕ). number_text n 3 (Some c.in-Some.number)) cut ∙ ap (number_text 14 3) (sym c.in-Some.is)
+
+pub returns-then-number-lt0 : goal.returns-then-number-lt0
+returns-then-number-lt0 c =
+    let number = c.in-Some.number in
+    let printed = c.size_print_in_cell-start in
+    let start : ℕ = printed.result in
+    let cell = printed.new.cell in
+    let fits : SFits w64 number = search rules in
+    let size_is : c.unsigned_abs-size.result ≡ nat_abs number =
+    rw (to_z-of_z w64 number fits) at c.unsigned_abs-size.ensures.value in
+    let below : lt_z number (pos 0) ≡ true = rw (to_z-of_z w64 number fits) at c.if-number-lt0.true in
+    let room : start ≤ 14 = omega (arith, printed.ensures.start) in
+    let before : take start (take 14 cell) ≡ take start (replicate 14 32) =
+    printed.ensures.before ∙ sym (take-replicate start 14 32 room) in
+    rw c.in-Some.is (put_in_front 14 cell (start - 1) 45
+    ∙ printed_number_below 14 3 start c.unsigned_abs-size.result
+    number (take 14 cell) below size_is printed.ensures.room printed.ensures.start printed.ensures.written before)
+
+pub returns-else-number-lt0 : goal.returns-else-number-lt0
+returns-else-number-lt0 c =
+    let number = c.in-Some.number in
+    let printed = c.size_print_in_cell-start in
+    let start : ℕ = printed.result in
+    let cell = printed.new.cell in
+    let fits : SFits w64 number = search rules in
+    let size_is : c.unsigned_abs-size.result ≡ nat_abs number =
+    rw (to_z-of_z w64 number fits) at c.unsigned_abs-size.ensures.value in
+    let plain : lt_z number (pos 0) ≡ false = rw (to_z-of_z w64 number fits) at c.if-number-lt0.false in
+    let room : start ≤ 14 = omega (arith, printed.ensures.start) in
+    let before : take start (take 14 cell) ≡ take start (replicate 14 32) =
+    printed.ensures.before ∙ sym (take-replicate start 14 32 room) in
+    rw c.in-Some.is (printed_number 14 3 start c.unsigned_abs-size.result number (take 14 cell)
+    plain size_is printed.ensures.start printed.ensures.written before)
+
+pub returns-in_default : goal.returns-in_default
+returns-in_default c = rw c.in_default.is (ap (take 14) c.copy_from_slice.ensures.after ∙ printed_blank 14 3)
