@@ -5,3 +5,4 @@ pub mod soundness
 pub mod Making
 pub mod SameTexts
 pub mod LineTexts
+mod ReadyParts

@@ -1,5 +1,7 @@
 -- Compact text read line by line.
 pub mod CellsRead
+pub mod ShownRows
+pub mod ShownEpochs
 pub mod Marks
 pub mod Naming
 pub mod SameIdentifiers

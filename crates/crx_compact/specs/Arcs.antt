@@ -1,6 +1,7 @@
 -- An arc as code stores it: its order and its differences, and how large they may grow.
 use Rattle.std.specs.Prelude.{◌≤◌, ℕ, suc, ◌+◌, ◌^◌, ℤ, pos, neg_ℤ, ◌<ℤ◌, List, [], ◌∷◌, Option, Some, None}
 use Rattle.crx_lines.specs.declared.limits.TheConstants.{ORDER_LIMIT, CLOCK_WIDTH}
+use Rattle.crx_text.specs.meaning.Numbers.{IsWithin}
 use Rattle.crx_compact.specs.Tails.{ArcTail}
 
 -- the tail of an arc by its differences; nothing where there are none
@@ -22,9 +23,15 @@ AreBelow bound (d ∷ ds) = IsBelow bound d × AreBelow (bound + bound) ds
 abbrev pub value_bound : ℕ
 value_bound = 10 ^ 14
 
+-- the newest value, where there is one, fits its columns
+abbrev pub IsNewestWithin : ℕ → List ℤ → Type 0
+IsNewestWithin width [] = Unit {0}
+IsNewestWithin width (d ∷ ds) = IsWithin width d
+
 -- what is true of every arc that code keeps: no more differences than its order allows, all of values in range
 pub record IsArcInRange (width order count : ℕ) (differences : List ℤ) : Type 0 where
   pub few_columns : width ≤ CLOCK_WIDTH
   pub order_within : order ≤ ORDER_LIMIT
   pub counted : count ≤ suc order
   pub below : AreBelow value_bound differences
+  pub newest : IsNewestWithin width differences

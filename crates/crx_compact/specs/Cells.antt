@@ -17,6 +17,7 @@ use Rattle.crx_rinex.specs.meaning.EachPlace.{each_place}
 use Rattle.crx_compact.specs.Tails.{ArcTail}
 use Rattle.crx_compact.specs.meaning.Compaction.{value_in}
 use Rattle.crx_compact.specs.Steps.{arc_of_code, arc_of_value, code_of_value, value_of_code}
+use Rattle.crx_compact.specs.ShownRows.{shown_value}
 
 -- the arc and the code of the cell at a place, given the arcs of the epoch before; a place after the last of these has no arc
 abbrev pub arc_at_place : List (Option ArcTail) → Row → ℕ → Option ArcTail
@@ -49,11 +50,11 @@ pub record IsAwaitedSatellite (satellite : Satellite) : Type 0 where
 abbrev pub value_at_place : List (Option ArcTail) → ℕ → Code → Result (Option ℤ) Fault
 value_at_place before place code = value_of_code OBSERVATION_WIDTH code (slice_index_or before place None)
 
--- the cell that a text begins with: its value, the arcs with its own in its place, and how much of the text it takes
--- with its blank
+-- the cell that a text begins with: the arcs with its own in its place, and how much of the text it takes with its blank
 pub record IsCellRead (before : List (Option ArcTail))
-    (place : ℕ) (text : List ℕ) (old new : List (Option ArcTail)) (value : Option ℤ) (taken : ℕ) : Type 0 where
+    (place : ℕ) (text : List ℕ) (old new : List (Option ArcTail)) (taken : ℕ) : Type 0 where
   pub code : Code
+  pub value : Option ℤ
   pub formed : code_of (first_cell text) ≡ Some code
   pub given : value_at_place before place code ≡ Ok value
   pub left : new ≡ slice_set old place (arc_of_code code (slice_index_or before place None))
@@ -65,13 +66,12 @@ abbrev pub arcs_of_codes : List (Option ArcTail) → List Code → List (Option 
 arcs_of_codes before codes = each_place
     (length codes) (λ place. arc_of_code (slice_index_or codes place Missing) (slice_index_or before place None))
 
--- the cells of a line for so many types: their values in place of those of the row, the arcs that they leave, and where
--- the marks begin
+-- the cells of a line for so many types: the arcs that they leave, which show their values, and where the marks begin
 pub record CellsAreRead (before : List (Option ArcTail))
-    (count : ℕ) (line : List ℕ) (arcs : List (Option ArcTail)) (old new : Row) (at : ℕ) : Type 0 where
+    (count : ℕ) (line : List ℕ) (arcs : List (Option ArcTail)) (at : ℕ) : Type 0 where
   pub cells : List ReadCell
   pub good : cells_read (value_at_place before) (cells_of count line) ≡ Ok cells
   pub marks : after_cells count line ≡ drop at line
   pub within : at ≤ length line
   pub left : arcs ≡ arcs_of_codes before (map (λ (c : ReadCell). c.code) cells)
-  pub shown : new ≡ record old { values = map (λ (c : ReadCell). c.value) cells }
+  pub shown : map shown_value arcs ≡ map (λ (c : ReadCell). c.value) cells

@@ -2,13 +2,13 @@
 use Rattle.std.specs.Prelude.{◌≡◌, ℕ, ◌≤◌, ◌+◌, ◌++◌, ◌∷◌, length, map, take, List, [], Option, None, Some, Result, Ok}
 use Rattle.crx_text.specs.Texts.{patched}
 use Rattle.crx_lines.specs.declared.fault.Fault.{Fault}
-use Rattle.crx_rinex.specs.meaning.Observations.{Row}
 use Rattle.crx_compact.specs.meaning.Sequences.{and_then}
 use Rattle.crx_compact.specs.meaning.EpochText.{Satellite}
 use Rattle.crx_compact.specs.meaning.Past.{Past}
 use Rattle.crx_compact.specs.meaning.CompactPlaces.{ReadRow, satellite_line_read}
 use Rattle.crx_compact.specs.Tails.{ArcTail, RowTail, Tail}
 use Rattle.crx_compact.specs.Steps.{flags_of_tail, flags_held}
+use Rattle.crx_compact.specs.ShownRows.{shown_row}
 use Rattle.crx_compact.specs.OpenEpochs.{HeldRow, held_row, past_of_tail}
 use Rattle.crx_compact.specs.Cells.{arcs_of_codes, value_at_place}
 
@@ -53,11 +53,12 @@ abbrev pub row_after : Tail → Satellite → List ℕ → Result HeldRow Fault
 row_after tail satellite line =
     and_then (satellite_line_read (past_of_tail tail) satellite line) (λ read. Ok (held_row tail read))
 
--- a row that was read after the epoch before: its history stands after those of the so many rows before it
+-- a row that was read after the epoch before: its history, which shows it, stands after those of the so many rows before
+-- it
 pub record IsNextRow (before : Tail)
-    (satellite : Satellite) (line : List ℕ) (index : ℕ) (row : Row) (old new : Tail) : Type 0 where
+    (satellite : Satellite) (line : List ℕ) (index : ℕ) (old new : Tail) : Type 0 where
   pub left : RowTail
-  pub read : row_after before satellite line ≡ Ok (record { row = row; tail = left })
+  pub read : row_after before satellite line ≡ Ok (record { row = shown_row left; tail = left })
   pub rows : take (index + 1) new.rows ≡ take index old.rows ++ left ∷ []
   pub text : new.text ≡ old.text
   pub clock : new.clock ≡ old.clock

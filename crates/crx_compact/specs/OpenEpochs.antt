@@ -12,6 +12,7 @@ use Rattle.crx_lines.specs.declared.limits.TheConstants.{ORDER_LIMIT, TYPES_LIMI
 use Rattle.crx_lines.specs.declared.fault.Fault.{Fault}
 use Rattle.crx_lines.specs.declared.fault.Fault.TheVariants.{LineTooLong, NotAnEpoch}
 use Rattle.crx_rinex.specs.meaning.Observations.{Row, Epoch}
+use Rattle.crx_rinex.specs.meaning.Printing.{printed_epoch}
 use Rattle.crx_rinex.specs.meaning.ObservationTypes.{Count}
 use Rattle.crx_rinex.specs.meaning.Places.{Place, Here, Wrong, Wanted}
 use Rattle.crx_compact.specs.meaning.Sequences.{and_then}
@@ -223,6 +224,12 @@ abbrev pub HasMade : RawStep → ColumnsState → Option Epoch → Type 0
 HasMade step after None = (begun : OpenRawEpoch) × (step ≡ Going begun) × (after ≡ Reading begun)
 HasMade step after (Some epoch) = (held : HeldEpoch)
     × (step ≡ Whole held) × (epoch ≡ held.epoch) × (after ≡ Idle (Some held.tail))
+
+-- the same of a whole epoch that is printed: its lines are ready
+abbrev pub HasPrintedLines : RawStep → ColumnsState → Bool → List (List ℕ) → Type 0
+HasPrintedLines step after false lines = HasMade step after None × (lines ≡ [])
+HasPrintedLines step after true lines = (held : HeldEpoch)
+    × (step ≡ Whole held) × (lines ≡ printed_epoch held.epoch) × (after ≡ Idle (Some held.tail))
 
 -- ---- bounds
 

@@ -1,5 +1,7 @@
 -- What the lines of an epoch that are read so far have given, and how code stores it.
-use Rattle.std.specs.Prelude.{◌≡◌, ℕ, ◌≤◌, List, [], ◌∷◌, length, map, take, drop, true, Option, Some, None, ⊤, Ok}
+use Rattle.std.specs.Prelude.{◌≡◌, ℕ, ◌≤◌, List, [], ◌∷◌, length, map, take, drop, Bool, true, false, Option, Some}
+use Rattle.std.specs.Prelude.{None, ⊤, Ok, is_some, ◌&&◌, ◌==◌}
+use Rattle.std.specs.Option.{option_and_then}
 use Rattle.crx_text.specs.meaning.Columns.{columns}
 use Rattle.crx_lines.specs.declared.limits.TheConstants.{HEAD_WIDTH}
 use Rattle.crx_lines.specs.declared.fault.Fault.TheVariants.{NotAnEpoch}
@@ -10,11 +12,10 @@ use Rattle.crx_compact.specs.Tails.{RowTail, Tail}
 use Rattle.crx_compact.specs.OpenEpochs.{HeldClock, HeldRow, OpenRawEpoch, RawStep, Going, Faulty, whole_or_awaiting}
 use Rattle.crx_compact.specs.OpenEpochs.{line_step, ColumnsState, Idle, Reading, past_of_tail}
 use Rattle.crx_rinex.specs.meaning.Epochs.{are_apart}
-use Rattle.crx_rinex.specs.Epochs.{with_row}
 use Rattle.crx_compact.specs.meaning.CompactPlaces.{ReadCell, clock_line_read, satellites_of_text}
 use Rattle.crx_rinex.specs.meaning.ObservationTypes.{Count}
 use Rattle.crx_compact.specs.Steps.{arc_of_code}
-use Rattle.crx_compact.specs.HeldRows.{IsNextRow}
+use Rattle.crx_compact.specs.ShownRows.{shown_epoch, shown_value}
 use Rattle.crx_compact.specs.declared.incoming.Stage.{Stage}
 use Rattle.crx_compact.specs.declared.incoming.Stage.TheVariants.{Unbegun, Clock, Rows}
 
@@ -43,17 +44,36 @@ held_rows (row ∷ rows) (tail ∷ tails) = record { row = row; tail = tail } �
 -- ---- how code stores it: how far the lines have come, the tail that they make, how many rows have come, and all
 -- satellites
 
-abbrev pub lines_so_far : Stage → Tail → ℕ → List Satellite → Option OpenLines
-lines_so_far Unbegun next count satellites = None
-lines_so_far Clock next count satellites =
-    Some (record { text = next.text; clock = None; rows = []; awaited = satellites })
-lines_so_far (Rows epoch) next count satellites =
+-- the epoch of the rows so far, which is the one that the tail shows
+abbrev pub rows_so_far : Epoch → Tail → ℕ → List Satellite → Option OpenLines
+rows_so_far epoch next count satellites =
     Some (record {
       text = next.text;
       clock = Some (record { value = epoch.clock; arc = next.clock });
       rows = held_rows epoch.rows (take count next.rows);
       awaited = drop count satellites;
     })
+
+abbrev pub lines_so_far : Stage → Tail → ℕ → List Satellite → Option OpenLines
+lines_so_far Unbegun next count satellites = None
+lines_so_far Clock next count satellites =
+    Some (record { text = next.text; clock = None; rows = []; awaited = satellites })
+lines_so_far Rows next count satellites = rows_so_far (shown_epoch next count) next count satellites
+
+-- whether all lines of an epoch have come
+abbrev pub have_all_come : Option OpenLines → Bool
+have_all_come None = false
+have_all_come (Some lines) = is_some lines.clock && length lines.awaited == 0
+
+-- the epoch of the lines so far
+abbrev pub epoch_so_far : Option OpenLines → Epoch
+epoch_so_far None = record { head = []; clock = None; rows = [] }
+epoch_so_far (Some lines) =
+    record {
+      head = columns lines.text 1 HEAD_WIDTH;
+      clock = option_and_then (λ (clock : HeldClock). clock.value) lines.clock;
+      rows = map (λ (r : HeldRow). r.row) lines.rows;
+    }
 
 -- the satellites of an epoch text: as many as its columns announce, and no two of one identifier
 pub record AreAnnounced (text : List ℕ) (satellites : List Satellite) : Type 0 where
@@ -72,13 +92,14 @@ pub record AreRowsSoFar (epoch : Epoch) (next : Tail) (count : ℕ) (satellites 
   pub announced : AreAnnounced next.text satellites
   pub counted : length epoch.rows ≡ count
   pub named : map (λ (r : Row). r.name) epoch.rows ≡ map (λ (s : Satellite). s.name) (take count satellites)
+  pub sized : map (λ (r : Row). length r.values) epoch.rows ≡ map (λ (s : Satellite). s.count) (take count satellites)
   pub within : count ≤ length satellites
   pub left : count ≤ length next.rows
 
 abbrev pub AreLinesSoFar : Stage → Tail → ℕ → List Satellite → Type 0
 AreLinesSoFar Unbegun next count satellites = ⊤
 AreLinesSoFar Clock next count satellites = AreAnnounced next.text satellites
-AreLinesSoFar (Rows epoch) next count satellites = AreRowsSoFar epoch next count satellites
+AreLinesSoFar Rows next count satellites = AreRowsSoFar (shown_epoch next count) next count satellites
 
 -- ---- steps
 
@@ -101,17 +122,9 @@ abbrev pub columns_state : Option Tail → Tail → Option OpenLines → Columns
 columns_state tail before None = Idle tail
 columns_state tail before (Some lines) = Reading (open_raw before lines)
 
--- the clock line read after a tail: the epoch that it begins has the columns of the text and the clock's value, and
--- the tail of the clock's arc is stored
-pub record HasClock (before : Tail) (line : List ℕ) (old new : Tail) (epoch : Epoch) : Type 0 where
+-- the clock line read after a tail: the tail of the clock's arc is stored, which shows the clock's value
+pub record HasClock (before : Tail) (line : List ℕ) (old new : Tail) : Type 0 where
   pub cell : ReadCell
   pub read : clock_line_read (past_of_tail before) line ≡ Ok cell
   pub left : new ≡ record old { clock = arc_of_code cell.code before.clock }
-  pub begun : epoch ≡ record { head = columns old.text 1 HEAD_WIDTH; clock = cell.value; rows = [] }
-
--- a satellite line read after a tail: its row stands after the others
-pub record IsRowAfter (before : Tail)
-    (satellite : Satellite) (line : List ℕ) (count : ℕ) (epoch after : Epoch) (old new : Tail) : Type 0 where
-  pub row : Row
-  pub next : IsNextRow before satellite line count row old new
-  pub with : after ≡ with_row epoch row
+  pub shown : shown_value new.clock ≡ cell.value

@@ -12,6 +12,7 @@ ghost use Rattle.crx_compact.specs.meaning.Sequences.{stretch};
 ghost use Rattle.crx_text.specs.declared.code.Code.{Code};
 ghost use Rattle.crx_text.specs.declared.code.Code.TheVariants.{Step};
 ghost use Rattle.crx_lines.specs.declared.limits.TheConstants.{CLOCK_WIDTH, DIGITS_LIMIT, ORDER_LIMIT, WRITTEN_ORDER};
+ghost use Rattle.crx_compact.specs.ShownRows.{shown_value};
 ghost use Rattle.crx_compact.specs.Steps.{arc_of_code, arc_of_value, code_of_value, differences_after, differences_by, highest, value_of_code};
 
 use crx_lines::limits::{CLOCK_WIDTH, OBSERVATION_WIDTH, ORDER_LIMIT, WRITTEN_ORDER};
@@ -364,6 +365,18 @@ impl<const WIDTH: usize> Arc<WIDTH> {
         self.order = 3;
         self.count = 4;
         Some(value)
+    }
+
+    /// The newest value; `None` where the arc has no values.
+    #[inline(always)]
+    pub fn value(&self) -> Option<i64>
+        ensures value { result ≡ shown_value self.now }
+        ensures ranged { IsMissingOrWithin WIDTH result }
+    {
+        if self.count == 0 {
+            return None;
+        }
+        Some(self.differences[0])
     }
 
     /// Ends the arc: it is one without values.

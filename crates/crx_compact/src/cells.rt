@@ -1,7 +1,12 @@
 //! The cells of a satellite line: values to codes and back, each after its arc.
 
-ghost use Rattle.std.specs.Prelude.{◌≡◌, ◌≤◌, ◌<◌, ◌+◌, ◌++◌, ◌*◌, None, Ok, Err, length, slice_index_or, slice_set, take, OnOk, IfOk, IfErr, IfSome, IfNone, OnSome, Some, Option};
+ghost use Rattle.std.specs.Prelude.{◌≡◌, ◌≤◌, ◌<◌, ◌+◌, ◌++◌, ◌∷◌, [], ◌*◌, ◌^◌, None, Ok, Err, length, slice_index_or, slice_set, map, take, OnOk, IfOk, IfErr, IfSome, IfNone, OnSome, Some, Option};
 ghost use Rattle.std.specs.List.{flat_map};
+ghost use Rattle.crx_text.specs.meaning.Columns.{columns};
+ghost use Rattle.crx_rinex.specs.meaning.Printing.{printed_cells};
+ghost use Rattle.crx_text.specs.meaning.Numbers.{observation_text};
+ghost use Rattle.crx_lines.specs.declared.limits.TheConstants.{CELL_WIDTH};
+ghost use Rattle.crx_compact.specs.ShownRows.{shown_value};
 ghost use Rattle.crx_text.specs.Numbers.{IsObservation};
 ghost use Rattle.crx_rinex.specs.meaning.SatelliteLines.{IsValue};
 ghost use Rattle.crx_text.specs.meaning.Codes.{code_of, first_cell};
@@ -15,9 +20,11 @@ ghost use Rattle.crx_compact.specs.meaning.Compaction.{cell_text};
 ghost use Rattle.crx_compact.specs.Steps.{arc_of_code, arc_of_value, code_of_value};
 
 use crate::arc::ObsArc;
-use crx_lines::limits::DIGITS_LIMIT;
+use crx_lines::limits::{CELL_WIDTH, DIGITS_LIMIT};
 use crx_rinex::SatRow;
-use crx_text::{Code, Fault, code_before_blank, step_before_blank, write_cell};
+use crx_text::{
+    Code, Fault, code_before_blank, obs_print_cell_into, step_before_blank, write_cell,
+};
 
 /// The room for a cell in a satellite line: a code, with its sign, order and `&`, its blank, and what its digits are written with.
 pub(crate) const CELL_ROOM: usize = DIGITS_LIMIT + 6;
@@ -134,7 +141,7 @@ fn write_known_value(
     }
 }
 
-/// Puts the arc of a cell after its next code in its place among others, and gives the code's value.
+/// Puts the arc of a cell after its next code in its place among others.
 ///
 /// `NoArc` and `OutOfRange` come as by [`ObsArc::apply`].
 fn apply_at(
@@ -157,8 +164,7 @@ fn apply_at(
 }
 
 /// Reads the cell that a text begins with, whatever its code is: replaces the arc at the cell's place by the one after the code, and
-/// gives the cell's value, and the index after the cell and its blank. It is called for the few cells that [`read_usual_cell`] doesn't
-/// read.
+/// gives the index after the cell and its blank. It is called for the few cells that [`read_usual_cell`] doesn't read.
 ///
 /// `BadField` comes where the cell is no code, `NoArc` and `OutOfRange` come as by [`ObsArc::apply`].
 #[inline(never)]
@@ -167,17 +173,17 @@ fn read_any_cell(
     place: usize,
     text: &[u8],
     arcs: &mut [ObsArc],
-) -> Result<(Option<i64>, usize), Fault>
+) -> Result<usize, Fault>
     requires within { place < length arcs.old }
-    ensures ok { IfOk result (λ cell. IsCellRead before.now place text.now arcs.old arcs.new cell.0 cell.1) }
+    ensures ok { IfOk result (λ taken. IsCellRead before.now place text.now arcs.old arcs.new taken) }
     ensures err { IfErr result (λ fault.
         cell_read BadField (value_at_place before.now place) (code_of (first_cell text.now)) ≡ Err fault) }
 {
     let Ok((code, length)) = code_before_blank(text) else {
         return Err(Fault::BadField);
     };
-    let value = apply_at(before, place, code, arcs)?;
-    Ok((value, length))
+    let _ = apply_at(before, place, code, arcs)?;
+    Ok(length)
 }
 
 /// Reads the cell that a text begins with, at a place where the epoch before has an arc, where its code is a difference of order 3, as that
@@ -186,21 +192,15 @@ fn read_any_cell(
 /// Seven digits and the blank after them fit a vector of eight characters, and are read at once, the sign having been put aside.
 /// That takes 52 instructions; digit by digit one digit takes 60 and seven take 126 (bench/README.md).
 #[inline(always)]
-fn read_third(
-    before: &[ObsArc],
-    place: usize,
-    text: &[u8],
-    arcs: &mut [ObsArc],
-) -> Option<(i64, usize)>
+fn read_third(before: &[ObsArc], place: usize, text: &[u8], arcs: &mut [ObsArc]) -> Option<usize>
     requires known { place < length before.now }
     requires within { place < length arcs.old }
-    ensures some { IfSome result
-        (λ cell. IsCellRead before.now place text.now arcs.old arcs.new (Some cell.0) cell.1) }
+    ensures some { IfSome result (λ taken. IsCellRead before.now place text.now arcs.old arcs.new taken) }
     ensures none { IfNone result (arcs.new ≡ arcs.old) }
 {
     let (number, length) = step_before_blank(text)?;
-    let value = arcs[place].apply_third(&before[place], number)?;
-    Some((value, length))
+    let _ = arcs[place].apply_third(&before[place], number)?;
+    Some(length)
 }
 
 /// Reads the cell that a text begins with as [`read_third`] does, and also a cell without a code.
@@ -210,23 +210,21 @@ fn read_usual_cell(
     place: usize,
     text: &[u8],
     arcs: &mut [ObsArc],
-) -> Option<(Option<i64>, usize)>
+) -> Option<usize>
     requires known { place < length before.now }
     requires within { place < length arcs.old }
-    ensures some { IfSome result
-        (λ cell. IsCellRead before.now place text.now arcs.old arcs.new cell.0 cell.1) }
+    ensures some { IfSome result (λ taken. IsCellRead before.now place text.now arcs.old arcs.new taken) }
     ensures none { IfNone result (arcs.new ≡ arcs.old) }
 {
     let Some(first) = text.first() else {
         arcs[place].end();
-        return Some((None, 0));
+        return Some(0);
     };
     if *first == b' ' {
         arcs[place].end();
-        return Some((None, 1));
+        return Some(1);
     }
-    let (value, length) = read_third(before, place, text, arcs)?;
-    Some((Some(value), length))
+    read_third(before, place, text, arcs)
 }
 
 /// Writes the codes of a row's values, each followed by a blank, from an index on, gives the index after them, and replaces as many
@@ -303,8 +301,8 @@ fn write_other_cells(
     end
 }
 
-/// Reads the cells of a line for as many types as a row has, given the arcs of the epoch before: puts their values into the row,
-/// replaces other arcs by those after the cells, and gives the index at which the marks begin.
+/// Reads the cells of a line for so many types, given the arcs of the epoch before: replaces other arcs by those after the cells, and gives
+/// the index at which the marks begin.
 ///
 /// The first cell with a fault decides: `BadField` where its text is no code, then `NoArc` and `OutOfRange` as by
 /// [`ObsArc::apply`].
@@ -314,18 +312,16 @@ pub(crate) fn read_cells(
     count: usize,
     line: &[u8],
     arcs: &mut [ObsArc],
-    row: &mut SatRow,
 ) -> Result<usize, Fault>
     requires counted { length arcs.old ≡ count }
-    requires sized { length row.old.values ≡ count }
-    ensures ok { IfOk result (λ at. CellsAreRead before.now count line.now arcs.new row.old row.new at) }
+    ensures ok { IfOk result (λ at. CellsAreRead before.now count line.now arcs.new at) }
     ensures err { IfErr result
         (λ fault. cells_read (value_at_place before.now) (cells_of count line.now) ≡ Err fault) }
 {
     if count <= before.len() {
-        return read_known_cells(before, count, line, arcs, row);
+        return read_known_cells(before, count, line, arcs);
     }
-    read_other_cells(before, count, line, arcs, row)
+    read_other_cells(before, count, line, arcs)
 }
 
 /// Reads cells as [`read_cells`] does, where the epoch before has an arc for each of them. Its calls stay: a loop without them,
@@ -336,12 +332,10 @@ fn read_known_cells(
     count: usize,
     line: &[u8],
     arcs: &mut [ObsArc],
-    row: &mut SatRow,
 ) -> Result<usize, Fault>
     requires known { count ≤ length before.now }
     requires counted { length arcs.old ≡ count }
-    requires sized { length row.old.values ≡ count }
-    ensures ok { IfOk result (λ at. CellsAreRead before.now count line.now arcs.new row.old row.new at) }
+    ensures ok { IfOk result (λ at. CellsAreRead before.now count line.now arcs.new at) }
     ensures err { IfErr result
         (λ fault. cells_read (value_at_place before.now) (cells_of count line.now) ≡ Err fault) }
 {
@@ -349,15 +343,8 @@ fn read_known_cells(
     for place in 0..count {
         let text = &line[at..];
         match read_usual_cell(before, place, text, arcs) {
-            Some((value, length)) => {
-                row.set(place, value);
-                at += length;
-            }
-            None => {
-                let (value, length) = read_any_cell(before, place, text, arcs)?;
-                row.set(place, value);
-                at += length;
-            }
+            Some(length) => at += length,
+            None => at += read_any_cell(before, place, text, arcs)?,
         }
     }
     Ok(at)
@@ -370,19 +357,61 @@ fn read_other_cells(
     count: usize,
     line: &[u8],
     arcs: &mut [ObsArc],
-    row: &mut SatRow,
 ) -> Result<usize, Fault>
     requires counted { length arcs.old ≡ count }
-    requires sized { length row.old.values ≡ count }
-    ensures ok { IfOk result (λ at. CellsAreRead before.now count line.now arcs.new row.old row.new at) }
+    ensures ok { IfOk result (λ at. CellsAreRead before.now count line.now arcs.new at) }
     ensures err { IfErr result
         (λ fault. cells_read (value_at_place before.now) (cells_of count line.now) ≡ Err fault) }
 {
     let mut at = 0;
     for place in 0..count {
-        let (value, length) = read_any_cell(before, place, &line[at..], arcs)?;
-        row.set(place, value);
-        at += length;
+        at += read_any_cell(before, place, &line[at..], arcs)?;
     }
     Ok(at)
+}
+
+/// The indicator at an index of some; those after the given ones are blank.
+#[inline(always)]
+fn indicator_at(flags: &[u8], index: usize) -> u8
+    ensures { result ≡ slice_index_or flags.now index 32 }
+{
+    if index < flags.len() {
+        flags[index]
+    } else {
+        b' '
+    }
+}
+
+/// Prints the newest value of an arc with two of some indicators, from an index on, in place of the bytes from another index on. Most
+/// rows have all their indicators, which become one load and one store.
+#[inline(always)]
+fn print_cell(arc: &ObsArc, flags: &[u8], first: usize, bytes: &mut [u8], at: usize)
+    requires small { first < 2 ^ 63 }
+    requires room { at + CELL_WIDTH ≤ length bytes.old }
+    ensures { take (at + CELL_WIDTH) bytes.new ≡ take at bytes.old ++ (observation_text (shown_value arc.now)
+        ++ slice_index_or flags.now first 32 ∷ slice_index_or flags.now (first + 1) 32 ∷ []) }
+{
+    if first + 1 < flags.len() {
+        obs_print_cell_into(arc.value(), flags, first, bytes, at);
+        return;
+    }
+    let indicators = [indicator_at(flags, first), indicator_at(flags, first + 1)];
+    obs_print_cell_into(arc.value(), &indicators, 0, bytes, at);
+}
+
+/// Prints the newest values of arcs, each with its two indicators, in place of the bytes from an index on, and gives the index after them.
+/// Indicators after the given ones are blank.
+#[inline(always)]
+pub(crate) fn print_cells(arcs: &[ObsArc], flags: &[u8], bytes: &mut [u8], at: usize) -> usize
+    requires room { at + CELL_WIDTH * length arcs.now ≤ length bytes.old }
+    ensures cells { take result bytes.new ≡ take at bytes.old
+        ++ printed_cells (map shown_value arcs.now) (columns flags.now 1 (2 * length arcs.now)) }
+    ensures end { result ≡ at + CELL_WIDTH * length arcs.now }
+{
+    let mut end = at;
+    for place in 0..arcs.len() {
+        print_cell(&arcs[place], flags, 2 * place, bytes, end);
+        end += CELL_WIDTH;
+    }
+    end
 }

@@ -12,13 +12,14 @@ ghost use Rattle.crx_compact.specs.meaning.CompactPlaces.{epoch_at};
 ghost use Rattle.crx_compact.specs.ReadBlocks.{HasReadTo, IsReading};
 ghost use Rattle.crx_lines.specs.declared.limits.TheConstants.{LINE_LIMIT};
 ghost use Rattle.crx_rinex.specs.meaning.EpochLines.{begins_epoch, is_event_line};
-ghost use Rattle.crx_compact.specs.OpenEpochs.{awaits_row, is_faulty, is_idle, tail_held, first_step, step_in, Faulty, HasMade};
+ghost use Rattle.crx_compact.specs.OpenEpochs.{awaits_row, is_faulty, is_idle, tail_held, first_step, step_in, Faulty, HasMade, HasPrintedLines};
 ghost use Rattle.crx_compact.specs.OpenEpochs.ColumnsState.{Idle};
 ghost use Rattle.crx_compact.specs.meaning.Compaction.{Marked, compact_epoch};
 ghost use Rattle.crx_compact.specs.Tails.{tail_left, tail_or_nothing};
 ghost use Rattle.crx_compact.specs.Steps.{lines_after_tail, no_tail, tail_after, tail_written_after};
 
 use crate::coded::Coded;
+use crate::expanded_lines::ExpandedLines;
 use crate::incoming::Incoming;
 use crate::kept::KeptEpoch;
 use crate::lines::Lines;
@@ -45,9 +46,9 @@ pub struct Columns {
 }
 
 impl Model for Columns {
-    ghost use Rattle.std.specs.Prelude.{Some, None, ◌≡◌, if◌then◌else◌};
+    ghost use Rattle.std.specs.Prelude.{Some, None, ◌≡◌, if◌then◌else◌, false};
     ghost use Rattle.crx_compact.specs.OpenEpochs.{ColumnsState};
-    ghost use Rattle.crx_compact.specs.OpenLines.{columns_state};
+    ghost use Rattle.crx_compact.specs.OpenLines.{columns_state, have_all_come};
     ghost use Rattle.crx_compact.specs.Steps.{no_tail};
 
     ghost Value = { ColumnsState };
@@ -55,7 +56,8 @@ impl Model for Columns {
     ghost view = { λ columns. columns_state (if columns.is_kept then Some columns.kept else None)
         (if columns.goes_on then columns.kept else columns.nothing) columns.incoming };
 
-    ghost invariant = { λ columns. columns.nothing ≡ no_tail };
+    // Where an epoch is open, a line is awaited.
+    ghost invariant = { λ columns. (columns.nothing ≡ no_tail) × (have_all_come columns.incoming ≡ false) };
 }
 
 impl Columns {
@@ -271,12 +273,18 @@ impl Columns {
     {
         let before = stands_after(&self.nothing, &self.kept, self.goes_on);
         match self.incoming.take_line(before, line, &mut self.part) {
-            Ok(()) => match self.incoming.finish(&mut self.kept) {
-                Some(epoch) => {
+            Ok(false) => Ok(None),
+            Ok(true) => match self.incoming.epoch(self.alloc) {
+                Ok(epoch) => {
+                    self.incoming.finish(&mut self.kept);
                     self.is_kept = true;
                     Ok(Some(epoch))
                 }
-                None => Ok(None),
+                Err(fault) => {
+                    self.incoming.clear();
+                    self.reset();
+                    Err(fault)
+                }
             },
             Err(fault) => {
                 self.reset();
@@ -285,38 +293,42 @@ impl Columns {
         }
     }
 
-    /// Takes the next line of the epoch that was begun as [`Columns::feed`] does, with its refusals, where it is a satellite line that
-    /// isn't the last one of the epoch; else `false` comes, and nothing changes. Most lines of compact text are such lines; the answer
-    /// holds no epoch, so that nothing large is moved from call to call.
-    pub fn feed_early(&mut self, line: &[u8]) -> Result<bool, Fault>
+    /// Takes the next line of the epoch that was begun as [`Columns::feed`] does, with its refusals. `true` says that it is the last one,
+    /// and that the printed lines of the epoch are ready; no epoch is made of them.
+    pub fn feed_into(&mut self, line: &[u8], lines: &mut ExpandedLines) -> Result<bool, Fault>
         requires open { is_idle self.old ≡ false }
         requires short { length line.now ≤ LINE_LIMIT }
-        ensures made { IfOk result (λ is_taken. is_taken ≡ true
-            → HasMade (step_in self.old (Content line.now)) self.new None) }
-        ensures same { IfOk result (λ is_taken. is_taken ≡ false → self.new ≡ self.old) }
+        requires drained { lines.old ≡ [] }
+        ensures made { IfOk result (λ is_whole.
+            HasPrintedLines (step_in self.old (Content line.now)) self.new is_whole lines.new) }
         ensures refused { IfErr result
             (λ fault. (step_in self.old (Content line.now) ≡ Faulty fault) ⊎ (fault ≡ Fault.OutOfMemory)) }
         ensures memory { IfErr result (λ fault. fault ≡ Fault.OutOfMemory
             → (begins_epoch line.now ≡ false) × (awaits_row self.old ≡ true)
             × (is_faulty (step_in self.old (Content line.now)) ≡ false)) }
         ensures emptied { OnErr result (self.new ≡ Idle None) }
+        ensures none { OnErr result (lines.new ≡ []) }
     {
-        if !self.incoming.is_early() {
-            return Ok(false);
-        }
         let before = stands_after(&self.nothing, &self.kept, self.goes_on);
-        if let Err(fault) = self.incoming.take_line(before, line, &mut self.part) {
-            self.reset();
-            return Err(fault);
+        match self.incoming.take_line(before, line, &mut self.part) {
+            Ok(false) => Ok(false),
+            Ok(true) => match self.incoming.print(lines, &mut self.part) {
+                Ok(()) => {
+                    self.incoming.finish(&mut self.kept);
+                    self.is_kept = true;
+                    Ok(true)
+                }
+                Err(_) => {
+                    self.incoming.clear();
+                    self.reset();
+                    Err(Fault::OutOfMemory)
+                }
+            },
+            Err(fault) => {
+                self.reset();
+                Err(fault)
+            }
         }
-        Ok(true)
-    }
-
-    /// Takes back an epoch that [`Columns::feed`] gave: its memory serves the epochs after it.
-    pub fn take_epoch_back(&mut self, epoch: Epoch)
-        ensures same { self.new ≡ self.old }
-    {
-        self.incoming.take_back(epoch);
     }
 
     /// Takes an epoch and its lines back: their memory serves the epochs after it.

@@ -1,34 +1,37 @@
 //! The history of a satellite, which is what later epochs need of it: Hatanaka's Compact RINEX 3.0, satellite lines.
 
-ghost use Rattle.std.specs.Prelude.{◌≡◌, ◌≤◌, ◌<◌, ◌+◌, OnErr, ◌++◌, ◌∷◌, ◌⊎◌, ◌*◌, [], None, Ok, Err, true, false, length, take, OnOk, IfErr, Some, Option};
-ghost use Rattle.std.specs.List.{flat_map};
+ghost use Rattle.std.specs.Prelude.{◌≡◌, ◌≤◌, ◌<◌, ◌+◌, ◌-◌, replicate, OnErr, ◌++◌, ◌∷◌, ◌⊎◌, ◌*◌, [], None, Ok, Err, true, false, length, take, OnOk, IfOk, IfErr};
+ghost use Rattle.std.specs.List.{flat_map, list_all};
+ghost use Rattle.crx_text.specs.meaning.Texts.{is_kept};
 ghost use Rattle.std.specs.Result.{is_ok};
 ghost use Rattle.crx_rinex.specs.meaning.EpochLines.{begins_epoch};
 ghost use Rattle.crx_text.specs.meaning.Codes.{code_text};
 ghost use Rattle.crx_text.specs.Codes.{IsPrintable};
 ghost use Rattle.crx_text.specs.meaning.Texts.{text_difference};
 ghost use Rattle.crx_text.specs.Texts.{patched};
-ghost use Rattle.crx_lines.specs.declared.limits.TheConstants.{LINE_LIMIT, TYPES_LIMIT};
+ghost use Rattle.crx_lines.specs.declared.limits.TheConstants.{CELL_WIDTH, LINE_LIMIT, NAME_WIDTH, TYPES_LIMIT};
 ghost use Rattle.crx_compact.specs.declared.cells.TheConstants.{CELL_ROOM};
 ghost use Rattle.std.specs.Option.{option_copied};
 ghost use Rattle.crx_text.specs.meaning.Columns.{columns, without_end_blanks};
+ghost use Rattle.crx_rinex.specs.meaning.Printing.{printed_row};
+ghost use Rattle.crx_compact.specs.ShownRows.{shown_row};
 ghost use Rattle.crx_compact.specs.Cells.{arcs_of_row, codes_of_row, AreHeldFlags};
 ghost use Rattle.crx_compact.specs.meaning.CompactPlaces.{are_marks};
 ghost use Rattle.crx_compact.specs.HeldRows.{row_held, row_held_from};
 ghost use Rattle.crx_rinex.specs.meaning.ObservationTypes.{IsAllowedCount};
 ghost use Rattle.crx_compact.specs.meaning.Compaction.{cell_text};
 ghost use Rattle.crx_compact.specs.meaning.Sequences.{named};
-ghost use Rattle.crx_compact.specs.Steps.{flags_held, row_line_after, row_tail_after};
+ghost use Rattle.crx_compact.specs.Steps.{row_line_after, row_tail_after};
 ghost use Rattle.crx_compact.specs.Tails.{RowTail};
 
 use crate::arc::ObsArc;
 use crate::awaited::AwaitedSatellite;
-use crate::cells::{read_cells, write_cells};
+use crate::cells::{print_cells, read_cells, write_cells};
 use crate::lines::Lines;
 use crate::refusals::fault_of_row;
 use crate::same::is_same_text;
-use crx_lines::limits::NAME_WIDTH;
-use crx_rinex::{SatRow, after_columns, all_blank};
+use crx_lines::limits::{CELL_WIDTH, NAME_WIDTH};
+use crx_rinex::{SatRow, after_columns, all_blank, put_identifier};
 use crx_text::block::put_text;
 use crx_text::difference::{append_difference, patch_bytes};
 use crx_text::{Code, Fault, Text, code_print, copy_text, trim_end};
@@ -90,7 +93,8 @@ pub(crate) fn push_code(code: Code, part: &mut Text, lines: &mut Lines) -> Resul
 /// Makes arcs as many as a row has cells. They mostly are, which one comparison finds; arcs that are added have no values.
 #[inline(always)]
 fn resize_arcs(arcs: &mut Vec<ObsArc>, count: usize) -> Result<(), AllocError>
-    ensures { OnOk result (length arcs.new.items ≡ count) }
+    ensures sized { OnOk result (length arcs.new.items ≡ count) }
+    ensures few { length arcs.new.items ≤ count }
 {
     if arcs.len() == count {
         return Ok(());
@@ -102,7 +106,8 @@ fn resize_arcs(arcs: &mut Vec<ObsArc>, count: usize) -> Result<(), AllocError>
 #[cold]
 #[inline(never)]
 fn resize_other_arcs(arcs: &mut Vec<ObsArc>, count: usize) -> Result<(), AllocError>
-    ensures { OnOk result (length arcs.new.items ≡ count) }
+    ensures sized { OnOk result (length arcs.new.items ≡ count) }
+    ensures few { length arcs.new.items ≤ count }
 {
     arcs.truncate(count);
     while arcs.len() < count {
@@ -115,19 +120,23 @@ fn resize_other_arcs(arcs: &mut Vec<ObsArc>, count: usize) -> Result<(), AllocEr
 #[derive(Drop)]
 pub(crate) struct HeldSatellite {
     name: [u8; NAME_WIDTH],
+    /// Two for each type, so that they are copied, compared and printed without asking how many there are.
     flags: Vec<u8>,
     arcs: Vec<ObsArc>,
 }
 
 impl Model for HeldSatellite {
+    ghost use Rattle.std.specs.Prelude.{◌≤◌, length};
+    ghost use Rattle.crx_lines.specs.declared.limits.TheConstants.{TYPES_LIMIT};
+    ghost use Rattle.crx_text.specs.meaning.Columns.{without_end_blanks};
     ghost use Rattle.crx_compact.specs.Tails.{RowTail};
     ghost use Rattle.crx_compact.specs.Cells.{AreHeldFlags};
 
     ghost Value = { RowTail };
 
-    ghost view = { λ held. record { name = held.name; flags = held.flags.items; cells = held.arcs.items } };
+    ghost view = { λ held. record { name = held.name; flags = without_end_blanks held.flags.items; cells = held.arcs.items } };
 
-    ghost invariant = { λ held. AreHeldFlags held.flags.items };
+    ghost invariant = { λ held. AreHeldFlags held.flags.items × (length held.arcs.items ≤ TYPES_LIMIT) };
 }
 
 impl HeldSatellite {
@@ -147,17 +156,18 @@ impl HeldSatellite {
         self.name
     }
 
-    /// The indicators, without the blanks at their end.
+    /// The indicators, maybe with blanks at their end.
     pub(crate) fn flags(&self) -> &[u8]
-        ensures value { result.now ≡ self.now.flags }
-        ensures held { AreHeldFlags self.now.flags }
+        ensures value { without_end_blanks result.now ≡ self.now.flags }
+        ensures held { AreHeldFlags result.now }
     {
         &self.flags
     }
 
     /// How many cells there are.
     pub(crate) fn count(&self) -> usize
-        ensures { result ≡ length self.now.cells }
+        ensures value { result ≡ length self.now.cells }
+        ensures few { result ≤ TYPES_LIMIT }
     {
         self.arcs.len()
     }
@@ -192,11 +202,10 @@ impl HeldSatellite {
         ensures name { OnOk result (self.new.name ≡ row.now.name) }
         ensures flags { OnOk result (self.new.flags ≡ without_end_blanks row.now.flags) }
         ensures counted { OnOk result (length self.new.cells ≡ length row.now.values) }
-        ensures few { OnOk result (length self.new.cells ≤ TYPES_LIMIT) }
     {
         resize_arcs(&mut self.arcs, row.flags().len() / 2)?;
         self.name = row.name();
-        renew_flags(&mut self.flags, trim_end(row.flags()))
+        renew_flags(&mut self.flags, row.flags())
     }
 
     /// Replaces the arcs by those after a row, given the arcs before it, and writes the row's line from an index on; the line's marks
@@ -222,15 +231,14 @@ impl HeldSatellite {
         trim_end(&bytes[at..end]).len()
     }
 
-    /// Reads a satellite's line, given the satellite's history before it: replaces the history by the one after the line, and fills
-    /// the row, which has the satellite's identifier and size. Arcs and indicators past the satellite's count of types are dropped.
+    /// Reads a satellite's line, given the satellite's history before it: replaces the history by the one after the line, which shows
+    /// the line's row. Arcs and indicators past the satellite's count of types are dropped.
     ///
     /// The line begins no epoch. The first cell with a fault decides: `BadField` where its
     /// text is no code, then `NoArc` and `OutOfRange` as by [`ObsArc::apply`]; then `BadFlags` where the marks hold a character
     /// outside 32 to 126, or anything but blanks past two for each type. `OutOfMemory` comes where something can't grow.
     pub(crate) fn read(
         &mut self,
-        row: &mut SatRow,
         before: Option<&HeldSatellite>,
         satellite: &AwaitedSatellite,
         line: &[u8],
@@ -238,24 +246,21 @@ impl HeldSatellite {
     ) -> Result<(), Fault>
         requires short { length line.now ≤ LINE_LIMIT }
         requires other { begins_epoch line.now ≡ false }
-        requires named { row.old.name ≡ satellite.now.name }
-        requires sized { length row.old.values ≡ satellite.now.count }
         ensures ok { OnOk result (row_held (option_copied before.entry) satellite.now line.now
-            ≡ Ok (record { row = row.new; tail = self.new })) }
+            ≡ Ok (record { row = shown_row self.new; tail = self.new })) }
         ensures err { IfErr result
             (λ fault. (row_held (option_copied before.entry) satellite.now line.now ≡ Err fault)
             ⊎ (fault ≡ Fault.OutOfMemory)) }
     {
         match before {
-            Some(held) => self.read_from(row, &held.arcs, &held.flags, satellite, line, part),
-            None => self.read_from(row, &[], &[], satellite, line, part),
+            Some(held) => self.read_from(&held.arcs, &held.flags, satellite, line, part),
+            None => self.read_from(&[], &[], satellite, line, part),
         }
     }
 
     /// Reads a satellite's line as [`HeldSatellite::read`] does, given the arcs and the indicators of the history before it.
     fn read_from(
         &mut self,
-        row: &mut SatRow,
         arcs: &[ObsArc],
         flags: &[u8],
         satellite: &AwaitedSatellite,
@@ -265,10 +270,8 @@ impl HeldSatellite {
         requires flags { AreHeldFlags flags.now }
         requires short { length line.now ≤ LINE_LIMIT }
         requires other { begins_epoch line.now ≡ false }
-        requires named { row.old.name ≡ satellite.now.name }
-        requires sized { length row.old.values ≡ satellite.now.count }
         ensures ok { OnOk result (row_held_from arcs.now flags.now satellite.now line.now
-            ≡ Ok (record { row = row.new; tail = self.new })) }
+            ≡ Ok (record { row = shown_row self.new; tail = self.new })) }
         ensures err { IfErr result
             (λ fault. (row_held_from arcs.now flags.now satellite.now line.now ≡ Err fault)
             ⊎ (fault ≡ Fault.OutOfMemory)) }
@@ -277,9 +280,38 @@ impl HeldSatellite {
         let Ok(()) = resize_arcs(&mut self.arcs, count) else {
             return Err(Fault::OutOfMemory);
         };
-        let at = read_cells(arcs, count, line, &mut self.arcs, row)?;
+        let at = read_cells(arcs, count, line, &mut self.arcs)?;
         self.name = satellite.name();
-        read_indicators(flags, count, &line[at..], row, &mut self.flags, part)
+        read_indicators(flags, count, &line[at..], &mut self.flags, part)
+    }
+
+    /// The row that the history shows, of a satellite with its identifier and as many types as it has arcs. `OutOfMemory` is the one
+    /// refusal.
+    pub(crate) fn row(&self, alloc: Global, satellite: &AwaitedSatellite) -> Result<SatRow, Fault>
+        requires named { self.now.name ≡ satellite.now.name }
+        requires sized { length self.now.cells ≡ satellite.now.count }
+        ensures ok { IfOk result (λ row. row ≡ shown_row self.now) }
+        ensures err { IfErr result (λ fault. fault ≡ Fault.OutOfMemory) }
+    {
+        let count = satellite.count();
+        let mut row = SatRow::blank(alloc, satellite.name(), count)?;
+        for place in 0..count {
+            row.set(place, self.arcs[place].value());
+        }
+        row.set_flags(first_bytes(&self.flags, 2 * count));
+        Ok(row)
+    }
+
+    /// Prints the line of the row that the history shows, in place of the bytes from an index on, and gives the line's length.
+    #[inline(always)]
+    pub(crate) fn print_line(&self, bytes: &mut [u8], at: usize) -> usize
+        requires room { at + (NAME_WIDTH + CELL_WIDTH * length self.now.cells) < length bytes.old }
+        ensures line { take (at + result) bytes.new ≡ take at bytes.old ++ printed_row (shown_row self.now) }
+        ensures within { at + result < length bytes.new }
+    {
+        put_identifier(bytes, at, self.name);
+        let end = print_cells(&self.arcs, &self.flags, bytes, at + NAME_WIDTH);
+        trim_end(&bytes[at..end]).len()
     }
 }
 
@@ -314,18 +346,53 @@ fn first_bytes(text: &[u8], count: usize) -> &[u8]
     &text[..count.min(text.len())]
 }
 
-/// The indicators that a history has by so many types: two for each of them, without the blanks at their end.
-fn held_flags(flags: &[u8], count: usize) -> &[u8]
-    requires held { AreHeldFlags flags.now }
+/// Replaces a history's indicators by so many columns of a text, two for each of so many types. `OutOfMemory` comes where there is no room
+/// for them.
+#[inline(always)]
+fn hold_flags(flags: &[u8], count: usize, held: &mut Vec<u8>) -> Result<(), Fault>
+    requires flags { AreHeldFlags flags.now }
     requires allowed { IsAllowedCount count }
-    ensures value { result.now ≡ flags_held count flags.now }
-    ensures held { AreHeldFlags result.now }
+    ensures ok { OnOk result (held.new.items ≡ columns flags.now 1 (2 * count)) }
+    ensures kept { AreHeldFlags held.new.items }
+    ensures err { IfErr result (λ fault. fault ≡ Fault.OutOfMemory) }
 {
-    trim_end(first_bytes(flags, 2 * count))
+    if flags.len() == 2 * count && held.len() == flags.len() {
+        copy_text(held, flags);
+        return Ok(());
+    }
+    hold_columns(flags, count, held)
 }
 
-/// Reads a line's marks, given the satellite's indicators in the epoch before: puts the indicators that they make into the row and
-/// into the history. Most lines have no marks, and then the indicators are copied and no difference is read.
+/// Does what [`hold_flags`] does, where the text is shorter or longer, or the history had other indicators.
+#[inline(never)]
+fn hold_columns(flags: &[u8], count: usize, held: &mut Vec<u8>) -> Result<(), Fault>
+    requires flags { AreHeldFlags flags.now }
+    requires allowed { IsAllowedCount count }
+    ensures ok { OnOk result (held.new.items ≡ columns flags.now 1 (2 * count)) }
+    ensures kept { AreHeldFlags held.new.items }
+    ensures err { IfErr result (λ fault. fault ≡ Fault.OutOfMemory) }
+{
+    match pad(first_bytes(flags, 2 * count), 2 * count, held) {
+        Ok(()) => Ok(()),
+        Err(_) => {
+            held.clear();
+            Err(Fault::OutOfMemory)
+        }
+    }
+}
+
+/// Replaces a text by another one, with blanks after it up to a width.
+fn pad(text: &[u8], width: usize, held: &mut Vec<u8>) -> Result<(), AllocError>
+    requires { length text.now ≤ width }
+    ensures { OnOk result (held.new.items ≡ text.now ++ replicate (width - length text.now) 32) }
+{
+    held.clear();
+    held.extend_from_slice(text)?;
+    held.resize(width, b' ')
+}
+
+/// Reads a line's marks, given the satellite's indicators in the epoch before: replaces those of a history by the ones that they make.
+/// Most lines have no marks, and then the indicators are copied and no difference is read.
 ///
 /// `BadFlags` comes as by [`read_marks`], then `OutOfMemory` where something can't grow.
 #[inline(always)]
@@ -333,113 +400,59 @@ fn read_indicators(
     before: &[u8],
     count: usize,
     marks: &[u8],
-    row: &mut SatRow,
     held: &mut Vec<u8>,
     part: &mut Text,
 ) -> Result<(), Fault>
     requires before { AreHeldFlags before.now }
     requires short { length marks.now ≤ LINE_LIMIT }
     requires allowed { IsAllowedCount count }
-    requires counted { length row.old.values ≡ count }
     requires held { AreHeldFlags held.old.items }
     ensures marks { OnOk result (are_marks count marks.now ≡ true) }
-    ensures row { OnOk result (row.new
-        ≡ record row.old { flags = columns (patched before.now marks.now) 1 (2 * count) }) }
-    ensures held { OnOk result (held.new.items ≡ flags_held count (patched before.now marks.now)) }
+    ensures held { OnOk result (held.new.items ≡ columns (patched before.now marks.now) 1 (2 * count)) }
     ensures kept { AreHeldFlags held.new.items }
     ensures err { IfErr result (λ fault. ((are_marks count marks.now ≡ false) × (fault ≡ Fault.BadFlags))
         ⊎ (fault ≡ Fault.OutOfMemory)) }
 {
     if marks.is_empty() {
-        return keep_flags(before, count, row, held);
+        return hold_flags(before, count, held);
     }
-    patch_flags(before, count, marks, row, held, part)
+    patch_flags(before, count, marks, held, part)
 }
 
-/// Puts a satellite's indicators in the epoch before into the row and into the history, as a line without marks leaves them.
-#[inline(always)]
-fn keep_flags(
-    before: &[u8],
-    count: usize,
-    row: &mut SatRow,
-    held: &mut Vec<u8>,
-) -> Result<(), Fault>
-    requires before { AreHeldFlags before.now }
-    requires allowed { IsAllowedCount count }
-    requires counted { length row.old.values ≡ count }
-    ensures row { OnOk result (row.new
-        ≡ record row.old { flags = columns (patched before.now []) 1 (2 * count) }) }
-    ensures held { OnOk result (held.new.items ≡ flags_held count (patched before.now [])) }
-    ensures kept { AreHeldFlags held.new.items }
-    ensures err { IfErr result (λ fault. fault ≡ Fault.OutOfMemory) }
-{
-    let flags = held_flags(before, count);
-    row.set_flags(flags);
-    hold_flags(flags, held)
-}
-
-/// Reads marks, given the satellite's indicators in the epoch before: puts the indicators that they make into the row and into the
-/// history. The faults are those of [`read_indicators`].
+/// Reads marks, given the satellite's indicators in the epoch before: replaces those of a history by the ones that they make. The faults
+/// are those of [`read_indicators`].
 #[inline(never)]
 fn patch_flags(
     before: &[u8],
     count: usize,
     marks: &[u8],
-    row: &mut SatRow,
     held: &mut Vec<u8>,
     part: &mut Text,
 ) -> Result<(), Fault>
     requires before { AreHeldFlags before.now }
     requires short { length marks.now ≤ LINE_LIMIT }
     requires allowed { IsAllowedCount count }
-    requires counted { length row.old.values ≡ count }
     requires held { AreHeldFlags held.old.items }
     ensures marks { OnOk result (are_marks count marks.now ≡ true) }
-    ensures row { OnOk result (row.new
-        ≡ record row.old { flags = columns (patched before.now marks.now) 1 (2 * count) }) }
-    ensures held { OnOk result (held.new.items ≡ flags_held count (patched before.now marks.now)) }
+    ensures held { OnOk result (held.new.items ≡ columns (patched before.now marks.now) 1 (2 * count)) }
     ensures kept { AreHeldFlags held.new.items }
     ensures err { IfErr result (λ fault. ((are_marks count marks.now ≡ false) × (fault ≡ Fault.BadFlags))
         ⊎ (fault ≡ Fault.OutOfMemory)) }
 {
-    read_marks(before, count, marks, row, part)?;
-    hold_flags(held_flags(part.bytes(), count), held)
+    read_marks(before, count, marks, part)?;
+    hold_flags(part.bytes(), count, held)
 }
 
-/// Replaces a history's indicators by others. `OutOfMemory` comes where there is no room for them.
-#[inline(always)]
-fn hold_flags(flags: &[u8], held: &mut Vec<u8>) -> Result<(), Fault>
-    requires { AreHeldFlags flags.now }
-    ensures ok { OnOk result (held.new.items ≡ flags.now) }
-    ensures kept { AreHeldFlags held.new.items }
-    ensures err { IfErr result (λ fault. fault ≡ Fault.OutOfMemory) }
-{
-    match renew_flags(held, flags) {
-        Ok(()) => Ok(()),
-        Err(_) => Err(Fault::OutOfMemory),
-    }
-}
-
-/// Reads a line's marks, given the satellite's indicators in the epoch before: replaces a text by the indicators that they make,
-/// and puts those of the row's types into the row.
+/// Reads a line's marks, given the satellite's indicators in the epoch before: replaces a text by the indicators that they make.
 ///
 /// `BadFlags` comes where the marks hold a character outside 32 to 126, or anything but blanks past two for each type.
-fn read_marks(
-    before: &[u8],
-    count: usize,
-    marks: &[u8],
-    row: &mut SatRow,
-    part: &mut Text,
-) -> Result<(), Fault>
+fn read_marks(before: &[u8], count: usize, marks: &[u8], part: &mut Text) -> Result<(), Fault>
     requires before { AreHeldFlags before.now }
     requires short { length marks.now ≤ LINE_LIMIT }
     requires allowed { IsAllowedCount count }
-    requires counted { length row.old.values ≡ count }
     ensures marks { OnOk result (are_marks count marks.now ≡ true) }
     ensures text { OnOk result (part.new ≡ patched before.now marks.now) }
-    ensures held { OnOk result (AreHeldFlags part.new) }
-    ensures row { OnOk result (row.new
-        ≡ record row.old { flags = columns (patched before.now marks.now) 1 (2 * count) }) }
+    ensures kept { OnOk result (list_all is_kept part.new ≡ true) }
     ensures err { IfErr result (λ fault. (are_marks count marks.now ≡ false) × (fault ≡ Fault.BadFlags)) }
 {
     if !all_blank(after_columns(marks, 2 * count)) {
@@ -448,7 +461,6 @@ fn read_marks(
     let Ok(()) = patch_bytes(before, marks, part) else {
         return Err(Fault::BadFlags);
     };
-    row.set_flags(first_bytes(part.bytes(), 2 * count));
     Ok(())
 }
 

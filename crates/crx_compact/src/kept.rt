@@ -1,6 +1,6 @@
 //! The history: what later epochs need of the earlier ones, up to one of them. Hatanaka's Compact RINEX 3.0.
 
-ghost use Rattle.std.specs.Prelude.{ℕ, min, ◌≡◌, ◌≤◌, ◌<◌, ◌+◌, false, ◌++◌, ◌∷◌, [], true, Ok, Err, length, take, map, ◌⊎◌, OnOk, OnSome, IfOk, IfErr};
+ghost use Rattle.std.specs.Prelude.{ℕ, min, ◌≡◌, ◌≤◌, ◌<◌, ◌+◌, false, ◌++◌, ◌∷◌, [], true, Ok, Err, length, take, map, ◌⊎◌, OnOk, OnErr, OnSome, IfOk, IfErr, is_some};
 ghost use Rattle.std.specs.Bool.{OnTrue};
 ghost use Rattle.std.specs.List.{flat_map, list_all};
 ghost use Rattle.std.specs.Result.{is_ok};
@@ -12,13 +12,20 @@ ghost use Rattle.crx_rinex.specs.meaning.Observations.{Row};
 ghost use Rattle.crx_rinex.specs.meaning.Epochs.{IsSoundEpoch};
 ghost use Rattle.crx_compact.specs.meaning.Compaction.{epoch_text};
 ghost use Rattle.crx_text.specs.Texts.{patched};
-ghost use Rattle.crx_text.specs.Numbers.{IsClock};
-ghost use Rattle.std.specs.Option.{option_copied, ForSome};
+ghost use Rattle.std.specs.Option.{option_copied};
 ghost use Rattle.crx_compact.specs.meaning.CompactPlaces.{clock_line_read, satellites_of_line};
 ghost use Rattle.crx_compact.specs.OpenEpochs.{past_of_tail};
-ghost use Rattle.crx_compact.specs.Steps.{arc_of_code, lines_after_tail, no_tail, row_line_in, row_tail_in, tail_after};
+ghost use Rattle.crx_compact.specs.Steps.{lines_after_tail, no_tail, row_line_in, row_tail_in, tail_after};
 ghost use Rattle.crx_compact.specs.meaning.Sequences.{named};
 ghost use Rattle.crx_compact.specs.Tails.{RowTail};
+ghost use Rattle.crx_text.specs.meaning.Columns.{columns};
+ghost use Rattle.crx_lines.specs.declared.limits.TheConstants.{HEAD_WIDTH};
+ghost use Rattle.crx_rinex.specs.meaning.EpochLines.{epoch_count};
+ghost use Rattle.crx_rinex.specs.meaning.Epochs.{has_satellite};
+ghost use Rattle.crx_rinex.specs.Epochs.{is_full_epoch, with_row};
+ghost use Rattle.crx_rinex.specs.meaning.Printing.{printed_head, printed_row};
+ghost use Rattle.crx_compact.specs.OpenLines.{AreRowsSoFar, HasClock};
+ghost use Rattle.crx_compact.specs.ShownRows.{shown_epoch, shown_row, shown_value};
 ghost use Rattle.crx_compact.specs.HeldRows.{row_after, AreNamed, IsNextRow};
 
 use crate::arc::ClockArc;
@@ -27,9 +34,12 @@ use crate::held::{HeldSatellite, fault_after, find, push_change, push_code};
 use crate::lines::Lines;
 use crate::refusals::fault_of_text;
 use crx_lines::limits::{HEAD_WIDTH, LINE_LIMIT, NAME_WIDTH, SATELLITES_LIMIT};
-use crx_rinex::{Epoch, Identifiers, SatRow, Types, after_columns, begins_epoch, put_identifier};
+use crx_rinex::{
+    Epoch, EpochLine, Identifiers, SatRow, Types, after_columns, begins_epoch, padded, print_head,
+    put_identifier,
+};
 use crx_text::difference::patch_bytes;
-use crx_text::{Code, Fault, Text, code_read, trim_end};
+use crx_text::{Fault, Text, code_read, trim_end};
 use std::alloc::{AllocError, Global};
 use std::marker::Model;
 use std::mem;
@@ -272,21 +282,13 @@ impl KeptEpoch {
         fault_after(kept, satellite, line)
     }
 
-    /// Reads a clock line, given the history before it: replaces the clock's arc, and gives the code and its
-    /// value in units of 10^-12 seconds, `None` where it is missing. Blanks at the line's end don't count.
+    /// Reads a clock line, given the history before it: replaces the clock's arc by the one after the code, which shows the clock's value.
+    /// Blanks at the line's end don't count.
     ///
     /// `Truncated` comes where the line begins another epoch, `BadClock` where it is no code, then `NoArc` and `OutOfRange`
     /// as by [`ClockArc::apply`].
-    pub(crate) fn read_clock(
-        &mut self,
-        before: &KeptEpoch,
-        line: &[u8],
-    ) -> Result<(Code, Option<i64>), Fault>
-        ensures ok { IfOk result (λ cell. clock_line_read (past_of_tail before.now) line.now
-            ≡ Ok (record { code = cell.0; value = cell.1 })) }
-        ensures left { IfOk result
-            (λ cell. self.new ≡ record self.old { clock = arc_of_code cell.0 before.now.clock }) }
-        ensures ranged { IfOk result (λ cell. ForSome cell.1 IsClock) }
+    pub(crate) fn read_clock(&mut self, before: &KeptEpoch, line: &[u8]) -> Result<(), Fault>
+        ensures ok { OnOk result (HasClock before.now line.now self.old self.new) }
         ensures err { IfErr result (λ fault. clock_line_read (past_of_tail before.now) line.now ≡ Err fault) }
     {
         if begins_epoch(line) {
@@ -296,30 +298,26 @@ impl KeptEpoch {
             return Err(Fault::BadClock);
         };
         let mut arc = before.clock.copied();
-        let value = arc.apply(code)?;
+        arc.apply(code)?;
         self.clock = arc;
-        Ok((code, value))
+        Ok(())
     }
 
     /// Reads the satellite line of the row at a place, given the history before the epoch: puts the satellite's history after the line
-    /// after those of the rows before, and fills the row, which has its identifier and size. The faults are those of
-    /// [`HeldSatellite::read`].
+    /// after those of the rows before. The faults are those of [`HeldSatellite::read`].
     pub(crate) fn read_row(
         &mut self,
         before: &KeptEpoch,
         index: usize,
         satellite: &AwaitedSatellite,
         line: &[u8],
-        row: &mut SatRow,
         part: &mut Text,
     ) -> Result<(), Fault>
         requires short { length line.now ≤ LINE_LIMIT }
         requires other { begins_epoch line.now ≡ false }
         requires next { index ≤ length self.old.rows }
-        requires named { row.old.name ≡ satellite.now.name }
-        requires sized { length row.old.values ≡ satellite.now.count }
         ensures ok { OnOk result
-            (IsNextRow before.now satellite.now line.now index row.new self.old self.new) }
+            (IsNextRow before.now satellite.now line.now index self.old self.new) }
         ensures err { IfErr result (λ fault. (row_after before.now satellite.now line.now ≡ Err fault)
             ⊎ (fault ≡ Fault.OutOfMemory)) }
     {
@@ -330,8 +328,62 @@ impl KeptEpoch {
         let kept = before.find(index, name);
         // Which satellites the map has is found out once the epoch's last line has come (`truncate`).
         self.placed = 0;
-        self.satellites[index].read(row, kept, satellite, line, part)?;
+        self.satellites[index].read(kept, satellite, line, part)?;
         Ok(())
+    }
+
+    /// The epoch that the history shows, of these satellites. `OutOfMemory` is the one refusal.
+    pub(crate) fn epoch(
+        &self,
+        alloc: Global,
+        satellites: &[AwaitedSatellite],
+    ) -> Result<Epoch, Fault>
+        requires { AreRowsSoFar (shown_epoch self.now (length satellites.now))
+            self.now (length satellites.now) satellites.now }
+        ensures ok { IfOk result (λ epoch. epoch ≡ shown_epoch self.now (length satellites.now)) }
+        ensures err { IfErr result (λ fault. fault ≡ Fault.OutOfMemory) }
+        ensures memory { OnErr result (0 < length satellites.now) }
+    {
+        let head = EpochLine::new(padded(&self.text, 1), self.clock.value()).unwrap();
+        let mut epoch = Epoch::new(alloc, head);
+        for place in 0..satellites.len() {
+            let row = self.satellites[place].row(alloc, &satellites[place])?;
+            push_row(&mut epoch, row)?;
+        }
+        Ok(epoch)
+    }
+
+    /// Replaces a text by the printed line of the epoch that the history shows.
+    pub(crate) fn print_head(&self, text: &mut Text)
+        requires { is_some (epoch_count (columns self.now.text 1 HEAD_WIDTH)) ≡ true }
+        ensures { text.new ≡ printed_head (columns self.now.text 1 HEAD_WIDTH) (shown_value self.now.clock) }
+    {
+        let head = EpochLine::new(padded(&self.text, 1), self.clock.value()).unwrap();
+        print_head(&head, text);
+    }
+
+    /// Puts the printed lines of so many rows that the history shows after others.
+    pub(crate) fn print_rows(&self, count: usize, lines: &mut Lines) -> Result<(), AllocError>
+        requires { count ≤ length self.now.rows }
+        ensures { OnOk result (lines.new ≡ lines.old ++ map printed_row (map shown_row (take count self.now.rows))) }
+    {
+        for place in 0..count {
+            lines.push_printed(&self.satellites[place])?;
+        }
+        Ok(())
+    }
+}
+
+/// Puts a row after the others of an epoch, which has no row of its satellite: so only `OutOfMemory` can refuse it.
+fn push_row(epoch: &mut Epoch, row: SatRow) -> Result<(), Fault>
+    requires wanted { is_full_epoch epoch.old ≡ false }
+    requires new { has_satellite row.name epoch.old.rows ≡ false }
+    ensures ok { OnOk result (epoch.new ≡ with_row epoch.old row) }
+    ensures err { IfErr result (λ fault. fault ≡ Fault.OutOfMemory) }
+{
+    match epoch.push(row) {
+        Ok(()) => Ok(()),
+        Err((_, fault)) => Err(fault),
     }
 }
 

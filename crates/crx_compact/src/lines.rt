@@ -10,10 +10,13 @@ ghost use Rattle.crx_compact.specs.Cells.{arcs_of_row, codes_of_row};
 ghost use Rattle.crx_compact.specs.meaning.Compaction.{line_of_codes};
 ghost use Rattle.crx_compact.specs.LineLists.{lines_text};
 ghost use Rattle.crx_compact.specs.contracts.lines.Lines.{the_row};
+ghost use Rattle.crx_rinex.specs.meaning.Printing.{printed_row};
+ghost use Rattle.crx_compact.specs.ShownRows.{shown_row};
 
 use crate::arc::ObsArc;
 use crate::cells::CELL_ROOM;
 use crate::held::{HeldSatellite, mark_change};
+use crx_lines::limits::{CELL_WIDTH, NAME_WIDTH};
 use crx_rinex::SatRow;
 use crx_text::Text;
 use crx_text::block::{grow, put_line};
@@ -109,6 +112,22 @@ impl Lines {
         let room = CELL_ROOM * satellite.count() + part.len();
         grow(&mut self.bytes, start + room + 1)?;
         let length = satellite.write_line(arcs, row, part.bytes(), &mut self.bytes, start);
+        if self.lengths.push(length).is_err() {
+            return Err(AllocError);
+        }
+        self.bytes[start + length] = b'\n';
+        self.filled = start + length + 1;
+        Ok(())
+    }
+
+    /// Puts the printed line of the row that a satellite's history shows after the others. Room for it is asked for once.
+    pub(crate) fn push_printed(&mut self, satellite: &HeldSatellite) -> Result<(), AllocError>
+        ensures { OnOk result (self.new ≡ self.old ++ printed_row (shown_row satellite.now) ∷ []) }
+    {
+        let start = self.filled;
+        let room = NAME_WIDTH + CELL_WIDTH * satellite.count();
+        grow(&mut self.bytes, start + room + 1)?;
+        let length = satellite.print_line(&mut self.bytes, start);
         if self.lengths.push(length).is_err() {
             return Err(AllocError);
         }

@@ -38,8 +38,8 @@ fn value_after(before: &[ObsArc], place: usize, code: Code) -> Result<Option<i64
 
 /// The index at which a line's marks begin, after the cells of so many types, or the first cell's fault.
 fn marks_index(before: &[ObsArc], count: usize, line: &[u8]) -> Result<usize, Fault>
-    ensures ok { IfOk result (λ at. (arcs : List (Option ArcTail)) × (old : Row) × (new : Row)
-        × CellsAreRead before.now count line.now arcs old new at) }
+    ensures ok { IfOk result (λ at. (arcs : List (Option ArcTail))
+        × CellsAreRead before.now count line.now arcs at) }
     ensures err { IfErr result
         (λ fault. cells_read (value_at_place before.now) (cells_of count line.now) ≡ Err fault) }
     ensures other { IfErr result (λ fault. fault ≡ Fault.OutOfMemory → ⊥) }

@@ -3,6 +3,5 @@ pub mod Justified
 pub mod Lendable
 pub mod Readiness
 pub mod ReadyLines
-pub mod ReadyParts
 pub mod Reports
 pub mod Bounds

@@ -1,9 +1,8 @@
 -- What a reader of compact text makes of a line.
-use Rattle.std.specs.Prelude.{◌≡◌, ◌⊎◌, ℕ, ◌+◌, true, List, [], ◌∷◌, Option}
+use Rattle.std.specs.Prelude.{◌≡◌, ◌⊎◌, ℕ, ◌+◌, Bool, true, false, if◌then◌else◌, List, [], ◌∷◌, Option}
 use Rattle.crx_lines.specs.meaning.Seen.{Content}
 use Rattle.crx_lines.specs.declared.fault.Fault.{Fault}
 use Rattle.crx_lines.specs.declared.fault.Fault.TheVariants.{OutOfMemory}
-use Rattle.crx_rinex.specs.meaning.Printing.{printed_epoch}
 use Rattle.crx_compact.specs.OpenEpochs.{OpenRawEpoch, HeldEpoch, tail_held}
 use Rattle.crx_compact.specs.Tails.{Tail}
 use Rattle.crx_engine.specs.meaning.Choices.{Choices}
@@ -15,8 +14,6 @@ use Rattle.crx_engine.specs.EngineSteps.{seen_stage}
 use Rattle.crx_engine.specs.CompactStages.{open_in}
 use Rattle.crx_engine.specs.declared.stage.Stage.{Stage}
 use Rattle.crx_engine.specs.declared.compact_reader.CompactReader.{CompactReader}
-use Rattle.crx_engine.specs.declared.compact_reader.CompactStep.{CompactStep}
-use Rattle.crx_engine.specs.declared.compact_reader.CompactStep.TheVariants.{Nothing, Copied, Whole}
 
 -- what an expansion with this reader would be seen as in a stage, by its choices and the number of its last line
 abbrev pub seen_in : Choices → ℕ → CompactReader → Stage → Seen OpenRawEpoch (Option Tail)
@@ -40,28 +37,27 @@ compact_reader_phase r = seen_stage (open_in r.columns) r.stage
 abbrev pub made_next : CompactReader → List ℕ → Made HeldEpoch OpenRawEpoch
 made_next r line = made_in expansion (compact_reader_phase r) r.types (tail_held r.columns) (Content line)
 
-abbrev pub answer_for : CompactStep → Answer
-answer_for Nothing = Quiet
-answer_for Copied = Ready
-answer_for (Whole epoch) = Ready
-
--- the lines that are pending after a line: itself, or those of the epoch that it completes
-abbrev pub lent_for : List ℕ → CompactStep → List (List ℕ)
-lent_for line Nothing = []
-lent_for line Copied = line ∷ []
-lent_for line (Whole epoch) = printed_epoch epoch
+abbrev pub answer_for : Bool → Answer
+answer_for false = Quiet
+answer_for true = Ready
 
 abbrev pub counted : Seen OpenRawEpoch (Option Tail) → Seen OpenRawEpoch (Option Tail)
 counted seen = record seen { number = seen.number + 1 }
 
--- a line that makes this is taken: its step but for the count
-abbrev pub TakesCompactLine : Made HeldEpoch OpenRawEpoch
-    → List ℕ → Seen OpenRawEpoch (Option Tail) → Seen OpenRawEpoch (Option Tail) → CompactStep → Type 0
-TakesCompactLine made line before after step = record {
-  answer = answer_for step;
-  lent = lent_for line step;
+-- a line that makes this is taken, and after it these lines are ready, or none: its step but for the count
+abbrev pub TakesCompactLine : Made HeldEpoch OpenRawEpoch → List ℕ
+    → Seen OpenRawEpoch (Option Tail) → Seen OpenRawEpoch (Option Tail) → List (List ℕ) → Bool → Type 0
+TakesCompactLine made line before after lines is_ready = record {
+  answer = answer_for is_ready;
+  lent = lines;
   next = counted after;
 } ≡ step_of_made expansion before (Content line) made
+
+-- the same of a line that is copied, or after which no line is ready
+abbrev pub TakesOtherLine : Made HeldEpoch OpenRawEpoch
+    → List ℕ → Seen OpenRawEpoch (Option Tail) → Seen OpenRawEpoch (Option Tail) → Bool → Type 0
+TakesOtherLine made line before after is_copied =
+    TakesCompactLine made line before after (if is_copied then line ∷ [] else []) is_copied
 
 -- a fault is that of the line, or memory ran out at a line that may take some, by the types in force and the tail of
 -- the epochs before

@@ -1,13 +1,12 @@
 //! Compact RINEX 3.0, one line at a time: what each line is, the observation types in force, and the epoch whose lines come.
 
-ghost use Rattle.std.specs.Prelude.{◌≡◌, ◌≤◌, ℕ, if◌then◌else◌, [], None, true, false, length, IfOk, IfErr, OnErr};
+ghost use Rattle.std.specs.Prelude.{◌≡◌, ◌≢◌, ◌≤◌, ℕ, if◌then◌else◌, [], None, true, false, length, IfOk, IfErr, OnErr, OnOk};
 ghost use Rattle.crx_lines.specs.declared.limits.TheConstants.{LINE_LIMIT};
 ghost use Rattle.crx_lines.specs.meaning.Seen.{Content};
 ghost use Rattle.crx_compact.specs.OpenEpochs.{is_idle, tail_held};
 ghost use Rattle.crx_compact.specs.OpenEpochs.ColumnsState.{Idle};
 ghost use Rattle.crx_engine.specs.meaning.Choices.{Choices};
 ghost use Rattle.crx_engine.specs.CompactStages.{is_compact_stage, open_in, wants_lines};
-ghost use Rattle.crx_engine.specs.declared.compact_reader.CompactStep.TheVariants.{Nothing};
 ghost use Rattle.crx_engine.specs.EngineSteps.{is_ended, is_settled, seen_stage};
 ghost use Rattle.crx_engine.specs.meaning.Expanded.{empties_state};
 ghost use Rattle.crx_engine.specs.ExpansionByLine.{expansion, compact_begins};
@@ -20,22 +19,10 @@ use crate::event_lines::records_announced;
 use crate::first_lines::{check_program, check_version};
 use crate::stage::{Stage, after_header_line, counts_types, with_records_left};
 use crate::types_lines::{accept_header_line, accept_record};
-use crx_compact::Columns;
-use crx_rinex::{Epoch, Types, begins_epoch, is_event_line, is_types};
+use crx_compact::{Columns, ExpandedLines};
+use crx_rinex::{Types, begins_epoch, is_event_line, is_types};
 use crx_text::Fault;
 use std::alloc::Global;
-
-/// What a line of compact text is, where it has no fault.
-#[derive(Drop)]
-pub(crate) enum CompactStep {
-    /// A line after which no unit is complete: one of the first two, one of an epoch with lines still to come, or one that
-    /// was passed over.
-    Nothing,
-    /// A header line, an event's first line or a record, which stands in RINEX as it is.
-    Copied,
-    /// The last line of this epoch.
-    Whole(Epoch),
-}
 
 /// Reads compact text one line at a time.
 #[derive(Drop)]
@@ -47,7 +34,7 @@ pub(crate) struct CompactReader {
 }
 
 impl CompactReader {
-    ghost use Rattle.crx_engine.specs.CompactReaders.{RefusesCompactLine, TakesCompactLine, made_next, compact_reader_phase, seen_in, compact_reader_state};
+    ghost use Rattle.crx_engine.specs.CompactReaders.{RefusesCompactLine, TakesCompactLine, TakesOtherLine, made_next, compact_reader_phase, seen_in, compact_reader_state};
     ghost use Rattle.crx_engine.specs.ExpansionByLine.{expansion_seen};
 
     /// A reader before the first line.
@@ -65,11 +52,12 @@ impl CompactReader {
     ///
     /// `NotCompact` comes where the first one isn't that of Compact RINEX 3.0, `BadProgLine` where the second one has another
     /// label.
-    fn first_line(&mut self, count: usize, line: &[u8]) -> Result<CompactStep, Fault>
+    #[inline(never)]
+    fn first_line(&mut self, count: usize, line: &[u8]) -> Result<(), Fault>
         requires idle { is_idle self.old.columns ≡ true }
         ensures takes { (choices : Choices) (number : ℕ)
-            → IfOk result (TakesCompactLine (made_of_first_lines count line.now) line.now (seen_in
-            choices number self.old (FirstLines count)) (compact_reader_state choices number self.new)) }
+            → OnOk result (TakesOtherLine (made_of_first_lines count line.now) line.now (seen_in
+            choices number self.old (FirstLines count)) (compact_reader_state choices number self.new) false) }
         ensures refuses { IfErr result (RefusesCompactLine self.old.types (tail_held self.old.columns) (made_of_first_lines
             count line.now) (seen_stage (open_in self.old.columns) (FirstLines count)) line.now) }
         ensures types { OnErr result (self.new.types ≡ self.old.types) }
@@ -81,17 +69,18 @@ impl CompactReader {
             check_program(line)?;
             self.stage = Stage::Header { is_first: true };
         }
-        Ok(CompactStep::Nothing)
+        Ok(())
     }
 
     /// Takes a header line.
     ///
     /// The faults of the first header line come first, then `BadTypesLine`; `OutOfMemory` at a types line alone.
-    fn header_line(&mut self, is_first: bool, line: &[u8]) -> Result<CompactStep, Fault>
+    #[inline(never)]
+    fn header_line(&mut self, is_first: bool, line: &[u8]) -> Result<(), Fault>
         requires idle { is_idle self.old.columns ≡ true }
         ensures takes { (choices : Choices) (number : ℕ)
-            → IfOk result (TakesCompactLine (made_of_unit (header_line is_first line.now)) line.now (seen_in
-            choices number self.old (Header is_first)) (compact_reader_state choices number self.new)) }
+            → OnOk result (TakesOtherLine (made_of_unit (header_line is_first line.now)) line.now (seen_in choices
+            number self.old (Header is_first)) (compact_reader_state choices number self.new) true) }
         ensures refuses { IfErr result
             (RefusesCompactLine self.old.types (tail_held self.old.columns) (made_of_unit (header_line is_first line.now))
             (seen_stage (open_in self.old.columns) (Header is_first)) line.now) }
@@ -100,18 +89,19 @@ impl CompactReader {
         accept_header_line(&mut self.types, is_first, line)?;
         self.columns.reset();
         self.stage = after_header_line(line);
-        Ok(CompactStep::Copied)
+        Ok(())
     }
 
     /// Takes a record of an event: a types line among those of flags 2 to 5 empties the columns.
     ///
     /// `BadTypesLine` comes where types lines count and the letter or the count of one is wrong; `OutOfMemory` at a types line
     /// that counts alone.
-    fn record(&mut self, left: usize, counted: bool, line: &[u8]) -> Result<CompactStep, Fault>
+    #[inline(never)]
+    fn record(&mut self, left: usize, counted: bool, line: &[u8]) -> Result<(), Fault>
         requires idle { is_idle self.old.columns ≡ true }
         ensures takes { (choices : Choices) (number : ℕ)
-            → IfOk result (TakesCompactLine (made_of_unit (event_record counted line.now)) line.now (seen_in
-            choices number self.old (Event left counted)) (compact_reader_state choices number self.new)) }
+            → OnOk result (TakesOtherLine (made_of_unit (event_record counted line.now)) line.now (seen_in choices
+            number self.old (Event left counted)) (compact_reader_state choices number self.new) true) }
         ensures refuses { IfErr result
             (RefusesCompactLine self.old.types (tail_held self.old.columns) (made_of_unit (event_record counted line.now))
             (seen_stage (open_in self.old.columns) (Event left counted)) line.now) }
@@ -120,19 +110,19 @@ impl CompactReader {
         accept_record(&mut self.types, counted, line)?;
         reset_if(&mut self.columns, empties_columns(counted, line));
         self.stage = with_records_left(left.saturating_sub(1), counted);
-        Ok(CompactStep::Copied)
+        Ok(())
     }
 
-    /// Takes a line where an epoch or an event may begin.
+    /// Takes a line where an epoch or an event may begin; `true` says that it is an event's, which stands in RINEX as it is.
     ///
     /// `BadEpoch` comes where an event's count is none; then the refusals of [`Columns::begin`].
     #[inline(never)]
-    fn begin(&mut self, line: &[u8]) -> Result<CompactStep, Fault>
+    fn begin(&mut self, line: &[u8]) -> Result<bool, Fault>
         requires idle { is_idle self.old.columns ≡ true }
         requires short { length line.now ≤ LINE_LIMIT }
         ensures takes { (choices : Choices) (number : ℕ) (stage : Stage) → IfOk result
-            (TakesCompactLine (compact_begins self.old.types (tail_held self.old.columns) (Content line.now))
-            line.now (seen_in choices number self.old stage) (compact_reader_state choices number self.new)) }
+            (TakesOtherLine (compact_begins self.old.types (tail_held self.old.columns) (Content line.now)) line.now
+            (seen_in choices number self.old stage) (compact_reader_state choices number self.new)) }
         ensures refuses { IfErr result
             (λ fault. RefusesCompactLine self.old.types (tail_held self.old.columns) (compact_begins self.old.types
             (tail_held self.old.columns) (Content line.now)) BetweenUnits line.now fault) }
@@ -141,37 +131,40 @@ impl CompactReader {
         if is_event_line(line) {
             let count = records_announced(line)?;
             self.stage = with_records_left(count, counts_types(line));
-            return Ok(CompactStep::Copied);
+            return Ok(true);
         }
         self.columns.begin(&self.types, line)?;
         self.stage = Stage::Open;
-        Ok(CompactStep::Nothing)
+        Ok(false)
     }
 
-    /// Takes a line of the epoch that is open.
+    /// Takes a line of the epoch that is open. `true` says that it is the last one, and that the lines of the epoch are ready.
     ///
-    /// The refusals are those of [`Columns::feed`].
-    fn go_on(&mut self, line: &[u8]) -> Result<CompactStep, Fault>
+    /// The refusals are those of [`Columns::feed_into`].
+    #[inline(always)]
+    fn go_on(&mut self, line: &[u8], lines: &mut ExpandedLines) -> Result<bool, Fault>
         requires open { wants_lines self.old.columns ≡ true }
         requires short { length line.now ≤ LINE_LIMIT }
+        requires drained { lines.old ≡ [] }
         ensures takes { (choices : Choices) (number : ℕ) → IfOk result (TakesCompactLine (made_in expansion
             (seen_stage (open_in self.old.columns) Open) self.old.types None (Content line.now)) line.now
-            (seen_in choices number self.old Open) (compact_reader_state choices number self.new)) }
+            (seen_in choices number self.old Open) (compact_reader_state choices number self.new) lines.new) }
         ensures refuses { IfErr result (RefusesCompactLine self.old.types (tail_held self.old.columns)
             (made_in expansion (seen_stage (open_in self.old.columns) Open) self.old.types None
             (Content line.now)) (seen_stage (open_in self.old.columns) Open) line.now) }
         ensures types { OnErr result (self.new.types ≡ self.old.types) }
+        ensures none { OnErr result (lines.new ≡ []) }
     {
         if begins_epoch(line) {
             self.columns.reset();
             self.stage = Stage::Between;
             return Err(Fault::Truncated);
         }
-        match self.columns.feed(line) {
-            Ok(None) => Ok(CompactStep::Nothing),
-            Ok(Some(epoch)) => {
+        match self.columns.feed_into(line, lines) {
+            Ok(false) => Ok(false),
+            Ok(true) => {
                 self.stage = Stage::Between;
-                Ok(CompactStep::Whole(epoch))
+                Ok(true)
             }
             Err(fault) => {
                 self.stage = Stage::Between;
@@ -180,77 +173,73 @@ impl CompactReader {
         }
     }
 
-    /// Takes the next line of the input as [`CompactReader::read`] does, with its refusals, where it is a satellite line that isn't the
-    /// last one of its epoch; else `false` comes, and nothing changes. Most lines are such lines, and the answer holds no epoch, so that
-    /// nothing large is moved from call to call.
-    pub(crate) fn read_early(&mut self, line: &[u8]) -> Result<bool, Fault>
+    /// Takes the next line of the input, once no line before it is pending: `true` says that lines are ready, which are the line itself
+    /// or those of the epoch that it completes.
+    ///
+    /// The faults are those of what the line is. `OutOfMemory` comes only at a line without a fault: a types line that counts, an
+    /// epoch's line, and a satellite's line.
+    #[inline(always)]
+    pub(crate) fn read(&mut self, line: &[u8], lines: &mut ExpandedLines) -> Result<bool, Fault>
+        requires running { is_ended self.old.stage ≡ false }
         requires short { length line.now ≤ LINE_LIMIT }
-        ensures takes { (choices : Choices) (number : ℕ) → IfOk result (λ is_taken. is_taken ≡ true
-            → TakesCompactLine (made_next self.old line.now) line.now (compact_reader_state
-            choices number self.old) (compact_reader_state choices number self.new) Nothing) }
-        ensures open { IfOk result (λ is_taken. is_taken ≡ true → self.old.stage ≡ Open) }
-        ensures refused_open { OnErr result (self.old.stage ≡ Open) }
-        ensures same { IfOk result (λ is_taken. is_taken ≡ false → self.new ≡ self.old) }
+        requires drained { lines.old ≡ [] }
+        ensures takes { (choices : Choices) (number : ℕ)
+            → IfOk result (TakesCompactLine (made_next self.old line.now) line.now (compact_reader_state
+            choices number self.old) (compact_reader_state choices number self.new) lines.new) }
         ensures refuses { IfErr result (RefusesCompactLine self.old.types (tail_held self.old.columns)
             (made_next self.old line.now) (compact_reader_phase self.old) line.now) }
         ensures types { OnErr result (self.new.types ≡ self.old.types) }
+        ensures none { OnErr result (lines.new ≡ []) }
     {
-        let Stage::Open = self.stage else {
-            return Ok(false);
-        };
-        if begins_epoch(line) {
-            return Ok(false);
+        if let Stage::Open = self.stage {
+            return self.go_on(line, lines);
         }
-        match self.columns.feed_early(line) {
-            Ok(is_taken) => Ok(is_taken),
-            Err(fault) => {
-                self.stage = Stage::Between;
-                Err(fault)
-            }
+        let is_copied = self.read_between(line)?;
+        if is_copied {
+            lines.copy(line);
         }
+        Ok(is_copied)
     }
 
-    /// Takes the next line of the input: what it is, or its first fault.
-    ///
-    /// `OutOfMemory` comes only at a line without a fault: a types line that counts, an epoch's line, and a satellite's line.
-    pub(crate) fn read(&mut self, line: &[u8]) -> Result<CompactStep, Fault>
+    /// Takes a line where no epoch is open; `true` says that it stands in RINEX as it is.
+    #[inline(never)]
+    fn read_between(&mut self, line: &[u8]) -> Result<bool, Fault>
         requires running { is_ended self.old.stage ≡ false }
+        requires between { self.old.stage ≢ Open }
         requires short { length line.now ≤ LINE_LIMIT }
         ensures takes { (choices : Choices) (number : ℕ)
-            → IfOk result (TakesCompactLine (made_next self.old line.now) line.now
-            (compact_reader_state choices number self.old) (compact_reader_state choices number self.new)) }
+            → IfOk result (TakesOtherLine (made_next self.old line.now) line.now (compact_reader_state
+            choices number self.old) (compact_reader_state choices number self.new)) }
         ensures refuses { IfErr result (RefusesCompactLine self.old.types (tail_held self.old.columns)
             (made_next self.old line.now) (compact_reader_phase self.old) line.now) }
         ensures types { OnErr result (self.new.types ≡ self.old.types) }
     {
         match self.stage {
-            Stage::FirstLines { count } => self.first_line(count, line),
-            Stage::Header { is_first } => self.header_line(is_first, line),
-            Stage::Event { left, counted } => self.record(left, counted, line),
+            Stage::FirstLines { count } => {
+                self.first_line(count, line)?;
+                Ok(false)
+            }
+            Stage::Header { is_first } => {
+                self.header_line(is_first, line)?;
+                Ok(true)
+            }
+            Stage::Event { left, counted } => {
+                self.record(left, counted, line)?;
+                Ok(true)
+            }
             Stage::Between => self.begin(line),
-            Stage::Open => self.go_on(line),
             Stage::Looking => self.look(line),
-            Stage::Closed | Stage::Ended(_) => Ok(CompactStep::Nothing),
-        }
-    }
-
-    /// Takes back an epoch that [`CompactReader::read`] gave, where there is one: its memory serves the epochs after it.
-    pub(crate) fn take_back(&mut self, epoch: Option<Epoch>)
-        ensures same { (choices : Choices) (number : ℕ)
-            → compact_reader_state choices number self.new ≡ compact_reader_state choices number self.old }
-    {
-        if let Some(epoch) = epoch {
-            self.columns.take_epoch_back(epoch);
+            Stage::Open | Stage::Closed | Stage::Ended(_) => Ok(false),
         }
     }
 
     /// Takes a line where one that begins with `>` is looked for.
-    fn look(&mut self, line: &[u8]) -> Result<CompactStep, Fault>
+    fn look(&mut self, line: &[u8]) -> Result<bool, Fault>
         requires looking { self.old.stage ≡ Looking }
         requires short { length line.now ≤ LINE_LIMIT }
         ensures takes { (choices : Choices) (number : ℕ)
-            → IfOk result (TakesCompactLine (made_next self.old line.now) line.now
-            (compact_reader_state choices number self.old) (compact_reader_state choices number self.new)) }
+            → IfOk result (TakesOtherLine (made_next self.old line.now) line.now (compact_reader_state
+            choices number self.old) (compact_reader_state choices number self.new)) }
         ensures refuses { IfErr result (RefusesCompactLine self.old.types (tail_held self.old.columns)
             (made_next self.old line.now) (compact_reader_phase self.old) line.now) }
         ensures types { OnErr result (self.new.types ≡ self.old.types) }
@@ -258,7 +247,7 @@ impl CompactReader {
         if begins_epoch(line) {
             return self.begin(line);
         }
-        Ok(CompactStep::Nothing)
+        Ok(false)
     }
 
     /// Goes to the stage after a fault or after the end of the input, where no epoch is open, and empties the columns where that is

@@ -7,22 +7,21 @@ ghost use Rattle.crx_lines.specs.Reading.{line_number, line_shown};
 ghost use Rattle.crx_lines.specs.declared.fault.At.{At};
 ghost use Rattle.crx_lines.specs.declared.limits.TheConstants.{INPUT_LIMIT, LINE_LIMIT};
 ghost use Rattle.crx_engine.specs.meaning.Choices.{Choices};
-ghost use Rattle.crx_engine.specs.CompactReaders.{answer_for, lent_for, compact_reader_state};
 ghost use Rattle.crx_engine.specs.meaning.Directions.{expansion_filter};
 ghost use Rattle.crx_engine.specs.Engines.{EngineAnswers, answer_given, Awaited, Concludes, IsAwaited};
-ghost use Rattle.crx_engine.specs.EngineSteps.{Steps, answer_of_step, step_made};
+ghost use Rattle.crx_engine.specs.EngineSteps.{Steps, step_made};
 ghost use Rattle.crx_engine.specs.LineByLine.{seen_end, seen_next};
 ghost use Rattle.crx_engine.specs.ExpansionByLine.{expansion, expansion_seen};
 ghost use Rattle.crx_lines.specs.meaning.Faults.{is_skippable};
 ghost use Rattle.crx_engine.specs.declared.stage.Stage.TheVariants.{Ended, Open};
 
-use crate::compact_reader::{CompactReader, CompactStep};
+use crate::compact_reader::CompactReader;
 use crate::engine::{Step, answer_given};
-use crate::expanded_lines::ExpandedLines;
 use crate::line_number::LineNumber;
 use crate::options::Options;
 use crate::settled::{after_end, after_fault};
 use crate::stage::Stage;
+use crx_compact::ExpandedLines;
 use crx_rinex::begins_epoch;
 use crx_text::{At, Fault, Line};
 use std::alloc::{AllocError, Global};
@@ -206,13 +205,18 @@ impl Expander {
         ensures repeated { (at : At) → self.old.reader.stage
             ≡ Ended at → answer_given result self.new.answer ≡ Err at }
     {
-        match self.reader.read_early(line) {
-            Ok(true) => {
+        let Stage::Open = self.reader.stage else {
+            self.store_any(line);
+            return false;
+        };
+        match self.reader.read(line, &mut self.lines) {
+            Ok(false) => {
                 self.number.go_on();
                 true
             }
-            Ok(false) => {
-                self.store_any(line);
+            Ok(true) => {
+                self.number.go_on();
+                self.answer = Ok(Step::Ready);
                 false
             }
             Err(fault) => {
@@ -254,7 +258,7 @@ impl Expander {
         self.answer = self.fail(Stage::Open, fault, goes_on);
     }
 
-    /// Takes the content of a line of any kind, for the lines that [`CompactReader::read_early`] doesn't take: see [`Expander::feed`].
+    /// Takes the content of a line of any kind: see [`Expander::feed`].
     fn take_any(&mut self, line: &[u8]) -> Result<Step, At>
         requires drained { self.old.lines ≡ [] }
         requires short { length line.now ≤ LINE_LIMIT }
@@ -271,10 +275,10 @@ impl Expander {
             self.number.go_on();
             return Err(at);
         }
-        match self.reader.read(line) {
-            Ok(step) => {
+        match self.reader.read(line, &mut self.lines) {
+            Ok(is_ready) => {
                 self.number.go_on();
-                Ok(make_ready(&mut self.lines, &mut self.reader, step, line))
+                Ok(if is_ready { Step::Ready } else { Step::Quiet })
             }
             Err(fault) => self.fail(stage, fault, begins_epoch(line)),
         }
@@ -296,33 +300,5 @@ impl Expander {
         self.reader.settle(settled.stage, true);
         self.number = LineNumber::of(settled.number);
         settled.answer
-    }
-}
-
-/// Makes ready what a line gives; the reader gets the epoch back that it had handed out before.
-fn make_ready(
-    lines: &mut ExpandedLines,
-    reader: &mut CompactReader,
-    step: CompactStep,
-    line: &[u8],
-) -> Step
-    requires drained { lines.old ≡ [] }
-    requires short { length line.now ≤ LINE_LIMIT }
-    ensures lent { lines.new ≡ lent_for line.now step }
-    ensures answer { answer_of_step (Ok result) ≡ answer_for step }
-    ensures same { (choices : Choices) (number : ℕ)
-        → compact_reader_state choices number reader.new ≡ compact_reader_state choices number reader.old }
-{
-    match step {
-        CompactStep::Nothing => Step::Quiet,
-        CompactStep::Copied => {
-            lines.copy(line);
-            Step::Ready
-        }
-        CompactStep::Whole(epoch) => {
-            let earlier = lines.print(epoch);
-            reader.take_back(earlier);
-            Step::Ready
-        }
     }
 }

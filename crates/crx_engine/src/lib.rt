@@ -11,7 +11,6 @@ mod compactor_engine;
 mod crinex;
 pub mod engine;
 mod event_lines;
-mod expanded_lines;
 pub mod expander;
 mod expander_engine;
 mod first_lines;

@@ -179,7 +179,7 @@ pub fn print_last_line(epoch: &Epoch, text: &mut Text)
 }
 
 /// Replaces a text by the printed epoch line, without blanks at its end.
-fn print_head(head: &EpochLine, text: &mut Text)
+pub fn print_head(head: &EpochLine, text: &mut Text)
     ensures { text.new ≡ printed_head head.now.head head.now.clock }
 {
     let mut field = [b' '; CLOCK_WIDTH];

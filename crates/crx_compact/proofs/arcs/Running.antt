@@ -1,12 +1,13 @@
 -- Running differences: their step, and their size.
 use Rattle.std.specs.Prelude.{◌≡◌, ◌≤◌, ◌<◌, refl, ℕ, zero, suc, ◌+◌, ◌-◌, ◌^◌, ℤ, pos, negsuc, ◌+ℤ◌, ◌-ℤ◌, List, []}
-use Rattle.std.specs.Prelude.{◌∷◌, ◌++◌, length, take, drop, min, slice_index_or, slice_set, Bool, true, Option, Some}
+use Rattle.std.specs.Prelude.{◌∷◌, ◌++◌, length, take, drop, min, slice_index_or, slice_get, slice_set, Bool, true, Option, Some}
 use Rattle.std.proofs.Common.{sym, ◌∙◌, ap, arith, subst, FitsSigned, w64, to_z, of_z, append_assoc, lit<, lit≤}
 use Rattle.std.proofs.Math.Nat.{pow-le-pow_right}
 use Rattle.std.proofs.lemmas.Int.{ints, to_z-of_z}
 use Rattle.std.proofs.lemmas.List.{take_more_set, drop-set-lt, length-take}
+use Rattle.std.proofs.lemmas.Option.{same_Some}
 use Rattle.std.proofs.lemmas.Grind.{common_steps}
-use Rattle.crx_compact.specs.Arcs.{IsBelow, AreBelow, value_bound, kept_tail, IsArcInRange}
+use Rattle.crx_compact.specs.Arcs.{IsBelow, AreBelow, value_bound, kept_tail, IsArcInRange, IsNewestWithin}
 use Rattle.crx_text.specs.meaning.Numbers.{IsWithin}
 use Rattle.crx_text.specs.Codes.{IsShort}
 use Rattle.crx_text.specs.declared.code.Code.TheVariants.{Step}
@@ -409,6 +410,18 @@ goes-on order (suc count) last value (d ∷ ds) e h l =
     }
 
 -- the arc after a next value in range is kept as well
+newest-after : (width : ℕ) (value : ℤ) (ds : List ℤ)
+    → IsWithin width value → IsNewestWithin width (differences_after value ds)
+newest-after width value [] h = h
+newest-after width value (d ∷ ds) h = h
+
+-- the first difference is the newest value
+pub first-within : (width count : ℕ) (ds : List ℤ) (value : ℤ) → 0 < count
+    → slice_get ds 0 ≡ Some value → IsNewestWithin width (take count ds) → IsWithin width value
+first-within width zero ds value l e h = absurd (omega (arith, l))
+first-within width (suc count) [] value l e h = absurd (cc)
+first-within width (suc count) (d ∷ ds) value l e h = subst (IsWithin width) (same_Some d value e) h
+
 pub goes-on-kept : (width order count last : ℕ) (ds ds' : List ℤ) (value : ℤ)
     → IsLast order count last → IsArcInRange width order count (take count ds) → IsWithin width value
     → take (last + 1) ds' ≡ differences_after value (take last ds)
@@ -422,6 +435,7 @@ goes-on-kept width order count last ds ds' value e k h after =
       counted = omega arith;
       below = subst P (sym after) (after-below value_bound value
           (take last ds) (within-below width value k.few_columns h) (lower-below order count last ds e k.below));
+      newest = subst (IsNewestWithin width) (sym after) (newest-after width value (take last ds) h);
     }
 
 -- an arc that has its first value alone
@@ -445,6 +459,7 @@ begun-kept width order ds value l few o h =
       order_within = o;
       counted = omega arith;
       below = (within-below width value few h, tt);
+      newest = h;
     })
 
 -- an arc that has values goes on by the number of its next code

@@ -1,18 +1,20 @@
 -- The cells of a line, read from left to right.
-use Rattle.std.specs.Prelude.{◌≡◌, ◌≤◌, ◌<◌, refl, ℕ, suc, zero, ◌+◌, ◌-◌, ℤ, List, [], ◌∷◌, ◌++◌, length, map, take}
-use Rattle.std.specs.Prelude.{drop, replicate, slice_index_or, slice_set, Option, Some, None, Result, Ok, Err}
-use Rattle.std.proofs.Common.{sym, ◌∙◌, ap, arith, length-append}
-use Rattle.std.proofs.lemmas.List.{append-nil, drop-drop, length-drop, length-replicate, length-set, take_more_set, map-append}
-use Rattle.std.proofs.Math.ListN.{drop_of_length-le}
+use Rattle.std.specs.Prelude.{◌≡◌, ◌≤◌, ◌<◌, refl, ℕ, suc, ◌+◌, ◌-◌, ℤ, List, [], ◌∷◌, ◌++◌, length, map, take}
+use Rattle.std.specs.Prelude.{drop, slice_index_or, slice_set, Bool, true, false, Option, Some, None, Result, Ok, Err, if◌then◌else◌}
+use Rattle.std.proofs.Common.{sym, ◌∙◌, ap, arith, length-append, true≢false}
+use Rattle.std.proofs.lemmas.List.{drop-drop, length-drop, length-set, take_more_set, map-append}
 use Rattle.crx_text.specs.meaning.Codes.{code_of, first_cell, after_cell}
 use Rattle.crx_text.specs.declared.code.Code.{Code}
 use Rattle.crx_lines.specs.declared.fault.Fault.{Fault}
-use Rattle.crx_lines.specs.declared.fault.Fault.TheVariants.{BadField}
-use Rattle.crx_rinex.specs.meaning.Observations.{Row}
+use Rattle.crx_lines.specs.declared.fault.Fault.TheVariants.{BadField, OutOfRange}
 use Rattle.crx_compact.specs.meaning.Sequences.{and_then, before_all}
 use Rattle.crx_compact.specs.meaning.CompactPlaces.{ReadCell, cell_read, cells_read, cells_of, after_cells}
 use Rattle.crx_compact.specs.Tails.{ArcTail}
-use Rattle.crx_compact.specs.Steps.{arc_of_code}
+use Rattle.crx_compact.specs.Steps.{arc_after_number, arc_of_code, value_of_code, value_of_tail}
+use Rattle.crx_compact.specs.ShownRows.{shown_value}
+use Rattle.crx_compact.specs.meaning.Expansion.{in_range, is_within}
+use Rattle.crx_text.specs.declared.code.Code.TheVariants.{Missing, Start, Step}
+use Rattle.crx_lines.specs.declared.limits.TheConstants.{OBSERVATION_WIDTH}
 use Rattle.crx_compact.specs.Cells.{value_at_place, arcs_of_codes, CellsAreRead, IsCellRead}
 
 -- some cells before those of a good result
@@ -68,19 +70,30 @@ length-map : {X Y : Type 0} (f : X → Y) (xs : List X) → length (map f xs) �
 length-map f [] = refl
 length-map f (x ∷ xs) = ap suc (length-map f xs)
 
--- the values from a place on
-from-next : (k : ℕ) (xs : List (Option ℤ)) → k < length xs → drop k xs ≡ slice_index_or xs k None ∷ drop (k + 1) xs
-from-next k [] h = absurd (omega (arith, h))
-from-next zero (x ∷ xs) h = refl
-from-next (suc k) (x ∷ xs) h =
-    let next : suc k + 1 ≡ suc (k + 1) = omega arith in
-    from-next k xs (omega (arith, h))
-    ∙ ap {B = List (Option ℤ)} (λ n. slice_index_or xs k None ∷ drop n (x ∷ xs)) (sym next)
+-- the value that a code gives is the one that the arc after it shows
+abbrev ok-value : Result (Option ℤ) Fault → Option ℤ
+ok-value (Ok value) = value
+ok-value (Err fault) = None
 
--- the next of some values
-set-next : (xs ys : List (Option ℤ)) (d v : Option ℤ) → slice_set (xs ++ d ∷ ys) (length xs) v ≡ (xs ++ v ∷ []) ++ ys
-set-next [] ys d v = refl
-set-next (x ∷ xs) ys d v = ap {B = List (Option ℤ)} (λ r. x ∷ r) (set-next xs ys d v)
+abbrev is-ok-value : Result (Option ℤ) Fault → Bool
+is-ok-value (Ok value) = true
+is-ok-value (Err fault) = false
+
+in-columns : (width : ℕ) (number : ℤ) (value : Option ℤ) → in_range width number ≡ Ok value → Some number ≡ value
+in-columns width number value e = by_range (is_within width number) refl
+  where
+    by_range : (b : Bool) → is_within width number ≡ b → Some number ≡ value
+    by_range true is = ap ok-value (sym (ap {B = Result (Option ℤ) Fault}
+        (λ c. if c then Ok (Some number) else Err OutOfRange) is) ∙ e)
+    by_range false is = absurd (true≢false (sym (ap is-ok-value (sym (ap {B = Result (Option ℤ) Fault}
+        (λ c. if c then Ok (Some number) else Err OutOfRange) is) ∙ e))))
+
+pub shown-code : (width : ℕ) (code : Code) (arc : Option ArcTail) (value : Option ℤ)
+    → value_of_code width code arc ≡ Ok value → shown_value (arc_of_code code arc) ≡ value
+shown-code width Missing arc value e = ap ok-value e
+shown-code width (Start order number) arc value e = in-columns width number value e
+shown-code width (Step number) None value e = absurd (true≢false (sym (ap is-ok-value e)))
+shown-code width (Step number) (Some arc) value e = in-columns width (value_of_tail (arc_after_number number arc)) value e
 
 abbrev codes_in : List ReadCell → List Code
 codes_in cells = map (λ (c : ReadCell). c.code) cells
@@ -90,7 +103,7 @@ values_in cells = map (λ (c : ReadCell). c.value) cells
 
 -- the cells up to a place are read
 pub record ReadSoFar (before : List (Option ArcTail))
-    (count : ℕ) (line : List ℕ) (k at : ℕ) (arcs : List (Option ArcTail)) (old new : Row) : Type 0 where
+    (count : ℕ) (line : List ℕ) (k at : ℕ) (arcs : List (Option ArcTail)) : Type 0 where
   pub cells : List ReadCell
   pub counted : length cells ≡ k
   pub so_far : cells_read (value_at_place before) (cells_of count line)
@@ -98,18 +111,17 @@ pub record ReadSoFar (before : List (Option ArcTail))
   pub marks : after_cells count line ≡ after_cells (count - k) (drop at line)
   pub within : at ≤ length line
   pub left : arcs ≡ arcs_of_codes before (map (λ (c : ReadCell). c.code) cells)
-  pub sized : length old.values ≡ count
-  pub shown : new ≡ record old { values = map (λ (c : ReadCell). c.value) cells ++ drop k old.values }
+  pub shown : map shown_value arcs ≡ map (λ (c : ReadCell). c.value) cells
 
 -- what stands at a place: the text of its cell, and the rest
 at-next : (before : List (Option ArcTail)) (count : ℕ) (line : List ℕ)
-    (k at : ℕ) (arcs : List (Option ArcTail)) (old new : Row) (s : ReadSoFar before count line k at arcs old new)
+    (k at : ℕ) (arcs : List (Option ArcTail)) (s : ReadSoFar before count line k at arcs)
     → k < count → (code : Option Code) → code_of (first_cell (drop at line)) ≡ code
     → cells_read (value_at_place before) (cells_of count line)
     ≡ onto s.cells (and_then (cell_read BadField (value_at_place before k) code) (λ cell.
     before_all cell (cells_read (λ p. value_at_place before (k + 1 + p))
     (cells_of (count - (k + 1)) (after_cell (drop at line))))))
-at-next before count line k at arcs old new s h code e =
+at-next before count line k at arcs s h code e =
     let n : ℕ = count - (k + 1) in
     let more : count - k ≡ suc n = omega arith in
     let here : k + 0 ≡ k = omega arith in
@@ -127,26 +139,25 @@ at-next before count line k at arcs old new s h code e =
 
 -- a fault of the next cell is that of them all
 pub read-refused : (before : List (Option ArcTail))
-    (count : ℕ) (line : List ℕ) (k at : ℕ) (arcs : List (Option ArcTail)) (old new : Row) (fault : Fault)
-    → ReadSoFar before count line k at arcs old new
+    (count : ℕ) (line : List ℕ) (k at : ℕ) (arcs : List (Option ArcTail)) (fault : Fault)
+    → ReadSoFar before count line k at arcs
     → k < count → cell_read BadField (value_at_place before k) (code_of (first_cell (drop at line))) ≡ Err fault
     → cells_read (value_at_place before) (cells_of count line) ≡ Err fault
-read-refused before count line k at arcs old new fault s h e =
+read-refused before count line k at arcs fault s h e =
     let rest : Result (List ReadCell) Fault =
     cells_read (λ p. value_at_place before (k + 1 + p)) (cells_of (count - (k + 1)) (after_cell (drop at line))) in
-    at-next before count line k at arcs old new s h (code_of (first_cell (drop at line))) refl
+    at-next before count line k at arcs s h (code_of (first_cell (drop at line))) refl
     ∙ ap (λ (r : Result ReadCell Fault). onto s.cells (and_then r (λ cell. before_all cell rest))) e
     ∙ onto-err s.cells fault
 
 pub read-more : (before : List (Option ArcTail)) (count : ℕ) (line : List ℕ) (k at at' : ℕ)
-    (arcs arcs' : List (Option ArcTail)) (old new new' : Row) (code : Code) (value : Option ℤ) (arc : Option ArcTail)
-    → ReadSoFar before count line k at arcs old new
+    (arcs arcs' : List (Option ArcTail)) (code : Code) (value : Option ℤ) (arc : Option ArcTail)
+    → ReadSoFar before count line k at arcs
     → k < count → code_of (first_cell (drop at line)) ≡ Some code → value_at_place before k code ≡ Ok value
     → after_cell (drop at line) ≡ drop at' line → at' ≤ length line
     → arc ≡ arc_of_code code (slice_index_or before k None)
-    → arcs' ≡ arcs ++ arc ∷ [] → new' ≡ record new { values = slice_set new.values k value }
-    → ReadSoFar before count line (k + 1) at' arcs' old new'
-read-more before count line k at at' arcs arcs' old new new' code value arc s h e v t w a l r =
+    → arcs' ≡ arcs ++ arc ∷ [] → ReadSoFar before count line (k + 1) at' arcs'
+read-more before count line k at at' arcs arcs' code value arc s h e v t w a l =
     let n : ℕ = count - (k + 1) in
     let c : ReadCell = record { code = code; value = value } in
     let more : count - k ≡ suc n = omega arith in
@@ -156,7 +167,7 @@ read-more before count line k at at' arcs arcs' old new new' code value arc s h 
       cells = s.cells ++ c ∷ [];
       counted = let count' : length s.cells ≡ k = s.counted in omega (arith, length-append s.cells (c ∷ []), count');
       so_far =
-          at-next before count line k at arcs old new s h (Some code) e
+          at-next before count line k at arcs s h (Some code) e
           ∙ ap (λ (q : Result (Option ℤ) Fault). onto s.cells
           (and_then (and_then q (λ x. Ok (record { code = code; value = x }))) (λ cell. before_all cell rest))) v
           ∙ sym (onto-more s.cells c rest)
@@ -172,46 +183,36 @@ read-more before count line k at at' arcs arcs' old new new' code value arc s h 
           ∙ sym (arcs-more before (codes_in s.cells) code)
           ∙ ap (arcs_of_codes before) (sym (map-append (λ (q : ReadCell). q.code) s.cells (c ∷ [])));
       shown =
-          r ∙ ap {B = Row} (λ (q : Row). record q { values = slice_set q.values k value }) s.shown
-          ∙ ap {B = Row} (λ vs. record old { values = slice_set (values_in s.cells ++ vs) k value })
-          (from-next k old.values (let sized = s.sized in omega (arith, h, sized)))
-          ∙ ap {B = Row} (λ m. record old {
-            values = slice_set
-                (values_in s.cells ++ slice_index_or old.values k None ∷ drop (k + 1) old.values) m value;
-          })
-          (sym s.counted ∙ sym (length-map (λ (q : ReadCell). q.value) s.cells))
-          ∙ ap {B = Row} (λ vs. record old { values = vs })
-          (set-next (values_in s.cells) (drop (k + 1) old.values) (slice_index_or old.values k None) value)
-          ∙ ap {B = Row} (λ vs. record old { values = vs ++ drop (k + 1) old.values })
-          (sym (map-append (λ (q : ReadCell). q.value) s.cells (c ∷ [])));
-      sized = s.sized;
+          ap (map shown_value) l ∙ map-append shown_value arcs (arc ∷ [])
+          ∙ ap (λ vs. vs ++ shown_value arc ∷ []) s.shown
+          ∙ ap {B = List (Option ℤ)} (λ x. values_in s.cells ++ x ∷ []) (ap shown_value a
+          ∙ shown-code OBSERVATION_WIDTH code (slice_index_or before k None) value v)
+          ∙ sym (map-append (λ (q : ReadCell). q.value) s.cells (c ∷ []));
     }
 
 -- the next cell, with its arc in its place among others
 pub read-cell : (before : List (Option ArcTail)) (count : ℕ) (line : List ℕ)
-    (k at at' : ℕ) (arcs arcs' made : List (Option ArcTail)) (old new new' : Row) (value : Option ℤ) (taken : ℕ)
-    → ReadSoFar before count line k at (take k arcs) old new → k < count → length arcs ≡ count
-    → IsCellRead before k (drop at line) arcs made value taken
-    → arcs' ≡ made → at' ≡ at + taken → new' ≡ record new { values = slice_set new.values k value }
-    → ReadSoFar before count line (k + 1) at' (take (k + 1) arcs') old new' × (length arcs' ≡ count)
-read-cell before count line k at at' arcs arcs' made old new new' value taken s h counted read made_is at_is r =
+    (k at at' : ℕ) (arcs arcs' made : List (Option ArcTail)) (taken : ℕ)
+    → ReadSoFar before count line k at (take k arcs) → k < count → length arcs ≡ count
+    → IsCellRead before k (drop at line) arcs made taken
+    → arcs' ≡ made → at' ≡ at + taken
+    → ReadSoFar before count line (k + 1) at' (take (k + 1) arcs') × (length arcs' ≡ count)
+read-cell before count line k at at' arcs arcs' made taken s h counted read made_is at_is =
     let arc : Option ArcTail = arc_of_code read.code (slice_index_or before k None) in
     let within : taken ≤ length (drop at line) = read.within in
     let here : at ≤ length line = s.within in
     let left : arcs' ≡ slice_set arcs k arc = made_is ∙ read.left in (
       read-more before count line k at at'
-          (take k arcs) (take (k + 1) arcs') old new new' read.code value arc s h read.formed read.given
+          (take k arcs) (take (k + 1) arcs') read.code read.value arc s h read.formed read.given
           (sym read.after ∙ drop-drop taken at line ∙ ap (λ n. drop n line) (sym at_is))
           (omega (arith, within, here, at_is, length-drop at line))
           refl
-          (ap (take (k + 1)) left ∙ take_more_set arcs k arc (omega (arith, counted, h)))
-          r,
+          (ap (take (k + 1)) left ∙ take_more_set arcs k arc (omega (arith, counted, h))),
       ap length left ∙ length-set arcs k arc ∙ counted,
     )
 
-pub read-none : (before : List (Option ArcTail)) (count : ℕ) (line : List ℕ) (row : Row)
-    → length row.values ≡ count → ReadSoFar before count line 0 0 [] row row
-read-none before count line row e =
+pub read-none : (before : List (Option ArcTail)) (count : ℕ) (line : List ℕ) → ReadSoFar before count line 0 0 []
+read-none before count line =
     let all : count - 0 ≡ count = omega arith in
     record {
       cells = [];
@@ -223,14 +224,13 @@ read-none before count line row e =
       marks = ap (λ m. after_cells m line) (sym all);
       within = omega arith;
       left = refl;
-      sized = e;
       shown = refl;
     }
 
 pub read-all : (before : List (Option ArcTail)) (count : ℕ) (line : List ℕ)
-    (k at : ℕ) (arcs : List (Option ArcTail)) (old new : Row) → ReadSoFar before count line k at arcs old new
-    → k ≡ count → CellsAreRead before count line arcs old new at
-read-all before count line k at arcs old new s e =
+    (k at : ℕ) (arcs : List (Option ArcTail)) → ReadSoFar before count line k at arcs
+    → k ≡ count → CellsAreRead before count line arcs at
+read-all before count line k at arcs s e =
     let none : count - k ≡ 0 = omega arith in
     record {
       cells = s.cells;
@@ -239,22 +239,16 @@ read-all before count line k at arcs old new s e =
       marks = s.marks ∙ ap (λ m. after_cells m (drop at line)) none;
       within = s.within;
       left = s.left;
-      shown = s.shown ∙ ap {B = Row} (λ vs. record old { values = values_in s.cells ++ vs })
-          (drop_of_length-le old.values (let sized = s.sized in omega (arith, sized, e)))
-          ∙ ap {B = Row} (λ vs. record old { values = vs }) (append-nil (values_in s.cells));
+      shown = s.shown;
     }
 
--- the cells up to a place are read, whatever is kept of them
+-- the cells up to a place are read, whatever arcs they leave
 pub record AreReadTo (before : List (Option ArcTail)) (count : ℕ) (line : List ℕ) (k at : ℕ) : Type 0 where
   pub arcs : List (Option ArcTail)
-  pub old : Row
-  pub new : Row
-  pub so_far : ReadSoFar before count line k at arcs old new
+  pub so_far : ReadSoFar before count line k at arcs
 
 pub to-none : (before : List (Option ArcTail)) (count : ℕ) (line : List ℕ) → AreReadTo before count line 0 0
-to-none before count line =
-    let row : Row = record { name = []; values = replicate count None; flags = [] } in
-    record { arcs = []; old = row; new = row; so_far = read-none before count line row (length-replicate count None) }
+to-none before count line = record { arcs = []; so_far = read-none before count line }
 
 pub to-more : (before : List (Option ArcTail)) (count : ℕ) (line : List ℕ) (k at at' : ℕ) (code : Code) (value : Option ℤ)
     → AreReadTo before count line k at → k < count → code_of (first_cell (drop at line)) ≡ Some code
@@ -264,10 +258,7 @@ to-more before count line k at at' code value r h e v t w =
     let arc : Option ArcTail = arc_of_code code (slice_index_or before k None) in
     record {
       arcs = r.arcs ++ arc ∷ [];
-      old = r.old;
-      new = record r.new { values = slice_set r.new.values k value };
-      so_far = read-more before count line k at at' r.arcs (r.arcs ++ arc ∷ []) r.old r.new
-          (record r.new { values = slice_set r.new.values k value }) code value arc r.so_far h e v t w refl refl refl;
+      so_far = read-more before count line k at at' r.arcs (r.arcs ++ arc ∷ []) code value arc r.so_far h e v t w refl refl;
     }
 
 -- ---- a line from a place on

@@ -1,11 +1,12 @@
 -- The marks of a satellite line, and the row that its cells and marks make.
-use Rattle.std.specs.Prelude.{◌≡◌, refl, ℕ, suc, ◌+◌, ◌-◌, ◌*◌, ◌<◌, ◌≤◌, Bool, true, false, List, [], ◌∷◌, ◌++◌}
-use Rattle.std.specs.Prelude.{length, map, take, drop, replicate, slice_index_or, Option, None, Some, Result, Ok, Err}
-use Rattle.std.specs.Prelude.{IfOk, IfErr, OnOk, if◌then◌else◌}
+use Rattle.std.specs.Prelude.{◌≡◌, refl, ℕ, suc, ◌+◌, ◌-◌, ◌*◌, Bool, true, false, List, [], ◌∷◌, ◌++◌}
+use Rattle.std.specs.Prelude.{ℤ, length, map, take, drop, replicate, slice_index_or, Option, None, Some, Result, Ok, Err}
+use Rattle.std.specs.Prelude.{IfOk, IfErr, OnErr, OnOk, if◌then◌else◌}
 use Rattle.std.specs.List.{list_all}
 use Rattle.std.proofs.Common.{sym, ◌∙◌, ap, arith, inl, inr, ◌⊎◌}
-use Rattle.std.proofs.lemmas.List.{length-drop, length-map, take_all}
-use Rattle.crx_text.specs.meaning.Columns.{columns, is_blank}
+use Rattle.std.specs.Prelude.{◌==◌}
+use Rattle.std.proofs.lemmas.List.{length-drop, length-map}
+use Rattle.crx_text.specs.meaning.Columns.{columns, is_blank, without_end_blanks}
 use Rattle.crx_text.specs.meaning.Texts.{by_position, is_printable, is_kept}
 use Rattle.crx_text.specs.Texts.{character_of, patched}
 use Rattle.crx_text.specs.declared.code.Code.{Code}
@@ -13,31 +14,30 @@ use Rattle.crx_text.specs.declared.code.Code.TheVariants.{Missing}
 use Rattle.crx_lines.specs.declared.limits.TheConstants.{OBSERVATION_WIDTH}
 use Rattle.crx_lines.specs.declared.fault.Fault.{Fault}
 use Rattle.crx_lines.specs.declared.fault.Fault.TheVariants.{BadFlags, OutOfMemory, Truncated}
-use Rattle.crx_rinex.specs.meaning.Observations.{Row}
-use Rattle.crx_rinex.specs.SatelliteLines.{with_flags}
 use Rattle.std.proofs.Math.Path.{fun_ext}
-use Rattle.crx_text.proofs.Blanks.{columns_are}
 use Rattle.crx_rinex.specs.meaning.EachPlace.{each_place}
 use Rattle.crx_compact.specs.meaning.Sequences.{and_then}
 use Rattle.crx_rinex.specs.meaning.EpochLines.{begins_epoch}
 use Rattle.crx_compact.specs.meaning.EpochText.{Satellite}
-use Rattle.crx_compact.specs.meaning.CompactPlaces.{ReadCell, are_marks, after_cells, cells_of, cells_read}
+use Rattle.crx_compact.specs.meaning.CompactPlaces.{ReadCell, ReadRow, satellite_line_read, are_marks, after_cells, cells_of, cells_read}
 use Rattle.crx_compact.specs.meaning.CompactPlaces.{row_of_cells, row_of_line, row_with_marks}
 use Rattle.crx_compact.specs.meaning.Past.{Past}
 use Rattle.crx_compact.specs.Tails.{ArcTail, RowTail, Tail}
 use Rattle.crx_compact.specs.Steps.{arc_of_code, cell_of_tail, flags_held, flags_of_tail, tail_named, value_of_code}
 use Rattle.crx_compact.proofs.reading.CellsRead.{cells-same}
+use Rattle.crx_compact.specs.ShownRows.{shown_row, shown_value}
 use Rattle.crx_compact.specs.OpenEpochs.{HeldRow, held_row, past_of_tail}
-use Rattle.crx_compact.specs.Cells.{arcs_of_codes, value_at_place, CellsAreRead}
+use Rattle.crx_compact.specs.Cells.{value_at_place, CellsAreRead}
 use Rattle.crx_compact.specs.HeldRows.{arcs_of_tail, held_from, past_of_row, row_after, row_held, row_held_from}
 use Rattle.crx_compact.specs.HeldRows.{IsNextRow}
+use Rattle.crx_compact.specs.Cells.{arcs_of_codes}
+use Rattle.crx_compact.proofs.soundness.SoundTexts.{held-columns, patched-trimmed}
 use Rattle.crx_compact.proofs.wayback.Facts.{list_all-at}
 use Rattle.crx_compact.proofs.soundness.Soundness.{cells-count, texts-count}
-use Rattle.crx_compact.proofs.wayback.Overlays.{at-by_position, same_characters}
+use Rattle.crx_compact.proofs.wayback.Overlays.{at-by_position}
 use Rattle.crx_rinex.proofs.Characters.{at, at-without_end_blanks, columns-are, list_all-from_at}
 use Rattle.crx_rinex.proofs.SoundEpochs.{length-columns}
-use Rattle.crx_compact.proofs.wayback.Cuts.{at-padded, at-take, at-take_past, within-or_past}
-use Rattle.crx_compact.proofs.soundness.SoundTexts.{length-held}
+use Rattle.crx_compact.proofs.wayback.Cuts.{at-padded, at-take}
 use Rattle.std.proofs.Math.Seq.{drop-nil}
 
 -- ---- the characters of patched indicators
@@ -54,13 +54,6 @@ patched-kept old marks h k =
     ∙ patched-character (at old p)
     (at marks p) (list_all-at is_kept refl old h p) (list_all-at is_printable refl marks k p))
 
-pub flags-set : (row : Row) (flags : List ℕ) (count : ℕ) → length row.values ≡ count
-    → with_flags row (take (2 * count) flags) ≡ record row { flags = columns flags 1 (2 * count) }
-flags-set row flags count e =
-    ap {B = Row}
-    (λ n. record row { flags = take (2 * count) flags ++ replicate (2 * n - length (take (2 * count) flags)) 32 }) e
-    ∙ ap {B = Row} (λ fs. record row { flags = fs }) (sym (columns_are flags 1 (2 * count)))
-
 -- ---- no marks
 
 pub no_marks : (count : ℕ) → are_marks count [] ≡ true
@@ -70,36 +63,30 @@ at-unmarked : (flags : List ℕ) (p : ℕ) → at (patched flags []) p ≡ at fl
 at-unmarked flags p = at-without_end_blanks (by_position character_of flags []) p
     ∙ at-by_position character_of refl flags [] p
 
--- what is held of indicators that no marks change
-pub held-left : (count : ℕ) (flags : List ℕ) → flags_held count flags ≡ flags_held count (patched flags [])
-held-left count flags = same_characters
-    (take (2 * count) flags) (take (2 * count) (patched flags [])) (λ p. cut p (within-or_past (2 * count) p))
-  where
-    cut : (p : ℕ) → (p < 2 * count) ⊎ (2 * count ≤ p)
-        → at (take (2 * count) flags) p ≡ at (take (2 * count) (patched flags [])) p
-    cut p (inl h) = at-take (2 * count) flags p h
-        ∙ sym (at-take (2 * count) (patched flags []) p h ∙ at-unmarked flags p)
-    cut p (inr h) = at-take_past (2 * count) flags p h ∙ sym (at-take_past (2 * count) (patched flags []) p h)
+pub none-there : (marks : List ℕ) → true ≡ (length marks == 0) → marks ≡ []
+none-there [] e = refl
+none-there (m ∷ marks) e = absurd (grind (arith, e))
 
-columns-left : (count : ℕ) (flags : List ℕ)
-    → columns (flags_held count flags) 1 (2 * count) ≡ columns (patched flags []) 1 (2 * count)
+-- the columns of indicators that no marks change
+pub columns-left : (count : ℕ) (flags : List ℕ) → columns flags 1 (2 * count) ≡ columns (patched flags []) 1 (2 * count)
 columns-left count flags =
-    columns-are (flags_held count flags) 1 (2 * count)
+    columns-are flags 1 (2 * count)
     (columns (patched flags []) 1 (2 * count)) (length-columns (patched flags []) 1 (2 * count)) (λ p less.
+    let place : 1 - 1 + p ≡ p = omega arith in
+    ap (at flags) place
+    ∙ sym (at-take (2 * count) (patched flags [] ++ replicate (2 * count) 32) p less
+    ∙ at-padded (2 * count) (patched flags []) p ∙ at-unmarked flags p))
+
+-- the columns of indicators show what is held of them
+columns-held : (count : ℕ) (flags : List ℕ) → columns (flags_held count flags) 1 (2 * count) ≡ columns flags 1 (2 * count)
+columns-held count flags =
+    columns-are (flags_held count flags) 1 (2 * count)
+    (columns flags 1 (2 * count)) (length-columns flags 1 (2 * count)) (λ p less.
     let place : 1 - 1 + p ≡ p = omega arith in
     ap (at (flags_held count flags)) place
     ∙ at-without_end_blanks (take (2 * count) flags) p
     ∙ at-take (2 * count) flags p less
-    ∙ sym (at-take (2 * count) (patched flags [] ++ replicate (2 * count) 32) p less
-    ∙ at-padded (2 * count) (patched flags []) p ∙ at-unmarked flags p))
-
--- the row that they are put into
-pub flags-left : (row : Row) (flags : List ℕ) (count : ℕ) → length row.values ≡ count
-    → with_flags row (flags_held count flags) ≡ record row { flags = columns (patched flags []) 1 (2 * count) }
-flags-left row flags count e =
-    ap (with_flags row) (sym (take_all (2 * count) (flags_held count flags) (length-held count flags)))
-    ∙ flags-set row (flags_held count flags) count e
-    ∙ ap {B = Row} (λ fs. record row { flags = fs }) (columns-left count flags)
+    ∙ sym (at-take (2 * count) (flags ++ replicate (2 * count) 32) p less ∙ at-padded (2 * count) flags p))
 
 -- ---- a satellite's line
 
@@ -139,98 +126,77 @@ line-marks arcs flags satellite line at cells b h good marks e =
     (drop at line) cells) else Err BadFlags) (λ read. Ok (held_from arcs flags read))) e
 
 pub line-bad_marks : (arcs : List (Option ArcTail))
-    (flags : List ℕ) (satellite : Satellite) (line : List ℕ) (left : List (Option ArcTail)) (old new : Row) (at : ℕ)
+    (flags : List ℕ) (satellite : Satellite) (line : List ℕ) (left : List (Option ArcTail)) (at : ℕ)
     → begins_epoch line ≡ false
-    → CellsAreRead arcs satellite.count line left old new at → are_marks satellite.count (drop at line) ≡ false
+    → CellsAreRead arcs satellite.count line left at → are_marks satellite.count (drop at line) ≡ false
     → row_held_from arcs flags satellite line ≡ Err BadFlags
-line-bad_marks arcs flags satellite line left old new at h read e =
+line-bad_marks arcs flags satellite line left at h read e =
     line-marks arcs flags satellite line at read.cells false h read.good read.marks e
 
 length-values : (cells : List ReadCell) → length (map (λ (c : ReadCell). c.value) cells) ≡ length cells
 length-values [] = refl
 length-values (c ∷ cs) = ap suc (length-values cs)
 
-pub still-counted : (arcs : List (Option ArcTail)) (count : ℕ) (line : List ℕ)
-    (left : List (Option ArcTail)) (old new : Row) (at : ℕ) → CellsAreRead arcs count line left old new at
-    → length new.values ≡ count
-still-counted arcs count line left old new at read =
-    ap (λ (q : Row). length q.values) read.shown ∙ length-values read.cells
-    ∙ cells-count (value_at_place arcs) (cells_of count line) read.cells read.good ∙ texts-count count line
+cells-many : (arcs : List (Option ArcTail)) (count : ℕ) (line : List ℕ) (left : List (Option ArcTail)) (at : ℕ)
+    → (read : CellsAreRead arcs count line left at) → length read.cells ≡ count
+cells-many arcs count line left at read =
+    cells-count (value_at_place arcs) (cells_of count line) read.cells read.good ∙ texts-count count line
 
-line-read : (arcs : List (Option ArcTail))
-    (flags : List ℕ) (satellite : Satellite) (line : List ℕ) (left : List (Option ArcTail)) (old new row : Row) (at : ℕ)
-    → begins_epoch line ≡ false → old.name ≡ satellite.name
-    → CellsAreRead arcs satellite.count line left old new at → are_marks satellite.count (drop at line) ≡ true
-    → row ≡ record new { flags = columns (patched flags (drop at line)) 1 (2 * satellite.count) }
-    → row_held_from arcs flags satellite line ≡ Ok (record {
-      row = row;
-      tail = record {
-        name = satellite.name;
-        flags = flags_held satellite.count (patched flags (drop at line));
-        cells = left;
-      };
-    })
-line-read arcs flags satellite line left old new row at h name read e r =
-    let text : List ℕ = patched flags (drop at line) in
-    let codes : List Code = map (λ (c : ReadCell). c.code) read.cells in
-    let count : length read.cells ≡ satellite.count = sym (length-values read.cells) ∙ sym
-    (ap (λ (q : Row). length q.values) read.shown) ∙ still-counted arcs satellite.count line left old new at read in
-    let shown : row ≡ record {
-      name = satellite.name;
-      values = map (λ (c : ReadCell). c.value) read.cells;
-      flags = columns text 1 (2 * length read.cells);
-    } =
-    r ∙ ap {B = Row} (λ (q : Row). record q { flags = columns text 1 (2 * satellite.count) }) read.shown
-    ∙ ap {B = Row} (λ n. record {
-      name = n;
-      values = map (λ (c : ReadCell). c.value) read.cells;
-      flags = columns text 1 (2 * satellite.count);
-    }) name
-    ∙ ap {B = Row} (λ n. record {
-      name = satellite.name;
-      values = map (λ (c : ReadCell). c.value) read.cells;
-      flags = columns text 1 (2 * n);
-    }) (sym count) in
-    line-marks arcs flags satellite line at read.cells true h read.good read.marks e
-    ∙ ap {B = Result HeldRow Fault} (λ (q : Row). Ok (record {
-      row = q;
-      tail = record {
-        name = satellite.name;
-        flags = flags_held (length codes) text;
-        cells = arcs_of_codes arcs codes;
-      };
-    })) (sym shown)
-    ∙ ap {B = Result HeldRow Fault} (λ n. Ok (record {
-      row = row;
-      tail = record { name = satellite.name; flags = flags_held n text; cells = arcs_of_codes arcs codes };
-    }))
-    (length-map read.cells (λ (c : ReadCell). c.code) ∙ count)
-    ∙ ap {B = Result HeldRow Fault} (λ (cs : List (Option ArcTail)). Ok (record {
-      row = row;
-      tail = record { name = satellite.name; flags = flags_held satellite.count text; cells = cs };
-    })) (sym read.left)
-
--- the same, where the name, the indicators and the row that are held are shown equal
+-- a line that was read leaves arcs and indicators that show its row
 pub line-held : (arcs : List (Option ArcTail)) (flags : List ℕ) (satellite : Satellite)
-    (line : List ℕ) (left : List (Option ArcTail)) (old new row : Row) (at : ℕ) (name text : List ℕ)
-    → begins_epoch line ≡ false → old.name ≡ satellite.name
-    → CellsAreRead arcs satellite.count line left old new at → are_marks satellite.count (drop at line) ≡ true
-    → row ≡ record new { flags = columns (patched flags (drop at line)) 1 (2 * satellite.count) }
-    → name ≡ satellite.name → text ≡ flags_held satellite.count (patched flags (drop at line))
-    → row_held_from arcs flags satellite line
-    ≡ Ok (record { row = row; tail = record { name = name; flags = text; cells = left } })
-line-held arcs flags satellite line left old new row at name text h n read e r same t =
-    line-read arcs flags satellite line left old new row at h n read e r
-    ∙ ap {B = Result HeldRow Fault} (λ m. Ok (record {
-      row = row;
-      tail = record {
-        name = m;
-        flags = flags_held satellite.count (patched flags (drop at line));
-        cells = left;
+    (line : List ℕ) (left : List (Option ArcTail)) (at : ℕ) (name held : List ℕ)
+    → begins_epoch line ≡ false
+    → CellsAreRead arcs satellite.count line left at → are_marks satellite.count (drop at line) ≡ true
+    → name ≡ satellite.name → held ≡ columns (patched flags (drop at line)) 1 (2 * satellite.count)
+    → row_held_from arcs flags satellite line ≡ Ok (record {
+      row = shown_row (record { name = name; flags = without_end_blanks held; cells = left });
+      tail = record { name = name; flags = without_end_blanks held; cells = left };
+    })
+line-held arcs flags satellite line left at name held h read e same columned =
+    let text : List ℕ = without_end_blanks held in
+    let t : text ≡ flags_held satellite.count (patched flags (drop at line)) =
+    ap without_end_blanks columned ∙ held-columns satellite.count (patched flags (drop at line)) in
+    let marked : List ℕ = patched flags (drop at line) in
+    let codes : List Code = map (λ (c : ReadCell). c.code) read.cells in
+    let count : length read.cells ≡ satellite.count = cells-many arcs satellite.count line left at read in
+    let many : length left ≡ satellite.count =
+    sym (length-map left shown_value) ∙ ap length read.shown ∙ length-values read.cells ∙ count in
+    let kept : text ≡ flags_held (length codes) marked =
+    t ∙ ap (λ n. flags_held n marked) (sym (length-map read.cells (λ (c : ReadCell). c.code) ∙ count)) in
+    let shown : columns text 1 (2 * length left) ≡ columns marked 1 (2 * length read.cells) =
+    ap (λ n. columns text 1 (2 * n)) many ∙ ap (λ (q : List ℕ). columns q 1 (2 * satellite.count)) t
+    ∙ columns-held satellite.count marked ∙ ap (λ n. columns marked 1 (2 * n)) (sym count) in
+    line-marks arcs flags satellite line at read.cells true h read.good read.marks e
+    ∙ sym (
+    ap {B = Result HeldRow Fault} (λ (n : List ℕ). Ok (record {
+      row = record { name = n; values = map shown_value left; flags = columns text 1 (2 * length left) };
+      tail = record { name = n; flags = text; cells = left };
+    })) same
+    ∙ ap {B = Result HeldRow Fault} (λ (fs : List ℕ). Ok (record {
+      row = record { name = satellite.name; values = map shown_value left; flags = fs };
+      tail = record { name = satellite.name; flags = text; cells = left };
+    })) shown
+    ∙ ap {B = Result HeldRow Fault} (λ (vs : List (Option ℤ)). Ok (record {
+      row = record { name = satellite.name; values = vs; flags = columns marked 1 (2 * length read.cells) };
+      tail = record { name = satellite.name; flags = text; cells = left };
+    })) read.shown
+    ∙ ap {B = Result HeldRow Fault} (λ (q : List ℕ). Ok (record {
+      row = record {
+        name = satellite.name;
+        values = map (λ (c : ReadCell). c.value) read.cells;
+        flags = columns marked 1 (2 * length read.cells);
       };
-    })) (sym same)
-    ∙ ap {B = Result HeldRow Fault}
-    (λ q. Ok (record { row = row; tail = record { name = name; flags = q; cells = left } })) (sym t)
+      tail = record { name = satellite.name; flags = q; cells = left };
+    })) kept
+    ∙ ap {B = Result HeldRow Fault} (λ (cs : List (Option ArcTail)). Ok (record {
+      row = record {
+        name = satellite.name;
+        values = map (λ (c : ReadCell). c.value) read.cells;
+        flags = columns marked 1 (2 * length read.cells);
+      };
+      tail = record { name = satellite.name; flags = flags_held (length codes) marked; cells = cs };
+    })) read.left
+    )
 
 -- ---- a line from a place on
 
@@ -251,13 +217,13 @@ cells-refused arcs flags satellite line fault h (inl e) = inl (line-fault arcs f
 cells-refused arcs flags satellite line fault h (inr e) = inr e
 
 pub marks-refused : (arcs : List (Option ArcTail)) (flags : List ℕ)
-    (satellite : Satellite) (line : List ℕ) (left : List (Option ArcTail)) (old new : Row) (at : ℕ) (fault : Fault)
-    → begins_epoch line ≡ false → CellsAreRead arcs satellite.count line left old new at
+    (satellite : Satellite) (line : List ℕ) (left : List (Option ArcTail)) (at : ℕ) (fault : Fault)
+    → begins_epoch line ≡ false → CellsAreRead arcs satellite.count line left at
     → ((are_marks satellite.count (drop at line) ≡ false) × (fault ≡ BadFlags)) ⊎ (fault ≡ OutOfMemory)
     → (row_held_from arcs flags satellite line ≡ Err fault) ⊎ (fault ≡ OutOfMemory)
-marks-refused arcs flags satellite line left old new at fault h read (inl e) =
-    inl (line-bad_marks arcs flags satellite line left old new at h read e.0 ∙ ap Err (sym e.1))
-marks-refused arcs flags satellite line left old new at fault h read (inr e) = inr e
+marks-refused arcs flags satellite line left at fault h read (inl e) =
+    inl (line-bad_marks arcs flags satellite line left at h read e.0 ∙ ap Err (sym e.1))
+marks-refused arcs flags satellite line left at fault h read (inr e) = inr e
 
 -- ---- by what was kept of the whole epoch before
 
@@ -321,10 +287,13 @@ pub on-ok : {X E : Type 0} (r : Result X E) {P Q : Type 0} → (P → Q) → OnO
 on-ok (Ok x) f h = f h
 on-ok (Err e) f h = h
 
-pub on-all : {X E : Type 0} (r : Result X E) {P Q R S : Type 0}
-    → (P → Q → R → S) → OnOk r P → OnOk r Q → OnOk r R → OnOk r S
-on-all (Ok x) f p q s = f p q s
-on-all (Err e) f p q s = tt
+pub on-err : {X E : Type 0} (r : Result X E) {P Q : Type 0} → (P → Q) → OnErr r P → OnErr r Q
+on-err (Ok x) f h = h
+on-err (Err e) f h = f h
+
+pub on-both : {X E : Type 0} (r : Result X E) {P Q R : Type 0} → (P → Q → R) → OnOk r P → OnOk r Q → OnOk r R
+on-both (Ok x) f p q = f p q
+on-both (Err e) f p q = tt
 
 pub in-any : {X E : Type 0} (r : Result X E) {P : Type 0} → P → OnOk r P
 in-any (Ok x) h = h
@@ -340,9 +309,9 @@ same-fault r s e fault (inr h) = inr h
 pub next-row : (before : Tail) (kept : Option RowTail) (satellite : Satellite)
     (line : List ℕ) (index : ℕ) (left : RowTail) (old new : Tail) → kept ≡ tail_named satellite.name before
     → take (index + 1) new.rows ≡ take index old.rows ++ left ∷ [] → new.text ≡ old.text → new.clock ≡ old.clock
-    → (row : Row) → row_held kept satellite line ≡ Ok (record { row = row; tail = left })
-    → IsNextRow before satellite line index row old new
-next-row before kept satellite line index left old new found rows text clock row h =
+    → row_held kept satellite line ≡ Ok (record { row = shown_row left; tail = left })
+    → IsNextRow before satellite line index old new
+next-row before kept satellite line index left old new found rows text clock h =
     record {
       left = left;
       read = sym (row-by_tail before satellite line) ∙ ap (λ k. row_held k satellite line) (sym found) ∙ h;
@@ -350,3 +319,22 @@ next-row before kept satellite line index left old new found rows text clock row
       text = text;
       clock = clock;
     }
+
+-- blanks at the end of the indicators before a line don't count
+pub row-trimmed : (arcs : List (Option ArcTail)) (flags : List ℕ) (satellite : Satellite) (line : List ℕ)
+    → row_held_from arcs (without_end_blanks flags) satellite line ≡ row_held_from arcs flags satellite line
+row-trimmed arcs flags satellite line =
+    ap {B = Result HeldRow Fault} (λ (patch : List ℕ → List ℕ).
+    and_then (satellite_line_read (record {
+      text = λ line. line;
+      clock = λ code. Ok None;
+      value = λ name place code. value_at_place arcs place code;
+      flags = λ name marks. patch marks;
+    }) satellite line) (λ (read : ReadRow). Ok (record {
+      row = read.row;
+      tail = record {
+        name = read.raw.name;
+        flags = flags_held (length read.raw.codes) (patch read.raw.marks);
+        cells = arcs_of_codes arcs read.raw.codes;
+      };
+    }))) (fun_ext (λ marks. patched-trimmed flags marks))

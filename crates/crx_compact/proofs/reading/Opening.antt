@@ -1,5 +1,5 @@
 -- The lines of an epoch that have come, and what they make.
-use Rattle.std.specs.Prelude.{◌≡◌, refl, ℕ, suc, zero, ◌+◌, ◌-◌, ◌*◌, ◌≤◌, ◌<◌, List, [], ◌∷◌, ◌++◌, length, map, take}
+use Rattle.std.specs.Prelude.{◌≡◌, refl, ℕ, suc, zero, ◌+◌, ◌*◌, ◌≤◌, ◌<◌, List, [], ◌∷◌, ◌++◌, length, map, take}
 use Rattle.std.specs.Prelude.{drop, Option, Some, None, Ok, unwrap_or, ℤ, Bool, true, false, ◌==◌, Result, Err}
 use Rattle.std.specs.Prelude.{MatchResult, slice_get, is_some, min, IfOk, IfSome, if◌then◌else◌}
 use Rattle.std.specs.Result.{is_ok}
@@ -10,23 +10,31 @@ use Rattle.std.proofs.lemmas.List.{take_all}
 use Rattle.crx_lines.specs.declared.fault.Fault.{Fault}
 use Rattle.crx_lines.specs.declared.fault.Fault.TheVariants.{BadEpoch, BadFlags, OutOfMemory, Truncated}
 use Rattle.crx_rinex.specs.meaning.EpochLines.{ObservationHead, satellites_of, begins_epoch, epoch_count}
-use Rattle.crx_rinex.specs.Epochs.{begun, is_full_epoch}
+use Rattle.crx_rinex.specs.meaning.Printing.{printed_epoch}
+use Rattle.crx_rinex.specs.Epochs.{begun, is_full_epoch, with_row}
 use Rattle.crx_rinex.specs.meaning.Epochs.{has_satellite, is_among, are_apart}
 use Rattle.crx_rinex.proofs.Apart.{among-names, apart-map, new_at}
-use Rattle.crx_compact.specs.meaning.CompactPlaces.{ReadCell, ReadRow, after_cells, are_marks, cells_of, cells_read}
-use Rattle.crx_compact.specs.meaning.CompactPlaces.{row_of_cells, row_of_line, row_with_marks, satellite_line_read}
+use Rattle.crx_compact.specs.meaning.CompactPlaces.{ReadCell, after_cells, are_marks, cells_of, cells_read}
+use Rattle.crx_compact.specs.meaning.CompactPlaces.{row_of_cells, row_of_line, row_with_marks}
 use Rattle.crx_compact.specs.meaning.CompactPlaces.{satellites_of_line}
 use Rattle.crx_compact.specs.Tails.{ArcTail, RowTail, Tail}
 use Rattle.crx_compact.specs.HeldRows.{row_after}
 use Rattle.crx_lines.specs.meaning.Seen.{Content}
-use Rattle.crx_compact.specs.OpenEpochs.{is_faulty, Faulty, HasMade, first_step, held_row, is_idle, line_step, opened_raw, opening}
-use Rattle.crx_compact.specs.OpenEpochs.{step_in, tail_for_line, Idle, HeldClock, HeldEpoch, HeldRow, OpenRawEpoch}
-use Rattle.crx_compact.specs.OpenEpochs.{RawStep, Going, Whole, whole_or_awaiting, past_of_tail, raw_step_with_row}
-use Rattle.crx_compact.specs.OpenLines.{IsRowAfter, columns_state, step_after, AreAnnounced, AreRowsSoFar, OpenLines}
-use Rattle.crx_compact.specs.OpenLines.{held_rows, lines_so_far, made_of, open_raw}
+use Rattle.crx_compact.specs.OpenEpochs.{is_faulty, Faulty, HasMade, HasPrintedLines, first_step, held_row, is_idle, line_step, opened_raw, opening}
+use Rattle.crx_compact.specs.OpenEpochs.{step_in, tail_for_line, Idle, HeldClock, HeldRow, OpenRawEpoch}
+use Rattle.crx_compact.specs.OpenEpochs.{RawStep, Going, Whole, whole_or_awaiting, past_of_tail}
+use Rattle.crx_compact.specs.OpenEpochs.{raw_step_with_clock}
+use Rattle.crx_compact.specs.Steps.{arc_of_code}
+use Rattle.crx_compact.specs.OpenLines.{columns_state, epoch_so_far, have_all_come, rows_so_far, step_after, AreAnnounced}
+use Rattle.crx_compact.specs.OpenLines.{AreLinesSoFar, lines_so_far}
+use Rattle.crx_compact.specs.declared.incoming.Stage.{Stage}
+use Rattle.crx_compact.specs.declared.incoming.Stage.TheVariants.{Unbegun, Clock, Rows}
+use Rattle.crx_compact.specs.OpenLines.{AreRowsSoFar, HasClock, OpenLines, held_rows, made_of, open_raw}
+use Rattle.crx_compact.specs.HeldRows.{IsNextRow}
+use Rattle.crx_compact.specs.ShownRows.{shown_epoch, shown_row, shown_value}
 use Rattle.crx_rinex.proofs.EachPlace.{length-each_place}
 use Rattle.crx_compact.proofs.reading.StepsByCode.{row-ok, row-err}
-use Rattle.crx_compact.proofs.soundness.Soundness.{ok-same, no-err, LineFacts, differ, line-facts_of}
+use Rattle.crx_compact.proofs.soundness.Soundness.{ok-same, no-err, LineFacts, cells-count, differ, line-facts_of, texts-count}
 use Rattle.std.proofs.Math.ListN.{drop_of_length-le}
 use Rattle.crx_text.specs.meaning.Columns.{columns}
 use Rattle.crx_text.specs.Texts.{patched}
@@ -35,7 +43,6 @@ use Rattle.crx_rinex.specs.meaning.Observations.{Row, Epoch}
 use Rattle.crx_rinex.specs.meaning.ObservationTypes.{Count}
 use Rattle.crx_compact.specs.meaning.EpochText.{Satellite}
 use Rattle.crx_compact.specs.meaning.Sequences.{and_then}
-use Rattle.crx_compact.specs.declared.incoming.Stage.TheVariants.{Rows}
 use Rattle.crx_compact.proofs.Making.{taken_more, value-there}
 
 -- ---- the epoch line
@@ -75,34 +82,24 @@ tails-held (r ∷ rs) (t ∷ ts) e = ap (λ q. t ∷ q) (tails-held rs ts (omega
 
 -- ---- what the lines so far have made
 
-going : (before : Tail) (text : List ℕ) (clock : HeldClock) (rows : List HeldRow) (awaited : List Satellite)
-    → 0 < length awaited
-    → made_of before (Some (record { text = text; clock = Some clock; rows = rows; awaited = awaited }))
-    ≡ Going (open_raw before (record { text = text; clock = Some clock; rows = rows; awaited = awaited }))
-going before text clock rows [] h = absurd (omega (arith, h))
-going before text clock rows (s ∷ ss) h = refl
+-- where a line is awaited, the epoch goes on
+pub still-going : (before : Tail) (lines : OpenLines) → have_all_come (Some lines) ≡ false
+    → made_of before (Some lines) ≡ Going (open_raw before lines)
+still-going before lines e = by_lines lines.text lines.clock lines.rows lines.awaited e
+  where
+    by_lines : (text : List ℕ) (clock : Option HeldClock) (rows : List HeldRow) (awaited : List Satellite)
+        → have_all_come (Some (record { text = text; clock = clock; rows = rows; awaited = awaited })) ≡ false
+        → made_of before (Some (record { text = text; clock = clock; rows = rows; awaited = awaited }))
+        ≡ Going (open_raw before (record { text = text; clock = clock; rows = rows; awaited = awaited }))
+    by_lines text None rows awaited e = refl
+    by_lines text (Some clock) rows [] e = absurd (true≢false e)
+    by_lines text (Some clock) rows (s ∷ awaited) e = refl
 
-pub still-going : (before next : Tail) (count : ℕ) (satellites : List Satellite) (epoch : Epoch)
-    → count < length satellites
-    → made_of before (lines_so_far (Rows epoch) next count satellites)
-    ≡ Going (open_raw before (record {
-      text = next.text;
-      clock = Some (record {
-        value = epoch.clock;
-        arc = next.clock;
-      });
-      rows = held_rows epoch.rows (take count next.rows);
-      awaited = drop count satellites;
-    }))
-still-going before next count satellites epoch h =
-    let many : length (drop count satellites) ≡ length satellites - count = length-drop count satellites in
-    going before next.text (record { value = epoch.clock; arc = next.clock })
-    (held_rows epoch.rows (take count next.rows)) (drop count satellites) (omega (arith, many, h))
-
+-- where all lines have come, the epoch is whole
 pub now-whole : (before next left : Tail) (count : ℕ) (satellites : List Satellite) (epoch : Epoch)
     → AreRowsSoFar epoch next count satellites → length satellites ≤ count
     → left ≡ record next { rows = take count next.rows }
-    → made_of before (lines_so_far (Rows epoch) next count satellites) ≡ Whole (record { epoch = epoch; tail = left })
+    → made_of before (rows_so_far epoch next count satellites) ≡ Whole (record { epoch = epoch; tail = left })
 now-whole before next left count satellites epoch h all e =
     let clock : HeldClock = record { value = epoch.clock; arc = next.clock } in
     let rows : List HeldRow = held_rows epoch.rows (take count next.rows) in
@@ -127,6 +124,53 @@ now-whole before next left count satellites epoch h all e =
       tail = record { text = next.text; clock = next.clock; rows = ts };
     })) (tails-held epoch.rows (take count next.rows) paired)
     ∙ ap {B = RawStep} (λ (t : Tail). Whole (record { epoch = epoch; tail = t })) (sym e)
+
+-- the epoch of the lines so far
+pub epoch-so-far : (next : Tail) (count : ℕ) (satellites : List Satellite) (epoch : Epoch)
+    → AreRowsSoFar epoch next count satellites → epoch_so_far (rows_so_far epoch next count satellites) ≡ epoch
+epoch-so-far next count satellites epoch h =
+    let paired : length epoch.rows ≡ length (take count next.rows) = h.counted
+    ∙ sym (length-take-le count next.rows h.left) in
+    ap {B = Epoch} (λ (hs : List ℕ). record {
+      head = hs;
+      clock = epoch.clock;
+      rows = map (λ (r : HeldRow). r.row) (held_rows epoch.rows (take count next.rows));
+    }) (sym h.head)
+    ∙ ap {B = Epoch} (λ (rs : List Row). record { head = epoch.head; clock = epoch.clock; rows = rs })
+    (rows-held epoch.rows (take count next.rows) paired)
+
+-- where all lines have come, they are those of the history's epoch
+pub record AreAllRead (next : Tail) (count : ℕ) (satellites : List Satellite) (state : Option OpenLines) : Type 0 where
+  pub rows : AreRowsSoFar (shown_epoch next count) next count satellites
+  pub many : count ≡ length satellites
+  pub epoch : epoch_so_far state ≡ shown_epoch next count
+  pub whole : (before left : Tail) → left ≡ record next { rows = take count next.rows }
+      → made_of before state ≡ Whole (record { epoch = epoch_so_far state; tail = left })
+
+none-awaited : (satellites : List Satellite) (count : ℕ)
+    → (length (drop count satellites) == 0) ≡ true → length satellites ≤ count
+none-awaited satellites count e =
+    let none : length (drop count satellites) ≡ 0 = grind (arith, e) in
+    omega (arith, none, length-drop count satellites)
+
+pub all-read : (stage : Stage) (next : Tail) (count : ℕ) (satellites : List Satellite) (state : Option OpenLines)
+    → lines_so_far stage next count satellites ≡ state → AreLinesSoFar stage next count satellites
+    → have_all_come state ≡ true → AreAllRead next count satellites state
+all-read Unbegun next count satellites state is h e = absurd (true≢false (sym e ∙ ap have_all_come (sym is)))
+all-read Clock next count satellites state is h e = absurd (true≢false (sym e ∙ ap have_all_come (sym is)))
+all-read Rows next count satellites state is h e =
+    let shown : Epoch = shown_epoch next count in
+    let come : length satellites ≤ count = none-awaited satellites count (ap have_all_come is ∙ e) in
+    let within : count ≤ length satellites = h.within in
+    let epoch : epoch_so_far state ≡ shown = ap epoch_so_far (sym is) ∙ epoch-so-far next count satellites shown h in
+    record {
+      rows = h;
+      many = omega (arith, come, within);
+      epoch = epoch;
+      whole = λ before left same. ap (made_of before) (sym is)
+          ∙ now-whole before next left count satellites shown h come same
+          ∙ ap {B = RawStep} (λ (q : Epoch). Whole (record { epoch = q; tail = left })) (sym epoch);
+    }
 
 -- what goes on from an open epoch doesn't depend on its clock, rows and satellites, where others are given
 gone-same : (before : Tail) (text : List ℕ) (c : Option HeldClock)
@@ -162,6 +206,47 @@ made-line (Ok k) head clock l h e =
     ∙ ap {B = Epoch} (λ (q : Option ℤ). record { head = head; clock = q; rows = [] }) h.2
 made-line (Err fault) head clock l h e = absurd (no-err fault l e)
 
+-- the clock line begins the rows
+pub clock-taken : (before next later : Tail) (line : List ℕ) (satellites : List Satellite)
+    → HasClock before line next later
+    → step_after before (Some (record { text = next.text; clock = None; rows = []; awaited = satellites })) line
+    ≡ made_of before (rows_so_far (shown_epoch later 0) later 0 satellites)
+clock-taken before next later line satellites h =
+    let stepped : Option ℤ → Tail → RawStep =
+    λ value tail. whole_or_awaiting (record {
+      before = before;
+      text = tail.text;
+      clock = Some (record { value = value; arc = tail.clock });
+      rows = [];
+      awaited = satellites;
+    }) (record { value = value; arc = tail.clock }) [] satellites in
+    let clock : HeldClock = record { value = h.cell.value; arc = arc_of_code h.cell.code before.clock } in
+    ap {B = RawStep} (raw_step_with_clock (record {
+      before = before;
+      text = next.text;
+      clock = None;
+      rows = [];
+      awaited = satellites;
+    })) h.read
+    ∙ gone-same before next.text None [] satellites (Some clock) [] satellites clock [] satellites
+    ∙ ap {B = RawStep} (λ (tail : Tail). stepped h.cell.value tail) (sym h.left)
+    ∙ ap {B = RawStep} (λ (value : Option ℤ). stepped value later) (sym h.shown)
+
+pub clock-begins : (before next later : Tail) (line : List ℕ) (satellites : List Satellite)
+    → HasClock before line next later → AreAnnounced next.text satellites
+    → AreRowsSoFar (shown_epoch later 0) later 0 satellites
+clock-begins before next later line satellites h a =
+    let A : Tail → Type 0 = λ t. AreAnnounced t.text satellites in
+    record {
+      head = refl;
+      announced = subst A (sym h.left) a;
+      counted = refl;
+      named = refl;
+      sized = refl;
+      within = omega arith;
+      left = omega arith;
+    }
+
 -- ---- satellite lines
 
 pub satellite-here : (satellites : List Satellite) (count : ℕ) (s : Satellite)
@@ -186,16 +271,55 @@ held-more (r ∷ rs) [] row tail e = absurd (omega (arith, e))
 held-more (r ∷ rs) (t ∷ ts) row tail e =
     ap (λ (hs : List HeldRow). record { row = r; tail = t } ∷ hs) (held-more rs ts row tail (omega (arith, e)))
 
+-- a satellite line read after a tail: its row stands after the others
+pub record IsRowAfter (before : Tail)
+    (satellite : Satellite) (line : List ℕ) (count : ℕ) (epoch after : Epoch) (old new : Tail) : Type 0 where
+  pub row : Row
+  pub left : RowTail
+  pub read : row_after before satellite line ≡ Ok (record { row = row; tail = left })
+  pub rows : take (count + 1) new.rows ≡ take count old.rows ++ left ∷ []
+  pub text : new.text ≡ old.text
+  pub clock : new.clock ≡ old.clock
+  pub with : after ≡ with_row epoch row
+
+-- the history shows it after the others
+pub row-shown : (before next later : Tail) (line : List ℕ) (count : ℕ) (s : Satellite)
+    → IsNextRow before s line count next later
+    → IsRowAfter before s line count (shown_epoch next count) (shown_epoch later (count + 1)) next later
+row-shown before next later line count s r = record {
+  row = shown_row r.left;
+  left = r.left;
+  read = r.read;
+  rows = r.rows;
+  text = r.text;
+  clock = r.clock;
+  with = ap {B = Epoch} (λ (t : List ℕ). record {
+    head = columns t 1 HEAD_WIDTH;
+    clock = shown_value later.clock;
+    rows = map shown_row (take (count + 1) later.rows);
+  }) r.text
+      ∙ ap {B = Epoch} (λ (arc : Option ArcTail). record {
+        head = columns next.text 1 HEAD_WIDTH;
+        clock = shown_value arc;
+        rows = map shown_row (take (count + 1) later.rows);
+      }) r.clock
+      ∙ ap {B = Epoch} (λ (rs : List Row). record {
+        head = columns next.text 1 HEAD_WIDTH;
+        clock = shown_value next.clock;
+        rows = rs;
+      }) (ap (map shown_row) r.rows ∙ map-append shown_row (take count next.rows) (r.left ∷ []));
+}
+
 pub row-taken : (before next later : Tail) (line : List ℕ) (count : ℕ)
     (satellites : List Satellite) (epoch after : Epoch) (s : Satellite) → AreRowsSoFar epoch next count satellites
     → slice_get satellites count ≡ Some s → IsRowAfter before s line count epoch after next later
-    → step_after before (lines_so_far (Rows epoch) next count satellites) line
-    ≡ made_of before (lines_so_far (Rows after) later (count + 1) satellites)
+    → step_after before (rows_so_far epoch next count satellites) line
+    ≡ made_of before (rows_so_far after later (count + 1) satellites)
 row-taken before next later line count satellites epoch after s h e r =
     let clock : HeldClock = record { value = epoch.clock; arc = next.clock } in
     let rows : List HeldRow = held_rows epoch.rows (take count next.rows) in
     let rest : List Satellite = drop (count + 1) satellites in
-    let held : HeldRow = record { row = r.row; tail = r.next.left } in
+    let held : HeldRow = record { row = r.row; tail = r.left } in
     let so_far : OpenRawEpoch = record {
       before = before;
       text = next.text;
@@ -206,11 +330,11 @@ row-taken before next later line count satellites epoch after s h e r =
     let paired : length epoch.rows ≡ length (take count next.rows) = h.counted
     ∙ sym (length-take-le count next.rows h.left) in
     let more : held_rows (epoch.rows ++ r.row ∷ []) (take (count + 1) later.rows) ≡ rows ++ held ∷ [] =
-    ap (held_rows (epoch.rows ++ r.row ∷ [])) r.next.rows
-    ∙ held-more epoch.rows (take count next.rows) r.row r.next.left paired in
+    ap (held_rows (epoch.rows ++ r.row ∷ [])) r.rows
+    ∙ held-more epoch.rows (take count next.rows) r.row r.left paired in
     ap {B = RawStep} (λ (ss : List Satellite). line_step so_far (Some clock) ss line)
     (satellite-here satellites count s e)
-    ∙ row-ok so_far clock s rest line held r.next.read
+    ∙ row-ok so_far clock s rest line held r.read
     ∙ gone-same before next.text (Some clock) rows
     (drop count satellites) (Some clock) (rows ++ held ∷ []) rest clock (rows ++ held ∷ []) rest
     ∙ ap {B = RawStep} (λ (hs : List HeldRow).
@@ -220,7 +344,7 @@ row-taken before next later line count satellites epoch after s h e r =
       clock = Some clock;
       rows = held_rows (epoch.rows ++ r.row ∷ []) (take (count + 1) later.rows);
       awaited = rest;
-    }))) (sym r.next.text)
+    }))) (sym r.text)
     ∙ ap {B = RawStep} (λ (arc : Option ArcTail). made_of before
     (Some (record {
       text = later.text;
@@ -228,14 +352,14 @@ row-taken before next later line count satellites epoch after s h e r =
       rows = held_rows
           (epoch.rows ++ r.row ∷ []) (take (count + 1) later.rows);
       awaited = rest;
-    }))) (sym r.next.clock)
-    ∙ ap {B = RawStep} (λ (q : Epoch). made_of before (lines_so_far (Rows q) later (count + 1) satellites)) (sym r.with)
+    }))) (sym r.clock)
+    ∙ ap {B = RawStep} (λ (q : Epoch). made_of before (rows_so_far q later (count + 1) satellites)) (sym r.with)
 
 -- a row that is good makes no fault
 pub row-good : (before next : Tail)
     (line : List ℕ) (count : ℕ) (satellites : List Satellite) (epoch : Epoch) (s : Satellite)
     → slice_get satellites count ≡ Some s → is_ok (row_after before s line) ≡ true
-    → is_faulty (step_after before (lines_so_far (Rows epoch) next count satellites) line) ≡ false
+    → is_faulty (step_after before (rows_so_far epoch next count satellites) line) ≡ false
 row-good before next line count satellites epoch s e good = by_result (row_after before s line) refl good
   where
     clock : HeldClock
@@ -256,7 +380,7 @@ row-good before next line count satellites epoch s e good = by_result (row_after
     none-faulty rows (a ∷ awaited) = refl
 
     by_result : (r : Result HeldRow Fault) → row_after before s line ≡ r → is_ok r ≡ true
-        → is_faulty (step_after before (lines_so_far (Rows epoch) next count satellites) line) ≡ false
+        → is_faulty (step_after before (rows_so_far epoch next count satellites) line) ≡ false
     by_result (Err fault) is h = absurd (cc)
     by_result (Ok held) is h =
         ap is_faulty (ap {B = RawStep} (λ (ss : List Satellite). line_step so_far (Some clock) ss line)
@@ -267,7 +391,7 @@ row-good before next line count satellites epoch s e good = by_result (row_after
 pub row-refused : (before next : Tail)
     (line : List ℕ) (count : ℕ) (satellites : List Satellite) (epoch : Epoch) (s : Satellite) (fault : Fault)
     → slice_get satellites count ≡ Some s → (row_after before s line ≡ Err fault) ⊎ (fault ≡ OutOfMemory)
-    → (step_after before (lines_so_far (Rows epoch) next count satellites) line ≡ Faulty fault) ⊎ (fault ≡ OutOfMemory)
+    → (step_after before (rows_so_far epoch next count satellites) line ≡ Faulty fault) ⊎ (fault ≡ OutOfMemory)
 row-refused before next line count satellites epoch s fault e (inr h) = inr h
 row-refused before next line count satellites epoch s fault e (inl h) =
     let clock : HeldClock = record { value = epoch.clock; arc = next.clock } in
@@ -309,6 +433,36 @@ name-read before s line held e =
     let P : Result HeldRow Fault → Type 0 = λ r. IfOk r (λ (q : HeldRow). q.row.name ≡ s.name) in
     subst P e (named-by_line before s line (begins_epoch line))
 
+-- and as many values as it has types
+sized-by_marks : (before : Tail) (s : Satellite) (marks : List ℕ) (cells : List ReadCell) (b : Bool)
+    → length cells ≡ s.count → are_marks s.count marks ≡ b
+    → IfOk (and_then (if b then Ok (row_of_cells (past_of_tail before) s.name marks cells)
+    else Err BadFlags) (λ read. Ok (held_row before read))) (λ (held : HeldRow). length held.row.values ≡ s.count)
+sized-by_marks before s marks cells true k e = length-map cells (λ (c : ReadCell). c.value) ∙ k
+sized-by_marks before s marks cells false k e = tt
+
+sized-by_cells : (before : Tail) (s : Satellite) (line marks : List ℕ) (cells : Result (List ReadCell) Fault)
+    → cells_read ((past_of_tail before).value s.name) (cells_of s.count line) ≡ cells
+    → IfOk (and_then (and_then cells (λ cs. row_with_marks (past_of_tail before) s marks cs))
+    (λ read. Ok (held_row before read))) (λ (held : HeldRow). length held.row.values ≡ s.count)
+sized-by_cells before s line marks (Err fault) e = tt
+sized-by_cells before s line marks (Ok cells) e =
+    sized-by_marks before s marks cells (are_marks s.count marks)
+    (cells-count ((past_of_tail before).value s.name) (cells_of s.count line) cells e ∙ texts-count s.count line) refl
+
+sized-by_line : (before : Tail) (s : Satellite) (line : List ℕ) (b : Bool)
+    → IfOk (and_then (if b then Err Truncated else row_of_line (past_of_tail before) s line)
+    (λ read. Ok (held_row before read))) (λ (held : HeldRow). length held.row.values ≡ s.count)
+sized-by_line before s line true = tt
+sized-by_line before s line false = sized-by_cells before s line
+    (after_cells s.count line) (cells_read ((past_of_tail before).value s.name) (cells_of s.count line)) refl
+
+pub size-read : (before : Tail) (s : Satellite) (line : List ℕ) (held : HeldRow)
+    → row_after before s line ≡ Ok held → length held.row.values ≡ s.count
+size-read before s line held e =
+    let P : Result HeldRow Fault → Type 0 = λ r. IfOk r (λ (q : HeldRow). length q.row.values ≡ s.count) in
+    subst P e (sized-by_line before s line (begins_epoch line))
+
 -- the next satellite is none of those before it
 pub next-new : (next : Tail) (count : ℕ) (satellites : List Satellite) (epoch : Epoch) (s : Satellite)
     → AreRowsSoFar epoch next count satellites → slice_get satellites count ≡ Some s
@@ -329,23 +483,31 @@ pub rows-more : (before next later : Tail) (line : List ℕ) (count : ℕ)
     → IsRowAfter before s line count epoch after next later → AreRowsSoFar after later (count + 1) satellites
 rows-more before next later line count satellites epoch after s h e r =
     let kept : length (take (count + 1) later.rows) ≡ count + 1 =
-    ap length r.next.rows ∙ length-append (take count next.rows) (r.next.left ∷ [])
+    ap length r.rows ∙ length-append (take count next.rows) (r.left ∷ [])
     ∙ ap (λ n. n + 1) (length-take-le count next.rows h.left) in
     let least : length (take (count + 1) later.rows) ≡ min (count + 1) (length later.rows) =
     length-take (count + 1) later.rows in
     record {
-      head = ap (λ (q : Epoch). q.head) r.with ∙ h.head ∙ ap (λ t. columns t 1 HEAD_WIDTH) (sym r.next.text);
-      announced = let A : List ℕ → Type 0 = λ t. AreAnnounced t satellites in subst A (sym r.next.text) h.announced;
+      head = ap (λ (q : Epoch). q.head) r.with ∙ h.head ∙ ap (λ t. columns t 1 HEAD_WIDTH) (sym r.text);
+      announced = let A : List ℕ → Type 0 = λ t. AreAnnounced t satellites in subst A (sym r.text) h.announced;
       counted = ap (λ (q : Epoch). length q.rows) r.with
           ∙ length-append epoch.rows (r.row ∷ []) ∙ ap (λ n. n + 1) h.counted;
       named =
           ap (λ (q : Epoch). map (λ (w : Row). w.name) q.rows) r.with
           ∙ map-append (λ (w : Row). w.name) epoch.rows (r.row ∷ [])
           ∙ ap (λ (n : List ℕ). map (λ (w : Row). w.name) epoch.rows ++ n ∷ [])
-          (name-read before s line (record { row = r.row; tail = r.next.left }) r.next.read)
+          (name-read before s line (record { row = r.row; tail = r.left }) r.read)
           ∙ ap (λ (ns : List (List ℕ)). ns ++ s.name ∷ []) h.named
           ∙ sym (ap (map (λ (w : Satellite). w.name)) (taken_more satellites count s e)
           ∙ map-append (λ (w : Satellite). w.name) (take count satellites) (s ∷ []));
+      sized =
+          ap (λ (q : Epoch). map (λ (w : Row). length w.values) q.rows) r.with
+          ∙ map-append (λ (w : Row). length w.values) epoch.rows (r.row ∷ [])
+          ∙ ap (λ n. map (λ (w : Row). length w.values) epoch.rows ++ n ∷ [])
+          (size-read before s line (record { row = r.row; tail = r.left }) r.read)
+          ∙ ap (λ (ns : List ℕ). ns ++ s.count ∷ []) h.sized
+          ∙ sym (ap (map (λ (w : Satellite). w.count)) (taken_more satellites count s e)
+          ∙ map-append (λ (w : Satellite). w.count) (take count satellites) (s ∷ []));
       within = let inside : count < length satellites = slice_get_within satellites count s e in omega (arith, inside);
       left = omega (arith, kept, least);
     }
@@ -367,8 +529,8 @@ not-full next count satellites epoch s h e =
 -- where all lines have come, one more changes nothing
 pub all-taken : (before next : Tail) (line : List ℕ) (count : ℕ) (satellites : List Satellite) (epoch : Epoch)
     → slice_get satellites count ≡ None
-    → step_after before (lines_so_far (Rows epoch) next count satellites) line
-    ≡ made_of before (lines_so_far (Rows epoch) next count satellites)
+    → step_after before (rows_so_far epoch next count satellites) line
+    ≡ made_of before (rows_so_far epoch next count satellites)
 all-taken before next line count satellites epoch e =
     let clock : HeldClock = record { value = epoch.clock; arc = next.clock } in
     let so_far : OpenRawEpoch = record {
@@ -424,60 +586,21 @@ state-idle tail before (Some lines) e = absurd (true≢false (sym e))
 
 -- an epoch that goes on, and a whole one
 pub still-made : (step : RawStep) (tail : Option Tail) (before : Tail) (taken : Option OpenLines)
-    → step ≡ made_of before taken → is_some taken ≡ true
-    → IfSome taken (λ lines. (t : Tail) → made_of t taken ≡ Going (open_raw t lines))
+    → step ≡ made_of before taken → is_some taken ≡ true → have_all_come taken ≡ false
     → HasMade step (columns_state tail before taken) None
 still-made step tail before None e k h = absurd (true≢false (sym k))
-still-made step tail before (Some lines) e k h = (open_raw before lines, e ∙ h before, refl)
+still-made step tail before (Some lines) e k h = (open_raw before lines, e ∙ still-going before lines h, refl)
 
 pub whole-made : (step : RawStep) (before left : Tail) (taken : Option OpenLines) (epoch : Epoch)
-    → step ≡ made_of before taken
-    → ((t : Tail) → made_of t taken ≡ Whole (record { epoch = epoch; tail = left }))
+    → step ≡ made_of before taken → epoch ≡ epoch_so_far taken
+    → ((t : Tail) → made_of t taken ≡ Whole (record { epoch = epoch_so_far taken; tail = left }))
     → HasMade step (Idle (Some left)) (Some epoch)
-whole-made step before left taken epoch e h = (record { epoch = epoch; tail = left }, e ∙ h before, refl, refl)
+whole-made step before left taken epoch e is h =
+    (record { epoch = epoch_so_far taken; tail = left }, e ∙ h before, is, refl)
 
--- ---- a line after which another one is awaited
-
-abbrev is_whole : RawStep → Bool
-is_whole (Going begun) = false
-is_whole (Whole held) = true
-is_whole (Faulty fault) = false
-
-row-not-whole : (begun : OpenRawEpoch)
-    (clock : HeldClock) (s : Satellite) (awaited : List Satellite) (read : Result ReadRow Fault) (held : HeldEpoch)
-    → raw_step_with_row begun clock (s ∷ awaited) read ≡ Whole held → ⊥
-row-not-whole begun clock s awaited (Ok read) held e = absurd (true≢false (sym (ap is_whole e)))
-row-not-whole begun clock s awaited (Err fault) held e = absurd (true≢false (sym (ap is_whole e)))
-
-not-whole : (begun : OpenRawEpoch) (clock : Option HeldClock)
-    (awaited : List Satellite) (line : List ℕ) (held : HeldEpoch) → is_some clock ≡ true → 1 < length awaited
-    → line_step begun clock awaited line ≡ Whole held → ⊥
-not-whole begun None awaited line held k l e = absurd (true≢false (sym k))
-not-whole begun (Some clock) [] line held k l e = absurd (omega (arith, l))
-not-whole begun (Some clock) (s ∷ []) line held k l e = absurd (omega (arith, l))
-not-whole begun (Some clock) (s ∷ t ∷ awaited) line held k l e =
-    row-not-whole begun clock t awaited (satellite_line_read (past_of_tail begun.before) s line) held e
-
-goes-on : (before : Tail) (text : List ℕ) (clock : Option HeldClock)
-    (rows : List HeldRow) (awaited : List Satellite) (step : RawStep) → ((held : HeldEpoch) → step ≡ Whole held → ⊥)
-    → step ≡ made_of before (Some (record { text = text; clock = clock; rows = rows; awaited = awaited }))
-    → made_of before (Some (record { text = text; clock = clock; rows = rows; awaited = awaited }))
-    ≡ Going (record { before = before; text = text; clock = clock; rows = rows; awaited = awaited })
-goes-on before text None rows awaited step n e = refl
-goes-on before text (Some clock) rows [] step n e = absurd (n _ e)
-goes-on before text (Some clock) rows (s ∷ awaited) step n e = refl
-
--- where the clock has come and more than one satellite is awaited, a line that is taken leaves an open epoch
-pub early-made : (step : RawStep) (tail : Option Tail) (before : Tail) (old taken : Option OpenLines) (line : List ℕ)
-    → step ≡ step_after before old line → is_some old ≡ true
-    → IfSome old (λ lines. (is_some lines.clock ≡ true) × (1 < length lines.awaited))
-    → step ≡ made_of before taken → is_some taken ≡ true
-    → HasMade step (columns_state tail before taken) None
-early-made step tail before None taken line d k h e m = absurd (true≢false (sym k))
-early-made step tail before (Some lines) None line d k h e m = absurd (true≢false (sym m))
-early-made step tail before (Some lines) (Some later) line d k h e m = (
-  open_raw before later,
-  e ∙ goes-on before later.text later.clock later.rows later.awaited step
-      (λ held w. not-whole (open_raw before lines) lines.clock lines.awaited line held h.0 h.1 (sym d ∙ w)) e,
-  refl,
-)
+pub whole-printed : (step : RawStep) (before left : Tail) (taken : Option OpenLines) (lines : List (List ℕ))
+    → step ≡ made_of before taken → lines ≡ printed_epoch (epoch_so_far taken)
+    → ((t : Tail) → made_of t taken ≡ Whole (record { epoch = epoch_so_far taken; tail = left }))
+    → HasPrintedLines step (Idle (Some left)) true lines
+whole-printed step before left taken lines e is h =
+    (record { epoch = epoch_so_far taken; tail = left }, e ∙ h before, is, refl)

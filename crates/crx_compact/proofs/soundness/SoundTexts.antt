@@ -4,9 +4,14 @@ use Rattle.std.specs.Prelude.{take, flat_map, All}
 use Rattle.std.specs.List.{list_all}
 use Rattle.std.proofs.lemmas.Bool.Decides.{Decides-eqb}
 use Rattle.std.proofs.lemmas.Bool.{and_parts}
-use Rattle.std.proofs.Common.{ap, arith, length-append, ◌∙◌, sym}
+use Rattle.std.proofs.Common.{ap, arith, inl, inr, length-append, ◌∙◌, sym}
 use Rattle.crx_lines.specs.declared.limits.TheConstants.{LINE_LIMIT}
-use Rattle.crx_text.specs.meaning.Columns.{character_at, is_blank, without_end_blanks, before_end_blanks}
+use Rattle.std.specs.Prelude.{◌<◌, ◌+◌, ◌-◌, ◌++◌, ◌⊎◌, replicate}
+use Rattle.crx_text.specs.Texts.{character_of, patched}
+use Rattle.crx_rinex.specs.meaning.ObservationTypes.{IsAllowedCount}
+use Rattle.crx_rinex.proofs.SoundEpochs.{length-columns}
+use Rattle.crx_compact.proofs.wayback.Cuts.{at-padded, at-take, at-take_past, within-or_past}
+use Rattle.crx_text.specs.meaning.Columns.{character_at, columns, is_blank, without_end_blanks, before_end_blanks}
 use Rattle.crx_rinex.specs.meaning.Observations.{Row, Epoch}
 use Rattle.crx_rinex.specs.meaning.EpochLines.{ObservationHead, IsObservationHead, begins_epoch, is_observation_flag}
 use Rattle.crx_rinex.specs.meaning.EpochLines.{satellites_in}
@@ -15,11 +20,11 @@ use Rattle.crx_rinex.specs.meaning.SatelliteLines.{IsSoundRow}
 use Rattle.crx_compact.specs.Cells.{AreHeldFlags}
 use Rattle.crx_compact.specs.meaning.Compaction.{epoch_text}
 use Rattle.crx_compact.specs.Steps.{flags_held}
-use Rattle.crx_compact.proofs.wayback.Facts.{all-take, if_some, list_all-append, list_all-at}
+use Rattle.crx_compact.proofs.wayback.Facts.{if_some, list_all-append, list_all-at}
 use Rattle.crx_compact.proofs.wayback.Overlays.{at-by_position, same_characters}
 use Rattle.crx_text.specs.meaning.Texts.{by_position, mark_of, text_difference, is_kept}
 use Rattle.crx_compact.proofs.wayback.Writable.{length-is, name-kept}
-use Rattle.crx_rinex.proofs.Characters.{at, at-without_end_blanks, list_all-from_at}
+use Rattle.crx_rinex.proofs.Characters.{at, at-without_end_blanks, columns-are, list_all-from_at}
 use Rattle.crx_text.proofs.EndBlanks.{few_kept}
 
 abbrev names : List Row → List ℕ
@@ -82,14 +87,8 @@ same-text [] = refl
 same-text (c ∷ cs) =
     ap (λ m. before_end_blanks m (text_difference cs cs)) (mark-same c) ∙ ap (before_end_blanks 32) (same-text cs)
 
-pub flags-held : (row : Row) → IsSoundRow row → AreHeldFlags (without_end_blanks row.flags)
-flags-held row h =
-    let few = h.counted.1 in
-    record {
-      within = omega (arith, few_kept row.flags, h.paired, few);
-      kept = list_all-from_at is_kept (without_end_blanks row.flags)
-          (λ k. ap is_kept (at-without_end_blanks row.flags k) ∙ list_all-at is_kept refl row.flags h.kept k);
-    }
+pub flags-held : (row : Row) → IsSoundRow row → AreHeldFlags row.flags
+flags-held row h = let few = h.counted.1 in record { within = omega (arith, h.paired, few); kept = h.kept }
 
 -- ---- what is held of indicators by so many types
 
@@ -101,16 +100,50 @@ length-cut (suc n) (c ∷ cs) = omega (arith, length-cut n cs)
 pub length-held : (count : ℕ) (flags : List ℕ) → length (flags_held count flags) ≤ 2 * count
 length-held count flags = omega (arith, few_kept (take (2 * count) flags), length-cut (2 * count) flags)
 
-no-longer : (n : ℕ) (text : List ℕ) → length (take n text) ≤ length text
-no-longer zero text = omega arith
-no-longer (suc n) [] = omega arith
-no-longer (suc n) (c ∷ cs) = omega (arith, no-longer n cs)
+-- so many columns of indicators, and what is held of them
+pub held-columns : (count : ℕ) (flags : List ℕ) → without_end_blanks (columns flags 1 (2 * count)) ≡ flags_held count flags
+held-columns count flags =
+    same_characters (columns flags 1 (2 * count)) (take (2 * count) flags) (λ p. by_place p (within-or_past (2 * count) p))
+  where
+    by_place : (p : ℕ) → (p < 2 * count) ⊎ (2 * count ≤ p) → at (columns flags 1 (2 * count)) p ≡ at (take (2 * count) flags) p
+    by_place p (inl h) = at-take (2 * count) (flags ++ replicate (2 * count) 32) p h ∙ at-padded (2 * count) flags p
+        ∙ sym (at-take (2 * count) flags p h)
+    by_place p (inr h) = at-take_past (2 * count) (flags ++ replicate (2 * count) 32) p h
+        ∙ sym (at-take_past (2 * count) flags p h)
 
-pub cut-held : (count : ℕ) (flags : List ℕ) → AreHeldFlags flags → AreHeldFlags (flags_held count flags)
-cut-held count flags h =
+pub columns-held : (count : ℕ) (flags : List ℕ) → IsAllowedCount count → AreHeldFlags flags
+    → AreHeldFlags (columns flags 1 (2 * count))
+columns-held count flags few h =
+    let most = few.1 in
     record {
-      within = omega (arith, few_kept (take (2 * count) flags), no-longer (2 * count) flags, h.within);
-      kept = list_all-from_at is_kept (flags_held count flags) (λ k.
-          ap is_kept (at-without_end_blanks (take (2 * count) flags) k)
-          ∙ list_all-at is_kept refl (take (2 * count) flags) (all-take is_kept (2 * count) flags h.kept) k);
+      within = omega (arith, length-columns flags 1 (2 * count), most);
+      kept = list_all-from_at is_kept (columns flags 1 (2 * count)) (λ k. by_place k (within-or_past (2 * count) k));
     }
+  where
+    by_place : (p : ℕ) → (p < 2 * count) ⊎ (2 * count ≤ p) → is_kept (at (columns flags 1 (2 * count)) p) ≡ true
+    by_place p (inl k) = ap is_kept (at-take (2 * count) (flags ++ replicate (2 * count) 32) p k
+        ∙ at-padded (2 * count) flags p) ∙ list_all-at is_kept refl flags h.kept p
+    by_place p (inr k) = ap is_kept (at-take_past (2 * count) (flags ++ replicate (2 * count) 32) p k)
+
+-- blanks at the end of indicators don't count
+
+pub columns-trimmed : (width : ℕ) (flags : List ℕ) → columns (without_end_blanks flags) 1 width ≡ columns flags 1 width
+columns-trimmed width flags =
+    columns-are (without_end_blanks flags) 1 width
+    (columns flags 1 width) (length-columns flags 1 width) (λ p less.
+    let place : 1 - 1 + p ≡ p = omega arith in
+    ap (at (without_end_blanks flags)) place ∙ at-without_end_blanks flags p
+    ∙ sym (at-take width (flags ++ replicate width 32) p less ∙ at-padded width flags p))
+
+pub patched-trimmed : (flags marks : List ℕ) → patched (without_end_blanks flags) marks ≡ patched flags marks
+patched-trimmed flags marks =
+    same_characters (by_position character_of (without_end_blanks flags) marks) (by_position character_of flags marks) (λ p.
+    at-by_position character_of refl (without_end_blanks flags) marks p
+    ∙ ap (λ c. character_of c (at marks p)) (at-without_end_blanks flags p)
+    ∙ sym (at-by_position character_of refl flags marks p))
+
+pub before-trimmed : (old new : List ℕ) → text_difference (without_end_blanks old) new ≡ text_difference old new
+before-trimmed old new =
+    same_characters (by_position mark_of (without_end_blanks old) new) (by_position mark_of old new) (λ p.
+    at-by_position mark_of refl (without_end_blanks old) new p
+    ∙ ap (λ c. mark_of c (at new p)) (at-without_end_blanks old p) ∙ sym (at-by_position mark_of refl old new p))

@@ -19,7 +19,6 @@ use Rattle.crx_engine.specs.CompactStages.{is_compact_stage, wants_line, wants_l
 use Rattle.crx_engine.specs.CompactReaders.{RefusesCompactLine}
 use Rattle.crx_engine.specs.ExpansionByLine.{compact_begins, expansion, is_good_beginning}
 use Rattle.crx_engine.specs.LineByLine.{BetweenUnits, LookingOn, Moves, made_in}
-use Rattle.crx_engine.specs.declared.compact_reader.CompactStep.{CompactStep}
 use Rattle.crx_engine.specs.declared.stage.Stage.{Stage}
 use Rattle.crx_engine.specs.declared.stage.Stage.TheVariants.{FirstLines, Header, Between, Event, Open, Looking, Closed}
 use Rattle.crx_engine.specs.declared.stage.Stage.TheVariants.{Ended}
@@ -65,7 +64,7 @@ pub begun-wants : (types : List Count) (tail : Option Tail) (line : List ℕ) (a
 begun-wants types tail line after (begun, going, is) = ap wants_lines is
     ∙ (ap wants_more (sym going) ∙ opened-wants types line (tail_for_line tail line))
 
-pub look-refused : (types : List Count) (tail : Option Tail) (line : List ℕ) (result : Result CompactStep Fault)
+pub look-refused : (types : List Count) (tail : Option Tail) (line : List ℕ) (result : Result Bool Fault)
     → begins_epoch line ≡ true
     → IfErr result (λ fault. RefusesCompactLine types tail (compact_begins types tail (Content line)) BetweenUnits line fault)
     → IfErr result

@@ -2,32 +2,31 @@ use Rattle.std.proofs.lemmas.Result.{err_from_is_err_and}
 use Rattle.std.proofs.Common.{◌≡◌, length, take, sym, ap, ◌∙◌, arith}
 use Rattle.crx_compact.proofs.reading.CellsRead.{all, from, read-cell, read-refused, read-none, read-all}
 use Rattle.crx_compact.proofs.cells.read_known_cells.Goals as goal
-use Rattle.crx_compact.proofs.cells.read_known_cells.Goals.{in-Some, in-None+in_ok-value-in-None}
+use Rattle.crx_compact.proofs.cells.read_known_cells.Goals.{in-Some, in-None+in_ok-at-in-None}
 
 pub loop-place-init : goal.loop-place-init
-loop-place-init c =
-    (read-none c.args.before.now c.args.count c.args.line.now c.args.row.now c.requires.sized, c.requires.counted)
+loop-place-init c = (read-none c.args.before.now c.args.count c.args.line.now, c.requires.counted)
 
-pub returns-in_err-value-in-None-clause-err : goal.returns-in_err-value-in-None-clause-err
-returns-in_err-value-in-None-clause-err c =
+pub returns-in_err-at-in-None-clause-err : goal.returns-in_err-at-in-None-clause-err
+returns-in_err-at-in-None-clause-err c =
     let p = err_from_is_err_and c.from_residual.result c.from_residual.ensures.1 in
     rw (p.1, p.2) (
-    read-refused _ _ _ _ _ _ _ _ _ c.loop-place.invariant.0 c.loop-place-test.true
-    (rw (from c.args.line.now c.loop-place.at) at c.in_err-value-in-None.ensures.err))
+    read-refused _ _ _ _ _ _ _ c.loop-place.invariant.0 c.loop-place-test.true
+    (rw (from c.args.line.now c.loop-place.at) at c.in_err-at-in-None.ensures.err))
 
 pub loop-place-preserved : goal.loop-place-preserved
 loop-place-preserved c =
     elim c.match-read_usual_cell.branch [
       | in-Some w ↦
-          read-cell _ _ _ _ _ _ _ _ _ _ _ _ w.in-Some.value
+          read-cell _ _ _ _ _ _ _ _ _
           w.in-Some.length c.loop-place.invariant.0 c.loop-place-test.true c.loop-place.invariant.1
           (rw (from c.args.line.now c.loop-place.at) at w.in-Some.ensures.some)
-          w.arcs-is w.at-is (w.row-is ∙ w.set.ensures.value)
-      | in-None+in_ok-value-in-None w ↦
-          read-cell _ _ _ _ _ _ _ _ _ _ _ _ w.in_ok-value-in-None.value
-          w.in_ok-value-in-None.length c.loop-place.invariant.0 c.loop-place-test.true c.loop-place.invariant.1
-          (rw (from c.args.line.now c.loop-place.at, w.in-None.ensures.none) at w.in_ok-value-in-None.ensures.ok)
-          w.arcs-is w.at-is (w.row-is ∙ w.set-in-None.ensures.value)
+          w.arcs-is w.at-is
+      | in-None+in_ok-at-in-None w ↦
+          read-cell _ _ _ _ _ _ _ _ _
+          w.in_ok-at-in-None.field-0 c.loop-place.invariant.0 c.loop-place-test.true c.loop-place.invariant.1
+          (rw (from c.args.line.now c.loop-place.at, w.in-None.ensures.none) at w.in_ok-at-in-None.ensures.ok)
+          w.arcs-is w.at-is
     ]
 
 pub returns-clause-ok : goal.returns-clause-ok
@@ -36,5 +35,5 @@ returns-clause-ok c =
     let counted : length c.loop-place.arcs ≡ c.args.count = c.loop-place.invariant.1 in
     let whole : take c.loop-place.place c.loop-place.arcs ≡ c.loop-place.arcs =
     ap (λ n. take n c.loop-place.arcs) (end ∙ sym counted) ∙ all c.loop-place.arcs in
-    let read = read-all _ _ _ _ _ _ _ _ c.loop-place.invariant.0 end in
+    let read = read-all _ _ _ _ _ _ c.loop-place.invariant.0 end in
     rw whole at read

@@ -4,4 +4,4 @@ use Rattle.crx_compact.proofs.cells.read_other_cells.Given as goal
 
 abbrev pub invariant-loop-place : goal.invariant-loop-place
 invariant-loop-place l =
-    ReadSoFar l.before l.count l.line l.place l.at (take l.place l.arcs) l.initial.row l.row × (length l.arcs ≡ l.count)
+    ReadSoFar l.before l.count l.line l.place l.at (take l.place l.arcs) × (length l.arcs ≡ l.count)

@@ -22,13 +22,13 @@ pub returns-then-not-all_printable-clause-fault : goal.returns-then-not-all_prin
 returns-then-not-all_printable-clause-fault c = λ flags.
     let read = rw (c.count-count.ensures.value) at c.in-Ok.ensures.ok in
     let marks = rw (line-from c.args.line.now c.in-Ok.at) at c.all_printable.ensures in
-    inl (line-bad_marks c.args.before.now flags c.args.satellite.now c.args.line.now read.0 read.1 read.2 c.in-Ok.at
-    c.requires.other read.3 (either _ _ (sym marks ∙ c.if-not-all_printable.true)))
+    inl (line-bad_marks c.args.before.now flags c.args.satellite.now c.args.line.now read.0 c.in-Ok.at
+    c.requires.other read.1 (either _ _ (sym marks ∙ c.if-not-all_printable.true)))
 
 pub returns-then-not-all_blank-clause-fault : goal.returns-then-not-all_blank-clause-fault
 returns-then-not-all_blank-clause-fault c = λ flags.
     let read = rw (c.count-count.ensures.value) at c.in-Ok.ensures.ok in
     let after = rw (line-from c.args.line.now c.in-Ok.at, c.count-count.ensures.value) at c.after_columns.ensures in
-    inl (line-bad_marks c.args.before.now flags c.args.satellite.now c.args.line.now read.0 read.1 read.2 c.in-Ok.at
-    c.requires.other read.3 (both _ _ (ap (list_all is_blank) (sym after) ∙ sym c.all_blank.ensures
+    inl (line-bad_marks c.args.before.now flags c.args.satellite.now c.args.line.now read.0 c.in-Ok.at
+    c.requires.other read.1 (both _ _ (ap (list_all is_blank) (sym after) ∙ sym c.all_blank.ensures
     ∙ c.if-not-all_blank.true)))

@@ -17,7 +17,7 @@ pub returns-in_default-clause-err : goal.returns-in_default-clause-err
 returns-in_default-clause-err c =
     let r = c.loop-place.invariant in
     let none = rw (line-from c.args.line.now c.loop-place.at, c.in_default.is) at c.code_before_blank.ensures.value in
-    read-refused _ _ _ _ _ r.arcs r.old r.new BadField r.so_far c.loop-place-test.true
+    read-refused _ _ _ _ _ r.arcs BadField r.so_far c.loop-place-test.true
     (ap {B = Result ReadCell Fault} (cell_read BadField (value_at_place c.args.before.now c.loop-place.place)) (sym none))
 
 pub returns-in_err-value_after-clause-err : goal.returns-in_err-value_after-clause-err
@@ -26,7 +26,7 @@ returns-in_err-value_after-clause-err c =
     rw (p.1, p.2) (
     let r = c.loop-place.invariant in
     let code = rw (line-from c.args.line.now c.loop-place.at, c.in-Ok.is) at c.code_before_blank.ensures.value in
-    read-refused _ _ _ _ _ r.arcs r.old r.new _ r.so_far c.loop-place-test.true
+    read-refused _ _ _ _ _ r.arcs _ r.so_far c.loop-place-test.true
     (ap {B = Result ReadCell Fault} (cell_read BadField (value_at_place c.args.before.now c.loop-place.place)) (sym code)
     ∙ ap {B = Result ReadCell Fault} (λ q. and_then q (λ value. Ok (record { code = c.in-Ok.code; value = value })))
     (sym c.value_after.ensures.value ∙ c.in_err-value_after.was)))
@@ -49,4 +49,4 @@ pub returns-clause-ok : goal.returns-clause-ok
 returns-clause-ok c =
     let r = c.loop-place.invariant in
     let end : c.loop-place.place ≡ c.args.count = omega arith in
-    (r.arcs, r.old, r.new, read-all _ _ _ _ _ r.arcs r.old r.new r.so_far end)
+    (r.arcs, read-all _ _ _ _ _ r.arcs r.so_far end)

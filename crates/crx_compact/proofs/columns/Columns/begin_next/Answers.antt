@@ -31,7 +31,7 @@ returns-in-Ok-clause-made c =
       | else-goes_on-via-else-goes_on w ↦
           ap {B = Option Tail} (λ (b : Bool). if b then Some no_tail else tail_held c.args.self.now)
           (sym w.if-goes_on.ensures)
-          ∙ ap {B = Option Tail} (λ (t : Tail). Some t) (sym c.self.invariant)
+          ∙ ap {B = Option Tail} (λ (t : Tail). Some t) (sym c.self.invariant.0)
           ∙ ap {B = Option Tail} (λ (b : Bool). Some (if not b then self.kept else self.nothing))
           (sym w.if-goes_on.false)
     ] in

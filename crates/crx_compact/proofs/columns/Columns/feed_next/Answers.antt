@@ -6,8 +6,8 @@ use Rattle.crx_compact.specs.OpenLines.{OpenLines, columns_state, made_of, step_
 use Rattle.crx_compact.proofs.reading.Opening.{state-open, step-in, still-made, whole-made}
 use Rattle.crx_compact.proofs.columns.Columns.feed_next.Goals as goal
 
-pub returns-in-Some-clause-made : goal.returns-in-Some-clause-made
-returns-in-Some-clause-made c =
+pub returns-in-Ok-clause-made : goal.returns-in-Ok-clause-made
+returns-in-Ok-clause-made c =
     let self = c.self.inside in
     let kept : Option Tail = if self.is_kept then Some self.kept else None in
     let before : Tail = if self.goes_on then self.kept else self.nothing in
@@ -17,29 +17,24 @@ returns-in-Some-clause-made c =
     ap {B = RawStep} (λ (s : ColumnsState). step_in s (Content c.args.line.now)) (sym c.self.view_is)
     ∙ step-in kept before self.incoming c.args.line.now some
     ∙ ap {B = RawStep} (λ (t : Tail). step_after t self.incoming c.args.line.now) (sym c.stands_after-before.ensures)
-    ∙ c.in-Ok.ensures.ok in
+    ∙ c.in-Ok-true.ensures.ok in
     let P : Option OpenLines → Type 0 = λ o. HasMade (step_in c.args.self.now (Content c.args.line.now)) (columns_state
-    (Some c.finish.new.kept) (if self.goes_on then c.finish.new.kept else self.nothing) o) (Some c.in-Some.epoch) in
-    subst P (sym c.in-Some.ensures.over) (whole-made _ c.stands_after-before.result.now
-    c.finish.new.kept c.take_line.new.self c.in-Some.epoch step c.in-Some.ensures.whole)
+    (Some c.finish.new.kept) (if self.goes_on then c.finish.new.kept else self.nothing) o) (Some c.in-Ok.epoch) in
+    subst P (sym c.finish.ensures.over) (whole-made _ c.stands_after-before.result.now c.finish.new.kept
+    c.take_line.new.self c.in-Ok.epoch step c.in-Ok.ensures.ok c.finish.ensures.whole)
 
-pub returns-in-None-clause-made : goal.returns-in-None-clause-made
-returns-in-None-clause-made c =
+pub returns-in-Ok-false-clause-made : goal.returns-in-Ok-false-clause-made
+returns-in-Ok-false-clause-made c =
     let self = c.self.inside in
     let kept : Option Tail = if self.is_kept then Some self.kept else None in
     let before : Tail = if self.goes_on then self.kept else self.nothing in
-    let later : Tail = if self.goes_on then c.finish.new.kept else self.nothing in
     let some = state-open kept before self.incoming (ap is_idle c.self.view_is ∙ c.requires.open) in
-    let same : c.stands_after-before.result.now ≡ later =
-    c.stands_after-before.ensures
-    ∙ ap {B = Tail} (λ (t : Tail). if self.goes_on then t else self.nothing) (sym c.in-None.ensures.same.1) in
-    let step : step_in c.args.self.now (Content c.args.line.now) ≡ made_of later c.take_line.new.self =
+    let step : step_in c.args.self.now (Content c.args.line.now)
+    ≡ made_of c.stands_after-before.result.now c.take_line.new.self =
     ap {B = RawStep} (λ (s : ColumnsState). step_in s (Content c.args.line.now)) (sym c.self.view_is)
     ∙ step-in kept before self.incoming c.args.line.now some
     ∙ ap {B = RawStep} (λ (t : Tail). step_after t self.incoming c.args.line.now) (sym c.stands_after-before.ensures)
-    ∙ c.in-Ok.ensures.ok
-    ∙ ap {B = RawStep} (λ (t : Tail). made_of t c.take_line.new.self) same in
-    let P : Option OpenLines → Type 0 = λ o. HasMade (step_in c.args.self.now (Content c.args.line.now))
-    (columns_state (if self.is_kept then Some c.finish.new.kept else None) later o) None in
-    subst P (sym c.in-None.ensures.same.0) (still-made _ (if self.is_kept then Some c.finish.new.kept
-    else None) later c.take_line.new.self step c.in-Ok.ensures.open c.in-None.ensures.going)
+    ∙ c.in-Ok-false.ensures.ok in
+    still-made _ kept before c.take_line.new.self
+    (step ∙ ap {B = RawStep} (λ (t : Tail). made_of t c.take_line.new.self) c.stands_after-before.ensures)
+    c.in-Ok-false.ensures.open (sym c.in-Ok-false.ensures.whole ∙ c.in-Ok-false.field-0-test)

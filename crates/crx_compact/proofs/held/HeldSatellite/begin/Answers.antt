@@ -1,5 +1,4 @@
-use Rattle.std.proofs.Common.{◌≡◌, [], List, ℕ, Result, Ok, Err, OnOk, OnErr, refl, sym, ap, ◌∙◌, subst, arith}
-use Rattle.crx_text.specs.meaning.Columns.{without_end_blanks}
+use Rattle.std.proofs.Common.{◌≡◌, [], List, ℕ, Result, Ok, Err, OnOk, OnErr, refl, sym, subst, arith, rules}
 use Rattle.crx_compact.specs.Cells.{AreHeldFlags}
 use Rattle.crx_compact.proofs.soundness.SoundTexts.{flags-held}
 use Rattle.crx_compact.proofs.held.HeldSatellite.begin.Goals as goal
@@ -11,8 +10,9 @@ either-held (Err e) flags next is none held =
     subst AreHeldFlags (sym none) (record { within = omega arith; kept = refl })
 
 pub invariant_of-self-2 : goal.invariant_of-self-2
-invariant_of-self-2 c =
-    let is = c.trim_end.ensures ∙ ap without_end_blanks c.flags-2.ensures.value in
-    either-held c.renew_flags.result
-    c.renew_flags.new.flags.items c.trim_end.result.now c.renew_flags.ensures.ok c.renew_flags.ensures.err
-    (subst AreHeldFlags (sym is) (flags-held c.args.row.now c.flags-2.ensures.sound))
+invariant_of-self-2 c = (
+  either-held c.renew_flags.result
+      c.renew_flags.new.flags.items c.flags-2.result.now c.renew_flags.ensures.ok c.renew_flags.ensures.err
+      (subst AreHeldFlags (sym c.flags-2.ensures.value) (flags-held c.args.row.now c.flags-2.ensures.sound)),
+  search rules,
+)

@@ -1,8 +1,7 @@
 use Rattle.std.proofs.lemmas.Result.{err_from_is_err_and}
 use Rattle.std.proofs.Common.{◌≡◌, drop, length, inl, arith}
 use Rattle.std.proofs.lemmas.List.{take_at}
-use Rattle.crx_compact.proofs.reading.Marks.{cells-refused, if-err, line-from, line-held, marks-refused, on-all}
-use Rattle.crx_compact.proofs.reading.Marks.{still-counted}
+use Rattle.crx_compact.proofs.reading.Marks.{cells-refused, if-err, line-from, line-held, marks-refused, on-both}
 use Rattle.crx_compact.proofs.held.HeldSatellite.read_from.Goals as goal
 
 pub returns-in_err-at-clause-err : goal.returns-in_err-at-clause-err
@@ -21,26 +20,19 @@ returns-clause-err c =
       c.count-count.ensures.value,
     ) at c.read_indicators.ensures.err in
     if-err c.read_indicators.result _ _ (λ fault. marks-refused
-    c.args.arcs.now c.args.flags.now c.args.satellite.now c.args.line.now _ _ _ c.in_ok-at.at fault
+    c.args.arcs.now c.args.flags.now c.args.satellite.now c.args.line.now _ c.in_ok-at.at fault
     c.requires.other read) refused
 
 pub returns-clause-ok : goal.returns-clause-ok
 returns-clause-ok c =
     let at = c.in_ok-at.at in
     let marks = rw (line-from c.args.line.now at, c.count-count.ensures.value) at c.read_indicators.ensures.marks in
-    let row = rw (line-from c.args.line.now at, c.count-count.ensures.value) at c.read_indicators.ensures.row in
     let held = rw (line-from c.args.line.now at, c.count-count.ensures.value) at c.read_indicators.ensures.held in
     let arcs = c.read_cells.new.arcs in
     let long : length arcs ≡ c.resize_arcs.new.arcs.len = let a =
     c.read_cells.auto.arcs in let b = c.deref_mut.ensures.len in omega (arith, a, b) in
     rw (take_at arcs (drop (length arcs) c.resize_arcs.new.arcs.items) c.resize_arcs.new.arcs.len long)
-    (on-all c.read_indicators.result (λ good shown kept.
+    (on-both c.read_indicators.result (λ good kept.
     line-held c.args.arcs.now c.args.flags.now c.args.satellite.now
-    c.args.line.now arcs _ c.read_cells.new.row c.read_indicators.new.row at _ _ c.requires.other
-    c.requires.named (rw (c.count-count.ensures.value) at c.in_ok-at.ensures.ok)
-    good shown c.name-self-inside.ensures.value kept) marks row held)
-
-pub read_indicators-requires-clause-counted : goal.read_indicators-requires-clause-counted
-read_indicators-requires-clause-counted c =
-    still-counted c.args.arcs.now c.count-count.result
-    c.args.line.now _ _ c.read_cells.new.row c.in_ok-at.at c.in_ok-at.ensures.ok
+    c.args.line.now arcs at _ _ c.requires.other (rw (c.count-count.ensures.value) at c.in_ok-at.ensures.ok)
+    good c.name-self-inside.ensures.value kept) marks held)

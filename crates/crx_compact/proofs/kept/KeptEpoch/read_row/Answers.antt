@@ -27,7 +27,7 @@ returns-clause-ok c =
     ∙ ap (λ (t : Tail). take index t.rows) c.self.view_is))
     (ap (λ (t : Tail). t.text) c.self.view_is)
     (ap (λ (t : Tail). t.clock) c.self.view_is)
-    c.read.new.row c.in_ok-read.ensures.ok
+    c.in_ok-read.ensures.ok
 
 pub returns-in_err-read-clause-err : goal.returns-in_err-read-clause-err
 returns-in_err-read-clause-err c =

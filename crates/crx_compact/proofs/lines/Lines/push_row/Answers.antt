@@ -1,4 +1,4 @@
-use Rattle.std.proofs.Common.{◌≡◌, ◌+◌, ◌++◌, ◌∷◌, [], List, ℕ, drop, length, take, ap, ◌∙◌, arith, rules}
+use Rattle.std.proofs.Common.{sym, ◌≡◌, ◌+◌, ◌++◌, ◌∷◌, [], List, ℕ, drop, length, take, ap, ◌∙◌, arith, rules}
 use Rattle.std.specs.Prelude.{flat_map}
 use Rattle.std.proofs.lemmas.List.{length-set, take_at}
 use Rattle.crx_text.specs.meaning.Columns.{without_end_blanks}
@@ -72,7 +72,7 @@ returns-clause-line c =
     ∙ ap (λ (t : List ℕ). take inside.filled t ++ without_end_blanks (cells ++ c.bytes.result.now)) seen)
     c.write_line-length.ensures.within lengths in
     let is : c.bytes.result.now ≡ text_difference before c.args.row.now.flags =
-    c.bytes.ensures.value ∙ c.mark_change.ensures
+    c.bytes.ensures.value ∙ c.mark_change.ensures ∙ sym (difference-trimmed before c.flags.result.now)
     ∙ ap (text_difference before) (c.flags.ensures.value ∙ c.in_ok-begin.ensures.flags)
     ∙ difference-trimmed before c.args.row.now.flags in
     rw (← c.self.view_is, take_at new (drop (length new) grown) c.grow.new.bytes.len long)

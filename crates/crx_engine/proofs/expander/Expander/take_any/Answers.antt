@@ -1,4 +1,4 @@
-use Rattle.std.proofs.Common.{rules, Option, refl, sym}
+use Rattle.std.proofs.Common.{Option, refl, sym}
 use Rattle.crx_compact.specs.OpenEpochs.{OpenRawEpoch}
 use Rattle.crx_compact.specs.Tails.{Tail}
 use Rattle.crx_lines.specs.meaning.Seen.{Content}
@@ -25,7 +25,3 @@ returns-in-Err-clause-steps c =
     (expander_state self) held (Content line) at refl (sym c.in-Err.ensures.types) (sym c.begins_epoch.ensures) in
     refused-line (expander_state self) (expander_state c.fail.new.self) line c.in-Err.fault
     c.fail.result c.fail.new.self.lines failed c.fail.ensures.drained c.fail.ensures.fatal c.in-Err.ensures.refuses
-
-pub returns-in-Ok-clause-steps : goal.returns-in-Ok-clause-steps
-returns-in-Ok-clause-steps c =
-    rw (c.make_ready.ensures.same c.args.self.now.options c.go_on-in-Ok.new.self, c.go_on-in-Ok.ensures) (search rules)

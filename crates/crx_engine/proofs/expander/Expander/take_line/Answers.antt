@@ -1,4 +1,4 @@
-use Rattle.std.proofs.Common.{◌≡◌, ◌∙◌, true, Option, refl, sym, ap, subst}
+use Rattle.std.proofs.Common.{◌≡◌, true, Option, refl, sym, ap, subst}
 use Rattle.crx_compact.specs.OpenEpochs.{OpenRawEpoch}
 use Rattle.crx_compact.specs.Tails.{Tail}
 use Rattle.crx_lines.specs.meaning.Seen.{Content}
@@ -6,14 +6,9 @@ use Rattle.crx_engine.specs.CompactStages.{open_in}
 use Rattle.crx_engine.specs.EngineSteps.{IsAt, is_held, seen_stage}
 use Rattle.crx_engine.specs.ExpanderState.{expander_state}
 use Rattle.crx_engine.specs.declared.stage.Stage.{Stage}
-use Rattle.crx_engine.specs.declared.stage.Stage.TheVariants.{Ended, Open}
+use Rattle.crx_engine.specs.declared.stage.Stage.TheVariants.{Open}
 use Rattle.crx_engine.proofs.steps.ExpanderSteps.{held-open, refused-line}
 use Rattle.crx_engine.proofs.expander.Expander.take_line.Goals as goal
-
-pub returns-in-Ok-true-clause-repeated : goal.returns-in-Ok-true-clause-repeated
-returns-in-Ok-true-clause-repeated c = λ at is.
-    let both : ◌≡◌ {A = Stage} (Ended at) Open = sym is ∙ c.in-Ok-true.ensures.open c.in-Ok-true.field-0-test in
-    absurd (cc)
 
 pub returns-in-Err-clause-steps : goal.returns-in-Err-clause-steps
 returns-in-Err-clause-steps c =
@@ -22,8 +17,8 @@ returns-in-Err-clause-steps c =
     let held = open_in self.reader.columns in
     let at : IsAt {O = OpenRawEpoch} {K = Option Tail} (expander_state self) held Open self.number self.options.skip =
     record {
-      is_phase = ap (seen_stage held) c.in-Err.ensures.refused_open;
-      is_open = subst (λ (stage : Stage). is_held stage held ≡ true) c.in-Err.ensures.refused_open
+      is_phase = ap (seen_stage held) c.in-Open.is;
+      is_open = subst (λ (stage : Stage). is_held stage held ≡ true) c.in-Open.is
           (held-open self.reader.stage self.reader.columns self.reader.consistent);
       is_count = refl;
       is_skip = refl;

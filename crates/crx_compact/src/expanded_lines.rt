@@ -1,15 +1,19 @@
 //! The lines that an expansion has ready, borrowed one after another.
 
-ghost use Rattle.std.specs.Prelude.{◌≡◌, ◌≤◌, ◌↔◌, [], ◌∷◌, IsTrue, drop, length, slice_get, take, if◌then◌else◌, is_some, unwrap_or, IfOk, IfSome, IfNone, OnSome};
+ghost use Rattle.std.specs.Prelude.{◌≡◌, ◌≤◌, ◌<◌, ◌↔◌, ◌++◌, [], ◌∷◌, true, IsTrue, drop, length, map, slice_get, take, if◌then◌else◌, is_some, IfOk, IfSome, OnErr, OnOk};
 ghost use Rattle.std.specs.Borrow.{sem};
 ghost use Rattle.std.specs.Io.BufRead.{Rests};
 ghost use Rattle.std.specs.Option.{option_copied};
-ghost use Rattle.crx_lines.specs.declared.limits.TheConstants.{LINE_LIMIT};
-ghost use Rattle.crx_rinex.specs.meaning.Printing.{lines_text, printed_epoch};
-ghost use Rattle.crx_engine.specs.contracts.expanded_lines.CopiedLine.{the_row as row_of_copied};
-ghost use Rattle.crx_engine.specs.contracts.expanded_lines.ExpandedLines.{the_row};
+ghost use Rattle.crx_lines.specs.declared.limits.TheConstants.{HEAD_WIDTH, LINE_LIMIT};
+ghost use Rattle.crx_text.specs.meaning.Columns.{columns};
+ghost use Rattle.crx_rinex.specs.meaning.EpochLines.{epoch_count};
+ghost use Rattle.crx_rinex.specs.meaning.Printing.{lines_text, printed_epoch, printed_row};
+ghost use Rattle.crx_compact.specs.ShownRows.{shown_epoch, shown_row};
+ghost use Rattle.crx_compact.specs.contracts.expanded_lines.CopiedLine.{the_row as row_of_copied};
+ghost use Rattle.crx_compact.specs.contracts.expanded_lines.ExpandedLines.{the_row};
 
-use crx_rinex::{Epoch, Printed};
+use crate::kept::KeptEpoch;
+use crate::lines::Lines;
 use crx_text::Text;
 use std::alloc::{AllocError, Global};
 use std::marker::Model;
@@ -72,43 +76,35 @@ impl CopiedLine {
     }
 }
 
-/// How long the text of an epoch's lines may be to be made and written in one piece; a longer one is written line by line. The text of 40
-/// satellites with 20 types has some 13,000 bytes, so nearly all epochs are written by one call, into memory that never grows.
-const TEXT_ROOM: usize = 65536;
-
 /// The lines that an expansion has ready: a line that is copied, or those of an epoch.
 #[derive(Drop)]
-pub(crate) struct ExpandedLines {
+pub struct ExpandedLines {
     copied: CopiedLine,
-    printed: Option<Printed>,
-    /// The memory of the text of an epoch, which never grows.
-    text: Vec<u8>,
+    printed: Lines,
 }
 
 impl Model for ExpandedLines {
-    ghost use Rattle.std.specs.Prelude.{ℕ, List, [], ◌++◌, unwrap_or};
+    ghost use Rattle.std.specs.Prelude.{ℕ, List, ◌++◌};
 
     ghost Value = { List (List ℕ) };
 
-    ghost view = { λ lines. lines.copied ++ unwrap_or lines.printed [] };
+    ghost view = { λ lines. lines.copied ++ lines.printed };
 }
 
 impl ExpandedLines {
-    /// No lines; it takes memory for every line that is copied, and for an epoch's text.
-    pub(crate) fn new(alloc: Global) -> Result<ExpandedLines, AllocError>
+    /// No lines; it takes memory for every line that is copied.
+    pub fn new(alloc: Global) -> Result<ExpandedLines, AllocError>
         ensures { IfOk result (λ lines. lines ≡ []) }
     {
         let copied = CopiedLine::new(alloc)?;
-        let text = vec![in alloc; 0; TEXT_ROOM]?;
         Ok(ExpandedLines {
             copied,
-            printed: None,
-            text,
+            printed: Lines::new(alloc),
         })
     }
 
     /// Makes a line ready, once none before it is pending.
-    pub(crate) fn copy(&mut self, line: &[u8])
+    pub fn copy(&mut self, line: &[u8])
         requires drained { self.old ≡ [] }
         requires short { length line.now ≤ LINE_LIMIT }
         ensures { self.new ≡ line.now ∷ [] }
@@ -116,28 +112,43 @@ impl ExpandedLines {
         self.copied.put(line);
     }
 
-    /// Makes the lines of an epoch ready, once none before them is pending; hands back the epoch before, whose memory can be
-    /// used again.
-    pub(crate) fn print(&mut self, epoch: Epoch) -> Option<Epoch>
+    /// Makes the printed lines of an epoch ready, which a history shows with so many rows, once no line before them is pending. After
+    /// `AllocError`, which comes only where there are rows, no line is pending.
+    pub(crate) fn print(
+        &mut self,
+        history: &KeptEpoch,
+        count: usize,
+        part: &mut Text,
+    ) -> Result<(), AllocError>
         requires drained { self.old ≡ [] }
-        ensures { self.new ≡ printed_epoch epoch }
+        requires announced { is_some (epoch_count (columns history.now.text 1 HEAD_WIDTH)) ≡ true }
+        requires shown { count ≤ length history.now.rows }
+        ensures lines { OnOk result (self.new ≡ printed_epoch (shown_epoch history.now count)) }
+        ensures err { OnErr result (self.new ≡ []) }
+        ensures memory { OnErr result (0 < count) }
     {
-        if let Some(printed) = &mut self.printed {
-            return Some(printed.begin(epoch));
+        history.print_head(part);
+        if count == 0 {
+            self.copied.put(part.bytes());
+            return Ok(());
         }
-        self.printed = Some(Printed::new(epoch));
-        None
+        self.printed.clear();
+        if print_lines(&mut self.printed, history, count, part.bytes()).is_err() {
+            self.printed.clear();
+            return Err(AllocError);
+        }
+        Ok(())
     }
 
     /// Whether no line is pending.
-    pub(crate) fn is_drained(&self) -> bool
+    pub fn is_drained(&self) -> bool
         ensures { IsTrue result ↔ (self.now ≡ []) }
     {
-        self.copied.is_drained() && self.printed.as_ref().is_none_or(Printed::is_drained)
+        self.copied.is_drained() && self.printed.is_empty()
     }
 
     /// Borrows the next line, without its line end; `None` once none is pending.
-    pub(crate) fn next_line(&mut self) -> Option<&[u8]>
+    pub fn next_line(&mut self) -> Option<&[u8]>
         ensures value { option_copied result ≡ slice_get self.old 0 }
         // That line is no longer pending.
         ensures* after_borrow { sem 𝓛 (Rests the_row self.entry (λ new. new ≡ drop 1 self.old)) }
@@ -145,15 +156,12 @@ impl ExpandedLines {
         if !self.copied.is_drained() {
             return self.copied.next_line();
         }
-        match &mut self.printed {
-            Some(printed) => printed.next_line(),
-            None => None,
-        }
+        self.printed.next_line()
     }
 
-    /// Borrows all lines as one text, each followed by LF, after which none is pending. `None` comes where a line is copied, or where the
-    /// text may be longer than [`TEXT_ROOM`], and then the lines stay as they are.
-    pub(crate) fn take_text(&mut self) -> Option<&[u8]>
+    /// Borrows all lines as one text, each followed by LF, after which none is pending. `None` comes where a line is copied, and then the
+    /// lines stay as they are.
+    pub fn take_text(&mut self) -> Option<&[u8]>
         ensures value { IfSome result (λ text. text.now ≡ lines_text self.old) }
         ensures* after_borrow { sem 𝓛 (Rests the_row self.entry
             (λ new. new ≡ (if is_some result then [] else self.old))) }
@@ -161,23 +169,21 @@ impl ExpandedLines {
         if !self.copied.is_drained() {
             return None;
         }
-        let Some(count) = take_printed(&mut self.printed, &mut self.text) else {
-            return None;
-        };
-        Some(&self.text[..count])
+        Some(self.printed.take_text())
     }
 }
 
-/// Writes the pending lines of an epoch over bytes, each followed by LF, and gives how many bytes these are. `None` comes where there
-/// is no epoch, or where the bytes may be too few, and then all lines stay pending.
-fn take_printed(printed: &mut Option<Printed>, bytes: &mut [u8]) -> Option<usize>
-    ensures text { IfSome result (λ count. take count bytes.new ≡ lines_text (unwrap_or printed.old [])) }
-    ensures within { IfSome result (λ count. count ≤ length bytes.new) }
-    ensures drained { OnSome result (unwrap_or printed.new [] ≡ []) }
-    ensures same { IfNone result (printed.new ≡ printed.old) }
+/// Puts a line, and those of so many rows that a history shows, after others.
+fn print_lines(
+    lines: &mut Lines,
+    history: &KeptEpoch,
+    count: usize,
+    head: &[u8],
+) -> Result<(), AllocError>
+    requires { count ≤ length history.now.rows }
+    ensures { OnOk result (lines.new
+        ≡ lines.old ++ (head.now ∷ map printed_row (map shown_row (take count history.now.rows)))) }
 {
-    let Some(printed) = printed else {
-        return None;
-    };
-    printed.take_text(bytes)
+    lines.push(head)?;
+    history.print_rows(count, lines)
 }
