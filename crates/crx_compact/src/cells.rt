@@ -1,6 +1,6 @@
 //! The cells of a satellite line: values to codes and back, each after its arc.
 
-ghost use Rattle.std.specs.Prelude.{◌≡◌, ◌≤◌, ◌<◌, ◌+◌, ◌++◌, ◌∷◌, [], ◌*◌, ◌^◌, None, Ok, Err, length, slice_index_or, slice_set, map, take, OnOk, IfOk, IfErr, IfSome, IfNone, OnSome, Some, Option};
+ghost use Rattle.std.specs.Prelude.{◌≡◌, ◌≤◌, ◌<◌, ◌+◌, ◌++◌, ◌∷◌, [], ◌*◌, ◌^◌, None, Ok, Err, length, slice_index_or, slice_set, map, take, OnOk, IfOk, IfErr, IfSome, IfNone, OnErr, OnSome, Some, Option};
 ghost use Rattle.std.specs.List.{flat_map};
 ghost use Rattle.crx_text.specs.meaning.Columns.{columns};
 ghost use Rattle.crx_rinex.specs.meaning.Printing.{printed_cells};
@@ -144,6 +144,7 @@ fn write_known_value(
 /// Puts the arc of a cell after its next code in its place among others.
 ///
 /// `NoArc` and `OutOfRange` come as by [`ObsArc::apply`].
+#[inline(never)]
 fn apply_at(
     before: &[ObsArc],
     place: usize,
@@ -153,6 +154,7 @@ fn apply_at(
     requires printable { IsPrintable code }
     requires within { place < length arcs.old }
     ensures value { result ≡ value_at_place before.now place code }
+    ensures err { OnErr result (arcs.new ≡ arcs.old) }
     ensures arc { OnOk result (arcs.new
         ≡ slice_set arcs.old place (arc_of_code code (slice_index_or before.now place None))) }
     ensures counted { length arcs.new ≡ length arcs.old }
@@ -186,24 +188,30 @@ fn read_any_cell(
     Ok(length)
 }
 
-/// Reads the cell that a text begins with, at a place where the epoch before has an arc, where its code is a difference of order 3, as that
-/// of most cells is; `None` where it is another code, has more than seven digits, or has a fault, and then the arcs are as they were.
+/// Reads the cell that a text begins with, at a place where the epoch before has an arc, where its code is a difference, as that of most
+/// cells is; `None` where it is another code, has more than seven digits, or has a fault, and then the arcs are as they were. Most
+/// differences are of order 3, for which there is a form of its own.
 ///
 /// Seven digits and the blank after them fit a vector of eight characters, and are read at once, the sign having been put aside.
 /// That takes 52 instructions; digit by digit one digit takes 60 and seven take 126 (bench/README.md).
 #[inline(always)]
-fn read_third(before: &[ObsArc], place: usize, text: &[u8], arcs: &mut [ObsArc]) -> Option<usize>
+fn read_step(before: &[ObsArc], place: usize, text: &[u8], arcs: &mut [ObsArc]) -> Option<usize>
     requires known { place < length before.now }
     requires within { place < length arcs.old }
     ensures some { IfSome result (λ taken. IsCellRead before.now place text.now arcs.old arcs.new taken) }
     ensures none { IfNone result (arcs.new ≡ arcs.old) }
 {
     let (number, length) = step_before_blank(text)?;
-    let _ = arcs[place].apply_third(&before[place], number)?;
-    Some(length)
+    if arcs[place].apply_third(&before[place], number).is_some() {
+        return Some(length);
+    }
+    match apply_at(before, place, Code::Step(number), arcs) {
+        Ok(_) => Some(length),
+        Err(_) => None,
+    }
 }
 
-/// Reads the cell that a text begins with as [`read_third`] does, and also a cell without a code.
+/// Reads the cell that a text begins with as [`read_step`] does, and also a cell without a code.
 #[inline(always)]
 fn read_usual_cell(
     before: &[ObsArc],
@@ -224,7 +232,7 @@ fn read_usual_cell(
         arcs[place].end();
         return Some(1);
     }
-    read_third(before, place, text, arcs)
+    read_step(before, place, text, arcs)
 }
 
 /// Writes the codes of a row's values, each followed by a blank, from an index on, gives the index after them, and replaces as many
@@ -382,19 +390,26 @@ fn indicator_at(flags: &[u8], index: usize) -> u8
     }
 }
 
-/// Prints the newest value of an arc with two of some indicators, from an index on, in place of the bytes from another index on. Most
-/// rows have all their indicators, which become one load and one store.
+/// Prints the newest value of an arc with two of some indicators, from an index on, in place of the bytes from another index on. Both
+/// indicators are there: they become one load and one store.
 #[inline(always)]
-fn print_cell(arc: &ObsArc, flags: &[u8], first: usize, bytes: &mut [u8], at: usize)
+fn print_full_cell(arc: &ObsArc, flags: &[u8], first: usize, bytes: &mut [u8], at: usize)
+    requires full { first + 1 < length flags.now }
+    requires room { at + CELL_WIDTH ≤ length bytes.old }
+    ensures { take (at + CELL_WIDTH) bytes.new ≡ take at bytes.old ++ (observation_text (shown_value arc.now)
+        ++ slice_index_or flags.now first 32 ∷ slice_index_or flags.now (first + 1) 32 ∷ []) }
+{
+    obs_print_cell_into(arc.value(), flags, first, bytes, at);
+}
+
+/// Prints a cell as [`print_full_cell`] does, where indicators may be missing, which are blank then.
+#[inline(always)]
+fn print_any_cell(arc: &ObsArc, flags: &[u8], first: usize, bytes: &mut [u8], at: usize)
     requires small { first < 2 ^ 63 }
     requires room { at + CELL_WIDTH ≤ length bytes.old }
     ensures { take (at + CELL_WIDTH) bytes.new ≡ take at bytes.old ++ (observation_text (shown_value arc.now)
         ++ slice_index_or flags.now first 32 ∷ slice_index_or flags.now (first + 1) 32 ∷ []) }
 {
-    if first + 1 < flags.len() {
-        obs_print_cell_into(arc.value(), flags, first, bytes, at);
-        return;
-    }
     let indicators = [indicator_at(flags, first), indicator_at(flags, first + 1)];
     obs_print_cell_into(arc.value(), &indicators, 0, bytes, at);
 }
@@ -408,9 +423,40 @@ pub(crate) fn print_cells(arcs: &[ObsArc], flags: &[u8], bytes: &mut [u8], at: u
         ++ printed_cells (map shown_value arcs.now) (columns flags.now 1 (2 * length arcs.now)) }
     ensures end { result ≡ at + CELL_WIDTH * length arcs.now }
 {
+    if arcs.len() <= flags.len() / 2 {
+        return print_full_cells(arcs, flags, bytes, at);
+    }
+    print_other_cells(arcs, flags, bytes, at)
+}
+
+/// Prints cells as [`print_cells`] does, where all indicators are there: whether they are isn't asked for each cell.
+#[inline(always)]
+fn print_full_cells(arcs: &[ObsArc], flags: &[u8], bytes: &mut [u8], at: usize) -> usize
+    requires full { 2 * length arcs.now ≤ length flags.now }
+    requires room { at + CELL_WIDTH * length arcs.now ≤ length bytes.old }
+    ensures cells { take result bytes.new ≡ take at bytes.old
+        ++ printed_cells (map shown_value arcs.now) (columns flags.now 1 (2 * length arcs.now)) }
+    ensures end { result ≡ at + CELL_WIDTH * length arcs.now }
+{
     let mut end = at;
     for place in 0..arcs.len() {
-        print_cell(&arcs[place], flags, 2 * place, bytes, end);
+        print_full_cell(&arcs[place], flags, 2 * place, bytes, end);
+        end += CELL_WIDTH;
+    }
+    end
+}
+
+/// Prints cells as [`print_cells`] does, where indicators may be missing.
+#[inline(never)]
+fn print_other_cells(arcs: &[ObsArc], flags: &[u8], bytes: &mut [u8], at: usize) -> usize
+    requires room { at + CELL_WIDTH * length arcs.now ≤ length bytes.old }
+    ensures cells { take result bytes.new ≡ take at bytes.old
+        ++ printed_cells (map shown_value arcs.now) (columns flags.now 1 (2 * length arcs.now)) }
+    ensures end { result ≡ at + CELL_WIDTH * length arcs.now }
+{
+    let mut end = at;
+    for place in 0..arcs.len() {
+        print_any_cell(&arcs[place], flags, 2 * place, bytes, end);
         end += CELL_WIDTH;
     }
     end

@@ -13,5 +13,4 @@ pub mod ReadingBack
 pub mod Rows
 pub mod SoundEpochs
 pub mod LastLines
-pub mod PrintedText
 pub mod GoodRows

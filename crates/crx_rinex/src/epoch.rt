@@ -73,17 +73,6 @@ impl Epoch {
         self.count = 0;
     }
 
-    /// Takes a spare row of an earlier epoch out, where there is one, to be filled and put after the others.
-    pub fn take_spare(&mut self) -> Option<SatRow>
-        ensures { self.new ≡ self.old }
-    {
-        if self.count < self.rows.len() {
-            self.rows.pop()
-        } else {
-            None
-        }
-    }
-
     /// Puts a row after the others.
     ///
     /// `RepeatedSatellite` comes where the epoch has a row of the same identifier already, else `OutOfMemory`.
@@ -113,24 +102,6 @@ impl Epoch {
         }
         self.count += 1;
         Ok(())
-    }
-
-    /// Puts a row after the others in the place of a spare one, which is handed back for it; `false` where there is none, or
-    /// [`Epoch::push`] may refuse the row, and then nothing changes.
-    pub fn exchange(&mut self, row: &mut SatRow) -> bool
-        requires { is_full_epoch self.old ≡ false }
-        ensures put { OnTrue result (self.new ≡ with_row self.old row.old) }
-        ensures same { OnFalse result ((self.new ≡ self.old) × (row.new ≡ row.old)) }
-    {
-        if self.count >= self.rows.len() {
-            return false;
-        }
-        let Ok(true) = self.names.put(self.count, row.name()) else {
-            return false;
-        };
-        mem::swap(&mut self.rows[self.count], row);
-        self.count += 1;
-        true
     }
 
     /// Reads a satellite line and puts its row after the others, into the memory of an earlier row where there is one: the

@@ -16,12 +16,11 @@ ghost use Rattle.crx_rinex.specs.meaning.Printing.{printed_cells, printed_row};
 ghost use Rattle.crx_rinex.specs.SatelliteLines.{blank_row, with_flags, with_value};
 ghost use Rattle.crx_rinex.specs.meaning.SatelliteLines.{field, flags_in, has_number, is_identifier, row_of, row_with, types_of_satellite, values_in, IsSoundRow, IsValue};
 
-use crate::columns::{after_columns, all_blank, character, identifier, padded, put_identifier};
+use crate::columns::{after_columns, all_blank, character, identifier, padded};
 use crate::types::Types;
 use crx_lines::limits::{CELL_WIDTH, NAME_WIDTH, OBSERVATION_WIDTH, TYPES_LIMIT};
 use crx_text::{
-    Fault, Text, all_kept, copy_text, obs_print_cell, obs_print_cell_into, obs_read, obs_read_into,
-    put_blanks, trim_end,
+    Fault, Text, all_kept, copy_text, obs_print_cell, obs_read, obs_read_into, put_blanks,
 };
 use std::alloc::Global;
 use std::marker::Model;
@@ -148,62 +147,6 @@ impl SatRow {
         })
     }
 
-    /// The row of [`SatRow::blank`], in the memory of a spare row where there is one.
-    pub fn blank_again(
-        alloc: Global,
-        spare: Option<SatRow>,
-        name: [u8; NAME_WIDTH],
-        m: usize,
-    ) -> Result<SatRow, Fault>
-        requires named { is_identifier name ≡ true }
-        requires allowed { IsAllowedCount m }
-        ensures { MatchResult result (λ row. row ≡ blank_row name m) (λ fault. fault ≡ Fault.OutOfMemory) }
-    {
-        let Some(mut row) = spare else {
-            return SatRow::blank(alloc, name, m);
-        };
-        row.begin_again(name, m)?;
-        Ok(row)
-    }
-
-    /// `false` says that the row may have to ask for memory to have so many types.
-    #[inline(always)]
-    pub fn has_room_for(&self, m: usize) -> bool {
-        self.values.capacity() >= m && self.flags.capacity() / 2 >= m
-    }
-
-    /// Makes the row one of another satellite with so many types, whose values and indicators are still to be replaced.
-    /// `OutOfMemory` is its one refusal, where the row has another count.
-    pub fn begin_for(&mut self, identifier: [u8; NAME_WIDTH], m: usize) -> Result<(), Fault>
-        requires named { is_identifier identifier ≡ true }
-        requires allowed { IsAllowedCount m }
-        ensures name { OnOk result (self.new.name ≡ identifier) }
-        ensures sized { OnOk result (length self.new.values ≡ m) }
-        ensures err { IfErr result (λ fault. (fault ≡ Fault.OutOfMemory) × (length self.old.values ≢ m)) }
-    {
-        if self.values.len() == m {
-            self.name = identifier;
-            return Ok(());
-        }
-        self.begin_again(identifier, m)
-    }
-
-    /// Makes the row that of [`SatRow::blank`].
-    fn begin_again(&mut self, name: [u8; NAME_WIDTH], m: usize) -> Result<(), Fault>
-        requires named { is_identifier name ≡ true }
-        requires allowed { IsAllowedCount m }
-        ensures ok { OnOk result (self.new ≡ blank_row name m) }
-        ensures err { IfErr result (λ fault. fault ≡ Fault.OutOfMemory) }
-    {
-        if !resize_cells(&mut self.values, &mut self.flags, m) {
-            return Err(Fault::OutOfMemory);
-        }
-        self.values.fill(None);
-        self.flags.fill(b' ');
-        self.name = name;
-        Ok(())
-    }
-
     /// The identifier: the system's letter and the satellite's number.
     pub fn name(&self) -> [u8; NAME_WIDTH]
         ensures value { result ≡ self.now.name }
@@ -272,25 +215,6 @@ impl SatRow {
         let _ = text.extend(&self.name);
         print_cells(&self.values, &self.flags, text);
         text.trim_end_blanks();
-    }
-
-    /// How many columns the printed satellite line has, with the blanks at its end.
-    pub fn width(&self) -> usize
-        ensures value { result ≡ NAME_WIDTH + CELL_WIDTH * length self.now.values }
-        ensures within { result ≤ LINE_LIMIT }
-    {
-        NAME_WIDTH + CELL_WIDTH * self.values.len()
-    }
-
-    /// Prints the satellite line as [`SatRow::print`] does, in place of the bytes from an index on, and gives its length.
-    pub fn print_into(&self, bytes: &mut [u8], at: usize) -> usize
-        requires room { at + (NAME_WIDTH + CELL_WIDTH * length self.now.values) ≤ length bytes.old }
-        ensures line { take (at + result) bytes.new ≡ take at bytes.old ++ printed_row self.now }
-        ensures within { result ≤ NAME_WIDTH + CELL_WIDTH * length self.now.values }
-    {
-        put_identifier(bytes, at, self.name);
-        let end = put_cells(&self.values, &self.flags, bytes, at + NAME_WIDTH);
-        trim_end(&bytes[at..end]).len()
     }
 }
 
@@ -616,20 +540,4 @@ fn print_cells(values: &[Option<i64>], flags: &[u8], text: &mut Text)
     for k in 0..values.len() {
         obs_print_cell(values[k], flags[2 * k], flags[2 * k + 1], text);
     }
-}
-
-/// Prints cells as [`print_cells`] does, in place of the bytes from an index on, and gives the index after them.
-fn put_cells(values: &[Option<i64>], flags: &[u8], bytes: &mut [u8], at: usize) -> usize
-    requires ranged { All IsValue values.now }
-    requires paired { length flags.now ≡ 2 * length values.now }
-    requires room { at + CELL_WIDTH * length values.now ≤ length bytes.old }
-    ensures cells { take result bytes.new ≡ take at bytes.old ++ printed_cells values.now flags.now }
-    ensures end { result ≡ at + CELL_WIDTH * length values.now }
-{
-    let mut end = at;
-    for k in 0..values.len() {
-        obs_print_cell_into(values[k], flags, 2 * k, bytes, end);
-        end += CELL_WIDTH;
-    }
-    end
 }

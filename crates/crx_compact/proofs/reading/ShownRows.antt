@@ -2,7 +2,7 @@
 use Rattle.std.specs.Prelude.{◌≡◌, ◌<◌, refl, ℕ, suc, zero, ◌+◌, ◌-◌, ◌*◌, ℤ, List, [], ◌∷◌, ◌++◌, length, map, take}
 use Rattle.std.specs.Prelude.{drop, replicate, slice_index_or, slice_set, Option, None}
 use Rattle.std.specs.Prelude.{slice_get, Some}
-use Rattle.std.proofs.Common.{sym, ◌∙◌, ap, arith}
+use Rattle.std.proofs.Common.{sym, ◌∙◌, ap, append_assoc, arith}
 use Rattle.std.proofs.lemmas.List.{append-nil, length-map, length-take-le, map-append, take_all}
 use Rattle.std.proofs.lemmas.Option.{slice_get_within}
 use Rattle.crx_text.proofs.Blanks.{columns_are}
@@ -68,6 +68,24 @@ print-next values flags n k count h =
     ∙ ap (λ b. at flags (2 * k) ∷ b ∷ rest) (at-columns flags (2 * n) (2 * k + 1) (omega (arith, h))) in
     ap (λ vs. printed_cells vs (drop (2 * k) all)) (from-place None k values (omega (arith, count, h)))
     ∙ ap (printed_cells (value ∷ drop (k + 1) values)) pair
+
+-- the cells that are left complete a text, also after the next of them
+pub print-on : (arcs : List (Option ArcTail)) (flags before text whole : List ℕ) (k : ℕ) (arc : Option ArcTail)
+    → k < length arcs → arc ≡ slice_index_or arcs k arc
+    → text ≡ before ++ (observation_text (shown_value arc) ++ at flags (2 * k) ∷ at flags (2 * k + 1) ∷ [])
+    → before ++ printed_cells (drop k (map shown_value arcs)) (drop (2 * k) (columns flags 1 (2 * length arcs))) ≡ whole
+    → text ++ printed_cells (drop (k + 1) (map shown_value arcs)) (drop (2 * (k + 1)) (columns flags 1 (2 * length arcs)))
+    ≡ whole
+print-on arcs flags before text whole k arc h is made left =
+    let values : List (Option ℤ) = map shown_value arcs in
+    let rest : List ℕ = printed_cells (drop (k + 1) values) (drop (2 * (k + 1)) (columns flags 1 (2 * length arcs))) in
+    let cell : observation_text (shown_value arc) ≡ observation_text (slice_index_or values k None) =
+    ap (λ a. observation_text (shown_value a)) is ∙ sym (ap observation_text (at-map shown_value arc None k arcs h)) in
+    ap (λ t. t ++ rest) made
+    ∙ append_assoc before _ rest
+    ∙ ap (λ t. before ++ ((t ++ at flags (2 * k) ∷ at flags (2 * k + 1) ∷ []) ++ rest)) cell
+    ∙ ap (λ t. before ++ t) (sym (print-next values flags (length arcs) k (length-map arcs shown_value) h))
+    ∙ left
 
 -- ---- the row
 

@@ -2,7 +2,7 @@ use Rattle.std.specs.Prelude.{◌≡◌, ◌+◌, ◌*◌, ◌++◌, length, dro
 use Rattle.crx_text.specs.meaning.Columns.{columns}
 use Rattle.crx_rinex.specs.meaning.Printing.{printed_cells}
 use Rattle.crx_compact.specs.ShownRows.{shown_value}
-use Rattle.crx_compact.proofs.cells.print_cells.Given as goal
+use Rattle.crx_compact.proofs.cells.print_other_cells.Given as goal
 
 -- the cells that are left complete the bytes up to the end
 abbrev pub invariant-loop-place : goal.invariant-loop-place
