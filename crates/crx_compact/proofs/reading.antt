@@ -8,6 +8,8 @@ pub mod SameIdentifiers
 pub mod Named
 pub mod Identifiers
 pub mod Opening
+pub mod RoomForRows
+pub mod NoMemory
 pub mod LineByLine
 pub mod StepsByCode
 pub mod SteadyEpochs

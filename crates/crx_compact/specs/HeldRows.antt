@@ -1,5 +1,6 @@
 -- A satellite's line read after the history of the satellite.
 use Rattle.std.specs.Prelude.{◌≡◌, ℕ, ◌≤◌, ◌+◌, ◌++◌, ◌∷◌, length, map, take, List, [], Option, None, Some, Result, Ok}
+use Rattle.std.specs.Prelude.{slice_get, slice_set}
 use Rattle.crx_text.specs.Texts.{patched}
 use Rattle.crx_lines.specs.declared.fault.Fault.{Fault}
 use Rattle.crx_compact.specs.meaning.Sequences.{and_then}
@@ -60,8 +61,21 @@ pub record IsNextRow (before : Tail)
   pub left : RowTail
   pub read : row_after before satellite line ≡ Ok (record { row = shown_row left; tail = left })
   pub rows : take (index + 1) new.rows ≡ take index old.rows ++ left ∷ []
+  pub others : new.rows ≡ slice_set old.rows index left
+  pub many : length left.cells ≡ satellite.count
   pub text : new.text ≡ old.text
   pub clock : new.clock ≡ old.clock
+
+-- at a place stands a history with an arc for each of a satellite's types
+pub record HasRow (rows : List RowTail) (index : ℕ) (satellite : Satellite) : Type 0 where
+  pub row : RowTail
+  pub there : slice_get rows index ≡ Some row
+  pub many : length row.cells ≡ satellite.count
+
+-- the first histories have an arc for each type of some satellites
+abbrev pub HaveRows : List Satellite → List RowTail → Type 0
+HaveRows satellites rows = map (λ (row : RowTail). length row.cells) (take (length satellites) rows)
+    ≡ map (λ (s : Satellite). s.count) satellites
 
 -- so many of the first satellites have the identifiers that stand at their places
 abbrev pub AreNamed : ℕ → List (List ℕ) → List RowTail → Type 0

@@ -16,6 +16,7 @@ use Rattle.crx_compact.specs.meaning.CompactPlaces.{ReadCell, clock_line_read, s
 use Rattle.crx_rinex.specs.meaning.ObservationTypes.{Count}
 use Rattle.crx_compact.specs.Steps.{arc_of_code}
 use Rattle.crx_compact.specs.ShownRows.{shown_epoch, shown_value}
+use Rattle.crx_compact.specs.HeldRows.{HaveRows}
 use Rattle.crx_compact.specs.declared.incoming.Stage.{Stage}
 use Rattle.crx_compact.specs.declared.incoming.Stage.TheVariants.{Unbegun, Clock, Rows}
 
@@ -100,6 +101,12 @@ abbrev pub AreLinesSoFar : Stage → Tail → ℕ → List Satellite → Type 0
 AreLinesSoFar Unbegun next count satellites = ⊤
 AreLinesSoFar Clock next count satellites = AreAnnounced next.text satellites
 AreLinesSoFar Rows next count satellites = AreRowsSoFar (shown_epoch next count) next count satellites
+
+-- where an epoch is open, there is room for the rows of all of its satellites
+abbrev pub HaveRowsAt : Stage → Tail → List Satellite → Type 0
+HaveRowsAt Unbegun next satellites = ⊤
+HaveRowsAt Clock next satellites = HaveRows satellites next.rows
+HaveRowsAt Rows next satellites = HaveRows satellites next.rows
 
 -- ---- steps
 

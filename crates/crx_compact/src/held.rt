@@ -28,10 +28,9 @@ use crate::arc::ObsArc;
 use crate::awaited::AwaitedSatellite;
 use crate::cells::{print_cells, read_cells, write_cells};
 use crate::lines::Lines;
-use crate::refusals::fault_of_row;
 use crate::same::is_same_text;
 use crx_lines::limits::{CELL_WIDTH, NAME_WIDTH};
-use crx_rinex::{SatRow, after_columns, all_blank, put_identifier};
+use crx_rinex::{SatRow, after_columns, all_blank, put_flags, put_identifier};
 use crx_text::block::put_text;
 use crx_text::difference::{append_difference, patch_bytes};
 use crx_text::{Code, Fault, Text, code_print, copy_text, trim_end};
@@ -90,26 +89,54 @@ pub(crate) fn push_code(code: Code, part: &mut Text, lines: &mut Lines) -> Resul
     lines.push(part.bytes())
 }
 
-/// Makes arcs as many as a row has cells. They mostly are, which one comparison finds; arcs that are added have no values.
+/// Gives a history an arc and two indicators for each of so many types. They mostly are as many, which one comparison finds; else all
+/// are replaced by arcs without values and blanks. After `AllocError` there are none.
 #[inline(always)]
-fn resize_arcs(arcs: &mut Vec<ObsArc>, count: usize) -> Result<(), AllocError>
+fn resize_types(arcs: &mut Vec<ObsArc>, flags: &mut Vec<u8>, count: usize) -> Result<(), AllocError>
+    requires allowed { IsAllowedCount count }
+    requires few { length arcs.old.items ≤ TYPES_LIMIT }
+    requires paired { length flags.old.items ≡ 2 * length arcs.old.items }
+    requires held { AreHeldFlags flags.old.items }
     ensures sized { OnOk result (length arcs.new.items ≡ count) }
-    ensures few { length arcs.new.items ≤ count }
+    ensures few { length arcs.new.items ≤ TYPES_LIMIT }
+    ensures paired { length flags.new.items ≡ 2 * length arcs.new.items }
+    ensures held { AreHeldFlags flags.new.items }
 {
     if arcs.len() == count {
         return Ok(());
     }
-    resize_other_arcs(arcs, count)
+    renew_types(arcs, flags, count)
 }
 
-/// Makes arcs as many as a row has cells, where there are more or fewer: drops the last ones, or adds some without values.
+/// Replaces arcs and indicators by those of so many types, without values and blank, for [`resize_types`].
 #[cold]
 #[inline(never)]
-fn resize_other_arcs(arcs: &mut Vec<ObsArc>, count: usize) -> Result<(), AllocError>
+fn renew_types(arcs: &mut Vec<ObsArc>, flags: &mut Vec<u8>, count: usize) -> Result<(), AllocError>
+    requires allowed { IsAllowedCount count }
     ensures sized { OnOk result (length arcs.new.items ≡ count) }
-    ensures few { length arcs.new.items ≤ count }
+    ensures few { length arcs.new.items ≤ TYPES_LIMIT }
+    ensures paired { length flags.new.items ≡ 2 * length arcs.new.items }
+    ensures held { AreHeldFlags flags.new.items }
 {
-    arcs.truncate(count);
+    arcs.clear();
+    flags.clear();
+    if flags.resize(2 * count, b' ').is_err() {
+        flags.clear();
+        return Err(AllocError);
+    }
+    if add_arcs(arcs, count).is_err() {
+        arcs.clear();
+        flags.clear();
+        return Err(AllocError);
+    }
+    Ok(())
+}
+
+/// Puts arcs without values after others, up to so many.
+fn add_arcs(arcs: &mut Vec<ObsArc>, count: usize) -> Result<(), AllocError>
+    requires few { length arcs.old.items ≤ count }
+    ensures sized { OnOk result (length arcs.new.items ≡ count) }
+{
     while arcs.len() < count {
         arcs.push(ObsArc::new())?;
     }
@@ -126,7 +153,7 @@ pub(crate) struct HeldSatellite {
 }
 
 impl Model for HeldSatellite {
-    ghost use Rattle.std.specs.Prelude.{◌≤◌, length};
+    ghost use Rattle.std.specs.Prelude.{◌≡◌, ◌≤◌, ◌*◌, length};
     ghost use Rattle.crx_lines.specs.declared.limits.TheConstants.{TYPES_LIMIT};
     ghost use Rattle.crx_text.specs.meaning.Columns.{without_end_blanks};
     ghost use Rattle.crx_compact.specs.Tails.{RowTail};
@@ -136,7 +163,8 @@ impl Model for HeldSatellite {
 
     ghost view = { λ held. record { name = held.name; flags = without_end_blanks held.flags.items; cells = held.arcs.items } };
 
-    ghost invariant = { λ held. AreHeldFlags held.flags.items × (length held.arcs.items ≤ TYPES_LIMIT) };
+    ghost invariant = { λ held. AreHeldFlags held.flags.items × (length held.arcs.items ≤ TYPES_LIMIT)
+        × (length held.flags.items ≡ 2 * length held.arcs.items) };
 }
 
 impl HeldSatellite {
@@ -172,12 +200,6 @@ impl HeldSatellite {
         self.arcs.len()
     }
 
-    /// `false` says that the history may have to ask for memory to have an arc for each of so many types.
-    #[inline(always)]
-    pub(crate) fn has_room_for(&self, count: usize) -> bool {
-        self.arcs.capacity() >= count
-    }
-
     /// Replaces the history by the one after a row, given the history of the row's satellite before it, and puts the row's line
     /// after others.
     pub(crate) fn encode(
@@ -197,15 +219,25 @@ impl HeldSatellite {
         }
     }
 
+    /// Gives the history an arc and two indicators for each of so many types.
+    #[inline(always)]
+    pub(crate) fn resize(&mut self, count: usize) -> Result<(), AllocError>
+        requires { IsAllowedCount count }
+        ensures { OnOk result (length self.new.cells ≡ count) }
+    {
+        resize_types(&mut self.arcs, &mut self.flags, count)
+    }
+
     /// Replaces the identifier and the indicators by those of a row, and makes the arcs as many as its values.
     pub(crate) fn begin(&mut self, row: &SatRow) -> Result<(), AllocError>
         ensures name { OnOk result (self.new.name ≡ row.now.name) }
         ensures flags { OnOk result (self.new.flags ≡ without_end_blanks row.now.flags) }
         ensures counted { OnOk result (length self.new.cells ≡ length row.now.values) }
     {
-        resize_arcs(&mut self.arcs, row.flags().len() / 2)?;
+        resize_types(&mut self.arcs, &mut self.flags, row.values().len())?;
         self.name = row.name();
-        renew_flags(&mut self.flags, row.flags())
+        copy_text(&mut self.flags, row.flags());
+        Ok(())
     }
 
     /// Replaces the arcs by those after a row, given the arcs before it, and writes the row's line from an index on; the line's marks
@@ -232,11 +264,11 @@ impl HeldSatellite {
     }
 
     /// Reads a satellite's line, given the satellite's history before it: replaces the history by the one after the line, which shows
-    /// the line's row. Arcs and indicators past the satellite's count of types are dropped.
+    /// the line's row. The history has an arc and two indicators for each of the satellite's types already, so no memory is asked for.
     ///
     /// The line begins no epoch. The first cell with a fault decides: `BadField` where its
     /// text is no code, then `NoArc` and `OutOfRange` as by [`ObsArc::apply`]; then `BadFlags` where the marks hold a character
-    /// outside 32 to 126, or anything but blanks past two for each type. `OutOfMemory` comes where something can't grow.
+    /// outside 32 to 126, or anything but blanks past two for each type.
     pub(crate) fn read(
         &mut self,
         before: Option<&HeldSatellite>,
@@ -244,13 +276,13 @@ impl HeldSatellite {
         line: &[u8],
         part: &mut Text,
     ) -> Result<(), Fault>
+        requires sized { length self.old.cells ≡ satellite.now.count }
         requires short { length line.now ≤ LINE_LIMIT }
         requires other { begins_epoch line.now ≡ false }
         ensures ok { OnOk result (row_held (option_copied before.entry) satellite.now line.now
             ≡ Ok (record { row = shown_row self.new; tail = self.new })) }
-        ensures err { IfErr result
-            (λ fault. (row_held (option_copied before.entry) satellite.now line.now ≡ Err fault)
-            ⊎ (fault ≡ Fault.OutOfMemory)) }
+        ensures err { IfErr result (λ fault. row_held (option_copied before.entry) satellite.now line.now ≡ Err fault) }
+        ensures sized { length self.new.cells ≡ length self.old.cells }
     {
         match before {
             Some(held) => self.read_from(&held.arcs, &held.flags, satellite, line, part),
@@ -267,19 +299,16 @@ impl HeldSatellite {
         line: &[u8],
         part: &mut Text,
     ) -> Result<(), Fault>
+        requires sized { length self.old.cells ≡ satellite.now.count }
         requires flags { AreHeldFlags flags.now }
         requires short { length line.now ≤ LINE_LIMIT }
         requires other { begins_epoch line.now ≡ false }
         ensures ok { OnOk result (row_held_from arcs.now flags.now satellite.now line.now
             ≡ Ok (record { row = shown_row self.new; tail = self.new })) }
-        ensures err { IfErr result
-            (λ fault. (row_held_from arcs.now flags.now satellite.now line.now ≡ Err fault)
-            ⊎ (fault ≡ Fault.OutOfMemory)) }
+        ensures err { IfErr result (λ fault. row_held_from arcs.now flags.now satellite.now line.now ≡ Err fault) }
+        ensures sized { length self.new.cells ≡ length self.old.cells }
     {
         let count = satellite.count();
-        let Ok(()) = resize_arcs(&mut self.arcs, count) else {
-            return Err(Fault::OutOfMemory);
-        };
         let at = read_cells(arcs, count, line, &mut self.arcs)?;
         self.name = satellite.name();
         read_indicators(flags, count, &line[at..], &mut self.flags, part)
@@ -315,30 +344,6 @@ impl HeldSatellite {
     }
 }
 
-/// Replaces indicators by others, which mostly are as many: then they are copied in place.
-#[inline]
-fn renew_flags(flags: &mut Vec<u8>, next: &[u8]) -> Result<(), AllocError>
-    ensures ok { OnOk result (flags.new.items ≡ next.now) }
-    ensures err { OnErr result (flags.new.items ≡ []) }
-{
-    if flags.len() == next.len() {
-        copy_text(flags, next);
-        return Ok(());
-    }
-    refill_flags(flags, next)
-}
-
-/// Replaces indicators by others that are more or fewer.
-#[inline(never)]
-fn refill_flags(flags: &mut Vec<u8>, next: &[u8]) -> Result<(), AllocError>
-    ensures ok { OnOk result (flags.new.items ≡ next.now) }
-    ensures err { OnErr result (flags.new.items ≡ []) }
-{
-    flags.clear();
-    flags.extend_from_slice(next)?;
-    Ok(())
-}
-
 /// At most so many bytes of a text, from its first on.
 fn first_bytes(text: &[u8], count: usize) -> &[u8]
     ensures { result.now ≡ take count text.now }
@@ -346,75 +351,59 @@ fn first_bytes(text: &[u8], count: usize) -> &[u8]
     &text[..count.min(text.len())]
 }
 
-/// Replaces a history's indicators by so many columns of a text, two for each of so many types. `OutOfMemory` comes where there is no room
-/// for them.
+/// Replaces a history's indicators by so many columns of a text, two for each of so many types.
 #[inline(always)]
-fn hold_flags(flags: &[u8], count: usize, held: &mut Vec<u8>) -> Result<(), Fault>
+fn hold_flags(flags: &[u8], count: usize, held: &mut [u8])
     requires flags { AreHeldFlags flags.now }
     requires allowed { IsAllowedCount count }
-    ensures ok { OnOk result (held.new.items ≡ columns flags.now 1 (2 * count)) }
-    ensures kept { AreHeldFlags held.new.items }
-    ensures err { IfErr result (λ fault. fault ≡ Fault.OutOfMemory) }
+    requires sized { length held.old ≡ 2 * count }
+    ensures columns { held.new ≡ columns flags.now 1 (2 * count) }
+    ensures kept { AreHeldFlags held.new }
 {
-    if flags.len() == 2 * count && held.len() == flags.len() {
+    if flags.len() == held.len() {
         copy_text(held, flags);
-        return Ok(());
+        return;
     }
-    hold_columns(flags, count, held)
+    hold_columns(flags, count, held);
 }
 
-/// Does what [`hold_flags`] does, where the text is shorter or longer, or the history had other indicators.
+/// Does what [`hold_flags`] does, where the text is shorter or longer.
 #[inline(never)]
-fn hold_columns(flags: &[u8], count: usize, held: &mut Vec<u8>) -> Result<(), Fault>
+fn hold_columns(flags: &[u8], count: usize, held: &mut [u8])
     requires flags { AreHeldFlags flags.now }
     requires allowed { IsAllowedCount count }
-    ensures ok { OnOk result (held.new.items ≡ columns flags.now 1 (2 * count)) }
-    ensures kept { AreHeldFlags held.new.items }
-    ensures err { IfErr result (λ fault. fault ≡ Fault.OutOfMemory) }
+    requires sized { length held.old ≡ 2 * count }
+    ensures columns { held.new ≡ columns flags.now 1 (2 * count) }
+    ensures kept { AreHeldFlags held.new }
 {
-    match pad(first_bytes(flags, 2 * count), 2 * count, held) {
-        Ok(()) => Ok(()),
-        Err(_) => {
-            held.clear();
-            Err(Fault::OutOfMemory)
-        }
-    }
-}
-
-/// Replaces a text by another one, with blanks after it up to a width.
-fn pad(text: &[u8], width: usize, held: &mut Vec<u8>) -> Result<(), AllocError>
-    requires { length text.now ≤ width }
-    ensures { OnOk result (held.new.items ≡ text.now ++ replicate (width - length text.now) 32) }
-{
-    held.clear();
-    held.extend_from_slice(text)?;
-    held.resize(width, b' ')
+    put_flags(held, first_bytes(flags, 2 * count));
 }
 
 /// Reads a line's marks, given the satellite's indicators in the epoch before: replaces those of a history by the ones that they make.
 /// Most lines have no marks, and then the indicators are copied and no difference is read.
 ///
-/// `BadFlags` comes as by [`read_marks`], then `OutOfMemory` where something can't grow.
+/// `BadFlags` comes as by [`read_marks`], and then the indicators are as they were.
 #[inline(always)]
 fn read_indicators(
     before: &[u8],
     count: usize,
     marks: &[u8],
-    held: &mut Vec<u8>,
+    held: &mut [u8],
     part: &mut Text,
 ) -> Result<(), Fault>
     requires before { AreHeldFlags before.now }
     requires short { length marks.now ≤ LINE_LIMIT }
     requires allowed { IsAllowedCount count }
-    requires held { AreHeldFlags held.old.items }
+    requires sized { length held.old ≡ 2 * count }
+    requires held { AreHeldFlags held.old }
     ensures marks { OnOk result (are_marks count marks.now ≡ true) }
-    ensures held { OnOk result (held.new.items ≡ columns (patched before.now marks.now) 1 (2 * count)) }
-    ensures kept { AreHeldFlags held.new.items }
-    ensures err { IfErr result (λ fault. ((are_marks count marks.now ≡ false) × (fault ≡ Fault.BadFlags))
-        ⊎ (fault ≡ Fault.OutOfMemory)) }
+    ensures held { OnOk result (held.new ≡ columns (patched before.now marks.now) 1 (2 * count)) }
+    ensures kept { AreHeldFlags held.new }
+    ensures err { IfErr result (λ fault. (are_marks count marks.now ≡ false) × (fault ≡ Fault.BadFlags)) }
 {
     if marks.is_empty() {
-        return hold_flags(before, count, held);
+        hold_flags(before, count, held);
+        return Ok(());
     }
     patch_flags(before, count, marks, held, part)
 }
@@ -426,21 +415,22 @@ fn patch_flags(
     before: &[u8],
     count: usize,
     marks: &[u8],
-    held: &mut Vec<u8>,
+    held: &mut [u8],
     part: &mut Text,
 ) -> Result<(), Fault>
     requires before { AreHeldFlags before.now }
     requires short { length marks.now ≤ LINE_LIMIT }
     requires allowed { IsAllowedCount count }
-    requires held { AreHeldFlags held.old.items }
+    requires sized { length held.old ≡ 2 * count }
+    requires held { AreHeldFlags held.old }
     ensures marks { OnOk result (are_marks count marks.now ≡ true) }
-    ensures held { OnOk result (held.new.items ≡ columns (patched before.now marks.now) 1 (2 * count)) }
-    ensures kept { AreHeldFlags held.new.items }
-    ensures err { IfErr result (λ fault. ((are_marks count marks.now ≡ false) × (fault ≡ Fault.BadFlags))
-        ⊎ (fault ≡ Fault.OutOfMemory)) }
+    ensures held { OnOk result (held.new ≡ columns (patched before.now marks.now) 1 (2 * count)) }
+    ensures kept { AreHeldFlags held.new }
+    ensures err { IfErr result (λ fault. (are_marks count marks.now ≡ false) × (fault ≡ Fault.BadFlags)) }
 {
     read_marks(before, count, marks, part)?;
-    hold_flags(part.bytes(), count, held)
+    hold_flags(part.bytes(), count, held);
+    Ok(())
 }
 
 /// Reads a line's marks, given the satellite's indicators in the epoch before: replaces a text by the indicators that they make.
@@ -462,24 +452,6 @@ fn read_marks(before: &[u8], count: usize, marks: &[u8], part: &mut Text) -> Res
         return Err(Fault::BadFlags);
     };
     Ok(())
-}
-
-/// The first fault of a satellite's line, given the satellite's history, or `OutOfMemory` where it has none, as by [`fault_of_row`].
-pub(crate) fn fault_after(
-    before: Option<&HeldSatellite>,
-    satellite: &AwaitedSatellite,
-    line: &[u8],
-) -> Fault
-    requires other { begins_epoch line.now ≡ false }
-    ensures fault { (row_held (option_copied before.entry) satellite.now line.now ≡ Err result)
-        ⊎ (result ≡ Fault.OutOfMemory) }
-    ensures memory { result ≡ Fault.OutOfMemory
-        → is_ok (row_held (option_copied before.entry) satellite.now line.now) ≡ true }
-{
-    match before {
-        Some(held) => fault_of_row(&held.arcs, satellite, line),
-        None => fault_of_row(&[], satellite, line),
-    }
 }
 
 /// The history of the satellite with an identifier, looked for from the first one on; `None` where there is none.

@@ -5,7 +5,7 @@ ghost use Rattle.std.specs.Prelude.{slice_get, ◌≡◌, ◌≤◌, ◌<◌, �
 ghost use Rattle.crx_lines.specs.declared.limits.TheConstants.{LINE_LIMIT};
 ghost use Rattle.crx_compact.specs.Tails.{Tail};
 ghost use Rattle.crx_compact.specs.OpenEpochs.{opened_raw, is_faulty, Whole, Faulty};
-ghost use Rattle.crx_compact.specs.HeldRows.{row_after, IsNextRow};
+ghost use Rattle.crx_compact.specs.HeldRows.{row_after, HasRow, IsNextRow};
 ghost use Rattle.std.specs.Result.{is_ok};
 ghost use Rattle.crx_rinex.specs.meaning.EpochLines.{begins_epoch};
 ghost use Rattle.crx_rinex.specs.meaning.Printing.{printed_epoch};
@@ -43,13 +43,14 @@ pub(crate) struct Incoming {
 
 impl Model for Incoming {
     ghost use Rattle.std.specs.Prelude.{Option};
-    ghost use Rattle.crx_compact.specs.OpenLines.{OpenLines, lines_so_far, AreLinesSoFar};
+    ghost use Rattle.crx_compact.specs.OpenLines.{OpenLines, lines_so_far, AreLinesSoFar, HaveRowsAt};
 
     ghost Value = { Option OpenLines };
 
     ghost view = { λ incoming. lines_so_far incoming.stage incoming.next incoming.count incoming.satellites };
 
-    ghost invariant = { λ incoming. AreLinesSoFar incoming.stage incoming.next incoming.count incoming.satellites };
+    ghost invariant = { λ incoming. AreLinesSoFar incoming.stage incoming.next incoming.count incoming.satellites
+        × HaveRowsAt incoming.stage incoming.next incoming.satellites };
 }
 
 impl Incoming {
@@ -114,6 +115,9 @@ impl Incoming {
             .read_epoch_line(types, before, line, &mut self.satellites, part)
         {
             Ok(()) => {
+                let Ok(()) = self.next.make_rows(self.satellites.as_slice()) else {
+                    return Err(Fault::OutOfMemory);
+                };
                 self.stage = Stage::Clock;
                 Ok(())
             }
@@ -138,12 +142,9 @@ impl Incoming {
         // After the clock line no row has come.
         ensures first { OnOk result (IfSome self.old
             (λ lines. is_some lines.clock ≡ false → (epoch_so_far self.new).rows ≡ [])) }
-        ensures err { IfErr result (λ fault. (step_after before.now self.old line.now ≡ Faulty fault)
-            ⊎ (fault ≡ Fault.OutOfMemory)) }
-        // Memory runs out only at a satellite's line without a fault.
-        ensures memory { IfErr result (λ fault. fault ≡ Fault.OutOfMemory
-            → (begins_epoch line.now ≡ false) × IfSome self.old (λ lines. is_some lines.clock ≡ true)
-            × (is_faulty (step_after before.now self.old line.now) ≡ false)) }
+        ensures err { IfErr result (λ fault. step_after before.now self.old line.now ≡ Faulty fault) }
+        // No line but the epoch line asks for memory.
+        ensures memory { IfErr result (λ fault. fault ≡ Fault.OutOfMemory → ⊥) }
         ensures emptied { OnErr result (self.new ≡ None) }
     {
         match self.stage {
@@ -236,7 +237,7 @@ fn satellite_at(satellites: &[AwaitedSatellite], index: usize) -> Option<&Awaite
     satellites.get(index)
 }
 
-/// Reads the next satellite line of an epoch after the history. `OutOfMemory` comes only where the line has no fault.
+/// Reads the next satellite line of an epoch after the history.
 #[inline(always)]
 fn next_row(
     next: &mut KeptEpoch,
@@ -246,28 +247,13 @@ fn next_row(
     line: &[u8],
     part: &mut Text,
 ) -> Result<(), Fault>
-    requires left { count ≤ length next.old.rows }
+    requires room { HasRow next.old.rows count satellite.now }
     requires short { length line.now ≤ LINE_LIMIT }
     ensures ok { OnOk result (IsNextRow before.now satellite.now line.now count next.old next.new) }
-    ensures err { IfErr result (λ fault. (row_after before.now satellite.now line.now ≡ Err fault)
-        ⊎ (fault ≡ Fault.OutOfMemory)) }
-    ensures memory { IfErr result (λ fault. fault ≡ Fault.OutOfMemory
-        → (begins_epoch line.now ≡ false) × (is_ok (row_after before.now satellite.now line.now) ≡ true)) }
+    ensures err { IfErr result (λ fault. row_after before.now satellite.now line.now ≡ Err fault) }
 {
     if begins_epoch(line) {
         return Err(Fault::Truncated);
     }
-    if !next.has_room_at(count, satellite.count()) {
-        // Memory is asked for only at a line without a fault.
-        match before.fault_of_row(count, satellite, line) {
-            Fault::OutOfMemory => {}
-            fault => return Err(fault),
-        }
-    }
-    match next.read_row(before, count, satellite, line, part) {
-        Ok(()) => Ok(()),
-        // The line has no fault, or no memory was asked for; this is asked for the contract.
-        Err(Fault::OutOfMemory) => Err(before.fault_of_row(count, satellite, line)),
-        Err(fault) => Err(fault),
-    }
+    next.read_row(before, count, satellite, line, part)
 }

@@ -26,11 +26,11 @@ ghost use Rattle.crx_rinex.specs.Epochs.{is_full_epoch, with_row};
 ghost use Rattle.crx_rinex.specs.meaning.Printing.{printed_head, printed_row};
 ghost use Rattle.crx_compact.specs.OpenLines.{AreRowsSoFar, HasClock};
 ghost use Rattle.crx_compact.specs.ShownRows.{shown_epoch, shown_row, shown_value};
-ghost use Rattle.crx_compact.specs.HeldRows.{row_after, AreNamed, IsNextRow};
+ghost use Rattle.crx_compact.specs.HeldRows.{row_after, AreNamed, HasRow, HaveRows, IsNextRow};
 
 use crate::arc::ClockArc;
 use crate::awaited::{AwaitedSatellite, AwaitedSatellites};
-use crate::held::{HeldSatellite, fault_after, find, push_change, push_code};
+use crate::held::{HeldSatellite, find, push_change, push_code};
 use crate::lines::Lines;
 use crate::refusals::fault_of_text;
 use crx_lines::limits::{HEAD_WIDTH, LINE_LIMIT, NAME_WIDTH, SATELLITES_LIMIT};
@@ -239,15 +239,6 @@ impl KeptEpoch {
         Ok(())
     }
 
-    /// `false` says that the satellite line of the row at a place, for so many types, may ask for memory before its cells are read.
-    #[inline(always)]
-    pub(crate) fn has_room_at(&self, index: usize, count: usize) -> bool {
-        match self.satellites.get(index) {
-            Some(held) => held.has_room_for(count),
-            None => false,
-        }
-    }
-
     /// The first fault of an epoch line, given the history, or `OutOfMemory` where it has none: found without memory, where there was
     /// no room for what the line makes.
     #[inline(never)]
@@ -262,24 +253,6 @@ impl KeptEpoch {
             return Fault::BadEpoch;
         }
         fault_of_text(types, part.bytes())
-    }
-
-    /// The first fault of the satellite line of the row at a place, given the history, or `OutOfMemory` where it has none: found
-    /// without memory, where there was no room for what the line makes.
-    pub(crate) fn fault_of_row(
-        &self,
-        index: usize,
-        satellite: &AwaitedSatellite,
-        line: &[u8],
-    ) -> Fault
-        requires other { begins_epoch line.now ≡ false }
-        ensures fault { (row_after self.now satellite.now line.now ≡ Err result)
-            ⊎ (result ≡ Fault.OutOfMemory) }
-        ensures memory { result ≡ Fault.OutOfMemory
-            → is_ok (row_after self.now satellite.now line.now) ≡ true }
-    {
-        let kept = self.find(index, satellite.name());
-        fault_after(kept, satellite, line)
     }
 
     /// Reads a clock line, given the history before it: replaces the clock's arc by the one after the code, which shows the clock's value.
@@ -303,6 +276,17 @@ impl KeptEpoch {
         Ok(())
     }
 
+    /// Gives each of an epoch's satellites a history with an arc and two indicators for each of its types, so that no line of the epoch
+    /// asks for memory.
+    pub(crate) fn make_rows(&mut self, satellites: &[AwaitedSatellite]) -> Result<(), AllocError>
+        ensures rows { OnOk result (HaveRows satellites.now self.new.rows) }
+        ensures others { self.new ≡ record self.old { rows = self.new.rows } }
+    {
+        // Which satellites the map has is found out once the epoch's last line has come (`truncate`).
+        self.placed = 0;
+        fill_rows(self.alloc, &mut self.satellites, satellites)
+    }
+
     /// Reads the satellite line of the row at a place, given the history before the epoch: puts the satellite's history after the line
     /// after those of the rows before. The faults are those of [`HeldSatellite::read`].
     pub(crate) fn read_row(
@@ -315,21 +299,15 @@ impl KeptEpoch {
     ) -> Result<(), Fault>
         requires short { length line.now ≤ LINE_LIMIT }
         requires other { begins_epoch line.now ≡ false }
-        requires next { index ≤ length self.old.rows }
+        requires room { HasRow self.old.rows index satellite.now }
         ensures ok { OnOk result
             (IsNextRow before.now satellite.now line.now index self.old self.new) }
-        ensures err { IfErr result (λ fault. (row_after before.now satellite.now line.now ≡ Err fault)
-            ⊎ (fault ≡ Fault.OutOfMemory)) }
+        ensures err { IfErr result (λ fault. row_after before.now satellite.now line.now ≡ Err fault) }
     {
-        let Ok(()) = make_room(self.alloc, &mut self.satellites, index) else {
-            return Err(Fault::OutOfMemory);
-        };
         let name = satellite.name();
         let kept = before.find(index, name);
-        // Which satellites the map has is found out once the epoch's last line has come (`truncate`).
         self.placed = 0;
-        self.satellites[index].read(kept, satellite, line, part)?;
-        Ok(())
+        self.satellites[index].read(kept, satellite, line, part)
     }
 
     /// The epoch that the history shows, of these satellites. `OutOfMemory` is the one refusal.
@@ -468,6 +446,21 @@ fn add_room(alloc: Global, satellites: &mut Vec<HeldSatellite>) -> Result<(), Al
     ensures grown { length satellites.old.items ≤ length satellites.new.items }
 {
     satellites.push(HeldSatellite::new(alloc))?;
+    Ok(())
+}
+
+/// Gives each of some satellites a history with an arc and two indicators for each of its types.
+fn fill_rows(
+    alloc: Global,
+    rows: &mut Vec<HeldSatellite>,
+    satellites: &[AwaitedSatellite],
+) -> Result<(), AllocError>
+    ensures { OnOk result (HaveRows satellites.now rows.new.items) }
+{
+    for place in 0..satellites.len() {
+        make_room(alloc, rows, place)?;
+        rows[place].resize(satellites[place].count())?;
+    }
     Ok(())
 }
 

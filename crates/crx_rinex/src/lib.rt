@@ -19,5 +19,5 @@ pub use epoch_line::{EpochLine, Head, begins_epoch, is_event_line};
 pub use header::{header_first, is_end};
 pub use identifiers::Identifiers;
 pub use printed::{Printed, print_head, print_last_line};
-pub use satellite_row::{SatRow, types_of_satellite};
+pub use satellite_row::{SatRow, put_flags, types_of_satellite};
 pub use types::{Types, is_types};

@@ -520,8 +520,8 @@ fn observation(line: &[u8], k: usize) -> Option<Option<i64>>
     }
 }
 
-/// Puts indicators in place of held ones, and blanks in place of those after them.
-fn put_flags(held: &mut [u8], flags: &[u8])
+/// Puts indicators in place of a row's, two for each type, and blanks in place of those after them.
+pub fn put_flags(held: &mut [u8], flags: &[u8])
     requires fitting { length flags.now ≤ length held.old }
     requires few { length held.old ≤ LINE_LIMIT }
     ensures { held.new ≡ flags.now ++ replicate (length held.old - length flags.now) 32 }

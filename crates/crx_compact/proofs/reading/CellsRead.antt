@@ -242,25 +242,6 @@ read-all before count line k at arcs s e =
       shown = s.shown;
     }
 
--- the cells up to a place are read, whatever arcs they leave
-pub record AreReadTo (before : List (Option ArcTail)) (count : ℕ) (line : List ℕ) (k at : ℕ) : Type 0 where
-  pub arcs : List (Option ArcTail)
-  pub so_far : ReadSoFar before count line k at arcs
-
-pub to-none : (before : List (Option ArcTail)) (count : ℕ) (line : List ℕ) → AreReadTo before count line 0 0
-to-none before count line = record { arcs = []; so_far = read-none before count line }
-
-pub to-more : (before : List (Option ArcTail)) (count : ℕ) (line : List ℕ) (k at at' : ℕ) (code : Code) (value : Option ℤ)
-    → AreReadTo before count line k at → k < count → code_of (first_cell (drop at line)) ≡ Some code
-    → value_at_place before k code ≡ Ok value → after_cell (drop at line) ≡ drop at' line → at' ≤ length line
-    → AreReadTo before count line (k + 1) at'
-to-more before count line k at at' code value r h e v t w =
-    let arc : Option ArcTail = arc_of_code code (slice_index_or before k None) in
-    record {
-      arcs = r.arcs ++ arc ∷ [];
-      so_far = read-more before count line k at at' r.arcs (r.arcs ++ arc ∷ []) code value arc r.so_far h e v t w refl refl;
-    }
-
 -- ---- a line from a place on
 
 pub all : {X : Type 0} (text : List X) → take (length text) text ≡ text

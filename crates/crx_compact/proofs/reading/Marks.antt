@@ -1,11 +1,11 @@
 -- The marks of a satellite line, and the row that its cells and marks make.
 use Rattle.std.specs.Prelude.{◌≡◌, refl, ℕ, suc, ◌+◌, ◌-◌, ◌*◌, Bool, true, false, List, [], ◌∷◌, ◌++◌}
 use Rattle.std.specs.Prelude.{ℤ, length, map, take, drop, replicate, slice_index_or, Option, None, Some, Result, Ok, Err}
-use Rattle.std.specs.Prelude.{IfOk, IfErr, OnErr, OnOk, if◌then◌else◌}
+use Rattle.std.specs.Prelude.{IfOk, IfErr, OnErr, OnOk, if◌then◌else◌, ◌<◌, slice_set}
 use Rattle.std.specs.List.{list_all}
-use Rattle.std.proofs.Common.{sym, ◌∙◌, ap, arith, inl, inr, ◌⊎◌}
+use Rattle.std.proofs.Common.{sym, ◌∙◌, ap, arith}
 use Rattle.std.specs.Prelude.{◌==◌}
-use Rattle.std.proofs.lemmas.List.{length-drop, length-map}
+use Rattle.std.proofs.lemmas.List.{length-drop, length-map, take_more_set}
 use Rattle.crx_text.specs.meaning.Columns.{columns, is_blank, without_end_blanks}
 use Rattle.crx_text.specs.meaning.Texts.{by_position, is_printable, is_kept}
 use Rattle.crx_text.specs.Texts.{character_of, patched}
@@ -13,7 +13,7 @@ use Rattle.crx_text.specs.declared.code.Code.{Code}
 use Rattle.crx_text.specs.declared.code.Code.TheVariants.{Missing}
 use Rattle.crx_lines.specs.declared.limits.TheConstants.{OBSERVATION_WIDTH}
 use Rattle.crx_lines.specs.declared.fault.Fault.{Fault}
-use Rattle.crx_lines.specs.declared.fault.Fault.TheVariants.{BadFlags, OutOfMemory, Truncated}
+use Rattle.crx_lines.specs.declared.fault.Fault.TheVariants.{BadFlags, Truncated}
 use Rattle.std.proofs.Math.Path.{fun_ext}
 use Rattle.crx_rinex.specs.meaning.EachPlace.{each_place}
 use Rattle.crx_compact.specs.meaning.Sequences.{and_then}
@@ -209,21 +209,13 @@ line-from line at = ap (λ n. take n (drop at line)) (sym (length-drop at line))
 
 -- ---- faults as they are reported
 
-pub cells-refused : (arcs : List (Option ArcTail))
-    (flags : List ℕ) (satellite : Satellite) (line : List ℕ) (fault : Fault) → begins_epoch line ≡ false
-    → (cells_read (value_at_place arcs) (cells_of satellite.count line) ≡ Err fault) ⊎ (fault ≡ OutOfMemory)
-    → (row_held_from arcs flags satellite line ≡ Err fault) ⊎ (fault ≡ OutOfMemory)
-cells-refused arcs flags satellite line fault h (inl e) = inl (line-fault arcs flags satellite line fault h e)
-cells-refused arcs flags satellite line fault h (inr e) = inr e
-
 pub marks-refused : (arcs : List (Option ArcTail)) (flags : List ℕ)
     (satellite : Satellite) (line : List ℕ) (left : List (Option ArcTail)) (at : ℕ) (fault : Fault)
     → begins_epoch line ≡ false → CellsAreRead arcs satellite.count line left at
-    → ((are_marks satellite.count (drop at line) ≡ false) × (fault ≡ BadFlags)) ⊎ (fault ≡ OutOfMemory)
-    → (row_held_from arcs flags satellite line ≡ Err fault) ⊎ (fault ≡ OutOfMemory)
-marks-refused arcs flags satellite line left at fault h read (inl e) =
-    inl (line-bad_marks arcs flags satellite line left at h read e.0 ∙ ap Err (sym e.1))
-marks-refused arcs flags satellite line left at fault h read (inr e) = inr e
+    → (are_marks satellite.count (drop at line) ≡ false) × (fault ≡ BadFlags)
+    → row_held_from arcs flags satellite line ≡ Err fault
+marks-refused arcs flags satellite line left at fault h read e =
+    line-bad_marks arcs flags satellite line left at h read e.0 ∙ ap Err (sym e.1)
 
 -- ---- by what was kept of the whole epoch before
 
@@ -299,23 +291,20 @@ pub in-any : {X E : Type 0} (r : Result X E) {P : Type 0} → P → OnOk r P
 in-any (Ok x) h = h
 in-any (Err e) h = tt
 
--- the same fault of two results that are equal
-pub same-fault : {X : Type 0} (r s : Result X Fault)
-    → r ≡ s → (fault : Fault) → (r ≡ Err fault) ⊎ (fault ≡ OutOfMemory) → (s ≡ Err fault) ⊎ (fault ≡ OutOfMemory)
-same-fault r s e fault (inl h) = inl (sym e ∙ h)
-same-fault r s e fault (inr h) = inr h
-
 -- a row that was read is the next one
 pub next-row : (before : Tail) (kept : Option RowTail) (satellite : Satellite)
     (line : List ℕ) (index : ℕ) (left : RowTail) (old new : Tail) → kept ≡ tail_named satellite.name before
-    → take (index + 1) new.rows ≡ take index old.rows ++ left ∷ [] → new.text ≡ old.text → new.clock ≡ old.clock
+    → new.rows ≡ slice_set old.rows index left → index < length old.rows → length left.cells ≡ satellite.count
+    → new.text ≡ old.text → new.clock ≡ old.clock
     → row_held kept satellite line ≡ Ok (record { row = shown_row left; tail = left })
     → IsNextRow before satellite line index old new
-next-row before kept satellite line index left old new found rows text clock h =
+next-row before kept satellite line index left old new found others within many text clock h =
     record {
       left = left;
       read = sym (row-by_tail before satellite line) ∙ ap (λ k. row_held k satellite line) (sym found) ∙ h;
-      rows = rows;
+      rows = ap (take (index + 1)) others ∙ take_more_set old.rows index left within;
+      others = others;
+      many = many;
       text = text;
       clock = clock;
     }

@@ -3,12 +3,12 @@ use Rattle.std.specs.Prelude.{◌≡◌, refl, ℕ, suc, zero, ◌+◌, ◌*◌,
 use Rattle.std.specs.Prelude.{drop, Option, Some, None, Ok, unwrap_or, ℤ, Bool, true, false, ◌==◌, Result, Err}
 use Rattle.std.specs.Prelude.{MatchResult, slice_get, is_some, min, IfOk, IfSome, if◌then◌else◌}
 use Rattle.std.specs.Result.{is_ok}
-use Rattle.std.proofs.Common.{sym, ◌∙◌, ap, subst, arith, inl, inr, ◌⊎◌, true≢false, add-one, get_or}
+use Rattle.std.proofs.Common.{sym, ◌∙◌, ap, subst, arith, true≢false, add-one, get_or}
 use Rattle.std.proofs.lemmas.Option.{slice_get_within}
 use Rattle.std.proofs.lemmas.List.{length-take, length-append, length-map, length-take-le, length-drop, map-append}
 use Rattle.std.proofs.lemmas.List.{take_all}
 use Rattle.crx_lines.specs.declared.fault.Fault.{Fault}
-use Rattle.crx_lines.specs.declared.fault.Fault.TheVariants.{BadEpoch, BadFlags, OutOfMemory, Truncated}
+use Rattle.crx_lines.specs.declared.fault.Fault.TheVariants.{BadEpoch, BadFlags, Truncated}
 use Rattle.crx_rinex.specs.meaning.EpochLines.{ObservationHead, satellites_of, begins_epoch, epoch_count}
 use Rattle.crx_rinex.specs.meaning.Printing.{printed_epoch}
 use Rattle.crx_rinex.specs.Epochs.{begun, is_full_epoch, with_row}
@@ -20,7 +20,7 @@ use Rattle.crx_compact.specs.meaning.CompactPlaces.{satellites_of_line}
 use Rattle.crx_compact.specs.Tails.{ArcTail, RowTail, Tail}
 use Rattle.crx_compact.specs.HeldRows.{row_after}
 use Rattle.crx_lines.specs.meaning.Seen.{Content}
-use Rattle.crx_compact.specs.OpenEpochs.{is_faulty, Faulty, HasMade, HasPrintedLines, first_step, held_row, is_idle, line_step, opened_raw, opening}
+use Rattle.crx_compact.specs.OpenEpochs.{Faulty, HasMade, HasPrintedLines, first_step, held_row, is_idle, line_step, opened_raw, opening}
 use Rattle.crx_compact.specs.OpenEpochs.{step_in, tail_for_line, Idle, HeldClock, HeldRow, OpenRawEpoch}
 use Rattle.crx_compact.specs.OpenEpochs.{RawStep, Going, Whole, whole_or_awaiting, past_of_tail}
 use Rattle.crx_compact.specs.OpenEpochs.{raw_step_with_clock}
@@ -356,44 +356,11 @@ row-taken before next later line count satellites epoch after s h e r =
     ∙ ap {B = RawStep} (λ (q : Epoch). made_of before (rows_so_far q later (count + 1) satellites)) (sym r.with)
 
 -- a row that is good makes no fault
-pub row-good : (before next : Tail)
-    (line : List ℕ) (count : ℕ) (satellites : List Satellite) (epoch : Epoch) (s : Satellite)
-    → slice_get satellites count ≡ Some s → is_ok (row_after before s line) ≡ true
-    → is_faulty (step_after before (rows_so_far epoch next count satellites) line) ≡ false
-row-good before next line count satellites epoch s e good = by_result (row_after before s line) refl good
-  where
-    clock : HeldClock
-    clock = record { value = epoch.clock; arc = next.clock }
-
-    so_far : OpenRawEpoch
-    so_far = record {
-      before = before;
-      text = next.text;
-      clock = Some clock;
-      rows = held_rows epoch.rows (take count next.rows);
-      awaited = drop count satellites;
-    }
-
-    none-faulty : (rows : List HeldRow) (awaited : List Satellite)
-        → is_faulty (whole_or_awaiting so_far clock rows awaited) ≡ false
-    none-faulty rows [] = refl
-    none-faulty rows (a ∷ awaited) = refl
-
-    by_result : (r : Result HeldRow Fault) → row_after before s line ≡ r → is_ok r ≡ true
-        → is_faulty (step_after before (rows_so_far epoch next count satellites) line) ≡ false
-    by_result (Err fault) is h = absurd (cc)
-    by_result (Ok held) is h =
-        ap is_faulty (ap {B = RawStep} (λ (ss : List Satellite). line_step so_far (Some clock) ss line)
-        (satellite-here satellites count s e)
-        ∙ row-ok so_far clock s (drop (count + 1) satellites) line held is)
-        ∙ none-faulty (so_far.rows ++ held ∷ []) (drop (count + 1) satellites)
-
 pub row-refused : (before next : Tail)
     (line : List ℕ) (count : ℕ) (satellites : List Satellite) (epoch : Epoch) (s : Satellite) (fault : Fault)
-    → slice_get satellites count ≡ Some s → (row_after before s line ≡ Err fault) ⊎ (fault ≡ OutOfMemory)
-    → (step_after before (rows_so_far epoch next count satellites) line ≡ Faulty fault) ⊎ (fault ≡ OutOfMemory)
-row-refused before next line count satellites epoch s fault e (inr h) = inr h
-row-refused before next line count satellites epoch s fault e (inl h) =
+    → slice_get satellites count ≡ Some s → row_after before s line ≡ Err fault
+    → step_after before (rows_so_far epoch next count satellites) line ≡ Faulty fault
+row-refused before next line count satellites epoch s fault e h =
     let clock : HeldClock = record { value = epoch.clock; arc = next.clock } in
     let so_far : OpenRawEpoch = record {
       before = before;
@@ -402,9 +369,9 @@ row-refused before next line count satellites epoch s fault e (inl h) =
       rows = held_rows epoch.rows (take count next.rows);
       awaited = drop count satellites;
     } in
-    inl (ap {B = RawStep} (λ (ss : List Satellite). line_step so_far (Some clock) ss line)
+    ap {B = RawStep} (λ (ss : List Satellite). line_step so_far (Some clock) ss line)
     (satellite-here satellites count s e)
-    ∙ row-err so_far clock s (drop (count + 1) satellites) line fault h)
+    ∙ row-err so_far clock s (drop (count + 1) satellites) line fault h
 
 -- a satellite's row has its identifier
 named-by_marks : (before : Tail) (s : Satellite) (marks : List ℕ) (cells : List ReadCell) (b : Bool)

@@ -1,18 +1,17 @@
-use Rattle.std.proofs.Common.{rules, ◌≡◌, ◌*◌, ◌-◌, ◌++◌, List, ℕ, length, replicate, sym, ap, ◌∙◌, subst}
+use Rattle.std.proofs.Common.{◌*◌, ◌-◌, ◌++◌, List, ℕ, length, replicate, sym, ap, ◌∙◌, subst}
 use Rattle.crx_text.proofs.Blanks.{columns_are}
 use Rattle.crx_compact.specs.Cells.{AreHeldFlags}
 use Rattle.crx_compact.proofs.soundness.SoundTexts.{columns-held}
 use Rattle.crx_compact.proofs.held.hold_columns.Goals as goal
 
-pub returns-in-Ok-clause-ok : goal.returns-in-Ok-clause-ok
-returns-in-Ok-clause-ok c =
+pub returns-clause-columns : goal.returns-clause-columns
+returns-clause-columns c =
     let text : List ℕ = c.first_bytes.result.now in
-    let width : ℕ = 2 * c.args.count in
-    let padded : c.pad.new.held.items ≡ text ++ replicate (width - length text) 32 = search rules in
-    padded ∙ ap (λ (t : List ℕ). t ++ replicate (width - length t) 32) c.first_bytes.ensures
-    ∙ sym (columns_are c.args.flags.now 1 width)
+    c.put_flags.ensures ∙ ap (λ n. text ++ replicate (n - length text) 32) c.requires.sized
+    ∙ ap (λ (t : List ℕ). t ++ replicate (2 * c.args.count - length t) 32) c.first_bytes.ensures
+    ∙ sym (columns_are c.args.flags.now 1 (2 * c.args.count))
 
-pub returns-in-Ok-clause-kept : goal.returns-in-Ok-clause-kept
-returns-in-Ok-clause-kept c =
-    subst AreHeldFlags (sym (returns-in-Ok-clause-ok c))
+pub returns-clause-kept : goal.returns-clause-kept
+returns-clause-kept c =
+    subst AreHeldFlags (sym (returns-clause-columns c))
     (columns-held c.args.count c.args.flags.now c.requires.allowed c.requires.flags)

@@ -1,18 +1,19 @@
-use Rattle.std.proofs.Common.{◌≡◌, [], List, ℕ, Result, Ok, Err, OnOk, OnErr, refl, sym, subst, arith, rules}
+use Rattle.std.proofs.Common.{◌∙◌, ap, arith, drop, length, rules, subst, sym}
+use Rattle.std.proofs.lemmas.List.{take_at}
 use Rattle.crx_compact.specs.Cells.{AreHeldFlags}
 use Rattle.crx_compact.proofs.soundness.SoundTexts.{flags-held}
 use Rattle.crx_compact.proofs.held.HeldSatellite.begin.Goals as goal
 
-either-held : {X E : Type 0} (result : Result X E) (flags next : List ℕ)
-    → OnOk result (flags ≡ next) → OnErr result (flags ≡ []) → AreHeldFlags next → AreHeldFlags flags
-either-held (Ok x) flags next is none held = subst AreHeldFlags (sym is) held
-either-held (Err e) flags next is none held =
-    subst AreHeldFlags (sym none) (record { within = omega arith; kept = refl })
-
 pub invariant_of-self-2 : goal.invariant_of-self-2
-invariant_of-self-2 c = (
-  either-held c.renew_flags.result
-      c.renew_flags.new.flags.items c.flags-2.result.now c.renew_flags.ensures.ok c.renew_flags.ensures.err
-      (subst AreHeldFlags (sym c.flags-2.ensures.value) (flags-held c.args.row.now c.flags-2.ensures.sound)),
-  search rules,
-)
+invariant_of-self-2 c =
+    let flags = c.copy_text.new.to in
+    let same = c.copy_text.auto.to in
+    let seen = c.deref_mut.ensures.len in
+    let paired = c.resize_types.ensures.paired in
+    let value = ap length c.deref_mut.ensures.value in
+    rw (take_at flags (drop (length flags) c.resize_types.new.flags.items) c.resize_types.new.flags.len
+    (omega (arith, same, seen))) (
+      subst AreHeldFlags (sym (c.copy_text.ensures ∙ c.flags.ensures.value)) (flags-held c.args.row.now c.flags.ensures.sound),
+      search rules,
+      omega (arith, same, value, paired),
+    )

@@ -4,7 +4,7 @@ use Rattle.crx_lines.specs.declared.fault.Fault.{Fault}
 use Rattle.crx_compact.specs.HeldRows.{row_held, row_held_from}
 use Rattle.crx_compact.specs.OpenEpochs.{HeldRow}
 use Rattle.crx_compact.specs.Tails.{ArcTail, RowTail}
-use Rattle.crx_compact.proofs.reading.Marks.{if-err, on-ok, row-trimmed, same-fault}
+use Rattle.crx_compact.proofs.reading.Marks.{if-err, on-ok, row-trimmed}
 use Rattle.crx_compact.proofs.held.HeldSatellite.read.Goals as goal
 
 pub returns-in-Some-clause-ok : goal.returns-in-Some-clause-ok
@@ -37,4 +37,4 @@ returns-in-Some-clause-err c =
     (sym c.deref-in-Some.ensures.value)
     ∙ ap {B = Result HeldRow Fault} (λ (xs : List (Option ArcTail)). row_held_from xs c.deref-in-Some.result.now satellite line)
     (sym c.deref.ensures.value) in
-    if-err c.read_from.result _ _ (λ fault. same-fault _ _ (sym same) fault) c.read_from.ensures.err
+    if-err c.read_from.result _ _ (λ fault refused. same ∙ refused) c.read_from.ensures.err

@@ -1,15 +1,15 @@
 use Rattle.std.proofs.lemmas.Result.{err_from_is_err_and}
-use Rattle.std.proofs.Common.{◌≡◌, drop, length, inl, arith}
+use Rattle.std.proofs.Common.{drop, length, arith}
 use Rattle.std.proofs.lemmas.List.{take_at}
-use Rattle.crx_compact.proofs.reading.Marks.{cells-refused, if-err, line-from, line-held, marks-refused, on-both}
+use Rattle.crx_compact.proofs.reading.Marks.{if-err, line-fault, line-from, line-held, marks-refused, on-both}
 use Rattle.crx_compact.proofs.held.HeldSatellite.read_from.Goals as goal
 
 pub returns-in_err-at-clause-err : goal.returns-in_err-at-clause-err
 returns-in_err-at-clause-err c =
     let p = err_from_is_err_and c.from_residual.result c.from_residual.ensures.1 in
     rw (p.1, p.2) (
-    cells-refused c.args.arcs.now c.args.flags.now c.args.satellite.now c.args.line.now _ c.requires.other
-    (inl (rw (c.count-count.ensures.value) at c.in_err-at.ensures.err)))
+    line-fault c.args.arcs.now c.args.flags.now c.args.satellite.now c.args.line.now _ c.requires.other
+    (rw (c.count-count.ensures.value) at c.in_err-at.ensures.err))
 
 pub returns-clause-err : goal.returns-clause-err
 returns-clause-err c =
@@ -29,10 +29,16 @@ returns-clause-ok c =
     let marks = rw (line-from c.args.line.now at, c.count-count.ensures.value) at c.read_indicators.ensures.marks in
     let held = rw (line-from c.args.line.now at, c.count-count.ensures.value) at c.read_indicators.ensures.held in
     let arcs = c.read_cells.new.arcs in
-    let long : length arcs ≡ c.resize_arcs.new.arcs.len = let a =
-    c.read_cells.auto.arcs in let b = c.deref_mut.ensures.len in omega (arith, a, b) in
-    rw (take_at arcs (drop (length arcs) c.resize_arcs.new.arcs.items) c.resize_arcs.new.arcs.len long)
+    let flags = c.read_indicators.new.held in
+    let a = c.read_cells.auto.arcs in
+    let b = c.deref_mut.ensures.len in
+    let e = c.read_indicators.auto.held in
+    let d = c.deref_mut-2.ensures.len in
+    rw (
+      take_at arcs (drop (length arcs) c.self.inside.arcs.items) c.self.inside.arcs.len (omega (arith, a, b)),
+      take_at flags (drop (length flags) c.self.inside.flags.items) c.self.inside.flags.len (omega (arith, e, d)),
+    )
     (on-both c.read_indicators.result (λ good kept.
     line-held c.args.arcs.now c.args.flags.now c.args.satellite.now
-    c.args.line.now arcs at _ _ c.requires.other (rw (c.count-count.ensures.value) at c.in_ok-at.ensures.ok)
+    c.args.line.now c.read_cells.new.arcs at _ _ c.requires.other (rw (c.count-count.ensures.value) at c.in_ok-at.ensures.ok)
     good c.name-self-inside.ensures.value kept) marks held)

@@ -1,4 +1,8 @@
-use Rattle.std.proofs.Common.{◌≡◌, true, refl, Result, Ok, Err}
+use Rattle.std.proofs.Common.{◌≡◌, true, refl, List, ℕ, Result, Ok, Err, ap, subst, sym}
+use Rattle.crx_compact.specs.meaning.EpochText.{Satellite}
+use Rattle.crx_compact.specs.HeldRows.{HaveRows}
+use Rattle.crx_compact.specs.OpenLines.{AreAnnounced}
+use Rattle.crx_compact.specs.Tails.{Tail}
 use Rattle.std.specs.Result.{is_ok}
 use Rattle.crx_lines.specs.declared.fault.Fault.{Fault}
 use Rattle.crx_compact.specs.meaning.Sequences.{and_then}
@@ -6,8 +10,13 @@ use Rattle.crx_compact.proofs.reading.Opening.{announced}
 use Rattle.crx_compact.proofs.incoming.Incoming.begin.Goals as goal
 
 pub invariant_of-self-in-Ok-read_epoch_line : goal.invariant_of-self-in-Ok-read_epoch_line
-invariant_of-self-in-Ok-read_epoch_line c = announced c.args.types.now c.args.before.now c.if-not-is_roomy.self-inside.next c.read_epoch_line.new.self
-    c.args.line.now c.read_epoch_line.new.satellites c.in-Ok-read_epoch_line.ensures.ok c.in-Ok-read_epoch_line.ensures.text
+invariant_of-self-in-Ok-read_epoch_line c =
+    let satellites = c.read_epoch_line.new.satellites in (
+      subst (λ (t : List ℕ). AreAnnounced t satellites) (sym (ap (λ (t : Tail). t.text) c.make_rows.ensures.others))
+          (announced c.args.types.now c.args.before.now c.if-not-is_roomy.self-inside.next c.read_epoch_line.new.self
+          c.args.line.now satellites c.in-Ok-read_epoch_line.ensures.ok c.in-Ok-read_epoch_line.ensures.text),
+      subst (λ (ss : List Satellite). HaveRows ss c.make_rows.new.self.rows) c.as_slice.ensures c.in-Ok-make_rows.ensures.rows,
+    )
 
 -- what goes on from a good result is good
 still-good : {X Y : Type 0} (r : Result X Fault) (f : X → Y)

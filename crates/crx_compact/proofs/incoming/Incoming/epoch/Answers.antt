@@ -11,7 +11,7 @@ pub epoch-requires : goal.epoch-requires
 epoch-requires c =
     let self = c.self.inside in
     let all = all-read self.stage self.next self.count self.satellites c.args.self.now
-    c.self.view_is c.self.invariant c.requires.whole in
+    c.self.view_is c.self.invariant.0 c.requires.whole in
     let P : List Satellite → Type 0 = λ ss. AreRowsSoFar (shown_epoch self.next (length ss)) self.next (length ss) ss in
     let Q : ℕ → Type 0 = λ n. AreRowsSoFar (shown_epoch self.next n) self.next n self.satellites in
     subst P (sym c.as_slice-satellites.ensures) (subst Q all.many all.rows)
@@ -20,7 +20,7 @@ pub returns-clause-ok : goal.returns-clause-ok
 returns-clause-ok c =
     let self = c.self.inside in
     let all = all-read self.stage self.next self.count self.satellites c.args.self.now
-    c.self.view_is c.self.invariant c.requires.whole in
+    c.self.view_is c.self.invariant.0 c.requires.whole in
     let many : length c.as_slice-satellites.result.now ≡ self.count =
     ap {B = ℕ} (λ (ss : List Satellite). length ss) c.as_slice-satellites.ensures ∙ sym all.many in
     if-ok c.epoch.result _ _ (λ (epoch : Epoch) is. is ∙ ap (shown_epoch self.next) many ∙ sym all.epoch)
@@ -30,7 +30,7 @@ pub returns-clause-memory : goal.returns-clause-memory
 returns-clause-memory c =
     let self = c.self.inside in
     let all = all-read self.stage self.next self.count self.satellites c.args.self.now
-    c.self.view_is c.self.invariant c.requires.whole in
+    c.self.view_is c.self.invariant.0 c.requires.whole in
     let many : length c.as_slice-satellites.result.now ≡ self.count =
     ap {B = ℕ} (λ (ss : List Satellite). length ss) c.as_slice-satellites.ensures ∙ sym all.many in
     let rows : length (epoch_so_far c.args.self.now).rows ≡ self.count =

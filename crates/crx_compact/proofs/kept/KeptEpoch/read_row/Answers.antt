@@ -1,40 +1,43 @@
-use Rattle.std.proofs.lemmas.Result.{err_from_is_err_and}
-use Rattle.std.proofs.Common.{◌++◌, ◌∷◌, [], List, ℕ, length, slice_set, take, ap, ◌∙◌, arith}
-use Rattle.std.proofs.lemmas.List.{take_more_set}
+use Rattle.std.proofs.Common.{◌≡◌, List, ℕ, length, slice_index_or, slice_set, ap, ◌∙◌, sym}
+use Rattle.std.proofs.lemmas.Option.{slice_get_within}
 use Rattle.crx_compact.specs.meaning.Sequences.{named}
 use Rattle.crx_compact.specs.Tails.{RowTail, Tail}
 use Rattle.crx_compact.specs.HeldRows.{row_held}
-use Rattle.crx_compact.proofs.reading.Marks.{next-row, row-by_tail, same-fault}
+use Rattle.crx_compact.proofs.Making.{value-there}
+use Rattle.crx_compact.proofs.reading.Marks.{if-err, next-row, on-ok, row-by_tail}
 use Rattle.crx_compact.proofs.kept.KeptEpoch.read_row.Goals as goal
 
 pub returns-clause-ok : goal.returns-clause-ok
 returns-clause-ok c =
     let before = c.args.before.now in
     let index = c.args.index in
-    let next = c.requires.next in
-    let seen = ap (λ (t : Tail). length t.rows) c.self.view_is in
+    let room = c.requires.room in
     let found = c.find-kept.ensures
     ∙ ap (λ (name : List ℕ). named (λ (r : RowTail). r.name) name before.rows) c.name-name.ensures.value in
+    let here : c.index_mut.result.now ≡ room.row =
+    c.index_mut.ensures.value
+    ∙ ap (λ (t : Tail). slice_index_or t.rows index c.index_mut.result.now) c.self.view_is
+    ∙ value-there c.args.self.now.rows index room.row _ room.there in
+    on-ok c.read.result (λ read.
     next-row before _ c.args.satellite.now c.args.line.now index c.read.new.self c.args.self.now
     (record {
       text = c.self.inside.text.items;
       clock = c.self.inside.clock;
-      rows = slice_set c.make_room.new.satellites.items index c.read.new.self;
+      rows = slice_set c.self.inside.satellites.items index c.read.new.self;
     })
     found
-    (take_more_set c.make_room.new.satellites.items index c.read.new.self c.in-Ok.ensures.room
-    ∙ ap (λ xs. xs ++ c.read.new.self ∷ []) (c.in-Ok.ensures.same index (omega (arith, next, seen))
-    ∙ ap (λ (t : Tail). take index t.rows) c.self.view_is))
+    (ap (λ (t : Tail). slice_set t.rows index c.read.new.self) c.self.view_is)
+    (slice_get_within c.args.self.now.rows index room.row room.there)
+    (c.read.ensures.sized ∙ ap (λ (r : RowTail). length r.cells) here ∙ room.many)
     (ap (λ (t : Tail). t.text) c.self.view_is)
     (ap (λ (t : Tail). t.clock) c.self.view_is)
-    c.in_ok-read.ensures.ok
+    read) c.read.ensures.ok
 
-pub returns-in_err-read-clause-err : goal.returns-in_err-read-clause-err
-returns-in_err-read-clause-err c =
-    let p = err_from_is_err_and c.from_residual.result c.from_residual.ensures.1 in
-    rw (p.1, p.2) (
+pub returns-clause-err : goal.returns-clause-err
+returns-clause-err c =
     let before = c.args.before.now in
     let found = c.find-kept.ensures
     ∙ ap (λ (name : List ℕ). named (λ (r : RowTail). r.name) name before.rows) c.name-name.ensures.value in
-    same-fault _ _ (ap (λ kept. row_held kept c.args.satellite.now c.args.line.now) found
-    ∙ row-by_tail before c.args.satellite.now c.args.line.now) _ c.in_err-read.ensures.err)
+    if-err c.read.result _ _ (λ fault refused.
+    sym (ap (λ kept. row_held kept c.args.satellite.now c.args.line.now) found
+    ∙ row-by_tail before c.args.satellite.now c.args.line.now) ∙ refused) c.read.ensures.err

@@ -1,5 +1,5 @@
 use Rattle.std.specs.Prelude.{◌≤◌, ◌-◌, length}
-use Rattle.crx_compact.proofs.held.resize_other_arcs.Given as goal
+use Rattle.crx_compact.proofs.held.add_arcs.Given as goal
 
 abbrev pub invariant-loop-arcs : goal.invariant-loop-arcs
 invariant-loop-arcs l = length l.arcs.items ≤ l.count

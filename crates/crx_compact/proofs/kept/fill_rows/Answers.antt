@@ -1,0 +1,18 @@
+use Rattle.std.proofs.Common.{◌∙◌}
+use Rattle.crx_compact.proofs.reading.RoomForRows.{room-all, room-more}
+use Rattle.crx_compact.proofs.reading.ShownRows.{get-there}
+use Rattle.crx_compact.proofs.kept.fill_rows.Goals as goal
+
+pub loop-place-preserved : goal.loop-place-preserved
+loop-place-preserved c =
+    room-more c.args.satellites.now c.loop-place.rows.items c.make_room.new.satellites.items c.loop-place.place
+    c.index-satellites-place.result c.resize.new.self
+    (c.in_ok-make_room.ensures.same c.loop-place.place c.loop-place.invariant.0) c.in_ok-make_room.ensures.room
+    (get-there c.args.satellites.now c.loop-place.place c.index-satellites-place.result c.loop-place-test.true
+    c.index-satellites-place.is)
+    (c.in_ok-resize.ensures ∙ c.count.ensures.value) c.loop-place.invariant.1
+
+pub returns : goal.returns
+returns c =
+    room-all c.args.satellites.now c.loop-place.rows.items c.loop-place.place
+    c.loop-place.auto.place-end c.loop-place-test.false c.loop-place.invariant.1

@@ -1,0 +1,87 @@
+-- That memory ran out is no fault of a satellite's line.
+use Rattle.std.specs.Prelude.{◌≡◌, ℕ, suc, ℤ, List, [], ◌∷◌, Bool, true, false, Option, None, Some, Result, Ok, Err}
+use Rattle.std.specs.Prelude.{if◌then◌else◌}
+use Rattle.std.proofs.Common.{◌∙◌, ap}
+use Rattle.crx_text.specs.declared.code.Code.{Code}
+use Rattle.crx_text.specs.declared.code.Code.TheVariants.{Missing, Start, Step}
+use Rattle.crx_text.specs.meaning.Codes.{code_of}
+use Rattle.crx_lines.specs.declared.fault.Fault.{Fault}
+use Rattle.crx_lines.specs.declared.fault.Fault.TheVariants.{BadField, BadFlags, OutOfMemory, OutOfRange, Truncated}
+use Rattle.crx_lines.specs.declared.limits.TheConstants.{OBSERVATION_WIDTH}
+use Rattle.crx_rinex.specs.meaning.EpochLines.{begins_epoch}
+use Rattle.crx_compact.specs.meaning.Sequences.{and_then, before_all}
+use Rattle.crx_compact.specs.meaning.EpochText.{Satellite}
+use Rattle.crx_compact.specs.meaning.Expansion.{in_range, is_within}
+use Rattle.crx_compact.specs.meaning.CompactPlaces.{ReadCell, ReadRow, are_marks, cell_read, cells_read, cells_of}
+use Rattle.crx_compact.specs.meaning.CompactPlaces.{after_cells, row_of_cells, row_of_line, row_with_marks}
+use Rattle.crx_compact.specs.meaning.CompactPlaces.{satellite_line_read}
+use Rattle.crx_compact.specs.OpenEpochs.{HeldRow, held_row, past_of_tail}
+use Rattle.crx_compact.specs.HeldRows.{row_after}
+use Rattle.crx_compact.specs.Steps.{cell_of_tail, tail_named, value_of_code}
+use Rattle.crx_compact.specs.Tails.{ArcTail, Tail}
+
+abbrev fault_in : {X : Type 0} → Result X Fault → Fault
+fault_in (Ok x) = Truncated
+fault_in (Err fault) = fault
+
+-- a result isn't that memory ran out
+abbrev NoMemory : {X : Type 0} → Result X Fault → Type 0
+NoMemory r = fault_in r ≡ OutOfMemory → ⊥
+
+and-then-none : {X Y : Type 0} (r : Result X Fault) (f : X → Result Y Fault)
+    → NoMemory r → ((x : X) → NoMemory (f x)) → NoMemory (and_then r f)
+and-then-none (Ok x) f h k = k x
+and-then-none (Err fault) f h k = h
+
+range-none : (width : ℕ) (number : ℤ) → NoMemory (in_range width number)
+range-none width number = by_range (is_within width number)
+  where
+    by_range : (b : Bool) → NoMemory {X = Option ℤ} (if b then Ok (Some number) else Err OutOfRange)
+    by_range true = λ e. cc
+    by_range false = λ e. cc
+
+value-none : (width : ℕ) (code : Code) (arc : Option ArcTail) → NoMemory (value_of_code width code arc)
+value-none width Missing arc = λ e. cc
+value-none width (Start order number) arc = range-none width number
+value-none width (Step number) None = λ e. cc
+value-none width (Step number) (Some arc) = range-none width _
+
+cell-none : (malformed : Fault) (value : Code → Result (Option ℤ) Fault) → (malformed ≡ OutOfMemory → ⊥)
+    → ((code : Code) → NoMemory (value code)) → (code : Option Code) → NoMemory (cell_read malformed value code)
+cell-none malformed value m h None = m
+cell-none malformed value m h (Some code) =
+    and-then-none {Y = ReadCell} (value code) (λ v. Ok (record { code = code; value = v })) (h code) (λ v e. cc)
+
+cells-none : (value : ℕ → Code → Result (Option ℤ) Fault)
+    → ((place : ℕ) (code : Code) → NoMemory (value place code)) → (texts : List (List ℕ)) → NoMemory (cells_read value texts)
+cells-none value h [] = λ e. cc
+cells-none value h (text ∷ texts) =
+    and-then-none (cell_read BadField (value 0) (code_of text))
+    (λ (cell : ReadCell). before_all cell (cells_read (λ place. value (suc place)) texts))
+    (cell-none BadField (value 0) (λ e. cc) (h 0) (code_of text))
+    (λ cell. before cell (cells_read (λ place. value (suc place)) texts)
+    (cells-none (λ place. value (suc place)) (λ place. h (suc place)) texts))
+  where
+    before : (cell : ReadCell) (r : Result (List ReadCell) Fault) → NoMemory r → NoMemory (before_all cell r)
+    before cell (Ok cells) k = λ e. cc
+    before cell (Err fault) k = k
+
+pub no-memory-at-row : (before : Tail) (s : Satellite) (line : List ℕ) (fault : Fault)
+    → row_after before s line ≡ Err fault → fault ≡ OutOfMemory → ⊥
+no-memory-at-row before s line fault e out =
+    and-then-none {Y = HeldRow} (satellite_line_read (past_of_tail before) s line)
+    (λ read. Ok (held_row before read)) (by_start (begins_epoch line)) (λ read h. cc) (ap fault_in e ∙ out)
+  where
+    by_marks : (cells : List ReadCell) (b : Bool) → NoMemory {X = ReadRow} (if b
+        then Ok (row_of_cells (past_of_tail before) s.name (after_cells s.count line) cells) else Err BadFlags)
+    by_marks cells true = λ e. cc
+    by_marks cells false = λ e. cc
+
+    by_start : (b : Bool) → NoMemory {X = ReadRow} (if b then Err Truncated else row_of_line (past_of_tail before) s line)
+    by_start true = λ e. cc
+    by_start false =
+        and-then-none (cells_read ((past_of_tail before).value s.name) (cells_of s.count line))
+        (λ cells. row_with_marks (past_of_tail before) s (after_cells s.count line) cells)
+        (cells-none ((past_of_tail before).value s.name) (λ place code.
+        value-none OBSERVATION_WIDTH code (cell_of_tail place (tail_named s.name before))) (cells_of s.count line))
+        (λ cells. by_marks cells (are_marks s.count (after_cells s.count line)))
