@@ -26,13 +26,13 @@ def cited(path, traits):
 # the promises, each with the definitions that say it, and what it is in words
 PROMISES = (
     ("Compaction", ("compacted",), "what `compact` writes, reports and answers, for a whole input"),
-    ("Expansion", ("expanded",), "the same of `expand`"),
-    ("The report", ("checked",), "the same of `check`, with what a standard file is"),
+    ("Expansion", ("expanded",), "what `expand` writes, reports and answers, for a whole input"),
+    ("The report", ("checked",), "what `check` writes, reports and answers, and what a standard file is"),
     ("Readers and writers", cited(DEVICES, ("Source", "Sink")), "what the clauses of the traits `Source` and `Sink` say of them"),
     ("Failing devices and memory", ("Runs", "Keeps", "span", "reader_span", "compaction_filter", "expansion_filter", "check_filter"), "what a run is where a reader, a writer or memory fails: the clause `runs`"),
-    ("The way back", ("BringsBackWhatWasCompacted", "CallBringsBackWhatWasCompacted"), "the clause `way_back` of `expand`"),
-    ("Damage", ("SavesAllElse", "CallSavesAllElse"), "the clause `salvage` of `expand`"),
-    ("Standard files", ("JudgesStandard", "CallJudgesStandard"), "the clause `standard` of `check`"),
+    ("The way back", ("BringsBackWhatWasCompacted", "CallBringsBackWhatWasCompacted"), "what the clause `way_back` of `expand` says"),
+    ("Damage", ("SavesAllElse", "CallSavesAllElse"), "what the clause `salvage` of `expand` says"),
+    ("Standard files", ("JudgesStandard", "CallJudgesStandard"), "what the clause `standard` of `check` says"),
     ("The program", ("plan_of", "IsRefused", "IsHelped", "IsJobDone", "IsNotBegun"), "what the arguments ask for, what is done, and what is shown where nothing is run: the clauses `done`, `refused` and `help` of `run`"),
     ("The library for C", ("IsAnswer", "IsDateRefused", "IsTooLong", "HasNoMemory", "CallIsOutOfMemory", "rooms", "choices_of"),
         "what its calls over whole inputs answer, and what stands in the caller's memory after them"),
@@ -40,19 +40,21 @@ PROMISES = (
 
 HEAD = """# Reading
 
-This page lists what one has to read, and believe, to know what is claimed. A proof can't find one kind of error: the definitions may say
-something else than RINEX 3.05 and Compact RINEX 3.0 do. The definitions to believe stand in the folders `crates/*/specs/meaning`. This
-page lists those that the promises use, file by file, each file after those that it uses. The other files of `crates/*/specs` say how
-code and proofs see things, and need not be believed for these promises, which are those of `compact`, `expand`, `check`, `run` and the
-library for C, and what the traits `Source` and `Sink` say of readers and writers: `docs/reading.py`, which writes this page from the
-sources, stops where one of them uses a definition of theirs. The gate compares the page. Clauses of the engines' own calls
-(`Compactor`, `Expander`), and of the readers for C that take an input in pieces, name the state of an engine too: for the latter read
-`Going`, `Handles` and `Opened` of `crates/rnxcmp_c/specs`.
+This page lists what one has to read, and believe, to know what is claimed. There is one kind of error that a proof can't find: the
+definitions may say something else than RINEX 3.05 and Compact RINEX 3.0 do. The definitions to believe stand in the folders
+`crates/*/specs/meaning`. This page lists those that the promises use, file by file, each file after those that it uses. The promises are
+those of `compact`, `expand`, `check`, `run` and the library for C, and what the traits `Source` and `Sink` say of readers and writers.
 
-More has to be read. The public calls `compact`, `expand` and `check` (`crates/crx_filter/src`) and `run` (`crates/crx_program/src/program.rt`)
-have the contracts that use these definitions. The traits `Source` and `Sink` (`crates/crx_lines/src/device.rt`) say what readers and
-writers are. Contracts and definitions cite constants: `limits.rt` of crx_lines, `labels.rt` of crx_rinex, `crinex.rt` of crx_engine and
-`answer.rt` of rnxcmp_c have them. README.md says what else is trusted. docs/FORMATS.md describes the formats in words.
+The other files of `crates/*/specs` say how code and proofs see things. They need not be believed for these promises, which use no
+definition of theirs: `docs/reading.py`, which writes this page from the sources, stops where one does. The gate compares the page with what
+the script writes. The clauses of the engines' own calls (`Compactor`, `Expander`), and those of the library's handles, name the state of an
+engine too: for handles read `Going`, `Handles` and `Opened` of `crates/rnxcmp_c/specs`.
+
+More has to be read. The public calls `compact`, `expand` and `check` (`crates/crx_filter/src`), `run` (`crates/crx_program/src/program.rt`)
+and those of the library (`crates/rnxcmp_c/src/exports.rt`) have the contracts that use these definitions. The traits `Source` and `Sink`
+(`crates/crx_lines/src/device.rt`) say what readers and writers are. Contracts and definitions cite constants: `limits.rt` of crx_lines,
+`labels.rt` of crx_rinex, `crinex.rt` of crx_engine and `answer.rt` of rnxcmp_c have them. README.md says what else is trusted.
+docs/FORMATS.md describes the formats in words.
 
 ## The words of the subject
 
