@@ -82,6 +82,12 @@ is_faulty (Going begun) = false
 is_faulty (Whole held) = false
 is_faulty (Faulty fault) = true
 
+-- whether a line is the last one of its epoch
+abbrev pub makes_epoch : RawStep → Bool
+makes_epoch (Going begun) = false
+makes_epoch (Whole held) = true
+makes_epoch (Faulty fault) = false
+
 -- ---- the epoch line
 
 abbrev pub opened_raw : List Count → List ℕ → Option Tail → Result OpenRawEpoch Fault

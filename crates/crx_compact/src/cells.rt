@@ -1,6 +1,6 @@
 //! The cells of a satellite line: values to codes and back, each after its arc.
 
-ghost use Rattle.std.specs.Prelude.{◌≡◌, ◌≤◌, ◌<◌, ◌+◌, ◌++◌, ◌∷◌, [], ◌*◌, ◌^◌, None, Ok, Err, length, slice_index_or, slice_set, map, take, OnOk, IfOk, IfErr, IfSome, IfNone, OnErr, OnSome, Some, Option};
+ghost use Rattle.std.specs.Prelude.{◌≡◌, ◌≤◌, ◌<◌, ◌+◌, ◌++◌, ◌∷◌, [], ◌*◌, ◌^◌, None, Ok, Err, drop, length, slice_index_or, slice_set, map, take, OnOk, IfOk, IfErr, IfSome, IfNone, OnErr, OnSome, Some, Option};
 ghost use Rattle.std.specs.List.{flat_map};
 ghost use Rattle.crx_text.specs.meaning.Columns.{columns};
 ghost use Rattle.crx_rinex.specs.meaning.Printing.{printed_cells};
@@ -9,7 +9,7 @@ ghost use Rattle.crx_lines.specs.declared.limits.TheConstants.{CELL_WIDTH};
 ghost use Rattle.crx_compact.specs.ShownRows.{shown_value};
 ghost use Rattle.crx_text.specs.Numbers.{IsObservation};
 ghost use Rattle.crx_rinex.specs.meaning.SatelliteLines.{IsValue};
-ghost use Rattle.crx_text.specs.meaning.Codes.{code_of, first_cell};
+ghost use Rattle.crx_text.specs.meaning.Codes.{after_cell, code_of, first_cell};
 ghost use Rattle.crx_text.specs.Codes.{IsPrintable, IsShort};
 ghost use Rattle.crx_compact.specs.declared.cells.TheConstants.{CELL_ROOM};
 ghost use Rattle.crx_compact.specs.Cells.{arcs_of_row, codes_of_row, value_at_place, CellsAreRead, IsCellRead};
@@ -144,7 +144,6 @@ fn write_known_value(
 /// Puts the arc of a cell after its next code in its place among others.
 ///
 /// `NoArc` and `OutOfRange` come as by [`ObsArc::apply`].
-#[inline(never)]
 fn apply_at(
     before: &[ObsArc],
     place: usize,
@@ -188,6 +187,32 @@ fn read_any_cell(
     Ok(length)
 }
 
+/// Reads the cell that a text begins with, whose code is a difference that was read with the index after it: replaces the arc at the
+/// cell's place, and gives that index; `None` where the value has a fault, and then the arcs are as they were. It is called for the few
+/// differences that aren't of order 3. In the loop over the cells the place for its answer would be cleared for each cell.
+#[inline(never)]
+fn apply_step(
+    before: &[ObsArc],
+    place: usize,
+    text: &[u8],
+    arcs: &mut [ObsArc],
+    number: i64,
+    end: usize,
+) -> Option<usize>
+    requires within { place < length arcs.old }
+    requires short { IsShort number }
+    requires code { code_of (first_cell text.now) ≡ Some (Step number) }
+    requires next { drop end text.now ≡ after_cell text.now }
+    requires inside { end ≤ length text.now }
+    ensures some { IfSome result (λ taken. IsCellRead before.now place text.now arcs.old arcs.new taken) }
+    ensures none { IfNone result (arcs.new ≡ arcs.old) }
+{
+    match apply_at(before, place, Code::Step(number), arcs) {
+        Ok(_) => Some(end),
+        Err(_) => None,
+    }
+}
+
 /// Reads the cell that a text begins with, at a place where the epoch before has an arc, where its code is a difference, as that of most
 /// cells is; `None` where it is another code, has more than seven digits, or has a fault, and then the arcs are as they were. Most
 /// differences are of order 3, for which there is a form of its own.
@@ -201,14 +226,11 @@ fn read_step(before: &[ObsArc], place: usize, text: &[u8], arcs: &mut [ObsArc]) 
     ensures some { IfSome result (λ taken. IsCellRead before.now place text.now arcs.old arcs.new taken) }
     ensures none { IfNone result (arcs.new ≡ arcs.old) }
 {
-    let (number, length) = step_before_blank(text)?;
+    let (number, end) = step_before_blank(text)?;
     if arcs[place].apply_third(&before[place], number).is_some() {
-        return Some(length);
+        return Some(end);
     }
-    match apply_at(before, place, Code::Step(number), arcs) {
-        Ok(_) => Some(length),
-        Err(_) => None,
-    }
+    apply_step(before, place, text, arcs, number, end)
 }
 
 /// Reads the cell that a text begins with as [`read_step`] does, and also a cell without a code.

@@ -12,7 +12,7 @@ ghost use Rattle.crx_compact.specs.meaning.CompactPlaces.{epoch_at};
 ghost use Rattle.crx_compact.specs.ReadBlocks.{HasReadTo, IsReading};
 ghost use Rattle.crx_lines.specs.declared.limits.TheConstants.{LINE_LIMIT};
 ghost use Rattle.crx_rinex.specs.meaning.EpochLines.{begins_epoch, is_event_line};
-ghost use Rattle.crx_compact.specs.OpenEpochs.{awaits_row, is_faulty, is_idle, tail_held, first_step, step_in, Faulty, HasMade, HasPrintedLines};
+ghost use Rattle.crx_compact.specs.OpenEpochs.{awaits_row, is_faulty, is_idle, makes_epoch, tail_held, first_step, step_in, Faulty, HasMade, HasPrintedLines};
 ghost use Rattle.crx_compact.specs.OpenEpochs.ColumnsState.{Idle};
 ghost use Rattle.crx_compact.specs.meaning.Compaction.{Marked, compact_epoch};
 ghost use Rattle.crx_compact.specs.Tails.{tail_left, tail_or_nothing};
@@ -233,18 +233,18 @@ impl Columns {
     /// gives the epoch.
     ///
     /// `Truncated` comes where the line begins with `>`; then `BadClock` for the clock line, `BadField` for a satellite line,
-    /// for both `NoArc` and `OutOfRange`, for a satellite line `BadFlags`; `OutOfMemory` where something can't grow and the line has no
-    /// fault. After a refusal everything is forgotten.
+    /// for both `NoArc` and `OutOfRange`, for a satellite line `BadFlags`; `OutOfMemory` where the line is the last one and has no fault, and
+    /// the epoch can't be made. After a refusal everything is forgotten.
     pub fn feed(&mut self, line: &[u8]) -> Result<Option<Epoch>, Fault>
         requires open { is_idle self.old ≡ false }
         requires short { length line.now ≤ LINE_LIMIT }
         ensures made { IfOk result (λ given. HasMade (step_in self.old (Content line.now)) self.new given) }
         ensures refused { IfErr result
             (λ fault. (step_in self.old (Content line.now) ≡ Faulty fault) ⊎ (fault ≡ Fault.OutOfMemory)) }
-        // Memory runs out only at a satellite's line without a fault.
+        // Memory runs out only at the line of an epoch's last satellite, and only where it has no fault.
         ensures memory { IfErr result (λ fault. fault ≡ Fault.OutOfMemory
             → (begins_epoch line.now ≡ false) × (awaits_row self.old ≡ true)
-            × (is_faulty (step_in self.old (Content line.now)) ≡ false)) }
+            × (makes_epoch (step_in self.old (Content line.now)) ≡ true)) }
         ensures emptied { OnErr result (self.new ≡ Idle None) }
         // After the raw epochs accepted since everything was last forgotten, and the lines of the epoch so far, the line makes
         // what it makes by them: the epoch that is given is the one that stands at these lines.
@@ -268,7 +268,7 @@ impl Columns {
             (λ fault. (step_in self.old (Content line.now) ≡ Faulty fault) ⊎ (fault ≡ Fault.OutOfMemory)) }
         ensures memory { IfErr result (λ fault. fault ≡ Fault.OutOfMemory
             → (begins_epoch line.now ≡ false) × (awaits_row self.old ≡ true)
-            × (is_faulty (step_in self.old (Content line.now)) ≡ false)) }
+            × (makes_epoch (step_in self.old (Content line.now)) ≡ true)) }
         ensures emptied { OnErr result (self.new ≡ Idle None) }
     {
         let before = stands_after(&self.nothing, &self.kept, self.goes_on);
@@ -305,7 +305,7 @@ impl Columns {
             (λ fault. (step_in self.old (Content line.now) ≡ Faulty fault) ⊎ (fault ≡ Fault.OutOfMemory)) }
         ensures memory { IfErr result (λ fault. fault ≡ Fault.OutOfMemory
             → (begins_epoch line.now ≡ false) × (awaits_row self.old ≡ true)
-            × (is_faulty (step_in self.old (Content line.now)) ≡ false)) }
+            × (makes_epoch (step_in self.old (Content line.now)) ≡ true)) }
         ensures emptied { OnErr result (self.new ≡ Idle None) }
         ensures none { OnErr result (lines.new ≡ []) }
     {

@@ -6,7 +6,7 @@ use Rattle.crx_lines.specs.declared.fault.Fault.TheVariants.{OutOfMemory}
 use Rattle.crx_compact.specs.OpenEpochs.{OpenRawEpoch, HeldEpoch, tail_held}
 use Rattle.crx_compact.specs.Tails.{Tail}
 use Rattle.crx_engine.specs.meaning.Choices.{Choices}
-use Rattle.crx_engine.specs.ExpansionByLine.{expansion, is_good_beginning, is_good_row}
+use Rattle.crx_engine.specs.ExpansionByLine.{expansion, is_good_beginning, is_last_row}
 use Rattle.crx_rinex.specs.meaning.ObservationTypes.{Count}
 use Rattle.crx_engine.specs.LineByLine.{Phase, Seen, Made, Fails, Answer, Quiet, Ready, made_in, step_of_made}
 use Rattle.crx_engine.specs.Memory.{may_take_memory}
@@ -64,4 +64,4 @@ TakesOtherLine made line before after is_copied =
 abbrev pub RefusesCompactLine : List Count
     → Option Tail → Made HeldEpoch OpenRawEpoch → Phase OpenRawEpoch → List ℕ → Fault → Type 0
 RefusesCompactLine types tail made phase line fault = (made ≡ Fails fault) ⊎ ((fault ≡ OutOfMemory)
-    × (may_take_memory (is_good_beginning types tail) is_good_row phase (Content line) ≡ true))
+    × (may_take_memory (is_good_beginning types tail) is_last_row phase (Content line) ≡ true))

@@ -10,7 +10,7 @@ use Rattle.crx_rinex.specs.meaning.Observations.{Epoch}
 use Rattle.crx_compact.specs.meaning.CompactPlaces.{ReadEpoch}
 use Rattle.crx_compact.specs.Tails.{Tail, tail_left}
 use Rattle.crx_compact.specs.OpenEpochs.{OpenRawEpoch, HeldEpoch, RawStep, Going, Whole, Faulty, first_step, next_step}
-use Rattle.crx_compact.specs.OpenEpochs.{is_faulty, open_raw_with}
+use Rattle.crx_compact.specs.OpenEpochs.{is_faulty, makes_epoch, open_raw_with}
 use Rattle.crx_engine.specs.meaning.Choices.{Choices}
 use Rattle.crx_engine.specs.meaning.Items.{Item, types_in_force}
 use Rattle.crx_engine.specs.LineByLine.{Phase, InFirstLines, InEpoch, Seen, Made, Completes, Moves, Fails, made_of_line}
@@ -41,9 +41,9 @@ compact_continues so_far line = made_of_raw_step (next_step so_far line)
 abbrev pub is_good_beginning : List Count → Option Tail → List ℕ → Bool
 is_good_beginning types tail line = not (is_faulty (first_step types tail (Content line)))
 
--- a satellite's line takes memory where it has no fault; the clock line before it takes none
-abbrev pub is_good_row : OpenRawEpoch → List ℕ → Bool
-is_good_row so_far line = is_some so_far.clock && not (is_faulty (next_step so_far (Content line)))
+-- the line of the last satellite takes memory where it has no fault; the lines before it, but the epoch line, take none
+abbrev pub is_last_row : OpenRawEpoch → List ℕ → Bool
+is_last_row so_far line = is_some so_far.clock && makes_epoch (next_step so_far (Content line))
 
 -- ---- the state, and what is written
 
@@ -68,7 +68,7 @@ expansion = record {
   begins = compact_begins;
   continues = compact_continues;
   memory_first = is_good_beginning;
-  memory_next = is_good_row;
+  memory_next = is_last_row;
   kept_after = tail_kept;
   kept_open = λ tail. None;
   emptied = λ tail. None;

@@ -355,7 +355,7 @@ row-taken before next later line count satellites epoch after s h e r =
     }))) (sym r.clock)
     ∙ ap {B = RawStep} (λ (q : Epoch). made_of before (rows_so_far q later (count + 1) satellites)) (sym r.with)
 
--- a row that is good makes no fault
+-- a row with a fault
 pub row-refused : (before next : Tail)
     (line : List ℕ) (count : ℕ) (satellites : List Satellite) (epoch : Epoch) (s : Satellite) (fault : Fault)
     → slice_get satellites count ≡ Some s → row_after before s line ≡ Err fault

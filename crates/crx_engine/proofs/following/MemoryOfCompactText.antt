@@ -8,7 +8,8 @@ use Rattle.crx_lines.specs.declared.fault.Fault.{Fault}
 use Rattle.crx_rinex.specs.meaning.ObservationTypes.{Count}
 use Rattle.crx_compact.specs.meaning.CompactPlaces.{ReadEpoch, satellites_of_line}
 use Rattle.crx_compact.specs.meaning.EpochText.{Satellite}
-use Rattle.crx_compact.specs.OpenEpochs.{OpenRawEpoch, RawStep, Going, Whole, Faulty, first_step, is_faulty, next_step}
+use Rattle.crx_compact.specs.OpenEpochs.{OpenRawEpoch, RawStep, Going, Whole, Faulty, first_step, is_faulty, makes_epoch}
+use Rattle.crx_compact.specs.OpenEpochs.{next_step}
 use Rattle.crx_compact.specs.OpenEpochs.{open_raw_after, open_raw_with, opened_raw, opening, past_of_tail, tail_for_line}
 use Rattle.crx_compact.specs.Tails.{Tail}
 use Rattle.crx_compact.specs.meaning.Sequences.{and_then}
@@ -51,6 +52,16 @@ step-takes choices items lines count (Whole held) takes fine a =
     ap (place_takes expansion_takes items count) a.2 ∙ takes true
 step-takes choices items lines count (Faulty fault) takes fine a = absurd (cc)
 
+-- a step that makes an epoch takes memory, where the epoch's last line does
+last-takes : (choices : Choices) (items : List (Item ReadEpoch)) (lines : List ReadLine) (count : ℕ) (step : RawStep)
+    → expansion_takes count true ≡ true → makes_epoch step ≡ true
+    → Agrees choices items lines (made_of_raw_step step)
+    → place_takes expansion_takes items count (compact_beginning items lines) ≡ true
+last-takes choices items lines count (Going so_far) takes last a = absurd (cc)
+last-takes choices items lines count (Whole held) takes last a =
+    ap (place_takes expansion_takes items count) a.2 ∙ takes
+last-takes choices items lines count (Faulty fault) takes last a = absurd (cc)
+
 -- ---- the clock line
 
 abbrev clock_read : RawStep → Bool
@@ -82,9 +93,9 @@ first-clock types tail (Content line) = by-tail types line (tail_for_line tail l
 -- where the clock line has come, two lines stand before the next one
 takes-next : (items : List (Item ReadEpoch)) (lines : List ReadLine) (so_far : OpenRawEpoch)
     → compact_open items lines ≡ Some so_far → is_some so_far.clock ≡ true
-    → (is_whole : Bool) → expansion_takes (length lines) is_whole ≡ true
-takes-next items [] so_far opens read is_whole = absurd (none-some so_far opens)
-takes-next items (line ∷ []) so_far opens read is_whole =
+    → expansion_takes (length lines) true ≡ true
+takes-next items [] so_far opens read = absurd (none-some so_far opens)
+takes-next items (line ∷ []) so_far opens read =
     by_event (begins_event (line ∷ [])) refl
   where
     clock_of : Option OpenRawEpoch → Bool
@@ -96,7 +107,7 @@ takes-next items (line ∷ []) so_far opens read is_whole =
     of_step (Whole held) = refl
     of_step (Faulty fault) = refl
 
-    by_event : (b : Bool) → begins_event (line ∷ []) ≡ b → expansion_takes 1 is_whole ≡ true
+    by_event : (b : Bool) → begins_event (line ∷ []) ≡ b → expansion_takes 1 true ≡ true
     by_event true e = absurd (none-some so_far (sym (closed e) ∙ opens))
       where
         closed : begins_event (line ∷ []) ≡ true → compact_open items (line ∷ []) ≡ None
@@ -110,7 +121,7 @@ takes-next items (line ∷ []) so_far opens read is_whole =
         same : begins_event (line ∷ []) ≡ false → compact_open items (line ∷ [])
             ≡ open_raw_with (types_in_force items) (tail_of_items items) (line ∷ [])
         same h = rw h refl
-takes-next items (one ∷ two ∷ lines) so_far opens read is_whole = refl
+takes-next items (one ∷ two ∷ lines) so_far opens read = refl
 
 takes-always : (is_whole : Bool) → expansion_takes 0 is_whole ≡ true
 takes-always is_whole = refl
@@ -124,11 +135,10 @@ expansion-takes choices = record {
       (not-true (is_faulty (first_step (types_in_force items) (tail_of_items items) (Content line))) good)
       (agree-content choices items line false other);
   next = λ items lines line so_far opens good.
-      let clock = first-true (is_some so_far.clock) (not (is_faulty (next_step so_far (Content line)))) good in
-      step-takes choices items (lines ++ Content line ∷ []) (length lines) (next_step so_far (Content line))
+      let clock = first-true (is_some so_far.clock) (makes_epoch (next_step so_far (Content line))) good in
+      last-takes choices items (lines ++ Content line ∷ []) (length lines) (next_step so_far (Content line))
       (takes-next items lines so_far opens clock)
-      (not-true (is_faulty (next_step so_far (Content line)))
-      (second-true (is_some so_far.clock) (not (is_faulty (next_step so_far (Content line)))) good))
+      (second-true (is_some so_far.clock) (makes_epoch (next_step so_far (Content line))) good)
       (agree-continues choices items lines (Content line) so_far opens);
 }
 

@@ -62,11 +62,11 @@ abbrev pub compaction_takes : ℕ → Bool → Bool
 compaction_takes zero is_whole = is_whole
 compaction_takes (suc count) is_whole = true
 
--- compact text: an epoch's line takes memory, and each satellite's line; the clock line between them doesn't
+-- compact text: an epoch's line takes memory, and the line of its last satellite; no line between them does
 abbrev pub expansion_takes : ℕ → Bool → Bool
 expansion_takes zero is_whole = true
 expansion_takes (suc zero) is_whole = false
-expansion_takes (suc (suc count)) is_whole = true
+expansion_takes (suc (suc count)) is_whole = is_whole
 
 -- RINEX, checked: each satellite's line does
 abbrev pub check_takes : ℕ → Bool → Bool
