@@ -1,5 +1,6 @@
 //! What a device of std is asked, call by call: `Std` neither tries again nor leaves out a call, nor does `UntilFailure` before a failure.
 
+use crate::expecting::expect_at;
 use crx_filter::UntilFailure;
 use crx_text::{Fault, Sink, Source, Std};
 use std::io;
@@ -102,10 +103,11 @@ fn expect_one_call_each(rt: &impl Abort, kind: io::ErrorKind) {
             flushes: 0,
         });
         for (call, want, _) in CALLS.iter().take(place.saturating_add(1)) {
-            assert!(rt; answer(&mut device, call) == *want);
+            expect_at(rt, answer(&mut device, call) == *want, "calls up to", place);
         }
         let inner = device.into_inner();
-        assert!(rt; [inner.reads, inner.writes, inner.flushes] == *after);
+        let is_so = [inner.reads, inner.writes, inner.flushes] == *after;
+        expect_at(rt, is_so, "counts after call", place);
     }
 }
 

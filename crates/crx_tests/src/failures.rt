@@ -83,10 +83,11 @@ impl Texts {
 /// Room for all that a case writes.
 const ROOM: usize = 4096;
 
-/// How the devices of a run go: how many bytes they give and take a call, and when they fail.
+/// How the devices of a run go: how many bytes they give and take a call, how many of these the writer takes, and when they fail.
 #[derive(Clone, Copy)]
 struct Devices {
     at_most: usize,
+    written_at_most: usize,
     reads: Plan,
     writes: Plan,
     flushes: Plan,
@@ -99,6 +100,7 @@ fn good(at_most: usize) -> Devices
 {
     Devices {
         at_most,
+        written_at_most: at_most,
         reads: Plan::never(),
         writes: Plan::never(),
         flushes: Plan::never(),
@@ -121,7 +123,13 @@ fn run(alloc: Global, case: &Case, texts: &Texts, devices: Devices) -> Result<Le
     let options = Options::new(None, case.skip, b"D")?;
     let at_most = devices.at_most;
     let mut source = FailingSource::new(texts.input.as_slice(), at_most, devices.reads);
-    let mut writer = FailingSink::new(alloc, ROOM, at_most, devices.writes, devices.flushes)?;
+    let mut writer = FailingSink::new(
+        alloc,
+        ROOM,
+        devices.written_at_most,
+        devices.writes,
+        devices.flushes,
+    )?;
     let mut messages = sink(alloc, at_most, devices.reports)?;
     let outcome = match case.tool {
         Tool::Compact => compact(alloc, &mut source, &mut writer, &mut messages, options),

@@ -84,6 +84,33 @@ fn a_few_bytes_a_call(rt: HostRuntime) -> Result<(), Fail> {
     Ok(())
 }
 
+/// A writer that takes no byte, though none of its calls is made to fail: the first write ends the run, and none is tried after it.
+fn takes_none(alloc: Global, case: &Case, texts: &Texts) -> Result<bool, Fail> {
+    let devices = Devices {
+        written_at_most: 0,
+        ..good(ROOM)
+    };
+    let left = run(alloc, case, texts, devices)?;
+    if !left.writer.contents().is_empty() {
+        return Ok(false);
+    }
+    if texts.output.is_empty() {
+        return Ok(left.outcome == case.outcome);
+    }
+    let has_failed = has_failed_at(alloc, case, &left, line_of_byte(case, texts, 0))?;
+    Ok(has_failed && left.writer.writes() == 1 && left.writer.flushes() == 0)
+}
+
+#[test]
+fn no_byte_is_taken(rt: HostRuntime) -> Result<(), Fail> {
+    for case in cases().iter() {
+        let texts = Texts::of(rt.alloc(), case)?;
+        let is_so = takes_none(rt.alloc(), case, &texts)?;
+        expect_at(&rt, is_so, case.input, 0);
+    }
+    Ok(())
+}
+
 /// A flush that fails: all is written, and the failure is reported at the last line, where no fault stands before.
 fn flush_fails(alloc: Global, case: &Case) -> Result<bool, Fail> {
     let texts = Texts::of(alloc, case)?;
