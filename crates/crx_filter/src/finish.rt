@@ -2,7 +2,7 @@
 
 ghost use Rattle.std.specs.Prelude.{◌≡◌, ◌⊎◌, [], Some};
 ghost use Rattle.crx_lines.specs.meaning.Devices.{one_more};
-ghost use Rattle.crx_filter.specs.Endings.{Finishes, IsReported};
+ghost use Rattle.crx_filter.specs.Endings.{Finishes, IsReported, write_failed_at};
 ghost use Rattle.crx_filter.specs.meaning.Spans.{span};
 
 use crate::message::{Severity, message};
@@ -11,9 +11,12 @@ use crate::taking::Halt;
 use crate::work::Work;
 use crx_text::{At, Fault, Sink, write_all_counted};
 
-/// Reports a fault; a failure ends its message where it comes.
+/// Reports a fault once the writer was flushed, well or not; a failure ends the message where it comes. The writer is there for the
+/// contract alone, so that no message comes before the flush.
 #[inline(never)]
-fn report<M: Sink>(messages: &mut M, at: At) -> Outcome
+fn report<W: Sink, M: Sink>(_writer: &W, messages: &mut M, at: At) -> Outcome
+    requires flushed { (before : W)
+        × W.took before [] _writer.now × (W.flushes _writer.now ≡ one_more (W.flushes before)) }
     ensures reported { IsReported (span M.Sink messages.old messages.new) at }
     ensures fault { result.fault ≡ Some at }
     ensures status { result.status ≡ 1 }
@@ -28,16 +31,25 @@ fn report<M: Sink>(messages: &mut M, at: At) -> Outcome
     }
 }
 
-/// Reports a fault once the writer was flushed, well or not: the writer is there for the contract alone, so that no message comes
-/// before the flush.
-fn report_after_flush<W: Sink, M: Sink>(_writer: &W, messages: &mut M, at: At) -> Outcome
-    requires flushed { (before : W)
-        × W.took before [] _writer.now × (W.flushes _writer.now ≡ one_more (W.flushes before)) }
-    ensures reported { IsReported (span M.Sink messages.old messages.new) at }
-    ensures fault { result.fault ≡ Some at }
+/// Reports a writer that failed, which isn't flushed, at the last line that was read; a failure ends the message where it comes.
+#[inline(never)]
+fn report_unwritten<M: Sink>(messages: &mut M, last: u64) -> Outcome
+    ensures reported { IsReported (span M.Sink messages.old messages.new) (write_failed_at last) }
+    ensures fault { result.fault ≡ Some (write_failed_at last) }
     ensures status { result.status ≡ 1 }
 {
-    report(messages, at)
+    let at = At {
+        line: last,
+        fault: Fault::WriteFailed,
+    };
+    let ended = Outcome {
+        status: 1,
+        fault: Some(at),
+    };
+    match write_all_counted(messages, message(Severity::Error, at).bytes()) {
+        Ok(()) => ended,
+        Err(_) => ended,
+    }
 }
 
 /// Finishes a run whose work has ended. A writer that failed isn't flushed; a flush that fails is `WriteFailed` at the
@@ -58,13 +70,13 @@ pub(crate) fn finish<W: Sink, M: Sink>(writer: &mut W, messages: &mut M, work: W
                 status: if work.warned { 2 } else { 0 },
                 fault: None,
             },
-            Err(_) => report_after_flush(writer, messages, unwritten),
+            Err(_) => report(writer, messages, unwritten),
         },
         Some(Halt::Fault(at)) => {
             let _ = writer.flush();
-            report_after_flush(writer, messages, at)
+            report(writer, messages, at)
         }
-        Some(Halt::Unwritten) => report(messages, unwritten),
+        Some(Halt::Unwritten) => report_unwritten(messages, work.last),
         Some(Halt::Unreported) => Outcome {
             status: 1,
             fault: Some(unwritten),
