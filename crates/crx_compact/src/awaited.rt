@@ -139,8 +139,8 @@ impl AwaitedSatellites {
         are_counts(types, &self.counts)
     }
 
-    /// Reads the satellites of an epoch text, in place of those before, and puts their identifiers at their places. Where `is_placed` says
-    /// that the identifiers stand at their places already, and the satellites are those before, nothing is read.
+    /// Reads the satellites of an epoch text, in place of those before, and puts their identifiers at their places. Where the satellites
+    /// are those before, nothing is read; where `is_placed` says that their identifiers stand at their places already, nothing is put.
     ///
     /// The faults are those of [`read_satellites`], and `OutOfMemory` where what they are read from can't be stored.
     pub(crate) fn read(
@@ -154,10 +154,13 @@ impl AwaitedSatellites {
         ensures err { IfErr result (λ fault. (satellites_of_text types.now text.now ≡ Err fault)
             ⊎ (fault ≡ Fault.OutOfMemory)) }
     {
-        if is_placed && self.are_of(types, text) {
-            return Ok(());
+        if !self.are_of(types, text) {
+            return self.read_anew(types, text, names);
         }
-        self.read_anew(types, text, names)
+        if !is_placed {
+            put_names(&self.satellites, names);
+        }
+        Ok(())
     }
 
     /// Reads the satellites of an epoch text for [`AwaitedSatellites::read`], where they may be others.
@@ -181,6 +184,17 @@ impl AwaitedSatellites {
         let answer = read_satellites(types, text, names, &mut self.satellites);
         self.is_read = answer.is_ok();
         answer
+    }
+}
+
+/// Puts the identifiers of satellites at their places, as far as there is room. What asks for an identifier at its place does without: a
+/// body that does nothing would be slower, and right.
+#[inline(never)]
+fn put_names(satellites: &[AwaitedSatellite], names: &mut Identifiers) {
+    for place in 0..satellites.len() {
+        let Ok(true) = names.put(place, satellites[place].name()) else {
+            return;
+        };
     }
 }
 

@@ -116,8 +116,8 @@ impl KeptEpoch {
 
     /// The history of a satellite, by its place in the next epoch and its identifier. It mostly stands at this place, or beside it
     /// where a satellite before it came or went; these three places are looked at first, and then a map is asked. With epochs of
-    /// 770 satellites, each epoch in another order, compacting takes 1.52 times the instructions of epochs in one order; with a
-    /// search in place of the map it took 4.0 times (bench/README.md).
+    /// 770 satellites, each epoch in another order, compacting takes 1.52 times the instructions of epochs in one order
+    /// (bench/README.md); with a search in place of the map it took 4.0 times.
     #[inline(always)]
     fn find(&self, place: usize, name: [u8; NAME_WIDTH]) -> Option<&HeldSatellite>
         ensures { option_copied result ≡ named (λ (row : RowTail). row.name) name self.now.rows }
