@@ -1,6 +1,7 @@
 -- A satellite's line read after the history of the satellite.
 use Rattle.std.specs.Prelude.{◌≡◌, ℕ, ◌≤◌, ◌+◌, ◌++◌, ◌∷◌, length, map, take, List, [], Option, None, Some, Result, Ok}
-use Rattle.std.specs.Prelude.{slice_get, slice_set}
+use Rattle.std.specs.Prelude.{slice_get, slice_set, Bool, true}
+use Rattle.crx_rinex.specs.meaning.Epochs.{are_apart}
 use Rattle.crx_text.specs.Texts.{patched}
 use Rattle.crx_lines.specs.declared.fault.Fault.{Fault}
 use Rattle.crx_compact.specs.meaning.Sequences.{and_then}
@@ -81,3 +82,11 @@ HaveRows satellites rows = map (λ (row : RowTail). length row.cells) (take (len
 abbrev pub AreNamed : ℕ → List (List ℕ) → List RowTail → Type 0
 AreNamed count names rows = (count ≤ length rows)
     × (count ≤ length names) × (take count names ≡ map (λ (row : RowTail). row.name) (take count rows))
+
+-- so many of the first satellites have different identifiers
+abbrev pub AreApart : ℕ → List RowTail → Type 0
+AreApart count rows = (count ≤ length rows) × (are_apart (λ (row : RowTail). row.name) (take count rows) ≡ true)
+
+-- where a flag says so, so many of the first satellites have the identifiers that stand at their places
+abbrev pub ArePlaced : Bool → ℕ → List (List ℕ) → List RowTail → Type 0
+ArePlaced is_placed count names rows = is_placed ≡ true → AreNamed count names rows

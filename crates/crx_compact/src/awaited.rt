@@ -66,6 +66,8 @@ pub(crate) struct AwaitedSatellites {
     identifiers: Vec<u8>,
     /// The counts of types that were in force.
     counts: Vec<(u8, usize)>,
+    /// The identifiers that were read last, each at its place.
+    names: Identifiers,
     /// Whether the satellites were read from these two.
     is_read: bool,
 }
@@ -91,6 +93,7 @@ impl AwaitedSatellites {
             satellites: Vec::new(alloc),
             identifiers: Vec::new(alloc),
             counts: Vec::new(alloc),
+            names: Identifiers::new(alloc),
             is_read: false,
         }
     }
@@ -119,6 +122,7 @@ impl AwaitedSatellites {
         self.satellites.reserve(SATELLITES_LIMIT)?;
         self.identifiers.reserve(LINE_LIMIT)?;
         self.counts.reserve(SYSTEMS)?;
+        self.names.reserve(SATELLITES_LIMIT)?;
         Ok(())
     }
 
@@ -139,38 +143,23 @@ impl AwaitedSatellites {
         are_counts(types, &self.counts)
     }
 
-    /// Reads the satellites of an epoch text, in place of those before, and puts their identifiers at their places. Where the satellites
-    /// are those before, nothing is read; where `is_placed` says that their identifiers stand at their places already, nothing is put.
+    /// Reads the satellites of an epoch text, in place of those before; where they are those before, nothing is read.
     ///
     /// The faults are those of [`read_satellites`], and `OutOfMemory` where what they are read from can't be stored.
-    pub(crate) fn read(
-        &mut self,
-        types: &Types,
-        text: &[u8],
-        is_placed: bool,
-        names: &mut Identifiers,
-    ) -> Result<(), Fault>
+    pub(crate) fn read(&mut self, types: &Types, text: &[u8]) -> Result<(), Fault>
         ensures ok { OnOk result (satellites_of_text types.now text.now ≡ Ok self.new) }
         ensures err { IfErr result (λ fault. (satellites_of_text types.now text.now ≡ Err fault)
             ⊎ (fault ≡ Fault.OutOfMemory)) }
     {
-        if !self.are_of(types, text) {
-            return self.read_anew(types, text, names);
+        if self.are_of(types, text) {
+            return Ok(());
         }
-        if !is_placed {
-            put_names(&self.satellites, names);
-        }
-        Ok(())
+        self.read_anew(types, text)
     }
 
     /// Reads the satellites of an epoch text for [`AwaitedSatellites::read`], where they may be others.
     #[inline(never)]
-    fn read_anew(
-        &mut self,
-        types: &Types,
-        text: &[u8],
-        names: &mut Identifiers,
-    ) -> Result<(), Fault>
+    fn read_anew(&mut self, types: &Types, text: &[u8]) -> Result<(), Fault>
         ensures ok { OnOk result (satellites_of_text types.now text.now ≡ Ok self.new) }
         ensures err { IfErr result (λ fault. (satellites_of_text types.now text.now ≡ Err fault)
             ⊎ (fault ≡ Fault.OutOfMemory)) }
@@ -181,20 +170,9 @@ impl AwaitedSatellites {
         if hold(types, rest, &mut self.counts, &mut self.identifiers).is_err() {
             return Err(Fault::OutOfMemory);
         }
-        let answer = read_satellites(types, text, names, &mut self.satellites);
+        let answer = read_satellites(types, text, &mut self.names, &mut self.satellites);
         self.is_read = answer.is_ok();
         answer
-    }
-}
-
-/// Puts the identifiers of satellites at their places, as far as there is room. What asks for an identifier at its place does without: a
-/// body that does nothing would be slower, and right.
-#[inline(never)]
-fn put_names(satellites: &[AwaitedSatellite], names: &mut Identifiers) {
-    for place in 0..satellites.len() {
-        let Ok(true) = names.put(place, satellites[place].name()) else {
-            return;
-        };
     }
 }
 

@@ -354,6 +354,15 @@ pub(crate) fn read_cells(
     read_other_cells(before, count, line, arcs)
 }
 
+/// What is left of a text after so many bytes.
+#[inline(always)]
+fn rest_after(text: &[u8], count: usize) -> &[u8]
+    requires { count ≤ length text.now }
+    ensures { result.now ≡ drop count text.now }
+{
+    &text[count..]
+}
+
 /// Reads cells as [`read_cells`] does, where the epoch before has an arc for each of them. Its calls stay: a loop without them,
 /// meant to keep all in registers, took more instructions (.2 a byte of RINEX, bench/README.md).
 #[inline(always)]
@@ -369,15 +378,17 @@ fn read_known_cells(
     ensures err { IfErr result
         (λ fault. cells_read (value_at_place before.now) (cells_of count line.now) ≡ Err fault) }
 {
-    let mut at = 0;
+    let mut rest = line;
     for place in 0..count {
-        let text = &line[at..];
-        match read_usual_cell(before, place, text, arcs) {
-            Some(length) => at += length,
-            None => at += read_any_cell(before, place, text, arcs)?,
+        match read_usual_cell(before, place, rest, arcs) {
+            Some(length) => rest = rest_after(rest, length),
+            None => {
+                let length = read_any_cell(before, place, rest, arcs)?;
+                rest = rest_after(rest, length);
+            }
         }
     }
-    Ok(at)
+    Ok(line.len() - rest.len())
 }
 
 /// Reads cells as [`read_cells`] does, where the epoch before may have fewer arcs, or none.

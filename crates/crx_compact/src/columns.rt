@@ -165,7 +165,7 @@ impl Columns {
         let _ = epoch.is_full();
         let before = stands_after(&self.nothing, &self.kept, self.is_kept && !full);
         self.next.encode(before, epoch, &mut self.part, lines)?;
-        self.next.take_names(&mut self.kept)?;
+        self.next.place_names()?;
         mem::swap(&mut self.kept, &mut self.next);
         self.is_kept = true;
         Ok(())

@@ -216,7 +216,7 @@ impl Incoming {
         ensures over { self.new ≡ None }
     {
         self.stage = Stage::Unbegun;
-        self.next.truncate(self.count);
+        self.next.end(self.count);
         mem::swap(kept, &mut self.next);
     }
 }

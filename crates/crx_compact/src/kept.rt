@@ -26,7 +26,7 @@ ghost use Rattle.crx_rinex.specs.Epochs.{is_full_epoch, with_row};
 ghost use Rattle.crx_rinex.specs.meaning.Printing.{printed_head, printed_row};
 ghost use Rattle.crx_compact.specs.OpenLines.{AreRowsSoFar, HasClock};
 ghost use Rattle.crx_compact.specs.ShownRows.{shown_epoch, shown_row, shown_value};
-ghost use Rattle.crx_compact.specs.HeldRows.{row_after, AreNamed, HasRow, HaveRows, IsNextRow};
+ghost use Rattle.crx_compact.specs.HeldRows.{row_after, AreApart, AreNamed, HasRow, HaveRows, IsNextRow};
 
 use crate::arc::ClockArc;
 use crate::awaited::{AwaitedSatellite, AwaitedSatellites};
@@ -42,7 +42,9 @@ use crx_text::difference::patch_bytes;
 use crx_text::{Fault, Text, code_read, trim_end};
 use std::alloc::{AllocError, Global};
 use std::marker::Model;
-use std::mem;
+
+/// So many satellites may move in an epoch and be looked for by a search, before a map is made for the next epoch.
+const FEW: usize = 8;
 
 /// The history up to an epoch: the epoch's text, the clock's arc, and the histories of its satellites in the order of the file.
 #[derive(Drop)]
@@ -50,9 +52,13 @@ pub(crate) struct KeptEpoch {
     text: Vec<u8>,
     clock: ClockArc,
     satellites: Vec<HeldSatellite>,
-    /// Identifiers, and how many of the first satellites have these.
+    /// How many of the first satellites are known to have different identifiers.
+    apart: usize,
+    /// The places of these identifiers, where `is_placed` says so.
     names: Identifiers,
-    placed: usize,
+    is_placed: bool,
+    /// How many satellites stood neither at the place that they have in the epoch before nor beside it.
+    moved: usize,
     /// Whether room was asked for that each epoch line fits into.
     is_roomy: bool,
     alloc: Global,
@@ -61,14 +67,15 @@ pub(crate) struct KeptEpoch {
 impl Model for KeptEpoch {
     ghost use Rattle.std.specs.Prelude.{◌≤◌, length};
     ghost use Rattle.crx_lines.specs.declared.limits.TheConstants.{LINE_LIMIT};
-    ghost use Rattle.crx_compact.specs.HeldRows.{AreNamed};
+    ghost use Rattle.crx_compact.specs.HeldRows.{AreApart, ArePlaced};
     ghost use Rattle.crx_compact.specs.Tails.{Tail};
 
     ghost Value = { Tail };
 
     ghost view = { λ kept. record { text = kept.text.items; clock = kept.clock; rows = kept.satellites.items } };
 
-    ghost invariant = { λ kept. (length kept.text.items ≤ LINE_LIMIT) × AreNamed kept.placed kept.names kept.satellites.items };
+    ghost invariant = { λ kept. (length kept.text.items ≤ LINE_LIMIT) × AreApart kept.apart kept.satellites.items
+        × ArePlaced kept.is_placed kept.apart kept.names kept.satellites.items };
 }
 
 impl KeptEpoch {
@@ -80,8 +87,10 @@ impl KeptEpoch {
             text: Vec::new(alloc),
             clock: ClockArc::new(),
             satellites: Vec::new(alloc),
+            apart: 0,
             names: Identifiers::new(alloc),
-            placed: 0,
+            is_placed: false,
+            moved: 0,
             is_roomy: false,
             alloc,
         }
@@ -94,12 +103,38 @@ impl KeptEpoch {
         &self.text
     }
 
-    /// Drops the satellites after so many of them, and finds out how many of those that are left the map has at their places.
-    pub(crate) fn truncate(&mut self, count: usize)
+    /// Ends an epoch of so many satellites, which have different identifiers: drops those after them.
+    pub(crate) fn end(&mut self, count: usize)
+        requires { AreApart count self.old.rows }
         ensures { self.new ≡ record self.old { rows = take count self.old.rows } }
     {
         self.satellites.truncate(count);
-        self.placed = named_before(&self.satellites, &self.names);
+        self.is_placed = false;
+        self.apart = count;
+        // Where there is no memory for the map, a search serves in its place.
+        let _ = self.place_names();
+    }
+
+    /// Puts the identifiers at their places, where so many satellites moved that those of the next epoch will be looked for by them: in
+    /// files in which satellites come in the same order nothing is put.
+    #[inline(always)]
+    pub(crate) fn place_names(&mut self) -> Result<(), AllocError>
+        ensures { self.new ≡ self.old }
+    {
+        if self.moved <= FEW {
+            return Ok(());
+        }
+        self.place_all_names()
+    }
+
+    /// Puts the identifiers at their places for [`KeptEpoch::place_names`].
+    #[inline(never)]
+    fn place_all_names(&mut self) -> Result<(), AllocError>
+        ensures { self.new ≡ self.old }
+    {
+        self.is_placed = false;
+        self.is_placed = put_names(&self.satellites, &mut self.names)?;
+        Ok(())
     }
 
     /// The history of the satellite at a place, where that is the one with this identifier.
@@ -108,29 +143,42 @@ impl KeptEpoch {
         ensures { OnSome result (option_copied result
             ≡ named (λ (row : RowTail). row.name) name self.now.rows) }
     {
-        if place < self.placed && self.names.has_at(place, name) {
-            return Some(&self.satellites[place]);
+        if place < self.apart {
+            let satellite = &self.satellites[place];
+            if satellite.name() == name {
+                return Some(satellite);
+            }
         }
         None
     }
 
     /// The history of a satellite, by its place in the next epoch and its identifier. It mostly stands at this place, or beside it
-    /// where a satellite before it came or went; these three places are looked at first, and then a map is asked. With epochs of
-    /// 770 satellites, each epoch in another order, compacting takes 1.52 times the instructions of epochs in one order
-    /// (bench/README.md); with a search in place of the map it took 4.0 times.
+    /// where a satellite before it came or went; these three places are looked at first. Those that stand elsewhere are counted, and where
+    /// they are more than a few, a map is made for the next epoch. With epochs of 770 satellites, each epoch in another order, a search
+    /// in place of the map took 4.0 times the instructions of epochs in one order (bench/README.md).
     #[inline(always)]
-    fn find(&self, place: usize, name: [u8; NAME_WIDTH]) -> Option<&HeldSatellite>
+    fn find(
+        &self,
+        place: usize,
+        name: [u8; NAME_WIDTH],
+        moved: &mut usize,
+    ) -> Option<&HeldSatellite>
         ensures { option_copied result ≡ named (λ (row : RowTail). row.name) name self.now.rows }
     {
         if let Some(satellite) = self.find_at(place, name) {
             return Some(satellite);
         }
-        self.find_beside(place, name)
+        self.find_beside(place, name, moved)
     }
 
-    /// The history of a satellite that doesn't stand at this place: it is looked for at the two places beside it, then by the map.
+    /// The history of a satellite that doesn't stand at this place: it is looked for at the two places beside it, then elsewhere.
     #[inline(never)]
-    fn find_beside(&self, place: usize, name: [u8; NAME_WIDTH]) -> Option<&HeldSatellite>
+    fn find_beside(
+        &self,
+        place: usize,
+        name: [u8; NAME_WIDTH],
+        moved: &mut usize,
+    ) -> Option<&HeldSatellite>
         ensures { option_copied result ≡ named (λ (row : RowTail). row.name) name self.now.rows }
     {
         if let Some(satellite) = self.find_at(place.saturating_add(1), name) {
@@ -139,18 +187,24 @@ impl KeptEpoch {
         if let Some(satellite) = self.find_at(place.saturating_sub(1), name) {
             return Some(satellite);
         }
+        if !self.satellites.is_empty() {
+            *moved = moved.saturating_add(1);
+        }
         self.find_elsewhere(name)
     }
 
-    /// The history of a satellite that stands at another place, by the map from identifiers to places; `None` where there is none. The
-    /// satellites that the map doesn't have are searched.
+    /// The history of a satellite that stands at another place, by the map from identifiers to places where there is one; `None` where
+    /// there is none. Otherwise, and of the satellites that the map doesn't have, it is searched.
     #[inline(never)]
     fn find_elsewhere(&self, name: [u8; NAME_WIDTH]) -> Option<&HeldSatellite>
         ensures { option_copied result ≡ named (λ (row : RowTail). row.name) name self.now.rows }
     {
-        match self.names.place_of(self.placed, name) {
+        if !self.is_placed {
+            return find(&self.satellites, name);
+        }
+        match self.names.place_of(self.apart, name) {
             Some(place) => Some(&self.satellites[place]),
-            None => find(&self.satellites[self.placed..], name),
+            None => find(&self.satellites[self.apart..], name),
         }
     }
 
@@ -166,25 +220,23 @@ impl KeptEpoch {
         ensures after { OnOk result (self.new ≡ tail_after before.now epoch.now) }
         ensures lines { OnOk result (lines.new ≡ lines.old ++ lines_after_tail before.now epoch.now) }
     {
-        self.placed = 0;
+        self.apart = 0;
+        self.is_placed = false;
+        self.moved = 0;
         renew_text(&mut self.text, epoch)?;
         push_change(&before.text, &self.text, part, lines)?;
         self.clock = before.clock.copied();
         push_code(self.clock.push(epoch.head().clock()), part, lines)?;
-        encode_rows(self.alloc, before, epoch, &mut self.satellites, part, lines)?;
-        Ok(())
-    }
-
-    /// Takes the identifiers of an earlier history, most of which stand at the same places in this one, and puts those of this one at
-    /// their places, so that its satellites are found by them.
-    pub(crate) fn take_names(&mut self, earlier: &mut KeptEpoch) -> Result<(), AllocError>
-        ensures same { self.new ≡ self.old }
-        ensures earlier { earlier.new ≡ earlier.old }
-    {
-        self.placed = 0;
-        earlier.placed = 0;
-        mem::swap(&mut self.names, &mut earlier.names);
-        self.placed = put_names(&self.satellites, &mut self.names)?;
+        encode_rows(
+            self.alloc,
+            before,
+            epoch,
+            &mut self.satellites,
+            &mut self.moved,
+            part,
+            lines,
+        )?;
+        self.apart = self.satellites.len();
         Ok(())
     }
 
@@ -213,14 +265,11 @@ impl KeptEpoch {
         if patch_bytes(&before.text, line, part).is_err() {
             return Err(Fault::BadEpoch);
         }
-        // The text that is replaced is the one whose identifiers were put at their places last.
-        let is_placed = has_identifiers_of(&self.text, part.bytes());
         self.text.clear();
         if self.text.extend_from_slice(part.bytes()).is_err() {
             return Err(Fault::OutOfMemory);
         }
-        self.placed = 0;
-        satellites.read(types, &self.text, is_placed, &mut self.names)
+        satellites.read(types, &self.text)
     }
 
     /// `false` says that an epoch line may ask for memory.
@@ -234,7 +283,6 @@ impl KeptEpoch {
         ensures { self.new ≡ self.old }
     {
         self.text.reserve(LINE_LIMIT)?;
-        self.names.reserve(SATELLITES_LIMIT)?;
         self.is_roomy = true;
         Ok(())
     }
@@ -282,8 +330,10 @@ impl KeptEpoch {
         ensures rows { OnOk result (HaveRows satellites.now self.new.rows) }
         ensures others { self.new ≡ record self.old { rows = self.new.rows } }
     {
-        // Which satellites the map has is found out once the epoch's last line has come (`truncate`).
-        self.placed = 0;
+        // Their identifiers are known to be different once the epoch's last line has come (`end`).
+        self.apart = 0;
+        self.is_placed = false;
+        self.moved = 0;
         fill_rows(self.alloc, &mut self.satellites, satellites)
     }
 
@@ -305,8 +355,8 @@ impl KeptEpoch {
         ensures err { IfErr result (λ fault. row_after before.now satellite.now line.now ≡ Err fault) }
     {
         let name = satellite.name();
-        let kept = before.find(index, name);
-        self.placed = 0;
+        self.apart = 0;
+        let kept = before.find(index, name, &mut self.moved);
         self.satellites[index].read(kept, satellite, line, part)
     }
 
@@ -363,11 +413,6 @@ fn push_row(epoch: &mut Epoch, row: SatRow) -> Result<(), Fault>
         Ok(()) => Ok(()),
         Err((_, fault)) => Err(fault),
     }
-}
-
-/// Whether the same stands after the columns of two epoch texts.
-fn has_identifiers_of(text: &[u8], other: &[u8]) -> bool {
-    after_columns(text, HEAD_WIDTH) == after_columns(other, HEAD_WIDTH)
 }
 
 /// Replaces a text by an epoch's text without the blanks at its end; after `AllocError` it is empty.
@@ -464,29 +509,16 @@ fn fill_rows(
     Ok(())
 }
 
-/// Puts the identifiers of satellites at their places, and gives how many of the first ones are there: all of them, where they
-/// are different.
-fn put_names(satellites: &[HeldSatellite], names: &mut Identifiers) -> Result<usize, AllocError>
-    ensures { IfOk result (λ placed. AreNamed placed names.new satellites.now) }
-{
-    for place in named_before(satellites, names)..satellites.len() {
-        if !names.put(place, satellites[place].name())? {
-            return Ok(place);
-        }
-    }
-    Ok(satellites.len())
-}
-
-/// How many of the first satellites have the identifiers that stand at their places already.
-fn named_before(satellites: &[HeldSatellite], names: &Identifiers) -> usize
-    ensures { AreNamed result names.now satellites.now }
+/// Puts the identifiers of satellites at their places; `false` where one stands at two, and then they aren't all there.
+fn put_names(satellites: &[HeldSatellite], names: &mut Identifiers) -> Result<bool, AllocError>
+    ensures { IfOk result (λ are_all. are_all ≡ true → AreNamed (length satellites.now) names.new satellites.now) }
 {
     for place in 0..satellites.len() {
-        if !names.has_at(place, satellites[place].name()) {
-            return place;
+        if !names.put(place, satellites[place].name())? {
+            return Ok(false);
         }
     }
-    satellites.len()
+    Ok(true)
 }
 
 /// Makes the satellite lines of an epoch, and the histories of its satellites after it.
@@ -495,6 +527,7 @@ fn encode_rows(
     before: &KeptEpoch,
     epoch: &Epoch,
     satellites: &mut Vec<HeldSatellite>,
+    moved: &mut usize,
     part: &mut Text,
     lines: &mut Lines,
 ) -> Result<(), AllocError>
@@ -505,7 +538,8 @@ fn encode_rows(
     while let Some(row) = epoch.row(index) {
         make_room(alloc, satellites, index)?;
         let next = &mut satellites[index];
-        next.encode(before.find(index, row.name()), row, part, lines)?;
+        let earlier = before.find(index, row.name(), moved);
+        next.encode(earlier, row, part, lines)?;
         index += 1;
     }
     satellites.truncate(index);

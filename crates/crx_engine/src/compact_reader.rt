@@ -155,11 +155,6 @@ impl CompactReader {
         ensures types { OnErr result (self.new.types ≡ self.old.types) }
         ensures none { OnErr result (lines.new ≡ []) }
     {
-        if begins_epoch(line) {
-            self.columns.reset();
-            self.stage = Stage::Between;
-            return Err(Fault::Truncated);
-        }
         match self.columns.feed_into(line, lines) {
             Ok(false) => Ok(false),
             Ok(true) => {

@@ -13,12 +13,12 @@ use Rattle.crx_rinex.specs.meaning.EpochLines.{ObservationHead, satellites_of, b
 use Rattle.crx_rinex.specs.meaning.Printing.{printed_epoch}
 use Rattle.crx_rinex.specs.Epochs.{begun, is_full_epoch, with_row}
 use Rattle.crx_rinex.specs.meaning.Epochs.{has_satellite, is_among, are_apart}
-use Rattle.crx_rinex.proofs.Apart.{among-names, apart-map, new_at}
+use Rattle.crx_rinex.proofs.Apart.{among-names, apart-fewer, apart-map, new_at}
 use Rattle.crx_compact.specs.meaning.CompactPlaces.{ReadCell, after_cells, are_marks, cells_of, cells_read}
 use Rattle.crx_compact.specs.meaning.CompactPlaces.{row_of_cells, row_of_line, row_with_marks}
 use Rattle.crx_compact.specs.meaning.CompactPlaces.{satellites_of_line}
 use Rattle.crx_compact.specs.Tails.{ArcTail, RowTail, Tail}
-use Rattle.crx_compact.specs.HeldRows.{row_after}
+use Rattle.crx_compact.specs.HeldRows.{row_after, AreApart}
 use Rattle.crx_lines.specs.meaning.Seen.{Content}
 use Rattle.crx_compact.specs.OpenEpochs.{Faulty, HasMade, HasPrintedLines, first_step, held_row, is_idle, line_step, opened_raw, opening}
 use Rattle.crx_compact.specs.OpenEpochs.{step_in, tail_for_line, Idle, HeldClock, HeldRow, OpenRawEpoch}
@@ -443,6 +443,23 @@ next-new next count satellites epoch s h e =
     ∙ ap (λ (q : Satellite). is_among (λ (w : Satellite). w.name) q.name (take count satellites)) (sym there)
     ∙ new_at (λ (q : Satellite). q.name) (length satellites) satellites count s
     (ap (λ (ss : List Satellite). are_apart (λ (q : Satellite). q.name) ss) all ∙ h.announced.apart) inside inside
+
+-- the histories of the rows so far have different identifiers
+pub all-apart : (next : Tail) (count : ℕ) (satellites : List Satellite)
+    → AreRowsSoFar (shown_epoch next count) next count satellites → AreApart count next.rows
+all-apart next count satellites h =
+    let rows = take count next.rows in
+    let all : take (length satellites) satellites ≡ satellites =
+    take_all (length satellites) satellites (omega arith) in
+    let some : are_apart (λ (q : Satellite). q.name) (take count satellites) ≡ true =
+    apart-fewer (λ (q : Satellite). q.name) count (length satellites) satellites h.within
+    (ap (λ (ss : List Satellite). are_apart (λ (q : Satellite). q.name) ss) all ∙ h.announced.apart) in (
+      h.left,
+      sym (apart-map (λ (r : Row). r.name) shown_row rows)
+          ∙ sym (apart-map (λ (n : List ℕ). n) (λ (r : Row). r.name) (map shown_row rows))
+          ∙ ap (are_apart (λ (n : List ℕ). n)) h.named
+          ∙ apart-map (λ (n : List ℕ). n) (λ (q : Satellite). q.name) (take count satellites) ∙ some,
+    )
 
 pub rows-more : (before next later : Tail) (line : List ℕ) (count : ℕ)
     (satellites : List Satellite) (epoch after : Epoch) (s : Satellite) → AreRowsSoFar epoch next count satellites

@@ -12,7 +12,7 @@ loop-row-preserved c =
     let index : ℕ = c.loop-row.index in
     let row : Row = c.in-Some.row.now in
     let before : List RowTail = c.args.before.now.rows in
-    let found = c.find.ensures
+    let found = c.find-earlier.ensures
     ∙ ap (λ (name : List ℕ). named (λ (r : RowTail). r.name) name before) c.name.ensures.value in
     let room = c.in_ok-make_room.ensures.room in
     record {

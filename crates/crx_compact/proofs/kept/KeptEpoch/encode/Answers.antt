@@ -1,4 +1,11 @@
-use Rattle.std.proofs.Common.{◌≡◌, ◌++◌, ◌∷◌, [], List, ℕ, ℤ, Option, map, ap, sym, ◌∙◌, append_assoc}
+use Rattle.std.proofs.Common.{rules, ◌≡◌, ◌++◌, ◌∷◌, [], List, ℕ, ℤ, Option, map, length, true, ap, sym, ◌∙◌}
+use Rattle.std.proofs.Common.{append_assoc, arith}
+use Rattle.std.proofs.lemmas.Bool.{false≢true}
+use Rattle.std.proofs.lemmas.List.{take_all}
+use Rattle.crx_rinex.specs.meaning.Epochs.{are_apart, are_different}
+use Rattle.crx_rinex.specs.meaning.Observations.{Row}
+use Rattle.crx_rinex.proofs.Apart.{apart-map}
+use Rattle.crx_compact.specs.HeldRows.{AreApart}
 use Rattle.crx_text.specs.meaning.Codes.{code_text}
 use Rattle.crx_text.specs.meaning.Texts.{text_difference}
 use Rattle.crx_text.specs.declared.code.Code.{Code}
@@ -20,6 +27,24 @@ same-tail text text' clock clock' rows rows' a b d =
 lines-one-by_one : (old one two three : List (List ℕ)) (a b : List ℕ) (cs : List (List ℕ))
     → one ≡ old ++ a ∷ [] → two ≡ one ++ b ∷ [] → three ≡ two ++ cs → three ≡ old ++ (a ∷ b ∷ cs)
 lines-one-by_one old one two three a b cs e f g = g ∙ rw (f, e) (simp append_assoc)
+
+-- the histories after an epoch have the identifiers of its rows
+all-apart : (before : List RowTail) (epoch : List Row) (rows : List RowTail) (count : ℕ)
+    → are_different epoch ≡ true → rows ≡ map (row_tail_in before) epoch → count ≡ length rows → AreApart count rows
+all-apart before epoch rows count apart made many =
+    let name_of = λ (row : RowTail). row.name in (
+      omega (arith, many),
+      ap (are_apart name_of) (take_all count rows (omega (arith, many)) ∙ made)
+          ∙ apart-map name_of (row_tail_in before) epoch ∙ apart,
+    )
+
+pub invariant_of-self-2 : goal.invariant_of-self-2
+invariant_of-self-2 c = (
+  c.in_ok-renew_text.ensures.within,
+  all-apart _ c.args.epoch.now.rows c.encode_rows.new.satellites.items
+      c.len-self-inside.result c.requires.apart c.in_ok-encode_rows.ensures.after (search rules),
+  λ none. absurd (false≢true none),
+)
 
 pub returns-clause-after : goal.returns-clause-after
 returns-clause-after c =

@@ -22,9 +22,9 @@ text : (c : goal.After-read)
     → c.extend_from_slice.new.self.items ≡ patched c.args.before.now.text c.args.line.now
 text c =
     c.extend_from_slice.ensures.items
-    ∙ ap (λ (b : Bool). if b then c.clear.new.self.items ++ c.bytes-2.result.now
+    ∙ ap (λ (b : Bool). if b then c.clear.new.self.items ++ c.bytes.result.now
     else c.clear.new.self.items) c.if-is_err-2.ensures.negation
-    ∙ ap (λ (t : List ℕ). t ++ c.bytes-2.result.now) c.clear.ensures.items ∙ c.bytes-2.ensures.value
+    ∙ ap (λ (t : List ℕ). t ++ c.bytes.result.now) c.clear.ensures.items ∙ c.bytes.ensures.value
     ∙ by_ok c.patch_bytes.result c.if-is_err.ensures.negation c.patch_bytes.ensures.ok
     ∙ ap (λ (t : List ℕ). patched t c.args.line.now) c.deref.ensures.value
     ∙ ap (λ (t : Tail). patched t.text c.args.line.now) c.before-2.view_is
@@ -36,7 +36,7 @@ returns-clause-ok c =
     subst (λ (b : Bool). OnOk c.read.result ((if not b then Err BadEpoch
     else satellites_of_text types (patched c.args.before.now.text c.args.line.now)) ≡ Ok found)) (sym (printable c))
     (subst (λ (t : List ℕ). OnOk c.read.result (satellites_of_text types t ≡ Ok found))
-    (c.deref-3.ensures.value ∙ text c) c.read.ensures.ok)
+    (c.deref-2.ensures.value ∙ text c) c.read.ensures.ok)
 
 always : {A E X : Type 0} (r : Result A E) → X → OnOk r X
 always (Ok a) x = x
@@ -63,7 +63,7 @@ returns-clause-err c =
     ((if not b then Err BadEpoch else satellites_of_text types (patched c.args.before.now.text c.args.line.now))
     ≡ Err fault) ⊎ (fault ≡ OutOfMemory))) (sym (printable c))
     (subst (λ (t : List ℕ). IfErr c.read.result (λ (fault : Fault). (satellites_of_text types t ≡ Err fault)
-    ⊎ (fault ≡ OutOfMemory))) (c.deref-3.ensures.value ∙ text c) c.read.ensures.err)
+    ⊎ (fault ≡ OutOfMemory))) (c.deref-2.ensures.value ∙ text c) c.read.ensures.err)
 
 -- what follows holds of any refusal
 whatever : {A E : Type 0} (r : Result A E) (P : E → Type 0) → ((e : E) → P e) → IfErr r P
