@@ -14,3 +14,4 @@ pub mod HeldRows
 pub mod OpenLines
 pub mod ReadBlocks
 pub mod BorrowedLines
+pub mod Holdings

@@ -73,7 +73,8 @@ pub(crate) struct AwaitedSatellites {
 }
 
 impl Model for AwaitedSatellites {
-    ghost use Rattle.std.specs.Prelude.{◌≡◌, List, true};
+    ghost use Rattle.std.specs.Prelude.{◌≡◌, ◌≤◌, List, true, length};
+    ghost use Rattle.crx_lines.specs.declared.limits.TheConstants.{SATELLITES_LIMIT};
     ghost use Rattle.crx_compact.specs.meaning.EpochText.{Satellite};
     ghost use Rattle.crx_compact.specs.OpenLines.{WereRead};
 
@@ -81,7 +82,8 @@ impl Model for AwaitedSatellites {
 
     ghost view = { λ awaited. awaited.satellites.items };
 
-    ghost invariant = { λ awaited. awaited.is_read ≡ true → WereRead awaited.counts.items awaited.identifiers.items awaited.satellites.items };
+    ghost invariant = { λ awaited. (awaited.is_read ≡ true → WereRead awaited.counts.items awaited.identifiers.items awaited.satellites.items)
+        × (length awaited.satellites.items ≤ SATELLITES_LIMIT) };
 }
 
 impl AwaitedSatellites {
@@ -109,7 +111,8 @@ impl AwaitedSatellites {
     /// The satellites.
     #[inline(always)]
     pub(crate) fn as_slice(&self) -> &[AwaitedSatellite]
-        ensures { result.now ≡ self.now }
+        ensures value { result.now ≡ self.now }
+        ensures few { length result.now ≤ SATELLITES_LIMIT }
     {
         &self.satellites
     }
@@ -265,6 +268,7 @@ fn read_names(
 ) -> Result<(), Fault>
     requires none { satellites.old.items ≡ [] }
     requires few { count ≤ SATELLITES_LIMIT }
+    ensures few { length satellites.new.items ≤ SATELLITES_LIMIT }
     ensures ok { OnOk result (satellites_named types.now [] (names_in text.now count)
         ≡ Ok satellites.new.items) }
     ensures err { IfErr result (λ fault. (satellites_named types.now [] (names_in text.now count) ≡ Err fault)
@@ -302,6 +306,7 @@ fn read_satellites(
     satellites: &mut Vec<AwaitedSatellite>,
 ) -> Result<(), Fault>
     requires { satellites.old.items ≡ [] }
+    ensures few { length satellites.new.items ≤ SATELLITES_LIMIT }
     ensures ok { OnOk result (satellites_of_text types.now text.now ≡ Ok satellites.new.items) }
     ensures err { IfErr result (λ fault. (satellites_of_text types.now text.now ≡ Err fault)
         ⊎ (fault ≡ Fault.OutOfMemory)) }

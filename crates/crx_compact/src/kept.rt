@@ -6,7 +6,7 @@ ghost use Rattle.std.specs.List.{flat_map, list_all};
 ghost use Rattle.std.specs.Result.{is_ok};
 ghost use Rattle.crx_text.specs.meaning.Columns.{without_end_blanks};
 ghost use Rattle.crx_text.specs.meaning.Texts.{is_kept, is_printable};
-ghost use Rattle.crx_lines.specs.declared.limits.TheConstants.{LINE_LIMIT, NAME_WIDTH};
+ghost use Rattle.crx_lines.specs.declared.limits.TheConstants.{LINE_LIMIT, NAME_WIDTH, SATELLITES_LIMIT};
 ghost use Rattle.crx_rinex.specs.meaning.EpochLines.{begins_epoch};
 ghost use Rattle.crx_rinex.specs.meaning.Observations.{Row};
 ghost use Rattle.crx_rinex.specs.meaning.Epochs.{IsSoundEpoch};
@@ -66,7 +66,7 @@ pub(crate) struct KeptEpoch {
 
 impl Model for KeptEpoch {
     ghost use Rattle.std.specs.Prelude.{◌≤◌, length};
-    ghost use Rattle.crx_lines.specs.declared.limits.TheConstants.{LINE_LIMIT};
+    ghost use Rattle.crx_lines.specs.declared.limits.TheConstants.{LINE_LIMIT, SATELLITES_LIMIT};
     ghost use Rattle.crx_compact.specs.HeldRows.{AreApart, ArePlaced};
     ghost use Rattle.crx_compact.specs.Tails.{Tail};
 
@@ -74,8 +74,10 @@ impl Model for KeptEpoch {
 
     ghost view = { λ kept. record { text = kept.text.items; clock = kept.clock; rows = kept.satellites.items } };
 
+    // It holds no more satellites than an epoch can have.
     ghost invariant = { λ kept. (length kept.text.items ≤ LINE_LIMIT) × AreApart kept.apart kept.satellites.items
-        × ArePlaced kept.is_placed kept.apart kept.names kept.satellites.items };
+        × ArePlaced kept.is_placed kept.apart kept.names kept.satellites.items
+        × (length kept.satellites.items ≤ SATELLITES_LIMIT) };
 }
 
 impl KeptEpoch {
@@ -327,6 +329,7 @@ impl KeptEpoch {
     /// Gives each of an epoch's satellites a history with an arc and two indicators for each of its types, so that no line of the epoch
     /// asks for memory.
     pub(crate) fn make_rows(&mut self, satellites: &[AwaitedSatellite]) -> Result<(), AllocError>
+        requires few { length satellites.now ≤ SATELLITES_LIMIT }
         ensures rows { OnOk result (HaveRows satellites.now self.new.rows) }
         ensures others { self.new ≡ record self.old { rows = self.new.rows } }
     {
@@ -470,6 +473,7 @@ fn make_room(
     index: usize,
 ) -> Result<(), AllocError>
     requires { index ≤ length satellites.old.items }
+    ensures few { (n : ℕ) → length satellites.old.items ≤ n → index < n → length satellites.new.items ≤ n }
     ensures room { OnOk result (index < length satellites.new.items) }
     ensures same { (count : ℕ) → count ≤ length satellites.old.items
         → take count satellites.new.items ≡ take count satellites.old.items }
@@ -486,6 +490,7 @@ fn make_room(
 #[inline(never)]
 fn add_room(alloc: Global, satellites: &mut Vec<HeldSatellite>) -> Result<(), AllocError>
     ensures room { OnOk result (length satellites.new.items ≡ length satellites.old.items + 1) }
+    ensures few { length satellites.new.items ≤ length satellites.old.items + 1 }
     ensures same { (count : ℕ) → count ≤ length satellites.old.items
         → take count satellites.new.items ≡ take count satellites.old.items }
     ensures grown { length satellites.old.items ≤ length satellites.new.items }
@@ -500,7 +505,10 @@ fn fill_rows(
     rows: &mut Vec<HeldSatellite>,
     satellites: &[AwaitedSatellite],
 ) -> Result<(), AllocError>
-    ensures { OnOk result (HaveRows satellites.now rows.new.items) }
+    requires awaited { length satellites.now ≤ SATELLITES_LIMIT }
+    requires few { length rows.old.items ≤ SATELLITES_LIMIT }
+    ensures rows { OnOk result (HaveRows satellites.now rows.new.items) }
+    ensures few { length rows.new.items ≤ SATELLITES_LIMIT }
 {
     for place in 0..satellites.len() {
         make_room(alloc, rows, place)?;
@@ -531,6 +539,8 @@ fn encode_rows(
     part: &mut Text,
     lines: &mut Lines,
 ) -> Result<(), AllocError>
+    requires few { length satellites.old.items ≤ SATELLITES_LIMIT }
+    ensures few { length satellites.new.items ≤ SATELLITES_LIMIT }
     ensures after { OnOk result (satellites.new.items ≡ map (row_tail_in before.now.rows) epoch.now.rows) }
     ensures lines { OnOk result (lines.new ≡ lines.old ++ map (row_line_in before.now.rows) epoch.now.rows) }
 {

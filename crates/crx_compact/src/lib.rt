@@ -11,6 +11,7 @@ pub mod expanded_lines;
 mod held;
 mod incoming;
 mod kept;
+pub mod laws;
 pub mod lines;
 pub mod read_back;
 mod refusals;

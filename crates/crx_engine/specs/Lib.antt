@@ -26,3 +26,4 @@ pub mod Anew
 pub mod ExpanderState
 pub mod EngineLines
 pub mod CheckerState
+pub mod Holdings

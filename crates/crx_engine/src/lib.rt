@@ -14,6 +14,7 @@ mod event_lines;
 pub mod expander;
 mod expander_engine;
 mod first_lines;
+pub mod laws;
 mod line_number;
 mod options;
 mod ready_lines;

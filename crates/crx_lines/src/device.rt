@@ -6,8 +6,9 @@ ghost use Rattle.std.specs.Io.KnownBytes.{Appends, Consumes, IsAtEnd};
 ghost use Rattle.std.proofs.KnownBytes.{Appends-nil, Appends-trans, Consumes-nil, Consumes-trans};
 ghost use Rattle.crx_lines.specs.meaning.Devices.{ends_after, one_more};
 
-use std::io;
 use std::io::{Read, Write};
+use std::rt::Files;
+use std::{fs, io};
 use thiserror::Error;
 
 /// A read failed, an interrupted one too. It gave no byte.
@@ -93,7 +94,7 @@ pub trait Sink {
     ghost took_both: { (a b c : Self) (xs ys : List ℕ) → took a xs b → took b ys c → took a (xs ++ ys) c };
 }
 
-/// A reader or a writer of std as a device. Of a file nothing is known but the counts.
+/// A reader or a writer of std as a device. Of a file nothing is known but the counts, and whether it is unread.
 #[derive(Drop)]
 pub struct Std<D> {
     inner: D,
@@ -101,17 +102,40 @@ pub struct Std<D> {
     ends: u64,
     flushed: bool,
     flushes: u64,
+    /// Whether it is a file that [`open_file`] opened, and nothing was asked of it since.
+    is_unread: bool,
+}
+
+/// Opens the file of a name for reading, as a device that nothing was asked of. No other device counts as unread, so a contract that
+/// names an unread device names the whole file.
+pub fn open_file<H: Files>(files: &H, name: &str) -> io::Result<Std<H::File>>
+    ensures unread { IfOk result (λ device. device.is_unread ≡ true) }
+    ensures failures { IfOk result (λ device. device.failures ≡ 0) }
+    ensures ends { IfOk result (λ device. device.ends ≡ 0) }
+{
+    match fs::open(files, name) {
+        Ok(file) => Ok(Std {
+            inner: file,
+            failures: 0,
+            ends: 0,
+            flushed: false,
+            flushes: 0,
+            is_unread: true,
+        }),
+        Err(error) => Err(error),
+    }
 }
 
 impl<D> Std<D> {
     /// The device, none of whose reads, writes and flushes failed or reported the end yet. It isn't flushed
-    /// yet.
+    /// yet. What was read of it before isn't known.
     pub fn new(inner: D) -> Std<D>
         ensures inner { result.inner ≡ inner }
         ensures failures { result.failures ≡ 0 }
         ensures ends { result.ends ≡ 0 }
         ensures flushed { result.flushed ≡ false }
         ensures flushes { result.flushes ≡ 0 }
+        ensures unread { result.is_unread ≡ false }
     {
         Std {
             inner,
@@ -119,6 +143,7 @@ impl<D> Std<D> {
             ends: 0,
             flushed: false,
             flushes: 0,
+            is_unread: false,
         }
     }
 
@@ -161,6 +186,7 @@ impl<D: Read> Source for Std<D> {
     ghost ends = { λ s. s.ends };
 
     fn read(&mut self, buffer: &mut [u8]) -> Result<usize, ReadFailed> {
+        self.is_unread = false;
         match self.inner.read(buffer) {
             Ok(0) if !buffer.is_empty() => {
                 self.ends = self.ends.saturating_add(1);
@@ -190,6 +216,7 @@ impl<D: Write> Sink for Std<D> {
 
     fn write(&mut self, bytes: &[u8]) -> Result<usize, WriteFailed> {
         self.flushed = false;
+        self.is_unread = false;
         match self.inner.write(bytes) {
             Ok(0) if !bytes.is_empty() => {
                 self.failures = self.failures.saturating_add(1);

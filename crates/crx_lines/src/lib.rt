@@ -13,7 +13,7 @@ mod seek;
 mod window;
 pub mod write;
 
-pub use device::{ReadFailed, Sink, Source, Std, WriteFailed};
+pub use device::{ReadFailed, Sink, Source, Std, WriteFailed, open_file};
 pub use fault::{At, Fault};
 pub use line::{Line, LineReader};
 pub use write::write_all_counted;

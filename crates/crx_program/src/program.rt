@@ -4,7 +4,7 @@ ghost use Rattle.std.specs.Prelude.{◌≡◌, ◌⊎◌, IfOk, is_some, map, st
 ghost use Rattle.std.specs.Option.{option_map_or};
 ghost use Rattle.crx_engine.specs.meaning.Choices.{choices_of, is_date};
 ghost use Rattle.crx_program.specs.meaning.Planning.{Help, Refusal, Refused, Run, plan_of};
-ghost use Rattle.crx_program.specs.meaning.Jobs.{IsChosen, IsJobDone, IsFiltered, IsFilteredFrom, IsFilteredInto, IsFilteredToFile, IsNotBegun};
+ghost use Rattle.crx_program.specs.meaning.Jobs.{is_unread, IsChosen, IsJobDone, IsFiltered, IsFilteredFrom, IsFilteredInto, IsFilteredToFile, IsNotBegun};
 ghost use Rattle.crx_program.specs.meaning.Program.{IsHelped, IsRefused, IsShown, at_start};
 ghost use Rattle.crx_filter.specs.meaning.Spans.{span, reader_span};
 
@@ -14,7 +14,7 @@ use crate::plan::plan;
 use crate::refusal::{refuse, report, report_at_start};
 use crate::word::Word;
 use crx_filter::{Options, UntilFailure, check, compact, expand};
-use crx_text::{Fault, Sink, Source, Std, write_all_counted};
+use crx_text::{Fault, Sink, Source, Std, open_file, write_all_counted};
 use std::alloc::{AllocError, Global};
 use std::fs::OpenOptions;
 use std::io::{BufWriter, ErrorKind, Write};
@@ -149,7 +149,7 @@ fn run_from_source<H: Files, R: Source, W: Sink, M: Sink>(
 ) -> u8
     ensures input { is_some job.now.source ≡ true → input.new ≡ input.old }
     ensures output { is_some job.now.target ≡ true → output.new ≡ output.old }
-    ensures done { IsFilteredFrom ⟦<Std<H::File> as Source>⟧ ⟦<Std<BufWriter<UntilFailure<H::File>>> as Sink>⟧
+    ensures done { IsFilteredFrom ⟦<Std<H::File> as Source>⟧ is_unread ⟦<Std<BufWriter<UntilFailure<H::File>>> as Sink>⟧
         job.now.source job.now.target job.now.tool options (reader_span R.Source input.old input.new)
         (span W.Sink output.old output.new) (span M.Sink messages.old messages.new) result
         ⊎ IsNotBegun job.now (span M.Sink messages.old messages.new) result ((input.new ≡ input.old)
@@ -157,9 +157,9 @@ fn run_from_source<H: Files, R: Source, W: Sink, M: Sink>(
 {
     match &job.source {
         None => run_to_target(rt, alloc, job, options, input, output, messages),
-        Some(name) => match fs::open(rt, name.text()) {
-            Ok(file) => {
-                let mut reader = Std::new(file);
+        Some(name) => match open_file(rt, name.text()) {
+            Ok(opened) => {
+                let mut reader = opened;
                 run_to_target(rt, alloc, job, options, &mut reader, output, messages)
             }
             Err(_) => report(alloc, messages, "cannot read ", name.text()),
@@ -180,7 +180,7 @@ fn run_job<H: Files + Clock, R: Source, W: Sink, M: Sink>(
     requires { option_map_or is_date job.now.date true ≡ true }
     ensures input { is_some job.now.source ≡ true → input.new ≡ input.old }
     ensures output { is_some job.now.target ≡ true → output.new ≡ output.old }
-    ensures done { IsJobDone ⟦<Std<H::File> as Source>⟧
+    ensures done { IsJobDone ⟦<Std<H::File> as Source>⟧ is_unread
         ⟦<Std<BufWriter<UntilFailure<H::File>>> as Sink>⟧ job.now
         (reader_span R.Source input.old input.new) (span W.Sink output.old output.new)
         (span M.Sink messages.old messages.new) result ((input.new ≡ input.old) × (output.new ≡ output.old)) }
@@ -235,7 +235,7 @@ pub fn run<H: Files + Clock, R: Source, W: Sink, M: Sink>(
     ensures output { (job : Job) → plan_of (map string_bytes words.items) ≡ Run job
         → is_some job.target ≡ true → output.new ≡ output.old }
     ensures done { (job : Job) → plan_of (map string_bytes words.items) ≡ Run job
-        → IsJobDone ⟦<Std<H::File> as Source>⟧ ⟦<Std<BufWriter<UntilFailure<H::File>>> as Sink>⟧ job
+        → IsJobDone ⟦<Std<H::File> as Source>⟧ is_unread ⟦<Std<BufWriter<UntilFailure<H::File>>> as Sink>⟧ job
         (reader_span R.Source input.old input.new) (span W.Sink output.old output.new)
         (span M.Sink messages.old messages.new) result ((input.new ≡ input.old) × (output.new ≡ output.old)) }
 {

@@ -8,7 +8,7 @@ use Rattle.crx_lines.specs.declared.limits.TheConstants.{SATELLITES_LIMIT}
 use Rattle.crx_rinex.specs.meaning.Label.{number_in}
 use Rattle.std.proofs.lemmas.Bool.{cases_Bool, leb-true, eqb-false}
 use Rattle.std.specs.Prelude.{ℤ, slice_set}
-use Rattle.std.proofs.lemmas.List.{length-take, length_push, map-append, take_all, take_more_set}
+use Rattle.std.proofs.lemmas.List.{length-take, length-take-le, length_push, map-append, take_all, take_more_set}
 use Rattle.std.proofs.lemmas.List.Elements.{All-push}
 use Rattle.crx_text.specs.meaning.Texts.{is_kept}
 use Rattle.crx_rinex.specs.meaning.Observations.{Row, Epoch}
@@ -68,6 +68,17 @@ few false o = omega arith
 pub satellites_few : (head : List ℕ) → satellites_of head ≤ SATELLITES_LIMIT
 satellites_few head = few (begins_epoch head && is_observation_flag (character_at head 32) && list_all is_kept head)
     (number_in (columns head 33 3))
+
+-- an epoch that isn't full has fewer rows than the limit
+pub room-left : (head : List ℕ) (clock : Option ℤ) (rows : List Row) (count : ℕ)
+    → IsSoundEpoch (record { head = head; clock = clock; rows = take count rows }) → count ≤ length rows
+    → is_full_epoch (record { head = head; clock = clock; rows = take count rows }) ≡ false → count < SATELLITES_LIMIT
+room-left head clock rows count h fits room =
+    let full : length (take count rows) ≡ satellites_of head
+    → ⊥ = eqb-false (length (take count rows)) (satellites_of head) room in
+    let within = h.within in
+    let long : length (take count rows) ≡ count = length-take-le count rows fits in
+    omega (arith, satellites_few head, long)
 
 -- the identifiers of the first of some rows say which satellites they have
 pub named_rows : (names : List (List ℕ)) (rows : List Row) (count : ℕ) (name : List ℕ)

@@ -9,3 +9,4 @@ pub mod Steady
 pub mod EpochPlaces
 pub mod Laws
 pub mod Examples
+pub mod Holdings

@@ -23,7 +23,6 @@ use crx_lines::limits::NAME_WIDTH;
 use crx_text::Fault;
 use std::alloc::Global;
 use std::marker::Model;
-use std::mem;
 
 /// An observation epoch: its line and the rows of its satellites, each satellite once.
 #[derive(Drop)]
@@ -40,6 +39,7 @@ pub struct Epoch {
 
 impl Model for Epoch {
     ghost use Rattle.std.specs.Prelude.{◌≡◌, ◌≤◌, length, map, take};
+    ghost use Rattle.crx_lines.specs.declared.limits.TheConstants.{SATELLITES_LIMIT};
     ghost use Rattle.crx_rinex.specs.meaning.Observations.{Row, Epoch as ObservationEpoch};
     ghost use Rattle.crx_rinex.specs.meaning.Epochs.{IsSoundEpoch};
     ghost use Rattle.crx_rinex.specs.meaning.EpochLines.{IsObservationHead};
@@ -48,7 +48,8 @@ impl Model for Epoch {
 
     ghost view = { λ epoch. record { head = epoch.head.head; clock = epoch.head.clock; rows = take epoch.count epoch.rows.items } };
 
-    ghost invariant = { λ epoch. IsSoundEpoch (record { head = epoch.head.head; clock = epoch.head.clock; rows = take epoch.count epoch.rows.items }) × (epoch.count ≤ length epoch.rows.items) × IsObservationHead epoch.head × (epoch.count ≤ length epoch.names) × (take epoch.count epoch.names ≡ map (λ (row : Row). row.name) (take epoch.count epoch.rows.items)) };
+    // It holds no more rows and identifiers, spare ones too, than an epoch can have.
+    ghost invariant = { λ epoch. IsSoundEpoch (record { head = epoch.head.head; clock = epoch.head.clock; rows = take epoch.count epoch.rows.items }) × (epoch.count ≤ length epoch.rows.items) × IsObservationHead epoch.head × (epoch.count ≤ length epoch.names) × (take epoch.count epoch.names ≡ map (λ (row : Row). row.name) (take epoch.count epoch.rows.items)) × (length epoch.rows.items ≤ SATELLITES_LIMIT) × (length epoch.names ≤ SATELLITES_LIMIT) };
 }
 
 impl Epoch {
@@ -289,15 +290,12 @@ fn fault_before_memory(
     None
 }
 
-/// Puts a row in the place of a spare one, which becomes the last one where there is memory for it.
+/// Puts a row in the place of a spare one.
 fn put_row(rows: &mut Vec<SatRow>, count: usize, row: SatRow)
     requires { count < length rows.old.items }
-    ensures rows { (m : ℕ) → m ≤ length rows.old.items
-        → take m rows.new.items ≡ take m (slice_set rows.old.items count row) }
-    ensures within { length rows.old.items ≤ length rows.new.items }
+    ensures { rows.new.items ≡ slice_set rows.old.items count row }
 {
-    let spare = mem::replace(&mut rows[count], row);
-    let _ = rows.push(spare);
+    rows[count] = row;
 }
 
 /// How many values of some rows aren't missing.

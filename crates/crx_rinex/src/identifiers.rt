@@ -91,6 +91,8 @@ impl Identifiers {
             → take (place + 1) self.new ≡ take place self.old ++ name ∷ []) }
         ensures kept { take place self.new ≡ take place self.old }
         ensures within { place ≤ length self.new }
+        // There are no more than before, or than the places up to this one.
+        ensures few { (n : ℕ) → length self.old ≤ n → place < n → length self.new ≤ n }
         ensures err { OnErr result (is_among (λ (n : List ℕ). n) name (take place self.old) ≡ false) }
     {
         if self.has_at(place, name) {
@@ -109,6 +111,8 @@ impl Identifiers {
             → take (place + 1) self.new ≡ take place self.old ++ name ∷ []) }
         ensures kept { take place self.new ≡ take place self.old }
         ensures within { place ≤ length self.new }
+        // There are no more than before, or than the places up to this one.
+        ensures few { (n : ℕ) → length self.old ≤ n → place < n → length self.new ≤ n }
         ensures err { OnErr result (is_among (λ (n : List ℕ). n) name (take place self.old) ≡ false) }
     {
         if !note_place(&self.names, &mut self.places, place, name)? {

@@ -16,6 +16,12 @@ ghost use Rattle.crx_rinex.specs.Steady.{IsSteady};
 ghost use Rattle.crx_rinex.specs.meaning.EpochPlaces.{OpenEpoch, epoch_place, row_at, rest_at};
 ghost use Rattle.crx_rinex.specs.EpochPlaces.{open_with};
 ghost use Rattle.crx_rinex.specs.Laws.{IsWantedWhereOpen, IsDecidedByOpen};
+ghost use Rattle.crx_rinex.specs.Holdings.{types_with, row_with_parts, identifiers_with, epoch_line_with, epoch_with};
+ghost use Rattle.crx_rinex.specs.declared.types.Types.TheInside.{Inside as TypesInside};
+ghost use Rattle.crx_rinex.specs.declared.satellite_row.SatRow.TheInside.{Inside as SatRowInside};
+ghost use Rattle.crx_rinex.specs.declared.identifiers.Identifiers.TheInside.{Inside as IdentifiersInside};
+ghost use Rattle.crx_rinex.specs.declared.epoch_line.EpochLine.TheInside.{Inside as EpochLineInside};
+ghost use Rattle.crx_rinex.specs.declared.epoch.Epoch.TheInside.{Inside as EpochInside};
 
 /// What stands in the first line alone is certain as soon as it has come.
 pub fn steady_first_line<X>()
@@ -76,4 +82,14 @@ pub fn an_epoch_of_two()
     ensures repeated { epoch_place one_type (first_line_of_two ∷ g01_line ∷ g01_line ∷ [])
         ≡ Wrong 2 RepeatedSatellite }
     ensures counts { AreCounts one_type }
+{}
+
+/// What an epoch and the types hold, each in full: one that takes over these parts of another is that other. So there is no part beside
+/// them.
+pub fn epochs_hold()
+    ensures types { (one other : TypesInside) → types_with one other ≡ other }
+    ensures row { (one other : SatRowInside) → row_with_parts one other ≡ other }
+    ensures identifiers { (one other : IdentifiersInside) → identifiers_with one other ≡ other }
+    ensures line { (one other : EpochLineInside) → epoch_line_with one other ≡ other }
+    ensures epoch { (one other : EpochInside) → epoch_with one other ≡ other }
 {}

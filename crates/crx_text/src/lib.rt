@@ -19,7 +19,8 @@ pub mod text;
 pub use code::{Code, code_before_blank, code_print, code_read, step_before_blank, write_cell};
 pub use copies::{copy_text, put_blanks};
 pub use crx_lines::{
-    At, Fault, Line, LineReader, ReadFailed, Sink, Source, Std, WriteFailed, write_all_counted,
+    At, Fault, Line, LineReader, ReadFailed, Sink, Source, Std, WriteFailed, open_file,
+    write_all_counted,
 };
 pub use difference::{
     BadCharacter, all_kept, all_printable, append_difference, diff_bytes, diff_text, patch_bytes,

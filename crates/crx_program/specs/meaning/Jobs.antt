@@ -1,7 +1,8 @@
 -- A job of the program: which filter runs, from where to where, by which choices; or why none runs.
-use Rattle.std.specs.Prelude.{◌≡◌, ◌⊎◌, ⊤, ℕ, ℤ, Bool, false, List, [], Option, Some, None, codes}
+use Rattle.std.specs.Prelude.{◌≡◌, ◌⊎◌, ⊤, ℕ, ℤ, Bool, true, false, List, [], Option, Some, None, codes}
 use Rattle.crx_lines.specs.declared.device.Sink.{Ghosts as SinkGhosts}
 use Rattle.crx_lines.specs.declared.device.Source.{Ghosts as SourceGhosts}
+use Rattle.crx_lines.specs.declared.device.Std.{Std}
 use Rattle.crx_lines.specs.declared.fault.Fault.TheVariants.{OutOfMemory}
 use Rattle.crx_lines.specs.declared.fault.At.{At}
 use Rattle.crx_engine.specs.meaning.Directions.{check_filter}
@@ -100,24 +101,30 @@ IsFilteredInto sink None tool choices input output messages status =
 IsFilteredInto sink (Some target) tool choices input output messages status =
     IsFilteredToFile sink tool choices input messages status
 
--- a filter ran, from the device over a file, from a state in which no read had failed or reported the end to another
--- one; or else from the input
-abbrev pub IsFilteredFrom : {R S : Type 0} → SourceGhosts R
+-- the device over a file that was opened, and nothing was asked of it since
+abbrev pub is_unread : {D : Type 0} → Std D → Type 0
+is_unread device = device.is_unread ≡ true
+
+-- a filter ran, from the device over a file, from a state in which nothing had been read of it, and no read had failed or reported the
+-- end, to another one; or else from the input
+abbrev pub IsFilteredFrom : {R S : Type 0} → SourceGhosts R → (R → Type 0)
     → SinkGhosts S → Option (List ℕ) → Option (List ℕ) → Tool → Choices → Input → Device → Device → ℕ → Type 0
-IsFilteredFrom source sink None target tool choices input output messages status =
+IsFilteredFrom source unread sink None target tool choices input output messages status =
     IsFilteredInto sink target tool choices input output messages status
-IsFilteredFrom {R = R} source sink (Some name) target tool choices input output messages status =
-    (first : R) × (last : R) × (source.failures first ≡ 0) × (source.ends first ≡ 0)
+IsFilteredFrom {R = R} source unread sink (Some name) target tool choices input output messages status =
+    (first : R) × (last : R) × unread first × (source.failures first ≡ 0) × (source.ends first ≡ 0)
     × IsFilteredInto sink target tool choices (reader_span source first last) output messages status
 
 -- the filter of a job ran with the job's choices
-abbrev pub IsBegun : {R S : Type 0} → SourceGhosts R → SinkGhosts S → Job → Input → Device → Device → ℕ → Type 0
-IsBegun source sink job input output messages status = (choices : Choices)
+abbrev pub IsBegun : {R S : Type 0}
+    → SourceGhosts R → (R → Type 0) → SinkGhosts S → Job → Input → Device → Device → ℕ → Type 0
+IsBegun source unread sink job input output messages status = (choices : Choices)
     × IsChosen job.tool job.date job.every job.skip choices
-    × IsFilteredFrom source sink job.source job.target job.tool choices input output messages status
+    × IsFilteredFrom source unread sink job.source job.target job.tool choices input output messages status
 
 -- a job, done or not begun; the files that it names are read and written through devices of these kinds
 abbrev pub IsJobDone : {R S : Type 0}
-    → SourceGhosts R → SinkGhosts S → Job → Input → Device → Device → ℕ → Type 0 → Type 0
-IsJobDone source sink job input output messages status untouched = IsBegun source sink job input output messages status
+    → SourceGhosts R → (R → Type 0) → SinkGhosts S → Job → Input → Device → Device → ℕ → Type 0 → Type 0
+IsJobDone source unread sink job input output messages status untouched =
+    IsBegun source unread sink job input output messages status
     ⊎ IsNotBegun job messages status untouched

@@ -1,6 +1,6 @@
 use Rattle.std.proofs.Common.{rules, ◌≡◌, ◌+◌, ◌*◌, ◌++◌, ◌∷◌, [], ℕ, List, not, true, false, map}
-use Rattle.std.proofs.Common.{drop, sym, ap, ◌∙◌, inl, arith}
-use Rattle.std.proofs.lemmas.List.{map-append}
+use Rattle.std.proofs.Common.{drop, length, sym, ap, ◌∙◌, inl, arith}
+use Rattle.std.proofs.lemmas.List.{length_push, map-append}
 use Rattle.crx_text.specs.meaning.Columns.{columns}
 use Rattle.crx_compact.specs.meaning.EpochText.{Satellite, names_in}
 use Rattle.crx_rinex.proofs.EachPlace.{drop_all-each_place}
@@ -40,6 +40,7 @@ loop-place-preserved c =
           (among-named c.loop-place.satellites.items c.loop-place.names c.identifier-name.result c.loop-place.place
           false c.loop-place.invariant.placed (c.in-Ok-true.ensures.new ∙ ap not c.in-Ok-true.field-0-test))
           pushed;
+      few = ap length pushed ∙ length_push c.loop-place.satellites.items satellite ∙ ap (λ n. n + 1) c.loop-place.invariant.few;
       within = names-long c.loop-place.names c.put.new.self c.loop-place.place c.identifier-name.result within put;
       placed =
           put ∙ ap (λ (ns : List (List ℕ)). ns ++ c.identifier-name.result ∷ []) c.loop-place.invariant.placed

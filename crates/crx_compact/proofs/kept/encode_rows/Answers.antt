@@ -1,4 +1,5 @@
-use Rattle.std.proofs.Common.{◌++◌, ◌∷◌, [], List, ℕ, Option, sym, ap, ◌∙◌, arith}
+use Rattle.std.proofs.Common.{◌≡◌, ◌≤◌, ◌<◌, ◌++◌, ◌∷◌, [], List, ℕ, Option, Some, length, slice_get, zero, suc, sym, ap, ◌∙◌, arith}
+use Rattle.crx_lines.specs.declared.limits.TheConstants.{SATELLITES_LIMIT}
 use Rattle.std.proofs.lemmas.List.{take_more_set, length-set}
 use Rattle.crx_rinex.specs.meaning.Observations.{Row}
 use Rattle.crx_compact.specs.Tails.{RowTail}
@@ -6,6 +7,12 @@ use Rattle.crx_compact.specs.meaning.Sequences.{named}
 use Rattle.crx_compact.specs.Steps.{row_line_after, row_line_in, row_tail_after, row_tail_in}
 use Rattle.crx_compact.proofs.Making.{made-more, made-all}
 use Rattle.crx_compact.proofs.kept.encode_rows.Goals as goal
+
+-- what stands at a place of a list stands before its end
+below : {X : Type 0} (xs : List X) (k n : ℕ) (x : X) → length xs ≤ n → slice_get xs k ≡ Some x → k < n
+below [] k n x h e = absurd (cc)
+below (y ∷ ys) zero n x h e = omega (arith, h)
+below (y ∷ ys) (suc k) n x h e = let deeper = below ys k (length ys) x (omega arith) e in omega (arith, deeper, h)
 
 pub loop-row-preserved : goal.loop-row-preserved
 loop-row-preserved c =
@@ -15,8 +22,11 @@ loop-row-preserved c =
     let found = c.find-earlier.ensures
     ∙ ap (λ (name : List ℕ). named (λ (r : RowTail). r.name) name before) c.name.ensures.value in
     let room = c.in_ok-make_room.ensures.room in
+    let few = c.in_ok-make_room.ensures.few SATELLITES_LIMIT c.loop-row.invariant.few
+    (below c.args.epoch.now.rows index SATELLITES_LIMIT row c.row.ensures.within (sym c.in-Some.ensures.value)) in
     record {
       within = omega (arith, room, length-set {A = RowTail});
+      few = omega (arith, few, length-set {A = RowTail});
       left =
           made-more (row_tail_in before) [] c.args.epoch.now.rows
           index row _ _ c.encode.new.self c.loop-row.invariant.left (sym c.in-Some.ensures.value)

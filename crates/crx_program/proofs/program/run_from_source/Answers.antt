@@ -10,11 +10,11 @@ returns-in-Ok-clause-done g c =
     let messages = span g.M.Sink c.args.messages.now c.run_to_target-in-Ok.new.messages in
     elim c.run_to_target-in-Ok.ensures.done [
       | inl begun ↦
-          inl (from_file _ _ c.args.job.now.source c.args.job.now.target some c.args.job.now.tool c.args.options
+          inl (from_file _ _ _ c.args.job.now.source c.args.job.now.target some c.args.job.now.tool c.args.options
           (reader_span g.R.Source c.args.input.now c.args.input.now)
           (span g.W.Sink c.args.output.now c.run_to_target-in-Ok.new.output) messages c.run_to_target-in-Ok.result
-          c.new-reader.result c.run_to_target-in-Ok.new.reader
-          c.new-reader.ensures.failures c.new-reader.ensures.ends begun)
+          c.in-Ok.opened c.run_to_target-in-Ok.new.reader
+          c.in-Ok.ensures.unread c.in-Ok.ensures.failures c.in-Ok.ensures.ends begun)
       | inr not_begun ↦ inr (still_not_begun c.args.job.now messages c.run_to_target-in-Ok.result _ _ not_begun
           (λ same. (refl, same.1)))
     ]

@@ -22,7 +22,7 @@ on-true false f = tt
 pub returns : goal.returns
 returns c =
     let self = c.self.inside in
-    let read = c.self.invariant c.if-not-self.false in
+    let read = c.self.invariant.0 c.if-not-self.false in
     let many : c.len.result ≡ length self.satellites.items = omega (arith, c.len.ensures) in
     let announced : epoch_count (columns c.args.text.now 1 HEAD_WIDTH) ≡ Some (length self.satellites.items) =
     on c.announces.result c.announces.ensures c.if-not-announces.false ∙ ap {B = Option ℕ} Some many in

@@ -10,11 +10,14 @@ by_ok (Ok a) e x = x
 by_ok (Err e) h x = absurd (false≢true h)
 
 pub invariant_of-self-2 : goal.invariant_of-self-2
-invariant_of-self-2 c = λ yes.
-    let counts = by_ok c.hold.result c.if-is_err.ensures.negation c.hold.ensures.counts in
-    let identifiers = by_ok c.hold.result c.if-is_err.ensures.negation c.hold.ensures.identifiers in
-    let read = by_ok c.read_satellites-answer.result (sym c.is_ok-self-inside.ensures.value ∙ yes) c.read_satellites-answer.ensures.ok in (
-      c.args.text.now,
-      sym c.after_columns-rest.ensures ∙ sym identifiers,
-      ap (λ (ts : List Count). satellites_of_text ts c.args.text.now) counts ∙ read,
-    )
+invariant_of-self-2 c = (
+  λ yes.
+      let counts = by_ok c.hold.result c.if-is_err.ensures.negation c.hold.ensures.counts in
+      let identifiers = by_ok c.hold.result c.if-is_err.ensures.negation c.hold.ensures.identifiers in
+      let read = by_ok c.read_satellites-answer.result (sym c.is_ok-self-inside.ensures.value ∙ yes) c.read_satellites-answer.ensures.ok in (
+        c.args.text.now,
+        sym c.after_columns-rest.ensures ∙ sym identifiers,
+        ap (λ (ts : List Count). satellites_of_text ts c.args.text.now) counts ∙ read,
+      ),
+  c.read_satellites-answer.ensures.few,
+)

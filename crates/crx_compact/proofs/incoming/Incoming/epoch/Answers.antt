@@ -14,7 +14,7 @@ epoch-requires c =
     c.self.view_is c.self.invariant.0 c.requires.whole in
     let P : List Satellite → Type 0 = λ ss. AreRowsSoFar (shown_epoch self.next (length ss)) self.next (length ss) ss in
     let Q : ℕ → Type 0 = λ n. AreRowsSoFar (shown_epoch self.next n) self.next n self.satellites in
-    subst P (sym c.as_slice-satellites.ensures) (subst Q all.many all.rows)
+    subst P (sym c.as_slice-satellites.ensures.value) (subst Q all.many all.rows)
 
 pub returns-clause-ok : goal.returns-clause-ok
 returns-clause-ok c =
@@ -22,7 +22,7 @@ returns-clause-ok c =
     let all = all-read self.stage self.next self.count self.satellites c.args.self.now
     c.self.view_is c.self.invariant.0 c.requires.whole in
     let many : length c.as_slice-satellites.result.now ≡ self.count =
-    ap {B = ℕ} (λ (ss : List Satellite). length ss) c.as_slice-satellites.ensures ∙ sym all.many in
+    ap {B = ℕ} (λ (ss : List Satellite). length ss) c.as_slice-satellites.ensures.value ∙ sym all.many in
     if-ok c.epoch.result _ _ (λ (epoch : Epoch) is. is ∙ ap (shown_epoch self.next) many ∙ sym all.epoch)
     c.epoch.ensures.ok
 
@@ -32,7 +32,7 @@ returns-clause-memory c =
     let all = all-read self.stage self.next self.count self.satellites c.args.self.now
     c.self.view_is c.self.invariant.0 c.requires.whole in
     let many : length c.as_slice-satellites.result.now ≡ self.count =
-    ap {B = ℕ} (λ (ss : List Satellite). length ss) c.as_slice-satellites.ensures ∙ sym all.many in
+    ap {B = ℕ} (λ (ss : List Satellite). length ss) c.as_slice-satellites.ensures.value ∙ sym all.many in
     let rows : length (epoch_so_far c.args.self.now).rows ≡ self.count =
     ap {B = ℕ} (λ (e : Epoch). length e.rows) all.epoch ∙ all.rows.counted in
     on-err c.epoch.result (λ some. omega (arith, some, many, rows)) c.epoch.ensures.memory

@@ -20,7 +20,7 @@ returns-in_default-clause-ok c =
     sym c.self.view_is ∙ ap {B = Option OpenLines}
     (λ (s : Stage). lines_so_far s self.next self.count self.satellites) c.in-Rows.is in
     let none : slice_get self.satellites self.count ≡ None =
-    ap {B = Option Satellite} (λ (ss : List Satellite). slice_get ss self.count) (sym c.as_slice.ensures)
+    ap {B = Option Satellite} (λ (ss : List Satellite). slice_get ss self.count) (sym c.as_slice.ensures.value)
     ∙ sym c.in_default.ensures in
     ap {B = RawStep} (λ (o : Option OpenLines). step_after c.args.before.now o c.args.line.now) state
     ∙ all-taken c.args.before.now self.next c.args.line.now self.count self.satellites (shown_epoch self.next self.count) none
@@ -32,7 +32,7 @@ next_row-requires-clause-room c =
     let room : HaveRows self.satellites self.next.rows =
     subst (λ (s : Stage). HaveRowsAt s self.next self.satellites) c.in-Rows.is c.self.invariant.1 in
     has-row self.satellites self.next.rows self.count c.in-Some.satellite.now room
-    (ap {B = Option Satellite} (λ (ss : List Satellite). slice_get ss self.count) (sym c.as_slice.ensures)
+    (ap {B = Option Satellite} (λ (ss : List Satellite). slice_get ss self.count) (sym c.as_slice.ensures.value)
     ∙ sym c.in-Some.ensures)
 
 pub invariant_of-self-in-Ok : goal.invariant_of-self-in-Ok
@@ -42,7 +42,7 @@ invariant_of-self-in-Ok c =
     let rows : AreRowsSoFar (shown_epoch self.next self.count) self.next self.count self.satellites =
     subst P c.in-Rows.is c.self.invariant.0 in
     let here : slice_get self.satellites self.count ≡ Some c.in-Some.satellite.now =
-    ap {B = Option Satellite} (λ (ss : List Satellite). slice_get ss self.count) (sym c.as_slice.ensures)
+    ap {B = Option Satellite} (λ (ss : List Satellite). slice_get ss self.count) (sym c.as_slice.ensures.value)
     ∙ sym c.in-Some.ensures in
     let room : HaveRows self.satellites self.next.rows =
     subst (λ (s : Stage). HaveRowsAt s self.next self.satellites) c.in-Rows.is c.self.invariant.1 in
@@ -64,7 +64,7 @@ returns-in-Ok-clause-ok c =
     let rows : AreRowsSoFar (shown_epoch self.next self.count) self.next self.count self.satellites =
     subst P c.in-Rows.is c.self.invariant.0 in
     let here : slice_get self.satellites self.count ≡ Some c.in-Some.satellite.now =
-    ap {B = Option Satellite} (λ (ss : List Satellite). slice_get ss self.count) (sym c.as_slice.ensures)
+    ap {B = Option Satellite} (λ (ss : List Satellite). slice_get ss self.count) (sym c.as_slice.ensures.value)
     ∙ sym c.in-Some.ensures in
     let state : c.args.self.now ≡ lines_so_far Rows self.next self.count self.satellites =
     sym c.self.view_is ∙ ap {B = Option OpenLines}
@@ -81,7 +81,7 @@ pub returns-in-Err-clause-err : goal.returns-in-Err-clause-err
 returns-in-Err-clause-err c =
     let self = c.self.inside in
     let here : slice_get self.satellites self.count ≡ Some c.in-Some.satellite.now =
-    ap {B = Option Satellite} (λ (ss : List Satellite). slice_get ss self.count) (sym c.as_slice.ensures)
+    ap {B = Option Satellite} (λ (ss : List Satellite). slice_get ss self.count) (sym c.as_slice.ensures.value)
     ∙ sym c.in-Some.ensures in
     let state : c.args.self.now ≡ lines_so_far Rows self.next self.count self.satellites =
     sym c.self.view_is ∙ ap {B = Option OpenLines}

@@ -44,6 +44,7 @@ invariant_of-self-2 c = (
   all-apart _ c.args.epoch.now.rows c.encode_rows.new.satellites.items
       c.len-self-inside.result c.requires.apart c.in_ok-encode_rows.ensures.after (search rules),
   λ none. absurd (false≢true none),
+  c.encode_rows.ensures.few,
 )
 
 pub returns-clause-after : goal.returns-clause-after

@@ -14,4 +14,5 @@ invariant_of-self-2 c = (
       subst (λ (held : List RowTail). AreNamed (length held) c.put_names.new.names held) c.deref.ensures.value
       (c.in_ok-self-inside.ensures is) in
       named-fewer (length rows) c.self.inside.apart c.put_names.new.names rows c.self.invariant.1.0 all,
+  c.self.invariant.3,
 )

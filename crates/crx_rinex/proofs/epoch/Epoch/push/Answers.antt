@@ -1,10 +1,11 @@
 use Rattle.std.proofs.Common.{◌≡◌, ◌<◌, ◌+◌, List, ap, sym, ◌∙◌, take, not, true, false, length, ◌++◌, ◌∷◌, [], refl}
 use Rattle.std.proofs.Common.{subst, inl, inr, arith}
-use Rattle.std.proofs.lemmas.List.{length_push, take_all, take_more_set}
+use Rattle.std.proofs.lemmas.List.{length-set, length_push, take_all, take_more_set}
+use Rattle.crx_lines.specs.declared.limits.TheConstants.{SATELLITES_LIMIT}
 use Rattle.crx_rinex.specs.meaning.Observations.{Row, Epoch}
 use Rattle.crx_rinex.specs.meaning.Epochs.{has_satellite, IsSoundEpoch}
 use Rattle.crx_rinex.specs.Epochs.{is_full_epoch, with_row}
-use Rattle.crx_rinex.proofs.Rows.{by_names, names-long, names-next, sound-pushed, sound-put}
+use Rattle.crx_rinex.proofs.Rows.{by_names, names-long, names-next, room-left, sound-pushed, sound-put}
 use Rattle.crx_rinex.proofs.epoch.Epoch.push.Goals as goal
 
 pub returns-in-Ok-false-clause-refused : goal.returns-in-Ok-false-clause-refused
@@ -52,8 +53,9 @@ invariant_of-self-then-self-len c =
       rows = take count rows;
     }) names rows count c.args.row.name c.name.result false c.name.ensures.value
     refl c.self.invariant.4 (c.in-Ok-true.ensures.new ∙ ap not c.in-Ok-true.field-0-test) in
-    let grown = c.put_row.ensures.within in
-    let put = c.put_row.ensures.rows (count + 1) (omega (arith, within)) in (
+    let put = ap {B = List Row} (take (count + 1)) c.put_row.ensures in
+    let grown : length c.put_row.new.rows.items ≡ length rows =
+    ap length c.put_row.ensures ∙ length-set rows count c.args.row in (
       subst (λ (rs : List Row). IsSoundEpoch (record { head = head.head; clock = head.clock; rows = rs })) (sym put)
           (sound-put head.head head.clock rows count c.args.row c.self.invariant.0 within c.name.ensures.sound
           (ap is_full_epoch c.self.view_is ∙ c.requires) new),
@@ -62,6 +64,8 @@ invariant_of-self-then-self-len c =
       names-long names c.put.new.self count c.name.result c.self.invariant.3 next,
       names-next names c.put.new.self rows c.put_row.new.rows.items count c.args.row
           c.name.result c.name.ensures.value c.self.invariant.4 next (put ∙ take_more_set rows count c.args.row within),
+      omega (arith, grown, c.self.invariant.5),
+      c.in-Ok-true.ensures.few SATELLITES_LIMIT c.self.invariant.6 (omega (arith, within, c.self.invariant.5)),
     )
 
 pub returns-then-self-len-clause-ok : goal.returns-then-self-len-clause-ok
@@ -71,7 +75,7 @@ returns-then-self-len-clause-ok c =
     let within : count < length rows = let a =
     c.if-self-len.true in let b = c.self.inside.rows.ok.0 in let e = c.len.ensures in omega (arith, a, b, e) in
     ap (λ (rs : List Row). record { head = c.self.inside.head.head; clock = c.self.inside.head.clock; rows = rs })
-    (c.put_row.ensures.rows (count + 1) (omega (arith, within)) ∙ take_more_set rows count c.args.row within)
+    (ap {B = List Row} (take (count + 1)) c.put_row.ensures ∙ take_more_set rows count c.args.row within)
     ∙ ap (λ (e : Epoch). with_row e c.args.row) c.self.view_is
 
 pub returns-then-self-len-clause-new : goal.returns-then-self-len-clause-new
@@ -97,6 +101,7 @@ invariant_of-self-2 c =
       rows = take count rows;
     }) names rows count c.args.row.name c.name.result false c.name.ensures.value
     refl c.self.invariant.4 (c.in-Ok-true.ensures.new ∙ ap not c.in-Ok-true.field-0-test) in
+    let room : count < SATELLITES_LIMIT = room-left head.head head.clock rows count c.self.invariant.0 c.self.invariant.1 (ap is_full_epoch c.self.view_is ∙ c.requires) in
     let all : take (count + 1) (rows ++ c.args.row ∷ []) ≡ take count rows ++ c.args.row ∷ [] =
     take_all (count + 1) (rows ++ c.args.row ∷ []) (omega (arith, long, length_push rows c.args.row))
     ∙ ap (λ (rs : List Row). rs ++ c.args.row ∷ []) (sym (take_all count rows (omega (arith, long)))) in
@@ -108,6 +113,8 @@ invariant_of-self-2 c =
       names-long names c.put.new.self count c.name.result c.self.invariant.3 next,
       names-next names c.put.new.self rows
           (rows ++ c.args.row ∷ []) count c.args.row c.name.result c.name.ensures.value c.self.invariant.4 next all,
+      omega (arith, length_push rows c.args.row, long, room),
+      c.in-Ok-true.ensures.few SATELLITES_LIMIT c.self.invariant.6 (omega (arith, room)),
     )
 
 pub returns-clause-new : goal.returns-clause-new
@@ -116,3 +123,46 @@ returns-clause-new c =
     c.self.inside.rows.items c.self.inside.count c.args.row.name c.name.result false c.name.ensures.value
     (ap (λ (e : Epoch). e.rows) c.self.view_is) c.self.invariant.4 (c.in-Ok-true.ensures.new
     ∙ ap not c.in-Ok-true.field-0-test)
+
+pub invariant_of-self : goal.invariant_of-self
+invariant_of-self c =
+    let head = c.self.inside.head in
+    let room = room-left head.head head.clock c.self.inside.rows.items c.self.inside.count c.self.invariant.0
+    c.self.invariant.1 (ap is_full_epoch c.self.view_is ∙ c.requires) in (
+      c.self.invariant.0,
+      c.self.invariant.1,
+      c.self.invariant.2,
+      c.put.ensures.within,
+      c.put.ensures.kept ∙ c.self.invariant.4,
+      c.self.invariant.5,
+      c.put.ensures.few SATELLITES_LIMIT c.self.invariant.6 room,
+    )
+
+pub invariant_of-self-in-Err : goal.invariant_of-self-in-Err
+invariant_of-self-in-Err c =
+    let head = c.self.inside.head in
+    let room = room-left head.head head.clock c.self.inside.rows.items c.self.inside.count c.self.invariant.0
+    c.self.invariant.1 (ap is_full_epoch c.self.view_is ∙ c.requires) in (
+      c.self.invariant.0,
+      c.self.invariant.1,
+      c.self.invariant.2,
+      c.put.ensures.within,
+      c.put.ensures.kept ∙ c.self.invariant.4,
+      c.self.invariant.5,
+      c.put.ensures.few SATELLITES_LIMIT c.self.invariant.6 room,
+    )
+
+pub invariant_of-self-in-Err-push : goal.invariant_of-self-in-Err-push
+invariant_of-self-in-Err-push c =
+    let head = c.self.inside.head in
+    let room = room-left head.head head.clock c.self.inside.rows.items c.self.inside.count c.self.invariant.0
+    c.self.invariant.1 (ap is_full_epoch c.self.view_is ∙ c.requires) in
+    rw c.in-Err-push.ensures.items (
+      c.self.invariant.0,
+      c.self.invariant.1,
+      c.self.invariant.2,
+      c.put.ensures.within,
+      c.put.ensures.kept ∙ c.self.invariant.4,
+      c.self.invariant.5,
+      c.put.ensures.few SATELLITES_LIMIT c.self.invariant.6 room,
+    )

@@ -41,6 +41,8 @@ invariant_of-self-2 c =
       names-long names names count identifier c.self.invariant.3 next,
       names-next names names rows (slice_set rows count row) count row identifier named c.self.invariant.4 next
           (take_more_set rows count row within),
+      omega (arith, length-set rows count row, c.self.invariant.5),
+      c.self.invariant.6,
     )
 
 pub returns-clause-put : goal.returns-clause-put

@@ -1,14 +1,14 @@
 use Rattle.std.proofs.Common.{◌≡◌, ℕ, ◌<◌, List, ap, sym, ◌∙◌, take, not, false, true, length, slice_set, refl, arith}
-use Rattle.std.proofs.Common.{inl, inr}
-use Rattle.std.proofs.lemmas.List.{length-set, take_more_set}
+use Rattle.std.proofs.Common.{inl, inr, map, subst}
+use Rattle.std.proofs.lemmas.List.{length-set, take-set, take_more_set}
 use Rattle.std.specs.Prelude.{Err}
 use Rattle.crx_lines.specs.declared.fault.Fault.{Fault}
 use Rattle.crx_rinex.specs.meaning.Observations.{Row, Epoch}
-use Rattle.crx_rinex.specs.meaning.Epochs.{has_satellite, is_among}
+use Rattle.crx_rinex.specs.meaning.Epochs.{has_satellite, is_among, IsSoundEpoch}
 use Rattle.crx_rinex.specs.Epochs.{is_full_epoch, with_row}
 use Rattle.crx_rinex.specs.meaning.EpochPlaces.{row_if_new}
 use Rattle.crx_text.specs.meaning.Columns.{columns}
-use Rattle.crx_lines.specs.declared.limits.TheConstants.{NAME_WIDTH}
+use Rattle.crx_lines.specs.declared.limits.TheConstants.{NAME_WIDTH, SATELLITES_LIMIT}
 use Rattle.crx_rinex.proofs.GoodRows.{good-new, repeated}
 use Rattle.crx_rinex.proofs.Rows.{by_names, named_rows, names-long, names-next, sound-put}
 use Rattle.crx_rinex.proofs.epoch.Epoch.read_other_row.Goals as goal
@@ -34,6 +34,8 @@ invariant_of-self-in-Ok-true c =
       names-long names c.put.new.self count c.name.result c.self.invariant.3 next,
       names-next names c.put.new.self rows (slice_set rows count row)
           count row c.name.result c.name.ensures.value c.self.invariant.4 next (take_more_set rows count row within),
+      omega (arith, length-set rows count row, c.self.invariant.5),
+      c.in-Ok-true.ensures.few SATELLITES_LIMIT c.self.invariant.6 (omega (arith, within, c.self.invariant.5)),
     )
 
 pub returns-in-Ok-true-clause-ok : goal.returns-in-Ok-true-clause-ok
@@ -125,3 +127,41 @@ returns-in-Err-put-clause-refused c =
     c.self.inside.rows.items c.self.inside.count row.name c.name.result false c.name.ensures.value
     (ap (λ (e : Epoch). e.rows) c.self.view_is) c.self.invariant.4 c.in-Err-put.ensures.err in
     inr (refl, rw (read, new) refl)
+
+pub invariant_of-self-in-Ok-false : goal.invariant_of-self-in-Ok-false
+invariant_of-self-in-Ok-false c =
+    let head = c.self.inside.head in
+    let rows = c.self.inside.rows.items in
+    let count = c.self.inside.count in
+    let row : Row = c.read_again.new.self in
+    let within : count < length rows = let a = c.if-self-len.false in let b =
+    c.self.inside.rows.ok.0 in let e = c.len.ensures in let f = c.self.invariant.1 in omega (arith, a, b, e, f) in
+    let same : take count (slice_set rows count row) ≡ take count rows = take-set rows count row in (
+      subst (λ (rs : List Row). IsSoundEpoch (record { head = head.head; clock = head.clock; rows = rs })) (sym same)
+          c.self.invariant.0,
+      omega (arith, within, length-set rows count row),
+      c.self.invariant.2,
+      c.put.ensures.within,
+      c.put.ensures.kept ∙ c.self.invariant.4 ∙ ap (map (λ (r : Row). r.name)) (sym same),
+      omega (arith, length-set rows count row, c.self.invariant.5),
+      c.put.ensures.few SATELLITES_LIMIT c.self.invariant.6 (omega (arith, within, c.self.invariant.5)),
+    )
+
+pub invariant_of-self-in-Err-put : goal.invariant_of-self-in-Err-put
+invariant_of-self-in-Err-put c =
+    let head = c.self.inside.head in
+    let rows = c.self.inside.rows.items in
+    let count = c.self.inside.count in
+    let row : Row = c.read_again.new.self in
+    let within : count < length rows = let a = c.if-self-len.false in let b =
+    c.self.inside.rows.ok.0 in let e = c.len.ensures in let f = c.self.invariant.1 in omega (arith, a, b, e, f) in
+    let same : take count (slice_set rows count row) ≡ take count rows = take-set rows count row in (
+      subst (λ (rs : List Row). IsSoundEpoch (record { head = head.head; clock = head.clock; rows = rs })) (sym same)
+          c.self.invariant.0,
+      omega (arith, within, length-set rows count row),
+      c.self.invariant.2,
+      c.put.ensures.within,
+      c.put.ensures.kept ∙ c.self.invariant.4 ∙ ap (map (λ (r : Row). r.name)) (sym same),
+      omega (arith, length-set rows count row, c.self.invariant.5),
+      c.put.ensures.few SATELLITES_LIMIT c.self.invariant.6 (omega (arith, within, c.self.invariant.5)),
+    )

@@ -44,6 +44,8 @@ invariant_of-self-then-has_at c =
       names-long names names count c.identifier-name.result c.self.invariant.3 next,
       names-next names names rows (slice_set rows count row) count row c.identifier-name.result named c.self.invariant.4 next
           (take_more_set rows count row within),
+      omega (arith, length-set rows count row, c.self.invariant.5),
+      c.self.invariant.6,
     )
 
 pub returns-then-has_at-clause-ok : goal.returns-then-has_at-clause-ok

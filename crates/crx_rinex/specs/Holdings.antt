@@ -1,0 +1,47 @@
+-- All that epochs and what stands in them hold between two lines of an input, part by part. By the law `epochs_hold`
+-- one that takes over these parts of another is that other; so there is no part beside them, in which a record of the
+-- past lines could grow.
+use Rattle.crx_rinex.specs.declared.types.Types.TheInside.{Inside as TypesInside}
+use Rattle.crx_rinex.specs.declared.satellite_row.SatRow.TheInside.{Inside as SatRowInside}
+use Rattle.crx_rinex.specs.declared.identifiers.Identifiers.TheInside.{Inside as IdentifiersInside}
+use Rattle.crx_rinex.specs.declared.epoch_line.EpochLine.TheInside.{Inside as EpochLineInside}
+use Rattle.crx_rinex.specs.declared.epoch.Epoch.TheInside.{Inside as EpochInside}
+
+-- counts of types, with the parts of another
+abbrev pub types_with : TypesInside → TypesInside → TypesInside
+types_with one other = record one {
+  counts = other.counts;
+}
+
+-- a row, with the parts of another
+abbrev pub row_with_parts : SatRowInside → SatRowInside → SatRowInside
+row_with_parts one other = record one {
+  name = other.name;
+  values = other.values;
+  flags = other.flags;
+}
+
+-- identifiers, with the parts of another
+abbrev pub identifiers_with : IdentifiersInside → IdentifiersInside → IdentifiersInside
+identifiers_with one other = record one {
+  names = other.names;
+  places = other.places;
+}
+
+-- an epoch line, with the parts of another
+abbrev pub epoch_line_with : EpochLineInside → EpochLineInside → EpochLineInside
+epoch_line_with one other = record one {
+  head = other.head;
+  count = other.count;
+  clock = other.clock;
+}
+
+-- an epoch, with the parts of another
+abbrev pub epoch_with : EpochInside → EpochInside → EpochInside
+epoch_with one other = record one {
+  alloc = other.alloc;
+  head = other.head;
+  rows = other.rows;
+  count = other.count;
+  names = other.names;
+}
