@@ -1,5 +1,5 @@
 -- What ended a run at a line, by what is kept.
-use Rattle.std.proofs.Common.{◌≡◌, ◌⊎◌, ℕ, inl, inr, List, [], ◌++◌, take, drop, Option, Some, None, Bool, Result, Ok}
+use Rattle.std.proofs.Common.{◌≡◌, ◌⊎◌, ⊎_elim, ℕ, inl, inr, List, [], ◌∷◌, ◌++◌, take, drop, Option, Some, None, Bool, Result, Ok}
 use Rattle.std.proofs.Common.{Err, IfErr, MatchResult, refl, sym, ap, subst, ◌∙◌, append-nil}
 use Rattle.std.proofs.Common.{append_assoc}
 use Rattle.std.proofs.lemmas.List.{take-append-drop}
@@ -12,10 +12,22 @@ use Rattle.crx_filter.specs.declared.taking.Halt.TheVariants.{Fault, Unwritten, 
 use Rattle.crx_filter.specs.meaning.Spans.{Device}
 use Rattle.crx_filter.specs.Taking.{IsCut, IsHalted}
 use Rattle.rnxcmp_c.specs.declared.devices.Collected.{Collected}
-use Rattle.rnxcmp_c.specs.Going.{LineStops, StopsBy}
+use Rattle.rnxcmp_c.specs.Going.{AreCutShort, LineStops, StopsBy}
+use Rattle.crx_engine.specs.meaning.Results.{Begins}
+use Rattle.crx_filter.specs.meaning.Spans.{AreNext}
+use Rattle.rnxcmp_c.proofs.GoingLemmas.{begins-then, notices-both}
 
 none-not-some : {notices : List At} → ◌≡◌ {A = Option (List At)} None (Some notices) → ⊥
 none-not-some e = cc
+
+-- the first warnings by which a course goes on stand first in its messages
+begins-next : (before after : Course) (here : List At) → AreNext before after here
+    → Begins (notices_text after.warnings) (notices_text before.warnings ++ notices_text here)
+begins-next before after here next = record {
+  rest = notices_text next.0;
+  same = ap notices_text next.1 ∙ notices-both (before.warnings ++ here) next.0
+      ∙ ap (λ t. t ++ notices_text next.0) (notices-both before.warnings here);
+}
 
 pub cut-stops : (before after : Course) (memory : Option (List At)) (number : ℕ) (writer messages : Device)
     (output then_output kept then_kept : Collected)
@@ -25,7 +37,15 @@ pub cut-stops : (before after : Course) (memory : Option (List At)) (number : �
     → StopsBy number before after output then_output kept then_kept halt
 cut-stops before after memory number writer messages output then_output kept then_kept wrote reported (Fault at)
     (here, inl out) =
-    inl ((out.fault, out.place), record { text = []; wrote = wrote [] out.wrote.0; first = inl refl })
+    inl (
+      (out.fault, out.place),
+      record { text = []; wrote = wrote [] out.wrote.0; first = inl refl },
+      record {
+        text = notices_text here;
+        reported = reported (notices_text here) out.reported.0;
+        first = ⊎_elim (λ none. inl (ap notices_text none)) (λ next. inr (begins-next before after here next)) out.next;
+      },
+    )
 cut-stops before after memory number writer messages output then_output kept then_kept wrote reported (Fault at)
     (here, inr ended) =
     inr (record {
@@ -38,19 +58,43 @@ cut-stops before after memory number writer messages output then_output kept the
     })
 cut-stops before after memory number writer messages output then_output kept then_kept wrote reported Unwritten
     (here, cut) =
-    let count = cut.wrote.0.0 in
-    record {
-      text = take count cut.text;
-      wrote = wrote (take count cut.text) cut.wrote.0.2;
-      first = inr (record {
-        rest = drop count cut.text;
-        same = cut.adds.output ∙ ap (λ t. before.output ++ t) (sym (take-append-drop count cut.text))
-            ∙ sym (append_assoc before.output (take count cut.text) (drop count cut.text));
-      });
-    }
+    let count = cut.wrote.0.0 in (
+      record {
+        text = take count cut.text;
+        wrote = wrote (take count cut.text) cut.wrote.0.2;
+        first = inr (record {
+          rest = drop count cut.text;
+          same = cut.adds.output ∙ ap (λ t. before.output ++ t) (sym (take-append-drop count cut.text))
+              ∙ sym (append_assoc before.output (take count cut.text) (drop count cut.text));
+        });
+      },
+      record {
+        text = notices_text here;
+        reported = reported (notices_text here) cut.reported.0;
+        first = inr (record {
+          rest = [];
+          same = ap notices_text cut.adds.warnings ∙ notices-both before.warnings here
+              ∙ sym (append-nil (notices_text before.warnings ++ notices_text here));
+        });
+      },
+    )
 cut-stops before after memory number writer messages output then_output kept then_kept wrote reported Unreported
     (here, cut) =
-    record { text = []; wrote = wrote [] cut.wrote.0; first = inl refl }
+    let count = cut.reported.0.0 in
+    let told : List ℕ = notices_text (here ++ cut.notice ∷ []) in
+    let shown : List ℕ = notices_text before.warnings in (
+      record { text = []; wrote = wrote [] cut.wrote.0; first = inl refl },
+      record {
+        text = take count told;
+        reported = reported (take count told) cut.reported.0.2;
+        first = inr (begins-then (notices_text after.warnings) (shown ++ told) (shown ++ take count told)
+            (begins-next before after (here ++ cut.notice ∷ []) cut.next) (record {
+              rest = drop count told;
+              same = ap (λ t. shown ++ t) (sym (take-append-drop count told))
+                  ∙ sym (append_assoc shown (take count told) (drop count told));
+            }));
+      },
+    )
 
 -- the same of the end, at which memory may run out for the texts alone
 pub halted-stops : (before after : Course) (number last : ℕ) (writer messages : Device)
@@ -83,9 +127,9 @@ pub stops-at : (number : ℕ) (before after : Course) (output then_output kept t
 stops-at number before after output then_output kept then_kept (Fault other) at fault unwritten unreported line stops =
     subst (LineStops number before after output then_output kept then_kept) (sym (fault other refl)) stops
 stops-at number before after output then_output kept then_kept Unwritten at fault unwritten unreported line short =
-    inl ((unwritten refl, line (inl refl)), short)
+    inl ((unwritten refl, line (inl refl)), short.0, short.1)
 stops-at number before after output then_output kept then_kept Unreported at fault unwritten unreported line short =
-    inl ((unreported refl, line (inr refl)), short)
+    inl ((unreported refl, line (inr refl)), short.0, short.1)
 
 err-not-ok : (at : At) (warned : Bool) → ◌≡◌ {A = Result Bool At} (Err at) (Ok warned) → ⊥
 err-not-ok at warned e = cc

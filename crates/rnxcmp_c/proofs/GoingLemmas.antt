@@ -18,6 +18,7 @@ use Rattle.rnxcmp_c.specs.declared.held.Held.{Held}
 use Rattle.rnxcmp_c.specs.declared.devices.Collected.{Collected}
 use Rattle.rnxcmp_c.specs.Going.{HandlePast, fed_with, IsText, IsGoing, IsBroken, Breaks, MovesOn, EndsThere, LineStops}
 use Rattle.rnxcmp_c.specs.Going.{piece_line, IsAll, IsFailed, LineFails, IsCutShort, RanOutAt, RunsShort}
+use Rattle.rnxcmp_c.specs.Going.{AreCutShort, AreFirstWarnings}
 
 -- the bytes before the first LF have none
 pub no_feed-before : (bytes : List ℕ) (n : ℕ) → n ≤ length bytes
@@ -33,7 +34,7 @@ cut-at bytes n within feed =
     sym (take-append-drop n bytes) ∙ ap (λ l. take n bytes ++ l)
     (drop_more bytes n 0 within ∙ ap (λ b. b ∷ drop (n + 1) bytes) feed)
 
-notices-both : (xs ys : List At) → notices_text (xs ++ ys) ≡ notices_text xs ++ notices_text ys
+pub notices-both : (xs ys : List At) → notices_text (xs ++ ys) ≡ notices_text xs ++ notices_text ys
 notices-both [] ys = refl
 notices-both (x ∷ xs) ys =
     ap (λ t. warning_text x ++ t) (notices-both xs ys) ∙ sym (append_assoc (warning_text x) (notices_text xs)
@@ -66,6 +67,36 @@ text-short before after old new taken is short =
           ∙ append_assoc taken old.bytes.items short.text ∙ ap (λ t. taken ++ t) (sym short.wrote));
     }))
     short.first
+
+-- the same of the messages
+warnings-short : (before after : Course) (old new : Collected) (taken : List ℕ)
+    → notices_text before.warnings ≡ taken ++ old.bytes.items → AreCutShort before after old new
+    → Begins (notices_text before.warnings) (taken ++ new.bytes.items)
+    ⊎ Begins (notices_text after.warnings) (taken ++ new.bytes.items)
+warnings-short before after old new taken is short =
+    ⊎_elim (λ none. inl (record {
+      rest = [];
+      same = is ∙ ap (λ t. taken ++ t) (sym (short.reported ∙ ap (λ t. old.bytes.items ++ t) none
+          ∙ append-nil old.bytes.items))
+          ∙ sym (append-nil (taken ++ new.bytes.items));
+    }))
+    (λ begins. inr (record {
+      rest = begins.rest;
+      same = begins.same ∙ ap (λ t. t ++ begins.rest) (ap (λ t. t ++ short.text) is
+          ∙ append_assoc taken old.bytes.items short.text ∙ ap (λ t. taken ++ t) (sym short.reported));
+    }))
+    short.first
+
+-- a prefix of the warnings of lines that stand first, whatever follows
+pub warnings-first : (filter : Filter) (fed : List ℕ) (lines : List InputLine)
+    → ((more : List ℕ) → (rest : List InputLine) × (lines_of (fed ++ more) ≡ lines ++ rest)) → (text : List ℕ)
+    → Begins (notices_text (filter.so_far lines).warnings) text → AreFirstWarnings filter fed text
+warnings-first filter fed lines first text begins = inl (record {
+  lines = lines;
+  others = (first []).0;
+  first = ap lines_of (sym (append-nil fed)) ∙ (first []).1;
+  begins = begins;
+})
 
 -- a prefix of a prefix
 pub begins-then : (all mid first : List ℕ) → Begins all mid → Begins mid first → Begins all first
@@ -145,8 +176,9 @@ module _ (filter : Filter) (shows : List InputLine → List Awaited → Type 0)
       )
 
   pub breaks-before : (new : Held) (bytes : List ℕ) (at : At) → new.output.bytes.items ≡ held.output.bytes.items
+      → new.messages.bytes.items ≡ held.messages.bytes.items
       → RanOutAt (held.number + 1) at → Breaks filter new (fed_with past bytes) at
-  breaks-before new bytes at same memory =
+  breaks-before new bytes at same told memory =
       inl (record {
         fault = memory.0;
         some = omega (arith, memory.1);
@@ -158,6 +190,12 @@ module _ (filter : Filter) (shows : List InputLine → List Awaited → Type 0)
           same = is.text.wrote ∙ ap (λ t. past.output ++ t) (sym same)
               ∙ sym (append-nil (past.output ++ new.output.bytes.items));
         };
+        messages = warnings-first filter (past.fed ++ bytes) (ended_lines_of past.fed) (first-lines bytes)
+            (past.messages ++ new.messages.bytes.items) (record {
+              rest = [];
+              same = is.text.reported ∙ ap (λ t. past.messages ++ t) (sym told)
+                  ∙ sym (append-nil (past.messages ++ new.messages.bytes.items));
+            });
       })
 
   -- a line's bytes, and its LF
@@ -275,13 +313,24 @@ module _ (filter : Filter) (shows : List InputLine → List Awaited → Type 0)
     breaks-short : (new : Held) (rest : List ℕ) (at : At) → RanOutAt (length (ended_lines_of past.fed) + 1) at
         → IsCutShort (filter.so_far (ended_lines_of past.fed)) (filter.so_far (with_next
         (ended_lines_of past.fed) line)) mid.output new.output
+        → AreCutShort (filter.so_far (ended_lines_of past.fed)) (filter.so_far (with_next
+        (ended_lines_of past.fed) line)) mid.messages new.messages
         → RunsShort filter new (fed_with past (piece ++ 10 ∷ rest)) at
-    breaks-short new rest at memory short =
+    breaks-short new rest at memory short told =
         let before = filter.so_far (ended_lines_of past.fed) in
         let after = filter.so_far (with_next (ended_lines_of past.fed) line) in
         let bytes : List ℕ = piece ++ 10 ∷ rest in
         let within = few-lines bytes at.line memory.1 in
         let some : 0 < at.line = omega (arith, memory.1) in
+        let texts : List ℕ = past.messages ++ new.messages.bytes.items in
+        let messages : AreFirstWarnings filter (past.fed ++ bytes) texts =
+        ⊎_elim
+        (λ (prefix : Begins (notices_text before.warnings) texts). warnings-first filter (past.fed ++ bytes)
+        (ended_lines_of past.fed) (first-lines bytes) texts prefix)
+        (λ (prefix : Begins (notices_text after.warnings) texts). warnings-first filter (past.fed ++ bytes)
+        (with_next (ended_lines_of past.fed) line) (line-then rest) texts prefix)
+        (warnings-short before after mid.messages new.messages past.messages (is.text.reported
+        ∙ ap (λ t. past.messages ++ t) (sym same.messages)) told) in
         ⊎_elim (λ (prefix : Begins before.output (past.output ++ new.output.bytes.items)). record {
           fault = memory.0;
           some = some;
@@ -289,6 +338,7 @@ module _ (filter : Filter) (shows : List InputLine → List Awaited → Type 0)
           lines = ended_lines_of past.fed;
           first = first-lines bytes;
           output = prefix;
+          messages = messages;
         })
         (λ (prefix : Begins after.output (past.output ++ new.output.bytes.items)). record {
           fault = memory.0;
@@ -297,6 +347,7 @@ module _ (filter : Filter) (shows : List InputLine → List Awaited → Type 0)
           lines = with_next (ended_lines_of past.fed) line;
           first = λ more. line-then rest more;
           output = prefix;
+          messages = messages;
         })
         (text-short before after mid.output new.output past.output (is.text.wrote
         ∙ ap (λ t. past.output ++ t) (sym same.output)) short)
@@ -305,7 +356,7 @@ module _ (filter : Filter) (shows : List InputLine → List Awaited → Type 0)
         → LineStops (length (ended_lines_of past.fed) + 1) (filter.so_far (ended_lines_of past.fed))
         (filter.so_far (with_next (ended_lines_of past.fed) line)) mid.output new.output mid.messages new.messages at
         → Breaks filter new (fed_with past (piece ++ 10 ∷ rest)) at
-    breaks new rest at (inl memory) = inl (breaks-short new rest at memory.0 memory.1)
+    breaks new rest at (inl memory) = inl (breaks-short new rest at memory.0 memory.1 memory.2)
     breaks new rest at (inr ends) = inr (breaks-there new rest at ends)
 
 -- ---- the end
@@ -353,17 +404,31 @@ module _ (filter : Filter) (mid : Held) (past : HandlePast) (lines : List InputL
 
   pub ends-badly : IsLawful filter → (number : ℕ) → number ≡ length lines → (at : At)
       → LineStops number (filter.so_far lines) (filter.whole lines) mid.output new.output mid.messages new.messages at
-      → LineFails (filter.whole (lines_of past.fed)) new past at
+      → LineFails filter new past at
   ends-badly lawful number last at (inl memory) =
       let first = subst (λ ls. Begins (filter.whole ls).output (filter.so_far lines).output) (append-nil lines)
       (lawful.goes_on lines []) in
       let output : Begins (filter.whole lines).output (past.output ++ new.output.bytes.items) =
       ⊎_elim (λ prefix. begins-then _ _ _ first prefix) (λ prefix. prefix)
       (text-short (filter.so_far lines) (filter.whole lines) mid.output new.output past.output text.wrote memory.1) in
+      let texts : List ℕ = past.messages ++ new.messages.bytes.items in
+      let messages : AreFirstWarnings filter past.fed texts =
+      ⊎_elim
+      (λ (prefix : Begins (notices_text (filter.so_far lines).warnings) texts). inl (record {
+        lines = lines;
+        others = [];
+        first = whole ∙ sym (append-nil lines);
+        begins = prefix;
+      }))
+      (λ (prefix : Begins (notices_text (filter.whole lines).warnings) texts). inr (subst
+      (λ ls. Begins (notices_text (filter.whole ls).warnings) texts) (sym whole) prefix))
+      (warnings-short (filter.so_far lines) (filter.whole lines) mid.messages new.messages past.messages text.reported
+      memory.2) in
       inl (record {
         ran_out = (memory.0.0, memory.0.1 ∙ last ∙ ap length (sym whole));
         output = subst (λ ls. Begins (filter.whole ls).output (past.output ++ new.output.bytes.items))
             (sym whole) output;
+        messages = messages;
       })
   ends-badly lawful number last at (inr ends) =
       inr (subst (λ ls. IsFailed (filter.whole ls) new past at) (sym whole) (record {
@@ -408,7 +473,7 @@ module _ (filter : Filter) (shows : List InputLine → List Awaited → Type 0)
         → LineStops (length (ended_lines_of past.fed) + 1) (filter.so_far (ended_lines_of past.fed))
         (filter.so_far last)
         held.output mid.output held.messages mid.messages at
-        → LineFails (filter.whole (lines_of past.fed)) mid past at
+        → LineFails filter mid past at
     last-fails lawful at (inl memory) =
         let ended = ended_lines_of past.fed in
         let written : List ℕ = past.output ++ mid.output.bytes.items in
@@ -422,12 +487,30 @@ module _ (filter : Filter) (shows : List InputLine → List Awaited → Type 0)
         ⊎_elim (λ prefix. begins-then _ _ _ before prefix) (λ prefix. begins-then _ _ _ after prefix)
         (text-short (filter.so_far ended) (filter.so_far last) held.output mid.output past.output is.text.wrote
         memory.1) in
+        let texts : List ℕ = past.messages ++ mid.messages.bytes.items in
+        let messages : AreFirstWarnings filter past.fed texts =
+        ⊎_elim
+        (λ (prefix : Begins (notices_text (filter.so_far ended).warnings) texts). inl (record {
+          lines = ended;
+          others = piece_line held.tail.items false ∷ [];
+          first = whole;
+          begins = prefix;
+        }))
+        (λ (prefix : Begins (notices_text (filter.so_far last).warnings) texts). inl (record {
+          lines = last;
+          others = [];
+          first = whole ∙ sym (append-nil last);
+          begins = prefix;
+        }))
+        (warnings-short (filter.so_far ended) (filter.so_far last) held.messages mid.messages past.messages
+        is.text.reported memory.2) in
         inl (record {
           ran_out = (
             memory.0.0,
             memory.0.1 ∙ sym (ap length whole ∙ length-append ended (piece_line held.tail.items false ∷ [])),
           );
           output = subst (λ ls. Begins (filter.whole ls).output written) (sym whole) output;
+          messages = messages;
         })
     last-fails lawful at (inr ends) =
         let decided : filter.whole (lines_of past.fed) ≡ filter.so_far last =

@@ -16,7 +16,8 @@ use Rattle.rnxcmp_c.specs.Going.{HandlePast, fed_with}
 use Rattle.rnxcmp_c.specs.Handles.{IsFresh, ReaderRuns, nothing_fed}
 use Rattle.rnxcmp_c.specs.Handles.{ReaderEndsBy, FeedsBy, HasEndedBy, HasFedBy, IsLineReached, ReaderIsOver, ReaderStands}
 use Rattle.rnxcmp_c.specs.Handles.{StandsBy, Task}
-use Rattle.rnxcmp_c.specs.Handles.{RunIsOutOfMemory, result_for}
+use Rattle.rnxcmp_c.specs.Handles.{RunIsOutOfMemory, filter_for, result_for}
+use Rattle.crx_engine.specs.meaning.Filters.{Filter}
 use Rattle.rnxcmp_c.specs.meaning.Answers.{line_in}
 use Rattle.rnxcmp_c.specs.declared.answer.Answer.{Answer}
 use Rattle.rnxcmp_c.specs.declared.engines.AnyEngine.{AnyEngine}
@@ -46,14 +47,15 @@ lines-within fed =
     omega (arith, ap length all, length-append (ended_lines_of fed) (lines_of first.0), few-lines first.0 first.1)
 
 -- memory ran out at a line of more kinds
-line-weaker : (P Q : ℕ → Type 0) (result : FilterResult) (reader : Reader) (outcome : Outcome) (past : HandlePast)
-    → ((n : ℕ) → P n → Q n) → RunIsOutOfMemory P result reader outcome past
-    → RunIsOutOfMemory Q result reader outcome past
-line-weaker P Q result reader outcome past weaker ran = record {
+line-weaker : (filter : Filter) (P Q : ℕ → Type 0) (result : FilterResult) (reader : Reader) (outcome : Outcome) (past : HandlePast)
+    → ((n : ℕ) → P n → Q n) → RunIsOutOfMemory filter P result reader outcome past
+    → RunIsOutOfMemory filter Q result reader outcome past
+line-weaker filter P Q result reader outcome past weaker ran = record {
   memory = ran.memory;
   status = ran.status;
   line = ⊎_elim (λ at. inl (weaker (line_in outcome.fault) at)) (λ same. inr same) ran.line;
   output = ran.output;
+  messages = ran.messages;
 }
 
 -- what is fed or ended stands
@@ -61,8 +63,9 @@ fed-stands : (task : Task) (reader : Reader) (past : HandlePast) (outcome : Opti
     → HasFedBy task reader past outcome → StandsBy task reader past outcome
 fed-stands task reader past None fed = fed
 fed-stands task reader past (Some outcome) (inl memory) =
-    inl (line-weaker _ (IsLineReached past.fed) (result_for task past.fed) reader outcome past (λ n at. at.1)
-    (subst (λ (bytes : List ℕ). RunIsOutOfMemory (λ line. (0 < line) × IsLineReached past.fed line)
+    inl (line-weaker (filter_for task) _ (IsLineReached past.fed) (result_for task past.fed) reader outcome past
+    (λ n at. at.1)
+    (subst (λ (bytes : List ℕ). RunIsOutOfMemory (filter_for task) (λ line. (0 < line) × IsLineReached past.fed line)
     (result_for task bytes) reader outcome past)
     (append-nil past.fed) (memory [])))
 fed-stands task reader past (Some outcome) (inr over) =
@@ -73,7 +76,7 @@ ended-stands : (task : Task) (reader : Reader) (past : HandlePast) (outcome : Op
     → HasEndedBy task reader past outcome → StandsBy task reader past outcome
 ended-stands task reader past None ended = absurd ended
 ended-stands task reader past (Some outcome) (inl memory) =
-    inl (line-weaker _ (IsLineReached past.fed) (result_for task past.fed) reader outcome past
+    inl (line-weaker (filter_for task) _ (IsLineReached past.fed) (result_for task past.fed) reader outcome past
     (λ n last. omega (arith, last, lines-within past.fed)) memory)
 ended-stands task reader past (Some outcome) (inr over) = inr over
 

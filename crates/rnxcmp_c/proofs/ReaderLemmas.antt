@@ -1,5 +1,5 @@
 -- A reader's run has ended as the whole run of its input does.
-use Rattle.std.proofs.Common.{◌≡◌, inl, inr, ⊎_elim, ℕ, List, [], ◌++◌, Option, Some, None, refl, sym, ap, ◌∙◌, subst}
+use Rattle.std.proofs.Common.{◌≡◌, ◌⊎◌, inl, inr, ⊎_elim, ℕ, List, [], ◌++◌, Option, Some, None, refl, sym, ap, ◌∙◌, subst}
 use Rattle.std.proofs.Common.{append-nil, append_assoc}
 use Rattle.crx_lines.specs.meaning.Lines.{lines_of}
 use Rattle.crx_lines.specs.declared.fault.At.{At}
@@ -14,12 +14,12 @@ use Rattle.crx_engine.proofs.following.CheckLawful.{check-lawful}
 use Rattle.crx_engine.proofs.following.Lawful.{compaction-lawful, expansion-lawful}
 use Rattle.crx_filter.specs.declared.outcome.Outcome.{Outcome}
 use Rattle.crx_filter.specs.meaning.Runs.{FaultIs}
-use Rattle.rnxcmp_c.specs.Going.{Breaks, LineFails, IsAll, IsText, HandlePast}
+use Rattle.rnxcmp_c.specs.Going.{AreFirstWarnings, Breaks, LineFails, IsAll, IsText, HandlePast}
 use Rattle.rnxcmp_c.specs.Handles.{Task, Compact, Expand, Check, IsOf, ReaderIsOver, IsPut, IsPutDown, IsPutSilently}
-use Rattle.rnxcmp_c.specs.Handles.{RunIsOutOfMemory, filter_for}
+use Rattle.rnxcmp_c.specs.Handles.{AreMessagesCut, RunIsOutOfMemory, filter_for}
 use Rattle.rnxcmp_c.specs.Handles.{HasFedBy, HasEndedBy, engine_filter, has_ended_of}
 use Rattle.rnxcmp_c.specs.meaning.Answers.{line_in}
-use Rattle.rnxcmp_c.proofs.GoingLemmas.{begins-then}
+use Rattle.rnxcmp_c.proofs.GoingLemmas.{begins-then, warnings-first}
 use Rattle.rnxcmp_c.specs.Handles.{result_for, status_at_end}
 use Rattle.rnxcmp_c.specs.declared.engines.AnyEngine.{AnyEngine}
 use Rattle.rnxcmp_c.specs.declared.engines.AnyEngine.TheVariants.{Compacting, Expanding, Checking}
@@ -88,6 +88,8 @@ record IsShort (mid new : Held) (outcome : Outcome) (line : ℕ) : Type 0 where
   pub status : outcome.status ≡ 1
   pub line_is : line_in outcome.fault ≡ line
   pub output : new.output.bytes.items ≡ mid.output.bytes.items
+  pub messages : (new.messages.bytes.items ≡ mid.messages.bytes.items)
+      ⊎ (new.messages.bytes.items ≡ mid.messages.bytes.items ++ error_text outcome.fault)
 
 put-silently : (mid new : Held) (outcome : Outcome) (at : At) → IsPutSilently mid new outcome at
     → IsShort mid new outcome at.line
@@ -96,6 +98,7 @@ put-silently mid new outcome at put = record {
   status = put.status;
   line_is = ap line_in put.fault;
   output = put.output;
+  messages = inl put.messages;
 }
 
 put-down : (mid new : Held) (outcome : Outcome) (at : At)
@@ -105,6 +108,7 @@ put-down mid new outcome at memory put = record {
   status = put.status;
   line_is = ap line_in put.fault;
   output = put.output;
+  messages = inr (put.messages ∙ ap (λ f. mid.messages.bytes.items ++ error_text f) (sym put.fault));
 }
 
 put-short : (mid new : Held) (outcome : Outcome) (at : At)
@@ -113,27 +117,40 @@ put-short mid new outcome at memory (inl put) = put-silently mid new outcome at 
 put-short mid new outcome at memory (inr put) = put-down mid new outcome at memory put
 
 -- the run is out of memory: at such a line, or at that of the result's fault
-module _ (is_line : ℕ → Type 0) (result : FilterResult) (reader : Reader) (mid : Held)
+module _ (filter : Filter) (is_line : ℕ → Type 0) (result : FilterResult) (reader : Reader) (mid : Held)
     (outcome : Outcome) (past : HandlePast) (line : ℕ) (short : IsShort mid reader.held outcome line)
-    (output : Begins result.output (past.output ++ mid.output.bytes.items)) where
+    (output : Begins result.output (past.output ++ mid.output.bytes.items))
+    (told : AreFirstWarnings filter past.fed (past.messages ++ mid.messages.bytes.items)) where
   still : Begins result.output (past.output ++ reader.held.output.bytes.items)
   still = subst (λ t. Begins result.output (past.output ++ t)) (sym short.output) output
 
-  short-at : is_line line → RunIsOutOfMemory is_line result reader outcome past
+  cut : AreMessagesCut filter past.fed (past.messages ++ reader.held.messages.bytes.items) outcome.fault
+  cut = record {
+    warnings = past.messages ++ mid.messages.bytes.items;
+    first = told;
+    whole = ⊎_elim (λ same. inl (ap (λ t. past.messages ++ t) same))
+        (λ more. inr (ap (λ t. past.messages ++ t) more
+        ∙ sym (append_assoc past.messages mid.messages.bytes.items (error_text outcome.fault))))
+        short.messages;
+  }
+
+  short-at : is_line line → RunIsOutOfMemory filter is_line result reader outcome past
   short-at at = record {
     memory = short.memory;
     status = short.status;
     line = inl (subst is_line (sym short.line_is) at);
     output = still;
+    messages = cut;
   }
 
-  short-fault : line ≡ line_in result.fault → RunIsOutOfMemory is_line result reader outcome past
+  short-fault : line ≡ line_in result.fault → RunIsOutOfMemory filter is_line result reader outcome past
   short-fault at = record {
     memory = short.memory;
     status = short.status;
     line = inr (short.line_is
         ∙ at);
     output = still;
+    messages = cut;
   }
 
 module _ (task : Task) (engine : AnyEngine) (is : IsOf task engine)
@@ -142,14 +159,15 @@ module _ (task : Task) (engine : AnyEngine) (is : IsOf task engine)
   fault-short : (is_line : ℕ → Type 0) (input : List ℕ) (course : Course)
       → (filter_for task).whole (lines_of input) ≡ course → course.fault ≡ Some at → IsText course mid past
       → IsPutSilently mid reader.held outcome at
-      → RunIsOutOfMemory is_line (result_for task input) reader outcome past
-  fault-short is_line input course whole fault text put =
+      → AreFirstWarnings (filter_for task) past.fed (past.messages ++ mid.messages.bytes.items)
+      → RunIsOutOfMemory (filter_for task) is_line (result_for task input) reader outcome past
+  fault-short is_line input course whole fault text put told =
       let same : result_of_course course ≡ result_for task input =
       sym (ap result_of_course whole) ∙ result-faulty task input at (ap (λ (c : Course). c.fault) whole ∙ fault) in
-      subst (λ r. RunIsOutOfMemory is_line r reader outcome past) same
-      (short-fault is_line (result_of_course course) reader mid outcome past at.line
+      subst (λ r. RunIsOutOfMemory (filter_for task) is_line r reader outcome past) same
+      (short-fault (filter_for task) is_line (result_of_course course) reader mid outcome past at.line
       (put-silently mid reader.held outcome at put)
-      (record { rest = []; same = text.wrote ∙ sym (append-nil (past.output ++ mid.output.bytes.items)) })
+      (record { rest = []; same = text.wrote ∙ sym (append-nil (past.output ++ mid.output.bytes.items)) }) told
       (ap line_in (sym fault)))
 
   pub breaks-over : Breaks (engine_filter engine) mid past at → IsPut mid reader.held at (Some outcome)
@@ -163,9 +181,11 @@ module _ (task : Task) (engine : AnyEngine) (is : IsOf task engine)
       let all : Begins (filter.whole (lines_of (past.fed ++ more))).output (filter.so_far ran.lines).output =
       subst (λ ls. Begins (filter.whole ls).output (filter.so_far ran.lines).output) (sym rest.1)
       ((lawful-for task).goes_on ran.lines rest.0) in
-      short-at _ (result_for task (past.fed ++ more)) reader mid outcome past at.line
+      short-at filter _ (result_for task (past.fed ++ more)) reader mid outcome past at.line
       (put-short mid reader.held outcome at ran.fault put)
       (subst (λ t. Begins t written) (sym (output-for task (past.fed ++ more))) (begins-then _ _ _ all first))
+      (subst (λ (f : Filter). AreFirstWarnings f past.fed (past.messages ++ mid.messages.bytes.items))
+      (filter-is task engine is) ran.messages)
       (ran.some, ran.within))
   breaks-over (inr broken) put =
       let filter = filter_for task in
@@ -175,8 +195,11 @@ module _ (task : Task) (engine : AnyEngine) (is : IsOf task engine)
       subst (λ (f : Filter). IsText (f.so_far broken.lines) mid past) (filter-is task engine is) broken.text in
       let whole : (more : List ℕ) → filter.whole (lines_of (past.fed ++ more)) ≡ filter.so_far broken.lines = λ more.
       ap filter.whole (broken.first more).1 ∙ (lawful-for task).decided broken.lines (broken.first more).0 at fault in
+      let told : AreFirstWarnings filter past.fed (past.messages ++ mid.messages.bytes.items) =
+      warnings-first filter past.fed broken.lines broken.first (past.messages ++ mid.messages.bytes.items)
+      (record { rest = []; same = text.reported ∙ sym (append-nil (past.messages ++ mid.messages.bytes.items)) }) in
       ⊎_elim (λ silently. inl (λ more.
-      fault-short _ (past.fed ++ more) (filter.so_far broken.lines) (whole more) fault text silently))
+      fault-short _ (past.fed ++ more) (filter.so_far broken.lines) (whole more) fault text silently told))
       (λ down. inr (λ more.
       subst (λ r. ReaderIsOver r reader outcome past)
       (sym (ap result_of_course (whole more))
@@ -184,7 +207,7 @@ module _ (task : Task) (engine : AnyEngine) (is : IsOf task engine)
       (course-over (filter.so_far broken.lines) reader mid outcome past at fault text down)))
       put
 
-  pub fails-over : LineFails ((engine_filter engine).whole (lines_of past.fed)) mid past at
+  pub fails-over : LineFails (engine_filter engine) mid past at
       → IsPut mid reader.held at (Some outcome)
       → HasEndedBy task reader past (Some outcome)
   fails-over (inl ran) put =
@@ -192,16 +215,21 @@ module _ (task : Task) (engine : AnyEngine) (is : IsOf task engine)
       let output : Begins ((filter_for task).whole (lines_of past.fed)).output written =
       subst (λ (f : Filter). Begins (f.whole (lines_of past.fed)).output written)
       (filter-is task engine is) ran.output in
-      inl (short-at _ (result_for task past.fed) reader mid outcome past at.line
+      inl (short-at (filter_for task) _ (result_for task past.fed) reader mid outcome past at.line
       (put-short mid reader.held outcome at ran.ran_out.0 put)
-      (subst (λ t. Begins t written) (sym (output-for task past.fed)) output) ran.ran_out.1)
+      (subst (λ t. Begins t written) (sym (output-for task past.fed)) output)
+      (subst (λ (f : Filter). AreFirstWarnings f past.fed (past.messages ++ mid.messages.bytes.items))
+      (filter-is task engine is) ran.messages) ran.ran_out.1)
   fails-over (inr failed) put =
       let whole = (filter_for task).whole (lines_of past.fed) in
       let same : (engine_filter engine).whole (lines_of past.fed) ≡ whole =
       ap (λ (f : Filter). f.whole (lines_of past.fed)) (filter-is task engine is) in
       let fault : whole.fault ≡ Some at = subst (λ (c : Course). c.fault ≡ Some at) same failed.fault in
       let text : IsText whole mid past = subst (λ (c : Course). IsText c mid past) same failed.text in
-      ⊎_elim (λ silently. inl (fault-short _ past.fed whole refl fault text silently))
+      ⊎_elim (λ silently. inl (fault-short _ past.fed whole refl fault text silently (inr (record {
+        rest = [];
+        same = text.reported ∙ sym (append-nil (past.messages ++ mid.messages.bytes.items));
+      }))))
       (λ down. inr (subst (λ r. ReaderIsOver r reader outcome past) (result-faulty task past.fed at fault)
       (course-over whole reader mid outcome past at fault text down)))
       put

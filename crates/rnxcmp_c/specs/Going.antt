@@ -59,19 +59,25 @@ pub record IsCutShort (before after : Course) (output then_output : Collected) :
   pub wrote : then_output.bytes.items ≡ output.bytes.items ++ text
   pub first : (text ≡ []) ⊎ Begins after.output (before.output ++ text)
 
+-- and of its warnings
+pub record AreCutShort (before after : Course) (messages then_messages : Collected) : Type 0 where
+  pub text : List ℕ
+  pub reported : then_messages.bytes.items ≡ messages.bytes.items ++ text
+  pub first : (text ≡ []) ⊎ Begins (notices_text after.warnings) (notices_text before.warnings ++ text)
+
 -- memory ran out, or a fault ended the run
 abbrev pub LineStops : ℕ → Course → Course → Collected → Collected → Collected → Collected → At → Type 0
 LineStops number before after output then_output messages then_messages at =
-    (RanOutAt number at × IsCutShort before after output then_output)
+    (RanOutAt number at × IsCutShort before after output then_output × AreCutShort before after messages then_messages)
     ⊎ EndsThere before after output then_output messages then_messages at
 
 abbrev pub StopsBy : ℕ → Course → Course → Collected → Collected → Collected → Collected → Halt → Type 0
 StopsBy number before after output then_output messages then_messages (Fault at) =
     LineStops number before after output then_output messages then_messages at
 StopsBy number before after output then_output messages then_messages Unwritten =
-    IsCutShort before after output then_output
+    IsCutShort before after output then_output × AreCutShort before after messages then_messages
 StopsBy number before after output then_output messages then_messages Unreported =
-    IsCutShort before after output then_output
+    IsCutShort before after output then_output × AreCutShort before after messages then_messages
 
 -- ---- a run
 
@@ -113,8 +119,21 @@ pub record IsBroken (filter : Filter) (held : Held) (past : HandlePast) (at : At
   pub fault : (filter.so_far lines).fault ≡ Some at
   pub text : IsText (filter.so_far lines) held past
 
+-- a text is a prefix of the warnings of some of the first lines of an input
+pub record AreWarningsSoFar (filter : Filter) (fed text : List ℕ) : Type 0 where
+  pub lines : List InputLine
+  pub others : List InputLine
+  pub first : lines_of fed ≡ lines ++ others
+  pub begins : Begins (notices_text (filter.so_far lines).warnings) text
+
+-- or of those of the whole input
+abbrev pub AreFirstWarnings : Filter → List ℕ → List ℕ → Type 0
+AreFirstWarnings filter fed text = AreWarningsSoFar filter fed text
+    ⊎ Begins (notices_text (filter.whole (lines_of fed)).warnings) text
+
 -- memory ran out in a line, at the latest in the one after those whose LF was fed. What was taken of the output and
--- then what is kept is a prefix of what some of the first lines make, whatever follows
+-- then what is kept is a prefix of what some of the first lines make, whatever follows; and so are the messages of
+-- their warnings
 pub record RunsShort (filter : Filter) (held : Held) (past : HandlePast) (at : At) : Type 0 where
   pub fault : at.fault ≡ OutOfMemory
   pub some : 0 < at.line
@@ -122,6 +141,7 @@ pub record RunsShort (filter : Filter) (held : Held) (past : HandlePast) (at : A
   pub lines : List InputLine
   pub first : (more : List ℕ) → (rest : List InputLine) × (lines_of (past.fed ++ more) ≡ lines ++ rest)
   pub output : Begins (filter.so_far lines).output (past.output ++ held.output.bytes.items)
+  pub messages : AreFirstWarnings filter past.fed (past.messages ++ held.messages.bytes.items)
 
 -- memory ran out, or a fault ended the run
 abbrev pub Breaks : Filter → Held → HandlePast → At → Type 0
@@ -141,11 +161,13 @@ pub record IsFailed (course : Course) (held : Held) (past : HandlePast) (at : At
   pub text : IsText course held past
 
 -- memory ran out at the last line, or at the end after it. What was taken of the output and then what is kept is a
--- prefix of it
-pub record EndsShort (course : Course) (held : Held) (past : HandlePast) (at : At) : Type 0 where
+-- prefix of it, and the same of the warnings
+pub record EndsShort (filter : Filter) (held : Held) (past : HandlePast) (at : At) : Type 0 where
   pub ran_out : RanOutAt (length (lines_of past.fed)) at
-  pub output : Begins course.output (past.output ++ held.output.bytes.items)
+  pub output : Begins (filter.whole (lines_of past.fed)).output (past.output ++ held.output.bytes.items)
+  pub messages : AreFirstWarnings filter past.fed (past.messages ++ held.messages.bytes.items)
 
 -- memory ran out, or a fault ended the run
-abbrev pub LineFails : Course → Held → HandlePast → At → Type 0
-LineFails course held past at = EndsShort course held past at ⊎ IsFailed course held past at
+abbrev pub LineFails : Filter → Held → HandlePast → At → Type 0
+LineFails filter held past at = EndsShort filter held past at
+    ⊎ IsFailed (filter.whole (lines_of past.fed)) held past at

@@ -24,7 +24,7 @@ use Rattle.crx_engine.specs.ExpanderState.{expander_state}
 use Rattle.crx_engine.specs.ExpansionByLine.{expansion, expansion_seen}
 use Rattle.crx_filter.specs.declared.outcome.Outcome.{Outcome}
 use Rattle.crx_filter.specs.meaning.Runs.{FaultIs}
-use Rattle.rnxcmp_c.specs.Going.{IsGoing, HandlePast, fed_with}
+use Rattle.rnxcmp_c.specs.Going.{AreFirstWarnings, IsGoing, HandlePast, fed_with}
 use Rattle.rnxcmp_c.specs.meaning.Answers.{bare_answer, fault_code_in, line_in}
 use Rattle.rnxcmp_c.specs.declared.answer.Answer.{Answer}
 use Rattle.rnxcmp_c.specs.declared.answer.TheConstants.{MISUSED}
@@ -113,14 +113,22 @@ pub record ReaderIsOver (result : FilterResult) (reader : Reader) (outcome : Out
   pub output : result.output ≡ past.output ++ reader.held.output.bytes.items
   pub messages : result.messages ≡ past.messages ++ reader.held.messages.bytes.items
 
+-- the messages of a run in which memory ran out: the first warnings of what was fed, or a prefix of them, and then the
+-- message of the fault, where there was memory for it
+pub record AreMessagesCut (filter : Filter) (fed all : List ℕ) (fault : Option At) : Type 0 where
+  pub warnings : List ℕ
+  pub first : AreFirstWarnings filter fed warnings
+  pub whole : (all ≡ warnings) ⊎ (all ≡ warnings ++ error_text fault)
+
 -- memory ran out, which is status 1: at such a line, or for the message of the fault that the result has. What was
--- taken of the output and then what is kept is a prefix of it
-pub record RunIsOutOfMemory (is_line : ℕ → Type 0)
+-- taken of the output and then what is kept is a prefix of it, and the messages are those of the first warnings
+pub record RunIsOutOfMemory (filter : Filter) (is_line : ℕ → Type 0)
     (result : FilterResult) (reader : Reader) (outcome : Outcome) (past : HandlePast) : Type 0 where
   pub memory : FaultIs OutOfMemory outcome.fault
   pub status : outcome.status ≡ 1
   pub line : is_line (line_in outcome.fault) ⊎ (line_in outcome.fault ≡ line_in result.fault)
   pub output : Begins result.output (past.output ++ reader.held.output.bytes.items)
+  pub messages : AreMessagesCut filter past.fed (past.messages ++ reader.held.messages.bytes.items) outcome.fault
 
 -- the number of a line of some bytes, at the latest of the one after those that an LF ends
 abbrev pub IsLineReached : List ℕ → ℕ → Type 0
@@ -130,7 +138,7 @@ IsLineReached fed line = line ≤ length (ended_lines_of fed) + 1
 abbrev pub StandsBy : Task → Reader → HandlePast → Option Outcome → Type 0
 StandsBy task reader past None = ReaderRuns task reader past
 StandsBy task reader past (Some outcome) =
-    RunIsOutOfMemory (IsLineReached past.fed) (result_for task past.fed) reader outcome past
+    RunIsOutOfMemory (filter_for task) (IsLineReached past.fed) (result_for task past.fed) reader outcome past
     ⊎ ReaderIsOver (result_for task past.fed) reader outcome past
 
 abbrev pub ReaderStands : Task → Reader → HandlePast → Type 0
@@ -139,7 +147,7 @@ ReaderStands task reader past = StandsBy task reader past reader.outcome
 -- where it is after some bytes: where a fault has ended it, the result is that of every input that begins with them
 abbrev pub HasFedBy : Task → Reader → HandlePast → Option Outcome → Type 0
 HasFedBy task reader past None = ReaderRuns task reader past
-HasFedBy task reader past (Some outcome) = ((more : List ℕ) → RunIsOutOfMemory
+HasFedBy task reader past (Some outcome) = ((more : List ℕ) → RunIsOutOfMemory (filter_for task)
     (λ line. (0 < line) × IsLineReached past.fed line) (result_for task (past.fed ++ more)) reader outcome past)
     ⊎ ((more : List ℕ) → ReaderIsOver (result_for task (past.fed ++ more)) reader outcome past)
 
@@ -149,7 +157,7 @@ HasFed task reader past = HasFedBy task reader past reader.outcome
 -- after its end
 abbrev pub HasEndedBy : Task → Reader → HandlePast → Option Outcome → Type 0
 HasEndedBy task reader past None = ⊥
-HasEndedBy task reader past (Some outcome) = RunIsOutOfMemory
+HasEndedBy task reader past (Some outcome) = RunIsOutOfMemory (filter_for task)
     (λ line. line ≡ length (lines_of past.fed)) (result_for task past.fed) reader outcome past
     ⊎ ReaderIsOver (result_for task past.fed) reader outcome past
 

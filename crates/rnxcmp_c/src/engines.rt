@@ -57,7 +57,7 @@ pub(crate) fn end_any(engine: &mut AnyEngine, held: &mut Held) -> Result<(), At>
     ensures done { (past : HandlePast) → IsGoing (engine_filter engine.old) (shows_of engine.old) held.old past
         → OnOk result (IsAll ((engine_filter engine.old).whole (lines_of past.fed)) held.new past) }
     ensures fails { (past : HandlePast) → IsGoing (engine_filter engine.old) (shows_of engine.old) held.old past
-        → IfErr result (λ at. LineFails ((engine_filter engine.old).whole (lines_of past.fed)) held.new past at) }
+        → IfErr result (λ at. LineFails (engine_filter engine.old) held.new past at) }
 {
     match engine {
         AnyEngine::Compacting(compactor) => take_last(compactor, held),

@@ -244,7 +244,7 @@ pub(crate) fn take_last<E: Engine>(engine: &mut E, held: &mut Held) -> Result<()
     ensures done { (past : HandlePast) → IsGoing (E.filter engine.old) (E.shows engine.old) held.old past
         → OnOk result (IsAll ((E.filter engine.old).whole (lines_of past.fed)) held.new past) }
     ensures fails { (past : HandlePast) → IsGoing (E.filter engine.old) (E.shows engine.old) held.old past
-        → IfErr result (λ at. LineFails ((E.filter engine.old).whole (lines_of past.fed)) held.new past at) }
+        → IfErr result (λ at. LineFails (E.filter engine.old) held.new past at) }
 {
     if is_blank(&held.tail) {
         return end_run(engine, held);

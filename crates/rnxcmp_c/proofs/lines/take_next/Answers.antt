@@ -67,10 +67,11 @@ pub returns-in-Err-clause-breaks : goal.returns-in-Err-clause-breaks
 returns-in-Err-clause-breaks g c = λ (past : HandlePast) is.
     let new : Held = record c.args.held.now { tail = c.extend_from_slice.new.self } in
     breaks-before (g.E.Engine.filter c.args.engine.now) (g.E.Engine.shows c.args.engine.now) c.args.held.now past is
-    new c.args.bytes.now c.no_memory.result refl c.no_memory.ensures
+    new c.args.bytes.now c.no_memory.result refl refl c.no_memory.ensures
 
 pub returns-in-Err-extend_from_slice-clause-breaks : goal.returns-in-Err-extend_from_slice-clause-breaks
 returns-in-Err-extend_from_slice-clause-breaks g c = λ (past : HandlePast) is.
     let new : Held = record c.args.held.now { tail = c.extend_from_slice-in-Some.new.self } in
     breaks-before (g.E.Engine.filter c.args.engine.now) (g.E.Engine.shows c.args.engine.now) c.args.held.now past is
-    new c.args.bytes.now c.no_memory-in-Err-extend_from_slice.result refl c.no_memory-in-Err-extend_from_slice.ensures
+    new c.args.bytes.now c.no_memory-in-Err-extend_from_slice.result refl refl
+    c.no_memory-in-Err-extend_from_slice.ensures
