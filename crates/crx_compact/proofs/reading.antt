@@ -1,14 +1,5 @@
 -- Compact text read line by line.
-pub mod CellsRead
-pub mod ShownRows
-pub mod ShownEpochs
-pub mod Marks
-pub mod Naming
-pub mod SameIdentifiers
-pub mod Named
-pub mod Identifiers
 pub mod Opening
-pub mod RoomForRows
 pub mod NoMemory
 pub mod LineByLine
 pub mod StepsByCode

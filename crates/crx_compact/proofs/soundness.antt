@@ -4,4 +4,3 @@ pub mod Goodness
 pub mod GoodLists
 pub mod BoundedReading
 pub mod BoundedTails
-pub mod SoundTexts

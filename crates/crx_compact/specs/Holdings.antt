@@ -1,12 +1,12 @@
 -- All that columns and what stands in them hold between two lines of an input, part by part. By the law
 -- `columns_hold` one that takes over these parts of another is that other; so there is no part beside them, in which
 -- a record of the past lines could grow.
-use Rattle.crx_compact.specs.declared.held.HeldSatellite.TheInside.{Inside as HeldSatelliteInside}
-use Rattle.crx_compact.specs.declared.kept.KeptEpoch.TheInside.{Inside as KeptEpochInside}
-use Rattle.crx_compact.specs.declared.awaited.AwaitedSatellite.TheInside.{Inside as AwaitedSatelliteInside}
-use Rattle.crx_compact.specs.declared.awaited.AwaitedSatellites.TheInside.{Inside as AwaitedSatellitesInside}
+use Rattle.crx_history.specs.declared.held.HeldSatellite.TheInside.{Inside as HeldSatelliteInside}
+use Rattle.crx_history.specs.declared.kept.KeptEpoch.TheInside.{Inside as KeptEpochInside}
+use Rattle.crx_history.specs.declared.awaited.AwaitedSatellite.TheInside.{Inside as AwaitedSatelliteInside}
+use Rattle.crx_history.specs.declared.awaited.AwaitedSatellites.TheInside.{Inside as AwaitedSatellitesInside}
 use Rattle.crx_compact.specs.declared.incoming.Incoming.TheInside.{Inside as IncomingInside}
-use Rattle.crx_compact.specs.declared.lines.Lines.TheInside.{Inside as LinesInside}
+use Rattle.crx_history.specs.declared.lines.Lines.TheInside.{Inside as LinesInside}
 use Rattle.crx_compact.specs.declared.expanded_lines.CopiedLine.TheInside.{Inside as CopiedLineInside}
 use Rattle.crx_compact.specs.declared.expanded_lines.ExpandedLines.TheInside.{Inside as ExpandedLinesInside}
 use Rattle.crx_compact.specs.declared.columns.Columns.TheInside.{Inside as ColumnsInside}

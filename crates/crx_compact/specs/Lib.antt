@@ -1,16 +1,7 @@
-pub mod meaning
-pub mod Expansion
-pub mod Tails
-pub mod Steps
-pub mod ShownRows
 pub mod OpenEpochs
-pub mod Arcs
-pub mod Cells
-pub mod LineLists
 pub mod Coded
 pub mod Laws
 pub mod ReadingLaws
-pub mod HeldRows
 pub mod OpenLines
 pub mod ReadBlocks
 pub mod BorrowedLines

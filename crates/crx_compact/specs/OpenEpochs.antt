@@ -7,34 +7,27 @@ use Rattle.std.specs.Option.{option_map}
 use Rattle.crx_text.specs.meaning.Columns.{columns}
 use Rattle.crx_text.specs.Texts.{patched}
 use Rattle.crx_lines.specs.meaning.Seen.{ReadLine, Content, Overlong}
-use Rattle.crx_lines.specs.declared.limits.TheConstants.{OBSERVATION_WIDTH, CLOCK_WIDTH, HEAD_WIDTH, NAME_WIDTH}
-use Rattle.crx_lines.specs.declared.limits.TheConstants.{ORDER_LIMIT, TYPES_LIMIT, SATELLITES_LIMIT}
+use Rattle.crx_lines.specs.declared.limits.TheConstants.{HEAD_WIDTH, NAME_WIDTH, ORDER_LIMIT, TYPES_LIMIT}
+use Rattle.crx_lines.specs.declared.limits.TheConstants.{SATELLITES_LIMIT}
 use Rattle.crx_lines.specs.declared.fault.Fault.{Fault}
 use Rattle.crx_lines.specs.declared.fault.Fault.TheVariants.{LineTooLong, NotAnEpoch}
-use Rattle.crx_rinex.specs.meaning.Observations.{Row, Epoch}
+use Rattle.crx_rinex.specs.meaning.Observations.{Epoch}
 use Rattle.crx_rinex.specs.meaning.Printing.{printed_epoch}
 use Rattle.crx_rinex.specs.meaning.ObservationTypes.{Count}
 use Rattle.crx_rinex.specs.meaning.Places.{Place, Here, Wrong, Wanted}
-use Rattle.crx_compact.specs.meaning.Sequences.{and_then}
+use Rattle.crx_arcs.specs.meaning.Sequences.{and_then}
 use Rattle.crx_rinex.specs.meaning.EpochLines.{begins_epoch}
-use Rattle.crx_compact.specs.meaning.EpochText.{Satellite}
-use Rattle.crx_compact.specs.meaning.Past.{Past}
-use Rattle.crx_compact.specs.meaning.CompactPlaces.{ReadCell, ReadRow, ReadEpoch, satellites_of_line, clock_line_read}
-use Rattle.crx_compact.specs.meaning.CompactPlaces.{satellite_line_read, epoch_against}
-use Rattle.crx_compact.specs.Tails.{ArcTail, RowTail, Tail, IsBoundedArc, IsBoundedRowTail, IsBoundedTail}
-use Rattle.crx_compact.specs.Steps.{no_tail, tail_named, cell_of_tail, flags_of_tail, value_of_code, arc_of_code}
-use Rattle.crx_compact.specs.Steps.{raw_row_tail_after, raw_tail_after}
+use Rattle.crx_history.specs.meaning.EpochText.{Satellite}
+use Rattle.crx_arcs.specs.meaning.Cells.{ReadCell}
+use Rattle.crx_history.specs.meaning.CompactPlaces.{ReadRow, ReadEpoch, satellites_of_line, clock_line_read}
+use Rattle.crx_history.specs.meaning.CompactPlaces.{satellite_line_read, epoch_against}
+use Rattle.crx_arcs.specs.ArcTails.{ArcTail, IsBoundedArc}
+use Rattle.crx_history.specs.Tails.{Tail, IsBoundedRowTail, IsBoundedTail}
+use Rattle.crx_history.specs.Steps.{no_tail, raw_tail_after}
+use Rattle.crx_arcs.specs.ArcSteps.{arc_of_code}
+use Rattle.crx_history.specs.HeldRows.{past_of_tail, HeldRow, held_row}
 
 -- ---- what a tail gives to the lines of the next epoch
-
-abbrev pub past_of_tail : Tail → Past
-past_of_tail tail =
-    record {
-      text = λ line. patched tail.text line;
-      clock = λ code. value_of_code CLOCK_WIDTH code tail.clock;
-      value = λ name place code. value_of_code OBSERVATION_WIDTH code (cell_of_tail place (tail_named name tail));
-      flags = λ name marks. patched (flags_of_tail (tail_named name tail)) marks;
-    }
 
 -- the tail that an epoch line is read after, by the tail before it, or none: where the line begins with >, the empty one
 abbrev pub tail_for_line : Option Tail → List ℕ → Option Tail
@@ -50,11 +43,6 @@ epoch_after types tail lines = epoch_against types (λ line. option_map past_of_
 pub record HeldClock : Type 0 where
   pub value : Option ℤ
   pub arc : Option ArcTail
-
--- a satellite's row, and the satellite's tail after it
-pub record HeldRow : Type 0 where
-  pub row : Row
-  pub tail : RowTail
 
 -- an epoch, and the tail after it
 pub record HeldEpoch : Type 0 where
@@ -126,9 +114,6 @@ whole_or_awaiting begun clock rows (satellite ∷ awaited) =
 
 abbrev pub held_clock : Tail → ReadCell → HeldClock
 held_clock before cell = record { value = cell.value; arc = arc_of_code cell.code before.clock }
-
-abbrev pub held_row : Tail → ReadRow → HeldRow
-held_row before read = record { row = read.row; tail = raw_row_tail_after (tail_named read.raw.name before) read.raw }
 
 abbrev pub raw_step_with_clock : OpenRawEpoch → Result ReadCell Fault → RawStep
 raw_step_with_clock begun (Err fault) = Faulty fault

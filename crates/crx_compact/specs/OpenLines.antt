@@ -1,24 +1,20 @@
 -- What the lines of an epoch that are read so far have given, and how code stores it.
-use Rattle.std.specs.Prelude.{◌≡◌, ℕ, ◌≤◌, List, [], ◌∷◌, length, map, take, drop, Bool, true, false, Option, Some}
-use Rattle.std.specs.Prelude.{None, ⊤, Ok, is_some, ◌&&◌, ◌==◌}
+use Rattle.std.specs.Prelude.{ℕ, List, [], ◌∷◌, length, map, take, drop, Bool, false, Option, Some, None, ⊤, is_some}
+use Rattle.std.specs.Prelude.{◌&&◌, ◌==◌}
 use Rattle.std.specs.Option.{option_and_then}
 use Rattle.crx_text.specs.meaning.Columns.{columns}
 use Rattle.crx_lines.specs.declared.limits.TheConstants.{HEAD_WIDTH}
 use Rattle.crx_lines.specs.declared.fault.Fault.TheVariants.{NotAnEpoch}
 use Rattle.crx_rinex.specs.meaning.Observations.{Row, Epoch}
-use Rattle.crx_compact.specs.meaning.EpochText.{Satellite}
-use Rattle.crx_rinex.specs.meaning.EpochLines.{epoch_count}
-use Rattle.crx_compact.specs.Tails.{RowTail, Tail}
-use Rattle.crx_compact.specs.OpenEpochs.{HeldClock, HeldRow, OpenRawEpoch, RawStep, Going, Faulty, whole_or_awaiting}
-use Rattle.crx_compact.specs.OpenEpochs.{line_step, ColumnsState, Idle, Reading, past_of_tail}
-use Rattle.crx_rinex.specs.meaning.Epochs.{are_apart}
-use Rattle.crx_compact.specs.meaning.CompactPlaces.{ReadCell, clock_line_read, satellites_of_text}
-use Rattle.crx_rinex.specs.meaning.ObservationTypes.{Count}
-use Rattle.crx_compact.specs.Steps.{arc_of_code}
-use Rattle.crx_compact.specs.ShownRows.{shown_epoch, shown_value}
-use Rattle.crx_compact.specs.HeldRows.{HaveRows}
+use Rattle.crx_history.specs.meaning.EpochText.{Satellite}
+use Rattle.crx_history.specs.Tails.{RowTail, Tail}
+use Rattle.crx_compact.specs.OpenEpochs.{HeldClock, OpenRawEpoch, RawStep, Going, Faulty, whole_or_awaiting, line_step}
+use Rattle.crx_compact.specs.OpenEpochs.{ColumnsState, Idle, Reading}
+use Rattle.crx_history.specs.HeldRows.{HeldRow, HaveRows}
+use Rattle.crx_history.specs.ShownRows.{shown_epoch}
 use Rattle.crx_compact.specs.declared.incoming.Stage.{Stage}
 use Rattle.crx_compact.specs.declared.incoming.Stage.TheVariants.{Unbegun, Clock, Rows}
+use Rattle.crx_history.specs.RowsSoFar.{AreAnnounced, AreRowsSoFar}
 
 -- an open epoch, but for the tail that its lines are read after
 pub record OpenLines : Type 0 where
@@ -76,27 +72,6 @@ epoch_so_far (Some lines) =
       rows = map (λ (r : HeldRow). r.row) lines.rows;
     }
 
--- the satellites of an epoch text: as many as its columns announce, and no two of one identifier
-pub record AreAnnounced (text : List ℕ) (satellites : List Satellite) : Type 0 where
-  pub counted : epoch_count (columns text 1 HEAD_WIDTH) ≡ Some (length satellites)
-  pub apart : are_apart (λ (s : Satellite). s.name) satellites ≡ true
-
--- satellites were read from what stands after the columns of an epoch text, by counts of types
-abbrev pub WereRead : List Count → List ℕ → List Satellite → Type 0
-WereRead types rest satellites = (text : List ℕ)
-    × (drop HEAD_WIDTH text ≡ rest) × (satellites_of_text types text ≡ Ok satellites)
-
--- the epoch of the rows so far: it has the columns of the text, which announce the satellites, and the rows of the
--- first so many of these
-pub record AreRowsSoFar (epoch : Epoch) (next : Tail) (count : ℕ) (satellites : List Satellite) : Type 0 where
-  pub head : epoch.head ≡ columns next.text 1 HEAD_WIDTH
-  pub announced : AreAnnounced next.text satellites
-  pub counted : length epoch.rows ≡ count
-  pub named : map (λ (r : Row). r.name) epoch.rows ≡ map (λ (s : Satellite). s.name) (take count satellites)
-  pub sized : map (λ (r : Row). length r.values) epoch.rows ≡ map (λ (s : Satellite). s.count) (take count satellites)
-  pub within : count ≤ length satellites
-  pub left : count ≤ length next.rows
-
 abbrev pub AreLinesSoFar : Stage → Tail → ℕ → List Satellite → Type 0
 AreLinesSoFar Unbegun next count satellites = ⊤
 AreLinesSoFar Clock next count satellites = AreAnnounced next.text satellites
@@ -128,10 +103,3 @@ made_of before (Some lines) = made_with before lines lines.clock
 abbrev pub columns_state : Option Tail → Tail → Option OpenLines → ColumnsState
 columns_state tail before None = Idle tail
 columns_state tail before (Some lines) = Reading (open_raw before lines)
-
--- the clock line read after a tail: the tail of the clock's arc is stored, which shows the clock's value
-pub record HasClock (before : Tail) (line : List ℕ) (old new : Tail) : Type 0 where
-  pub cell : ReadCell
-  pub read : clock_line_read (past_of_tail before) line ≡ Ok cell
-  pub left : new ≡ record old { clock = arc_of_code cell.code before.clock }
-  pub shown : shown_value new.clock ≡ cell.value

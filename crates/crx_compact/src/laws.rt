@@ -2,12 +2,12 @@
 
 ghost use Rattle.std.specs.Prelude.{◌≡◌};
 ghost use Rattle.crx_compact.specs.Holdings.{satellite_with, kept_epoch_with, awaited_with, all_awaited_with, incoming_with, lines_with, copied_line_with, expanded_lines_with, columns_with};
-ghost use Rattle.crx_compact.specs.declared.held.HeldSatellite.TheInside.{Inside as HeldSatelliteInside};
-ghost use Rattle.crx_compact.specs.declared.kept.KeptEpoch.TheInside.{Inside as KeptEpochInside};
-ghost use Rattle.crx_compact.specs.declared.awaited.AwaitedSatellite.TheInside.{Inside as AwaitedSatelliteInside};
-ghost use Rattle.crx_compact.specs.declared.awaited.AwaitedSatellites.TheInside.{Inside as AwaitedSatellitesInside};
+ghost use Rattle.crx_history.specs.declared.held.HeldSatellite.TheInside.{Inside as HeldSatelliteInside};
+ghost use Rattle.crx_history.specs.declared.kept.KeptEpoch.TheInside.{Inside as KeptEpochInside};
+ghost use Rattle.crx_history.specs.declared.awaited.AwaitedSatellite.TheInside.{Inside as AwaitedSatelliteInside};
+ghost use Rattle.crx_history.specs.declared.awaited.AwaitedSatellites.TheInside.{Inside as AwaitedSatellitesInside};
 ghost use Rattle.crx_compact.specs.declared.incoming.Incoming.TheInside.{Inside as IncomingInside};
-ghost use Rattle.crx_compact.specs.declared.lines.Lines.TheInside.{Inside as LinesInside};
+ghost use Rattle.crx_history.specs.declared.lines.Lines.TheInside.{Inside as LinesInside};
 ghost use Rattle.crx_compact.specs.declared.expanded_lines.CopiedLine.TheInside.{Inside as CopiedLineInside};
 ghost use Rattle.crx_compact.specs.declared.expanded_lines.ExpandedLines.TheInside.{Inside as ExpandedLinesInside};
 ghost use Rattle.crx_compact.specs.declared.columns.Columns.TheInside.{Inside as ColumnsInside};

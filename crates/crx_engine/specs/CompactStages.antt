@@ -1,6 +1,6 @@
 -- The epoch that a reader of compact text holds open.
 use Rattle.std.specs.Prelude.{Bool, true, false, List, [], ◌∷◌, Option, Some, None}
-use Rattle.crx_compact.specs.meaning.EpochText.{Satellite}
+use Rattle.crx_history.specs.meaning.EpochText.{Satellite}
 use Rattle.crx_compact.specs.OpenEpochs.{OpenRawEpoch, HeldClock, ColumnsState, is_idle}
 use Rattle.crx_compact.specs.OpenEpochs.ColumnsState.{Idle, Reading}
 use Rattle.crx_engine.specs.declared.stage.Stage.{Stage}

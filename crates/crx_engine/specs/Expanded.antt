@@ -2,7 +2,7 @@
 use Rattle.crx_engine.specs.meaning.Directions.{compact_reading}
 use Rattle.std.specs.Prelude.{ℕ, List}
 use Rattle.crx_lines.specs.meaning.Seen.{ReadLine}
-use Rattle.crx_compact.specs.meaning.CompactPlaces.{ReadEpoch}
+use Rattle.crx_history.specs.meaning.CompactPlaces.{ReadEpoch}
 use Rattle.crx_engine.specs.meaning.Choices.{Choices}
 use Rattle.crx_engine.specs.meaning.Items.{Item}
 use Rattle.crx_rinex.specs.meaning.Printing.{lines_text}

@@ -5,7 +5,7 @@ use Rattle.crx_lines.specs.meaning.Seen.{ReadLine}
 use Rattle.crx_lines.specs.declared.fault.At.{At}
 use Rattle.crx_lines.specs.declared.fault.Fault.{Fault}
 use Rattle.crx_compact.specs.OpenEpochs.{OpenRawEpoch}
-use Rattle.crx_compact.specs.Tails.{Tail}
+use Rattle.crx_history.specs.Tails.{Tail}
 use Rattle.crx_engine.specs.ExpansionByLine.{expansion, expansion_seen}
 use Rattle.crx_engine.specs.EngineLines.{HasTaken}
 use Rattle.crx_engine.specs.Engines.{Awaited}

@@ -7,8 +7,8 @@ use Rattle.crx_rinex.specs.meaning.Places.{Here, Wrong, Wanted}
 use Rattle.crx_rinex.specs.meaning.Units.{Unit, HeaderLine, EventLine, EventRecord, Observation, printed_unit}
 use Rattle.crx_rinex.specs.meaning.ObservationTypes.{Count}
 use Rattle.crx_rinex.specs.meaning.Observations.{Epoch}
-use Rattle.crx_compact.specs.meaning.CompactPlaces.{ReadEpoch}
-use Rattle.crx_compact.specs.Tails.{Tail, tail_left}
+use Rattle.crx_history.specs.meaning.CompactPlaces.{ReadEpoch}
+use Rattle.crx_history.specs.Tails.{Tail, tail_left}
 use Rattle.crx_compact.specs.OpenEpochs.{OpenRawEpoch, HeldEpoch, RawStep, Going, Whole, Faulty, first_step, next_step}
 use Rattle.crx_compact.specs.OpenEpochs.{is_faulty, makes_epoch, open_raw_with}
 use Rattle.crx_engine.specs.meaning.Choices.{Choices}

@@ -5,7 +5,7 @@ ghost use Rattle.crx_lines.specs.declared.limits.TheConstants.{DATE_LIMIT, LINE_
 ghost use Rattle.crx_rinex.specs.Epochs.{is_full_epoch};
 ghost use Rattle.crx_compact.specs.OpenEpochs.{is_idle, tail_held};
 ghost use Rattle.crx_compact.specs.OpenEpochs.ColumnsState.{Idle};
-ghost use Rattle.crx_compact.specs.Steps.{lines_after_tail, tail_after, tail_written_after};
+ghost use Rattle.crx_history.specs.Steps.{lines_after_tail, tail_after, tail_written_after};
 ghost use Rattle.crx_engine.specs.meaning.Compacted.{program_line, lines_before_header};
 ghost use Rattle.crx_rinex.specs.meaning.Printing.{lines_text};
 
@@ -13,7 +13,7 @@ use crate::appending::append;
 use crate::crinex::{CRINEX_PROGRAM, CRINEX_PROGRAM_LABEL, CRINEX_VERSION_LINE};
 use crate::options::in_columns;
 use crx_compact::Columns;
-use crx_compact::lines::Lines;
+use crx_history::lines::Lines;
 use crx_rinex::Epoch;
 use crx_text::Text;
 use std::alloc::{AllocError, Global};

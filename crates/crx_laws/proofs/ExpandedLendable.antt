@@ -20,7 +20,7 @@ use Rattle.crx_rinex.specs.meaning.Printing.{printed_cells, printed_row, printed
 use Rattle.crx_rinex.specs.meaning.SatelliteLines.{IsSoundRow}
 use Rattle.crx_rinex.specs.meaning.Units.{Unit as FileUnit, HeaderLine, EventLine, EventRecord, Observation}
 use Rattle.crx_rinex.proofs.ReadingBack.{length-row, length-head}
-use Rattle.crx_compact.specs.meaning.CompactPlaces.{ReadEpoch, epoch_at}
+use Rattle.crx_history.specs.meaning.CompactPlaces.{ReadEpoch, epoch_at}
 use Rattle.crx_compact.specs.ReadingLaws.{IsGood}
 use Rattle.crx_engine.specs.meaning.Choices.{Choices}
 use Rattle.crx_engine.specs.meaning.Items.{Item, Accepted, Warned, is_at_start, header_has_ended, records_left}

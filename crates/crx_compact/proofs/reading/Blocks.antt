@@ -8,9 +8,9 @@ use Rattle.crx_lines.specs.declared.fault.Fault.TheVariants.{OutOfMemory}
 use Rattle.crx_rinex.specs.meaning.Observations.{Epoch}
 use Rattle.crx_rinex.specs.meaning.ObservationTypes.{Count}
 use Rattle.crx_rinex.specs.meaning.Places.{Place, Here, Wrong, Wanted}
-use Rattle.crx_compact.specs.meaning.Expansion.{RawEpoch}
-use Rattle.crx_compact.specs.meaning.CompactPlaces.{epoch_at}
-use Rattle.crx_compact.specs.Tails.{Tail, tail_left}
+use Rattle.crx_history.specs.meaning.Expansion.{RawEpoch}
+use Rattle.crx_history.specs.meaning.CompactPlaces.{epoch_at}
+use Rattle.crx_history.specs.Tails.{Tail, tail_left}
 use Rattle.crx_compact.specs.ReadingLaws.{StepFromOpen}
 use Rattle.crx_compact.specs.OpenEpochs.{ColumnsState, HasMade, HeldEpoch, Idle, OpenRawEpoch, RawStep, Faulty, Going}
 use Rattle.crx_compact.specs.OpenEpochs.{Whole, epoch_after, first_step, held_after, next_step, open_raw_after}

@@ -1,69 +1,45 @@
 -- The lines of an epoch that have come, and what they make.
-use Rattle.std.specs.Prelude.{◌≡◌, refl, ℕ, suc, zero, ◌+◌, ◌*◌, ◌≤◌, ◌<◌, List, [], ◌∷◌, ◌++◌, length, map, take}
-use Rattle.std.specs.Prelude.{drop, Option, Some, None, Ok, unwrap_or, ℤ, Bool, true, false, ◌==◌, Result, Err}
-use Rattle.std.specs.Prelude.{MatchResult, slice_get, is_some, min, IfOk, IfSome, if◌then◌else◌}
-use Rattle.std.specs.Result.{is_ok}
-use Rattle.std.proofs.Common.{sym, ◌∙◌, ap, subst, arith, true≢false, add-one, get_or}
+use Rattle.std.specs.Prelude.{◌≡◌, refl, ℕ, suc, zero, ◌+◌, ◌≤◌, ◌<◌, List, [], ◌∷◌, ◌++◌, length, map, take, drop}
+use Rattle.std.specs.Prelude.{Option, Some, None, Ok, unwrap_or, ℤ, Bool, true, false, ◌==◌, Result, Err, slice_get}
+use Rattle.std.specs.Prelude.{is_some, min, IfOk, IfSome, if◌then◌else◌}
+use Rattle.std.proofs.Common.{sym, ◌∙◌, ap, subst, arith, true≢false, add-one}
 use Rattle.std.proofs.lemmas.Option.{slice_get_within}
 use Rattle.std.proofs.lemmas.List.{length-take, length-append, length-map, length-take-le, length-drop, map-append}
 use Rattle.std.proofs.lemmas.List.{take_all}
 use Rattle.crx_lines.specs.declared.fault.Fault.{Fault}
-use Rattle.crx_lines.specs.declared.fault.Fault.TheVariants.{BadEpoch, BadFlags, Truncated}
-use Rattle.crx_rinex.specs.meaning.EpochLines.{ObservationHead, satellites_of, begins_epoch, epoch_count}
+use Rattle.crx_lines.specs.declared.fault.Fault.TheVariants.{BadFlags, Truncated}
+use Rattle.crx_rinex.specs.meaning.EpochLines.{begins_epoch}
 use Rattle.crx_rinex.specs.meaning.Printing.{printed_epoch}
-use Rattle.crx_rinex.specs.Epochs.{begun, is_full_epoch, with_row}
-use Rattle.crx_rinex.specs.meaning.Epochs.{has_satellite, is_among, are_apart}
-use Rattle.crx_rinex.proofs.Apart.{among-names, apart-fewer, apart-map, new_at}
-use Rattle.crx_compact.specs.meaning.CompactPlaces.{ReadCell, after_cells, are_marks, cells_of, cells_read}
-use Rattle.crx_compact.specs.meaning.CompactPlaces.{row_of_cells, row_of_line, row_with_marks}
-use Rattle.crx_compact.specs.meaning.CompactPlaces.{satellites_of_line}
-use Rattle.crx_compact.specs.Tails.{ArcTail, RowTail, Tail}
-use Rattle.crx_compact.specs.HeldRows.{row_after, AreApart}
+use Rattle.crx_rinex.specs.Epochs.{with_row}
+use Rattle.crx_rinex.specs.meaning.Epochs.{are_apart}
+use Rattle.crx_rinex.proofs.Apart.{apart-fewer, apart-map}
+use Rattle.crx_arcs.specs.meaning.Cells.{ReadCell, after_cells, cells_of, cells_read}
+use Rattle.crx_history.specs.meaning.CompactPlaces.{are_marks, row_of_cells, row_of_line, row_with_marks}
+use Rattle.crx_arcs.specs.ArcTails.{ArcTail}
+use Rattle.crx_history.specs.Tails.{RowTail, Tail}
+use Rattle.crx_history.specs.HeldRows.{row_after, AreApart, held_row, HeldRow, past_of_tail, IsNextRow}
 use Rattle.crx_lines.specs.meaning.Seen.{Content}
-use Rattle.crx_compact.specs.OpenEpochs.{Faulty, HasMade, HasPrintedLines, first_step, held_row, is_idle, line_step, opened_raw, opening}
-use Rattle.crx_compact.specs.OpenEpochs.{step_in, tail_for_line, Idle, HeldClock, HeldRow, OpenRawEpoch}
-use Rattle.crx_compact.specs.OpenEpochs.{RawStep, Going, Whole, whole_or_awaiting, past_of_tail}
-use Rattle.crx_compact.specs.OpenEpochs.{raw_step_with_clock}
-use Rattle.crx_compact.specs.Steps.{arc_of_code}
-use Rattle.crx_compact.specs.OpenLines.{columns_state, epoch_so_far, have_all_come, rows_so_far, step_after, AreAnnounced}
-use Rattle.crx_compact.specs.OpenLines.{AreLinesSoFar, lines_so_far}
+use Rattle.crx_compact.specs.OpenEpochs.{Faulty, HasMade, HasPrintedLines, first_step, is_idle, line_step, opened_raw}
+use Rattle.crx_compact.specs.OpenEpochs.{opening, step_in, tail_for_line, Idle, HeldClock, OpenRawEpoch, RawStep, Going}
+use Rattle.crx_compact.specs.OpenEpochs.{Whole, whole_or_awaiting, raw_step_with_clock}
+use Rattle.crx_arcs.specs.ArcSteps.{arc_of_code, shown_value}
+use Rattle.crx_compact.specs.OpenLines.{columns_state, epoch_so_far, have_all_come, rows_so_far, step_after}
+use Rattle.crx_compact.specs.OpenLines.{AreLinesSoFar, lines_so_far, OpenLines, held_rows, made_of, open_raw}
+use Rattle.crx_history.specs.RowsSoFar.{AreAnnounced, AreRowsSoFar, HasClock}
 use Rattle.crx_compact.specs.declared.incoming.Stage.{Stage}
 use Rattle.crx_compact.specs.declared.incoming.Stage.TheVariants.{Unbegun, Clock, Rows}
-use Rattle.crx_compact.specs.OpenLines.{AreRowsSoFar, HasClock, OpenLines, held_rows, made_of, open_raw}
-use Rattle.crx_compact.specs.HeldRows.{IsNextRow}
-use Rattle.crx_compact.specs.ShownRows.{shown_epoch, shown_row, shown_value}
-use Rattle.crx_rinex.proofs.EachPlace.{length-each_place}
+use Rattle.crx_history.specs.ShownRows.{shown_epoch, shown_row}
 use Rattle.crx_compact.proofs.reading.StepsByCode.{row-ok, row-err}
-use Rattle.crx_compact.proofs.soundness.Soundness.{ok-same, no-err, LineFacts, cells-count, differ, line-facts_of, texts-count}
+use Rattle.crx_history.proofs.Marks.{cells-count, texts-count}
 use Rattle.std.proofs.Math.ListN.{drop_of_length-le}
 use Rattle.crx_text.specs.meaning.Columns.{columns}
-use Rattle.crx_text.specs.Texts.{patched}
-use Rattle.crx_lines.specs.declared.limits.TheConstants.{HEAD_WIDTH, NAME_WIDTH}
+use Rattle.crx_lines.specs.declared.limits.TheConstants.{HEAD_WIDTH}
 use Rattle.crx_rinex.specs.meaning.Observations.{Row, Epoch}
 use Rattle.crx_rinex.specs.meaning.ObservationTypes.{Count}
-use Rattle.crx_compact.specs.meaning.EpochText.{Satellite}
-use Rattle.crx_compact.specs.meaning.Sequences.{and_then}
-use Rattle.crx_compact.proofs.Making.{taken_more, value-there}
-
--- ---- the epoch line
-
--- an epoch line that was read announces its satellites, and names no two of them alike
-pub announced : (types : List Count) (before old new : Tail) (line : List ℕ) (satellites : List Satellite)
-    → satellites_of_line types (past_of_tail before) line ≡ Ok satellites
-    → new ≡ record old { text = patched before.text line } → AreAnnounced new.text satellites
-announced types before old new line satellites e left =
-    let facts : LineFacts types (past_of_tail before) line satellites =
-    line-facts_of types (past_of_tail before) line satellites e in
-    let text : List ℕ = patched before.text line in
-    let names : length satellites ≡ facts.count =
-    sym (length-map satellites (λ (s : Satellite). s.name)) ∙ ap length facts.named.same
-    ∙ length-each_place facts.count (λ k. columns text (HEAD_WIDTH + 1 + NAME_WIDTH * k) NAME_WIDTH) in
-    let A : Tail → Type 0 = λ t. AreAnnounced t.text satellites in
-    subst A (sym left) (record {
-      counted = facts.counted ∙ ap {B = Option ℕ} Some (sym names);
-      apart = sym (apart-map (λ (n : List ℕ). n) (λ (s : Satellite). s.name) satellites)
-          ∙ ap differ facts.named.same ∙ facts.named.apart;
-    })
+use Rattle.crx_history.specs.meaning.EpochText.{Satellite}
+use Rattle.crx_arcs.specs.meaning.Sequences.{and_then}
+use Rattle.crx_history.proofs.Making.{taken_more}
+use Rattle.crx_history.proofs.EpochLines.{announced}
 
 -- ---- rows with what is left
 
@@ -188,23 +164,6 @@ gone-same before text c rs ss c' rs' ss' clock rows [] = refl
 gone-same before text c rs ss c' rs' ss' clock rows (s ∷ awaited) = refl
 
 -- ---- the clock line
-
-pub line-made : (line : Result ObservationHead Fault) (head : List ℕ) (clock : Option ℤ)
-    → MatchResult line (λ (l : ObservationHead). (epoch_count head ≡ Some l.count)
-    × (l.head ≡ head) × (l.clock ≡ clock)) (λ fault. (epoch_count head ≡ None) × (fault ≡ BadEpoch))
-    → is_some (epoch_count head) ≡ true → is_ok line ≡ true
-line-made (Ok l) head clock h e = refl
-line-made (Err fault) head clock h e = absurd (true≢false (sym e ∙ ap {B = Bool} (λ (n : Option ℕ). is_some n) h.0))
-
-pub made-line : (line : Result ObservationHead Fault) (head : List ℕ) (clock : Option ℤ) (l : ObservationHead)
-    → MatchResult line (λ (l : ObservationHead). (epoch_count head ≡ Some l.count)
-    × (l.head ≡ head) × (l.clock ≡ clock)) (λ fault. (epoch_count head ≡ None) × (fault ≡ BadEpoch))
-    → line ≡ Ok l → begun l ≡ record { head = head; clock = clock; rows = [] }
-made-line (Ok k) head clock l h e =
-    ap begun (sym (ok-same k l e))
-    ∙ ap {B = Epoch} (λ (hs : List ℕ). record { head = hs; clock = k.clock; rows = [] }) h.1
-    ∙ ap {B = Epoch} (λ (q : Option ℤ). record { head = head; clock = q; rows = [] }) h.2
-made-line (Err fault) head clock l h e = absurd (no-err fault l e)
 
 -- the clock line begins the rows
 pub clock-taken : (before next later : Tail) (line : List ℕ) (satellites : List Satellite)
@@ -430,20 +389,6 @@ size-read before s line held e =
     let P : Result HeldRow Fault → Type 0 = λ r. IfOk r (λ (q : HeldRow). length q.row.values ≡ s.count) in
     subst P e (sized-by_line before s line (begins_epoch line))
 
--- the next satellite is none of those before it
-pub next-new : (next : Tail) (count : ℕ) (satellites : List Satellite) (epoch : Epoch) (s : Satellite)
-    → AreRowsSoFar epoch next count satellites → slice_get satellites count ≡ Some s
-    → has_satellite s.name epoch.rows ≡ false
-next-new next count satellites epoch s h e =
-    let inside : count < length satellites = slice_get_within satellites count s e in
-    let all : take (length satellites) satellites ≡ satellites =
-    take_all (length satellites) satellites (omega arith) in
-    let there : get_or satellites count s ≡ s = value-there satellites count s s e in
-    among-names (λ (r : Row). r.name) (λ (q : Satellite). q.name) s.name epoch.rows (take count satellites) h.named
-    ∙ ap (λ (q : Satellite). is_among (λ (w : Satellite). w.name) q.name (take count satellites)) (sym there)
-    ∙ new_at (λ (q : Satellite). q.name) (length satellites) satellites count s
-    (ap (λ (ss : List Satellite). are_apart (λ (q : Satellite). q.name) ss) all ∙ h.announced.apart) inside inside
-
 -- the histories of the rows so far have different identifiers
 pub all-apart : (next : Tail) (count : ℕ) (satellites : List Satellite)
     → AreRowsSoFar (shown_epoch next count) next count satellites → AreApart count next.rows
@@ -495,20 +440,6 @@ rows-more before next later line count satellites epoch after s h e r =
       within = let inside : count < length satellites = slice_get_within satellites count s e in omega (arith, inside);
       left = omega (arith, kept, least);
     }
-
--- an epoch whose satellites haven't all come isn't full
-pub not-full : (next : Tail) (count : ℕ) (satellites : List Satellite) (epoch : Epoch) (s : Satellite)
-    → AreRowsSoFar epoch next count satellites → slice_get satellites count ≡ Some s
-    → is_full_epoch epoch ≡ false
-not-full next count satellites epoch s h e =
-    let inside : count < length satellites = slice_get_within satellites count s e in
-    let many : satellites_of epoch.head ≡ length satellites =
-    ap (λ (n : Option ℕ). unwrap_or n 0) (ap epoch_count h.head ∙ h.announced.counted) in
-    ap (λ n. n == satellites_of epoch.head) h.counted
-    ∙ ap (λ n. count == n) many ∙ differ_nat count (length satellites) inside
-  where
-    differ_nat : (a b : ℕ) → a < b → (a == b) ≡ false
-    differ_nat a b h = grind (arith, h)
 
 -- where all lines have come, one more changes nothing
 pub all-taken : (before next : Tail) (line : List ℕ) (count : ℕ) (satellites : List Satellite) (epoch : Epoch)

@@ -1,96 +1,39 @@
 -- The tail of a block of raw epochs decides what the next one stands for, and the next tail.
-use Rattle.std.specs.Prelude.{◌≡◌, refl, ℕ, zero, suc, ◌<◌, ℤ, Bool, true, false, List, [], ◌∷◌, ◌*◌, map, length}
-use Rattle.std.specs.Prelude.{Option, Some, None, ⊤, if◌then◌else◌, unwrap_or}
+use Rattle.std.specs.Prelude.{◌≡◌, refl, ℕ, Bool, true, false, List, [], ◌∷◌, ◌*◌, map, length, Option, Some, None}
+use Rattle.std.specs.Prelude.{if◌then◌else◌, unwrap_or}
 use Rattle.std.specs.List.{AllByRecursion}
 use Rattle.std.specs.Option.{option_map}
-use Rattle.std.proofs.Common.{sym, ◌∙◌, ap, arith, not-suc-le-zero}
+use Rattle.std.proofs.Common.{sym, ◌∙◌, ap}
 use Rattle.std.proofs.Math.Path.{fun_ext}
 use Rattle.std.proofs.lemmas.List.{get_or_past}
 use Rattle.crx_text.specs.Texts.{patched}
 use Rattle.crx_lines.specs.meaning.Seen.{ReadLine}
 use Rattle.crx_text.specs.declared.code.Code.{Code}
-use Rattle.crx_text.specs.declared.code.Code.TheVariants.{Missing, Start, Step}
+use Rattle.crx_text.specs.declared.code.Code.TheVariants.{Missing}
 use Rattle.crx_lines.specs.declared.limits.TheConstants.{OBSERVATION_WIDTH, CLOCK_WIDTH}
 use Rattle.crx_rinex.specs.meaning.ObservationTypes.{Count}
 use Rattle.crx_rinex.specs.meaning.EachPlace.{each_place}
-use Rattle.crx_compact.specs.meaning.Sequences.{stretch}
-use Rattle.crx_compact.specs.meaning.Differences.{value_at}
+use Rattle.crx_arcs.specs.meaning.Sequences.{stretch}
 use Rattle.crx_rinex.specs.meaning.EpochLines.{begins_epoch}
-use Rattle.crx_compact.specs.meaning.Expansion.{RawRow, RawEpoch, Started, onto_started, since_start, block_of}
-use Rattle.crx_compact.specs.meaning.Expansion.{overlaid, raw_row_named, raw_run_of, marks_of, code_in, in_range}
-use Rattle.crx_compact.specs.meaning.Expansion.{value_since, value_of}
-use Rattle.crx_compact.specs.Expansion.{text_of}
-use Rattle.crx_compact.specs.meaning.Past.{Past, past_of_block, past_of_epochs, past_of_line}
-use Rattle.crx_compact.specs.meaning.CompactPlaces.{epoch_against, epoch_at}
-use Rattle.crx_compact.specs.Tails.{ArcTail, RowTail, Tail, started_tail, raw_row_tail, raw_row_tails, tail_of_block}
-use Rattle.crx_compact.specs.Tails.{tail_left}
-use Rattle.crx_compact.specs.Steps.{no_tail, tail_named, cell_of_tail, flags_of_tail, flags_held, value_of_code}
-use Rattle.crx_compact.specs.Steps.{arc_of_code, raw_row_tail_after, raw_tail_after}
-use Rattle.crx_compact.specs.OpenEpochs.{past_of_tail, tail_for_line, epoch_after}
+use Rattle.crx_history.specs.meaning.Expansion.{RawRow, RawEpoch, block_of, overlaid, raw_row_named, raw_run_of}
+use Rattle.crx_history.specs.meaning.Expansion.{marks_of, code_in}
+use Rattle.crx_arcs.specs.meaning.ArcValues.{since_start, value_of}
+use Rattle.crx_history.specs.Expansion.{text_of}
+use Rattle.crx_history.specs.meaning.Past.{Past, past_of_block, past_of_epochs, past_of_line}
+use Rattle.crx_history.specs.meaning.CompactPlaces.{epoch_against, epoch_at}
+use Rattle.crx_history.specs.Tails.{RowTail, Tail, raw_row_tail, raw_row_tails, tail_of_block, tail_left}
+use Rattle.crx_arcs.specs.ArcTails.{started_tail}
+use Rattle.crx_history.specs.Steps.{no_tail, tail_named, cell_of_tail, flags_of_tail, flags_held, raw_row_tail_after}
+use Rattle.crx_history.specs.Steps.{raw_tail_after}
+use Rattle.crx_arcs.specs.ArcSteps.{value_of_code, arc_of_code}
+use Rattle.crx_history.specs.HeldRows.{past_of_tail}
+use Rattle.crx_compact.specs.OpenEpochs.{tail_for_line, epoch_after}
 use Rattle.crx_compact.specs.ReadingLaws.{HasSingleLines, RawByTail}
 use Rattle.crx_rinex.proofs.EachPlace.{each_place-same, index-each_place}
-use Rattle.crx_compact.proofs.arcs.Inversion.{value-first}
-use Rattle.crx_compact.proofs.arcs.Stepping.{values-by_tail, first-differences}
 use Rattle.crx_compact.proofs.wayback.Overlays.{overlaid-patched}
 use Rattle.crx_compact.proofs.wayback.Cuts.{overlaid-take}
 use Rattle.crx_compact.proofs.wayback.Runs.{named-made}
-
--- ---- one code more
-
--- a started arc has numbers
-abbrev HasNumbers : Option Started → Type 0
-HasNumbers None = ⊤
-HasNumbers (Some arc) = 0 < length arc.numbers
-
-numbers-onto : (d : ℤ) (o : Option Started) → HasNumbers o → HasNumbers (option_map (onto_started d) o)
-numbers-onto d None h = tt
-numbers-onto d (Some arc) h = omega arith
-
-has-numbers : (cs : List Code) → HasNumbers (since_start cs)
-has-numbers [] = tt
-has-numbers (Missing ∷ cs) = tt
-has-numbers (Start n v ∷ cs) = omega arith
-has-numbers (Step d ∷ cs) = numbers-onto d (since_start cs) (has-numbers cs)
-
-value-start : (n : ℕ) (v : ℤ) → value_at n (v ∷ []) ≡ v
-value-start zero v = refl
-value-start (suc n) v = value-first n v
-
-step-value : (width : ℕ) (d : ℤ) (n : ℕ) (numbers : List ℤ) → 0 < length numbers
-    → in_range width (value_at n (d ∷ numbers))
-    ≡ value_of_code width (Step d) (started_tail (Some (record { order = n; numbers = numbers })))
-step-value width d n [] h = absurd (not-suc-le-zero h)
-step-value width d n (b ∷ bs) h = ap (in_range width) (values-by_tail n d b bs).value
-
-step-arc : (d : ℤ) (n : ℕ) (numbers : List ℤ) → 0 < length numbers
-    → started_tail (Some (record { order = n; numbers = d ∷ numbers }))
-    ≡ arc_of_code (Step d) (started_tail (Some (record { order = n; numbers = numbers })))
-step-arc d n [] h = absurd (not-suc-le-zero h)
-step-arc d n (b ∷ bs) h = ap {B = Option ArcTail} Some (values-by_tail n d b bs).tail
-
-step-value_of : (width : ℕ) (d : ℤ) (o : Option Started)
-    → HasNumbers o → value_since width (option_map (onto_started d) o) ≡ value_of_code width (Step d) (started_tail o)
-step-value_of width d None h = refl
-step-value_of width d (Some arc) h = step-value width d arc.order arc.numbers h
-
-step-arc_of : (d : ℤ) (o : Option Started)
-    → HasNumbers o → started_tail (option_map (onto_started d) o) ≡ arc_of_code (Step d) (started_tail o)
-step-arc_of d None h = refl
-step-arc_of d (Some arc) h = step-arc d arc.order arc.numbers h
-
-pub value-next : (width : ℕ) (c : Code) (cs : List Code)
-    → value_of width (c ∷ cs) ≡ value_of_code width c (started_tail (since_start cs))
-value-next width Missing cs = refl
-value-next width (Start n v) cs = ap (in_range width) (value-start n v)
-value-next width (Step d) cs = step-value_of width d (since_start cs) (has-numbers cs)
-
-pub number-next : (c : Code) (cs : List Code)
-    → started_tail (since_start (c ∷ cs)) ≡ arc_of_code c (started_tail (since_start cs))
-number-next Missing cs = refl
-number-next (Start n v) cs =
-    ap {B = Option ArcTail} (λ ds. Some (record { order = n; differences = ds })) (
-    first-differences n (value_at n (v ∷ [])) ∙ ap (λ (x : ℤ). x ∷ []) (value-start n v))
-number-next (Step d) cs = step-arc_of d (since_start cs) (has-numbers cs)
+use Rattle.crx_arcs.proofs.arcs.OneMore.{value-next, number-next}
 
 -- ---- what a tail holds of a satellite
 

@@ -2,12 +2,14 @@
 use Rattle.std.specs.Prelude.{◌≡◌, ℕ, List, [], ◌∷◌, ◌++◌, Some, Result, Ok, Err}
 use Rattle.std.proofs.Common.{ap}
 use Rattle.crx_lines.specs.declared.fault.Fault.{Fault}
-use Rattle.crx_compact.specs.meaning.EpochText.{Satellite}
-use Rattle.crx_compact.specs.meaning.CompactPlaces.{ReadRow, satellite_line_read}
-use Rattle.crx_compact.specs.OpenEpochs.{HeldClock, HeldRow, OpenRawEpoch, RawStep, Faulty, whole_or_awaiting, held_row}
-use Rattle.crx_compact.specs.OpenEpochs.{line_step, past_of_tail, raw_step_with_row}
-use Rattle.crx_compact.specs.meaning.Sequences.{and_then}
-use Rattle.crx_compact.specs.HeldRows.{row_after}
+use Rattle.crx_history.specs.meaning.EpochText.{Satellite}
+use Rattle.crx_history.specs.meaning.CompactPlaces.{ReadRow, satellite_line_read}
+use Rattle.crx_compact.specs.OpenEpochs.{HeldClock, OpenRawEpoch, RawStep, Faulty, whole_or_awaiting}
+use Rattle.crx_history.specs.HeldRows.{HeldRow, held_row}
+use Rattle.crx_compact.specs.OpenEpochs.{line_step, raw_step_with_row}
+use Rattle.crx_history.specs.HeldRows.{past_of_tail}
+use Rattle.crx_arcs.specs.meaning.Sequences.{and_then}
+use Rattle.crx_history.specs.HeldRows.{row_after}
 
 -- a satellite line
 row-step : (begun : OpenRawEpoch)

@@ -28,31 +28,38 @@ use Rattle.crx_rinex.proofs.Characters.{at, at-without_end_blanks, at-drop}
 use Rattle.crx_rinex.proofs.Counts.{allowed_of}
 use Rattle.crx_rinex.proofs.Rows.{satellites_few}
 use Rattle.crx_rinex.specs.meaning.EachPlace.{each_place}
-use Rattle.crx_compact.specs.meaning.Sequences.{and_then, before_all, named}
+use Rattle.crx_arcs.specs.meaning.Sequences.{and_then, before_all, named}
 use Rattle.crx_rinex.specs.meaning.EpochLines.{begins_epoch}
-use Rattle.crx_compact.specs.meaning.EpochText.{Satellite}
-use Rattle.crx_compact.specs.meaning.Expansion.{code_in}
-use Rattle.crx_compact.specs.meaning.Past.{Past}
-use Rattle.crx_compact.specs.meaning.CompactPlaces.{ReadCell, ReadRow, cell_read, cells_read, cells_of, after_cells}
-use Rattle.crx_compact.specs.meaning.CompactPlaces.{are_marks, clock_line_read, row_of_cells, row_with_marks}
-use Rattle.crx_compact.specs.meaning.CompactPlaces.{row_of_line, satellite_line_read, satellites_of_line}
-use Rattle.crx_compact.specs.Tails.{ArcTail, RowTail, Tail, IsBoundedArc, IsBoundedRowTail, IsBoundedTail}
-use Rattle.crx_compact.specs.Steps.{no_tail, onto_sum, differences_by, tail_named, cell_of_tail, flags_of_tail}
-use Rattle.crx_compact.specs.Steps.{arc_of_code}
-use Rattle.crx_compact.specs.OpenEpochs.{past_of_tail, tail_for_line, HeldClock, HeldRow, HeldEpoch, OpenRawEpoch}
+use Rattle.crx_history.specs.meaning.EpochText.{Satellite}
+use Rattle.crx_history.specs.meaning.Expansion.{code_in}
+use Rattle.crx_history.specs.meaning.Past.{Past}
+use Rattle.crx_arcs.specs.meaning.Cells.{ReadCell, cell_read, cells_read, cells_of, after_cells}
+use Rattle.crx_history.specs.meaning.CompactPlaces.{ReadRow}
+use Rattle.crx_history.specs.meaning.CompactPlaces.{are_marks, clock_line_read, row_of_cells, row_with_marks}
+use Rattle.crx_history.specs.meaning.CompactPlaces.{row_of_line, satellite_line_read, satellites_of_line}
+use Rattle.crx_arcs.specs.ArcTails.{ArcTail, IsBoundedArc}
+use Rattle.crx_history.specs.Tails.{RowTail, Tail, IsBoundedRowTail, IsBoundedTail}
+use Rattle.crx_history.specs.Steps.{no_tail, tail_named, cell_of_tail, flags_of_tail}
+use Rattle.crx_arcs.specs.ArcSteps.{onto_sum, differences_by}
+use Rattle.crx_arcs.specs.ArcSteps.{arc_of_code}
+use Rattle.crx_history.specs.HeldRows.{past_of_tail, HeldRow}
+use Rattle.crx_compact.specs.OpenEpochs.{tail_for_line, HeldClock, HeldEpoch, OpenRawEpoch}
 use Rattle.crx_compact.specs.OpenEpochs.{RawStep, Going, Whole, Faulty, opened_raw, opening, first_step}
-use Rattle.crx_compact.specs.OpenEpochs.{whole_or_awaiting, held_clock, held_row, raw_step_with_clock}
+use Rattle.crx_compact.specs.OpenEpochs.{whole_or_awaiting, held_clock, raw_step_with_clock}
+use Rattle.crx_history.specs.HeldRows.{held_row}
 use Rattle.crx_compact.specs.OpenEpochs.{raw_step_with_row, line_step, next_step, place_of_steps, open_raw_after}
 use Rattle.crx_compact.specs.OpenEpochs.{IsBoundedAwaited, IsBoundedHeld, IsBoundedOpen, IsBoundedStep}
 use Rattle.crx_compact.specs.ReadingLaws.{ReadAreBounded}
 use Rattle.crx_rinex.proofs.EachPlace.{each_place-all, length-each_place}
-use Rattle.crx_compact.proofs.wayback.Overlays.{same_characters}
-use Rattle.crx_compact.proofs.soundness.SoundTexts.{length-held}
-use Rattle.crx_compact.proofs.wayback.Facts.{list_all-at}
+use Rattle.crx_history.proofs.Characters.{same_characters}
+use Rattle.crx_history.proofs.SoundTexts.{length-held}
+use Rattle.crx_history.proofs.Characters.{list_all-at}
 use Rattle.crx_compact.proofs.soundness.Goodness.{typed-parts}
-use Rattle.crx_compact.proofs.soundness.Soundness.{no-err, ok-same, Follows, and_then-ok, if-err, if-ok, if-true}
-use Rattle.crx_compact.proofs.soundness.Soundness.{before-ok, cells-count, texts-count, LineFacts, line-facts_of}
-use Rattle.crx_compact.proofs.soundness.Soundness.{names_of}
+use Rattle.crx_history.proofs.Results.{no-err, ok-same, Follows, and_then-ok, if-err, if-ok, if-true}
+use Rattle.crx_history.proofs.Results.{before-ok}
+use Rattle.crx_history.proofs.Marks.{cells-count, texts-count}
+use Rattle.crx_history.proofs.EpochLines.{LineFacts, line-facts_of}
+use Rattle.crx_history.proofs.EpochLines.{names_of}
 
 -- ---- orders of codes that are read
 

@@ -8,9 +8,10 @@ use Rattle.crx_lines.specs.declared.limits.TheConstants.{WRITTEN_ORDER, SATELLIT
 use Rattle.crx_rinex.specs.meaning.Observations.{Row}
 use Rattle.crx_rinex.specs.meaning.ObservationTypes.{Count}
 use Rattle.crx_rinex.specs.meaning.EachPlace.{each_place}
-use Rattle.crx_compact.specs.meaning.Differences.{difference}
-use Rattle.crx_compact.specs.meaning.Compaction.{Marked, epoch_text, run_of, arc_of, clock_arc}
-use Rattle.crx_compact.specs.Tails.{ArcTail, differences_of, arc_tail, row_tail, IsBoundedArc, IsBoundedRowTail}
+use Rattle.crx_arcs.specs.meaning.Differences.{difference}
+use Rattle.crx_history.specs.meaning.Compaction.{Marked, epoch_text, run_of, arc_of, clock_arc}
+use Rattle.crx_arcs.specs.ArcTails.{ArcTail, differences_of, arc_tail, IsBoundedArc}
+use Rattle.crx_history.specs.Tails.{row_tail, IsBoundedRowTail}
 use Rattle.crx_compact.specs.Laws.{WrittenAreBounded}
 use Rattle.crx_rinex.proofs.EachPlace.{each_place-all, length-each_place}
 use Rattle.crx_compact.proofs.wayback.Lengths.{few-satellites, text-short}

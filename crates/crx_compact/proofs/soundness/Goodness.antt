@@ -26,22 +26,27 @@ use Rattle.crx_lines.specs.declared.fault.Fault.{Fault}
 use Rattle.crx_lines.specs.declared.fault.Fault.TheVariants.{BadField, NoArc, OutOfRange}
 use Rattle.crx_lines.specs.declared.limits.TheConstants.{OBSERVATION_WIDTH, CLOCK_WIDTH}
 use Rattle.crx_text.specs.meaning.Texts.{is_kept, is_printable}
-use Rattle.crx_compact.specs.meaning.Sequences.{stretch, before_all}
-use Rattle.crx_compact.specs.meaning.Differences.{value_at}
-use Rattle.crx_compact.specs.meaning.EpochText.{names_in, Satellite}
-use Rattle.crx_compact.specs.meaning.Expansion.{RawRow, RawEpoch, Started, block_of, latest_mark, shown, overlaid}
-use Rattle.crx_compact.specs.meaning.Expansion.{raw_row_named, raw_run_of, marks_of, code_in, since_start, is_within}
-use Rattle.crx_compact.specs.meaning.Expansion.{value_since, value_of}
-use Rattle.crx_compact.specs.meaning.Past.{past_of_block}
-use Rattle.crx_compact.specs.meaning.CompactPlaces.{ReadCell, cell_read, cells_read, ReadRow, ReadEpoch}
+use Rattle.crx_arcs.specs.meaning.Sequences.{stretch, before_all}
+use Rattle.crx_arcs.specs.meaning.Differences.{value_at}
+use Rattle.crx_history.specs.meaning.EpochText.{names_in, Satellite}
+use Rattle.crx_history.specs.meaning.Expansion.{RawRow, RawEpoch, block_of, latest_mark, shown, overlaid}
+use Rattle.crx_arcs.specs.meaning.ArcValues.{Started}
+use Rattle.crx_history.specs.meaning.Expansion.{raw_row_named, raw_run_of, marks_of, code_in}
+use Rattle.crx_arcs.specs.meaning.ArcValues.{since_start, is_within}
+use Rattle.crx_arcs.specs.meaning.ArcValues.{value_since, value_of}
+use Rattle.crx_history.specs.meaning.Past.{past_of_block}
+use Rattle.crx_arcs.specs.meaning.Cells.{ReadCell, cell_read, cells_read}
+use Rattle.crx_history.specs.meaning.CompactPlaces.{ReadRow, ReadEpoch}
 use Rattle.crx_compact.specs.ReadingLaws.{HasPrintableMarks, IsGood, ReadsWholeEpochs}
 use Rattle.crx_rinex.proofs.EachPlace.{each_place-all, length-each_place}
-use Rattle.crx_compact.proofs.arcs.Bounds.{within-is}
+use Rattle.crx_arcs.proofs.arcs.Bounds.{within-is}
 use Rattle.crx_compact.proofs.wayback.Overlays.{at-overlaid}
 use Rattle.crx_rinex.proofs.SoundEpochs.{length-columns}
-use Rattle.crx_compact.proofs.wayback.Facts.{all-take, list_all-at, list_all-append}
-use Rattle.crx_compact.proofs.soundness.Soundness.{no-err, ok-same, Follows, and_then-ok, before-ok, RowFacts, Paired}
-use Rattle.crx_compact.proofs.soundness.Soundness.{names_of, differ, block_for, EpochFacts, epoch-facts}
+use Rattle.crx_history.proofs.Characters.{all-take, list_all-at, list_all-append}
+use Rattle.crx_history.proofs.Results.{no-err, ok-same, Follows, and_then-ok, before-ok}
+use Rattle.crx_compact.proofs.soundness.Soundness.{RowFacts, Paired}
+use Rattle.crx_history.proofs.EpochLines.{names_of, differ}
+use Rattle.crx_compact.proofs.soundness.Soundness.{block_for, EpochFacts, epoch-facts}
 use Rattle.crx_rinex.proofs.Characters.{at, list_all-from_at}
 
 -- ---- columns

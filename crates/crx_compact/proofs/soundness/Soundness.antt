@@ -1,43 +1,41 @@
 -- What follows of an epoch from its having been read.
-use Rattle.std.specs.Prelude.{◌≡◌, refl, ℕ, zero, suc, ◌+◌, ◌*◌, Bool, true, false, not, ℤ, List, [], ◌∷◌, map, length}
+use Rattle.std.specs.Prelude.{◌≡◌, refl, ℕ, suc, ◌+◌, ◌*◌, Bool, true, false, ℤ, List, [], ◌∷◌, map, length}
 use Rattle.std.specs.Prelude.{slice_index_or, drop, Option, Some, None, Result, Ok, Err, ⊤, if◌then◌else◌}
-use Rattle.std.specs.List.{list_all, list_any, AllByRecursion}
-use Rattle.std.specs.Result.{is_ok}
-use Rattle.std.specs.Str.{bytes_eq}
+use Rattle.std.specs.List.{AllByRecursion}
 use Rattle.std.proofs.Common.{sym, ◌∙◌, ap, subst, arith, true≢false}
 use Rattle.std.proofs.lemmas.List.{length-map}
-use Rattle.std.proofs.lemmas.Bool.{and_from}
-use Rattle.crx_text.specs.meaning.Columns.{is_blank, columns, without_end_blanks}
-use Rattle.crx_text.specs.meaning.Codes.{code_of, after_cell}
+use Rattle.crx_text.specs.meaning.Columns.{columns, without_end_blanks}
+use Rattle.crx_text.specs.meaning.Codes.{code_of}
 use Rattle.crx_lines.specs.meaning.Seen.{ReadLine, Content, Overlong}
 use Rattle.crx_rinex.specs.meaning.Observations.{Row, Epoch}
 use Rattle.crx_rinex.specs.meaning.ObservationTypes.{Count}
-use Rattle.crx_rinex.specs.meaning.Epochs.{is_among, are_apart}
+use Rattle.crx_rinex.specs.meaning.Epochs.{are_apart}
 use Rattle.crx_rinex.proofs.Apart.{apart-map}
 use Rattle.crx_rinex.specs.meaning.Places.{Place, Here, Wrong, Wanted, then_place, after_lines, first_line, one_line}
 use Rattle.crx_text.specs.declared.code.Code.{Code}
 use Rattle.crx_text.specs.declared.code.Code.TheVariants.{Missing}
 use Rattle.crx_lines.specs.declared.fault.Fault.{Fault}
-use Rattle.crx_lines.specs.declared.fault.Fault.TheVariants.{LineTooLong, NotAnEpoch, BadEpoch, BadClock, BadSatellite}
-use Rattle.crx_lines.specs.declared.fault.Fault.TheVariants.{BadField, RepeatedSatellite, BadFlags, Truncated}
+use Rattle.crx_lines.specs.declared.fault.Fault.TheVariants.{LineTooLong, NotAnEpoch, BadClock, BadField, BadFlags}
+use Rattle.crx_lines.specs.declared.fault.Fault.TheVariants.{Truncated}
 use Rattle.crx_rinex.specs.meaning.EachPlace.{each_place}
-use Rattle.crx_compact.specs.meaning.Sequences.{stretch, and_then, before_all}
-use Rattle.crx_compact.specs.Expansion.{all_ok, text_of, indicators_of, row_from, rows_from, epoch_of_block, epoch_from}
-use Rattle.crx_rinex.specs.meaning.EpochLines.{begins_epoch, epoch_count}
-use Rattle.crx_text.specs.meaning.Texts.{is_printable}
-use Rattle.crx_rinex.specs.meaning.SatelliteLines.{types_of_satellite}
-use Rattle.crx_compact.specs.meaning.EpochText.{names_in, Satellite, satellite_before, satellites_named}
-use Rattle.crx_compact.specs.meaning.Expansion.{RawRow, RawEpoch, block_of, raw_row_named, raw_run_of, marks_of}
-use Rattle.crx_compact.specs.meaning.Expansion.{overlaid}
-use Rattle.crx_compact.specs.meaning.Past.{Past, past_of_block, past_of_epochs, past_of_line}
+use Rattle.crx_arcs.specs.meaning.Sequences.{stretch, and_then, before_all}
+use Rattle.crx_history.specs.Expansion.{all_ok, text_of, indicators_of, row_from, rows_from, epoch_of_block, epoch_from}
+use Rattle.crx_rinex.specs.meaning.EpochLines.{begins_epoch}
+use Rattle.crx_history.specs.meaning.EpochText.{names_in, Satellite}
+use Rattle.crx_history.specs.meaning.Expansion.{RawRow, RawEpoch, block_of, raw_row_named, raw_run_of, marks_of}
+use Rattle.crx_history.specs.meaning.Expansion.{overlaid}
+use Rattle.crx_history.specs.meaning.Past.{Past, past_of_block, past_of_epochs, past_of_line}
 use Rattle.crx_compact.proofs.wayback.Cuts.{columns-cut}
-use Rattle.crx_compact.specs.meaning.CompactPlaces.{satellites_counted, satellites_of_text, satellites_of_line}
-use Rattle.crx_compact.specs.meaning.CompactPlaces.{BegunEpoch, epoch_begun, ReadCell, cell_read, cells_read}
-use Rattle.crx_compact.specs.meaning.CompactPlaces.{clock_line_read, cells_of, after_cells, are_marks, ReadRow}
-use Rattle.crx_compact.specs.meaning.CompactPlaces.{row_of_cells, row_with_marks, row_of_line, satellite_line_read}
-use Rattle.crx_compact.specs.meaning.CompactPlaces.{rows_read, ReadEpoch, epoch_of_rows, epoch_after_line, epoch_at}
+use Rattle.crx_history.specs.meaning.CompactPlaces.{satellites_of_line, BegunEpoch, epoch_begun, clock_line_read}
+use Rattle.crx_history.specs.meaning.CompactPlaces.{are_marks, ReadRow, row_of_cells, row_with_marks, row_of_line}
+use Rattle.crx_history.specs.meaning.CompactPlaces.{satellite_line_read, rows_read, ReadEpoch, epoch_of_rows}
+use Rattle.crx_history.specs.meaning.CompactPlaces.{epoch_after_line, epoch_at}
+use Rattle.crx_arcs.specs.meaning.Cells.{ReadCell, cell_read, cells_read, cells_of, after_cells}
 use Rattle.crx_compact.specs.ReadingLaws.{HasSingleLines, ReadsSoundly}
-use Rattle.crx_compact.proofs.reading.Identifiers.{AreNew, each-own, new-before, not-among}
+use Rattle.crx_history.proofs.Identifiers.{each-own}
+use Rattle.crx_history.proofs.Results.{no-err, ok-same, Follows, and_then-ok, if-err, if-ok, if-true, before-ok}
+use Rattle.crx_history.proofs.Marks.{cells-count, texts-count}
+use Rattle.crx_history.proofs.EpochLines.{differ, names_of, LineFacts, line-facts_of}
 
 -- ---- good answers come from good answers
 
@@ -61,16 +59,6 @@ no-wrong n f x m e = true≢false (sym (ap is_here e))
 
 pub no-wanted : {X : Type 0} (x : X) (m : ℕ) → Wanted ≡ Here x m → ⊥
 no-wanted x m e = true≢false (sym (ap is_here e))
-
-pub no-err : {X : Type 0} (f : Fault) (x : X) → Err f ≡ Ok x → ⊥
-no-err f x e = true≢false (sym (ap is_ok e))
-
-abbrev ok_value : {X : Type 0} → X → Result X Fault → X
-ok_value d (Ok x) = x
-ok_value d (Err f) = d
-
-pub ok-same : {X : Type 0} (x y : X) → ◌≡◌ {A = Result X Fault} (Ok x) (Ok y) → x ≡ y
-ok-same x y e = ap (ok_value x) e
 
 -- what stands after something else
 pub record Comes {X Y : Type 0} (p : Place X) (lines : List ReadLine) (next : X
@@ -123,42 +111,6 @@ line-reads [] read x n e = absurd (no-wanted x n e)
 line-reads (Overlong ∷ lines) read x n e = absurd (no-wrong 0 LineTooLong x n e)
 line-reads (Content line ∷ lines) read x n e = result-reads (Content line ∷ lines) read line (read line) x n refl e
 
--- the same of results
-pub record Follows {X Y : Type 0} (r : Result X Fault) (f : X → Result Y Fault) (y : Y) : Type 0 where
-  pub from : X
-  pub first : r ≡ Ok from
-  pub next : f from ≡ Ok y
-
-pub and_then-ok : {X Y : Type 0} (r : Result X Fault) (f : X → Result Y Fault) (y : Y)
-    → and_then r f ≡ Ok y → Follows r f y
-and_then-ok (Ok x) f y e = record { from = x; first = refl; next = e }
-and_then-ok (Err q) f y e = absurd (no-err q y e)
-
-pub if-err : {X : Type 0} (b : Bool) (q : Fault) (r : Result X Fault) (x : X)
-    → (if b then Err q else r) ≡ Ok x → r ≡ Ok x
-if-err true q r x e = absurd (no-err q x e)
-if-err false q r x e = e
-
-pub if-ok : {X : Type 0} (b : Bool) (q : Fault) (r : Result X Fault) (x : X)
-    → (if b then r else Err q) ≡ Ok x → r ≡ Ok x
-if-ok true q r x e = e
-if-ok false q r x e = absurd (no-err q x e)
-
-pub if-true : {X : Type 0} (b : Bool) (q : Fault) (r : Result X Fault) (x : X)
-    → (if b then r else Err q) ≡ Ok x → b ≡ true
-if-true true q r x e = refl
-if-true false q r x e = absurd (no-err q x e)
-
-pub if-false : {X : Type 0} (b : Bool) (q : Fault) (r : Result X Fault) (x : X)
-    → (if b then Err q else r) ≡ Ok x → b ≡ false
-if-false true q r x e = absurd (no-err q x e)
-if-false false q r x e = refl
-
-pub before-ok : {X : Type 0} (x : X) (r : Result (List X) Fault) (given : List X)
-    → before_all x r ≡ Ok given → Follows r (λ xs. Ok (x ∷ xs)) given
-before-ok x (Ok xs) given e = record { from = xs; first = refl; next = e }
-before-ok x (Err q) given e = absurd (no-err q given e)
-
 -- ---- cells
 
 -- the values that the codes of some cells stand for
@@ -194,21 +146,6 @@ cells-meant value (text ∷ texts) cells e =
         and_then-ok (value code) (λ v. Ok (record { code = code; value = v })) cell e in
         let P : ReadCell → Type 0 = λ c. value c.code ≡ Ok c.value in
         subst P (ok-same (record { code = code; value = step.from }) cell step.next) step.first
-
-pub cells-count : (value : ℕ → Code → Result (Option ℤ) Fault) (texts : List (List ℕ)) (cells : List ReadCell)
-    → cells_read value texts ≡ Ok cells → length cells ≡ length texts
-cells-count value [] cells e = sym (ap length (ok-same [] cells e))
-cells-count value (text ∷ texts) cells e =
-    let rest : Result (List ReadCell) Fault = cells_read (λ j. value (suc j)) texts in
-    let one : Follows (cell_read BadField (value 0) (code_of text)) (λ c. before_all c rest) cells =
-    and_then-ok (cell_read BadField (value 0) (code_of text)) (λ c. before_all c rest) cells e in
-    let two : Follows rest (λ cs. Ok (one.from ∷ cs)) cells = before-ok one.from rest cells one.next in
-    sym (ap length (ok-same (one.from ∷ two.from) cells two.next))
-    ∙ ap suc (cells-count (λ j. value (suc j)) texts two.from two.first)
-
-pub texts-count : (count : ℕ) (line : List ℕ) → length (cells_of count line) ≡ count
-texts-count zero line = refl
-texts-count (suc count) line = ap suc (texts-count count (after_cell line))
 
 -- ---- a satellite's line
 
@@ -319,70 +256,6 @@ rows-facts block (s ∷ ss) lines rows count e =
 
 -- ---- identifiers
 
--- whether no identifier stands twice
-abbrev pub differ : List (List ℕ) → Bool
-differ names = are_apart (λ (n : List ℕ). n) names
-
-abbrev pub names_of : List Satellite → List (List ℕ)
-names_of satellites = map (λ (s : Satellite). s.name) satellites
-
--- what is known of satellites whose identifiers were checked
-pub record SatellitesFacts (types : List Count)
-    (earlier names : List (List ℕ)) (satellites : List Satellite) : Type 0 where
-  pub same : names_of satellites ≡ names
-  pub new : AreNew (λ (n : List ℕ). n) earlier names
-  pub apart : differ names ≡ true
-  pub known : AllByRecursion (λ (s : Satellite). types_of_satellite types s.name ≡ Some s.count) satellites
-
-record Before (types : List Count) (earlier : List (List ℕ))
-    (name : List ℕ) (others : Result (List Satellite) Fault) (given : List Satellite) : Type 0 where
-  count : ℕ
-  from : List Satellite
-  known : types_of_satellite types name ≡ Some count
-  new : list_any (bytes_eq name) earlier ≡ false
-  first : others ≡ Ok from
-  made : record { name = name; count = count } ∷ from ≡ given
-
-satellite-before : (types : List Count) (earlier : List (List ℕ))
-    (name : List ℕ) (found : Option ℕ) (others : Result (List Satellite) Fault) (given : List Satellite)
-    → types_of_satellite types name ≡ found
-    → satellite_before earlier name found others ≡ Ok given → Before types earlier name others given
-satellite-before types earlier name None others given h e = absurd (no-err BadSatellite given e)
-satellite-before types earlier name (Some n) others given h e =
-    let s : Satellite = record { name = name; count = n } in
-    let next : before_all s others ≡ Ok given =
-    if-err (list_any (bytes_eq name) earlier) RepeatedSatellite (before_all s others) given e in
-    let step : Follows others (λ ss. Ok (s ∷ ss)) given = before-ok s others given next in
-    record {
-      count = n;
-      from = step.from;
-      known = h;
-      new = if-false (list_any (bytes_eq name) earlier) RepeatedSatellite (before_all s others) given e;
-      first = step.first;
-      made = ok-same (s ∷ step.from) given step.next;
-    }
-
-pub satellites-facts : (types : List Count) (earlier names : List (List ℕ)) (given : List Satellite)
-    → satellites_named types earlier names ≡ Ok given
-    → SatellitesFacts types earlier names given
-satellites-facts types earlier [] given e =
-    let P : List Satellite → Type 0 = λ ss. SatellitesFacts types earlier [] ss in
-    subst P (ok-same [] given e) (record { same = refl; new = tt; apart = refl; known = tt })
-satellites-facts types earlier (n ∷ ns) given e =
-    let others : Result (List Satellite) Fault = satellites_named types (n ∷ earlier) ns in
-    let step : Before types earlier n others given =
-    satellite-before types earlier n (types_of_satellite types n) others given refl e in
-    let rest : SatellitesFacts types (n ∷ earlier) ns step.from =
-    satellites-facts types (n ∷ earlier) ns step.from step.first in
-    let P : List Satellite → Type 0 = λ ss. SatellitesFacts types earlier (n ∷ ns) ss in
-    subst P step.made (record {
-      same = ap (λ q. n ∷ q) rest.same;
-      new = (step.new, new-before (λ (m : List ℕ). m) n earlier ns rest.new);
-      apart = and_from (not (is_among (λ (m : List ℕ). m) n ns))
-          (differ ns) (ap not (not-among (λ (m : List ℕ). m) n earlier ns rest.new)) rest.apart;
-      known = (step.known, rest.known);
-    })
-
 pub raw-names : (block : List RawEpoch) (satellites : List Satellite) (rows : List ReadRow)
     → Paired (RowFacts block) satellites rows
     → map (λ (r : RawRow). r.name) (map (λ (r : ReadRow). r.raw) rows) ≡ names_of satellites
@@ -394,46 +267,6 @@ raw-names block (s ∷ ss) (r ∷ rs) h =
     ∙ ap (λ ns. s.name ∷ ns) (raw-names block ss rs h.1)
 
 -- ---- the epoch
-
--- what is known of an epoch line that was read
-pub record LineFacts (types : List Count) (past : Past) (line : List ℕ) (satellites : List Satellite) : Type 0 where
-  pub count : ℕ
-  pub counted : epoch_count (columns (past.text line) 1 41) ≡ Some count
-  pub printable : list_all is_printable line ≡ true
-  pub ended : list_all is_blank (drop (41 + 3 * count) (past.text line)) ≡ true
-  pub named : SatellitesFacts types [] (names_in (past.text line) count) satellites
-
-text-facts : (types : List Count) (past : Past) (line : List ℕ) (found : Option ℕ) (satellites : List Satellite)
-    → epoch_count (columns (past.text line) 1 41) ≡ found → list_all is_printable line ≡ true
-    → satellites_counted types (past.text line) found ≡ Ok satellites → LineFacts types past line satellites
-text-facts types past line None satellites h p e = absurd (no-err BadEpoch satellites e)
-text-facts types past line (Some n) satellites h p e =
-    let text : List ℕ = past.text line in
-    record {
-      count = n;
-      counted = h;
-      printable = p;
-      ended = if-true (list_all is_blank (drop (41 + 3 * n) text)) BadEpoch
-          (satellites_named types [] (names_in text n)) satellites e;
-      named = satellites-facts types [] (names_in text n) satellites
-          (if-ok (list_all is_blank (drop (41 + 3 * n) text)) BadEpoch
-          (satellites_named types [] (names_in text n)) satellites e);
-    }
-
-pub line-facts_of : (types : List Count) (past : Past) (line : List ℕ) (satellites : List Satellite)
-    → satellites_of_line types past line ≡ Ok satellites
-    → LineFacts types past line satellites
-line-facts_of types past line satellites e =
-    let rest : Result (List Satellite) Fault = satellites_of_text types (past.text line) in
-    text-facts types past line (epoch_count (columns (past.text line) 1 41)) satellites refl
-    (printable-then (list_all is_printable line) refl rest satellites e)
-    (if-err (not (list_all is_printable line)) BadEpoch rest satellites e)
-  where
-    printable-then : (b : Bool) → list_all is_printable line ≡ b
-        → (r : Result (List Satellite) Fault) (s : List Satellite)
-        → (if not b then Err BadEpoch else r) ≡ Ok s → list_all is_printable line ≡ true
-    printable-then true h r s e = h
-    printable-then false h r s e = absurd (no-err BadEpoch s e)
 
 -- what the lines of a raw epoch are read against after older ones
 abbrev pub block_for : List ℕ → List RawEpoch → List RawEpoch

@@ -1,36 +1,15 @@
 -- Texts and marks that are cut at a width.
-use Rattle.std.specs.Prelude.{◌≡◌, refl, ℕ, zero, suc, ◌+◌, ◌-◌, ◌<◌, ◌≤◌, ◌⊎◌, List, [], ◌∷◌, ◌++◌, length, map, take}
-use Rattle.std.specs.Prelude.{replicate, if◌then◌else◌}
-use Rattle.std.proofs.Common.{sym, ◌∙◌, ap, arith, inl, inr, not-suc-le-zero, le_of_suc-le-suc}
+use Rattle.std.specs.Prelude.{◌≡◌, refl, ℕ, ◌+◌, ◌-◌, ◌<◌, ◌≤◌, ◌⊎◌, List, [], ◌∷◌, ◌++◌, length, map, take, replicate}
+use Rattle.std.specs.Prelude.{if◌then◌else◌}
+use Rattle.std.proofs.Common.{sym, ◌∙◌, ap, arith, inl, inr}
 use Rattle.crx_rinex.proofs.SoundEpochs.{length-columns}
 use Rattle.crx_text.specs.meaning.Columns.{columns, is_blank, without_end_blanks}
 use Rattle.crx_rinex.specs.meaning.EachPlace.{each_place}
-use Rattle.crx_compact.specs.meaning.Expansion.{latest_mark, shown, longest, overlaid}
-use Rattle.crx_compact.proofs.wayback.Overlays.{at_past, at-longest, at-overlaid, same_characters}
+use Rattle.crx_history.specs.meaning.Expansion.{latest_mark, shown, longest, overlaid}
+use Rattle.crx_compact.proofs.wayback.Overlays.{at_past, at-longest, at-overlaid}
+use Rattle.crx_history.proofs.Characters.{same_characters, at-take_past, within-or_past}
 use Rattle.crx_rinex.proofs.Characters.{at, at-without_end_blanks, columns-are}
-
--- ---- characters of a cut text
-
-pub at-take : (n : ℕ) (text : List ℕ) (p : ℕ) → p < n → at (take n text) p ≡ at text p
-at-take zero text p h = absurd (not-suc-le-zero h)
-at-take (suc n) [] p h = refl
-at-take (suc n) (c ∷ cs) zero h = refl
-at-take (suc n) (c ∷ cs) (suc p) h = at-take n cs p (le_of_suc-le-suc h)
-
-pub at-take_past : (n : ℕ) (text : List ℕ) (p : ℕ) → n ≤ p → at (take n text) p ≡ 32
-at-take_past zero text p h = refl
-at-take_past (suc n) [] p h = refl
-at-take_past (suc n) (c ∷ cs) zero h = absurd (not-suc-le-zero h)
-at-take_past (suc n) (c ∷ cs) (suc p) h = at-take_past n cs p (le_of_suc-le-suc h)
-
-pub within-or_past : (n p : ℕ) → (p < n) ⊎ (n ≤ p)
-within-or_past zero p = inr (omega arith)
-within-or_past (suc n) zero = inl (omega arith)
-within-or_past (suc n) (suc p) = step (within-or_past n p)
-  where
-    step : (p < n) ⊎ (n ≤ p) → (suc p < suc n) ⊎ (suc n ≤ suc p)
-    step (inl h) = inl (omega (arith, h))
-    step (inr h) = inr (omega (arith, h))
+use Rattle.crx_arcs.proofs.PlaceByPlace.{at-take, at-padded}
 
 -- ---- marks that are cut
 
@@ -69,13 +48,6 @@ trimmed-within n text few = same_characters (take n (without_end_blanks text)) t
     cut p (inr h) = at-take_past n (without_end_blanks text) p h ∙ sym (at_past text p (omega (arith, few, h)))
 
 -- ---- columns
-
-pub at-padded : (k : ℕ) (text : List ℕ) (p : ℕ) → at (text ++ replicate k 32) p ≡ at text p
-at-padded zero [] p = refl
-at-padded (suc k) [] zero = refl
-at-padded (suc k) [] (suc p) = at-padded k [] p
-at-padded k (c ∷ cs) zero = refl
-at-padded k (c ∷ cs) (suc p) = at-padded k cs p
 
 -- the first columns of marks don't ask for what stands past them
 pub columns-cut : (n : ℕ) (marks : List (List ℕ))

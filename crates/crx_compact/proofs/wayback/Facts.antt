@@ -1,11 +1,10 @@
 -- What follows of an epoch and its rows from their being ones that can be written.
-use Rattle.std.specs.Prelude.{◌≡◌, refl, ◌≢◌, ℕ, zero, suc, ◌+◌, ◌-◌, ◌*◌, ◌<◌, Bool, true, false, not, ◌&&◌, ◌==◌}
-use Rattle.std.specs.Prelude.{nat_eq, nat_le, List, [], ◌∷◌, ◌++◌, length, take, map, flat_map, Option, Some, None}
-use Rattle.std.specs.Prelude.{Result, Ok, Err, if◌then◌else◌}
+use Rattle.std.specs.Prelude.{◌≡◌, refl, ◌≢◌, ℕ, suc, ◌+◌, ◌-◌, ◌*◌, ◌<◌, Bool, true, false, not, ◌&&◌, ◌==◌, nat_eq}
+use Rattle.std.specs.Prelude.{nat_le, List, [], ◌∷◌, length, map, flat_map, Result, Ok, Err, if◌then◌else◌}
 use Rattle.std.specs.List.{list_all, AllByRecursion}
 use Rattle.std.proofs.Common.{sym, ◌∙◌, ap, arith, true≢false}
 use Rattle.std.proofs.lemmas.List.{length-append}
-use Rattle.std.proofs.lemmas.Bool.{and_parts, and_from}
+use Rattle.std.proofs.lemmas.Bool.{and_parts}
 use Rattle.crx_text.specs.meaning.Columns.{character_at, without_end_blanks, columns}
 use Rattle.crx_text.specs.meaning.Texts.{text_difference, mark_of, by_position, is_kept, is_printable}
 use Rattle.crx_rinex.specs.meaning.Observations.{Row, Epoch}
@@ -13,39 +12,20 @@ use Rattle.crx_rinex.specs.meaning.Epochs.{has_satellite, are_different, IsWhole
 use Rattle.crx_lines.specs.declared.fault.Fault.{Fault}
 use Rattle.crx_lines.specs.declared.fault.Fault.TheVariants.{RepeatedSatellite}
 use Rattle.crx_rinex.specs.meaning.EachPlace.{each_place}
-use Rattle.crx_compact.specs.meaning.Sequences.{before_all}
+use Rattle.crx_arcs.specs.meaning.Sequences.{before_all}
 use Rattle.crx_rinex.specs.meaning.EpochLines.{begins_epoch, is_observation_flag, satellites_in}
-use Rattle.crx_compact.specs.meaning.EpochText.{Satellite, satellite_before, satellites_named}
+use Rattle.crx_history.specs.meaning.EpochText.{Satellite, satellite_before, satellites_named}
 use Rattle.crx_rinex.specs.meaning.ObservationTypes.{Count}
-use Rattle.crx_compact.specs.meaning.Compaction.{epoch_text}
+use Rattle.crx_history.specs.meaning.Compaction.{epoch_text}
 use Rattle.crx_rinex.proofs.EachPlace.{each_place-same}
-use Rattle.crx_compact.proofs.reading.Identifiers.{AreNew, new-after}
+use Rattle.crx_history.proofs.Identifiers.{AreNew, new-after}
 use Rattle.crx_compact.proofs.wayback.Writable.{IsTypedRow, head-counted, sound-name, sound-name_kept, typed-rows}
-use Rattle.crx_compact.proofs.wayback.Overlays.{at-by_position, same_characters}
+use Rattle.crx_history.proofs.Characters.{at-by_position, same_characters, list_all-at, list_all-append, if_some}
 use Rattle.crx_compact.proofs.wayback.Runs.{IsUnmarked}
 use Rattle.crx_rinex.proofs.Characters.{at, at-without_end_blanks, at-append, at-append_past, columns-are}
 use Rattle.crx_rinex.proofs.Characters.{list_all-from_at}
 
 -- ---- tests of all characters
-
-pub list_all-at : (p : ℕ → Bool)
-    → p 32 ≡ true → (text : List ℕ) → list_all p text ≡ true → (k : ℕ) → p (at text k) ≡ true
-list_all-at p e [] h k = e
-list_all-at p e (c ∷ cs) h zero = (and_parts (p c) (list_all p cs) h).0
-list_all-at p e (c ∷ cs) h (suc k) = list_all-at p e cs (and_parts (p c) (list_all p cs) h).1 k
-
-pub list_all-append : (p : ℕ → Bool) (xs ys : List ℕ)
-    → list_all p xs ≡ true → list_all p ys ≡ true → list_all p (xs ++ ys) ≡ true
-list_all-append p [] ys h k = k
-list_all-append p (x ∷ xs) ys h k =
-    and_from (p x) (list_all p (xs ++ ys))
-    (and_parts (p x) (list_all p xs) h).0 (list_all-append p xs ys (and_parts (p x) (list_all p xs) h).1 k)
-
-pub all-take : (p : ℕ → Bool) (n : ℕ) (xs : List ℕ) → list_all p xs ≡ true → list_all p (take n xs) ≡ true
-all-take p zero xs h = refl
-all-take p (suc n) [] h = refl
-all-take p (suc n) (x ∷ xs) h = and_from (p x) (list_all p (take n xs))
-    (and_parts (p x) (list_all p xs) h).0 (all-take p n xs (and_parts (p x) (list_all p xs) h).1)
 
 kept-unmarked : (c : ℕ) → is_kept c ≡ true → c ≢ 38
 kept-unmarked c h e =
@@ -73,10 +53,6 @@ difference-printable old new h =
     ∙ mark-printable (at old p) (at new p) (kept-printable (at new p) (list_all-at is_kept refl new h p)))
 
 -- ---- an epoch's head and text
-
-pub if_some : (b : Bool) (x : Option ℕ) (n : ℕ) → (if b then x else None) ≡ Some n → b ≡ true
-if_some true x n h = refl
-if_some false x n h = grind (arith, h)
 
 pub head_tests : (types : List Count) (e : Epoch) → IsWholeEpoch types e
     → (begins_epoch e.head && is_observation_flag (character_at e.head 32) && list_all is_kept e.head) ≡ true

@@ -17,22 +17,24 @@ use Rattle.crx_rinex.specs.meaning.Observations.{Row, Epoch}
 use Rattle.crx_text.specs.declared.code.Code.{Code}
 use Rattle.crx_lines.specs.declared.limits.TheConstants.{WRITTEN_ORDER, DIGITS_LIMIT, TYPES_LIMIT, SATELLITES_LIMIT}
 use Rattle.crx_lines.specs.declared.limits.TheConstants.{OBSERVATION_WIDTH, CLOCK_WIDTH}
-use Rattle.crx_compact.specs.meaning.Differences.{difference, code_at}
-use Rattle.crx_compact.specs.meaning.Compaction.{Marked, epoch_text, since_full, run_of, value_in, arc_of, clock_arc}
-use Rattle.crx_compact.specs.meaning.Compaction.{newest_text, indicators_before, cell_text, codes_of, satellite_line}
-use Rattle.crx_compact.specs.meaning.Compaction.{epoch_line, compact_epoch}
+use Rattle.crx_arcs.specs.meaning.Differences.{difference, code_at}
+use Rattle.crx_history.specs.meaning.Compaction.{Marked, epoch_text, since_full, run_of, arc_of, clock_arc}
+use Rattle.crx_arcs.specs.meaning.Cells.{value_in}
+use Rattle.crx_history.specs.meaning.Compaction.{newest_text, indicators_before, codes_of, satellite_line}
+use Rattle.crx_arcs.specs.meaning.Cells.{cell_text}
+use Rattle.crx_history.specs.meaning.Compaction.{epoch_line, compact_epoch}
 use Rattle.crx_rinex.specs.meaning.Label.{number_in}
 use Rattle.crx_rinex.specs.meaning.EpochLines.{count_within_limit, satellites_in}
 use Rattle.crx_rinex.specs.meaning.ObservationTypes.{Count}
 use Rattle.crx_text.specs.meaning.Numbers.{IsWithin, IsMissingOrWithin}
-use Rattle.crx_compact.specs.meaning.Sequences.{stretch}
+use Rattle.crx_arcs.specs.meaning.Sequences.{stretch}
 use Rattle.crx_compact.specs.Laws.{AreWhole}
 use Rattle.crx_rinex.proofs.EachPlace.{each_place-all, length-each_place}
 use Rattle.crx_rinex.specs.meaning.Epochs.{IsWholeEpoch}
 use Rattle.crx_compact.proofs.wayback.Writable.{IsTypedRow, head-counted, typed-rows}
 use Rattle.crx_compact.proofs.wayback.CodeTexts.{order-text}
-use Rattle.crx_compact.proofs.arcs.Bounds.{IsNear, doubled, doubled-more, difference-near, near-more, near-within}
-use Rattle.crx_compact.proofs.arcs.Bounds.{ten-more}
+use Rattle.crx_arcs.proofs.arcs.Bounds.{IsNear, doubled, doubled-more, difference-near, near-more, near-within}
+use Rattle.crx_arcs.proofs.arcs.Bounds.{ten-more}
 use Rattle.crx_compact.proofs.wayback.Runs.{marked}
 use Rattle.crx_compact.proofs.wayback.Rows.{IsRowOf, run-rows, values-fit, clocks-fit}
 use Rattle.crx_compact.proofs.wayback.Facts.{length-text, head_tests}

@@ -7,20 +7,23 @@ use Rattle.crx_lines.specs.declared.limits.TheConstants.{WRITTEN_ORDER}
 use Rattle.crx_rinex.specs.meaning.Observations.{Row, Epoch}
 use Rattle.crx_rinex.specs.meaning.ObservationTypes.{Count}
 use Rattle.crx_rinex.specs.meaning.EachPlace.{each_place}
-use Rattle.crx_compact.specs.meaning.Sequences.{back_to, stretch}
-use Rattle.crx_compact.specs.meaning.Differences.{code_at}
-use Rattle.crx_compact.specs.meaning.Compaction.{epoch_text, Marked, row_named, since_full, run_of, value_in, arc_of}
-use Rattle.crx_compact.specs.meaning.Compaction.{clock_arc, codes_of}
-use Rattle.crx_compact.specs.meaning.Expansion.{RawRow, RawEpoch, overlaid, raw_run_of, code_in, since_start}
-use Rattle.crx_compact.specs.Tails.{RowTail, Tail, arc_tail, row_tail, tail_of, values_of, started_tail, raw_row_tail}
-use Rattle.crx_compact.specs.Tails.{raw_row_tails, tail_of_block}
+use Rattle.crx_arcs.specs.meaning.Sequences.{back_to, stretch}
+use Rattle.crx_arcs.specs.meaning.Differences.{code_at}
+use Rattle.crx_history.specs.meaning.Compaction.{epoch_text, Marked, row_named, since_full, run_of, arc_of}
+use Rattle.crx_arcs.specs.meaning.Cells.{value_in}
+use Rattle.crx_history.specs.meaning.Compaction.{clock_arc, codes_of}
+use Rattle.crx_history.specs.meaning.Expansion.{RawRow, RawEpoch, overlaid, raw_run_of, code_in}
+use Rattle.crx_arcs.specs.meaning.ArcValues.{since_start}
+use Rattle.crx_history.specs.Tails.{RowTail, Tail, row_tail, tail_of, raw_row_tail}
+use Rattle.crx_arcs.specs.ArcTails.{arc_tail, values_of, started_tail}
+use Rattle.crx_history.specs.Tails.{raw_row_tails, tail_of_block}
 use Rattle.crx_compact.specs.ReadingLaws.{raw_row, OneTail}
 use Rattle.crx_compact.specs.Laws.{AreWhole}
 use Rattle.crx_rinex.proofs.EachPlace.{each_place-same, length-each_place}
-use Rattle.crx_compact.proofs.arcs.Inversion.{numbers_of, value-numbers, started-codes}
+use Rattle.crx_arcs.proofs.arcs.Inversion.{numbers_of, value-numbers, started-codes}
 use Rattle.crx_compact.proofs.wayback.Runs.{raw_block, marked, block-raws, raw_run, runs-read, codes_of_values}
 use Rattle.crx_compact.proofs.wayback.Runs.{clocks-read, codes-read, started-values, text-read, marks-read, rows_before}
-use Rattle.crx_compact.proofs.reading.Identifiers.{each-own}
+use Rattle.crx_history.proofs.Identifiers.{each-own}
 use Rattle.crx_compact.proofs.wayback.Rows.{IsRowOf, run-rows, flags-run}
 use Rattle.crx_compact.proofs.wayback.Reading.{epochs-begin, epochs-unmarked}
 

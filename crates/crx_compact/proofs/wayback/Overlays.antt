@@ -1,42 +1,15 @@
 -- Texts by their characters: what a difference marks comes back, and marks laid over one another are patches in turn.
 use Rattle.std.specs.Prelude.{◌≡◌, refl, ◌≢◌, ℕ, zero, suc, ◌≤◌, if◌then◌else◌, List, [], ◌∷◌, length, All}
 use Rattle.std.proofs.Common.{sym, ◌∙◌, ap, arith, not-suc-le-zero, le_of_suc-le-suc}
-use Rattle.crx_text.specs.meaning.Columns.{is_blank, before_end_blanks, without_end_blanks}
+use Rattle.crx_text.specs.meaning.Columns.{is_blank, without_end_blanks}
 use Rattle.crx_text.specs.meaning.Texts.{by_position, mark_of, text_difference}
 use Rattle.crx_text.specs.Texts.{character_of, patched}
 use Rattle.crx_rinex.specs.meaning.EachPlace.{each_place}
-use Rattle.crx_compact.specs.meaning.Expansion.{latest_mark, shown, longest, overlaid}
+use Rattle.crx_history.specs.meaning.Expansion.{latest_mark, shown, longest, overlaid}
 use Rattle.crx_compact.specs.Laws.{patched_in_turn}
 use Rattle.crx_rinex.proofs.Characters.{at, at-without_end_blanks}
 use Rattle.crx_rinex.proofs.EachPlace.{index-each_place}
-
--- ---- characters, blanks standing after a text
-
-before-blank : (c : ℕ) (rest : List ℕ) → c ≡ 32 → rest ≡ [] → before_end_blanks c rest ≡ []
-before-blank c rest ec er =
-    ap (before_end_blanks c) er ∙ ap (λ n. before_end_blanks n []) ec
-
-all_blank : (text : List ℕ) → ((p : ℕ) → at text p ≡ 32) → without_end_blanks text ≡ []
-all_blank [] h = refl
-all_blank (c ∷ cs) h = before-blank c (without_end_blanks cs) (h 0) (all_blank cs (λ p. h (suc p)))
-
--- texts with the same characters are the same without the blanks at their ends
-pub same_characters : (xs ys : List ℕ) → ((p : ℕ) → at xs p ≡ at ys p) → without_end_blanks xs ≡ without_end_blanks ys
-same_characters [] ys h = sym (all_blank ys (λ p. sym (h p)))
-same_characters (x ∷ xs) [] h = all_blank (x ∷ xs) h
-same_characters (x ∷ xs) (y ∷ ys) h =
-    ap (λ c. before_end_blanks c (without_end_blanks xs)) (h 0)
-    ∙ ap (before_end_blanks y) (same_characters xs ys (λ p. h (suc p)))
-
-pub at-by_position : (f : ℕ → ℕ → ℕ)
-    → f 32 32 ≡ 32 → (as' bs : List ℕ) (p : ℕ) → at (by_position f as' bs) p ≡ f (at as' p) (at bs p)
-at-by_position f e [] [] p = sym e
-at-by_position f e (a ∷ as') [] zero = refl
-at-by_position f e (a ∷ as') [] (suc p) = at-by_position f e as' [] p
-at-by_position f e [] (b ∷ bs) zero = refl
-at-by_position f e [] (b ∷ bs) (suc p) = at-by_position f e [] bs p
-at-by_position f e (a ∷ as') (b ∷ bs) zero = refl
-at-by_position f e (a ∷ as') (b ∷ bs) (suc p) = at-by_position f e as' bs p
+use Rattle.crx_history.proofs.Characters.{same_characters, at-by_position}
 
 -- ---- patch after difference
 

@@ -23,16 +23,20 @@ use Rattle.crx_lines.specs.declared.fault.Fault.{Fault}
 use Rattle.crx_lines.specs.declared.fault.Fault.TheVariants.{BadField, BadFlags, Truncated}
 use Rattle.crx_lines.specs.declared.limits.TheConstants.{WRITTEN_ORDER, OBSERVATION_WIDTH, CLOCK_WIDTH}
 use Rattle.crx_rinex.specs.meaning.EachPlace.{each_place}
-use Rattle.crx_compact.specs.meaning.Sequences.{stretch, before_all, and_then}
-use Rattle.crx_compact.specs.meaning.Differences.{code_at}
-use Rattle.crx_compact.specs.meaning.Compaction.{Marked, run_of, since_full, row_named, value_in, arc_of}
-use Rattle.crx_compact.specs.meaning.Compaction.{indicators_before, cell_text, codes_of, satellite_line}
-use Rattle.crx_compact.specs.meaning.EpochText.{Satellite}
-use Rattle.crx_compact.specs.meaning.Expansion.{RawEpoch, overlaid, raw_run_of, marks_of, code_in, value_of}
-use Rattle.crx_compact.specs.meaning.Past.{Past, past_of_block}
-use Rattle.crx_compact.specs.meaning.CompactPlaces.{ReadCell, ReadRow, cell_read, cells_read, cells_of, after_cells}
-use Rattle.crx_compact.specs.meaning.CompactPlaces.{are_marks, row_of_cells, row_with_marks, row_of_line}
-use Rattle.crx_compact.specs.meaning.CompactPlaces.{satellite_line_read}
+use Rattle.crx_arcs.specs.meaning.Sequences.{stretch, before_all, and_then}
+use Rattle.crx_arcs.specs.meaning.Differences.{code_at}
+use Rattle.crx_history.specs.meaning.Compaction.{Marked, run_of, since_full, row_named, arc_of}
+use Rattle.crx_arcs.specs.meaning.Cells.{value_in}
+use Rattle.crx_history.specs.meaning.Compaction.{indicators_before, codes_of, satellite_line}
+use Rattle.crx_arcs.specs.meaning.Cells.{cell_text}
+use Rattle.crx_history.specs.meaning.EpochText.{Satellite}
+use Rattle.crx_history.specs.meaning.Expansion.{RawEpoch, overlaid, raw_run_of, marks_of, code_in}
+use Rattle.crx_arcs.specs.meaning.ArcValues.{value_of}
+use Rattle.crx_history.specs.meaning.Past.{Past, past_of_block}
+use Rattle.crx_arcs.specs.meaning.Cells.{ReadCell, cell_read, cells_read, cells_of, after_cells}
+use Rattle.crx_history.specs.meaning.CompactPlaces.{ReadRow}
+use Rattle.crx_history.specs.meaning.CompactPlaces.{are_marks, row_of_cells, row_with_marks, row_of_line}
+use Rattle.crx_history.specs.meaning.CompactPlaces.{satellite_line_read}
 use Rattle.crx_compact.specs.Laws.{AreWhole, CodesFit}
 use Rattle.crx_rinex.proofs.EachPlace.{each_place-all, index-each_place, length-each_place, map-each_place}
 use Rattle.crx_compact.proofs.wayback.Writable.{IsTypedRow, typed-rows}
@@ -42,8 +46,9 @@ use Rattle.crx_text.proofs.CodeTexts.{code_of-code_text}
 use Rattle.crx_compact.proofs.wayback.CodeTexts.{is_code_character, code-characters}
 use Rattle.crx_compact.proofs.wayback.Cells.{AreWritten, cells-written, marks-written, one_cell}
 use Rattle.crx_compact.proofs.wayback.Overlays.{at_past}
-use Rattle.crx_compact.proofs.wayback.Runs.{raw_run, codes-read, value-back, HasFlags, marks-new, bytes_eq-is}
-use Rattle.crx_compact.proofs.arcs.Bounds.{IsNear, near-within, code-printable}
+use Rattle.crx_compact.proofs.wayback.Runs.{raw_run, codes-read, value-back, HasFlags, marks-new}
+use Rattle.crx_history.proofs.Characters.{bytes_eq-is}
+use Rattle.crx_arcs.proofs.arcs.Bounds.{IsNear, near-within, code-printable}
 use Rattle.crx_compact.proofs.wayback.Facts.{unmarked, at-difference, difference-printable, trimmed-again}
 use Rattle.crx_rinex.proofs.Characters.{at, at-drop, at-without_end_blanks, columns-are, list_all-from_at}
 

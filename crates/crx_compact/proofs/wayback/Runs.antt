@@ -1,6 +1,6 @@
 -- Runs and arcs of what was written, as a reader finds them.
-use Rattle.std.specs.Prelude.{◌≡◌, refl, ◌≢◌, ℕ, ◌*◌, min, ℤ, Bool, true, false, cond, ◌&&◌, nat_eq, List, [], ◌∷◌}
-use Rattle.std.specs.Prelude.{length, map, take, Option, Some, None, Result, Ok, Err, if◌then◌else◌}
+use Rattle.std.specs.Prelude.{◌≡◌, refl, ◌≢◌, ℕ, ◌*◌, min, ℤ, Bool, true, false, cond, nat_eq, List, [], ◌∷◌, length}
+use Rattle.std.specs.Prelude.{map, take, Option, Some, None, Result, Ok, Err, if◌then◌else◌}
 use Rattle.std.specs.List.{AllByRecursion}
 use Rattle.std.specs.Option.{option_map}
 use Rattle.std.specs.Str.{bytes_eq}
@@ -15,39 +15,24 @@ use Rattle.crx_text.specs.declared.code.Code.TheVariants.{Missing}
 use Rattle.crx_lines.specs.declared.fault.Fault.{Fault}
 use Rattle.crx_lines.specs.declared.fault.Fault.TheVariants.{OutOfRange}
 use Rattle.crx_lines.specs.declared.limits.TheConstants.{WRITTEN_ORDER}
-use Rattle.crx_compact.specs.meaning.Sequences.{back_to, named, stretch}
-use Rattle.crx_compact.specs.meaning.Differences.{code_at, difference}
-use Rattle.crx_compact.specs.meaning.Compaction.{Marked, epoch_text, row_named, since_full, run_of, value_in, arc_of}
-use Rattle.crx_compact.specs.meaning.Compaction.{clock_arc, codes_of, indicators_before, newest_text}
-use Rattle.crx_compact.specs.meaning.Expansion.{RawRow, RawEpoch, block_of, raw_row_named, raw_run_of, marks_of}
-use Rattle.crx_compact.specs.meaning.Expansion.{code_in, since_start, onto_started, in_range, value_since, value_of}
-use Rattle.crx_compact.specs.meaning.Expansion.{overlaid}
-use Rattle.crx_compact.specs.Laws.{codes_of_arc}
+use Rattle.crx_arcs.specs.meaning.Sequences.{back_to, named, stretch}
+use Rattle.crx_arcs.specs.meaning.Differences.{code_at, difference}
+use Rattle.crx_history.specs.meaning.Compaction.{Marked, epoch_text, row_named, since_full, run_of, arc_of, clock_arc}
+use Rattle.crx_history.specs.meaning.Compaction.{codes_of, indicators_before, newest_text}
+use Rattle.crx_arcs.specs.meaning.Cells.{value_in}
+use Rattle.crx_history.specs.meaning.Expansion.{RawRow, RawEpoch, block_of, raw_row_named, raw_run_of, marks_of}
+use Rattle.crx_history.specs.meaning.Expansion.{code_in, overlaid}
+use Rattle.crx_arcs.specs.meaning.ArcValues.{since_start, onto_started, in_range, value_since, value_of}
+use Rattle.crx_arcs.specs.ArcLaws.{codes_of_arc}
 use Rattle.crx_rinex.proofs.EachPlace.{index-each_place, length-each_place}
 use Rattle.crx_text.specs.meaning.Numbers.{IsMissingOrWithin}
-use Rattle.crx_compact.proofs.arcs.Bounds.{within-is}
+use Rattle.crx_arcs.proofs.arcs.Bounds.{within-is}
 use Rattle.crx_compact.specs.ReadingLaws.{raw_row, raw_of, raws_of}
-use Rattle.crx_compact.proofs.arcs.Inversion.{value-numbers, started-codes}
-use Rattle.crx_compact.proofs.wayback.Overlays.{at-by_position, same_characters, character-mark, overlaid-patched}
+use Rattle.crx_arcs.proofs.arcs.Inversion.{value-numbers, started-codes}
+use Rattle.crx_history.proofs.Characters.{at-by_position, same_characters, bytes_eq-is}
+use Rattle.crx_compact.proofs.wayback.Overlays.{character-mark, overlaid-patched}
 use Rattle.crx_compact.proofs.wayback.Cuts.{overlaid-take, trimmed-within}
 use Rattle.crx_rinex.proofs.Characters.{at, at-without_end_blanks}
-
--- ---- identifiers
-
-pub bytes_eq-same : (a : List ℕ) → bytes_eq a a ≡ true
-bytes_eq-same [] = refl
-bytes_eq-same (c ∷ cs) =
-    let first : nat_eq c c ≡ true = grind arith in
-    ap (λ b. b && bytes_eq cs cs) first ∙ bytes_eq-same cs
-
-pub bytes_eq-is : (a b : List ℕ) → bytes_eq a b ≡ true → a ≡ b
-bytes_eq-is [] [] h = refl
-bytes_eq-is [] (d ∷ ds) h = grind (arith, h)
-bytes_eq-is (c ∷ cs) [] h = grind (arith, h)
-bytes_eq-is (c ∷ cs) (d ∷ ds) h =
-    let first : c ≡ d = grind (arith, h) in
-    let rest : bytes_eq cs ds ≡ true = grind (arith, h) in
-    ap (λ n. n ∷ cs) first ∙ ap (λ r. d ∷ r) (bytes_eq-is cs ds rest)
 
 -- ---- the block that a reader finds
 
@@ -283,5 +268,3 @@ marks-new r (q ∷ qs) h = next_overlay q.flags r.flags
 pub marks-read : (r : Row) (rs : List Row)
     → AllByRecursion HasFlags (r ∷ rs) → overlaid (marks_of (raw_run (r ∷ rs))) ≡ without_end_blanks r.flags
 marks-read r rs h = marks-cut r rs h.0 (marks-new r rs h)
-
--- ---- columns

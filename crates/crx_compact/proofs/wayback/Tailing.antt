@@ -11,20 +11,22 @@ use Rattle.crx_text.specs.meaning.Codes.{code_text}
 use Rattle.crx_rinex.specs.meaning.Observations.{Row, Epoch}
 use Rattle.crx_lines.specs.declared.limits.TheConstants.{WRITTEN_ORDER}
 use Rattle.crx_rinex.specs.meaning.EachPlace.{each_place}
-use Rattle.crx_compact.specs.meaning.Sequences.{back_to, stretch}
-use Rattle.crx_compact.specs.meaning.Differences.{code_at}
-use Rattle.crx_compact.specs.meaning.Compaction.{Marked, epoch_text, row_named, run_of, value_in, arc_of, clock_arc}
-use Rattle.crx_compact.specs.meaning.Compaction.{newest_text, indicators_before, cell_text, codes_of, satellite_line}
-use Rattle.crx_compact.specs.Tails.{RowTail, Tail, arc_tail, row_tail, row_tails, tail_of}
-use Rattle.crx_compact.specs.Steps.{no_tail, tail_named, cell_of_tail, flags_of_tail, code_of_value, arc_of_value}
-use Rattle.crx_compact.specs.Steps.{row_line_in, row_tail_in}
+use Rattle.crx_arcs.specs.meaning.Sequences.{back_to, stretch}
+use Rattle.crx_arcs.specs.meaning.Differences.{code_at}
+use Rattle.crx_history.specs.meaning.Compaction.{Marked, epoch_text, row_named, run_of, arc_of, clock_arc, newest_text}
+use Rattle.crx_history.specs.meaning.Compaction.{indicators_before, codes_of, satellite_line}
+use Rattle.crx_arcs.specs.meaning.Cells.{value_in, cell_text}
+use Rattle.crx_history.specs.Tails.{RowTail, Tail, row_tail, row_tails, tail_of}
+use Rattle.crx_arcs.specs.ArcTails.{arc_tail}
+use Rattle.crx_history.specs.Steps.{no_tail, tail_named, cell_of_tail, flags_of_tail, row_line_in, row_tail_in}
+use Rattle.crx_arcs.specs.ArcSteps.{code_of_value, arc_of_value}
 use Rattle.crx_compact.specs.Laws.{EpochByTail}
 use Rattle.crx_rinex.proofs.EachPlace.{each_place-same, index-each_place}
 use Rattle.crx_rinex.specs.meaning.Epochs.{are_different}
-use Rattle.crx_compact.proofs.arcs.Stepping.{codes-by_tail}
 use Rattle.crx_compact.proofs.wayback.Runs.{marked, named-made, rows_before}
 use Rattle.crx_compact.proofs.wayback.Facts.{difference-trimmed}
-use Rattle.crx_compact.proofs.reading.Identifiers.{each-own}
+use Rattle.crx_history.proofs.Identifiers.{each-own}
+use Rattle.crx_arcs.proofs.arcs.OneMore.{code-next, arc-next}
 
 -- ---- what a tail holds of a satellite
 
@@ -70,18 +72,6 @@ flags-left false name (m ∷ older) =
     (λ (t : RowTail). t.name) (λ n r. row_tail (run_of n (m ∷ older)) r) (λ n r. refl) name m.epoch.rows)
     ∙ flags-found (map (λ (q : Epoch). row_named name q.rows) (map (λ (k : Marked). k.epoch)
     (if m.in_full then [] else back_to (λ (k : Marked). k.in_full) older))) (row_named name m.epoch.rows)
-
--- ---- one value more
-
-pub code-next : (o : Option ℤ) (os : List (Option ℤ))
-    → code_at WRITTEN_ORDER (stretch (o ∷ os)) ≡ code_of_value o (arc_tail WRITTEN_ORDER (stretch os))
-code-next None os = refl
-code-next (Some v) os = (codes-by_tail WRITTEN_ORDER v (stretch os)).code
-
-pub arc-next : (o : Option ℤ) (os : List (Option ℤ))
-    → arc_tail WRITTEN_ORDER (stretch (o ∷ os)) ≡ arc_of_value o (arc_tail WRITTEN_ORDER (stretch os))
-arc-next None os = refl
-arc-next (Some v) os = (codes-by_tail WRITTEN_ORDER v (stretch os)).tail
 
 -- ---- one row more
 

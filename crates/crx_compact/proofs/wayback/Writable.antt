@@ -1,49 +1,16 @@
 -- Whole epochs and their rows in the form that the proofs of this crate use: row by row, with the count of the epoch's
 -- rows.
-use Rattle.std.specs.Prelude.{◌≡◌, refl, ℕ, true, ◌&&◌, ◌||◌, ◌==◌, nat_eq, List, [], ◌∷◌, length, All, Some}
-use Rattle.std.specs.Char.{is_ascii_digit}
+use Rattle.std.specs.Prelude.{◌≡◌, true, List, [], ◌∷◌, length, All, Some}
 use Rattle.std.specs.List.{list_all, AllByRecursion}
-use Rattle.std.proofs.Common.{sym, ◌∙◌, ap, arith}
-use Rattle.std.proofs.lemmas.Bool.{and_parts, and_from}
+use Rattle.std.proofs.Common.{sym, ◌∙◌, ap}
 use Rattle.std.proofs.lemmas.List.Elements.{All-head, All-tail}
 use Rattle.crx_rinex.specs.meaning.Observations.{Row, Epoch}
-use Rattle.crx_rinex.specs.meaning.ObservationTypes.{Count, is_system}
+use Rattle.crx_rinex.specs.meaning.ObservationTypes.{Count}
 use Rattle.crx_text.specs.meaning.Texts.{is_kept}
-use Rattle.crx_rinex.specs.meaning.SatelliteLines.{is_identifier, IsSoundRow, HasItsTypes}
+use Rattle.crx_rinex.specs.meaning.SatelliteLines.{IsSoundRow, HasItsTypes}
 use Rattle.crx_rinex.specs.meaning.Epochs.{IsWholeEpoch}
 use Rattle.crx_rinex.specs.meaning.EpochLines.{epoch_count}
-
--- ---- identifiers
-
-pub length-is : (name : List ℕ) → is_identifier name ≡ true → length name ≡ 3
-length-is name h =
-    let same : nat_eq (length name) 3 ≡ true = (and_parts (length name == 3) _ h).0 in
-    grind (arith, same)
-
-system-kept : (c : ℕ) → is_system c ≡ true → is_kept c ≡ true
-system-kept c h = grind (arith, h)
-
-digit-kept : (c : ℕ) → is_ascii_digit c ≡ true → is_kept c ≡ true
-digit-kept c h = grind (arith, h)
-
-second-kept : (c : ℕ) → (is_ascii_digit c || nat_eq c 32) ≡ true → is_kept c ≡ true
-second-kept c h = grind (arith, h)
-
-pub name-kept : (name : List ℕ) → length name ≡ 3 → is_identifier name ≡ true → list_all is_kept name ≡ true
-name-kept [] e h = refl
-name-kept (a ∷ []) e h = absurd (omega (arith, e))
-name-kept (a ∷ b ∷ []) e h = absurd (omega (arith, e))
-name-kept (a ∷ b ∷ c ∷ d ∷ ds) e h = absurd (omega (arith, e))
-name-kept (a ∷ b ∷ c ∷ []) e h =
-    let parts : (is_system a && ((is_ascii_digit b || nat_eq b 32) && is_ascii_digit c)) ≡ true = h in
-    let number : ((is_ascii_digit b || nat_eq b 32) && is_ascii_digit c) ≡ true =
-    (and_parts (is_system a) ((is_ascii_digit b || nat_eq b 32) && is_ascii_digit c) parts).1 in
-    and_from (is_kept a) (is_kept b && (is_kept c && true))
-    (system-kept a (and_parts (is_system a) ((is_ascii_digit b || nat_eq b 32) && is_ascii_digit c) parts).0)
-    (and_from (is_kept b) (is_kept c && true)
-    (second-kept b (and_parts (is_ascii_digit b || nat_eq b 32) (is_ascii_digit c) number).0)
-    (and_from (is_kept c) true (digit-kept c
-    (and_parts (is_ascii_digit b || nat_eq b 32) (is_ascii_digit c) number).1) refl))
+use Rattle.crx_history.proofs.Characters.{length-is, name-kept}
 
 -- ---- rows
 

@@ -6,13 +6,15 @@ use Rattle.std.proofs.lemmas.Option.{none-some}
 use Rattle.crx_lines.specs.meaning.Seen.{ReadLine, Content, Overlong}
 use Rattle.crx_lines.specs.declared.fault.Fault.{Fault}
 use Rattle.crx_rinex.specs.meaning.ObservationTypes.{Count}
-use Rattle.crx_compact.specs.meaning.CompactPlaces.{ReadEpoch, satellites_of_line}
-use Rattle.crx_compact.specs.meaning.EpochText.{Satellite}
-use Rattle.crx_compact.specs.OpenEpochs.{OpenRawEpoch, RawStep, Going, Whole, Faulty, first_step, is_faulty, makes_epoch}
+use Rattle.crx_history.specs.meaning.CompactPlaces.{ReadEpoch, satellites_of_line}
+use Rattle.crx_history.specs.meaning.EpochText.{Satellite}
+use Rattle.crx_compact.specs.OpenEpochs.{OpenRawEpoch, RawStep, Going, Whole, Faulty, first_step, is_faulty}
+use Rattle.crx_compact.specs.OpenEpochs.{makes_epoch}
 use Rattle.crx_compact.specs.OpenEpochs.{next_step}
-use Rattle.crx_compact.specs.OpenEpochs.{open_raw_after, open_raw_with, opened_raw, opening, past_of_tail, tail_for_line}
-use Rattle.crx_compact.specs.Tails.{Tail}
-use Rattle.crx_compact.specs.meaning.Sequences.{and_then}
+use Rattle.crx_compact.specs.OpenEpochs.{open_raw_after, open_raw_with, opened_raw, opening, tail_for_line}
+use Rattle.crx_history.specs.HeldRows.{past_of_tail}
+use Rattle.crx_history.specs.Tails.{Tail}
+use Rattle.crx_arcs.specs.meaning.Sequences.{and_then}
 use Rattle.crx_text.specs.Texts.{patched}
 use Rattle.crx_engine.specs.meaning.Choices.{Choices}
 use Rattle.crx_engine.specs.meaning.Items.{Item, types_in_force}

@@ -13,9 +13,9 @@ use Rattle.crx_rinex.specs.ObservationTypes.{with_line}
 use Rattle.crx_rinex.specs.meaning.Places.{Place, Here, Wrong, Wanted, one_line, first_line}
 use Rattle.crx_rinex.specs.meaning.Units.{Unit as FileUnit, HeaderLine, EventLine, EventRecord, Observation}
 use Rattle.crx_rinex.proofs.Counts.{types_of-push}
-use Rattle.crx_compact.specs.meaning.Expansion.{RawEpoch, block_of}
-use Rattle.crx_compact.specs.meaning.Past.{Past, past_of_block, past_of_epochs}
-use Rattle.crx_compact.specs.meaning.CompactPlaces.{ReadEpoch, epoch_at, epoch_against}
+use Rattle.crx_history.specs.meaning.Expansion.{RawEpoch, block_of}
+use Rattle.crx_history.specs.meaning.Past.{Past, past_of_block, past_of_epochs}
+use Rattle.crx_history.specs.meaning.CompactPlaces.{ReadEpoch, epoch_at, epoch_against}
 use Rattle.crx_compact.specs.ReadingLaws.{Forgets}
 use Rattle.crx_compact.proofs.reading.Forgetting.{forgets}
 use Rattle.crx_engine.specs.meaning.Items.{Item, Accepted, Warned, header_has_ended, records_announced, records_left}

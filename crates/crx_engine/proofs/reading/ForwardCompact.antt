@@ -7,12 +7,12 @@ use Rattle.crx_rinex.specs.Steady.{IsSteady, Remains, IsDecidedAfter}
 use Rattle.crx_rinex.specs.meaning.EpochLines.{is_event_line}
 use Rattle.crx_rinex.specs.meaning.ObservationTypes.{Count}
 use Rattle.crx_rinex.proofs.Steady.{steady-here, steady-first_line, steady-then}
-use Rattle.crx_compact.specs.meaning.EpochText.{Satellite}
-use Rattle.crx_compact.specs.meaning.Expansion.{RawEpoch}
-use Rattle.crx_compact.specs.meaning.Past.{Past, past_of_line}
-use Rattle.crx_compact.specs.meaning.CompactPlaces.{ReadEpoch, BegunEpoch, epoch_begun, clock_line_read}
-use Rattle.crx_compact.specs.meaning.CompactPlaces.{satellite_line_read, rows_read, epoch_of_rows, epoch_after_line}
-use Rattle.crx_compact.specs.meaning.CompactPlaces.{epoch_at}
+use Rattle.crx_history.specs.meaning.EpochText.{Satellite}
+use Rattle.crx_history.specs.meaning.Expansion.{RawEpoch}
+use Rattle.crx_history.specs.meaning.Past.{Past, past_of_line}
+use Rattle.crx_history.specs.meaning.CompactPlaces.{ReadEpoch, BegunEpoch, epoch_begun, clock_line_read}
+use Rattle.crx_history.specs.meaning.CompactPlaces.{satellite_line_read, rows_read, epoch_of_rows, epoch_after_line}
+use Rattle.crx_history.specs.meaning.CompactPlaces.{epoch_at}
 use Rattle.crx_engine.specs.meaning.Items.{types_in_force}
 use Rattle.crx_engine.specs.meaning.Expanded.{raws_kept, event_line, as_observation, compact_epoch_place, compact_place}
 use Rattle.crx_engine.specs.meaning.Expanded.{crinex_version, crinex_program, first_lines}

@@ -29,8 +29,8 @@ use Rattle.crx_rinex.specs.meaning.Places.{Place, Here, Wrong, Wanted, after_lin
 use Rattle.crx_rinex.specs.meaning.SatelliteLines.{types_of_satellite, values_in, flags_in, row_with, row_of_types}
 use Rattle.crx_rinex.specs.meaning.SatelliteLines.{row_of}
 use Rattle.crx_rinex.specs.meaning.Units.{Unit as FileUnit, HeaderLine, EventLine, EventRecord, Observation}
-use Rattle.crx_compact.specs.meaning.CompactPlaces.{ReadEpoch, epoch_at}
-use Rattle.crx_compact.specs.meaning.Expansion.{RawEpoch}
+use Rattle.crx_history.specs.meaning.CompactPlaces.{ReadEpoch, epoch_at}
+use Rattle.crx_history.specs.meaning.Expansion.{RawEpoch}
 use Rattle.crx_engine.specs.declared.crinex.TheConstants.{CRINEX_VERSION, CRINEX_VERSION_LABEL, CRINEX_PROGRAM_LABEL}
 use Rattle.crx_engine.specs.meaning.Items.{Item, is_at_start, header_has_ended, records_left, records_count_types}
 use Rattle.crx_engine.specs.meaning.Items.{types_in_force}

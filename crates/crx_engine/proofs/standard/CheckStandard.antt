@@ -6,7 +6,7 @@ use Rattle.std.specs.List.{list_all}
 use Rattle.std.specs.Str.{bytes_eq}
 use Rattle.std.proofs.lemmas.Option.{none-some}
 use Rattle.std.proofs.lemmas.Bool.{and_parts}
-use Rattle.crx_compact.proofs.wayback.Runs.{bytes_eq-same, bytes_eq-is}
+use Rattle.crx_history.proofs.Characters.{bytes_eq-same, bytes_eq-is}
 use Rattle.crx_lines.specs.meaning.Lines.{InputLine, lines_of}
 use Rattle.crx_engine.specs.meaning.Choices.{Choices}
 use Rattle.crx_engine.specs.meaning.Results.{FilterResult}

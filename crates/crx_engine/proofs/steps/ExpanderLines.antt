@@ -6,7 +6,7 @@ use Rattle.crx_lines.specs.meaning.Lines.{InputLine, is_long}
 use Rattle.crx_lines.specs.declared.limits.TheConstants.{LINE_LIMIT}
 use Rattle.crx_lines.specs.meaning.Seen.{seen}
 use Rattle.crx_compact.specs.OpenEpochs.{OpenRawEpoch}
-use Rattle.crx_compact.specs.Tails.{Tail}
+use Rattle.crx_history.specs.Tails.{Tail}
 use Rattle.crx_engine.specs.meaning.Choices.{Choices}
 use Rattle.crx_engine.specs.Engines.{Awaited}
 use Rattle.crx_engine.specs.EngineLines.{HasTaken}

@@ -3,7 +3,7 @@ use Rattle.std.proofs.Common.{◌≡◌, inl, inr, ℕ, ◌+◌, true, false, Li
 use Rattle.std.proofs.Common.{ap, ◌∙◌, if◌then◌else◌, true≢false}
 use Rattle.crx_rinex.specs.meaning.ObservationTypes.{Count}
 use Rattle.crx_compact.specs.OpenEpochs.{OpenRawEpoch, ColumnsState}
-use Rattle.crx_compact.specs.Tails.{Tail}
+use Rattle.crx_history.specs.Tails.{Tail}
 use Rattle.crx_compact.specs.OpenEpochs.ColumnsState.{Idle, Reading}
 use Rattle.crx_lines.specs.meaning.Seen.{Content, Overlong}
 use Rattle.crx_lines.specs.declared.fault.At.{At}

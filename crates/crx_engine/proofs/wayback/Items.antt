@@ -10,10 +10,10 @@ use Rattle.crx_rinex.specs.meaning.Places.{Place, Here}
 use Rattle.crx_rinex.specs.meaning.Units.{Unit as FileUnit, HeaderLine, EventLine, EventRecord, Observation}
 use Rattle.crx_rinex.specs.meaning.EpochLines.{is_event_line, records_in}
 use Rattle.crx_rinex.specs.meaning.ObservationTypes.{Count}
-use Rattle.crx_compact.specs.meaning.Compaction.{Marked, since_full, run_of, satellite_line, compact_epoch, epoch_line}
-use Rattle.crx_compact.specs.meaning.Expansion.{RawEpoch, block_of}
-use Rattle.crx_compact.specs.meaning.CompactPlaces.{ReadEpoch, epoch_at}
-use Rattle.crx_compact.specs.meaning.Sequences.{back_to}
+use Rattle.crx_history.specs.meaning.Compaction.{Marked, since_full, run_of, satellite_line, compact_epoch, epoch_line}
+use Rattle.crx_history.specs.meaning.Expansion.{RawEpoch, block_of}
+use Rattle.crx_history.specs.meaning.CompactPlaces.{ReadEpoch, epoch_at}
+use Rattle.crx_arcs.specs.meaning.Sequences.{back_to}
 use Rattle.crx_compact.specs.Laws.{AreWhole, LinesCanStand}
 use Rattle.crx_compact.specs.ReadingLaws.{raws_of, read_of, lines_of_epoch, EpochReadsBack}
 use Rattle.crx_compact.proofs.wayback.Reading.{each-reads_back}

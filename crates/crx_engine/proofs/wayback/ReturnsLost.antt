@@ -13,8 +13,8 @@ use Rattle.crx_rinex.specs.meaning.Observations.{Epoch}
 use Rattle.crx_rinex.specs.meaning.Places.{Here, Wrong, Wanted}
 use Rattle.crx_rinex.specs.meaning.Printing.{printed_epoch, lines_text}
 use Rattle.crx_rinex.specs.meaning.Units.{HeaderLine, EventLine, EventRecord, Observation}
-use Rattle.crx_compact.specs.meaning.CompactPlaces.{ReadEpoch}
-use Rattle.crx_compact.specs.meaning.Compaction.{compact_epoch}
+use Rattle.crx_history.specs.meaning.CompactPlaces.{ReadEpoch}
+use Rattle.crx_history.specs.meaning.Compaction.{compact_epoch}
 use Rattle.crx_compact.specs.Laws.{LinesCanStand}
 use Rattle.crx_compact.specs.ReadingLaws.{IsGood}
 use Rattle.crx_engine.specs.meaning.Choices.{Choices, is_date}

@@ -13,8 +13,8 @@ use Rattle.crx_lines.specs.declared.limits.TheConstants.{TYPES_LIMIT, LINE_LIMIT
 use Rattle.crx_rinex.specs.meaning.Observations.{Epoch}
 use Rattle.crx_rinex.specs.meaning.Printing.{printed_epoch, lines_text}
 use Rattle.crx_rinex.specs.meaning.Units.{Unit as FileUnit, HeaderLine, EventLine, EventRecord, Observation}
-use Rattle.crx_compact.specs.meaning.Compaction.{Marked, compact_epoch}
-use Rattle.crx_compact.specs.meaning.CompactPlaces.{ReadEpoch}
+use Rattle.crx_history.specs.meaning.Compaction.{Marked, compact_epoch}
+use Rattle.crx_history.specs.meaning.CompactPlaces.{ReadEpoch}
 use Rattle.crx_compact.specs.Laws.{LinesCanStand}
 use Rattle.crx_compact.proofs.wayback.Lengths.{lines-short}
 use Rattle.crx_engine.specs.meaning.Choices.{Choices}

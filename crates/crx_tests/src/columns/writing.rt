@@ -4,7 +4,7 @@ use super::cases::{Case, Table, both_ways};
 use super::*;
 use crate::expecting::expect;
 use crx_compact::Coded;
-use crx_compact::lines::Lines;
+use crx_history::lines::Lines;
 use std::process::Abort;
 use std::test::Fail;
 

@@ -7,7 +7,7 @@ use Rattle.crx_lines.specs.declared.fault.Fault.TheVariants.{OutOfMemory}
 use Rattle.crx_rinex.specs.meaning.ObservationTypes.{count_of_types_line}
 use Rattle.crx_engine.specs.meaning.UnitPlaces.{types_fault}
 use Rattle.crx_engine.proofs.reading.TypesLines.{Bad, RefusedAs, refused-types}
-use Rattle.crx_compact.proofs.reading.Marks.{if-err}
+use Rattle.crx_history.proofs.Marks.{if-err}
 use Rattle.crx_engine.proofs.types_lines.accept_record.Goals as goal
 
 counted-refused : (counted : Bool) (line : List ℕ) (fault : Fault)

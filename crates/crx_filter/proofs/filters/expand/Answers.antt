@@ -1,6 +1,6 @@
 use Rattle.std.proofs.Common.{◌≡◌, ℕ, List, [], Option, ap}
 use Rattle.crx_compact.specs.OpenEpochs.{OpenRawEpoch}
-use Rattle.crx_compact.specs.Tails.{Tail}
+use Rattle.crx_history.specs.Tails.{Tail}
 use Rattle.crx_engine.specs.ExpansionByLine.{expansion_seen}
 use Rattle.crx_engine.specs.declared.expander.Expander.{Expander}
 use Rattle.crx_engine.specs.LineByLine.{Seen}

@@ -3,7 +3,7 @@ use Rattle.std.specs.Prelude.{OnOk, IfOk}
 use Rattle.crx_compact.specs.Coded.{CodedEpoch}
 use Rattle.crx_compact.specs.OpenEpochs.{ColumnsState, tail_held}
 use Rattle.crx_compact.specs.OpenEpochs.ColumnsState.{Idle}
-use Rattle.crx_compact.specs.Tails.{Tail}
+use Rattle.crx_history.specs.Tails.{Tail}
 use Rattle.crx_compact.proofs.wayback.Encoding.{lines-coded, tail-coded}
 use Rattle.crx_compact.proofs.columns.Columns.encode.Goals as goal
 

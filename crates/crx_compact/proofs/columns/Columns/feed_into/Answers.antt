@@ -1,6 +1,6 @@
 use Rattle.std.proofs.Common.{ap, ◌∙◌, sym, subst, ◌≡◌, true, List, ℕ, Option, Some, None, if◌then◌else◌}
 use Rattle.crx_lines.specs.meaning.Seen.{Content}
-use Rattle.crx_compact.specs.Tails.{Tail}
+use Rattle.crx_history.specs.Tails.{Tail}
 use Rattle.crx_compact.specs.OpenEpochs.{ColumnsState, HasPrintedLines, RawStep, is_idle, step_in}
 use Rattle.crx_compact.specs.OpenLines.{OpenLines, columns_state, made_of, step_after}
 use Rattle.crx_compact.proofs.reading.Opening.{state-open, step-in, still-made, whole-printed}

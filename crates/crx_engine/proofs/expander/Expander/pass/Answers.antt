@@ -1,7 +1,7 @@
 use Rattle.std.proofs.Common.{rules, List, ℕ, Option, refl, sym, ap, ◌∙◌}
 use Rattle.crx_lines.specs.meaning.Seen.{Overlong}
 use Rattle.crx_compact.specs.OpenEpochs.{OpenRawEpoch, tail_held}
-use Rattle.crx_compact.specs.Tails.{Tail}
+use Rattle.crx_history.specs.Tails.{Tail}
 use Rattle.crx_engine.specs.CompactStages.{open_in}
 use Rattle.crx_engine.specs.EngineSteps.{IsAt, step_made}
 use Rattle.crx_engine.specs.ExpansionByLine.{expansion}

@@ -1,6 +1,6 @@
 use Rattle.std.proofs.Common.{◌≡◌, true, Option, refl, sym, ap, subst}
 use Rattle.crx_compact.specs.OpenEpochs.{OpenRawEpoch}
-use Rattle.crx_compact.specs.Tails.{Tail}
+use Rattle.crx_history.specs.Tails.{Tail}
 use Rattle.crx_lines.specs.meaning.Seen.{Content}
 use Rattle.crx_engine.specs.CompactStages.{open_in}
 use Rattle.crx_engine.specs.EngineSteps.{IsAt, is_held, seen_stage}

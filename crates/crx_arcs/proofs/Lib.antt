@@ -1,0 +1,4 @@
+pub mod arcs
+pub mod SameTexts
+pub mod CellsRead
+pub mod PlaceByPlace

@@ -1,0 +1,33 @@
+use Rattle.crx_arcs.proofs.arcs.Running.{FromThird, from-third, same-bits}
+use Rattle.crx_arcs.proofs.arc.value_after_three.Goals as goal
+
+pub overflow_add-result-3 : goal.overflow_add-result-3
+overflow_add-result-3 c =
+    let f : FromThird c.args.number c.args.differences.now =
+    from-third c.args.number c.args.differences.now c.requires.three c.requires.short c.requires.below in
+    rw (
+      same-bits _ c.ranges.number,
+      same-bits _ f.zeroth_before,
+      same-bits
+          _ f.first_before,
+      same-bits _ f.second_before,
+      same-bits _ f.one,
+      same-bits _ f.two,
+    )
+    f.all
+
+pub returns : goal.returns
+returns c =
+    let f : FromThird c.args.number c.args.differences.now =
+    from-third c.args.number c.args.differences.now c.requires.three c.requires.short c.requires.below in
+    rw (
+      same-bits _ c.ranges.number,
+      same-bits _ f.zeroth_before,
+      same-bits
+          _ f.first_before,
+      same-bits _ f.second_before,
+      same-bits _ f.one,
+      same-bits _ f.two,
+      same-bits _ f.all,
+    )
+    f.value_is

@@ -1,0 +1,8 @@
+-- Arcs: their differences, the sums of these, and how large they may grow.
+pub mod Weights
+pub mod Inversion
+pub mod Running
+pub mod Stepping
+pub mod OneMore
+pub mod Bounds
+pub mod Arcs

@@ -1,0 +1,47 @@
+//! Whether two short texts are the same, as a satellite's indicators in two epochs mostly are.
+
+ghost use Rattle.std.specs.Prelude.{◌≡◌, ◌+◌, ◌≤◌, length};
+ghost use Rattle.std.specs.Bool.{OnTrue};
+
+use std::simd::prelude::*;
+
+/// Whether the first so many characters of two texts are the same, and the last so many.
+#[inline(always)]
+fn has_same_ends<const N: usize>(text: &[u8], other: &[u8]) -> bool
+    requires narrow { N ≤ 64 }
+    requires some { N ≤ length text.now }
+    requires few { length text.now ≤ N + N }
+    requires same_length { length other.now ≡ length text.now }
+    ensures { OnTrue result (text.now ≡ other.now) }
+{
+    let last = text.len() - N;
+    Simd::<u8, N>::from_slice(text) == Simd::<u8, N>::from_slice(other)
+        && Simd::<u8, N>::from_slice(&text[last..]) == Simd::<u8, N>::from_slice(&other[last..])
+}
+
+/// Whether two texts of any length are the same, by a call of the C library.
+#[inline(never)]
+fn is_same_by_call(text: &[u8], other: &[u8]) -> bool
+    ensures { OnTrue result (text.now ≡ other.now) }
+{
+    text == other
+}
+
+/// Whether two texts are the same. The indicators of 2 to 32 types are compared by their two ends, which may overlap; a call takes
+/// some 40 instructions more.
+#[inline(always)]
+pub fn is_same_text(text: &[u8], other: &[u8]) -> bool
+    ensures { OnTrue result (text.now ≡ other.now) }
+{
+    let count = text.len();
+    if count != other.len() {
+        return false;
+    }
+    match count {
+        4..=8 => has_same_ends::<4>(text, other),
+        9..=16 => has_same_ends::<8>(text, other),
+        17..=32 => has_same_ends::<16>(text, other),
+        33..=64 => has_same_ends::<32>(text, other),
+        _ => is_same_by_call(text, other),
+    }
+}

@@ -1,7 +1,0 @@
--- Arcs: their differences, the sums of these, and how large they may grow.
-pub mod Arcs
-pub mod Weights
-pub mod Inversion
-pub mod Running
-pub mod Stepping
-pub mod Bounds

@@ -1,0 +1,122 @@
+-- Texts and identifiers by their characters.
+use Rattle.std.specs.Prelude.{◌≡◌, refl, ℕ, zero, suc, ◌<◌, ◌≤◌, ◌⊎◌, List, [], ◌∷◌, take, Bool, true, false, ◌++◌}
+use Rattle.std.specs.Prelude.{Option, Some, None, if◌then◌else◌, ◌&&◌, nat_eq, ◌||◌, ◌==◌, length}
+use Rattle.std.proofs.Common.{arith, inl, inr, not-suc-le-zero, le_of_suc-le-suc, sym, ◌∙◌, ap}
+use Rattle.crx_rinex.proofs.Characters.{at}
+use Rattle.std.specs.List.{list_all}
+use Rattle.std.proofs.lemmas.Bool.{and_parts, and_from}
+use Rattle.crx_text.specs.meaning.Columns.{before_end_blanks, without_end_blanks}
+use Rattle.crx_text.specs.meaning.Texts.{by_position, is_kept}
+use Rattle.std.specs.Str.{bytes_eq}
+use Rattle.std.specs.Char.{is_ascii_digit}
+use Rattle.crx_rinex.specs.meaning.ObservationTypes.{is_system}
+use Rattle.crx_rinex.specs.meaning.SatelliteLines.{is_identifier}
+
+pub at-take_past : (n : ℕ) (text : List ℕ) (p : ℕ) → n ≤ p → at (take n text) p ≡ 32
+at-take_past zero text p h = refl
+at-take_past (suc n) [] p h = refl
+at-take_past (suc n) (c ∷ cs) zero h = absurd (not-suc-le-zero h)
+at-take_past (suc n) (c ∷ cs) (suc p) h = at-take_past n cs p (le_of_suc-le-suc h)
+
+pub within-or_past : (n p : ℕ) → (p < n) ⊎ (n ≤ p)
+within-or_past zero p = inr (omega arith)
+within-or_past (suc n) zero = inl (omega arith)
+within-or_past (suc n) (suc p) = step (within-or_past n p)
+  where
+    step : (p < n) ⊎ (n ≤ p) → (suc p < suc n) ⊎ (suc n ≤ suc p)
+    step (inl h) = inl (omega (arith, h))
+    step (inr h) = inr (omega (arith, h))
+
+pub list_all-at : (p : ℕ → Bool)
+    → p 32 ≡ true → (text : List ℕ) → list_all p text ≡ true → (k : ℕ) → p (at text k) ≡ true
+list_all-at p e [] h k = e
+list_all-at p e (c ∷ cs) h zero = (and_parts (p c) (list_all p cs) h).0
+list_all-at p e (c ∷ cs) h (suc k) = list_all-at p e cs (and_parts (p c) (list_all p cs) h).1 k
+
+pub list_all-append : (p : ℕ → Bool) (xs ys : List ℕ)
+    → list_all p xs ≡ true → list_all p ys ≡ true → list_all p (xs ++ ys) ≡ true
+list_all-append p [] ys h k = k
+list_all-append p (x ∷ xs) ys h k =
+    and_from (p x) (list_all p (xs ++ ys))
+    (and_parts (p x) (list_all p xs) h).0 (list_all-append p xs ys (and_parts (p x) (list_all p xs) h).1 k)
+
+pub all-take : (p : ℕ → Bool) (n : ℕ) (xs : List ℕ) → list_all p xs ≡ true → list_all p (take n xs) ≡ true
+all-take p zero xs h = refl
+all-take p (suc n) [] h = refl
+all-take p (suc n) (x ∷ xs) h = and_from (p x) (list_all p (take n xs))
+    (and_parts (p x) (list_all p xs) h).0 (all-take p n xs (and_parts (p x) (list_all p xs) h).1)
+
+pub if_some : (b : Bool) (x : Option ℕ) (n : ℕ) → (if b then x else None) ≡ Some n → b ≡ true
+if_some true x n h = refl
+if_some false x n h = grind (arith, h)
+
+before-blank : (c : ℕ) (rest : List ℕ) → c ≡ 32 → rest ≡ [] → before_end_blanks c rest ≡ []
+before-blank c rest ec er =
+    ap (before_end_blanks c) er ∙ ap (λ n. before_end_blanks n []) ec
+
+all_blank : (text : List ℕ) → ((p : ℕ) → at text p ≡ 32) → without_end_blanks text ≡ []
+all_blank [] h = refl
+all_blank (c ∷ cs) h = before-blank c (without_end_blanks cs) (h 0) (all_blank cs (λ p. h (suc p)))
+
+-- texts with the same characters are the same without the blanks at their ends
+pub same_characters : (xs ys : List ℕ) → ((p : ℕ) → at xs p ≡ at ys p) → without_end_blanks xs ≡ without_end_blanks ys
+same_characters [] ys h = sym (all_blank ys (λ p. sym (h p)))
+same_characters (x ∷ xs) [] h = all_blank (x ∷ xs) h
+same_characters (x ∷ xs) (y ∷ ys) h =
+    ap (λ c. before_end_blanks c (without_end_blanks xs)) (h 0)
+    ∙ ap (before_end_blanks y) (same_characters xs ys (λ p. h (suc p)))
+
+pub at-by_position : (f : ℕ → ℕ → ℕ)
+    → f 32 32 ≡ 32 → (as' bs : List ℕ) (p : ℕ) → at (by_position f as' bs) p ≡ f (at as' p) (at bs p)
+at-by_position f e [] [] p = sym e
+at-by_position f e (a ∷ as') [] zero = refl
+at-by_position f e (a ∷ as') [] (suc p) = at-by_position f e as' [] p
+at-by_position f e [] (b ∷ bs) zero = refl
+at-by_position f e [] (b ∷ bs) (suc p) = at-by_position f e [] bs p
+at-by_position f e (a ∷ as') (b ∷ bs) zero = refl
+at-by_position f e (a ∷ as') (b ∷ bs) (suc p) = at-by_position f e as' bs p
+
+pub bytes_eq-same : (a : List ℕ) → bytes_eq a a ≡ true
+bytes_eq-same [] = refl
+bytes_eq-same (c ∷ cs) =
+    let first : nat_eq c c ≡ true = grind arith in
+    ap (λ b. b && bytes_eq cs cs) first ∙ bytes_eq-same cs
+
+pub bytes_eq-is : (a b : List ℕ) → bytes_eq a b ≡ true → a ≡ b
+bytes_eq-is [] [] h = refl
+bytes_eq-is [] (d ∷ ds) h = grind (arith, h)
+bytes_eq-is (c ∷ cs) [] h = grind (arith, h)
+bytes_eq-is (c ∷ cs) (d ∷ ds) h =
+    let first : c ≡ d = grind (arith, h) in
+    let rest : bytes_eq cs ds ≡ true = grind (arith, h) in
+    ap (λ n. n ∷ cs) first ∙ ap (λ r. d ∷ r) (bytes_eq-is cs ds rest)
+
+pub length-is : (name : List ℕ) → is_identifier name ≡ true → length name ≡ 3
+length-is name h =
+    let same : nat_eq (length name) 3 ≡ true = (and_parts (length name == 3) _ h).0 in
+    grind (arith, same)
+
+system-kept : (c : ℕ) → is_system c ≡ true → is_kept c ≡ true
+system-kept c h = grind (arith, h)
+
+digit-kept : (c : ℕ) → is_ascii_digit c ≡ true → is_kept c ≡ true
+digit-kept c h = grind (arith, h)
+
+second-kept : (c : ℕ) → (is_ascii_digit c || nat_eq c 32) ≡ true → is_kept c ≡ true
+second-kept c h = grind (arith, h)
+
+pub name-kept : (name : List ℕ) → length name ≡ 3 → is_identifier name ≡ true → list_all is_kept name ≡ true
+name-kept [] e h = refl
+name-kept (a ∷ []) e h = absurd (omega (arith, e))
+name-kept (a ∷ b ∷ []) e h = absurd (omega (arith, e))
+name-kept (a ∷ b ∷ c ∷ d ∷ ds) e h = absurd (omega (arith, e))
+name-kept (a ∷ b ∷ c ∷ []) e h =
+    let parts : (is_system a && ((is_ascii_digit b || nat_eq b 32) && is_ascii_digit c)) ≡ true = h in
+    let number : ((is_ascii_digit b || nat_eq b 32) && is_ascii_digit c) ≡ true =
+    (and_parts (is_system a) ((is_ascii_digit b || nat_eq b 32) && is_ascii_digit c) parts).1 in
+    and_from (is_kept a) (is_kept b && (is_kept c && true))
+    (system-kept a (and_parts (is_system a) ((is_ascii_digit b || nat_eq b 32) && is_ascii_digit c) parts).0)
+    (and_from (is_kept b) (is_kept c && true)
+    (second-kept b (and_parts (is_ascii_digit b || nat_eq b 32) (is_ascii_digit c) number).0)
+    (and_from (is_kept c) true (digit-kept c
+    (and_parts (is_ascii_digit b || nat_eq b 32) (is_ascii_digit c) number).1) refl))

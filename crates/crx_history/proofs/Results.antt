@@ -1,0 +1,52 @@
+-- Good results come from good results.
+use Rattle.std.specs.Prelude.{◌≡◌, refl, Bool, true, false, List, ◌∷◌, Result, Ok, Err, if◌then◌else◌}
+use Rattle.std.specs.Result.{is_ok}
+use Rattle.std.proofs.Common.{sym, ap, true≢false}
+use Rattle.crx_lines.specs.declared.fault.Fault.{Fault}
+use Rattle.crx_arcs.specs.meaning.Sequences.{and_then, before_all}
+
+pub no-err : {X : Type 0} (f : Fault) (x : X) → Err f ≡ Ok x → ⊥
+no-err f x e = true≢false (sym (ap is_ok e))
+
+abbrev ok_value : {X : Type 0} → X → Result X Fault → X
+ok_value d (Ok x) = x
+ok_value d (Err f) = d
+
+pub ok-same : {X : Type 0} (x y : X) → ◌≡◌ {A = Result X Fault} (Ok x) (Ok y) → x ≡ y
+ok-same x y e = ap (ok_value x) e
+
+-- the same of results
+pub record Follows {X Y : Type 0} (r : Result X Fault) (f : X → Result Y Fault) (y : Y) : Type 0 where
+  pub from : X
+  pub first : r ≡ Ok from
+  pub next : f from ≡ Ok y
+
+pub and_then-ok : {X Y : Type 0} (r : Result X Fault) (f : X → Result Y Fault) (y : Y)
+    → and_then r f ≡ Ok y → Follows r f y
+and_then-ok (Ok x) f y e = record { from = x; first = refl; next = e }
+and_then-ok (Err q) f y e = absurd (no-err q y e)
+
+pub if-err : {X : Type 0} (b : Bool) (q : Fault) (r : Result X Fault) (x : X)
+    → (if b then Err q else r) ≡ Ok x → r ≡ Ok x
+if-err true q r x e = absurd (no-err q x e)
+if-err false q r x e = e
+
+pub if-ok : {X : Type 0} (b : Bool) (q : Fault) (r : Result X Fault) (x : X)
+    → (if b then r else Err q) ≡ Ok x → r ≡ Ok x
+if-ok true q r x e = e
+if-ok false q r x e = absurd (no-err q x e)
+
+pub if-true : {X : Type 0} (b : Bool) (q : Fault) (r : Result X Fault) (x : X)
+    → (if b then r else Err q) ≡ Ok x → b ≡ true
+if-true true q r x e = refl
+if-true false q r x e = absurd (no-err q x e)
+
+pub if-false : {X : Type 0} (b : Bool) (q : Fault) (r : Result X Fault) (x : X)
+    → (if b then Err q else r) ≡ Ok x → b ≡ false
+if-false true q r x e = absurd (no-err q x e)
+if-false false q r x e = refl
+
+pub before-ok : {X : Type 0} (x : X) (r : Result (List X) Fault) (given : List X)
+    → before_all x r ≡ Ok given → Follows r (λ xs. Ok (x ∷ xs)) given
+before-ok x (Ok xs) given e = record { from = xs; first = refl; next = e }
+before-ok x (Err q) given e = absurd (no-err q given e)

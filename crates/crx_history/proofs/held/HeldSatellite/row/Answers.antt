@@ -1,0 +1,47 @@
+use Rattle.std.proofs.Common.{◌≡◌, ◌*◌, List, ℕ, Option, length, map, slice_index_or, sym, take, arith, ap, ◌∙◌}
+use Rattle.std.specs.List.{list_all}
+use Rattle.crx_text.specs.meaning.Texts.{is_kept}
+use Rattle.crx_rinex.specs.meaning.Observations.{Row}
+use Rattle.crx_rinex.specs.SatelliteLines.{with_flags, with_value}
+use Rattle.crx_history.specs.ShownRows.{shown_row}
+use Rattle.crx_arcs.specs.ArcSteps.{shown_value}
+use Rattle.crx_history.proofs.SoundTexts.{columns-trimmed}
+use Rattle.crx_arcs.specs.ArcTails.{ArcTail}
+use Rattle.crx_history.specs.Tails.{RowTail}
+use Rattle.crx_history.proofs.ShownRows.{get-there, row-all, row-more}
+use Rattle.crx_history.proofs.Characters.{all-take}
+use Rattle.crx_history.proofs.held.HeldSatellite.row.Goals as goal
+
+pub loop-place-preserved : goal.loop-place-preserved
+loop-place-preserved c =
+    let cells : List (Option ArcTail) = c.args.self.now.cells in
+    let place : ℕ = c.loop-place.place in
+    let many : length cells ≡ c.count-count.result = c.requires.sized ∙ sym c.count-count.ensures.value in
+    let within = c.loop-place-test.true in
+    c.set.ensures.value
+    ∙ ap (with_value c.loop-place.row place) c.value.ensures.value
+    ∙ row-more _ _ cells c.count-count.result place c.loop-place.row c.index.result.now c.loop-place.invariant
+    (get-there cells place c.index.result.now (omega (arith, within, many))
+    (c.index.ensures ∙ ap (λ (cs : List (Option ArcTail)). slice_index_or cs place c.index.result.now)
+    (ap (λ (t : RowTail). t.cells) c.self.view_is))) many
+
+pub set_flags-requires-clause-kept : goal.set_flags-requires-clause-kept
+set_flags-requires-clause-kept c =
+    ap (list_all is_kept) (c.first_bytes.ensures ∙ ap (take (2 * c.count-count.result)) c.deref.ensures.value)
+    ∙ all-take is_kept (2 * c.count-count.result) _ c.self.invariant.0.kept
+
+pub returns-clause-ok : goal.returns-clause-ok
+returns-clause-ok c =
+    let now : RowTail = c.args.self.now in
+    let count : ℕ = c.count-count.result in
+    let many : length now.cells ≡ count = c.requires.sized ∙ sym c.count-count.ensures.value in
+    let end : c.loop-place.place ≡ count = omega arith in
+    c.set_flags.ensures.value
+    ∙ ap (with_flags c.loop-place.row) (c.first_bytes.ensures ∙ ap (take (2 * count)) c.deref.ensures.value)
+    ∙ row-all _ _ c.self.inside.flags.items now.cells count c.loop-place.place c.loop-place.row c.loop-place.invariant end many
+    ∙ ap {B = Row} (λ n. shown_row (record { name = n; flags = c.self.inside.flags.items; cells = now.cells }))
+    (sym c.requires.named)
+    ∙ ap {B = Row} (λ fs. record { name = now.name; values = map shown_value now.cells; flags = fs })
+    (sym (columns-trimmed (2 * length now.cells) c.self.inside.flags.items))
+    ∙ ap {B = Row} (λ fs. shown_row (record { name = now.name; flags = fs; cells = now.cells }))
+    (ap (λ (t : RowTail). t.flags) c.self.view_is)
