@@ -12,7 +12,7 @@ use Rattle.crx_arcs.specs.meaning.Cells.{cell_text, value_in}
 use Rattle.crx_arcs.specs.ArcSteps.{arc_of_value, code_of_value, shown_value}
 use Rattle.crx_arcs.specs.Cells.{arc_at_place, code_at_place}
 use Rattle.crx_rinex.proofs.EachPlace.{each_place-more}
-use Rattle.crx_text.specs.meaning.Columns.{columns}
+use Rattle.crx_columns.specs.meaning.Columns.{columns}
 use Rattle.crx_text.specs.meaning.Numbers.{observation_text}
 use Rattle.crx_rinex.specs.meaning.Printing.{printed_cells}
 use Rattle.crx_rinex.proofs.Characters.{at}

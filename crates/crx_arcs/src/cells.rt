@@ -2,7 +2,7 @@
 
 ghost use Rattle.std.specs.Prelude.{◌≡◌, ◌≤◌, ◌<◌, ◌+◌, ◌++◌, ◌∷◌, [], ◌*◌, ◌^◌, None, Ok, Err, drop, length, slice_index_or, slice_set, map, take, OnOk, IfOk, IfErr, IfSome, IfNone, OnErr, OnSome, Some, Option};
 ghost use Rattle.std.specs.List.{flat_map};
-ghost use Rattle.crx_text.specs.meaning.Columns.{columns};
+ghost use Rattle.crx_columns.specs.meaning.Columns.{columns};
 ghost use Rattle.crx_rinex.specs.meaning.Printing.{printed_cells};
 ghost use Rattle.crx_text.specs.meaning.Numbers.{observation_text};
 ghost use Rattle.crx_lines.specs.declared.limits.TheConstants.{CELL_WIDTH};

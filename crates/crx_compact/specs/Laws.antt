@@ -2,9 +2,9 @@
 use Rattle.std.specs.Prelude.{◌≡◌, ◌≢◌, ℕ, ◌*◌, ◌≤◌, Bool, true, List, [], ◌∷◌, length, All, if◌then◌else◌, false, ◌||◌}
 use Rattle.std.specs.Prelude.{drop}
 use Rattle.std.specs.List.{list_all, AllByRecursion}
-use Rattle.crx_text.specs.meaning.Columns.{without_end_blanks}
-use Rattle.crx_text.specs.meaning.Texts.{text_difference, is_printable}
-use Rattle.crx_text.specs.Texts.{patched}
+use Rattle.crx_columns.specs.meaning.Columns.{without_end_blanks}
+use Rattle.crx_columns.specs.meaning.Texts.{text_difference, is_printable}
+use Rattle.crx_columns.specs.Texts.{patched}
 use Rattle.crx_text.specs.Codes.{IsPrintable}
 use Rattle.crx_rinex.specs.meaning.Observations.{Epoch}
 use Rattle.crx_rinex.specs.meaning.ObservationTypes.{Count}

@@ -4,8 +4,8 @@ use Rattle.std.specs.Prelude.{◌≡◌, ◌≤◌, ◌+◌, ◌*◌, ⊤, lengt
 use Rattle.std.specs.Prelude.{map, Option, Some, None, Result, Ok, Err, if◌then◌else◌, is_some, unwrap_or}
 use Rattle.std.specs.List.{AllByRecursion}
 use Rattle.std.specs.Option.{option_map}
-use Rattle.crx_text.specs.meaning.Columns.{columns}
-use Rattle.crx_text.specs.Texts.{patched}
+use Rattle.crx_columns.specs.meaning.Columns.{columns}
+use Rattle.crx_columns.specs.Texts.{patched}
 use Rattle.crx_lines.specs.meaning.Seen.{ReadLine, Content, Overlong}
 use Rattle.crx_lines.specs.declared.limits.TheConstants.{HEAD_WIDTH, NAME_WIDTH, ORDER_LIMIT, TYPES_LIMIT}
 use Rattle.crx_lines.specs.declared.limits.TheConstants.{SATELLITES_LIMIT}

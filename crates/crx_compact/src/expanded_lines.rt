@@ -5,7 +5,7 @@ ghost use Rattle.std.specs.Borrow.{sem};
 ghost use Rattle.std.specs.Io.BufRead.{Rests};
 ghost use Rattle.std.specs.Option.{option_copied};
 ghost use Rattle.crx_lines.specs.declared.limits.TheConstants.{HEAD_WIDTH, LINE_LIMIT};
-ghost use Rattle.crx_text.specs.meaning.Columns.{columns};
+ghost use Rattle.crx_columns.specs.meaning.Columns.{columns};
 ghost use Rattle.crx_rinex.specs.meaning.EpochLines.{epoch_count};
 ghost use Rattle.crx_rinex.specs.meaning.Printing.{lines_text, printed_epoch, printed_row};
 ghost use Rattle.crx_history.specs.ShownRows.{shown_epoch, shown_row};

@@ -5,7 +5,7 @@ use Rattle.std.proofs.Common.{sym, ◌∙◌, ap, subst, arith, append_assoc}
 use Rattle.std.proofs.lemmas.List.{drop-append-le, drop-drop, drop-take, drop_more, take-append-le, take-take}
 use Rattle.std.proofs.lemmas.List.{length-append, length-drop, length-take-le}
 use Rattle.std.proofs.Math.ListN.{drop_of_length-le}
-use Rattle.crx_text.proofs.WrittenTexts.{counted-line, line-ended}
+use Rattle.crx_columns.proofs.WrittenTexts.{counted-line, line-ended}
 use Rattle.crx_history.specs.LineLists.{cut, lines_text, AreCut}
 
 -- the first of some lines ends within the text, and the others are its rest

@@ -5,9 +5,9 @@ use Rattle.std.specs.Prelude.{OnErr, OnOk, if◌then◌else◌, ◌<◌, slice_s
 use Rattle.std.specs.List.{list_all}
 use Rattle.std.proofs.Common.{sym, ◌∙◌, ap, arith}
 use Rattle.std.proofs.lemmas.List.{length-drop, length-map, take_more_set}
-use Rattle.crx_text.specs.meaning.Columns.{columns, is_blank, without_end_blanks}
-use Rattle.crx_text.specs.meaning.Texts.{by_position, is_printable, is_kept}
-use Rattle.crx_text.specs.Texts.{character_of, patched}
+use Rattle.crx_columns.specs.meaning.Columns.{columns, is_blank, without_end_blanks}
+use Rattle.crx_columns.specs.meaning.Texts.{by_position, is_printable, is_kept}
+use Rattle.crx_columns.specs.Texts.{character_of, patched}
 use Rattle.crx_text.specs.declared.code.Code.{Code}
 use Rattle.crx_text.specs.declared.code.Code.TheVariants.{Missing}
 use Rattle.crx_lines.specs.declared.limits.TheConstants.{OBSERVATION_WIDTH}

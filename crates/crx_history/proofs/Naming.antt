@@ -8,7 +8,7 @@ use Rattle.crx_rinex.specs.meaning.EachPlace.{each_place}
 use Rattle.crx_rinex.proofs.EachPlace.{drop-each_place, each_place-more}
 use Rattle.crx_rinex.proofs.Apart.{among-map}
 use Rattle.crx_rinex.specs.meaning.Epochs.{is_among}
-use Rattle.crx_text.specs.meaning.Columns.{columns}
+use Rattle.crx_columns.specs.meaning.Columns.{columns}
 use Rattle.crx_lines.specs.declared.fault.Fault.{Fault}
 use Rattle.crx_lines.specs.declared.fault.Fault.TheVariants.{BadSatellite, RepeatedSatellite}
 use Rattle.crx_rinex.specs.meaning.ObservationTypes.{Count}

@@ -7,7 +7,7 @@ use Rattle.std.proofs.lemmas.List.{drop-drop, length-map}
 use Rattle.crx_lines.specs.declared.limits.TheConstants.{HEAD_WIDTH, NAME_WIDTH}
 use Rattle.crx_lines.specs.declared.fault.Fault.{Fault}
 use Rattle.crx_lines.specs.declared.fault.Fault.TheVariants.{BadEpoch}
-use Rattle.crx_text.specs.meaning.Columns.{columns, is_blank}
+use Rattle.crx_columns.specs.meaning.Columns.{columns, is_blank}
 use Rattle.crx_rinex.specs.meaning.ObservationTypes.{Count}
 use Rattle.crx_rinex.specs.meaning.EachPlace.{each_place}
 use Rattle.crx_rinex.specs.meaning.EpochLines.{epoch_count}

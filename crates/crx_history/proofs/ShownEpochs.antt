@@ -21,7 +21,7 @@ use Rattle.crx_arcs.proofs.PlaceByPlace.{value-there}
 use Rattle.crx_history.proofs.EpochLines.{announced}
 use Rattle.std.specs.Option.{option_map}
 use Rattle.std.proofs.lemmas.Simd.{map-map}
-use Rattle.crx_text.specs.meaning.Columns.{columns}
+use Rattle.crx_columns.specs.meaning.Columns.{columns}
 use Rattle.crx_lines.specs.declared.limits.TheConstants.{HEAD_WIDTH}
 use Rattle.crx_rinex.specs.meaning.Printing.{printed_row}
 use Rattle.crx_history.specs.ShownRows.{shown_epoch, shown_row}

@@ -7,12 +7,12 @@ use Rattle.std.proofs.lemmas.Bool.{and_parts}
 use Rattle.std.proofs.Common.{ap, arith, inl, inr, length-append, ◌∙◌, sym}
 use Rattle.crx_lines.specs.declared.limits.TheConstants.{LINE_LIMIT}
 use Rattle.std.specs.Prelude.{◌<◌, ◌+◌, ◌-◌, ◌++◌, ◌⊎◌, replicate}
-use Rattle.crx_text.specs.Texts.{character_of, patched}
+use Rattle.crx_columns.specs.Texts.{character_of, patched}
 use Rattle.crx_rinex.specs.meaning.ObservationTypes.{IsAllowedCount}
 use Rattle.crx_rinex.proofs.SoundEpochs.{length-columns}
 use Rattle.crx_arcs.proofs.PlaceByPlace.{at-padded, at-take}
 use Rattle.crx_history.proofs.Characters.{at-take_past, within-or_past}
-use Rattle.crx_text.specs.meaning.Columns.{character_at, columns, is_blank, without_end_blanks, before_end_blanks}
+use Rattle.crx_columns.specs.meaning.Columns.{character_at, columns, is_blank, without_end_blanks, before_end_blanks}
 use Rattle.crx_rinex.specs.meaning.Observations.{Row, Epoch}
 use Rattle.crx_rinex.specs.meaning.EpochLines.{ObservationHead, IsObservationHead, begins_epoch, is_observation_flag}
 use Rattle.crx_rinex.specs.meaning.EpochLines.{satellites_in}
@@ -23,10 +23,10 @@ use Rattle.crx_history.specs.meaning.Compaction.{epoch_text}
 use Rattle.crx_history.specs.Steps.{flags_held}
 use Rattle.crx_history.proofs.Characters.{if_some, list_all-append, list_all-at}
 use Rattle.crx_history.proofs.Characters.{at-by_position, same_characters}
-use Rattle.crx_text.specs.meaning.Texts.{by_position, mark_of, text_difference, is_kept}
+use Rattle.crx_columns.specs.meaning.Texts.{by_position, mark_of, text_difference, is_kept}
 use Rattle.crx_history.proofs.Characters.{length-is, name-kept}
 use Rattle.crx_rinex.proofs.Characters.{at, at-without_end_blanks, columns-are, list_all-from_at}
-use Rattle.crx_text.proofs.EndBlanks.{few_kept}
+use Rattle.crx_columns.proofs.EndBlanks.{few_kept}
 
 abbrev names : List Row → List ℕ
 names rows = flat_map (λ (r : Row). r.name) rows

@@ -1,6 +1,6 @@
 -- Beside meaning/Expansion: what code and proofs see of it.
 use Rattle.std.specs.Prelude.{ℕ, ◌*◌, ℤ, List, ◌∷◌, map, length, Option, Result, Ok, [], Err}
-use Rattle.crx_text.specs.meaning.Columns.{columns}
+use Rattle.crx_columns.specs.meaning.Columns.{columns}
 use Rattle.crx_rinex.specs.meaning.Observations.{Row, Epoch}
 use Rattle.crx_lines.specs.declared.fault.Fault.{Fault}
 use Rattle.crx_lines.specs.declared.limits.TheConstants.{OBSERVATION_WIDTH, CLOCK_WIDTH, HEAD_WIDTH}

@@ -6,9 +6,9 @@ use Rattle.crx_lines.specs.declared.limits.TheConstants.{LINE_LIMIT, OBSERVATION
 use Rattle.crx_rinex.specs.meaning.ObservationTypes.{IsAllowedCount}
 use Rattle.crx_rinex.specs.meaning.SatelliteLines.{is_identifier}
 use Rattle.crx_history.specs.meaning.EpochText.{Satellite}
-use Rattle.crx_text.specs.meaning.Texts.{is_kept}
+use Rattle.crx_columns.specs.meaning.Texts.{is_kept}
 use Rattle.crx_rinex.specs.meaning.Epochs.{are_apart}
-use Rattle.crx_text.specs.Texts.{patched}
+use Rattle.crx_columns.specs.Texts.{patched}
 use Rattle.crx_lines.specs.declared.fault.Fault.{Fault}
 use Rattle.crx_arcs.specs.meaning.Sequences.{and_then}
 use Rattle.crx_history.specs.meaning.Past.{Past}

@@ -1,7 +1,7 @@
 -- Tails: what later epochs need of the earlier ones, for codes, marks and values. Comments of code call it the history.
 use Rattle.std.specs.Prelude.{◌≡◌, ℕ, List, [], ◌∷◌, map, length, Option, Some, None, ◌≤◌, ◌+◌, ◌*◌, IfSome}
 use Rattle.std.specs.List.{AllByRecursion}
-use Rattle.crx_text.specs.meaning.Columns.{without_end_blanks}
+use Rattle.crx_columns.specs.meaning.Columns.{without_end_blanks}
 use Rattle.crx_rinex.specs.meaning.Observations.{Row}
 use Rattle.crx_lines.specs.declared.limits.TheConstants.{WRITTEN_ORDER, TYPES_LIMIT, SATELLITES_LIMIT, HEAD_WIDTH}
 use Rattle.crx_lines.specs.declared.limits.TheConstants.{NAME_WIDTH}

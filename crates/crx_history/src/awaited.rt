@@ -2,7 +2,7 @@
 
 ghost use Rattle.std.specs.Bool.{OnTrue};
 ghost use Rattle.std.specs.Prelude.{◌≡◌, ◌≤◌, ◌⊎◌, ◌+◌, ◌++◌, ◌∷◌, [], true, false, Some, Ok, Err, drop, length, slice_get, take, map, OnOk, IfErr};
-ghost use Rattle.crx_text.specs.meaning.Columns.{columns};
+ghost use Rattle.crx_columns.specs.meaning.Columns.{columns};
 ghost use Rattle.crx_lines.specs.declared.limits.TheConstants.{HEAD_WIDTH, LINE_LIMIT, SATELLITES_LIMIT};
 ghost use Rattle.crx_rinex.specs.meaning.EpochLines.{epoch_count};
 ghost use Rattle.crx_rinex.specs.meaning.ObservationTypes.{IsAllowedCount};

@@ -2,17 +2,17 @@
 
 ghost use Rattle.std.specs.Prelude.{◌≡◌, ◌≤◌, ◌<◌, ◌+◌, ◌-◌, replicate, OnErr, ◌++◌, ◌∷◌, ◌⊎◌, ◌*◌, [], None, Ok, Err, true, false, length, take, OnOk, IfOk, IfErr};
 ghost use Rattle.std.specs.List.{flat_map, list_all};
-ghost use Rattle.crx_text.specs.meaning.Texts.{is_kept};
+ghost use Rattle.crx_columns.specs.meaning.Texts.{is_kept};
 ghost use Rattle.std.specs.Result.{is_ok};
 ghost use Rattle.crx_rinex.specs.meaning.EpochLines.{begins_epoch};
 ghost use Rattle.crx_text.specs.meaning.Codes.{code_text};
 ghost use Rattle.crx_text.specs.Codes.{IsPrintable};
-ghost use Rattle.crx_text.specs.meaning.Texts.{text_difference};
-ghost use Rattle.crx_text.specs.Texts.{patched};
+ghost use Rattle.crx_columns.specs.meaning.Texts.{text_difference};
+ghost use Rattle.crx_columns.specs.Texts.{patched};
 ghost use Rattle.crx_lines.specs.declared.limits.TheConstants.{CELL_WIDTH, LINE_LIMIT, NAME_WIDTH, TYPES_LIMIT};
 ghost use Rattle.crx_arcs.specs.declared.cells.TheConstants.{CELL_ROOM};
 ghost use Rattle.std.specs.Option.{option_copied};
-ghost use Rattle.crx_text.specs.meaning.Columns.{columns, without_end_blanks};
+ghost use Rattle.crx_columns.specs.meaning.Columns.{columns, without_end_blanks};
 ghost use Rattle.crx_rinex.specs.meaning.Printing.{printed_row};
 ghost use Rattle.crx_history.specs.ShownRows.{shown_row};
 ghost use Rattle.crx_arcs.specs.Cells.{arcs_of_row, codes_of_row};
@@ -156,7 +156,7 @@ pub struct HeldSatellite {
 impl Model for HeldSatellite {
     ghost use Rattle.std.specs.Prelude.{◌≡◌, ◌≤◌, ◌*◌, length};
     ghost use Rattle.crx_lines.specs.declared.limits.TheConstants.{TYPES_LIMIT};
-    ghost use Rattle.crx_text.specs.meaning.Columns.{without_end_blanks};
+    ghost use Rattle.crx_columns.specs.meaning.Columns.{without_end_blanks};
     ghost use Rattle.crx_history.specs.Tails.{RowTail};
     ghost use Rattle.crx_history.specs.HeldRows.{AreHeldFlags};
 

@@ -5,7 +5,7 @@ ghost use Rattle.std.specs.Borrow.{sem};
 ghost use Rattle.std.specs.Io.BufRead.{Rests};
 ghost use Rattle.std.specs.Option.{option_copied};
 ghost use Rattle.crx_lines.specs.declared.limits.TheConstants.{LINE_LIMIT};
-ghost use Rattle.crx_text.specs.meaning.Columns.{without_end_blanks};
+ghost use Rattle.crx_columns.specs.meaning.Columns.{without_end_blanks};
 ghost use Rattle.crx_arcs.specs.Cells.{arcs_of_row, codes_of_row};
 ghost use Rattle.crx_history.specs.meaning.Compaction.{line_of_codes};
 ghost use Rattle.crx_history.specs.LineLists.{lines_text};

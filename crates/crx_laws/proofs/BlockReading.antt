@@ -5,7 +5,7 @@ use Rattle.std.proofs.Common.{◌++◌, length, drop, refl, ap, sym, ◌∙◌, 
 use Rattle.std.specs.Prelude.{⊤, ◌&&◌, ◌==◌}
 use Rattle.std.specs.List.{AllByRecursion}
 use Rattle.std.proofs.lemmas.List.{length-drop}
-use Rattle.crx_text.specs.meaning.Columns.{character_at}
+use Rattle.crx_columns.specs.meaning.Columns.{character_at}
 use Rattle.crx_lines.specs.meaning.Seen.{ReadLine, Content, Overlong}
 use Rattle.crx_lines.specs.declared.fault.At.{At}
 use Rattle.crx_lines.specs.declared.fault.Fault.{Fault}

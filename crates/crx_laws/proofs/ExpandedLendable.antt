@@ -36,7 +36,7 @@ use Rattle.crx_engine.proofs.reading.Resuming.{by_bool, by_place, within-here, w
 use Rattle.crx_engine.proofs.reading.Resuming.{fault-skipped, fault-ends, looked-here, looked-on}
 use Rattle.crx_engine.proofs.reading.WhatWasRead.{compact-items-read}
 use Rattle.crx_engine.proofs.wayback.ExpandedWhole.{AreGoodEpochs, epochs-good}
-use Rattle.crx_text.proofs.EndBlanks.{few_kept}
+use Rattle.crx_columns.proofs.EndBlanks.{few_kept}
 
 -- ---- lines that are copied are lines that were read
 

@@ -5,7 +5,7 @@ use Rattle.std.proofs.Common.{length, Option, refl, ap, sym, ◌∙◌, arith, l
 use Rattle.std.specs.Prelude.{◌&&◌, ◌||◌}
 use Rattle.std.proofs.lemmas.List.{map-append, length-map}
 use Rattle.std.proofs.lemmas.Bool.{and_parts}
-use Rattle.crx_text.specs.meaning.Columns.{character_at}
+use Rattle.crx_columns.specs.meaning.Columns.{character_at}
 use Rattle.crx_lines.specs.meaning.Seen.{ReadLine, Content}
 use Rattle.crx_rinex.specs.meaning.Observations.{Epoch}
 use Rattle.crx_rinex.specs.meaning.EpochLines.{begins_epoch, is_event_flag, is_event_line}

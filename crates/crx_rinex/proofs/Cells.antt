@@ -9,11 +9,11 @@ use Rattle.std.specs.Prelude.{slice_set}
 use Rattle.std.proofs.lemmas.List.{take_more_set, length-set, take_at, take-append-le, drop_all, length-drop, take-take}
 use Rattle.std.proofs.lemmas.List.{length-append, length-replicate, append_assoc}
 use Rattle.std.proofs.lemmas.Option.{option_and_then_some, same_Some, none-some}
-use Rattle.crx_text.specs.meaning.Columns.{character_at, columns}
+use Rattle.crx_columns.specs.meaning.Columns.{character_at, columns}
 use Rattle.crx_rinex.specs.meaning.EachPlace.{each_place}
 use Rattle.crx_rinex.specs.meaning.Observations.{Row}
 use Rattle.crx_text.specs.meaning.Numbers.{observation_of, number_of}
-use Rattle.crx_text.specs.meaning.Texts.{is_kept}
+use Rattle.crx_columns.specs.meaning.Texts.{is_kept}
 use Rattle.crx_rinex.specs.meaning.ObservationTypes.{is_system, IsAllowedCount}
 use Rattle.crx_rinex.specs.meaning.SatelliteLines.{all_some, values_in, flags_at, flags_in, field, has_number}
 use Rattle.crx_rinex.specs.meaning.SatelliteLines.{is_identifier, IsSoundRow, IsValue}

@@ -4,7 +4,7 @@ use Rattle.std.specs.Prelude.{◌≡◌, refl, ℕ, zero, suc, ◌+◌, ◌-◌,
 use Rattle.std.specs.Prelude.{length, take, drop, replicate, slice_index_or}
 use Rattle.std.specs.List.{list_all}
 use Rattle.std.proofs.Common.{sym, ◌∙◌, ap, arith, not-suc-le-zero}
-use Rattle.crx_text.specs.meaning.Columns.{before_end_blanks, without_end_blanks, columns}
+use Rattle.crx_columns.specs.meaning.Columns.{before_end_blanks, without_end_blanks, columns}
 
 -- the character at a position, from 0
 abbrev pub at : List ℕ → ℕ → ℕ

@@ -16,7 +16,7 @@ use Rattle.crx_rinex.specs.meaning.ObservationTypes.{types_of, is_types_line, co
 use Rattle.crx_rinex.specs.ObservationTypes.{AreCounts, IsCount, letters_differ, with_count, after_count, with_line}
 use Rattle.crx_lines.specs.declared.limits.TheConstants.{TYPES_LIMIT}
 use Rattle.crx_rinex.specs.meaning.Label.{number_in}
-use Rattle.crx_text.specs.meaning.Columns.{character_at, columns}
+use Rattle.crx_columns.specs.meaning.Columns.{character_at, columns}
 use Rattle.std.proofs.lemmas.Option.{cond_some, option_and_then_some, none-some, same_Some}
 
 same_test : (a b : ℕ) → eqb a b ≡ eqb b a

@@ -5,8 +5,8 @@ use Rattle.std.specs.Prelude.{ℤ, drop}
 use Rattle.std.specs.List.{list_all}
 use Rattle.std.specs.Result.{is_ok}
 use Rattle.std.proofs.lemmas.Bool.{false≢true}
-use Rattle.crx_text.specs.meaning.Columns.{columns, is_blank}
-use Rattle.crx_text.specs.meaning.Texts.{is_kept}
+use Rattle.crx_columns.specs.meaning.Columns.{columns, is_blank}
+use Rattle.crx_columns.specs.meaning.Texts.{is_kept}
 use Rattle.crx_lines.specs.declared.fault.Fault.{Fault}
 use Rattle.crx_lines.specs.declared.fault.Fault.TheVariants.{BadField, BadFlags, RepeatedSatellite}
 use Rattle.crx_lines.specs.declared.limits.TheConstants.{CELL_WIDTH, NAME_WIDTH}

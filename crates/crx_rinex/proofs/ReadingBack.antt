@@ -11,14 +11,14 @@ use Rattle.std.proofs.lemmas.Bool.Decides.{eqb_tells}
 use Rattle.std.proofs.lemmas.List.Elements.{All-head, All-tail}
 use Rattle.std.proofs.lemmas.List.Folds.{list_any-append}
 use Rattle.std.proofs.lemmas.Option.{none-some}
-use Rattle.crx_text.specs.meaning.Columns.{character_at, columns, is_blank, without_first_blanks}
+use Rattle.crx_columns.specs.meaning.Columns.{character_at, columns, is_blank, without_first_blanks}
 use Rattle.crx_text.specs.meaning.Numbers.{number_of, missing_or_number, observation_of, observation_text, clock_of}
 use Rattle.crx_text.specs.meaning.Numbers.{clock_text, IsWithin}
 use Rattle.crx_lines.specs.meaning.Seen.{ReadLine, Content}
 use Rattle.crx_lines.specs.declared.limits.TheConstants.{OBSERVATION_WIDTH, OBSERVATION_DECIMALS, CLOCK_WIDTH}
 use Rattle.crx_lines.specs.declared.limits.TheConstants.{CLOCK_DECIMALS}
 use Rattle.crx_text.proofs.ReadBack.{number_of-number_text}
-use Rattle.crx_text.specs.meaning.Texts.{is_kept}
+use Rattle.crx_columns.specs.meaning.Texts.{is_kept}
 use Rattle.crx_rinex.specs.meaning.Observations.{Row, Epoch}
 use Rattle.crx_rinex.specs.meaning.ObservationTypes.{Count, is_system}
 use Rattle.crx_rinex.specs.meaning.EpochLines.{EpochHead, ObservationHead, IsObservationHead, IsClockOffset}

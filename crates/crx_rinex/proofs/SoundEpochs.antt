@@ -8,14 +8,14 @@ use Rattle.std.proofs.lemmas.Bool.{and_from}
 use Rattle.std.proofs.lemmas.List.{length_push, length-append, length-take, length-replicate}
 use Rattle.std.proofs.lemmas.List.Elements.{All-cons, All-nil, All-push}
 use Rattle.std.proofs.lemmas.Option.{option_and_then_some, same_Some, none-some}
-use Rattle.crx_text.specs.meaning.Columns.{character_at, columns, is_blank}
+use Rattle.crx_columns.specs.meaning.Columns.{character_at, columns, is_blank}
 use Rattle.crx_text.specs.meaning.Numbers.{observation_of, clock_of}
 use Rattle.crx_lines.specs.meaning.Seen.{ReadLine, Content, Overlong}
 use Rattle.crx_lines.specs.declared.fault.Fault.{Fault}
 use Rattle.crx_lines.specs.declared.fault.Fault.TheVariants.{NotAnEpoch, BadEpoch, RepeatedSatellite, BadField}
 use Rattle.crx_lines.specs.declared.fault.Fault.TheVariants.{BadFlags, Truncated}
 use Rattle.crx_lines.specs.declared.limits.TheConstants.{SATELLITES_LIMIT}
-use Rattle.crx_text.specs.meaning.Texts.{is_kept}
+use Rattle.crx_columns.specs.meaning.Texts.{is_kept}
 use Rattle.crx_rinex.specs.meaning.ObservationTypes.{Count, IsAllowedCount, is_system, count_of}
 use Rattle.crx_rinex.specs.ObservationTypes.{AreCounts}
 use Rattle.crx_rinex.specs.meaning.Observations.{Row, Epoch}

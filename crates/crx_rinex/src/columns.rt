@@ -3,7 +3,7 @@
 
 ghost use Rattle.std.specs.Prelude.{◌≡◌, ◌≤◌, ◌<◌, ◌+◌, ◌++◌, length, take, IfSome};
 ghost use Rattle.crx_lines.specs.declared.limits.TheConstants.{LINE_LIMIT, NAME_WIDTH};
-ghost use Rattle.crx_text.specs.meaning.Columns.{columns};
+ghost use Rattle.crx_columns.specs.meaning.Columns.{columns};
 ghost use Rattle.crx_rinex.specs.meaning.Label.{has_label, number_in, number_of_digits};
 
 use crx_lines::limits::NAME_WIDTH;

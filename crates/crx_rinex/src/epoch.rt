@@ -5,7 +5,7 @@ ghost use Rattle.std.specs.Bool.{OnFalse, OnTrue};
 ghost use Rattle.std.specs.List.{sum_by};
 ghost use Rattle.std.specs.Option.{option_copied};
 ghost use Rattle.std.specs.Result.{is_ok};
-ghost use Rattle.crx_text.specs.meaning.Columns.{columns};
+ghost use Rattle.crx_columns.specs.meaning.Columns.{columns};
 ghost use Rattle.crx_lines.specs.declared.limits.TheConstants.{NAME_WIDTH, SATELLITES_LIMIT, TYPES_LIMIT};
 ghost use Rattle.crx_rinex.specs.meaning.EpochLines.{satellites_of, IsObservationHead};
 ghost use Rattle.crx_rinex.specs.Epochs.{begun, is_full_epoch, with_row, AddsRow};

@@ -3,10 +3,10 @@
 ghost use Rattle.std.specs.Prelude.{◌≡◌, ◌≤◌, None, Some, Ok, Err, IfSome, MatchResult};
 ghost use Rattle.std.specs.List.{list_all};
 ghost use Rattle.std.specs.Option.{ForSome};
-ghost use Rattle.crx_text.specs.meaning.Columns.{columns};
+ghost use Rattle.crx_columns.specs.meaning.Columns.{columns};
 ghost use Rattle.crx_text.specs.Numbers.{IsClock};
 ghost use Rattle.crx_lines.specs.declared.limits.TheConstants.{HEAD_WIDTH};
-ghost use Rattle.crx_text.specs.meaning.Texts.{is_kept};
+ghost use Rattle.crx_columns.specs.meaning.Texts.{is_kept};
 ghost use Rattle.crx_rinex.specs.meaning.EpochLines.{head_of, begins_epoch, epoch_count, epoch_head, is_event_flag, is_event_line, is_observation_flag, records_in, satellites_in, EpochHead, IsObservationHead};
 ghost use Rattle.crx_rinex.specs.Heads.{head_line};
 

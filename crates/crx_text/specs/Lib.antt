@@ -4,4 +4,3 @@ pub mod FirstDigits
 pub mod FieldTexts
 pub mod Fields
 pub mod Numbers
-pub mod Texts

@@ -9,7 +9,7 @@ use crate::digits::{
     split_minus, write_signed,
 };
 use crate::number::BadField;
-use crate::text::{Text, TextFull};
+use crx_columns::text::{Text, TextFull};
 use crx_lines::limits::{DIGITS_LIMIT, LINE_LIMIT, ORDER_LIMIT};
 
 /// What stands for a value in compact text.

@@ -14,7 +14,7 @@ ghost use Rattle.crx_text.specs.Codes.{counted_digits};
 ghost use Rattle.crx_text.specs.FirstDigits.{HasFirstDigits, above_zero, is_below_ten, written};
 ghost use Rattle.crx_lines.specs.declared.limits.TheConstants.{DIGITS_LIMIT};
 
-use crate::copies::copy_text;
+use crx_columns::copies::copy_text;
 use crx_lines::limits::DIGITS_LIMIT;
 use std::simd::prelude::*;
 

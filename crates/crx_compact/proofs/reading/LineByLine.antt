@@ -4,8 +4,8 @@ use Rattle.std.specs.Prelude.{Err, unwrap_or}
 use Rattle.std.specs.Option.{option_map, is_some}
 use Rattle.std.proofs.Common.{sym, ◌∙◌, ap, arith, true≢false}
 use Rattle.std.proofs.lemmas.List.{append_assoc, append-nil}
-use Rattle.crx_text.specs.meaning.Columns.{columns}
-use Rattle.crx_text.specs.Texts.{patched}
+use Rattle.crx_columns.specs.meaning.Columns.{columns}
+use Rattle.crx_columns.specs.Texts.{patched}
 use Rattle.crx_lines.specs.meaning.Seen.{ReadLine, Content, Overlong}
 use Rattle.crx_lines.specs.declared.fault.Fault.{Fault}
 use Rattle.crx_lines.specs.declared.fault.Fault.TheVariants.{LineTooLong}

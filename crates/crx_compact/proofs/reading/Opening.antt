@@ -32,7 +32,7 @@ use Rattle.crx_history.specs.ShownRows.{shown_epoch, shown_row}
 use Rattle.crx_compact.proofs.reading.StepsByCode.{row-ok, row-err}
 use Rattle.crx_history.proofs.Marks.{cells-count, texts-count}
 use Rattle.std.proofs.Math.ListN.{drop_of_length-le}
-use Rattle.crx_text.specs.meaning.Columns.{columns}
+use Rattle.crx_columns.specs.meaning.Columns.{columns}
 use Rattle.crx_lines.specs.declared.limits.TheConstants.{HEAD_WIDTH}
 use Rattle.crx_rinex.specs.meaning.Observations.{Row, Epoch}
 use Rattle.crx_rinex.specs.meaning.ObservationTypes.{Count}

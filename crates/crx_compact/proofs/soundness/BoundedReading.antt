@@ -10,10 +10,10 @@ use Rattle.std.proofs.Common.{sym, ◌∙◌, ap, subst, arith}
 use Rattle.std.proofs.lemmas.Bool.{leb-true, and_parts}
 use Rattle.std.proofs.lemmas.List.{length-map, length-append, length-take}
 use Rattle.crx_rinex.proofs.SoundEpochs.{length-columns}
-use Rattle.crx_text.specs.meaning.Columns.{is_blank, character_at, before_end_blanks, without_end_blanks, columns}
+use Rattle.crx_columns.specs.meaning.Columns.{is_blank, character_at, before_end_blanks, without_end_blanks, columns}
 use Rattle.crx_text.specs.meaning.Codes.{code_of, start_of, step_of, coded_number, is_order}
-use Rattle.crx_text.specs.Texts.{patched, character_of}
-use Rattle.crx_text.specs.meaning.Texts.{by_position}
+use Rattle.crx_columns.specs.Texts.{patched, character_of}
+use Rattle.crx_columns.specs.meaning.Texts.{by_position}
 use Rattle.crx_lines.specs.meaning.Seen.{ReadLine, Content, Overlong}
 use Rattle.crx_text.specs.declared.code.Code.{Code}
 use Rattle.crx_text.specs.declared.code.Code.TheVariants.{Missing, Start, Step}

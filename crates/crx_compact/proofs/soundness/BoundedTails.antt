@@ -3,7 +3,7 @@ use Rattle.std.specs.Prelude.{◌≡◌, ℕ, suc, ◌+◌, ◌-◌, ◌*◌, �
 use Rattle.std.specs.List.{AllByRecursion}
 use Rattle.std.proofs.Common.{arith}
 use Rattle.std.proofs.lemmas.List.{length-map}
-use Rattle.crx_text.specs.meaning.Columns.{without_end_blanks}
+use Rattle.crx_columns.specs.meaning.Columns.{without_end_blanks}
 use Rattle.crx_lines.specs.declared.limits.TheConstants.{WRITTEN_ORDER, SATELLITES_LIMIT}
 use Rattle.crx_rinex.specs.meaning.Observations.{Row}
 use Rattle.crx_rinex.specs.meaning.ObservationTypes.{Count}
@@ -16,7 +16,7 @@ use Rattle.crx_compact.specs.Laws.{WrittenAreBounded}
 use Rattle.crx_rinex.proofs.EachPlace.{each_place-all, length-each_place}
 use Rattle.crx_compact.proofs.wayback.Lengths.{few-satellites, text-short}
 use Rattle.crx_compact.proofs.wayback.Writable.{IsTypedRow, sound-name, typed-rows}
-use Rattle.crx_text.proofs.EndBlanks.{few_kept}
+use Rattle.crx_columns.proofs.EndBlanks.{few_kept}
 
 pub arc-bounded : (order : ℕ) (values : List ℤ) → IfSome (arc_tail order values) (IsBoundedArc order)
 arc-bounded order [] = tt

@@ -8,7 +8,7 @@ use Rattle.std.proofs.Common.{sym, ◌∙◌, ap, subst, arith, true≢false}
 use Rattle.std.proofs.lemmas.List.{length-map}
 use Rattle.std.proofs.lemmas.List.Elements.{All-from_recursion}
 use Rattle.std.proofs.lemmas.Bool.{and_parts, and_from}
-use Rattle.crx_text.specs.meaning.Columns.{columns, character_at, is_blank}
+use Rattle.crx_columns.specs.meaning.Columns.{columns, character_at, is_blank}
 use Rattle.crx_text.specs.meaning.Codes.{code_of}
 use Rattle.crx_text.specs.meaning.Numbers.{IsMissingOrWithin}
 use Rattle.crx_rinex.specs.meaning.Observations.{Row}
@@ -25,7 +25,7 @@ use Rattle.crx_text.specs.declared.code.Code.TheVariants.{Missing, Start, Step}
 use Rattle.crx_lines.specs.declared.fault.Fault.{Fault}
 use Rattle.crx_lines.specs.declared.fault.Fault.TheVariants.{BadField, NoArc, OutOfRange}
 use Rattle.crx_lines.specs.declared.limits.TheConstants.{OBSERVATION_WIDTH, CLOCK_WIDTH}
-use Rattle.crx_text.specs.meaning.Texts.{is_kept, is_printable}
+use Rattle.crx_columns.specs.meaning.Texts.{is_kept, is_printable}
 use Rattle.crx_arcs.specs.meaning.Sequences.{stretch, before_all}
 use Rattle.crx_arcs.specs.meaning.Differences.{value_at}
 use Rattle.crx_history.specs.meaning.EpochText.{names_in, Satellite}

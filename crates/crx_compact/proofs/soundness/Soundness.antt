@@ -4,7 +4,7 @@ use Rattle.std.specs.Prelude.{slice_index_or, drop, Option, Some, None, Result, 
 use Rattle.std.specs.List.{AllByRecursion}
 use Rattle.std.proofs.Common.{sym, ◌∙◌, ap, subst, arith, true≢false}
 use Rattle.std.proofs.lemmas.List.{length-map}
-use Rattle.crx_text.specs.meaning.Columns.{columns, without_end_blanks}
+use Rattle.crx_columns.specs.meaning.Columns.{columns, without_end_blanks}
 use Rattle.crx_text.specs.meaning.Codes.{code_of}
 use Rattle.crx_lines.specs.meaning.Seen.{ReadLine, Content, Overlong}
 use Rattle.crx_rinex.specs.meaning.Observations.{Row, Epoch}

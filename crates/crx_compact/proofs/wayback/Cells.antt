@@ -5,7 +5,7 @@ use Rattle.std.specs.List.{list_all, AllByRecursion}
 use Rattle.std.proofs.Common.{sym, ◌∙◌, ap, arith}
 use Rattle.std.proofs.lemmas.List.{append_assoc}
 use Rattle.std.proofs.lemmas.Bool.{and_parts}
-use Rattle.crx_text.specs.meaning.Columns.{is_blank, before_end_blanks, without_end_blanks}
+use Rattle.crx_columns.specs.meaning.Columns.{is_blank, before_end_blanks, without_end_blanks}
 use Rattle.crx_text.specs.declared.code.Code.{Code}
 use Rattle.crx_text.specs.meaning.Codes.{code_text, first_cell, after_cell}
 use Rattle.crx_arcs.specs.meaning.Cells.{cell_text}

@@ -8,8 +8,8 @@ use Rattle.std.specs.Char.{is_ascii_digit}
 use Rattle.std.proofs.Common.{◌∙◌, ap, arith}
 use Rattle.std.proofs.lemmas.Fmt.{decimal_digit}
 use Rattle.crx_text.proofs.ReadBack.{decimal_is_digits}
-use Rattle.crx_text.specs.meaning.Columns.{is_blank}
-use Rattle.crx_text.specs.meaning.Texts.{is_printable}
+use Rattle.crx_columns.specs.meaning.Columns.{is_blank}
+use Rattle.crx_columns.specs.meaning.Texts.{is_printable}
 use Rattle.crx_text.specs.meaning.Codes.{code_text}
 use Rattle.crx_text.specs.Codes.{IsShort, IsPrintable}
 use Rattle.crx_text.specs.declared.code.Code.{Code}

@@ -3,7 +3,7 @@ use Rattle.std.specs.Prelude.{◌≡◌, refl, ℕ, ◌+◌, ◌-◌, ◌<◌, �
 use Rattle.std.specs.Prelude.{if◌then◌else◌}
 use Rattle.std.proofs.Common.{sym, ◌∙◌, ap, arith, inl, inr}
 use Rattle.crx_rinex.proofs.SoundEpochs.{length-columns}
-use Rattle.crx_text.specs.meaning.Columns.{columns, is_blank, without_end_blanks}
+use Rattle.crx_columns.specs.meaning.Columns.{columns, is_blank, without_end_blanks}
 use Rattle.crx_rinex.specs.meaning.EachPlace.{each_place}
 use Rattle.crx_history.specs.meaning.Expansion.{latest_mark, shown, longest, overlaid}
 use Rattle.crx_compact.proofs.wayback.Overlays.{at_past, at-longest, at-overlaid}

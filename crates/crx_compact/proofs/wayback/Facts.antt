@@ -5,8 +5,8 @@ use Rattle.std.specs.List.{list_all, AllByRecursion}
 use Rattle.std.proofs.Common.{sym, ◌∙◌, ap, arith, true≢false}
 use Rattle.std.proofs.lemmas.List.{length-append}
 use Rattle.std.proofs.lemmas.Bool.{and_parts}
-use Rattle.crx_text.specs.meaning.Columns.{character_at, without_end_blanks, columns}
-use Rattle.crx_text.specs.meaning.Texts.{text_difference, mark_of, by_position, is_kept, is_printable}
+use Rattle.crx_columns.specs.meaning.Columns.{character_at, without_end_blanks, columns}
+use Rattle.crx_columns.specs.meaning.Texts.{text_difference, mark_of, by_position, is_kept, is_printable}
 use Rattle.crx_rinex.specs.meaning.Observations.{Row, Epoch}
 use Rattle.crx_rinex.specs.meaning.Epochs.{has_satellite, are_different, IsWholeEpoch}
 use Rattle.crx_lines.specs.declared.fault.Fault.{Fault}

@@ -10,8 +10,8 @@ use Rattle.std.proofs.lemmas.Int.{ints}
 use Rattle.std.proofs.lemmas.Fmt.{length-decimal-le}
 use Rattle.std.proofs.lemmas.List.{length-append}
 use Rattle.std.proofs.Math.Nat.{pow-le-pow_right}
-use Rattle.crx_text.specs.meaning.Columns.{columns, without_end_blanks}
-use Rattle.crx_text.specs.meaning.Texts.{by_position, mark_of, text_difference}
+use Rattle.crx_columns.specs.meaning.Columns.{columns, without_end_blanks}
+use Rattle.crx_columns.specs.meaning.Texts.{by_position, mark_of, text_difference}
 use Rattle.crx_text.specs.meaning.Codes.{code_text}
 use Rattle.crx_rinex.specs.meaning.Observations.{Row, Epoch}
 use Rattle.crx_text.specs.declared.code.Code.{Code}
@@ -38,7 +38,7 @@ use Rattle.crx_arcs.proofs.arcs.Bounds.{ten-more}
 use Rattle.crx_compact.proofs.wayback.Runs.{marked}
 use Rattle.crx_compact.proofs.wayback.Rows.{IsRowOf, run-rows, values-fit, clocks-fit}
 use Rattle.crx_compact.proofs.wayback.Facts.{length-text, head_tests}
-use Rattle.crx_text.proofs.EndBlanks.{few_kept}
+use Rattle.crx_columns.proofs.EndBlanks.{few_kept}
 
 -- ---- numbers and codes
 

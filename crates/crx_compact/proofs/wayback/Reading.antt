@@ -5,7 +5,7 @@ use Rattle.std.specs.List.{list_all, AllByRecursion}
 use Rattle.std.proofs.Common.{sym, ◌∙◌, ap, subst, arith, true≢false, drop_of_length-le}
 use Rattle.std.proofs.lemmas.List.{length-map, length-append, append_assoc}
 use Rattle.std.proofs.lemmas.Bool.{and_parts}
-use Rattle.crx_text.specs.meaning.Columns.{is_blank, before_end_blanks, without_end_blanks, columns}
+use Rattle.crx_columns.specs.meaning.Columns.{is_blank, before_end_blanks, without_end_blanks, columns}
 use Rattle.crx_text.specs.meaning.Codes.{code_text, code_of}
 use Rattle.crx_text.specs.Codes.{IsPrintable}
 use Rattle.crx_lines.specs.meaning.Seen.{ReadLine, Content}
@@ -20,7 +20,7 @@ use Rattle.crx_arcs.specs.meaning.Sequences.{back_to, stretch, and_then}
 use Rattle.crx_arcs.specs.meaning.Differences.{code_at}
 use Rattle.crx_history.specs.meaning.Compaction.{Marked, epoch_text, row_named, since_full, run_of, clock_arc}
 use Rattle.crx_history.specs.meaning.Compaction.{newest_text, satellite_line, epoch_line, compact_epoch}
-use Rattle.crx_text.specs.meaning.Texts.{is_printable}
+use Rattle.crx_columns.specs.meaning.Texts.{is_printable}
 use Rattle.crx_rinex.specs.meaning.EpochLines.{begins_epoch, epoch_count}
 use Rattle.crx_history.specs.meaning.EpochText.{names_in, Satellite, satellites_named}
 use Rattle.crx_history.specs.meaning.Expansion.{RawEpoch, block_of, raw_run_of, overlaid}
@@ -38,7 +38,7 @@ use Rattle.crx_compact.specs.ReadingLaws.{ReadsBack}
 use Rattle.crx_compact.specs.Laws.{AreWhole}
 use Rattle.crx_compact.proofs.wayback.Writable.{head-counted, typed-rows}
 use Rattle.crx_text.proofs.CodeTexts.{code_of-code_text}
-use Rattle.crx_text.proofs.EndBlanks.{few_kept}
+use Rattle.crx_columns.proofs.EndBlanks.{few_kept}
 use Rattle.crx_compact.proofs.wayback.CodeTexts.{is_code_character, code-characters}
 use Rattle.crx_compact.proofs.wayback.Runs.{raw_block, marked, Begins, begins_full, begins_later, block-raws, raw_run}
 use Rattle.crx_compact.proofs.wayback.Runs.{runs-read, clocks-read, value-back, text-read, rows_before}

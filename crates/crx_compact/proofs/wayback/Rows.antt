@@ -12,8 +12,8 @@ use Rattle.std.proofs.lemmas.Bool.{and_parts, and_from}
 use Rattle.crx_text.specs.meaning.Numbers.{IsMissingOrWithin}
 use Rattle.crx_rinex.specs.meaning.EpochLines.{IsClockOffset, begins_epoch}
 use Rattle.crx_rinex.specs.meaning.SatelliteLines.{IsValue, types_of_satellite}
-use Rattle.crx_text.specs.meaning.Columns.{is_blank, without_end_blanks, columns}
-use Rattle.crx_text.specs.meaning.Texts.{text_difference, mark_of, by_position, is_printable}
+use Rattle.crx_columns.specs.meaning.Columns.{is_blank, without_end_blanks, columns}
+use Rattle.crx_columns.specs.meaning.Texts.{text_difference, mark_of, by_position, is_printable}
 use Rattle.crx_text.specs.meaning.Codes.{code_text, code_of}
 use Rattle.crx_text.specs.Codes.{IsPrintable}
 use Rattle.crx_rinex.specs.meaning.Observations.{Row, Epoch}

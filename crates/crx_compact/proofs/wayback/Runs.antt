@@ -6,9 +6,9 @@ use Rattle.std.specs.Option.{option_map}
 use Rattle.std.specs.Str.{bytes_eq}
 use Rattle.std.proofs.Common.{sym, ◌∙◌, ap, arith}
 use Rattle.std.proofs.lemmas.List.{get_or_past}
-use Rattle.crx_text.specs.meaning.Columns.{without_end_blanks}
-use Rattle.crx_text.specs.meaning.Texts.{text_difference, mark_of, by_position}
-use Rattle.crx_text.specs.Texts.{patched, character_of}
+use Rattle.crx_columns.specs.meaning.Columns.{without_end_blanks}
+use Rattle.crx_columns.specs.meaning.Texts.{text_difference, mark_of, by_position}
+use Rattle.crx_columns.specs.Texts.{patched, character_of}
 use Rattle.crx_rinex.specs.meaning.Observations.{Row, Epoch}
 use Rattle.crx_text.specs.declared.code.Code.{Code}
 use Rattle.crx_text.specs.declared.code.Code.TheVariants.{Missing}

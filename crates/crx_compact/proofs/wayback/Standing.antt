@@ -4,8 +4,8 @@ use Rattle.std.specs.Prelude.{if◌then◌else◌}
 use Rattle.std.specs.List.{list_all, AllByRecursion}
 use Rattle.std.proofs.Common.{◌∙◌, ap, arith}
 use Rattle.std.proofs.lemmas.Bool.{and_parts, and_from}
-use Rattle.crx_text.specs.meaning.Columns.{character_at, without_end_blanks}
-use Rattle.crx_text.specs.meaning.Texts.{text_difference, is_printable, mark_of, is_kept}
+use Rattle.crx_columns.specs.meaning.Columns.{character_at, without_end_blanks}
+use Rattle.crx_columns.specs.meaning.Texts.{text_difference, is_printable, mark_of, is_kept}
 use Rattle.crx_text.specs.meaning.Codes.{code_text}
 use Rattle.crx_text.specs.declared.code.Code.{Code}
 use Rattle.crx_lines.specs.declared.limits.TheConstants.{WRITTEN_ORDER}

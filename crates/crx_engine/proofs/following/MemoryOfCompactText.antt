@@ -15,7 +15,7 @@ use Rattle.crx_compact.specs.OpenEpochs.{open_raw_after, open_raw_with, opened_r
 use Rattle.crx_history.specs.HeldRows.{past_of_tail}
 use Rattle.crx_history.specs.Tails.{Tail}
 use Rattle.crx_arcs.specs.meaning.Sequences.{and_then}
-use Rattle.crx_text.specs.Texts.{patched}
+use Rattle.crx_columns.specs.Texts.{patched}
 use Rattle.crx_engine.specs.meaning.Choices.{Choices}
 use Rattle.crx_engine.specs.meaning.Items.{Item, types_in_force}
 use Rattle.crx_engine.specs.meaning.Memory.{expansion_takes, place_takes}

@@ -4,7 +4,7 @@ use Rattle.std.proofs.Common.{None, Result, Ok, Err, refl}
 use Rattle.std.specs.Prelude.{⊤, not}
 use Rattle.std.specs.List.{list_all, list_any}
 use Rattle.std.specs.Str.{bytes_eq}
-use Rattle.crx_text.specs.meaning.Columns.{columns, is_blank, without_end_blanks}
+use Rattle.crx_columns.specs.meaning.Columns.{columns, is_blank, without_end_blanks}
 use Rattle.crx_text.specs.meaning.Codes.{code_of}
 use Rattle.crx_lines.specs.meaning.Seen.{ReadLine, Content, Overlong}
 use Rattle.crx_text.specs.declared.code.Code.{Code}
@@ -26,7 +26,7 @@ use Rattle.crx_history.specs.meaning.CompactPlaces.{row_with_marks, row_of_line,
 use Rattle.crx_history.specs.meaning.CompactPlaces.{epoch_of_rows, epoch_after_line, epoch_at}
 use Rattle.crx_arcs.specs.meaning.Differences.{value_at}
 use Rattle.crx_history.specs.meaning.EpochText.{Satellite, satellite_before, satellites_named, names_in}
-use Rattle.crx_text.specs.meaning.Texts.{is_printable}
+use Rattle.crx_columns.specs.meaning.Texts.{is_printable}
 use Rattle.crx_history.specs.meaning.Expansion.{RawEpoch}
 use Rattle.crx_arcs.specs.meaning.ArcValues.{Started, is_within, value_since, value_of, since_start}
 use Rattle.crx_history.specs.meaning.Expansion.{block_of, code_in, raw_run_of}

@@ -1,7 +1,7 @@
 -- What the reading of an event's first line comes to.
 use Rattle.std.proofs.Common.{◌≡◌, ℕ, ◌&&◌, Bool, true, false, List, Option, Some, None, Result, Ok, Err, refl, sym, ap}
 use Rattle.std.proofs.Common.{◌∙◌, true≢false}
-use Rattle.crx_text.specs.meaning.Columns.{character_at}
+use Rattle.crx_columns.specs.meaning.Columns.{character_at}
 use Rattle.crx_lines.specs.declared.fault.Fault.{Fault}
 use Rattle.crx_lines.specs.declared.fault.Fault.TheVariants.{BadEpoch}
 use Rattle.crx_rinex.specs.meaning.EpochLines.{HeadLine, EventHead, EpochHead, event_head, head_of, begins_epoch}

@@ -7,7 +7,7 @@ use Rattle.crx_text.specs.meaning.Numbers.{clock_of}
 use Rattle.crx_lines.specs.declared.limits.TheConstants.{HEAD_WIDTH, CLOCK_WIDTH}
 use Rattle.std.specs.Option.{is_some}
 use Rattle.crx_lines.specs.meaning.Seen.{ReadLine, Content, Overlong}
-use Rattle.crx_text.specs.meaning.Columns.{columns, character_at, is_blank}
+use Rattle.crx_columns.specs.meaning.Columns.{columns, character_at, is_blank}
 use Rattle.crx_lines.specs.declared.fault.Fault.{Fault}
 use Rattle.crx_lines.specs.declared.fault.Fault.TheVariants.{NotAnEpoch, BadEpoch}
 use Rattle.crx_rinex.specs.meaning.Observations.{Epoch}

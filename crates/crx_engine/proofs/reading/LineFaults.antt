@@ -4,7 +4,7 @@ use Rattle.std.proofs.Common.{Some, None, Result, Ok, Err, refl}
 use Rattle.std.specs.Prelude.{⊤, ◌==◌, ◌&&◌, nat_lt, not}
 use Rattle.std.specs.List.{list_all}
 use Rattle.std.specs.Str.{bytes_eq}
-use Rattle.crx_text.specs.meaning.Columns.{columns, character_at, is_blank, without_blanks}
+use Rattle.crx_columns.specs.meaning.Columns.{columns, character_at, is_blank, without_blanks}
 use Rattle.crx_text.specs.meaning.Numbers.{clock_of}
 use Rattle.crx_lines.specs.meaning.Seen.{ReadLine, Content, Overlong}
 use Rattle.crx_lines.specs.declared.limits.TheConstants.{HEAD_WIDTH, NAME_WIDTH, CELL_WIDTH, CLOCK_WIDTH}
@@ -13,7 +13,7 @@ use Rattle.crx_lines.specs.declared.fault.Fault.TheVariants.{InputTooLong, ReadF
 use Rattle.crx_lines.specs.declared.fault.Fault.TheVariants.{MissingVersion, UnsupportedVersion, NotObservation}
 use Rattle.crx_lines.specs.declared.fault.Fault.TheVariants.{BadTypesLine, NotCompact, BadProgLine, NotAnEpoch}
 use Rattle.crx_lines.specs.declared.fault.Fault.TheVariants.{BadEpoch, RepeatedSatellite, BadField, BadFlags, Truncated}
-use Rattle.crx_text.specs.meaning.Texts.{is_kept}
+use Rattle.crx_columns.specs.meaning.Texts.{is_kept}
 use Rattle.crx_rinex.specs.meaning.Header.{is_supported, first_header_fault}
 use Rattle.crx_rinex.specs.declared.labels.TheConstants.{VERSION_LABEL}
 use Rattle.crx_rinex.specs.meaning.Label.{has_label}

@@ -5,7 +5,7 @@ use Rattle.std.proofs.lemmas.Bool.{and_from}
 use Rattle.std.specs.Prelude.{◌&&◌, IfErr}
 use Rattle.crx_lines.specs.meaning.Seen.{Content}
 use Rattle.crx_lines.specs.declared.fault.Fault.{Fault}
-use Rattle.crx_text.specs.Texts.{patched}
+use Rattle.crx_columns.specs.Texts.{patched}
 use Rattle.crx_rinex.specs.meaning.ObservationTypes.{Count}
 use Rattle.crx_rinex.specs.meaning.EpochLines.{begins_epoch, is_event_line}
 use Rattle.crx_history.specs.meaning.EpochText.{Satellite}

@@ -21,8 +21,8 @@ use Rattle.crx_lines.specs.declared.limits.TheConstants.{OBSERVATION_WIDTH, OBSE
 use Rattle.crx_lines.specs.declared.limits.TheConstants.{CLOCK_DECIMALS}
 use Rattle.crx_lines.specs.meaning.Lines.{InputLine, pieces_of, ends_with_return, line_of, lines_of}
 use Rattle.crx_lines.specs.Reading.{HasNoFeed}
-use Rattle.crx_text.specs.meaning.Columns.{is_blank, before_end_blanks, without_end_blanks}
-use Rattle.crx_text.specs.meaning.Texts.{is_printable, is_kept}
+use Rattle.crx_columns.specs.meaning.Columns.{is_blank, before_end_blanks, without_end_blanks}
+use Rattle.crx_columns.specs.meaning.Texts.{is_printable, is_kept}
 use Rattle.crx_lines.proofs.PieceLemmas.{pieces-first}
 use Rattle.crx_text.proofs.ReadBack.{decimal_is_digits}
 use Rattle.crx_rinex.specs.meaning.Observations.{Row, Epoch}

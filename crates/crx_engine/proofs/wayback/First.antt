@@ -10,9 +10,9 @@ use Rattle.std.proofs.lemmas.List.Elements.{All-cons, All-nil}
 use Rattle.std.proofs.lemmas.Bool.{ne_eqb, and_parts, and_from}
 use Rattle.crx_lines.specs.Reading.{HasNoFeed}
 use Rattle.crx_lines.specs.meaning.Lines.{ends_with_return}
-use Rattle.crx_text.specs.meaning.Columns.{without_end_blanks}
+use Rattle.crx_columns.specs.meaning.Columns.{without_end_blanks}
 use Rattle.crx_lines.specs.meaning.Seen.{ReadLine, Content}
-use Rattle.crx_text.specs.meaning.Texts.{is_printable}
+use Rattle.crx_columns.specs.meaning.Texts.{is_printable}
 use Rattle.crx_lines.specs.declared.limits.TheConstants.{DATE_LIMIT}
 use Rattle.crx_rinex.specs.meaning.Places.{Here}
 use Rattle.crx_rinex.specs.meaning.Label.{label_of}

@@ -10,7 +10,7 @@ use Rattle.std.proofs.lemmas.Bool.{and_parts}
 use Rattle.crx_lines.specs.meaning.Lines.{InputLine, lines_of}
 use Rattle.crx_lines.specs.meaning.Seen.{ReadLine, Content, seen}
 use Rattle.crx_text.specs.meaning.Numbers.{clock_text}
-use Rattle.crx_text.specs.meaning.Columns.{without_end_blanks, character_at}
+use Rattle.crx_columns.specs.meaning.Columns.{without_end_blanks, character_at}
 use Rattle.crx_lines.specs.declared.fault.Fault.{Fault}
 use Rattle.crx_lines.specs.declared.limits.TheConstants.{LINE_LIMIT, TYPES_LIMIT}
 use Rattle.crx_rinex.specs.meaning.Observations.{Row, Epoch}
@@ -45,7 +45,7 @@ use Rattle.crx_engine.proofs.wayback.WayBack.{IsSettled, whole-settled}
 use Rattle.crx_engine.proofs.wayback.Cut.{IsClean, CanStand, lines-cut}
 use Rattle.crx_engine.proofs.wayback.Converse.{IsPlainLine, plain, lines-plain, printed-plain, all-plain}
 use Rattle.crx_engine.proofs.wayback.Converse.{contents-plain}
-use Rattle.crx_text.proofs.EndBlanks.{few_kept}
+use Rattle.crx_columns.proofs.EndBlanks.{few_kept}
 
 -- ---- what stands at a unit's printed lines
 

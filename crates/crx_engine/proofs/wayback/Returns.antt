@@ -9,7 +9,7 @@ use Rattle.crx_lines.specs.meaning.Lines.{Piece, InputLine, pieces_of, onto_firs
 use Rattle.crx_lines.specs.meaning.Lines.{line_of, lines_of, is_long}
 use Rattle.crx_lines.specs.Reading.{HasNoFeed}
 use Rattle.crx_lines.specs.meaning.Seen.{ReadLine, Content, Overlong, seen}
-use Rattle.crx_text.specs.meaning.Texts.{is_printable}
+use Rattle.crx_columns.specs.meaning.Texts.{is_printable}
 use Rattle.crx_lines.proofs.PieceLemmas.{pieces-first}
 use Rattle.crx_rinex.specs.meaning.Printing.{lines_text}
 use Rattle.crx_engine.proofs.reading.Resuming.{by_bool}

@@ -6,7 +6,7 @@ use Rattle.std.specs.List.{AllByRecursion, list_all}
 use Rattle.std.proofs.lemmas.Bool.{ltb-false}
 use Rattle.crx_lines.specs.meaning.Lines.{lines_of, ends_with_return}
 use Rattle.crx_lines.specs.meaning.Seen.{ReadLine, Content, seen}
-use Rattle.crx_text.specs.meaning.Texts.{is_printable}
+use Rattle.crx_columns.specs.meaning.Texts.{is_printable}
 use Rattle.crx_lines.specs.declared.fault.Fault.{Fault}
 use Rattle.crx_lines.specs.declared.fault.At.{At}
 use Rattle.crx_lines.specs.declared.limits.TheConstants.{TYPES_LIMIT, LINE_LIMIT}

@@ -1,7 +1,7 @@
 -- What the user chose for a run, and what a date may be.
 use Rattle.std.specs.Prelude.{ℕ, Bool, ◌&&◌, ◌==◌, List, Option, Some, None, if◌then◌else◌, nat_le, length}
 use Rattle.std.specs.List.{list_all}
-use Rattle.crx_text.specs.meaning.Texts.{is_printable}
+use Rattle.crx_columns.specs.meaning.Texts.{is_printable}
 use Rattle.crx_lines.specs.declared.limits.TheConstants.{DATE_LIMIT}
 
 -- what the user chose: an epoch in full at every so many, whether faults are skipped, and the date of the second line

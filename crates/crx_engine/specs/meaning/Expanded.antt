@@ -3,7 +3,7 @@
 use Rattle.std.specs.Prelude.{ℕ, Bool, ◌&&◌, ◌+◌, List, [], ◌∷◌, ◌==◌, length, drop, Some, None, Result, Ok, Err}
 use Rattle.std.specs.Prelude.{if◌then◌else◌, map}
 use Rattle.std.specs.Str.{bytes_eq}
-use Rattle.crx_text.specs.meaning.Columns.{columns, without_blanks}
+use Rattle.crx_columns.specs.meaning.Columns.{columns, without_blanks}
 use Rattle.crx_lines.specs.meaning.Seen.{ReadLine, Content, Overlong, seen}
 use Rattle.crx_lines.specs.meaning.Lines.{lines_of}
 use Rattle.crx_lines.specs.declared.fault.Fault.{Fault}

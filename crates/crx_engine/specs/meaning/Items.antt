@@ -3,7 +3,7 @@
 use Rattle.std.specs.Prelude.{ℕ, Bool, true, false, ◌||◌, ◌&&◌, ◌-◌, List, [], ◌∷◌, ◌++◌, if◌then◌else◌, nat_le}
 use Rattle.std.specs.Prelude.{unwrap_or}
 use Rattle.crx_lines.specs.declared.fault.At.{At}
-use Rattle.crx_text.specs.meaning.Columns.{character_at}
+use Rattle.crx_columns.specs.meaning.Columns.{character_at}
 use Rattle.crx_rinex.specs.meaning.Units.{Unit, HeaderLine, EventLine, EventRecord, Observation}
 use Rattle.crx_rinex.specs.meaning.Header.{is_end_of_header}
 use Rattle.crx_rinex.specs.meaning.EpochLines.{records_in}

@@ -4,7 +4,7 @@ use Rattle.std.specs.Prelude.{ℕ, ◌≡◌, ◌+◌, Bool, true, false, ◌&&�
 use Rattle.std.specs.Prelude.{if◌then◌else◌, codes, decimal}
 use Rattle.std.specs.List.{list_all, flat_map}
 use Rattle.std.specs.Str.{bytes_eq}
-use Rattle.crx_text.specs.meaning.Columns.{columns, without_blanks}
+use Rattle.crx_columns.specs.meaning.Columns.{columns, without_blanks}
 use Rattle.crx_lines.specs.meaning.Lines.{InputLine, lines_of}
 use Rattle.crx_lines.specs.meaning.Seen.{seen}
 use Rattle.crx_lines.specs.declared.fault.At.{At}

@@ -3,9 +3,9 @@ use Rattle.std.specs.Prelude.{◌≡◌, ◌≤◌, ◌+◌, ℕ, ℤ, Bool, len
 use Rattle.std.specs.Prelude.{Result, Ok, Err, if◌then◌else◌, nat_le, unwrap_or, not, drop}
 use Rattle.std.specs.List.{list_all}
 use Rattle.std.specs.Option.{option_and_then}
-use Rattle.crx_text.specs.meaning.Columns.{columns, character_at, is_blank}
+use Rattle.crx_columns.specs.meaning.Columns.{columns, character_at, is_blank}
 use Rattle.crx_text.specs.meaning.Numbers.{clock_of, IsMissingOrWithin}
-use Rattle.crx_text.specs.meaning.Texts.{is_kept}
+use Rattle.crx_columns.specs.meaning.Texts.{is_kept}
 use Rattle.crx_lines.specs.declared.limits.TheConstants.{SATELLITES_LIMIT, HEAD_WIDTH, CLOCK_WIDTH}
 use Rattle.crx_lines.specs.declared.fault.Fault.{Fault}
 use Rattle.crx_lines.specs.declared.fault.Fault.TheVariants.{NotAnEpoch, BadEpoch, BadClock}

@@ -3,7 +3,7 @@ use Rattle.std.specs.Prelude.{ℕ, Bool, false, ◌||◌, ◌&&◌, List, [], �
 use Rattle.std.specs.Prelude.{codes}
 use Rattle.std.specs.Char.{is_ascii_digit}
 use Rattle.std.specs.Str.{bytes_eq}
-use Rattle.crx_text.specs.meaning.Columns.{columns, character_at, without_blanks}
+use Rattle.crx_columns.specs.meaning.Columns.{columns, character_at, without_blanks}
 use Rattle.crx_lines.specs.declared.limits.TheConstants.{VERSION_WIDTH}
 use Rattle.crx_lines.specs.declared.fault.Fault.{Fault}
 use Rattle.crx_lines.specs.declared.fault.Fault.TheVariants.{MissingVersion, UnsupportedVersion, NotObservation}

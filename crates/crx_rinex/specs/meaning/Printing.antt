@@ -1,7 +1,7 @@
 -- How an observation epoch is printed: RINEX 3.05, table A3.
 use Rattle.std.specs.Prelude.{ℕ, ℤ, List, [], ◌∷◌, ◌++◌, Option, take, drop, map}
 use Rattle.std.specs.List.{flat_map}
-use Rattle.crx_text.specs.meaning.Columns.{without_end_blanks}
+use Rattle.crx_columns.specs.meaning.Columns.{without_end_blanks}
 use Rattle.crx_text.specs.meaning.Numbers.{observation_text, clock_text}
 use Rattle.crx_rinex.specs.meaning.Observations.{Row, Epoch}
 

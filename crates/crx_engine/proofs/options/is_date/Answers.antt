@@ -3,7 +3,7 @@ use Rattle.std.specs.List.{list_all}
 use Rattle.std.proofs.lemmas.Iterator.{YieldsList-from_slice}
 use Rattle.std.proofs.lemmas.Iterator.Search.{all_from_yields_List}
 use Rattle.std.proofs.lemmas.Bool.Decides.{nat_tests}
-use Rattle.crx_text.specs.meaning.Texts.{is_printable}
+use Rattle.crx_columns.specs.meaning.Texts.{is_printable}
 use Rattle.crx_engine.proofs.options.is_date.Goals as goal
 
 pub returns-then-date-le-DATE_LIMIT : goal.returns-then-date-le-DATE_LIMIT

@@ -1,5 +1,5 @@
 use Rattle.std.proofs.Common.{◌*◌, ◌-◌, ◌++◌, List, ℕ, length, replicate, sym, ap, ◌∙◌, subst}
-use Rattle.crx_text.proofs.Blanks.{columns_are}
+use Rattle.crx_columns.proofs.Blanks.{columns_are}
 use Rattle.crx_history.specs.HeldRows.{AreHeldFlags}
 use Rattle.crx_history.proofs.SoundTexts.{columns-held}
 use Rattle.crx_history.proofs.held.hold_columns.Goals as goal

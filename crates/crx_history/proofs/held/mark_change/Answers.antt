@@ -1,5 +1,5 @@
 use Rattle.std.proofs.Common.{ap, sym, ◌∙◌}
-use Rattle.crx_text.specs.meaning.Texts.{text_difference}
+use Rattle.crx_columns.specs.meaning.Texts.{text_difference}
 use Rattle.crx_history.proofs.SoundTexts.{same-text}
 use Rattle.crx_history.proofs.held.mark_change.Goals as goal
 

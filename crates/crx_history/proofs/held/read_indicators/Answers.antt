@@ -1,6 +1,6 @@
 use Rattle.std.proofs.Common.{◌≡◌, ◌*◌, [], sym, ap, ◌∙◌}
-use Rattle.crx_text.specs.Texts.{patched}
-use Rattle.crx_text.specs.meaning.Columns.{columns}
+use Rattle.crx_columns.specs.Texts.{patched}
+use Rattle.crx_columns.specs.meaning.Columns.{columns}
 use Rattle.crx_history.proofs.Marks.{columns-left, none-there}
 use Rattle.crx_history.proofs.held.read_indicators.Goals as goal
 

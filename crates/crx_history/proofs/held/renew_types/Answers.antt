@@ -1,6 +1,6 @@
 use Rattle.std.proofs.Common.{◌≡◌, ◌-◌, ◌*◌, ◌++◌, [], List, ℕ, length, replicate, take, refl, sym, ap, ◌∙◌, arith, rules, subst}
 use Rattle.std.proofs.Math.Seq.{take-nil}
-use Rattle.crx_text.proofs.Blanks.{columns_are}
+use Rattle.crx_columns.proofs.Blanks.{columns_are}
 use Rattle.crx_history.specs.HeldRows.{AreHeldFlags}
 use Rattle.crx_history.proofs.SoundTexts.{columns-held}
 use Rattle.crx_history.proofs.held.renew_types.Goals as goal

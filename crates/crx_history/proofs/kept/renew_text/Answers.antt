@@ -1,12 +1,12 @@
 use Rattle.std.proofs.Common.{◌≡◌, ◌≤◌, ◌++◌, List, ℕ, true, length, take, sym, ap, ◌∙◌, subst, refl}
 use Rattle.std.specs.List.{list_all}
-use Rattle.crx_text.specs.meaning.Columns.{without_end_blanks}
-use Rattle.crx_text.specs.meaning.Texts.{is_kept}
+use Rattle.crx_columns.specs.meaning.Columns.{without_end_blanks}
+use Rattle.crx_columns.specs.meaning.Texts.{is_kept}
 use Rattle.crx_lines.specs.declared.limits.TheConstants.{LINE_LIMIT}
 use Rattle.crx_history.specs.meaning.Compaction.{epoch_text}
 use Rattle.crx_history.proofs.SoundTexts.{trimmed-fits, trimmed-plain}
 use Rattle.crx_history.proofs.kept.renew_text.Goals as goal
-use Rattle.crx_text.proofs.EndBlanks.{take_kept}
+use Rattle.crx_columns.proofs.EndBlanks.{take_kept}
 
 -- what is left of a text by the count of its characters without the blanks at its end
 left : (text whole two : List ℕ) (trimmed : List ℕ) (count : ℕ)

@@ -5,7 +5,7 @@ use Rattle.std.specs.Option.{is_some}
 use Rattle.std.proofs.lemmas.List.{map-append}
 use Rattle.std.specs.List.{list_any}
 use Rattle.std.specs.Str.{bytes_eq}
-use Rattle.crx_text.specs.meaning.Columns.{columns}
+use Rattle.crx_columns.specs.meaning.Columns.{columns}
 use Rattle.crx_rinex.specs.meaning.Epochs.{is_among}
 use Rattle.crx_rinex.proofs.Apart.{among-map}
 use Rattle.crx_rinex.proofs.EachPlace.{drop_all-each_place, each_place-more}

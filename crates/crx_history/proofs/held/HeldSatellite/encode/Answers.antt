@@ -1,7 +1,7 @@
 use Rattle.std.proofs.Common.{◌≡◌, ◌++◌, ◌∷◌, [], List, ℕ, Option, Some, ap, ◌∙◌, sym}
 use Rattle.std.specs.Option.{option_copied}
 use Rattle.std.specs.Prelude.{flat_map}
-use Rattle.crx_text.specs.meaning.Columns.{without_end_blanks}
+use Rattle.crx_columns.specs.meaning.Columns.{without_end_blanks}
 use Rattle.crx_arcs.specs.Cells.{codes_of_row}
 use Rattle.crx_arcs.specs.meaning.Cells.{cell_text}
 use Rattle.crx_history.specs.meaning.Compaction.{line_of_codes}

@@ -1,6 +1,6 @@
 use Rattle.std.proofs.Common.{◌≡◌, ◌*◌, List, ℕ, Option, length, map, slice_index_or, sym, take, arith, ap, ◌∙◌}
 use Rattle.std.specs.List.{list_all}
-use Rattle.crx_text.specs.meaning.Texts.{is_kept}
+use Rattle.crx_columns.specs.meaning.Texts.{is_kept}
 use Rattle.crx_rinex.specs.meaning.Observations.{Row}
 use Rattle.crx_rinex.specs.SatelliteLines.{with_flags, with_value}
 use Rattle.crx_history.specs.ShownRows.{shown_row}

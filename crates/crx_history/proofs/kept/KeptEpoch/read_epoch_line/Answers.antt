@@ -5,8 +5,8 @@ use Rattle.std.specs.Result.{is_ok}
 use Rattle.std.proofs.lemmas.Bool.{false≢true}
 use Rattle.crx_lines.specs.declared.fault.Fault.{Fault}
 use Rattle.crx_lines.specs.declared.fault.Fault.TheVariants.{BadEpoch, OutOfMemory}
-use Rattle.crx_text.specs.meaning.Texts.{is_printable}
-use Rattle.crx_text.specs.Texts.{patched}
+use Rattle.crx_columns.specs.meaning.Texts.{is_printable}
+use Rattle.crx_columns.specs.Texts.{patched}
 use Rattle.crx_history.specs.meaning.CompactPlaces.{satellites_of_text}
 use Rattle.crx_history.specs.Tails.{Tail}
 use Rattle.crx_history.proofs.kept.KeptEpoch.read_epoch_line.Goals as goal

@@ -2,7 +2,7 @@ use Rattle.std.proofs.Common.{◌≡◌, ◌+◌, ◌++◌, ◌∷◌, [], List,
 use Rattle.std.proofs.lemmas.List.{length-set, take_at}
 use Rattle.crx_rinex.specs.meaning.Printing.{printed_row}
 use Rattle.crx_history.specs.ShownRows.{shown_row}
-use Rattle.crx_text.proofs.WrittenTexts.{same-before}
+use Rattle.crx_columns.proofs.WrittenTexts.{same-before}
 use Rattle.crx_history.proofs.LineTexts.{row-pushed}
 use Rattle.crx_history.proofs.lines.Lines.push_printed.Goals as goal
 

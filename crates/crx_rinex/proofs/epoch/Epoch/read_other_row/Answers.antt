@@ -7,7 +7,7 @@ use Rattle.crx_rinex.specs.meaning.Observations.{Row, Epoch}
 use Rattle.crx_rinex.specs.meaning.Epochs.{has_satellite, is_among, IsSoundEpoch}
 use Rattle.crx_rinex.specs.Epochs.{is_full_epoch, with_row}
 use Rattle.crx_rinex.specs.meaning.EpochPlaces.{row_if_new}
-use Rattle.crx_text.specs.meaning.Columns.{columns}
+use Rattle.crx_columns.specs.meaning.Columns.{columns}
 use Rattle.crx_lines.specs.declared.limits.TheConstants.{NAME_WIDTH, SATELLITES_LIMIT}
 use Rattle.crx_rinex.proofs.GoodRows.{good-new, repeated}
 use Rattle.crx_rinex.proofs.Rows.{by_names, named_rows, names-long, names-next, sound-put}

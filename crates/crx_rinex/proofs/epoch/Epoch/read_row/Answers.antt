@@ -1,7 +1,7 @@
 use Rattle.std.proofs.Common.{◌≡◌, ◌<◌, List, ap, sym, ◌∙◌, take, false, length, slice_set, arith, inl, inr, refl}
 use Rattle.std.proofs.lemmas.List.{length-set, take_more_set}
 use Rattle.std.proofs.lemmas.Result.{err_from_is_err_and}
-use Rattle.crx_text.specs.meaning.Columns.{columns}
+use Rattle.crx_columns.specs.meaning.Columns.{columns}
 use Rattle.crx_lines.specs.declared.limits.TheConstants.{NAME_WIDTH}
 use Rattle.crx_rinex.specs.meaning.Observations.{Row, Epoch}
 use Rattle.crx_rinex.specs.meaning.Epochs.{has_satellite}

@@ -1,0 +1,9 @@
+pub mod Blanks
+pub mod CopiedTexts
+pub mod EndBlanks
+pub mod LaneTexts
+pub mod LaneWords
+pub mod PositionParts
+pub mod Positions
+pub mod TextEnds
+pub mod WrittenTexts

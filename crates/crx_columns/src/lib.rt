@@ -1,0 +1,10 @@
+//! Texts by their columns: cut, trimmed, copied and compared, and the differences of two texts column by column. Lines, devices, faults and
+//! limits are those of crx_lines.
+#![tactic(auto)]
+
+pub mod block;
+pub mod columns;
+pub mod copies;
+pub mod difference;
+mod lanes;
+pub mod text;

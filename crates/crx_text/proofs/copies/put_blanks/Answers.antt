@@ -1,7 +1,0 @@
-use Rattle.std.proofs.Common.{ℕ, length, ◌∙◌}
-use Rattle.std.proofs.lemmas.List.{take-replicate}
-use Rattle.crx_lines.specs.declared.limits.TheConstants.{LINE_LIMIT}
-use Rattle.crx_text.proofs.copies.put_blanks.Goals as goal
-
-pub returns : goal.returns
-returns c = c.copy_text.ensures ∙ take-replicate {X = ℕ} (length c.args.text.now) LINE_LIMIT 32 c.requires
