@@ -6,5 +6,6 @@ pub mod compact_laws;
 pub mod compact_reading;
 pub mod filter_laws;
 pub mod normal_form;
+pub mod rinex_laws;
 pub mod salvage;
 pub mod way_back;

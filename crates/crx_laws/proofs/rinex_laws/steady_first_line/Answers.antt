@@ -1,5 +1,5 @@
 use Rattle.crx_rinex.proofs.Steady.{steady-first_line}
-use Rattle.crx_rinex.proofs.laws.steady_first_line.Goals as goal
+use Rattle.crx_laws.proofs.rinex_laws.steady_first_line.Goals as goal
 
 pub returns : goal.returns
 returns g c = λ read. steady-first_line read

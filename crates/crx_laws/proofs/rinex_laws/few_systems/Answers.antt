@@ -1,5 +1,5 @@
 use Rattle.crx_rinex.proofs.Counts.{systems_few}
-use Rattle.crx_rinex.proofs.laws.few_systems.Goals as goal
+use Rattle.crx_laws.proofs.rinex_laws.few_systems.Goals as goal
 
 pub returns : goal.returns
 returns c = systems_few

@@ -1,5 +1,5 @@
 use Rattle.crx_rinex.proofs.OpenEpochs.{next-by_open}
-use Rattle.crx_rinex.proofs.laws.next_line_by_open.Goals as goal
+use Rattle.crx_laws.proofs.rinex_laws.next_line_by_open.Goals as goal
 
 pub returns : goal.returns
 returns c = next-by_open

@@ -1,5 +1,5 @@
 use Rattle.crx_rinex.proofs.OpenEpochs.{wanted-open}
-use Rattle.crx_rinex.proofs.laws.wanted_where_open.Goals as goal
+use Rattle.crx_laws.proofs.rinex_laws.wanted_where_open.Goals as goal
 
 pub returns : goal.returns
 returns c = wanted-open

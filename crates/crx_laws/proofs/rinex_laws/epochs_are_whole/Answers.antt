@@ -1,6 +1,6 @@
 use Rattle.std.proofs.Common.{arith}
 use Rattle.crx_rinex.proofs.SoundEpochs.{sound-epoch_place}
-use Rattle.crx_rinex.proofs.laws.epochs_are_whole.Goals as goal
+use Rattle.crx_laws.proofs.rinex_laws.epochs_are_whole.Goals as goal
 
 pub returns : goal.returns
 returns c = λ types counts lines epoch count h. let whole =

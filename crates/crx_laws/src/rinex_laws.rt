@@ -1,0 +1,79 @@
+//! Laws of reading RINEX: what stands at some lines, and what an open epoch decides.
+
+ghost use Rattle.std.specs.Prelude.{◌≡◌, ◌≤◌, ◌+◌, ◌∷◌, [], ℕ, List, Some, length};
+ghost use Rattle.std.specs.Prelude.{Result};
+ghost use Rattle.crx_lines.specs.declared.fault.Fault.{Fault};
+ghost use Rattle.crx_lines.specs.meaning.Seen.{ReadLine};
+ghost use Rattle.crx_rinex.specs.meaning.ObservationTypes.{Count};
+ghost use Rattle.crx_rinex.specs.ObservationTypes.{AreCounts};
+ghost use Rattle.crx_rinex.specs.meaning.Observations.{Epoch};
+ghost use Rattle.crx_rinex.specs.meaning.Epochs.{IsWholeEpoch};
+ghost use Rattle.crx_rinex.specs.meaning.Places.{Place, Here, Wrong, Wanted, first_line, then_place};
+ghost use Rattle.crx_rinex.specs.Examples.{one_type, first_line_of_two, g01_line, g02_line, half_open, epoch_of_two};
+ghost use Rattle.crx_lines.specs.declared.fault.Fault.TheVariants.{Truncated, RepeatedSatellite};
+ghost use Rattle.crx_rinex.specs.meaning.Units.{Observation};
+ghost use Rattle.crx_rinex.specs.Steady.{IsSteady};
+ghost use Rattle.crx_rinex.specs.meaning.EpochPlaces.{OpenEpoch, epoch_place, row_at, rest_at};
+ghost use Rattle.crx_rinex.specs.EpochPlaces.{open_with};
+ghost use Rattle.crx_rinex.specs.Laws.{IsWantedWhereOpen, IsDecidedByOpen};
+
+/// What stands in the first line alone is certain as soon as it has come.
+pub fn steady_first_line<X>()
+    ensures { (read : List ℕ → Result X Fault) → IsSteady (λ lines. first_line lines read) }
+{}
+
+/// One thing and then another are certain as soon as the last line of the second has come.
+pub fn steady_in_turn<X, Y>()
+    ensures { (first : List ReadLine → Place X) (next : X → List ReadLine → Place Y)
+        → IsSteady first → ((x : X) → IsSteady (next x))
+        → IsSteady (λ lines. then_place (first lines) lines next) }
+{}
+
+/// What stands where an epoch or an event may begin is certain as soon as its last line has come.
+pub fn steady_epochs()
+    ensures { (types : List Count) → IsSteady (epoch_place types) }
+{}
+
+/// The rows of an epoch that is open are certain as soon as the last of them has come.
+pub fn steady_rows()
+    ensures row { (so_far : OpenEpoch) → IsSteady (row_at so_far) }
+    ensures rest { (so_far : OpenEpoch) → IsSteady (rest_at so_far) }
+{}
+
+/// An epoch wants more lines exactly where it is open.
+pub fn wanted_where_open()
+    ensures { (types : List Count) (lines : List ReadLine) → IsWantedWhereOpen types lines }
+{}
+
+/// An open epoch decides what the next line makes of the lines so far.
+pub fn next_line_by_open()
+    ensures { (types : List Count) (lines : List ReadLine) (line : ReadLine) (so_far : OpenEpoch)
+        → open_with types lines ≡ Some so_far → IsDecidedByOpen types lines line so_far }
+{}
+
+/// An epoch that is read is whole: its line, its rows and their counts of types are sound, no satellite stands twice, and
+/// it took its epoch line and one line for each satellite.
+pub fn epochs_are_whole()
+    ensures { (types : List Count) → AreCounts types → (lines : List ReadLine) (epoch : Epoch) (count : ℕ)
+        → epoch_place types lines ≡ Here (Observation epoch) count
+        → IsWholeEpoch types epoch × (count ≡ length epoch.rows + 1) }
+{}
+
+/// Types are of at most seven systems.
+pub fn few_systems()
+    ensures { (types : List Count) → AreCounts types → length types ≤ 7 }
+{}
+
+/// An epoch of two satellites: it is open after its first two lines, whole with the third, and cut off by another epoch
+/// line or by its first satellite again.
+pub fn an_epoch_of_two()
+    ensures left_open { open_with one_type (first_line_of_two ∷ g01_line ∷ []) ≡ Some half_open }
+    ensures wanted { epoch_place one_type (first_line_of_two ∷ g01_line ∷ []) ≡ Wanted }
+    ensures whole { epoch_place one_type (first_line_of_two ∷ g01_line ∷ g02_line ∷ first_line_of_two ∷ [])
+        ≡ Here (Observation epoch_of_two) 3 }
+    ensures cut { epoch_place one_type
+        (first_line_of_two ∷ g01_line ∷ first_line_of_two ∷ []) ≡ Wrong 2 Truncated }
+    ensures repeated { epoch_place one_type (first_line_of_two ∷ g01_line ∷ g01_line ∷ [])
+        ≡ Wrong 2 RepeatedSatellite }
+    ensures counts { AreCounts one_type }
+{}
