@@ -1,7 +1,5 @@
 -- The lines that are ready to be written, and how much is held of them.
-pub mod Justified
 pub mod Lendable
 pub mod Readiness
 pub mod ReadyLines
-pub mod Reports
 pub mod Bounds

@@ -15,6 +15,4 @@ pub mod Ending
 pub mod Ended
 pub mod StaysEnded
 pub mod Types
-pub mod TypesLines
-pub mod EventLines
 pub mod Anew

@@ -2,12 +2,9 @@
 pub mod EngineLemmas
 pub mod EngineAnswers
 pub mod CompactionSteps
-pub mod CompactSteps
-pub mod RinexSteps
 pub mod ExpanderSteps
 pub mod ExpanderLines
 pub mod CompactorLines
 pub mod StepCounts
-pub mod Checkers
 pub mod CheckerSteps
 pub mod CheckerEnds

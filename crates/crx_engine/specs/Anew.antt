@@ -4,9 +4,9 @@ use Rattle.std.specs.Prelude.{◌≡◌, ℕ, zero, suc, Bool, true, false, ◌&
 use Rattle.crx_lines.specs.meaning.Seen.{ReadLine, Content, Overlong}
 use Rattle.crx_rinex.specs.meaning.EpochLines.{begins_epoch, is_event_line}
 use Rattle.crx_history.specs.meaning.CompactPlaces.{ReadEpoch}
-use Rattle.crx_engine.specs.meaning.Items.{Item, header_has_ended, records_announced, records_left, types_in_force}
-use Rattle.crx_engine.specs.meaning.Reading.{Reading, Stop, reading_from}
-use Rattle.crx_engine.specs.meaning.Expanded.{compact_place}
+use Rattle.crx_reading.specs.meaning.Items.{Item, header_has_ended, records_announced, records_left, types_in_force}
+use Rattle.crx_reading.specs.meaning.Reading.{Reading, Stop, reading_from}
+use Rattle.crx_reading.specs.meaning.Expanded.{compact_place}
 
 -- whether all starts anew at some lines, after so many records of an event: each line that comes after them begins with
 -- >, and the first one that begins no event begins with > too

@@ -12,14 +12,14 @@ use Rattle.crx_rinex.specs.meaning.ObservationTypes.{system_letters}
 use Rattle.crx_history.specs.Tails.{Tail, IsBoundedTail}
 use Rattle.crx_history.specs.meaning.CompactPlaces.{ReadEpoch}
 use Rattle.crx_compact.specs.OpenEpochs.{OpenRawEpoch, IsBoundedOpen}
-use Rattle.crx_engine.specs.meaning.Choices.{Choices, is_date}
-use Rattle.crx_engine.specs.meaning.Items.{Item, Accepted, Warned}
-use Rattle.crx_engine.specs.meaning.Compacted.{compact_unit}
-use Rattle.crx_engine.specs.meaning.Directions.{rinex_reading}
-use Rattle.crx_engine.specs.meaning.Expanded.{expanded_unit}
-use Rattle.crx_engine.specs.meaning.Directions.{compact_reading}
-use Rattle.crx_engine.specs.LineByLine.{Phase, InEpoch, Seen}
-use Rattle.crx_engine.specs.CompactionByLine.{Written}
+use Rattle.crx_reading.specs.meaning.Choices.{Choices, is_date}
+use Rattle.crx_reading.specs.meaning.Items.{Item, Accepted, Warned}
+use Rattle.crx_reading.specs.meaning.Compacted.{compact_unit}
+use Rattle.crx_reading.specs.meaning.Directions.{rinex_reading}
+use Rattle.crx_reading.specs.meaning.Expanded.{expanded_unit}
+use Rattle.crx_reading.specs.meaning.Directions.{compact_reading}
+use Rattle.crx_reading.specs.LineByLine.{Phase, InEpoch, Seen}
+use Rattle.crx_reading.specs.CompactionByLine.{Written}
 
 -- a row within the limits: its identifier, a value for each type, and two indicators
 pub record IsBoundedRow (row : Row) : Type 0 where

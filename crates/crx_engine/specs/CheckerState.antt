@@ -1,54 +1,17 @@
 -- What a checker is seen as.
-use Rattle.std.specs.Prelude.{◌≡◌, ◌≤◌, ◌*◌, ⊤, ℕ, Bool, true, false, List, [], ◌∷◌, ◌++◌, drop, length, Option, Some}
-use Rattle.std.specs.Prelude.{None}
+use Rattle.std.specs.Prelude.{◌≡◌, ℕ, Bool, true, false, List, [], drop, length, Option, Some, None}
 use Rattle.std.proofs.Common.{ap}
 use Rattle.crx_lines.specs.meaning.Lines.{InputLine}
-use Rattle.crx_lines.specs.declared.limits.TheConstants.{SATELLITES_LIMIT, TYPES_LIMIT}
 use Rattle.crx_rinex.specs.meaning.EpochPlaces.{OpenEpoch}
-use Rattle.crx_rinex.specs.meaning.Observations.{Epoch}
-use Rattle.crx_rinex.specs.meaning.ObservationTypes.{Count}
 use Rattle.crx_engine.specs.Engines.{Awaited}
-use Rattle.crx_engine.specs.LineByLine.{Made, Completes, Moves, Fails, Repeats, Phase, InHeader, BetweenUnits, InEvent}
-use Rattle.crx_engine.specs.LineByLine.{InEpoch}
-use Rattle.crx_engine.specs.RinexReaders.{reader_phase}
-use Rattle.crx_engine.specs.meaning.Standard.{Findings, version_in, report_lines, findings_of}
-use Rattle.crx_engine.specs.CheckByLine.{Totals as TotalsSeen, CheckSeen, printed_open, no_choices, check_seen}
+use Rattle.crx_reading.specs.LineByLine.{Phase, InHeader, BetweenUnits, InEvent, InEpoch}
+use Rattle.crx_reading.specs.RinexReaders.{reader_phase}
+use Rattle.crx_reading.specs.meaning.Standard.{Findings, report_lines, findings_of}
+use Rattle.crx_reading.specs.CheckByLine.{CheckSeen, no_choices, check_seen}
 use Rattle.crx_engine.specs.declared.checker.Checker.{Checker}
-use Rattle.crx_engine.specs.declared.report.Totals.{Totals}
-use Rattle.crx_engine.specs.declared.rinex_reader.RinexReader.{RinexReader}
-
--- the totals in the state
-abbrev pub totals_held : Totals → TotalsSeen
-totals_held t = record {
-  version = version_in t.version;
-  epochs = t.epochs;
-  events = t.events;
-  observations = t.observations;
-}
-
--- what is found, by the state
-abbrev pub found_held : Totals → List Count → Option ℕ → Findings
-found_held t types not_standard = record {
-  version = version_in t.version;
-  systems = types;
-  epochs = t.epochs;
-  events = t.events;
-  observations = t.observations;
-  not_standard = not_standard;
-}
-
--- no more epochs and events than lines, and no more observations than so many epochs may have
-pub record AreBounded (t : Totals) (number : ℕ) : Type 0 where
-  pub epochs : t.epochs ≤ number
-  pub events : t.events ≤ number
-  pub observations : t.observations ≤ SATELLITES_LIMIT * TYPES_LIMIT * t.epochs
-
--- where a line moves a reading on within an epoch, the epoch has a printed line
-abbrev pub HasPrinted : Made Epoch OpenEpoch → Type 0
-HasPrinted (Completes unit) = ⊤
-HasPrinted (Moves phase) = (lines : List (List ℕ)) × (line : List ℕ) × (printed_open phase ≡ lines ++ line ∷ [])
-HasPrinted (Fails fault) = ⊤
-HasPrinted (Repeats at) = ⊤
+use Rattle.crx_reading.specs.declared.report.Totals.{Totals}
+use Rattle.crx_reading.specs.declared.rinex_reader.RinexReader.{RinexReader}
+use Rattle.crx_reading.specs.Totals.{totals_held, found_held, AreBounded}
 
 -- ---- what a checker is seen as
 

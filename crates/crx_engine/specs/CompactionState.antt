@@ -1,10 +1,10 @@
 -- What a compaction is seen as between two lines.
 use Rattle.crx_rinex.specs.meaning.EpochPlaces.{OpenEpoch}
 use Rattle.crx_compact.specs.OpenEpochs.{tail_held}
-use Rattle.crx_engine.specs.CompactionByLine.{Written}
-use Rattle.crx_engine.specs.LineByLine.{Seen}
-use Rattle.crx_engine.specs.RinexReaders.{reader_phase}
-use Rattle.crx_engine.specs.declared.rinex_reader.RinexReader.{RinexReader}
+use Rattle.crx_reading.specs.CompactionByLine.{Written}
+use Rattle.crx_reading.specs.LineByLine.{Seen}
+use Rattle.crx_reading.specs.RinexReaders.{reader_phase}
+use Rattle.crx_reading.specs.declared.rinex_reader.RinexReader.{RinexReader}
 use Rattle.crx_engine.specs.declared.compaction.Compaction.{Compaction}
 
 abbrev pub compaction_state : Compaction → Seen OpenEpoch Written

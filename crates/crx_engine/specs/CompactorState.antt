@@ -2,12 +2,12 @@
 use Rattle.std.specs.Prelude.{ℕ, List}
 use Rattle.crx_rinex.specs.meaning.EpochPlaces.{OpenEpoch}
 use Rattle.crx_lines.specs.meaning.Lines.{InputLine}
-use Rattle.crx_engine.specs.CompactionByLine.{Written, compaction, compaction_seen}
+use Rattle.crx_reading.specs.CompactionByLine.{Written, compaction, compaction_seen}
 use Rattle.crx_engine.specs.EngineLines.{HasTaken}
 use Rattle.crx_engine.specs.Engines.{Awaited}
-use Rattle.crx_engine.specs.LineByLine.{Seen}
+use Rattle.crx_reading.specs.LineByLine.{Seen}
 use Rattle.crx_engine.specs.CompactionState.{compaction_state}
-use Rattle.crx_engine.specs.ReadyLines.{pending_lines}
+use Rattle.crx_reading.specs.ReadyLines.{pending_lines}
 use Rattle.crx_engine.specs.declared.compactor.Compactor.{Compactor}
 
 -- what it has seen

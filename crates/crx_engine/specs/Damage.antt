@@ -1,12 +1,12 @@
 -- Beside meaning/Damage: what code and proofs see of it.
 use Rattle.std.specs.Prelude.{ℕ, ◌≡◌, true, List, ◌∷◌, ◌++◌}
 use Rattle.crx_rinex.specs.meaning.Observations.{Epoch}
-use Rattle.crx_engine.specs.meaning.Choices.{Choices, is_date}
+use Rattle.crx_reading.specs.meaning.Choices.{Choices, is_date}
 use Rattle.crx_rinex.specs.meaning.Printing.{lines_text}
-use Rattle.crx_engine.specs.meaning.Compacted.{compact_lines, compacted}
-use Rattle.crx_engine.specs.meaning.Expanded.{expanded}
-use Rattle.crx_engine.specs.meaning.Standard.{whole_of}
-use Rattle.crx_engine.specs.meaning.Damage.{lines_of_epochs, with_epochs, lines_after, IsDamaged, IsSalvaged}
+use Rattle.crx_reading.specs.meaning.Compacted.{compact_lines, compacted}
+use Rattle.crx_reading.specs.meaning.Expanded.{expanded}
+use Rattle.crx_reading.specs.meaning.Standard.{whole_of}
+use Rattle.crx_reading.specs.meaning.Damage.{lines_of_epochs, with_epochs, lines_after, IsDamaged, IsSalvaged}
 
 -- ---- the law
 

@@ -3,7 +3,7 @@ use Rattle.std.specs.Prelude.{◌≡◌, true, List, [], ◌∷◌, map}
 use Rattle.crx_lines.specs.meaning.Lines.{InputLine}
 use Rattle.crx_lines.specs.meaning.Seen.{ReadLine, seen}
 use Rattle.crx_engine.specs.Engines.{Awaited}
-use Rattle.crx_engine.specs.LineByLine.{Direction, Seen, Notice, seen_next}
+use Rattle.crx_reading.specs.LineByLine.{Direction, Seen, Notice, seen_next}
 
 -- an engine that is seen as this has taken these lines, by what is seen after some lines; or, where a line is to come a
 -- second time, it has taken the lines before that one, and answered the warning that this line gives first

@@ -1,64 +1,18 @@
 -- What an engine of either direction does with a line, and how the stage that it is in is seen.
-use Rattle.std.specs.Prelude.{◌≡◌, ◌⊎◌, ℕ, ◌+◌, Bool, true, false, List, [], Option, Some, None, Result, Ok, Err}
-use Rattle.std.specs.Prelude.{if◌then◌else◌}
+use Rattle.std.specs.Prelude.{◌≡◌, ◌⊎◌, ℕ, ◌+◌, Bool, true, List, [], Option, Result, Ok, Err, if◌then◌else◌}
 use Rattle.crx_lines.specs.meaning.Seen.{ReadLine}
 use Rattle.crx_lines.specs.declared.fault.At.{At}
 use Rattle.crx_lines.specs.declared.fault.Fault.{Fault}
 use Rattle.crx_lines.specs.declared.fault.Fault.TheVariants.{OutOfMemory}
-use Rattle.crx_engine.specs.LineByLine.{Phase as SeenPhase, InFirstLines, InHeader, BetweenUnits, InEvent, InEpoch}
-use Rattle.crx_engine.specs.LineByLine.{LookingOn, Closed as SeenClosed, Ended as SeenEnded, Seen, Direction, Answer}
-use Rattle.crx_engine.specs.LineByLine.{Quiet as SeenQuiet, Ready as SeenReady, Notice, Failed, Step as SeenStep}
-use Rattle.crx_engine.specs.LineByLine.{seen_next, seen_end, failed_step}
-use Rattle.crx_engine.specs.meaning.Reading.{can_go_on}
-use Rattle.crx_engine.specs.Memory.{takes_memory}
+use Rattle.crx_reading.specs.LineByLine.{Seen, Direction, Answer, Quiet as SeenQuiet, Ready as SeenReady, Notice}
+use Rattle.crx_reading.specs.LineByLine.{Failed, Step as SeenStep, seen_next, seen_end, failed_step}
+use Rattle.crx_reading.specs.meaning.Reading.{can_go_on}
+use Rattle.crx_reading.specs.Memory.{takes_memory}
 use Rattle.crx_engine.specs.declared.engine.Step.{Step}
 use Rattle.crx_engine.specs.declared.engine.Step.TheVariants.{Quiet, Ready, Warned}
 use Rattle.crx_engine.specs.declared.settled.Settled.{Settled}
-use Rattle.crx_engine.specs.declared.stage.Stage.{Stage}
-use Rattle.crx_engine.specs.declared.stage.Stage.TheVariants.{FirstLines, Header, Between, Event, Open, Looking, Closed}
-use Rattle.crx_engine.specs.declared.stage.Stage.TheVariants.{Ended}
-
--- ---- stages
-
--- in the open epoch
-abbrev pub phase_of_open : {O : Type 0} → Option O → SeenPhase O
-phase_of_open None = BetweenUnits
-phase_of_open (Some so_far) = InEpoch so_far
-
--- a stage with its open epoch
-abbrev pub seen_stage : {O : Type 0} → Option O → Stage → SeenPhase O
-seen_stage held (FirstLines count) = InFirstLines count
-seen_stage held (Header is_first) = InHeader is_first
-seen_stage held Between = BetweenUnits
-seen_stage held (Event left counted) = InEvent left counted
-seen_stage held Open = phase_of_open held
-seen_stage held Looking = LookingOn
-seen_stage held Closed = SeenClosed
-seen_stage held (Ended at) = SeenEnded at
-
--- in the stage of an open epoch there is one
-abbrev pub is_held : {O : Type 0} → Stage → Option O → Bool
-is_held Open None = false
-is_held Open (Some so_far) = true
-is_held (FirstLines count) held = true
-is_held (Header is_first) held = true
-is_held Between held = true
-is_held (Event left counted) held = true
-is_held Looking held = true
-is_held Closed held = true
-is_held (Ended at) held = true
-
--- whether a fault has ended the run
-abbrev pub is_ended : Stage → Bool
-is_ended (Ended at) = true
-is_ended stage = false
-
--- whether a stage is one after a fault or after the end of the input
-abbrev pub is_settled : Stage → Bool
-is_settled Looking = true
-is_settled Closed = true
-is_settled (Ended at) = true
-is_settled stage = false
+use Rattle.crx_reading.specs.declared.stage.Stage.{Stage}
+use Rattle.crx_reading.specs.Stages.{seen_stage, is_held}
 
 -- ---- steps
 

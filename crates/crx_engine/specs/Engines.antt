@@ -4,8 +4,8 @@ use Rattle.std.specs.Prelude.{Ok, Err}
 use Rattle.crx_lines.specs.meaning.Lines.{InputLine}
 use Rattle.crx_lines.specs.declared.fault.At.{At}
 use Rattle.crx_lines.specs.declared.fault.Fault.TheVariants.{OutOfMemory}
-use Rattle.crx_engine.specs.meaning.Results.{Course}
-use Rattle.crx_engine.specs.meaning.Filters.{Filter, with_next}
+use Rattle.crx_reading.specs.meaning.Results.{Course}
+use Rattle.crx_reading.specs.meaning.Filters.{Filter, with_next}
 use Rattle.crx_rinex.specs.meaning.Printing.{lines_text}
 use Rattle.crx_engine.specs.declared.engine.Step.{Step}
 use Rattle.crx_engine.specs.declared.engine.Step.TheVariants.{Quiet, Ready, Warned}

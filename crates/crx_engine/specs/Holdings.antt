@@ -1,13 +1,13 @@
 -- All that engines hold between two lines of an input, part by part. By the law `engines_hold` one that takes over
 -- these parts of another is that other; so there is no part beside them, in which a record of the past lines could
 -- grow.
-use Rattle.crx_engine.specs.declared.options.Options.TheInside.{Inside as OptionsInside}
-use Rattle.crx_engine.specs.declared.line_number.LineNumber.TheInside.{Inside as LineNumberInside}
-use Rattle.crx_engine.specs.declared.rinex_reader.RinexReader.{RinexReader}
-use Rattle.crx_engine.specs.declared.ready_lines.ReadyLines.{ReadyLines}
+use Rattle.crx_reading.specs.declared.options.Options.TheInside.{Inside as OptionsInside}
+use Rattle.crx_reading.specs.declared.line_number.LineNumber.TheInside.{Inside as LineNumberInside}
+use Rattle.crx_reading.specs.declared.rinex_reader.RinexReader.{RinexReader}
+use Rattle.crx_reading.specs.declared.ready_lines.ReadyLines.{ReadyLines}
 use Rattle.crx_engine.specs.declared.compaction.Compaction.{Compaction}
 use Rattle.crx_engine.specs.declared.compactor.Compactor.{Compactor}
-use Rattle.crx_engine.specs.declared.compact_reader.CompactReader.{CompactReader}
+use Rattle.crx_reading.specs.declared.compact_reader.CompactReader.{CompactReader}
 use Rattle.crx_engine.specs.declared.expander.Expander.{Expander}
 use Rattle.crx_engine.specs.declared.checker.Checker.{Checker}
 

@@ -4,8 +4,8 @@ use Rattle.crx_lines.specs.meaning.Lines.{InputLine}
 use Rattle.crx_lines.specs.declared.fault.At.{At}
 use Rattle.crx_lines.specs.declared.fault.Fault.{Fault}
 use Rattle.crx_lines.specs.declared.fault.Fault.TheVariants.{InputTooLong, ReadFailed, WriteFailed, OutOfMemory}
-use Rattle.crx_engine.specs.meaning.Filters.{Filter}
-use Rattle.crx_engine.specs.meaning.Results.{Begins}
+use Rattle.crx_reading.specs.meaning.Filters.{Filter}
+use Rattle.crx_reading.specs.meaning.Results.{Begins}
 
 -- whether a fault can be one of a line, or of the end of the input: not that of its limit, of a device or of memory
 abbrev pub is_of_lines : Fault → Bool

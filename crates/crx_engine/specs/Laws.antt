@@ -1,5 +1,5 @@
 -- What the laws of both filters say, where it is long.
-use Rattle.crx_engine.specs.meaning.Reading.{fault_of_stop}
+use Rattle.crx_reading.specs.meaning.Reading.{fault_of_stop}
 use Rattle.std.specs.Prelude.{◌≡◌, ◌<◌, if◌then◌else◌, ℕ, Bool, true, false, List, [], ◌∷◌, ◌++◌, Option, Some, None}
 use Rattle.std.specs.Prelude.{map, ⊤}
 use Rattle.crx_lines.specs.meaning.Seen.{ReadLine, seen}
@@ -8,30 +8,30 @@ use Rattle.crx_rinex.specs.Steady.{IsSteady}
 use Rattle.crx_rinex.specs.meaning.Units.{Unit as FileUnit, HeaderLine, EventLine, EventRecord, Observation, Unit}
 use Rattle.crx_rinex.specs.meaning.EpochLines.{is_event_line, records_in}
 use Rattle.crx_rinex.specs.meaning.Epochs.{IsWholeEpoch}
-use Rattle.crx_engine.specs.meaning.UnitPlaces.{types_fault, header_line_fault}
+use Rattle.crx_reading.specs.meaning.UnitPlaces.{types_fault, header_line_fault}
 use Rattle.std.specs.Option.{is_some}
 use Rattle.crx_lines.specs.meaning.Lines.{lines_of}
 use Rattle.crx_lines.specs.declared.fault.At.{At}
-use Rattle.crx_engine.specs.meaning.Choices.{Choices}
-use Rattle.crx_engine.specs.meaning.Items.{Item, Accepted, Warned, is_at_start, header_has_ended, records_left}
-use Rattle.crx_engine.specs.meaning.Items.{records_count_types, types_in_force}
-use Rattle.crx_engine.specs.meaning.Reading.{Reading, AtFault, AtLines, Looking, WholeReading, reading_from}
-use Rattle.crx_engine.specs.meaning.Reading.{looked_for}
+use Rattle.crx_reading.specs.meaning.Choices.{Choices}
+use Rattle.crx_reading.specs.meaning.Items.{Item, Accepted, Warned, is_at_start, header_has_ended, records_left}
+use Rattle.crx_reading.specs.meaning.Items.{records_count_types, types_in_force}
+use Rattle.crx_reading.specs.meaning.Reading.{Reading, AtFault, AtLines, Looking, WholeReading, reading_from}
+use Rattle.crx_reading.specs.meaning.Reading.{looked_for}
 use Rattle.crx_lines.specs.meaning.Faults.{is_skippable}
-use Rattle.crx_engine.specs.meaning.Messages.{warnings_in}
-use Rattle.crx_engine.specs.LineByLine.{Direction, Seen, Step, Answer, Quiet, Ready, Notice, Failed, seen_next}
-use Rattle.crx_engine.specs.LineByLine.{seen_end}
+use Rattle.crx_reading.specs.meaning.Messages.{warnings_in}
+use Rattle.crx_reading.specs.LineByLine.{Direction, Seen, Step, Answer, Quiet, Ready, Notice, Failed, seen_next}
+use Rattle.crx_reading.specs.LineByLine.{seen_end}
 use Rattle.crx_rinex.specs.meaning.Observations.{Epoch}
 use Rattle.crx_history.specs.meaning.CompactPlaces.{ReadEpoch}
 use Rattle.crx_engine.specs.Compacted.{compaction_so_far}
-use Rattle.crx_engine.specs.meaning.Directions.{rinex_reading}
-use Rattle.crx_engine.specs.meaning.Compacted.{whole_rinex, compact_lines}
+use Rattle.crx_reading.specs.meaning.Directions.{rinex_reading}
+use Rattle.crx_reading.specs.meaning.Compacted.{whole_rinex, compact_lines}
 use Rattle.crx_engine.specs.Expanded.{expanded_lines, expansion_so_far}
-use Rattle.crx_engine.specs.meaning.Directions.{compact_reading}
-use Rattle.crx_engine.specs.meaning.Expanded.{whole_compact}
-use Rattle.crx_engine.specs.CompactionByLine.{compaction, compaction_seen}
-use Rattle.crx_engine.specs.ExpansionByLine.{expansion, expansion_seen}
-use Rattle.crx_engine.specs.meaning.Results.{Begins}
+use Rattle.crx_reading.specs.meaning.Directions.{compact_reading}
+use Rattle.crx_reading.specs.meaning.Expanded.{whole_compact}
+use Rattle.crx_reading.specs.CompactionByLine.{compaction, compaction_seen}
+use Rattle.crx_reading.specs.ExpansionByLine.{expansion, expansion_seen}
+use Rattle.crx_reading.specs.meaning.Results.{Begins}
 
 -- a reading that is continued, once more lines have come
 abbrev pub continued_reading : {E : Type 0}

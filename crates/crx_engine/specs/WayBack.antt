@@ -3,13 +3,13 @@ use Rattle.std.specs.Prelude.{◌≡◌, ℕ, true, List, None, map}
 use Rattle.crx_lines.specs.meaning.Lines.{lines_of}
 use Rattle.crx_lines.specs.meaning.Seen.{seen}
 use Rattle.crx_rinex.specs.meaning.Observations.{Epoch}
-use Rattle.crx_engine.specs.meaning.Choices.{Choices, is_date}
-use Rattle.crx_engine.specs.meaning.Reading.{WholeReading}
+use Rattle.crx_reading.specs.meaning.Choices.{Choices, is_date}
+use Rattle.crx_reading.specs.meaning.Reading.{WholeReading}
 use Rattle.crx_rinex.specs.meaning.Printing.{lines_text}
-use Rattle.crx_engine.specs.meaning.Compacted.{whole_rinex, compacted}
-use Rattle.crx_engine.specs.meaning.Expanded.{expanded}
-use Rattle.crx_engine.specs.meaning.Standard.{printed_items, whole_of, normal_form, IsStandard}
-use Rattle.crx_engine.specs.meaning.WayBack.{HaveNoReturns, written_well}
+use Rattle.crx_reading.specs.meaning.Compacted.{whole_rinex, compacted}
+use Rattle.crx_reading.specs.meaning.Expanded.{expanded}
+use Rattle.crx_reading.specs.meaning.Standard.{printed_items, whole_of, normal_form, IsStandard}
+use Rattle.crx_reading.specs.meaning.WayBack.{HaveNoReturns, written_well}
 
 -- where the compaction of an input isn't ended by a fault, the expansion of its compact text writes all units that were
 -- accepted, as RINEX prints them, and reports nothing; whatever was chosen for either

@@ -3,15 +3,15 @@
 ghost use Rattle.std.specs.Prelude.{◌≡◌, ◌≤◌, true};
 ghost use Rattle.crx_lines.specs.declared.limits.TheConstants.{INPUT_LIMIT};
 ghost use Rattle.crx_compact.specs.OpenEpochs.{is_idle};
-ghost use Rattle.crx_engine.specs.meaning.Compacted.{is_at_every};
+ghost use Rattle.crx_reading.specs.meaning.Compacted.{is_at_every};
 
 use crate::engine::Step;
-use crate::options::Options;
-use crate::ready_lines::ReadyLines;
-use crate::rinex_reader::{RinexReader, RinexStep};
 use crate::settled::{Settled, after_end, after_fault};
-use crate::stage::Stage;
 use crx_compact::Columns;
+use crx_reading::options::Options;
+use crx_reading::ready_lines::ReadyLines;
+use crx_reading::rinex_reader::{RinexReader, RinexStep};
+use crx_reading::stage::Stage;
 use crx_rinex::begins_epoch;
 use crx_text::{At, Fault};
 use std::alloc::{AllocError, Global};
@@ -47,16 +47,17 @@ impl Compaction {
     ghost use Rattle.crx_lines.specs.declared.limits.TheConstants.{LINE_LIMIT};
     ghost use Rattle.crx_rinex.specs.meaning.Observations.{Epoch as ObservationEpoch};
     ghost use Rattle.crx_rinex.specs.meaning.Units.{Observation};
-    ghost use Rattle.crx_engine.specs.CompactionByLine.{compact_written, compaction, compaction_seen, written_kept};
-    ghost use Rattle.crx_engine.specs.RinexReaders.{made_at, TakesRinexLine};
-    ghost use Rattle.crx_engine.specs.declared.rinex_reader.RinexReader.{RinexReader};
+    ghost use Rattle.crx_reading.specs.CompactionByLine.{compact_written, compaction, compaction_seen, written_kept};
+    ghost use Rattle.crx_reading.specs.RinexReaders.{made_at, TakesRinexLine};
+    ghost use Rattle.crx_reading.specs.declared.rinex_reader.RinexReader.{RinexReader};
     ghost use Rattle.crx_engine.specs.Engines.{answer_given};
-    ghost use Rattle.crx_engine.specs.LineByLine.{Ended, failed_step, seen_end, seen_next};
-    ghost use Rattle.crx_engine.specs.meaning.Reading.{can_go_on};
+    ghost use Rattle.crx_reading.specs.LineByLine.{Ended, failed_step, seen_end, seen_next};
+    ghost use Rattle.crx_reading.specs.meaning.Reading.{can_go_on};
     ghost use Rattle.crx_lines.specs.meaning.Faults.{is_skippable};
-    ghost use Rattle.crx_engine.specs.ReadyLines.{pending_lines};
-    ghost use Rattle.crx_engine.specs.RinexStages.{is_whole, open_epoch};
-    ghost use Rattle.crx_engine.specs.EngineSteps.{Steps, step_made, is_ended, is_settled, settled_seen};
+    ghost use Rattle.crx_reading.specs.ReadyLines.{pending_lines};
+    ghost use Rattle.crx_reading.specs.RinexStages.{is_whole, open_epoch};
+    ghost use Rattle.crx_engine.specs.EngineSteps.{Steps, step_made, settled_seen};
+    ghost use Rattle.crx_reading.specs.Stages.{is_ended, is_settled};
     ghost use Rattle.crx_engine.specs.CompactionState.{compaction_state, compaction_state_with};
 
     /// A compaction before the first line of its input.

@@ -2,8 +2,8 @@
 
 use crate::compaction::Compaction;
 use crate::engine::{Step, answer_given};
-use crate::options::Options;
-use crate::ready_lines::ReadyLines;
+use crx_reading::options::Options;
+use crx_reading::ready_lines::ReadyLines;
 use crx_text::{At, Line};
 use std::alloc::{AllocError, Global};
 
@@ -27,11 +27,11 @@ impl Compactor {
     ghost use Rattle.crx_lines.specs.meaning.Seen.{Content, Overlong};
     ghost use Rattle.crx_lines.specs.declared.fault.At.{At};
     ghost use Rattle.crx_lines.specs.declared.limits.TheConstants.{INPUT_LIMIT, LINE_LIMIT};
-    ghost use Rattle.crx_engine.specs.CompactionByLine.{compaction, compaction_seen};
-    ghost use Rattle.crx_engine.specs.LineByLine.{Ended, seen_next, seen_end};
+    ghost use Rattle.crx_reading.specs.CompactionByLine.{compaction, compaction_seen};
+    ghost use Rattle.crx_reading.specs.LineByLine.{Ended, seen_next, seen_end};
     ghost use Rattle.crx_engine.specs.EngineSteps.{Steps, step_made};
     ghost use Rattle.crx_engine.specs.CompactorState.{compactor_seen, compactor_ready, compactor_took};
-    ghost use Rattle.crx_engine.specs.meaning.Directions.{compaction_filter};
+    ghost use Rattle.crx_reading.specs.meaning.Directions.{compaction_filter};
     ghost use Rattle.crx_rinex.specs.meaning.Printing.{lines_text};
     ghost use Rattle.crx_engine.specs.Engines.{EngineAnswers, answer_given, Awaited, Concludes, IsAwaited};
     ghost use Rattle.crx_engine.specs.contracts.compactor.Compactor.{the_row};

@@ -1,9 +1,9 @@
 //! The compactor as an engine.
 
 ghost use Rattle.std.specs.Prelude.{◌≡◌, ⊤, length};
-ghost use Rattle.crx_engine.specs.meaning.Directions.{compaction_filter};
+ghost use Rattle.crx_reading.specs.meaning.Directions.{compaction_filter};
 ghost use Rattle.crx_engine.specs.EngineLines.{HasTaken};
-ghost use Rattle.crx_engine.specs.CompactionByLine.{compaction, compaction_seen};
+ghost use Rattle.crx_reading.specs.CompactionByLine.{compaction, compaction_seen};
 ghost use Rattle.crx_engine.specs.CompactorState.{compactor_seen, compactor_ready};
 
 use crate::compactor::Compactor;

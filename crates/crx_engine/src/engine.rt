@@ -8,7 +8,7 @@ ghost use Rattle.crx_lines.specs.meaning.Lines.{InputLine, is_long};
 ghost use Rattle.crx_lines.specs.Reading.{line_shown, line_number};
 ghost use Rattle.crx_lines.specs.declared.fault.At.{At};
 ghost use Rattle.crx_lines.specs.declared.limits.TheConstants.{INPUT_LIMIT};
-ghost use Rattle.crx_engine.specs.meaning.Filters.{Filter};
+ghost use Rattle.crx_reading.specs.meaning.Filters.{Filter};
 ghost use Rattle.crx_rinex.specs.meaning.Printing.{lines_text};
 ghost use Rattle.crx_engine.specs.Engines.{EngineAnswers, answer_given, Awaited, IsAwaited, Concludes, IsDrainedAfter, taken_after};
 

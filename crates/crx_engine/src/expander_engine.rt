@@ -1,9 +1,9 @@
 //! The expander as an engine.
 
 ghost use Rattle.std.specs.Prelude.{◌≡◌, ⊤, length};
-ghost use Rattle.crx_engine.specs.meaning.Directions.{expansion_filter};
+ghost use Rattle.crx_reading.specs.meaning.Directions.{expansion_filter};
 ghost use Rattle.crx_engine.specs.EngineLines.{HasTaken};
-ghost use Rattle.crx_engine.specs.ExpansionByLine.{expansion, expansion_seen};
+ghost use Rattle.crx_reading.specs.ExpansionByLine.{expansion, expansion_seen};
 ghost use Rattle.crx_engine.specs.ExpanderState.{expander_state};
 
 use crate::engine::{Engine, Step};

@@ -2,13 +2,13 @@
 
 ghost use Rattle.std.specs.Prelude.{◌≡◌};
 ghost use Rattle.crx_engine.specs.Holdings.{options_with, line_number_with, rinex_reader_with, ready_lines_with, compaction_with, compactor_with, compact_reader_with, expander_with, checker_with};
-ghost use Rattle.crx_engine.specs.declared.options.Options.TheInside.{Inside as OptionsInside};
-ghost use Rattle.crx_engine.specs.declared.line_number.LineNumber.TheInside.{Inside as LineNumberInside};
-ghost use Rattle.crx_engine.specs.declared.rinex_reader.RinexReader.{RinexReader};
-ghost use Rattle.crx_engine.specs.declared.ready_lines.ReadyLines.{ReadyLines};
+ghost use Rattle.crx_reading.specs.declared.options.Options.TheInside.{Inside as OptionsInside};
+ghost use Rattle.crx_reading.specs.declared.line_number.LineNumber.TheInside.{Inside as LineNumberInside};
+ghost use Rattle.crx_reading.specs.declared.rinex_reader.RinexReader.{RinexReader};
+ghost use Rattle.crx_reading.specs.declared.ready_lines.ReadyLines.{ReadyLines};
 ghost use Rattle.crx_engine.specs.declared.compaction.Compaction.{Compaction};
 ghost use Rattle.crx_engine.specs.declared.compactor.Compactor.{Compactor};
-ghost use Rattle.crx_engine.specs.declared.compact_reader.CompactReader.{CompactReader};
+ghost use Rattle.crx_reading.specs.declared.compact_reader.CompactReader.{CompactReader};
 ghost use Rattle.crx_engine.specs.declared.expander.Expander.{Expander};
 ghost use Rattle.crx_engine.specs.declared.checker.Checker.{Checker};
 

@@ -4,18 +4,18 @@ use Rattle.crx_lines.specs.declared.fault.Fault.{Fault}
 use Rattle.crx_lines.specs.declared.fault.At.{At}
 use Rattle.crx_lines.specs.meaning.Seen.{Content}
 use Rattle.crx_lines.specs.meaning.Lines.{InputLine, lines_of}
-use Rattle.crx_engine.specs.meaning.Choices.{Choices}
-use Rattle.crx_engine.specs.meaning.Messages.{message_text, warning_text}
-use Rattle.crx_engine.specs.meaning.Results.{FilterResult}
+use Rattle.crx_reading.specs.meaning.Choices.{Choices}
+use Rattle.crx_reading.specs.meaning.Messages.{message_text, warning_text}
+use Rattle.crx_reading.specs.meaning.Results.{FilterResult}
 use Rattle.crx_rinex.specs.meaning.Printing.{lines_text}
-use Rattle.crx_engine.specs.meaning.Compacted.{compacted}
-use Rattle.crx_engine.specs.meaning.Expanded.{expanded}
-use Rattle.crx_engine.specs.meaning.Standard.{Findings, checked}
-use Rattle.crx_engine.specs.CheckByLine.{CheckSeen, check_seen, check_next, found_by}
-use Rattle.crx_engine.specs.LineByLine.{Direction, Seen, Step, Answer, Notice, seen_next}
+use Rattle.crx_reading.specs.meaning.Compacted.{compacted}
+use Rattle.crx_reading.specs.meaning.Expanded.{expanded}
+use Rattle.crx_reading.specs.meaning.Standard.{Findings, checked}
+use Rattle.crx_reading.specs.CheckByLine.{CheckSeen, check_seen, check_next, found_by}
+use Rattle.crx_reading.specs.LineByLine.{Direction, Seen, Step, Answer, Notice, seen_next}
 use Rattle.crx_engine.specs.Laws.{is_again}
-use Rattle.crx_engine.specs.CompactionByLine.{compaction, compaction_seen}
-use Rattle.crx_engine.specs.ExpansionByLine.{expansion, expansion_seen}
+use Rattle.crx_reading.specs.CompactionByLine.{compaction, compaction_seen}
+use Rattle.crx_reading.specs.ExpansionByLine.{expansion, expansion_seen}
 use Rattle.crx_laws.specs.SmallFiles.{blanks}
 
 -- two types of GPS

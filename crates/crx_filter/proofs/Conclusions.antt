@@ -15,9 +15,9 @@ use Rattle.crx_lines.specs.declared.phase.Phase.TheVariants.{Open, Ended}
 use Rattle.crx_lines.proofs.ProgressLemmas.{HasRead-ended, HasRead-stopped}
 use Rattle.crx_filter.specs.declared.taking.Halt.{Halt}
 use Rattle.crx_filter.specs.declared.taking.Halt.TheVariants as halt
-use Rattle.crx_engine.specs.meaning.Results.{Course, good_status, result_of_course, status_after, are_some}
-use Rattle.crx_engine.specs.meaning.Filters.{Filter, with_next}
-use Rattle.crx_engine.specs.meaning.Messages.{error_text, notices_text}
+use Rattle.crx_reading.specs.meaning.Results.{Course, good_status, result_of_course, status_after, are_some}
+use Rattle.crx_reading.specs.meaning.Filters.{Filter, with_next}
+use Rattle.crx_reading.specs.meaning.Messages.{error_text, notices_text}
 use Rattle.crx_filter.specs.meaning.Spans.{Device, TookAll, Input}
 use Rattle.crx_filter.specs.Running.{WorkEnds, EndedByFault, EndsAt}
 use Rattle.crx_filter.specs.Endings.{Finishes, IsReported, IsFlushed, FlushFailed}

@@ -3,13 +3,13 @@ use Rattle.std.proofs.Common.{ℕ, ◌≡◌, List, ◌++◌, Option, Some, None
 use Rattle.std.specs.Prelude.{◌↔◌}
 use Rattle.crx_lines.specs.meaning.Lines.{lines_of}
 use Rattle.crx_lines.specs.declared.fault.At.{At}
-use Rattle.crx_engine.specs.meaning.Choices.{Choices}
-use Rattle.crx_engine.specs.meaning.Compacted.{compacted}
-use Rattle.crx_engine.specs.meaning.Expanded.{expanded}
-use Rattle.crx_engine.specs.meaning.Filters.{Filter}
-use Rattle.crx_engine.specs.meaning.Results.{FilterResult}
-use Rattle.crx_engine.specs.meaning.Standard.{Findings, findings_of, report_status, checked_by, checked}
-use Rattle.crx_engine.specs.meaning.WayBack.{HasNormalForm}
+use Rattle.crx_reading.specs.meaning.Choices.{Choices}
+use Rattle.crx_reading.specs.meaning.Compacted.{compacted}
+use Rattle.crx_reading.specs.meaning.Expanded.{expanded}
+use Rattle.crx_reading.specs.meaning.Filters.{Filter}
+use Rattle.crx_reading.specs.meaning.Results.{FilterResult}
+use Rattle.crx_reading.specs.meaning.Standard.{Findings, findings_of, report_status, checked_by, checked}
+use Rattle.crx_reading.specs.meaning.WayBack.{HasNormalForm}
 use Rattle.crx_engine.proofs.standard.CheckStandard.{named-where_not, standard-exactly_where_same}
 use Rattle.crx_engine.proofs.wayback.WayBack.{comes-back}
 use Rattle.crx_engine.proofs.wayback.Standard.{normal-comes_back, standard-comes_back}

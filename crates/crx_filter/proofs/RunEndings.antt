@@ -11,9 +11,9 @@ use Rattle.crx_lines.specs.declared.fault.Fault.TheVariants.{InputTooLong, ReadF
 use Rattle.crx_lines.proofs.ProgressLemmas.{HasRead-stopped}
 use Rattle.crx_filter.specs.declared.taking.Halt.{Halt}
 use Rattle.crx_filter.specs.declared.taking.Halt.TheVariants as halt
-use Rattle.crx_engine.specs.meaning.Results.{Course}
-use Rattle.crx_engine.specs.meaning.Filters.{Filter, with_next}
-use Rattle.crx_engine.specs.meaning.Messages.{error_text, notices_text}
+use Rattle.crx_reading.specs.meaning.Results.{Course}
+use Rattle.crx_reading.specs.meaning.Filters.{Filter, with_next}
+use Rattle.crx_reading.specs.meaning.Messages.{error_text, notices_text}
 use Rattle.crx_filter.specs.meaning.Spans.{Device, TookAll, AreNext, Input, IsPart}
 use Rattle.crx_filter.specs.Running.{EndsAt, WellDone, StoppedByReader, StoppedByLine, StoppedByEnd, StoppedAtStart}
 use Rattle.crx_filter.specs.Endings.{Finishes, IsReported, IsFlushed, FlushFailed, write_failed_at}

@@ -8,8 +8,8 @@ use Rattle.crx_lines.specs.meaning.Devices.{with_failed_write}
 use Rattle.crx_lines.specs.declared.fault.At.{At}
 use Rattle.crx_filter.specs.declared.taking.Halt.{Halt}
 use Rattle.crx_filter.specs.declared.taking.Halt.TheVariants.{Fault, Unwritten, Unreported}
-use Rattle.crx_engine.specs.meaning.Results.{Course}
-use Rattle.crx_engine.specs.meaning.Messages.{notices_text}
+use Rattle.crx_reading.specs.meaning.Results.{Course}
+use Rattle.crx_reading.specs.meaning.Messages.{notices_text}
 use Rattle.crx_filter.specs.meaning.Spans.{Device, TookAll, TookPart, IsPart}
 use Rattle.crx_filter.specs.Taking.{IsCut}
 use Rattle.crx_filter.specs.Running.{EndsAt}

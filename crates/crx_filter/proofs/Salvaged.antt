@@ -13,8 +13,8 @@ use Rattle.crx_lines.specs.declared.fault.Fault.TheVariants.{InputTooLong, ReadF
 use Rattle.crx_lines.specs.declared.phase.Phase.{Phase}
 use Rattle.crx_lines.specs.declared.phase.Phase.TheVariants.{Open, Ended}
 use Rattle.crx_lines.proofs.ProgressLemmas.{HasRead-ended}
-use Rattle.crx_engine.specs.meaning.Results.{Course, Begins}
-use Rattle.crx_engine.specs.meaning.Filters.{Filter, with_next}
+use Rattle.crx_reading.specs.meaning.Results.{Course, Begins}
+use Rattle.crx_reading.specs.meaning.Filters.{Filter, with_next}
 use Rattle.crx_filter.specs.meaning.Spans.{Input}
 use Rattle.crx_engine.specs.Lawful.{IsLawful}
 use Rattle.crx_filter.specs.meaning.Interruptions.{complete_lines, AreAll, AreTaken, IsTurn}

@@ -3,7 +3,7 @@ use Rattle.std.proofs.Common.{◌≡◌, ℕ, ◌+◌, Bool, List, [], ◌++◌,
 use Rattle.crx_lines.specs.meaning.Lines.{InputLine}
 use Rattle.crx_lines.specs.Reading.{ReaderState}
 use Rattle.crx_filter.specs.declared.taking.Halt.{Halt}
-use Rattle.crx_engine.specs.meaning.Filters.{Filter, with_next}
+use Rattle.crx_reading.specs.meaning.Filters.{Filter, with_next}
 use Rattle.crx_engine.specs.Engines.{Awaited}
 use Rattle.crx_filter.specs.meaning.Spans.{Device, Input}
 use Rattle.crx_filter.specs.Taking.{IsDone, IsCut}

@@ -15,7 +15,7 @@ use Rattle.crx_lines.specs.declared.line.Line.{Line}
 use Rattle.crx_lines.specs.declared.phase.Phase.{Phase}
 use Rattle.crx_lines.specs.declared.phase.Phase.TheVariants.{Open, Ended, Stopped}
 use Rattle.crx_lines.proofs.ProgressLemmas.{HasRead-next}
-use Rattle.crx_engine.specs.meaning.Filters.{with_next}
+use Rattle.crx_reading.specs.meaning.Filters.{with_next}
 
 -- a line was read: these lines and it
 pub record ReadsLine (gives : List ℕ → Type 0) (at_end : Type 0)

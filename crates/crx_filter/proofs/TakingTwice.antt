@@ -9,10 +9,10 @@ use Rattle.crx_filter.specs.declared.taking.Halt.{Halt}
 use Rattle.crx_filter.specs.declared.taking.Halt.TheVariants.{Fault, Unwritten, Unreported}
 use Rattle.crx_filter.specs.declared.taking.Once.{Once}
 use Rattle.crx_filter.specs.declared.taking.Once.TheVariants.{Done, Again}
-use Rattle.crx_engine.specs.meaning.Results.{Course}
-use Rattle.crx_engine.specs.meaning.Filters.{Filter, with_next}
+use Rattle.crx_reading.specs.meaning.Results.{Course}
+use Rattle.crx_reading.specs.meaning.Filters.{Filter, with_next}
 use Rattle.crx_engine.specs.Engines.{Awaited}
-use Rattle.crx_engine.specs.meaning.Messages.{warning_text, notices_text}
+use Rattle.crx_reading.specs.meaning.Messages.{warning_text, notices_text}
 use Rattle.crx_filter.specs.meaning.Spans.{Device, TookAll, TookPart, AreNext}
 use Rattle.crx_filter.specs.Taking.{IsDone, IsOnce, IsHalted, IsCut}
 

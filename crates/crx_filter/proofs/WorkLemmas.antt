@@ -5,11 +5,11 @@ use Rattle.crx_lines.specs.meaning.Lines.{InputLine}
 use Rattle.crx_lines.specs.Reading.{ReaderState}
 use Rattle.crx_lines.specs.declared.fault.At.{At}
 use Rattle.crx_filter.specs.declared.taking.Halt.{Halt}
-use Rattle.crx_engine.specs.meaning.Filters.{Filter}
+use Rattle.crx_reading.specs.meaning.Filters.{Filter}
 use Rattle.crx_engine.specs.Engines.{Awaited}
 use Rattle.crx_filter.specs.meaning.Spans.{Device, Input}
 use Rattle.crx_filter.specs.Taking.{IsDone, IsHalted}
-use Rattle.crx_engine.specs.meaning.Results.{are_some}
+use Rattle.crx_reading.specs.meaning.Results.{are_some}
 use Rattle.crx_filter.specs.Running.{IsRunning, GoesOnBy, ComesToEnd, StopsAt, WellDone, StoppedByEnd, WorkEnds}
 use Rattle.crx_filter.proofs.RunningSteps.{ends-at, more-written, more-reported}
 

@@ -6,8 +6,8 @@ use Rattle.crx_lines.specs.declared.fault.Fault.TheVariants.{WriteFailed}
 use Rattle.crx_filter.specs.declared.taking.Halt.{Halt}
 use Rattle.crx_filter.specs.declared.taking.Halt.TheVariants.{Unwritten, Unreported}
 use Rattle.crx_filter.specs.declared.taking.Halt.TheVariants as halt
-use Rattle.crx_engine.specs.meaning.Messages.{error_text}
-use Rattle.crx_engine.specs.meaning.Results.{good_status}
+use Rattle.crx_reading.specs.meaning.Messages.{error_text}
+use Rattle.crx_reading.specs.meaning.Results.{good_status}
 use Rattle.crx_filter.specs.meaning.Spans.{Device, TookAll, TookPart}
 
 -- a write that failed, at the last line that was read

@@ -9,10 +9,10 @@ use Rattle.crx_lines.specs.declared.phase.Phase.TheVariants.{Open, Ended, Stoppe
 use Rattle.crx_lines.specs.declared.fault.Fault.TheVariants.{OutOfMemory}
 use Rattle.crx_filter.specs.declared.taking.Halt.{Halt}
 use Rattle.crx_filter.specs.declared.taking.Halt.TheVariants.{Fault, Unwritten, Unreported}
-use Rattle.crx_engine.specs.meaning.Results.{Course, are_some}
-use Rattle.crx_engine.specs.meaning.Filters.{Filter, with_next}
+use Rattle.crx_reading.specs.meaning.Results.{Course, are_some}
+use Rattle.crx_reading.specs.meaning.Filters.{Filter, with_next}
 use Rattle.crx_engine.specs.Engines.{Awaited}
-use Rattle.crx_engine.specs.meaning.Messages.{notices_text}
+use Rattle.crx_reading.specs.meaning.Messages.{notices_text}
 use Rattle.crx_filter.specs.meaning.Spans.{Device, TookAll, AreNext, Input, IsPart}
 
 -- these lines were read of an input, and what they make was written and reported

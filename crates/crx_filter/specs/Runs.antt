@@ -1,8 +1,8 @@
 -- Beside meaning/Runs: what code and proofs see of it.
 use Rattle.std.specs.Prelude.{ℕ, List}
 use Rattle.crx_lines.specs.meaning.Lines.{lines_of}
-use Rattle.crx_engine.specs.meaning.Filters.{Filter}
-use Rattle.crx_engine.specs.meaning.Results.{FilterResult, result_of_course}
+use Rattle.crx_reading.specs.meaning.Filters.{Filter}
+use Rattle.crx_reading.specs.meaning.Results.{FilterResult, result_of_course}
 
 -- ---- the whole run
 

@@ -12,11 +12,11 @@ use Rattle.crx_filter.specs.declared.taking.Taken.{Taken}
 use Rattle.crx_filter.specs.declared.taking.Taken.TheVariants.{Line, Overlong}
 use Rattle.crx_filter.specs.declared.taking.Once.{Once}
 use Rattle.crx_filter.specs.declared.taking.Once.TheVariants.{Done, Again}
-use Rattle.crx_engine.specs.meaning.Results.{Course}
-use Rattle.crx_engine.specs.meaning.Filters.{Filter, with_next}
+use Rattle.crx_reading.specs.meaning.Results.{Course}
+use Rattle.crx_reading.specs.meaning.Filters.{Filter, with_next}
 use Rattle.crx_engine.specs.Engines.{Awaited, awaited_notices as warnings_awaited, EndsWith}
-use Rattle.crx_engine.specs.meaning.Messages.{notices_text}
-pub use Rattle.crx_engine.specs.meaning.Results.{are_some}
+use Rattle.crx_reading.specs.meaning.Messages.{notices_text}
+pub use Rattle.crx_reading.specs.meaning.Results.{are_some}
 use Rattle.crx_filter.specs.meaning.Spans.{Device, TookAll, TookPart, AreNext}
 
 -- the line that was taken is this one

@@ -3,10 +3,10 @@
 ghost use Rattle.std.specs.Prelude.{◌≡◌, ℕ, List, [], None, Some};
 ghost use Rattle.crx_lines.specs.declared.fault.At.{At};
 ghost use Rattle.crx_engine.specs.CheckerState.{CheckerHasTaken, CheckerIsOpen, pending_report};
-ghost use Rattle.crx_engine.specs.meaning.Directions.{check_filter};
+ghost use Rattle.crx_reading.specs.meaning.Directions.{check_filter};
 ghost use Rattle.crx_filter.specs.meaning.Promises.{JudgesStandard, Keeps};
 ghost use Rattle.crx_filter.specs.meaning.Runs.{Runs};
-ghost use Rattle.crx_engine.specs.meaning.Standard.{checked, report_status};
+ghost use Rattle.crx_reading.specs.meaning.Standard.{checked, report_status};
 ghost use Rattle.crx_filter.specs.meaning.Spans.{span};
 ghost use Rattle.crx_filter.specs.meaning.Spans.{reader_span};
 

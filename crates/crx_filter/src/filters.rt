@@ -1,9 +1,9 @@
 //! Both filters over a whole input.
 
 ghost use Rattle.std.specs.Prelude.{◌≡◌, ℕ, List};
-ghost use Rattle.crx_engine.specs.meaning.Compacted.{compacted};
-ghost use Rattle.crx_engine.specs.meaning.Directions.{compaction_filter, expansion_filter};
-ghost use Rattle.crx_engine.specs.meaning.Expanded.{expanded};
+ghost use Rattle.crx_reading.specs.meaning.Compacted.{compacted};
+ghost use Rattle.crx_reading.specs.meaning.Directions.{compaction_filter, expansion_filter};
+ghost use Rattle.crx_reading.specs.meaning.Expanded.{expanded};
 ghost use Rattle.crx_filter.specs.meaning.Promises.{BringsBackWhatWasCompacted, Keeps, SavesAllElse};
 ghost use Rattle.crx_filter.specs.meaning.Runs.{Runs};
 ghost use Rattle.crx_filter.specs.meaning.Spans.{span};

@@ -1,7 +1,7 @@
 //! Messages about faults.
 
 ghost use Rattle.std.specs.Prelude.{◌≡◌, ◌≤◌, length};
-ghost use Rattle.crx_engine.specs.meaning.Messages.{message_text};
+ghost use Rattle.crx_reading.specs.meaning.Messages.{message_text};
 ghost use Rattle.crx_filter.specs.Severities.{word_of};
 
 use crx_engine::appending::append;

@@ -1,7 +1,7 @@
 //! The start of a run: an engine that was made, or couldn't be since memory ran out.
 
 ghost use Rattle.std.specs.Prelude.{◌≡◌, ℕ, List, [], IfOk};
-ghost use Rattle.crx_engine.specs.meaning.Filters.{Filter};
+ghost use Rattle.crx_reading.specs.meaning.Filters.{Filter};
 ghost use Rattle.crx_engine.specs.Lawful.{IsLawful};
 ghost use Rattle.crx_filter.specs.Runs.{result_by};
 ghost use Rattle.crx_filter.specs.meaning.Runs.{Runs};

@@ -14,11 +14,12 @@ use Rattle.crx_rinex.specs.meaning.EpochLines.{begins_epoch, is_event_flag, is_e
 use Rattle.crx_rinex.specs.meaning.Places.{Place, Here, Wrong, Wanted, one_line}
 use Rattle.crx_rinex.specs.meaning.Units.{Unit as FileUnit, Observation}
 use Rattle.crx_history.specs.meaning.CompactPlaces.{ReadEpoch, epoch_at}
-use Rattle.crx_engine.specs.meaning.Items.{Item, Accepted, Warned, records_left, types_in_force}
-use Rattle.crx_engine.specs.meaning.Reading.{Reading, AtLines, Looking, is_skipped, looked_for, reading_within}
-use Rattle.crx_engine.specs.meaning.Reading.{reading_from}
+use Rattle.crx_reading.specs.meaning.Items.{Item, Accepted, Warned, records_left, types_in_force}
+use Rattle.crx_reading.specs.meaning.Reading.{Reading, AtLines, Looking, is_skipped, looked_for, reading_within}
+use Rattle.crx_reading.specs.meaning.Reading.{reading_from}
 use Rattle.crx_lines.specs.meaning.Faults.{is_skippable}
-use Rattle.crx_engine.specs.meaning.Expanded.{raws_kept, event_line, as_observation, compact_epoch_place, compact_place}
+use Rattle.crx_reading.specs.meaning.Expanded.{raws_kept, event_line, as_observation, compact_epoch_place}
+use Rattle.crx_reading.specs.meaning.Expanded.{compact_place}
 use Rattle.crx_engine.specs.Anew.{IsBetweenUnits}
 use Rattle.crx_engine.proofs.reading.Resuming.{by_place, here-within, wrong-stays, within-here, within-wrong}
 use Rattle.crx_engine.proofs.reading.Resuming.{within-wanted, fault-skipped, looked-on}

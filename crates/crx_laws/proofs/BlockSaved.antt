@@ -9,16 +9,16 @@ use Rattle.crx_rinex.specs.meaning.Observations.{Epoch}
 use Rattle.crx_rinex.specs.meaning.EpochLines.{begins_epoch, is_event_line}
 use Rattle.crx_rinex.specs.meaning.Units.{Observation}
 use Rattle.crx_history.specs.meaning.CompactPlaces.{ReadEpoch}
-use Rattle.crx_engine.specs.meaning.Choices.{Choices}
-use Rattle.crx_engine.specs.meaning.Items.{Item, Accepted, Warned, header_has_ended, records_announced, records_left}
-use Rattle.crx_engine.specs.meaning.Items.{types_in_force}
-use Rattle.crx_engine.specs.meaning.Reading.{Reading, WholeReading, AtLines, reading_from, ended_reading}
+use Rattle.crx_reading.specs.meaning.Choices.{Choices}
+use Rattle.crx_reading.specs.meaning.Items.{Item, Accepted, Warned, header_has_ended, records_announced, records_left}
+use Rattle.crx_reading.specs.meaning.Items.{types_in_force}
+use Rattle.crx_reading.specs.meaning.Reading.{Reading, WholeReading, AtLines, reading_from, ended_reading}
 use Rattle.crx_engine.specs.Laws.{continued_reading, AreInPlace}
-use Rattle.crx_engine.specs.meaning.Compacted.{version_line, program_line, compact_unit, compact_lines}
-use Rattle.crx_engine.specs.meaning.Expanded.{compact_place}
-use Rattle.crx_engine.specs.meaning.WayBack.{HaveNoReturns}
+use Rattle.crx_reading.specs.meaning.Compacted.{version_line, program_line, compact_unit, compact_lines}
+use Rattle.crx_reading.specs.meaning.Expanded.{compact_place}
+use Rattle.crx_reading.specs.meaning.WayBack.{HaveNoReturns}
 use Rattle.crx_engine.specs.Anew.{IsBetweenUnits, GoOnAlike, starts_anew}
-use Rattle.crx_engine.specs.meaning.Damage.{lines_of_epochs, with_epochs, IsDamaged}
+use Rattle.crx_reading.specs.meaning.Damage.{lines_of_epochs, with_epochs, IsDamaged}
 use Rattle.crx_engine.proofs.reading.Resuming.{within-wanted, resumed}
 use Rattle.crx_engine.proofs.reading.Anew.{depends-on_types}
 use Rattle.crx_engine.proofs.reading.ForwardCompact.{compact-forward}

@@ -15,19 +15,19 @@ use Rattle.crx_rinex.specs.meaning.Units.{Observation}
 use Rattle.crx_history.specs.meaning.Compaction.{epoch_line}
 use Rattle.crx_history.specs.meaning.CompactPlaces.{ReadEpoch}
 use Rattle.crx_compact.specs.Laws.{LinesCanStand}
-use Rattle.crx_engine.specs.meaning.Choices.{Choices, is_date}
-use Rattle.crx_engine.specs.meaning.Items.{Item, Accepted, header_has_ended, records_left, types_in_force}
-use Rattle.crx_engine.specs.meaning.Reading.{Reading, WholeReading, reading_from, ended_reading}
-use Rattle.crx_engine.specs.meaning.Messages.{notices_text, warnings_in}
-use Rattle.crx_engine.specs.meaning.Results.{status_after, result_of}
-use Rattle.crx_engine.specs.meaning.Compacted.{marked_epochs, version_line, program_line, compact_unit, compact_lines}
-use Rattle.crx_engine.specs.meaning.Compacted.{whole_rinex}
-use Rattle.crx_engine.specs.meaning.Expanded.{compact_place, expanded_unit, whole_compact, expanded}
+use Rattle.crx_reading.specs.meaning.Choices.{Choices, is_date}
+use Rattle.crx_reading.specs.meaning.Items.{Item, Accepted, header_has_ended, records_left, types_in_force}
+use Rattle.crx_reading.specs.meaning.Reading.{Reading, WholeReading, reading_from, ended_reading}
+use Rattle.crx_reading.specs.meaning.Messages.{notices_text, warnings_in}
+use Rattle.crx_reading.specs.meaning.Results.{status_after, result_of}
+use Rattle.crx_reading.specs.meaning.Compacted.{marked_epochs, version_line, program_line, compact_unit, compact_lines}
+use Rattle.crx_reading.specs.meaning.Compacted.{whole_rinex}
+use Rattle.crx_reading.specs.meaning.Expanded.{compact_place, expanded_unit, whole_compact, expanded}
 use Rattle.crx_engine.specs.Expanded.{expanded_lines}
-use Rattle.crx_engine.specs.meaning.Standard.{whole_of, printed_items}
+use Rattle.crx_reading.specs.meaning.Standard.{whole_of, printed_items}
 use Rattle.crx_engine.specs.Laws.{AreInPlace, ItemsAreRead}
 use Rattle.crx_engine.specs.Anew.{IsBetweenUnits}
-use Rattle.crx_engine.specs.meaning.Damage.{lines_of_epochs, with_epochs, lines_after, IsDamaged, IsSalvaged}
+use Rattle.crx_reading.specs.meaning.Damage.{lines_of_epochs, with_epochs, lines_after, IsDamaged, IsSalvaged}
 use Rattle.crx_engine.specs.Damage.{IsOfCompaction}
 use Rattle.crx_engine.proofs.reading.WhatWasRead.{items-read}
 use Rattle.crx_engine.proofs.wayback.Carried.{started, types-same}

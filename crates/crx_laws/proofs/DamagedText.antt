@@ -13,7 +13,7 @@ use Rattle.crx_lines.specs.meaning.Seen.{Content, Overlong, seen}
 use Rattle.crx_lines.proofs.PieceLemmas.{EachEnded, pieces-first}
 use Rattle.crx_rinex.specs.meaning.EpochLines.{begins_epoch}
 use Rattle.crx_rinex.specs.meaning.Printing.{lines_text}
-use Rattle.crx_engine.specs.meaning.Damage.{may_replace}
+use Rattle.crx_reading.specs.meaning.Damage.{may_replace}
 use Rattle.crx_engine.proofs.wayback.Cut.{IsClean, seen-clean}
 use Rattle.crx_laws.proofs.BlockReading.{IsInside}
 

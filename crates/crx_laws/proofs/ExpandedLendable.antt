@@ -22,17 +22,20 @@ use Rattle.crx_rinex.specs.meaning.Units.{Unit as FileUnit, HeaderLine, EventLin
 use Rattle.crx_rinex.proofs.ReadingBack.{length-row, length-head}
 use Rattle.crx_history.specs.meaning.CompactPlaces.{ReadEpoch, epoch_at}
 use Rattle.crx_compact.specs.ReadingLaws.{IsGood}
-use Rattle.crx_engine.specs.meaning.Choices.{Choices}
-use Rattle.crx_engine.specs.meaning.Items.{Item, Accepted, Warned, is_at_start, header_has_ended, records_left}
-use Rattle.crx_engine.specs.meaning.Items.{records_count_types, types_in_force}
-use Rattle.crx_engine.specs.meaning.UnitPlaces.{unless_wrong, types_fault, header_line_fault, header_line, event_record}
-use Rattle.crx_engine.specs.meaning.Reading.{Reading, AtFault, AtLines, is_skipped, can_go_on, looked_for}
-use Rattle.crx_engine.specs.meaning.Reading.{reading_within, reading_from}
-use Rattle.crx_engine.specs.meaning.Expanded.{raws_kept, event_line, as_observation, compact_epoch_place, compact_place}
-use Rattle.crx_engine.specs.meaning.Expanded.{first_lines, expanded_unit}
-use Rattle.crx_engine.specs.meaning.Directions.{compact_reading}
+use Rattle.crx_reading.specs.meaning.Choices.{Choices}
+use Rattle.crx_reading.specs.meaning.Items.{Item, Accepted, Warned, is_at_start, header_has_ended, records_left}
+use Rattle.crx_reading.specs.meaning.Items.{records_count_types, types_in_force}
+use Rattle.crx_reading.specs.meaning.UnitPlaces.{unless_wrong, types_fault, header_line_fault, header_line}
+use Rattle.crx_reading.specs.meaning.UnitPlaces.{event_record}
+use Rattle.crx_reading.specs.meaning.Reading.{Reading, AtFault, AtLines, is_skipped, can_go_on, looked_for}
+use Rattle.crx_reading.specs.meaning.Reading.{reading_within, reading_from}
+use Rattle.crx_reading.specs.meaning.Expanded.{raws_kept, event_line, as_observation, compact_epoch_place}
+use Rattle.crx_reading.specs.meaning.Expanded.{compact_place}
+use Rattle.crx_reading.specs.meaning.Expanded.{first_lines, expanded_unit}
+use Rattle.crx_reading.specs.meaning.Directions.{compact_reading}
 use Rattle.crx_engine.specs.Bounds.{AreLendable, OfUnits, longest_printed, IsNotTooLong, ExpandedIsLendable}
-use Rattle.crx_engine.proofs.reading.Resuming.{by_bool, by_place, within-here, within-wrong, within-wanted}
+use Rattle.crx_reading.proofs.Choosing.{by_bool}
+use Rattle.crx_engine.proofs.reading.Resuming.{by_place, within-here, within-wrong, within-wanted}
 use Rattle.crx_engine.proofs.reading.Resuming.{fault-skipped, fault-ends, looked-here, looked-on}
 use Rattle.crx_engine.proofs.reading.WhatWasRead.{compact-items-read}
 use Rattle.crx_engine.proofs.wayback.ExpandedWhole.{AreGoodEpochs, epochs-good}

@@ -8,11 +8,11 @@ use Rattle.crx_lines.specs.declared.fault.Fault.TheVariants.{Truncated}
 use Rattle.crx_rinex.specs.meaning.EpochLines.{begins_epoch}
 use Rattle.crx_rinex.specs.meaning.Places.{Wanted}
 use Rattle.crx_history.specs.meaning.CompactPlaces.{ReadEpoch}
-use Rattle.crx_engine.specs.meaning.Items.{Item, Warned, header_has_ended, records_left, types_in_force}
-use Rattle.crx_engine.specs.meaning.Reading.{Reading, WholeReading, AtLines, is_skipped, looked_for, reading_within}
-use Rattle.crx_engine.specs.meaning.Reading.{reading_from, fault_at_end, ended_with, ended_reading}
+use Rattle.crx_reading.specs.meaning.Items.{Item, Warned, header_has_ended, records_left, types_in_force}
+use Rattle.crx_reading.specs.meaning.Reading.{Reading, WholeReading, AtLines, is_skipped, looked_for, reading_within}
+use Rattle.crx_reading.specs.meaning.Reading.{reading_from, fault_at_end, ended_with, ended_reading}
 use Rattle.crx_engine.specs.Laws.{continued_reading}
-use Rattle.crx_engine.specs.meaning.Expanded.{compact_place}
+use Rattle.crx_reading.specs.meaning.Expanded.{compact_place}
 use Rattle.crx_engine.specs.Anew.{IsBetweenUnits}
 use Rattle.crx_engine.proofs.reading.Resuming.{enough-units, within-wrong, fault-skipped, looked-here}
 use Rattle.crx_engine.proofs.reading.ForwardCompact.{compact-forward}

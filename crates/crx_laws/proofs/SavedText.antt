@@ -10,14 +10,14 @@ use Rattle.crx_rinex.specs.meaning.Printing.{printed_epoch}
 use Rattle.crx_rinex.specs.meaning.Units.{HeaderLine, EventLine, EventRecord, Observation}
 use Rattle.crx_history.specs.meaning.CompactPlaces.{ReadEpoch}
 use Rattle.crx_compact.specs.ReadingLaws.{IsGood}
-use Rattle.crx_engine.specs.meaning.Items.{Item, Accepted, Warned, ends_header, header_has_ended, records_left}
-use Rattle.crx_engine.specs.meaning.Items.{types_in_force}
-use Rattle.crx_engine.specs.meaning.Reading.{Reading}
-use Rattle.crx_engine.specs.meaning.Messages.{warnings_in}
-use Rattle.crx_engine.specs.meaning.Expanded.{compact_place, expanded_unit}
+use Rattle.crx_reading.specs.meaning.Items.{Item, Accepted, Warned, ends_header, header_has_ended, records_left}
+use Rattle.crx_reading.specs.meaning.Items.{types_in_force}
+use Rattle.crx_reading.specs.meaning.Reading.{Reading}
+use Rattle.crx_reading.specs.meaning.Messages.{warnings_in}
+use Rattle.crx_reading.specs.meaning.Expanded.{compact_place, expanded_unit}
 use Rattle.crx_engine.specs.Expanded.{expanded_lines}
 use Rattle.crx_engine.specs.Laws.{ItemsAreRead}
-use Rattle.crx_engine.specs.meaning.Damage.{with_epochs}
+use Rattle.crx_reading.specs.meaning.Damage.{with_epochs}
 use Rattle.crx_engine.proofs.wayback.ExpandedWhole.{AreGoodEpochs, epochs-good}
 use Rattle.crx_engine.proofs.wayback.Items.{read_back}
 use Rattle.crx_laws.proofs.BlockReading.{EndsBlock, with_reads}

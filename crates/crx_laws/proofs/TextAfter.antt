@@ -13,16 +13,16 @@ use Rattle.crx_rinex.specs.meaning.Places.{Here}
 use Rattle.crx_rinex.specs.meaning.Units.{HeaderLine, EventLine, EventRecord, Observation}
 use Rattle.crx_history.specs.meaning.Compaction.{Marked, compact_epoch, epoch_line}
 use Rattle.crx_compact.specs.Laws.{LinesCanStand, has_no_epochs}
-use Rattle.crx_engine.specs.meaning.Choices.{Choices}
-use Rattle.crx_engine.specs.meaning.Items.{Item, Accepted, Warned, ends_header, header_has_ended, records_announced}
-use Rattle.crx_engine.specs.meaning.Items.{records_left}
-use Rattle.crx_engine.specs.meaning.Reading.{AtLines, reading_from}
+use Rattle.crx_reading.specs.meaning.Choices.{Choices}
+use Rattle.crx_reading.specs.meaning.Items.{Item, Accepted, Warned, ends_header, header_has_ended, records_announced}
+use Rattle.crx_reading.specs.meaning.Items.{records_left}
+use Rattle.crx_reading.specs.meaning.Reading.{AtLines, reading_from}
 use Rattle.crx_engine.specs.Laws.{continued_reading, AreInPlace}
-use Rattle.crx_engine.specs.meaning.Results.{written_lines}
-use Rattle.crx_engine.specs.meaning.Compacted.{is_interrupted, is_at_every, is_in_full, marked_epochs, epochs_accepted}
-use Rattle.crx_engine.specs.meaning.Expanded.{compact_place}
+use Rattle.crx_reading.specs.meaning.Results.{written_lines}
+use Rattle.crx_reading.specs.meaning.Compacted.{is_interrupted, is_at_every, is_in_full, marked_epochs, epochs_accepted}
+use Rattle.crx_reading.specs.meaning.Expanded.{compact_place}
 use Rattle.crx_engine.specs.Anew.{starts_anew}
-use Rattle.crx_engine.specs.meaning.Damage.{BeginsAnew}
+use Rattle.crx_reading.specs.meaning.Damage.{BeginsAnew}
 use Rattle.crx_engine.proofs.reading.Resuming.{within-wanted, resumed}
 use Rattle.crx_engine.proofs.reading.ForwardCompact.{compact-forward}
 use Rattle.crx_engine.proofs.wayback.Carried.{one-unit, at-line}

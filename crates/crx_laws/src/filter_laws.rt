@@ -7,21 +7,21 @@ ghost use Rattle.crx_lines.specs.declared.fault.Fault.TheVariants.{NotAnEpoch, N
 ghost use Rattle.crx_lines.specs.declared.fault.At.{At};
 ghost use Rattle.crx_engine.specs.Anew.{starts_anew, DependsOnTypes};
 ghost use Rattle.crx_engine.specs.Bounds.{IsBoundedCompaction, IsBoundedExpansion, CompactIsLendable, ExpandedIsLendable};
-ghost use Rattle.crx_engine.specs.meaning.Choices.{Choices};
-ghost use Rattle.crx_engine.specs.CompactionByLine.{compaction, compaction_seen};
+ghost use Rattle.crx_reading.specs.meaning.Choices.{Choices};
+ghost use Rattle.crx_reading.specs.CompactionByLine.{compaction, compaction_seen};
 ghost use Rattle.crx_laws.specs.SmallFiles.{header, line_at, one_type_line, full_line_at, second_changed};
-ghost use Rattle.crx_engine.specs.ExpansionByLine.{expansion, expansion_seen};
-ghost use Rattle.crx_engine.specs.meaning.Compacted.{rinex_place, whole_rinex, compacted};
+ghost use Rattle.crx_reading.specs.ExpansionByLine.{expansion, expansion_seen};
+ghost use Rattle.crx_reading.specs.meaning.Compacted.{rinex_place, whole_rinex, compacted};
 ghost use Rattle.crx_engine.specs.Compacted.{compacted_so_far};
-ghost use Rattle.crx_engine.specs.meaning.Directions.{rinex_reading};
-ghost use Rattle.crx_engine.specs.meaning.Directions.{compaction_filter, expansion_filter};
+ghost use Rattle.crx_reading.specs.meaning.Directions.{rinex_reading};
+ghost use Rattle.crx_reading.specs.meaning.Directions.{compaction_filter, expansion_filter};
 ghost use Rattle.crx_engine.specs.Lawful.{IsLawful};
-ghost use Rattle.crx_engine.specs.meaning.Expanded.{compact_place, whole_compact, expanded};
+ghost use Rattle.crx_reading.specs.meaning.Expanded.{compact_place, whole_compact, expanded};
 ghost use Rattle.crx_engine.specs.Expanded.{expanded_so_far};
-ghost use Rattle.crx_engine.specs.meaning.Directions.{compact_reading};
+ghost use Rattle.crx_reading.specs.meaning.Directions.{compact_reading};
 ghost use Rattle.crx_rinex.specs.meaning.Printing.{lines_text};
 ghost use Rattle.crx_engine.specs.Laws.{IsReadForward, IsResumed, IsWrittenFirst, IsCompactedOn, IsExpandedOn, IsCompactionEnded, IsExpansionEnded, StaysEnded, ItemsAreRead, AreInPlace, IsReadyWhereLent};
-ghost use Rattle.crx_engine.specs.meaning.Reading.{fault_of_stop};
+ghost use Rattle.crx_reading.specs.meaning.Reading.{fault_of_stop};
 
 /// What stands at a line of a RINEX file is certain as soon as its last line has come; so the reading of some lines and more goes on
 /// from where the reading of the first lines stopped.

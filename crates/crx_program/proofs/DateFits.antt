@@ -9,7 +9,7 @@ use Rattle.clap.proofs.WalkLemmas.{both}
 use Rattle.jiff.specs.Types.{DateTime}
 use Rattle.jiff.specs.Words.{days_in_month}
 use Rattle.crx_columns.specs.meaning.Texts.{is_printable}
-use Rattle.crx_engine.specs.meaning.Choices.{is_date}
+use Rattle.crx_reading.specs.meaning.Choices.{is_date}
 use Rattle.crx_program.specs.meaning.Dates.{IsDateText, date_text_of, months, two_digits}
 use Rattle.crx_program.specs.meaning.Jobs.{IsDefaultDate}
 

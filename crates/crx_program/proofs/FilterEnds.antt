@@ -2,7 +2,7 @@
 use Rattle.std.proofs.Common.{◌≡◌, ℕ, List, Option, Some, None, is_some, subst, sym, true, true≢false}
 use Rattle.crx_lines.specs.declared.device.Sink.{Ghosts as SinkGhosts}
 use Rattle.crx_lines.specs.declared.device.Source.{Ghosts as SourceGhosts}
-use Rattle.crx_engine.specs.meaning.Choices.{Choices}
+use Rattle.crx_reading.specs.meaning.Choices.{Choices}
 use Rattle.crx_filter.specs.meaning.Spans.{Input, Device, reader_span}
 use Rattle.crx_program.specs.meaning.Jobs.{IsJobDone, IsFilteredFrom, IsFilteredInto, IsNotBegun}
 use Rattle.crx_program.specs.declared.job.Job.{Job}

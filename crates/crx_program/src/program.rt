@@ -2,7 +2,7 @@
 
 ghost use Rattle.std.specs.Prelude.{◌≡◌, ◌⊎◌, IfOk, is_some, map, string_bytes, true};
 ghost use Rattle.std.specs.Option.{option_map_or};
-ghost use Rattle.crx_engine.specs.meaning.Choices.{choices_of, is_date};
+ghost use Rattle.crx_reading.specs.meaning.Choices.{choices_of, is_date};
 ghost use Rattle.crx_program.specs.meaning.Planning.{Help, Refusal, Refused, Run, plan_of};
 ghost use Rattle.crx_program.specs.meaning.Jobs.{is_unread, IsChosen, IsJobDone, IsFiltered, IsFilteredFrom, IsFilteredInto, IsFilteredToFile, IsNotBegun};
 ghost use Rattle.crx_program.specs.meaning.Program.{IsHelped, IsRefused, IsShown, at_start};

@@ -11,9 +11,9 @@ use Rattle.crx_lines.specs.declared.fault.At.{At}
 use Rattle.crx_lines.proofs.ProgressLemmas.{lines-first, lines-last, ended_lines-first, ended_lines-none}
 use Rattle.crx_engine.specs.Engines.{Awaited}
 use Rattle.crx_engine.specs.Lawful.{IsLawful}
-use Rattle.crx_engine.specs.meaning.Filters.{Filter, with_next}
-use Rattle.crx_engine.specs.meaning.Messages.{notices_text, warning_text}
-use Rattle.crx_engine.specs.meaning.Results.{Begins, Course, are_some}
+use Rattle.crx_reading.specs.meaning.Filters.{Filter, with_next}
+use Rattle.crx_reading.specs.meaning.Messages.{notices_text, warning_text}
+use Rattle.crx_reading.specs.meaning.Results.{Begins, Course, are_some}
 use Rattle.rnxcmp_c.specs.declared.held.Held.{Held}
 use Rattle.rnxcmp_c.specs.declared.devices.Collected.{Collected}
 use Rattle.rnxcmp_c.specs.Going.{HandlePast, fed_with, IsText, IsGoing, IsBroken, Breaks, MovesOn, EndsThere, LineStops}

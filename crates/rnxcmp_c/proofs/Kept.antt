@@ -3,12 +3,12 @@ use Rattle.std.proofs.Common.{ℕ, ◌≡◌, ◌≤◌, List, length, Option, S
 use Rattle.std.specs.Prelude.{◌↔◌, true}
 use Rattle.std.proofs.lemmas.Bool.{le-leb}
 use Rattle.crx_lines.specs.meaning.Lines.{lines_of}
-use Rattle.crx_engine.specs.meaning.Choices.{Choices}
-use Rattle.crx_engine.specs.meaning.Compacted.{compacted}
-use Rattle.crx_engine.specs.meaning.Expanded.{expanded}
-use Rattle.crx_engine.specs.meaning.WayBack.{HasNormalForm}
-use Rattle.crx_engine.specs.meaning.Results.{FilterResult}
-use Rattle.crx_engine.specs.meaning.Standard.{Findings, checked, checked_by, findings_of, report_status}
+use Rattle.crx_reading.specs.meaning.Choices.{Choices}
+use Rattle.crx_reading.specs.meaning.Compacted.{compacted}
+use Rattle.crx_reading.specs.meaning.Expanded.{expanded}
+use Rattle.crx_reading.specs.meaning.WayBack.{HasNormalForm}
+use Rattle.crx_reading.specs.meaning.Results.{FilterResult}
+use Rattle.crx_reading.specs.meaning.Standard.{Findings, checked, checked_by, findings_of, report_status}
 use Rattle.crx_engine.proofs.standard.CheckStandard.{named-where_not}
 use Rattle.crx_engine.proofs.wayback.WayBack.{comes-back}
 use Rattle.crx_engine.proofs.wayback.Standard.{normal-comes_back, standard-comes_back}

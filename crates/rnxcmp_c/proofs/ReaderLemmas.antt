@@ -4,12 +4,12 @@ use Rattle.std.proofs.Common.{append-nil, append_assoc}
 use Rattle.crx_lines.specs.meaning.Lines.{lines_of}
 use Rattle.crx_lines.specs.declared.fault.At.{At}
 use Rattle.crx_lines.specs.declared.fault.Fault.TheVariants.{OutOfMemory}
-use Rattle.crx_engine.specs.meaning.Directions.{check_filter, report_unless}
+use Rattle.crx_reading.specs.meaning.Directions.{check_filter, report_unless}
 use Rattle.crx_engine.specs.Lawful.{IsLawful}
-use Rattle.crx_engine.specs.meaning.Filters.{Filter}
-use Rattle.crx_engine.specs.meaning.Messages.{error_text, notices_text}
-use Rattle.crx_engine.specs.meaning.Results.{Begins, Course, FilterResult, good_status, result_of_course, status_after}
-use Rattle.crx_engine.specs.meaning.Standard.{Findings, checked_by, findings_of, report_status, whole_of}
+use Rattle.crx_reading.specs.meaning.Filters.{Filter}
+use Rattle.crx_reading.specs.meaning.Messages.{error_text, notices_text}
+use Rattle.crx_reading.specs.meaning.Results.{Begins, Course, FilterResult, good_status, result_of_course, status_after}
+use Rattle.crx_reading.specs.meaning.Standard.{Findings, checked_by, findings_of, report_status, whole_of}
 use Rattle.crx_engine.proofs.following.CheckLawful.{check-lawful}
 use Rattle.crx_engine.proofs.following.Lawful.{compaction-lawful, expansion-lawful}
 use Rattle.crx_filter.specs.declared.outcome.Outcome.{Outcome}

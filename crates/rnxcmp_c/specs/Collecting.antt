@@ -2,7 +2,7 @@
 use Rattle.std.specs.Prelude.{◌≡◌}
 use Rattle.crx_lines.specs.meaning.Faults.{code_of_fault}
 use Rattle.crx_lines.specs.declared.fault.Fault.TheVariants.{OutOfMemory}
-use Rattle.crx_engine.specs.meaning.Results.{FilterResult}
+use Rattle.crx_reading.specs.meaning.Results.{FilterResult}
 use Rattle.crx_filter.specs.declared.outcome.Outcome.{Outcome}
 use Rattle.rnxcmp_c.specs.meaning.Answers.{fault_code_in}
 use Rattle.rnxcmp_c.specs.declared.devices.Collected.{Collected}

@@ -6,9 +6,9 @@ use Rattle.crx_lines.specs.Reading.{HasNoFeed}
 use Rattle.crx_lines.specs.declared.fault.At.{At}
 use Rattle.crx_lines.specs.declared.fault.Fault.TheVariants.{OutOfMemory}
 use Rattle.crx_engine.specs.Engines.{Awaited}
-use Rattle.crx_engine.specs.meaning.Filters.{Filter}
-use Rattle.crx_engine.specs.meaning.Messages.{notices_text}
-use Rattle.crx_engine.specs.meaning.Results.{Begins, Course, are_some}
+use Rattle.crx_reading.specs.meaning.Filters.{Filter}
+use Rattle.crx_reading.specs.meaning.Messages.{notices_text}
+use Rattle.crx_reading.specs.meaning.Results.{Begins, Course, are_some}
 use Rattle.crx_filter.specs.declared.taking.Halt.{Halt}
 use Rattle.crx_filter.specs.declared.taking.Halt.TheVariants.{Fault, Unwritten, Unreported}
 use Rattle.rnxcmp_c.specs.declared.devices.Collected.{Collected}

@@ -6,22 +6,22 @@ use Rattle.crx_lines.specs.declared.limits.TheConstants.{INPUT_LIMIT}
 use Rattle.crx_lines.specs.declared.fault.At.{At}
 use Rattle.crx_lines.specs.declared.fault.Fault.TheVariants.{InputTooLong, OutOfMemory}
 use Rattle.crx_lines.specs.meaning.Faults.{code_of_fault}
-use Rattle.crx_engine.specs.meaning.Choices.{Choices}
-use Rattle.crx_engine.specs.meaning.Compacted.{compacted}
-use Rattle.crx_engine.specs.meaning.Expanded.{expanded}
-use Rattle.crx_engine.specs.meaning.Filters.{Filter}
-use Rattle.crx_engine.specs.meaning.Results.{Begins, FilterResult, good_status}
-use Rattle.crx_engine.specs.meaning.Messages.{error_text}
-use Rattle.crx_engine.specs.meaning.Standard.{checked, report_status}
-use Rattle.crx_engine.specs.meaning.Directions.{check_filter}
+use Rattle.crx_reading.specs.meaning.Choices.{Choices}
+use Rattle.crx_reading.specs.meaning.Compacted.{compacted}
+use Rattle.crx_reading.specs.meaning.Expanded.{expanded}
+use Rattle.crx_reading.specs.meaning.Filters.{Filter}
+use Rattle.crx_reading.specs.meaning.Results.{Begins, FilterResult, good_status}
+use Rattle.crx_reading.specs.meaning.Messages.{error_text}
+use Rattle.crx_reading.specs.meaning.Standard.{checked, report_status}
+use Rattle.crx_reading.specs.meaning.Directions.{check_filter}
 use Rattle.crx_engine.specs.CheckerState.{CheckerHasTaken, CheckerIsOpen, HasEnded as CheckerHasEnded, pending_report}
-use Rattle.crx_engine.specs.CompactionByLine.{compaction, compaction_seen}
+use Rattle.crx_reading.specs.CompactionByLine.{compaction, compaction_seen}
 use Rattle.crx_engine.specs.CompactorState.{compactor_ready, compactor_seen}
-use Rattle.crx_engine.specs.meaning.Directions.{compaction_filter, expansion_filter}
+use Rattle.crx_reading.specs.meaning.Directions.{compaction_filter, expansion_filter}
 use Rattle.crx_engine.specs.EngineLines.{HasTaken}
 use Rattle.crx_engine.specs.Engines.{Awaited}
 use Rattle.crx_engine.specs.ExpanderState.{expander_state}
-use Rattle.crx_engine.specs.ExpansionByLine.{expansion, expansion_seen}
+use Rattle.crx_reading.specs.ExpansionByLine.{expansion, expansion_seen}
 use Rattle.crx_filter.specs.declared.outcome.Outcome.{Outcome}
 use Rattle.crx_filter.specs.meaning.Runs.{FaultIs}
 use Rattle.rnxcmp_c.specs.Going.{AreFirstWarnings, IsGoing, HandlePast, fed_with}

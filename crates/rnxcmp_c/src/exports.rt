@@ -5,10 +5,10 @@
 //! far as it does. Else nothing in the caller's rooms is changed.
 
 ghost use Rattle.std.specs.Prelude.{◌≡◌, ◌<◌, ◌≤◌, length, Some, true, false};
-ghost use Rattle.crx_engine.specs.meaning.Choices.{Choices, choices_of, is_date};
-ghost use Rattle.crx_engine.specs.meaning.Compacted.{compacted};
-ghost use Rattle.crx_engine.specs.meaning.Expanded.{expanded};
-ghost use Rattle.crx_engine.specs.meaning.Standard.{checked};
+ghost use Rattle.crx_reading.specs.meaning.Choices.{Choices, choices_of, is_date};
+ghost use Rattle.crx_reading.specs.meaning.Compacted.{compacted};
+ghost use Rattle.crx_reading.specs.meaning.Expanded.{expanded};
+ghost use Rattle.crx_reading.specs.meaning.Standard.{checked};
 ghost use Rattle.crx_lines.specs.declared.limits.TheConstants.{INPUT_LIMIT};
 ghost use Rattle.rnxcmp_c.specs.meaning.Answers.{HasNoMemory, IsAnswer, IsDateRefused, CallIsOutOfMemory, IsTooLong, rooms};
 ghost use Rattle.rnxcmp_c.specs.meaning.Promises.{CallBringsBackWhatWasCompacted, CallJudgesStandard, CallSavesAllElse};

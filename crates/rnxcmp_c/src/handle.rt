@@ -5,7 +5,7 @@
 //! texts while the run goes on, and the whole of them after its end.
 
 ghost use Rattle.std.specs.Prelude.{◌≡◌, ◌⊎◌, [], IfSome, length, take, Some, true, false};
-ghost use Rattle.crx_engine.specs.meaning.Choices.{Choices, choices_of, is_date};
+ghost use Rattle.crx_reading.specs.meaning.Choices.{Choices, choices_of, is_date};
 ghost use Rattle.crx_lines.specs.declared.fault.Fault.TheVariants.{OutOfMemory};
 ghost use Rattle.crx_lines.specs.meaning.Faults.{code_of_fault};
 ghost use Rattle.rnxcmp_c.specs.Going.{HandlePast};

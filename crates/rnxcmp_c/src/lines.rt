@@ -5,7 +5,7 @@ ghost use Rattle.crx_lines.specs.declared.fault.At.{At};
 ghost use Rattle.crx_lines.specs.declared.limits.TheConstants.{INPUT_LIMIT};
 ghost use Rattle.crx_lines.specs.meaning.Lines.{InputLine, ends_with_return, lines_of, without_return};
 ghost use Rattle.crx_engine.specs.Lawful.{IsLawful};
-ghost use Rattle.crx_engine.specs.meaning.Filters.{with_next};
+ghost use Rattle.crx_reading.specs.meaning.Filters.{with_next};
 ghost use Rattle.rnxcmp_c.specs.Going.{Breaks, LineFails, IsAll, IsGoing, IsKept, MovesOn, HandlePast, LineStops, RanOutAt, StopsBy, fed_with, piece_line};
 
 use crate::devices::Collected;

@@ -1,10 +1,10 @@
 //! Runs over the caller's input, whose output and messages are collected.
 
 ghost use Rattle.std.specs.Prelude.{◌≡◌, ◌≢◌, ◌⊎◌, ◌≤◌, length, IfErr, IfOk, OnErr};
-ghost use Rattle.crx_engine.specs.meaning.Compacted.{compacted};
-ghost use Rattle.crx_engine.specs.meaning.Expanded.{expanded};
-ghost use Rattle.crx_engine.specs.meaning.Results.{FilterResult};
-ghost use Rattle.crx_engine.specs.meaning.Standard.{checked};
+ghost use Rattle.crx_reading.specs.meaning.Compacted.{compacted};
+ghost use Rattle.crx_reading.specs.meaning.Expanded.{expanded};
+ghost use Rattle.crx_reading.specs.meaning.Results.{FilterResult};
+ghost use Rattle.crx_reading.specs.meaning.Standard.{checked};
 ghost use Rattle.crx_lines.specs.declared.limits.TheConstants.{INPUT_LIMIT};
 ghost use Rattle.crx_lines.specs.declared.fault.Fault.TheVariants.{OutOfMemory};
 ghost use Rattle.crx_lines.specs.meaning.Faults.{code_of_fault};

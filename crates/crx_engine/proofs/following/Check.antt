@@ -5,17 +5,17 @@ use Rattle.crx_lines.specs.meaning.Seen.{ReadLine}
 use Rattle.crx_rinex.specs.meaning.Observations.{Epoch}
 use Rattle.crx_rinex.specs.meaning.Units.{Unit as FileUnit, Observation, printed_unit}
 use Rattle.crx_rinex.specs.meaning.EpochPlaces.{epoch_place}
-use Rattle.crx_engine.specs.meaning.Items.{Item, types_in_force}
-use Rattle.crx_engine.specs.meaning.Messages.{warnings_in}
-use Rattle.crx_engine.specs.meaning.Reading.{Reading}
+use Rattle.crx_reading.specs.meaning.Items.{Item, types_in_force}
+use Rattle.crx_reading.specs.meaning.Messages.{warnings_in}
+use Rattle.crx_reading.specs.meaning.Reading.{Reading}
 use Rattle.crx_engine.specs.Laws.{continued_reading, IsFollowed, IsEndedBy, fed}
-use Rattle.crx_engine.specs.meaning.Reading.{fault_of_stop}
-use Rattle.crx_engine.specs.meaning.Compacted.{rinex_place, whole_rinex}
-use Rattle.crx_engine.specs.meaning.Directions.{rinex_reading}
-use Rattle.crx_engine.specs.CompactionByLine.{rinex_open}
-use Rattle.crx_engine.specs.LineByLine.{seen_of, seen_end}
-use Rattle.crx_engine.specs.meaning.Standard.{printed_items}
-use Rattle.crx_engine.specs.CheckByLine.{Totals, checking, totals_of, no_choices}
+use Rattle.crx_reading.specs.meaning.Reading.{fault_of_stop}
+use Rattle.crx_reading.specs.meaning.Compacted.{rinex_place, whole_rinex}
+use Rattle.crx_reading.specs.meaning.Directions.{rinex_reading}
+use Rattle.crx_reading.specs.CompactionByLine.{rinex_open}
+use Rattle.crx_reading.specs.LineByLine.{seen_of, seen_end}
+use Rattle.crx_reading.specs.meaning.Standard.{printed_items}
+use Rattle.crx_reading.specs.CheckByLine.{Totals, checking, totals_of, no_choices}
 use Rattle.crx_engine.proofs.reading.Forward.{rinex-forward}
 use Rattle.crx_engine.proofs.reading.Resuming.{resumed}
 use Rattle.crx_engine.proofs.following.Following.{seen_in, IsCarriedOut, Follows}

@@ -3,11 +3,11 @@ use Rattle.std.proofs.Common.{◌≡◌, false, [], ◌++◌, map, Some, refl, a
 use Rattle.std.proofs.lemmas.List.{map-append}
 use Rattle.crx_lines.specs.meaning.Seen.{seen}
 use Rattle.crx_rinex.specs.meaning.Observations.{Epoch}
-use Rattle.crx_engine.specs.meaning.Reading.{WholeReading}
+use Rattle.crx_reading.specs.meaning.Reading.{WholeReading}
 use Rattle.crx_engine.specs.Lawful.{IsLawful}
-use Rattle.crx_engine.specs.meaning.Compacted.{whole_rinex}
-use Rattle.crx_engine.specs.meaning.Standard.{whole_reading_of, findings_of}
-use Rattle.crx_engine.specs.meaning.Directions.{report_unless, check_filter}
+use Rattle.crx_reading.specs.meaning.Compacted.{whole_rinex}
+use Rattle.crx_reading.specs.meaning.Standard.{whole_reading_of, findings_of}
+use Rattle.crx_reading.specs.meaning.Directions.{report_unless, check_filter}
 use Rattle.crx_engine.proofs.reading.StaysEnded.{rinex-stays}
 use Rattle.crx_engine.proofs.reading.FineReadings.{rinex-found, rinex-found-at-end}
 

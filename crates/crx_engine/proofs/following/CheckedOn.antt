@@ -8,15 +8,15 @@ use Rattle.crx_lines.specs.meaning.Seen.{ReadLine, seen}
 use Rattle.crx_lines.specs.declared.fault.At.{At}
 use Rattle.crx_rinex.specs.meaning.Observations.{Epoch}
 use Rattle.crx_rinex.specs.Printing.{last_line}
-use Rattle.crx_engine.specs.meaning.Reading.{Reading}
-use Rattle.crx_engine.specs.meaning.Directions.{rinex_reading}
-use Rattle.crx_engine.specs.CompactionByLine.{rinex_open}
-use Rattle.crx_engine.specs.LineByLine.{Seen, Step, made_in, seen_next, seen_of, phase_of}
+use Rattle.crx_reading.specs.meaning.Reading.{Reading}
+use Rattle.crx_reading.specs.meaning.Directions.{rinex_reading}
+use Rattle.crx_reading.specs.CompactionByLine.{rinex_open}
+use Rattle.crx_reading.specs.LineByLine.{Seen, Step, made_in, seen_next, seen_of, phase_of}
 use Rattle.crx_engine.specs.Laws.{Fed, fed, fed_once, failed_by, is_again}
-use Rattle.crx_engine.specs.meaning.Reading.{fault_of_stop}
-use Rattle.crx_engine.specs.meaning.Standard.{printed_items, is_standard_line, first_not_standard}
-use Rattle.crx_engine.specs.CheckByLine.{Totals, checking, totals_of, printed_open, printed_so_far, printed_made}
-use Rattle.crx_engine.specs.CheckByLine.{earliest, CheckSeen, no_choices, check_seen, check_next}
+use Rattle.crx_reading.specs.meaning.Reading.{fault_of_stop}
+use Rattle.crx_reading.specs.meaning.Standard.{printed_items, is_standard_line, first_not_standard}
+use Rattle.crx_reading.specs.CheckByLine.{Totals, checking, totals_of, printed_open, printed_so_far, printed_made}
+use Rattle.crx_reading.specs.CheckByLine.{earliest, CheckSeen, no_choices, check_seen, check_next}
 use Rattle.crx_engine.specs.CheckingLaws.{IsCheckedOn}
 use Rattle.crx_rinex.specs.meaning.EpochPlaces.{OpenEpoch}
 use Rattle.crx_engine.proofs.following.Following.{fed-once}

@@ -2,16 +2,16 @@
 use Rattle.std.proofs.Common.{◌≡◌, ◌+◌, List, [], ◌∷◌, ◌++◌, length, sym, subst, arith, length-append}
 use Rattle.crx_lines.specs.meaning.Seen.{ReadLine}
 use Rattle.crx_rinex.specs.meaning.Observations.{Epoch}
-use Rattle.crx_engine.specs.meaning.Choices.{Choices}
-use Rattle.crx_engine.specs.meaning.Reading.{Reading}
+use Rattle.crx_reading.specs.meaning.Choices.{Choices}
+use Rattle.crx_reading.specs.meaning.Reading.{Reading}
 use Rattle.crx_engine.specs.Laws.{continued_reading, IsFollowed, IsCompactedOn, fed}
-use Rattle.crx_engine.specs.meaning.Reading.{fault_of_stop}
-use Rattle.crx_engine.specs.meaning.Messages.{warnings_in}
-use Rattle.crx_engine.specs.LineByLine.{seen_of}
-use Rattle.crx_engine.specs.meaning.Compacted.{rinex_place, compact_unit}
+use Rattle.crx_reading.specs.meaning.Reading.{fault_of_stop}
+use Rattle.crx_reading.specs.meaning.Messages.{warnings_in}
+use Rattle.crx_reading.specs.LineByLine.{seen_of}
+use Rattle.crx_reading.specs.meaning.Compacted.{rinex_place, compact_unit}
 use Rattle.crx_engine.specs.Compacted.{compaction_so_far}
-use Rattle.crx_engine.specs.meaning.Directions.{rinex_reading}
-use Rattle.crx_engine.specs.CompactionByLine.{compaction, compaction_seen, rinex_open, written_of}
+use Rattle.crx_reading.specs.meaning.Directions.{rinex_reading}
+use Rattle.crx_reading.specs.CompactionByLine.{compaction, compaction_seen, rinex_open, written_of}
 use Rattle.crx_engine.proofs.reading.Forward.{rinex-forward}
 use Rattle.crx_engine.proofs.reading.Resuming.{resumed}
 use Rattle.crx_engine.proofs.following.Following.{Follows}

@@ -10,17 +10,18 @@ use Rattle.crx_rinex.specs.Steady.{Remains}
 use Rattle.crx_history.specs.meaning.CompactPlaces.{ReadEpoch}
 use Rattle.crx_compact.specs.OpenEpochs.{OpenRawEpoch}
 use Rattle.crx_history.specs.Tails.{Tail}
-use Rattle.crx_engine.specs.meaning.Choices.{Choices}
-use Rattle.crx_engine.specs.meaning.Reading.{Reading, AtFault, AtLines, reading_from}
+use Rattle.crx_reading.specs.meaning.Choices.{Choices}
+use Rattle.crx_reading.specs.meaning.Reading.{Reading, AtFault, AtLines, reading_from}
 use Rattle.crx_engine.specs.Laws.{continued_reading, IsFollowed, IsExpandedOn, fed, fed_once}
-use Rattle.crx_engine.specs.meaning.Reading.{fault_of_stop}
+use Rattle.crx_reading.specs.meaning.Reading.{fault_of_stop}
 use Rattle.crx_lines.specs.meaning.Faults.{is_skippable}
-use Rattle.crx_engine.specs.meaning.Messages.{warnings_in}
-use Rattle.crx_engine.specs.LineByLine.{Phase, InFirstLines, InHeader, Ended, Seen, Fails, moved_to, step_of_made}
-use Rattle.crx_engine.specs.LineByLine.{seen_next, seen_of}
-use Rattle.crx_engine.specs.meaning.Expanded.{compact_place, crinex_version, crinex_program, first_lines, expanded_unit}
+use Rattle.crx_reading.specs.meaning.Messages.{warnings_in}
+use Rattle.crx_reading.specs.LineByLine.{Phase, InFirstLines, InHeader, Ended, Seen, Fails, moved_to, step_of_made}
+use Rattle.crx_reading.specs.LineByLine.{seen_next, seen_of}
+use Rattle.crx_reading.specs.meaning.Expanded.{compact_place, crinex_version, crinex_program, first_lines}
+use Rattle.crx_reading.specs.meaning.Expanded.{expanded_unit}
 use Rattle.crx_engine.specs.Expanded.{expanded_lines}
-use Rattle.crx_engine.specs.ExpansionByLine.{expansion, compact_open, tail_of_items}
+use Rattle.crx_reading.specs.ExpansionByLine.{expansion, compact_open, tail_of_items}
 use Rattle.crx_engine.proofs.reading.Resuming.{resumed}
 use Rattle.crx_engine.proofs.reading.ForwardCompact.{compact-forward, steady-first_lines}
 use Rattle.crx_engine.proofs.following.Following.{seen_in, Follows, fed-once, failed-ends}

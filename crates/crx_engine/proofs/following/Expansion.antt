@@ -20,14 +20,15 @@ use Rattle.crx_compact.specs.ReadingLaws.{is_wanted}
 use Rattle.crx_compact.proofs.soundness.Soundness.{reads-soundly}
 use Rattle.crx_compact.proofs.reading.RawTailing.{place-by_tail, left-by_tail}
 use Rattle.crx_compact.proofs.reading.LineByLine.{steps-agree, wanted-where_open, steps-from_open}
-use Rattle.crx_engine.specs.meaning.Choices.{Choices}
-use Rattle.crx_engine.specs.meaning.Items.{Item, types_in_force, records_count_types}
-use Rattle.crx_engine.specs.meaning.Expanded.{raws_kept, empties_state, event_line, as_observation, compact_epoch_place}
-use Rattle.crx_engine.specs.meaning.Expanded.{expanded_unit}
-use Rattle.crx_engine.specs.LineByLine.{Made, made_of_unit}
-use Rattle.crx_engine.specs.ExpansionByLine.{made_of_raw_step, compact_begins, expansion, tail_of_items, begins_event}
-use Rattle.crx_engine.specs.ExpansionByLine.{compact_open}
-use Rattle.crx_engine.proofs.reading.Resuming.{by_bool}
+use Rattle.crx_reading.specs.meaning.Choices.{Choices}
+use Rattle.crx_reading.specs.meaning.Items.{Item, types_in_force, records_count_types}
+use Rattle.crx_reading.specs.meaning.Expanded.{raws_kept, empties_state, event_line, as_observation}
+use Rattle.crx_reading.specs.meaning.Expanded.{compact_epoch_place}
+use Rattle.crx_reading.specs.meaning.Expanded.{expanded_unit}
+use Rattle.crx_reading.specs.LineByLine.{Made, made_of_unit}
+use Rattle.crx_reading.specs.ExpansionByLine.{made_of_raw_step, compact_begins, expansion, tail_of_items, begins_event}
+use Rattle.crx_reading.specs.ExpansionByLine.{compact_open}
+use Rattle.crx_reading.proofs.Choosing.{by_bool}
 use Rattle.crx_engine.proofs.reading.ForwardCompact.{compact-forward}
 use Rattle.crx_engine.proofs.following.Following.{IsSameEpoch, AgreeOn, IsCarriedOut}
 

@@ -12,24 +12,25 @@ use Rattle.crx_rinex.specs.meaning.ObservationTypes.{Count}
 use Rattle.crx_rinex.specs.meaning.Places.{Place, Here, Wrong, Wanted}
 use Rattle.crx_rinex.specs.Steady.{Remains, IsDecidedAfter}
 use Rattle.crx_rinex.specs.meaning.Units.{Unit as FileUnit, HeaderLine, EventLine, EventRecord, Observation}
-use Rattle.crx_engine.specs.meaning.Choices.{Choices}
-use Rattle.crx_engine.specs.meaning.Items.{Item, Accepted, Warned, is_at_start, header_has_ended, records_announced}
-use Rattle.crx_engine.specs.meaning.Items.{records_left, counts_types, records_count_types, types_in_force}
-use Rattle.crx_engine.specs.meaning.UnitPlaces.{unit_place}
-use Rattle.crx_engine.specs.meaning.Reading.{Reading, AtFault, AtLines, Looking, is_skipped, can_go_on, looked_for}
-use Rattle.crx_engine.specs.meaning.Reading.{reading_within}
+use Rattle.crx_reading.specs.meaning.Choices.{Choices}
+use Rattle.crx_reading.specs.meaning.Items.{Item, Accepted, Warned, is_at_start, header_has_ended, records_announced}
+use Rattle.crx_reading.specs.meaning.Items.{records_left, counts_types, records_count_types, types_in_force}
+use Rattle.crx_reading.specs.meaning.UnitPlaces.{unit_place}
+use Rattle.crx_reading.specs.meaning.Reading.{Reading, AtFault, AtLines, Looking, is_skipped, can_go_on, looked_for}
+use Rattle.crx_reading.specs.meaning.Reading.{reading_within}
 use Rattle.crx_lines.specs.meaning.Faults.{is_skippable}
-use Rattle.crx_engine.specs.meaning.Results.{written_lines}
-use Rattle.crx_engine.specs.meaning.Messages.{warnings_in}
-use Rattle.crx_engine.specs.LineByLine.{Phase, InFirstLines, InHeader, BetweenUnits, InEvent, InEpoch, LookingOn}
-use Rattle.crx_engine.specs.LineByLine.{Closed, Ended, Seen, Made, Completes, Moves, Fails, Repeats, Direction, Quiet}
-use Rattle.crx_engine.specs.LineByLine.{Ready, Notice, Failed, Step, with_records_left, after_record, phase_after}
-use Rattle.crx_engine.specs.LineByLine.{types_after, may_skip, is_in_epoch, is_skipped_in, kept_in, after_unit}
-use Rattle.crx_engine.specs.LineByLine.{with_phase, after_warning, failed_step, step_of_made, seen_next, phase_in_body}
-use Rattle.crx_engine.specs.LineByLine.{phase_after_items, seen_of}
+use Rattle.crx_reading.specs.meaning.Results.{written_lines}
+use Rattle.crx_reading.specs.meaning.Messages.{warnings_in}
+use Rattle.crx_reading.specs.LineByLine.{Phase, InFirstLines, InHeader, BetweenUnits, InEvent, InEpoch, LookingOn}
+use Rattle.crx_reading.specs.LineByLine.{Closed, Ended, Seen, Made, Completes, Moves, Fails, Repeats, Direction, Quiet}
+use Rattle.crx_reading.specs.LineByLine.{Ready, Notice, Failed, Step, with_records_left, after_record, phase_after}
+use Rattle.crx_reading.specs.LineByLine.{types_after, may_skip, is_in_epoch, is_skipped_in, kept_in, after_unit}
+use Rattle.crx_reading.specs.LineByLine.{with_phase, after_warning, failed_step, step_of_made, seen_next, phase_in_body}
+use Rattle.crx_reading.specs.LineByLine.{phase_after_items, seen_of}
 use Rattle.crx_engine.specs.Laws.{IsReadForward, IsFollowed, Fed, fed, fed_once, fed_twice, is_again}
-use Rattle.crx_engine.specs.meaning.Reading.{fault_of_stop}
-use Rattle.crx_engine.proofs.reading.Resuming.{by_bool, here-within, wrong-within, within-here, within-wrong}
+use Rattle.crx_reading.specs.meaning.Reading.{fault_of_stop}
+use Rattle.crx_reading.proofs.Choosing.{by_bool}
+use Rattle.crx_engine.proofs.reading.Resuming.{here-within, wrong-within, within-here, within-wrong}
 use Rattle.crx_engine.proofs.reading.Resuming.{within-wanted, fault-skipped, fault-ends, looked-here, looked-on}
 
 -- ---- what a direction has to keep to

@@ -6,18 +6,18 @@ use Rattle.crx_lines.specs.meaning.Seen.{ReadLine, seen}
 use Rattle.crx_lines.specs.declared.fault.At.{At}
 use Rattle.crx_rinex.specs.meaning.Observations.{Epoch}
 use Rattle.crx_history.specs.meaning.CompactPlaces.{ReadEpoch}
-use Rattle.crx_engine.specs.meaning.Choices.{Choices}
-use Rattle.crx_engine.specs.meaning.Reading.{WholeReading}
+use Rattle.crx_reading.specs.meaning.Choices.{Choices}
+use Rattle.crx_reading.specs.meaning.Reading.{WholeReading}
 use Rattle.crx_rinex.specs.meaning.Printing.{lines_text}
-use Rattle.crx_engine.specs.meaning.Results.{Begins, whole_course}
-use Rattle.crx_engine.specs.meaning.Reading.{fault_of_stop}
-use Rattle.crx_engine.specs.meaning.Compacted.{rinex_place, compact_unit, compact_lines, whole_rinex}
+use Rattle.crx_reading.specs.meaning.Results.{Begins, whole_course}
+use Rattle.crx_reading.specs.meaning.Reading.{fault_of_stop}
+use Rattle.crx_reading.specs.meaning.Compacted.{rinex_place, compact_unit, compact_lines, whole_rinex}
 use Rattle.crx_engine.specs.Compacted.{compacted_so_far}
-use Rattle.crx_engine.specs.meaning.Directions.{rinex_reading}
-use Rattle.crx_engine.specs.meaning.Expanded.{expanded_unit, whole_compact}
+use Rattle.crx_reading.specs.meaning.Directions.{rinex_reading}
+use Rattle.crx_reading.specs.meaning.Expanded.{expanded_unit, whole_compact}
 use Rattle.crx_engine.specs.Expanded.{expanded_lines, expanded_so_far}
-use Rattle.crx_engine.specs.meaning.Directions.{compact_reading}
-use Rattle.crx_engine.specs.meaning.Directions.{course_so_far, compaction_filter, expansion_filter}
+use Rattle.crx_reading.specs.meaning.Directions.{compact_reading}
+use Rattle.crx_reading.specs.meaning.Directions.{course_so_far, compaction_filter, expansion_filter}
 use Rattle.crx_engine.specs.Lawful.{IsLawful}
 use Rattle.crx_engine.proofs.reading.Forward.{rinex-forward}
 use Rattle.crx_engine.proofs.reading.Prefixes.{text-more, whole-items}

@@ -14,23 +14,24 @@ use Rattle.crx_rinex.proofs.Counts.{types_of-push}
 use Rattle.std.proofs.lemmas.Option.{none-some}
 use Rattle.crx_rinex.specs.meaning.Places.{Place, Wanted, one_line, first_line}
 use Rattle.crx_rinex.specs.meaning.Units.{Unit as FileUnit, HeaderLine, EventRecord}
-use Rattle.crx_engine.specs.meaning.Choices.{Choices}
-use Rattle.crx_engine.specs.meaning.Items.{Item, Accepted, Warned, is_at_start, header_has_ended, records_left}
-use Rattle.crx_engine.specs.meaning.Items.{records_count_types, declaring_lines, types_in_force}
-use Rattle.crx_engine.specs.meaning.UnitPlaces.{unless_wrong, types_fault, header_line_fault, header_line, event_record}
-use Rattle.crx_engine.specs.meaning.UnitPlaces.{unit_place}
-use Rattle.crx_engine.specs.meaning.Reading.{Reading, Stop, AtFault, AtLines, Looking, is_skipped, can_go_on}
-use Rattle.crx_engine.specs.meaning.Reading.{reading_within, reading_from}
+use Rattle.crx_reading.specs.meaning.Choices.{Choices}
+use Rattle.crx_reading.specs.meaning.Items.{Item, Accepted, Warned, is_at_start, header_has_ended, records_left}
+use Rattle.crx_reading.specs.meaning.Items.{records_count_types, declaring_lines, types_in_force}
+use Rattle.crx_reading.specs.meaning.UnitPlaces.{unless_wrong, types_fault, header_line_fault, header_line}
+use Rattle.crx_reading.specs.meaning.UnitPlaces.{event_record, unit_place}
+use Rattle.crx_reading.specs.meaning.Reading.{Reading, Stop, AtFault, AtLines, Looking, is_skipped, can_go_on}
+use Rattle.crx_reading.specs.meaning.Reading.{reading_within, reading_from}
 use Rattle.crx_lines.specs.meaning.Faults.{is_skippable}
 use Rattle.crx_engine.specs.Laws.{continued_reading, IsReadForward, fed, fed_once, fed_twice, is_again}
-use Rattle.crx_engine.specs.meaning.Results.{written_lines}
-use Rattle.crx_engine.specs.meaning.Messages.{warnings_in}
-use Rattle.crx_engine.specs.LineByLine.{Phase, InHeader, BetweenUnits, InEvent, InEpoch, LookingOn, Seen, Made}
-use Rattle.crx_engine.specs.LineByLine.{Completes, Moves, Fails, Repeats, Direction, Notice, Step, made_of_unit}
-use Rattle.crx_engine.specs.LineByLine.{made_in, phase_after, types_after, may_skip, is_in_epoch, is_skipped_in}
-use Rattle.crx_engine.specs.LineByLine.{kept_in, after_warning, failed_step, step_of_made, seen_next, phase_in_body}
-use Rattle.crx_engine.specs.LineByLine.{phase_after_items, seen_of}
-use Rattle.crx_engine.proofs.reading.Resuming.{by_bool, enough-units, looked-here, looked-on}
+use Rattle.crx_reading.specs.meaning.Results.{written_lines}
+use Rattle.crx_reading.specs.meaning.Messages.{warnings_in}
+use Rattle.crx_reading.specs.LineByLine.{Phase, InHeader, BetweenUnits, InEvent, InEpoch, LookingOn, Seen, Made}
+use Rattle.crx_reading.specs.LineByLine.{Completes, Moves, Fails, Repeats, Direction, Notice, Step, made_of_unit}
+use Rattle.crx_reading.specs.LineByLine.{made_in, phase_after, types_after, may_skip, is_in_epoch, is_skipped_in}
+use Rattle.crx_reading.specs.LineByLine.{kept_in, after_warning, failed_step, step_of_made, seen_next, phase_in_body}
+use Rattle.crx_reading.specs.LineByLine.{phase_after_items, seen_of}
+use Rattle.crx_reading.proofs.Choosing.{by_bool, false-true}
+use Rattle.crx_engine.proofs.reading.Resuming.{enough-units, looked-here, looked-on}
 use Rattle.crx_engine.proofs.following.Following.{seen_in, AgreeOn, IsCarriedOut, AreKept, IsInside, Follows}
 use Rattle.crx_engine.proofs.following.Following.{emptied-same, skipped-same, body-place, body-phase, fed-once}
 use Rattle.crx_engine.proofs.following.Following.{fed-twice, failed-ends, failed-skipped, followed-unit, followed-end}
@@ -47,9 +48,6 @@ quiet-elsewhere direction seen line (Fails fault) e = by_bool (is_skipped_in see
     (λ on. ap (λ (s : Step _ _). is_again s.answer) (failed-skipped direction seen line fault on)
     ∙ ap (λ b. b && can_go_on line) e)
     (λ off. ap (λ (s : Step _ _). is_again s.answer) (failed-ends direction seen line fault off))
-
-pub false-true : {X : Type 0} → false ≡ true → X
-false-true e = absurd (cc)
 
 -- what is kept of a line that comes twice, in the order of its two steps
 followed-twice : {E U O K : Type 0} (direction : Direction U O K) (open_with : List (Item E) → List ReadLine → Option O)

@@ -10,26 +10,30 @@ use Rattle.crx_rinex.specs.meaning.EpochLines.{begins_epoch, is_event_line}
 use Rattle.crx_rinex.specs.meaning.ObservationTypes.{Count, count_in, count_of_types_line, is_types_line}
 use Rattle.crx_rinex.specs.meaning.Places.{Place, Wrong, Wanted, first_line, one_line}
 use Rattle.crx_rinex.specs.meaning.Units.{Unit as FileUnit, HeaderLine, EventRecord}
-use Rattle.crx_engine.specs.meaning.Choices.{Choices}
-use Rattle.crx_engine.specs.meaning.Items.{Item, Warned, is_at_start, header_has_ended, records_left}
-use Rattle.crx_engine.specs.meaning.Items.{records_count_types, types_in_force}
-use Rattle.crx_engine.specs.meaning.Memory.{line_takes, memory_allowed, place_takes, takes_after_warning}
-use Rattle.crx_engine.specs.meaning.Reading.{Stop, AtFault, AtLines, Looking, is_skipped, can_go_on}
-use Rattle.crx_engine.specs.meaning.UnitPlaces.{event_record, header_line, header_line_fault, types_fault, unit_place}
-use Rattle.crx_engine.specs.meaning.UnitPlaces.{unless_wrong}
+use Rattle.crx_reading.specs.meaning.Choices.{Choices}
+use Rattle.crx_reading.specs.meaning.Items.{Item, Warned, is_at_start, header_has_ended, records_left}
+use Rattle.crx_reading.specs.meaning.Items.{records_count_types, types_in_force}
+use Rattle.crx_reading.specs.meaning.Memory.{line_takes, memory_allowed, place_takes, takes_after_warning}
+use Rattle.crx_reading.specs.meaning.Reading.{Stop, AtFault, AtLines, Looking, is_skipped, can_go_on}
+use Rattle.crx_reading.specs.meaning.UnitPlaces.{event_record, header_line, header_line_fault, types_fault, unit_place}
+use Rattle.crx_reading.specs.meaning.UnitPlaces.{unless_wrong}
 use Rattle.crx_engine.specs.Laws.{is_again}
-use Rattle.crx_engine.specs.LineByLine.{Answer, BetweenUnits, Completes, Direction, Ended, Failed, Fails, InEpoch, InEvent}
-use Rattle.crx_engine.specs.LineByLine.{InHeader, Made, Moves, Notice, Phase, Quiet, Ready, Repeats, Seen, Step}
-use Rattle.crx_engine.specs.LineByLine.{after_warning, is_in_epoch, is_skipped_in, kept_in, phase_after_items, phase_in_body}
-use Rattle.crx_engine.specs.LineByLine.{seen_next, seen_of, step_of_made, with_phase}
-use Rattle.crx_engine.specs.Memory.{may_take_memory, takes_memory}
+use Rattle.crx_reading.specs.LineByLine.{Answer, BetweenUnits, Completes, Direction, Ended, Failed, Fails, InEpoch}
+use Rattle.crx_reading.specs.LineByLine.{InEvent}
+use Rattle.crx_reading.specs.LineByLine.{InHeader, Made, Moves, Notice, Phase, Quiet, Ready, Repeats, Seen, Step}
+use Rattle.crx_reading.specs.LineByLine.{after_warning, is_in_epoch, is_skipped_in, kept_in, phase_after_items}
+use Rattle.crx_reading.specs.LineByLine.{phase_in_body}
+use Rattle.crx_reading.specs.LineByLine.{seen_next, seen_of, step_of_made, with_phase}
+use Rattle.crx_reading.specs.Memory.{may_take_memory, takes_memory}
 use Rattle.std.proofs.Common.{rules}
 use Rattle.std.proofs.lemmas.Option.{none-some}
-use Rattle.crx_engine.proofs.following.Following.{AgreeOn, IsCarriedOut, body-phase, body-place, failed-ends, failed-skipped}
+use Rattle.crx_engine.proofs.following.Following.{AgreeOn, IsCarriedOut, body-phase, body-place, failed-ends}
+use Rattle.crx_engine.proofs.following.Following.{failed-skipped}
 use Rattle.crx_engine.proofs.following.Following.{seen_in, skipped-same, wrong-last}
-use Rattle.crx_engine.proofs.reading.Resuming.{by_bool}
+use Rattle.crx_reading.proofs.Choosing.{by_bool}
 use Rattle.crx_engine.proofs.steps.EngineAnswers.{ComesAgain, comes-again}
-use Rattle.crx_engine.proofs.following.Lines.{IsStopped, false-true, only_none, record-place}
+use Rattle.crx_engine.proofs.following.Lines.{IsStopped, only_none, record-place}
+use Rattle.crx_reading.proofs.Choosing.{false-true}
 
 -- ---- types lines
 

@@ -16,12 +16,12 @@ use Rattle.crx_history.specs.HeldRows.{past_of_tail}
 use Rattle.crx_history.specs.Tails.{Tail}
 use Rattle.crx_arcs.specs.meaning.Sequences.{and_then}
 use Rattle.crx_columns.specs.Texts.{patched}
-use Rattle.crx_engine.specs.meaning.Choices.{Choices}
-use Rattle.crx_engine.specs.meaning.Items.{Item, types_in_force}
-use Rattle.crx_engine.specs.meaning.Memory.{expansion_takes, place_takes}
-use Rattle.crx_engine.specs.ExpansionByLine.{begins_event, compact_open, expansion, made_of_raw_step, tail_of_items}
+use Rattle.crx_reading.specs.meaning.Choices.{Choices}
+use Rattle.crx_reading.specs.meaning.Items.{Item, types_in_force}
+use Rattle.crx_reading.specs.meaning.Memory.{expansion_takes, place_takes}
+use Rattle.crx_reading.specs.ExpansionByLine.{begins_event, compact_open, expansion, made_of_raw_step, tail_of_items}
 use Rattle.crx_engine.proofs.following.Expansion.{Agrees, agree-content, agree-continues, compact_beginning}
-use Rattle.crx_engine.proofs.following.Lines.{false-true}
+use Rattle.crx_reading.proofs.Choosing.{false-true}
 use Rattle.crx_engine.proofs.following.Memory.{TakesAsItStands, allowed-again, allowed-first, first-true, not-true}
 use Rattle.crx_engine.proofs.following.Memory.{second-true}
 use Rattle.std.proofs.Common.{subst, ◌+◌, ◌-◌, ◌≤◌, drop, arith}
@@ -29,13 +29,13 @@ use Rattle.std.proofs.lemmas.List.{length-drop}
 use Rattle.crx_lines.specs.declared.fault.At.{At}
 use Rattle.crx_rinex.specs.Steady.{Remains}
 use Rattle.crx_rinex.specs.meaning.Places.{Place, Here, Wrong, Wanted}
-use Rattle.crx_engine.specs.ExpansionByLine.{expansion_seen}
-use Rattle.crx_engine.specs.LineByLine.{Notice, Seen, seen_next}
-use Rattle.crx_engine.specs.Memory.{takes_memory}
-use Rattle.crx_engine.specs.meaning.Directions.{compact_memory}
-use Rattle.crx_engine.specs.meaning.Expanded.{compact_place, expanded_unit, first_lines}
-use Rattle.crx_engine.specs.meaning.Memory.{memory_allowed}
-use Rattle.crx_engine.specs.meaning.Reading.{Reading, reading_from}
+use Rattle.crx_reading.specs.ExpansionByLine.{expansion_seen}
+use Rattle.crx_reading.specs.LineByLine.{Notice, Seen, seen_next}
+use Rattle.crx_reading.specs.Memory.{takes_memory}
+use Rattle.crx_reading.specs.meaning.Directions.{compact_memory}
+use Rattle.crx_reading.specs.meaning.Expanded.{compact_place, expanded_unit, first_lines}
+use Rattle.crx_reading.specs.meaning.Memory.{memory_allowed}
+use Rattle.crx_reading.specs.meaning.Reading.{Reading, reading_from}
 use Rattle.crx_engine.proofs.following.ExpandedOn.{reading_by, seen_by}
 use Rattle.crx_engine.proofs.following.Expansion.{expansion-carried_out}
 use Rattle.crx_engine.proofs.following.Lines.{IsStopped}

@@ -11,21 +11,22 @@ use Rattle.crx_rinex.specs.meaning.Observations.{Epoch, Row}
 use Rattle.crx_rinex.specs.meaning.Places.{Place}
 use Rattle.crx_rinex.specs.meaning.Units.{Unit as FileUnit, HeaderLine, EventLine, EventRecord, Observation}
 use Rattle.crx_rinex.specs.EpochPlaces.{EpochStep, Going, Whole, Faulty, after_row, epoch_step, when_wanted}
-use Rattle.crx_engine.specs.meaning.Choices.{Choices}
-use Rattle.crx_engine.specs.meaning.Items.{Item, types_in_force}
-use Rattle.crx_engine.specs.meaning.Memory.{check_takes, compaction_takes, memory_allowed, place_takes}
-use Rattle.crx_engine.specs.meaning.Directions.{rinex_reading}
-use Rattle.crx_engine.specs.meaning.Reading.{Reading}
-use Rattle.crx_engine.specs.Memory.{takes_memory}
-use Rattle.crx_engine.specs.CheckByLine.{checking, no_choices, totals_of}
-use Rattle.crx_engine.specs.CompactionByLine.{compaction, is_whole_at_once, made_of_epoch_step, rinex_begins}
-use Rattle.crx_engine.specs.CompactionByLine.{Written, compaction_seen, rinex_open, written_of}
-use Rattle.crx_engine.specs.LineByLine.{Completes, Direction, Fails, Made, Moves, Notice, Repeats, Seen, seen_next, seen_of}
-use Rattle.crx_engine.specs.meaning.Compacted.{compact_unit, rinex_place}
+use Rattle.crx_reading.specs.meaning.Choices.{Choices}
+use Rattle.crx_reading.specs.meaning.Items.{Item, types_in_force}
+use Rattle.crx_reading.specs.meaning.Memory.{check_takes, compaction_takes, memory_allowed, place_takes}
+use Rattle.crx_reading.specs.meaning.Directions.{rinex_reading}
+use Rattle.crx_reading.specs.meaning.Reading.{Reading}
+use Rattle.crx_reading.specs.Memory.{takes_memory}
+use Rattle.crx_reading.specs.CheckByLine.{checking, no_choices, totals_of}
+use Rattle.crx_reading.specs.CompactionByLine.{compaction, is_whole_at_once, made_of_epoch_step, rinex_begins}
+use Rattle.crx_reading.specs.CompactionByLine.{Written, compaction_seen, rinex_open, written_of}
+use Rattle.crx_reading.specs.LineByLine.{Completes, Direction, Fails, Made, Moves, Notice, Repeats, Seen, seen_next}
+use Rattle.crx_reading.specs.LineByLine.{seen_of}
+use Rattle.crx_reading.specs.meaning.Compacted.{compact_unit, rinex_place}
 use Rattle.crx_engine.proofs.following.Check.{check-carried_out, printed_after}
 use Rattle.crx_engine.proofs.following.Compaction.{compaction-carried_out}
 use Rattle.crx_engine.proofs.following.Following.{AgreeOn}
-use Rattle.crx_engine.proofs.following.Lines.{false-true}
+use Rattle.crx_reading.proofs.Choosing.{false-true}
 use Rattle.crx_engine.proofs.following.Memory.{TakesAsItStands, allowed-again, allowed-first}
 use Rattle.crx_engine.proofs.reading.Forward.{rinex-forward}
 use Rattle.crx_engine.proofs.reading.Stopping.{reading-stopped}

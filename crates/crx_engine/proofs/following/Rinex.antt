@@ -14,10 +14,10 @@ use Rattle.crx_rinex.specs.meaning.EpochPlaces.{rows_wanted, epoch_of, rows_at, 
 use Rattle.crx_rinex.specs.EpochPlaces.{EpochStep, Going, Whole, Faulty, when_wanted, whole_or_going, epoch_step}
 use Rattle.crx_rinex.specs.EpochPlaces.{still_open, open_after, open_with, place_after}
 use Rattle.crx_rinex.proofs.OpenEpochs.{wanted-open, next-by_open}
-use Rattle.crx_engine.specs.meaning.Choices.{Choices}
-use Rattle.crx_engine.specs.meaning.Items.{Item, types_in_force}
-use Rattle.crx_engine.specs.LineByLine.{Made, Direction}
-use Rattle.crx_engine.specs.CompactionByLine.{made_of_epoch_step, made_of_beginning, rinex_begins, rinex_open}
+use Rattle.crx_reading.specs.meaning.Choices.{Choices}
+use Rattle.crx_reading.specs.meaning.Items.{Item, types_in_force}
+use Rattle.crx_reading.specs.LineByLine.{Made, Direction}
+use Rattle.crx_reading.specs.CompactionByLine.{made_of_epoch_step, made_of_beginning, rinex_begins, rinex_open}
 use Rattle.crx_engine.proofs.following.Following.{IsSameEpoch, AgreeOn}
 
 -- ---- what is asked of a direction

@@ -26,19 +26,19 @@ use Rattle.crx_compact.proofs.reading.LineByLine.{steps-agree}
 use Rattle.crx_compact.proofs.reading.RawTailing.{place-by_tail, left-by_tail}
 use Rattle.crx_compact.proofs.soundness.Soundness.{reads-soundly}
 use Rattle.crx_history.proofs.Characters.{length-is}
-use Rattle.crx_engine.specs.meaning.Choices.{Choices}
-use Rattle.crx_engine.specs.meaning.Items.{Item, Accepted, Warned, header_has_ended, records_left, records_count_types}
-use Rattle.crx_engine.specs.meaning.Items.{is_at_start, types_in_force}
-use Rattle.crx_engine.specs.meaning.Reading.{Reading, Stop, AtFault, AtLines, Looking}
-use Rattle.crx_engine.specs.LineByLine.{Phase, InFirstLines, InHeader, BetweenUnits, InEvent, InEpoch, LookingOn}
-use Rattle.crx_engine.specs.LineByLine.{Closed, Ended, kept_in, phase_in_body, phase_after_items, phase_of}
-use Rattle.crx_engine.specs.meaning.Compacted.{marked_epochs, rinex_place}
-use Rattle.crx_engine.specs.meaning.Directions.{rinex_reading}
-use Rattle.crx_engine.specs.CompactionByLine.{Written, compaction, written_of, rinex_open, compaction_seen}
-use Rattle.crx_engine.specs.meaning.Expanded.{compact_place, empties_state, raws_kept, first_lines}
-use Rattle.crx_engine.specs.meaning.Directions.{compact_reading}
-use Rattle.crx_engine.specs.ExpansionByLine.{expansion, tail_of_items, begins_event, compact_open}
-use Rattle.crx_engine.specs.ExpansionByLine.{phase_from_first_lines, expansion_seen}
+use Rattle.crx_reading.specs.meaning.Choices.{Choices}
+use Rattle.crx_reading.specs.meaning.Items.{Item, Accepted, Warned, header_has_ended, records_left, records_count_types}
+use Rattle.crx_reading.specs.meaning.Items.{is_at_start, types_in_force}
+use Rattle.crx_reading.specs.meaning.Reading.{Reading, Stop, AtFault, AtLines, Looking}
+use Rattle.crx_reading.specs.LineByLine.{Phase, InFirstLines, InHeader, BetweenUnits, InEvent, InEpoch, LookingOn}
+use Rattle.crx_reading.specs.LineByLine.{Closed, Ended, kept_in, phase_in_body, phase_after_items, phase_of}
+use Rattle.crx_reading.specs.meaning.Compacted.{marked_epochs, rinex_place}
+use Rattle.crx_reading.specs.meaning.Directions.{rinex_reading}
+use Rattle.crx_reading.specs.CompactionByLine.{Written, compaction, written_of, rinex_open, compaction_seen}
+use Rattle.crx_reading.specs.meaning.Expanded.{compact_place, empties_state, raws_kept, first_lines}
+use Rattle.crx_reading.specs.meaning.Directions.{compact_reading}
+use Rattle.crx_reading.specs.ExpansionByLine.{expansion, tail_of_items, begins_event, compact_open}
+use Rattle.crx_reading.specs.ExpansionByLine.{phase_from_first_lines, expansion_seen}
 use Rattle.crx_engine.specs.Laws.{ItemsAreRead, AreInPlace}
 use Rattle.crx_engine.specs.Bounds.{IsBoundedRow, IsBoundedEpoch, OfOpen, IsBoundedCompaction, IsBoundedExpansion}
 use Rattle.crx_engine.proofs.wayback.ExpandedWhole.{epoch-read}

@@ -8,12 +8,12 @@ use Rattle.crx_rinex.specs.meaning.Observations.{Row, Epoch}
 use Rattle.crx_rinex.specs.meaning.Units.{Unit as FileUnit, HeaderLine, EventLine, EventRecord, Observation}
 use Rattle.crx_history.specs.meaning.Compaction.{Marked, run_of, satellite_line}
 use Rattle.crx_compact.proofs.wayback.Lengths.{lines-short}
-use Rattle.crx_engine.specs.meaning.Choices.{Choices, is_date}
-use Rattle.crx_engine.specs.meaning.Items.{Item, Accepted, Warned, is_at_start, types_in_force}
-use Rattle.crx_engine.specs.meaning.Compacted.{lines_before_header, marked_epochs, compact_unit, rinex_place}
-use Rattle.crx_engine.specs.meaning.Directions.{rinex_reading}
+use Rattle.crx_reading.specs.meaning.Choices.{Choices, is_date}
+use Rattle.crx_reading.specs.meaning.Items.{Item, Accepted, Warned, is_at_start, types_in_force}
+use Rattle.crx_reading.specs.meaning.Compacted.{lines_before_header, marked_epochs, compact_unit, rinex_place}
+use Rattle.crx_reading.specs.meaning.Directions.{rinex_reading}
 use Rattle.crx_engine.specs.Laws.{AreInPlace}
-use Rattle.crx_engine.specs.meaning.WayBack.{OfCopiedLine, OfCopiedLines}
+use Rattle.crx_reading.specs.meaning.WayBack.{OfCopiedLine, OfCopiedLines}
 use Rattle.crx_engine.specs.Bounds.{AreLendable, OfUnits, longest_of, IsNotTooLong, CompactIsLendable}
 use Rattle.crx_engine.proofs.reading.InPlace.{items-in_place}
 use Rattle.crx_engine.proofs.reading.WhatWasRead.{items-read}

@@ -6,13 +6,13 @@ use Rattle.crx_rinex.specs.meaning.Units.{Unit as FileUnit, HeaderLine, EventLin
 use Rattle.crx_compact.specs.OpenEpochs.{HeldEpoch, OpenRawEpoch}
 use Rattle.crx_history.specs.Tails.{Tail}
 use Rattle.crx_rinex.specs.meaning.EpochPlaces.{OpenEpoch}
-use Rattle.crx_engine.specs.LineByLine.{Seen, Made, Completes, Moves, Fails, Repeats, Direction, Step, is_skipped_in}
-use Rattle.crx_engine.specs.LineByLine.{made_in, step_of_made}
-use Rattle.crx_engine.specs.meaning.Compacted.{lines_before_header}
-use Rattle.crx_engine.specs.CompactionByLine.{Written, compaction, is_before_header}
-use Rattle.crx_engine.specs.ExpansionByLine.{expansion}
+use Rattle.crx_reading.specs.LineByLine.{Seen, Made, Completes, Moves, Fails, Repeats, Direction, Step, is_skipped_in}
+use Rattle.crx_reading.specs.LineByLine.{made_in, step_of_made}
+use Rattle.crx_reading.specs.meaning.Compacted.{lines_before_header}
+use Rattle.crx_reading.specs.CompactionByLine.{Written, compaction, is_before_header}
+use Rattle.crx_reading.specs.ExpansionByLine.{expansion}
 use Rattle.crx_engine.specs.Laws.{is_ready, has_lines, IsReadyWhereLent}
-use Rattle.crx_engine.proofs.reading.Resuming.{by_bool}
+use Rattle.crx_reading.proofs.Choosing.{by_bool}
 use Rattle.crx_engine.proofs.following.Following.{failed-ends, failed-skipped}
 use Rattle.std.specs.Prelude.{Option}
 

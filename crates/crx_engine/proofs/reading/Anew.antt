@@ -18,16 +18,18 @@ use Rattle.crx_history.specs.meaning.Past.{Past, past_of_block, past_of_epochs}
 use Rattle.crx_history.specs.meaning.CompactPlaces.{ReadEpoch, epoch_at, epoch_against}
 use Rattle.crx_compact.specs.ReadingLaws.{Forgets}
 use Rattle.crx_compact.proofs.reading.Forgetting.{forgets}
-use Rattle.crx_engine.specs.meaning.Items.{Item, Accepted, Warned, header_has_ended, records_announced, records_left}
-use Rattle.crx_engine.specs.meaning.Items.{records_count_types, declaring_lines, types_in_force}
-use Rattle.crx_engine.specs.meaning.UnitPlaces.{unless_wrong, types_fault, event_record}
-use Rattle.crx_engine.specs.meaning.Reading.{Reading, Stop, AtFault, AtLines, Looking, is_skipped, can_go_on}
-use Rattle.crx_engine.specs.meaning.Reading.{looked_for, reading_within, after_fault}
+use Rattle.crx_reading.specs.meaning.Items.{Item, Accepted, Warned, header_has_ended, records_announced, records_left}
+use Rattle.crx_reading.specs.meaning.Items.{records_count_types, declaring_lines, types_in_force}
+use Rattle.crx_reading.specs.meaning.UnitPlaces.{unless_wrong, types_fault, event_record}
+use Rattle.crx_reading.specs.meaning.Reading.{Reading, Stop, AtFault, AtLines, Looking, is_skipped, can_go_on}
+use Rattle.crx_reading.specs.meaning.Reading.{looked_for, reading_within, after_fault}
 use Rattle.crx_lines.specs.meaning.Faults.{is_skippable}
-use Rattle.crx_engine.specs.meaning.Expanded.{raws_kept, empties_state, event_line, as_observation, compact_epoch_place}
-use Rattle.crx_engine.specs.meaning.Expanded.{compact_place}
+use Rattle.crx_reading.specs.meaning.Expanded.{raws_kept, empties_state, event_line, as_observation}
+use Rattle.crx_reading.specs.meaning.Expanded.{compact_epoch_place}
+use Rattle.crx_reading.specs.meaning.Expanded.{compact_place}
 use Rattle.crx_engine.specs.Anew.{starts_anew, GoOnAlike, DependsOnTypes}
-use Rattle.crx_engine.proofs.reading.Resuming.{by_bool, by_place, within-here, within-wrong, within-wanted}
+use Rattle.crx_reading.proofs.Choosing.{by_bool}
+use Rattle.crx_engine.proofs.reading.Resuming.{by_place, within-here, within-wrong, within-wanted}
 use Rattle.crx_engine.proofs.reading.Resuming.{fault-skipped, fault-ends, looked-here, looked-on}
 use Rattle.crx_engine.proofs.following.Following.{body-place}
 use Rattle.crx_engine.proofs.following.Lines.{record-place}

@@ -9,17 +9,17 @@ use Rattle.crx_rinex.specs.Steady.{Remains}
 use Rattle.crx_history.specs.meaning.CompactPlaces.{ReadEpoch}
 use Rattle.crx_compact.specs.OpenEpochs.{OpenRawEpoch}
 use Rattle.crx_history.specs.Tails.{Tail}
-use Rattle.crx_engine.specs.meaning.Choices.{Choices}
-use Rattle.crx_engine.specs.meaning.Reading.{Reading, WholeReading, reading_from, ended_reading}
+use Rattle.crx_reading.specs.meaning.Choices.{Choices}
+use Rattle.crx_reading.specs.meaning.Reading.{Reading, WholeReading, reading_from, ended_reading}
 use Rattle.crx_lines.specs.meaning.Faults.{is_skippable}
-use Rattle.crx_engine.specs.meaning.Messages.{warnings_in}
-use Rattle.crx_engine.specs.LineByLine.{InFirstLines, Seen, seen_end, is_skipped_in}
-use Rattle.crx_engine.specs.meaning.Compacted.{rinex_place, compact_unit}
-use Rattle.crx_engine.specs.meaning.Directions.{rinex_reading}
-use Rattle.crx_engine.specs.CompactionByLine.{compaction, rinex_open, written_of}
-use Rattle.crx_engine.specs.meaning.Expanded.{compact_place, first_lines, fault_in_first_lines, expanded_unit}
+use Rattle.crx_reading.specs.meaning.Messages.{warnings_in}
+use Rattle.crx_reading.specs.LineByLine.{InFirstLines, Seen, seen_end, is_skipped_in}
+use Rattle.crx_reading.specs.meaning.Compacted.{rinex_place, compact_unit}
+use Rattle.crx_reading.specs.meaning.Directions.{rinex_reading}
+use Rattle.crx_reading.specs.CompactionByLine.{compaction, rinex_open, written_of}
+use Rattle.crx_reading.specs.meaning.Expanded.{compact_place, first_lines, fault_in_first_lines, expanded_unit}
 use Rattle.crx_engine.specs.Expanded.{expanded_lines}
-use Rattle.crx_engine.specs.ExpansionByLine.{expansion, compact_open, tail_of_items}
+use Rattle.crx_reading.specs.ExpansionByLine.{expansion, compact_open, tail_of_items}
 use Rattle.crx_engine.specs.Laws.{IsEndedBy, IsCompactionEnded, IsExpansionEnded}
 use Rattle.crx_engine.proofs.reading.Forward.{rinex-forward}
 use Rattle.crx_engine.proofs.reading.ForwardCompact.{compact-forward, steady-first_lines}

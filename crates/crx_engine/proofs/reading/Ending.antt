@@ -9,19 +9,20 @@ use Rattle.crx_lines.specs.declared.fault.Fault.TheVariants.{MissingVersion, NoE
 use Rattle.crx_rinex.specs.meaning.Places.{Place, Wanted, first_line}
 use Rattle.crx_rinex.specs.meaning.ObservationTypes.{Count}
 use Rattle.crx_rinex.specs.meaning.Units.{Unit as FileUnit}
-use Rattle.crx_engine.specs.meaning.Choices.{Choices}
-use Rattle.crx_engine.specs.meaning.Items.{Item, is_at_start, header_has_ended, records_left, records_count_types}
-use Rattle.crx_engine.specs.meaning.Items.{types_in_force}
-use Rattle.crx_engine.specs.meaning.UnitPlaces.{header_line, event_record, unit_place}
-use Rattle.crx_engine.specs.meaning.Reading.{WholeReading, Stop, AtFault, AtLines, Looking, is_skipped, fault_at_end}
-use Rattle.crx_engine.specs.meaning.Reading.{ended_with, ended_reading}
+use Rattle.crx_reading.specs.meaning.Choices.{Choices}
+use Rattle.crx_reading.specs.meaning.Items.{Item, is_at_start, header_has_ended, records_left, records_count_types}
+use Rattle.crx_reading.specs.meaning.Items.{types_in_force}
+use Rattle.crx_reading.specs.meaning.UnitPlaces.{header_line, event_record, unit_place}
+use Rattle.crx_reading.specs.meaning.Reading.{WholeReading, Stop, AtFault, AtLines, Looking, is_skipped, fault_at_end}
+use Rattle.crx_reading.specs.meaning.Reading.{ended_with, ended_reading}
 use Rattle.crx_lines.specs.meaning.Faults.{is_skippable}
-use Rattle.crx_engine.specs.meaning.Results.{written_lines}
-use Rattle.crx_engine.specs.meaning.Messages.{warnings_in}
-use Rattle.crx_engine.specs.LineByLine.{Phase, InHeader, BetweenUnits, InEvent, InEpoch, Direction, Step, is_skipped_in}
-use Rattle.crx_engine.specs.LineByLine.{kept_in, end_step, seen_end, phase_in_body, phase_after_items, seen_of}
+use Rattle.crx_reading.specs.meaning.Results.{written_lines}
+use Rattle.crx_reading.specs.meaning.Messages.{warnings_in}
+use Rattle.crx_reading.specs.LineByLine.{Phase, InHeader, BetweenUnits, InEvent, InEpoch, Direction, Step}
+use Rattle.crx_reading.specs.LineByLine.{is_skipped_in}
+use Rattle.crx_reading.specs.LineByLine.{kept_in, end_step, seen_end, phase_in_body, phase_after_items, seen_of}
 use Rattle.crx_engine.specs.Laws.{IsEndedBy}
-use Rattle.crx_engine.proofs.reading.Resuming.{by_bool}
+use Rattle.crx_reading.proofs.Choosing.{by_bool}
 use Rattle.crx_engine.proofs.following.Following.{seen_in, IsCarriedOut, skipped-same, body-place, body-phase}
 use Rattle.crx_engine.proofs.following.Lines.{IsStopped, only_none, never-before, never-in-event, record-place}
 

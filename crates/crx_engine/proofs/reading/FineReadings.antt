@@ -7,17 +7,18 @@ use Rattle.crx_lines.specs.declared.fault.Fault.{Fault}
 use Rattle.crx_lines.specs.declared.fault.At.{At}
 use Rattle.crx_rinex.specs.meaning.Places.{Place, Here, Wrong, Wanted}
 use Rattle.crx_rinex.specs.meaning.Units.{Unit as FileUnit}
-use Rattle.crx_engine.specs.meaning.Items.{Item, Accepted, Warned, header_has_ended, records_left}
-use Rattle.crx_engine.specs.meaning.Reading.{Reading, Stop, AtFault, AtLines, Looking, is_skipped, can_go_on}
-use Rattle.crx_engine.specs.meaning.Reading.{looked_for, reading_within, reading_from, fault_at_end, ended_with}
-use Rattle.crx_engine.specs.meaning.Reading.{ended_reading, whole_reading}
-use Rattle.crx_engine.specs.meaning.Compacted.{rinex_place, whole_rinex}
-use Rattle.crx_engine.specs.meaning.Directions.{rinex_reading}
-use Rattle.crx_engine.specs.meaning.Expanded.{compact_place, first_lines, whole_compact, fault_in_first_lines}
-use Rattle.crx_engine.specs.meaning.Directions.{compact_reading}
-use Rattle.crx_engine.specs.meaning.Reading.{fault_of_stop}
+use Rattle.crx_reading.specs.meaning.Items.{Item, Accepted, Warned, header_has_ended, records_left}
+use Rattle.crx_reading.specs.meaning.Reading.{Reading, Stop, AtFault, AtLines, Looking, is_skipped, can_go_on}
+use Rattle.crx_reading.specs.meaning.Reading.{looked_for, reading_within, reading_from, fault_at_end, ended_with}
+use Rattle.crx_reading.specs.meaning.Reading.{ended_reading, whole_reading}
+use Rattle.crx_reading.specs.meaning.Compacted.{rinex_place, whole_rinex}
+use Rattle.crx_reading.specs.meaning.Directions.{rinex_reading}
+use Rattle.crx_reading.specs.meaning.Expanded.{compact_place, first_lines, whole_compact, fault_in_first_lines}
+use Rattle.crx_reading.specs.meaning.Directions.{compact_reading}
+use Rattle.crx_reading.specs.meaning.Reading.{fault_of_stop}
 use Rattle.crx_engine.specs.Lawful.{is_of_lines}
-use Rattle.crx_engine.proofs.reading.Resuming.{by_bool, by_place, within-here, within-wrong, within-wanted}
+use Rattle.crx_reading.proofs.Choosing.{by_bool}
+use Rattle.crx_engine.proofs.reading.Resuming.{by_place, within-here, within-wrong, within-wanted}
 use Rattle.crx_engine.proofs.reading.Resuming.{fault-skipped, fault-ends, looked-here, looked-on}
 use Rattle.crx_engine.proofs.reading.LineFaults.{IsFineAt, IsFineFault, rinex-fine, compact-fine, first_lines-fine}
 

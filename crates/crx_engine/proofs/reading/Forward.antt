@@ -6,10 +6,10 @@ use Rattle.crx_rinex.specs.Steady.{IsSteady}
 use Rattle.crx_rinex.specs.meaning.Units.{Unit as FileUnit}
 use Rattle.crx_rinex.proofs.Steady.{steady-first_line}
 use Rattle.crx_rinex.proofs.OpenEpochs.{steady-epoch_place}
-use Rattle.crx_engine.specs.meaning.Items.{Item, is_at_start, header_has_ended, records_left, records_count_types}
-use Rattle.crx_engine.specs.meaning.Items.{types_in_force}
-use Rattle.crx_engine.specs.meaning.UnitPlaces.{header_line, event_record, unit_place}
-use Rattle.crx_engine.specs.meaning.Compacted.{rinex_place}
+use Rattle.crx_reading.specs.meaning.Items.{Item, is_at_start, header_has_ended, records_left, records_count_types}
+use Rattle.crx_reading.specs.meaning.Items.{types_in_force}
+use Rattle.crx_reading.specs.meaning.UnitPlaces.{header_line, event_record, unit_place}
+use Rattle.crx_reading.specs.meaning.Compacted.{rinex_place}
 use Rattle.crx_engine.specs.Laws.{IsReadForward}
 use Rattle.std.specs.Prelude.{nat_lt}
 

@@ -13,9 +13,10 @@ use Rattle.crx_history.specs.meaning.Past.{Past, past_of_line}
 use Rattle.crx_history.specs.meaning.CompactPlaces.{ReadEpoch, BegunEpoch, epoch_begun, clock_line_read}
 use Rattle.crx_history.specs.meaning.CompactPlaces.{satellite_line_read, rows_read, epoch_of_rows, epoch_after_line}
 use Rattle.crx_history.specs.meaning.CompactPlaces.{epoch_at}
-use Rattle.crx_engine.specs.meaning.Items.{types_in_force}
-use Rattle.crx_engine.specs.meaning.Expanded.{raws_kept, event_line, as_observation, compact_epoch_place, compact_place}
-use Rattle.crx_engine.specs.meaning.Expanded.{crinex_version, crinex_program, first_lines}
+use Rattle.crx_reading.specs.meaning.Items.{types_in_force}
+use Rattle.crx_reading.specs.meaning.Expanded.{raws_kept, event_line, as_observation, compact_epoch_place}
+use Rattle.crx_reading.specs.meaning.Expanded.{compact_place}
+use Rattle.crx_reading.specs.meaning.Expanded.{crinex_version, crinex_program, first_lines}
 use Rattle.crx_engine.specs.Laws.{IsReadForward}
 use Rattle.crx_engine.proofs.reading.Forward.{unit_place-forward}
 

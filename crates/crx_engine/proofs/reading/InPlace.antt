@@ -19,12 +19,13 @@ use Rattle.crx_rinex.specs.meaning.ObservationTypes.{Count}
 use Rattle.crx_rinex.specs.meaning.EpochPlaces.{Beginning, EventBegins, EpochBegins, opened, begun_by, beginning_of}
 use Rattle.crx_rinex.specs.meaning.EpochPlaces.{rest_at, unit_begun, epoch_place}
 use Rattle.crx_rinex.proofs.SoundEpochs.{sound-epoch_place}
-use Rattle.crx_engine.specs.meaning.Items.{Item, Accepted, Warned, is_at_start, header_has_ended, records_left}
-use Rattle.crx_engine.specs.meaning.Items.{records_count_types, types_in_force}
-use Rattle.crx_engine.specs.meaning.UnitPlaces.{unless_wrong, types_fault, header_line_fault, header_line, event_record}
-use Rattle.crx_engine.specs.meaning.Compacted.{rinex_place}
+use Rattle.crx_reading.specs.meaning.Items.{Item, Accepted, Warned, is_at_start, header_has_ended, records_left}
+use Rattle.crx_reading.specs.meaning.Items.{records_count_types, types_in_force}
+use Rattle.crx_reading.specs.meaning.UnitPlaces.{unless_wrong, types_fault, header_line_fault, header_line}
+use Rattle.crx_reading.specs.meaning.UnitPlaces.{event_record}
+use Rattle.crx_reading.specs.meaning.Compacted.{rinex_place}
 use Rattle.crx_engine.specs.Laws.{ItemsAreRead, IsInPlace, AreInPlace}
-use Rattle.crx_engine.proofs.reading.Resuming.{by_bool}
+use Rattle.crx_reading.proofs.Choosing.{by_bool}
 use Rattle.crx_engine.proofs.following.Following.{body-place}
 use Rattle.crx_engine.proofs.following.Lines.{record-place}
 use Rattle.crx_engine.proofs.reading.Types.{counts-in_force}

@@ -31,14 +31,15 @@ use Rattle.crx_rinex.specs.meaning.SatelliteLines.{row_of}
 use Rattle.crx_rinex.specs.meaning.Units.{Unit as FileUnit, HeaderLine, EventLine, EventRecord, Observation}
 use Rattle.crx_history.specs.meaning.CompactPlaces.{ReadEpoch, epoch_at}
 use Rattle.crx_history.specs.meaning.Expansion.{RawEpoch}
-use Rattle.crx_engine.specs.declared.crinex.TheConstants.{CRINEX_VERSION, CRINEX_VERSION_LABEL, CRINEX_PROGRAM_LABEL}
-use Rattle.crx_engine.specs.meaning.Items.{Item, is_at_start, header_has_ended, records_left, records_count_types}
-use Rattle.crx_engine.specs.meaning.Items.{types_in_force}
-use Rattle.crx_engine.specs.meaning.UnitPlaces.{unless_wrong, types_fault, first_fault, header_line_fault, header_line}
-use Rattle.crx_engine.specs.meaning.UnitPlaces.{event_record, unit_place}
-use Rattle.crx_engine.specs.meaning.Compacted.{rinex_place}
-use Rattle.crx_engine.specs.meaning.Expanded.{event_line, as_observation, compact_epoch_place, compact_place, raws_kept}
-use Rattle.crx_engine.specs.meaning.Expanded.{crinex_version, crinex_program, first_lines}
+use Rattle.crx_reading.specs.declared.crinex.TheConstants.{CRINEX_VERSION, CRINEX_VERSION_LABEL, CRINEX_PROGRAM_LABEL}
+use Rattle.crx_reading.specs.meaning.Items.{Item, is_at_start, header_has_ended, records_left, records_count_types}
+use Rattle.crx_reading.specs.meaning.Items.{types_in_force}
+use Rattle.crx_reading.specs.meaning.UnitPlaces.{unless_wrong, types_fault, first_fault, header_line_fault, header_line}
+use Rattle.crx_reading.specs.meaning.UnitPlaces.{event_record, unit_place}
+use Rattle.crx_reading.specs.meaning.Compacted.{rinex_place}
+use Rattle.crx_reading.specs.meaning.Expanded.{event_line, as_observation, compact_epoch_place, compact_place}
+use Rattle.crx_reading.specs.meaning.Expanded.{raws_kept}
+use Rattle.crx_reading.specs.meaning.Expanded.{crinex_version, crinex_program, first_lines}
 use Rattle.crx_lines.specs.meaning.Faults.{is_skippable}
 use Rattle.crx_engine.specs.Lawful.{is_of_lines}
 use Rattle.crx_engine.proofs.reading.EpochFaults.{IsSkippableAt, epoch-skippable}

@@ -7,14 +7,15 @@ use Rattle.crx_lines.specs.declared.fault.Fault.{Fault}
 use Rattle.crx_lines.specs.declared.fault.At.{At}
 use Rattle.crx_rinex.specs.meaning.Places.{Place}
 use Rattle.crx_rinex.specs.meaning.Units.{Unit as FileUnit}
-use Rattle.crx_engine.specs.meaning.Items.{Item, Accepted, Warned}
-use Rattle.crx_engine.specs.meaning.Reading.{Reading, Stop, AtFault, AtLines, Looking, WholeReading, is_skipped}
-use Rattle.crx_engine.specs.meaning.Reading.{can_go_on, looked_for, reading_within, reading_from, fault_at_end}
-use Rattle.crx_engine.specs.meaning.Reading.{ended_reading, ended_with, whole_reading}
+use Rattle.crx_reading.specs.meaning.Items.{Item, Accepted, Warned}
+use Rattle.crx_reading.specs.meaning.Reading.{Reading, Stop, AtFault, AtLines, Looking, WholeReading, is_skipped}
+use Rattle.crx_reading.specs.meaning.Reading.{can_go_on, looked_for, reading_within, reading_from, fault_at_end}
+use Rattle.crx_reading.specs.meaning.Reading.{ended_reading, ended_with, whole_reading}
 use Rattle.crx_engine.specs.Laws.{continued_reading, IsReadForward}
 use Rattle.crx_rinex.specs.meaning.Printing.{lines_text}
-use Rattle.crx_engine.specs.meaning.Results.{written_lines, Begins}
-use Rattle.crx_engine.proofs.reading.Resuming.{by_bool, by_place, within-here, within-wrong, within-wanted}
+use Rattle.crx_reading.specs.meaning.Results.{written_lines, Begins}
+use Rattle.crx_reading.proofs.Choosing.{by_bool}
+use Rattle.crx_engine.proofs.reading.Resuming.{by_place, within-here, within-wrong, within-wanted}
 use Rattle.crx_engine.proofs.reading.Resuming.{fault-skipped, fault-ends, looked-here, looked-on, resumed}
 
 -- some items with others before them

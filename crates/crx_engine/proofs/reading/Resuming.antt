@@ -8,10 +8,11 @@ use Rattle.crx_lines.specs.declared.fault.At.{At}
 use Rattle.crx_rinex.specs.meaning.Places.{Place, Here, Wrong, Wanted}
 use Rattle.crx_rinex.specs.Steady.{Remains, IsDecidedAfter}
 use Rattle.crx_rinex.specs.meaning.Units.{Unit as FileUnit}
-use Rattle.crx_engine.specs.meaning.Items.{Item, Accepted, Warned}
-use Rattle.crx_engine.specs.meaning.Reading.{Reading, AtFault, AtLines, is_skipped, can_go_on, looked_for, after_fault}
-use Rattle.crx_engine.specs.meaning.Reading.{reading_within, reading_from}
+use Rattle.crx_reading.specs.meaning.Items.{Item, Accepted, Warned}
+use Rattle.crx_reading.specs.meaning.Reading.{Reading, AtFault, AtLines, is_skipped, can_go_on, looked_for, after_fault}
+use Rattle.crx_reading.specs.meaning.Reading.{reading_within, reading_from}
 use Rattle.crx_engine.specs.Laws.{continued_reading, IsReadForward, IsResumed}
+use Rattle.crx_reading.proofs.Choosing.{by_bool}
 
 -- ---- what stands at a place
 
@@ -100,10 +101,6 @@ pub looked-on : {E : Type 0} (read : ℕ
     → List ReadLine → Reading E) (items : List (Item E)) (number : ℕ) (line : ReadLine) (lines : List ReadLine)
     → can_go_on line ≡ false → looked_for read items number (line ∷ lines) ≡ looked_for read items (number + 1) lines
 looked-on read items number line lines e = rw (e, looked_for) refl
-
-pub by_bool : {X : Type 0} (b : Bool) → (b ≡ true → X) → (b ≡ false → X) → X
-by_bool true on off = on refl
-by_bool false on off = off refl
 
 pub by_place : {E X : Type 0} (p : Place (FileUnit E)) → ((unit : FileUnit E) (count : ℕ) → p ≡ Here unit count → X)
     → ((offset : ℕ) (fault : Fault) → p ≡ Wrong offset fault → X) → (p ≡ Wanted → X) → X

@@ -8,15 +8,15 @@ use Rattle.crx_rinex.specs.meaning.Places.{Place, Here, Wrong, Wanted}
 use Rattle.crx_rinex.specs.Steady.{Remains}
 use Rattle.crx_rinex.specs.meaning.Units.{Unit as FileUnit}
 use Rattle.crx_history.specs.meaning.CompactPlaces.{ReadEpoch}
-use Rattle.crx_engine.specs.meaning.Items.{Item}
-use Rattle.crx_engine.specs.meaning.Reading.{Reading, Stop, AtFault, AtLines, Looking, reading_from, ended_reading}
-use Rattle.crx_engine.specs.meaning.Reading.{whole_reading}
+use Rattle.crx_reading.specs.meaning.Items.{Item}
+use Rattle.crx_reading.specs.meaning.Reading.{Reading, Stop, AtFault, AtLines, Looking, reading_from, ended_reading}
+use Rattle.crx_reading.specs.meaning.Reading.{whole_reading}
 use Rattle.crx_engine.specs.Laws.{continued_reading, IsReadForward, StaysEnded}
-use Rattle.crx_engine.specs.meaning.Reading.{fault_of_stop}
-use Rattle.crx_engine.specs.meaning.Compacted.{rinex_place, whole_rinex}
-use Rattle.crx_engine.specs.meaning.Directions.{rinex_reading}
-use Rattle.crx_engine.specs.meaning.Expanded.{compact_place, first_lines, whole_compact}
-use Rattle.crx_engine.specs.meaning.Directions.{compact_reading}
+use Rattle.crx_reading.specs.meaning.Reading.{fault_of_stop}
+use Rattle.crx_reading.specs.meaning.Compacted.{rinex_place, whole_rinex}
+use Rattle.crx_reading.specs.meaning.Directions.{rinex_reading}
+use Rattle.crx_reading.specs.meaning.Expanded.{compact_place, first_lines, whole_compact}
+use Rattle.crx_reading.specs.meaning.Directions.{compact_reading}
 use Rattle.crx_engine.proofs.reading.Resuming.{resumed}
 use Rattle.crx_engine.proofs.reading.Forward.{rinex-forward}
 use Rattle.crx_engine.proofs.reading.ForwardCompact.{compact-forward, steady-first_lines}

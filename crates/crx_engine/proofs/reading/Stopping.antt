@@ -9,11 +9,12 @@ use Rattle.crx_lines.specs.declared.fault.Fault.{Fault}
 use Rattle.crx_lines.specs.declared.fault.At.{At}
 use Rattle.crx_rinex.specs.meaning.Places.{Place}
 use Rattle.crx_rinex.specs.meaning.Units.{Unit as FileUnit}
-use Rattle.crx_engine.specs.meaning.Items.{Item, Accepted, Warned, header_has_ended, records_left}
-use Rattle.crx_engine.specs.meaning.Reading.{Reading, is_skipped, can_go_on, looked_for, reading_within, reading_from}
+use Rattle.crx_reading.specs.meaning.Items.{Item, Accepted, Warned, header_has_ended, records_left}
+use Rattle.crx_reading.specs.meaning.Reading.{Reading, is_skipped, can_go_on, looked_for, reading_within, reading_from}
 use Rattle.crx_lines.specs.meaning.Faults.{is_skippable}
 use Rattle.crx_engine.specs.Laws.{IsReadForward}
-use Rattle.crx_engine.proofs.reading.Resuming.{by_bool, by_place, here-within, wrong-within, within-here, within-wrong}
+use Rattle.crx_reading.proofs.Choosing.{by_bool}
+use Rattle.crx_engine.proofs.reading.Resuming.{by_place, here-within, wrong-within, within-here, within-wrong}
 use Rattle.crx_engine.proofs.reading.Resuming.{within-wanted, fault-skipped, fault-ends, looked-here, looked-on}
 use Rattle.crx_engine.proofs.following.Lines.{IsStopped}
 

@@ -5,7 +5,8 @@ use Rattle.crx_rinex.specs.meaning.Units.{HeaderLine, EventLine, EventRecord, Ob
 use Rattle.crx_rinex.specs.meaning.ObservationTypes.{Count, types_of, is_types_line, count_in}
 use Rattle.crx_rinex.specs.ObservationTypes.{AreCounts, IsCount, with_line, after_count}
 use Rattle.crx_rinex.proofs.Counts.{types_of-push, AreCounts-with_count, count_in_allowed}
-use Rattle.crx_engine.specs.meaning.Items.{Item, Accepted, Warned, records_count_types, declaring_lines, types_in_force}
+use Rattle.crx_reading.specs.meaning.Items.{Item, Accepted, Warned, records_count_types, declaring_lines}
+use Rattle.crx_reading.specs.meaning.Items.{types_in_force}
 
 no-counts : AreCounts []
 no-counts = record { allowed = All-nil IsCount; apart = refl }

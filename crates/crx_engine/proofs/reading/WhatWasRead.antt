@@ -7,14 +7,15 @@ use Rattle.crx_lines.specs.declared.fault.Fault.{Fault}
 use Rattle.crx_lines.specs.declared.fault.At.{At}
 use Rattle.crx_rinex.specs.meaning.Places.{Place, Here, Wrong, Wanted}
 use Rattle.crx_rinex.specs.meaning.Units.{Unit as FileUnit}
-use Rattle.crx_engine.specs.meaning.Items.{Item, Accepted, Warned, header_has_ended, records_left}
-use Rattle.crx_engine.specs.meaning.Reading.{Reading, AtFault, AtLines, is_skipped, can_go_on, looked_for}
-use Rattle.crx_engine.specs.meaning.Reading.{reading_within, reading_from}
+use Rattle.crx_reading.specs.meaning.Items.{Item, Accepted, Warned, header_has_ended, records_left}
+use Rattle.crx_reading.specs.meaning.Reading.{Reading, AtFault, AtLines, is_skipped, can_go_on, looked_for}
+use Rattle.crx_reading.specs.meaning.Reading.{reading_within, reading_from}
 use Rattle.crx_lines.specs.meaning.Faults.{is_skippable}
-use Rattle.crx_engine.specs.meaning.Expanded.{compact_place, first_lines}
-use Rattle.crx_engine.specs.meaning.Directions.{compact_reading}
+use Rattle.crx_reading.specs.meaning.Expanded.{compact_place, first_lines}
+use Rattle.crx_reading.specs.meaning.Directions.{compact_reading}
 use Rattle.crx_engine.specs.Laws.{ItemsAreRead}
-use Rattle.crx_engine.proofs.reading.Resuming.{by_bool, by_place, within-here, within-wrong, within-wanted}
+use Rattle.crx_reading.proofs.Choosing.{by_bool}
+use Rattle.crx_engine.proofs.reading.Resuming.{by_place, within-here, within-wrong, within-wanted}
 use Rattle.crx_engine.proofs.reading.Resuming.{fault-skipped, fault-ends, looked-here, looked-on}
 
 equal-zero : (n : ℕ) → (n == 0) ≡ true → n ≡ 0

@@ -11,19 +11,19 @@ use Rattle.crx_rinex.specs.meaning.Observations.{Epoch}
 use Rattle.crx_rinex.specs.meaning.Units.{HeaderLine, EventLine, EventRecord, Observation}
 use Rattle.crx_rinex.specs.meaning.EpochPlaces.{OpenEpoch}
 use Rattle.crx_rinex.specs.meaning.Printing.{printed_epoch}
-use Rattle.crx_engine.specs.meaning.Items.{Item, Accepted, Warned, is_at_start, types_in_force}
-use Rattle.crx_engine.specs.meaning.Reading.{Reading, WholeReading, Stop, AtFault, AtLines, Looking, fault_at_end}
-use Rattle.crx_engine.specs.meaning.Reading.{ended_with, ended_reading}
-use Rattle.crx_engine.specs.meaning.Compacted.{epochs_accepted, rinex_place, whole_rinex}
-use Rattle.crx_engine.specs.meaning.Directions.{rinex_reading}
-use Rattle.crx_engine.specs.LineByLine.{Phase, InFirstLines, InHeader, BetweenUnits, InEvent, InEpoch, LookingOn}
-use Rattle.crx_engine.specs.LineByLine.{Closed, Ended, Seen, kept_in, seen_end}
+use Rattle.crx_reading.specs.meaning.Items.{Item, Accepted, Warned, is_at_start, types_in_force}
+use Rattle.crx_reading.specs.meaning.Reading.{Reading, WholeReading, Stop, AtFault, AtLines, Looking, fault_at_end}
+use Rattle.crx_reading.specs.meaning.Reading.{ended_with, ended_reading}
+use Rattle.crx_reading.specs.meaning.Compacted.{epochs_accepted, rinex_place, whole_rinex}
+use Rattle.crx_reading.specs.meaning.Directions.{rinex_reading}
+use Rattle.crx_reading.specs.LineByLine.{Phase, InFirstLines, InHeader, BetweenUnits, InEvent, InEpoch, LookingOn}
+use Rattle.crx_reading.specs.LineByLine.{Closed, Ended, Seen, kept_in, seen_end}
 use Rattle.crx_engine.specs.Laws.{AreInPlace, failed_by}
-use Rattle.crx_engine.specs.meaning.Reading.{fault_of_stop}
-use Rattle.crx_engine.specs.meaning.Standard.{Findings, printed_items, whole_reading_of, first_header_line, version_in}
-use Rattle.crx_engine.specs.meaning.Standard.{events_accepted, observations_accepted, first_not_standard}
-use Rattle.crx_engine.specs.CheckByLine.{Totals, checking, totals_of, version_accepted, printed_open, printed_so_far}
-use Rattle.crx_engine.specs.CheckByLine.{no_choices, check_seen}
+use Rattle.crx_reading.specs.meaning.Reading.{fault_of_stop}
+use Rattle.crx_reading.specs.meaning.Standard.{Findings, printed_items, whole_reading_of, first_header_line, version_in}
+use Rattle.crx_reading.specs.meaning.Standard.{events_accepted, observations_accepted, first_not_standard}
+use Rattle.crx_reading.specs.CheckByLine.{Totals, checking, totals_of, version_accepted, printed_open, printed_so_far}
+use Rattle.crx_reading.specs.CheckByLine.{no_choices, check_seen}
 use Rattle.crx_engine.specs.CheckingLaws.{IsCheckEnded}
 use Rattle.crx_engine.proofs.following.Following.{seen_in}
 use Rattle.crx_engine.proofs.following.Check.{check-end}

@@ -15,19 +15,19 @@ use Rattle.crx_rinex.specs.meaning.Printing.{printed_row, printed_head, printed_
 use Rattle.crx_rinex.specs.meaning.EpochPlaces.{OpenEpoch, Beginning, EventBegins, EpochBegins, beginning_of, opened}
 use Rattle.crx_rinex.specs.meaning.EpochPlaces.{rows_wanted, epoch_of, with_next_row, next_row}
 use Rattle.crx_rinex.specs.EpochPlaces.{after_row, when_wanted}
-use Rattle.crx_engine.specs.meaning.Items.{Item, Accepted, header_has_ended, records_left, records_count_types}
-use Rattle.crx_engine.specs.meaning.Items.{is_at_start, records_announced, counts_types}
-use Rattle.crx_engine.specs.meaning.UnitPlaces.{unless_wrong, types_fault, header_line_fault}
-use Rattle.crx_engine.specs.meaning.Reading.{Reading, Stop, AtFault, AtLines, Looking, reading_within}
-use Rattle.crx_engine.specs.meaning.Compacted.{rinex_place}
-use Rattle.crx_engine.specs.meaning.Directions.{rinex_reading}
-use Rattle.crx_engine.specs.CompactionByLine.{made_of_epoch_step, made_of_beginning, rinex_open}
-use Rattle.crx_engine.specs.LineByLine.{Phase, InFirstLines, InHeader, BetweenUnits, InEvent, InEpoch, LookingOn}
-use Rattle.crx_engine.specs.LineByLine.{Closed, Ended, Made, Completes, Moves, Fails, Repeats, Step, made_of_unit}
-use Rattle.crx_engine.specs.LineByLine.{made_in, with_records_left, step_of_made, phase_in_body, phase_after_items}
-use Rattle.crx_engine.specs.LineByLine.{phase_of}
+use Rattle.crx_reading.specs.meaning.Items.{Item, Accepted, header_has_ended, records_left, records_count_types}
+use Rattle.crx_reading.specs.meaning.Items.{is_at_start, records_announced, counts_types}
+use Rattle.crx_reading.specs.meaning.UnitPlaces.{unless_wrong, types_fault, header_line_fault}
+use Rattle.crx_reading.specs.meaning.Reading.{Reading, Stop, AtFault, AtLines, Looking, reading_within}
+use Rattle.crx_reading.specs.meaning.Compacted.{rinex_place}
+use Rattle.crx_reading.specs.meaning.Directions.{rinex_reading}
+use Rattle.crx_reading.specs.CompactionByLine.{made_of_epoch_step, made_of_beginning, rinex_open}
+use Rattle.crx_reading.specs.LineByLine.{Phase, InFirstLines, InHeader, BetweenUnits, InEvent, InEpoch, LookingOn}
+use Rattle.crx_reading.specs.LineByLine.{Closed, Ended, Made, Completes, Moves, Fails, Repeats, Step, made_of_unit}
+use Rattle.crx_reading.specs.LineByLine.{made_in, with_records_left, step_of_made, phase_in_body, phase_after_items}
+use Rattle.crx_reading.specs.LineByLine.{phase_of}
 use Rattle.crx_engine.specs.Laws.{failed_by, is_again}
-use Rattle.crx_engine.specs.CheckByLine.{Totals, checking, printed_open, printed_made, no_choices}
+use Rattle.crx_reading.specs.CheckByLine.{Totals, checking, printed_open, printed_made, no_choices}
 use Rattle.crx_engine.proofs.following.Following.{seen_in}
 use Rattle.crx_engine.proofs.reading.Resuming.{by_place, within-here, within-wrong, within-wanted, fault-ends}
 

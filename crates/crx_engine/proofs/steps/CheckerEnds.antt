@@ -5,27 +5,30 @@ use Rattle.crx_lines.specs.declared.fault.At.{At}
 use Rattle.crx_rinex.specs.meaning.EpochPlaces.{OpenEpoch}
 use Rattle.crx_rinex.specs.meaning.Observations.{Epoch}
 use Rattle.crx_rinex.specs.meaning.ObservationTypes.{Count}
-use Rattle.crx_engine.specs.CompactionByLine.{Written, compaction}
-use Rattle.crx_engine.specs.EngineSteps.{SettlesEnd, is_held, answer_of_step}
+use Rattle.crx_reading.specs.CompactionByLine.{Written, compaction}
+use Rattle.crx_engine.specs.EngineSteps.{SettlesEnd, answer_of_step}
+use Rattle.crx_reading.specs.Stages.{is_held}
 use Rattle.crx_engine.specs.Laws.{failed_by}
-use Rattle.crx_engine.specs.LineByLine.{Phase, InFirstLines, InHeader, BetweenUnits, InEvent, InEpoch, LookingOn}
-use Rattle.crx_engine.specs.LineByLine.{Closed as SeenClosed, Ended as SeenEnded, Step as SeenStep, seen_end}
-use Rattle.crx_engine.specs.RinexReaders.{reader_phase}
-use Rattle.crx_engine.specs.RinexStages.{open_epoch, is_rinex_stage}
-use Rattle.crx_engine.specs.meaning.Standard.{whole_reading_of, findings_of}
-use Rattle.crx_engine.specs.CheckByLine.{Totals, checking, CheckSeen, no_choices, check_seen, found_by}
-use Rattle.crx_engine.specs.CheckerState.{checker_state_with, found_held}
+use Rattle.crx_reading.specs.LineByLine.{Phase, InFirstLines, InHeader, BetweenUnits, InEvent, InEpoch, LookingOn}
+use Rattle.crx_reading.specs.LineByLine.{Closed as SeenClosed, Ended as SeenEnded, Step as SeenStep, seen_end}
+use Rattle.crx_reading.specs.RinexReaders.{reader_phase}
+use Rattle.crx_reading.specs.RinexStages.{open_epoch, is_rinex_stage}
+use Rattle.crx_reading.specs.meaning.Standard.{whole_reading_of, findings_of}
+use Rattle.crx_reading.specs.CheckByLine.{Totals, checking, CheckSeen, no_choices, check_seen, found_by}
+use Rattle.crx_engine.specs.CheckerState.{checker_state_with}
+use Rattle.crx_reading.specs.Totals.{found_held}
 use Rattle.crx_engine.specs.declared.engine.Step.{Step}
 use Rattle.crx_engine.specs.declared.engine.Step.TheVariants.{Quiet, Ready, Warned}
-use Rattle.crx_engine.specs.declared.report.Totals.{Totals as Held}
-use Rattle.crx_engine.specs.declared.rinex_reader.RinexReader.{RinexReader}
+use Rattle.crx_reading.specs.declared.report.Totals.{Totals as Held}
+use Rattle.crx_reading.specs.declared.rinex_reader.RinexReader.{RinexReader}
 use Rattle.crx_engine.specs.declared.settled.Settled.{Settled}
-use Rattle.crx_engine.specs.declared.stage.Stage.{Stage}
-use Rattle.crx_engine.specs.declared.stage.Stage.TheVariants.{FirstLines, Header, Between, Event, Open, Looking, Closed}
-use Rattle.crx_engine.specs.declared.stage.Stage.TheVariants.{Ended}
+use Rattle.crx_reading.specs.declared.stage.Stage.{Stage}
+use Rattle.crx_reading.specs.declared.stage.Stage.TheVariants.{FirstLines, Header, Between, Event, Open, Looking}
+use Rattle.crx_reading.specs.declared.stage.Stage.TheVariants.{Closed}
+use Rattle.crx_reading.specs.declared.stage.Stage.TheVariants.{Ended}
 use Rattle.crx_engine.proofs.standard.CheckEnded.{check-ended}
 use Rattle.crx_engine.proofs.following.Following.{seen_in}
-use Rattle.crx_engine.proofs.following.Lines.{false-true}
+use Rattle.crx_reading.proofs.Choosing.{false-true}
 
 -- the end is the same whatever is kept of the epochs
 end-same : (number : ℕ) (phase : Phase OpenEpoch) (types : List Count) (totals : Totals) (kept : Written)

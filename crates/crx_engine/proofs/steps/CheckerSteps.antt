@@ -13,38 +13,39 @@ use Rattle.crx_rinex.specs.meaning.Observations.{Epoch as ObservationEpoch}
 use Rattle.crx_rinex.specs.meaning.ObservationTypes.{Count}
 use Rattle.crx_rinex.specs.Printing.{last_line}
 use Rattle.crx_rinex.specs.meaning.Units.{Unit, HeaderLine, EventLine, EventRecord, Observation}
-use Rattle.crx_engine.specs.CompactionByLine.{compaction, is_before_header}
-use Rattle.crx_engine.specs.meaning.Filters.{with_next}
+use Rattle.crx_reading.specs.CompactionByLine.{compaction, is_before_header}
+use Rattle.crx_reading.specs.meaning.Filters.{with_next}
 use Rattle.crx_engine.specs.Engines.{RunsOutAt}
-use Rattle.crx_engine.specs.meaning.Items.{records_announced, counts_types}
+use Rattle.crx_reading.specs.meaning.Items.{records_announced, counts_types}
 use Rattle.crx_engine.specs.Laws.{failed_by}
-use Rattle.crx_engine.specs.LineByLine.{Phase, InFirstLines, InHeader, BetweenUnits, InEvent, InEpoch, LookingOn}
-use Rattle.crx_engine.specs.LineByLine.{Closed, Ended, Seen, Step, Made, Completes, Moves, Fails, Repeats, made_in}
-use Rattle.crx_engine.specs.LineByLine.{with_records_left, phase_after, types_after, step_of_made}
-use Rattle.crx_engine.specs.Memory.{takes_memory}
-use Rattle.crx_engine.specs.RinexReaders.{reader_phase, made_at, Completed, TakesRinexLine, RefusesRinexLine}
-use Rattle.crx_engine.specs.meaning.Standard.{is_standard_line}
-use Rattle.crx_engine.specs.CheckByLine.{Totals, checking, totals_with, totals_made, printed_open, printed_made}
-use Rattle.crx_engine.specs.CheckByLine.{earliest, CheckSeen, no_choices, check_seen, check_step, check_next}
-use Rattle.crx_engine.specs.meaning.Directions.{check_filter, fault_so_far}
-use Rattle.crx_engine.specs.CheckerState.{totals_held, checker_state_with, is_reading, HasPrinted}
-use Rattle.crx_engine.specs.declared.report.Totals.{Totals as Held}
-use Rattle.crx_engine.specs.declared.rinex_reader.RinexReader.{RinexReader}
-use Rattle.crx_engine.specs.declared.rinex_reader.RinexStep.{RinexStep}
-use Rattle.crx_engine.specs.declared.rinex_reader.RinexStep.TheVariants.{Nothing, Header, Event, Record, Epoch}
+use Rattle.crx_reading.specs.LineByLine.{Phase, InFirstLines, InHeader, BetweenUnits, InEvent, InEpoch, LookingOn}
+use Rattle.crx_reading.specs.LineByLine.{Closed, Ended, Seen, Step, Made, Completes, Moves, Fails, Repeats, made_in}
+use Rattle.crx_reading.specs.LineByLine.{with_records_left, phase_after, types_after, step_of_made}
+use Rattle.crx_reading.specs.Memory.{takes_memory}
+use Rattle.crx_reading.specs.RinexReaders.{reader_phase, made_at, Completed, TakesRinexLine, RefusesRinexLine}
+use Rattle.crx_reading.specs.meaning.Standard.{is_standard_line}
+use Rattle.crx_reading.specs.CheckByLine.{Totals, checking, totals_with, totals_made, printed_open, printed_made}
+use Rattle.crx_reading.specs.CheckByLine.{earliest, CheckSeen, no_choices, check_seen, check_step, check_next}
+use Rattle.crx_reading.specs.meaning.Directions.{check_filter, fault_so_far}
+use Rattle.crx_reading.specs.Totals.{totals_held, HasPrinted}
+use Rattle.crx_engine.specs.CheckerState.{checker_state_with, is_reading}
+use Rattle.crx_reading.specs.declared.report.Totals.{Totals as Held}
+use Rattle.crx_reading.specs.declared.rinex_reader.RinexReader.{RinexReader}
+use Rattle.crx_reading.specs.declared.rinex_reader.RinexStep.{RinexStep}
+use Rattle.crx_reading.specs.declared.rinex_reader.RinexStep.TheVariants.{Nothing, Header, Event, Record, Epoch}
 use Rattle.crx_engine.proofs.steps.EngineAnswers.{seen-short, seen-long}
 use Rattle.crx_engine.proofs.following.Following.{seen_in}
 use Rattle.crx_engine.proofs.following.MemoryOfRinex.{check-allowed}
 use Rattle.std.proofs.lemmas.List.{length-map}
-use Rattle.crx_engine.specs.CompactionByLine.{rinex_open}
-use Rattle.crx_engine.specs.CheckByLine.{totals_of}
-use Rattle.crx_engine.specs.LineByLine.{seen_of}
-use Rattle.crx_engine.specs.meaning.Directions.{rinex_reading}
+use Rattle.crx_reading.specs.CompactionByLine.{rinex_open}
+use Rattle.crx_reading.specs.CheckByLine.{totals_of}
+use Rattle.crx_reading.specs.LineByLine.{seen_of}
+use Rattle.crx_reading.specs.meaning.Directions.{rinex_reading}
 use Rattle.crx_engine.proofs.standard.CheckLines.{IsReached, Grows, line-grows}
 use Rattle.crx_engine.proofs.following.CheckedOn.{checked-on}
 use Rattle.crx_engine.proofs.standard.CheckEnded.{kept-always}
-use Rattle.crx_engine.proofs.steps.Checkers.{not-none}
-use Rattle.crx_engine.proofs.following.Lines.{false-true}
+use Rattle.crx_reading.proofs.Checkers.{not-none}
+use Rattle.crx_reading.proofs.Choosing.{false-true}
 
 -- a check keeps nothing of the epochs: what a line makes does not hang on it
 

@@ -11,24 +11,26 @@ use Rattle.std.proofs.lemmas.Bool.{and_parts, false≢true}
 use Rattle.crx_rinex.specs.meaning.EpochLines.{begins_epoch, is_event_line}
 use Rattle.crx_rinex.specs.meaning.EpochPlaces.{OpenEpoch}
 use Rattle.crx_rinex.specs.meaning.ObservationTypes.{Count}
-use Rattle.crx_engine.specs.meaning.Choices.{Choices}
-use Rattle.crx_engine.specs.CompactionByLine.{Written, compaction, epoch_written, is_next_row}
-use Rattle.crx_engine.specs.LineByLine.{Phase, InFirstLines, InHeader, BetweenUnits, InEvent, InEpoch, LookingOn}
-use Rattle.crx_engine.specs.LineByLine.{Closed as SeenClosed, Ended as SeenEnded, Seen, Made, Fails, made_in, kept_in}
-use Rattle.crx_engine.specs.LineByLine.{failed_step, step_of_made}
-use Rattle.crx_engine.specs.Memory.{may_take_memory}
+use Rattle.crx_reading.specs.meaning.Choices.{Choices}
+use Rattle.crx_reading.specs.CompactionByLine.{Written, compaction, epoch_written, is_next_row}
+use Rattle.crx_reading.specs.LineByLine.{Phase, InFirstLines, InHeader, BetweenUnits, InEvent, InEpoch, LookingOn}
+use Rattle.crx_reading.specs.LineByLine.{Closed as SeenClosed, Ended as SeenEnded, Seen, Made, Fails, made_in, kept_in}
+use Rattle.crx_reading.specs.LineByLine.{failed_step, step_of_made}
+use Rattle.crx_reading.specs.Memory.{may_take_memory}
 use Rattle.crx_lines.specs.meaning.Faults.{is_skippable}
-use Rattle.crx_engine.specs.EngineSteps.{is_ended, seen_stage, step_made, Steps}
-use Rattle.crx_engine.specs.RinexStages.{open_epoch, is_whole}
-use Rattle.crx_engine.specs.RinexReaders.{made_at, reader_phase, TakesRinexLine, CompletedEpoch}
+use Rattle.crx_reading.specs.Stages.{is_ended, seen_stage}
+use Rattle.crx_engine.specs.EngineSteps.{step_made, Steps}
+use Rattle.crx_reading.specs.RinexStages.{open_epoch, is_whole}
+use Rattle.crx_reading.specs.RinexReaders.{made_at, reader_phase, TakesRinexLine, CompletedEpoch}
 use Rattle.crx_engine.specs.declared.engine.Step.{Step}
 use Rattle.crx_engine.specs.declared.engine.Step.TheVariants.{Quiet}
-use Rattle.crx_engine.specs.declared.rinex_reader.RinexReader.{RinexReader}
-use Rattle.crx_engine.specs.declared.rinex_reader.RinexStep.{RinexStep}
-use Rattle.crx_engine.specs.declared.rinex_reader.RinexStep.TheVariants.{Nothing, Epoch}
-use Rattle.crx_engine.specs.declared.stage.Stage.{Stage}
-use Rattle.crx_engine.specs.declared.stage.Stage.TheVariants.{FirstLines, Header, Between, Event, Open, Looking, Closed}
-use Rattle.crx_engine.specs.declared.stage.Stage.TheVariants.{Ended}
+use Rattle.crx_reading.specs.declared.rinex_reader.RinexReader.{RinexReader}
+use Rattle.crx_reading.specs.declared.rinex_reader.RinexStep.{RinexStep}
+use Rattle.crx_reading.specs.declared.rinex_reader.RinexStep.TheVariants.{Nothing, Epoch}
+use Rattle.crx_reading.specs.declared.stage.Stage.{Stage}
+use Rattle.crx_reading.specs.declared.stage.Stage.TheVariants.{FirstLines, Header, Between, Event, Open, Looking}
+use Rattle.crx_reading.specs.declared.stage.Stage.TheVariants.{Closed}
+use Rattle.crx_reading.specs.declared.stage.Stage.TheVariants.{Ended}
 use Rattle.crx_engine.proofs.steps.EngineLemmas.{out-fatal, fatal-counts, ran-out}
 
 -- an epoch that was completed is whole

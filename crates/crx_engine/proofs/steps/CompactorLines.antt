@@ -3,11 +3,11 @@ use Rattle.std.proofs.Common.{◌≡◌, List, [], ◌∷◌, length, map, sym, 
 use Rattle.crx_lines.specs.meaning.Lines.{InputLine}
 use Rattle.crx_lines.specs.meaning.Seen.{seen}
 use Rattle.crx_rinex.specs.meaning.EpochPlaces.{OpenEpoch}
-use Rattle.crx_engine.specs.meaning.Choices.{Choices}
+use Rattle.crx_reading.specs.meaning.Choices.{Choices}
 use Rattle.crx_engine.specs.Engines.{Awaited}
 use Rattle.crx_engine.specs.EngineLines.{HasTaken}
-use Rattle.crx_engine.specs.CompactionByLine.{Written, compaction, compaction_seen}
-use Rattle.crx_engine.specs.LineByLine.{Seen}
+use Rattle.crx_reading.specs.CompactionByLine.{Written, compaction, compaction_seen}
+use Rattle.crx_reading.specs.LineByLine.{Seen}
 use Rattle.crx_engine.proofs.following.DirectionSteps.{compaction-goes}
 use Rattle.crx_engine.proofs.steps.EngineAnswers.{comes-again}
 

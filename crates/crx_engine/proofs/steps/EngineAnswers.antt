@@ -7,23 +7,23 @@ use Rattle.crx_lines.specs.meaning.Lines.{InputLine, is_long}
 use Rattle.crx_lines.specs.meaning.Seen.{ReadLine, Content, Overlong, seen}
 use Rattle.crx_lines.specs.declared.fault.At.{At}
 use Rattle.crx_lines.specs.declared.fault.Fault.TheVariants.{OutOfMemory}
-use Rattle.crx_engine.specs.meaning.Filters.{Filter, with_next}
+use Rattle.crx_reading.specs.meaning.Filters.{Filter, with_next}
 use Rattle.crx_rinex.specs.meaning.Printing.{lines_text}
 use Rattle.crx_engine.specs.Engines.{Awaited, IsAwaited, awaited_notices, GoesOn, EndsWith, EngineAnswers, Concludes}
 use Rattle.crx_engine.specs.EngineLines.{HasTaken}
 use Rattle.crx_engine.specs.EngineSteps.{step_made, Steps}
 use Rattle.crx_engine.specs.Laws.{noticed_by, failed_by, is_again, is_ready, has_lines, Fed, fed_once, fed_twice, fed}
 use Rattle.crx_engine.specs.Laws.{IsReadyWhereLent}
-use Rattle.crx_engine.specs.LineByLine.{LookingOn}
-use Rattle.crx_engine.specs.LineByLine.{Seen, Direction, Made, Completes, Moves, Fails, Repeats, Notice}
-use Rattle.crx_engine.specs.LineByLine.{Step as SeenStep, made_in, may_skip, is_in_epoch, is_skipped_in, failed_step}
-use Rattle.crx_engine.specs.LineByLine.{step_of_made, seen_next, seen_end}
-use Rattle.crx_engine.specs.Memory.{takes_memory}
-use Rattle.crx_engine.specs.meaning.Reading.{can_go_on}
+use Rattle.crx_reading.specs.LineByLine.{LookingOn}
+use Rattle.crx_reading.specs.LineByLine.{Seen, Direction, Made, Completes, Moves, Fails, Repeats, Notice}
+use Rattle.crx_reading.specs.LineByLine.{Step as SeenStep, made_in, may_skip, is_in_epoch, is_skipped_in, failed_step}
+use Rattle.crx_reading.specs.LineByLine.{step_of_made, seen_next, seen_end}
+use Rattle.crx_reading.specs.Memory.{takes_memory}
+use Rattle.crx_reading.specs.meaning.Reading.{can_go_on}
 use Rattle.crx_lines.specs.meaning.Faults.{is_skippable}
 use Rattle.crx_engine.specs.declared.engine.Step.{Step}
 use Rattle.crx_engine.specs.declared.engine.Step.TheVariants.{Quiet, Ready, Warned}
-use Rattle.crx_engine.proofs.reading.Resuming.{by_bool}
+use Rattle.crx_reading.proofs.Choosing.{by_bool}
 
 -- ---- what a direction has to keep to, in the words of a filter
 

@@ -8,19 +8,21 @@ use Rattle.crx_lines.specs.declared.fault.Fault.{Fault}
 use Rattle.crx_lines.specs.declared.fault.Fault.TheVariants.{OutOfMemory}
 use Rattle.crx_rinex.specs.meaning.Observations.{Epoch}
 use Rattle.crx_rinex.specs.meaning.ObservationTypes.{Count}
-use Rattle.crx_engine.specs.LineByLine.{Phase, Ended as SeenEnded, Seen, Direction, Answer, Quiet as SeenQuiet}
-use Rattle.crx_engine.specs.LineByLine.{Ready as SeenReady, Notice, Failed, Step as SeenStep, made_in, may_skip}
-use Rattle.crx_engine.specs.LineByLine.{is_skipped_in, failed_step, step_of_made, seen_next, seen_end}
-use Rattle.crx_engine.specs.Memory.{may_take_memory, takes_memory}
+use Rattle.crx_reading.specs.LineByLine.{Phase, Ended as SeenEnded, Seen, Direction, Answer, Quiet as SeenQuiet}
+use Rattle.crx_reading.specs.LineByLine.{Ready as SeenReady, Notice, Failed, Step as SeenStep, made_in, may_skip}
+use Rattle.crx_reading.specs.LineByLine.{is_skipped_in, failed_step, step_of_made, seen_next, seen_end}
+use Rattle.crx_reading.specs.Memory.{may_take_memory, takes_memory}
 use Rattle.crx_lines.specs.meaning.Faults.{is_skippable}
-use Rattle.crx_engine.specs.EngineSteps.{answer_of_step, is_held, step_made, RanOut, Steps}
-use Rattle.crx_engine.specs.RinexStages.{open_epoch, is_rinex_stage}
+use Rattle.crx_engine.specs.EngineSteps.{answer_of_step, step_made, RanOut, Steps}
+use Rattle.crx_reading.specs.Stages.{is_held}
+use Rattle.crx_reading.specs.RinexStages.{open_epoch, is_rinex_stage}
 use Rattle.crx_engine.specs.declared.engine.Step.{Step}
 use Rattle.crx_engine.specs.declared.engine.Step.TheVariants.{Quiet, Ready, Warned}
-use Rattle.crx_engine.specs.declared.stage.Stage.{Stage}
-use Rattle.crx_engine.specs.declared.stage.Stage.TheVariants.{FirstLines, Header, Between, Event, Open, Looking, Closed}
-use Rattle.crx_engine.specs.declared.stage.Stage.TheVariants.{Ended}
-use Rattle.crx_engine.proofs.following.Lines.{false-true}
+use Rattle.crx_reading.specs.declared.stage.Stage.{Stage}
+use Rattle.crx_reading.specs.declared.stage.Stage.TheVariants.{FirstLines, Header, Between, Event, Open, Looking}
+use Rattle.crx_reading.specs.declared.stage.Stage.TheVariants.{Closed}
+use Rattle.crx_reading.specs.declared.stage.Stage.TheVariants.{Ended}
+use Rattle.crx_reading.proofs.Choosing.{false-true}
 
 -- in the stage of an open epoch one is held
 pub held-open : (types : List Count) (stage : Stage) (epoch : Option Epoch)

@@ -7,11 +7,11 @@ use Rattle.crx_lines.specs.declared.limits.TheConstants.{LINE_LIMIT}
 use Rattle.crx_lines.specs.meaning.Seen.{seen}
 use Rattle.crx_compact.specs.OpenEpochs.{OpenRawEpoch}
 use Rattle.crx_history.specs.Tails.{Tail}
-use Rattle.crx_engine.specs.meaning.Choices.{Choices}
+use Rattle.crx_reading.specs.meaning.Choices.{Choices}
 use Rattle.crx_engine.specs.Engines.{Awaited}
 use Rattle.crx_engine.specs.EngineLines.{HasTaken}
-use Rattle.crx_engine.specs.ExpansionByLine.{expansion, expansion_seen}
-use Rattle.crx_engine.specs.LineByLine.{Seen}
+use Rattle.crx_reading.specs.ExpansionByLine.{expansion, expansion_seen}
+use Rattle.crx_reading.specs.LineByLine.{Seen}
 use Rattle.crx_engine.proofs.following.DirectionSteps.{expansion-goes}
 use Rattle.crx_engine.proofs.steps.EngineAnswers.{comes-again}
 

@@ -9,18 +9,20 @@ use Rattle.crx_lines.specs.meaning.Seen.{Content, Overlong}
 use Rattle.crx_lines.specs.declared.fault.At.{At}
 use Rattle.crx_lines.specs.declared.fault.Fault.{Fault}
 use Rattle.crx_lines.specs.declared.fault.Fault.TheVariants.{LineTooLong}
-use Rattle.crx_engine.specs.meaning.Choices.{Choices}
-use Rattle.crx_engine.specs.ExpansionByLine.{expansion}
-use Rattle.crx_engine.specs.LineByLine.{Phase, Seen, Fails, made_in, step_of_made, failed_step}
+use Rattle.crx_reading.specs.meaning.Choices.{Choices}
+use Rattle.crx_reading.specs.ExpansionByLine.{expansion}
+use Rattle.crx_reading.specs.LineByLine.{Phase, Seen, Fails, made_in, step_of_made, failed_step}
 use Rattle.crx_lines.specs.meaning.Faults.{is_skippable}
-use Rattle.crx_engine.specs.EngineSteps.{Steps, is_held, is_settled, seen_stage, settled_seen, step_made}
-use Rattle.crx_engine.specs.CompactStages.{is_compact_stage, open_in}
-use Rattle.crx_engine.specs.CompactReaders.{RefusesCompactLine}
+use Rattle.crx_engine.specs.EngineSteps.{Steps, settled_seen, step_made}
+use Rattle.crx_reading.specs.Stages.{is_held, is_settled, seen_stage}
+use Rattle.crx_reading.specs.CompactStages.{is_compact_stage, open_in}
+use Rattle.crx_reading.specs.CompactReaders.{RefusesCompactLine}
 use Rattle.crx_engine.specs.declared.engine.Step.{Step}
 use Rattle.crx_engine.specs.declared.settled.Settled.{Settled}
-use Rattle.crx_engine.specs.declared.stage.Stage.{Stage}
-use Rattle.crx_engine.specs.declared.stage.Stage.TheVariants.{FirstLines, Header, Between, Event, Open, Looking, Closed}
-use Rattle.crx_engine.specs.declared.stage.Stage.TheVariants.{Ended}
+use Rattle.crx_reading.specs.declared.stage.Stage.{Stage}
+use Rattle.crx_reading.specs.declared.stage.Stage.TheVariants.{FirstLines, Header, Between, Event, Open, Looking}
+use Rattle.crx_reading.specs.declared.stage.Stage.TheVariants.{Closed}
+use Rattle.crx_reading.specs.declared.stage.Stage.TheVariants.{Ended}
 use Rattle.crx_engine.proofs.steps.EngineLemmas.{fatal-counts}
 
 abbrev seen_as : Choices → ℕ → Phase OpenRawEpoch → List Count → Option Tail → Seen OpenRawEpoch (Option Tail)

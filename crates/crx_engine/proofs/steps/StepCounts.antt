@@ -4,10 +4,10 @@ use Rattle.std.proofs.Common.{sym, subst, if◌then◌else◌}
 use Rattle.std.specs.Prelude.{⊤}
 use Rattle.crx_lines.specs.meaning.Seen.{ReadLine}
 use Rattle.crx_lines.specs.declared.fault.At.{At}
-use Rattle.crx_engine.specs.meaning.Reading.{can_go_on}
-use Rattle.crx_engine.specs.LineByLine.{Direction, Seen, Made, Completes, Moves, Fails, Repeats, Ended, Answer}
-use Rattle.crx_engine.specs.LineByLine.{Quiet as SeenQuiet, Ready as SeenReady, Notice, Failed, Step as SeenStep}
-use Rattle.crx_engine.specs.LineByLine.{is_in_epoch, is_skipped_in, after_warning, with_phase, made_in, step_of_made}
+use Rattle.crx_reading.specs.meaning.Reading.{can_go_on}
+use Rattle.crx_reading.specs.LineByLine.{Direction, Seen, Made, Completes, Moves, Fails, Repeats, Ended, Answer}
+use Rattle.crx_reading.specs.LineByLine.{Quiet as SeenQuiet, Ready as SeenReady, Notice, Failed, Step as SeenStep}
+use Rattle.crx_reading.specs.LineByLine.{is_in_epoch, is_skipped_in, after_warning, with_phase, made_in, step_of_made}
 use Rattle.crx_engine.specs.Engines.{taken_after, IsDrainedAfter}
 use Rattle.crx_engine.specs.EngineSteps.{Steps, answer_of_step, step_made}
 use Rattle.crx_engine.specs.declared.engine.Step.{Step}

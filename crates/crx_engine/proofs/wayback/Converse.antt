@@ -28,15 +28,15 @@ use Rattle.crx_text.proofs.ReadBack.{decimal_is_digits}
 use Rattle.crx_rinex.specs.meaning.Observations.{Row, Epoch}
 use Rattle.crx_rinex.specs.meaning.Printing.{printed_cells, printed_row, printed_epoch, lines_text}
 use Rattle.crx_rinex.specs.meaning.Units.{HeaderLine, EventLine, EventRecord, Observation}
-use Rattle.crx_engine.specs.meaning.Choices.{Choices, is_date}
-use Rattle.crx_engine.specs.meaning.Compacted.{compacted}
-use Rattle.crx_engine.specs.meaning.Expanded.{expanded}
-use Rattle.crx_engine.specs.meaning.Items.{Item, Accepted, Warned, types_in_force}
-use Rattle.crx_engine.specs.meaning.Reading.{WholeReading}
-use Rattle.crx_engine.specs.meaning.Results.{FilterResult}
-use Rattle.crx_engine.specs.meaning.Standard.{printed_items, whole_of, IsStandard}
+use Rattle.crx_reading.specs.meaning.Choices.{Choices, is_date}
+use Rattle.crx_reading.specs.meaning.Compacted.{compacted}
+use Rattle.crx_reading.specs.meaning.Expanded.{expanded}
+use Rattle.crx_reading.specs.meaning.Items.{Item, Accepted, Warned, types_in_force}
+use Rattle.crx_reading.specs.meaning.Reading.{WholeReading}
+use Rattle.crx_reading.specs.meaning.Results.{FilterResult}
+use Rattle.crx_reading.specs.meaning.Standard.{printed_items, whole_of, IsStandard}
 use Rattle.crx_engine.specs.Laws.{AreInPlace}
-use Rattle.crx_engine.specs.meaning.WayBack.{OfCopiedLines, HaveNoReturns}
+use Rattle.crx_reading.specs.meaning.WayBack.{OfCopiedLines, HaveNoReturns}
 use Rattle.crx_engine.proofs.wayback.WayBack.{IsSettled, whole-settled}
 use Rattle.crx_engine.proofs.wayback.Cut.{CanStand, return-kept}
 use Rattle.crx_engine.proofs.wayback.Standard.{normal-comes_back}

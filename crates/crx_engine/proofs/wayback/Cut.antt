@@ -13,7 +13,7 @@ use Rattle.crx_lines.specs.meaning.Seen.{ReadLine, Content, Overlong, seen}
 use Rattle.crx_lines.specs.declared.limits.TheConstants.{LINE_LIMIT}
 use Rattle.crx_lines.proofs.PieceLemmas.{pieces-first, NoFeed}
 use Rattle.crx_rinex.specs.meaning.Printing.{lines_text}
-use Rattle.crx_engine.proofs.reading.Resuming.{by_bool}
+use Rattle.crx_reading.proofs.Choosing.{by_bool}
 
 -- a line that is read as it was written
 pub record IsClean (line : List ℕ) : Type 0 where

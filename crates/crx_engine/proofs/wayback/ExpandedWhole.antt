@@ -14,11 +14,13 @@ use Rattle.crx_history.specs.meaning.Expansion.{RawEpoch}
 use Rattle.crx_history.specs.meaning.CompactPlaces.{ReadEpoch, epoch_at}
 use Rattle.crx_compact.specs.ReadingLaws.{HasPrintableMarks, IsGood}
 use Rattle.crx_compact.proofs.soundness.Goodness.{reads-whole}
-use Rattle.crx_engine.specs.meaning.Items.{Item, Accepted, Warned, is_at_start, header_has_ended, records_left}
-use Rattle.crx_engine.specs.meaning.Items.{records_count_types, types_in_force}
-use Rattle.crx_engine.specs.meaning.UnitPlaces.{unless_wrong, types_fault, header_line_fault, header_line, event_record}
-use Rattle.crx_engine.specs.meaning.Expanded.{raws_kept, empties_state, event_line, as_observation, compact_epoch_place}
-use Rattle.crx_engine.specs.meaning.Expanded.{compact_place}
+use Rattle.crx_reading.specs.meaning.Items.{Item, Accepted, Warned, is_at_start, header_has_ended, records_left}
+use Rattle.crx_reading.specs.meaning.Items.{records_count_types, types_in_force}
+use Rattle.crx_reading.specs.meaning.UnitPlaces.{unless_wrong, types_fault, header_line_fault, header_line}
+use Rattle.crx_reading.specs.meaning.UnitPlaces.{event_record}
+use Rattle.crx_reading.specs.meaning.Expanded.{raws_kept, empties_state, event_line, as_observation}
+use Rattle.crx_reading.specs.meaning.Expanded.{compact_epoch_place}
+use Rattle.crx_reading.specs.meaning.Expanded.{compact_place}
 use Rattle.crx_engine.specs.Laws.{ItemsAreRead}
 use Rattle.crx_engine.proofs.reading.Types.{counts-in_force}
 

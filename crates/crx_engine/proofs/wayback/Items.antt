@@ -18,12 +18,13 @@ use Rattle.crx_compact.specs.Laws.{AreWhole, LinesCanStand}
 use Rattle.crx_compact.specs.ReadingLaws.{raws_of, read_of, lines_of_epoch, EpochReadsBack}
 use Rattle.crx_compact.proofs.wayback.Reading.{each-reads_back}
 use Rattle.crx_compact.proofs.wayback.Standing.{lines-stand}
-use Rattle.crx_engine.specs.meaning.Items.{Item, Accepted, Warned, records_left, types_in_force}
-use Rattle.crx_engine.specs.meaning.UnitPlaces.{types_fault, header_line_fault}
-use Rattle.crx_engine.specs.meaning.Compacted.{is_interrupted, is_at_every, is_in_full, marked_epochs, epochs_accepted}
-use Rattle.crx_engine.specs.meaning.Expanded.{raws_kept, event_line, as_observation, compact_epoch_place, compact_place}
+use Rattle.crx_reading.specs.meaning.Items.{Item, Accepted, Warned, records_left, types_in_force}
+use Rattle.crx_reading.specs.meaning.UnitPlaces.{types_fault, header_line_fault}
+use Rattle.crx_reading.specs.meaning.Compacted.{is_interrupted, is_at_every, is_in_full, marked_epochs, epochs_accepted}
+use Rattle.crx_reading.specs.meaning.Expanded.{raws_kept, event_line, as_observation, compact_epoch_place}
+use Rattle.crx_reading.specs.meaning.Expanded.{compact_place}
 use Rattle.crx_engine.specs.Laws.{AreInPlace}
-use Rattle.crx_engine.proofs.reading.Resuming.{by_bool}
+use Rattle.crx_reading.proofs.Choosing.{by_bool}
 use Rattle.crx_engine.proofs.following.Following.{body-place}
 use Rattle.crx_engine.proofs.wayback.Carried.{carried_unit, carried, header-same, start-same, left-same, count-same}
 use Rattle.crx_engine.proofs.wayback.Carried.{types-same, header-here, record-here}

@@ -25,16 +25,16 @@ use Rattle.crx_rinex.specs.meaning.Printing.{printed_cells, printed_row, printed
 use Rattle.crx_rinex.specs.meaning.Units.{Unit as FileUnit, HeaderLine, EventLine, EventRecord, Observation}
 use Rattle.crx_rinex.specs.meaning.Units.{printed_unit}
 use Rattle.crx_rinex.proofs.ReadingBack.{epoch-back, length-row, length-head}
-use Rattle.crx_engine.specs.meaning.Items.{Item, Accepted, Warned, records_left, types_in_force}
-use Rattle.crx_engine.specs.meaning.UnitPlaces.{types_fault, header_line_fault}
-use Rattle.crx_engine.specs.meaning.Reading.{Reading, WholeReading, Stop, AtFault, AtLines, Looking, reading_within}
-use Rattle.crx_engine.specs.meaning.Reading.{fault_at_end, ended_with, ended_reading}
-use Rattle.crx_engine.specs.meaning.Messages.{warnings_in}
-use Rattle.crx_engine.specs.meaning.Compacted.{rinex_place, whole_rinex}
-use Rattle.crx_engine.specs.meaning.Directions.{rinex_reading}
-use Rattle.crx_engine.specs.meaning.Standard.{printed_items, whole_of, normal_form}
+use Rattle.crx_reading.specs.meaning.Items.{Item, Accepted, Warned, records_left, types_in_force}
+use Rattle.crx_reading.specs.meaning.UnitPlaces.{types_fault, header_line_fault}
+use Rattle.crx_reading.specs.meaning.Reading.{Reading, WholeReading, Stop, AtFault, AtLines, Looking, reading_within}
+use Rattle.crx_reading.specs.meaning.Reading.{fault_at_end, ended_with, ended_reading}
+use Rattle.crx_reading.specs.meaning.Messages.{warnings_in}
+use Rattle.crx_reading.specs.meaning.Compacted.{rinex_place, whole_rinex}
+use Rattle.crx_reading.specs.meaning.Directions.{rinex_reading}
+use Rattle.crx_reading.specs.meaning.Standard.{printed_items, whole_of, normal_form}
 use Rattle.crx_engine.specs.Laws.{AreInPlace}
-use Rattle.crx_engine.specs.meaning.WayBack.{OfCopiedLines, HaveNoReturns}
+use Rattle.crx_reading.specs.meaning.WayBack.{OfCopiedLines, HaveNoReturns}
 use Rattle.crx_engine.specs.NormalForm.{IsReadAsNormal, IsStandardAsNormal, IsNormalForGood}
 use Rattle.crx_engine.proofs.reading.Resuming.{by_place, within-here, within-wrong, within-wanted, fault-ends}
 use Rattle.crx_engine.proofs.reading.Forward.{rinex-forward}

@@ -13,14 +13,16 @@ use Rattle.crx_rinex.specs.meaning.Units.{Unit as FileUnit, HeaderLine, EventRec
 use Rattle.crx_rinex.specs.meaning.EpochLines.{HeadLine, EventHead, EpochHead, head_of}
 use Rattle.crx_rinex.specs.meaning.ObservationTypes.{Count}
 use Rattle.crx_rinex.specs.meaning.EpochPlaces.{opened, begun_by, rest_at, unit_begun, epoch_place}
-use Rattle.crx_engine.specs.meaning.Items.{Item, Accepted, Warned, is_at_start, header_has_ended, records_left}
-use Rattle.crx_engine.specs.meaning.Items.{records_count_types, types_in_force}
-use Rattle.crx_engine.specs.meaning.UnitPlaces.{unless_wrong, header_line_fault, types_fault, header_line, event_record}
-use Rattle.crx_engine.specs.meaning.Reading.{Reading, is_skipped, can_go_on, looked_for, reading_within, reading_from}
-use Rattle.crx_engine.specs.meaning.Results.{written_lines}
-use Rattle.crx_engine.specs.meaning.Compacted.{rinex_place}
-use Rattle.crx_engine.specs.meaning.WayBack.{OfCopiedLine, OfCopiedLines}
-use Rattle.crx_engine.proofs.reading.Resuming.{by_bool, by_place, within-here, within-wrong, within-wanted}
+use Rattle.crx_reading.specs.meaning.Items.{Item, Accepted, Warned, is_at_start, header_has_ended, records_left}
+use Rattle.crx_reading.specs.meaning.Items.{records_count_types, types_in_force}
+use Rattle.crx_reading.specs.meaning.UnitPlaces.{unless_wrong, header_line_fault, types_fault, header_line}
+use Rattle.crx_reading.specs.meaning.UnitPlaces.{event_record}
+use Rattle.crx_reading.specs.meaning.Reading.{Reading, is_skipped, can_go_on, looked_for, reading_within, reading_from}
+use Rattle.crx_reading.specs.meaning.Results.{written_lines}
+use Rattle.crx_reading.specs.meaning.Compacted.{rinex_place}
+use Rattle.crx_reading.specs.meaning.WayBack.{OfCopiedLine, OfCopiedLines}
+use Rattle.crx_reading.proofs.Choosing.{by_bool}
+use Rattle.crx_engine.proofs.reading.Resuming.{by_place, within-here, within-wrong, within-wanted}
 use Rattle.crx_engine.proofs.reading.Resuming.{fault-skipped, fault-ends, looked-here, looked-on}
 use Rattle.crx_engine.proofs.wayback.Cut.{OfContent}
 use Rattle.crx_engine.proofs.wayback.Items.{body_unit}

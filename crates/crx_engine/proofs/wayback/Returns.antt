@@ -12,7 +12,7 @@ use Rattle.crx_lines.specs.meaning.Seen.{ReadLine, Content, Overlong, seen}
 use Rattle.crx_columns.specs.meaning.Texts.{is_printable}
 use Rattle.crx_lines.proofs.PieceLemmas.{pieces-first}
 use Rattle.crx_rinex.specs.meaning.Printing.{lines_text}
-use Rattle.crx_engine.proofs.reading.Resuming.{by_bool}
+use Rattle.crx_reading.proofs.Choosing.{by_bool}
 use Rattle.crx_engine.proofs.wayback.First.{printable-other}
 
 -- ---- of a text

@@ -17,19 +17,20 @@ use Rattle.crx_history.specs.meaning.CompactPlaces.{ReadEpoch}
 use Rattle.crx_history.specs.meaning.Compaction.{compact_epoch}
 use Rattle.crx_compact.specs.Laws.{LinesCanStand}
 use Rattle.crx_compact.specs.ReadingLaws.{IsGood}
-use Rattle.crx_engine.specs.meaning.Choices.{Choices, is_date}
-use Rattle.crx_engine.specs.meaning.Items.{Item, Accepted, Warned, types_in_force}
-use Rattle.crx_engine.specs.meaning.Reading.{WholeReading, Stop, AtFault, AtLines, Looking, is_skipped, reading_from}
-use Rattle.crx_engine.specs.meaning.Reading.{fault_at_end, ended_with, ended_reading}
-use Rattle.crx_engine.specs.meaning.Results.{FilterResult}
-use Rattle.crx_engine.specs.meaning.Compacted.{version_line, program_line, marked_epochs, compact_lines, compacted}
-use Rattle.crx_engine.specs.meaning.Expanded.{compact_place, first_lines, fault_in_first_lines, whole_compact, expanded}
+use Rattle.crx_reading.specs.meaning.Choices.{Choices, is_date}
+use Rattle.crx_reading.specs.meaning.Items.{Item, Accepted, Warned, types_in_force}
+use Rattle.crx_reading.specs.meaning.Reading.{WholeReading, Stop, AtFault, AtLines, Looking, is_skipped, reading_from}
+use Rattle.crx_reading.specs.meaning.Reading.{fault_at_end, ended_with, ended_reading}
+use Rattle.crx_reading.specs.meaning.Results.{FilterResult}
+use Rattle.crx_reading.specs.meaning.Compacted.{version_line, program_line, marked_epochs, compact_lines, compacted}
+use Rattle.crx_reading.specs.meaning.Expanded.{compact_place, first_lines, fault_in_first_lines, whole_compact}
+use Rattle.crx_reading.specs.meaning.Expanded.{expanded}
 use Rattle.crx_engine.specs.Expanded.{expanded_lines}
-use Rattle.crx_engine.specs.meaning.Standard.{whole_of}
+use Rattle.crx_reading.specs.meaning.Standard.{whole_of}
 use Rattle.crx_engine.specs.Laws.{AreInPlace}
-use Rattle.crx_engine.specs.meaning.WayBack.{OfCopiedLines, HaveNoReturns}
+use Rattle.crx_reading.specs.meaning.WayBack.{OfCopiedLines, HaveNoReturns}
 use Rattle.crx_engine.specs.WayBack.{IsStandardWhereSame}
-use Rattle.crx_engine.proofs.reading.Resuming.{by_bool}
+use Rattle.crx_reading.proofs.Choosing.{by_bool}
 use Rattle.crx_engine.proofs.reading.WhatWasRead.{items-read}
 use Rattle.crx_engine.proofs.wayback.Carried.{started}
 use Rattle.crx_engine.proofs.wayback.WayBack.{IsSettled, whole-settled, lines-same}

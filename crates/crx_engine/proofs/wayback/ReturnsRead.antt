@@ -14,17 +14,20 @@ use Rattle.crx_rinex.specs.meaning.Places.{Place, Here, Wrong, Wanted, after_lin
 use Rattle.crx_rinex.specs.meaning.Units.{Unit as FileUnit, HeaderLine, EventLine, EventRecord, Observation}
 use Rattle.crx_history.specs.meaning.Expansion.{RawEpoch}
 use Rattle.crx_history.specs.meaning.CompactPlaces.{ReadEpoch, epoch_at}
-use Rattle.crx_engine.specs.meaning.Items.{Item, Accepted, Warned, is_at_start, header_has_ended, records_left}
-use Rattle.crx_engine.specs.meaning.Items.{records_count_types, types_in_force}
-use Rattle.crx_engine.specs.meaning.UnitPlaces.{unless_wrong, types_fault, header_line_fault, header_line, event_record}
-use Rattle.crx_engine.specs.meaning.UnitPlaces.{unit_place}
-use Rattle.crx_engine.specs.meaning.Reading.{Reading, WholeReading, Stop, AtFault, AtLines, Looking, is_skipped}
-use Rattle.crx_engine.specs.meaning.Reading.{can_go_on, looked_for, reading_within, reading_from, fault_at_end}
-use Rattle.crx_engine.specs.meaning.Reading.{ended_with, ended_reading}
-use Rattle.crx_engine.specs.meaning.Compacted.{rinex_place, whole_rinex}
-use Rattle.crx_engine.specs.meaning.Expanded.{raws_kept, event_line, as_observation, compact_epoch_place, compact_place}
-use Rattle.crx_engine.specs.meaning.Expanded.{first_lines, fault_in_first_lines, whole_compact}
-use Rattle.crx_engine.proofs.reading.Resuming.{by_bool, by_place, within-here, within-wrong, within-wanted}
+use Rattle.crx_reading.specs.meaning.Items.{Item, Accepted, Warned, is_at_start, header_has_ended, records_left}
+use Rattle.crx_reading.specs.meaning.Items.{records_count_types, types_in_force}
+use Rattle.crx_reading.specs.meaning.UnitPlaces.{unless_wrong, types_fault, header_line_fault, header_line}
+use Rattle.crx_reading.specs.meaning.UnitPlaces.{event_record}
+use Rattle.crx_reading.specs.meaning.UnitPlaces.{unit_place}
+use Rattle.crx_reading.specs.meaning.Reading.{Reading, WholeReading, Stop, AtFault, AtLines, Looking, is_skipped}
+use Rattle.crx_reading.specs.meaning.Reading.{can_go_on, looked_for, reading_within, reading_from, fault_at_end}
+use Rattle.crx_reading.specs.meaning.Reading.{ended_with, ended_reading}
+use Rattle.crx_reading.specs.meaning.Compacted.{rinex_place, whole_rinex}
+use Rattle.crx_reading.specs.meaning.Expanded.{raws_kept, event_line, as_observation, compact_epoch_place}
+use Rattle.crx_reading.specs.meaning.Expanded.{compact_place}
+use Rattle.crx_reading.specs.meaning.Expanded.{first_lines, fault_in_first_lines, whole_compact}
+use Rattle.crx_reading.proofs.Choosing.{by_bool}
+use Rattle.crx_engine.proofs.reading.Resuming.{by_place, within-here, within-wrong, within-wanted}
 use Rattle.crx_engine.proofs.reading.Resuming.{fault-skipped, fault-ends, looked-here, looked-on}
 use Rattle.crx_engine.proofs.wayback.Returns.{returns, returns_read, read-cut}
 

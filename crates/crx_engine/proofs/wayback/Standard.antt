@@ -15,15 +15,15 @@ use Rattle.crx_lines.specs.declared.fault.At.{At}
 use Rattle.crx_rinex.specs.meaning.Observations.{Epoch}
 use Rattle.crx_rinex.specs.meaning.Places.{Place}
 use Rattle.crx_rinex.specs.meaning.Units.{Unit as FileUnit}
-use Rattle.crx_engine.specs.meaning.Choices.{Choices}
-use Rattle.crx_engine.specs.meaning.Items.{Item, Accepted, Warned}
-use Rattle.crx_engine.specs.meaning.Reading.{Reading, WholeReading, Stop, AtFault, AtLines, Looking, is_skipped}
-use Rattle.crx_engine.specs.meaning.Reading.{reading_within, fault_at_end, ended_with, ended_reading}
+use Rattle.crx_reading.specs.meaning.Choices.{Choices}
+use Rattle.crx_reading.specs.meaning.Items.{Item, Accepted, Warned}
+use Rattle.crx_reading.specs.meaning.Reading.{Reading, WholeReading, Stop, AtFault, AtLines, Looking, is_skipped}
+use Rattle.crx_reading.specs.meaning.Reading.{reading_within, fault_at_end, ended_with, ended_reading}
 use Rattle.crx_rinex.specs.meaning.Printing.{lines_text}
-use Rattle.crx_engine.specs.meaning.Compacted.{rinex_place, whole_rinex}
-use Rattle.crx_engine.specs.meaning.Directions.{rinex_reading}
-use Rattle.crx_engine.specs.meaning.Standard.{printed_items, whole_of}
-use Rattle.crx_engine.specs.meaning.WayBack.{OfCopiedLines, HaveNoReturns, written_well}
+use Rattle.crx_reading.specs.meaning.Compacted.{rinex_place, whole_rinex}
+use Rattle.crx_reading.specs.meaning.Directions.{rinex_reading}
+use Rattle.crx_reading.specs.meaning.Standard.{printed_items, whole_of}
+use Rattle.crx_reading.specs.meaning.WayBack.{OfCopiedLines, HaveNoReturns, written_well}
 use Rattle.crx_engine.specs.WayBack.{NormalFormComesBack, StandardComesBack}
 use Rattle.crx_engine.proofs.reading.Resuming.{by_place, within-here, within-wrong, within-wanted, fault-ends}
 use Rattle.crx_engine.proofs.wayback.Cut.{OfContent, return-kept}

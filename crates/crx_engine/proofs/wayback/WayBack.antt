@@ -17,22 +17,22 @@ use Rattle.crx_history.specs.meaning.Compaction.{Marked, compact_epoch}
 use Rattle.crx_history.specs.meaning.CompactPlaces.{ReadEpoch}
 use Rattle.crx_compact.specs.Laws.{LinesCanStand}
 use Rattle.crx_compact.proofs.wayback.Lengths.{lines-short}
-use Rattle.crx_engine.specs.meaning.Choices.{Choices}
-use Rattle.crx_engine.specs.meaning.Items.{Item, Accepted, Warned, is_at_start, header_has_ended, records_left}
-use Rattle.crx_engine.specs.meaning.Items.{types_in_force}
-use Rattle.crx_engine.specs.meaning.Reading.{Reading, WholeReading, Stop, AtFault, AtLines, Looking, is_skipped}
-use Rattle.crx_engine.specs.meaning.Reading.{reading_from, fault_at_end, ended_with, ended_reading}
-use Rattle.crx_engine.specs.meaning.Messages.{warnings_in}
-use Rattle.crx_engine.specs.meaning.Results.{written_lines, result_of_course, result_of}
-use Rattle.crx_engine.specs.meaning.Compacted.{rinex_place, marked_epochs, version_line, program_line, whole_rinex}
-use Rattle.crx_engine.specs.meaning.Compacted.{compact_lines}
-use Rattle.crx_engine.specs.meaning.Directions.{rinex_reading}
-use Rattle.crx_engine.specs.meaning.Expanded.{compact_place, whole_compact, expanded_unit, expansion_result, expanded}
-use Rattle.crx_engine.specs.meaning.Standard.{printed_items}
+use Rattle.crx_reading.specs.meaning.Choices.{Choices}
+use Rattle.crx_reading.specs.meaning.Items.{Item, Accepted, Warned, is_at_start, header_has_ended, records_left}
+use Rattle.crx_reading.specs.meaning.Items.{types_in_force}
+use Rattle.crx_reading.specs.meaning.Reading.{Reading, WholeReading, Stop, AtFault, AtLines, Looking, is_skipped}
+use Rattle.crx_reading.specs.meaning.Reading.{reading_from, fault_at_end, ended_with, ended_reading}
+use Rattle.crx_reading.specs.meaning.Messages.{warnings_in}
+use Rattle.crx_reading.specs.meaning.Results.{written_lines, result_of_course, result_of}
+use Rattle.crx_reading.specs.meaning.Compacted.{rinex_place, marked_epochs, version_line, program_line, whole_rinex}
+use Rattle.crx_reading.specs.meaning.Compacted.{compact_lines}
+use Rattle.crx_reading.specs.meaning.Directions.{rinex_reading}
+use Rattle.crx_reading.specs.meaning.Expanded.{compact_place, whole_compact, expanded_unit, expansion_result, expanded}
+use Rattle.crx_reading.specs.meaning.Standard.{printed_items}
 use Rattle.crx_engine.specs.Laws.{AreInPlace}
-use Rattle.crx_engine.specs.meaning.WayBack.{OfCopiedLine, OfCopiedLines, HaveNoReturns, written_well}
+use Rattle.crx_reading.specs.meaning.WayBack.{OfCopiedLine, OfCopiedLines, HaveNoReturns, written_well}
 use Rattle.crx_engine.specs.WayBack.{ComesBack}
-use Rattle.crx_engine.proofs.reading.Resuming.{by_bool}
+use Rattle.crx_reading.proofs.Choosing.{by_bool}
 use Rattle.crx_engine.proofs.reading.Forward.{rinex-forward}
 use Rattle.crx_engine.proofs.following.Lines.{IsStopped}
 use Rattle.crx_engine.proofs.reading.Stopping.{reading-stopped}

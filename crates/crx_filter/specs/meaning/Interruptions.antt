@@ -7,9 +7,9 @@ use Rattle.crx_lines.specs.declared.fault.At.{At}
 use Rattle.crx_lines.specs.declared.fault.Fault.{Fault}
 use Rattle.crx_lines.specs.declared.fault.Fault.TheVariants.{InputTooLong, ReadFailed, WriteFailed, OutOfMemory}
 use Rattle.crx_lines.specs.declared.limits.TheConstants.{INPUT_LIMIT}
-use Rattle.crx_engine.specs.meaning.Results.{Course, Begins}
-use Rattle.crx_engine.specs.meaning.Filters.{Filter, with_next}
-use Rattle.crx_engine.specs.meaning.Messages.{error_text, notices_text}
+use Rattle.crx_reading.specs.meaning.Results.{Course, Begins}
+use Rattle.crx_reading.specs.meaning.Filters.{Filter, with_next}
+use Rattle.crx_reading.specs.meaning.Messages.{error_text, notices_text}
 use Rattle.crx_filter.specs.meaning.Spans.{Device, TookAll, AreNext, Input, IsPart}
 
 -- ---- what was read

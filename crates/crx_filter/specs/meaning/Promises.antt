@@ -7,15 +7,15 @@ use Rattle.crx_lines.specs.declared.fault.At.{At}
 use Rattle.crx_lines.specs.declared.fault.Fault.TheVariants.{OutOfMemory}
 use Rattle.crx_lines.specs.declared.limits.TheConstants.{INPUT_LIMIT}
 use Rattle.crx_rinex.specs.meaning.Observations.{Epoch}
-use Rattle.crx_engine.specs.meaning.Choices.{Choices, is_date}
-use Rattle.crx_engine.specs.meaning.Compacted.{whole_rinex, compacted}
-use Rattle.crx_engine.specs.meaning.Damage.{IsDamaged, IsSalvaged}
-use Rattle.crx_engine.specs.meaning.Expanded.{expanded}
-use Rattle.crx_engine.specs.meaning.WayBack.{HasNormalForm, HaveNoReturns, written_well}
-use Rattle.crx_engine.specs.meaning.Reading.{WholeReading}
-use Rattle.crx_engine.specs.meaning.Results.{FilterResult}
+use Rattle.crx_reading.specs.meaning.Choices.{Choices, is_date}
+use Rattle.crx_reading.specs.meaning.Compacted.{whole_rinex, compacted}
+use Rattle.crx_reading.specs.meaning.Damage.{IsDamaged, IsSalvaged}
+use Rattle.crx_reading.specs.meaning.Expanded.{expanded}
+use Rattle.crx_reading.specs.meaning.WayBack.{HasNormalForm, HaveNoReturns, written_well}
+use Rattle.crx_reading.specs.meaning.Reading.{WholeReading}
+use Rattle.crx_reading.specs.meaning.Results.{FilterResult}
 use Rattle.crx_rinex.specs.meaning.Printing.{lines_text}
-use Rattle.crx_engine.specs.meaning.Standard.{Findings, IsStandard, normal_form, printed_items, report_lines, whole_of}
+use Rattle.crx_reading.specs.meaning.Standard.{Findings, IsStandard, normal_form, printed_items, report_lines, whole_of}
 use Rattle.crx_filter.specs.meaning.Spans.{Input, Device}
 use Rattle.crx_filter.specs.meaning.Runs.{FaultIs, IsResult, NoneFailed}
 

@@ -5,9 +5,9 @@ use Rattle.crx_lines.specs.declared.fault.At.{At}
 use Rattle.crx_lines.specs.declared.fault.Fault.{Fault}
 use Rattle.crx_lines.specs.declared.fault.Fault.TheVariants.{ReadFailed, OutOfMemory}
 use Rattle.crx_lines.specs.declared.limits.TheConstants.{INPUT_LIMIT}
-use Rattle.crx_engine.specs.meaning.Filters.{Filter}
+use Rattle.crx_reading.specs.meaning.Filters.{Filter}
 use Rattle.crx_filter.specs.meaning.Interruptions.{Stands, IsFrontPart}
-use Rattle.crx_engine.specs.meaning.Results.{FilterResult}
+use Rattle.crx_reading.specs.meaning.Results.{FilterResult}
 use Rattle.crx_filter.specs.meaning.Spans.{Device, Input}
 
 -- ---- the whole run

@@ -3,7 +3,7 @@ use Rattle.std.specs.Prelude.{◌≡◌, ◌<◌, ◌≤◌, ℕ, List, ◌++◌
 use Rattle.crx_lines.specs.meaning.Devices.{Tally, tally_of, with_failed_write, SinkTally}
 use Rattle.crx_lines.specs.declared.device.Source.{Ghosts}
 use Rattle.crx_lines.specs.declared.fault.At.{At}
-use Rattle.crx_engine.specs.meaning.Results.{Course}
+use Rattle.crx_reading.specs.meaning.Results.{Course}
 use Rattle.crx_lines.specs.declared.device.Sink.{Ghosts as SinkGhosts}
 
 -- the reader between two moments: which bytes it may have given in between, whether it stands at its end, and its

@@ -5,17 +5,17 @@ use Rattle.crx_lines.specs.declared.device.Source.{Ghosts as SourceGhosts}
 use Rattle.crx_lines.specs.declared.device.Std.{Std}
 use Rattle.crx_lines.specs.declared.fault.Fault.TheVariants.{OutOfMemory}
 use Rattle.crx_lines.specs.declared.fault.At.{At}
-use Rattle.crx_engine.specs.meaning.Directions.{check_filter}
-use Rattle.crx_engine.specs.meaning.Choices.{Choices, choices_of}
-use Rattle.crx_engine.specs.meaning.Compacted.{compacted}
-use Rattle.crx_engine.specs.meaning.Directions.{compaction_filter, expansion_filter}
-use Rattle.crx_engine.specs.meaning.Expanded.{expanded}
+use Rattle.crx_reading.specs.meaning.Directions.{check_filter}
+use Rattle.crx_reading.specs.meaning.Choices.{Choices, choices_of}
+use Rattle.crx_reading.specs.meaning.Compacted.{compacted}
+use Rattle.crx_reading.specs.meaning.Directions.{compaction_filter, expansion_filter}
+use Rattle.crx_reading.specs.meaning.Expanded.{expanded}
 use Rattle.crx_filter.specs.meaning.Spans.{Input, Device}
 pub use Rattle.crx_filter.specs.meaning.Spans.{reader_span, span}
-use Rattle.crx_engine.specs.meaning.Filters.{Filter}
-use Rattle.crx_engine.specs.meaning.Results.{FilterResult}
+use Rattle.crx_reading.specs.meaning.Filters.{Filter}
+use Rattle.crx_reading.specs.meaning.Results.{FilterResult}
 use Rattle.crx_filter.specs.meaning.Runs.{RunsAs}
-use Rattle.crx_engine.specs.meaning.Standard.{checked}
+use Rattle.crx_reading.specs.meaning.Standard.{checked}
 use Rattle.crx_program.specs.meaning.Dates.{IsDateText}
 use Rattle.crx_program.specs.declared.job.Job.{Job}
 use Rattle.crx_program.specs.declared.job.Tool.{Tool}

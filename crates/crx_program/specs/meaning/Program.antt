@@ -3,7 +3,7 @@ use Rattle.std.specs.Prelude.{◌≡◌, ◌⊎◌, ⊤, ℕ, List, [], ◌++◌
 use Rattle.crx_lines.specs.meaning.Devices.{with_failed_flush, with_failed_write, with_flush}
 use Rattle.crx_lines.specs.declared.fault.Fault.{Fault}
 use Rattle.crx_lines.specs.declared.fault.Fault.TheVariants.{OutOfMemory, WriteFailed}
-use Rattle.crx_engine.specs.meaning.Messages.{error_text}
+use Rattle.crx_reading.specs.meaning.Messages.{error_text}
 use Rattle.crx_filter.specs.meaning.Spans.{Device, TookAll, TookPart}
 use Rattle.crx_program.specs.meaning.Planning.{Refusal, Parse, DashTwice, TwoFiles, BadDate, NoName}
 

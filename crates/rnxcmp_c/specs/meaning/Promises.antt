@@ -4,14 +4,14 @@ use Rattle.std.specs.Prelude.{◌≡◌, ◌↔◌, ℕ, List, map, None, true}
 use Rattle.crx_lines.specs.meaning.Lines.{lines_of}
 use Rattle.crx_lines.specs.meaning.Seen.{seen}
 use Rattle.crx_rinex.specs.meaning.Observations.{Epoch}
-use Rattle.crx_engine.specs.meaning.Choices.{Choices, is_date}
-use Rattle.crx_engine.specs.meaning.Compacted.{whole_rinex, compacted}
-use Rattle.crx_engine.specs.meaning.Damage.{IsDamaged, IsSalvaged}
-use Rattle.crx_engine.specs.meaning.WayBack.{HasNormalForm, HaveNoReturns, written_well}
-use Rattle.crx_engine.specs.meaning.Reading.{WholeReading}
-use Rattle.crx_engine.specs.meaning.Results.{FilterResult}
+use Rattle.crx_reading.specs.meaning.Choices.{Choices, is_date}
+use Rattle.crx_reading.specs.meaning.Compacted.{whole_rinex, compacted}
+use Rattle.crx_reading.specs.meaning.Damage.{IsDamaged, IsSalvaged}
+use Rattle.crx_reading.specs.meaning.WayBack.{HasNormalForm, HaveNoReturns, written_well}
+use Rattle.crx_reading.specs.meaning.Reading.{WholeReading}
+use Rattle.crx_reading.specs.meaning.Results.{FilterResult}
 use Rattle.crx_rinex.specs.meaning.Printing.{lines_text}
-use Rattle.crx_engine.specs.meaning.Standard.{IsStandard, normal_form, printed_items, whole_of}
+use Rattle.crx_reading.specs.meaning.Standard.{IsStandard, normal_form, printed_items, whole_of}
 
 -- ---- the way back
 

@@ -1,6 +1,6 @@
 use Rattle.std.proofs.Common.{◌≡◌, IfOk, refl, subst}
 use Rattle.std.specs.Prelude.{⊤}
-use Rattle.crx_engine.specs.meaning.Filters.{Filter}
+use Rattle.crx_reading.specs.meaning.Filters.{Filter}
 use Rattle.crx_filter.specs.meaning.Spans.{Input, reader_span, Device, span}
 use Rattle.crx_filter.specs.Runs.{result_by}
 use Rattle.crx_filter.specs.meaning.Runs.{RunsAs}

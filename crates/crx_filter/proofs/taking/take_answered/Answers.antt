@@ -2,7 +2,7 @@ use Rattle.std.proofs.Common.{◌+◌, length, List, [], ◌∷◌, refl, ap, sy
 use Rattle.std.proofs.lemmas.Result.{err_from_is_err_and}
 use Rattle.crx_lines.specs.meaning.Lines.{InputLine}
 use Rattle.crx_filter.specs.declared.taking.Once.{Once}
-use Rattle.crx_engine.specs.meaning.Filters.{with_next}
+use Rattle.crx_reading.specs.meaning.Filters.{with_next}
 use Rattle.crx_filter.specs.meaning.Spans.{Device, span}
 use Rattle.crx_filter.specs.Taking.{IsAgain, IsOnce}
 use Rattle.crx_filter.proofs.TakingTwice.{once-twice, halted-twice}

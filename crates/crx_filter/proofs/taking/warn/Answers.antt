@@ -1,5 +1,5 @@
 use Rattle.std.proofs.Common.{ℕ, ◌<◌, List, length, take, subst, ◌∙◌}
-use Rattle.crx_engine.specs.meaning.Messages.{warning_text}
+use Rattle.crx_reading.specs.meaning.Messages.{warning_text}
 use Rattle.crx_filter.proofs.taking.warn.Goals as goal
 
 pub returns-in-Ok-clause-all : goal.returns-in-Ok-clause-all

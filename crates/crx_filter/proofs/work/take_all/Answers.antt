@@ -1,6 +1,6 @@
 use Rattle.std.proofs.Common.{◌≡◌, inl, inr, Bool, ◌||◌, [], length, Option, None, refl, sym, ap, arith, subst, ◌∙◌}
 use Rattle.crx_lines.specs.Readers.{reading}
-use Rattle.crx_engine.specs.meaning.Filters.{Filter}
+use Rattle.crx_reading.specs.meaning.Filters.{Filter}
 use Rattle.crx_filter.specs.meaning.Spans.{Input, reader_span, Device, span}
 use Rattle.crx_filter.specs.Running.{IsRunning, Goes, GoesOnBy, ComesToEnd, StopsAt}
 use Rattle.crx_filter.specs.Taking.{IsDone, IsHalted}

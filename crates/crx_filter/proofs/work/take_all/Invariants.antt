@@ -4,7 +4,7 @@ use Rattle.crx_lines.specs.Readers.{reading}
 use Rattle.crx_lines.specs.declared.limits.TheConstants.{INPUT_LIMIT}
 use Rattle.crx_filter.specs.Running.{IsWithinLimit, IsRunning}
 use Rattle.crx_filter.specs.meaning.Spans.{reader_span, span}
-use Rattle.crx_engine.specs.meaning.Results.{are_some}
+use Rattle.crx_reading.specs.meaning.Results.{are_some}
 use Rattle.crx_filter.proofs.work.take_all.Given as goal
 
 abbrev pub invariant-lines : goal.invariant-lines

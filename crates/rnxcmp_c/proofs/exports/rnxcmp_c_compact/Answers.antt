@@ -1,6 +1,6 @@
 use Rattle.std.proofs.Common.{subst}
-use Rattle.crx_engine.specs.meaning.Choices.{Choices}
-use Rattle.crx_engine.specs.meaning.Compacted.{compacted}
+use Rattle.crx_reading.specs.meaning.Choices.{Choices}
+use Rattle.crx_reading.specs.meaning.Compacted.{compacted}
 use Rattle.rnxcmp_c.specs.Collecting.{IsRun}
 use Rattle.rnxcmp_c.proofs.exports.rnxcmp_c_compact.Goals as goal
 

@@ -1,8 +1,8 @@
 use Rattle.std.proofs.Common.{sym, refl, ◌∙◌, []}
-use Rattle.crx_engine.specs.CompactionByLine.{compaction}
+use Rattle.crx_reading.specs.CompactionByLine.{compaction}
 use Rattle.crx_engine.specs.CompactionState.{compaction_state}
 use Rattle.crx_engine.specs.EngineSteps.{settled_seen}
-use Rattle.crx_engine.specs.RinexStages.{open_epoch}
+use Rattle.crx_reading.specs.RinexStages.{open_epoch}
 use Rattle.crx_engine.proofs.steps.EngineLemmas.{held-open, same-step}
 use Rattle.crx_engine.proofs.compaction.Compaction.end.Goals as goal
 

@@ -1,11 +1,11 @@
 use Rattle.std.proofs.Common.{ap, sym, refl, ◌∙◌, []}
 use Rattle.crx_lines.specs.meaning.Seen.{ReadLine}
-use Rattle.crx_engine.specs.CompactionByLine.{Written, compaction}
+use Rattle.crx_reading.specs.CompactionByLine.{Written, compaction}
 use Rattle.crx_rinex.specs.meaning.EpochPlaces.{OpenEpoch}
-use Rattle.crx_engine.specs.LineByLine.{Seen}
+use Rattle.crx_reading.specs.LineByLine.{Seen}
 use Rattle.crx_engine.specs.CompactionState.{compaction_state}
 use Rattle.crx_engine.specs.EngineSteps.{settled_seen}
-use Rattle.crx_engine.specs.RinexStages.{open_epoch}
+use Rattle.crx_reading.specs.RinexStages.{open_epoch}
 use Rattle.crx_engine.proofs.steps.EngineLemmas.{held-open, same-step}
 use Rattle.crx_engine.proofs.compaction.Compaction.fail.Goals as goal
 

@@ -1,8 +1,8 @@
 use Rattle.std.proofs.Common.{refl, sym, subst, rules}
 use Rattle.crx_lines.specs.meaning.Seen.{Content}
 use Rattle.crx_engine.specs.CompactionState.{compaction_state}
-use Rattle.crx_engine.specs.RinexReaders.{made_at, TakesRinexLine}
-use Rattle.crx_engine.specs.declared.rinex_reader.RinexStep.{RinexStep}
+use Rattle.crx_reading.specs.RinexReaders.{made_at, TakesRinexLine}
+use Rattle.crx_reading.specs.declared.rinex_reader.RinexStep.{RinexStep}
 use Rattle.crx_engine.proofs.steps.CompactionSteps.{quiet-step, refused-step, seen-again, whole-held}
 use Rattle.crx_engine.proofs.compaction.Compaction.feed_other.Goals as goal
 

@@ -1,9 +1,9 @@
 use Rattle.std.proofs.Common.{sym, refl, ap, ◌∙◌}
 use Rattle.crx_lines.specs.meaning.Seen.{Overlong}
-use Rattle.crx_engine.specs.CompactionByLine.{compaction}
+use Rattle.crx_reading.specs.CompactionByLine.{compaction}
 use Rattle.crx_engine.specs.CompactionState.{compaction_state}
-use Rattle.crx_engine.specs.LineByLine.{step_of_made}
-use Rattle.crx_engine.specs.RinexStages.{open_epoch}
+use Rattle.crx_reading.specs.LineByLine.{step_of_made}
+use Rattle.crx_reading.specs.RinexStages.{open_epoch}
 use Rattle.crx_engine.proofs.steps.CompactionSteps.{overlong-made}
 use Rattle.crx_engine.proofs.compaction.Compaction.overlong.Goals as goal
 

@@ -1,5 +1,5 @@
-use Rattle.crx_engine.specs.meaning.Directions.{compaction_filter}
-use Rattle.crx_engine.specs.CompactionByLine.{compaction, compaction_seen}
+use Rattle.crx_reading.specs.meaning.Directions.{compaction_filter}
+use Rattle.crx_reading.specs.CompactionByLine.{compaction, compaction_seen}
 use Rattle.crx_engine.specs.CompactionState.{compaction_state}
 use Rattle.crx_engine.proofs.following.DirectionSteps.{compaction-goes}
 use Rattle.crx_engine.proofs.steps.EngineAnswers.{concludes}

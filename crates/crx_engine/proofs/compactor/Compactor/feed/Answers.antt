@@ -3,11 +3,11 @@ use Rattle.crx_lines.specs.declared.fault.At.{At}
 use Rattle.crx_engine.specs.declared.engine.Step.{Step}
 use Rattle.crx_lines.specs.Reading.{line_shown}
 use Rattle.crx_lines.specs.meaning.Seen.{ReadLine, Content}
-use Rattle.crx_engine.specs.meaning.Directions.{compaction_filter}
+use Rattle.crx_reading.specs.meaning.Directions.{compaction_filter}
 use Rattle.crx_engine.specs.EngineSteps.{Steps}
-use Rattle.crx_engine.specs.CompactionByLine.{compaction, compaction_seen}
+use Rattle.crx_reading.specs.CompactionByLine.{compaction, compaction_seen}
 use Rattle.crx_engine.specs.CompactionState.{compaction_state}
-use Rattle.crx_engine.specs.ReadyLines.{pending_lines}
+use Rattle.crx_reading.specs.ReadyLines.{pending_lines}
 use Rattle.crx_engine.proofs.following.DirectionSteps.{compaction-goes}
 use Rattle.crx_engine.proofs.steps.EngineAnswers.{answers-line, seen-short}
 use Rattle.crx_engine.proofs.steps.EngineLemmas.{repeats}

@@ -1,11 +1,11 @@
 use Rattle.std.proofs.Common.{◌≡◌, inl, sym, subst}
 use Rattle.crx_lines.specs.meaning.Seen.{ReadLine}
-use Rattle.crx_engine.specs.meaning.Directions.{compaction_filter}
+use Rattle.crx_reading.specs.meaning.Directions.{compaction_filter}
 use Rattle.crx_engine.specs.EngineSteps.{step_made}
-use Rattle.crx_engine.specs.CompactionByLine.{compaction, compaction_seen}
+use Rattle.crx_reading.specs.CompactionByLine.{compaction, compaction_seen}
 use Rattle.crx_engine.specs.CompactionState.{compaction_state}
-use Rattle.crx_engine.specs.LineByLine.{seen_next}
-use Rattle.crx_engine.specs.ReadyLines.{pending_lines}
+use Rattle.crx_reading.specs.LineByLine.{seen_next}
+use Rattle.crx_reading.specs.ReadyLines.{pending_lines}
 use Rattle.crx_engine.proofs.following.DirectionSteps.{compaction-goes}
 use Rattle.crx_engine.proofs.steps.EngineAnswers.{answers-line, seen-long}
 use Rattle.crx_engine.proofs.steps.EngineLemmas.{repeats}

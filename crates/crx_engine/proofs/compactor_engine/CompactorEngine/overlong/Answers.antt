@@ -1,10 +1,10 @@
 use Rattle.std.proofs.Common.{◌≡◌, inl, sym, subst}
 use Rattle.crx_lines.specs.meaning.Seen.{ReadLine}
-use Rattle.crx_engine.specs.meaning.Directions.{compaction_filter}
+use Rattle.crx_reading.specs.meaning.Directions.{compaction_filter}
 use Rattle.crx_engine.specs.EngineSteps.{step_made}
-use Rattle.crx_engine.specs.CompactionByLine.{compaction, compaction_seen}
+use Rattle.crx_reading.specs.CompactionByLine.{compaction, compaction_seen}
 use Rattle.crx_engine.specs.CompactorState.{compactor_seen, compactor_ready}
-use Rattle.crx_engine.specs.LineByLine.{seen_next}
+use Rattle.crx_reading.specs.LineByLine.{seen_next}
 use Rattle.crx_engine.proofs.following.DirectionSteps.{compaction-goes}
 use Rattle.crx_engine.proofs.steps.EngineAnswers.{answers-line, seen-long}
 use Rattle.crx_engine.proofs.steps.CompactorLines.{shown-lines}

@@ -2,17 +2,17 @@ use Rattle.std.proofs.Common.{◌≡◌, List, ℕ, Option, None, refl, sym, ap,
 use Rattle.crx_lines.specs.declared.fault.At.{At}
 use Rattle.crx_compact.specs.OpenEpochs.{OpenRawEpoch, tail_held}
 use Rattle.crx_history.specs.Tails.{Tail}
-use Rattle.crx_engine.specs.CompactStages.{open_in}
+use Rattle.crx_reading.specs.CompactStages.{open_in}
 use Rattle.crx_engine.specs.EngineSteps.{IsAt, step_made}
-use Rattle.crx_engine.specs.CompactReaders.{seen_in, compact_reader_state}
-use Rattle.crx_engine.specs.ExpansionByLine.{expansion, expansion_seen}
+use Rattle.crx_reading.specs.CompactReaders.{seen_in, compact_reader_state}
+use Rattle.crx_reading.specs.ExpansionByLine.{expansion, expansion_seen}
 use Rattle.crx_engine.specs.ExpanderState.{expander_state}
-use Rattle.crx_engine.specs.declared.stage.Stage.{Stage}
-use Rattle.crx_engine.specs.declared.stage.Stage.TheVariants.{Ended}
-use Rattle.crx_engine.specs.LineByLine.{Step, seen_end}
+use Rattle.crx_reading.specs.declared.stage.Stage.{Stage}
+use Rattle.crx_reading.specs.declared.stage.Stage.TheVariants.{Ended}
+use Rattle.crx_reading.specs.LineByLine.{Step, seen_end}
 use Rattle.crx_engine.proofs.steps.ExpanderSteps.{held-open, settled-as}
 use Rattle.crx_engine.proofs.steps.EngineLemmas.{failed-at}
-use Rattle.crx_engine.specs.meaning.Directions.{expansion_filter}
+use Rattle.crx_reading.specs.meaning.Directions.{expansion_filter}
 use Rattle.crx_engine.proofs.following.DirectionSteps.{expansion-goes}
 use Rattle.crx_engine.proofs.steps.EngineAnswers.{concludes}
 use Rattle.crx_engine.proofs.expander.Expander.end.Goals as goal

@@ -2,9 +2,9 @@ use Rattle.std.proofs.Common.{Bool, ℕ, [], Option, None, sym, ap, subst, ◌�
 use Rattle.crx_compact.specs.OpenEpochs.{OpenRawEpoch, tail_held}
 use Rattle.crx_history.specs.Tails.{Tail}
 use Rattle.crx_lines.specs.meaning.Seen.{ReadLine}
-use Rattle.crx_engine.specs.CompactStages.{open_in}
-use Rattle.crx_engine.specs.LineByLine.{Seen}
-use Rattle.crx_engine.specs.CompactReaders.{compact_reader_state}
+use Rattle.crx_reading.specs.CompactStages.{open_in}
+use Rattle.crx_reading.specs.LineByLine.{Seen}
+use Rattle.crx_reading.specs.CompactReaders.{compact_reader_state}
 use Rattle.crx_engine.specs.EngineSteps.{IsAt, step_made}
 use Rattle.crx_engine.proofs.steps.ExpanderSteps.{settled-as}
 use Rattle.crx_engine.proofs.expander.Expander.fail.Goals as goal

@@ -3,9 +3,9 @@ use Rattle.crx_lines.specs.declared.fault.At.{At}
 use Rattle.crx_engine.specs.declared.engine.Step.{Step}
 use Rattle.crx_lines.specs.Reading.{line_shown}
 use Rattle.crx_lines.specs.meaning.Seen.{ReadLine, Content}
-use Rattle.crx_engine.specs.meaning.Directions.{expansion_filter}
+use Rattle.crx_reading.specs.meaning.Directions.{expansion_filter}
 use Rattle.crx_engine.specs.EngineSteps.{Steps}
-use Rattle.crx_engine.specs.ExpansionByLine.{expansion, expansion_seen}
+use Rattle.crx_reading.specs.ExpansionByLine.{expansion, expansion_seen}
 use Rattle.crx_engine.specs.ExpanderState.{expander_state}
 use Rattle.crx_engine.proofs.following.DirectionSteps.{expansion-goes}
 use Rattle.crx_engine.proofs.steps.EngineAnswers.{answers-line, seen-short}

@@ -2,11 +2,11 @@ use Rattle.std.proofs.Common.{rules, List, ℕ, Option, refl, sym, ap, ◌∙◌
 use Rattle.crx_lines.specs.meaning.Seen.{Overlong}
 use Rattle.crx_compact.specs.OpenEpochs.{OpenRawEpoch, tail_held}
 use Rattle.crx_history.specs.Tails.{Tail}
-use Rattle.crx_engine.specs.CompactStages.{open_in}
+use Rattle.crx_reading.specs.CompactStages.{open_in}
 use Rattle.crx_engine.specs.EngineSteps.{IsAt, step_made}
-use Rattle.crx_engine.specs.ExpansionByLine.{expansion}
+use Rattle.crx_reading.specs.ExpansionByLine.{expansion}
 use Rattle.crx_engine.specs.ExpanderState.{expander_state}
-use Rattle.crx_engine.specs.LineByLine.{step_of_made}
+use Rattle.crx_reading.specs.LineByLine.{step_of_made}
 use Rattle.crx_engine.proofs.steps.ExpanderSteps.{held-open, too-long}
 use Rattle.crx_engine.proofs.expander.Expander.pass.Goals as goal
 

@@ -2,7 +2,7 @@ use Rattle.std.proofs.Common.{Option, refl, sym}
 use Rattle.crx_compact.specs.OpenEpochs.{OpenRawEpoch}
 use Rattle.crx_history.specs.Tails.{Tail}
 use Rattle.crx_lines.specs.meaning.Seen.{Content}
-use Rattle.crx_engine.specs.CompactStages.{open_in}
+use Rattle.crx_reading.specs.CompactStages.{open_in}
 use Rattle.crx_engine.specs.EngineSteps.{IsAt}
 use Rattle.crx_engine.specs.ExpanderState.{expander_state}
 use Rattle.crx_engine.proofs.steps.ExpanderSteps.{held-open, refused-line}

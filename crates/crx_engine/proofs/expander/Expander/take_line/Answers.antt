@@ -2,11 +2,12 @@ use Rattle.std.proofs.Common.{◌≡◌, true, Option, refl, sym, ap, subst}
 use Rattle.crx_compact.specs.OpenEpochs.{OpenRawEpoch}
 use Rattle.crx_history.specs.Tails.{Tail}
 use Rattle.crx_lines.specs.meaning.Seen.{Content}
-use Rattle.crx_engine.specs.CompactStages.{open_in}
-use Rattle.crx_engine.specs.EngineSteps.{IsAt, is_held, seen_stage}
+use Rattle.crx_reading.specs.CompactStages.{open_in}
+use Rattle.crx_engine.specs.EngineSteps.{IsAt}
+use Rattle.crx_reading.specs.Stages.{is_held, seen_stage}
 use Rattle.crx_engine.specs.ExpanderState.{expander_state}
-use Rattle.crx_engine.specs.declared.stage.Stage.{Stage}
-use Rattle.crx_engine.specs.declared.stage.Stage.TheVariants.{Open}
+use Rattle.crx_reading.specs.declared.stage.Stage.{Stage}
+use Rattle.crx_reading.specs.declared.stage.Stage.TheVariants.{Open}
 use Rattle.crx_engine.proofs.steps.ExpanderSteps.{held-open, refused-line}
 use Rattle.crx_engine.proofs.expander.Expander.take_line.Goals as goal
 

@@ -1,5 +1,5 @@
-use Rattle.crx_engine.specs.meaning.Directions.{expansion_filter}
-use Rattle.crx_engine.specs.ExpansionByLine.{expansion, expansion_seen}
+use Rattle.crx_reading.specs.meaning.Directions.{expansion_filter}
+use Rattle.crx_reading.specs.ExpansionByLine.{expansion, expansion_seen}
 use Rattle.crx_engine.specs.ExpanderState.{expander_state}
 use Rattle.crx_engine.proofs.following.DirectionSteps.{expansion-goes}
 use Rattle.crx_engine.proofs.steps.EngineAnswers.{concludes}

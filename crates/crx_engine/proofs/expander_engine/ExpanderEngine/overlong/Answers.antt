@@ -1,10 +1,10 @@
 use Rattle.std.proofs.Common.{◌≡◌, inl, sym, subst}
 use Rattle.crx_lines.specs.meaning.Seen.{ReadLine}
-use Rattle.crx_engine.specs.meaning.Directions.{expansion_filter}
+use Rattle.crx_reading.specs.meaning.Directions.{expansion_filter}
 use Rattle.crx_engine.specs.EngineSteps.{step_made}
-use Rattle.crx_engine.specs.ExpansionByLine.{expansion, expansion_seen}
+use Rattle.crx_reading.specs.ExpansionByLine.{expansion, expansion_seen}
 use Rattle.crx_engine.specs.ExpanderState.{expander_state}
-use Rattle.crx_engine.specs.LineByLine.{seen_next}
+use Rattle.crx_reading.specs.LineByLine.{seen_next}
 use Rattle.crx_engine.proofs.following.DirectionSteps.{expansion-goes}
 use Rattle.crx_engine.proofs.steps.EngineAnswers.{answers-line, seen-long}
 use Rattle.crx_engine.proofs.steps.ExpanderLines.{shown-lines}

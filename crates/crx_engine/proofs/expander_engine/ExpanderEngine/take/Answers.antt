@@ -1,10 +1,10 @@
 use Rattle.std.proofs.Common.{ℕ, List, sym, subst}
 use Rattle.crx_lines.specs.Reading.{line_shown}
 use Rattle.crx_lines.specs.meaning.Seen.{ReadLine, Content}
-use Rattle.crx_engine.specs.meaning.Directions.{expansion_filter}
+use Rattle.crx_reading.specs.meaning.Directions.{expansion_filter}
 use Rattle.crx_engine.specs.EngineSteps.{Steps}
 use Rattle.crx_engine.specs.Engines.{answer_given}
-use Rattle.crx_engine.specs.ExpansionByLine.{expansion, expansion_seen}
+use Rattle.crx_reading.specs.ExpansionByLine.{expansion, expansion_seen}
 use Rattle.crx_engine.specs.ExpanderState.{expander_state}
 use Rattle.crx_engine.proofs.following.DirectionSteps.{expansion-goes}
 use Rattle.crx_engine.proofs.steps.EngineAnswers.{answers-line, seen-short}

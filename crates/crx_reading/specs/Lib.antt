@@ -1,0 +1,13 @@
+pub mod meaning
+pub mod LineByLine
+pub mod CompactionByLine
+pub mod ExpansionByLine
+pub mod CheckByLine
+pub mod Memory
+pub mod Stages
+pub mod RinexStages
+pub mod RinexReaders
+pub mod CompactStages
+pub mod CompactReaders
+pub mod ReadyLines
+pub mod Totals

@@ -1,0 +1,17 @@
+//! What both filters and the check mean: the reading of a file unit by unit, its compaction and its expansion. And what their engines are
+//! made of: the stage between two lines, the readers, the lines that are ready and those of a report.
+#![tactic(auto)]
+
+pub mod appending;
+pub mod compact_reader;
+pub mod crinex;
+mod event_lines;
+mod first_lines;
+pub mod line_number;
+pub mod options;
+pub mod ready_lines;
+pub mod report;
+pub mod rinex_reader;
+pub mod stage;
+pub mod totals;
+mod types_lines;

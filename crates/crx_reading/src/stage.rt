@@ -1,0 +1,108 @@
+//! Where a run is between two lines, in either direction.
+
+ghost use Rattle.std.specs.Prelude.{◌≡◌, List, Option, Bool, true, false, if◌then◌else◌};
+ghost use Rattle.crx_rinex.specs.meaning.EpochPlaces.{OpenEpoch};
+ghost use Rattle.crx_compact.specs.OpenEpochs.{OpenRawEpoch};
+ghost use Rattle.crx_reading.specs.LineByLine.{is_in_epoch, may_skip, with_records_left, InHeader, BetweenUnits};
+ghost use Rattle.crx_reading.specs.meaning.Items.{counts_types};
+ghost use Rattle.crx_reading.specs.Stages.{seen_stage, is_held, is_settled};
+ghost use Rattle.crx_reading.specs.RinexStages.{is_rinex_stage};
+ghost use Rattle.crx_rinex.specs.meaning.Header.{is_end_of_header};
+ghost use Rattle.crx_rinex.specs.meaning.Observations.{Epoch};
+
+use crx_rinex::is_end;
+use crx_text::At;
+
+/// Where a run is between two lines.
+#[derive(Clone, Copy)]
+pub enum Stage {
+    /// In the first lines of compact text.
+    FirstLines {
+        /// How many of them have come.
+        count: usize,
+    },
+    /// In the header, before its first line or later.
+    Header {
+        /// Whether no line has come yet.
+        is_first: bool,
+    },
+    /// Where an epoch or an event may begin.
+    Between,
+    /// Among the records of an event.
+    Event {
+        /// How many records are still to come.
+        left: usize,
+        /// Whether types lines count among them.
+        counted: bool,
+    },
+    /// In an epoch whose lines have come in part.
+    Open,
+    /// After a warning: a line that begins with `>` is looked for.
+    Looking,
+    /// After the end of the input.
+    Closed,
+    /// Ended by a fault.
+    Ended(At),
+}
+
+impl Stage {
+    /// Whether an epoch's lines have come in part.
+    pub fn is_in_epoch(&self) -> bool
+        ensures rinex { (held : Option OpenEpoch)
+            → is_held self.now held ≡ true → result ≡ is_in_epoch (seen_stage held self.now) }
+        ensures compact { (held : Option OpenRawEpoch)
+            → is_held self.now held ≡ true → result ≡ is_in_epoch (seen_stage held self.now) }
+    {
+        matches!(self, Stage::Open)
+    }
+
+    /// Whether the stage is one after a fault or after the end of the input.
+    pub fn is_settled(&self) -> bool
+        ensures { result ≡ is_settled self.now }
+    {
+        matches!(self, Stage::Looking | Stage::Closed | Stage::Ended(_))
+    }
+
+    /// Whether faults may be skipped: outside the header and the records of events.
+    pub fn may_skip(&self) -> bool
+        ensures rinex { (held : Option OpenEpoch) → result ≡ may_skip (seen_stage held self.now) }
+        ensures compact { (held : Option OpenRawEpoch) → result ≡ may_skip (seen_stage held self.now) }
+    {
+        matches!(self, Stage::Between | Stage::Open | Stage::Looking)
+    }
+}
+
+/// The stage after a header line.
+pub(crate) fn after_header_line(line: &[u8]) -> Stage
+    ensures rinex { (held : Option OpenEpoch)
+        → seen_stage held result ≡ (if is_end_of_header line.now then BetweenUnits else InHeader false) }
+    ensures compact { (held : Option OpenRawEpoch)
+        → seen_stage held result ≡ (if is_end_of_header line.now then BetweenUnits else InHeader false) }
+    ensures consistent { (epoch : Option Epoch) → is_rinex_stage result epoch ≡ true }
+{
+    if is_end(line) {
+        Stage::Between
+    } else {
+        Stage::Header { is_first: false }
+    }
+}
+
+/// The stage with so many records of an event still to come.
+pub(crate) fn with_records_left(left: usize, counted: bool) -> Stage
+    ensures rinex { (held : Option OpenEpoch) → seen_stage held result ≡ with_records_left left counted }
+    ensures compact { (held : Option OpenRawEpoch) → seen_stage held result ≡ with_records_left left counted }
+    ensures consistent { (epoch : Option Epoch) → is_rinex_stage result epoch ≡ true }
+{
+    if left == 0 {
+        Stage::Between
+    } else {
+        Stage::Event { left, counted }
+    }
+}
+
+/// Whether types lines count among the records of an event: the flag in column 32 of its line is from 2 to 5.
+pub(crate) fn counts_types(line: &[u8]) -> bool
+    ensures { result ≡ counts_types line.now }
+{
+    line.len() > 31 && matches!(line[31], b'2'..=b'5')
+}

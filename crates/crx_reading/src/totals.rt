@@ -1,0 +1,71 @@
+//! What a check counts, and which lines it finds standard.
+
+ghost use Rattle.std.specs.Prelude.{◌≡◌, ◌≤◌, ◌<◌, ◌*◌, ◌+◌, ℕ, Some, true};
+ghost use Rattle.std.specs.Str.{bytes_eq};
+ghost use Rattle.std.specs.Option.{option_copied};
+ghost use Rattle.crx_lines.specs.declared.limits.TheConstants.{INPUT_LIMIT, SATELLITES_LIMIT, TYPES_LIMIT};
+ghost use Rattle.crx_rinex.specs.meaning.EpochPlaces.{OpenEpoch};
+ghost use Rattle.crx_rinex.specs.meaning.Observations.{Epoch as ObservationEpoch};
+ghost use Rattle.crx_rinex.specs.Printing.{last_line};
+ghost use Rattle.crx_reading.specs.CompactionByLine.{is_before_header};
+ghost use Rattle.crx_reading.specs.LineByLine.{Made};
+ghost use Rattle.crx_reading.specs.RinexReaders.{reader_phase, TakesRinexLine};
+ghost use Rattle.crx_reading.specs.CheckByLine.{printed_made, totals_made};
+ghost use Rattle.crx_reading.specs.Totals.{totals_held, AreBounded, HasPrinted};
+ghost use Rattle.crx_reading.specs.declared.rinex_reader.RinexReader.{RinexReader};
+
+use crate::report::Totals;
+use crate::rinex_reader::{RinexReader, RinexStep};
+use crx_rinex::{padded, print_last_line};
+use crx_text::Text;
+
+/// The totals with those of a line that was taken, by what it was.
+pub fn counted(totals: Totals, reader: &RinexReader, step: RinexStep, line: &[u8]) -> Totals
+    requires bounded { (number : ℕ) × AreBounded totals number × (number < INPUT_LIMIT) }
+    ensures value { (before : RinexReader) (made : Made ObservationEpoch OpenEpoch)
+        → TakesRinexLine made before line.now step reader.now
+        → totals_held result ≡ totals_made
+        (totals_held totals) (is_before_header (reader_phase before)) made }
+    ensures bounded { (number : ℕ) → AreBounded totals number → AreBounded result (number + 1) }
+{
+    match step {
+        RinexStep::Header { is_first: true } => Totals {
+            version: padded(line, 1),
+            ..totals
+        },
+        RinexStep::Event => Totals {
+            events: totals.events + 1,
+            ..totals
+        },
+        RinexStep::Epoch => {
+            let observations = match reader.epoch() {
+                Some(epoch) => epoch.observations() as u64,
+                None => 0,
+            };
+            Totals {
+                epochs: totals.epochs + 1,
+                observations: totals.observations + observations,
+                ..totals
+            }
+        }
+        RinexStep::Header { is_first: false } | RinexStep::Record | RinexStep::Nothing => totals,
+    }
+}
+
+/// Whether printing gives back a line that was taken, by what it was: the lines that aren't of epochs are copied.
+pub fn is_given_back(reader: &RinexReader, step: RinexStep, line: &[u8], text: &mut Text) -> bool
+    ensures { (before : RinexReader) (made : Made ObservationEpoch OpenEpoch)
+        → TakesRinexLine made before line.now step reader.now → HasPrinted made
+        → result ≡ bytes_eq line.now (last_line (printed_made made)) }
+{
+    match step {
+        RinexStep::Header { .. } | RinexStep::Event | RinexStep::Record => true,
+        RinexStep::Nothing | RinexStep::Epoch => match reader.epoch() {
+            Some(epoch) => {
+                print_last_line(epoch, text);
+                line == text.bytes()
+            }
+            None => false,
+        },
+    }
+}
