@@ -11,7 +11,10 @@ from pathlib import Path
 
 TOP = Path(__file__).resolve().parent.parent
 PAGE = TOP / "docs" / "CONTRACTS.md"
-ORDER = ["crx_lines", "crx_text", "crx_rinex", "crx_compact", "crx_engine", "crx_laws", "crx_filter", "crx_program", "rnxcmp", "rnxcmp_c"]
+ORDER = [
+    "crx_lines", "crx_columns", "crx_text", "crx_rinex", "crx_arcs", "crx_history", "crx_compact", "crx_reading", "crx_engine", "crx_laws", "crx_filter",
+    "crx_program", "rnxcmp", "rnxcmp_c",
+]
 HEAD = """# Contracts
 
 Each public function with the first sentence of its documentation and the names of its clauses. `docs/contracts.py` writes this page

@@ -151,7 +151,7 @@ STATED = {
         "at most LINES_OF_EPOCH lines, of at most LINE_LIMIT bytes each", "COMPACT_LINE bytes each in compact text", "PRINTED_LINE bytes each in RINEX",
     ),
     "crates/crx_laws/src/salvage.rt": ("at most LINE_LIMIT bytes",),
-    "crates/crx_engine/src/line_number.rt": ("at most INPUT_LIMIT lines",),
+    "crates/crx_reading/src/line_number.rt": ("at most INPUT_LIMIT lines",),
     "crates/crx_program/src/command.rt": ("N from 1 to EVERY.", "at most EVERY", "at most DATE_LIMIT bytes"),
     "crates/crx_program/src/job.rt": ("more than DATE_LIMIT bytes",),
     "crates/crx_program/src/plan.rt": ("more than DATE_LIMIT bytes",),
