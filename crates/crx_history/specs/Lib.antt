@@ -6,3 +6,4 @@ pub mod ShownRows
 pub mod HeldRows
 pub mod RowsSoFar
 pub mod LineLists
+pub mod Holdings

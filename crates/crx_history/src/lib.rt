@@ -5,5 +5,6 @@
 pub mod awaited;
 pub mod held;
 pub mod kept;
+pub mod laws;
 pub mod lines;
 mod refusals;

@@ -11,3 +11,4 @@ pub mod CompactStages
 pub mod CompactReaders
 pub mod ReadyLines
 pub mod Totals
+pub mod Holdings

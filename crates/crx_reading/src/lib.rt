@@ -7,6 +7,7 @@ pub mod compact_reader;
 pub mod crinex;
 mod event_lines;
 mod first_lines;
+pub mod laws;
 pub mod line_number;
 pub mod options;
 pub mod ready_lines;
