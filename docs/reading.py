@@ -38,6 +38,13 @@ PROMISES = (
         "what its calls over whole inputs answer, and what stands in the caller's memory after them"),
 )
 
+# the calls, each with the definitions that its clause `runs` takes beside those of runs
+RUNS = (
+    ("compact", ("compacted", "compaction_filter")),
+    ("expand", ("expanded", "expansion_filter")),
+    ("check", ("checked", "check_filter")),
+)
+
 HEAD = """# Reading
 
 This page lists what one has to read, and believe, to know what is claimed. There is one kind of error that a proof can't find: the
@@ -166,6 +173,8 @@ def page():
     if others:
         sys.exit("promises use definitions that stand outside the folders meaning:\n" + "\n".join(others))
     out.append(f"\nAll of them are {len(read)} definitions of {lines_of(read, texts)} lines, in {len({k[0] for k in read})} files.\n")
+    out.append("\nThe clause `runs` of one call needs fewer: " + ", ".join(
+        f"`{call}` {len(closure((*names, 'Runs', 'span', 'reader_span'), texts, taken))}" for call, names in RUNS) + " definitions.\n")
     depths = depth_of({key[0] for key in read}, taken)
     for title, words, fresh in parts:
         if not fresh:
