@@ -381,7 +381,7 @@ impl<const WIDTH: usize> Arc<WIDTH> {
 
     /// Ends the arc: it is one without values.
     #[inline(always)]
-    pub fn end(&mut self)
+    pub(crate) fn end(&mut self)
         ensures { self.new ≡ None }
     {
         self.count = 0;

@@ -99,13 +99,6 @@ impl KeptEpoch {
         }
     }
 
-    /// The epoch's text.
-    pub fn text(&self) -> &[u8]
-        ensures { result.now ≡ self.now.text }
-    {
-        &self.text
-    }
-
     /// Ends an epoch of so many satellites, which have different identifiers: drops those after them.
     pub fn end(&mut self, count: usize)
         requires { AreApart count self.old.rows }
