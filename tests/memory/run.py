@@ -46,13 +46,14 @@ class Answer:
     refused: int
 
 
-def file_of(names, types, seconds):
-    """A file with epochs of these satellites, with all values and indicators."""
+def file_of(names, types, seconds, turned=False):
+    """A file with epochs of these satellites, with all values and indicators; where it is turned, every second epoch has them from the
+    last to the first."""
     lines = [H[0], *(f"{letter}  {types:3} C1C".ljust(60) + "SYS / # / OBS TYPES" for letter in SYSTEMS), H[2]]
     for second in range(seconds):
         lines.append(f"> 2024 01 01 00 00  {second % 10}.0000000  0{len(names):3}")
         cells = "".join(f"{20000000 + place + second**3:10}.00117" for place in range(types))
-        lines += [name + cells for name in names]
+        lines += [name + cells for name in (names[::-1] if turned and second % 2 else names)]
     return text(*lines)
 
 
@@ -64,6 +65,7 @@ INPUTS = {
     "types that change": EVENT,
     "a bad indicator": BAD_INDICATOR,
     "seven systems": file_of(NAMES, 5, 3),
+    "satellites that move": file_of(NAMES, 2, 5, turned=True),
     "100 satellites": file_of([f"G{number:02}" for number in range(1, 100)] + ["E01"], 100, 1),
 }
 

@@ -68,7 +68,7 @@ pub struct AwaitedSatellites {
     counts: Vec<(u8, usize)>,
     /// The identifiers that were read last, each at its place.
     names: Identifiers,
-    /// Whether the satellites were read from these two.
+    /// Whether the satellites were read from these identifiers and counts.
     is_read: bool,
 }
 

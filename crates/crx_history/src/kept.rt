@@ -58,7 +58,7 @@ pub struct KeptEpoch {
     /// The places of these identifiers, where `is_placed` says so.
     names: Identifiers,
     is_placed: bool,
-    /// How many satellites stood neither at the place that they have in the epoch before nor beside it.
+    /// How many satellites stood neither at the place that they have in the epoch before nor beside it, or weren't in it.
     moved: usize,
     /// Whether room was asked for that each epoch line fits into.
     is_roomy: bool,
@@ -99,7 +99,7 @@ impl KeptEpoch {
         }
     }
 
-    /// Ends an epoch of so many satellites, which have different identifiers: drops those after them.
+    /// Ends an epoch of so many satellites, which have different identifiers and were read: drops those after them.
     pub fn end(&mut self, count: usize)
         requires { AreApart count self.old.rows }
         ensures { self.new ≡ record self.old { rows = take count self.old.rows } }
@@ -107,7 +107,7 @@ impl KeptEpoch {
         self.satellites.truncate(count);
         self.is_placed = false;
         self.apart = count;
-        // Where there is no memory for the map, a search serves in its place.
+        // The map has its room since the epoch line (`make_roomy`), so none is refused here; without a map there would be a search.
         let _ = self.place_names();
     }
 
@@ -151,7 +151,7 @@ impl KeptEpoch {
     /// The history of a satellite, by its place in the next epoch and its identifier. It mostly stands at this place, or beside it
     /// where a satellite before it came or went; these three places are looked at first. Those that stand elsewhere are counted, and where
     /// they are more than a few, a map is made for the next epoch. With epochs of 770 satellites, each epoch in another order, a search
-    /// in place of the map took 4.0 times the instructions of epochs in one order (bench/README.md).
+    /// in place of the map took 4.0 times the instructions of epochs in one order.
     #[inline(always)]
     fn find(
         &self,
@@ -273,12 +273,13 @@ impl KeptEpoch {
         self.is_roomy
     }
 
-    /// Asks for room that each epoch line fits into, so that none asks for memory from then on.
+    /// Asks for room that each epoch line and each map of identifiers fit into, so that none asks for memory from then on.
     #[inline(never)]
     pub fn make_roomy(&mut self) -> Result<(), AllocError>
         ensures { self.new ≡ self.old }
     {
         self.text.reserve(LINE_LIMIT)?;
+        self.names.reserve(SATELLITES_LIMIT)?;
         self.is_roomy = true;
         Ok(())
     }

@@ -102,12 +102,12 @@ pub struct Std<D> {
     ends: u64,
     flushed: bool,
     flushes: u64,
-    /// Whether it is a file that [`open_file`] opened, and nothing was asked of it since.
+    /// Whether it is a file that [`open_file`] opened, and nothing was read or written since.
     is_unread: bool,
 }
 
-/// Opens the file of a name for reading, as a device that nothing was asked of. No other device counts as unread, so a contract that
-/// names an unread device names the whole file.
+/// Opens the file of a name for reading, as a device that nothing was read of. No other call answers an unread device. The mark is a part of
+/// the device and not of the file, so it shows how the code goes, and is no promise about what was read of the file.
 pub fn open_file<H: Files>(files: &H, name: &str) -> io::Result<Std<H::File>>
     ensures unread { IfOk result (λ device. device.is_unread ≡ true) }
     ensures failures { IfOk result (λ device. device.failures ≡ 0) }

@@ -1,5 +1,5 @@
-//! What both filters and the check mean: the reading of a file unit by unit, its compaction and its expansion. And what their engines are
-//! made of: the stage between two lines, the readers, the lines that are ready and those of a report.
+//! What both filters and the check mean: the reading of a file unit by unit, its compaction and its expansion. The parts that their engines
+//! are made of stand here too: the stage between two lines, the readers, the lines that are ready and those of a report.
 #![tactic(auto)]
 
 pub mod appending;

@@ -59,7 +59,7 @@ pub record IsCutShort (before after : Course) (output then_output : Collected) :
   pub wrote : then_output.bytes.items ≡ output.bytes.items ++ text
   pub first : (text ≡ []) ⊎ Begins after.output (before.output ++ text)
 
--- and of its warnings
+-- of its warnings a prefix was kept too
 pub record AreCutShort (before after : Course) (messages then_messages : Collected) : Type 0 where
   pub text : List ℕ
   pub reported : then_messages.bytes.items ≡ messages.bytes.items ++ text
@@ -132,8 +132,8 @@ AreFirstWarnings filter fed text = AreWarningsSoFar filter fed text
     ⊎ Begins (notices_text (filter.whole (lines_of fed)).warnings) text
 
 -- memory ran out in a line, at the latest in the one after those whose LF was fed. What was taken of the output and
--- then what is kept is a prefix of what some of the first lines make, whatever follows; and so are the messages of
--- their warnings
+-- then what is kept is a prefix of what some of the first lines make, whatever follows. What was taken of the messages
+-- and then what is kept begins with warnings of some of the first lines, or of all of them and the end
 pub record RunsShort (filter : Filter) (held : Held) (past : HandlePast) (at : At) : Type 0 where
   pub fault : at.fault ≡ OutOfMemory
   pub some : 0 < at.line

@@ -101,12 +101,12 @@ IsFilteredInto sink None tool choices input output messages status =
 IsFilteredInto sink (Some target) tool choices input output messages status =
     IsFilteredToFile sink tool choices input messages status
 
--- the device over a file that was opened, and nothing was asked of it since
+-- a device that is marked as one over a file that was opened, and of which nothing was read since
 abbrev pub is_unread : {D : Type 0} → Std D → Type 0
 is_unread device = device.is_unread ≡ true
 
--- a filter ran, from the device over a file, from a state in which nothing had been read of it, and no read had failed or reported the
--- end, to another one; or else from the input
+-- a filter ran over the device of a file, from a state that is marked as unread, in which no read had failed or reported
+-- the end, to another one; or else over the input
 abbrev pub IsFilteredFrom : {R S : Type 0} → SourceGhosts R → (R → Type 0)
     → SinkGhosts S → Option (List ℕ) → Option (List ℕ) → Tool → Choices → Input → Device → Device → ℕ → Type 0
 IsFilteredFrom source unread sink None target tool choices input output messages status =
