@@ -29,7 +29,7 @@ use crate::awaited::AwaitedSatellite;
 use crate::lines::Lines;
 use crx_arcs::arc::ObsArc;
 use crx_arcs::cells::{print_cells, read_cells, write_cells};
-use crx_arcs::same::is_same_text;
+use crx_arcs::same::{copy_compared, is_same_text};
 use crx_lines::limits::{CELL_WIDTH, NAME_WIDTH};
 use crx_rinex::{SatRow, after_columns, all_blank, put_flags, put_identifier};
 use crx_text::block::put_text;
@@ -63,6 +63,23 @@ fn append_change(old: &[u8], new: &[u8], part: &mut Text)
 {
     append_difference(old, new, part);
     part.trim_end_blanks();
+}
+
+/// Puts a row's indicators in place of a history's, and replaces a text by the difference of those before and them. Most stay as they
+/// are, and their difference is empty.
+#[inline(always)]
+fn copy_flags(flags: &[u8], held: &mut [u8], before: &[u8], part: &mut Text)
+    requires same_length { length held.old ≡ length flags.now }
+    requires short { length flags.now ≤ LINE_LIMIT }
+    requires before_short { length before.now ≤ LINE_LIMIT }
+    ensures copied { held.new ≡ flags.now }
+    ensures marks { part.new ≡ text_difference before.now flags.now }
+{
+    part.clear();
+    if copy_compared(flags, held, before) {
+        return;
+    }
+    append_change(before, flags, part);
 }
 
 /// Puts the difference of two texts after other lines, as a line.
@@ -229,15 +246,18 @@ impl HeldSatellite {
         resize_types(&mut self.arcs, &mut self.flags, count)
     }
 
-    /// Replaces the identifier and the indicators by those of a row, and makes the arcs as many as its values.
-    pub fn begin(&mut self, row: &SatRow) -> Result<(), AllocError>
+    /// Replaces the identifier and the indicators by those of a row, and makes the arcs as many as its values; replaces a text by the
+    /// difference of the indicators before and those. Most indicators stay as they are, and their difference is empty.
+    pub fn begin(&mut self, row: &SatRow, flags: &[u8], part: &mut Text) -> Result<(), AllocError>
+        requires { length flags.now ≤ LINE_LIMIT }
         ensures name { OnOk result (self.new.name ≡ row.now.name) }
         ensures flags { OnOk result (self.new.flags ≡ without_end_blanks row.now.flags) }
         ensures counted { OnOk result (length self.new.cells ≡ length row.now.values) }
+        ensures marks { OnOk result (part.new ≡ text_difference flags.now row.now.flags) }
     {
         resize_types(&mut self.arcs, &mut self.flags, row.values().len())?;
         self.name = row.name();
-        copy_text(&mut self.flags, row.flags());
+        copy_flags(row.flags(), &mut self.flags, flags, part);
         Ok(())
     }
 

@@ -36,8 +36,8 @@ use crate::refusals::fault_of_text;
 use crx_arcs::arc::ClockArc;
 use crx_lines::limits::{HEAD_WIDTH, LINE_LIMIT, NAME_WIDTH, SATELLITES_LIMIT};
 use crx_rinex::{
-    Epoch, EpochLine, Identifiers, SatRow, Types, after_columns, begins_epoch, padded, print_head,
-    put_identifier,
+    Epoch, EpochLine, Identifiers, SatRow, Types, after_columns, begins_epoch, is_same_identifier,
+    padded, print_head, put_identifier,
 };
 use crx_text::difference::patch_bytes;
 use crx_text::{Fault, Text, code_read, trim_end};
@@ -141,7 +141,7 @@ impl KeptEpoch {
     {
         if place < self.apart {
             let satellite = &self.satellites[place];
-            if satellite.name() == name {
+            if is_same_identifier(satellite.name(), name) {
                 return Some(satellite);
             }
         }

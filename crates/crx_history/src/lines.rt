@@ -13,7 +13,7 @@ ghost use Rattle.crx_history.specs.contracts.lines.Lines.{the_row};
 ghost use Rattle.crx_rinex.specs.meaning.Printing.{printed_row};
 ghost use Rattle.crx_history.specs.ShownRows.{shown_row};
 
-use crate::held::{HeldSatellite, mark_change};
+use crate::held::HeldSatellite;
 use crx_arcs::arc::ObsArc;
 use crx_arcs::cells::CELL_ROOM;
 use crx_lines::limits::{CELL_WIDTH, NAME_WIDTH};
@@ -106,8 +106,7 @@ impl Lines {
         ensures line { OnOk result (self.new
             ≡ self.old ++ line_of_codes (codes_of_row arcs.now row.now) flags.now row.now.flags ∷ []) }
     {
-        satellite.begin(row)?;
-        mark_change(flags, satellite.flags(), part);
+        satellite.begin(row, flags, part)?;
         let start = self.filled;
         let room = CELL_ROOM * satellite.count() + part.len();
         grow(&mut self.bytes, start + room + 1)?;

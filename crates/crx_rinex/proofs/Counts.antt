@@ -1,19 +1,21 @@
 -- Counts of types, letter by letter: what a map from letters holds is what the lines declare.
 use Rattle.std.proofs.Common.{◌≡◌, ℕ, ◌+◌, ◌<◌, ◌≤◌, zero, suc, drop, slice_get, length, Bool, true, false, cond, eqb}
 use Rattle.std.proofs.Common.{List, [], ◌∷◌, ◌++◌, Option, Some, None, is_none, IfSome, OnSome, refl, ap, sym, subst}
+use Rattle.std.proofs.Common.{get_or, set, unwrap_or, ◌≢◌}
 use Rattle.std.proofs.Common.{◌∙◌, inl, inr, arith, leb, ◌&&◌}
 use Rattle.std.specs.List.{All, cons_option, list_any}
 use Rattle.std.specs.Map.{lookup}
 use Rattle.std.proofs.lemmas.Bool.{cases_eq, cases_Bool, eq-eqb, ne_eqb, eqb-true, leb-true, and_parts, and_from}
 use Rattle.std.proofs.lemmas.Bool.{false≢true}
-use Rattle.std.proofs.lemmas.List.{append-nil}
+use Rattle.std.proofs.lemmas.List.{append-nil, get_or-set_same, get_or-set_other}
 use Rattle.std.proofs.lemmas.List.Elements.{filter_map-append, All-cons, All-head, All-tail, All-weaker}
 use Rattle.std.proofs.lemmas.Map.Entries.{All-lookup}
 use Rattle.indexmap.specs.IndexMap.{insert_entry}
 use Rattle.crx_rinex.specs.meaning.ObservationTypes.{Count, IsAllowedCount, system_letters, is_system, count_of}
 use Rattle.crx_rinex.specs.meaning.ObservationTypes.{without, last_count, last_counts, counts_in, count_of_types_line}
 use Rattle.crx_rinex.specs.meaning.ObservationTypes.{types_of, is_types_line, count_in, count_if_allowed}
-use Rattle.crx_rinex.specs.ObservationTypes.{AreCounts, IsCount, letters_differ, with_count, after_count, with_line}
+use Rattle.crx_rinex.specs.declared.types.TheConstants.{LETTERS}
+use Rattle.crx_rinex.specs.ObservationTypes.{AreCounts, AreByLetter, IsCount, letters_differ, with_count, after_count, with_line}
 use Rattle.crx_lines.specs.declared.limits.TheConstants.{TYPES_LIMIT}
 use Rattle.crx_rinex.specs.meaning.Label.{number_in}
 use Rattle.crx_columns.specs.meaning.Columns.{character_at, columns}
@@ -192,6 +194,57 @@ pub count_at : (es : List Count) (k : ℕ) (e : Count) (letter : ℕ) → slice_
 count_at [] k e letter h = absurd (none-some e h)
 count_at (c ∷ es) zero e letter h = let same : c ≡ e = same_Some c e h in rw (sym same) refl
 count_at (c ∷ es) (suc k) e letter h = count_at es k e letter h
+
+-- ---- counts by letter
+
+-- another letter's count stays, and a letter's new count is its own
+count_with : (es : List Count) (letter count a : ℕ) → unwrap_or (count_of (with_count es letter count) a) 0
+    ≡ cond (eqb letter a) count (unwrap_or (count_of es a) 0)
+count_with [] letter count a =
+    elim (eqb letter a) as (λ b. unwrap_or (cond b (Some count) None) 0 ≡ cond b count 0) [ true ↦ refl | false ↦ refl ]
+count_with (e ∷ es) letter count a =
+    elim (cases_Bool (eqb letter e.0)) [
+      | inl t ↦
+          let same : e.0 ≡ letter = sym (eqb-true letter e.0 t) in
+          rw (t, same) (elim (eqb letter a) as (λ b. unwrap_or (cond b (Some count) (count_of es a)) 0
+          ≡ cond b count (unwrap_or (cond b (Some e.1) (count_of es a)) 0)) [ true ↦ refl | false ↦ refl ])
+      | inr f ↦ elim (cases_Bool (eqb e.0 a)) [
+        | inl y ↦
+            let other : eqb letter a ≡ false = ap (eqb letter) (sym (eqb-true e.0 a y)) ∙ f in
+            rw (f, y, other) refl
+        | inr n ↦ rw (f, n) (count_with es letter count a)
+      ]
+    ]
+
+pub AreByLetter-with_count : (table : List ℕ) (es : List Count) (letter count : ℕ) → AreByLetter table es
+    → letter < length table → AreByLetter (set table letter count) (with_count es letter count)
+AreByLetter-with_count table es letter count h within = λ a few.
+    elim (cases_Bool (eqb letter a)) [
+      | inl t ↦ rw (count_with es letter count a, t)
+          (ap (λ (k : ℕ). get_or (set table letter count) k 0) (sym (eqb-true letter a t))
+          ∙ get_or-set_same table letter count 0 within)
+      | inr f ↦ rw (count_with es letter count a, f)
+          (get_or-set_other table letter a count 0 (λ e. false≢true (sym f ∙ eq-eqb letter a (sym e))) ∙ h a few)
+    ]
+
+-- a letter without a count at its place has none, and one with a count has that
+none_by_zero : (o : Option ℕ) → IfSome o IsAllowedCount → unwrap_or o 0 ≡ 0 → o ≡ None
+none_by_zero None a e = refl
+none_by_zero (Some n) a e = absurd (omega (arith, a.0, e))
+
+some_by_count : (o : Option ℕ) (n : ℕ) → unwrap_or o 0 ≡ n → n ≢ 0 → o ≡ Some n
+some_by_count None n e some = absurd (some (sym e))
+some_by_count (Some m) n e some = ap Some e
+
+pub absent_by_letter : (table : List ℕ) (es : List Count) (letter : ℕ) → AreCounts es → AreByLetter table es
+    → letter < LETTERS → get_or table letter 0 ≡ 0 → count_of es letter ≡ None
+absent_by_letter table es letter sound h few none =
+    none_by_zero (count_of es letter) (allowed_of es letter sound) (sym (h letter few) ∙ none)
+
+pub present_by_letter : (table : List ℕ) (es : List Count) (letter : ℕ) → AreByLetter table es
+    → letter < LETTERS → get_or table letter 0 ≢ 0 → count_of es letter ≡ Some (get_or table letter 0)
+present_by_letter table es letter h few some =
+    some_by_count (count_of es letter) (get_or table letter 0) (sym (h letter few)) some
 
 -- ---- few systems
 

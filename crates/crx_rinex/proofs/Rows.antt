@@ -9,12 +9,15 @@ use Rattle.crx_rinex.specs.meaning.Label.{number_in}
 use Rattle.std.proofs.lemmas.Bool.{cases_Bool, leb-true, eqb-false}
 use Rattle.std.specs.Prelude.{ℤ, slice_set}
 use Rattle.std.proofs.lemmas.List.{length-take, length-take-le, length_push, map-append, take_all, take_more_set}
+use Rattle.std.proofs.lemmas.List.{get_or-take, get_or-map, length-set, take-set, take_more}
+use Rattle.std.proofs.Math.Seq.{map-set_same, take-set-lt}
+use Rattle.std.proofs.Common.{get_or, set}
 use Rattle.std.proofs.lemmas.List.Elements.{All-push}
 use Rattle.crx_columns.specs.meaning.Texts.{is_kept}
 use Rattle.crx_rinex.specs.meaning.Observations.{Row, Epoch}
-use Rattle.crx_rinex.specs.meaning.EpochLines.{satellites_of, count_within_limit, begins_epoch, is_observation_flag}
+use Rattle.crx_rinex.specs.meaning.EpochLines.{IsObservationHead, ObservationHead, satellites_of, count_within_limit, begins_epoch, is_observation_flag}
 use Rattle.crx_rinex.specs.meaning.Epochs.{has_satellite, is_among, IsSoundEpoch}
-use Rattle.crx_rinex.specs.Epochs.{with_row, is_full_epoch}
+use Rattle.crx_rinex.specs.Epochs.{with_row, is_full_epoch, AreOfRows}
 use Rattle.crx_rinex.specs.meaning.SatelliteLines.{IsSoundRow}
 use Rattle.crx_rinex.proofs.Apart.{among-map, apart-push}
 
@@ -113,3 +116,68 @@ names-long names next count name h e =
     let long : length (take (count + 1) next) ≡ length (take count names) + 1 = ap (λ (ns : List (List ℕ)). length ns) e
     ∙ length_push (take count names) name in
     omega (arith, h, long, length-take count names, length-take (count + 1) next)
+
+-- ---- the first so many identifiers are those of the first so many rows
+
+name-known : (known : ℕ) (names : List (List ℕ)) (rows : List Row) (k : ℕ) (d : Row)
+    → AreOfRows known names rows → k < known → get_or names k [] ≡ (get_or rows k d).name
+name-known known names rows k d h within =
+    sym (get_or-take known names k [] within) ∙ ap (λ (ns : List (List ℕ)). get_or ns k []) h.2
+    ∙ get_or-map (λ (r : Row). r.name) (take known rows) k d []
+    (omega (arith, within, length-take-le known rows h.1))
+    ∙ ap (λ (r : Row). r.name) (get_or-take known rows k d within)
+
+-- a row in the place of another one of its satellite leaves it so
+pub known-put : (known : ℕ) (names : List (List ℕ)) (rows : List Row) (k : ℕ) (row d : Row) → AreOfRows known names rows
+    → k < known → row.name ≡ (get_or rows k d).name → AreOfRows known names (set rows k row)
+known-put known names rows k row d h within is =
+    let name : Row → List ℕ = λ (r : Row). r.name in
+    let same = map-set_same name (take known rows) k row d
+    (is ∙ ap name (sym (get_or-take known rows k d within))) in (
+      h.0,
+      omega (arith, h.1, length-set rows k row),
+      h.2 ∙ sym same ∙ ap (map name) (sym (take-set-lt known rows k row within)),
+    )
+
+-- the identifier at a place is that of such a row
+pub known-next : (known : ℕ) (names : List (List ℕ)) (rows : List Row) (k : ℕ) (row d : Row) → AreOfRows known names rows
+    → k < known → row.name ≡ (get_or rows k d).name → take (k + 1) names ≡ take k names ++ row.name ∷ []
+known-next known names rows k row d h within is =
+    take_more names k [] (omega (arith, within, h.0))
+    ∙ ap (λ (n : List ℕ). take k names ++ n ∷ []) (name-known known names rows k d h within ∙ sym is)
+
+-- and no row before it is of its satellite
+pub known-new : (known : ℕ) (names : List (List ℕ)) (rows : List Row) (k : ℕ) (row d : Row) → AreOfRows known names rows
+    → k < known → row.name ≡ (get_or rows k d).name → take k names ≡ map (λ (r : Row). r.name) (take k rows)
+    → ((place : ℕ) → place < length names
+    → is_among (λ (n : List ℕ). n) (get_or names place []) (take place names) ≡ false)
+    → has_satellite row.name (take k rows) ≡ false
+known-new known names rows k row d h within is named different =
+    sym (named_rows names rows k row.name named)
+    ∙ ap (λ (n : List ℕ). is_among (λ (m : List ℕ). m) n (take k names))
+    (sym (name-known known names rows k d h within ∙ sym is))
+    ∙ different k (omega (arith, within, h.0))
+
+-- an epoch after whose last row a spare one was written over, by one of the same satellite, is as sound as before
+abbrev Inside : ObservationHead → List (List ℕ) → List Row → ℕ → ℕ → Type 0
+Inside head names rows count known =
+    IsSoundEpoch (record { head = head.head; clock = head.clock; rows = take count rows }) × (count ≤ length rows)
+    × IsObservationHead head × (count ≤ length names)
+    × (take count names ≡ map (λ (row : Row). row.name) (take count rows)) × (length rows ≤ SATELLITES_LIMIT)
+    × (length names ≤ SATELLITES_LIMIT) × (count ≤ known) × AreOfRows known names rows
+
+pub unread : (head : ObservationHead) (names : List (List ℕ)) (rows : List Row) (count known : ℕ) (row d : Row)
+    → Inside head names rows count known → count < known → row.name ≡ (get_or rows count d).name
+    → Inside head names (set rows count row) count known
+unread head names rows count known row d h here is =
+    let same : take count (set rows count row) ≡ take count rows = take-set rows count row in (
+      subst (λ (rs : List Row). IsSoundEpoch (record { head = head.head; clock = head.clock; rows = rs })) (sym same) h.0,
+      omega (arith, h.1, length-set rows count row),
+      h.2,
+      h.3,
+      h.4 ∙ ap (map (λ (r : Row). r.name)) (sym same),
+      omega (arith, h.5, length-set rows count row),
+      h.6,
+      h.7,
+      known-put known names rows count row d h.8 here is,
+    )

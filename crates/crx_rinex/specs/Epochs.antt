@@ -1,5 +1,5 @@
 -- Beside meaning/Epochs: what code and proofs see of it.
-use Rattle.std.specs.Prelude.{◌≡◌, Bool, [], ◌∷◌, ◌++◌, ◌==◌, length, Result, Ok, Err}
+use Rattle.std.specs.Prelude.{◌≡◌, ◌≤◌, ℕ, List, Bool, [], ◌∷◌, ◌++◌, ◌==◌, length, map, take, Result, Ok, Err}
 use Rattle.crx_lines.specs.declared.fault.Fault.{Fault}
 use Rattle.crx_rinex.specs.meaning.Observations.{Row, Epoch}
 use Rattle.crx_rinex.specs.meaning.EpochLines.{ObservationHead, satellites_of}
@@ -20,3 +20,8 @@ AddsRow before (Err fault) after = ⊥
 -- whether an epoch has as many rows as its line announces
 abbrev pub is_full_epoch : Epoch → Bool
 is_full_epoch epoch = length epoch.rows == satellites_of epoch.head
+
+-- the first so many identifiers are those of the first so many rows
+abbrev pub AreOfRows : ℕ → List (List ℕ) → List Row → Type 0
+AreOfRows known names rows = (known ≤ length names) × (known ≤ length rows)
+    × (take known names ≡ map (λ (row : Row). row.name) (take known rows))

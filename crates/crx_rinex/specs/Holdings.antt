@@ -11,6 +11,7 @@ use Rattle.crx_rinex.specs.declared.epoch.Epoch.TheInside.{Inside as EpochInside
 abbrev pub types_with : TypesInside → TypesInside → TypesInside
 types_with one other = record one {
   counts = other.counts;
+  by_letter = other.by_letter;
 }
 
 -- a row, with the parts of another
@@ -44,4 +45,5 @@ epoch_with one other = record one {
   rows = other.rows;
   count = other.count;
   names = other.names;
+  known = other.known;
 }

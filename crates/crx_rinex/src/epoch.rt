@@ -14,12 +14,11 @@ ghost use Rattle.crx_rinex.specs.meaning.EpochPlaces.{row_if_new};
 ghost use Rattle.crx_rinex.specs.meaning.Observations.{observations_in, observations_of};
 ghost use Rattle.crx_rinex.specs.meaning.SatelliteLines.{row_of, IsSoundRow};
 
-use crate::columns::{first_identifier, identifier};
+use crate::columns::identifier;
 use crate::epoch_line::EpochLine;
 use crate::identifiers::Identifiers;
 use crate::satellite_row::{SatRow, row_fault};
 use crate::types::Types;
-use crx_lines::limits::NAME_WIDTH;
 use crx_text::Fault;
 use std::alloc::Global;
 use std::marker::Model;
@@ -35,6 +34,8 @@ pub struct Epoch {
     count: usize,
     /// The identifiers of the rows, and after them those of an earlier epoch.
     names: Identifiers,
+    /// How many of the first rows and identifiers are of the same satellites, spare ones too.
+    known: usize,
 }
 
 impl Model for Epoch {
@@ -43,13 +44,14 @@ impl Model for Epoch {
     ghost use Rattle.crx_rinex.specs.meaning.Observations.{Row, Epoch as ObservationEpoch};
     ghost use Rattle.crx_rinex.specs.meaning.Epochs.{IsSoundEpoch};
     ghost use Rattle.crx_rinex.specs.meaning.EpochLines.{IsObservationHead};
+    ghost use Rattle.crx_rinex.specs.Epochs.{AreOfRows};
 
     ghost Value = { ObservationEpoch };
 
     ghost view = { λ epoch. record { head = epoch.head.head; clock = epoch.head.clock; rows = take epoch.count epoch.rows.items } };
 
     // It holds no more rows and identifiers, spare ones too, than an epoch can have.
-    ghost invariant = { λ epoch. IsSoundEpoch (record { head = epoch.head.head; clock = epoch.head.clock; rows = take epoch.count epoch.rows.items }) × (epoch.count ≤ length epoch.rows.items) × IsObservationHead epoch.head × (epoch.count ≤ length epoch.names) × (take epoch.count epoch.names ≡ map (λ (row : Row). row.name) (take epoch.count epoch.rows.items)) × (length epoch.rows.items ≤ SATELLITES_LIMIT) × (length epoch.names ≤ SATELLITES_LIMIT) };
+    ghost invariant = { λ epoch. IsSoundEpoch (record { head = epoch.head.head; clock = epoch.head.clock; rows = take epoch.count epoch.rows.items }) × (epoch.count ≤ length epoch.rows.items) × IsObservationHead epoch.head × (epoch.count ≤ length epoch.names) × (take epoch.count epoch.names ≡ map (λ (row : Row). row.name) (take epoch.count epoch.rows.items)) × (length epoch.rows.items ≤ SATELLITES_LIMIT) × (length epoch.names ≤ SATELLITES_LIMIT) × (epoch.count ≤ epoch.known) × AreOfRows epoch.known epoch.names epoch.rows.items };
 }
 
 impl Epoch {
@@ -63,6 +65,7 @@ impl Epoch {
             rows: Vec::new(alloc),
             count: 0,
             names: Identifiers::new(alloc),
+            known: 0,
         }
     }
 
@@ -88,6 +91,7 @@ impl Epoch {
             ⊎ ((refused.1 ≡ Fault.OutOfMemory) × (has_satellite row.name self.old.rows ≡ false))) }
         ensures err { OnErr result (self.new ≡ self.old) }
     {
+        self.known = self.count;
         match self.names.put(self.count, row.name()) {
             Ok(true) => {}
             Ok(false) => return Err((row, Fault::RepeatedSatellite)),
@@ -96,12 +100,14 @@ impl Epoch {
         if self.count < self.rows.len() {
             put_row(&mut self.rows, self.count, row);
             self.count += 1;
+            self.known = self.count;
             return Ok(());
         }
         if let Err(full) = self.rows.push(row) {
             return Err((full.value, Fault::OutOfMemory));
         }
         self.count += 1;
+        self.known = self.count;
         Ok(())
     }
 
@@ -120,10 +126,10 @@ impl Epoch {
             × (is_ok (row_if_new self.old.rows (row_of types.now line.now)) ≡ true))) }
         ensures err { OnErr result (self.new ≡ self.old) }
     {
-        let name = identifier(line, 1);
-        if self.count < self.rows.len() && self.names.has_at(self.count, name) {
+        if self.count < self.known && self.rows[self.count].is_of(line) {
+            self.names.are_different();
             let row = &mut self.rows[self.count];
-            row.read_named(types, line, name)?;
+            row.read_known(types, line)?;
             self.count += 1;
             return Ok(());
         }
@@ -142,18 +148,15 @@ impl Epoch {
         ensures same { OnFalse result (self.new ≡ self.old) }
     {
         let place = self.count;
-        if place + 1 >= self.head.count() || place >= self.rows.len() {
+        if place + 1 >= self.head.count() || place >= self.known {
             return false;
         }
-        if line.len() < NAME_WIDTH {
+        if !self.rows[place].is_of(line) {
             return false;
         }
-        let name = first_identifier(line);
-        if !self.names.has_at(place, name) {
-            return false;
-        }
+        self.names.are_different();
         let row = &mut self.rows[place];
-        let Ok(()) = row.read_named(types, line, name) else {
+        let Ok(()) = row.read_known(types, line) else {
             return false;
         };
         self.count = place + 1;
@@ -184,6 +187,7 @@ impl Epoch {
                 Err((_, fault)) => Err(fault),
             };
         }
+        self.known = self.count;
         let row = &mut self.rows[self.count];
         match row.read_again(types, line) {
             Ok(()) => {}
@@ -203,6 +207,7 @@ impl Epoch {
         match self.names.put(self.count, row.name()) {
             Ok(true) => {
                 self.count += 1;
+                self.known = self.count;
                 Ok(())
             }
             Ok(false) => Err(Fault::RepeatedSatellite),

@@ -52,7 +52,7 @@ impl Identifiers {
     /// `true` says that this identifier stands at a place, and that those before it are others; `false` says nothing, and what
     /// asks does without: a body that is always `false` would be slower, and right.
     #[inline(always)]
-    pub fn has_at(&self, place: usize, name: [u8; NAME_WIDTH]) -> bool
+    fn has_at(&self, place: usize, name: [u8; NAME_WIDTH]) -> bool
         ensures within { OnTrue result (place < length self.now) }
         ensures next { OnTrue result (take (place + 1) self.now ≡ take place self.now ++ name ∷ []) }
         ensures new { OnTrue result (is_among (λ (n : List ℕ). n) name (take place self.now) ≡ false) }
@@ -61,6 +61,15 @@ impl Identifiers {
             return true;
         }
         false
+    }
+
+    /// No identifier stands at two places: what is known of all identifiers, where it is asked for by this call, which does nothing.
+    #[inline(always)]
+    pub(crate) fn are_different(&self)
+        ensures { (place : ℕ) → place < length self.now
+            → is_among (λ (n : List ℕ). n) (get_or self.now place []) (take place self.now) ≡ false }
+    {
+        let _ = &self.names;
     }
 
     /// The place of an identifier among the first so many.

@@ -13,7 +13,9 @@ pub mod reading_back;
 pub mod satellite_row;
 pub mod types;
 
-pub use columns::{after_columns, all_blank, identifier, is_labelled, padded, put_identifier};
+pub use columns::{
+    after_columns, all_blank, identifier, is_labelled, is_same_identifier, padded, put_identifier,
+};
 pub use epoch::Epoch;
 pub use epoch_line::{EpochLine, Head, begins_epoch, is_event_line};
 pub use header::{header_first, is_end};

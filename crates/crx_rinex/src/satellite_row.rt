@@ -1,11 +1,11 @@
 //! Satellite lines. RINEX 3.05, table A3, OBSERVATION record, A1,I2.2,m(F14.3,I1,I1).
 
-ghost use Rattle.std.specs.Prelude.{ℕ, ◌≡◌, ◌≤◌, ◌<◌, ◌+◌, ◌-◌, ◌*◌, ◌++◌, ◌∷◌, [], ◌⊎◌, replicate, slice_set, true, None, Some, Ok, Err, is_some, length, All, IfOk, IfErr, IfSome, OnOk, OnErr, OnSome, IfNone, MatchBool, ◌≢◌, MatchResult, slice_get, take};
+ghost use Rattle.std.specs.Prelude.{ℕ, ◌≡◌, ◌≤◌, ◌<◌, ◌+◌, ◌-◌, ◌*◌, ◌++◌, ◌∷◌, [], ◌⊎◌, replicate, slice_set, true, None, Some, Ok, Err, is_some, length, All, IfOk, IfErr, IfSome, OnOk, OnErr, OnSome, IfNone, MatchBool, ◌≢◌, MatchResult, slice_get, take, drop};
 ghost use Rattle.std.specs.Bool.{OnTrue, OnFalse};
 ghost use Rattle.std.specs.List.{list_all};
 ghost use Rattle.std.specs.Option.{option_map, ForSome};
 ghost use Rattle.std.specs.Result.{is_ok};
-ghost use Rattle.crx_columns.specs.meaning.Columns.{character_at, columns};
+ghost use Rattle.crx_columns.specs.meaning.Columns.{character_at, columns, is_blank};
 ghost use Rattle.crx_lines.specs.declared.limits.TheConstants.{CELL_WIDTH, LINE_LIMIT, NAME_WIDTH, OBSERVATION_WIDTH, TYPES_LIMIT};
 ghost use Rattle.crx_text.specs.meaning.Numbers.{observation_of, observation_text};
 ghost use Rattle.crx_text.specs.Numbers.{IsObservation};
@@ -13,10 +13,12 @@ ghost use Rattle.crx_columns.specs.meaning.Texts.{is_kept};
 ghost use Rattle.crx_rinex.specs.meaning.ObservationTypes.{IsAllowedCount};
 ghost use Rattle.crx_rinex.specs.meaning.Observations.{observations_of};
 ghost use Rattle.crx_rinex.specs.meaning.Printing.{printed_cells, printed_row};
-ghost use Rattle.crx_rinex.specs.SatelliteLines.{blank_row, with_flags, with_value};
+ghost use Rattle.crx_rinex.specs.SatelliteLines.{blank_row, with_flags, with_value, AreCellsRead};
 ghost use Rattle.crx_rinex.specs.meaning.SatelliteLines.{field, flags_in, has_number, is_identifier, row_of, row_with, types_of_satellite, values_in, IsSoundRow, IsValue};
 
-use crate::columns::{after_columns, all_blank, character, identifier, padded};
+use crate::columns::{
+    after_columns, all_blank, character, first_identifier, identifier, is_same_identifier, padded,
+};
 use crate::types::Types;
 use crx_lines::limits::{CELL_WIDTH, NAME_WIDTH, OBSERVATION_WIDTH, TYPES_LIMIT};
 use crx_text::{
@@ -92,39 +94,63 @@ impl SatRow {
             ⊎ (((fault ≡ Fault.BadField) ⊎ (fault ≡ Fault.BadFlags))
             × (self.new ≡ blank_row self.old.name (length self.new.values)))) }
     {
-        self.read_named(types, line, identifier(line, 1))
-    }
-
-    /// The same, by the identifier that the line begins with, which the caller has made already: to make it again takes 14 instructions.
-    #[inline(always)]
-    pub(crate) fn read_named(
-        &mut self,
-        types: &Types,
-        line: &[u8],
-        identifier: [u8; NAME_WIDTH],
-    ) -> Result<(), Fault>
-        requires { identifier ≡ columns line.now 1 NAME_WIDTH }
-        ensures ok { OnOk result (row_of types.now line.now ≡ Ok self.new) }
-        ensures name { OnOk result (self.new.name ≡ columns line.now 1 NAME_WIDTH) }
-        ensures sound { OnOk result (IsSoundRow self.new) }
-        // A row that has as many types takes no memory, and a bad line takes none.
-        ensures refused { IfErr result (λ fault. (row_of types.now line.now ≡ Err fault)
-            ⊎ ((fault ≡ Fault.OutOfMemory) × (is_ok (row_of types.now line.now) ≡ true)
-            × (types_of_satellite types.now line.now ≢ Some (length self.old.values)))) }
-        ensures err { IfErr result (λ fault. (self.new ≡ self.old)
-            ⊎ (((fault ≡ Fault.BadField) ⊎ (fault ≡ Fault.BadFlags))
-            × (self.new ≡ blank_row self.old.name (length self.new.values)))) }
-    {
         let Some(count) = types_of_satellite(types, line) else {
             return Err(Fault::BadSatellite);
         };
+        self.read_values(count, line)?;
+        self.name = identifier(line, 1);
+        Ok(())
+    }
+
+    /// Whether a line begins with the row's identifier.
+    #[inline(always)]
+    pub(crate) fn is_of(&self, line: &[u8]) -> bool
+        ensures { OnTrue result (columns line.now 1 NAME_WIDTH ≡ self.now.name) }
+    {
+        if line.len() < NAME_WIDTH {
+            return false;
+        }
+        is_same_identifier(first_identifier(line), self.name)
+    }
+
+    /// Reads another line of the row's satellite as [`SatRow::read_again`] does: the identifier isn't looked at again, nor written.
+    #[inline(always)]
+    pub(crate) fn read_known(&mut self, types: &Types, line: &[u8]) -> Result<(), Fault>
+        requires { columns line.now 1 NAME_WIDTH ≡ self.old.name }
+        ensures ok { OnOk result (row_of types.now line.now ≡ Ok self.new) }
+        ensures name { self.new.name ≡ self.old.name }
+        ensures sound { IsSoundRow self.new }
+        ensures refused { IfErr result (λ fault. (row_of types.now line.now ≡ Err fault)
+            ⊎ ((fault ≡ Fault.OutOfMemory) × (is_ok (row_of types.now line.now) ≡ true))) }
+    {
+        let Some(count) = types.count(self.name[0]) else {
+            return Err(Fault::BadSatellite);
+        };
+        self.read_values(count, line)
+    }
+
+    /// Reads the cells of a line of so many types into the row, which keeps its identifier. The faults of the line come first, then
+    /// `OutOfMemory`, as by [`SatRow::read_again`].
+    #[inline(always)]
+    fn read_values(&mut self, count: usize, line: &[u8]) -> Result<(), Fault>
+        requires { IsAllowedCount count }
+        ensures ok { OnOk result (row_with count line.now (values_in count line.now)
+            ≡ Ok (record self.new { name = columns line.now 1 NAME_WIDTH })) }
+        ensures refused { IfErr result (λ fault. (row_with count line.now (values_in count line.now) ≡ Err fault)
+            ⊎ ((fault ≡ Fault.OutOfMemory)
+            × (is_ok (row_with count line.now (values_in count line.now)) ≡ true) × (length self.old.values ≢ count))) }
+        ensures err { IfErr result (λ fault. (self.new ≡ self.old)
+            ⊎ (((fault ≡ Fault.BadField) ⊎ (fault ≡ Fault.BadFlags))
+            × (self.new ≡ blank_row self.old.name (length self.new.values)))) }
+        ensures name { self.new.name ≡ self.old.name }
+        ensures sound { IsSoundRow self.new }
+    {
         resize_for(&mut self.values, &mut self.flags, count, line)?;
         if let Err(fault) = read_cells(line, &mut self.values, &mut self.flags) {
             self.values.fill(None);
             self.flags.fill(b' ');
             return Err(fault);
         }
-        self.name = identifier;
         Ok(())
     }
 
@@ -307,8 +333,37 @@ fn read_cells(line: &[u8], values: &mut [Option<i64>], flags: &mut [u8]) -> Resu
         row_with (length values.old) line.now (values_in (length values.old) line.now) ≡ Err fault) }
     ensures field { IfErr result (λ fault. (fault ≡ Fault.BadField) ⊎ (fault ≡ Fault.BadFlags)) }
 {
+    let first = split_plain_cells(line, values, flags);
+    if !take_last_cell(line, first, values, flags) {
+        return read_other_cells(line, first, values, flags);
+    }
+    if !all_kept(flags) {
+        return Err(Fault::BadFlags);
+    }
+    Ok(())
+}
+
+/// Reads the cells from one on as [`read_cells`] does, where those before it have been read, and looks at what stands after the last.
+#[inline(never)]
+fn read_other_cells(
+    line: &[u8],
+    first: usize,
+    values: &mut [Option<i64>],
+    flags: &mut [u8],
+) -> Result<(), Fault>
+    requires paired { length flags.old ≡ 2 * length values.old }
+    requires few { length values.old ≤ TYPES_LIMIT }
+    requires read { AreCellsRead first line.now values.old flags.old }
+    ensures ok { OnOk result (row_with (length values.old) line.now (values_in (length values.old) line.now)
+        ≡ Ok (record { name = columns line.now 1 NAME_WIDTH; values = values.new; flags = flags.new })) }
+    ensures ranged { OnOk result (All IsValue values.new) }
+    ensures kept { OnOk result (list_all is_kept flags.new ≡ true) }
+    ensures err { IfErr result (λ fault.
+        row_with (length values.old) line.now (values_in (length values.old) line.now) ≡ Err fault) }
+    ensures field { IfErr result (λ fault. (fault ≡ Fault.BadField) ⊎ (fault ≡ Fault.BadFlags)) }
+{
     let m = values.len();
-    if !split_cells(line, values, flags) {
+    if !split_other_cells(line, first, values, flags) {
         return Err(Fault::BadField);
     }
     if !all_blank(after_columns(line, CELL_WIDTH * m + NAME_WIDTH)) {
@@ -346,16 +401,52 @@ pub(crate) fn row_fault(types: &Types, line: &[u8]) -> Option<Fault>
     }
 }
 
-/// Takes the values and the indicators out of a line's cells; `false` at the first field that is neither blank nor a number.
-fn split_cells(line: &[u8], values: &mut [Option<i64>], flags: &mut [u8]) -> bool
+/// Takes the last cell, where those before it have been read, and the line ends with the cell's value: mostly both of its indicators
+/// are blank, and blanks at a line's end are cut. `true` also where all cells have been read, and the line ends with them.
+#[inline(always)]
+fn take_last_cell(line: &[u8], first: usize, values: &mut [Option<i64>], flags: &mut [u8]) -> bool
     requires paired { length flags.old ≡ 2 * length values.old }
     requires few { length values.old ≤ TYPES_LIMIT }
+    requires read { AreCellsRead first line.now values.old flags.old }
+    ensures values { OnTrue result (values_in (length values.old) line.now ≡ Some values.new) }
+    ensures flags { OnTrue result (flags.new ≡ flags_in (length values.old) line.now) }
+    ensures ranged { OnTrue result (All IsValue values.new) }
+    ensures ended { OnTrue result (list_all is_blank
+        (drop (CELL_WIDTH * length values.old + NAME_WIDTH) line.now) ≡ true) }
+    ensures same { OnFalse result ((values.new ≡ values.old) × (flags.new ≡ flags.old)) }
+{
+    let start = CELL_WIDTH * first + NAME_WIDTH;
+    if first == values.len() {
+        return line.len() <= start;
+    }
+    if first + 1 != values.len() || line.len() != start + OBSERVATION_WIDTH {
+        return false;
+    }
+    if !obs_read_into(&line[start..], &mut values[first]) {
+        return false;
+    }
+    flags[2 * first] = b' ';
+    flags[2 * first + 1] = b' ';
+    true
+}
+
+/// Takes the values and the indicators out of a line's cells from one on, where those before it have been read; `false` at the first
+/// field that is neither blank nor a number.
+fn split_other_cells(
+    line: &[u8],
+    first: usize,
+    values: &mut [Option<i64>],
+    flags: &mut [u8],
+) -> bool
+    requires paired { length flags.old ≡ 2 * length values.old }
+    requires few { length values.old ≤ TYPES_LIMIT }
+    requires read { AreCellsRead first line.now values.old flags.old }
     ensures values { MatchBool result (values_in (length values.old) line.now ≡ Some values.new)
         (values_in (length values.old) line.now ≡ None) }
     ensures flags { OnTrue result (flags.new ≡ flags_in (length values.old) line.now) }
     ensures ranged { OnTrue result (All IsValue values.new) }
 {
-    let mut k = split_plain_cells(line, values, flags);
+    let mut k = first;
     while k < values.len() {
         if !read_cell(line, k, &mut values[k], flags) {
             return false;
@@ -404,10 +495,7 @@ fn read_cell(line: &[u8], k: usize, value: &mut Option<i64>, flags: &mut [u8]) -
 fn split_plain_cells(line: &[u8], values: &mut [Option<i64>], flags: &mut [u8]) -> usize
     requires paired { length flags.old ≡ 2 * length values.old }
     requires few { length values.old ≤ TYPES_LIMIT }
-    ensures within { result ≤ length values.old }
-    ensures values { values_in result line.now ≡ Some (take result values.new) }
-    ensures flags { take (2 * result) flags.new ≡ flags_in result line.now }
-    ensures ranged { All IsValue (take result values.new) }
+    ensures { AreCellsRead result line.now values.new flags.new }
 {
     let count = cells_within(line, values.len());
     for k in 0..count {
@@ -446,7 +534,7 @@ fn put_indicators_within(line: &[u8], k: usize, flags: &mut [u8])
     flags[2 * k + 1] = strength;
 }
 
-/// Puts the two indicators of type k, from 0, in their places.
+/// Puts the two indicators of type k, from 0, in their places: blanks at a line's end are mostly cut.
 #[inline(always)]
 fn put_indicators(line: &[u8], k: usize, flags: &mut [u8])
     requires few { k < TYPES_LIMIT }
@@ -455,9 +543,8 @@ fn put_indicators(line: &[u8], k: usize, flags: &mut [u8])
         (character_at line.now (CELL_WIDTH * k + (NAME_WIDTH + OBSERVATION_WIDTH + 1)))) (2 * k + 1)
         (character_at line.now (CELL_WIDTH * k + (NAME_WIDTH + OBSERVATION_WIDTH + 2))) }
 {
-    let (lock, strength) = indicators(line, k);
-    flags[2 * k] = lock;
-    flags[2 * k + 1] = strength;
+    flags[2 * k] = character(line, CELL_WIDTH * k + (NAME_WIDTH + OBSERVATION_WIDTH + 1));
+    flags[2 * k + 1] = character(line, CELL_WIDTH * k + (NAME_WIDTH + OBSERVATION_WIDTH + 2));
 }
 
 /// How many types the satellite of a line has, where the line begins with an identifier of a system with types.
@@ -481,24 +568,6 @@ fn has_number(line: &[u8]) -> bool
 {
     let tens = character(line, 2);
     (tens.is_ascii_digit() || tens == b' ') && character(line, 3).is_ascii_digit()
-}
-
-/// The two indicators of type k, from 0: blanks at a line's end are mostly cut.
-#[inline(always)]
-fn indicators(line: &[u8], k: usize) -> (u8, u8)
-    requires { k < TYPES_LIMIT }
-    ensures lock { result.0 ≡ character_at line.now (CELL_WIDTH * k + (NAME_WIDTH + OBSERVATION_WIDTH + 1)) }
-    ensures strength { result.1 ≡ character_at line.now
-        (CELL_WIDTH * k + (NAME_WIDTH + OBSERVATION_WIDTH + 2)) }
-{
-    let end = CELL_WIDTH * k + NAME_WIDTH + CELL_WIDTH;
-    if end <= line.len() {
-        return (line[end - 2], line[end - 1]);
-    }
-    (
-        character(line, CELL_WIDTH * k + (NAME_WIDTH + OBSERVATION_WIDTH + 1)),
-        character(line, CELL_WIDTH * k + (NAME_WIDTH + OBSERVATION_WIDTH + 2)),
-    )
 }
 
 /// The value of type k, from 0; `None` where its field is neither blank nor a number of format F14.3.

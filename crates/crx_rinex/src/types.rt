@@ -1,6 +1,6 @@
 //! The observation types of the satellite systems. RINEX 3.05, table A2, `SYS / # / OBS TYPES`.
 
-ghost use Rattle.std.specs.Prelude.{◌≡◌, ◌≤◌, ◌⊎◌, ℕ, List, [], ◌∷◌, ◌++◌, Some, true, false, is_some, OnOk, OnErr, IfOk, IfErr, IfSome, OnSome, slice_get, length};
+ghost use Rattle.std.specs.Prelude.{◌≡◌, ◌≤◌, ◌<◌, ◌⊎◌, ℕ, List, [], ◌∷◌, ◌++◌, Some, true, false, is_some, OnOk, OnErr, IfOk, IfErr, IfSome, OnSome, slice_get, length};
 ghost use Rattle.crx_rinex.specs.meaning.ObservationTypes.{count_of, count_in, count_of_types_line, is_bad_types_line, is_system, is_types_line, types_of, IsAllowedCount};
 ghost use Rattle.crx_rinex.specs.ObservationTypes.{with_line, IsCount};
 
@@ -12,23 +12,28 @@ use indexmap::IndexMap;
 use std::alloc::Global;
 use std::marker::Model;
 
+/// How many bytes there are that a letter may be.
+const LETTERS: usize = 256;
+
 /// How many observation types each satellite system has, the systems in the order in which their letters
 /// first appeared.
 #[derive(Drop)]
 pub struct Types {
     counts: IndexMap<u8, usize>,
+    /// The count of each letter, 0 where it has none: a satellite line asks for the count of its system by one load.
+    by_letter: [u16; LETTERS],
 }
 
 impl Model for Types {
     ghost use Rattle.crx_rinex.specs.meaning.ObservationTypes.{Count};
-    ghost use Rattle.crx_rinex.specs.ObservationTypes.{AreCounts};
+    ghost use Rattle.crx_rinex.specs.ObservationTypes.{AreCounts, AreByLetter};
     ghost use Rattle.std.specs.Prelude.{List};
 
     ghost Value = { List Count };
 
     ghost view = { λ types. types.counts.entries };
 
-    ghost invariant = { λ types. AreCounts types.counts.entries };
+    ghost invariant = { λ types. AreCounts types.counts.entries × AreByLetter types.by_letter types.counts.entries };
 }
 
 impl Types {
@@ -38,6 +43,7 @@ impl Types {
     {
         Types {
             counts: IndexMap::new(alloc),
+            by_letter: [0; LETTERS],
         }
     }
 
@@ -67,6 +73,7 @@ impl Types {
         let Ok(_) = self.counts.insert(letter, count) else {
             return Err(Fault::OutOfMemory);
         };
+        self.by_letter[letter as usize] = count as u16;
         Ok(())
     }
 
@@ -77,14 +84,11 @@ impl Types {
         ensures allowed { IfSome result IsAllowedCount }
         ensures system { OnSome result (is_system letter ≡ true) }
     {
-        // There are at most seven systems, and a search through them is quicker than a hash.
-        for index in 0..self.counts.len() {
-            let (known, count) = self.entry(index)?;
-            if known == letter {
-                return Some(count);
-            }
+        let count = self.by_letter[letter as usize];
+        if count == 0 {
+            return None;
         }
-        None
+        Some(count as usize)
     }
 
     /// How many systems have types: at most seven.
@@ -116,7 +120,9 @@ pub fn is_types(line: &[u8]) -> bool
 
 /// What a types line says: the letter in column 1 and the count in columns 4 to 6.
 fn count_in(line: &[u8]) -> Option<(u8, usize)>
-    ensures { result ≡ count_in line.now }
+    ensures value { result ≡ count_in line.now }
+    ensures allowed { IfSome result IsCount }
+    ensures byte { IfSome result (λ count. count.0 < LETTERS) }
 {
     let letter = character(line, 1);
     let count = number(line, 4)?;

@@ -4,8 +4,8 @@ use Rattle.crx_arcs.specs.meaning.Sequences.{named}
 use Rattle.crx_history.proofs.Identifiers.{named-at}
 use Rattle.crx_history.proofs.kept.KeptEpoch.find_at.Goals as goal
 
-pub returns-then-eq : goal.returns-then-eq
-returns-then-eq c =
+pub returns-then-is_same_identifier : goal.returns-then-is_same_identifier
+returns-then-is_same_identifier c =
     sym (named-at (λ (row : RowTail). row.name) c.self.inside.apart c.self.inside.satellites.items c.args.place
     c.index-satellite.result.now c.args.name c.self.invariant.1.1 c.if-place-self.true c.self.invariant.1.0
     c.index-satellite.ensures (search rules))

@@ -72,9 +72,7 @@ returns-clause-line c =
     ∙ ap (λ (t : List ℕ). take inside.filled t ++ without_end_blanks (cells ++ c.bytes.result.now)) seen)
     c.write_line-length.ensures.within lengths in
     let is : c.bytes.result.now ≡ text_difference before c.args.row.now.flags =
-    c.bytes.ensures.value ∙ c.mark_change.ensures ∙ sym (difference-trimmed before c.flags.result.now)
-    ∙ ap (text_difference before) (c.flags.ensures.value ∙ c.in_ok-begin.ensures.flags)
-    ∙ difference-trimmed before c.args.row.now.flags in
+    c.bytes.ensures.value ∙ c.in_ok-begin.ensures.marks in
     rw (← c.self.view_is, take_at new (drop (length new) grown) c.grow.new.bytes.len long)
     (pushed.is ∙ ap (λ (t : List ℕ). cut (drop inside.lent inside.lengths.items)
     (drop inside.lent_bytes (take inside.filled inside.bytes.items)) ++ without_end_blanks (cells ++ t) ∷ []) is)

@@ -66,6 +66,13 @@ invariant_of-self-then-self-len c =
           c.name.result c.name.ensures.value c.self.invariant.4 next (put ∙ take_more_set rows count c.args.row within),
       omega (arith, grown, c.self.invariant.5),
       c.in-Ok-true.ensures.few SATELLITES_LIMIT c.self.invariant.6 (omega (arith, within, c.self.invariant.5)),
+      omega arith,
+      (
+        names-long names c.put.new.self count c.name.result c.self.invariant.3 next,
+        omega (arith, within, grown),
+        names-next names c.put.new.self rows c.put_row.new.rows.items count c.args.row
+            c.name.result c.name.ensures.value c.self.invariant.4 next (put ∙ take_more_set rows count c.args.row within),
+      ),
     )
 
 pub returns-then-self-len-clause-ok : goal.returns-then-self-len-clause-ok
@@ -115,6 +122,13 @@ invariant_of-self-2 c =
           (rows ++ c.args.row ∷ []) count c.args.row c.name.result c.name.ensures.value c.self.invariant.4 next all,
       omega (arith, length_push rows c.args.row, long, room),
       c.in-Ok-true.ensures.few SATELLITES_LIMIT c.self.invariant.6 (omega (arith, room)),
+      omega arith,
+      (
+        names-long names c.put.new.self count c.name.result c.self.invariant.3 next,
+        omega (arith, long, length_push rows c.args.row),
+        names-next names c.put.new.self rows
+            (rows ++ c.args.row ∷ []) count c.args.row c.name.result c.name.ensures.value c.self.invariant.4 next all,
+      ),
     )
 
 pub returns-clause-new : goal.returns-clause-new
@@ -136,6 +150,8 @@ invariant_of-self c =
       c.put.ensures.kept ∙ c.self.invariant.4,
       c.self.invariant.5,
       c.put.ensures.few SATELLITES_LIMIT c.self.invariant.6 room,
+      omega arith,
+      (c.put.ensures.within, c.self.invariant.1, c.put.ensures.kept ∙ c.self.invariant.4),
     )
 
 pub invariant_of-self-in-Err : goal.invariant_of-self-in-Err
@@ -150,6 +166,8 @@ invariant_of-self-in-Err c =
       c.put.ensures.kept ∙ c.self.invariant.4,
       c.self.invariant.5,
       c.put.ensures.few SATELLITES_LIMIT c.self.invariant.6 room,
+      omega arith,
+      (c.put.ensures.within, c.self.invariant.1, c.put.ensures.kept ∙ c.self.invariant.4),
     )
 
 pub invariant_of-self-in-Err-push : goal.invariant_of-self-in-Err-push
@@ -165,4 +183,6 @@ invariant_of-self-in-Err-push c =
       c.put.ensures.kept ∙ c.self.invariant.4,
       c.self.invariant.5,
       c.put.ensures.few SATELLITES_LIMIT c.self.invariant.6 room,
+      omega arith,
+      (c.put.ensures.within, c.self.invariant.1, c.put.ensures.kept ∙ c.self.invariant.4),
     )

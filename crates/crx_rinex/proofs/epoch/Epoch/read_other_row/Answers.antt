@@ -36,6 +36,13 @@ invariant_of-self-in-Ok-true c =
           count row c.name.result c.name.ensures.value c.self.invariant.4 next (take_more_set rows count row within),
       omega (arith, length-set rows count row, c.self.invariant.5),
       c.in-Ok-true.ensures.few SATELLITES_LIMIT c.self.invariant.6 (omega (arith, within, c.self.invariant.5)),
+      omega arith,
+      (
+        names-long names c.put.new.self count c.name.result c.self.invariant.3 next,
+        omega (arith, within, length-set rows count row),
+        names-next names c.put.new.self rows (slice_set rows count row)
+            count row c.name.result c.name.ensures.value c.self.invariant.4 next (take_more_set rows count row within),
+      ),
     )
 
 pub returns-in-Ok-true-clause-ok : goal.returns-in-Ok-true-clause-ok
@@ -145,6 +152,12 @@ invariant_of-self-in-Ok-false c =
       c.put.ensures.kept ∙ c.self.invariant.4 ∙ ap (map (λ (r : Row). r.name)) (sym same),
       omega (arith, length-set rows count row, c.self.invariant.5),
       c.put.ensures.few SATELLITES_LIMIT c.self.invariant.6 (omega (arith, within, c.self.invariant.5)),
+      omega arith,
+      (
+        c.put.ensures.within,
+        omega (arith, within, length-set rows count row),
+        c.put.ensures.kept ∙ c.self.invariant.4 ∙ ap (map (λ (r : Row). r.name)) (sym same),
+      ),
     )
 
 pub invariant_of-self-in-Err-put : goal.invariant_of-self-in-Err-put
@@ -164,4 +177,32 @@ invariant_of-self-in-Err-put c =
       c.put.ensures.kept ∙ c.self.invariant.4 ∙ ap (map (λ (r : Row). r.name)) (sym same),
       omega (arith, length-set rows count row, c.self.invariant.5),
       c.put.ensures.few SATELLITES_LIMIT c.self.invariant.6 (omega (arith, within, c.self.invariant.5)),
+      omega arith,
+      (
+        c.put.ensures.within,
+        omega (arith, within, length-set rows count row),
+        c.put.ensures.kept ∙ c.self.invariant.4 ∙ ap (map (λ (r : Row). r.name)) (sym same),
+      ),
+    )
+
+pub invariant_of-self : goal.invariant_of-self
+invariant_of-self c =
+    let rows = c.self.inside.rows.items in
+    let count = c.self.inside.count in
+    let row : Row = c.read_again.new.self in
+    let within : count < length rows = let a = c.if-self-len.false in let b =
+    c.self.inside.rows.ok.0 in let e = c.len.ensures in let f = c.self.invariant.1 in omega (arith, a, b, e, f) in
+    let same : take count (slice_set rows count row) ≡ take count rows = take-set rows count row in
+    let named = c.self.invariant.4 ∙ ap (map (λ (r : Row). r.name)) (sym same) in (
+      subst (λ (rs : List Row). IsSoundEpoch
+          (record { head = c.self.inside.head.head; clock = c.self.inside.head.clock; rows = rs })) (sym same)
+          c.self.invariant.0,
+      omega (arith, within, length-set rows count row),
+      c.self.invariant.2,
+      c.self.invariant.3,
+      named,
+      omega (arith, length-set rows count row, c.self.invariant.5),
+      c.self.invariant.6,
+      omega arith,
+      (c.self.invariant.3, omega (arith, within, length-set rows count row), named),
     )

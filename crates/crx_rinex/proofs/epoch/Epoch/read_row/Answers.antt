@@ -1,5 +1,6 @@
-use Rattle.std.proofs.Common.{◌≡◌, ◌<◌, List, ap, sym, ◌∙◌, take, false, length, slice_set, arith, inl, inr, refl}
-use Rattle.std.proofs.lemmas.List.{length-set, take_more_set}
+use Rattle.std.proofs.Common.{◌≡◌, ◌<◌, List, ℕ, ap, sym, ◌∙◌, take, false, length, get_or, arith, inl, inr, refl}
+use Rattle.std.specs.Prelude.{slice_set}
+use Rattle.std.proofs.lemmas.List.{get_or_default, length-set, take_more_set}
 use Rattle.std.proofs.lemmas.Result.{err_from_is_err_and}
 use Rattle.crx_columns.specs.meaning.Columns.{columns}
 use Rattle.crx_lines.specs.declared.limits.TheConstants.{NAME_WIDTH}
@@ -8,60 +9,93 @@ use Rattle.crx_rinex.specs.meaning.Epochs.{has_satellite}
 use Rattle.crx_rinex.specs.Epochs.{is_full_epoch, with_row}
 use Rattle.crx_rinex.specs.meaning.EpochPlaces.{row_if_new}
 use Rattle.crx_rinex.proofs.GoodRows.{good-new}
-use Rattle.crx_rinex.proofs.Rows.{by_names, names-long, names-next, sound-put}
+use Rattle.crx_rinex.proofs.Rows.{unread, known-new, known-next, known-put, names-next, sound-put}
 use Rattle.crx_rinex.proofs.epoch.Epoch.read_row.Goals as goal
 
-pub returns-in_err-read_named-clause-refused : goal.returns-in_err-read_named-clause-refused
-returns-in_err-read_named-clause-refused c =
-    let new : has_satellite (columns c.args.line.now 1 NAME_WIDTH) c.args.self.now.rows ≡ false =
-    by_names c.args.self.now c.self.inside.names c.self.inside.rows.items c.self.inside.count
-    (columns c.args.line.now 1 NAME_WIDTH) c.identifier-name.result false c.identifier-name.ensures
-    (ap (λ (e : Epoch). e.rows) c.self.view_is) c.self.invariant.4 (c.if-has_at.ensures.new) in
-    let p = err_from_is_err_and c.from_residual.result c.from_residual.ensures.1 in
-    rw (p.1, p.2) (elim (c.in_err-read_named.ensures.refused) [
-      | inl bad ↦ inl (ap (row_if_new c.args.self.now.rows) bad)
-      | inr out ↦ inr (out.0, good-new c.args.types.now c.args.line.now c.args.self.now.rows out.1 new)
-    ])
+-- the row that was read stands in the place of another one of its satellite
+here : (c : goal.After-self-then-is_of-1) → c.self.inside.count < c.self.inside.known
+here c = omega (arith, c.if-self.true)
 
-pub invariant_of-self-then-has_at : goal.invariant_of-self-then-has_at
-invariant_of-self-then-has_at c =
+within : (c : goal.After-self-then-is_of-1) → c.self.inside.count < length c.self.inside.rows.items
+within c = omega (arith, here c, c.self.invariant.8.1)
+
+same : (c : goal.After-self-then-is_of-1) → c.read_known.new.self.name
+    ≡ (get_or c.self.inside.rows.items c.self.inside.count c.index_mut-row.result.now).name
+same c = c.read_known.ensures.name ∙ ap (λ (r : Row). r.name) c.index_mut-row.ensures.value
+
+new : (c : goal.After-self-then-is_of-1) → has_satellite c.read_known.new.self.name (take c.self.inside.count c.self.inside.rows.items) ≡ false
+new c =
+    known-new c.self.inside.known c.self.inside.names c.self.inside.rows.items c.self.inside.count
+    c.read_known.new.self c.index_mut-row.result.now c.self.invariant.8 (here c) (same c) c.self.invariant.4
+    c.are_different.ensures
+
+pub invariant_of-self-then-is_of : goal.invariant_of-self-then-is_of
+invariant_of-self-then-is_of c =
     let head = c.self.inside.head in
     let rows = c.self.inside.rows.items in
     let count = c.self.inside.count in
     let names = c.self.inside.names in
-    let row : Row = c.read_named.new.self in
-    let within : count < length rows = let a =
-    c.if-self-len.true in let b = c.self.inside.rows.ok.0 in let e = c.len.ensures in omega (arith, a, b, e) in
-    let next = c.if-has_at.ensures.next in
-    let named : c.identifier-name.result ≡ row.name = c.identifier-name.ensures ∙ sym c.in_ok-read_named.ensures.name in
-    let new : has_satellite row.name (take count rows) ≡ false =
-    by_names (record { head = head.head; clock = head.clock; rows = take count rows })
-    names rows count row.name c.identifier-name.result false named refl c.self.invariant.4 c.if-has_at.ensures.new in (
-      sound-put head.head head.clock rows count row c.self.invariant.0 within c.in_ok-read_named.ensures.sound
-          (ap is_full_epoch c.self.view_is ∙ c.requires) new,
-      omega (arith, within, length-set rows count row),
+    let known = c.self.inside.known in
+    let row : Row = c.read_known.new.self in
+    let old : Row = c.index_mut-row.result.now in
+    let next = known-next known names rows count row old c.self.invariant.8 (here c) (same c) in (
+      sound-put head.head head.clock rows count row c.self.invariant.0 (within c) c.read_known.ensures.sound
+          (ap is_full_epoch c.self.view_is ∙ c.requires) (new c),
+      omega (arith, within c, length-set rows count row),
       c.self.invariant.2,
-      names-long names names count c.identifier-name.result c.self.invariant.3 next,
-      names-next names names rows (slice_set rows count row) count row c.identifier-name.result named c.self.invariant.4 next
-          (take_more_set rows count row within),
+      omega (arith, here c, c.self.invariant.8.0),
+      names-next names names rows (slice_set rows count row) count row row.name refl c.self.invariant.4 next
+          (take_more_set rows count row (within c)),
       omega (arith, length-set rows count row, c.self.invariant.5),
       c.self.invariant.6,
+      omega (arith, here c),
+      known-put known names rows count row old c.self.invariant.8 (here c) (same c),
     )
 
-pub returns-then-has_at-clause-ok : goal.returns-then-has_at-clause-ok
-returns-then-has_at-clause-ok c =
+pub returns-then-is_of-clause-ok : goal.returns-then-is_of-clause-ok
+returns-then-is_of-clause-ok c =
     let head = c.self.inside.head in
     let rows = c.self.inside.rows.items in
     let count = c.self.inside.count in
-    let row = c.read_named.new.self in
-    let within : count < length rows = let a =
-    c.if-self-len.true in let b = c.self.inside.rows.ok.0 in let e = c.len.ensures in omega (arith, a, b, e) in
-    let read = c.in_ok-read_named.ensures.ok in
-    let new : has_satellite row.name c.args.self.now.rows ≡ false =
-    by_names c.args.self.now c.self.inside.names rows count row.name c.identifier-name.result false (c.identifier-name.ensures
-    ∙ sym c.in_ok-read_named.ensures.name)
-    (ap (λ (e : Epoch). e.rows) c.self.view_is) c.self.invariant.4 c.if-has_at.ensures.new in
-    rw (read, new)
+    let row = c.read_known.new.self in
+    let other : has_satellite row.name c.args.self.now.rows ≡ false =
+    ap (λ (e : Epoch). has_satellite row.name e.rows) (sym c.self.view_is) ∙ new c in
+    rw (c.in_ok-read_known.ensures.ok, other)
     (ap (λ (rs : List Row). record { head = head.head; clock = head.clock; rows = rs })
-    (take_more_set rows count row within)
+    (take_more_set rows count row (within c))
     ∙ ap (λ (e : Epoch). with_row e row) c.self.view_is)
+
+pub returns-in_err-read_known-clause-refused : goal.returns-in_err-read_known-clause-refused
+returns-in_err-read_known-clause-refused c =
+    let rows = c.self.inside.rows.items in
+    let count : ℕ = c.self.inside.count in
+    let here : count < c.self.inside.known = omega (arith, c.if-self.true) in
+    let row : Row = c.read_known.new.self in
+    let same : row.name ≡ (get_or rows count c.index_mut-row.result.now).name =
+    c.read_known.ensures.name ∙ ap (λ (r : Row). r.name) c.index_mut-row.ensures.value in
+    let first = c.index.result.now in
+    let old = c.index_mut-row.result.now in
+    let name : columns c.args.line.now 1 NAME_WIDTH ≡ row.name = c.if-is_of.ensures
+    ∙ ap (λ (r : Row). r.name) (c.index.ensures
+    ∙ get_or_default rows count first old (omega (arith, here, c.self.invariant.8.1)) ∙ sym c.index_mut-row.ensures.value)
+    ∙ sym c.read_known.ensures.name in
+    let other : has_satellite (columns c.args.line.now 1 NAME_WIDTH) c.args.self.now.rows ≡ false =
+    ap (λ (n : List ℕ). has_satellite n c.args.self.now.rows) name
+    ∙ ap (λ (e : Epoch). has_satellite row.name e.rows) (sym c.self.view_is)
+    ∙ known-new c.self.inside.known c.self.inside.names rows count row c.index_mut-row.result.now c.self.invariant.8 here same
+    c.self.invariant.4 c.are_different.ensures in
+    let p = err_from_is_err_and c.from_residual.result c.from_residual.ensures.1 in
+    rw (p.1, p.2) (elim (c.in_err-read_known.ensures.refused) [
+      | inl bad ↦ inl (ap (row_if_new c.args.self.now.rows) bad)
+      | inr out ↦ inr (out.0, good-new c.args.types.now c.args.line.now c.args.self.now.rows out.1 other)
+    ])
+
+pub invariant_of-self : goal.invariant_of-self
+invariant_of-self c =
+    let rows = c.self.inside.rows.items in
+    let count : ℕ = c.self.inside.count in
+    let row : Row = c.read_known.new.self in
+    let here : count < c.self.inside.known = omega (arith, c.if-self.true) in
+    unread c.self.inside.head c.self.inside.names rows count
+    c.self.inside.known row c.index_mut-row.result.now c.self.invariant here
+    (c.read_known.ensures.name ∙ ap (λ (r : Row). r.name) c.index_mut-row.ensures.value)

@@ -1,8 +1,9 @@
-use Rattle.std.proofs.Common.{◌≡◌, ℕ, List, Some, true, false, ap, sym, subst, ◌∙◌}
+use Rattle.std.proofs.Common.{◌≡◌, ℕ, List, Some, true, false, ap, sym, ◌∙◌, length, arith}
+use Rattle.crx_rinex.specs.declared.types.TheConstants.{LETTERS}
 use Rattle.crx_rinex.specs.meaning.ObservationTypes.{Count, is_types_line, count_in, types_of}
-use Rattle.crx_rinex.specs.ObservationTypes.{AreCounts, with_line, with_count}
+use Rattle.crx_rinex.specs.ObservationTypes.{with_line, with_count}
 use Rattle.crx_rinex.proofs.Counts.{insert_is_with, types_of-push, with_line-other, with_line-types, count_in_allowed}
-use Rattle.crx_rinex.proofs.Counts.{AreCounts-with_count}
+use Rattle.crx_rinex.proofs.Counts.{AreCounts-with_count, AreByLetter-with_count}
 use Rattle.crx_rinex.proofs.types.Types.accept_line.Goals as goal
 
 pub returns-then-not-is_types-clause-declared : goal.returns-then-not-is_types-clause-declared
@@ -21,7 +22,7 @@ pub returns-clause-ok : goal.returns-clause-ok
 returns-clause-ok c =
     inserted c.self.inside.counts.entries
     c.args.self.now c.args.self.now c.args.line.now c.in-Some.letter c.in-Some.count
-    (sym c.is_types.ensures ∙ c.if-not-is_types.false) c.in-Some.ensures c.self.view_is c.insert.new.self.entries
+    (sym c.is_types.ensures ∙ c.if-not-is_types.false) c.in-Some.ensures.value c.self.view_is c.insert.new.self.entries
     (c.in-Ok.ensures.entries ∙ insert_is_with c.self.inside.counts.entries c.in-Some.letter c.in-Some.count)
 
 pub returns-clause-declared : goal.returns-clause-declared
@@ -31,8 +32,13 @@ returns-clause-declared c = λ lines h.
 
 pub invariant_of-self-2 : goal.invariant_of-self-2
 invariant_of-self-2 c =
-    let allowed = count_in_allowed c.args.line.now c.in-Some.letter c.in-Some.count (sym c.in-Some.ensures) in
-    subst AreCounts (sym (c.in-Ok.ensures.entries
-    ∙ insert_is_with c.self.inside.counts.entries c.in-Some.letter c.in-Some.count))
-    (AreCounts-with_count c.self.inside.counts.entries
-    c.in-Some.letter c.in-Some.count c.self.invariant allowed.0 allowed.1)
+    let entries = c.self.inside.counts.entries in
+    let letter = c.in-Some.letter in
+    let count = c.in-Some.count in
+    let allowed = count_in_allowed c.args.line.now letter count (sym c.in-Some.ensures.value) in
+    let long : length c.self.inside.by_letter ≡ LETTERS = search in
+    rw (c.in-Ok.ensures.entries ∙ insert_is_with entries letter count) (
+      AreCounts-with_count entries letter count c.self.invariant.0 allowed.0 allowed.1,
+      AreByLetter-with_count c.self.inside.by_letter entries letter count c.self.invariant.1
+          (omega (arith, long, c.in-Some.ensures.byte)),
+    )

@@ -1,31 +1,30 @@
-use Rattle.std.proofs.Common.{◌≡◌, ℕ, ◌+◌, Some, drop, true, false, eqb, cond, suc, ap, sym, subst, ◌∙◌, arith}
-use Rattle.std.proofs.lemmas.Bool.{eq-eqb, ne_eqb}
-use Rattle.crx_rinex.specs.meaning.ObservationTypes.{count_of, is_system}
-use Rattle.crx_rinex.proofs.Counts.{count_at}
+use Rattle.std.proofs.Common.{◌≡◌, ℕ, Option, OnSome, IfSome, true, sym, subst, ap, ◌∙◌, List}
+use Rattle.crx_rinex.specs.meaning.ObservationTypes.{Count, count_of, is_system, IsAllowedCount}
+use Rattle.crx_rinex.proofs.Counts.{absent_by_letter, present_by_letter, allowed_of, system_of}
 use Rattle.crx_rinex.proofs.types.Types.count.Goals as goal
 
-pub returns-then-known-letter-clause-value : goal.returns-then-known-letter-clause-value
-returns-then-known-letter-clause-value c =
-    let types = c.args.self.now in
-    let index = c.loop-index.index in
-    let here : eqb c.in_ok-known.known c.args.letter ≡ true =
-    eq-eqb c.in_ok-known.known c.args.letter c.if-known-letter.true in
-    sym (sym c.loop-index.invariant ∙ count_at types index
-    (c.in_ok-known.known, c.in_ok-known.count) c.args.letter (sym c.in_ok-known.ensures.value)
-    ∙ ap (λ b. cond b (Some c.in_ok-known.count) (count_of (drop (suc index) types) c.args.letter)) here)
+pub returns-then-count-eq0-clause-value : goal.returns-then-count-eq0-clause-value
+returns-then-count-eq0-clause-value c =
+    sym (ap (λ (es : List Count). count_of es c.args.letter) (sym c.self.view_is)
+    ∙ absent_by_letter c.self.inside.by_letter c.self.inside.counts.entries c.args.letter
+    c.self.invariant.0 c.self.invariant.1 c.ranges.letter.fits c.if-count-eq0.true)
 
-pub returns-then-known-letter-clause-system : goal.returns-then-known-letter-clause-system
-returns-then-known-letter-clause-system c =
-    subst (λ (l : ℕ). is_system l ≡ true) c.if-known-letter.true c.in_ok-known.ensures.allowed.0
+pub returns-clause-value : goal.returns-clause-value
+returns-clause-value c =
+    sym (ap (λ (es : List Count). count_of es c.args.letter) (sym c.self.view_is)
+    ∙ present_by_letter c.self.inside.by_letter c.self.inside.counts.entries c.args.letter
+    c.self.invariant.1 c.ranges.letter.fits c.if-count-eq0.false)
 
-pub loop-index-preserved : goal.loop-index-preserved
-loop-index-preserved c =
-    let types = c.args.self.now in
-    let index = c.loop-index.index in
-    let next : index + 1 ≡ suc index = omega arith in
-    let other : eqb c.in_ok-known.known c.args.letter ≡ false =
-    ne_eqb c.in_ok-known.known c.args.letter c.if-known-letter.false in
-    ap (λ (n : ℕ). count_of (drop n types) c.args.letter) next
-    ∙ sym (ap (λ b. cond b (Some c.in_ok-known.count) (count_of (drop (suc index) types) c.args.letter)) other)
-    ∙ sym (count_at types index (c.in_ok-known.known, c.in_ok-known.count) c.args.letter
-    (sym c.in_ok-known.ensures.value)) ∙ c.loop-index.invariant
+pub returns-clause-allowed : goal.returns-clause-allowed
+returns-clause-allowed c =
+    subst (λ (o : Option ℕ). IfSome o IsAllowedCount)
+    (present_by_letter c.self.inside.by_letter c.self.inside.counts.entries c.args.letter
+    c.self.invariant.1 c.ranges.letter.fits c.if-count-eq0.false)
+    (allowed_of c.self.inside.counts.entries c.args.letter c.self.invariant.0)
+
+pub returns-clause-system : goal.returns-clause-system
+returns-clause-system c =
+    subst (λ (o : Option ℕ). OnSome o (is_system c.args.letter ≡ true))
+    (present_by_letter c.self.inside.by_letter c.self.inside.counts.entries c.args.letter
+    c.self.invariant.1 c.ranges.letter.fits c.if-count-eq0.false)
+    (system_of c.self.inside.counts.entries c.args.letter c.self.invariant.0)

@@ -4,6 +4,6 @@ use Rattle.crx_rinex.proofs.types.Types.systems.Goals as goal
 
 pub returns-clause-few : goal.returns-clause-few
 returns-clause-few c =
-    let few = systems_few c.self.inside.counts.entries c.self.invariant in
+    let few = systems_few c.self.inside.counts.entries c.self.invariant.0 in
     let is = c.len.ensures.len in
     omega (arith, is, few)

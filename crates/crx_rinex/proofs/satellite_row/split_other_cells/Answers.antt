@@ -5,7 +5,7 @@ use Rattle.std.proofs.lemmas.List.Elements.{All-push, All-same}
 use Rattle.crx_columns.specs.meaning.Columns.{character_at}
 use Rattle.crx_rinex.specs.meaning.SatelliteLines.{IsValue}
 use Rattle.crx_rinex.proofs.Cells.{values_in_none, values_in_more, pair_pushed}
-use Rattle.crx_rinex.proofs.satellite_row.split_cells.Goals as goal
+use Rattle.crx_rinex.proofs.satellite_row.split_other_cells.Goals as goal
 
 pub returns-then-not-read_cell-clause-values : goal.returns-then-not-read_cell-clause-values
 returns-then-not-read_cell-clause-values c =

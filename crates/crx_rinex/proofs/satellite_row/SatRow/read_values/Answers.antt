@@ -1,11 +1,11 @@
 use Rattle.std.proofs.Common.{◌≡◌, ◌*◌, ℕ, ℤ, List, Option, None, length, replicate, ap, sym, subst, ◌∙◌, arith, rules}
-use Rattle.crx_rinex.specs.meaning.SatelliteLines.{is_identifier, IsSoundRow}
+use Rattle.crx_rinex.specs.meaning.SatelliteLines.{IsSoundRow}
 use Rattle.crx_rinex.proofs.Cells.{sound-written, sound-blank}
-use Rattle.crx_rinex.proofs.satellite_row.SatRow.read_named.Goals as goal
+use Rattle.crx_rinex.proofs.satellite_row.SatRow.read_values.Goals as goal
 
 pub invariant_of-self-in-Err : goal.invariant_of-self-in-Err
 invariant_of-self-in-Err c =
-    let m = c.in-Some.count in
+    let m = c.args.count in
     let sized = c.in_ok-resize_for.ensures.ok in
     let values_len : c.resize_for.new.values.len
     ≡ m = let a = sized.0 in let b = c.resize_for.new.values.ok.0 in omega (arith, a, b) in
@@ -22,11 +22,11 @@ invariant_of-self-in-Err c =
     })) (sym values)
     (subst (λ (fs : List ℕ). IsSoundRow
     (record { name = c.self.inside.name; values = replicate {A = Option ℤ} m None; flags = fs })) (sym flags)
-    (sound-blank c.self.inside.name m c.self.invariant.named c.in-Some.ensures.allowed))
+    (sound-blank c.self.inside.name m c.self.invariant.named c.requires))
 
-pub invariant_of-self-2 : goal.invariant_of-self-2
-invariant_of-self-2 c =
-    let m = c.in-Some.count in
+pub invariant_of-self-in_default : goal.invariant_of-self-in_default
+invariant_of-self-in_default c =
+    let m = c.args.count in
     let sized = c.in_ok-resize_for.ensures.ok in
     let values_len : c.resize_for.new.values.len
     ≡ m = let a = sized.0 in let b = c.resize_for.new.values.ok.0 in omega (arith, a, b) in
@@ -36,10 +36,13 @@ invariant_of-self-2 c =
     ≡ m = let a = c.read_cells.auto.values in let b = c.deref_mut.ensures.len in omega (arith, a, b, values_len) in
     let flags : length c.read_cells.new.flags ≡ 2 * m = let a =
     c.read_cells.auto.flags in let b = c.deref_mut-2.ensures.len in omega (arith, a, b, flags_len) in
-    sound-written c.args.identifier c.read_cells.new.values c.resize_for.new.values.items
+    sound-written c.self.inside.name c.read_cells.new.values c.resize_for.new.values.items
     c.read_cells.new.flags c.resize_for.new.flags.items m c.resize_for.new.values.len c.resize_for.new.flags.len
-    (ap is_identifier c.requires ∙ c.in-Some.ensures.named) c.in-Some.ensures.allowed
-    values flags values_len flags_len c.in_default-read_cells.ensures.ranged c.in_default-read_cells.ensures.kept
+    c.self.invariant.named c.requires
+    values flags values_len flags_len c.in_default.ensures.ranged c.in_default.ensures.kept
 
 pub returns-clause-sound : goal.returns-clause-sound
-returns-clause-sound c = invariant_of-self-2 c
+returns-clause-sound c = invariant_of-self-in_default c
+
+pub returns-in-Err-clause-sound : goal.returns-in-Err-clause-sound
+returns-in-Err-clause-sound c = invariant_of-self-in-Err c
