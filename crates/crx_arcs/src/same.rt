@@ -47,7 +47,7 @@ pub fn is_same_text(text: &[u8], other: &[u8]) -> bool
     }
 }
 
-/// Puts a text in place of another one by its two ends, and says whether a third text has the same.
+/// Puts a text in place of another one by its two ends. `true` says that a third text is the same; `false` says nothing.
 #[inline(always)]
 fn copy_ends<const N: usize>(text: &[u8], to: &mut [u8], other: &[u8]) -> bool
     requires narrow { N ≤ 64 }
@@ -66,8 +66,8 @@ fn copy_ends<const N: usize>(text: &[u8], to: &mut [u8], other: &[u8]) -> bool
     first == Simd::<u8, N>::from_slice(other) && end == Simd::<u8, N>::from_slice(&other[last..])
 }
 
-/// Puts a text in place of another one of its length, and says whether a third text is the same. The indicators of 4 to 32 types are
-/// loaded once for both.
+/// Puts a text in place of another one of its length. `true` says that a third text is the same; `false` says nothing. The indicators of 4
+/// to 32 types are loaded once for both.
 #[inline(always)]
 pub fn copy_compared(text: &[u8], to: &mut [u8], other: &[u8]) -> bool
     requires { length to.old ≡ length text.now }

@@ -38,10 +38,9 @@ use crx_text::{Code, Fault, Text, code_print, copy_text, trim_end};
 use std::alloc::{AllocError, Global};
 use std::marker::Model;
 
-/// Replaces a text by the difference of two others. Texts that are the same, as a satellite's indicators in two epochs mostly are,
-/// are only compared: their difference is empty.
+/// Replaces a text by the difference of two others. Texts that are the same are only compared: their difference is empty.
 #[inline(always)]
-pub(crate) fn mark_change(old: &[u8], new: &[u8], part: &mut Text)
+fn mark_change(old: &[u8], new: &[u8], part: &mut Text)
     requires old_short { length old.now ≤ LINE_LIMIT }
     requires new_short { length new.now ≤ LINE_LIMIT }
     ensures { part.new ≡ text_difference old.now new.now }
@@ -52,8 +51,8 @@ pub(crate) fn mark_change(old: &[u8], new: &[u8], part: &mut Text)
     }
 }
 
-/// Puts the difference of two texts into an empty text. Most texts stay as they are, and so this is no part of [`mark_change`], which
-/// would save and restore all registers for it.
+/// Puts the difference of two texts into an empty text. Most texts stay as they are, and so this is no part of [`mark_change`] and
+/// [`copy_flags`], which would save and restore all registers for it.
 #[inline(never)]
 fn append_change(old: &[u8], new: &[u8], part: &mut Text)
     requires old_short { length old.now ≤ LINE_LIMIT }
@@ -200,14 +199,6 @@ impl HeldSatellite {
         ensures { result ≡ self.now.name }
     {
         self.name
-    }
-
-    /// The indicators, maybe with blanks at their end.
-    pub(crate) fn flags(&self) -> &[u8]
-        ensures value { without_end_blanks result.now ≡ self.now.flags }
-        ensures held { AreHeldFlags result.now }
-    {
-        &self.flags
     }
 
     /// How many cells there are.

@@ -1,5 +1,5 @@
 -- Counts of types, letter by letter: what a map from letters holds is what the lines declare.
-use Rattle.std.proofs.Common.{◌≡◌, ℕ, ◌+◌, ◌<◌, ◌≤◌, zero, suc, drop, slice_get, length, Bool, true, false, cond, eqb}
+use Rattle.std.proofs.Common.{◌≡◌, ℕ, ◌+◌, ◌<◌, ◌≤◌, suc, length, Bool, true, false, cond, eqb}
 use Rattle.std.proofs.Common.{List, [], ◌∷◌, ◌++◌, Option, Some, None, is_none, IfSome, OnSome, refl, ap, sym, subst}
 use Rattle.std.proofs.Common.{get_or, set, unwrap_or, ◌≢◌}
 use Rattle.std.proofs.Common.{◌∙◌, inl, inr, arith, leb, ◌&&◌}
@@ -19,7 +19,7 @@ use Rattle.crx_rinex.specs.ObservationTypes.{AreCounts, AreByLetter, IsCount, le
 use Rattle.crx_lines.specs.declared.limits.TheConstants.{TYPES_LIMIT}
 use Rattle.crx_rinex.specs.meaning.Label.{number_in}
 use Rattle.crx_columns.specs.meaning.Columns.{character_at, columns}
-use Rattle.std.proofs.lemmas.Option.{cond_some, option_and_then_some, none-some, same_Some}
+use Rattle.std.proofs.lemmas.Option.{cond_some, option_and_then_some}
 
 same_test : (a b : ℕ) → eqb a b ≡ eqb b a
 same_test a b =
@@ -187,13 +187,6 @@ system_in (e ∷ es) letter h =
 
 pub system_of : (es : List Count) (letter : ℕ) → AreCounts es → OnSome (count_of es letter) (is_system letter ≡ true)
 system_of es letter h = system_in es letter h.allowed
-
--- the entries from a place on decide by their first, or else by the others
-pub count_at : (es : List Count) (k : ℕ) (e : Count) (letter : ℕ) → slice_get es k ≡ Some e
-    → count_of (drop k es) letter ≡ cond (eqb e.0 letter) (Some e.1) (count_of (drop (suc k) es) letter)
-count_at [] k e letter h = absurd (none-some e h)
-count_at (c ∷ es) zero e letter h = let same : c ≡ e = same_Some c e h in rw (sym same) refl
-count_at (c ∷ es) (suc k) e letter h = count_at es k e letter h
 
 -- ---- counts by letter
 

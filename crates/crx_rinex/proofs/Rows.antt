@@ -158,7 +158,7 @@ known-new known names rows k row d h within is named different =
     (sym (name-known known names rows k d h within ∙ sym is))
     ∙ different k (omega (arith, within, h.0))
 
--- an epoch after whose last row a spare one was written over, by one of the same satellite, is as sound as before
+-- what is true of the parts of an epoch
 abbrev Inside : ObservationHead → List (List ℕ) → List Row → ℕ → ℕ → Type 0
 Inside head names rows count known =
     IsSoundEpoch (record { head = head.head; clock = head.clock; rows = take count rows }) × (count ≤ length rows)
@@ -166,6 +166,7 @@ Inside head names rows count known =
     × (take count names ≡ map (λ (row : Row). row.name) (take count rows)) × (length rows ≤ SATELLITES_LIMIT)
     × (length names ≤ SATELLITES_LIMIT) × (count ≤ known) × AreOfRows known names rows
 
+-- and stays so where the spare row after the last one is written over by one of the same satellite
 pub unread : (head : ObservationHead) (names : List (List ℕ)) (rows : List Row) (count known : ℕ) (row d : Row)
     → Inside head names rows count known → count < known → row.name ≡ (get_or rows count d).name
     → Inside head names (set rows count row) count known

@@ -1,8 +1,7 @@
 //! Labels of header lines and numbers in columns, with the columns of a line.
 //! RINEX 3.05, tables A1 and A2.
 
-ghost use Rattle.std.specs.Prelude.{◌≡◌, ◌≤◌, ◌<◌, ◌+◌, ◌++◌, length, take, IfSome};
-ghost use Rattle.std.specs.Bool.{OnTrue};
+ghost use Rattle.std.specs.Prelude.{◌≡◌, ◌≤◌, ◌<◌, ◌+◌, ◌++◌, ◌≢◌, length, take, IfSome, MatchBool};
 ghost use Rattle.crx_lines.specs.declared.limits.TheConstants.{LINE_LIMIT, NAME_WIDTH};
 ghost use Rattle.crx_columns.specs.meaning.Columns.{columns};
 ghost use Rattle.crx_rinex.specs.meaning.Label.{has_label, number_in, number_of_digits};
@@ -81,10 +80,10 @@ pub(crate) fn first_identifier(line: &[u8]) -> [u8; NAME_WIDTH]
     [line[0], line[1], line[2]]
 }
 
-/// Whether two identifiers are the same: their first two bytes are compared as one number.
+/// `true` says that two identifiers are the same, and `false` that they aren't: their first two bytes are compared as one number.
 #[inline(always)]
 pub fn is_same_identifier(one: [u8; NAME_WIDTH], other: [u8; NAME_WIDTH]) -> bool
-    ensures { OnTrue result (one ≡ other) }
+    ensures { MatchBool result (one ≡ other) (one ≢ other) }
 {
     u16::from_le_bytes([one[0], one[1]]) == u16::from_le_bytes([other[0], other[1]])
         && one[2] == other[2]

@@ -34,7 +34,7 @@ pub struct Epoch {
     count: usize,
     /// The identifiers of the rows, and after them those of an earlier epoch.
     names: Identifiers,
-    /// How many of the first rows and identifiers are of the same satellites, spare ones too.
+    /// At least so many of the first rows and identifiers, spare ones too, are of the same satellites.
     known: usize,
 }
 
@@ -127,7 +127,7 @@ impl Epoch {
         ensures err { OnErr result (self.new ≡ self.old) }
     {
         if self.count < self.known && self.rows[self.count].is_of(line) {
-            self.names.are_different();
+            self.names.each_stands_once();
             let row = &mut self.rows[self.count];
             row.read_known(types, line)?;
             self.count += 1;
@@ -154,7 +154,7 @@ impl Epoch {
         if !self.rows[place].is_of(line) {
             return false;
         }
-        self.names.are_different();
+        self.names.each_stands_once();
         let row = &mut self.rows[place];
         let Ok(()) = row.read_known(types, line) else {
             return false;
@@ -163,7 +163,7 @@ impl Epoch {
         true
     }
 
-    /// Reads a row as [`Epoch::read_row`] does, where the place has no row yet, or that of another satellite.
+    /// Reads a row as [`Epoch::read_row`] does, where the place isn't known to have a row of the same satellite.
     #[inline(never)]
     fn read_other_row(&mut self, types: &Types, line: &[u8]) -> Result<(), Fault>
         requires { is_full_epoch self.old ≡ false }

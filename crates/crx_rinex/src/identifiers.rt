@@ -63,9 +63,9 @@ impl Identifiers {
         false
     }
 
-    /// No identifier stands at two places: what is known of all identifiers, where it is asked for by this call, which does nothing.
+    /// Each identifier stands once. The call does nothing; its caller knows this fact from then on.
     #[inline(always)]
-    pub(crate) fn are_different(&self)
+    pub(crate) fn each_stands_once(&self)
         ensures { (place : ℕ) → place < length self.now
             → is_among (λ (n : List ℕ). n) (get_or self.now place []) (take place self.now) ≡ false }
     {

@@ -121,7 +121,11 @@ impl SatRow {
         ensures name { self.new.name ≡ self.old.name }
         ensures sound { IsSoundRow self.new }
         ensures refused { IfErr result (λ fault. (row_of types.now line.now ≡ Err fault)
-            ⊎ ((fault ≡ Fault.OutOfMemory) × (is_ok (row_of types.now line.now) ≡ true))) }
+            ⊎ ((fault ≡ Fault.OutOfMemory) × (is_ok (row_of types.now line.now) ≡ true)
+            × (types_of_satellite types.now line.now ≢ Some (length self.old.values)))) }
+        ensures err { IfErr result (λ fault. (self.new ≡ self.old)
+            ⊎ (((fault ≡ Fault.BadField) ⊎ (fault ≡ Fault.BadFlags))
+            × (self.new ≡ blank_row self.old.name (length self.new.values)))) }
     {
         let Some(count) = types.count(self.name[0]) else {
             return Err(Fault::BadSatellite);
@@ -402,7 +406,8 @@ pub(crate) fn row_fault(types: &Types, line: &[u8]) -> Option<Fault>
 }
 
 /// Takes the last cell, where those before it have been read, and the line ends with the cell's value: mostly both of its indicators
-/// are blank, and blanks at a line's end are cut. `true` also where all cells have been read, and the line ends with them.
+/// are blank, and blanks at a line's end are cut. `true` also where all cells have been read, and the line ends with them; `false` leaves
+/// all as it was.
 #[inline(always)]
 fn take_last_cell(line: &[u8], first: usize, values: &mut [Option<i64>], flags: &mut [u8]) -> bool
     requires paired { length flags.old ≡ 2 * length values.old }
@@ -534,7 +539,7 @@ fn put_indicators_within(line: &[u8], k: usize, flags: &mut [u8])
     flags[2 * k + 1] = strength;
 }
 
-/// Puts the two indicators of type k, from 0, in their places: blanks at a line's end are mostly cut.
+/// Puts the two indicators of type k, from 0, in their places. They are blank where the line ends before them.
 #[inline(always)]
 fn put_indicators(line: &[u8], k: usize, flags: &mut [u8])
     requires few { k < TYPES_LIMIT }

@@ -4,7 +4,7 @@ ghost use Rattle.std.specs.Prelude.{◌≡◌, None};
 ghost use Rattle.crx_compact.specs.OpenEpochs.ColumnsState.{Idle};
 
 use crate::owned::Owned;
-use crate::rinex::types_of;
+use crate::rinex::{ONE_TYPE, TWO_TYPES, types_of};
 use crx_compact::Columns;
 use crx_rinex::{Epoch, Head, Types};
 use crx_text::Fault;
@@ -20,10 +20,6 @@ fn no_columns(alloc: Global) -> Owned<Columns>
 {
     Owned::of(Columns::new(alloc))
 }
-
-/// The line that declares one type of GPS.
-const ONE_TYPE: &[u8] =
-    b"G    1 C1C                                                  SYS / # / OBS TYPES";
 
 /// The epoch of RINEX lines that are separated by `|`.
 fn epoch_of(alloc: Global, types: &Types, lines: &str) -> Result<Owned<Epoch>, Fault> {

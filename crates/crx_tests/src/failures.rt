@@ -2,7 +2,7 @@
 
 ghost use Rattle.std.specs.Prelude.{◌≡◌, ◌<◌};
 
-use crate::expecting::expect_at;
+use crate::expecting::{expect, expect_at};
 use crate::texts::text;
 use crx_devices::{FailingSink, FailingSource, Plan, When};
 use crx_filter::{Options, Outcome, check, compact, expand};
@@ -29,6 +29,7 @@ enum Tool {
 /// A run over devices that don't fail, and what is written as its lines come.
 /// The texts are those of [`text`].
 struct Case {
+    name: &'static str,
     tool: Tool,
     skip: bool,
     input: &'static str,
@@ -116,13 +117,13 @@ struct Left {
     messages: FailingSink,
 }
 
-/// Runs a case's filter over these devices.
-fn run(alloc: Global, case: &Case, texts: &Texts, devices: Devices) -> Result<Left, Fail>
+/// Runs a filter over an input and these devices, with and without faults that are skipped.
+fn run(alloc: Global, tool: Tool, skip: bool, input: &[u8], devices: Devices) -> Result<Left, Fail>
     requires { 0 < devices.at_most }
 {
-    let options = Options::new(None, case.skip, b"D")?;
+    let options = Options::new(None, skip, b"D")?;
     let at_most = devices.at_most;
-    let mut source = FailingSource::new(texts.input.as_slice(), at_most, devices.reads);
+    let mut source = FailingSource::new(input, at_most, devices.reads);
     let mut writer = FailingSink::new(
         alloc,
         ROOM,
@@ -130,8 +131,8 @@ fn run(alloc: Global, case: &Case, texts: &Texts, devices: Devices) -> Result<Le
         devices.writes,
         devices.flushes,
     )?;
-    let mut messages = sink(alloc, at_most, devices.reports)?;
-    let outcome = match case.tool {
+    let mut messages = FailingSink::new(alloc, ROOM, at_most, devices.reports, Plan::never())?;
+    let outcome = match tool {
         Tool::Compact => compact(alloc, &mut source, &mut writer, &mut messages, options),
         Tool::Expand => expand(alloc, &mut source, &mut writer, &mut messages, options),
         Tool::Check => check(alloc, &mut source, &mut writer, &mut messages),
@@ -143,9 +144,22 @@ fn run(alloc: Global, case: &Case, texts: &Texts, devices: Devices) -> Result<Le
     })
 }
 
-/// A sink that takes so many bytes a call, and whose writes fail by this plan.
-fn sink(alloc: Global, at_most: usize, writes: Plan) -> Result<FailingSink, AllocError> {
-    FailingSink::new(alloc, ROOM, at_most, writes, Plan::never())
+/// Runs a case over these devices.
+fn run_case(alloc: Global, case: &Case, texts: &Texts, devices: Devices) -> Result<Left, Fail>
+    requires { 0 < devices.at_most }
+{
+    run(alloc, case.tool, case.skip, texts.input.as_slice(), devices)
+}
+
+/// How many lines end within the first bytes of a text.
+fn lines_within(text: &[u8], bytes: usize) -> usize {
+    let mut lines: usize = 0;
+    for byte in text.iter().take(bytes) {
+        if *byte == b'\n' {
+            lines = lines.saturating_add(1);
+        }
+    }
+    lines
 }
 
 /// The outcome of a run that a fault ended.

@@ -7,6 +7,15 @@ use std::alloc::Global;
 use std::process::Abort;
 use std::test::Fail;
 
+/// The length of the next line, if there is one; of a fault the greatest number.
+fn next_length(lines: &mut LineReader, reader: &mut Std<&[u8]>) -> Option<usize> {
+    match lines.next_line(reader) {
+        Ok(Some(line)) => Some(line.bytes().len()),
+        Ok(None) => None,
+        Err(_) => Some(usize::MAX),
+    }
+}
+
 /// Expects that a text has lines of these lengths, and no others.
 fn expect_lengths(
     rt: &impl Abort,
@@ -17,11 +26,11 @@ fn expect_lengths(
     let mut reader = Std::new(bytes);
     let mut lines = LineReader::new(alloc)?;
     for length in lengths {
-        let line = lines.next_line(&mut reader);
-        let is_so = matches!(line, Ok(Some(line)) if line.bytes().len() == *length);
-        expect_at(rt, is_so, "a line of bytes:", *length);
+        let next = next_length(&mut lines, &mut reader);
+        expect_at(rt, next == Some(*length), "a line of bytes:", *length);
     }
-    assert!(rt; matches!(lines.next_line(&mut reader), Ok(None)));
+    let last = next_length(&mut lines, &mut reader);
+    expect_at(rt, last.is_none(), "no line after bytes:", bytes.len());
     Ok(())
 }
 

@@ -4,7 +4,7 @@ use crate::expecting::expect_at;
 use crx_devices::{FailingSource, Plan, When};
 use crx_lines::limits::LINE_LIMIT;
 use crx_text::{At, Fault, Line, LineReader, Source, Std};
-use std::alloc::Global;
+use std::alloc::{AllocError, Global};
 use std::process::Abort;
 use std::test::Fail;
 
@@ -44,41 +44,43 @@ fn expect_answers<R: Source>(
     Ok(())
 }
 
+/// Bytes, and the answers to calls one after another.
+const LINE_ENDS: &[(&[u8], &[Answer<'_>])] = &[
+    (b"", &[Answer::End, Answer::End]),
+    (
+        b"a\nbb\r\nc\r",
+        &[
+            Answer::Line(b"a", 1, true),
+            Answer::Line(b"bb", 2, false),
+            Answer::Line(b"c", 3, false),
+            Answer::End,
+            Answer::End,
+        ],
+    ),
+    (b"\r", &[Answer::Line(b"", 1, false), Answer::End]),
+    (
+        b"\n\n",
+        &[
+            Answer::Line(b"", 1, true),
+            Answer::Line(b"", 2, true),
+            Answer::End,
+        ],
+    ),
+    (
+        b"x\r\r\ny",
+        &[
+            Answer::Line(b"x\r", 1, false),
+            Answer::Line(b"y", 2, false),
+            Answer::End,
+        ],
+    ),
+    (b"last", &[Answer::Line(b"last", 1, false), Answer::End]),
+];
+
 #[test]
 fn reads_each_line_end(rt: HostRuntime) -> Result<(), Fail> {
-    let table: [(&[u8], &[Answer<'_>]); 6] = [
-        (b"", &[Answer::End, Answer::End]),
-        (
-            b"a\nbb\r\nc\r",
-            &[
-                Answer::Line(b"a", 1, true),
-                Answer::Line(b"bb", 2, false),
-                Answer::Line(b"c", 3, false),
-                Answer::End,
-                Answer::End,
-            ],
-        ),
-        (b"\r", &[Answer::Line(b"", 1, false), Answer::End]),
-        (
-            b"\n\n",
-            &[
-                Answer::Line(b"", 1, true),
-                Answer::Line(b"", 2, true),
-                Answer::End,
-            ],
-        ),
-        (
-            b"x\r\r\ny",
-            &[
-                Answer::Line(b"x\r", 1, false),
-                Answer::Line(b"y", 2, false),
-                Answer::End,
-            ],
-        ),
-        (b"last", &[Answer::Line(b"last", 1, false), Answer::End]),
-    ];
-    for (bytes, wanted) in table {
-        expect_answers(&rt, rt.alloc(), &mut Std::new(bytes), wanted)?;
+    for (bytes, wanted) in LINE_ENDS {
+        expect_answers(&rt, rt.alloc(), &mut Std::new(*bytes), wanted)?;
     }
     Ok(())
 }
@@ -97,22 +99,39 @@ fn stops_at_a_failed_read(rt: HostRuntime) -> Result<(), Fail> {
     Ok(())
 }
 
+/// Puts a line of one character after a text.
+fn push_line(
+    text: &mut Vec<u8>,
+    character: u8,
+    length: usize,
+    end: &[u8],
+) -> Result<(), AllocError> {
+    for _ in 0..length {
+        text.push(character)?;
+    }
+    text.extend_from_slice(end)
+}
+
+/// A line at the limit, two that are longer, and a short one.
+fn long_lines(alloc: Global) -> Result<Vec<u8>, AllocError> {
+    let mut text = Vec::new(alloc);
+    push_line(&mut text, b'x', LINE_LIMIT, b"\r\n")?;
+    push_line(&mut text, b'y', LINE_LIMIT.saturating_add(1), b"\n")?;
+    push_line(&mut text, b'y', 70_000, b"\n")?;
+    text.extend_from_slice(b"end")?;
+    Ok(text)
+}
+
 #[test]
 fn reports_lines_over_the_limit(rt: HostRuntime) -> Result<(), Fail> {
-    let mut bytes = vec![in rt.alloc(); b'x'; LINE_LIMIT]?;
-    bytes.extend_from_slice(b"\r\n")?;
-    for length in [LINE_LIMIT.saturating_add(1), 70_000] {
-        bytes.extend_from_slice(vec![in rt.alloc(); b'y'; length]?.as_slice())?;
-        bytes.push(b'\n')?;
-    }
-    bytes.extend_from_slice(b"end")?;
-    let whole = vec![in rt.alloc(); b'x'; LINE_LIMIT]?;
+    let text = long_lines(rt.alloc())?;
+    let bytes = text.as_slice();
     let wanted = [
-        Answer::Line(whole.as_slice(), 1, false),
+        Answer::Line(bytes.get(..LINE_LIMIT).unwrap_or(b""), 1, false),
         Answer::Fault(2, Fault::LineTooLong),
         Answer::Fault(3, Fault::LineTooLong),
         Answer::Line(b"end", 4, false),
         Answer::End,
     ];
-    expect_answers(&rt, rt.alloc(), &mut Std::new(bytes.as_slice()), &wanted)
+    expect_answers(&rt, rt.alloc(), &mut Std::new(bytes), &wanted)
 }

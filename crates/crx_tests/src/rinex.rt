@@ -15,10 +15,12 @@ use std::test::Fail;
 const VERSION: &[u8] =
     b"     3.04           OBSERVATION DATA    G                   RINEX VERSION / TYPE";
 
-const ONE_TYPE: &[u8] =
+/// The line that declares one type of GPS.
+pub const ONE_TYPE: &[u8] =
     b"G    1 C1C                                                  SYS / # / OBS TYPES";
 
-const TWO_TYPES: &[u8] =
+/// The line that declares two types of GPS.
+pub const TWO_TYPES: &[u8] =
     b"G    2 C1C L1C                                              SYS / # / OBS TYPES";
 
 const CONTINUATION: &[u8] =
@@ -271,22 +273,29 @@ fn epoch_with_clock(alloc: Global) -> Result<Owned<Epoch>, Fault> {
     Ok(Owned::of(Epoch::new(alloc, head)))
 }
 
+/// Whether an epoch takes two rows, and refuses the second one where it is the first one again.
+fn takes_two_rows(rt: &impl Abort, alloc: Global, epoch: &mut Epoch) -> bool {
+    let is_first = pushed(rt, alloc, epoch, *b"G01") == Ok(());
+    let is_repeated = pushed(rt, alloc, epoch, *b"G01") == Err(Fault::RepeatedSatellite);
+    let is_second = pushed(rt, alloc, epoch, *b"G 1") == Ok(());
+    is_first && is_repeated && is_second && epoch.row(2).is_none() && epoch.head().count() == 2
+}
+
+/// The lines of an epoch of these rows.
+const EPOCH_OF_ROWS: &[&[u8]] = &[
+    b"> 2024 01 01 00 00  0.0000000  0  2       0.000000000003",
+    b"G01",
+    b"G 1",
+];
+
 #[test]
 fn epochs_of_rows(rt: HostRuntime) -> Result<(), Fail> {
     let mut epoch = epoch_with_clock(rt.alloc())?;
-    assert!(rt; pushed(&rt, rt.alloc(), &mut epoch.value, *b"G01") == Ok(()));
-    assert!(rt;
-        pushed(&rt, rt.alloc(), &mut epoch.value, *b"G01") == Err(Fault::RepeatedSatellite)
-    );
-    assert!(rt; pushed(&rt, rt.alloc(), &mut epoch.value, *b"G 1") == Ok(()));
-    assert!(rt; epoch.value.is_full() && epoch.value.row(2).is_none());
-    assert_eq!(rt; epoch.value.head().count(), 2);
+    let is_so = takes_two_rows(&rt, rt.alloc(), &mut epoch.value);
+    expect(&rt, is_so, "two rows");
+    assert!(rt; epoch.value.is_full());
     let mut lines = Owned::of(Printed::new(epoch.into_value()));
-    let first: &[u8] = b"> 2024 01 01 00 00  0.0000000  0  2       0.000000000003";
-    expect(
-        &rt,
-        are_lines(&mut lines.value, &[first, b"G01", b"G 1"]),
-        shown(first),
-    );
+    let is_so = are_lines(&mut lines.value, EPOCH_OF_ROWS);
+    expect(&rt, is_so, "the lines of two rows");
     Ok(())
 }

@@ -3,6 +3,7 @@
 ghost use Rattle.std.specs.Prelude.{◌≡◌, ◌<◌};
 ghost use Rattle.crx_engine.specs.Engines.{taken_after};
 
+use crate::expecting::expect_at;
 use crate::texts::text;
 use crx_engine::{Options, Step};
 use crx_text::{At, Fault, Line, LineReader, Std};
@@ -14,15 +15,15 @@ mod compactor;
 mod expander;
 
 /// What is answered to a line, and how many lines are ready then; and the same where the line is to be fed once more.
-#[derive(Clone, Copy, Debug, PartialEq, Eq)]
 struct Answer {
     step: Step,
     ready: usize,
     again: Option<Step>,
 }
 
-/// A run of an engine: whether it skips, the lines of its input, the answers to them, and the fault of one more line.
+/// A run of an engine: its name, whether it skips, the lines of its input, the answers to them, and the fault of one more line.
 struct Run {
+    name: &'static str,
     skip: bool,
     lines: &'static str,
     answers: &'static [Answer],

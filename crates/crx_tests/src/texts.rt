@@ -1,42 +1,114 @@
-//! Texts of whole files, line by line.
+//! Texts of whole files, line by line, and the lines that several tests are about: each stands here once, under a name.
 
 use std::alloc::{AllocError, Global};
 
-/// A header of one system and one type.
-const HEADER: [&str; 3] = [
-    "     3.04           OBSERVATION DATA    G                   RINEX VERSION / TYPE",
-    "G    1 C1C                                                  SYS / # / OBS TYPES",
-    "                                                            END OF HEADER",
+/// Names in texts, and the lines that they stand for, with `|` between lines.
+const NAMED: &[(&str, &str)] = &[
+    // A header of one system and one type
+    (
+        "H",
+        "     3.04           OBSERVATION DATA    G                   RINEX VERSION / TYPE|G    1 C1C                                                  SYS / # / OBS TYPES|                                                            END OF HEADER",
+    ),
+    // The two lines before it in compact text, with the date `D`
+    (
+        "K",
+        "3.0                 COMPACT RINEX FORMAT                    CRINEX VERS   / TYPE|RNX2CRX profile 1.0                     D                   CRINEX PROG / DATE",
+    ),
+    // Five epochs
+    (
+        "R1",
+        "> 2024 01 01 00 00  0.0000000  0  1|G01  20000000.000",
+    ),
+    (
+        "R2",
+        "> 2024 01 01 00 00  1.0000000  0  1|G01  20000100.500",
+    ),
+    (
+        "R3",
+        "> 2024 01 01 00 00  2.0000000  0  1|G01  20000202.000",
+    ),
+    (
+        "R4",
+        "> 2024 01 01 00 00  3.0000000  0  1|G01  20000304.500",
+    ),
+    (
+        "R5",
+        "> 2024 01 01 00 00  4.0000000  0  1|G01  20000408.000",
+    ),
+    // The second one with a bad indicator
+    (
+        "B2",
+        "> 2024 01 01 00 00  1.0000000  0  1|G01  20000100.500&",
+    ),
+    // The compact lines of three of them in full
+    (
+        "F1",
+        "> 2024 01 01 00 00  0.0000000  0  1      G01||3&20000000000",
+    ),
+    (
+        "F2",
+        "> 2024 01 01 00 00  1.0000000  0  1      G01||3&20000100500",
+    ),
+    (
+        "F3",
+        "> 2024 01 01 00 00  2.0000000  0  1      G01||3&20000202000",
+    ),
+    // The compact lines of each one after those before it
+    ("D2", "                    1||100500"),
+    ("D3", "                    2||1000"),
+    ("D4", "                    3||0"),
+    ("D5", "                    4||0"),
+    // Types that change in an event, and their compact lines
+    (
+        "RT",
+        "> 2024 01 01 00 00  0.0000000  0  1|G01         1.000|> 2024 01 01 00 00  1.0000000  4  1|G    2 C1C L1C                                              SYS / # / OBS TYPES|> 2024 01 01 00 00  2.0000000  0  1|G01         3.000          12.500",
+    ),
+    (
+        "CT",
+        "> 2024 01 01 00 00  0.0000000  0  1      G01||3&1000|> 2024 01 01 00 00  1.0000000  4  1|G    2 C1C L1C                                              SYS / # / OBS TYPES|> 2024 01 01 00 00  2.0000000  0  1      G01||3&3000 3&12500",
+    ),
+    // The compact lines of three epochs with a satellite that is absent in the second one
+    (
+        "A1",
+        "> 2024 01 01 00 00  0.0000000  0  2      G01G02||3&1000|3&5000  7",
+    ),
+    (
+        "A2",
+        "                    1             1         &&&||1000",
+    ),
+    (
+        "A3",
+        "                    2             2         G02||0|3&7000  7",
+    ),
 ];
 
-/// The two lines before it in compact text, with the date `D`.
-const FIRST_LINES: [&str; 2] = [
-    "3.0                 COMPACT RINEX FORMAT                    CRINEX VERS   / TYPE",
-    "RNX2CRX profile 1.0                     D                   CRINEX PROG / DATE",
-];
+/// The lines that a name stands for, with `|` between them; what is no name stands for itself.
+pub fn lines_of<'a>(name: &'a str) -> &'a str {
+    for (known, lines) in NAMED {
+        if *known == name {
+            return lines;
+        }
+    }
+    name
+}
 
 /// Puts lines after a text, LF after each.
-fn push_lines(text: &mut Vec<u8>, lines: &[&str]) -> Result<(), AllocError> {
-    for line in lines {
+fn push_lines(text: &mut Vec<u8>, lines: &str) -> Result<(), AllocError> {
+    for line in lines.split('|') {
         text.extend_from_slice(line.as_bytes())?;
         text.push(b'\n')?;
     }
     Ok(())
 }
 
-/// The text of lines that are separated by `|`: each ends with LF, and no lines are no text. `H` stands for the header, `K` for the
-/// two lines before it.
-pub fn text(alloc: Global, lines: &str) -> Result<Vec<u8>, AllocError> {
+/// The text of lines and of names of lines that are separated by `|`: each line ends with LF, and no lines are no text.
+pub fn text(alloc: Global, names: &str) -> Result<Vec<u8>, AllocError> {
     let mut text = Vec::new(alloc);
-    if lines.is_empty() {
+    if names.is_empty() {
         return Ok(text);
     }
-    for line in lines.split('|') {
-        match line {
-            "H" => push_lines(&mut text, &HEADER)?,
-            "K" => push_lines(&mut text, &FIRST_LINES)?,
-            _ => push_lines(&mut text, &[line])?,
-        }
+    for name in names.split('|') {
+        push_lines(&mut text, lines_of(name))?;
     }
     Ok(text)
 }

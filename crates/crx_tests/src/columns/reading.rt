@@ -5,9 +5,9 @@ ghost use Rattle.std.specs.Prelude.{◌≡◌, ◌≤◌, length, false};
 ghost use Rattle.crx_lines.specs.declared.limits.TheConstants.{LINE_LIMIT};
 ghost use Rattle.crx_rinex.specs.meaning.EpochLines.{is_event_line};
 
-use super::cases::{Table, both_ways, read_alone};
+use super::cases::{Table, both_forms, both_ways, read_alone};
 use super::*;
-use crate::expecting::expect;
+use crate::expecting::{expect, expect_at};
 use crx_compact::read_back::read_back;
 use crx_lines::limits::LINE_LIMIT;
 use crx_rinex::{Printed, is_event_line};
@@ -68,42 +68,34 @@ fn prints(given: Option<Owned<Epoch>>, want: &str) -> bool {
 }
 
 /// Whether compact lines are read as the epoch that has these RINEX lines.
-fn is_read(
-    columns: &mut Columns,
-    types: &Types,
-    compact: &str,
-    rinex: &str,
-) -> Result<bool, Fault> {
-    let given = take_all(columns, types, compact)?;
-    Ok(prints(given, rinex) && columns.is_idle())
+fn is_read(columns: &mut Columns, types: &Types, compact: &str, rinex: &str) -> bool {
+    match take_all(columns, types, compact) {
+        Ok(given) => prints(given, rinex) && columns.is_idle(),
+        Err(_) => false,
+    }
 }
 
 /// Expects that the epochs of a table are read, one after another.
-fn expect_read(
-    rt: &impl Abort,
-    columns: &mut Columns,
-    types: &Types,
-    table: &Table,
-) -> Result<(), Fail> {
-    for (_, rinex, compact) in table.1 {
-        let is_so = is_read(columns, types, compact, rinex)?;
-        expect(rt, is_so, rinex);
+fn expect_read(rt: &impl Abort, alloc: Global, types: &Types, table: &Table) {
+    let mut owner = no_columns(alloc);
+    for (place, epoch) in table.epochs.iter().enumerate() {
+        let (rinex, compact) = both_forms(epoch);
+        let is_so = is_read(&mut owner.value, types, compact, rinex);
+        expect_at(rt, is_so, table.shows, place);
     }
-    Ok(())
 }
 
 #[test]
 fn epochs_read(rt: HostRuntime) -> Result<(), Fail> {
     let types = types_of(rt.alloc(), ONE_TYPE)?;
-    for table in both_ways().iter().chain(read_alone()) {
-        let mut owner = no_columns(rt.alloc());
-        expect_read(&rt, &mut owner.value, &types.value, table)?;
+    for table in both_ways() {
+        expect_read(&rt, rt.alloc(), &types.value, table);
+    }
+    for table in read_alone() {
+        expect_read(&rt, rt.alloc(), &types.value, table);
     }
     Ok(())
 }
-
-const TWO_TYPES: &[u8] =
-    b"G    2 C1C L1C                                              SYS / # / OBS TYPES";
 
 /// Two types with indicators, then one of them, and then both again: the line that declares the types, the compact lines of an epoch, and
 /// its RINEX lines. Past the count of a line, what was kept of cells and indicators is dropped.
@@ -130,20 +122,36 @@ const OTHER_COUNTS: &[(&[u8], &str, &str)] = &[
     ),
 ];
 
+/// Whether compact lines are read as an epoch, with the types that a line declares.
+fn is_read_with(
+    alloc: Global,
+    columns: &mut Columns,
+    line: &[u8],
+    compact: &str,
+    rinex: &str,
+) -> bool {
+    match types_of(alloc, line) {
+        Ok(types) => is_read(columns, &types.value, compact, rinex),
+        Err(_) => false,
+    }
+}
+
+/// Whether compact lines are refused with two types, since an arc isn't begun.
+fn is_without_arc(alloc: Global, columns: &mut Columns, compact: &str) -> bool {
+    match types_of(alloc, TWO_TYPES) {
+        Ok(types) => matches!(take_all(columns, &types.value, compact), Err(Fault::NoArc)),
+        Err(_) => false,
+    }
+}
+
 #[test]
-fn other_counts_of_types(rt: HostRuntime) -> Result<(), Fail> {
+fn other_counts_of_types(rt: HostRuntime) {
     let mut owner = no_columns(rt.alloc());
     for (line, compact, rinex) in OTHER_COUNTS {
-        let types = types_of(rt.alloc(), line)?;
-        let is_so = is_read(&mut owner.value, &types.value, compact, rinex)?;
+        let is_so = is_read_with(rt.alloc(), &mut owner.value, line, compact, rinex);
         expect(&rt, is_so, rinex);
     }
-    let types = types_of(rt.alloc(), TWO_TYPES)?;
     let past = "                    4||3&1 5000";
-    let is_no_arc = matches!(
-        take_all(&mut owner.value, &types.value, past),
-        Err(Fault::NoArc)
-    );
-    expect(&rt, is_no_arc, "an arc past the count of the line before");
-    Ok(())
+    let is_so = is_without_arc(rt.alloc(), &mut owner.value, past);
+    expect(&rt, is_so, "an arc past the count of the line before");
 }

@@ -1,8 +1,8 @@
 //! Epochs to compact lines.
 
-use super::cases::{Case, Table, both_ways};
+use super::cases::{Table, both_forms, both_ways};
 use super::*;
-use crate::expecting::expect;
+use crate::expecting::expect_at;
 use crx_compact::Coded;
 use crx_history::lines::Lines;
 use std::process::Abort;
@@ -18,53 +18,51 @@ fn are_next(coded: &mut Coded, lines: &str) -> bool {
     coded.next_line().is_none()
 }
 
-/// Whether the compact lines of an epoch are those of its case.
+/// Whether an epoch, in full or not, has these compact lines.
 fn is_encoded(
     alloc: Global,
     columns: &mut Columns,
     types: &Types,
-    case: &Case,
-) -> Result<bool, Fault> {
-    let (full, rinex, compact) = *case;
-    let epoch = epoch_of(alloc, types, rinex)?;
+    full: bool,
+    rinex: &str,
+    compact: &str,
+) -> bool {
+    let Ok(epoch) = epoch_of(alloc, types, rinex) else {
+        return false;
+    };
     if !epoch.value.is_full() || !columns.is_idle() {
-        return Ok(false);
+        return false;
     }
     match columns.encode(epoch.into_value(), full) {
         Ok(coded) => {
             let mut coded = Owned::of(coded);
             let is_so = are_next(&mut coded.value, compact);
             let _ = Owned::of(columns.take_back(coded.into_value()));
-            Ok(is_so)
+            is_so
         }
-        Err((epoch, fault)) => {
+        Err((epoch, _)) => {
             let _ = Owned::of(epoch);
-            Err(fault)
+            false
         }
     }
 }
 
 /// Expects that the epochs of a table, one after another, have their compact lines.
-fn expect_encoded(
-    rt: &impl Abort,
-    alloc: Global,
-    columns: &mut Columns,
-    types: &Types,
-    table: &Table,
-) -> Result<(), Fail> {
-    for case in table.1 {
-        let is_so = is_encoded(alloc, columns, types, case)?;
-        expect(rt, is_so, case.1);
+fn expect_encoded(rt: &impl Abort, alloc: Global, types: &Types, table: &Table) {
+    let mut owner = no_columns(alloc);
+    for (place, epoch) in table.epochs.iter().enumerate() {
+        let (rinex, compact) = both_forms(epoch);
+        let full = table.is_full(place);
+        let is_so = is_encoded(alloc, &mut owner.value, types, full, rinex, compact);
+        expect_at(rt, is_so, table.shows, place);
     }
-    Ok(())
 }
 
 #[test]
 fn epochs_encoded(rt: HostRuntime) -> Result<(), Fail> {
     let types = types_of(rt.alloc(), ONE_TYPE)?;
     for table in both_ways() {
-        let mut owner = no_columns(rt.alloc());
-        expect_encoded(&rt, rt.alloc(), &mut owner.value, &types.value, table)?;
+        expect_encoded(&rt, rt.alloc(), &types.value, table);
     }
     Ok(())
 }

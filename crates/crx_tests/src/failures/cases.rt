@@ -3,12 +3,12 @@
 use super::*;
 
 const CASES: &[Case] = &[
-    // Third differences
     Case {
+        name: "third differences",
         tool: Tool::Compact,
         skip: false,
-        input: "H|> 2024 01 01 00 00  0.0000000  0  1|G01  20000000.000|> 2024 01 01 00 00  1.0000000  0  1|G01  20000100.500|> 2024 01 01 00 00  2.0000000  0  1|G01  20000202.000|> 2024 01 01 00 00  3.0000000  0  1|G01  20000304.500|> 2024 01 01 00 00  4.0000000  0  1|G01  20000408.000",
-        output: "K|H|> 2024 01 01 00 00  0.0000000  0  1      G01||3&20000000000|                    1||100500|                    2||1000|                    3||0|                    4||0",
+        input: "H|R1|R2|R3|R4|R5",
+        output: "K|H|F1|D2|D3|D4|D5",
         messages: "",
         after: &[0, 3, 4, 5, 5, 8, 8, 11, 11, 14, 14, 17, 17, 20],
         warned_at: None,
@@ -17,12 +17,12 @@ const CASES: &[Case] = &[
             fault: None,
         },
     },
-    // Types that change in an event
     Case {
+        name: "types that change in an event",
         tool: Tool::Compact,
         skip: false,
-        input: "H|> 2024 01 01 00 00  0.0000000  0  1|G01         1.000|> 2024 01 01 00 00  1.0000000  4  1|G    2 C1C L1C                                              SYS / # / OBS TYPES|> 2024 01 01 00 00  2.0000000  0  1|G01         3.000          12.500",
-        output: "K|H|> 2024 01 01 00 00  0.0000000  0  1      G01||3&1000|> 2024 01 01 00 00  1.0000000  4  1|G    2 C1C L1C                                              SYS / # / OBS TYPES|> 2024 01 01 00 00  2.0000000  0  1      G01||3&3000 3&12500",
+        input: "H|RT",
+        output: "K|H|CT",
         messages: "",
         after: &[0, 3, 4, 5, 5, 8, 9, 10, 10, 13],
         warned_at: None,
@@ -31,12 +31,12 @@ const CASES: &[Case] = &[
             fault: None,
         },
     },
-    // A bad indicator
     Case {
+        name: "a bad indicator",
         tool: Tool::Compact,
         skip: false,
-        input: "H|> 2024 01 01 00 00  0.0000000  0  1|G01  20000000.000|> 2024 01 01 00 00  1.0000000  0  1|G01  20000100.500&|> 2024 01 01 00 00  2.0000000  0  1|G01  20000202.000|> 2024 01 01 00 00  3.0000000  0  1|G01  20000304.500|> 2024 01 01 00 00  4.0000000  0  1|G01  20000408.000",
-        output: "K|H|> 2024 01 01 00 00  0.0000000  0  1      G01||3&20000000000",
+        input: "H|R1|B2|R3|R4|R5",
+        output: "K|H|F1",
         messages: "ERROR line 7 code 18: bad indicator",
         after: &[0, 3, 4, 5, 5, 8, 8, 8, 8, 8, 8, 8, 8, 8],
         warned_at: None,
@@ -48,12 +48,12 @@ const CASES: &[Case] = &[
             }),
         },
     },
-    // A bad indicator, skipped
     Case {
+        name: "a bad indicator, skipped",
         tool: Tool::Compact,
         skip: true,
-        input: "H|> 2024 01 01 00 00  0.0000000  0  1|G01  20000000.000|> 2024 01 01 00 00  1.0000000  0  1|G01  20000100.500&|> 2024 01 01 00 00  2.0000000  0  1|G01  20000202.000|> 2024 01 01 00 00  3.0000000  0  1|G01  20000304.500|> 2024 01 01 00 00  4.0000000  0  1|G01  20000408.000",
-        output: "K|H|> 2024 01 01 00 00  0.0000000  0  1      G01||3&20000000000|> 2024 01 01 00 00  2.0000000  0  1      G01||3&20000202000|                    3||102500|                    4||1000",
+        input: "H|R1|B2|R3|R4|R5",
+        output: "K|H|F1|F3|                    3||102500|                    4||1000",
         messages: "WARNING line 7 code 18: bad indicator",
         after: &[0, 3, 4, 5, 5, 8, 8, 8, 8, 11, 11, 14, 14, 17],
         warned_at: Some(7),
@@ -62,8 +62,8 @@ const CASES: &[Case] = &[
             fault: None,
         },
     },
-    // An epoch without satellites
     Case {
+        name: "an epoch without satellites",
         tool: Tool::Compact,
         skip: false,
         input: "H|> 2024 01 01 00 00  0.0000000  0  0",
@@ -76,8 +76,8 @@ const CASES: &[Case] = &[
             fault: None,
         },
     },
-    // A line that gives two warnings
     Case {
+        name: "a line that gives two warnings",
         tool: Tool::Compact,
         skip: true,
         input: "H|> 2024 01 01 00 00  0.0000000  0  1|>|> 2024 01 01 00 00  1.0000000  0  1|G01         1.000",
@@ -90,12 +90,12 @@ const CASES: &[Case] = &[
             fault: None,
         },
     },
-    // Third differences, back
     Case {
+        name: "third differences, back",
         tool: Tool::Expand,
         skip: false,
-        input: "K|H|> 2024 01 01 00 00  0.0000000  0  1      G01||3&20000000000|                    1||100500|                    2||1000|                    3||0|                    4||0",
-        output: "H|> 2024 01 01 00 00  0.0000000  0  1|G01  20000000.000|> 2024 01 01 00 00  1.0000000  0  1|G01  20000100.500|> 2024 01 01 00 00  2.0000000  0  1|G01  20000202.000|> 2024 01 01 00 00  3.0000000  0  1|G01  20000304.500|> 2024 01 01 00 00  4.0000000  0  1|G01  20000408.000",
+        input: "K|H|F1|D2|D3|D4|D5",
+        output: "H|R1|R2|R3|R4|R5",
         messages: "",
         after: &[
             0, 0, 0, 1, 2, 3, 3, 3, 5, 5, 5, 7, 7, 7, 9, 9, 9, 11, 11, 11, 13,
@@ -106,12 +106,12 @@ const CASES: &[Case] = &[
             fault: None,
         },
     },
-    // Types that change in an event, back
     Case {
+        name: "types that change in an event, back",
         tool: Tool::Expand,
         skip: false,
-        input: "K|H|> 2024 01 01 00 00  0.0000000  0  1      G01||3&1000|> 2024 01 01 00 00  1.0000000  4  1|G    2 C1C L1C                                              SYS / # / OBS TYPES|> 2024 01 01 00 00  2.0000000  0  1      G01||3&3000 3&12500",
-        output: "H|> 2024 01 01 00 00  0.0000000  0  1|G01         1.000|> 2024 01 01 00 00  1.0000000  4  1|G    2 C1C L1C                                              SYS / # / OBS TYPES|> 2024 01 01 00 00  2.0000000  0  1|G01         3.000          12.500",
+        input: "K|H|CT",
+        output: "H|RT",
         messages: "",
         after: &[0, 0, 0, 1, 2, 3, 3, 3, 5, 6, 7, 7, 7, 9],
         warned_at: None,
@@ -120,12 +120,12 @@ const CASES: &[Case] = &[
             fault: None,
         },
     },
-    // A full epoch after a warning, back
     Case {
+        name: "a full epoch after a warning, back",
         tool: Tool::Expand,
         skip: false,
-        input: "K|H|> 2024 01 01 00 00  0.0000000  0  1      G01||3&20000000000|> 2024 01 01 00 00  2.0000000  0  1      G01||3&20000202000|                    3||102500|                    4||1000",
-        output: "H|> 2024 01 01 00 00  0.0000000  0  1|G01  20000000.000|> 2024 01 01 00 00  2.0000000  0  1|G01  20000202.000|> 2024 01 01 00 00  3.0000000  0  1|G01  20000304.500|> 2024 01 01 00 00  4.0000000  0  1|G01  20000408.000",
+        input: "K|H|F1|F3|                    3||102500|                    4||1000",
+        output: "H|R1|R3|R4|R5",
         messages: "",
         after: &[0, 0, 0, 1, 2, 3, 3, 3, 5, 5, 5, 7, 7, 7, 9, 9, 9, 11],
         warned_at: None,
@@ -134,8 +134,8 @@ const CASES: &[Case] = &[
             fault: None,
         },
     },
-    // Epochs without satellites, back
     Case {
+        name: "epochs without satellites, back",
         tool: Tool::Expand,
         skip: false,
         input: "K|H|> 2024 01 01 00 00  0.0000000  0  0|||",
@@ -148,8 +148,8 @@ const CASES: &[Case] = &[
             fault: None,
         },
     },
-    // An arc across an event, back
     Case {
+        name: "an arc across an event, back",
         tool: Tool::Expand,
         skip: false,
         input: "K|H|> 2024 01 01 00 00  0.0000000  0  1      G01||3&1000|> 2024 01 01 00 00  1.0000000  4  1|                                                            COMMENT|                    2||500",
@@ -162,11 +162,11 @@ const CASES: &[Case] = &[
             fault: None,
         },
     },
-    // A check
     Case {
+        name: "a check",
         tool: Tool::Check,
         skip: false,
-        input: "H|> 2024 01 01 00 00  0.0000000  0  1|G01  20000000.000|> 2024 01 01 00 00  1.0000000  0  1|G01  20000100.500|> 2024 01 01 00 00  2.0000000  0  1|G01  20000202.000|> 2024 01 01 00 00  3.0000000  0  1|G01  20000304.500|> 2024 01 01 00 00  4.0000000  0  1|G01  20000408.000",
+        input: "H|R1|R2|R3|R4|R5",
         output: "format 3.04|systems G 1|epochs 5|events 0|observations 5|standard yes",
         messages: "",
         after: &[0; 14],
@@ -176,11 +176,11 @@ const CASES: &[Case] = &[
             fault: None,
         },
     },
-    // A check of a bad indicator
     Case {
+        name: "a check of a bad indicator",
         tool: Tool::Check,
         skip: false,
-        input: "H|> 2024 01 01 00 00  0.0000000  0  1|G01  20000000.000|> 2024 01 01 00 00  1.0000000  0  1|G01  20000100.500&|> 2024 01 01 00 00  2.0000000  0  1|G01  20000202.000|> 2024 01 01 00 00  3.0000000  0  1|G01  20000304.500|> 2024 01 01 00 00  4.0000000  0  1|G01  20000408.000",
+        input: "H|R1|B2|R3|R4|R5",
         output: "",
         messages: "ERROR line 7 code 18: bad indicator",
         after: &[0; 14],

@@ -29,17 +29,23 @@ fn is_so(case: &Case, texts: &Texts, left: &Left, taken: usize) -> bool {
     }
 }
 
+/// A writer of messages that fails after so many bytes.
+fn fails_after(alloc: Global, case: &Case, texts: &Texts, taken: usize) -> Result<bool, Fail> {
+    let devices = Devices {
+        reports: Plan::from_then_on(When::AfterBytes(taken)),
+        ..good(ROOM)
+    };
+    let left = run_case(alloc, case, texts, devices)?;
+    Ok(is_so(case, texts, &left, taken))
+}
+
 #[test]
 fn each_message_fails(rt: HostRuntime) -> Result<(), Fail> {
-    for (place, case) in cases().iter().enumerate() {
+    for case in cases() {
         let texts = Texts::of(rt.alloc(), case)?;
         for taken in 0..texts.messages.len() {
-            let devices = Devices {
-                reports: Plan::from_then_on(When::AfterBytes(taken)),
-                ..good(ROOM)
-            };
-            let left = run(rt.alloc(), case, &texts, devices)?;
-            expect_at(&rt, is_so(case, &texts, &left, taken), "case", place);
+            let is_so = fails_after(rt.alloc(), case, &texts, taken)?;
+            expect_at(&rt, is_so, case.name, taken);
         }
     }
     Ok(())

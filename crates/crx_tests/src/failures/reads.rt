@@ -3,15 +3,6 @@
 use super::cases::cases;
 use super::*;
 
-/// How many lines were given whole.
-fn lines_in(bytes: &[u8], given: usize) -> usize {
-    bytes
-        .iter()
-        .take(given)
-        .filter(|byte| **byte == b'\n')
-        .count()
-}
-
 /// Whether a run ended with the failed read after so many lines, or before it as the case does.
 fn has_stopped(alloc: Global, case: &Case, left: &Left, lines: u64) -> Result<bool, Fail> {
     if matches!(case.outcome.fault, Some(at) if at.line <= lines) {
@@ -31,8 +22,8 @@ fn fails_after(alloc: Global, case: &Case, texts: &Texts, given: usize) -> Resul
         reads: Plan::from_then_on(When::AfterBytes(given)),
         ..good(1)
     };
-    let left = run(alloc, case, texts, devices)?;
-    let lines = lines_in(texts.input.as_slice(), given);
+    let left = run_case(alloc, case, texts, devices)?;
+    let lines = lines_within(texts.input.as_slice(), given);
     let has_stopped = has_stopped(alloc, case, &left, lines as u64)?;
     Ok(
         has_stopped
@@ -43,11 +34,11 @@ fn fails_after(alloc: Global, case: &Case, texts: &Texts, given: usize) -> Resul
 
 #[test]
 fn each_read_fails(rt: HostRuntime) -> Result<(), Fail> {
-    for case in cases().iter() {
+    for case in cases() {
         let texts = Texts::of(rt.alloc(), case)?;
         for given in 0..texts.input.len() {
             let is_so = fails_after(rt.alloc(), case, &texts, given)?;
-            expect_at(&rt, is_so, case.input, given);
+            expect_at(&rt, is_so, case.name, given);
         }
     }
     Ok(())

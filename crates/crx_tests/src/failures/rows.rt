@@ -1,128 +1,141 @@
 //! Single failures, with what is written and reported typed out.
 
+ghost use Rattle.std.specs.Prelude.{◌<◌};
+
 use super::*;
 
-const FIVE_EPOCHS: &str =
-    "H|> 2024 01 01 00 00  0.0000000  0  1|G01  20000000.000|> 2024 01 01 00 00  1.0000000  0  1|G01  20000100.500|> 2024 01 01 00 00  2.0000000  0  1|G01  20000202.000|> 2024 01 01 00 00  3.0000000  0  1|G01  20000304.500|> 2024 01 01 00 00  4.0000000  0  1|G01  20000408.000";
-
-const BAD_INDICATOR: &str =
-    "H|> 2024 01 01 00 00  0.0000000  0  1|G01  20000000.000|> 2024 01 01 00 00  1.0000000  0  1|G01  20000100.500&|> 2024 01 01 00 00  2.0000000  0  1|G01  20000202.000|> 2024 01 01 00 00  3.0000000  0  1|G01  20000304.500|> 2024 01 01 00 00  4.0000000  0  1|G01  20000408.000";
-
-const FIRST_EPOCH: &str = "K|H|> 2024 01 01 00 00  0.0000000  0  1      G01||3&20000000000";
-
-/// A compaction, the plans of its devices, and what it leaves.
-#[derive(Drop)]
-struct Row {
-    input: &'static str,
-    skip: bool,
-    reads: Plan,
-    writes: Plan,
-    reports: Plan,
-    output: &'static [u8],
-    lines: &'static str,
-    messages: &'static str,
-    outcome: Outcome,
+/// The device that fails, after so many bytes.
+enum Failing {
+    Reader(usize),
+    Writer(usize),
+    Messages(usize),
 }
 
-/// Whether a row is as it is to be: the output is the text of these lines, or these bytes.
+/// A compaction over a device that fails, and what it leaves.
+struct Row {
+    name: &'static str,
+    input: &'static str,
+    skip: bool,
+    failing: Failing,
+    /// The lines that are written, and the bytes after them.
+    lines: &'static str,
+    output: &'static [u8],
+    messages: &'static str,
+    at: At,
+}
+
+/// Devices of which one fails: a reader that gives one byte a call, and the others.
+fn devices(failing: &Failing) -> Devices
+    ensures { 0 < result.at_most }
+{
+    let good = Devices {
+        written_at_most: ROOM,
+        ..good(1)
+    };
+    match failing {
+        Failing::Reader(given) => Devices {
+            reads: Plan::from_then_on(When::AfterBytes(*given)),
+            ..good
+        },
+        Failing::Writer(taken) => Devices {
+            writes: Plan::from_then_on(When::AfterBytes(*taken)),
+            ..good
+        },
+        Failing::Messages(taken) => Devices {
+            reports: Plan::from_then_on(When::AfterBytes(*taken)),
+            ..good
+        },
+    }
+}
+
+/// Whether a row is as it is to be.
 fn passes(alloc: Global, row: &Row) -> Result<bool, Fail> {
     let input = text(alloc, row.input)?;
     let mut output = text(alloc, row.lines)?;
     output.extend_from_slice(row.output)?;
     let reported = text(alloc, row.messages)?;
-    let mut source = FailingSource::new(input.as_slice(), 1, row.reads);
-    let mut writer = sink(alloc, ROOM, row.writes)?;
-    let mut messages = sink(alloc, ROOM, row.reports)?;
-    let options = Options::new(None, row.skip, b"D")?;
-    let outcome = compact(alloc, &mut source, &mut writer, &mut messages, options);
+    let devices = devices(&row.failing);
+    let left = run(alloc, Tool::Compact, row.skip, input.as_slice(), devices)?;
     Ok(
-        outcome == row.outcome
-            && writer.contents() == output.as_slice()
-            && messages.contents() == reported.as_slice(),
+        left.outcome == ended(row.at)
+            && left.writer.contents() == output.as_slice()
+            && left.messages.contents() == reported.as_slice(),
     )
 }
 
+const ROWS: &[Row] = &[
+    // Three header lines of 81, 80 and 74 bytes, two epochs of 36 and 18
+    Row {
+        name: "the reader fails after line 7 and its LF",
+        input: "H|R1|R2|R3|R4|R5",
+        skip: false,
+        failing: Failing::Reader(343),
+        lines: "K|H|F1|D2",
+        output: b"",
+        messages: "ERROR line 8 code 20: read failed",
+        at: At {
+            line: 8,
+            fault: Fault::ReadFailed,
+        },
+    },
+    Row {
+        name: "the reader fails after the first 3 bytes of line 7",
+        input: "H|R1|R2|R3|R4|R5",
+        skip: false,
+        failing: Failing::Reader(328),
+        lines: "K|H|F1",
+        output: b"",
+        messages: "ERROR line 7 code 20: read failed",
+        at: At {
+            line: 7,
+            fault: Fault::ReadFailed,
+        },
+    },
+    Row {
+        name: "the writer fails after 30 bytes",
+        input: "H",
+        skip: false,
+        failing: Failing::Writer(30),
+        lines: "",
+        output: b"3.0                 COMPACT RI",
+        messages: "ERROR line 1 code 21: write failed",
+        at: At {
+            line: 1,
+            fault: Fault::WriteFailed,
+        },
+    },
+    Row {
+        name: "a warning can't be written",
+        input: "H|R1|B2|R3|R4|R5",
+        skip: true,
+        failing: Failing::Messages(0),
+        lines: "K|H|F1",
+        output: b"",
+        messages: "",
+        at: At {
+            line: 7,
+            fault: Fault::WriteFailed,
+        },
+    },
+    Row {
+        name: "the message of a fault can't be written",
+        input: "H|R1|B2|R3|R4|R5",
+        skip: false,
+        failing: Failing::Messages(0),
+        lines: "K|H|F1",
+        output: b"",
+        messages: "",
+        at: At {
+            line: 7,
+            fault: Fault::BadFlags,
+        },
+    },
+];
+
 #[test]
 fn a_device_fails(rt: HostRuntime) -> Result<(), Fail> {
-    let rows = [
-        // The reader fails after line 7 and its LF: three header lines of 81, 80 and 74 bytes, two epochs of 36 and 18
-        Row {
-            input: FIVE_EPOCHS,
-            skip: false,
-            reads: Plan::from_then_on(When::AfterBytes(343)),
-            writes: Plan::never(),
-            reports: Plan::never(),
-            output: b"",
-            lines: "K|H|> 2024 01 01 00 00  0.0000000  0  1      G01||3&20000000000|                    1||100500",
-            messages: "ERROR line 8 code 20: read failed",
-            outcome: ended(At {
-                line: 8,
-                fault: Fault::ReadFailed,
-            }),
-        },
-        // It fails after the first 3 bytes of line 7
-        Row {
-            input: FIVE_EPOCHS,
-            skip: false,
-            reads: Plan::from_then_on(When::AfterBytes(328)),
-            writes: Plan::never(),
-            reports: Plan::never(),
-            output: b"",
-            lines: FIRST_EPOCH,
-            messages: "ERROR line 7 code 20: read failed",
-            outcome: ended(At {
-                line: 7,
-                fault: Fault::ReadFailed,
-            }),
-        },
-        // The writer fails after 30 bytes
-        Row {
-            input: "H",
-            skip: false,
-            reads: Plan::never(),
-            writes: Plan::from_then_on(When::AfterBytes(30)),
-            reports: Plan::never(),
-            output: b"3.0                 COMPACT RI",
-            lines: "",
-            messages: "ERROR line 1 code 21: write failed",
-            outcome: ended(At {
-                line: 1,
-                fault: Fault::WriteFailed,
-            }),
-        },
-        // A warning can't be written
-        Row {
-            input: BAD_INDICATOR,
-            skip: true,
-            reads: Plan::never(),
-            writes: Plan::never(),
-            reports: Plan::from_then_on(When::AfterBytes(0)),
-            output: b"",
-            lines: FIRST_EPOCH,
-            messages: "",
-            outcome: ended(At {
-                line: 7,
-                fault: Fault::WriteFailed,
-            }),
-        },
-        // The message of a fault can't be written
-        Row {
-            input: BAD_INDICATOR,
-            skip: false,
-            reads: Plan::never(),
-            writes: Plan::never(),
-            reports: Plan::from_then_on(When::AfterBytes(0)),
-            output: b"",
-            lines: FIRST_EPOCH,
-            messages: "",
-            outcome: ended(At {
-                line: 7,
-                fault: Fault::BadFlags,
-            }),
-        },
-    ];
-    for (place, row) in rows.iter().enumerate() {
-        expect_at(&rt, passes(rt.alloc(), row)?, "row", place);
+    for row in ROWS {
+        expect(&rt, passes(rt.alloc(), row)?, row.name);
     }
     Ok(())
 }

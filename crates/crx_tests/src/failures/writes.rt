@@ -36,7 +36,7 @@ fn fails_after(alloc: Global, case: &Case, texts: &Texts, taken: usize) -> Resul
         writes: Plan::from_then_on(When::AfterBytes(taken)),
         ..good(7)
     };
-    let left = run(alloc, case, texts, devices)?;
+    let left = run_case(alloc, case, texts, devices)?;
     let has_failed = has_failed_at(alloc, case, &left, line_of_byte(case, texts, taken))?;
     let output = left.writer.contents();
     Ok(
@@ -49,11 +49,11 @@ fn fails_after(alloc: Global, case: &Case, texts: &Texts, taken: usize) -> Resul
 
 #[test]
 fn each_write_fails(rt: HostRuntime) -> Result<(), Fail> {
-    for case in cases().iter() {
+    for case in cases() {
         let texts = Texts::of(rt.alloc(), case)?;
         for taken in 0..texts.output.len() {
             let is_so = fails_after(rt.alloc(), case, &texts, taken)?;
-            expect_at(&rt, is_so, case.input, taken);
+            expect_at(&rt, is_so, case.name, taken);
         }
     }
     Ok(())
@@ -63,7 +63,7 @@ fn each_write_fails(rt: HostRuntime) -> Result<(), Fail> {
 fn goes_well(alloc: Global, case: &Case, texts: &Texts, at_most: usize) -> Result<bool, Fail>
     requires { 0 < at_most }
 {
-    let left = run(alloc, case, texts, good(at_most))?;
+    let left = run_case(alloc, case, texts, good(at_most))?;
     Ok(
         left.outcome == case.outcome
             && left.writer.contents() == texts.output.as_slice()
@@ -74,11 +74,11 @@ fn goes_well(alloc: Global, case: &Case, texts: &Texts, at_most: usize) -> Resul
 
 #[test]
 fn a_few_bytes_a_call(rt: HostRuntime) -> Result<(), Fail> {
-    for case in cases().iter() {
+    for case in cases() {
         let texts = Texts::of(rt.alloc(), case)?;
         for at_most in [1, 2, 3, 64, ROOM] {
             let is_so = goes_well(rt.alloc(), case, &texts, at_most)?;
-            expect_at(&rt, is_so, case.input, at_most);
+            expect_at(&rt, is_so, case.name, at_most);
         }
     }
     Ok(())
@@ -90,7 +90,7 @@ fn takes_none(alloc: Global, case: &Case, texts: &Texts) -> Result<bool, Fail> {
         written_at_most: 0,
         ..good(ROOM)
     };
-    let left = run(alloc, case, texts, devices)?;
+    let left = run_case(alloc, case, texts, devices)?;
     if !left.writer.contents().is_empty() {
         return Ok(false);
     }
@@ -103,10 +103,10 @@ fn takes_none(alloc: Global, case: &Case, texts: &Texts) -> Result<bool, Fail> {
 
 #[test]
 fn no_byte_is_taken(rt: HostRuntime) -> Result<(), Fail> {
-    for case in cases().iter() {
+    for case in cases() {
         let texts = Texts::of(rt.alloc(), case)?;
         let is_so = takes_none(rt.alloc(), case, &texts)?;
-        expect_at(&rt, is_so, case.input, 0);
+        expect(&rt, is_so, case.name);
     }
     Ok(())
 }
@@ -118,7 +118,7 @@ fn flush_fails(alloc: Global, case: &Case) -> Result<bool, Fail> {
         flushes: Plan::from_then_on(When::AfterCalls(0)),
         ..good(ROOM)
     };
-    let left = run(alloc, case, &texts, devices)?;
+    let left = run_case(alloc, case, &texts, devices)?;
     if left.writer.contents() != texts.output.as_slice() || left.writer.flushes() != 1 {
         return Ok(false);
     }
@@ -130,8 +130,8 @@ fn flush_fails(alloc: Global, case: &Case) -> Result<bool, Fail> {
 
 #[test]
 fn each_flush_fails(rt: HostRuntime) -> Result<(), Fail> {
-    for (place, case) in cases().iter().enumerate() {
-        expect_at(&rt, flush_fails(rt.alloc(), case)?, "case", place);
+    for case in cases() {
+        expect(&rt, flush_fails(rt.alloc(), case)?, case.name);
     }
     Ok(())
 }

@@ -33,6 +33,7 @@ fn feed_one(
     engine: &mut Compactor,
     line: Line<'_>,
     taken: u64,
+    name: &str,
     step: Step,
     ready: usize,
 ) -> u64
@@ -41,39 +42,45 @@ fn feed_one(
     ensures drained { compactor_ready engine.new ≡ [] }
     ensures counted { (compactor_seen engine.new).number ≡ result }
 {
-    assert!(rt; taken < 1000);
-    assert!(rt; line.number() == taken + 1);
+    let place = line.number() as usize;
+    expect_at(rt, taken < 1000, name, place);
+    expect_at(rt, line.number() == taken + 1, name, place);
     match engine.feed(line) {
         Ok(answer) => {
-            assert!(rt; answer == step, "line {}", taken + 1);
-            assert!(rt; take_ready(engine) == ready, "line {}", taken + 1);
-            assert!(rt; engine.is_drained());
+            expect_at(rt, answer == step, name, place);
+            expect_at(rt, take_ready(engine) == ready, name, place);
+            expect_at(rt, engine.is_drained(), name, place);
             counted(answer, taken)
         }
         Err(_) => {
-            assert!(rt; false);
+            assert!(rt; false, "{name} {place}");
             taken
         }
     }
 }
 
 /// Feeds a line that ends the run: no line is ready then, and the fault is answered again.
-fn feed_last(rt: &impl Abort, engine: &mut Compactor, line: Line<'_>, taken: u64, at: At)
+fn feed_last(
+    rt: &impl Abort,
+    engine: &mut Compactor,
+    line: Line<'_>,
+    taken: u64,
+    name: &str,
+    at: At,
+)
     requires drained { compactor_ready engine.old ≡ [] }
     requires counted { (compactor_seen engine.old).number ≡ taken }
 {
-    assert!(rt; taken < 1000);
-    assert!(rt; line.number() == taken + 1);
-    match engine.feed(line) {
-        Ok(_) => assert!(rt; false),
-        Err(found) => {
-            assert!(rt; found == at);
-            assert!(rt; engine.next_line().is_none());
-            assert!(rt; engine.is_drained());
-            assert!(rt; engine.end() == Err(at));
-            assert!(rt; engine.end() == Err(at));
-        }
-    }
+    let place = line.number() as usize;
+    expect_at(rt, taken < 1000, name, place);
+    expect_at(rt, line.number() == taken + 1, name, place);
+    let found = engine.feed(line);
+    expect_at(rt, found == Err(at), name, place);
+    let is_none = engine.next_line().is_none();
+    expect_at(rt, engine.is_drained(), name, place);
+    let is_first = engine.end() == Err(at);
+    let is_second = engine.end() == Err(at);
+    expect_at(rt, is_none && is_first && is_second, name, place);
 }
 
 /// Feeds the lines of an input, to an engine that has taken none; where a fault is given, the line after those with answers ends the run
@@ -81,78 +88,73 @@ fn feed_last(rt: &impl Abort, engine: &mut Compactor, line: Line<'_>, taken: u64
 fn feed_all(
     rt: &impl Abort,
     engine: &mut Compactor,
-    alloc: Global,
-    input: &[u8],
-    answers: &[Answer],
-    fault: Option<At>,
-) -> Result<(), Fail>
+    lines: &mut LineReader,
+    reader: &mut Std<&[u8]>,
+    run: &Run,
+)
     requires drained { compactor_ready engine.old ≡ [] }
     requires counted { (compactor_seen engine.old).number ≡ 0 }
 {
-    let mut lines = LineReader::new(alloc)?;
-    let mut reader = Std::new(input);
     let mut taken: u64 = 0;
-    for answer in answers {
-        let Ok(Some(line)) = lines.next_line(&mut reader) else {
-            assert!(rt; false);
-            return Ok(());
+    for answer in run.answers {
+        let Ok(Some(line)) = lines.next_line(reader) else {
+            expect_at(rt, false, run.name, taken as usize);
+            return;
         };
-        taken = feed_one(rt, engine, line, taken, answer.step, answer.ready);
+        taken = feed_one(rt, engine, line, taken, run.name, answer.step, answer.ready);
         if let Some(second) = answer.again {
-            taken = feed_one(rt, engine, line, taken, second, 0);
+            taken = feed_one(rt, engine, line, taken, run.name, second, 0);
         }
     }
-    match (lines.next_line(&mut reader), fault) {
-        (Ok(Some(line)), Some(at)) => feed_last(rt, engine, line, taken, at),
-        (Ok(None), None) => assert!(rt; engine.end() == Ok(Step::Quiet)),
-        _ => assert!(rt; false),
+    match (lines.next_line(reader), run.fault) {
+        (Ok(Some(line)), Some(at)) => feed_last(rt, engine, line, taken, run.name, at),
+        (Ok(None), None) => {
+            let is_quiet = engine.end() == Ok(Step::Quiet);
+            expect_at(rt, is_quiet, run.name, taken as usize);
+        }
+        _ => expect_at(rt, false, run.name, taken as usize),
     }
-    Ok(())
 }
 
-/// Whether an engine gives these answers to the lines of a text.
-fn answers_so(rt: &impl Abort, alloc: Global, run: &Run) -> Result<(), Fail> {
+/// Expects that an engine gives the answers of a run to the lines of its text.
+fn expect_answers(rt: &impl Abort, alloc: Global, run: &Run) -> Result<(), Fail> {
     let input = text(alloc, run.lines)?;
     let options = Options::new(None, run.skip, b"D")?;
     let mut engine = Owned::of(Compactor::new(alloc, options)?);
-    feed_all(
-        rt,
-        &mut engine.value,
-        alloc,
-        input.as_slice(),
-        run.answers,
-        run.fault,
-    )
+    let mut lines = LineReader::new(alloc)?;
+    let mut reader = Std::new(input.as_slice());
+    feed_all(rt, &mut engine.value, &mut lines, &mut reader, run);
+    Ok(())
 }
 
-const RUNS: [Run; 4] = [
-    // Five epochs
+const RUNS: &[Run] = &[
     Run {
+        name: "five epochs",
         skip: false,
-        lines: "H|> 2024 01 01 00 00  0.0000000  0  1|G01  20000000.000|> 2024 01 01 00 00  1.0000000  0  1|G01  20000100.500|> 2024 01 01 00 00  2.0000000  0  1|G01  20000202.000|> 2024 01 01 00 00  3.0000000  0  1|G01  20000304.500|> 2024 01 01 00 00  4.0000000  0  1|G01  20000408.000",
+        lines: "H|R1|R2|R3|R4|R5",
         answers: &[
             THREE, ONE, ONE, QUIET, THREE, QUIET, THREE, QUIET, THREE, QUIET, THREE, QUIET, THREE,
         ],
         fault: None,
     },
-    // Epochs without satellites
     Run {
+        name: "epochs without satellites",
         skip: false,
         lines: "H|> 2024 01 01 00 00  0.0000000  0  0|> 2024 01 01 00 00  0.0000000  0  0",
         answers: &[THREE, ONE, ONE, TWO, TWO],
         fault: None,
     },
-    // A line that gives two warnings
     Run {
+        name: "a line that gives two warnings",
         skip: true,
         lines: "H|> 2024 01 01 00 00  0.0000000  0  1|>|> 2024 01 01 00 00  1.0000000  0  1|G01         1.000",
         answers: &[THREE, ONE, ONE, QUIET, TWICE, QUIET, THREE],
         fault: None,
     },
-    // A fault
     Run {
+        name: "a fault",
         skip: false,
-        lines: "H|> 2024 01 01 00 00  0.0000000  0  1|G01  20000000.000|> 2024 01 01 00 00  1.0000000  0  1|G01  20000100.500&",
+        lines: "H|R1|B2",
         answers: &[THREE, ONE, ONE, QUIET, THREE, QUIET],
         fault: Some(At {
             line: 7,
@@ -163,8 +165,8 @@ const RUNS: [Run; 4] = [
 
 #[test]
 fn answers_to_each_line(rt: HostRuntime) -> Result<(), Fail> {
-    for run in RUNS.iter() {
-        answers_so(&rt, rt.alloc(), run)?;
+    for run in RUNS {
+        expect_answers(&rt, rt.alloc(), run)?;
     }
     Ok(())
 }

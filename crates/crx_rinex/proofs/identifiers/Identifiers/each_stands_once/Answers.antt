@@ -1,7 +1,7 @@
 use Rattle.std.proofs.Common.{◌≡◌, ◌<◌, ℕ, List, [], get_or, take, length, false, subst}
 use Rattle.crx_rinex.specs.meaning.Epochs.{is_among}
 use Rattle.crx_rinex.proofs.Finding.{new-at_place}
-use Rattle.crx_rinex.proofs.identifiers.Identifiers.are_different.Goals as goal
+use Rattle.crx_rinex.proofs.identifiers.Identifiers.each_stands_once.Goals as goal
 
 pub returns : goal.returns
 returns c =
