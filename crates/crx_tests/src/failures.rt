@@ -117,7 +117,7 @@ struct Left {
     messages: FailingSink,
 }
 
-/// Runs a filter over an input and these devices, with and without faults that are skipped.
+/// Runs a filter over an input and these devices; it skips faults where that is asked for.
 fn run(alloc: Global, tool: Tool, skip: bool, input: &[u8], devices: Devices) -> Result<Left, Fail>
     requires { 0 < devices.at_most }
 {
