@@ -67,10 +67,10 @@ const ROWS: &[Row] = &[
     // Three header lines of 81, 80 and 74 bytes, two epochs of 36 and 18
     Row {
         name: "the reader fails after line 7 and its LF",
-        input: "H|R1|R2|R3|R4|R5",
+        input: "H|E1|E2|E3|E4|E5",
         skip: false,
         failing: Failing::Reader(343),
-        lines: "K|H|F1|D2",
+        lines: "K|H|F1|C2",
         output: b"",
         messages: "ERROR line 8 code 20: read failed",
         at: At {
@@ -80,7 +80,7 @@ const ROWS: &[Row] = &[
     },
     Row {
         name: "the reader fails after the first 3 bytes of line 7",
-        input: "H|R1|R2|R3|R4|R5",
+        input: "H|E1|E2|E3|E4|E5",
         skip: false,
         failing: Failing::Reader(328),
         lines: "K|H|F1",
@@ -106,7 +106,7 @@ const ROWS: &[Row] = &[
     },
     Row {
         name: "a warning can't be written",
-        input: "H|R1|B2|R3|R4|R5",
+        input: "H|E1|B2|E3|E4|E5",
         skip: true,
         failing: Failing::Messages(0),
         lines: "K|H|F1",
@@ -119,7 +119,7 @@ const ROWS: &[Row] = &[
     },
     Row {
         name: "the message of a fault can't be written",
-        input: "H|R1|B2|R3|R4|R5",
+        input: "H|E1|B2|E3|E4|E5",
         skip: false,
         failing: Failing::Messages(0),
         lines: "K|H|F1",

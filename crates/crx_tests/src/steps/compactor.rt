@@ -131,7 +131,7 @@ const RUNS: &[Run] = &[
     Run {
         name: "five epochs",
         skip: false,
-        lines: "H|R1|R2|R3|R4|R5",
+        lines: "H|E1|E2|E3|E4|E5",
         answers: &[
             THREE, ONE, ONE, QUIET, THREE, QUIET, THREE, QUIET, THREE, QUIET, THREE, QUIET, THREE,
         ],
@@ -154,7 +154,7 @@ const RUNS: &[Run] = &[
     Run {
         name: "a fault",
         skip: false,
-        lines: "H|R1|B2",
+        lines: "H|E1|B2",
         answers: &[THREE, ONE, ONE, QUIET, THREE, QUIET],
         fault: Some(At {
             line: 7,

@@ -124,7 +124,7 @@ const RUNS: &[Run] = &[
     Run {
         name: "five epochs",
         skip: false,
-        lines: "K|H|F1|D2|D3|D4|D5",
+        lines: "K|H|F1|C2|C3|C4|C5",
         answers: &[
             QUIET, QUIET, ONE, ONE, ONE, QUIET, QUIET, TWO, QUIET, QUIET, TWO, QUIET, QUIET, TWO,
             QUIET, QUIET, TWO, QUIET, QUIET, TWO,
