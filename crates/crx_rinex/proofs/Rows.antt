@@ -15,9 +15,9 @@ use Rattle.std.proofs.Common.{get_or, set}
 use Rattle.std.proofs.lemmas.List.Elements.{All-push}
 use Rattle.crx_columns.specs.meaning.Texts.{is_kept}
 use Rattle.crx_rinex.specs.meaning.Observations.{Row, Epoch}
-use Rattle.crx_rinex.specs.meaning.EpochLines.{IsObservationHead, ObservationHead, satellites_of, count_within_limit, begins_epoch, is_observation_flag}
+use Rattle.crx_rinex.specs.meaning.EpochLines.{ObservationHead, satellites_of, count_within_limit, begins_epoch, is_observation_flag}
 use Rattle.crx_rinex.specs.meaning.Epochs.{has_satellite, is_among, IsSoundEpoch}
-use Rattle.crx_rinex.specs.Epochs.{with_row, is_full_epoch, AreOfRows}
+use Rattle.crx_rinex.specs.Epochs.{with_row, is_full_epoch, AreEpochParts, AreOfRows}
 use Rattle.crx_rinex.specs.meaning.SatelliteLines.{IsSoundRow}
 use Rattle.crx_rinex.proofs.Apart.{among-map, apart-push}
 
@@ -158,18 +158,10 @@ known-new known names rows k row d h within is named different =
     (sym (name-known known names rows k d h within ∙ sym is))
     ∙ different k (omega (arith, within, h.0))
 
--- what is true of the parts of an epoch
-abbrev Inside : ObservationHead → List (List ℕ) → List Row → ℕ → ℕ → Type 0
-Inside head names rows count known =
-    IsSoundEpoch (record { head = head.head; clock = head.clock; rows = take count rows }) × (count ≤ length rows)
-    × IsObservationHead head × (count ≤ length names)
-    × (take count names ≡ map (λ (row : Row). row.name) (take count rows)) × (length rows ≤ SATELLITES_LIMIT)
-    × (length names ≤ SATELLITES_LIMIT) × (count ≤ known) × AreOfRows known names rows
-
--- and stays so where the spare row after the last one is written over by one of the same satellite
+-- the parts of an epoch stay sound where the spare row after the last one is written over by one of the same satellite
 pub unread : (head : ObservationHead) (names : List (List ℕ)) (rows : List Row) (count known : ℕ) (row d : Row)
-    → Inside head names rows count known → count < known → row.name ≡ (get_or rows count d).name
-    → Inside head names (set rows count row) count known
+    → AreEpochParts head names rows count known → count < known → row.name ≡ (get_or rows count d).name
+    → AreEpochParts head names (set rows count row) count known
 unread head names rows count known row d h here is =
     let same : take count (set rows count row) ≡ take count rows = take-set rows count row in (
       subst (λ (rs : List Row). IsSoundEpoch (record { head = head.head; clock = head.clock; rows = rs })) (sym same) h.0,

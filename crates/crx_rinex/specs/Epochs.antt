@@ -1,8 +1,10 @@
 -- Beside meaning/Epochs: what code and proofs see of it.
 use Rattle.std.specs.Prelude.{◌≡◌, ◌≤◌, ℕ, List, Bool, [], ◌∷◌, ◌++◌, ◌==◌, length, map, take, Result, Ok, Err}
 use Rattle.crx_lines.specs.declared.fault.Fault.{Fault}
+use Rattle.crx_lines.specs.declared.limits.TheConstants.{SATELLITES_LIMIT}
 use Rattle.crx_rinex.specs.meaning.Observations.{Row, Epoch}
-use Rattle.crx_rinex.specs.meaning.EpochLines.{ObservationHead, satellites_of}
+use Rattle.crx_rinex.specs.meaning.EpochLines.{IsObservationHead, ObservationHead, satellites_of}
+use Rattle.crx_rinex.specs.meaning.Epochs.{IsSoundEpoch}
 
 -- an epoch before its first row
 abbrev pub begun : ObservationHead → Epoch
@@ -25,3 +27,12 @@ is_full_epoch epoch = length epoch.rows == satellites_of epoch.head
 abbrev pub AreOfRows : ℕ → List (List ℕ) → List Row → Type 0
 AreOfRows known names rows = (known ≤ length names) × (known ≤ length rows)
     × (take known names ≡ map (λ (row : Row). row.name) (take known rows))
+
+-- What holds of an epoch that is read row by row: the first `count` rows and identifiers are the epoch's, and after them stand spare ones
+-- of earlier epochs; the first `known` rows and identifiers are of the same satellites. There are no more of them than an epoch can have.
+abbrev pub AreEpochParts : ObservationHead → List (List ℕ) → List Row → ℕ → ℕ → Type 0
+AreEpochParts head names rows count known =
+    IsSoundEpoch (record { head = head.head; clock = head.clock; rows = take count rows }) × (count ≤ length rows)
+    × IsObservationHead head × (count ≤ length names)
+    × (take count names ≡ map (λ (row : Row). row.name) (take count rows)) × (length rows ≤ SATELLITES_LIMIT)
+    × (length names ≤ SATELLITES_LIMIT) × (count ≤ known) × AreOfRows known names rows

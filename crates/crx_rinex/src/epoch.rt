@@ -39,19 +39,15 @@ pub struct Epoch {
 }
 
 impl Model for Epoch {
-    ghost use Rattle.std.specs.Prelude.{◌≡◌, ◌≤◌, length, map, take};
-    ghost use Rattle.crx_lines.specs.declared.limits.TheConstants.{SATELLITES_LIMIT};
-    ghost use Rattle.crx_rinex.specs.meaning.Observations.{Row, Epoch as ObservationEpoch};
-    ghost use Rattle.crx_rinex.specs.meaning.Epochs.{IsSoundEpoch};
-    ghost use Rattle.crx_rinex.specs.meaning.EpochLines.{IsObservationHead};
-    ghost use Rattle.crx_rinex.specs.Epochs.{AreOfRows};
+    ghost use Rattle.std.specs.Prelude.{take};
+    ghost use Rattle.crx_rinex.specs.meaning.Observations.{Epoch as ObservationEpoch};
+    ghost use Rattle.crx_rinex.specs.Epochs.{AreEpochParts};
 
     ghost Value = { ObservationEpoch };
 
     ghost view = { λ epoch. record { head = epoch.head.head; clock = epoch.head.clock; rows = take epoch.count epoch.rows.items } };
 
-    // It holds no more rows and identifiers, spare ones too, than an epoch can have.
-    ghost invariant = { λ epoch. IsSoundEpoch (record { head = epoch.head.head; clock = epoch.head.clock; rows = take epoch.count epoch.rows.items }) × (epoch.count ≤ length epoch.rows.items) × IsObservationHead epoch.head × (epoch.count ≤ length epoch.names) × (take epoch.count epoch.names ≡ map (λ (row : Row). row.name) (take epoch.count epoch.rows.items)) × (length epoch.rows.items ≤ SATELLITES_LIMIT) × (length epoch.names ≤ SATELLITES_LIMIT) × (epoch.count ≤ epoch.known) × AreOfRows epoch.known epoch.names epoch.rows.items };
+    ghost invariant = { λ epoch. AreEpochParts epoch.head epoch.names epoch.rows.items epoch.count epoch.known };
 }
 
 impl Epoch {
