@@ -1,7 +1,9 @@
 -- Texts are the same where their two ends are, which meet: compared as lanes.
 use Rattle.std.proofs.Common.{true, false, ℕ, ◌≡◌, ◌+◌, ◌-◌, ◌*◌, ◌%◌, ◌^◌, ◌≤◌, Bool, not, cond, nat_eq, eqb}
-use Rattle.std.proofs.Common.{List, [], ◌∷◌, ◌++◌, length, take, drop, map, w8, refl, ap, sym, ◌∙◌, arith}
+use Rattle.std.proofs.Common.{List, [], ◌∷◌, ◌++◌, length, take, drop, map, w8, refl, ap, subst, sym, ◌∙◌, arith}
+use Rattle.std.specs.Prelude.{◌≢◌, MatchBool}
 use Rattle.std.proofs.Math.Seq.{take-take}
+use Rattle.std.proofs.lemmas.Bool.{true≢false}
 use Rattle.std.proofs.lemmas.Bool.Decides.{nat_tests, Decides-eqb}
 use Rattle.std.proofs.lemmas.List.{length-drop, length-take-le, take_all, take-append-drop}
 use Rattle.std.proofs.lemmas.Simd.{length-chunk, length-zip2, mask_l-mod, tops_compared}
@@ -37,7 +39,19 @@ same_rows xs ys long few same =
     ∙ mask_l-mod lanes 64 (omega (arith, length-zip2 differs xs ys (sym long), few)) in
     none_differ xs ys long (sym mask ∙ same)
 
-pub same_ends : (n : ℕ) (xs ys : List ℕ) → n ≤ 64 → n ≤ length xs → length xs ≤ n + n → length ys ≡ length xs
+none_within : (xs : List ℕ) → mask_l (zip2 differs xs xs) ≡ 0
+none_within [] = refl
+none_within (x ∷ xs) =
+    let same : differs x x ≡ false = grind (arith, nat_tests) in
+    let rest = none_within xs in
+    ap (λ b. cond b 1 0 + 2 * mask_l (zip2 differs xs xs)) same ∙ omega (arith, rest)
+
+-- a row differs nowhere from itself
+alike : (xs ys : List ℕ) → xs ≡ ys → others xs ys ≡ 0
+alike xs ys same = subst (λ zs. others xs zs ≡ 0) same
+    (ap (λ ms. mask_l ms % 2 ^ 64) (tops_compared w8 differs xs xs) ∙ ap (λ m. m % 2 ^ 64) (none_within xs))
+
+same_ends : (n : ℕ) (xs ys : List ℕ) → n ≤ 64 → n ≤ length xs → length xs ≤ n + n → length ys ≡ length xs
     → others (take n xs) (take n ys) ≡ 0
     → nat_eq (others (chunk (length xs - n) n xs) (chunk (length xs - n) n ys)) 0 ≡ true → xs ≡ ys
 same_ends n xs ys narrow some few long first last =
@@ -55,3 +69,21 @@ same_ends n xs ys narrow some few long first last =
     ∙ (ap (take m) front ∙ take-take m n ys (omega (arith, few, some))) in
     sym (take-append-drop m xs) ∙ (ap (λ (t : List ℕ). t ++ drop m xs) begin
     ∙ (ap (λ (t : List ℕ). take m ys ++ t) rest ∙ take-append-drop m ys))
+
+matched : (b : Bool) (P : Type 0) → (b ≡ true → P) → (b ≡ false → P → ⊥) → MatchBool b P (P → ⊥)
+matched true P where_true where_false = where_true refl
+matched false P where_true where_false = where_false refl
+
+-- where the first ends are the same, the last ones decide
+pub last-ends_decide : (n : ℕ) (xs ys : List ℕ) → n ≤ 64 → n ≤ length xs → length xs ≤ n + n
+    → length ys ≡ length xs → others (take n xs) (take n ys) ≡ 0
+    → MatchBool (nat_eq (others (chunk (length xs - n) n xs) (chunk (length xs - n) n ys)) 0) (xs ≡ ys) (xs ≢ ys)
+last-ends_decide n xs ys narrow some few long first = matched _ _
+    (λ last. same_ends n xs ys narrow some few long first last)
+    (λ last same. true≢false (sym ((Decides-eqb _ 0).1 (alike _ _ (ap (chunk (length xs - n) n) same))) ∙ last))
+
+-- where they aren't, the texts are others
+pub first-ends_decide : (n : ℕ) (xs ys : List ℕ) → (others (take n xs) (take n ys) ≡ 0 → ⊥)
+    → MatchBool (nat_eq (others (take n xs) (take n ys)) 0) (xs ≡ ys) (xs ≢ ys)
+first-ends_decide n xs ys other = matched _ _ (λ first. absurd (other ((Decides-eqb _ 0).0 first)))
+    (λ first same. other (alike _ _ (ap (take n) same)))

@@ -1,7 +1,7 @@
 //! Whether two short texts are the same, as a satellite's indicators in two epochs mostly are.
 
-ghost use Rattle.std.specs.Prelude.{◌≡◌, ◌+◌, ◌≤◌, length};
-ghost use Rattle.std.specs.Bool.{OnTrue};
+ghost use Rattle.std.specs.Prelude.{◌≡◌, ◌≢◌, ◌+◌, ◌≤◌, length};
+ghost use Rattle.std.specs.Bool.{MatchBool};
 
 use crx_text::copy_text;
 use std::simd::prelude::*;
@@ -13,7 +13,7 @@ fn has_same_ends<const N: usize>(text: &[u8], other: &[u8]) -> bool
     requires some { N ≤ length text.now }
     requires few { length text.now ≤ N + N }
     requires same_length { length other.now ≡ length text.now }
-    ensures { OnTrue result (text.now ≡ other.now) }
+    ensures { MatchBool result (text.now ≡ other.now) (text.now ≢ other.now) }
 {
     let last = text.len() - N;
     Simd::<u8, N>::from_slice(text) == Simd::<u8, N>::from_slice(other)
@@ -23,7 +23,7 @@ fn has_same_ends<const N: usize>(text: &[u8], other: &[u8]) -> bool
 /// Whether two texts of any length are the same, by a call of the C library.
 #[inline(never)]
 fn is_same_by_call(text: &[u8], other: &[u8]) -> bool
-    ensures { OnTrue result (text.now ≡ other.now) }
+    ensures { MatchBool result (text.now ≡ other.now) (text.now ≢ other.now) }
 {
     text == other
 }
@@ -32,7 +32,7 @@ fn is_same_by_call(text: &[u8], other: &[u8]) -> bool
 /// some 40 instructions more.
 #[inline(always)]
 pub fn is_same_text(text: &[u8], other: &[u8]) -> bool
-    ensures { OnTrue result (text.now ≡ other.now) }
+    ensures { MatchBool result (text.now ≡ other.now) (text.now ≢ other.now) }
 {
     let count = text.len();
     if count != other.len() {
@@ -47,7 +47,7 @@ pub fn is_same_text(text: &[u8], other: &[u8]) -> bool
     }
 }
 
-/// Puts a text in place of another one by its two ends. `true` says that a third text is the same; `false` says nothing.
+/// Puts a text in place of another one by its two ends, and answers whether a third text is the same.
 #[inline(always)]
 fn copy_ends<const N: usize>(text: &[u8], to: &mut [u8], other: &[u8]) -> bool
     requires narrow { N ≤ 64 }
@@ -56,7 +56,7 @@ fn copy_ends<const N: usize>(text: &[u8], to: &mut [u8], other: &[u8]) -> bool
     requires room { length to.old ≡ length text.now }
     requires same_length { length other.now ≡ length text.now }
     ensures copied { to.new ≡ text.now }
-    ensures same { OnTrue result (text.now ≡ other.now) }
+    ensures same { MatchBool result (text.now ≡ other.now) (text.now ≢ other.now) }
 {
     let last = text.len() - N;
     let first = Simd::<u8, N>::from_slice(text);
@@ -66,13 +66,13 @@ fn copy_ends<const N: usize>(text: &[u8], to: &mut [u8], other: &[u8]) -> bool
     first == Simd::<u8, N>::from_slice(other) && end == Simd::<u8, N>::from_slice(&other[last..])
 }
 
-/// Puts a text in place of another one of its length. `true` says that a third text is the same; `false` says nothing. The indicators of 4
-/// to 32 types are loaded once for both.
+/// Puts a text in place of another one of its length, and answers whether a third text is the same. The indicators of 4 to 32 types are
+/// loaded once for both.
 #[inline(always)]
 pub fn copy_compared(text: &[u8], to: &mut [u8], other: &[u8]) -> bool
     requires { length to.old ≡ length text.now }
     ensures copied { to.new ≡ text.now }
-    ensures same { OnTrue result (text.now ≡ other.now) }
+    ensures same { MatchBool result (text.now ≡ other.now) (text.now ≢ other.now) }
 {
     let count = text.len();
     if count != other.len() {

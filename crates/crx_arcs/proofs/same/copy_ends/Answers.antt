@@ -1,6 +1,5 @@
-use Rattle.std.proofs.lemmas.Bool.{OnTrue_from}
 use Rattle.crx_columns.proofs.CopiedTexts.{copied-ends}
-use Rattle.crx_arcs.proofs.SameTexts.{same_ends}
+use Rattle.crx_arcs.proofs.SameTexts.{first-ends_decide, last-ends_decide}
 use Rattle.crx_arcs.proofs.same.copy_ends.Goals as goal
 
 pub returns-then-first-other-eq0-clause-copied : goal.returns-then-first-other-eq0-clause-copied
@@ -12,6 +11,9 @@ returns-else-first-other-eq0-clause-copied g c =
     copied-ends g.row.N c.args.text.now c.args.to.now c.requires.some c.requires.few c.requires.room
 
 pub returns-then-first-other-eq0-clause-same : goal.returns-then-first-other-eq0-clause-same
-returns-then-first-other-eq0-clause-same g c = OnTrue_from _ _
-    (same_ends g.row.N c.args.text.now c.args.other.now c.requires.narrow c.requires.some c.requires.few
-    c.requires.same_length c.if-first-other-eq0.true)
+returns-then-first-other-eq0-clause-same g c = last-ends_decide g.row.N c.args.text.now c.args.other.now
+    c.requires.narrow c.requires.some c.requires.few c.requires.same_length c.if-first-other-eq0.true
+
+pub returns-else-first-other-eq0-clause-same : goal.returns-else-first-other-eq0-clause-same
+returns-else-first-other-eq0-clause-same g c =
+    first-ends_decide g.row.N c.args.text.now c.args.other.now c.if-first-other-eq0.false
