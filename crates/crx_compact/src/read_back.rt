@@ -26,7 +26,7 @@ fn is_readable(line: &[u8]) -> bool
 ///
 /// The faults are those of [`Columns::begin`] and [`Columns::feed`]; `NotAnEpoch` comes at an event's line too, and at one that
 /// is longer than a line may be.
-fn read_lent(
+fn read_coded(
     columns: &mut Columns,
     types: &Types,
     coded: &mut Coded,
@@ -78,5 +78,5 @@ pub fn read_back(
         → (m.in_full ≡ false → tail_held columns.old ≡ tail_or_nothing older)
         → IfErr result (λ fault. fault ≡ Fault.OutOfMemory) }
 {
-    read_lent(columns, types, coded)
+    read_coded(columns, types, coded)
 }

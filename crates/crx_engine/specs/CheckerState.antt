@@ -33,10 +33,10 @@ checker_state c = checker_state_with c.reader c.number c.totals c.not_standard
 -- what is pending, once the end was good
 abbrev pub report_left : Option ℕ → Findings → List (List ℕ)
 report_left None found = []
-report_left (Some lent) found = drop lent (report_lines found)
+report_left (Some handed_out) found = drop handed_out (report_lines found)
 
 abbrev pub pending_report : Checker → List (List ℕ)
-pending_report c = report_left c.lent (found_held c.totals c.reader.types c.not_standard)
+pending_report c = report_left c.handed_out (found_held c.totals c.reader.types c.not_standard)
 
 -- whether lines can come, where nothing is skipped
 abbrev pub is_reading : Phase OpenEpoch → Bool
@@ -50,7 +50,7 @@ is_reading phase = false
 pub record CheckerIsOpen (c : Checker) : Type 0 where
   pub reading : is_reading (reader_phase c.reader) ≡ true
   pub bounded : AreBounded c.totals c.number
-  pub unlent : c.lent ≡ None
+  pub none_handed_out : c.handed_out ≡ None
 
 -- it has taken these lines; no line comes a second time
 abbrev pub CheckerHasTaken : Checker → List InputLine → List Awaited → Type 0

@@ -10,6 +10,6 @@ use Rattle.crx_reading.specs.LineByLine.{Direction, Seen, Notice, seen_next}
 abbrev pub HasTaken : {U O K : Type 0}
     → Direction U O K → (List ReadLine → Seen O K) → Seen O K → List InputLine → List Awaited → Type 0
 HasTaken direction seen_after now lines [] = now ≡ seen_after (map seen lines)
-HasTaken direction seen_after now lines (a ∷ []) = record { answer = Notice a.notice true; lent = []; next = now }
+HasTaken direction seen_after now lines (a ∷ []) = record { answer = Notice a.notice true; handed_out = []; next = now }
     ≡ seen_next direction (seen_after (map seen lines)) (seen a.line)
 HasTaken direction seen_after now lines (a ∷ b ∷ others) = ⊥

@@ -24,7 +24,7 @@ answer_of_step (Err at) = Failed at
 
 -- what an engine answers, what it then has ready, and what it is seen as then
 abbrev pub step_made : {O K : Type 0} → Result Step At → List (List ℕ) → Seen O K → SeenStep O K
-step_made result ready after = record { answer = answer_of_step result; lent = ready; next = after }
+step_made result ready after = record { answer = answer_of_step result; handed_out = ready; next = after }
 
 -- memory ran out at the next line, which is one that may take some; that line counts
 pub record RanOut {U O K : Type 0} (direction : Direction U O K)

@@ -45,7 +45,7 @@ checker_with one other = record one {
   number = other.number;
   totals = other.totals;
   not_standard = other.not_standard;
-  lent = other.lent;
+  handed_out = other.handed_out;
   text = other.text;
   answer = other.answer;
 }

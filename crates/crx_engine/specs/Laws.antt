@@ -93,14 +93,14 @@ is_again (Failed at) = false
 pub record Fed (O K : Type 0) : Type 0 where
   pub warned : List At
   pub failed : Option At
-  pub lent : List (List ℕ)
+  pub handed_out : List (List ℕ)
   pub next : Seen O K
 
 abbrev pub fed_once : {O K : Type 0} → Step O K → Fed O K
 fed_once step = record {
   warned = noticed_by step.answer;
   failed = failed_by step.answer;
-  lent = step.lent;
+  handed_out = step.handed_out;
   next = step.next;
 }
 
@@ -108,7 +108,7 @@ abbrev pub fed_twice : {O K : Type 0} → Step O K → Step O K → Fed O K
 fed_twice one two = record {
   warned = noticed_by two.answer ++ noticed_by one.answer;
   failed = failed_by two.answer;
-  lent = one.lent ++ two.lent;
+  handed_out = one.handed_out ++ two.handed_out;
   next = two.next;
 }
 
@@ -123,7 +123,7 @@ fed direction seen line =
 pub record IsFollowed {O K : Type 0} (seen_then : Seen O K) (written_before written_then : List (List ℕ))
     (warned_before warned_then : List At) (failed_then : Option At) (line_fed : Fed O K) : Type 0 where
   pub next : seen_then ≡ line_fed.next
-  pub lent : written_then ≡ written_before ++ line_fed.lent
+  pub handed_out : written_then ≡ written_before ++ line_fed.handed_out
   pub warned : warned_then ≡ line_fed.warned ++ warned_before
   pub failed : failed_then ≡ line_fed.failed
 
@@ -155,7 +155,7 @@ IsExpandedOn choices lines line =
 pub record IsEndedBy {O K : Type 0} (written_then written_whole : List (List ℕ))
     (warned_then warned_whole : List At) (failed_whole : Option At) (end : Step O K) : Type 0 where
   pub once : is_again end.answer ≡ false
-  pub lent : end.lent ≡ []
+  pub handed_out : end.handed_out ≡ []
   pub written : written_whole ≡ written_then
   pub warned : warned_whole ≡ noticed_by end.answer ++ warned_then
   pub failed : failed_whole ≡ failed_by end.answer
@@ -226,4 +226,4 @@ has_lines (line ∷ lines) = true
 -- a line is answered as ready exactly where lines are borrowed
 abbrev pub IsReadyWhereLent : {U O K : Type 0} → Direction U O K → Type 0
 IsReadyWhereLent {O = O} {K = K} direction = (seen : Seen O K) (line : ReadLine)
-    → is_ready (seen_next direction seen line).answer ≡ has_lines (seen_next direction seen line).lent
+    → is_ready (seen_next direction seen line).answer ≡ has_lines (seen_next direction seen line).handed_out

@@ -40,7 +40,7 @@ pub struct Checker {
     /// The number of the first line that isn't standard.
     not_standard: Option<u64>,
     /// How many lines of the report were handed out; none before the end.
-    lent: Option<usize>,
+    handed_out: Option<usize>,
     /// A printed line.
     text: Text,
     /// The answer to the line that was taken last, where a fault has ended the check.
@@ -64,7 +64,7 @@ impl Checker {
                 observations: 0,
             },
             not_standard: None,
-            lent: None,
+            handed_out: None,
             text: Text::new(),
             answer: Ok(Step::Quiet),
         }
@@ -92,7 +92,7 @@ impl Checker {
         ensures bounded { AreBounded self.new.totals self.new.number }
         ensures number { self.new.number ≡ self.old.number + 1 }
         ensures reader { self.new.reader ≡ self.old.reader }
-        ensures lent { self.new.lent ≡ self.old.lent }
+        ensures handed_out { self.new.handed_out ≡ self.old.handed_out }
     {
         let is_same = is_given_back(&self.reader, step, line.bytes(), &mut self.text);
         self.totals = counted(self.totals, &self.reader, step, line.bytes());
@@ -107,7 +107,7 @@ impl Checker {
         requires within { self.old.number < INPUT_LIMIT }
         ensures value { result ≡ record { line = self.old.number + 1; fault = fault } }
         ensures ended { self.new.reader.stage ≡ Stage.Ended result }
-        ensures lent { self.new.lent ≡ self.old.lent }
+        ensures handed_out { self.new.handed_out ≡ self.old.handed_out }
     {
         let at = At {
             line: self.number + 1,
@@ -184,7 +184,7 @@ impl Engine for Checker {
     fn end(&mut self) -> Result<Step, At> {
         match after_end(self.reader.stage, self.number, false).answer {
             Ok(_) => {
-                self.lent = Some(0);
+                self.handed_out = Some(0);
                 Ok(Step::Ready)
             }
             Err(at) => {
@@ -195,15 +195,15 @@ impl Engine for Checker {
     }
 
     fn next_line(&mut self) -> Option<&[u8]> {
-        let lent = self.lent?;
+        let handed_out = self.handed_out?;
         if print_report_line(
-            lent,
+            handed_out,
             &self.totals,
             self.reader.types(),
             self.not_standard,
             &mut self.text,
         ) {
-            self.lent = Some(lent + 1);
+            self.handed_out = Some(handed_out + 1);
             return Some(self.text.bytes());
         }
         None

@@ -46,7 +46,7 @@ expansion_of choices lines = expanded (lines_text lines) choices
 
 -- the answer to a line, and how many lines are borrowed
 abbrev pub answered : {O K : Type 0} → Step O K → Answer × ℕ
-answered step = (step.answer, length step.lent)
+answered step = (step.answer, length step.handed_out)
 
 -- what is answered to some lines one after another; a line that is to come again is given again
 abbrev pub answers_to : {U O K : Type 0} → Direction U O K → Seen O K → List (List ℕ) → List (Answer × ℕ)

@@ -52,6 +52,6 @@ lines_with one other = record one {
   bytes = other.bytes;
   filled = other.filled;
   lengths = other.lengths;
-  lent = other.lent;
-  lent_bytes = other.lent_bytes;
+  handed_out = other.handed_out;
+  handed_out_bytes = other.handed_out_bytes;
 }

@@ -31,8 +31,8 @@ pub struct Lines {
     /// How many of the bytes are lines.
     filled: usize,
     lengths: Vec<usize>,
-    lent: usize,
-    lent_bytes: usize,
+    handed_out: usize,
+    handed_out_bytes: usize,
 }
 
 impl Model for Lines {
@@ -41,9 +41,9 @@ impl Model for Lines {
 
     ghost Value = { List (List ℕ) };
 
-    ghost view = { λ lines. cut (drop lines.lent lines.lengths.items) (drop lines.lent_bytes (take lines.filled lines.bytes.items)) };
+    ghost view = { λ lines. cut (drop lines.handed_out lines.lengths.items) (drop lines.handed_out_bytes (take lines.filled lines.bytes.items)) };
 
-    ghost invariant = { λ lines. AreCut lines.lengths.items (take lines.filled lines.bytes.items) lines.lent lines.lent_bytes
+    ghost invariant = { λ lines. AreCut lines.lengths.items (take lines.filled lines.bytes.items) lines.handed_out lines.handed_out_bytes
         × (lines.filled ≤ length lines.bytes.items) };
 }
 
@@ -56,8 +56,8 @@ impl Lines {
             bytes: Vec::new(alloc),
             filled: 0,
             lengths: Vec::new(alloc),
-            lent: 0,
-            lent_bytes: 0,
+            handed_out: 0,
+            handed_out_bytes: 0,
         }
     }
 
@@ -67,8 +67,8 @@ impl Lines {
     {
         self.filled = 0;
         self.lengths.clear();
-        self.lent = 0;
-        self.lent_bytes = 0;
+        self.handed_out = 0;
+        self.handed_out_bytes = 0;
     }
 
     /// Puts a line after the others. After `AllocError` they are as they were.
@@ -139,7 +139,7 @@ impl Lines {
     pub fn is_empty(&self) -> bool
         ensures { IsTrue result ↔ (self.now ≡ []) }
     {
-        self.lent == self.lengths.len()
+        self.handed_out == self.lengths.len()
     }
 
     /// Borrows the next pending line, without its line end; `None` once none is pending.
@@ -148,13 +148,13 @@ impl Lines {
         // That line is no longer pending.
         ensures* after_borrow { sem 𝓛 (Rests the_row self.entry (λ new. new ≡ drop 1 self.old)) }
     {
-        if self.lent == self.lengths.len() {
+        if self.handed_out == self.lengths.len() {
             return None;
         }
-        let start = self.lent_bytes;
-        let end = start + self.lengths[self.lent];
-        self.lent += 1;
-        self.lent_bytes = end + 1;
+        let start = self.handed_out_bytes;
+        let end = start + self.lengths[self.handed_out];
+        self.handed_out += 1;
+        self.handed_out_bytes = end + 1;
         Some(&self.bytes[start..end])
     }
 
@@ -164,9 +164,9 @@ impl Lines {
         // No line is pending.
         ensures* after_borrow { sem 𝓛 (Rests the_row self.entry (λ new. new ≡ [])) }
     {
-        let start = self.lent_bytes;
-        self.lent = self.lengths.len();
-        self.lent_bytes = self.filled;
+        let start = self.handed_out_bytes;
+        self.handed_out = self.lengths.len();
+        self.handed_out_bytes = self.filled;
         &self.bytes[start..self.filled]
     }
 }

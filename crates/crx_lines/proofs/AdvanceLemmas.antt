@@ -78,19 +78,19 @@ module _ (gave : List ℕ → Type 0) (old held : List ℕ)
   pub takes : (is_ended : Bool) → EndIs held len is_ended at_end → (0 < passed + len) ⊎ (is_ended ≡ true)
       → (before after : ReaderState) (n : ℕ)
       → before.rest ≡ old → n ≡ len + cond is_ended 1 0 → after.rest ≡ drop n held
-      → after.lent ≡ before.lent + (passed + n) → before.lent + (length old + room) ≤ INPUT_LIMIT
+      → after.handed_out ≡ before.handed_out + (passed + n) → before.handed_out + (length old + room) ≤ INPUT_LIMIT
       → after.number ≡ before.number + 1 → after.phase ≡ cond is_ended Open Ended
       → TakesPiece before s.given at_end (piece_at s.front held len is_ended) after
-  takes is_ended end some before after n rest count left lent limit number phase =
+  takes is_ended end some before after n rest count left handed_out limit number phase =
       let whole = Seeking-sum gave old held room taken passed len s in
       let within = held-within is_ended n end count in
-      let sum : after.lent + length after.rest ≡ before.lent + (length old + taken) =
-      omega (arith, lent, ap length left, length-drop n held, whole, within) in
+      let sum : after.handed_out + length after.rest ≡ before.handed_out + (length old + taken) =
+      omega (arith, handed_out, ap length left, length-drop n held, whole, within) in
       record {
         first = subst (λ l. BeginsWith (l ++ s.given) at_end (piece_at s.front held len is_ended) after.rest) (sym rest)
             (subst (λ l. BeginsWith (old ++ s.given) at_end (piece_at s.front held len is_ended) l)
             (sym (left ∙ ap (λ k. drop k held) count)) (begins is_ended end some));
-        lent = omega (arith, sum, ap length rest, length-append before.rest s.given, s.taken_is);
+        handed_out = omega (arith, sum, ap length rest, length-append before.rest s.given, s.taken_is);
         within = omega (arith, sum, limit, s.within);
         number = number;
         phase = phase;
@@ -121,16 +121,16 @@ module _ (gave : List ℕ → Type 0) (old held : List ℕ)
       (bare, s.input ∙ ap (λ l. s.front ++ l) bare ∙ append-nil s.front ∙ nil_from_length s.front (s.passed_is ∙ none))
 
 -- no LF came within the limit, and a byte past it
-pub over-limit : (gave : List ℕ → Type 0) (old held : List ℕ) (room passed b lent : ℕ)
-    → (s : Seeking gave old held room room passed (length held)) → lent + (length old + room) ≡ INPUT_LIMIT
-    → (INPUT_LIMIT < lent + length (old ++ (s.given ++ b ∷ [])))
-    × HasNoFeed (take (INPUT_LIMIT - lent) (old ++ (s.given ++ b ∷ [])))
-over-limit gave old held room passed b lent s limit =
+pub over-limit : (gave : List ℕ → Type 0) (old held : List ℕ) (room passed b handed_out : ℕ)
+    → (s : Seeking gave old held room room passed (length held)) → handed_out + (length old + room) ≡ INPUT_LIMIT
+    → (INPUT_LIMIT < handed_out + length (old ++ (s.given ++ b ∷ [])))
+    × HasNoFeed (take (INPUT_LIMIT - handed_out) (old ++ (s.given ++ b ∷ [])))
+over-limit gave old held room passed b handed_out s limit =
     let front = old ++ s.given in
-    let whole : length front ≡ INPUT_LIMIT - lent = omega (arith, length-append old s.given, s.taken_is, limit) in
-    let cut : take (INPUT_LIMIT - lent) (old ++ (s.given ++ b ∷ [])) ≡ s.front ++ held =
-    ap (take (INPUT_LIMIT - lent)) (sym (append_assoc old s.given (b ∷ [])))
-    ∙ take_at front (b ∷ []) (INPUT_LIMIT - lent) whole ∙ s.input in (
+    let whole : length front ≡ INPUT_LIMIT - handed_out = omega (arith, length-append old s.given, s.taken_is, limit) in
+    let cut : take (INPUT_LIMIT - handed_out) (old ++ (s.given ++ b ∷ [])) ≡ s.front ++ held =
+    ap (take (INPUT_LIMIT - handed_out)) (sym (append_assoc old s.given (b ∷ [])))
+    ∙ take_at front (b ∷ []) (INPUT_LIMIT - handed_out) whole ∙ s.input in (
       omega (arith, length-append old (s.given ++ b ∷ []), length-append s.given (b ∷ []), s.taken_is, limit),
       subst HasNoFeed (sym cut) (Seeking-none gave old held room room passed s),
     )
@@ -139,12 +139,12 @@ over-limit gave old held room passed b lent s limit =
 pub over-fault : (gave : List ℕ → Type 0) (old held : List ℕ) (room passed b : ℕ) (at_end : Type 0) (tally then : Tally)
     → (s : Seeking gave old held room room passed (length held)) (before after : ReaderState) (at : At) (fault : Fault)
     → fault ≡ InputTooLong → before.rest ≡ old
-    → before.lent + (length old + room) ≡ INPUT_LIMIT → Stops before at after → then ≡ tally
+    → before.handed_out + (length old + room) ≡ INPUT_LIMIT → Stops before at after → then ≡ tally
     → AnswersFault before (s.given ++ b ∷ []) at_end tally then at fault after
 over-fault gave old held room passed b at_end tally then s before after at fault is rest limit stops well =
-    let facts = over-limit gave old held room passed b before.lent s limit in
-    let P : List ℕ → Type 0 = λ l. (INPUT_LIMIT < before.lent + length (l ++ (s.given ++ b ∷ [])))
-    × HasNoFeed (take (INPUT_LIMIT - before.lent) (l ++ (s.given ++ b ∷ []))) in
+    let facts = over-limit gave old held room passed b before.handed_out s limit in
+    let P : List ℕ → Type 0 = λ l. (INPUT_LIMIT < before.handed_out + length (l ++ (s.given ++ b ∷ [])))
+    × HasNoFeed (take (INPUT_LIMIT - before.handed_out) (l ++ (s.given ++ b ∷ []))) in
     let there = subst P (sym rest) facts in
     subst (λ f. AnswersFault before (s.given ++ b ∷ []) at_end tally then at f after)
     (sym is) (there.0, there.1, stops, well)
@@ -153,12 +153,12 @@ pub read-fault : (gave : List ℕ
     → Type 0) (old held : List ℕ) (room taken passed : ℕ) (at_end : Type 0) (tally then : Tally)
     → (s : Seeking gave old held room taken passed (length held)) (before after : ReaderState) (at : At) (fault : Fault)
     → fault ≡ ReadFailed → before.rest ≡ old
-    → before.lent + (length old + room) ≡ INPUT_LIMIT → Stops before at after → then ≡ with_failure tally
+    → before.handed_out + (length old + room) ≡ INPUT_LIMIT → Stops before at after → then ≡ with_failure tally
     → AnswersFault before s.given at_end tally then at fault after
 read-fault gave old held room taken passed at_end tally then s before after at fault is rest limit stops bad =
     let none : HasNoFeed (before.rest ++ s.given) = subst HasNoFeed
     (sym (ap (λ l. l ++ s.given) rest ∙ s.input)) (Seeking-none gave old held room taken passed s) in
-    let within : before.lent + length (before.rest ++ s.given) ≤ INPUT_LIMIT =
+    let within : before.handed_out + length (before.rest ++ s.given) ≤ INPUT_LIMIT =
     omega (arith, length-append before.rest s.given, ap length rest, s.taken_is, s.within, limit) in
     subst (λ f. AnswersFault before s.given at_end tally then at f after) (sym is) (within, none, stops, bad)
 

@@ -97,11 +97,11 @@ fn is_plain(is_ended: bool, has_return: bool) -> bool
 #[derive(Drop)]
 pub struct LineReader {
     window: Box<Window>,
-    lent: u64,
+    handed_out: u64,
     number: u64,
     phase: Phase,
-    ghost counted: { number ≤ lent },
-    ghost limit: { lent + length (kept window.value) ≤ INPUT_LIMIT },
+    ghost counted: { number ≤ handed_out },
+    ghost limit: { handed_out + length (kept window.value) ≤ INPUT_LIMIT },
 }
 
 impl LineReader {
@@ -114,12 +114,12 @@ impl LineReader {
     /// A reader before its input's first line.
     pub fn new(alloc: Global) -> Result<LineReader, AllocError>
         ensures { IfOk result
-            (λ r. reading r ≡ record { rest = []; lent = 0; number = 0; phase = Phase.Open }) }
+            (λ r. reading r ≡ record { rest = []; handed_out = 0; number = 0; phase = Phase.Open }) }
     {
         let window = Box::new(alloc, Window::new(alloc)?)?;
         Ok(LineReader {
             window,
-            lent: 0,
+            handed_out: 0,
             number: 0,
             phase: Phase::Open,
         })
@@ -150,7 +150,7 @@ impl LineReader {
         };
         let place = self.window.content(len);
         self.window.pass(len + 1);
-        self.lent += len as u64 + 1;
+        self.handed_out += len as u64 + 1;
         self.number += 1;
         if place.to - place.from > LINE_LIMIT {
             return Err(At {
@@ -178,7 +178,7 @@ impl LineReader {
             (λ o. IfSome o (λ p. (p.from ≤ p.to) × (p.to ≤ SIZE) × (p.to - p.from ≤ LINE_LIMIT))) }
         ensures unasked { Contains (kept self.old.window.value) 10 → reader.new ≡ reader.old }
     {
-        let room = INPUT_LIMIT - self.lent - self.window.as_slice().len() as u64;
+        let room = INPUT_LIMIT - self.handed_out - self.window.as_slice().len() as u64;
         let found = match seek(&mut self.window, room, reader) {
             Ok(found) => found,
             Err(fault) => {
@@ -197,7 +197,7 @@ impl LineReader {
         let place = self.window.content(found.len);
         let held = found.held();
         self.window.pass(held);
-        self.lent += found.passed + held as u64;
+        self.handed_out += found.passed + held as u64;
         self.number += 1;
         self.phase = phase_after(found.is_ended);
         if is_over(found.passed, place.to - place.from) {

@@ -49,7 +49,7 @@ abbrev pub TakesCompactLine : Made HeldEpoch OpenRawEpoch → List ℕ
     → Seen OpenRawEpoch (Option Tail) → Seen OpenRawEpoch (Option Tail) → List (List ℕ) → Bool → Type 0
 TakesCompactLine made line before after lines is_ready = record {
   answer = answer_for is_ready;
-  lent = lines;
+  handed_out = lines;
   next = counted after;
 } ≡ step_of_made expansion before (Content line) made
 

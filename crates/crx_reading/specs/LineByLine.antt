@@ -140,7 +140,7 @@ pub data Answer : Type 0 where
 
 pub record Step (O K : Type 0) : Type 0 where
   pub answer : Answer
-  pub lent : List (List ℕ)
+  pub handed_out : List (List ℕ)
   pub next : Seen O K
 
 -- faults are skipped where an epoch or an event may begin and in an epoch
@@ -192,17 +192,17 @@ failed_step direction seen line fault =
     let at : At = record { line = seen.number + 1; fault = fault } in
     let again : Bool = is_in_epoch seen.phase && can_go_on line in
     if is_skipped_in seen fault
-    then record { answer = Notice at again; lent = []; next = after_warning direction seen again }
-    else record { answer = Failed at; lent = []; next = with_phase direction seen (Ended at) }
+    then record { answer = Notice at again; handed_out = []; next = after_warning direction seen again }
+    else record { answer = Failed at; handed_out = []; next = with_phase direction seen (Ended at) }
 
 abbrev pub step_of_made : {U O K : Type 0} → Direction U O K → Seen O K → ReadLine → Made U O → Step O K
 step_of_made direction seen line (Completes unit) =
-    record { answer = Ready; lent = direction.written seen unit; next = after_unit direction seen unit }
+    record { answer = Ready; handed_out = direction.written seen unit; next = after_unit direction seen unit }
 step_of_made direction seen line (Moves phase) =
-    record { answer = Quiet; lent = []; next = with_phase direction seen phase }
+    record { answer = Quiet; handed_out = []; next = with_phase direction seen phase }
 step_of_made direction seen line (Fails fault) = failed_step direction seen line fault
 step_of_made direction seen line (Repeats at) =
-    record { answer = Failed at; lent = []; next = record seen { number = seen.number + 1 } }
+    record { answer = Failed at; handed_out = []; next = record seen { number = seen.number + 1 } }
 
 -- what one line more makes
 abbrev pub seen_next : {U O K : Type 0} → Direction U O K → Seen O K → ReadLine → Step O K
@@ -227,14 +227,14 @@ abbrev pub closed_after_warning : {U O K : Type 0} → Direction U O K → Seen 
 closed_after_warning direction seen = record seen { phase = Closed; kept = direction.emptied seen.kept }
 
 abbrev pub end_step : {U O K : Type 0} → Direction U O K → Seen O K → Option Fault → Step O K
-end_step direction seen None = record { answer = Quiet; lent = []; next = record seen { phase = Closed } }
+end_step direction seen None = record { answer = Quiet; handed_out = []; next = record seen { phase = Closed } }
 end_step direction seen (Some fault) =
     let at : At = record { line = seen.number + 1; fault = fault } in
     if is_skipped_in seen fault
-    then record { answer = Notice at false; lent = []; next = closed_after_warning direction seen }
+    then record { answer = Notice at false; handed_out = []; next = closed_after_warning direction seen }
     else record {
       answer = Failed at;
-      lent = [];
+      handed_out = [];
       next = record seen { phase = Ended at; kept = direction.emptied seen.kept };
     }
 
@@ -242,7 +242,7 @@ end_step direction seen (Some fault) =
 abbrev pub seen_end : {U O K : Type 0} → Direction U O K → Seen O K → Step O K
 seen_end direction seen =
     elim (seen.phase) [
-      | Ended at ↦ record { answer = Failed at; lent = []; next = seen }
+      | Ended at ↦ record { answer = Failed at; handed_out = []; next = seen }
       | phase ↦ end_step direction seen (fault_at_end_in phase)
     ]
 

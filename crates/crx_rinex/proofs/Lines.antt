@@ -37,11 +37,11 @@ none-copied true (Some x) is = absurd (true≢false is)
 none-copied false (Some x) is = ((λ t. absurd (true≢false (sym t))), (λ t. absurd (true≢false (sym t))))
 
 -- lines that are a first one and others are all borrowed where no other stands at the last place
-pub all-lent : {A B : Type 0} (f : A → B) (first : B) (xs : List A) (n : ℕ) (b : Bool) (o : Option (Bor A))
+pub all-handed_out : {A B : Type 0} (f : A → B) (first : B) (xs : List A) (n : ℕ) (b : Bool) (o : Option (Bor A))
     → 0 < n → is_some o ≡ not b → option_copied o ≡ slice_get xs (n - 1)
     → IsTrue b ↔ (drop n (first ∷ map f xs) ≡ [])
-all-lent f first xs zero b o less is at = absurd (omega (arith, less))
-all-lent f first xs (suc n) b o less is at =
+all-handed_out f first xs zero b o less is at = absurd (omega (arith, less))
+all-handed_out f first xs (suc n) b o less is at =
     let e : suc n - 1 ≡ n = omega arith in
     let one = none-copied b o is in
     let two = subst (λ (p : Option _). IsTrue (is_none p) ↔ (drop n (map f xs) ≡ []))

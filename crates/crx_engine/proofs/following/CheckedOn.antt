@@ -66,8 +66,8 @@ one-on lines line =
     let after : Reading Epoch = rinex_reading false (lines ++ line ∷ []) in
     let next : reading_seen (lines ++ line ∷ []) ≡ step.next = h.next
     ∙ ap (λ (f : Fed OpenEpoch Totals). f.next) once in
-    let lent : printed_items after.items ≡ printed_items before.items ++ step.lent = h.lent
-    ∙ ap (λ (f : Fed OpenEpoch Totals). printed_items before.items ++ f.lent) once in
+    let handed_out : printed_items after.items ≡ printed_items before.items ++ step.handed_out = h.handed_out
+    ∙ ap (λ (f : Fed OpenEpoch Totals). printed_items before.items ++ f.handed_out) once in
     let failed : fault_of_stop after.stop ≡ failed_by step.answer = h.failed
     ∙ ap (λ (f : Fed OpenEpoch Totals). f.failed) once in
     let phase : phase_of rinex_open after ≡ step.next.phase = ap (λ (t : Seen OpenEpoch Totals). t.phase) next in
@@ -75,9 +75,9 @@ one-on lines line =
       fault = failed;
       next = next;
       printed = λ none.
-          ap (λ ls. ls ++ printed_open (phase_of rinex_open after)) lent
-          ∙ ap (λ p. (printed_items before.items ++ step.lent) ++ printed_open p) phase
-          ∙ append_assoc (printed_items before.items) step.lent (printed_open step.next.phase)
+          ap (λ ls. ls ++ printed_open (phase_of rinex_open after)) handed_out
+          ∙ ap (λ p. (printed_items before.items ++ step.handed_out) ++ printed_open p) phase
+          ∙ append_assoc (printed_items before.items) step.handed_out (printed_open step.next.phase)
           ∙ ap (λ ls. printed_items before.items ++ ls)
           (line-grows (length lines) s.phase s.types s.kept line (phase-reached lines) (sym failed ∙ none))
           ∙ sym (append_assoc (printed_items before.items) (printed_open s.phase) (given_back lines line ∷ []));

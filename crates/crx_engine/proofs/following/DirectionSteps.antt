@@ -48,7 +48,7 @@ compaction-goes choices = record {
         next = ap (λ (ls : List ReadLine). compaction_seen choices ls) all ∙ h.next;
         output = ap (λ (ls : List ReadLine). lines_text (compaction_so_far choices ls)) all
             ∙ text-then (compaction_so_far choices (map seen lines))
-            (compaction_so_far choices (map seen lines ++ seen line ∷ [])) _ h.lent;
+            (compaction_so_far choices (map seen lines ++ seen line ∷ [])) _ h.handed_out;
         warnings = ap (λ (ls : List ReadLine). reverse (warnings_in (rinex_reading choices.skip ls).items)) all
             ∙ warned-then (warnings_in (rinex_reading choices.skip (map seen lines)).items)
             (warnings_in (rinex_reading choices.skip (map seen lines ++ seen line ∷ [])).items) _ h.warned;
@@ -57,7 +57,7 @@ compaction-goes choices = record {
   ends = λ (lines : List InputLine).
       let h = compaction-ended choices (map seen lines) in
       record {
-        lent = h.lent;
+        handed_out = h.handed_out;
         output = ap lines_text h.written;
         warnings = warned-then _ _ (noticed_by
             (seen_end compaction (compaction_seen choices (map seen lines))).answer) h.warned;
@@ -79,7 +79,7 @@ expansion-goes choices = record {
       record {
         next = ap (λ (ls : List ReadLine). expansion_seen choices ls) all ∙ h.next;
         output = ap (λ (ls : List ReadLine). lines_text (expansion_so_far choices ls)) all ∙ text-then (expansion_so_far
-            choices (map seen lines)) (expansion_so_far choices (map seen lines ++ seen line ∷ [])) _ h.lent;
+            choices (map seen lines)) (expansion_so_far choices (map seen lines ++ seen line ∷ [])) _ h.handed_out;
         warnings = ap (λ (ls : List ReadLine). reverse (warnings_in (compact_reading choices.skip ls).items)) all
             ∙ warned-then (warnings_in (compact_reading choices.skip (map seen lines)).items)
             (warnings_in (compact_reading choices.skip (map seen lines ++ seen line ∷ [])).items) _ h.warned;
@@ -88,7 +88,7 @@ expansion-goes choices = record {
   ends = λ (lines : List InputLine).
       let h = expansion-ended choices (map seen lines) in
       record {
-        lent = h.lent;
+        handed_out = h.handed_out;
         output = ap lines_text h.written;
         warnings = warned-then _ _ (noticed_by
             (seen_end expansion (expansion_seen choices (map seen lines))).answer) h.warned;

@@ -100,7 +100,7 @@ after-fault choices lines line offset fault =
     let all : length (lines ++ line ∷ []) ≡ length lines + 1 = length-append lines (line ∷ []) in
     record {
       next = ap (λ (n : ℕ). seen_in choices n (Ended (record { line = offset + 1; fault = fault })) [] None) all;
-      lent = refl;
+      handed_out = refl;
       warned = refl;
       failed = refl;
     }
@@ -111,7 +111,7 @@ ends : (choices : Choices) (count : ℕ) (line : ReadLine) (fault : Fault)
     ≡ record {
       warned = [];
       failed = Some (record { line = count + 1; fault = fault });
-      lent = [];
+      handed_out = [];
       next = seen_in choices (count + 1) (Ended (record { line = count + 1; fault = fault })) [] None;
     }
 ends choices count line fault = ap fed_once (failed-ends expansion
@@ -136,9 +136,9 @@ first-line choices line =
         (fault_of_stop (reading_by choices.skip (Content content ∷ []) (first_lines (Content content ∷ []))).stop)
         (fed_once (step_of_made expansion
         (seen_in choices 0 (InFirstLines 0) [] None) (Content content) (moved_to (InFirstLines 1) r)))
-    by_result content (Ok version) e = rw e (record { next = refl; lent = refl; warned = refl; failed = refl })
+    by_result content (Ok version) e = rw e (record { next = refl; handed_out = refl; warned = refl; failed = refl })
     by_result content (Err fault) e = rw (e, ends choices 0 (Content content) fault)
-        (record { next = refl; lent = refl; warned = refl; failed = refl })
+        (record { next = refl; handed_out = refl; warned = refl; failed = refl })
 
     by_line : (l : ReadLine)
         → IsFollowed (seen_by choices (l ∷ []) (first_lines (l ∷ [])))
@@ -147,7 +147,7 @@ first-line choices line =
         (fault_of_stop (reading_by choices.skip (l ∷ []) (first_lines (l ∷ []))).stop)
         (fed_once (seen_next expansion (seen_in choices 0 (InFirstLines 0) [] None) l))
     by_line Overlong = rw (ends choices 0 Overlong LineTooLong)
-        (record { next = refl; lent = refl; warned = refl; failed = refl })
+        (record { next = refl; handed_out = refl; warned = refl; failed = refl })
     by_line (Content content) = by_result content (crinex_version content) refl
 
 -- the second line, the first being good
@@ -174,9 +174,9 @@ second-line choices first line version good =
         (fed_once (step_of_made expansion
         (seen_in choices 1 (InFirstLines 1) [] None) (Content content) (moved_to (InHeader true) r)))
     by_result content (Ok program) e =
-        rw good (rw e (record { next = refl; lent = refl; warned = refl; failed = refl }))
+        rw good (rw e (record { next = refl; handed_out = refl; warned = refl; failed = refl }))
     by_result content (Err fault) e = rw good (rw (e, ends choices 1 (Content content) fault)
-        (record { next = refl; lent = refl; warned = refl; failed = refl }))
+        (record { next = refl; handed_out = refl; warned = refl; failed = refl }))
 
     by_line : (l : ReadLine)
         → IsFollowed (seen_by choices (Content first ∷ l ∷ []) (first_lines (Content first ∷ l ∷ [])))
@@ -186,7 +186,7 @@ second-line choices first line version good =
         (reading_by choices.skip (Content first ∷ l ∷ []) (first_lines (Content first ∷ l ∷ []))).stop)
         (fed_once (seen_next expansion (seen_in choices 1 (InFirstLines 1) [] None) l))
     by_line Overlong = rw good (rw (ends choices 1 Overlong LineTooLong)
-        (record { next = refl; lent = refl; warned = refl; failed = refl }))
+        (record { next = refl; handed_out = refl; warned = refl; failed = refl }))
     by_line (Content content) = by_result content (crinex_program content) refl
 
 -- where one of the two lines is wanted, there is none, or a good first line alone

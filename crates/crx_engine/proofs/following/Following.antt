@@ -172,7 +172,7 @@ pub failed-ends : {U O K : Type 0} (direction : Direction U O K) (seen : Seen O 
     → failed_step direction seen line fault
     ≡ record {
       answer = Failed (record { line = seen.number + 1; fault = fault });
-      lent = [];
+      handed_out = [];
       next = with_phase direction seen (Ended (record { line = seen.number + 1; fault = fault }));
     }
 failed-ends direction seen line fault e = rw e refl
@@ -183,7 +183,7 @@ pub failed-skipped : {U O K : Type 0} (direction : Direction U O K) (seen : Seen
     ≡ record {
       answer = Notice (record { line = seen.number + 1; fault = fault }) (is_in_epoch seen.phase
           && can_go_on line);
-      lent = [];
+      handed_out = [];
       next = after_warning direction seen (is_in_epoch seen.phase && can_go_on line);
     }
 failed-skipped direction seen line fault e = rw e refl
@@ -318,7 +318,7 @@ pub followed-unit : {E U O K : Type 0} (direction : Direction U O K) (open_with 
     (count + 1) items (record { items = Accepted unit ∷ items; stop = AtLines n [] })
     (fed_once (record {
       answer = Ready;
-      lent = direction.written (seen_in choices count phase (types_in_force items)
+      handed_out = direction.written (seen_in choices count phase (types_in_force items)
           kept) same;
       next = after_unit direction (seen_in choices count phase (types_in_force items) kept) same;
     }))
@@ -330,7 +330,7 @@ followed-unit direction open_with
       next = seen-same choices (count + 1) _ _ _ _ _ _ here types
           (ap (λ p. kept_in direction p (kept_of (Accepted unit ∷ items))) here
           ∙ kept-after_unit direction phase same (kept_of (Accepted unit ∷ items)) ∙ sym keeps);
-      lent = ap (λ l. written_lines unit_lines items ++ l) (sym lines);
+      handed_out = ap (λ l. written_lines unit_lines items ++ l) (sym lines);
       warned = refl;
       failed = refl;
     }
@@ -350,7 +350,7 @@ followed-end direction open_with kept_of unit_lines choices count items phase ke
     (sym (failed-ends direction (seen_in choices count phase (types_in_force items) kept) line fault off))
     (record {
       next = seen-same choices (count + 1) _ _ _ _ _ _ refl refl (sym emptied);
-      lent = sym (append-nil (written_lines unit_lines items));
+      handed_out = sym (append-nil (written_lines unit_lines items));
       warned = refl;
       failed = refl;
     })
@@ -373,7 +373,7 @@ followed-skip direction open_with kept_of unit_lines choices count n items phase
       next = seen-same choices (count + 1) _ _ _ _ _ _ refl refl (sym emptied)
           ∙ ap (λ (b : Bool). seen_in choices
           (cond b count (count + 1)) LookingOn (types_in_force items) (direction.emptied kept)) (sym off);
-      lent = sym (append-nil (written_lines unit_lines items));
+      handed_out = sym (append-nil (written_lines unit_lines items));
       warned = refl;
       failed = refl;
     })
@@ -389,7 +389,7 @@ followed-open : {E U O K : Type 0} (direction : Direction U O K) (open_with : Li
     (count + 1) items (record { items = items; stop = AtLines n lines })
     (fed_once (record {
       answer = Quiet;
-      lent = [];
+      handed_out = [];
       next = with_phase direction (seen_in choices count phase (types_in_force items) kept) (InEpoch so_far);
     }))
 followed-open direction open_with
@@ -400,7 +400,7 @@ followed-open direction open_with
     record {
       next = seen-same choices (count + 1) _ _ _ _ _ _ here refl
           (ap (λ p. kept_in direction p (kept_of items)) here ∙ sym keeps);
-      lent = sym (append-nil (written_lines unit_lines items));
+      handed_out = sym (append-nil (written_lines unit_lines items));
       warned = refl;
       failed = refl;
     }

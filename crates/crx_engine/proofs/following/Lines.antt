@@ -55,10 +55,10 @@ followed-twice : {E U O K : Type 0} (direction : Direction U O K) (open_with : L
     → (count : ℕ) (items : List (Item E)) (at : At) (r : Reading E) (next : Seen O K) (two : Step O K)
     → Follows direction open_with kept_of unit_lines choices count (Warned at ∷ items) r (fed_once two)
     → Follows direction open_with kept_of unit_lines choices count items r
-    (fed_twice (record { answer = Notice at true; lent = []; next = next }) two)
+    (fed_twice (record { answer = Notice at true; handed_out = []; next = next }) two)
 followed-twice direction open_with kept_of unit_lines choices count items at r next two h = record {
   next = h.next;
-  lent = h.lent;
+  handed_out = h.handed_out;
   warned = h.warned ∙ sym (append_assoc _ (at ∷ []) (warnings_in items));
   failed = h.failed;
 }
@@ -118,12 +118,12 @@ body-line {E = E} {U = U} {O = O} {K = K} beginning direction open_with kept_of 
         let goes : can_go_on line ≡ true = second_true (is_in_epoch phase) (can_go_on line) both in
         let one : Step O K = record {
           answer = Notice at true;
-          lent = [];
+          handed_out = [];
           next = seen_in choices count LookingOn (types_in_force items) (direction.emptied kept);
         } in
         let is_one : failed_step direction seen line fault ≡ one =
         failed-skipped direction seen line fault skipped
-        ∙ ap (λ (b : Bool). record { answer = Notice at b; lent = []; next = after_warning direction seen b }) both in
+        ∙ ap (λ (b : Bool). record { answer = Notice at b; handed_out = []; next = after_warning direction seen b }) both in
         let kept_then : direction.emptied kept ≡ kept_of (Warned at ∷ items) = emptied-same
         beginning direction open_with kept_of unit_lines choices h items kept keeps ∙ h.warned items at in
         let made_then : made_in direction LookingOn (types_in_force items) (direction.emptied kept) line
@@ -502,7 +502,7 @@ pub next-line : {E U O K : Type 0} (beginning : List (Item E) → List ReadLine
     (fed direction (seen_of direction open_with kept_of choices count (record { items = items; stop = stop })) line)
 next-line beginning direction open_with kept_of unit_lines choices h items (AtFault at) count line stopped = record {
   next = refl;
-  lent = sym (append-nil (written_lines unit_lines items));
+  handed_out = sym (append-nil (written_lines unit_lines items));
   warned = refl;
   failed = refl;
 }
@@ -528,7 +528,7 @@ next-line {E = E} {U = U} {O = O} {K = K} beginning direction open_with kept_of 
     ∙ ap (λ m. fed_once (step_of_made direction seen line m)) (stays (types_in_force items) (kept_of items) off)))
     (record {
       next = refl;
-      lent = sym (append-nil (written_lines unit_lines items));
+      handed_out = sym (append-nil (written_lines unit_lines items));
       warned = refl;
       failed = refl;
     })))

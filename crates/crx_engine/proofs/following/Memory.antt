@@ -207,7 +207,7 @@ module _ {E U O K : Type 0} (beginning : List (Item E) → List ReadLine → Pla
       (notice : At) → place items rest ≡ Wanted → number + length rest ≡ count + 1
       → header_has_ended items ≡ true → records_left items ≡ 0 → open_with items rest ≡ Some so_far
       → (m : Made U O) → AgreeOn beginning direction open_with kept_of unit_lines choices items (rest ++ line ∷ []) m
-      → record { answer = Notice notice true; lent = []; next = next } ≡ step_of_made direction
+      → record { answer = Notice notice true; handed_out = []; next = next } ≡ step_of_made direction
       (seen_in choices count (InEpoch so_far) (types_in_force items) (direction.kept_open (kept_of items))) line m
       → takes_memory direction next line ≡ true
       → memory_allowed place takes choices.skip (record { items = items; stop = AtLines number rest }) line
@@ -221,9 +221,9 @@ module _ {E U O K : Type 0} (beginning : List (Item E) → List ReadLine → Pla
   cut-takes items number count rest line so_far next notice wanted counted ended none e_open (Fails fault) a e taken =
       by_bool (is_skipped_in before fault)
       (λ on.
-      let is : record { answer = Notice notice true; lent = []; next = next } ≡ record {
+      let is : record { answer = Notice notice true; handed_out = []; next = next } ≡ record {
         answer = Notice at (can_go_on line);
-        lent = [];
+        handed_out = [];
         next = after_warning direction before (can_go_on line);
       } = e ∙ failed-skipped direction before line fault on in
       let goes : can_go_on line ≡ true = sym (ap (λ (s : Step O K). is_again s.answer) is) in
@@ -247,9 +247,9 @@ module _ {E U O K : Type 0} (beginning : List (Item E) → List ReadLine → Pla
       ∙ ap (λ b. cond b (Some (at ∷ [])) None) (all-true skipped some goes again)
       ∙ ap (λ (n : At). Some (n ∷ [])) (sym noted))
       (λ off.
-      let is : record { answer = Notice notice true; lent = []; next = next } ≡ record {
+      let is : record { answer = Notice notice true; handed_out = []; next = next } ≡ record {
         answer = Failed at;
-        lent = [];
+        handed_out = [];
         next = with_phase direction before (Ended at);
       } = e ∙ failed-ends direction before line fault off in
       let no : true ≡ false = ap (λ (s : Step O K). is_again s.answer) is in absurd (cc))
@@ -287,7 +287,7 @@ module _ {E U O K : Type 0} (beginning : List (Item E) → List ReadLine → Pla
   -- memory may run out at a line after its warning
   pub allowed-again : (items : List (Item E)) (stop : Stop) (count : ℕ) (line : ReadLine) (next : Seen O K) (notice : At)
       → IsStopped place items stop (count + 1)
-      → record { answer = Notice notice true; lent = []; next = next } ≡ seen_next direction
+      → record { answer = Notice notice true; handed_out = []; next = next } ≡ seen_next direction
       (seen_of direction open_with kept_of choices count (record { items = items; stop = stop })) line
       → takes_memory direction next line ≡ true
       → memory_allowed place takes choices.skip (record { items = items; stop = stop }) line ≡ Some (notice ∷ [])
@@ -296,7 +296,7 @@ module _ {E U O K : Type 0} (beginning : List (Item E) → List ReadLine → Pla
     where
       by_stop : (s : Stop) → IsStopped place items s (count + 1)
           → ComesAgain (seen_of direction open_with kept_of choices count (record { items = items; stop = s })) next line
-          → record { answer = Notice notice true; lent = []; next = next } ≡ seen_next direction
+          → record { answer = Notice notice true; handed_out = []; next = next } ≡ seen_next direction
           (seen_of direction open_with kept_of choices count (record { items = items; stop = s })) line
           → memory_allowed place takes choices.skip (record { items = items; stop = s }) line ≡ Some (notice ∷ [])
       by_stop (AtFault at) stopped again e = false-true again.epoch

@@ -196,14 +196,14 @@ expansion-allowed choices lines line e =
 
 pub expansion-allowed-again : (choices : Choices) (lines : List ReadLine) (line : ReadLine)
     (next : Seen OpenRawEpoch (Option Tail)) (notice : At)
-    → record { answer = Notice notice true; lent = []; next = next } ≡ seen_next expansion (expansion_seen choices lines) line
+    → record { answer = Notice notice true; handed_out = []; next = next } ≡ seen_next expansion (expansion_seen choices lines) line
     → takes_memory expansion next line ≡ true
     → compact_memory choices.skip lines line ≡ Some (notice ∷ [])
 expansion-allowed-again choices lines line next notice step e =
     decided (first_lines lines) refl step
   where
     decided : (p : Place (List (List ℕ))) → first_lines lines ≡ p
-        → record { answer = Notice notice true; lent = []; next = next } ≡ seen_next expansion (seen_by choices lines p) line
+        → record { answer = Notice notice true; handed_out = []; next = next } ≡ seen_next expansion (seen_by choices lines p) line
         → memory_by choices lines line p p ≡ Some (notice ∷ [])
     decided (Here two count) is s =
         let r : Reading ReadEpoch = reading_from compact_place choices.skip [] (count + 1) (drop count lines) in

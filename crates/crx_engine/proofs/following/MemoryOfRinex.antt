@@ -125,7 +125,7 @@ compaction-allowed choices lines line e =
 
 pub compaction-allowed-again : (choices : Choices) (lines : List ReadLine) (line : ReadLine)
     (next : Seen OpenEpoch Written) (notice : At)
-    → record { answer = Notice notice true; lent = []; next = next } ≡ seen_next compaction (compaction_seen choices lines) line
+    → record { answer = Notice notice true; handed_out = []; next = next } ≡ seen_next compaction (compaction_seen choices lines) line
     → takes_memory compaction next line ≡ true
     → memory_allowed rinex_place compaction_takes choices.skip (rinex_reading choices.skip lines) line
     ≡ Some (notice ∷ [])

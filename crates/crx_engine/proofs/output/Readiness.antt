@@ -18,15 +18,15 @@ use Rattle.std.specs.Prelude.{Option}
 
 step-ready : {U O K : Type 0} (direction : Direction U O K) → ((seen : Seen O K) (unit : FileUnit U)
     → has_lines (direction.written seen unit) ≡ true) → (seen : Seen O K) (line : ReadLine) (made : Made U O)
-    → is_ready (step_of_made direction seen line made).answer ≡ has_lines (step_of_made direction seen line made).lent
+    → is_ready (step_of_made direction seen line made).answer ≡ has_lines (step_of_made direction seen line made).handed_out
 step-ready direction some seen line (Completes unit) = sym (some seen unit)
 step-ready direction some seen line (Moves phase) = refl
 step-ready direction some seen line (Repeats at) = refl
 step-ready direction some seen line (Fails fault) = by_bool (is_skipped_in seen fault)
     (λ on. ap (λ (s : Step _ _). is_ready s.answer) (failed-skipped direction seen line fault on)
-    ∙ sym (ap (λ (s : Step _ _). has_lines s.lent) (failed-skipped direction seen line fault on)))
+    ∙ sym (ap (λ (s : Step _ _). has_lines s.handed_out) (failed-skipped direction seen line fault on)))
     (λ off. ap (λ (s : Step _ _). is_ready s.answer) (failed-ends direction seen line fault off)
-    ∙ sym (ap (λ (s : Step _ _). has_lines s.lent) (failed-ends direction seen line fault off)))
+    ∙ sym (ap (λ (s : Step _ _). has_lines s.handed_out) (failed-ends direction seen line fault off)))
 
 first-lines : (date line : List ℕ) (is_first : Bool) → has_lines (lines_before_header date is_first ++ line ∷ []) ≡ true
 first-lines date line true = refl

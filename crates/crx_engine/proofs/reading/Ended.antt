@@ -71,12 +71,12 @@ by-first_lines choices lines (Here two count) e =
     next-end compact_beginning expansion compact_open tail_of_items expanded_unit choices
     (expansion-carried_out choices) r.items r.stop (length lines) stopped
 by-first_lines choices lines (Wrong offset fault) e =
-    record { once = refl; lent = refl; written = refl; warned = refl; failed = refl }
+    record { once = refl; handed_out = refl; written = refl; warned = refl; failed = refl }
 by-first_lines choices lines Wanted e =
     let seen : Seen OpenRawEpoch (Option Tail) = seen_in choices (length lines) (InFirstLines (length lines)) [] None in
     let off : is_skipped_in seen (fault_in_first_lines (length lines)) ≡ false =
     never-before choices.skip (is_skippable (fault_in_first_lines (length lines))) in
-    rw off (record { once = refl; lent = refl; written = refl; warned = refl; failed = refl })
+    rw off (record { once = refl; handed_out = refl; written = refl; warned = refl; failed = refl })
 
 pub expansion-ended : (choices : Choices) (lines : List ReadLine) → IsExpansionEnded choices lines
 expansion-ended choices lines = by-first_lines choices lines (first_lines lines) refl

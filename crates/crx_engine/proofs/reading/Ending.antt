@@ -40,12 +40,12 @@ ends-same : {E U O K : Type 0} (direction : Direction U O K) (unit_lines : List 
     → EndsAs unit_lines items (ended_with choices.skip items (count + 1) fault)
     (end_step direction (seen_in choices count phase types kept) fault)
 ends-same direction unit_lines choices items count phase types kept None same =
-    record { once = refl; lent = refl; written = refl; warned = refl; failed = refl }
+    record { once = refl; handed_out = refl; written = refl; warned = refl; failed = refl }
 ends-same {E = E} {K = K} direction unit_lines choices items count phase types kept (Some fault) same =
     by_bool (is_skipped_in (seen_in choices count phase types kept) fault)
-    (λ on. rw (same fault ∙ on, on) (record { once = refl; lent = refl; written = refl; warned = refl; failed = refl }))
+    (λ on. rw (same fault ∙ on, on) (record { once = refl; handed_out = refl; written = refl; warned = refl; failed = refl }))
     (λ off. rw (same fault ∙ off, off)
-    (record { once = refl; lent = refl; written = refl; warned = refl; failed = refl }))
+    (record { once = refl; handed_out = refl; written = refl; warned = refl; failed = refl }))
 
 in-header : {E : Type 0} (items : List (Item E)) → header_has_ended items ≡ false
     → fault_at_end items [] ≡ Some (cond (is_at_start items) MissingVersion NoEndOfHeader)
@@ -141,9 +141,9 @@ pub next-end : {E U O K : Type 0} (beginning : List (Item E) → List ReadLine
     → EndsAs unit_lines items (ended_reading choices.skip (record { items = items; stop = stop }))
     (seen_end direction (seen_of direction open_with kept_of choices count (record { items = items; stop = stop })))
 next-end beginning direction open_with kept_of unit_lines choices h items (AtFault at) count stopped =
-    record { once = refl; lent = refl; written = refl; warned = refl; failed = refl }
+    record { once = refl; handed_out = refl; written = refl; warned = refl; failed = refl }
 next-end beginning direction open_with kept_of unit_lines choices h items (Looking number) count stopped =
-    record { once = refl; lent = refl; written = refl; warned = refl; failed = refl }
+    record { once = refl; handed_out = refl; written = refl; warned = refl; failed = refl }
 next-end beginning direction open_with kept_of unit_lines choices h items (AtLines number rest) count stopped =
     lines-end beginning direction open_with kept_of unit_lines choices h items number count rest stopped.0 stopped.1
     (header_has_ended items) refl (records_left items) refl (open_with items rest) refl

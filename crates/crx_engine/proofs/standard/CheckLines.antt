@@ -106,7 +106,7 @@ row-printed so_far row =
 abbrev pub Grows : ℕ → Phase OpenEpoch → List Count → Totals → ReadLine → Made Epoch OpenEpoch → Type 0
 Grows number phase types kept line made =
     let step : Step OpenEpoch Totals = step_of_made checking (seen_in no_choices number phase types kept) line made in
-    failed_by step.answer ≡ None → step.lent ++ printed_open step.next.phase
+    failed_by step.answer ≡ None → step.handed_out ++ printed_open step.next.phase
     ≡ printed_open phase ++ last_line (printed_made made) ∷ []
 
 none-open : (left : ℕ) (counted : Bool) → printed_open (with_records_left left counted) ≡ []

@@ -31,14 +31,14 @@ use Rattle.crx_reading.proofs.Choosing.{by_bool}
 pub record FollowsBy (filter : Filter) {O K : Type 0}
     (lines : List InputLine) (line : InputLine) (seen_then : Seen O K) (line_fed : Fed O K) : Type 0 where
   pub next : seen_then ≡ line_fed.next
-  pub output : (filter.so_far (with_next lines line)).output ≡ (filter.so_far lines).output ++ lines_text line_fed.lent
+  pub output : (filter.so_far (with_next lines line)).output ≡ (filter.so_far lines).output ++ lines_text line_fed.handed_out
   pub warnings : (filter.so_far (with_next lines line)).warnings
       ≡ (filter.so_far lines).warnings ++ reverse line_fed.warned
   pub fault : (filter.so_far (with_next lines line)).fault ≡ line_fed.failed
 
 -- the end of the input is what the filter makes of it
 pub record EndsBy (filter : Filter) {O K : Type 0} (lines : List InputLine) (end : SeenStep O K) : Type 0 where
-  pub lent : end.lent ≡ []
+  pub handed_out : end.handed_out ≡ []
   pub output : (filter.whole lines).output ≡ (filter.so_far lines).output
   pub warnings : (filter.whole lines).warnings ≡ (filter.so_far lines).warnings ++ reverse (noticed_by end.answer)
   pub fault : (filter.whole lines).fault ≡ failed_by end.answer
@@ -54,7 +54,7 @@ pub record GoesLineByLine {U O K : Type 0} (direction : Direction U O K) (seen_a
       → takes_memory direction (seen_after (map seen lines)) (seen line) ≡ true
       → filter.memory_after lines line ≡ Some []
   pub memory_again : (lines : List InputLine) (line : InputLine) (next : Seen O K) (notice : At)
-      → record { answer = Notice notice true; lent = []; next = next }
+      → record { answer = Notice notice true; handed_out = []; next = next }
       ≡ seen_next direction (seen_after (map seen lines)) (seen line) → takes_memory direction next (seen line) ≡ true
       → filter.memory_after lines line ≡ Some (notice ∷ [])
   pub ready : IsReadyWhereLent direction
@@ -75,30 +75,30 @@ both-true true false e = absurd (cc)
 both-true false b e = absurd (cc)
 
 again-by-made : {U O K : Type 0} (direction : Direction U O K)
-    (before next : Seen O K) (line : ReadLine) (at : At) (lent : List (List ℕ)) (made : Made U O)
-    → record { answer = Notice at true; lent = lent; next = next } ≡ step_of_made direction before line made
+    (before next : Seen O K) (line : ReadLine) (at : At) (handed_out : List (List ℕ)) (made : Made U O)
+    → record { answer = Notice at true; handed_out = handed_out; next = next } ≡ step_of_made direction before line made
     → ComesAgain before next line
-again-by-made {O = O} {K = K} direction before next line at lent (Completes unit) e =
+again-by-made {O = O} {K = K} direction before next line at handed_out (Completes unit) e =
     let no : true ≡ false = ap (λ (s : SeenStep O K). is_again s.answer) e in
     absurd (cc)
-again-by-made {O = O} {K = K} direction before next line at lent (Moves phase) e =
+again-by-made {O = O} {K = K} direction before next line at handed_out (Moves phase) e =
     let no : true ≡ false = ap (λ (s : SeenStep O K). is_again s.answer) e in
     absurd (cc)
-again-by-made {O = O} {K = K} direction before next line at lent (Repeats fault) e =
+again-by-made {O = O} {K = K} direction before next line at handed_out (Repeats fault) e =
     let no : true ≡ false = ap (λ (s : SeenStep O K). is_again s.answer) e in
     absurd (cc)
-again-by-made {O = O} {K = K} direction before next line at lent (Fails fault) e =
+again-by-made {O = O} {K = K} direction before next line at handed_out (Fails fault) e =
     let again : Bool = is_in_epoch before.phase && can_go_on line in
     by_bool (is_skipped_in before fault)
     (λ on.
-    let step : record { answer = Notice at true; lent = lent; next = next }
+    let step : record { answer = Notice at true; handed_out = handed_out; next = next }
     ≡ failed_step direction before line fault = e in
     let is : failed_step direction before line fault ≡ record {
       answer = Notice (record {
         line = before.number + 1;
         fault = fault;
       }) again;
-      lent = [];
+      handed_out = [];
       next = record before {
         number = cond again before.number (before.number + 1);
         phase = LookingOn;
@@ -118,34 +118,34 @@ again-by-made {O = O} {K = K} direction before next line at lent (Fails fault) e
           then ∙ ap (λ (b : Bool). cond b before.number (before.number + 1)) (sym yes);
     })
     (λ off.
-    let step : record { answer = Notice at true; lent = lent; next = next }
+    let step : record { answer = Notice at true; handed_out = handed_out; next = next }
     ≡ failed_step direction before line fault = e in
     let is : is_again (failed_step direction before line fault).answer ≡ false = rw off refl in
     let yes : true ≡ false = ap (λ (s : SeenStep O K). is_again s.answer) step ∙ is in
     absurd (cc))
 
 pub comes-again : {U O K : Type 0}
-    (direction : Direction U O K) (before next : Seen O K) (line : ReadLine) (at : At) (lent : List (List ℕ))
-    → record { answer = Notice at true; lent = lent; next = next } ≡ seen_next direction before line
+    (direction : Direction U O K) (before next : Seen O K) (line : ReadLine) (at : At) (handed_out : List (List ℕ))
+    → record { answer = Notice at true; handed_out = handed_out; next = next } ≡ seen_next direction before line
     → ComesAgain before next line
-comes-again direction before next line at lent e =
-    again-by-made direction before next line at lent (made_in direction before.phase before.types before.kept line) e
+comes-again direction before next line at handed_out e =
+    again-by-made direction before next line at handed_out (made_in direction before.phase before.types before.kept line) e
 
 -- ---- one answer
 
 abbrev earliest : List At → List At
 earliest notices = reverse notices
 
-none-lent : (lines : List (List ℕ)) → has_lines lines ≡ false → lines ≡ []
-none-lent [] e = refl
-none-lent (line ∷ lines) e = absurd (cc)
+none-handed_out : (lines : List (List ℕ)) → has_lines lines ≡ false → lines ≡ []
+none-handed_out [] e = refl
+none-handed_out (line ∷ lines) e = absurd (cc)
 
 module _ {U O K : Type 0} (direction : Direction U O K) (seen_after : List ReadLine
     → Seen O K) (filter : Filter) (goes : GoesLineByLine direction seen_after filter) where
   -- only a step that is ready lends lines
-  quiet-lent : (before : Seen O K) (line : ReadLine) (step : SeenStep O K)
-      → step ≡ seen_next direction before line → is_ready step.answer ≡ false → step.lent ≡ []
-  quiet-lent before line step e quiet = none-lent step.lent (ap (λ (s : SeenStep O K). has_lines s.lent) e
+  quiet-handed_out : (before : Seen O K) (line : ReadLine) (step : SeenStep O K)
+      → step ≡ seen_next direction before line → is_ready step.answer ≡ false → step.handed_out ≡ []
+  quiet-handed_out before line step e quiet = none-handed_out step.handed_out (ap (λ (s : SeenStep O K). has_lines s.handed_out) e
       ∙ sym (goes.ready before line) ∙ ap (λ (s : SeenStep O K). is_ready s.answer) (sym e) ∙ quiet)
 
   -- ---- a line that is fed once, or comes a second time
@@ -180,14 +180,14 @@ module _ {U O K : Type 0} (direction : Direction U O K) (seen_after : List ReadL
 
     -- it goes on
     goes-on : (f : Fed O K) (now : Seen O K) (texts : List (List ℕ)) (notices : List At) → fed direction first
-        (seen line) ≡ f → f.next ≡ now → f.lent ≡ texts → reverse f.warned ≡ notices → f.failed ≡ None
+        (seen line) ≡ f → f.next ≡ now → f.handed_out ≡ texts → reverse f.warned ≡ notices → f.failed ≡ None
         → HasTaken direction seen_after now (with_next lines line) []
         × GoesOn (filter.so_far lines) (filter.so_far (with_next lines line)) texts notices
-    goes-on f now texts notices e next lent warned good =
+    goes-on f now texts notices e next handed_out warned good =
         let h = follows-fed f e in (
           sym next ∙ sym h.next,
           record {
-            output = h.output ∙ ap (λ (ls : List (List ℕ)). (filter.so_far lines).output ++ lines_text ls) lent;
+            output = h.output ∙ ap (λ (ls : List (List ℕ)). (filter.so_far lines).output ++ lines_text ls) handed_out;
             warnings = h.warnings ∙ ap (λ (ns : List At). (filter.so_far lines).warnings ++ ns) warned;
             good = h.fault ∙ good;
           },
@@ -195,12 +195,12 @@ module _ {U O K : Type 0} (direction : Direction U O K) (seen_after : List ReadL
 
     -- it ends
     ends-with : (f : Fed O K) (notices : List At) (at : At)
-        → fed direction first (seen line) ≡ f → f.lent ≡ [] → reverse f.warned ≡ notices → f.failed ≡ Some at
+        → fed direction first (seen line) ≡ f → f.handed_out ≡ [] → reverse f.warned ≡ notices → f.failed ≡ Some at
         → EndsWith (filter.so_far lines) (filter.so_far (with_next lines line)) notices at
-    ends-with f notices at e lent warned bad =
+    ends-with f notices at e handed_out warned bad =
         let h = follows-fed f e in
         record {
-          output = h.output ∙ ap (λ (ls : List (List ℕ)). (filter.so_far lines).output ++ lines_text ls) lent
+          output = h.output ∙ ap (λ (ls : List (List ℕ)). (filter.so_far lines).output ++ lines_text ls) handed_out
               ∙ append-nil (filter.so_far lines).output;
           warnings = h.warnings ∙ ap (λ (ns : List At). (filter.so_far lines).warnings ++ ns) warned;
           fault = h.fault ∙ bad;
@@ -213,7 +213,7 @@ module _ {U O K : Type 0} (direction : Direction U O K) (seen_after : List ReadL
         → step_made result ready now ≡ seen_next direction first (seen line)
         → EngineAnswers filter shows ready lines [] line result
     first-time shows now ready (Ok Quiet) showing e =
-        let none : ready ≡ [] = quiet-lent first (seen line) (step_made (Ok Quiet) ready now) e refl in
+        let none : ready ≡ [] = quiet-handed_out first (seen line) (step_made (Ok Quiet) ready now) e refl in
         let g = goes-on (fed_once (step_made (Ok Quiet) ready now)) now
         [] [] (fed-once first (seen line) (step_made (Ok Quiet) ready now) e refl) refl none refl refl in
         (showing (with_next lines line) [] g.0, g.1)
@@ -223,11 +223,11 @@ module _ {U O K : Type 0} (direction : Direction U O K) (seen_after : List ReadL
         (showing (with_next lines line) [] g.0, g.1)
     first-time shows now ready (Ok (Warned notice true)) showing e =
         let step = step_made (Ok (Warned notice true)) ready now in
-        let none : ready ≡ [] = quiet-lent first (seen line) step e refl in
+        let none : ready ≡ [] = quiet-handed_out first (seen line) step e refl in
         let two = seen_next direction now (seen line) in
         let h = follows-fed (fed_twice step two) (fed-again first (seen line) step e refl) in (
           showing lines (record { notice = notice; line = line } ∷ []) (ap
-              (λ (ls : List (List ℕ)). record { answer = Notice notice true; lent = ls; next = now }) (sym none) ∙ e),
+              (λ (ls : List (List ℕ)). record { answer = Notice notice true; handed_out = ls; next = now }) (sym none) ∙ e),
           refl,
           (
             reverse (noticed_by two.answer),
@@ -237,37 +237,37 @@ module _ {U O K : Type 0} (direction : Direction U O K) (seen_after : List ReadL
         )
     first-time shows now ready (Ok (Warned notice false)) showing e =
         let step = step_made (Ok (Warned notice false)) ready now in
-        let none : ready ≡ [] = quiet-lent first (seen line) step e refl in
+        let none : ready ≡ [] = quiet-handed_out first (seen line) step e refl in
         let g = goes-on (fed_once step) now
         [] (notice ∷ []) (fed-once first (seen line) step e refl) refl none refl refl in
         (showing (with_next lines line) [] g.0, g.1)
     first-time shows now ready (Err at) showing e =
         let step = step_made (Err at) ready now in
         inr (ends-with (fed_once step)
-        [] at (fed-once first (seen line) step e refl) (quiet-lent first (seen line) step e refl) refl refl)
+        [] at (fed-once first (seen line) step e refl) (quiet-handed_out first (seen line) step e refl) refl refl)
 
     -- the second time, after a warning
     second-time : (shows : List InputLine
         → List Awaited → Type 0) (notice : At) (before now : Seen O K) (ready : List (List ℕ)) (result : Result Step At)
-        → record { answer = Notice notice true; lent = []; next = before } ≡ seen_next direction first (seen line)
+        → record { answer = Notice notice true; handed_out = []; next = before } ≡ seen_next direction first (seen line)
         → ((ls : List InputLine) (ns : List Awaited) → HasTaken direction seen_after now ls ns → shows ls ns)
         → step_made result ready now ≡ seen_next direction before (seen line)
         → EngineAnswers filter shows ready lines (record { notice = notice; line = line } ∷ []) line result
     second-time shows notice before now ready result one showing e =
-        let step : SeenStep O K = record { answer = Notice notice true; lent = []; next = before } in
+        let step : SeenStep O K = record { answer = Notice notice true; handed_out = []; next = before } in
         let twice : fed direction first (seen line) ≡ fed_twice step (step_made result ready now) =
         fed-again first (seen line) step one refl ∙ ap (λ (s : SeenStep O K). fed_twice step s) (sym e) in
         answers result twice e
       where
         step : SeenStep O K
-        step = record { answer = Notice notice true; lent = []; next = before }
+        step = record { answer = Notice notice true; handed_out = []; next = before }
 
         answers : (r : Result Step At) → fed direction first (seen line) ≡ fed_twice step (step_made r ready now)
             → step_made r ready now ≡ seen_next direction before (seen line)
             → EngineAnswers filter shows ready lines (record { notice = notice; line = line } ∷ []) line r
         answers (Ok Quiet) twice s =
             let g = goes-on (fed_twice step (step_made (Ok Quiet) ready now)) now [] (notice ∷ []) twice refl
-            (quiet-lent before (seen line) (step_made (Ok Quiet) ready now) s refl) refl refl in
+            (quiet-handed_out before (seen line) (step_made (Ok Quiet) ready now) s refl) refl refl in
             (showing (with_next lines line) [] g.0, g.1)
         answers (Ok Ready) twice s =
             let g = goes-on (fed_twice step (step_made (Ok Ready) ready now)) now ready
@@ -281,11 +281,11 @@ module _ {U O K : Type 0} (direction : Direction U O K) (seen_after : List ReadL
         answers (Ok (Warned next false)) twice s =
             let g = goes-on (fed_twice step (step_made (Ok (Warned next false)) ready now)) now
             [] (notice ∷ next ∷ []) twice refl
-            (quiet-lent before (seen line) (step_made (Ok (Warned next false)) ready now) s refl) refl refl in
+            (quiet-handed_out before (seen line) (step_made (Ok (Warned next false)) ready now) s refl) refl refl in
             (showing (with_next lines line) [] g.0, g.1)
         answers (Err at) twice s =
             inr (ends-with (fed_twice step (step_made (Err at) ready now))
-            (notice ∷ []) at twice (quiet-lent before (seen line) (step_made (Err at) ready now) s refl) refl refl)
+            (notice ∷ []) at twice (quiet-handed_out before (seen line) (step_made (Err at) ready now) s refl) refl refl)
 
     -- memory ran out, the first time or the second
     ran-out : (shows : List InputLine → List Awaited
@@ -321,9 +321,9 @@ module _ {U O K : Type 0} (direction : Direction U O K) (seen_after : List ReadL
       (record { notice = a.notice; line = l } ∷ []) line result) (sym awaited)
       (answers steps)
     where
-      one : record { answer = Notice a.notice true; lent = []; next = before }
+      one : record { answer = Notice a.notice true; handed_out = []; next = before }
           ≡ seen_next direction (seen_after (map seen lines)) (seen line)
-      one = subst (λ (l : InputLine). record { answer = Notice a.notice true; lent = []; next = before }
+      one = subst (λ (l : InputLine). record { answer = Notice a.notice true; handed_out = []; next = before }
           ≡ seen_next direction (seen_after (map seen lines)) (seen l)) awaited taken
 
       answers : Steps direction before (seen line) result ready now
@@ -349,7 +349,7 @@ module _ {U O K : Type 0} (direction : Direction U O K) (seen_after : List ReadL
     where
       by-result : (r : Result Step At) → EndsBy filter lines (step_made r ready now) → Concludes filter ready lines r
       by-result (Ok Quiet) h = (
-        h.lent,
+        h.handed_out,
         record {
           output = h.output
               ∙ sym (append-nil (filter.so_far lines).output);
@@ -360,12 +360,12 @@ module _ {U O K : Type 0} (direction : Direction U O K) (seen_after : List ReadL
       by-result (Ok Ready) h =
           record {
             output = h.output ∙ sym (append-nil (filter.so_far lines).output)
-                ∙ ap (λ (ls : List (List ℕ)). (filter.so_far lines).output ++ lines_text ls) (sym h.lent);
+                ∙ ap (λ (ls : List (List ℕ)). (filter.so_far lines).output ++ lines_text ls) (sym h.handed_out);
             warnings = h.warnings;
             good = h.fault;
           }
       by-result (Ok (Warned notice again)) h = (
-        h.lent,
+        h.handed_out,
         record {
           output = h.output
               ∙ sym (append-nil (filter.so_far lines).output);

@@ -38,9 +38,9 @@ held-open types Closed epoch is = refl
 held-open types (Ended at) epoch is = refl
 
 -- a step in its parts
-pub same-step : {O K : Type 0} (one two : Result Step At) (lines lent : List (List ℕ)) (seen after : Seen O K)
-    → one ≡ two → lines ≡ lent → seen ≡ after → step_made one lines seen ≡ step_made two lent after
-same-step one two lines lent seen after a b d = rw (a, b, d) refl
+pub same-step : {O K : Type 0} (one two : Result Step At) (lines handed_out : List (List ℕ)) (seen after : Seen O K)
+    → one ≡ two → lines ≡ handed_out → seen ≡ after → step_made one lines seen ≡ step_made two handed_out after
+same-step one two lines handed_out seen after a b d = rw (a, b, d) refl
 
 -- memory that ran out isn't skipped
 pub out-fatal : (fault : Fault) → fault ≡ OutOfMemory → is_skippable fault ≡ false
@@ -53,10 +53,10 @@ no-skip false b c e = refl
 
 -- a line whose fault isn't skipped counts
 pub fatal-counts : {U O K : Type 0} (direction : Direction U O K)
-    (before after : Seen O K) (line : ReadLine) (fault : Fault) (result : Result Step At) (lent : List (List ℕ))
-    → step_made result lent after ≡ failed_step direction before line fault
+    (before after : Seen O K) (line : ReadLine) (fault : Fault) (result : Result Step At) (handed_out : List (List ℕ))
+    → step_made result handed_out after ≡ failed_step direction before line fault
     → is_skippable fault ≡ false → after.number ≡ before.number + 1
-fatal-counts {O = O} {K = K} direction before after line fault result lent step fatal =
+fatal-counts {O = O} {K = K} direction before after line fault result handed_out step fatal =
     let off : is_skipped_in before fault ≡ false =
     no-skip before.choices.skip (may_skip before.phase) (is_skippable fault) fatal in
     let is : (failed_step direction before line fault).next.number ≡ before.number + 1 = rw off refl in

@@ -15,19 +15,19 @@ use Rattle.crx_engine.specs.declared.engine.Step.TheVariants.{Quiet, Ready, Warn
 
 -- a line counts unless it comes again, and only where the answer is that lines are ready are some borrowed
 abbrev Counts : ℕ → Answer → ℕ → List (List ℕ) → Type 0
-Counts before SeenQuiet after lent = (after ≡ before + 1) × (lent ≡ [])
-Counts before SeenReady after lent = after ≡ before + 1
-Counts before (Notice at true) after lent = (after ≡ before) × (lent ≡ [])
-Counts before (Notice at false) after lent = (after ≡ before + 1) × (lent ≡ [])
-Counts before (Failed at) after lent = ⊤
+Counts before SeenQuiet after handed_out = (after ≡ before + 1) × (handed_out ≡ [])
+Counts before SeenReady after handed_out = after ≡ before + 1
+Counts before (Notice at true) after handed_out = (after ≡ before) × (handed_out ≡ [])
+Counts before (Notice at false) after handed_out = (after ≡ before + 1) × (handed_out ≡ [])
+Counts before (Failed at) after handed_out = ⊤
 
 abbrev CountsIn : {O K : Type 0} → ℕ → SeenStep O K → Type 0
-CountsIn before s = Counts before s.answer s.next.number s.lent
+CountsIn before s = Counts before s.answer s.next.number s.handed_out
 
 failed-counts : {U O K : Type 0} (direction : Direction U O K) (seen : Seen O K) (at : At) (skipped again : Bool)
     → CountsIn {O = O} {K = K} seen.number
-    (if skipped then record { answer = Notice at again; lent = []; next = after_warning direction seen again }
-    else record { answer = Failed at; lent = []; next = with_phase direction seen (Ended at) })
+    (if skipped then record { answer = Notice at again; handed_out = []; next = after_warning direction seen again }
+    else record { answer = Failed at; handed_out = []; next = with_phase direction seen (Ended at) })
 failed-counts direction seen at true true = (refl, refl)
 failed-counts direction seen at true false = (refl, refl)
 failed-counts direction seen at false again = tt

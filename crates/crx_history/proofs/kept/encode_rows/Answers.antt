@@ -33,9 +33,9 @@ loop-row-preserved c =
           (take_more_set c.make_room.new.satellites.items index c.encode.new.self room
           ∙ ap (λ xs. xs ++ c.encode.new.self ∷ []) (c.make_room.ensures.same index c.loop-row.invariant.within))
           (c.in_ok-encode.ensures.after ∙ ap (λ (kept : Option RowTail). row_tail_after kept row) found);
-      lent =
+      handed_out =
           made-more (row_line_in before) c.args.lines.now
-          c.args.epoch.now.rows index row _ _ _ c.loop-row.invariant.lent (sym c.in-Some.ensures.value)
+          c.args.epoch.now.rows index row _ _ _ c.loop-row.invariant.handed_out (sym c.in-Some.ensures.value)
           c.in_ok-encode.ensures.line
           (ap (λ (kept : Option RowTail). row_line_after kept row) found);
     }
@@ -48,4 +48,4 @@ returns-clause-after c =
 pub returns-clause-lines : goal.returns-clause-lines
 returns-clause-lines c =
     made-all (row_line_in c.args.before.now.rows) c.args.lines.now c.args.epoch.now.rows
-    c.loop-row.index c.loop-row.lines c.loop-row.invariant.lent (sym c.in_default.ensures.value)
+    c.loop-row.index c.loop-row.lines c.loop-row.invariant.handed_out (sym c.in_default.ensures.value)

@@ -9,7 +9,7 @@ invariant-loop-row l = record {
   within : l.index ≤ length l.satellites.items;
   few : length l.satellites.items ≤ SATELLITES_LIMIT;
   left : Made (row_tail_in l.before.rows) [] l.epoch.rows l.index (take l.index l.satellites.items);
-  lent : Made (row_line_in l.before.rows) l.initial.lines l.epoch.rows l.index l.lines;
+  handed_out : Made (row_line_in l.before.rows) l.initial.lines l.epoch.rows l.index l.lines;
 }
 
 abbrev pub decreases-loop-row : goal.decreases-loop-row

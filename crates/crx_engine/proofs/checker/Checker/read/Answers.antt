@@ -21,7 +21,7 @@ returns-in-Ok-clause-open c =
           (made_at before content (record { index = 0; tail = None })) c.in-Ok.step
           (c.in-Ok.ensures.takes (record { index = 0; tail = None })) (has-printed before content reading) reading;
       bounded = c.count.ensures.bounded;
-      unlent = c.count.ensures.lent ∙ c.requires.open.unlent;
+      none_handed_out = c.count.ensures.handed_out ∙ c.requires.open.none_handed_out;
     }
 
 pub returns-in-Ok-clause-good : goal.returns-in-Ok-clause-good

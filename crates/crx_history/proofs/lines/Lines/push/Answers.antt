@@ -17,7 +17,7 @@ invariant_of-self-2 c =
     ∙ ap (λ (t : List ℕ). take inside.filled t ++ (line ++ 10 ∷ [])) c.deref_mut.ensures.value
     ∙ ap (λ (t : List ℕ). t ++ (line ++ 10 ∷ [])) (c.in_ok-grow.ensures.same inside.filled c.self.invariant.1) in
     let pushed : Pushed inside.lengths.items c.push.new.self.items (take inside.filled inside.bytes.items)
-    (take (inside.filled + length line + 1) bytes) line inside.lent inside.lent_bytes =
+    (take (inside.filled + length line + 1) bytes) line inside.handed_out inside.handed_out_bytes =
     line-pushed _ _ _ _ _ _ _ c.self.invariant.0 lengths text in
     rw (take_at bytes (drop (length bytes) c.grow.new.bytes.items) c.grow.new.bytes.len long) (
       pushed.still,
@@ -39,7 +39,7 @@ returns-clause-ok c =
     ∙ ap (λ (t : List ℕ). take inside.filled t ++ (line ++ 10 ∷ [])) c.deref_mut.ensures.value
     ∙ ap (λ (t : List ℕ). t ++ (line ++ 10 ∷ [])) (c.in_ok-grow.ensures.same inside.filled c.self.invariant.1) in
     let pushed : Pushed inside.lengths.items c.push.new.self.items (take inside.filled inside.bytes.items)
-    (take (inside.filled + length line + 1) bytes) line inside.lent inside.lent_bytes =
+    (take (inside.filled + length line + 1) bytes) line inside.handed_out inside.handed_out_bytes =
     line-pushed _ _ _ _ _ _ _ c.self.invariant.0 lengths text in
     rw (
       ← c.self.view_is,

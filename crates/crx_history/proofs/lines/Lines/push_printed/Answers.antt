@@ -39,7 +39,7 @@ invariant_of-self-2 c =
     let kept = c.self.invariant.1 in
     let longer = c.in_ok-grow.ensures.longer in
     let pushed = row-pushed inside.lengths.items c.push.new.self.items inside.bytes.items
-    grown new _ inside.filled c.print_line-length.result inside.lent inside.lent_bytes c.self.invariant.0
+    grown new _ inside.filled c.print_line-length.result inside.handed_out inside.handed_out_bytes c.self.invariant.0
     (omega (arith, kept, longer)) (c.in_ok-grow.ensures.same inside.filled kept)
     (c.print_line-length.ensures.line ∙ ap (λ (t : List ℕ). take inside.filled t ++ line) seen)
     c.print_line-length.ensures.within lengths in
@@ -60,7 +60,7 @@ returns c =
     let kept = c.self.invariant.1 in
     let longer = c.in_ok-grow.ensures.longer in
     let pushed = row-pushed inside.lengths.items c.push.new.self.items inside.bytes.items
-    grown new _ inside.filled c.print_line-length.result inside.lent inside.lent_bytes c.self.invariant.0
+    grown new _ inside.filled c.print_line-length.result inside.handed_out inside.handed_out_bytes c.self.invariant.0
     (omega (arith, kept, longer)) (c.in_ok-grow.ensures.same inside.filled kept)
     (c.print_line-length.ensures.line ∙ ap (λ (t : List ℕ). take inside.filled t ++ line) seen)
     c.print_line-length.ensures.within lengths in

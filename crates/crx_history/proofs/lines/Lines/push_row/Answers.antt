@@ -43,7 +43,7 @@ invariant_of-self-2 c =
     let kept = c.self.invariant.1 in
     let longer = c.in_ok-grow.ensures.longer in
     let pushed = row-pushed inside.lengths.items c.push.new.self.items inside.bytes.items
-    grown new _ inside.filled c.write_line-length.result inside.lent inside.lent_bytes c.self.invariant.0
+    grown new _ inside.filled c.write_line-length.result inside.handed_out inside.handed_out_bytes c.self.invariant.0
     (omega (arith, kept, longer)) (c.in_ok-grow.ensures.same inside.filled kept)
     (c.write_line-length.ensures.line ∙ ap (λ (t : List ℕ). take inside.filled t ++ without_end_blanks
     (flat_map cell_text (codes_of_row c.args.arcs.now c.args.row.now) ++ c.bytes.result.now)) seen)
@@ -66,7 +66,7 @@ returns-clause-line c =
     let kept = c.self.invariant.1 in
     let longer = c.in_ok-grow.ensures.longer in
     let pushed = row-pushed inside.lengths.items c.push.new.self.items inside.bytes.items
-    grown new _ inside.filled c.write_line-length.result inside.lent inside.lent_bytes c.self.invariant.0
+    grown new _ inside.filled c.write_line-length.result inside.handed_out inside.handed_out_bytes c.self.invariant.0
     (omega (arith, kept, longer)) (c.in_ok-grow.ensures.same inside.filled kept)
     (c.write_line-length.ensures.line
     ∙ ap (λ (t : List ℕ). take inside.filled t ++ without_end_blanks (cells ++ c.bytes.result.now)) seen)
@@ -74,5 +74,5 @@ returns-clause-line c =
     let is : c.bytes.result.now ≡ text_difference before c.args.row.now.flags =
     c.bytes.ensures.value ∙ c.in_ok-begin.ensures.marks in
     rw (← c.self.view_is, take_at new (drop (length new) grown) c.grow.new.bytes.len long)
-    (pushed.is ∙ ap (λ (t : List ℕ). cut (drop inside.lent inside.lengths.items)
-    (drop inside.lent_bytes (take inside.filled inside.bytes.items)) ++ without_end_blanks (cells ++ t) ∷ []) is)
+    (pushed.is ∙ ap (λ (t : List ℕ). cut (drop inside.handed_out inside.lengths.items)
+    (drop inside.handed_out_bytes (take inside.filled inside.bytes.items)) ++ without_end_blanks (cells ++ t) ∷ []) is)

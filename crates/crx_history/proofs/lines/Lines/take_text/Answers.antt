@@ -10,7 +10,7 @@ returns c =
       (refl, λ _. tt, none-left inside.lengths.items inside.bytes.items inside.filled c.len-self-inside.result all),
       record {
         value = all-lines inside.lengths.items inside.bytes.items
-            inside.filled inside.lent inside.lent_bytes c.self.invariant.0 c.self.invariant.1;
+            inside.filled inside.handed_out inside.handed_out_bytes c.self.invariant.0 c.self.invariant.1;
         after_borrow = tt;
       },
     )

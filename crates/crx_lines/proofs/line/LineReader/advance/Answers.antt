@@ -26,7 +26,7 @@ returns-then-place-gt-LINE_LIMIT-clause-answers g c =
     (λ k low high. subst (λ (l : List ℕ). slice_index l k ≡ 10 → ⊥) shown (c.in-Some.ensures.first k low high)) in
     let after : ReaderState = record {
       rest = kept c.pass.new.self;
-      lent = old.lent + (len + 1);
+      handed_out = old.handed_out + (len + 1);
       number = old.number + 1;
       phase = old.phase;
     } in
@@ -66,7 +66,7 @@ returns-clause-answers g c =
     (λ k low high. subst (λ (l : List ℕ). slice_index l k ≡ 10 → ⊥) shown (c.in-Some.ensures.first k low high)) in
     let after : ReaderState = record {
       rest = kept c.pass.new.self;
-      lent = old.lent + (len + 1);
+      handed_out = old.handed_out + (len + 1);
       number = old.number + 1;
       phase = old.phase;
     } in

@@ -2,7 +2,7 @@ use Rattle.std.proofs.Common.{map, length}
 use Rattle.crx_lines.specs.meaning.Seen.{Content}
 use Rattle.crx_compact.proofs.reading.BorrowedLines.{IsMidway}
 use Rattle.crx_compact.specs.OpenEpochs.{place_by_steps, tail_held}
-use Rattle.crx_compact.proofs.read_back.read_lent.Given as goal
+use Rattle.crx_compact.proofs.read_back.read_coded.Given as goal
 
 abbrev pub invariant-loop-line : goal.invariant-loop-line
 invariant-loop-line l = IsMidway (place_by_steps l.fn.types

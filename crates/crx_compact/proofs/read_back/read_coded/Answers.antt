@@ -6,7 +6,7 @@ use Rattle.crx_compact.specs.Coded.{CodedEpoch}
 use Rattle.crx_compact.specs.OpenEpochs.{HasMade, step_in, tail_held}
 use Rattle.crx_compact.proofs.reading.BorrowedLines.{midway-begun, midway-idle, midway-more, midway-over, midway-stands}
 use Rattle.crx_compact.proofs.reading.BorrowedLines.{midway-whole}
-use Rattle.crx_compact.proofs.read_back.read_lent.Goals as goal
+use Rattle.crx_compact.proofs.read_back.read_coded.Goals as goal
 
 pub loop-line-init : goal.loop-line-init
 loop-line-init c =
