@@ -185,8 +185,11 @@ impl Model for HeldSatellite {
 }
 
 impl HeldSatellite {
-    /// A satellite without a name, to begin with.
-    pub fn new(alloc: Global) -> HeldSatellite {
+    /// A satellite without a name and without cells, to begin with.
+    pub fn new(alloc: Global) -> HeldSatellite
+        ensures flags { result.flags ≡ [] }
+        ensures cells { result.cells ≡ [] }
+    {
         HeldSatellite {
             name: [b' '; NAME_WIDTH],
             flags: Vec::new(alloc),
