@@ -13,17 +13,6 @@ pub record Grown (old new : List ℕ) : Type 0 where
   pub longer : length old ≤ length new
   pub same : (n : ℕ) → n ≤ length old → take n new ≡ take n old
 
-pub grown-none : (old : List ℕ) → Grown old old
-grown-none old = record { longer = omega arith; same = λ n h. refl }
-
-pub grown-more : (old new more : List ℕ) → Grown old new → Grown old (new ++ more)
-grown-more old new more g =
-    let longer : length old ≤ length new = g.longer in
-    record {
-      longer = omega (arith, longer, length-append new more);
-      same = λ n h. take-append-le n new more (omega (arith, h, longer)) ∙ g.same n h;
-    }
-
 -- ---- a line of cells and marks
 
 -- what was written from an index on, and the line that it makes

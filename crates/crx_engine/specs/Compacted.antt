@@ -10,9 +10,6 @@ use Rattle.crx_reading.specs.meaning.Compacted.{compact_lines}
 
 -- ---- whole files
 
-abbrev pub compact_text : Choices → List (Item Epoch) → List ℕ
-compact_text choices items = lines_text (compact_lines choices items)
-
 -- the lines that are written for the units complete within the lines so far, the end of the input not being judged
 abbrev pub compaction_so_far : Choices → List ReadLine → List (List ℕ)
 compaction_so_far choices lines = compact_lines choices (rinex_reading choices.skip lines).items

@@ -56,9 +56,6 @@ patched-kept old marks h k =
 
 -- ---- no marks
 
-pub no_marks : (count : ℕ) → are_marks count [] ≡ true
-no_marks count = ap (list_all is_blank) (drop-nil {A = ℕ} (2 * count))
-
 at-unmarked : (flags : List ℕ) (p : ℕ) → at (patched flags []) p ≡ at flags p
 at-unmarked flags p = at-without_end_blanks (by_position character_of flags []) p
     ∙ at-by_position character_of refl flags [] p
@@ -305,10 +302,6 @@ on-err (Err e) f h = f h
 pub on-both : {X E : Type 0} (r : Result X E) {P Q R : Type 0} → (P → Q → R) → OnOk r P → OnOk r Q → OnOk r R
 on-both (Ok x) f p q = f p q
 on-both (Err e) f p q = tt
-
-pub in-any : {X E : Type 0} (r : Result X E) {P : Type 0} → P → OnOk r P
-in-any (Ok x) h = h
-in-any (Err e) h = tt
 
 -- a row that was read is the next one
 pub next-row : (before : Tail) (kept : Option RowTail) (satellite : Satellite)

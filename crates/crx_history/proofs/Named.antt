@@ -65,30 +65,3 @@ pub named-elsewhere : (count : ℕ) (names : List (List ℕ)) (rows : List RowTa
     → named (λ (r : RowTail). r.name) name (drop count rows) ≡ named (λ (r : RowTail). r.name) name rows
 named-elsewhere count names rows name h new =
     named-after (λ (r : RowTail). r.name) name count rows (among-named count names rows name h ∙ new)
-
--- rows that begin as others do
-pub named-same : (count : ℕ) (names : List (List ℕ)) (rows more : List RowTail)
-    → AreNamed count names rows → count ≤ length more → take count more ≡ take count rows → AreNamed count names more
-named-same count names rows more h long same = (long, h.1, h.2 ∙ ap (map (λ (row : RowTail). row.name)) (sym same))
-
--- one more after them
-pub named-next : (count : ℕ) (names next : List (List ℕ)) (rows more : List RowTail) (row : RowTail)
-    → AreNamed count names rows → count < length more → take (count + 1) more ≡ take count rows ++ row ∷ []
-    → take (count + 1) next ≡ take count names ++ row.name ∷ []
-    → count + 1 ≤ length next → AreNamed (count + 1) next more
-named-next count names next rows more row h long more_is next_is fits = (
-  omega (arith, long),
-  fits,
-  next_is ∙ ap (λ (ns : List (List ℕ)). ns ++ row.name ∷ []) h.2
-      ∙ sym (map-append (λ (r : RowTail). r.name) (take count rows) (row ∷ []))
-      ∙ ap (map (λ (r : RowTail). r.name)) (sym more_is),
-)
-
--- what stands at a place, by the first ones up to it
-pub here-next : (names : List (List ℕ)) (place : ℕ) (name : List ℕ)
-    → place < length names → take (place + 1) names ≡ take place names ++ name ∷ [] → get_or names place [] ≡ name
-here-next names place name h e =
-    let long : length (take place names) ≡ place = omega (arith, h, length-take place names) in
-    sym (get_or-take (place + 1) names place [] (omega arith)) ∙ ap (λ (ns : List (List ℕ)). get_or ns place []) e
-    ∙ ap (λ (i : ℕ). get_or (take place names ++ name ∷ []) i []) (sym long)
-    ∙ get_or-append_seam (take place names) name [] []

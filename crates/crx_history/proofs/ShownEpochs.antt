@@ -163,16 +163,3 @@ row-at next satellites n place tail satellite h less here there =
       }) (sym (ap (map shown_row) (taken_more next.rows place tail rows)
           ∙ map-append shown_row (take place next.rows) (tail ∷ [])));
     }
-
--- the printed lines of one row more
-pub line-more : (before : List (List ℕ)) (rows : List RowTail) (place : ℕ) (tail : RowTail) → place < length rows
-    → tail ≡ slice_index_or rows place tail
-    → (before ++ map printed_row (map shown_row (take place rows))) ++ printed_row (shown_row tail) ∷ []
-    ≡ before ++ map printed_row (map shown_row (take (place + 1) rows))
-line-more before rows place tail less here =
-    append_assoc before (map printed_row (map shown_row (take place rows))) (printed_row (shown_row tail) ∷ [])
-    ∙ ap (λ (ls : List (List ℕ)). before ++ ls)
-    (sym (ap (λ (ts : List RowTail). map printed_row (map shown_row ts))
-    (taken_more rows place tail (get-there rows place tail less here))
-    ∙ ap (map printed_row) (map-append shown_row (take place rows) (tail ∷ []))
-    ∙ map-append printed_row (map shown_row (take place rows)) (shown_row tail ∷ [])))

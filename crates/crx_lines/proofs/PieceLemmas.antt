@@ -39,11 +39,6 @@ abbrev pub EachEnded : List Piece → Type 0
 EachEnded [] = Unit {0}
 EachEnded (p ∷ ps) = (p.is_ended ≡ true) × EachEnded ps
 
-pub ended-append : (ps qs : List Piece) → EachEnded ps → ended_pieces (ps ++ qs) ≡ ps ++ ended_pieces qs
-ended-append [] qs all = refl
-ended-append (p ∷ ps) qs all =
-    ap (λ b. cond b (p ∷ ended_pieces (ps ++ qs)) []) all.0 ∙ ap (λ l. p ∷ l) (ended-append ps qs all.1)
-
 -- the pieces of an input whose first bytes are given: those ended there, then those of a rest without LF and what comes
 -- after
 abbrev pub Splits : (List ℕ → List Piece) → List Piece → Type 0

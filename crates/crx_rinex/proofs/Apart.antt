@@ -24,22 +24,6 @@ apart-push f (y ∷ xs) x h new =
     let other : bytes_eq (f x) (f y) ≡ false = other_way (f y) (f x) differs.0 in
     rw (list_any-append (λ k. bytes_eq (f k) (f y)) xs (x ∷ []), old, other) (apart-push f xs x apart.1 differs.1)
 
-among-set : {X : Type 0} (f : X → List ℕ) (name : List ℕ) (n : ℕ) (xs : List X) (i : ℕ) (x d : X)
-    → f x ≡ f (get_or xs i d) → is_among f name (take n (slice_set xs i x)) ≡ is_among f name (take n xs)
-among-set f name zero xs i x d h = refl
-among-set f name (suc n) [] i x d h = refl
-among-set f name (suc n) (y ∷ xs) zero x d h = ap (λ (m : List ℕ). bytes_eq m name || is_among f name (take n xs)) h
-among-set f name (suc n) (y ∷ xs) (suc i) x d h =
-    ap (λ (b : Bool). bytes_eq (f y) name || b) (among-set f name n xs i x d h)
-
-apart-set : {X : Type 0} (f : X → List ℕ) (n : ℕ) (xs : List X) (i : ℕ) (x d : X)
-    → f x ≡ f (get_or xs i d) → are_apart f (take n (slice_set xs i x)) ≡ are_apart f (take n xs)
-apart-set f zero xs i x d h = refl
-apart-set f (suc n) [] i x d h = refl
-apart-set f (suc n) (y ∷ xs) zero x d h =
-    ap (λ (m : List ℕ). not (is_among f m (take n xs)) && are_apart f (take n xs)) h
-apart-set f (suc n) (y ∷ xs) (suc i) x d h = rw (among-set f (f y) n xs i x d h, apart-set f n xs i x d h) refl
-
 not-at : {X : Type 0} (f : X → List ℕ) (name : List ℕ) (n : ℕ) (xs : List X) (k : ℕ) (d : X)
     → is_among f name (take n xs) ≡ false → k < n → k < length xs → bytes_eq (f (get_or xs k d)) name ≡ false
 not-at f name zero xs k d h a b = absurd (omega (arith, a))
@@ -58,17 +42,6 @@ new_at f (suc n) (x ∷ xs) (suc k) d h a b =
     let differs = not-at f (f x) n xs k d
     (not-true (is_among f (f x) (take n xs)) apart.0) (omega (arith, a)) (omega (arith, b)) in
     rw (other_way (f (get_or xs k d)) (f x) differs) (new_at f n xs k d apart.1 (omega (arith, a)) (omega (arith, b)))
-
--- what comes in the place of one of the same identifier has another identifier than those before it
-pub new_in_place : {X : Type 0} (f : X → List ℕ) (n : ℕ) (xs : List X) (k : ℕ) (x d : X) → are_apart f (take n xs)
-    ≡ true → k < n → n ≤ length xs → d ≡ get_or xs k d → f x ≡ f d → is_among f (f x) (take k xs) ≡ false
-new_in_place f n xs k x d h a b spot same =
-    ap (λ (m : List ℕ). is_among f m (take k xs)) (same ∙ ap f spot) ∙ new_at f n xs k d h a (omega (arith, a, b))
-
--- and leaves them as different as they were
-pub apart-in_place : {X : Type 0} (f : X → List ℕ) (n : ℕ) (xs : List X) (k : ℕ) (x d : X)
-    → are_apart f (take n xs) ≡ true → d ≡ get_or xs k d → f x ≡ f d → are_apart f (take n (slice_set xs k x)) ≡ true
-apart-in_place f n xs k x d h spot same = apart-set f n xs k x d (same ∙ ap f spot) ∙ h
 
 among-fewer : {X : Type 0} (f : X → List ℕ) (name : List ℕ) (m n : ℕ) (xs : List X)
     → m ≤ n → is_among f name (take n xs) ≡ false → is_among f name (take m xs) ≡ false

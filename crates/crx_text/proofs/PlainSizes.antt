@@ -82,9 +82,6 @@ pub twelve : (a b c d e f g h i j k l x : ℕ) →
     + i) * 10 + j) * 10 + k) * 10 + l
 twelve a b c d e f g h i j k l x = omega arith
 
-digit_fits : (c : ℕ) → digit_lane c < 256
-digit_fits c = omega arith
-
 size_of_lanes : (c : ℕ → ℕ) → ((i : ℕ) → c i < 256)
     → joined_of (size_parts (map c (range_with_len 0 16))) ≡ weighed 0 (plain_digits (map c (range_with_len 0 16)))
 size_of_lanes c small =

@@ -415,13 +415,6 @@ newest-after : (width : ℕ) (value : ℤ) (ds : List ℤ)
 newest-after width value [] h = h
 newest-after width value (d ∷ ds) h = h
 
--- the first difference is the newest value
-pub first-within : (width count : ℕ) (ds : List ℤ) (value : ℤ) → 0 < count
-    → slice_get ds 0 ≡ Some value → IsNewestWithin width (take count ds) → IsWithin width value
-first-within width zero ds value l e h = absurd (omega (arith, l))
-first-within width (suc count) [] value l e h = absurd (cc)
-first-within width (suc count) (d ∷ ds) value l e h = subst (IsWithin width) (same_Some d value e) h
-
 pub goes-on-kept : (width order count last : ℕ) (ds ds' : List ℤ) (value : ℤ)
     → IsLast order count last → IsArcInRange width order count (take count ds) → IsWithin width value
     → take (last + 1) ds' ≡ differences_after value (take last ds)
