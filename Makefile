@@ -72,7 +72,7 @@ install:
 INPUTS := 100000
 
 library:
-	cd crates/rnxcmp_c && rt lib
+	@tests/gate.py library
 	library/build.sh crates/rnxcmp_c/out/librnxcmp_c.a out/library
 
 library-fuzz:

@@ -1,7 +1,8 @@
 #!/usr/bin/env python3
-"""The prover at work, a line a crate: what it prints goes into out/gate.log.
+"""The prover at work, a line a crate: what it prints goes into out/gate.log (out/library.log for the library).
 
-    tests/gate.py       proves and builds the program, as `make` does
+    tests/gate.py           proves and builds the program, as `make` does
+    tests/gate.py library   proves and builds the static library that `make library` is made from
 
 tests/run.py uses the same for the whole gate and for what changed.
 """
@@ -12,11 +13,13 @@ import re
 import shutil
 import subprocess
 import sys
+import tempfile
 import time
 from pathlib import Path
 
 TOP = Path(__file__).resolve().parent.parent
 CRATES = TOP / "crates"
+LIBRARY = "rnxcmp_c"  # the crate of the static library for C
 LOG = TOP / "out/gate.log"
 STAMP = TOP / "out/green.json"  # what stood where all passed: a digest of each crate's files
 SHOWN = 20  # lines of the log that are shown after a failure
@@ -159,6 +162,52 @@ def build():
     return True
 
 
+def build_library():
+    """Proves and builds the static library for C, over the libraries that `make` left, or else over those that the gate passed.
+    Whether that went well."""
+    libraries = below(LIBRARY, crates())
+    if all((CRATES / name / "out/rlib/stamp").exists() for name in libraries):
+        status, _ = followed(["rt", "lib"], CRATES / LIBRARY, Progress().of_a_build)
+    else:
+        status = build_library_apart(libraries)
+    if status:
+        show_log()
+    return not status
+
+
+def build_library_apart(libraries):
+    """The same in a copy of the crates below it, without wrong bodies: what the gate passed, `rt ci` takes there from what it keeps on this
+    machine by checksums, and proves the rest. It builds no static library itself, and `rt lib` would prove all these libraries once more."""
+    with tempfile.TemporaryDirectory(prefix="rnxcmp-") as folder:
+        copy = Path(folder)
+        (copy / ".git").mkdir()  # `rt ci` takes this for the top of a repository
+        shutil.copy(TOP / "HANDLES", copy)
+        lines = [line for line in listed() if line.split(":")[0] in libraries]
+        (copy / "crates.txt").write_text("\n".join(lines) + "\n")
+        for name in libraries:
+            for part in ("src", "specs", "proofs"):
+                shutil.copytree(CRATES / name / part, copy / "crates" / name / part)
+        status, _ = followed(["rt", "ci"], copy, Progress().of_the_gate)
+        return status or followed(static_build(libraries, copy), CRATES / LIBRARY, Progress().of_a_build)[0]
+
+
+def static_build(libraries, copy):
+    """The command that proves the crate of the static library, over the libraries in a copy, and builds its archive."""
+    kit = Path(shutil.which("rt")).resolve().parent.parent
+    named = next(line for line in listed() if line.split()[0] == LIBRARY).split(":")[1].split()
+    (CRATES / LIBRARY / "out").mkdir(exist_ok=True)
+    words = ["rattle", "build", "--crate-name", LIBRARY, "src/lib.rt", "--crate-type", "staticlib", "--links", f"{LIBRARY}="]
+    for name in ["std", *(name for name in named if name not in libraries)]:
+        words += ["--extern", f"{name}={kit}/rlibs/{name}.rlib"]
+    for name in named:
+        if name in libraries:
+            words += ["--extern", f"{name}={copy}/crates/{name}/out/rlib/{name}.rlib"]
+    for folder in (f"{kit}/rlibs", *(f"{copy}/crates/{name}/out/rlib" for name in libraries)):
+        words += ["-L", f"dependency={folder}"]
+    words += ["--antt-project", f"{kit}/rattle/logic/antt-project.json", "--logic-built", f"{kit}/logic_built"]
+    return [*words, "--toolchain", f"{kit}/toolchain", "--backend", "llvm", "-o", f"out/lib{LIBRARY}.a"]
+
+
 def ci(program):
     """Runs `rt ci`, which builds the program: how many things passed and how many failed, of its last line."""
     program.unlink(missing_ok=True)
@@ -173,9 +222,14 @@ def ci(program):
     return passed, failed
 
 
+def listed():
+    """The lines of crates.txt, one a crate."""
+    return [line for line in (TOP / "crates.txt").read_text().splitlines() if line and not line.startswith("#")]
+
+
 def crates():
     """The crates and the libraries of this repository that each stands on, each after these."""
-    lines = [line.split(":") for line in (TOP / "crates.txt").read_text().splitlines() if line and not line.startswith("#")]
+    lines = [line.split(":") for line in listed()]
     lines = [(first.split()[0], libraries) for first, libraries in lines]  # `staticlib` may stand after a name
     names = {name for name, _ in lines}
     below = {name: [it for it in libraries.split() if it in names] for name, libraries in lines}
@@ -237,7 +291,11 @@ def quick():
 
 
 def main():
-    return 0 if began() and build() else 1
+    global LOG
+    if "library" not in sys.argv[1:]:
+        return 0 if began() and build() else 1
+    LOG = TOP / "out/library.log"  # `make test` makes the library too, and has a log of its own
+    return 0 if began() and build_library() else 1
 
 
 if __name__ == "__main__":
