@@ -1,6 +1,7 @@
 -- A direction that goes line by line comes to what it comes to for all lines at once.
 pub mod Following
 pub mod Lines
+pub mod MoreLines
 pub mod Rinex
 pub mod Compaction
 pub mod Expansion

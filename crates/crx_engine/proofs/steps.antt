@@ -3,8 +3,6 @@ pub mod EngineLemmas
 pub mod EngineAnswers
 pub mod CompactionSteps
 pub mod ExpanderSteps
-pub mod ExpanderLines
-pub mod CompactorLines
 pub mod StepCounts
 pub mod CheckerSteps
 pub mod CheckerEnds

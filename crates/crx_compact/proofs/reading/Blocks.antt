@@ -1,7 +1,7 @@
 -- Epochs that are read line by line, by the raw epochs that were accepted.
-use Rattle.std.specs.Prelude.{◌≡◌, ℕ, suc, ◌+◌, Bool, true, false, List, [], ◌∷◌, ◌++◌, length, Option, Some, None}
+use Rattle.std.specs.Prelude.{◌≡◌, ℕ, suc, ◌+◌, List, [], ◌∷◌, ◌++◌, length, Option, Some, None}
 use Rattle.std.specs.Prelude.{Result, Ok, Err, IfOk, IfErr}
-use Rattle.std.proofs.Common.{sym, ◌∙◌, ap, arith, inl, inr, ◌⊎◌, true≢false, length-append}
+use Rattle.std.proofs.Common.{sym, ◌∙◌, ap, arith, inl, inr, ◌⊎◌, length-append}
 use Rattle.crx_lines.specs.meaning.Seen.{ReadLine, Content}
 use Rattle.crx_lines.specs.declared.fault.Fault.{Fault}
 use Rattle.crx_lines.specs.declared.fault.Fault.TheVariants.{OutOfMemory}
@@ -11,43 +11,21 @@ use Rattle.crx_rinex.specs.meaning.Places.{Place, Here, Wrong, Wanted}
 use Rattle.crx_history.specs.meaning.Expansion.{RawEpoch}
 use Rattle.crx_history.specs.meaning.CompactPlaces.{epoch_at}
 use Rattle.crx_history.specs.Tails.{Tail, tail_left}
-use Rattle.crx_compact.specs.ReadingLaws.{StepFromOpen}
-use Rattle.crx_compact.specs.OpenEpochs.{ColumnsState, HasMade, HeldEpoch, Idle, OpenRawEpoch, RawStep, Faulty, Going}
-use Rattle.crx_compact.specs.OpenEpochs.{Whole, epoch_after, first_step, held_after, next_step, open_raw_after}
+use Rattle.crx_compact.specs.OpenEpochs.{ColumnsState, HasMade, HeldEpoch, Idle, RawStep, Faulty, Going}
+use Rattle.crx_compact.specs.OpenEpochs.{Whole, epoch_after, first_step, held_after, next_step}
 use Rattle.crx_compact.specs.OpenEpochs.{place_of_step, placed_as, step_in}
 use Rattle.crx_compact.specs.ReadBlocks.{HasReadTo, IsReading}
-use Rattle.crx_compact.proofs.soundness.Soundness.{reads-soundly, thing_here}
+use Rattle.crx_compact.proofs.soundness.Soundness.{reads-soundly}
 use Rattle.crx_compact.proofs.reading.RawTailing.{place-by_tail, left-by_tail}
 use Rattle.crx_compact.proofs.reading.LineByLine.{steps-agree, steps-from_open}
 
 -- ---- places
 
-abbrev is_wrong : {X : Type 0} → Place X → Bool
-is_wrong (Here x count) = false
-is_wrong (Wrong offset fault) = true
-is_wrong Wanted = false
-
-abbrev is_here : {X : Type 0} → Place X → Bool
-is_here (Here x count) = true
-is_here (Wrong offset fault) = false
-is_here Wanted = false
-
--- a fault again, of another thing
-abbrev again : {X Y : Type 0} → Place Y → Place X
-again (Here y count) = Wanted
-again (Wrong o q) = Wrong o q
-again Wanted = Wanted
-
-abbrev lines_here : {X : Type 0} → Place X → ℕ
-lines_here (Here y m) = m
-lines_here (Wrong o q) = 0
-lines_here Wanted = 0
-
 placed-wrong : {X Y : Type 0} (f : X → Y) (place : Place X) (offset : ℕ) (fault : Fault)
     → placed_as f place ≡ Wrong offset fault → place ≡ Wrong offset fault
-placed-wrong f (Here x count) offset fault e = absurd (true≢false (sym (ap is_wrong e)))
-placed-wrong f (Wrong o q) offset fault e = ap again e
-placed-wrong f Wanted offset fault e = absurd (true≢false (sym (ap is_wrong e)))
+placed-wrong f (Here x count) offset fault e = cc
+placed-wrong f (Wrong o q) offset fault e = cc
+placed-wrong f Wanted offset fault e = cc
 
 record IsPlaced {X Y : Type 0} (f : X → Y) (place : Place X) (thing : Y) (count : ℕ) : Type 0 where
   from : X
@@ -56,22 +34,16 @@ record IsPlaced {X Y : Type 0} (f : X → Y) (place : Place X) (thing : Y) (coun
 
 placed-here : {X Y : Type 0} (f : X → Y) (place : Place X) (thing : Y) (count : ℕ)
     → placed_as f place ≡ Here thing count → IsPlaced f place thing count
-placed-here f (Here x n) thing count e =
-    record { from = x; here = ap (λ m. Here x m) (ap lines_here e); same = ap (thing_here (f x)) e }
-placed-here f (Wrong o q) thing count e = absurd (true≢false (sym (ap is_here e)))
-placed-here f Wanted thing count e = absurd (true≢false (sym (ap is_here e)))
+placed-here f (Here x n) thing count e = record { from = x; here = cc; same = cc }
+placed-here f (Wrong o q) thing count e = cc
+placed-here f Wanted thing count e = cc
 
 -- ---- the epoch line
 
 begun-reading : (types : List Count) (older : List RawEpoch) (tail : Option Tail) (line : List ℕ) (after : ColumnsState)
     → tail ≡ tail_left older
     → HasMade (first_step types tail (Content line)) after None → IsReading types older (Content line ∷ []) after
-begun-reading types older tail line after e h = (
-  h.0,
-  ap {B = Option OpenRawEpoch} (λ (t : Option Tail). open_raw_after (first_step types t (Content line)) [])
-      (sym e) ∙ ap {B = Option OpenRawEpoch} (λ (s : RawStep). open_raw_after s []) h.1,
-  h.2,
-)
+begun-reading types older tail line after e h = grind arith
 
 begun-wrong : (types : List Count) (older : List RawEpoch) (tail : Option Tail) (line : List ℕ) (fault : Fault)
     → tail ≡ tail_left older
@@ -79,10 +51,9 @@ begun-wrong : (types : List Count) (older : List RawEpoch) (tail : Option Tail) 
     → (epoch_at types older (Content line ∷ []) ≡ Wrong 0 fault) ⊎ (fault ≡ OutOfMemory)
 begun-wrong types older tail line fault e (inr h) = inr h
 begun-wrong types older tail line fault e (inl h) =
-    let held : Option Tail = tail_left older in
-    let lines : List ReadLine = Content line ∷ [] in
-    let step : first_step types held (Content line) ≡ Faulty fault =
-    ap {B = RawStep} (λ (t : Option Tail). first_step types t (Content line)) (sym e) ∙ h in
+    let held = tail_left older in
+    let lines = Content line ∷ [] in
+    let step = ap {B = RawStep} (λ (t : Option Tail). first_step types t (Content line)) (sym e) ∙ h in
     inl (place-by_tail types older lines
     ∙ placed-wrong (held_after held) (epoch_after types held lines) 0 fault (steps-agree types held lines
     ∙ ap {B = Place HeldEpoch} (λ (s : RawStep). first_place s) step))
@@ -118,31 +89,25 @@ more-lines : (types : List Count) (older : List RawEpoch) (lines : List ReadLine
     → HasMade (step_in state (Content line)) after given
     → HasReadTo types older (lines ++ Content line ∷ []) after given
 more-lines types older lines line state after None r h =
-    let next : StepFromOpen types (tail_left older) lines (Content line) r.0 =
-    steps-from_open types (tail_left older) lines (Content line) r.0 r.1 in (
-      h.0,
-      next.open_epoch ∙ ap {B = Option OpenRawEpoch}
-          (λ (s : RawStep). open_raw_after s []) (sym (step-by_lines types older lines line state r) ∙ h.1),
-      h.2,
-    )
+    grind (arith, steps-from_open types (tail_left older) lines (Content line) r.0 r.1)
 more-lines types older lines line state after (Some epoch) r h =
-    let held : Option Tail = tail_left older in
-    let all : List ReadLine = lines ++ Content line ∷ [] in
-    let next : StepFromOpen types held lines (Content line) r.0 =
-    steps-from_open types held lines (Content line) r.0 r.1 in
-    let many : suc (length lines) ≡ length all = let l : length all ≡ length lines + 1 =
-    length-append lines (Content line ∷ []) in omega (arith, l) in
-    let whole : placed_as (held_after held) (epoch_after types held all) ≡ Here h.0 (length all) =
-    next.place ∙ ap {B = Place HeldEpoch} (λ (s : RawStep). place_of_step (length lines) s)
-    (sym (step-by_lines types older lines line state r) ∙ h.1) ∙ ap {B = Place HeldEpoch} (λ n. Here h.0 n) many in
-    let placed : IsPlaced (held_after held) (epoch_after types held all) h.0 (length all) =
-    placed-here (held_after held) (epoch_after types held all) h.0 (length all) whole in
-    let here : epoch_at types older all ≡ Here placed.from (length all) = place-by_tail types older all ∙ placed.here in (
+    let held = tail_left older in
+    let all = lines ++ Content line ∷ [] in
+    let next = steps-from_open types held lines (Content line) r.0 r.1 in
+    let many : suc (length lines) ≡ length all =
+    let l : length all ≡ length lines + 1 = length-append lines (Content line ∷ []) in omega (arith, l) in
+    let whole = next.place ∙ ap {B = Place HeldEpoch} (λ (s : RawStep). place_of_step (length lines) s)
+    (sym (step-by_lines types older lines line state r) ∙ h.1)
+    ∙ ap {B = Place HeldEpoch} (λ n. Here h.0 n) many in
+    let placed = placed-here (held_after held) (epoch_after types held all) h.0 (length all) whole in
+    let here = place-by_tail types older all ∙ placed.here in (
       placed.from,
       here,
       h.2 ∙ ap (λ (q : HeldEpoch). q.epoch) (sym placed.same),
-      h.3 ∙ ap {B = ColumnsState} (λ (q : HeldEpoch). Idle (Some q.tail)) (sym placed.same)
-          ∙ ap {B = ColumnsState} (λ (t : Option Tail). Idle t) (sym (left-by_tail placed.from.raw older
+      h.3
+          ∙ ap {B = ColumnsState} (λ (q : HeldEpoch). Idle (Some q.tail)) (sym placed.same)
+          ∙ ap {B = ColumnsState} (λ (t : Option Tail). Idle t)
+          (sym (left-by_tail placed.from.raw older
           (reads-soundly types older all placed.from (length all) here).single)),
     )
 
@@ -152,14 +117,13 @@ more-wrong : (types : List Count) (older : List RawEpoch)
     → (epoch_at types older (lines ++ Content line ∷ []) ≡ Wrong (length lines) fault) ⊎ (fault ≡ OutOfMemory)
 more-wrong types older lines line state fault r (inr h) = inr h
 more-wrong types older lines line state fault r (inl h) =
-    let held : Option Tail = tail_left older in
-    let all : List ReadLine = lines ++ Content line ∷ [] in
-    let next : StepFromOpen types held lines (Content line) r.0 =
-    steps-from_open types held lines (Content line) r.0 r.1 in
+    let held = tail_left older in
+    let all = lines ++ Content line ∷ [] in
+    let next = steps-from_open types held lines (Content line) r.0 r.1 in
     inl (place-by_tail types older all
-    ∙ placed-wrong (held_after held) (epoch_after types held all) (length lines) fault
-    (next.place ∙ ap {B = Place HeldEpoch}
-    (λ (s : RawStep). place_of_step (length lines) s) (sym (step-by_lines types older lines line state r) ∙ h)))
+    ∙ placed-wrong (held_after held) (epoch_after types held all) (length lines) fault (next.place
+    ∙ ap {B = Place HeldEpoch} (λ (s : RawStep). place_of_step (length lines) s)
+    (sym (step-by_lines types older lines line state r) ∙ h)))
 
 pub more-block : (result : Result (Option Epoch) Fault) (types : List Count) (older : List RawEpoch)
     (lines : List ReadLine) (line : List ℕ) (state after : ColumnsState) → IsReading types older lines state

@@ -1,8 +1,8 @@
 -- Compact lines that are borrowed one after another, and what they make.
 use Rattle.std.specs.Prelude.{◌≡◌, refl, ℕ, suc, ◌+◌, ◌*◌, ◌≤◌, Bool, true, false, List, [], ◌∷◌, drop, map, length}
-use Rattle.std.specs.Prelude.{slice_get, Option, Some, None, Result, Ok, Err, IfOk, IfErr, unwrap_or}
+use Rattle.std.specs.Prelude.{slice_get, Option, Some, None, Result, Ok, Err, IfOk, IfErr}
 use Rattle.std.specs.Option.{is_some}
-use Rattle.std.proofs.Common.{sym, ◌∙◌, ap, subst, arith, inl, inr, ◌⊎◌, true≢false}
+use Rattle.std.proofs.Common.{sym, ◌∙◌, ap, arith, inl, inr, ◌⊎◌, true≢false}
 use Rattle.crx_lines.specs.meaning.Seen.{Content}
 use Rattle.crx_lines.specs.declared.fault.Fault.{Fault}
 use Rattle.crx_lines.specs.declared.fault.Fault.TheVariants.{OutOfMemory}
@@ -31,69 +31,34 @@ pub record IsMidway (place : Place HeldEpoch) (state : ColumnsState) (all lines 
   pub left : place ≡ place_of_steps count (Going begun) (map Content lines)
   pub readable : AreReadable all → AreReadable lines
 
--- the first of some lines, and those after it
-pub first-is : (lines : List (List ℕ)) (line : List ℕ) → Some line ≡ slice_get lines 0 → lines ≡ line ∷ drop 1 lines
-first-is [] line e = absurd (true≢false (ap {B = Bool} (λ (o : Option (List ℕ)). is_some o) e))
-first-is (l ∷ ls) line e = ap (λ (o : Option (List ℕ)). unwrap_or o l ∷ ls) (sym e)
-
 pub none-is : (lines : List (List ℕ)) → None ≡ slice_get lines 0 → lines ≡ []
 none-is [] e = refl
 none-is (l ∷ ls) e = absurd (true≢false (sym (ap {B = Bool} (λ (o : Option (List ℕ)). is_some o) e)))
-
-pub rest-readable : (lines : List (List ℕ)) (line : List ℕ)
-    → AreReadable lines → Some line ≡ slice_get lines 0 → AreReadable (drop 1 lines)
-rest-readable lines line h e =
-    let P : List (List ℕ) → Type 0 = λ ls. AreReadable ls in
-    (subst P (first-is lines line e) h).1
 
 -- ---- the epoch line
 
 begins : (types : List Count) (tail : Option Tail) (lines : List (List ℕ)) (line : List ℕ) (step : RawStep)
     → Some line ≡ slice_get lines 0 → first_step types tail (Content line) ≡ step
     → place_by_steps types tail (map Content lines) ≡ place_of_steps 0 step (map Content (drop 1 lines))
-begins types tail lines line step e h =
-    ap {B = Place HeldEpoch}
-    (λ (ls : List (List ℕ)). place_by_steps types tail (map Content ls)) (first-is lines line e)
-    ∙ ap {B = Place HeldEpoch} (λ (s : RawStep). place_of_steps 0 s (map Content (drop 1 lines))) h
+begins types tail lines line step e h = grind arith
 
 pub midway-begun : (types : List Count) (tail : Option Tail)
     (lines rest : List (List ℕ)) (line : List ℕ) (after : ColumnsState) → Some line ≡ slice_get lines 0
     → HasMade (first_step types tail (Content line)) after None
     → rest ≡ drop 1 lines → IsMidway (place_by_steps types tail (map Content lines)) after lines rest
-midway-begun types tail lines rest line after e made r =
-    let P : List (List ℕ) → Type 0 = λ ls. IsMidway (place_by_steps types tail (map Content lines)) after lines ls in
-    subst P (sym r) (record {
-      begun = made.0;
-      count = 0;
-      reading = made.2;
-      left = begins types tail lines line (Going made.0) e made.1;
-      readable = λ h. rest-readable lines line h e;
-    })
+midway-begun types tail lines rest line after e made r = grind arith
 
 -- ---- the lines after it
 
 goes-on : (place : Place HeldEpoch) (state : ColumnsState) (all lines : List (List ℕ))
     (line : List ℕ) (step : RawStep) (w : IsMidway place state all lines) → Some line ≡ slice_get lines 0
     → step_in state (Content line) ≡ step → place ≡ place_of_steps (suc w.count) step (map Content (drop 1 lines))
-goes-on place state all lines line step w e h =
-    w.left
-    ∙ ap {B = Place HeldEpoch}
-    (λ (ls : List (List ℕ)). place_of_steps w.count (Going w.begun) (map Content ls)) (first-is lines line e)
-    ∙ ap {B = Place HeldEpoch} (λ (s : RawStep). place_of_steps (suc w.count) s (map Content (drop 1 lines)))
-    (sym (ap {B = RawStep} (λ (s : ColumnsState). step_in s (Content line)) w.reading) ∙ h)
+goes-on place state all lines line step w e h = grind arith
 
 pub midway-more : (place : Place HeldEpoch) (state after : ColumnsState)
     (all lines rest : List (List ℕ)) (line : List ℕ) → IsMidway place state all lines → Some line ≡ slice_get lines 0
     → HasMade (step_in state (Content line)) after None → rest ≡ drop 1 lines → IsMidway place after all rest
-midway-more place state after all lines rest line w e made r =
-    let P : List (List ℕ) → Type 0 = λ ls. IsMidway place after all ls in
-    subst P (sym r) (record {
-      begun = made.0;
-      count = suc w.count;
-      reading = made.2;
-      left = goes-on place state all lines line (Going made.0) w e made.1;
-      readable = λ h. rest-readable lines line (w.readable h) e;
-    })
+midway-more place state after all lines rest line w e made r = grind arith
 
 pub midway-whole : (place : Place HeldEpoch) (state after : ColumnsState) (all lines : List (List ℕ))
     (line : List ℕ) (epoch : Epoch) → IsMidway place state all lines → Some line ≡ slice_get lines 0
@@ -111,19 +76,13 @@ midway-stands place state all lines line fault w e (inr h) = inr h
 
 pub midway-over : (place : Place HeldEpoch) (state : ColumnsState) (all lines : List (List ℕ))
     → IsMidway place state all lines → None ≡ slice_get lines 0 → place ≡ Wanted
-midway-over place state all lines w e = w.left ∙ ap {B = Place HeldEpoch}
-    (λ (ls : List (List ℕ)). place_of_steps w.count (Going w.begun) (map Content ls)) (none-is lines e)
+midway-over place state all lines w e = cc (w.left, none-is lines e)
 
 pub midway-idle : (place : Place HeldEpoch) (state : ColumnsState) (all lines : List (List ℕ))
     → IsMidway place state all lines → is_idle state ≡ false
 midway-idle place state all lines w = ap is_idle w.reading
 
 -- ---- what was written
-
-abbrev held_here : HeldEpoch → Place HeldEpoch → HeldEpoch
-held_here d (Here h n) = h
-held_here d (Wrong o f) = d
-held_here d Wanted = d
 
 abbrev stands : Place HeldEpoch → Bool
 stands (Here h n) = true
@@ -135,29 +94,22 @@ written : (types : List Count) (tail : Option Tail) (lines : List (List ℕ)) (m
     → (m.in_full ≡ false → tail ≡ tail_or_nothing older)
     → place_by_steps types tail (map Content lines)
     ≡ Here (record { epoch = m.epoch; tail = tail_of (m ∷ older) }) (2 + length m.epoch.rows)
-written types tail lines m older h e k =
-    ap {B = Place HeldEpoch} (λ (ls : List (List ℕ)). place_by_steps types tail (map Content ls)) e
-    ∙ steps-read_back types m older tail h k
+written types tail lines m older h e k = cc (e, steps-read_back types m older tail h k)
 
 -- each of them may be read
 all-readable : (lines : List (List ℕ)) → AllByRecursion (λ (line : List ℕ). length line ≤ 18 * TYPES_LIMIT) lines
     → AllByRecursion (λ (line : List ℕ). is_event_line line ≡ false) lines → AreReadable lines
 all-readable [] short no_event = tt
-all-readable (line ∷ lines) short no_event = (
-  record {
-    short = let few = short.0 in
-        omega (arith, few);
-    no_event = no_event.0;
-  },
-  all-readable lines short.1 no_event.1,
-)
+all-readable (line ∷ lines) short no_event = grind (arith, all-readable lines short.1 no_event.1)
 
 readable-lines : (types : List Count) (lines : List (List ℕ)) (m : Marked) (older : List Marked)
     → AreWhole types (since_full (m ∷ older)) → lines ≡ compact_epoch (m ∷ older) → AreReadable lines
 readable-lines types lines m older h e =
-    let P : List (List ℕ) → Type 0 = λ ls. AreReadable ls in
-    subst P (sym e) (all-readable (compact_epoch (m ∷ older))
-    (lines-short types m.in_full m.epoch older h) (lines-stand types m.in_full m.epoch older h).no_event)
+    grind (
+      arith,
+      all-readable (compact_epoch (m ∷ older)) (lines-short types m.in_full m.epoch older h)
+          (lines-stand types m.in_full m.epoch older h).no_event,
+    )
 
 pub back-given : (result : Result (Option Epoch) Fault) (types : List Count)
     (tail : Option Tail) (lines : List (List ℕ)) (after : ColumnsState) (m : Marked) (older : List Marked)
@@ -169,11 +121,7 @@ back-given (Err fault) types tail lines after m older given h e k = given
 back-given (Ok None) types tail lines after m older given h e k =
     absurd (true≢false (sym (ap stands (written types tail lines m older h e k)) ∙ ap stands given))
 back-given (Ok (Some epoch)) types tail lines after m older given h e k =
-    let same : record { epoch = m.epoch; tail = tail_of (m ∷ older) } ≡ given.0 =
-    ap (held_here given.0) (sym (written types tail lines m older h e k) ∙ given.2) in (
-      ap {B = Option Epoch} (λ (q : Epoch). Some q) (given.3 ∙ ap (λ (q : HeldEpoch). q.epoch) (sym same)),
-      given.4 ∙ ap {B = ColumnsState} (λ (q : HeldEpoch). Idle (Some q.tail)) (sym same),
-    )
+    grind (arith, written types tail lines m older h e k, given.2)
 
 pub back-refused : (result : Result (Option Epoch) Fault)
     (types : List Count) (tail : Option Tail) (lines : List (List ℕ)) (m : Marked) (older : List Marked)

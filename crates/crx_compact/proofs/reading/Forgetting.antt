@@ -14,7 +14,7 @@ use Rattle.crx_arcs.specs.meaning.Cells.{ReadCell}
 use Rattle.crx_history.specs.meaning.CompactPlaces.{clock_line_read, rows_read, ReadEpoch, epoch_of_rows}
 use Rattle.crx_history.specs.meaning.CompactPlaces.{epoch_after_line, epoch_at}
 use Rattle.crx_compact.specs.ReadingLaws.{Forgets}
-use Rattle.crx_compact.proofs.soundness.Soundness.{thing_here, no-wrong, Comes, then-comes}
+use Rattle.crx_compact.proofs.soundness.Soundness.{thing_here, Comes, then-comes}
 use Rattle.crx_history.proofs.Results.{no-err, ok-same, Follows}
 use Rattle.crx_history.proofs.Results.{and_then-ok}
 
@@ -31,21 +31,20 @@ begun-line types line (Some past) begun e =
 
 one-ok : {X : Type 0} (r : Result X Fault) (x : X) (n : ℕ) → one_line r ≡ Here x n → r ≡ Ok x
 one-ok (Ok y) x n e = ap {B = Result _ Fault} Ok (ap (thing_here y) e)
-one-ok (Err q) x n e = absurd (no-wrong 0 q x n e)
+one-ok (Err q) x n e = cc
 
 after-line : (begun : BegunEpoch) (lines : List ReadLine) (read : ReadEpoch) (count : ℕ)
     → epoch_after_line begun lines ≡ Here read count → read.raw.line ≡ begun.line
 after-line begun lines read count e =
-    let rows_next : ReadCell → List ReadLine → Place ReadEpoch = λ clock others. then_place
-    (rows_read begun.past begun.satellites others) others (λ rows rest. Here (epoch_of_rows begun clock rows) 0) in
-    let one : Comes (first_line lines (clock_line_read begun.past)) lines rows_next read count =
-    then-comes (first_line lines (clock_line_read begun.past)) lines rows_next read count e in
-    let others : List ReadLine = drop one.count lines in
-    let two : Comes (rows_read begun.past begun.satellites others) others
-    (λ rows rest. Here (epoch_of_rows begun one.from rows) 0) read one.more =
-    then-comes (rows_read begun.past begun.satellites others) others
+    let rows_next : ReadCell → List ReadLine → Place ReadEpoch =
+    λ clock others. then_place (rows_read begun.past begun.satellites others) others
+    (λ rows rest. Here (epoch_of_rows begun clock rows) 0) in
+    let one = then-comes (first_line lines (clock_line_read begun.past)) lines rows_next read count e in
+    let others = drop one.count lines in
+    let two = then-comes (rows_read begun.past begun.satellites others) others
     (λ rows rest. Here (epoch_of_rows begun one.from rows) 0) read one.more one.later in
-    sym (ap (λ (r : ReadEpoch). r.raw.line) (ap (thing_here (epoch_of_rows begun one.from two.from)) two.later))
+    sym (ap (λ (r : ReadEpoch). r.raw.line)
+    (ap (thing_here (epoch_of_rows begun one.from two.from)) two.later))
 
 read-line : (types : List Count)
     (older : List RawEpoch) (line : List ℕ) (lines : List ReadLine) (read : ReadEpoch) (count : ℕ)

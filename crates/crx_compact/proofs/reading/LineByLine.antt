@@ -1,14 +1,13 @@
 -- The steps of a reader, line by line, agree with what stands at all lines so far.
 use Rattle.std.specs.Prelude.{◌≡◌, refl, ℕ, suc, ◌+◌, List, [], ◌∷◌, ◌++◌, map, length, Option, Some, None, Result, Ok}
-use Rattle.std.specs.Prelude.{Err, unwrap_or}
+use Rattle.std.specs.Prelude.{Err}
 use Rattle.std.specs.Option.{option_map, is_some}
 use Rattle.std.proofs.Common.{sym, ◌∙◌, ap, arith, true≢false}
 use Rattle.std.proofs.lemmas.List.{append_assoc, append-nil}
-use Rattle.crx_columns.specs.meaning.Columns.{columns}
+use Rattle.std.proofs.lemmas.Simd.{map-map}
 use Rattle.crx_columns.specs.Texts.{patched}
 use Rattle.crx_lines.specs.meaning.Seen.{ReadLine, Content, Overlong}
 use Rattle.crx_lines.specs.declared.fault.Fault.{Fault}
-use Rattle.crx_lines.specs.declared.fault.Fault.TheVariants.{LineTooLong}
 use Rattle.crx_rinex.specs.meaning.ObservationTypes.{Count}
 use Rattle.crx_rinex.specs.meaning.Places.{Place, Here, Wrong, Wanted, then_place, after_lines, one_line}
 use Rattle.crx_arcs.specs.meaning.Sequences.{and_then}
@@ -16,10 +15,10 @@ use Rattle.crx_history.specs.meaning.EpochText.{Satellite}
 use Rattle.crx_history.specs.meaning.Expansion.{RawRow}
 use Rattle.crx_history.specs.meaning.CompactPlaces.{BegunEpoch, epoch_begun, satellites_of_line}
 use Rattle.crx_arcs.specs.meaning.Cells.{ReadCell}
-use Rattle.crx_history.specs.meaning.CompactPlaces.{clock_line_read, ReadRow, satellite_line_read, rows_read, ReadEpoch}
+use Rattle.crx_history.specs.meaning.CompactPlaces.{clock_line_read, ReadRow, satellite_line_read, rows_read}
 use Rattle.crx_history.specs.meaning.CompactPlaces.{epoch_of_rows, epoch_after_line}
 use Rattle.crx_history.specs.Tails.{Tail}
-use Rattle.crx_history.specs.Steps.{no_tail, tail_named, raw_row_tail_after, raw_tail_after}
+use Rattle.crx_history.specs.Steps.{tail_named, raw_row_tail_after}
 use Rattle.crx_history.specs.HeldRows.{past_of_tail, HeldRow}
 use Rattle.crx_compact.specs.OpenEpochs.{tail_for_line, epoch_after, HeldClock, HeldEpoch}
 use Rattle.crx_compact.specs.OpenEpochs.{OpenRawEpoch, RawStep, opened_raw, opening, first_step, whole_epoch}
@@ -46,11 +45,7 @@ one-more : (begun : OpenRawEpoch) (clock : HeldClock)
     → after_lines (suc (suc count)) (rows_placed begun clock (rows ++ held_row begun.before read ∷ []) p)
     ≡ after_lines (suc count) (rows_placed begun clock rows (after_lines 1 (row_onto read lines p)))
 one-more begun clock rows read lines count (Here more n) =
-    let sum : suc (suc count) + n ≡ suc count + (1 + (n + 0)) = omega arith in
-    ap {B = Place HeldEpoch} (λ rs. Here (whole_epoch begun clock rs) (suc (suc count) + n))
-    (append_assoc rows (held_row begun.before read ∷ []) (map (held_row begun.before) more))
-    ∙ ap {B = Place HeldEpoch} (λ k.
-    Here (whole_epoch begun clock (rows ++ held_row begun.before read ∷ map (held_row begun.before) more)) k) sum
+    grind (arith, append_assoc rows (held_row begun.before read ∷ []) (map (held_row begun.before) more))
 one-more begun clock rows read lines count (Wrong n q) = ap {B = Place HeldEpoch} (λ k. Wrong k q) (omega arith)
 one-more begun clock rows read lines count Wanted = refl
 
@@ -59,12 +54,9 @@ rows-steps : (begun : OpenRawEpoch)
     (clock : HeldClock) (rows : List HeldRow) (awaited : List Satellite) (count : ℕ) (lines : List ReadLine)
     → place_of_steps count (whole_or_awaiting begun clock rows awaited) lines
     ≡ after_lines (suc count) (rows_placed begun clock rows (rows_read (past_of_tail begun.before) awaited lines))
-rows-steps begun clock rows [] count lines =
-    ap {B = Place HeldEpoch} (λ rs. Here (whole_epoch begun clock rs) (suc count)) (sym (append-nil rows))
-    ∙ ap {B = Place HeldEpoch} (λ k. Here (whole_epoch begun clock (rows ++ [])) k) (omega arith)
+rows-steps begun clock rows [] count lines = grind (arith, append-nil rows)
 rows-steps begun clock rows (s ∷ ss) count [] = refl
-rows-steps begun clock rows (s ∷ ss) count (Overlong ∷ lines) =
-    ap {B = Place HeldEpoch} (λ k. Wrong k LineTooLong) (omega arith)
+rows-steps begun clock rows (s ∷ ss) count (Overlong ∷ lines) = grind arith
 rows-steps begun clock rows (s ∷ ss) count (Content line ∷ lines) =
     step (satellite_line_read (past_of_tail begun.before) s line) (λ read.
     rows-steps (record begun { clock = Some clock; rows = rows; awaited = s ∷ ss }) clock
@@ -92,17 +84,6 @@ rows-steps begun clock rows (s ∷ ss) count (Content line ∷ lines) =
 
 -- ---- the clock line and the epoch line
 
-map-rows : (before : Tail) (rows : List ReadRow)
-    → map (λ (h : HeldRow). h.row) (map (held_row before) rows) ≡ map (λ (r : ReadRow). r.row) rows
-map-rows before [] = refl
-map-rows before (r ∷ rs) = ap (λ q. r.row ∷ q) (map-rows before rs)
-
-map-tails : (before : Tail) (rows : List ReadRow)
-    → map (λ (h : HeldRow). h.tail) (map (held_row before) rows)
-    ≡ map (λ (r : RawRow). raw_row_tail_after (tail_named r.name before) r) (map (λ (r : ReadRow). r.raw) rows)
-map-tails before [] = refl
-map-tails before (r ∷ rs) = ap (λ q. raw_row_tail_after (tail_named r.raw.name before) r.raw ∷ q) (map-tails before rs)
-
 -- an epoch whose line was read, as it is read and as it is held
 abbrev read_begun : Tail → List ℕ → List Satellite → BegunEpoch
 read_begun before line satellites = record { line = line; past = past_of_tail before; satellites = satellites }
@@ -116,27 +97,12 @@ held-same : (before : Tail) (line : List ℕ) (satellites : List Satellite)
     → held_after tail (epoch_of_rows (read_begun before line satellites) cell rows)
     ≡ whole_epoch (held_begun before line satellites) (held_clock before cell) (map (held_row before) rows)
 held-same before line satellites cell rows tail h =
-    let read : ReadEpoch = epoch_of_rows (read_begun before line satellites) cell rows in
-    let raws : List RawRow = map (λ (r : ReadRow). r.raw) rows in
-    let head : List ℕ = columns (patched before.text line) 1 41 in
-    ap {B = HeldEpoch} (λ t. record { epoch = read.epoch; tail = raw_tail_after (unwrap_or t no_tail) read.raw }) h
-    ∙ ap {B = HeldEpoch} (λ rs. record {
-      epoch = record { head = head; clock = cell.value; rows = rs };
-      tail = raw_tail_after before read.raw;
-    }) (sym (map-rows before rows))
-    ∙ ap {B = HeldEpoch} (λ ts. record {
-      epoch = record {
-        head = head;
-        clock = cell.value;
-        rows = map
-            (λ (q : HeldRow). q.row) (map (held_row before) rows);
-      };
-      tail = record {
-        text = patched before.text line;
-        clock = (held_clock before cell).arc;
-        rows = ts;
-      };
-    }) (sym (map-tails before rows))
+    cc (
+      h,
+      map-map (λ (q : HeldRow). q.row) (held_row before) rows,
+      map-map (λ (q : HeldRow). q.tail) (held_row before) rows,
+      map-map (λ (r : RawRow). raw_row_tail_after (tail_named r.name before) r) (λ (r : ReadRow). r.raw) rows,
+    )
 
 rows-held : (before : Tail) (line : List ℕ) (satellites : List Satellite)
     (cell : ReadCell) (tail : Option Tail) (lines : List ReadLine) (p : Place (List ReadRow))
@@ -145,9 +111,7 @@ rows-held : (before : Tail) (line : List ℕ) (satellites : List Satellite)
     (then_place p lines (λ rows rest. Here (epoch_of_rows (read_begun before line satellites) cell rows) 0))))
     ≡ after_lines 2 (rows_placed (held_begun before line satellites) (held_clock before cell) [] p)
 rows-held before line satellites cell tail lines (Here rows n) h =
-    ap {B = Place HeldEpoch} (λ e. Here e (1 + (1 + (n + 0)))) (held-same before line satellites cell rows tail h)
-    ∙ ap {B = Place HeldEpoch} (λ k. Here (whole_epoch
-    (held_begun before line satellites) (held_clock before cell) (map (held_row before) rows)) k) (omega arith)
+    grind (arith, held-same before line satellites cell rows tail h)
 rows-held before line satellites cell tail lines (Wrong n q) h = ap {B = Place HeldEpoch} (λ k. Wrong k q) (omega arith)
 rows-held before line satellites cell tail lines Wanted h = refl
 
@@ -214,15 +178,7 @@ wanted-where_open types tail (line ∷ lines) =
 step-more : (count : ℕ) (s : RawStep) (lines : List ReadLine) (line : ReadLine) (begun : OpenRawEpoch)
     → open_raw_after s lines ≡ Some begun
     → place_of_steps count s (lines ++ line ∷ []) ≡ place_of_step (suc (count + length lines)) (next_step begun line)
-step-more count (Going so_far) [] line begun h =
-    let same : so_far ≡ begun = ap (λ o. unwrap_or o so_far) h in
-    ap (λ b. place_of_steps (suc count) (next_step b line) []) same ∙ last (next_step begun line) (suc count)
-    ∙ ap (λ n. place_of_step n (next_step begun line)) (omega arith)
-  where
-    last : (s : RawStep) (n : ℕ) → place_of_steps n s [] ≡ place_of_step n s
-    last (Going b) n = refl
-    last (Whole e) n = refl
-    last (Faulty q) n = refl
+step-more count (Going so_far) [] line begun h = grind arith
 step-more count (Going so_far) (l ∷ ls) line begun h =
     step-more (suc count) (next_step so_far l) ls line begun h
     ∙ ap (λ n. place_of_step n (next_step begun line)) (omega arith)
@@ -232,9 +188,7 @@ step-more count (Faulty q) lines line begun h = absurd (true≢false (sym (ap is
 open-more : (s : RawStep) (lines : List ReadLine) (line : ReadLine) (begun : OpenRawEpoch)
     → open_raw_after s lines ≡ Some begun
     → open_raw_after s (lines ++ line ∷ []) ≡ open_raw_after (next_step begun line) []
-open-more (Going so_far) [] line begun h =
-    let same : so_far ≡ begun = ap (λ o. unwrap_or o so_far) h in
-    ap (λ b. open_raw_after (next_step b line) []) same
+open-more (Going so_far) [] line begun h = cc
 open-more (Going so_far) (l ∷ ls) line begun h = open-more (next_step so_far l) ls line begun h
 open-more (Whole held) lines line begun h = absurd (true≢false (sym (ap is_some h)))
 open-more (Faulty q) lines line begun h = absurd (true≢false (sym (ap is_some h)))

@@ -1,45 +1,41 @@
 -- The lines of an epoch that have come, and what they make.
 use Rattle.std.specs.Prelude.{◌≡◌, refl, ℕ, suc, zero, ◌+◌, ◌≤◌, ◌<◌, List, [], ◌∷◌, ◌++◌, length, map, take, drop}
-use Rattle.std.specs.Prelude.{Option, Some, None, Ok, unwrap_or, ℤ, Bool, true, false, ◌==◌, Result, Err, slice_get}
-use Rattle.std.specs.Prelude.{is_some, min, IfOk, IfSome, if◌then◌else◌}
+use Rattle.std.specs.Prelude.{Option, Some, None, Ok, true, false, ◌==◌, Err, slice_get}
+use Rattle.std.specs.Prelude.{is_some, IfSome}
 use Rattle.std.proofs.Common.{sym, ◌∙◌, ap, subst, arith, true≢false, add-one}
 use Rattle.std.proofs.lemmas.Option.{slice_get_within}
 use Rattle.std.proofs.lemmas.List.{length-take, length-append, length-map, length-take-le, length-drop, map-append}
 use Rattle.std.proofs.lemmas.List.{take_all}
 use Rattle.crx_lines.specs.declared.fault.Fault.{Fault}
-use Rattle.crx_lines.specs.declared.fault.Fault.TheVariants.{BadFlags, Truncated}
-use Rattle.crx_rinex.specs.meaning.EpochLines.{begins_epoch}
 use Rattle.crx_rinex.specs.meaning.Printing.{printed_epoch}
 use Rattle.crx_rinex.specs.Epochs.{with_row}
 use Rattle.crx_rinex.specs.meaning.Epochs.{are_apart}
 use Rattle.crx_rinex.proofs.Apart.{apart-fewer, apart-map}
-use Rattle.crx_arcs.specs.meaning.Cells.{ReadCell, after_cells, cells_of, cells_read}
-use Rattle.crx_history.specs.meaning.CompactPlaces.{are_marks, row_of_cells, row_of_line, row_with_marks}
+use Rattle.crx_arcs.specs.meaning.Cells.{ReadCell}
 use Rattle.crx_arcs.specs.ArcTails.{ArcTail}
 use Rattle.crx_history.specs.Tails.{RowTail, Tail}
 use Rattle.crx_history.specs.HeldRows.{row_after, AreApart, held_row, HeldRow, past_of_tail, IsNextRow}
 use Rattle.crx_lines.specs.meaning.Seen.{Content}
-use Rattle.crx_compact.specs.OpenEpochs.{Faulty, HasMade, HasPrintedLines, first_step, is_idle, line_step, opened_raw}
-use Rattle.crx_compact.specs.OpenEpochs.{opening, step_in, tail_for_line, Idle, HeldClock, OpenRawEpoch, RawStep, Going}
-use Rattle.crx_compact.specs.OpenEpochs.{Whole, whole_or_awaiting, raw_step_with_clock}
-use Rattle.crx_arcs.specs.ArcSteps.{arc_of_code, shown_value}
+use Rattle.crx_compact.specs.OpenEpochs.{ColumnsState, Faulty, HasMade, HasPrintedLines, first_step, is_idle, line_step, opened_raw}
+use Rattle.crx_compact.specs.OpenEpochs.{step_in, tail_for_line, Idle, HeldClock, OpenRawEpoch, RawStep}
+use Rattle.crx_compact.specs.OpenEpochs.{Whole, whole_or_awaiting}
 use Rattle.crx_compact.specs.OpenLines.{columns_state, epoch_so_far, have_all_come, rows_so_far, step_after}
 use Rattle.crx_compact.specs.OpenLines.{AreLinesSoFar, lines_so_far, OpenLines, held_rows, made_of, open_raw}
-use Rattle.crx_history.specs.RowsSoFar.{AreAnnounced, AreRowsSoFar, HasClock}
+use Rattle.crx_history.specs.RowsSoFar.{AreAnnounced, AreRowsSoFar}
 use Rattle.crx_compact.specs.declared.incoming.Stage.{Stage}
 use Rattle.crx_compact.specs.declared.incoming.Stage.TheVariants.{Unbegun, Clock, Rows}
 use Rattle.crx_history.specs.ShownRows.{shown_epoch, shown_row}
-use Rattle.crx_compact.proofs.reading.StepsByCode.{row-ok, row-err}
-use Rattle.crx_history.proofs.Marks.{cells-count, texts-count}
+use Rattle.crx_compact.proofs.reading.StepsByCode.{row-ok}
+use Rattle.crx_compact.proofs.soundness.Soundness.{line-facts}
+use Rattle.crx_history.proofs.Results.{and_then-ok, ok-same}
+use Rattle.crx_history.specs.meaning.CompactPlaces.{satellite_line_read}
 use Rattle.std.proofs.Math.ListN.{drop_of_length-le}
 use Rattle.crx_columns.specs.meaning.Columns.{columns}
 use Rattle.crx_lines.specs.declared.limits.TheConstants.{HEAD_WIDTH}
 use Rattle.crx_rinex.specs.meaning.Observations.{Row, Epoch}
 use Rattle.crx_rinex.specs.meaning.ObservationTypes.{Count}
 use Rattle.crx_history.specs.meaning.EpochText.{Satellite}
-use Rattle.crx_arcs.specs.meaning.Sequences.{and_then}
 use Rattle.crx_history.proofs.Making.{taken_more}
-use Rattle.crx_history.proofs.EpochLines.{announced}
 
 -- ---- rows with what is left
 
@@ -58,19 +54,6 @@ tails-held (r ∷ rs) (t ∷ ts) e = ap (λ q. t ∷ q) (tails-held rs ts (omega
 
 -- ---- what the lines so far have made
 
--- where a line is awaited, the epoch goes on
-pub still-going : (before : Tail) (lines : OpenLines) → have_all_come (Some lines) ≡ false
-    → made_of before (Some lines) ≡ Going (open_raw before lines)
-still-going before lines e = by_lines lines.text lines.clock lines.rows lines.awaited e
-  where
-    by_lines : (text : List ℕ) (clock : Option HeldClock) (rows : List HeldRow) (awaited : List Satellite)
-        → have_all_come (Some (record { text = text; clock = clock; rows = rows; awaited = awaited })) ≡ false
-        → made_of before (Some (record { text = text; clock = clock; rows = rows; awaited = awaited }))
-        ≡ Going (open_raw before (record { text = text; clock = clock; rows = rows; awaited = awaited }))
-    by_lines text None rows awaited e = refl
-    by_lines text (Some clock) rows [] e = absurd (true≢false e)
-    by_lines text (Some clock) rows (s ∷ awaited) e = refl
-
 -- where all lines have come, the epoch is whole
 pub now-whole : (before next left : Tail) (count : ℕ) (satellites : List Satellite) (epoch : Epoch)
     → AreRowsSoFar epoch next count satellites → length satellites ≤ count
@@ -79,41 +62,23 @@ pub now-whole : (before next left : Tail) (count : ℕ) (satellites : List Satel
 now-whole before next left count satellites epoch h all e =
     let clock : HeldClock = record { value = epoch.clock; arc = next.clock } in
     let rows : List HeldRow = held_rows epoch.rows (take count next.rows) in
-    let paired : length epoch.rows ≡ length (take count next.rows) = h.counted
-    ∙ sym (length-take-le count next.rows h.left) in
-    ap {B = RawStep} (λ (ss : List Satellite). made_of before (Some (record {
-      text = next.text;
-      clock = Some clock;
-      rows = rows;
-      awaited = ss;
-    }))) (drop_of_length-le satellites all)
-    ∙ ap {B = RawStep} (λ (hs : List ℕ). Whole (record {
-      epoch = record { head = hs; clock = epoch.clock; rows = map (λ (r : HeldRow). r.row) rows };
-      tail = record { text = next.text; clock = next.clock; rows = map (λ (r : HeldRow). r.tail) rows };
-    })) (sym h.head)
-    ∙ ap {B = RawStep} (λ (rs : List Row). Whole (record {
-      epoch = record { head = epoch.head; clock = epoch.clock; rows = rs };
-      tail = record { text = next.text; clock = next.clock; rows = map (λ (r : HeldRow). r.tail) rows };
-    })) (rows-held epoch.rows (take count next.rows) paired)
-    ∙ ap {B = RawStep} (λ (ts : List RowTail). Whole (record {
-      epoch = epoch;
-      tail = record { text = next.text; clock = next.clock; rows = ts };
-    })) (tails-held epoch.rows (take count next.rows) paired)
-    ∙ ap {B = RawStep} (λ (t : Tail). Whole (record { epoch = epoch; tail = t })) (sym e)
+    let paired : length epoch.rows ≡ length (take count next.rows) =
+    h.counted ∙ sym (length-take-le count next.rows h.left) in
+    rw (
+      drop_of_length-le satellites all,
+      ← h.head,
+      rows-held epoch.rows (take count next.rows) paired,
+      tails-held epoch.rows (take count next.rows) paired,
+      ← e,
+    )
 
 -- the epoch of the lines so far
 pub epoch-so-far : (next : Tail) (count : ℕ) (satellites : List Satellite) (epoch : Epoch)
     → AreRowsSoFar epoch next count satellites → epoch_so_far (rows_so_far epoch next count satellites) ≡ epoch
 epoch-so-far next count satellites epoch h =
-    let paired : length epoch.rows ≡ length (take count next.rows) = h.counted
-    ∙ sym (length-take-le count next.rows h.left) in
-    ap {B = Epoch} (λ (hs : List ℕ). record {
-      head = hs;
-      clock = epoch.clock;
-      rows = map (λ (r : HeldRow). r.row) (held_rows epoch.rows (take count next.rows));
-    }) (sym h.head)
-    ∙ ap {B = Epoch} (λ (rs : List Row). record { head = epoch.head; clock = epoch.clock; rows = rs })
-    (rows-held epoch.rows (take count next.rows) paired)
+    let paired : length epoch.rows ≡ length (take count next.rows) =
+    h.counted ∙ sym (length-take-le count next.rows h.left) in
+    rw (← h.head, rows-held epoch.rows (take count next.rows) paired)
 
 -- where all lines have come, they are those of the history's epoch
 pub record AreAllRead (next : Tail) (count : ℕ) (satellites : List Satellite) (state : Option OpenLines) : Type 0 where
@@ -125,9 +90,7 @@ pub record AreAllRead (next : Tail) (count : ℕ) (satellites : List Satellite) 
 
 none-awaited : (satellites : List Satellite) (count : ℕ)
     → (length (drop count satellites) == 0) ≡ true → length satellites ≤ count
-none-awaited satellites count e =
-    let none : length (drop count satellites) ≡ 0 = grind (arith, e) in
-    omega (arith, none, length-drop count satellites)
+none-awaited satellites count e = grind (arith, length-drop count satellites)
 
 pub all-read : (stage : Stage) (next : Tail) (count : ℕ) (satellites : List Satellite) (state : Option OpenLines)
     → lines_so_far stage next count satellites ≡ state → AreLinesSoFar stage next count satellites
@@ -163,63 +126,17 @@ gone-same : (before : Tail) (text : List ℕ) (c : Option HeldClock)
 gone-same before text c rs ss c' rs' ss' clock rows [] = refl
 gone-same before text c rs ss c' rs' ss' clock rows (s ∷ awaited) = refl
 
--- ---- the clock line
-
--- the clock line begins the rows
-pub clock-taken : (before next later : Tail) (line : List ℕ) (satellites : List Satellite)
-    → HasClock before line next later
-    → step_after before (Some (record { text = next.text; clock = None; rows = []; awaited = satellites })) line
-    ≡ made_of before (rows_so_far (shown_epoch later 0) later 0 satellites)
-clock-taken before next later line satellites h =
-    let stepped : Option ℤ → Tail → RawStep =
-    λ value tail. whole_or_awaiting (record {
-      before = before;
-      text = tail.text;
-      clock = Some (record { value = value; arc = tail.clock });
-      rows = [];
-      awaited = satellites;
-    }) (record { value = value; arc = tail.clock }) [] satellites in
-    let clock : HeldClock = record { value = h.cell.value; arc = arc_of_code h.cell.code before.clock } in
-    ap {B = RawStep} (raw_step_with_clock (record {
-      before = before;
-      text = next.text;
-      clock = None;
-      rows = [];
-      awaited = satellites;
-    })) h.read
-    ∙ gone-same before next.text None [] satellites (Some clock) [] satellites clock [] satellites
-    ∙ ap {B = RawStep} (λ (tail : Tail). stepped h.cell.value tail) (sym h.left)
-    ∙ ap {B = RawStep} (λ (value : Option ℤ). stepped value later) (sym h.shown)
-
-pub clock-begins : (before next later : Tail) (line : List ℕ) (satellites : List Satellite)
-    → HasClock before line next later → AreAnnounced next.text satellites
-    → AreRowsSoFar (shown_epoch later 0) later 0 satellites
-clock-begins before next later line satellites h a =
-    let A : Tail → Type 0 = λ t. AreAnnounced t.text satellites in
-    record {
-      head = refl;
-      announced = subst A (sym h.left) a;
-      counted = refl;
-      named = refl;
-      sized = refl;
-      within = omega arith;
-      left = omega arith;
-    }
-
 -- ---- satellite lines
 
 pub satellite-here : (satellites : List Satellite) (count : ℕ) (s : Satellite)
     → slice_get satellites count ≡ Some s → drop count satellites ≡ s ∷ drop (count + 1) satellites
-satellite-here satellites count s e = here satellites count s e ∙ ap (λ n. s ∷ drop n satellites) (sym (add-one count))
+satellite-here satellites count s e = cc (here satellites count s e, add-one count)
   where
-    some-same : (x y : Satellite) → ◌≡◌ {A = Option Satellite} (Some x) (Some y) → x ≡ y
-    some-same x y h = ap (λ (o : Option Satellite). unwrap_or o x) h
-
     here : (satellites : List Satellite) (count : ℕ) (s : Satellite)
         → slice_get satellites count ≡ Some s → drop count satellites ≡ s ∷ drop (suc count) satellites
-    here [] zero s e = absurd (true≢false (sym (ap {B = Bool} (λ (o : Option Satellite). is_some o) e)))
-    here [] (suc count) s e = absurd (true≢false (sym (ap {B = Bool} (λ (o : Option Satellite). is_some o) e)))
-    here (q ∷ qs) zero s e = ap (λ x. x ∷ qs) (some-same q s e)
+    here [] zero s e = cc
+    here [] (suc count) s e = cc
+    here (q ∷ qs) zero s e = cc
     here (q ∷ qs) (suc count) s e = here qs count s e
 
 pub held-more : (rows : List Row) (tails : List RowTail) (row : Row) (tail : RowTail) → length rows ≡ length tails
@@ -227,8 +144,7 @@ pub held-more : (rows : List Row) (tails : List RowTail) (row : Row) (tail : Row
 held-more [] [] row tail e = refl
 held-more [] (t ∷ ts) row tail e = absurd (omega (arith, e))
 held-more (r ∷ rs) [] row tail e = absurd (omega (arith, e))
-held-more (r ∷ rs) (t ∷ ts) row tail e =
-    ap (λ (hs : List HeldRow). record { row = r; tail = t } ∷ hs) (held-more rs ts row tail (omega (arith, e)))
+held-more (r ∷ rs) (t ∷ ts) row tail e = cc (held-more rs ts row tail (omega (arith, e)))
 
 -- a satellite line read after a tail: its row stands after the others
 pub record IsRowAfter (before : Tail)
@@ -252,21 +168,7 @@ row-shown before next later line count s r = record {
   rows = r.rows;
   text = r.text;
   clock = r.clock;
-  with = ap {B = Epoch} (λ (t : List ℕ). record {
-    head = columns t 1 HEAD_WIDTH;
-    clock = shown_value later.clock;
-    rows = map shown_row (take (count + 1) later.rows);
-  }) r.text
-      ∙ ap {B = Epoch} (λ (arc : Option ArcTail). record {
-        head = columns next.text 1 HEAD_WIDTH;
-        clock = shown_value arc;
-        rows = map shown_row (take (count + 1) later.rows);
-      }) r.clock
-      ∙ ap {B = Epoch} (λ (rs : List Row). record {
-        head = columns next.text 1 HEAD_WIDTH;
-        clock = shown_value next.clock;
-        rows = rs;
-      }) (ap (map shown_row) r.rows ∙ map-append shown_row (take count next.rows) (r.left ∷ []));
+  with = cc (map-append shown_row (take count next.rows) (r.left ∷ []));
 }
 
 pub row-taken : (before next later : Tail) (line : List ℕ) (count : ℕ)
@@ -276,8 +178,8 @@ pub row-taken : (before next later : Tail) (line : List ℕ) (count : ℕ)
     ≡ made_of before (rows_so_far after later (count + 1) satellites)
 row-taken before next later line count satellites epoch after s h e r =
     let clock : HeldClock = record { value = epoch.clock; arc = next.clock } in
-    let rows : List HeldRow = held_rows epoch.rows (take count next.rows) in
-    let rest : List Satellite = drop (count + 1) satellites in
+    let rows = held_rows epoch.rows (take count next.rows) in
+    let rest = drop (count + 1) satellites in
     let held : HeldRow = record { row = r.row; tail = r.left } in
     let so_far : OpenRawEpoch = record {
       before = before;
@@ -286,33 +188,30 @@ row-taken before next later line count satellites epoch after s h e r =
       rows = rows;
       awaited = drop count satellites;
     } in
-    let paired : length epoch.rows ≡ length (take count next.rows) = h.counted
-    ∙ sym (length-take-le count next.rows h.left) in
-    let more : held_rows (epoch.rows ++ r.row ∷ []) (take (count + 1) later.rows) ≡ rows ++ held ∷ [] =
-    ap (held_rows (epoch.rows ++ r.row ∷ [])) r.rows
+    let paired = h.counted ∙ sym (length-take-le count next.rows h.left) in
+    let more = ap (held_rows (epoch.rows ++ r.row ∷ [])) r.rows
     ∙ held-more epoch.rows (take count next.rows) r.row r.left paired in
     ap {B = RawStep} (λ (ss : List Satellite). line_step so_far (Some clock) ss line)
-    (satellite-here satellites count s e)
-    ∙ row-ok so_far clock s rest line held r.read
-    ∙ gone-same before next.text (Some clock) rows
-    (drop count satellites) (Some clock) (rows ++ held ∷ []) rest clock (rows ++ held ∷ []) rest
-    ∙ ap {B = RawStep} (λ (hs : List HeldRow).
-    made_of before (Some (record { text = next.text; clock = Some clock; rows = hs; awaited = rest }))) (sym more)
-    ∙ ap {B = RawStep} (λ (t : List ℕ). made_of before (Some (record {
+    (satellite-here satellites count s e) ∙ row-ok so_far clock s rest line held r.read
+    ∙ gone-same before next.text (Some clock) rows (drop count satellites) (Some clock) (rows ++ held ∷ [])
+    rest clock (rows ++ held ∷ []) rest
+    ∙ ap {B = RawStep} (λ (hs : List HeldRow). made_of before (Some (record {
+      text = next.text;
+      clock = Some clock;
+      rows = hs;
+      awaited = rest;
+    }))) (sym more) ∙ ap {B = RawStep} (λ (t : List ℕ). made_of before (Some (record {
       text = t;
       clock = Some clock;
       rows = held_rows (epoch.rows ++ r.row ∷ []) (take (count + 1) later.rows);
       awaited = rest;
-    }))) (sym r.text)
-    ∙ ap {B = RawStep} (λ (arc : Option ArcTail). made_of before
-    (Some (record {
+    }))) (sym r.text) ∙ ap {B = RawStep} (λ (arc : Option ArcTail). made_of before (Some (record {
       text = later.text;
       clock = Some (record { value = epoch.clock; arc = arc });
-      rows = held_rows
-          (epoch.rows ++ r.row ∷ []) (take (count + 1) later.rows);
+      rows = held_rows (epoch.rows ++ r.row ∷ []) (take (count + 1) later.rows);
       awaited = rest;
-    }))) (sym r.clock)
-    ∙ ap {B = RawStep} (λ (q : Epoch). made_of before (rows_so_far q later (count + 1) satellites)) (sym r.with)
+    }))) (sym r.clock) ∙ ap {B = RawStep}
+    (λ (q : Epoch). made_of before (rows_so_far q later (count + 1) satellites)) (sym r.with)
 
 -- a row with a fault
 pub row-refused : (before next : Tail)
@@ -320,84 +219,27 @@ pub row-refused : (before next : Tail)
     → slice_get satellites count ≡ Some s → row_after before s line ≡ Err fault
     → step_after before (rows_so_far epoch next count satellites) line ≡ Faulty fault
 row-refused before next line count satellites epoch s fault e h =
-    let clock : HeldClock = record { value = epoch.clock; arc = next.clock } in
-    let so_far : OpenRawEpoch = record {
-      before = before;
-      text = next.text;
-      clock = Some clock;
-      rows = held_rows epoch.rows (take count next.rows);
-      awaited = drop count satellites;
-    } in
-    ap {B = RawStep} (λ (ss : List Satellite). line_step so_far (Some clock) ss line)
-    (satellite-here satellites count s e)
-    ∙ row-err so_far clock s (drop (count + 1) satellites) line fault h
+    grind (arith, satellite-here satellites count s e)
 
--- a satellite's row has its identifier
-named-by_marks : (before : Tail) (s : Satellite) (marks : List ℕ) (cells : List ReadCell) (b : Bool)
-    → are_marks s.count marks ≡ b
-    → IfOk (and_then (if b then Ok (row_of_cells (past_of_tail before) s.name marks cells)
-    else Err BadFlags) (λ read. Ok (held_row before read))) (λ (held : HeldRow). held.row.name ≡ s.name)
-named-by_marks before s marks cells true e = refl
-named-by_marks before s marks cells false e = tt
-
-named-by_cells : (before : Tail) (s : Satellite) (marks : List ℕ) (cells : Result (List ReadCell) Fault)
-    → IfOk (and_then (and_then cells (λ cs. row_with_marks (past_of_tail before) s marks cs))
-    (λ read. Ok (held_row before read))) (λ (held : HeldRow). held.row.name ≡ s.name)
-named-by_cells before s marks (Err fault) = tt
-named-by_cells before s marks (Ok cells) = named-by_marks before s marks cells (are_marks s.count marks) refl
-
-named-by_line : (before : Tail) (s : Satellite) (line : List ℕ) (b : Bool)
-    → IfOk (and_then (if b then Err Truncated else row_of_line (past_of_tail before) s line)
-    (λ read. Ok (held_row before read))) (λ (held : HeldRow). held.row.name ≡ s.name)
-named-by_line before s line true = tt
-named-by_line before s line false = named-by_cells before s
-    (after_cells s.count line) (cells_read ((past_of_tail before).value s.name) (cells_of s.count line))
-
-pub name-read : (before : Tail) (s : Satellite) (line : List ℕ) (held : HeldRow)
-    → row_after before s line ≡ Ok held → held.row.name ≡ s.name
-name-read before s line held e =
-    let P : Result HeldRow Fault → Type 0 = λ r. IfOk r (λ (q : HeldRow). q.row.name ≡ s.name) in
-    subst P e (named-by_line before s line (begins_epoch line))
-
--- and as many values as it has types
-sized-by_marks : (before : Tail) (s : Satellite) (marks : List ℕ) (cells : List ReadCell) (b : Bool)
-    → length cells ≡ s.count → are_marks s.count marks ≡ b
-    → IfOk (and_then (if b then Ok (row_of_cells (past_of_tail before) s.name marks cells)
-    else Err BadFlags) (λ read. Ok (held_row before read))) (λ (held : HeldRow). length held.row.values ≡ s.count)
-sized-by_marks before s marks cells true k e = length-map cells (λ (c : ReadCell). c.value) ∙ k
-sized-by_marks before s marks cells false k e = tt
-
-sized-by_cells : (before : Tail) (s : Satellite) (line marks : List ℕ) (cells : Result (List ReadCell) Fault)
-    → cells_read ((past_of_tail before).value s.name) (cells_of s.count line) ≡ cells
-    → IfOk (and_then (and_then cells (λ cs. row_with_marks (past_of_tail before) s marks cs))
-    (λ read. Ok (held_row before read))) (λ (held : HeldRow). length held.row.values ≡ s.count)
-sized-by_cells before s line marks (Err fault) e = tt
-sized-by_cells before s line marks (Ok cells) e =
-    sized-by_marks before s marks cells (are_marks s.count marks)
-    (cells-count ((past_of_tail before).value s.name) (cells_of s.count line) cells e ∙ texts-count s.count line) refl
-
-sized-by_line : (before : Tail) (s : Satellite) (line : List ℕ) (b : Bool)
-    → IfOk (and_then (if b then Err Truncated else row_of_line (past_of_tail before) s line)
-    (λ read. Ok (held_row before read))) (λ (held : HeldRow). length held.row.values ≡ s.count)
-sized-by_line before s line true = tt
-sized-by_line before s line false = sized-by_cells before s line
-    (after_cells s.count line) (cells_read ((past_of_tail before).value s.name) (cells_of s.count line)) refl
-
-pub size-read : (before : Tail) (s : Satellite) (line : List ℕ) (held : HeldRow)
-    → row_after before s line ≡ Ok held → length held.row.values ≡ s.count
-size-read before s line held e =
-    let P : Result HeldRow Fault → Type 0 = λ r. IfOk r (λ (q : HeldRow). length q.row.values ≡ s.count) in
-    subst P e (sized-by_line before s line (begins_epoch line))
+-- a satellite's row has its identifier, and as many values as the satellite has types
+row-fits : (before : Tail) (s : Satellite) (line : List ℕ) (held : HeldRow)
+    → row_after before s line ≡ Ok held → (held.row.name ≡ s.name) × (length held.row.values ≡ s.count)
+row-fits before s line held e =
+    let P : HeldRow → Type 0 = λ h. (h.row.name ≡ s.name) × (length h.row.values ≡ s.count) in
+    let step = and_then-ok (satellite_line_read (past_of_tail before) s line)
+    (λ read. Ok (held_row before read)) held e in
+    let facts = line-facts (past_of_tail before) s line step.from step.first in
+    subst P (ok-same (held_row before step.from) held step.next)
+    (subst (λ r. P (held_row before r)) facts.is_read
+    (refl, length-map facts.cells (λ (c : ReadCell). c.value) ∙ facts.counted))
 
 -- the histories of the rows so far have different identifiers
 pub all-apart : (next : Tail) (count : ℕ) (satellites : List Satellite)
     → AreRowsSoFar (shown_epoch next count) next count satellites → AreApart count next.rows
 all-apart next count satellites h =
     let rows = take count next.rows in
-    let all : take (length satellites) satellites ≡ satellites =
-    take_all (length satellites) satellites (omega arith) in
-    let some : are_apart (λ (q : Satellite). q.name) (take count satellites) ≡ true =
-    apart-fewer (λ (q : Satellite). q.name) count (length satellites) satellites h.within
+    let all = take_all (length satellites) satellites (omega arith) in
+    let some = apart-fewer (λ (q : Satellite). q.name) count (length satellites) satellites h.within
     (ap (λ (ss : List Satellite). are_apart (λ (q : Satellite). q.name) ss) all ∙ h.announced.apart) in (
       h.left,
       sym (apart-map (λ (r : Row). r.name) shown_row rows)
@@ -411,33 +253,31 @@ pub rows-more : (before next later : Tail) (line : List ℕ) (count : ℕ)
     → slice_get satellites count ≡ Some s
     → IsRowAfter before s line count epoch after next later → AreRowsSoFar after later (count + 1) satellites
 rows-more before next later line count satellites epoch after s h e r =
-    let kept : length (take (count + 1) later.rows) ≡ count + 1 =
-    ap length r.rows ∙ length-append (take count next.rows) (r.left ∷ [])
+    let kept = ap length r.rows ∙ length-append (take count next.rows) (r.left ∷ [])
     ∙ ap (λ n. n + 1) (length-take-le count next.rows h.left) in
-    let least : length (take (count + 1) later.rows) ≡ min (count + 1) (length later.rows) =
-    length-take (count + 1) later.rows in
+    let least = length-take (count + 1) later.rows in
+    let fits = row-fits before s line (record { row = r.row; tail = r.left }) r.read in
     record {
       head = ap (λ (q : Epoch). q.head) r.with ∙ h.head ∙ ap (λ t. columns t 1 HEAD_WIDTH) (sym r.text);
-      announced = let A : List ℕ → Type 0 = λ t. AreAnnounced t satellites in subst A (sym r.text) h.announced;
-      counted = ap (λ (q : Epoch). length q.rows) r.with
-          ∙ length-append epoch.rows (r.row ∷ []) ∙ ap (λ n. n + 1) h.counted;
-      named =
-          ap (λ (q : Epoch). map (λ (w : Row). w.name) q.rows) r.with
-          ∙ map-append (λ (w : Row). w.name) epoch.rows (r.row ∷ [])
-          ∙ ap (λ (n : List ℕ). map (λ (w : Row). w.name) epoch.rows ++ n ∷ [])
-          (name-read before s line (record { row = r.row; tail = r.left }) r.read)
-          ∙ ap (λ (ns : List (List ℕ)). ns ++ s.name ∷ []) h.named
-          ∙ sym (ap (map (λ (w : Satellite). w.name)) (taken_more satellites count s e)
-          ∙ map-append (λ (w : Satellite). w.name) (take count satellites) (s ∷ []));
-      sized =
-          ap (λ (q : Epoch). map (λ (w : Row). length w.values) q.rows) r.with
-          ∙ map-append (λ (w : Row). length w.values) epoch.rows (r.row ∷ [])
-          ∙ ap (λ n. map (λ (w : Row). length w.values) epoch.rows ++ n ∷ [])
-          (size-read before s line (record { row = r.row; tail = r.left }) r.read)
-          ∙ ap (λ (ns : List ℕ). ns ++ s.count ∷ []) h.sized
-          ∙ sym (ap (map (λ (w : Satellite). w.count)) (taken_more satellites count s e)
-          ∙ map-append (λ (w : Satellite). w.count) (take count satellites) (s ∷ []));
-      within = let inside : count < length satellites = slice_get_within satellites count s e in omega (arith, inside);
+      announced = let A : List ℕ → Type 0 = λ t. AreAnnounced t satellites in subst A (sym r.text)
+          h.announced;
+      counted = cc (length-append epoch.rows (r.row ∷ []));
+      named = cc (
+        map-append (λ (w : Row). w.name) epoch.rows (r.row ∷ []),
+        fits.0,
+        taken_more satellites
+            count s e,
+        map-append (λ (w : Satellite). w.name) (take count satellites) (s ∷ []),
+      );
+      sized = cc (
+        map-append (λ (w : Row). length w.values) epoch.rows (r.row ∷ []),
+        fits.1,
+        taken_more
+            satellites count s e,
+        map-append (λ (w : Satellite). w.count) (take count satellites) (s ∷ []),
+      );
+      within = let inside : count < length satellites = slice_get_within satellites count s e in omega
+          (arith, inside);
       left = omega (arith, kept, least);
     }
 
@@ -446,23 +286,12 @@ pub all-taken : (before next : Tail) (line : List ℕ) (count : ℕ) (satellites
     → slice_get satellites count ≡ None
     → step_after before (rows_so_far epoch next count satellites) line
     ≡ made_of before (rows_so_far epoch next count satellites)
-all-taken before next line count satellites epoch e =
-    let clock : HeldClock = record { value = epoch.clock; arc = next.clock } in
-    let so_far : OpenRawEpoch = record {
-      before = before;
-      text = next.text;
-      clock = Some clock;
-      rows = held_rows epoch.rows (take count next.rows);
-      awaited = drop count satellites;
-    } in
-    let none : drop count satellites ≡ [] = past satellites count e in
-    ap {B = RawStep} (λ (ss : List Satellite). line_step so_far (Some clock) ss line) none
-    ∙ sym (ap {B = RawStep} (λ (ss : List Satellite). whole_or_awaiting so_far clock so_far.rows ss) none)
+all-taken before next line count satellites epoch e = cc (past satellites count e)
   where
     past : (satellites : List Satellite) (count : ℕ) → slice_get satellites count ≡ None → drop count satellites ≡ []
     past [] zero e = refl
     past [] (suc count) e = refl
-    past (q ∷ qs) zero e = absurd (true≢false (ap {B = Bool} (λ (o : Option Satellite). is_some o) e))
+    past (q ∷ qs) zero e = cc
     past (q ∷ qs) (suc count) e = past qs count e
 
 -- ---- the states of a reader of epochs
@@ -474,25 +303,14 @@ pub begun-state : (types : List Count) (line : List ℕ)
     → is_some incoming ≡ true
     → HasMade (first_step types held (Content line)) (columns_state tail before incoming) None
 begun-state types line tail held before None e h k = absurd (true≢false (sym k))
-begun-state types line tail held before (Some lines) e h k = (
-  open_raw before lines,
-  ap {B = RawStep} (λ (t : Option Tail). opening (opened_raw types line t)) e
-      ∙ ap {B = RawStep} (λ (r : Result OpenRawEpoch Fault). opening r) h,
-  refl,
-)
+begun-state types line tail held before (Some lines) e h k = grind arith
 
--- what a line makes in an open epoch
-pub step-in : (tail : Option Tail) (before : Tail) (incoming : Option OpenLines) (line : List ℕ)
-    → is_some incoming ≡ true
-    → step_in (columns_state tail before incoming) (Content line) ≡ step_after before incoming line
-step-in tail before None line e = absurd (true≢false (sym e))
-step-in tail before (Some lines) line e = refl
-
--- whether an epoch is open shows in the state
-pub state-open : (tail : Option Tail) (before : Tail) (incoming : Option OpenLines)
-    → is_idle (columns_state tail before incoming) ≡ false → is_some incoming ≡ true
-state-open tail before None e = absurd (true≢false e)
-state-open tail before (Some lines) e = refl
+-- what a line makes in an open epoch, by what it makes of the lines so far
+pub line-made : (state : ColumnsState) (tail : Option Tail) (before stands : Tail) (incoming taken : Option OpenLines)
+    (line : List ℕ) → columns_state tail before incoming ≡ state → is_idle state ≡ false → stands ≡ before
+    → step_after stands incoming line ≡ made_of stands taken → step_in state (Content line) ≡ made_of stands taken
+line-made state tail before stands None taken line is k same e = absurd (true≢false (ap is_idle is ∙ k))
+line-made state tail before stands (Some lines) taken line is k same e = cc
 
 pub state-idle : (tail : Option Tail) (before : Tail) (incoming : Option OpenLines)
     → is_idle (columns_state tail before incoming) ≡ true → incoming ≡ None
@@ -500,22 +318,20 @@ state-idle tail before None e = refl
 state-idle tail before (Some lines) e = absurd (true≢false (sym e))
 
 -- an epoch that goes on, and a whole one
-pub still-made : (step : RawStep) (tail : Option Tail) (before : Tail) (taken : Option OpenLines)
-    → step ≡ made_of before taken → is_some taken ≡ true → have_all_come taken ≡ false
+pub still-made : (step : RawStep) (tail : Option Tail) (before stands : Tail) (taken : Option OpenLines)
+    → step ≡ made_of stands taken → stands ≡ before → is_some taken ≡ true → have_all_come taken ≡ false
     → HasMade step (columns_state tail before taken) None
-still-made step tail before None e k h = absurd (true≢false (sym k))
-still-made step tail before (Some lines) e k h = (open_raw before lines, e ∙ still-going before lines h, refl)
+still-made step tail before stands None e same k h = absurd (true≢false (sym k))
+still-made step tail before stands (Some lines) e same k h = grind arith
 
 pub whole-made : (step : RawStep) (before left : Tail) (taken : Option OpenLines) (epoch : Epoch)
     → step ≡ made_of before taken → epoch ≡ epoch_so_far taken
     → ((t : Tail) → made_of t taken ≡ Whole (record { epoch = epoch_so_far taken; tail = left }))
     → HasMade step (Idle (Some left)) (Some epoch)
-whole-made step before left taken epoch e is h =
-    (record { epoch = epoch_so_far taken; tail = left }, e ∙ h before, is, refl)
+whole-made step before left taken epoch e is h = grind arith
 
 pub whole-printed : (step : RawStep) (before left : Tail) (taken : Option OpenLines) (lines : List (List ℕ))
     → step ≡ made_of before taken → lines ≡ printed_epoch (epoch_so_far taken)
     → ((t : Tail) → made_of t taken ≡ Whole (record { epoch = epoch_so_far taken; tail = left }))
     → HasPrintedLines step (Idle (Some left)) true lines
-whole-printed step before left taken lines e is h =
-    (record { epoch = epoch_so_far taken; tail = left }, e ∙ h before, is, refl)
+whole-printed step before left taken lines e is h = grind arith

@@ -1,7 +1,6 @@
 -- The tail of a block of raw epochs decides what the next one stands for, and the next tail.
 use Rattle.std.specs.Prelude.{◌≡◌, refl, ℕ, Bool, true, false, List, [], ◌∷◌, ◌*◌, map, length, Option, Some, None}
 use Rattle.std.specs.Prelude.{if◌then◌else◌, unwrap_or}
-use Rattle.std.specs.List.{AllByRecursion}
 use Rattle.std.specs.Option.{option_map}
 use Rattle.std.proofs.Common.{sym, ◌∙◌, ap}
 use Rattle.std.proofs.Math.Path.{fun_ext}
@@ -18,10 +17,9 @@ use Rattle.crx_rinex.specs.meaning.EpochLines.{begins_epoch}
 use Rattle.crx_history.specs.meaning.Expansion.{RawRow, RawEpoch, block_of, overlaid, raw_row_named, raw_run_of}
 use Rattle.crx_history.specs.meaning.Expansion.{marks_of, code_in}
 use Rattle.crx_arcs.specs.meaning.ArcValues.{since_start, value_of}
-use Rattle.crx_history.specs.Expansion.{text_of}
 use Rattle.crx_history.specs.meaning.Past.{Past, past_of_block, past_of_epochs, past_of_line}
 use Rattle.crx_history.specs.meaning.CompactPlaces.{epoch_against, epoch_at}
-use Rattle.crx_history.specs.Tails.{RowTail, Tail, raw_row_tail, raw_row_tails, tail_of_block, tail_left}
+use Rattle.crx_history.specs.Tails.{RowTail, Tail, raw_row_tail, tail_of_block, tail_left}
 use Rattle.crx_arcs.specs.ArcTails.{started_tail}
 use Rattle.crx_history.specs.Steps.{no_tail, tail_named, cell_of_tail, flags_of_tail, flags_held, raw_row_tail_after}
 use Rattle.crx_history.specs.Steps.{raw_tail_after}
@@ -30,6 +28,7 @@ use Rattle.crx_history.specs.HeldRows.{past_of_tail}
 use Rattle.crx_compact.specs.OpenEpochs.{tail_for_line, epoch_after}
 use Rattle.crx_compact.specs.ReadingLaws.{HasSingleLines, RawByTail}
 use Rattle.crx_rinex.proofs.EachPlace.{each_place-same, index-each_place}
+use Rattle.crx_compact.proofs.wayback.Lists.{mapped-same}
 use Rattle.crx_compact.proofs.wayback.Overlays.{overlaid-patched}
 use Rattle.crx_compact.proofs.wayback.Cuts.{overlaid-take}
 use Rattle.crx_compact.proofs.wayback.Runs.{named-made}
@@ -74,60 +73,39 @@ flags-left name (e ∷ es) =
 row-tail : (raw : RawEpoch) (block : List RawEpoch) (r : RawRow) → raw_row_named r.name raw.rows ≡ Some r
     → raw_row_tail (raw_run_of r.name (raw ∷ block)) r ≡ raw_row_tail_after (tail_named r.name (tail_of_block block)) r
 row-tail raw block r own =
-    let n : ℕ = length r.codes in
-    let rs : List RawRow = raw_run_of r.name block in
-    let found : Option RowTail = tail_named r.name (tail_of_block block) in
-    let run : raw_run_of r.name (raw ∷ block) ≡ r ∷ raw_run_of r.name block =
+    let n = length r.codes in
+    let rs = raw_run_of r.name block in
+    let found = tail_named r.name (tail_of_block block) in
+    let run =
     ap (λ (o : Option RawRow). stretch (o ∷ map (λ (q : RawEpoch). raw_row_named r.name q.rows) block)) own in
-    let cells : each_place n (λ j. started_tail (since_start (map (code_in j) (r ∷ rs))))
-    ≡ each_place n (λ j. arc_of_code (code_in j r) (cell_of_tail j found)) =
-    each_place-same n (λ j. started_tail (since_start (map (code_in j) (r ∷ rs))))
-    (λ j. arc_of_code (code_in j r) (cell_of_tail j found)) (λ j.
-    number-next (code_in j r) (map (code_in j) rs) ∙ ap (arc_of_code (code_in j r)) (sym (cell-left r.name block j))) in
-    let flags : overlaid (marks_of (r ∷ rs)) ≡ flags_held n (patched (flags_of_tail found) r.marks) =
-    overlaid-take (2 * n) (r.marks ∷ marks_of rs)
+    let cells = each_place-same n (λ j. started_tail (since_start (map (code_in j) (r ∷ rs))))
+    (λ j. arc_of_code (code_in j r) (cell_of_tail j found))
+    (λ j. number-next (code_in j r) (map (code_in j) rs)
+    ∙ ap (arc_of_code (code_in j r)) (sym (cell-left r.name block j))) in
+    let flags = overlaid-take (2 * n) (r.marks ∷ marks_of rs)
     ∙ ap (flags_held n) (overlaid-patched r.marks (marks_of rs)
     ∙ ap (λ t. patched t r.marks) (sym (flags-left r.name block))) in
-    ap (λ q. raw_row_tail q r) run
-    ∙ ap {B = RowTail} (λ t. record {
+    ap (λ q. raw_row_tail q r) run ∙ ap {B = RowTail} (λ t. record {
       name = r.name;
       flags = t;
       cells = each_place n (λ j. started_tail (since_start (map (code_in j) (r ∷ rs))));
-    }) flags
-    ∙ ap {B = RowTail}
-    (λ cs. record { name = r.name; flags = flags_held n (patched (flags_of_tail found) r.marks); cells = cs }) cells
+    }) flags ∙ ap {B = RowTail} (λ cs. record {
+      name = r.name;
+      flags = flags_held n (patched (flags_of_tail found) r.marks);
+      cells = cs;
+    }) cells
 
 -- ---- one epoch more
 
-row-tails : (raw : RawEpoch) (block : List RawEpoch) (rows : List RawRow)
-    → AllByRecursion (λ (r : RawRow). raw_row_named r.name raw.rows ≡ Some r) rows
-    → map (λ (r : RawRow). raw_row_tail (raw_run_of r.name (raw ∷ block)) r) rows
-    ≡ map (λ (r : RawRow). raw_row_tail_after (tail_named r.name (tail_of_block block)) r) rows
-row-tails raw block [] own = refl
-row-tails raw block (r ∷ rs) own =
-    ap (λ x. x ∷ map (λ (q : RawRow). raw_row_tail (raw_run_of q.name (raw ∷ block)) q) rs) (row-tail raw block r own.0)
-    ∙ ap (λ xs. raw_row_tail_after (tail_named r.name (tail_of_block block)) r ∷ xs) (row-tails raw block rs own.1)
-
 pub raw-by_tail : (raw : RawEpoch) (block : List RawEpoch) → HasSingleLines raw → RawByTail raw block
 raw-by_tail raw block own =
-    let text : text_of (raw ∷ block) ≡ patched (text_of block) raw.line =
-    overlaid-patched raw.line (map (λ (q : RawEpoch). q.line) block) in
-    let arc : started_tail (since_start (map (λ (q : RawEpoch). q.clock) (raw ∷ block)))
-    ≡ arc_of_code raw.clock (tail_of_block block).clock =
-    number-next raw.clock (map (λ (q : RawEpoch). q.clock) block) in
-    ap {B = Tail} (λ t. record {
-      text = t;
-      clock = started_tail
-          (since_start (map (λ (q : RawEpoch). q.clock) (raw ∷ block)));
-      rows = raw_row_tails (raw ∷ block);
-    }) text
-    ∙ ap {B = Tail}
-    (λ c. record { text = patched (text_of block) raw.line; clock = c; rows = raw_row_tails (raw ∷ block) }) arc
-    ∙ ap {B = Tail} (λ rs. record {
-      text = patched (text_of block) raw.line;
-      clock = arc_of_code raw.clock (tail_of_block block).clock;
-      rows = rs;
-    }) (row-tails raw block raw.rows own)
+    cc (
+      overlaid-patched raw.line (map (λ (q : RawEpoch). q.line) block),
+      number-next raw.clock (map (λ (q : RawEpoch). q.clock) block),
+      mapped-same (λ (r : RawRow). raw_row_tail (raw_run_of r.name (raw ∷ block)) r)
+          (λ (r : RawRow). raw_row_tail_after (tail_named r.name (tail_of_block block)) r)
+          (λ r here. row-tail raw block r here) raw.rows own,
+    )
 
 -- ---- what the tail gives to the next lines
 
@@ -139,43 +117,20 @@ past-left block =
     let tail : Tail = tail_of_block block in
     let text : (λ line. overlaid (line ∷ lines)) ≡ (λ line. patched tail.text line) =
     fun_ext (λ line. overlaid-patched line lines) in
-    let clock : (λ code. value_of CLOCK_WIDTH (code ∷ clocks)) ≡ (λ code. value_of_code CLOCK_WIDTH code tail.clock) =
+    let clock : (λ code. value_of CLOCK_WIDTH (code ∷ clocks))
+    ≡ (λ code. value_of_code CLOCK_WIDTH code tail.clock) =
     fun_ext (λ code. value-next CLOCK_WIDTH code clocks) in
-    let value : (λ name place code. value_of OBSERVATION_WIDTH (code ∷ map (code_in place) (raw_run_of name block)))
+    let value : (λ name place code. value_of OBSERVATION_WIDTH
+    (code ∷ map (code_in place) (raw_run_of name block)))
     ≡ (λ name place code. value_of_code OBSERVATION_WIDTH code (cell_of_tail place (tail_named name tail))) =
-    fun_ext (λ name. fun_ext (λ place. fun_ext (λ code.
-    value-next OBSERVATION_WIDTH code (map (code_in place) (raw_run_of name block))
+    fun_ext (λ name. fun_ext (λ place. fun_ext
+    (λ code. value-next OBSERVATION_WIDTH code (map (code_in place) (raw_run_of name block))
     ∙ ap (value_of_code OBSERVATION_WIDTH code) (sym (cell-left name block place))))) in
     let flags : (λ name marks. overlaid (marks ∷ marks_of (raw_run_of name block)))
     ≡ (λ name marks. patched (flags_of_tail (tail_named name tail)) marks) =
     fun_ext (λ name. fun_ext (λ marks. overlaid-patched marks (marks_of (raw_run_of name block))
     ∙ ap (λ t. patched t marks) (sym (flags-left name block)))) in
-    ap {B = Past} (λ f. record {
-      text = f;
-      clock = λ code. value_of CLOCK_WIDTH (code ∷ clocks);
-      value = λ name place code. value_of OBSERVATION_WIDTH (code ∷ map (code_in place) (raw_run_of name block));
-      flags = λ name marks. overlaid (marks ∷ marks_of (raw_run_of name block));
-    }) text
-    ∙ ap {B = Past} (λ f. record {
-      text = λ line. patched tail.text line;
-      clock = f;
-      value = λ name place code. value_of OBSERVATION_WIDTH (code ∷ map (code_in place) (raw_run_of name block));
-      flags = λ name marks. overlaid (marks ∷ marks_of (raw_run_of name block));
-    }) clock
-    ∙ ap {B = Past} (λ f. record {
-      text = λ line. patched tail.text line;
-      clock = λ code. value_of_code CLOCK_WIDTH
-          code tail.clock;
-      value = f;
-      flags = λ name marks. overlaid (marks ∷ marks_of (raw_run_of name block));
-    }) value
-    ∙ ap {B = Past} (λ f. record {
-      text = λ line. patched tail.text line;
-      clock = λ code. value_of_code CLOCK_WIDTH code tail.clock;
-      value = λ name place code.
-          value_of_code OBSERVATION_WIDTH code (cell_of_tail place (tail_named name tail));
-      flags = f;
-    }) flags
+    rw (text, clock, value, flags)
 
 epochs-left : (older : List RawEpoch) → past_of_epochs older ≡ option_map past_of_tail (tail_left older)
 epochs-left [] = refl

@@ -1,10 +1,9 @@
 -- What a line makes of an open epoch, by what was read of it.
 use Rattle.std.specs.Prelude.{◌≡◌, ℕ, List, [], ◌∷◌, ◌++◌, Some, Result, Ok, Err}
-use Rattle.std.proofs.Common.{ap}
 use Rattle.crx_lines.specs.declared.fault.Fault.{Fault}
 use Rattle.crx_history.specs.meaning.EpochText.{Satellite}
 use Rattle.crx_history.specs.meaning.CompactPlaces.{ReadRow, satellite_line_read}
-use Rattle.crx_compact.specs.OpenEpochs.{HeldClock, OpenRawEpoch, RawStep, Faulty, whole_or_awaiting}
+use Rattle.crx_compact.specs.OpenEpochs.{HeldClock, OpenRawEpoch, whole_or_awaiting}
 use Rattle.crx_history.specs.HeldRows.{HeldRow, held_row}
 use Rattle.crx_compact.specs.OpenEpochs.{line_step, raw_step_with_row}
 use Rattle.crx_history.specs.HeldRows.{past_of_tail}
@@ -16,31 +15,8 @@ row-step : (begun : OpenRawEpoch)
     (clock : HeldClock) (awaited : List Satellite) (read : Result ReadRow Fault) (held : HeldRow)
     → and_then read (λ (r : ReadRow). Ok (held_row begun.before r)) ≡ Ok held
     → raw_step_with_row begun clock awaited read ≡ whole_or_awaiting begun clock (begun.rows ++ held ∷ []) awaited
-row-step begun clock awaited (Ok read) held e = ap {B = RawStep} (λ (r : Result HeldRow Fault). after r) e
-  where
-    after : Result HeldRow Fault → RawStep
-    after (Ok row) = whole_or_awaiting begun clock (begun.rows ++ row ∷ []) awaited
-    after (Err fault) = Faulty fault
-row-step begun clock awaited (Err fault) held e = ap {B = RawStep} (λ (r : Result HeldRow Fault). after r) e
-  where
-    after : Result HeldRow Fault → RawStep
-    after (Ok row) = whole_or_awaiting begun clock (begun.rows ++ row ∷ []) awaited
-    after (Err other) = Faulty other
-
-row-fault : (begun : OpenRawEpoch)
-    (clock : HeldClock) (awaited : List Satellite) (read : Result ReadRow Fault) (fault : Fault)
-    → and_then read (λ (r : ReadRow). Ok (held_row begun.before r)) ≡ Err fault
-    → raw_step_with_row begun clock awaited read ≡ Faulty fault
-row-fault begun clock awaited (Ok read) fault e = ap {B = RawStep} (λ (r : Result HeldRow Fault). after r) e
-  where
-    after : Result HeldRow Fault → RawStep
-    after (Ok row) = whole_or_awaiting begun clock (begun.rows ++ row ∷ []) awaited
-    after (Err other) = Faulty other
-row-fault begun clock awaited (Err other) fault e = ap {B = RawStep} (λ (r : Result HeldRow Fault). after r) e
-  where
-    after : Result HeldRow Fault → RawStep
-    after (Ok row) = whole_or_awaiting begun clock (begun.rows ++ row ∷ []) awaited
-    after (Err found) = Faulty found
+row-step begun clock awaited (Ok read) held e = cc
+row-step begun clock awaited (Err fault) held e = cc
 
 pub row-ok : (begun : OpenRawEpoch) (clock : HeldClock) (satellite : Satellite)
     (awaited : List Satellite) (line : List ℕ) (held : HeldRow) → row_after begun.before satellite line ≡ Ok held
@@ -48,9 +24,3 @@ pub row-ok : (begun : OpenRawEpoch) (clock : HeldClock) (satellite : Satellite)
     ≡ whole_or_awaiting begun clock (begun.rows ++ held ∷ []) awaited
 row-ok begun clock satellite awaited line held e =
     row-step begun clock awaited (satellite_line_read (past_of_tail begun.before) satellite line) held e
-
-pub row-err : (begun : OpenRawEpoch) (clock : HeldClock) (satellite : Satellite)
-    (awaited : List Satellite) (line : List ℕ) (fault : Fault) → row_after begun.before satellite line ≡ Err fault
-    → line_step begun (Some clock) (satellite ∷ awaited) line ≡ Faulty fault
-row-err begun clock satellite awaited line fault e =
-    row-fault begun clock awaited (satellite_line_read (past_of_tail begun.before) satellite line) fault e

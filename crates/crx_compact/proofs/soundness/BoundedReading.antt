@@ -1,24 +1,21 @@
 -- What is held of epochs that are read is within the limits.
-use Rattle.std.specs.Prelude.{◌≡◌, refl, ℕ, zero, suc, ◌+◌, ◌-◌, ◌*◌, ◌≤◌, ℤ, Bool, true, false, List, [], ◌∷◌, ◌++◌}
+use Rattle.std.specs.Prelude.{◌≡◌, refl, ℕ, zero, suc, ◌+◌, ◌*◌, ◌≤◌, ℤ, true, List, [], ◌∷◌, ◌++◌}
 use Rattle.std.specs.Prelude.{length, map, take, drop, Option, Some, None, Result, Ok, Err, IfSome, ⊤, slice_index_or}
-use Rattle.std.specs.Prelude.{if◌then◌else◌, nat_le, nat_eq, unwrap_or}
+use Rattle.std.specs.Prelude.{unwrap_or}
 use Rattle.std.specs.List.{list_all, AllByRecursion}
-use Rattle.std.specs.Char.{is_ascii_digit}
 use Rattle.std.specs.Option.{option_map}
-use Rattle.std.specs.Str.{bytes_eq}
 use Rattle.std.proofs.Common.{sym, ◌∙◌, ap, subst, arith}
-use Rattle.std.proofs.lemmas.Bool.{leb-true, and_parts}
 use Rattle.std.proofs.lemmas.List.{length-map, length-append, length-take}
 use Rattle.crx_rinex.proofs.SoundEpochs.{length-columns}
 use Rattle.crx_columns.specs.meaning.Columns.{is_blank, character_at, before_end_blanks, without_end_blanks, columns}
-use Rattle.crx_text.specs.meaning.Codes.{code_of, start_of, step_of, coded_number, is_order}
+use Rattle.crx_text.specs.meaning.Codes.{code_of, coded_number}
 use Rattle.crx_columns.specs.Texts.{patched, character_of}
 use Rattle.crx_columns.specs.meaning.Texts.{by_position}
 use Rattle.crx_lines.specs.meaning.Seen.{ReadLine, Content, Overlong}
 use Rattle.crx_text.specs.declared.code.Code.{Code}
 use Rattle.crx_text.specs.declared.code.Code.TheVariants.{Missing, Start, Step}
 use Rattle.crx_lines.specs.declared.fault.Fault.{Fault}
-use Rattle.crx_lines.specs.declared.fault.Fault.TheVariants.{BadClock, BadField, BadFlags, Truncated}
+use Rattle.crx_lines.specs.declared.fault.Fault.TheVariants.{BadClock, Truncated}
 use Rattle.crx_lines.specs.declared.limits.TheConstants.{NAME_WIDTH, ORDER_LIMIT, TYPES_LIMIT, SATELLITES_LIMIT}
 use Rattle.crx_rinex.specs.meaning.Places.{Place, Here, Wrong, Wanted}
 use Rattle.crx_rinex.specs.meaning.SatelliteLines.{types_of_satellite}
@@ -27,19 +24,17 @@ use Rattle.crx_rinex.specs.ObservationTypes.{AreCounts}
 use Rattle.crx_rinex.proofs.Characters.{at, at-without_end_blanks, at-drop}
 use Rattle.crx_rinex.proofs.Counts.{allowed_of}
 use Rattle.crx_rinex.proofs.Rows.{satellites_few}
-use Rattle.crx_rinex.specs.meaning.EachPlace.{each_place}
-use Rattle.crx_arcs.specs.meaning.Sequences.{and_then, before_all, named}
+use Rattle.crx_arcs.specs.meaning.Sequences.{and_then, named}
 use Rattle.crx_rinex.specs.meaning.EpochLines.{begins_epoch}
 use Rattle.crx_history.specs.meaning.EpochText.{Satellite}
-use Rattle.crx_history.specs.meaning.Expansion.{code_in}
-use Rattle.crx_history.specs.meaning.Past.{Past}
-use Rattle.crx_arcs.specs.meaning.Cells.{ReadCell, cell_read, cells_read, cells_of, after_cells}
+use Rattle.crx_history.specs.meaning.Expansion.{RawRow, code_in}
+use Rattle.crx_arcs.specs.meaning.Cells.{ReadCell, cell_read}
 use Rattle.crx_history.specs.meaning.CompactPlaces.{ReadRow}
-use Rattle.crx_history.specs.meaning.CompactPlaces.{are_marks, clock_line_read, row_of_cells, row_with_marks}
-use Rattle.crx_history.specs.meaning.CompactPlaces.{row_of_line, satellite_line_read, satellites_of_line}
+use Rattle.crx_history.specs.meaning.CompactPlaces.{clock_line_read}
+use Rattle.crx_history.specs.meaning.CompactPlaces.{satellite_line_read, satellites_of_line}
 use Rattle.crx_arcs.specs.ArcTails.{ArcTail, IsBoundedArc}
 use Rattle.crx_history.specs.Tails.{RowTail, Tail, IsBoundedRowTail, IsBoundedTail}
-use Rattle.crx_history.specs.Steps.{no_tail, tail_named, cell_of_tail, flags_of_tail}
+use Rattle.crx_history.specs.Steps.{tail_named, cell_of_tail, flags_of_tail}
 use Rattle.crx_arcs.specs.ArcSteps.{onto_sum, differences_by}
 use Rattle.crx_arcs.specs.ArcSteps.{arc_of_code}
 use Rattle.crx_history.specs.HeldRows.{past_of_tail, HeldRow}
@@ -55,10 +50,9 @@ use Rattle.crx_history.proofs.Characters.{same_characters}
 use Rattle.crx_history.proofs.SoundTexts.{length-held}
 use Rattle.crx_history.proofs.Characters.{list_all-at}
 use Rattle.crx_compact.proofs.soundness.Goodness.{typed-parts}
-use Rattle.crx_history.proofs.Results.{no-err, ok-same, Follows, and_then-ok, if-err, if-ok, if-true}
-use Rattle.crx_history.proofs.Results.{before-ok}
-use Rattle.crx_history.proofs.Marks.{cells-count, texts-count}
-use Rattle.crx_history.proofs.EpochLines.{LineFacts, line-facts_of}
+use Rattle.crx_compact.proofs.soundness.Soundness.{AreReadCells, IsReadCell, RowFacts, line-facts, read-cell}
+use Rattle.crx_history.proofs.Results.{if-err}
+use Rattle.crx_history.proofs.EpochLines.{line-facts_of}
 use Rattle.crx_history.proofs.EpochLines.{names_of}
 
 -- ---- orders of codes that are read
@@ -68,95 +62,22 @@ HasOrder Missing = ⊤
 HasOrder (Start order value) = order ≤ ORDER_LIMIT
 HasOrder (Step number) = ⊤
 
-number-ordered : (order : ℕ) (o : Option ℤ) → order ≤ ORDER_LIMIT → IfSome (option_map (Start order) o) HasOrder
-number-ordered order None h = tt
-number-ordered order (Some value) h = h
-
 step-ordered : (o : Option ℤ) → IfSome (option_map Step o) HasOrder
 step-ordered None = tt
 step-ordered (Some number) = tt
 
-start-ordered : (c : ℕ) (text : List ℕ) (b : Bool)
-    → is_order c ≡ b → IfSome (if b then option_map (Start (c - 48)) (coded_number text) else None) HasOrder
-start-ordered c text true e = number-ordered (c - 48)
-    (coded_number text) (leb-true (c - 48) ORDER_LIMIT (and_parts (is_ascii_digit c) (nat_le (c - 48) ORDER_LIMIT) e).1)
-start-ordered c text false e = tt
-
-chosen : {A : Type 0} (P : A → Type 0) (b : Bool) (x y : A) → P x → P y → P (if b then x else y)
-chosen P true x y h k = h
-chosen P false x y h k = k
-
 code-ordered : (text : List ℕ) → IfSome (code_of text) HasOrder
 code-ordered [] = tt
 code-ordered (c ∷ []) = step-ordered (coded_number (c ∷ []))
-code-ordered (c ∷ d ∷ cs) =
-    chosen (λ o. IfSome o HasOrder) (nat_eq d 38) (start_of c cs)
-    (step_of (c ∷ d ∷ cs)) (start-ordered c cs (is_order c) refl) (step-ordered (coded_number (c ∷ d ∷ cs)))
+code-ordered (c ∷ d ∷ cs) = grind arith
 
-cell-ordered : (malformed : Fault) (value : Code → Result (Option ℤ) Fault) (code : Option Code) (cell : ReadCell)
-    → IfSome code HasOrder → cell_read malformed value code ≡ Ok cell → HasOrder cell.code
-cell-ordered malformed value None cell h e = absurd (no-err malformed cell e)
-cell-ordered malformed value (Some code) cell h e =
-    let step : Follows (value code) (λ v. Ok (record { code = code; value = v })) cell =
-    and_then-ok (value code) (λ v. Ok (record { code = code; value = v })) cell e in
-    let P : ReadCell → Type 0 = λ c. HasOrder c.code in
-    subst P (ok-same (record { code = code; value = step.from }) cell step.next) h
+cell-ordered : (value : Code → Result (Option ℤ) Fault) (cell : ReadCell) → IsReadCell value cell → HasOrder cell.code
+cell-ordered value cell h = subst (λ o. IfSome o HasOrder) h.coded (code-ordered h.text)
 
-cells-ordered : (value : ℕ → Code → Result (Option ℤ) Fault) (texts : List (List ℕ)) (cells : List ReadCell)
-    → cells_read value texts ≡ Ok cells → AllByRecursion HasOrder (map (λ (c : ReadCell). c.code) cells)
-cells-ordered value [] cells e = let P : List ReadCell
-    → Type 0 = λ cs. AllByRecursion HasOrder (map (λ (c : ReadCell). c.code) cs) in subst P (ok-same [] cells e) tt
-cells-ordered value (text ∷ texts) cells e =
-    let rest : Result (List ReadCell) Fault = cells_read (λ j. value (suc j)) texts in
-    let one : Follows (cell_read BadField (value 0) (code_of text)) (λ c. before_all c rest) cells =
-    and_then-ok (cell_read BadField (value 0) (code_of text)) (λ c. before_all c rest) cells e in
-    let two : Follows rest (λ cs. Ok (one.from ∷ cs)) cells = before-ok one.from rest cells one.next in
-    let P : List ReadCell → Type 0 = λ cs. AllByRecursion HasOrder (map (λ (c : ReadCell). c.code) cs) in
-    subst P (ok-same (one.from ∷ two.from) cells two.next) (
-      cell-ordered BadField (value 0) (code_of text) one.from
-          (code-ordered text) one.first,
-      cells-ordered (λ j. value (suc j)) texts two.from two.first,
-    )
-
--- ---- a satellite's line
-
--- what is known of a satellite's line that was read
-record RowParts (satellite : Satellite) (read : ReadRow) : Type 0 where
-  row_name : read.row.name ≡ satellite.name
-  raw_name : read.raw.name ≡ satellite.name
-  codes : length read.raw.codes ≡ satellite.count
-  ordered : AllByRecursion HasOrder read.raw.codes
-  marks : are_marks satellite.count read.raw.marks ≡ true
-  values : length read.row.values ≡ satellite.count
-  flags : length read.row.flags ≡ 2 * satellite.count
-
-row-parts : (past : Past) (satellite : Satellite) (line : List ℕ) (read : ReadRow)
-    → satellite_line_read past satellite line ≡ Ok read → RowParts satellite read
-row-parts past satellite line read e =
-    let texts : List (List ℕ) = cells_of satellite.count line in
-    let marks : List ℕ = after_cells satellite.count line in
-    let other : row_of_line past satellite line ≡ Ok read =
-    if-err (begins_epoch line) Truncated (row_of_line past satellite line) read e in
-    let step : Follows (cells_read (past.value satellite.name) texts)
-    (λ cs. row_with_marks past satellite marks cs) read =
-    and_then-ok (cells_read (past.value satellite.name) texts)
-    (λ cs. row_with_marks past satellite marks cs) read other in
-    let made : row_of_cells past satellite.name marks step.from ≡ read =
-    ok-same (row_of_cells past satellite.name marks step.from) read (if-ok (are_marks satellite.count marks) BadFlags
-    (Ok (row_of_cells past satellite.name marks step.from)) read step.next) in
-    let many : length step.from ≡ satellite.count = cells-count (past.value satellite.name) texts step.from step.first
-    ∙ texts-count satellite.count line in
-    let P : ReadRow → Type 0 = λ r. RowParts satellite r in
-    subst P made (record {
-      row_name = refl;
-      raw_name = refl;
-      codes = length-map step.from (λ (c : ReadCell). c.code) ∙ many;
-      ordered = cells-ordered (past.value satellite.name) texts step.from step.first;
-      marks = if-true (are_marks satellite.count marks) BadFlags
-          (Ok (row_of_cells past satellite.name marks step.from)) read step.next;
-      values = length-map step.from (λ (c : ReadCell). c.value) ∙ many;
-      flags = length-columns (past.flags satellite.name marks) 1 (2 * length step.from) ∙ ap (λ n. 2 * n) many;
-    })
+cells-ordered : (value : ℕ → Code → Result (Option ℤ) Fault) (cells : List ReadCell)
+    → AreReadCells value cells → AllByRecursion HasOrder (map (λ (c : ReadCell). c.code) cells)
+cells-ordered value [] h = tt
+cells-ordered value (c ∷ cs) h = (cell-ordered (value 0) c h.0, cells-ordered (λ j. value (suc j)) cs h.1)
 
 -- ---- texts without blanks at their end
 
@@ -172,11 +93,13 @@ ends-within zero text h =
     omega (arith, long)
 ends-within (suc n) [] h = omega arith
 ends-within (suc n) (c ∷ cs) h =
-    let rest : length (without_end_blanks cs) ≤ n =
-    ends-within n cs (λ p. let place : suc (n + p) ≡ suc n + p = omega arith in ap (at (c ∷ cs)) place ∙ h p) in
-    let one : length (before_end_blanks c (without_end_blanks cs)) ≤ suc (length (without_end_blanks cs)) =
-    length-before c (without_end_blanks cs) in
-    omega (arith, rest, one)
+    grind (
+      arith,
+      ends-within n cs
+          (λ p. let place : suc (n + p) ≡ suc n + p = omega arith in ap (at (c ∷ cs)) place
+          ∙ h p),
+      length-before c (without_end_blanks cs),
+    )
 
 is-blank : (c : ℕ) → is_blank c ≡ true → c ≡ 32
 is-blank c h = grind (arith, h)
@@ -204,9 +127,12 @@ arc-read Missing arc h k = tt
 arc-read (Start order value) arc h k = record { order = h; few = omega arith }
 arc-read (Step number) None h k = tt
 arc-read (Step number) (Some arc) h k =
-    let one = differences-few number (take arc.order arc.differences) in
-    let two = length-take arc.order arc.differences in
-    record { order = k.order; few = omega (arith, one, two) }
+    grind (
+      arith,
+      differences-few number (take arc.order arc.differences),
+      length-take arc.order
+          arc.differences,
+    )
 
 cell-bounded : (cells : List (Option ArcTail)) (place : ℕ)
     → AllByRecursion (λ (cell : Option ArcTail). IfSome cell (IsBoundedArc ORDER_LIMIT)) cells
@@ -223,9 +149,7 @@ arc-kept place (Some row) h = cell-bounded row.cells place h.cells
 named-bounded : (name : List ℕ) (rows : List RowTail) → AllByRecursion (IsBoundedRowTail ORDER_LIMIT) rows
     → IfSome (named (λ (r : RowTail). r.name) name rows) (IsBoundedRowTail ORDER_LIMIT)
 named-bounded name [] h = tt
-named-bounded name (row ∷ rows) h =
-    chosen (λ o. IfSome o (IsBoundedRowTail ORDER_LIMIT)) (bytes_eq row.name name)
-    (Some row) (named (λ (r : RowTail). r.name) name rows) h.0 (named-bounded name rows h.1)
+named-bounded name (row ∷ rows) h = grind (arith, named-bounded name rows h.1)
 
 code-kept : (codes : List Code) (place : ℕ)
     → AllByRecursion HasOrder codes → HasOrder (slice_index_or codes place Missing)
@@ -235,39 +159,41 @@ code-kept (c ∷ cs) (suc place) h = code-kept cs place h.1
 
 -- ---- rows
 
-row-read : (before : Tail) (satellite : Satellite) (read : ReadRow) → IsBoundedTail ORDER_LIMIT before
-    → IsBoundedAwaited satellite → RowParts satellite read → IsBoundedHeld (held_row before read)
-row-read before satellite read h waits parts =
-    let kept : Option RowTail = tail_named read.raw.name before in
-    let bounded : IfSome kept (IsBoundedRowTail ORDER_LIMIT) = named-bounded read.raw.name before.rows h.rows in
-    let few : satellite.count ≤ TYPES_LIMIT = waits.count in
-    let codes = parts.codes in
-    let values = parts.values in
-    let flags = parts.flags in
-    let cells : length (each_place (length read.raw.codes)
-    (λ place. arc_of_code (code_in place read.raw) (cell_of_tail place kept))) ≡ length read.raw.codes =
-    length-each_place (length read.raw.codes)
-    (λ place. arc_of_code (code_in place read.raw) (cell_of_tail place kept)) in
-    record {
-      name = ap (λ (n : List ℕ). length n) parts.row_name ∙ waits.name;
-      values = omega (arith, values, few);
-      flags = omega (arith, flags, few);
+row-read : (before : Tail) (satellite : Satellite) (read : ReadRow)
+    → IsBoundedTail ORDER_LIMIT before → IsBoundedAwaited satellite
+    → RowFacts (past_of_tail before) satellite read → IsBoundedHeld (held_row before read)
+row-read before satellite read h waits facts =
+    let kept = tail_named satellite.name before in
+    let marks = read.raw.marks in
+    let few : length facts.cells ≤ TYPES_LIMIT = omega (arith, facts.counted, waits.count) in
+    let codes = map (λ (c : ReadCell). c.code) facts.cells in
+    let values = map (λ (c : ReadCell). c.value) facts.cells in
+    let many = length-map facts.cells (λ (c : ReadCell). c.code) in
+    let raw : RawRow = record {
+      name = satellite.name;
+      codes = codes;
+      marks = marks;
+    } in
+    let cell : ℕ → Option ArcTail = λ place. arc_of_code (code_in place raw) (cell_of_tail place kept) in
+    subst (λ r. IsBoundedHeld (held_row before r)) facts.is_read (record {
+      name = waits.name;
+      values = omega (arith, length-map facts.cells (λ (c : ReadCell). c.value), few);
+      flags = omega (
+        arith,
+        length-columns ((past_of_tail before).flags satellite.name marks) 1
+            (2 * length facts.cells),
+        few,
+      );
       tail = record {
-        name = ap (λ (n : List ℕ). length n) parts.raw_name ∙ waits.name;
-        flags = omega (
-          arith,
-          few,
-          codes,
-          length-held
-              (length read.raw.codes) (patched (flags_of_tail kept) read.raw.marks),
-        );
-        few = omega (arith, cells, codes, few);
-        cells = each_place-all (λ (c : Option ArcTail). IfSome c (IsBoundedArc ORDER_LIMIT))
-            (length read.raw.codes) (λ place. arc_of_code (code_in place read.raw) (cell_of_tail place kept))
-            (λ place. arc-read (code_in place read.raw)
-            (cell_of_tail place kept) (code-kept read.raw.codes place parts.ordered) (arc-kept place kept bounded));
+        name = waits.name;
+        flags = omega (arith, few, many, length-held (length codes) (patched (flags_of_tail kept) marks));
+        few = omega (arith, length-each_place (length codes) cell, many, few);
+        cells = each_place-all (λ (c : Option ArcTail). IfSome c (IsBoundedArc ORDER_LIMIT)) (length codes)
+            cell (λ place. arc-read (code_in place raw) (cell_of_tail place kept)
+            (code-kept codes place (cells-ordered ((past_of_tail before).value satellite.name) facts.cells
+            facts.are_read)) (arc-kept place kept (named-bounded satellite.name before.rows h.rows)));
       };
-    }
+    })
 
 all-append : {X : Type 0} (P : X → Type 0) (xs ys : List X)
     → AllByRecursion P xs → AllByRecursion P ys → AllByRecursion P (xs ++ ys)
@@ -289,20 +215,18 @@ went-on : (begun : OpenRawEpoch) (clock : HeldClock) (rows : List HeldRow) (awai
 went-on begun clock rows [] h arc few held waits =
     let same : length (map (λ (r : HeldRow). r.tail) rows) ≡ length rows = length-map rows (λ (r : HeldRow). r.tail) in
     record { text = h.text; clock = arc; few = omega (arith, same, few); rows = tails-bounded rows held }
-went-on begun clock rows (satellite ∷ awaited) h arc few held waits =
-    record { before = h.before; text = h.text; clock = arc; few = few; rows = held; awaited = waits }
+went-on begun clock rows (satellite ∷ awaited) h arc few held waits = grind arith
 
 clock-came : (begun : OpenRawEpoch) (line : List ℕ) (r : Result ReadCell Fault) → clock_line_read
     (past_of_tail begun.before) line ≡ r → IsBoundedOpen begun → IsBoundedStep (raw_step_with_clock begun r)
 clock-came begun line (Err fault) e h = tt
 clock-came begun line (Ok cell) e h =
-    let value : Code → Result (Option ℤ) Fault = (past_of_tail begun.before).clock in
-    let read : cell_read BadClock value (code_of (without_end_blanks line)) ≡ Ok cell =
-    if-err (begins_epoch line) Truncated (cell_read BadClock value (code_of (without_end_blanks line))) cell e in
+    let value = (past_of_tail begun.before).clock in
+    let text = without_end_blanks line in
+    let read = if-err (begins_epoch line) Truncated (cell_read BadClock value (code_of text)) cell e in
     went-on begun (held_clock begun.before cell) begun.rows begun.awaited h
-    (arc-read cell.code begun.before.clock (cell-ordered BadClock value
-    (code_of (without_end_blanks line)) cell (code-ordered (without_end_blanks line)) read) h.before.clock)
-    h.few h.rows h.awaited
+    (arc-read cell.code begun.before.clock (cell-ordered value cell (read-cell BadClock value text cell read))
+    h.before.clock) h.few h.rows h.awaited
 
 row-came : (begun : OpenRawEpoch)
     (clock : HeldClock) (satellite : Satellite) (awaited : List Satellite) (line : List ℕ) (r : Result ReadRow Fault)
@@ -312,15 +236,14 @@ row-came : (begun : OpenRawEpoch)
     → IsBoundedStep (raw_step_with_row begun clock awaited r)
 row-came begun clock satellite awaited line (Err fault) e h arc few waits = tt
 row-came begun clock satellite awaited line (Ok read) e h arc few waits =
-    let more : length (begun.rows ++ held_row begun.before read ∷ []) ≡ length begun.rows + 1 =
-    length-append begun.rows (held_row begun.before read ∷ []) in
-    went-on begun clock (begun.rows ++ held_row begun.before read ∷ []) awaited h arc (omega (arith, more, few))
+    let more = length-append begun.rows (held_row begun.before read ∷ []) in
+    went-on begun clock (begun.rows ++ held_row begun.before read ∷ []) awaited h arc
+    (omega (arith, more, few))
     (all-append IsBoundedHeld begun.rows (held_row begun.before read ∷ []) h.rows (
-      row-read
-          begun.before satellite read h.before waits.0 (row-parts (past_of_tail begun.before) satellite line read e),
+      row-read begun.before satellite read h.before waits.0
+          (line-facts (past_of_tail begun.before) satellite line read e),
       tt,
-    ))
-    waits.1
+    )) waits.1
 
 line-came : (begun : OpenRawEpoch) (clock : Option HeldClock) (awaited : List Satellite) (line : List ℕ)
     → IsBoundedOpen begun → IfSome clock (λ (c : HeldClock). IfSome c.arc (IsBoundedArc ORDER_LIMIT))
@@ -339,13 +262,9 @@ next-bounded begun (Content line) h = line-came begun begun.clock begun.awaited 
 
 -- ---- the epoch line
 
-no-tail : IsBoundedTail ORDER_LIMIT no_tail
-no-tail = record { text = omega arith; clock = tt; few = omega arith; rows = tt }
-
 for-line : (tail : Option Tail) (line : List ℕ)
     → IfSome tail (IsBoundedTail ORDER_LIMIT) → IfSome (tail_for_line tail line) (IsBoundedTail ORDER_LIMIT)
-for-line tail line h = chosen (λ o. IfSome o (IsBoundedTail ORDER_LIMIT))
-    (begins_epoch line) (Some no_tail) tail no-tail h
+for-line tail line h = grind arith
 
 awaited-bounded : (types : List Count) (satellites : List Satellite)
     → AreCounts types → AllByRecursion (λ (s : Satellite). types_of_satellite types s.name ≡ Some s.count) satellites
@@ -364,16 +283,14 @@ opened-bounded : (types : List Count) (before : Tail) (line : List ℕ) (r : Res
     (record { before = before; text = patched before.text line; clock = None; rows = []; awaited = satellites }))))
 opened-bounded types before line (Err fault) counts h e = tt
 opened-bounded types before line (Ok satellites) counts h e =
-    let facts : LineFacts types (past_of_tail before) line satellites =
-    line-facts_of types (past_of_tail before) line satellites e in
-    let text : List ℕ = patched before.text line in
-    let same : length (names_of satellites) ≡ length satellites = length-map satellites (λ (s : Satellite). s.name) in
-    let many : length (names_of satellites) ≡ facts.count = ap (λ (ns : List (List ℕ)). length ns) facts.named.same
+    let facts = line-facts_of types (past_of_tail before) line satellites e in
+    let text = patched before.text line in
+    let same = length-map satellites (λ (s : Satellite). s.name) in
+    let many = ap (λ (ns : List (List ℕ)). length ns) facts.named.same
     ∙ length-each_place facts.count (λ k. columns text (42 + 3 * k) 3) in
-    let within : facts.count ≤ SATELLITES_LIMIT =
-    subst (λ (o : Option ℕ). unwrap_or o 0 ≤ SATELLITES_LIMIT) facts.counted (satellites_few (columns text 1 41)) in
-    let long : length (patched before.text line) ≤ 41 + 3 * facts.count =
-    ends-within (41 + 3 * facts.count) (by_position character_of before.text line)
+    let within : facts.count ≤ SATELLITES_LIMIT = subst (λ (o : Option ℕ). unwrap_or o 0 ≤ SATELLITES_LIMIT)
+    facts.counted (satellites_few (columns text 1 41)) in
+    let long = ends-within (41 + 3 * facts.count) (by_position character_of before.text line)
     (λ p. sym (at-without_end_blanks (by_position character_of before.text line) (41 + 3 * facts.count + p))
     ∙ blank-after (41 + 3 * facts.count) text facts.ended p) in
     record {
@@ -382,9 +299,9 @@ opened-bounded types before line (Ok satellites) counts h e =
       clock = tt;
       few = omega (arith, same, many, within);
       rows = tt;
-      awaited = awaited-bounded types satellites counts facts.named.known (subst (λ (ns : List (List ℕ)).
-          AllByRecursion (λ (name : List ℕ). length name ≡ NAME_WIDTH) ns) (sym facts.named.same)
-          (each_place-all (λ (name : List ℕ). length name ≡ NAME_WIDTH) facts.count
+      awaited = awaited-bounded types satellites counts facts.named.known
+          (subst (λ (ns : List (List ℕ)). AllByRecursion (λ (name : List ℕ). length name ≡ NAME_WIDTH) ns)
+          (sym facts.named.same) (each_place-all (λ (name : List ℕ). length name ≡ NAME_WIDTH) facts.count
           (λ k. columns text (42 + 3 * k) 3) (λ k. length-columns text (42 + 3 * k) 3)));
     }
 

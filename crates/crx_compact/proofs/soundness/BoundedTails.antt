@@ -1,16 +1,14 @@
 -- What is left of epochs is within the limits.
-use Rattle.std.specs.Prelude.{◌≡◌, ℕ, suc, ◌+◌, ◌-◌, ◌*◌, ◌≤◌, min, ℤ, List, [], ◌∷◌, length, map, Option, IfSome}
+use Rattle.std.specs.Prelude.{ℕ, suc, ◌-◌, min, ℤ, List, [], ◌∷◌, length, map, Option, IfSome}
 use Rattle.std.specs.List.{AllByRecursion}
 use Rattle.std.proofs.Common.{arith}
 use Rattle.std.proofs.lemmas.List.{length-map}
-use Rattle.crx_columns.specs.meaning.Columns.{without_end_blanks}
-use Rattle.crx_lines.specs.declared.limits.TheConstants.{WRITTEN_ORDER, SATELLITES_LIMIT}
+use Rattle.crx_lines.specs.declared.limits.TheConstants.{WRITTEN_ORDER}
 use Rattle.crx_rinex.specs.meaning.Observations.{Row}
 use Rattle.crx_rinex.specs.meaning.ObservationTypes.{Count}
-use Rattle.crx_rinex.specs.meaning.EachPlace.{each_place}
 use Rattle.crx_arcs.specs.meaning.Differences.{difference}
 use Rattle.crx_history.specs.meaning.Compaction.{Marked, epoch_text, run_of, arc_of, clock_arc}
-use Rattle.crx_arcs.specs.ArcTails.{ArcTail, differences_of, arc_tail, IsBoundedArc}
+use Rattle.crx_arcs.specs.ArcTails.{ArcTail, arc_tail, IsBoundedArc}
 use Rattle.crx_history.specs.Tails.{row_tail, IsBoundedRowTail}
 use Rattle.crx_compact.specs.Laws.{WrittenAreBounded}
 use Rattle.crx_rinex.proofs.EachPlace.{each_place-all, length-each_place}
@@ -21,16 +19,17 @@ use Rattle.crx_columns.proofs.EndBlanks.{few_kept}
 pub arc-bounded : (order : ℕ) (values : List ℤ) → IfSome (arc_tail order values) (IsBoundedArc order)
 arc-bounded order [] = tt
 arc-bounded order (a ∷ older) =
-    let many : length (differences_of order (a ∷ older)) ≡ suc (min (length (a ∷ older) - 1) order) =
-    length-each_place (suc (min (length (a ∷ older) - 1) order)) (λ i. difference i (a ∷ older)) in
-    record { order = omega arith; few = omega (arith, many) }
+    grind (
+      arith,
+      length-each_place (suc (min (length (a ∷ older) - 1) order))
+          (λ i. difference i (a ∷ older)),
+    )
 
 row-bounded : (types : List Count) (run : List Row) (r : Row)
     → IsTypedRow types r → IsBoundedRowTail WRITTEN_ORDER (row_tail run r)
 row-bounded types run r h =
-    let trimmed : length (without_end_blanks r.flags) ≤ length r.flags = few_kept r.flags in
-    let many : length (each_place (length r.values) (λ j. arc_tail WRITTEN_ORDER (arc_of j run))) ≡ length r.values =
-    length-each_place (length r.values) (λ j. arc_tail WRITTEN_ORDER (arc_of j run)) in
+    let trimmed = few_kept r.flags in
+    let many = length-each_place (length r.values) (λ j. arc_tail WRITTEN_ORDER (arc_of j run)) in
     record {
       name = sound-name r h.0;
       flags = omega (arith, trimmed, h.0.paired, h.0.counted.1);
@@ -46,12 +45,10 @@ rows-bounded types ms (r ∷ rs) h = (row-bounded types (run_of r.name ms) r h.0
 
 pub written-bounded : WrittenAreBounded
 written-bounded types m older h =
-    let trimmed : length (without_end_blanks (epoch_text m.epoch)) ≤ length (epoch_text m.epoch) =
-    few_kept (epoch_text m.epoch) in
-    let short : length (epoch_text m.epoch) ≤ 41 + 3 * SATELLITES_LIMIT = text-short types m.epoch h.0 in
-    let few : length m.epoch.rows ≤ SATELLITES_LIMIT = few-satellites types m.epoch h.0 in
-    let many : length (map (λ (r : Row). row_tail (run_of r.name (m ∷ older)) r) m.epoch.rows) ≡ length m.epoch.rows =
-    length-map m.epoch.rows (λ (r : Row). row_tail (run_of r.name (m ∷ older)) r) in
+    let trimmed = few_kept (epoch_text m.epoch) in
+    let short = text-short types m.epoch h.0 in
+    let few = few-satellites types m.epoch h.0 in
+    let many = length-map m.epoch.rows (λ (r : Row). row_tail (run_of r.name (m ∷ older)) r) in
     record {
       text = omega (arith, trimmed, short);
       clock = arc-bounded WRITTEN_ORDER (clock_arc (m ∷ older));

@@ -1,5 +1,5 @@
 -- What was written, read back line by line.
-use Rattle.std.specs.Prelude.{◌≡◌, refl, ◌+◌, Bool, true, false, List, [], ◌∷◌, drop, length, Option, Some}
+use Rattle.std.specs.Prelude.{◌≡◌, refl, ◌+◌, Bool, true, false, List, [], ◌∷◌, length, Option, Some}
 use Rattle.std.specs.Prelude.{if◌then◌else◌, unwrap_or}
 use Rattle.std.proofs.Common.{sym, ◌∙◌, ap}
 use Rattle.std.proofs.lemmas.List.{append-nil}
@@ -11,8 +11,8 @@ use Rattle.crx_history.specs.meaning.Compaction.{Marked, epoch_text, since_full,
 use Rattle.crx_rinex.specs.meaning.EpochLines.{begins_epoch}
 use Rattle.crx_history.specs.Tails.{Tail, tail_of, tail_or_nothing, tail_left}
 use Rattle.crx_history.specs.Steps.{no_tail}
-use Rattle.crx_compact.specs.OpenEpochs.{tail_for_line, epoch_after, HeldEpoch, held_after, opened_raw, opening}
-use Rattle.crx_compact.specs.OpenEpochs.{placed_as, place_of_steps, place_by_steps}
+use Rattle.crx_compact.specs.OpenEpochs.{tail_for_line, epoch_after, HeldEpoch, held_after}
+use Rattle.crx_compact.specs.OpenEpochs.{placed_as, place_by_steps}
 use Rattle.crx_history.specs.meaning.CompactPlaces.{epoch_at}
 use Rattle.crx_compact.specs.Laws.{AreWhole}
 use Rattle.crx_compact.specs.ReadingLaws.{raw_of, raws_of, read_of, lines_of_epoch, StepsReadBack}
@@ -56,10 +56,7 @@ full-after types e older tail other h =
     let lines : List ReadLine = lines_of_epoch (marked true e ∷ older) in
     let new : (t : Option Tail) → tail_for_line t (epoch_line (marked true e) older) ≡ Some no_tail =
     λ t. ap {B = Option Tail} (λ b. if b then Some no_tail else t) begins in
-    steps-agree types tail lines
-    ∙ ap {B = Place HeldEpoch} (λ t. place_of_steps 0
-    (opening (opened_raw types (epoch_line (marked true e) older) t)) (drop 1 lines)) (new tail ∙ sym (new other))
-    ∙ sym (steps-agree types other lines)
+    cc (steps-agree types tail lines, new tail, new other, steps-agree types other lines)
 
 -- what is left of the raw epochs of some that were written
 left-written : (types : List Count) (older : List Marked)

@@ -1,6 +1,6 @@
 -- The texts of codes hold no blank and no >.
 use Rattle.std.specs.Prelude.{◌≡◌, refl, ℕ, suc, ◌+◌, ◌^◌, ◌<◌, ◌≤◌, Bool, true, not, ◌&&◌, ◌==◌, ℤ, pos, negsuc, List}
-use Rattle.std.specs.Prelude.{[], ◌∷◌, ◌++◌, decimal}
+use Rattle.std.specs.Prelude.{[], ◌∷◌, decimal}
 use Rattle.std.specs.Fmt.{signed_decimal}
 use Rattle.std.specs.List.{list_all}
 use Rattle.std.specs.Str.{all_ascii_digits}
@@ -48,6 +48,4 @@ code-characters (Step z) h = signed-characters z h
 code-characters (Start n z) h =
     let less : n ≤ ORDER_LIMIT = h.0 in
     let first : is_code_character (48 + n) ≡ true = grind (arith, less) in
-    ap (λ t. list_all is_code_character (t ++ 38 ∷ signed_decimal z)) (order-text n less)
-    ∙ ap (λ b. b && list_all is_code_character (signed_decimal z)) first
-    ∙ signed-characters z h.1
+    rw (order-text n less, first, signed-characters z h.1)

@@ -1,9 +1,8 @@
 -- Texts and marks that are cut at a width.
 use Rattle.std.specs.Prelude.{◌≡◌, refl, ℕ, ◌+◌, ◌-◌, ◌<◌, ◌≤◌, ◌⊎◌, List, [], ◌∷◌, ◌++◌, length, map, take, replicate}
-use Rattle.std.specs.Prelude.{if◌then◌else◌}
 use Rattle.std.proofs.Common.{sym, ◌∙◌, ap, arith, inl, inr}
 use Rattle.crx_rinex.proofs.SoundEpochs.{length-columns}
-use Rattle.crx_columns.specs.meaning.Columns.{columns, is_blank, without_end_blanks}
+use Rattle.crx_columns.specs.meaning.Columns.{columns, without_end_blanks}
 use Rattle.crx_rinex.specs.meaning.EachPlace.{each_place}
 use Rattle.crx_history.specs.meaning.Expansion.{latest_mark, shown, longest, overlaid}
 use Rattle.crx_compact.proofs.wayback.Overlays.{at_past, at-longest, at-overlaid}
@@ -15,15 +14,11 @@ use Rattle.crx_arcs.proofs.PlaceByPlace.{at-take, at-padded}
 
 latest-take : (n : ℕ) (marks : List (List ℕ)) (p : ℕ) → p < n → latest_mark (map (take n) marks) p ≡ latest_mark marks p
 latest-take n [] p h = refl
-latest-take n (w ∷ ws) p h =
-    ap (λ (c : ℕ). if is_blank c then latest_mark (map (take n) ws) p else c) (at-take n w p h)
-    ∙ ap (λ (c : ℕ). if is_blank (at w p) then c else at w p) (latest-take n ws p h)
+latest-take n (w ∷ ws) p h = cc (at-take n w p h, latest-take n ws p h)
 
 latest-take_past : (n : ℕ) (marks : List (List ℕ)) (p : ℕ) → n ≤ p → latest_mark (map (take n) marks) p ≡ 32
 latest-take_past n [] p h = refl
-latest-take_past n (w ∷ ws) p h =
-    ap (λ (c : ℕ). if is_blank c then latest_mark (map (take n) ws) p else c) (at-take_past n w p h)
-    ∙ latest-take_past n ws p h
+latest-take_past n (w ∷ ws) p h = cc (at-take_past n w p h, latest-take_past n ws p h)
 
 -- marks that are cut make the text that is cut
 pub overlaid-take : (n : ℕ) (marks : List (List ℕ))

@@ -1,16 +1,13 @@
 -- An epoch coded after any others.
 use Rattle.std.specs.Prelude.{◌≡◌, refl, Bool, true, false, List, [], ◌∷◌, Option}
-use Rattle.std.proofs.Common.{sym, ◌∙◌, ap}
 use Rattle.crx_rinex.specs.meaning.Observations.{Epoch}
 use Rattle.crx_rinex.specs.meaning.Epochs.{IsSoundEpoch}
 use Rattle.crx_history.specs.meaning.Compaction.{Marked, compact_epoch}
 use Rattle.crx_history.specs.Tails.{Tail, tail_of, tail_or_nothing}
 use Rattle.crx_history.specs.Steps.{lines_after_tail, tail_after, tail_written_after}
-use Rattle.crx_compact.specs.Laws.{tail_before, EpochByTail}
+use Rattle.crx_compact.specs.Laws.{tail_before}
+use Rattle.crx_compact.proofs.wayback.Runs.{marked}
 use Rattle.crx_compact.proofs.wayback.Tailing.{epoch-by_tail}
-
-abbrev pub marked : Bool → Epoch → Marked
-marked full epoch = record { in_full = full; epoch = epoch }
 
 written-before : (full : Bool) (epoch : Epoch) (epochs : List Marked)
     → tail_written_after full (tail_or_nothing epochs) ≡ tail_before (marked full epoch) epochs
@@ -18,22 +15,14 @@ written-before true epoch epochs = refl
 written-before false epoch [] = refl
 written-before false epoch (m ∷ older) = refl
 
-by-tail : (full : Bool) (epoch : Epoch) (epochs : List Marked)
-    → IsSoundEpoch epoch → EpochByTail (marked full epoch) epochs
-by-tail full epoch epochs h = epoch-by_tail (marked full epoch) epochs h.apart
-
 pub lines-coded : (full : Bool) (epoch : Epoch) (held : Option Tail) (epochs : List Marked)
     → IsSoundEpoch epoch → held ≡ tail_or_nothing epochs
     → lines_after_tail (tail_written_after full held) epoch ≡ compact_epoch (marked full epoch ∷ epochs)
 lines-coded full epoch held epochs h e =
-    ap (λ (t : Option Tail). lines_after_tail (tail_written_after full t) epoch) e
-    ∙ ap (λ (t : Tail). lines_after_tail t epoch) (written-before full epoch epochs)
-    ∙ sym (by-tail full epoch epochs h).lines
+    cc (e, written-before full epoch epochs, (epoch-by_tail (marked full epoch) epochs h.apart).lines)
 
 pub tail-coded : (full : Bool) (epoch : Epoch) (held : Option Tail) (epochs : List Marked)
     → IsSoundEpoch epoch → held ≡ tail_or_nothing epochs
     → tail_after (tail_written_after full held) epoch ≡ tail_of (marked full epoch ∷ epochs)
 tail-coded full epoch held epochs h e =
-    ap (λ (t : Option Tail). tail_after (tail_written_after full t) epoch) e
-    ∙ ap (λ (t : Tail). tail_after t epoch) (written-before full epoch epochs)
-    ∙ sym (by-tail full epoch epochs h).tail
+    cc (e, written-before full epoch epochs, (epoch-by_tail (marked full epoch) epochs h.apart).tail)

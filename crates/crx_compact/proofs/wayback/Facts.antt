@@ -1,20 +1,18 @@
 -- What follows of an epoch and its rows from their being ones that can be written.
-use Rattle.std.specs.Prelude.{◌≡◌, refl, ◌≢◌, ℕ, suc, ◌+◌, ◌-◌, ◌*◌, ◌<◌, Bool, true, false, not, ◌&&◌, ◌==◌, nat_eq}
-use Rattle.std.specs.Prelude.{nat_le, List, [], ◌∷◌, length, map, flat_map, Result, Ok, Err, if◌then◌else◌}
+use Rattle.std.specs.Prelude.{◌≡◌, refl, ◌≢◌, ℕ, suc, ◌+◌, ◌-◌, ◌*◌, ◌<◌, true, false, not, ◌&&◌, ◌==◌, nat_eq}
+use Rattle.std.specs.Prelude.{nat_le, List, [], ◌∷◌, length, map, flat_map, Result, Ok}
 use Rattle.std.specs.List.{list_all, AllByRecursion}
 use Rattle.std.proofs.Common.{sym, ◌∙◌, ap, arith, true≢false}
 use Rattle.std.proofs.lemmas.List.{length-append}
-use Rattle.std.proofs.lemmas.Bool.{and_parts}
+use Rattle.std.proofs.lemmas.Bool.{and_parts, not-true}
 use Rattle.crx_columns.specs.meaning.Columns.{character_at, without_end_blanks, columns}
 use Rattle.crx_columns.specs.meaning.Texts.{text_difference, mark_of, by_position, is_kept, is_printable}
 use Rattle.crx_rinex.specs.meaning.Observations.{Row, Epoch}
 use Rattle.crx_rinex.specs.meaning.Epochs.{has_satellite, are_different, IsWholeEpoch}
 use Rattle.crx_lines.specs.declared.fault.Fault.{Fault}
-use Rattle.crx_lines.specs.declared.fault.Fault.TheVariants.{RepeatedSatellite}
 use Rattle.crx_rinex.specs.meaning.EachPlace.{each_place}
-use Rattle.crx_arcs.specs.meaning.Sequences.{before_all}
 use Rattle.crx_rinex.specs.meaning.EpochLines.{begins_epoch, is_observation_flag, satellites_in}
-use Rattle.crx_history.specs.meaning.EpochText.{Satellite, satellite_before, satellites_named}
+use Rattle.crx_history.specs.meaning.EpochText.{Satellite, satellites_named}
 use Rattle.crx_rinex.specs.meaning.ObservationTypes.{Count}
 use Rattle.crx_history.specs.meaning.Compaction.{epoch_text}
 use Rattle.crx_rinex.proofs.EachPlace.{each_place-same}
@@ -97,19 +95,17 @@ length-names : (types : List Count) (rows : List Row)
     → AllByRecursion (IsTypedRow types) rows → length (flat_map (λ (r : Row). r.name) rows) ≡ 3 * length rows
 length-names types [] h = refl
 length-names types (r ∷ rs) h =
-    let front : length (flat_map (λ (q : Row). q.name) (r ∷ rs)) ≡ length r.name + length
-    (flat_map (λ (q : Row). q.name) rs) = length-append r.name (flat_map (λ (q : Row). q.name) rs) in
-    let rest : length (flat_map (λ (q : Row). q.name) rs) ≡ 3 * length rs = length-names types rs h.1 in
-    omega (arith, front, rest, (sound-name r h.0.0))
+    grind (arith, length-append r.name (flat_map (λ (q : Row). q.name) rs), length-names types rs h.1)
 
 pub length-text : (types : List Count) (e : Epoch)
     → IsWholeEpoch types e → length (epoch_text e) ≡ 41 + 3 * length e.rows
 length-text types e h =
-    let front : length (epoch_text e) ≡ length e.head + length (flat_map (λ (r : Row). r.name) e.rows) =
-    length-append e.head (flat_map (λ (r : Row). r.name) e.rows) in
-    let rest : length (flat_map (λ (r : Row). r.name) e.rows) ≡ 3 * length e.rows =
-    length-names types e.rows (typed-rows types e h) in
-    omega (arith, front, rest, h.sound.head_sound.width)
+    grind (
+      arith,
+      length-append e.head (flat_map (λ (r : Row). r.name) e.rows),
+      length-names types e.rows
+          (typed-rows types e h),
+    )
 
 pub text-names : (types : List Count) (e : Epoch)
     → IsWholeEpoch types e → (p : ℕ) → at (epoch_text e) (41 + p) ≡ at (flat_map (λ (r : Row). r.name) e.rows) p
@@ -135,24 +131,21 @@ pub names-read : (types : List Count) (text : List ℕ) (offset : ℕ) (rows : L
 names-read types text offset [] h e = refl
 names-read types text offset (r ∷ rs) h e =
     let first : columns text (offset + 1 + 3 * 0) 3 ≡ r.name =
-    columns-are text (offset + 1 + 3 * 0) 3 r.name (sound-name r h.0.0) (λ p less.
-    let place : offset + 1 + 3 * 0 - 1 + p ≡ offset + p = omega arith in
-    ap (at text) place
-    ∙ e p ∙ at-append r.name (flat_map (λ (q : Row). q.name) rs) p (omega (arith, less, (sound-name r h.0.0)))) in
-    let later : (k : ℕ) → columns text (offset + 1 + 3 * suc k) 3 ≡ columns text (offset + 3 + 1 + 3 * k) 3 = λ k.
-    let place : offset + 1 + 3 * suc k ≡ offset + 3 + 1 + 3 * k = omega arith in
-    ap (λ n. columns text n 3) place in
-    let rest : (p : ℕ) → at text (offset + 3 + p) ≡ at (flat_map (λ (q : Row). q.name) rs) p = λ p.
-    let place : offset + 3 + p ≡ offset + (3 + p) = omega arith in
-    ap (at text) place ∙ e (3 + p)
+    columns-are text (offset + 1 + 3 * 0) 3 r.name (sound-name r h.0.0)
+    (λ p less. let place : offset + 1 + 3 * 0 - 1 + p ≡ offset + p = omega arith in ap (at text) place ∙ e p
+    ∙ at-append r.name (flat_map (λ (q : Row). q.name) rs) p (omega (arith, less, (sound-name r h.0.0)))) in
+    let later : (k : ℕ) → columns text (offset + 1 + 3 * suc k) 3 ≡ columns text (offset + 3 + 1 + 3 * k) 3 =
+    λ k. let place : offset + 1 + 3 * suc k ≡ offset + 3 + 1 + 3 * k = omega arith in ap
+    (λ n. columns text n 3) place in
+    let rest : (p : ℕ) → at text (offset + 3 + p) ≡ at (flat_map (λ (q : Row). q.name) rs) p =
+    λ p. let place : offset + 3 + p ≡ offset + (3 + p) = omega arith in ap (at text) place ∙ e (3 + p)
     ∙ at-append_past r.name (flat_map (λ (q : Row). q.name) rs) 3 p (sound-name r h.0.0) in
-    ap (λ n. n ∷ each_place (length rs) (λ k. columns text (offset + 1 + 3 * suc k) 3)) first
-    ∙ ap (λ ns. r.name ∷ ns) (each_place-same
-    (length rs) (λ k. columns text (offset + 1 + 3 * suc k) 3) (λ k. columns text (offset + 3 + 1 + 3 * k) 3) later
-    ∙ names-read types text (offset + 3) rs h.1 rest)
-
-pub not_true : (b : Bool) → not b ≡ true → b ≡ false
-not_true b h = grind (arith, h)
+    rw (
+      first,
+      each_place-same (length rs) (λ k. columns text (offset + 1 + 3 * suc k) 3)
+          (λ k. columns text (offset + 3 + 1 + 3 * k) 3) later,
+      names-read types text (offset + 3) rs h.1 rest,
+    )
 
 -- the satellites of some rows, with their counts of types
 abbrev pub satellites_of : List Row → List Satellite
@@ -166,11 +159,9 @@ satellites-good types earlier (r ∷ rs) h new k =
     let others : Result (List Satellite) Fault =
     satellites_named types (r.name ∷ earlier) (map (λ (q : Row). q.name) rs) in
     let alone : has_satellite r.name rs ≡ false =
-    not_true (has_satellite r.name rs) (and_parts (not (has_satellite r.name rs)) (are_different rs) k).0 in
-    let rest : satellites_named types (r.name ∷ earlier) (map (λ (q : Row). q.name) rs) ≡ Ok (satellites_of rs) =
-    satellites-good types (r.name ∷ earlier) rs h.1 (new-after (λ (q : Row). q.name) r.name earlier rs new.1 alone)
+    not-true (has_satellite r.name rs) (and_parts (not (has_satellite r.name rs)) (are_different rs) k).0 in
+    let rest : satellites_named types (r.name ∷ earlier) (map (λ (q : Row). q.name) rs) ≡ Ok
+    (satellites_of rs) = satellites-good types (r.name ∷ earlier) rs h.1
+    (new-after (λ (q : Row). q.name) r.name earlier rs new.1 alone)
     (and_parts (not (has_satellite r.name rs)) (are_different rs) k).1 in
-    ap (λ count. satellite_before earlier r.name count others) h.0.1
-    ∙ ap {B = Result (List Satellite) Fault} (λ b. if b then Err RepeatedSatellite
-    else before_all (record { name = r.name; count = length r.values }) others) new.0
-    ∙ ap (before_all (record { name = r.name; count = length r.values })) rest
+    cc

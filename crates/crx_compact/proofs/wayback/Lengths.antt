@@ -1,16 +1,14 @@
 -- No line that is written for an epoch is too long.
-use Rattle.std.specs.Prelude.{◌≡◌, refl, ℕ, zero, suc, ◌+◌, ◌-◌, ◌*◌, ◌^◌, ◌<◌, ◌≤◌, min, ℤ, pos, negsuc, neg_ℤ, ◌<ℤ◌}
-use Rattle.std.specs.Prelude.{Bool, true, false, nat_le, List, [], ◌∷◌, ◌++◌, length, map, flat_map, decimal, Option}
-use Rattle.std.specs.Prelude.{Some, None, if◌then◌else◌}
+use Rattle.std.specs.Prelude.{◌≡◌, ℕ, zero, suc, ◌+◌, ◌-◌, ◌*◌, ◌^◌, ◌<◌, ◌≤◌, min, ℤ, pos, negsuc, neg_ℤ, ◌<ℤ◌}
+use Rattle.std.specs.Prelude.{Bool, true, false, List, [], ◌∷◌, ◌++◌, length, map, flat_map, decimal}
+use Rattle.std.specs.Prelude.{if◌then◌else◌}
 use Rattle.std.specs.Fmt.{signed_decimal}
-use Rattle.std.specs.Option.{option_and_then, is_some, unwrap_or}
 use Rattle.std.specs.List.{AllByRecursion}
-use Rattle.std.proofs.Common.{sym, ◌∙◌, ap, subst, arith, true≢false}
+use Rattle.std.proofs.Common.{subst, arith}
 use Rattle.std.proofs.lemmas.Int.{ints}
 use Rattle.std.proofs.lemmas.Fmt.{length-decimal-le}
 use Rattle.std.proofs.lemmas.List.{length-append}
 use Rattle.std.proofs.Math.Nat.{pow-le-pow_right}
-use Rattle.crx_columns.specs.meaning.Columns.{columns, without_end_blanks}
 use Rattle.crx_columns.specs.meaning.Texts.{by_position, mark_of, text_difference}
 use Rattle.crx_text.specs.meaning.Codes.{code_text}
 use Rattle.crx_rinex.specs.meaning.Observations.{Row, Epoch}
@@ -18,26 +16,23 @@ use Rattle.crx_text.specs.declared.code.Code.{Code}
 use Rattle.crx_lines.specs.declared.limits.TheConstants.{WRITTEN_ORDER, DIGITS_LIMIT, TYPES_LIMIT, SATELLITES_LIMIT}
 use Rattle.crx_lines.specs.declared.limits.TheConstants.{OBSERVATION_WIDTH, CLOCK_WIDTH}
 use Rattle.crx_arcs.specs.meaning.Differences.{difference, code_at}
-use Rattle.crx_history.specs.meaning.Compaction.{Marked, epoch_text, since_full, run_of, arc_of, clock_arc}
+use Rattle.crx_history.specs.meaning.Compaction.{Marked, epoch_text, since_full, arc_of, clock_arc}
 use Rattle.crx_arcs.specs.meaning.Cells.{value_in}
 use Rattle.crx_history.specs.meaning.Compaction.{newest_text, indicators_before, codes_of, satellite_line}
 use Rattle.crx_arcs.specs.meaning.Cells.{cell_text}
-use Rattle.crx_history.specs.meaning.Compaction.{epoch_line, compact_epoch}
-use Rattle.crx_rinex.specs.meaning.Label.{number_in}
-use Rattle.crx_rinex.specs.meaning.EpochLines.{count_within_limit, satellites_in}
+use Rattle.crx_history.specs.meaning.Compaction.{compact_epoch}
 use Rattle.crx_rinex.specs.meaning.ObservationTypes.{Count}
-use Rattle.crx_text.specs.meaning.Numbers.{IsWithin, IsMissingOrWithin}
-use Rattle.crx_arcs.specs.meaning.Sequences.{stretch}
+use Rattle.crx_text.specs.meaning.Numbers.{IsWithin}
 use Rattle.crx_compact.specs.Laws.{AreWhole}
 use Rattle.crx_rinex.proofs.EachPlace.{each_place-all, length-each_place}
 use Rattle.crx_rinex.specs.meaning.Epochs.{IsWholeEpoch}
-use Rattle.crx_compact.proofs.wayback.Writable.{IsTypedRow, head-counted, typed-rows}
+use Rattle.crx_compact.proofs.wayback.Writable.{IsTypedRow, typed-rows}
 use Rattle.crx_compact.proofs.wayback.CodeTexts.{order-text}
-use Rattle.crx_arcs.proofs.arcs.Bounds.{IsNear, doubled, doubled-more, difference-near, near-more, near-within}
+use Rattle.crx_arcs.proofs.arcs.Bounds.{IsNear, doubled, doubled-more, difference-near, near-more}
 use Rattle.crx_arcs.proofs.arcs.Bounds.{ten-more}
 use Rattle.crx_compact.proofs.wayback.Runs.{marked}
-use Rattle.crx_compact.proofs.wayback.Rows.{IsRowOf, run-rows, values-fit, clocks-fit}
-use Rattle.crx_compact.proofs.wayback.Facts.{length-text, head_tests}
+use Rattle.crx_compact.proofs.wayback.Rows.{IsRowOf, clocks-fit, lines-each, near-all, stretch-within, values-fit}
+use Rattle.crx_compact.proofs.wayback.Facts.{length-text}
 use Rattle.crx_columns.proofs.EndBlanks.{few_kept}
 
 -- ---- numbers and codes
@@ -74,31 +69,18 @@ within-length j (negsuc n) some few h =
     let len : length (decimal (suc n)) ≤ j = length-decimal-le j (suc n) some less (omega (arith, less, wide)) in
     omega (arith, len)
 
-abbrev pub AreWithin : ℕ → List ℤ → Type 0
-AreWithin width xs = AllByRecursion (IsWithin width) xs
-
-pub stretch-within : (width : ℕ) (os : List (Option ℤ))
-    → AllByRecursion (IsMissingOrWithin width) os → AreWithin width (stretch os)
-stretch-within width [] h = tt
-stretch-within width (None ∷ os) h = tt
-stretch-within width (Some x ∷ os) h = (h.0, stretch-within width os h.1)
-
-near-all : (width : ℕ) (xs : List ℤ) → AreWithin width xs → AllByRecursion (IsNear (10 ^ (width - 1))) xs
-near-all width [] h = tt
-near-all width (x ∷ xs) h = (near-within width x h.0, near-all width xs h.1)
-
 -- a code of an arc whose values fit so many columns: a first value has two characters before it, and a difference one
 -- digit more than a value
 pub code-length : (j : ℕ) (xs : List ℤ)
-    → 0 < j → j + 2 ≤ DIGITS_LIMIT → doubled WRITTEN_ORDER (10 ^ (j + 1)) < 10 ^ (j + 2) → AreWithin (j + 2) xs
+    → 0 < j → j + 2 ≤ DIGITS_LIMIT → doubled WRITTEN_ORDER (10 ^ (j + 1)) < 10 ^ (j + 2) → AllByRecursion (IsWithin (j + 2)) xs
     → length (code_text (code_at WRITTEN_ORDER xs)) ≤ j + 3
 code-length j [] some few h all = omega arith
 code-length j (x ∷ []) some few h all =
-    let number : length (signed_decimal x) ≤ j + 1 = within-length j x some (omega (arith, few)) all.0 in
-    let whole : length (decimal WRITTEN_ORDER ++ 38 ∷ signed_decimal x)
-    ≡ length ((48 + WRITTEN_ORDER) ∷ 38 ∷ signed_decimal x) =
-    ap (λ t. length (t ++ 38 ∷ signed_decimal x)) (order-text WRITTEN_ORDER (omega arith)) in
-    omega (arith, number, whole)
+    grind (
+      arith,
+      within-length j x some (omega (arith, few)) all.0,
+      order-text WRITTEN_ORDER (omega arith),
+    )
 code-length j (x ∷ y ∷ ys) some few h all =
     let order : ℕ = min (length (y ∷ ys)) WRITTEN_ORDER in
     let b : ℕ = 10 ^ (j + 1) in
@@ -130,47 +112,28 @@ by_position-length f (suc n) (a ∷ as') (b ∷ bs) h k = let le : length (by_po
 pub difference-length : (n : ℕ) (old new : List ℕ)
     → length old ≤ n → length new ≤ n → length (text_difference old new) ≤ n
 difference-length n old new h k =
-    let trimmed : length (text_difference old new) ≤ length (by_position mark_of old new) =
-    few_kept (by_position mark_of old new) in
-    let whole : length (by_position mark_of old new) ≤ n = by_position-length mark_of n old new h k in
-    omega (arith, trimmed, whole)
+    grind (arith, few_kept (by_position mark_of old new), by_position-length mark_of n old new h k)
 
 pub cells-length : (n : ℕ) (codes : List Code) → AllByRecursion (λ (c : Code). length (code_text c) ≤ n) codes
     → length (flat_map cell_text codes) ≤ (n + 1) * length codes
 cells-length n [] h = omega arith
 cells-length n (c ∷ cs) h =
-    let one : length (code_text c ++ 32 ∷ []) ≡ length (code_text c) + 1 = length-append (code_text c) (32 ∷ []) in
-    let all : length (flat_map cell_text (c ∷ cs)) ≡ length (code_text c ++ 32 ∷ []) + length (flat_map cell_text cs) =
-    length-append (code_text c ++ 32 ∷ []) (flat_map cell_text cs) in
-    let rest : length (flat_map cell_text cs) ≤ (n + 1) * length cs = cells-length n cs h.1 in
-    omega (arith, one, all, rest, h.0)
+    grind (
+      arith,
+      length-append (code_text c) (32 ∷ []),
+      length-append (code_text c ++ 32 ∷ [])
+          (flat_map cell_text cs),
+      cells-length n cs h.1,
+    )
 
 -- ---- counts of satellites
 
-within_limit : (o : Option ℕ) (n : ℕ) → option_and_then count_within_limit o ≡ Some n → n ≤ SATELLITES_LIMIT
-within_limit None n h = absurd (true≢false (sym (ap is_some h)))
-within_limit (Some k) n h = limited (nat_le k SATELLITES_LIMIT) k n refl h
-  where
-    limited : (b : Bool) (k n : ℕ)
-        → nat_le k SATELLITES_LIMIT ≡ b → (if b then Some k else None) ≡ Some n → n ≤ SATELLITES_LIMIT
-    limited true k n e h =
-        let same : k ≡ n = ap (λ o. unwrap_or o 0) h in
-        let less : k ≤ SATELLITES_LIMIT = grind (arith, e) in
-        omega (arith, same, less)
-    limited false k n e h = absurd (true≢false (sym (ap is_some h)))
-
 pub few-satellites : (types : List Count) (e : Epoch) → IsWholeEpoch types e → length e.rows ≤ SATELLITES_LIMIT
-few-satellites types e h =
-    within_limit (number_in (columns e.head 33 3)) (length e.rows)
-    (sym (ap {B = Option ℕ} (λ b. if b then satellites_in e.head else None) (head_tests types e h))
-    ∙ head-counted types e h)
+few-satellites types e h = grind arith
 
 pub text-short : (types : List Count) (e : Epoch)
     → IsWholeEpoch types e → length (epoch_text e) ≤ 41 + 3 * SATELLITES_LIMIT
-text-short types e h =
-    let all : length (epoch_text e) ≡ 41 + 3 * length e.rows = length-text types e h in
-    let few : length e.rows ≤ SATELLITES_LIMIT = few-satellites types e h in
-    omega (arith, all, few)
+text-short types e h = grind (arith, length-text types e h, few-satellites types e h)
 
 -- ---- lines
 
@@ -188,34 +151,19 @@ row-short : (types : List Count) (name : List ℕ) (run : List Row) (r : Row)
     → AllByRecursion (IsRowOf types name) run → IsTypedRow types r
     → length (satellite_line run r) ≤ most
 row-short types name run r h k =
-    let codes : List Code = codes_of (length r.values) run in
-    let marks : List ℕ = text_difference (indicators_before run) r.flags in
-    let each : AllByRecursion (λ (c : Code). length (code_text c) ≤ 15) codes =
-    each_place-all (λ (c : Code). length (code_text c) ≤ 15)
-    (length r.values) (λ j. code_at WRITTEN_ORDER (arc_of j run)) (λ j.
-    code-length 12 (arc_of j run) (omega arith) (omega arith) (omega arith)
+    let codes = codes_of (length r.values) run in
+    let marks = text_difference (indicators_before run) r.flags in
+    let each = each_place-all (λ (c : Code). length (code_text c) ≤ 15) (length r.values)
+    (λ j. code_at WRITTEN_ORDER (arc_of j run))
+    (λ j. code-length 12 (arc_of j run) (omega arith) (omega arith) (omega arith)
     (stretch-within OBSERVATION_WIDTH (map (value_in j) run) (values-fit types name j run h))) in
-    let count : length codes ≡ length r.values =
-    length-each_place (length r.values) (λ j. code_at WRITTEN_ORDER (arc_of j run)) in
-    let cells : length (flat_map cell_text codes) ≤ (15 + 1) * length codes = cells-length 15 codes each in
-    let tail : length marks ≤ 2 * TYPES_LIMIT =
-    difference-length (2 * TYPES_LIMIT)
-    (indicators_before run) r.flags (before-length types name run h) (omega (arith, k.0.paired, k.0.counted.1)) in
-    let all : length (flat_map cell_text codes ++ marks) ≡ length (flat_map cell_text codes) + length marks =
-    length-append (flat_map cell_text codes) marks in
-    let trimmed : length (without_end_blanks (flat_map cell_text codes ++ marks))
-    ≤ length (flat_map cell_text codes ++ marks) = few_kept (flat_map cell_text codes ++ marks) in
+    let count = length-each_place (length r.values) (λ j. code_at WRITTEN_ORDER (arc_of j run)) in
+    let cells = cells-length 15 codes each in
+    let tail = difference-length (2 * TYPES_LIMIT) (indicators_before run) r.flags
+    (before-length types name run h) (omega (arith, k.0.paired, k.0.counted.1)) in
+    let all = length-append (flat_map cell_text codes) marks in
+    let trimmed = few_kept (flat_map cell_text codes ++ marks) in
     omega (arith, count, cells, tail, all, trimmed, k.0.counted.1)
-
-rows-short : (types : List Count) (ms : List Marked) (rows : List Row)
-    → AreWhole types (since_full ms) → AllByRecursion (IsTypedRow types) rows
-    → AllByRecursion (λ (line : List ℕ). length line ≤ most)
-    (map (λ (r : Row). satellite_line (run_of r.name ms) r) rows)
-rows-short types ms [] h k = tt
-rows-short types ms (r ∷ rs) h k = (
-  row-short types r.name (run_of r.name ms) r (run-rows types r.name (since_full ms) h) k.0,
-  rows-short types ms rs h k.1,
-)
 
 clock-short : (types : List Count) (ms : List Marked) → AreWhole types (since_full ms)
     → length (code_text (code_at WRITTEN_ORDER (clock_arc ms))) ≤ 16
@@ -235,10 +183,9 @@ pub lines-short : (types : List Count) (full : Bool) (e : Epoch) (older : List M
     → AreWhole types (since_full (marked full e ∷ older))
     → AllByRecursion (λ (line : List ℕ). length line ≤ 18 * TYPES_LIMIT) (compact_epoch (marked full e ∷ older))
 lines-short types full e older h =
-    let ms : List Marked = marked full e ∷ older in
-    let line : length (epoch_line (marked full e) older) ≤ 41 + 3 * SATELLITES_LIMIT =
-    difference-length (41 + 3 * SATELLITES_LIMIT) (if full then []
-    else newest_text older) (epoch_text e) (old-short types full e older h) (text-short types e h.0) in
-    let clock : length (code_text (code_at WRITTEN_ORDER (clock_arc (marked full e ∷ older)))) ≤ 16 =
-    clock-short types (marked full e ∷ older) h in
-    (omega (arith, line), (omega (arith, clock), rows-short types ms e.rows h (typed-rows types e h.0)))
+    let ms = marked full e ∷ older in
+    let line = difference-length (41 + 3 * SATELLITES_LIMIT) (if full then [] else newest_text older)
+    (epoch_text e) (old-short types full e older h) (text-short types e h.0) in
+    let clock = clock-short types ms h in
+    let rows = lines-each (λ l. length l ≤ most) types ms (row-short types) h e.rows (typed-rows types e h.0) in
+    (omega (arith, line), (omega (arith, clock), rows))

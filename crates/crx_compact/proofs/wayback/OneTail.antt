@@ -2,25 +2,26 @@
 use Rattle.std.specs.Prelude.{◌≡◌, refl, ℕ, ℤ, Bool, List, [], ◌∷◌, length, map, Option, Some, None, if◌then◌else◌}
 use Rattle.std.specs.List.{AllByRecursion}
 use Rattle.std.proofs.Common.{sym, ◌∙◌, ap, subst}
+use Rattle.std.proofs.lemmas.Simd.{map-map}
 use Rattle.crx_columns.specs.meaning.Columns.{without_end_blanks}
 use Rattle.crx_lines.specs.declared.limits.TheConstants.{WRITTEN_ORDER}
 use Rattle.crx_rinex.specs.meaning.Observations.{Row, Epoch}
 use Rattle.crx_rinex.specs.meaning.ObservationTypes.{Count}
-use Rattle.crx_rinex.specs.meaning.EachPlace.{each_place}
 use Rattle.crx_arcs.specs.meaning.Sequences.{back_to, stretch}
 use Rattle.crx_arcs.specs.meaning.Differences.{code_at}
 use Rattle.crx_history.specs.meaning.Compaction.{epoch_text, Marked, row_named, since_full, run_of, arc_of}
 use Rattle.crx_arcs.specs.meaning.Cells.{value_in}
-use Rattle.crx_history.specs.meaning.Compaction.{clock_arc, codes_of}
+use Rattle.crx_history.specs.meaning.Compaction.{codes_of}
 use Rattle.crx_history.specs.meaning.Expansion.{RawRow, RawEpoch, overlaid, raw_run_of, code_in}
 use Rattle.crx_arcs.specs.meaning.ArcValues.{since_start}
-use Rattle.crx_history.specs.Tails.{RowTail, Tail, row_tail, tail_of, raw_row_tail}
+use Rattle.crx_history.specs.Tails.{RowTail, row_tail, row_tails, tail_of, raw_row_tail}
 use Rattle.crx_arcs.specs.ArcTails.{arc_tail, values_of, started_tail}
 use Rattle.crx_history.specs.Tails.{raw_row_tails, tail_of_block}
 use Rattle.crx_compact.specs.ReadingLaws.{raw_row, OneTail}
 use Rattle.crx_compact.specs.Laws.{AreWhole}
 use Rattle.crx_rinex.proofs.EachPlace.{each_place-same, length-each_place}
 use Rattle.crx_arcs.proofs.arcs.Inversion.{numbers_of, value-numbers, started-codes}
+use Rattle.crx_compact.proofs.wayback.Lists.{mapped-same}
 use Rattle.crx_compact.proofs.wayback.Runs.{raw_block, marked, block-raws, raw_run, runs-read, codes_of_values}
 use Rattle.crx_compact.proofs.wayback.Runs.{clocks-read, codes-read, started-values, text-read, marks-read, rows_before}
 use Rattle.crx_history.proofs.Identifiers.{each-own}
@@ -31,8 +32,7 @@ use Rattle.crx_compact.proofs.wayback.Reading.{epochs-begin, epochs-unmarked}
 
 values-back : (n : ℕ) (xs : List ℤ) → values_of n (numbers_of n xs) ≡ xs
 values-back n [] = refl
-values-back n (x ∷ xs) =
-    ap (λ v. v ∷ values_of n (numbers_of n xs)) (value-numbers n xs x) ∙ ap (λ r. x ∷ r) (values-back n xs)
+values-back n (x ∷ xs) = cc (value-numbers n xs x, values-back n xs)
 
 -- the codes of values that may be missing leave what the values do
 arc-same : (os : List (Option ℤ))
@@ -48,26 +48,13 @@ arc-same (Some x ∷ os) =
 row-same : (types : List Count) (r : Row) (rs : List Row) → AllByRecursion (IsRowOf types r.name) (r ∷ rs)
     → raw_row_tail (raw_run (r ∷ rs)) (raw_row (r ∷ rs) r) ≡ row_tail (r ∷ rs) r
 row-same types r rs h =
-    let n : ℕ = length (codes_of (length r.values) (r ∷ rs)) in
-    let count : length (codes_of (length r.values) (r ∷ rs)) ≡ length r.values =
-    length-each_place (length r.values) (λ j. code_at WRITTEN_ORDER (arc_of j (r ∷ rs))) in
-    let cells : each_place n (λ j. started_tail (since_start (map (code_in j) (raw_run (r ∷ rs)))))
-    ≡ each_place n (λ j. arc_tail WRITTEN_ORDER (arc_of j (r ∷ rs))) =
-    each_place-same n (λ j. started_tail (since_start (map (code_in j) (raw_run (r ∷ rs)))))
-    (λ j. arc_tail WRITTEN_ORDER (arc_of j (r ∷ rs))) (λ j.
-    ap (λ cs. started_tail (since_start cs)) (codes-read j (r ∷ rs)) ∙ arc-same (map (value_in j) (r ∷ rs))) in
-    ap {B = RowTail} (λ t. record {
-      name = r.name;
-      flags = t;
-      cells = each_place n (λ j. started_tail (since_start (map (code_in j) (raw_run (r ∷ rs)))));
-    })
-    (marks-read r rs (flags-run types r.name (r ∷ rs) h))
-    ∙ ap {B = RowTail} (λ cs. record { name = r.name; flags = without_end_blanks r.flags; cells = cs }) cells
-    ∙ ap {B = RowTail} (λ k. record {
-      name = r.name;
-      flags = without_end_blanks r.flags;
-      cells = each_place k (λ j. arc_tail WRITTEN_ORDER (arc_of j (r ∷ rs)));
-    }) count
+    let n = length (codes_of (length r.values) (r ∷ rs)) in
+    let count = length-each_place (length r.values) (λ j. code_at WRITTEN_ORDER (arc_of j (r ∷ rs))) in
+    let cells = each_place-same n (λ j. started_tail (since_start (map (code_in j) (raw_run (r ∷ rs)))))
+    (λ j. arc_tail WRITTEN_ORDER (arc_of j (r ∷ rs)))
+    (λ j. ap (λ cs. started_tail (since_start cs)) (codes-read j (r ∷ rs))
+    ∙ arc-same (map (value_in j) (r ∷ rs))) in
+    rw (marks-read r rs (flags-run types r.name (r ∷ rs) h), cells, count)
 
 row-left : (types : List Count) (full : Bool) (e : Epoch) (older : List Marked)
     → AreWhole types (since_full (marked full e ∷ older))
@@ -86,18 +73,6 @@ row-left types full e older h r own =
     ap (λ q. raw_row_tail q (raw_row (run_of r.name ms) r)) (runs-read r.name (marked full e ∷ older))
     ∙ subst Q (sym run) (row-same types r (rows_before full r.name older) rows)
 
-rows-left : (types : List Count) (full : Bool) (e : Epoch) (older : List Marked)
-    → AreWhole types (since_full (marked full e ∷ older))
-    → (rows : List Row) → AllByRecursion (λ (r : Row). row_named r.name e.rows ≡ Some r) rows
-    → map (λ (q : RawRow). raw_row_tail (raw_run_of q.name (raw_block (marked full e ∷ older))) q)
-    (map (λ (r : Row). raw_row (run_of r.name (marked full e ∷ older)) r) rows)
-    ≡ map (λ (r : Row). row_tail (run_of r.name (marked full e ∷ older)) r) rows
-rows-left types full e older h [] own = refl
-rows-left types full e older h (r ∷ rs) own =
-    ap (λ t. t ∷ map (λ (q : RawRow). raw_row_tail (raw_run_of q.name (raw_block (marked full e ∷ older))) q) (map
-    (λ (q : Row). raw_row (run_of q.name (marked full e ∷ older)) q) rs)) (row-left types full e older h r own.0)
-    ∙ ap (λ ts. row_tail (run_of r.name (marked full e ∷ older)) r ∷ ts) (rows-left types full e older h rs own.1)
-
 -- ---- the tail
 
 tail-same : (types : List Count) (full : Bool) (e : Epoch) (older : List Marked)
@@ -107,27 +82,19 @@ tail-same types full e older h =
     let ms : List Marked = marked full e ∷ older in
     let text : overlaid (map (λ (q : RawEpoch). q.line) (raw_block ms)) ≡ without_end_blanks (epoch_text e) =
     text-read ms (epochs-unmarked types (since_full (marked full e ∷ older)) h) in
-    let clock : started_tail (since_start (map (λ (q : RawEpoch). q.clock) (raw_block ms)))
-    ≡ arc_tail WRITTEN_ORDER (clock_arc (marked full e ∷ older)) =
-    ap (λ cs. started_tail (since_start cs)) (clocks-read (marked full e ∷ older))
+    let clock = ap (λ cs. started_tail (since_start cs)) (clocks-read (marked full e ∷ older))
     ∙ arc-same (map (λ (q : Epoch). q.clock) (since_full (marked full e ∷ older))) in
-    ap {B = Tail} (λ t. record {
-      text = t;
-      clock = started_tail
-          (since_start (map (λ (q : RawEpoch). q.clock) (raw_block ms)));
-      rows = raw_row_tails (raw_block ms);
-    }) text
-    ∙ ap {B = Tail}
-    (λ c. record { text = without_end_blanks (epoch_text e); clock = c; rows = raw_row_tails (raw_block ms) }) clock
-    ∙ ap {B = Tail} (λ rs. record {
-      text = without_end_blanks (epoch_text e);
-      clock = arc_tail WRITTEN_ORDER (clock_arc (marked full e ∷ older));
-      rows = rs;
-    })
-    (rows-left types full e older h e.rows (each-own (λ (r : Row). r.name) e.rows h.0.sound.apart))
+    let raw : Row → RawRow = λ r. raw_row (run_of r.name ms) r in
+    let tail_of_raw : RawRow → RowTail = λ q. raw_row_tail (raw_run_of q.name (raw_block ms)) q in
+    let rows : raw_row_tails (raw_block ms) ≡ row_tails ms =
+    map-map tail_of_raw raw e.rows ∙ mapped-same (λ r. tail_of_raw (raw r)) (λ (r : Row). row_tail (run_of r.name ms) r)
+    (λ r own. row-left types full e older h r own) e.rows (each-own (λ (r : Row). r.name) e.rows h.0.sound.apart) in
+    cc
 
 pub one-tail : OneTail
 one-tail types m older h =
-    ap {B = Option Tail} (λ b. Some (tail_of_block b))
-    (block-raws (m ∷ older) (epochs-begin types (since_full (m ∷ older)) h))
-    ∙ ap {B = Option Tail} Some (tail-same types m.in_full m.epoch older h)
+    cc (
+      block-raws (m ∷ older) (epochs-begin types (since_full (m ∷ older)) h),
+      tail-same types m.in_full
+          m.epoch older h,
+    )

@@ -40,9 +40,7 @@ at_past (c ∷ cs) (suc p) h = at_past cs p (le_of_suc-le-suc h)
 
 past_longest : (marks : List (List ℕ)) (p : ℕ) → longest marks ≤ p → latest_mark marks p ≡ 32
 past_longest [] p h = refl
-past_longest (w ∷ ws) p h =
-    let blank : at w p ≡ 32 = at_past w p (omega (arith, h)) in
-    ap (λ (c : ℕ). if is_blank c then latest_mark ws p else at w p) blank ∙ past_longest ws p (omega (arith, h))
+past_longest (w ∷ ws) p h = cc (at_past w p (omega (arith, h)), past_longest ws p (omega (arith, h)))
 
 pub at-longest : (marks : List (List ℕ)) (p : ℕ)
     → at (each_place (longest marks) (λ q. shown (latest_mark marks q))) p ≡ shown (latest_mark marks p)

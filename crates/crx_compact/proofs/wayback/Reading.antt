@@ -1,26 +1,27 @@
 -- The compact lines of an epoch read as that epoch.
-use Rattle.std.specs.Prelude.{◌≡◌, refl, ◌≢◌, ℕ, suc, ◌+◌, ◌-◌, ◌*◌, ◌≤◌, Bool, true, false, not, List, [], ◌∷◌, ◌++◌}
+use Rattle.std.specs.Prelude.{◌≡◌, refl, ◌≢◌, ℕ, ◌+◌, ◌-◌, Bool, true, false, List, [], ◌∷◌, ◌++◌}
 use Rattle.std.specs.Prelude.{length, map, drop, Option, Some, Result, Ok, Err, if◌then◌else◌}
 use Rattle.std.specs.List.{list_all, AllByRecursion}
-use Rattle.std.proofs.Common.{sym, ◌∙◌, ap, subst, arith, true≢false, drop_of_length-le}
-use Rattle.std.proofs.lemmas.List.{length-map, length-append, append_assoc}
+use Rattle.std.proofs.Common.{sym, ◌∙◌, ap, subst, arith, drop_of_length-le}
+use Rattle.std.proofs.lemmas.List.{length-map, length-append, append_assoc, map-append}
+use Rattle.std.proofs.lemmas.Simd.{map-map}
+use Rattle.std.proofs.Math.Seq.{drop-append_seam}
 use Rattle.std.proofs.lemmas.Bool.{and_parts}
-use Rattle.crx_columns.specs.meaning.Columns.{is_blank, before_end_blanks, without_end_blanks, columns}
-use Rattle.crx_text.specs.meaning.Codes.{code_text, code_of}
+use Rattle.crx_columns.specs.meaning.Columns.{is_blank, without_end_blanks, columns}
+use Rattle.crx_text.specs.meaning.Codes.{code_text}
 use Rattle.crx_text.specs.Codes.{IsPrintable}
 use Rattle.crx_lines.specs.meaning.Seen.{ReadLine, Content}
 use Rattle.crx_rinex.specs.meaning.Observations.{Row, Epoch}
 use Rattle.crx_rinex.specs.meaning.ObservationTypes.{Count}
-use Rattle.crx_rinex.specs.meaning.Places.{Place, Here, then_place, after_lines, one_line}
+use Rattle.crx_rinex.specs.meaning.Places.{Here}
 use Rattle.crx_text.specs.declared.code.Code.{Code}
 use Rattle.crx_lines.specs.declared.fault.Fault.{Fault}
-use Rattle.crx_lines.specs.declared.fault.Fault.TheVariants.{BadEpoch, BadClock, Truncated}
+use Rattle.crx_lines.specs.declared.fault.Fault.TheVariants.{BadEpoch}
 use Rattle.crx_lines.specs.declared.limits.TheConstants.{WRITTEN_ORDER, CLOCK_WIDTH}
 use Rattle.crx_arcs.specs.meaning.Sequences.{back_to, stretch, and_then}
 use Rattle.crx_arcs.specs.meaning.Differences.{code_at}
 use Rattle.crx_history.specs.meaning.Compaction.{Marked, epoch_text, row_named, since_full, run_of, clock_arc}
 use Rattle.crx_history.specs.meaning.Compaction.{newest_text, satellite_line, epoch_line, compact_epoch}
-use Rattle.crx_columns.specs.meaning.Texts.{is_printable}
 use Rattle.crx_rinex.specs.meaning.EpochLines.{begins_epoch, epoch_count}
 use Rattle.crx_history.specs.meaning.EpochText.{names_in, Satellite, satellites_named}
 use Rattle.crx_history.specs.meaning.Expansion.{RawEpoch, block_of, raw_run_of, overlaid}
@@ -28,14 +29,15 @@ use Rattle.crx_arcs.specs.meaning.ArcValues.{value_of}
 use Rattle.crx_history.specs.meaning.Past.{Past, past_of_block, past_of_epochs, past_of_line}
 use Rattle.crx_history.specs.meaning.CompactPlaces.{satellites_counted, satellites_of_text, satellites_of_line}
 use Rattle.crx_history.specs.meaning.CompactPlaces.{BegunEpoch, epoch_begun, clock_line_read}
-use Rattle.crx_arcs.specs.meaning.Cells.{ReadCell, cell_read}
+use Rattle.crx_arcs.specs.meaning.Cells.{ReadCell}
 use Rattle.crx_history.specs.meaning.CompactPlaces.{ReadRow, satellite_line_read, rows_read, ReadEpoch, epoch_of_rows}
-use Rattle.crx_history.specs.meaning.CompactPlaces.{epoch_after_line, epoch_at}
+use Rattle.crx_history.specs.meaning.CompactPlaces.{epoch_at}
 use Rattle.crx_rinex.specs.meaning.Epochs.{IsWholeEpoch}
 use Rattle.crx_compact.specs.ReadingLaws.{EpochReadsBack, raw_row, raw_of, raws_of, read_of, lines_of_epoch}
 use Rattle.crx_compact.specs.ReadingLaws.{EachReadsBack, text_lines, epochs_at, marked_of, counts_of, reads_of}
 use Rattle.crx_compact.specs.ReadingLaws.{ReadsBack}
 use Rattle.crx_compact.specs.Laws.{AreWhole}
+use Rattle.crx_compact.proofs.wayback.Lists.{all-from}
 use Rattle.crx_compact.proofs.wayback.Writable.{head-counted, typed-rows}
 use Rattle.crx_text.proofs.CodeTexts.{code_of-code_text}
 use Rattle.crx_columns.proofs.EndBlanks.{few_kept}
@@ -52,13 +54,12 @@ use Rattle.crx_rinex.proofs.Characters.{at, at-without_end_blanks, columns-are}
 
 pub epochs-begin : (types : List Count) (epochs : List Epoch)
     → AreWhole types epochs → AllByRecursion (λ (e : Epoch). at (epoch_text e) 0 ≡ 62) epochs
-epochs-begin types [] h = tt
-epochs-begin types (e ∷ es) h = (text-begins types e h.0, epochs-begin types es h.1)
+epochs-begin types epochs h = all-from (λ (e : Epoch). at (epoch_text e) 0 ≡ 62) (text-begins types) epochs h
 
 pub epochs-unmarked : (types : List Count) (epochs : List Epoch)
     → AreWhole types epochs → AllByRecursion (λ (e : Epoch). (p : ℕ) → at (epoch_text e) p ≢ 38) epochs
-epochs-unmarked types [] h = tt
-epochs-unmarked types (e ∷ es) h = (unmarked (epoch_text e) (text-kept types e h.0), epochs-unmarked types es h.1)
+epochs-unmarked types epochs h = all-from (λ (e : Epoch). (p : ℕ) → at (epoch_text e) p ≢ 38)
+    (λ e whole. unmarked (epoch_text e) (text-kept types e whole)) epochs h
 
 -- ---- what stands before the line in its block
 
@@ -67,37 +68,29 @@ before full older = if full then [] else raw_block older
 
 not-empty : (raws : List RawEpoch) (raw : RawEpoch) (block : List RawEpoch)
     → block_of raws ≡ raw ∷ block → past_of_epochs raws ≡ Some (past_of_block (block_of raws))
-not-empty [] raw block e = absurd (nothing_is_one raw block e)
-  where
-    nothing_is_one : (raw : RawEpoch) (block : List RawEpoch) → [] ≡ raw ∷ block → ⊥
-    nothing_is_one raw block e = true≢false (ap (λ (l : List RawEpoch). elim l [ [] ↦ true | x ∷ xs ↦ false ]) e)
+not-empty [] raw block e = cc
 not-empty (x ∷ xs) raw block e = refl
 
 -- what the lines of an epoch are read against
 past-found : (full : Bool) (e : Epoch) (older : List Marked) (raws : List RawEpoch) → Begins (marked full e ∷ older)
     → (full ≡ false → block_of raws ≡ block_of (raws_of older))
     → past_of_line raws (epoch_line (marked full e) older) ≡ Some (past_of_block (before full older))
-past-found true e older raws h k = ap {B = Option Past}
-    (λ b. if b then Some (past_of_block []) else past_of_epochs raws) (begins_full (epoch_text e) h.0)
-past-found false e [] raws h k = ap {B = Option Past}
-    (λ b. if b then Some (past_of_block []) else past_of_epochs raws) (begins_full (epoch_text e) h.0)
+past-found true e older raws h k = cc (begins_full (epoch_text e) h.0)
+past-found false e [] raws h k = cc (begins_full (epoch_text e) h.0)
 past-found false e (m ∷ older) raws h k =
     let block : block_of raws ≡ raw_block (m ∷ older) = k refl ∙ block-raws (m ∷ older) h.1 in
-    ap {B = Option Past} (λ b. if b then Some (past_of_block []) else past_of_epochs raws)
-    (begins_later (epoch_text m.epoch) (epoch_text e) h.1.0 h.0)
-    ∙ not-empty raws (raw_of m older) (before m.in_full older) block
-    ∙ ap {B = Option Past} (λ b. Some (past_of_block b)) block
+    rw (
+      begins_later (epoch_text m.epoch) (epoch_text e) h.1.0 h.0,
+      not-empty raws (raw_of m older)
+          (before m.in_full older) block,
+      block,
+    )
 
 block-found : (full : Bool) (e : Epoch) (older : List Marked) (raws : List RawEpoch) → Begins (marked full e ∷ older)
     → (full ≡ false → block_of raws ≡ block_of (raws_of older))
     → block_of (raw_of (marked full e) older ∷ raws) ≡ block_of (raws_of (marked full e ∷ older))
-block-found true e older raws h k =
-    let begins : begins_epoch (epoch_line (marked true e) older) ≡ true = begins_full (epoch_text e) h.0 in
-    ap (λ b. raw_of (marked true e) older ∷ (if b then [] else block_of raws)) begins
-    ∙ sym (ap (λ b. raw_of (marked true e) older ∷ (if b then [] else block_of (raws_of older))) begins)
-block-found false e older raws h k =
-    ap (λ rest. raw_of (marked false e) older ∷ (if begins_epoch (epoch_line (marked false e) older) then [] else rest))
-    (k refl)
+block-found true e older raws h k = cc (begins_full (epoch_text e) h.0)
+block-found false e older raws h k = grind arith
 
 -- ---- the epoch line
 
@@ -112,21 +105,19 @@ text-columns types e h =
 text-good : (types : List Count) (e : Epoch)
     → IsWholeEpoch types e → satellites_of_text types (without_end_blanks (epoch_text e)) ≡ Ok (satellites_of e.rows)
 text-good types e h =
-    let text : List ℕ = without_end_blanks (epoch_text e) in
-    let count : epoch_count (columns (without_end_blanks (epoch_text e)) 1 41) ≡ Some (length e.rows) =
-    ap epoch_count (text-columns types e h) ∙ head-counted types e h in
-    let long : length (without_end_blanks (epoch_text e)) ≤ length (epoch_text e) = few_kept (epoch_text e) in
-    let whole : length (epoch_text e) ≡ 41 + 3 * length e.rows = length-text types e h in
-    let rest : drop (41 + 3 * length e.rows) (without_end_blanks (epoch_text e)) ≡ [] =
-    drop_of_length-le (without_end_blanks (epoch_text e)) (omega (arith, long, whole)) in
-    let names : names_in (without_end_blanks (epoch_text e)) (length e.rows) ≡ map (λ (r : Row). r.name) e.rows =
-    names-read types (without_end_blanks (epoch_text e)) 41 e.rows
-    (typed-rows types e h) (λ p. at-without_end_blanks (epoch_text e) (41 + p) ∙ text-names types e h p) in
+    let text = without_end_blanks (epoch_text e) in
+    let count = ap epoch_count (text-columns types e h) ∙ head-counted types e h in
+    let long = few_kept (epoch_text e) in
+    let whole = length-text types e h in
+    let rest = drop_of_length-le (without_end_blanks (epoch_text e)) (omega (arith, long, whole)) in
+    let names = names-read types (without_end_blanks (epoch_text e)) 41 e.rows (typed-rows types e h)
+    (λ p. at-without_end_blanks (epoch_text e) (41 + p) ∙ text-names types e h p) in
     ap (satellites_counted types text) count
-    ∙ ap {B = Result (List Satellite) Fault} (λ r. if list_all is_blank r
-    then satellites_named types [] (names_in text (length e.rows)) else Err BadEpoch) rest
-    ∙ ap (satellites_named types []) names
-    ∙ satellites-good types [] e.rows (typed-rows types e h) (none-earlier (λ (r : Row). r.name) e.rows) h.sound.apart
+    ∙ ap {B = Result (List Satellite) Fault}
+    (λ r. if list_all is_blank r then satellites_named types [] (names_in text (length e.rows)) else Err
+    BadEpoch) rest ∙ ap (satellites_named types []) names
+    ∙ satellites-good types [] e.rows (typed-rows types e h) (none-earlier (λ (r : Row). r.name) e.rows)
+    h.sound.apart
 
 text-good_line : (types : List Count) (full : Bool) (e : Epoch) (older : List Marked)
     → AreWhole types (since_full (marked full e ∷ older))
@@ -140,32 +131,26 @@ line-good : (types : List Count) (full : Bool) (e : Epoch) (older : List Marked)
     → satellites_of_line types (past_of_block (before full older)) (epoch_line (marked full e) older)
     ≡ Ok (satellites_of e.rows)
 line-good types full e older h =
-    let line : List ℕ = epoch_line (marked full e) older in
-    let past : Past = past_of_block (before full older) in
-    let printable : list_all is_printable line ≡ true =
-    difference-printable (if full then [] else newest_text older) (epoch_text e) (text-kept types e h.0) in
-    ap {B = Result (List Satellite) Fault}
-    (λ b. if not b then Err BadEpoch else satellites_of_text types (past.text line)) printable
-    ∙ ap (satellites_of_text types) (text-good_line types full e older h)
-    ∙ text-good types e h.0
+    cc (
+      difference-printable (if full then [] else newest_text older) (epoch_text e) (text-kept types e h.0),
+      text-good_line types full e older h,
+      text-good types e h.0,
+    )
 
 -- ---- the clock line
 
 pub text-other : (text : List ℕ) → list_all is_code_character text ≡ true → begins_epoch text ≡ false
 text-other [] h = refl
-text-other (c ∷ cs) h =
-    let ok : is_code_character c ≡ true = (and_parts (is_code_character c) (list_all is_code_character cs) h).0 in
-    grind (arith, ok)
+text-other (c ∷ cs) h = grind arith
 
 no-end_blanks : (text : List ℕ) → list_all is_code_character text ≡ true → without_end_blanks text ≡ text
 no-end_blanks [] h = refl
 no-end_blanks (c ∷ cs) h =
-    ap (before_end_blanks c) (no-end_blanks cs (and_parts (is_code_character c) (list_all is_code_character cs) h).1)
-    ∙ kept_first c cs (and_parts (is_code_character c) (list_all is_code_character cs) h).0
-  where
-    kept_first : (c : ℕ) (cs : List ℕ) → is_code_character c ≡ true → before_end_blanks c cs ≡ c ∷ cs
-    kept_first c [] h = grind (arith, h)
-    kept_first c (d ∷ ds) h = refl
+    grind (
+      arith,
+      no-end_blanks cs (and_parts (is_code_character c) (list_all is_code_character cs) h).1,
+      (and_parts (is_code_character c) (list_all is_code_character cs) h).0,
+    )
 
 clock-good : (types : List Count) (full : Bool) (e : Epoch) (older : List Marked)
     → AreWhole types (since_full (marked full e ∷ older))
@@ -177,15 +162,18 @@ clock-good types full e older h =
     let code : Code = code_at WRITTEN_ORDER (clock_arc (marked full e ∷ older)) in
     let printable : IsPrintable code = clock-printable types (since_full (marked full e ∷ older)) h in
     let characters : list_all is_code_character (code_text code) ≡ true = code-characters code printable in
-    let value : past.clock code ≡ Ok e.clock =
-    ap (value_of CLOCK_WIDTH) (clocks-read (marked full e ∷ older))
-    ∙ value-back CLOCK_WIDTH e.clock (map (λ (q : Epoch). q.clock) (map (λ (m : Marked). m.epoch)
-    (if full then [] else back_to (λ (m : Marked). m.in_full) older))) h.0.sound.head_sound.ranged in
-    ap {B = Result ReadCell Fault} (λ b. if b then Err Truncated else cell_read BadClock past.clock
-    (code_of (without_end_blanks (code_text code)))) (text-other (code_text code) characters)
-    ∙ ap (λ t. cell_read BadClock past.clock (code_of t)) (no-end_blanks (code_text code) characters)
-    ∙ ap (cell_read BadClock past.clock) (code_of-code_text code printable)
-    ∙ ap {B = Result ReadCell Fault} (λ r. and_then r (λ value. Ok (record { code = code; value = value }))) value
+    let value : past.clock code ≡ Ok e.clock = ap (value_of CLOCK_WIDTH) (clocks-read (marked full e ∷ older))
+    ∙ value-back CLOCK_WIDTH e.clock
+    (map (λ (q : Epoch). q.clock)
+    (map (λ (m : Marked). m.epoch) (if full then [] else back_to (λ (m : Marked). m.in_full) older)))
+    h.0.sound.head_sound.ranged in
+    rw (
+      text-other (code_text code) characters,
+      no-end_blanks (code_text code) characters,
+      code_of-code_text
+          code printable,
+      value,
+    )
 
 -- ---- the satellite lines
 
@@ -219,36 +207,14 @@ row-reads types full e older h r own =
     subst Q (sym run) (row-read types
     (before full older) r (rows_before full r.name older) rows (run-before full r.name older))
 
-all-reads : (types : List Count) (full : Bool) (e : Epoch) (older : List Marked)
-    → AreWhole types (since_full (marked full e ∷ older))
-    → (rows : List Row) → AllByRecursion (λ (r : Row). row_named r.name e.rows ≡ Some r) rows
-    → AllByRecursion (RowReads (past_of_block (before full older)) (marked full e ∷ older)) rows
-all-reads types full e older h [] own = tt
-all-reads types full e older h (r ∷ rs) own =
-    (row-reads types full e older h r own.0, all-reads types full e older h rs own.1)
-
 rows-good : (past : Past) (ms : List Marked) (rows : List Row) (rest : List ReadLine)
     → AllByRecursion (RowReads past ms) rows
     → rows_read past (satellites_of rows) (map Content (map (line_in ms) rows) ++ rest)
     ≡ Here (map (read_in ms) rows) (length rows)
 rows-good past ms [] rest h = refl
-rows-good past ms (r ∷ rs) rest h =
-    let others : List ReadLine = map Content (map (line_in ms) rs) ++ rest in
-    ap {B = Place (List ReadRow)} (λ res. then_place (one_line res) (Content (line_in ms r) ∷ others)
-    (λ row more. then_place (rows_read past (satellites_of rs) more) more (λ rows last. Here (row ∷ rows) 0))) h.0
-    ∙ ap {B = Place (List ReadRow)} (λ p.
-    after_lines 1 (then_place p others (λ rows last. Here (read_in ms r ∷ rows) 0))) (rows-good past ms rs rest h.1)
-    ∙ ap {B = Place (List ReadRow)} (λ n. Here (map (read_in ms) (r ∷ rs)) n) (counted (length rs))
-  where
-    counted : (n : ℕ) → 1 + (n + 0) ≡ suc n
-    counted n = omega arith
+rows-good past ms (r ∷ rs) rest h = grind (arith, rows-good past ms rs rest h.1)
 
 -- ---- the epoch
-
-map-raw : (ms : List Marked) (rows : List Row)
-    → map (λ (r : ReadRow). r.raw) (map (read_in ms) rows) ≡ map (λ (r : Row). raw_row (run_of r.name ms) r) rows
-map-raw ms [] = refl
-map-raw ms (r ∷ rs) = ap (λ q. raw_row (run_of r.name ms) r ∷ q) (map-raw ms rs)
 
 map-row : (ms : List Marked) (rows : List Row) → map (λ (r : ReadRow). r.row) (map (read_in ms) rows) ≡ rows
 map-row ms [] = refl
@@ -269,41 +235,30 @@ epoch-good types full e older raws rest h k =
     let clock : ReadCell = record { code = code; value = e.clock } in
     let others : List ReadLine = map Content (map (line_in ms) e.rows) ++ rest in
     let later : List ReadLine = Content (code_text code) ∷ others in
-    let first : epoch_begun types line (past_of_line raws line) ≡ Ok begun =
-    ap (epoch_begun types line) (past-found full e older raws
-    (epochs-begin types (since_full (marked full e ∷ older)) h) k)
-    ∙ ap {B = Result BegunEpoch Fault}
-    (λ r. and_then r (λ satellites. Ok (record { line = line; past = past; satellites = satellites })))
-    (line-good types full e older h) in
-    let reads : AllByRecursion (RowReads past (marked full e ∷ older)) e.rows =
-    all-reads types full e older h e.rows (each-own (λ (r : Row). r.name) e.rows h.0.sound.apart) in
+    let first : epoch_begun types line (past_of_line raws line) ≡ Ok begun = ap (epoch_begun types line)
+    (past-found full e older raws (epochs-begin types (since_full (marked full e ∷ older)) h) k)
+    ∙ ap {B = Result BegunEpoch Fault} (λ r. and_then r (λ satellites. Ok (record {
+      line = line;
+      past = past;
+      satellites = satellites;
+    }))) (line-good types full e older h) in
+    let reads : AllByRecursion (RowReads past ms) e.rows = all-from (RowReads past ms)
+    (λ r own. row-reads types full e older h r own) e.rows (each-own (λ (r : Row). r.name) e.rows h.0.sound.apart) in
     let same : epoch_of_rows begun clock (map (read_in ms) e.rows) ≡ read_of (marked full e) older =
-    ap {B = ReadEpoch} (λ rs. record {
-      raw = record { line = line; clock = code; rows = rs };
-      epoch = record {
-        head = columns (past.text line) 1 41;
-        clock = e.clock;
-        rows = map (λ (r : ReadRow). r.row) (map (read_in ms) e.rows);
-      };
-    }) (map-raw ms e.rows)
-    ∙ ap {B = ReadEpoch} (λ rs. record {
-      raw = raw_of (marked full e) older;
-      epoch = record { head = columns (past.text line) 1 41; clock = e.clock; rows = rs };
-    }) (map-row ms e.rows)
-    ∙ ap {B = ReadEpoch} (λ t. record {
-      raw = raw_of (marked full e) older;
-      epoch = record { head = t; clock = e.clock; rows = e.rows };
-    })
-    (ap (λ t. columns t 1 41) (text-good_line types full e older h) ∙ text-columns types e h.0) in
-    ap {B = Place ReadEpoch}
-    (λ res. then_place (one_line res) (Content line ∷ later) (λ b more. epoch_after_line b more)) first
-    ∙ ap {B = Place ReadEpoch} (λ res. after_lines 1 (then_place (one_line res) later (λ c more. then_place
-    (rows_read past (satellites_of e.rows) more) more (λ rows last. Here (epoch_of_rows begun c rows) 0))))
-    (clock-good types full e older h)
-    ∙ ap {B = Place ReadEpoch} (λ p. after_lines 1 (after_lines 1 (then_place p others
-    (λ rows last. Here (epoch_of_rows begun clock rows) 0)))) (rows-good past ms e.rows rest reads)
-    ∙ ap {B = Place ReadEpoch} (λ r. Here r (1 + (1 + (length e.rows + 0)))) same
-    ∙ ap {B = Place ReadEpoch} (λ n. Here (read_of (marked full e) older) n) (counted (length e.rows))
+    rw (
+      map-map (λ (r : ReadRow). r.raw) (read_in ms) e.rows,
+      map-row ms e.rows,
+      text-good_line types full e older h,
+      text-columns types e h.0,
+    ) in
+    rw (
+      first,
+      clock-good types full e older h,
+      rows-good past ms e.rows rest reads,
+      same,
+      counted
+          (length e.rows),
+    )
   where
     counted : (n : ℕ) → 1 + (1 + (n + 0)) ≡ 2 + n
     counted n = omega arith
@@ -325,14 +280,6 @@ map-raws : (ms : List Marked) → map (λ (r : ReadEpoch). r.raw) (reads_of ms) 
 map-raws [] = refl
 map-raws (m ∷ older) = ap (λ rs. raw_of m older ∷ rs) (map-raws older)
 
-drop-lines : {X : Type 0} (xs ys : List X) (n : ℕ) → length xs ≡ n → drop n (xs ++ ys) ≡ ys
-drop-lines [] ys n e = ap (λ k. drop k ys) (sym e)
-drop-lines (x ∷ xs) ys n e = ap (λ k. drop k (x ∷ (xs ++ ys))) (sym e) ∙ drop-lines xs ys (length xs) refl
-
-map-append : (xs ys : List (List ℕ)) → map Content (xs ++ ys) ≡ map Content xs ++ map Content ys
-map-append [] ys = refl
-map-append (x ∷ xs) ys = ap (λ r. Content x ∷ r) (map-append xs ys)
-
 pub reads-back : ReadsBack
 reads-back [] rest h = refl
 reads-back (t ∷ older) rest h =
@@ -342,26 +289,15 @@ reads-back (t ∷ older) rest h =
     let lines : List (List ℕ) = compact_epoch (m ∷ ms) in
     let all : List ReadLine = map Content (text ++ lines) ++ rest in
     let split : map Content (text ++ lines) ++ rest ≡ map Content text ++ (map Content lines ++ rest) =
-    ap (λ l. l ++ rest) (map-append text lines) ∙ append_assoc (map Content text) (map Content lines) rest in
+    ap (λ l. l ++ rest) (map-append Content text lines) ∙ append_assoc (map Content text) (map Content lines) rest in
     let first : epochs_at (counts_of older) all ≡ Here (reads_of ms) (length text) =
     ap (epochs_at (counts_of older)) split ∙ reads-back older (map Content lines ++ rest) h.1 in
     let left : drop (length text) all ≡ map Content lines ++ rest =
-    ap (drop (length text)) split ∙ drop-lines
-    (map Content text) (map Content lines ++ rest) (length text) (length-map text Content) in
-    let next : epoch_at t.types (raws_of ms) (map Content lines ++ rest)
-    ≡ Here (read_of m ms) (2 + length m.epoch.rows) =
-    (each-reads_back t.types m ms (raws_of ms) h.0 (λ later. refl)).reads rest in
-    let rows : length (map (λ (r : Row). satellite_line (run_of r.name (m ∷ ms)) r) m.epoch.rows)
-    ≡ length m.epoch.rows = length-map m.epoch.rows (λ (r : Row). satellite_line (run_of r.name (m ∷ ms)) r) in
-    let count : length text + (2 + length m.epoch.rows + 0) ≡ length (text ++ lines) =
-    let sum : length (text ++ lines) ≡ length text + length lines = length-append text lines in
-    omega (arith, sum, rows) in
-    ap {B = Place (List ReadEpoch)} (λ p. then_place p all (λ es more.
-    then_place (epoch_at t.types (map (λ (r : ReadEpoch). r.raw) es) more) more (λ e last. Here (e ∷ es) 0))) first
-    ∙ ap {B = Place (List ReadEpoch)} (λ more. after_lines (length text) (then_place (epoch_at t.types
-    (map (λ (r : ReadEpoch). r.raw) (reads_of ms)) more) more (λ e last. Here (e ∷ reads_of ms) 0))) left
-    ∙ ap {B = Place (List ReadEpoch)} (λ raws. after_lines (length text) (then_place (epoch_at t.types raws
-    (map Content lines ++ rest)) (map Content lines ++ rest) (λ e last. Here (e ∷ reads_of ms) 0))) (map-raws ms)
-    ∙ ap {B = Place (List ReadEpoch)} (λ p.
-    after_lines (length text) (then_place p (map Content lines ++ rest) (λ e last. Here (e ∷ reads_of ms) 0))) next
-    ∙ ap {B = Place (List ReadEpoch)} (λ n. Here (read_of m ms ∷ reads_of ms) n) count
+    cc (split, length-map text Content, drop-append_seam (map Content text) (map Content lines ++ rest)) in
+    let next : epoch_at t.types (raws_of ms) (map Content lines ++ rest) ≡ Here (read_of m ms)
+    (2 + length m.epoch.rows) = (each-reads_back t.types m ms (raws_of ms) h.0 (λ later. refl)).reads rest in
+    let rows : length (map (λ (r : Row). satellite_line (run_of r.name (m ∷ ms)) r) m.epoch.rows) ≡ length
+    m.epoch.rows = length-map m.epoch.rows (λ (r : Row). satellite_line (run_of r.name (m ∷ ms)) r) in
+    let count : length text + (2 + length m.epoch.rows + 0) ≡ length (text ++ lines) = let sum : length
+    (text ++ lines) ≡ length text + length lines = length-append text lines in omega (arith, sum, rows) in
+    rw (first, left, map-raws ms, next, count)

@@ -1,10 +1,10 @@
 -- Runs and arcs of what was written, as a reader finds them.
-use Rattle.std.specs.Prelude.{◌≡◌, refl, ◌≢◌, ℕ, ◌*◌, min, ℤ, Bool, true, false, cond, nat_eq, List, [], ◌∷◌, length}
-use Rattle.std.specs.Prelude.{map, take, Option, Some, None, Result, Ok, Err, if◌then◌else◌}
+use Rattle.std.specs.Prelude.{◌≡◌, refl, ◌≢◌, ℕ, ◌*◌, ℤ, Bool, true, false, cond, nat_eq, List, [], ◌∷◌, length}
+use Rattle.std.specs.Prelude.{map, take, Option, Some, None, Ok, if◌then◌else◌}
 use Rattle.std.specs.List.{AllByRecursion}
 use Rattle.std.specs.Option.{option_map}
 use Rattle.std.specs.Str.{bytes_eq}
-use Rattle.std.proofs.Common.{sym, ◌∙◌, ap, arith}
+use Rattle.std.proofs.Common.{◌∙◌, ap, arith}
 use Rattle.std.proofs.lemmas.List.{get_or_past}
 use Rattle.crx_columns.specs.meaning.Columns.{without_end_blanks}
 use Rattle.crx_columns.specs.meaning.Texts.{text_difference, mark_of, by_position}
@@ -12,17 +12,15 @@ use Rattle.crx_columns.specs.Texts.{patched, character_of}
 use Rattle.crx_rinex.specs.meaning.Observations.{Row, Epoch}
 use Rattle.crx_text.specs.declared.code.Code.{Code}
 use Rattle.crx_text.specs.declared.code.Code.TheVariants.{Missing}
-use Rattle.crx_lines.specs.declared.fault.Fault.{Fault}
-use Rattle.crx_lines.specs.declared.fault.Fault.TheVariants.{OutOfRange}
 use Rattle.crx_lines.specs.declared.limits.TheConstants.{WRITTEN_ORDER}
 use Rattle.crx_arcs.specs.meaning.Sequences.{back_to, named, stretch}
-use Rattle.crx_arcs.specs.meaning.Differences.{code_at, difference}
+use Rattle.crx_arcs.specs.meaning.Differences.{code_at}
 use Rattle.crx_history.specs.meaning.Compaction.{Marked, epoch_text, row_named, since_full, run_of, arc_of, clock_arc}
 use Rattle.crx_history.specs.meaning.Compaction.{codes_of, indicators_before, newest_text}
 use Rattle.crx_arcs.specs.meaning.Cells.{value_in}
 use Rattle.crx_history.specs.meaning.Expansion.{RawRow, RawEpoch, block_of, raw_row_named, raw_run_of, marks_of}
 use Rattle.crx_history.specs.meaning.Expansion.{code_in, overlaid}
-use Rattle.crx_arcs.specs.meaning.ArcValues.{since_start, onto_started, in_range, value_since, value_of}
+use Rattle.crx_arcs.specs.meaning.ArcValues.{since_start, value_since, value_of}
 use Rattle.crx_arcs.specs.ArcLaws.{codes_of_arc}
 use Rattle.crx_rinex.proofs.EachPlace.{index-each_place, length-each_place}
 use Rattle.crx_text.specs.meaning.Numbers.{IsMissingOrWithin}
@@ -56,21 +54,15 @@ begins_full text h = ap (λ c. nat_eq c 62) (first_mark [] text ∙ ap (mark_of 
 
 pub begins_later : (old new : List ℕ)
     → at old 0 ≡ 62 → at new 0 ≡ 62 → nat_eq (at (text_difference old new) 0) 62 ≡ false
-begins_later old new h k = ap (λ c. nat_eq c 62) (first_mark old new
-    ∙ ap (λ c. mark_of c (at new 0)) h ∙ ap (mark_of 62) k)
+begins_later old new h k = cc (first_mark old new, h, k)
 
 block-step : (full : Bool) (e : Epoch) (older : List Marked)
     → (Begins older → block_of (raws_of older) ≡ raw_block older)
     → Begins (marked full e ∷ older) → block_of (raws_of (marked full e ∷ older)) ≡ raw_block (marked full e ∷ older)
-block-step true e older next h =
-    ap (λ b. raw_of (marked true e) older ∷ (if b then [] else block_of (raws_of older)))
-    (begins_full (epoch_text e) h.0)
-block-step false e [] next h =
-    ap (λ b. raw_of (marked false e) [] ∷ (if b then [] else [])) (begins_full (epoch_text e) h.0)
+block-step true e older next h = cc (begins_full (epoch_text e) h.0)
+block-step false e [] next h = grind arith
 block-step false e (m ∷ older) next h =
-    ap (λ b. raw_of (marked false e) (m ∷ older) ∷ (if b then [] else block_of (raws_of (m ∷ older))))
-    (begins_later (epoch_text m.epoch) (epoch_text e) h.1.0 h.0)
-    ∙ ap (λ r. raw_of (marked false e) (m ∷ older) ∷ r) (next h.1)
+    cc (begins_later (epoch_text m.epoch) (epoch_text e) h.1.0 h.0, next h.1)
 
 pub block-raws : (ms : List Marked) → Begins ms → block_of (raws_of ms) ≡ raw_block ms
 block-raws [] h = refl
@@ -89,9 +81,7 @@ pub named-made : {X Y : Type 0} (name_x : X → List ℕ) (name_y : Y → List �
     → named name_y name (map (λ x. make (name_x x) x) xs) ≡ option_map (make name) (named name_x name xs)
 named-made name_x name_y make h name [] = refl
 named-made name_x name_y make h name (x ∷ xs) =
-    ap (λ n. cond (bytes_eq n name) (Some (make (name_x x) x)) (named name_y name (map (λ y. make (name_x y) y) xs)))
-    (h (name_x x) x)
-    ∙ step (bytes_eq (name_x x) name) refl (named-made name_x name_y make h name xs)
+    cc (h (name_x x) x, step (bytes_eq (name_x x) name) refl (named-made name_x name_y make h name xs))
   where
     step : (b : Bool) → bytes_eq (name_x x) name ≡ b
         → named name_y name (map (λ y. make (name_x y) y) xs) ≡ option_map (make name) (named name_x name xs)
@@ -105,39 +95,26 @@ abbrev pub rows_before : Bool → List ℕ → List Marked → List Row
 rows_before full name older = stretch (map (λ (q : Epoch). row_named name q.rows)
     (map (λ (m : Marked). m.epoch) (if full then [] else back_to (λ (m : Marked). m.in_full) older)))
 
-abbrev rows_of : List ℕ → List Epoch → List Row
-rows_of name epochs = stretch (map (λ (e : Epoch). row_named name e.rows) epochs)
-
 run-step : (full : Bool) (name : List ℕ) (e : Epoch) (older : List Marked) (found : Option Row)
     → row_named name e.rows ≡ found
     → raw_run_of name (raw_block older) ≡ raw_run (run_of name older)
     → stretch (option_map (raw_row (run_of name (marked full e ∷ older))) found
     ∷ map (λ (q : RawEpoch). raw_row_named name q.rows) (if full then [] else raw_block older))
     ≡ raw_run (run_of name (marked full e ∷ older))
-run-step full name e older None h next =
-    ap (λ o. raw_run (stretch (o ∷ map (λ (q : Epoch). row_named name q.rows)
-    (map (λ (m : Marked). m.epoch) (if full then [] else back_to (λ (m : Marked). m.in_full) older))))) (sym h)
-run-step true name e older (Some r) h next =
-    let run : run_of name (marked true e ∷ older) ≡ r ∷ [] = ap (λ (o : Option Row). stretch (o ∷ [])) h in
-    ap (λ rs. raw_row rs r ∷ []) run ∙ sym (ap raw_run run)
-run-step false name e older (Some r) h next =
-    let run : run_of name (marked false e ∷ older) ≡ r ∷ run_of name older =
-    ap (λ (o : Option Row). stretch (o ∷ map (λ (q : Epoch). row_named name q.rows) (since_full older))) h in
-    ap (λ rs. raw_row rs r ∷ raw_run_of name (raw_block older)) run
-    ∙ ap (λ rest. raw_row (r ∷ run_of name older) r ∷ rest) next
-    ∙ sym (ap raw_run run)
+run-step full name e older None h next = cc
+run-step true name e older (Some r) h next = cc
+run-step false name e older (Some r) h next = cc
 
 -- a reader finds the runs that were written
 pub runs-read : (name : List ℕ) (ms : List Marked) → raw_run_of name (raw_block ms) ≡ raw_run (run_of name ms)
 runs-read name [] = refl
 runs-read name (m ∷ older) =
-    let head : raw_row_named name (raw_of m older).rows
-    ≡ option_map (raw_row (run_of name (m ∷ older))) (row_named name m.epoch.rows) =
-    named-made (λ (r : Row). r.name)
-    (λ (r : RawRow). r.name) (λ n r. raw_row (run_of n (m ∷ older)) r) (λ n r. refl) name m.epoch.rows in
-    ap (λ o. stretch (o ∷ map (λ (q : RawEpoch). raw_row_named name q.rows)
-    (if m.in_full then [] else raw_block older))) head
-    ∙ run-step m.in_full name m.epoch older (row_named name m.epoch.rows) refl (runs-read name older)
+    cc (
+      named-made (λ (r : Row). r.name) (λ (r : RawRow). r.name) (λ n r. raw_row (run_of n (m ∷ older)) r)
+          (λ n r. refl) name m.epoch.rows,
+      run-step m.in_full name m.epoch older (row_named name m.epoch.rows) refl
+          (runs-read name older),
+    )
 
 -- ---- arcs
 
@@ -161,21 +138,19 @@ clocks-read (m ∷ older) = clock-step m.in_full m.epoch older (clocks-read olde
 pub codes-read : (j : ℕ) (run : List Row) → map (code_in j) (raw_run run) ≡ codes_of_values (map (value_in j) run)
 codes-read j [] = refl
 codes-read j (r ∷ rs) =
-    let here : code_in j (raw_row (r ∷ rs) r) ≡ code_at WRITTEN_ORDER (arc_of j (r ∷ rs)) =
-    index-each_place (length r.values) j (λ i. code_at WRITTEN_ORDER (arc_of i (r ∷ rs))) Missing (λ le.
-    ap (λ (o : Option ℤ). code_at WRITTEN_ORDER (stretch (o ∷ map (value_in j) rs)))
-    (get_or_past r.values j None le)) in
-    ap (λ c. c ∷ map (code_in j) (raw_run rs)) here
-    ∙ ap (λ cs. code_at WRITTEN_ORDER (arc_of j (r ∷ rs)) ∷ cs) (codes-read j rs)
+    cc (
+      index-each_place (length r.values) j (λ i. code_at WRITTEN_ORDER (arc_of i (r ∷ rs))) Missing
+          (λ le. ap (λ (o : Option ℤ). code_at WRITTEN_ORDER (stretch (o ∷ map (value_in j) rs)))
+          (get_or_past r.values j None le)),
+      codes-read j rs,
+    )
 
 -- the codes since a present value's start are those of its arc
 pub started-values : (x : ℤ) (os : List (Option ℤ))
     → since_start (codes_of_values (Some x ∷ os)) ≡ since_start (codes_of_arc WRITTEN_ORDER (x ∷ stretch os))
 started-values x [] = refl
 started-values x (None ∷ os) = refl
-started-values x (Some y ∷ os) =
-    ap (option_map (onto_started (difference (min (length (y ∷ stretch os)) WRITTEN_ORDER) (x ∷ y ∷ stretch os))))
-    (started-values y os)
+started-values x (Some y ∷ os) = cc (started-values y os)
 
 value-present : (width : ℕ) (x : ℤ) (arc : List ℤ) (cs : List Code)
     → value_of width (code_at WRITTEN_ORDER (x ∷ arc) ∷ cs)
@@ -188,10 +163,14 @@ pub value-back : (width : ℕ) (o : Option ℤ) (os : List (Option ℤ))
     → IsMissingOrWithin width o → value_of width (codes_of_values (o ∷ os)) ≡ Ok o
 value-back width None os h = refl
 value-back width (Some x) os h =
-    value-present width x (stretch os) (codes_of_values os)
-    ∙ ap (value_since width) (started-values x os ∙ started-codes WRITTEN_ORDER (stretch os) x)
-    ∙ ap (in_range width) (value-numbers WRITTEN_ORDER (stretch os) x)
-    ∙ ap {B = Result (Option ℤ) Fault} (λ b. if b then Ok (Some x) else Err OutOfRange) ((within-is width x).1 h)
+    cc (
+      value-present width x (stretch os) (codes_of_values os),
+      started-values x os,
+      started-codes
+          WRITTEN_ORDER (stretch os) x,
+      value-numbers WRITTEN_ORDER (stretch os) x,
+      (within-is width x).1 h,
+    )
 
 -- ---- texts
 
@@ -250,9 +229,8 @@ marks-cut : (r : Row) (rs : List Row) → HasFlags r → overlaid
     (text_difference (indicators_before (r ∷ rs)) r.flags ∷ marks_of (raw_run rs)) ≡ without_end_blanks r.flags
     → overlaid (marks_of (raw_run (r ∷ rs))) ≡ without_end_blanks r.flags
 marks-cut r rs h e =
-    let n : ℕ = 2 * length (codes_of (length r.values) (r ∷ rs)) in
-    let count : length (codes_of (length r.values) (r ∷ rs)) ≡ length r.values =
-    length-each_place (length r.values) (λ j. code_at WRITTEN_ORDER (arc_of j (r ∷ rs))) in
+    let n = 2 * length (codes_of (length r.values) (r ∷ rs)) in
+    let count = length-each_place (length r.values) (λ j. code_at WRITTEN_ORDER (arc_of j (r ∷ rs))) in
     overlaid-take n (text_difference (indicators_before (r ∷ rs)) r.flags ∷ marks_of (raw_run rs))
     ∙ ap (λ t. without_end_blanks (take n t)) e
     ∙ trimmed-within n r.flags (omega (arith, count, h.counted))

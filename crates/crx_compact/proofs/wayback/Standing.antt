@@ -3,7 +3,7 @@ use Rattle.std.specs.Prelude.{◌≡◌, refl, ℕ, Bool, true, false, ◌&&◌,
 use Rattle.std.specs.Prelude.{if◌then◌else◌}
 use Rattle.std.specs.List.{list_all, AllByRecursion}
 use Rattle.std.proofs.Common.{◌∙◌, ap, arith}
-use Rattle.std.proofs.lemmas.Bool.{and_parts, and_from}
+use Rattle.std.proofs.lemmas.Bool.{and_parts}
 use Rattle.crx_columns.specs.meaning.Columns.{character_at, without_end_blanks}
 use Rattle.crx_columns.specs.meaning.Texts.{text_difference, is_printable, mark_of, is_kept}
 use Rattle.crx_text.specs.meaning.Codes.{code_text}
@@ -19,6 +19,7 @@ use Rattle.crx_arcs.specs.meaning.Differences.{code_at}
 use Rattle.crx_compact.specs.Laws.{AreWhole, has_no_epochs, LinesCanStand}
 use Rattle.crx_rinex.proofs.EachPlace.{length-each_place}
 use Rattle.crx_rinex.specs.meaning.Epochs.{IsWholeEpoch}
+use Rattle.crx_compact.proofs.wayback.Lists.{all-from}
 use Rattle.crx_compact.proofs.wayback.Writable.{IsTypedRow, typed-rows}
 use Rattle.crx_compact.proofs.wayback.CodeTexts.{is_code_character, code-characters}
 use Rattle.crx_compact.proofs.wayback.Cells.{AreWritten}
@@ -26,7 +27,7 @@ use Rattle.crx_compact.proofs.wayback.Runs.{marked, begins_full, begins_later}
 use Rattle.crx_history.proofs.Characters.{list_all-at, list_all-append}
 use Rattle.crx_compact.proofs.wayback.Facts.{head_tests, text-kept, text-head}
 use Rattle.crx_compact.proofs.wayback.Facts.{text-begins, at-difference, difference-printable}
-use Rattle.crx_compact.proofs.wayback.Rows.{IsRowOf, run-rows, clock-printable, written-codes, line-begins}
+use Rattle.crx_compact.proofs.wayback.Rows.{IsRowOf, clock-printable, line-begins, lines-each, written-codes}
 use Rattle.crx_compact.proofs.wayback.Reading.{text-other}
 use Rattle.crx_rinex.proofs.Characters.{at, at-without_end_blanks, list_all-from_at}
 
@@ -35,9 +36,12 @@ use Rattle.crx_rinex.proofs.Characters.{at, at-without_end_blanks, list_all-from
 code-printable : (text : List ℕ) → list_all is_code_character text ≡ true → list_all is_printable text ≡ true
 code-printable [] h = refl
 code-printable (c ∷ cs) h =
-    let first : is_code_character c ≡ true = (and_parts (is_code_character c) (list_all is_code_character cs) h).0 in
-    and_from (is_printable c) (list_all is_printable cs) (and_parts (is_printable c) _ first).0
-    (code-printable cs (and_parts (is_code_character c) (list_all is_code_character cs) h).1)
+    grind (
+      arith,
+      (and_parts (is_code_character c) (list_all is_code_character cs) h).0,
+      code-printable cs
+          (and_parts (is_code_character c) (list_all is_code_character cs) h).1,
+    )
 
 cells-printable : (codes : List Code) → AreWritten codes → list_all is_printable (flat_map cell_text codes) ≡ true
 cells-printable [] h = refl
@@ -69,37 +73,9 @@ row-begins : (types : List Count) (name : List ℕ) (run : List Row) (r : Row)
     → AllByRecursion (IsRowOf types name) run → IsTypedRow types r
     → begins_epoch (satellite_line run r) ≡ false
 row-begins types name run r h k =
-    let count : length (codes_of (length r.values) run) ≡ length r.values =
-    length-each_place (length r.values) (λ j. code_at WRITTEN_ORDER (arc_of j run)) in
+    let count = length-each_place (length r.values) (λ j. code_at WRITTEN_ORDER (arc_of j run)) in
     line-begins (codes_of (length r.values) run) (text_difference (indicators_before run) r.flags)
     (omega (arith, count, k.0.counted.0)) (written-codes types name (length r.values) run h)
-
-rows-printable : (types : List Count) (ms : List Marked) (rows : List Row)
-    → AreWhole types (since_full ms) → AllByRecursion (IsTypedRow types) rows
-    → AllByRecursion (λ (line : List ℕ). list_all is_printable line ≡ true)
-    (map (λ (r : Row). satellite_line (run_of r.name ms) r) rows)
-rows-printable types ms [] h k = tt
-rows-printable types ms (r ∷ rs) h k = (
-  row-printable types r.name (run_of r.name ms) r
-      (run-rows types r.name (since_full ms) h) k.0,
-  rows-printable types ms rs h k.1,
-)
-
-rows-begin : (types : List Count) (ms : List Marked) (rows : List Row)
-    → AreWhole types (since_full ms) → AllByRecursion (IsTypedRow types) rows
-    → AllByRecursion (λ (line : List ℕ). begins_epoch line ≡ false)
-    (map (λ (r : Row). satellite_line (run_of r.name ms) r) rows)
-rows-begin types ms [] h k = tt
-rows-begin types ms (r ∷ rs) h k = (
-  row-begins types r.name (run_of r.name ms) r
-      (run-rows types r.name (since_full ms) h) k.0,
-  rows-begin types ms rs h k.1,
-)
-
-no-event : (lines : List (List ℕ)) → AllByRecursion (λ (line : List ℕ). begins_epoch line ≡ false) lines
-    → AllByRecursion (λ (line : List ℕ). is_event_line line ≡ false) lines
-no-event [] h = tt
-no-event (l ∷ ls) h = (ap (λ b. b && is_event_flag (character_at l 32)) h.0, no-event ls h.1)
 
 -- ---- the epoch line
 
@@ -137,9 +113,7 @@ line-no_event : (types : List Count) (full : Bool) (e : Epoch) (older : List Mar
     → is_event_line (epoch_line (marked full e) older) ≡ false
 line-no_event types true e older h = full-no_event types e h.0
 line-no_event types false e [] h = full-no_event types e h.0
-line-no_event types false e (m ∷ older) h =
-    ap (λ b. b && is_event_flag (character_at (epoch_line (marked false e) (m ∷ older)) 32))
-    (line-begins_epoch types false e (m ∷ older) h)
+line-no_event types false e (m ∷ older) h = cc (line-begins_epoch types false e (m ∷ older) h)
 
 -- ---- all lines
 
@@ -147,31 +121,20 @@ pub lines-stand : (types : List Count) (full : Bool) (e : Epoch) (older : List M
     → AreWhole types (since_full (marked full e ∷ older))
     → LinesCanStand (marked full e) older
 lines-stand types full e older h =
-    let ms : List Marked = marked full e ∷ older in
-    let clock : list_all is_code_character
-    (code_text (code_at WRITTEN_ORDER (clock_arc (marked full e ∷ older)))) ≡ true =
-    code-characters (code_at WRITTEN_ORDER (clock_arc (marked full e ∷ older)))
-    (clock-printable types (since_full (marked full e ∷ older)) h) in
-    let others : AllByRecursion (λ (line : List ℕ). begins_epoch line ≡ false) (code_text
-    (code_at WRITTEN_ORDER (clock_arc ms)) ∷ map (λ (r : Row). satellite_line (run_of r.name ms) r) e.rows) = (
-      text-other (code_text (code_at WRITTEN_ORDER (clock_arc ms))) clock,
-      rows-begin types ms e.rows h
-          (typed-rows types e h.0),
-    ) in
+    let ms = marked full e ∷ older in
+    let text = code_text (code_at WRITTEN_ORDER (clock_arc ms)) in
+    let lines = map (λ (r : Row). satellite_line (run_of r.name ms) r) e.rows in
+    let rows = typed-rows types e h.0 in
+    let clock = code-characters (code_at WRITTEN_ORDER (clock_arc ms)) (clock-printable types (since_full ms) h) in
+    let others : AllByRecursion (λ (line : List ℕ). begins_epoch line ≡ false) (text ∷ lines) =
+    (text-other text clock, lines-each (λ line. begins_epoch line ≡ false) types ms (row-begins types) h e.rows rows) in
+    let first = difference-printable (if full then [] else newest_text older) (epoch_text e) (text-kept types e h.0) in
+    let printable = lines-each (λ line. list_all is_printable line ≡ true) types ms (row-printable types) h e.rows rows in
+    let no_event = all-from (λ (line : List ℕ). is_event_line line ≡ false)
+    (λ line begins. ap (λ b. b && is_event_flag (character_at line 32)) begins) (text ∷ lines) others in
     record {
-      printable = (
-        difference-printable (if full then [] else newest_text older) (epoch_text e) (text-kept types e h.0),
-        (
-          code-printable (code_text (code_at WRITTEN_ORDER (clock_arc ms))) clock,
-          rows-printable types ms e.rows h
-              (typed-rows types e h.0),
-        ),
-      );
-      no_event = (
-        line-no_event types full e older h,
-        no-event (code_text (code_at WRITTEN_ORDER (clock_arc ms))
-            ∷ map (λ (r : Row). satellite_line (run_of r.name ms) r) e.rows) others,
-      );
+      printable = (first, (code-printable text clock, printable));
+      no_event = (line-no_event types full e older h, no_event);
       first = line-begins_epoch types full e older h;
       others = others;
     }

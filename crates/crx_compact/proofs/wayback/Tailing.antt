@@ -1,28 +1,26 @@
 -- The tail of the epochs decides the next epoch's lines and the next tail.
-use Rattle.std.specs.Prelude.{◌≡◌, refl, ℕ, ℤ, Bool, true, false, List, [], ◌∷◌, ◌++◌, map, flat_map, length, Option}
+use Rattle.std.specs.Prelude.{◌≡◌, refl, ℕ, ℤ, Bool, true, false, List, [], ◌∷◌, map, length, Option}
 use Rattle.std.specs.Prelude.{Some, None, if◌then◌else◌}
-use Rattle.std.specs.List.{AllByRecursion}
 use Rattle.std.specs.Option.{option_map}
 use Rattle.std.proofs.Common.{sym, ◌∙◌, ap}
 use Rattle.std.proofs.lemmas.List.{get_or_past}
 use Rattle.crx_columns.specs.meaning.Columns.{without_end_blanks}
 use Rattle.crx_columns.specs.meaning.Texts.{text_difference}
-use Rattle.crx_text.specs.meaning.Codes.{code_text}
 use Rattle.crx_rinex.specs.meaning.Observations.{Row, Epoch}
 use Rattle.crx_lines.specs.declared.limits.TheConstants.{WRITTEN_ORDER}
-use Rattle.crx_rinex.specs.meaning.EachPlace.{each_place}
 use Rattle.crx_arcs.specs.meaning.Sequences.{back_to, stretch}
 use Rattle.crx_arcs.specs.meaning.Differences.{code_at}
-use Rattle.crx_history.specs.meaning.Compaction.{Marked, epoch_text, row_named, run_of, arc_of, clock_arc, newest_text}
-use Rattle.crx_history.specs.meaning.Compaction.{indicators_before, codes_of, satellite_line}
-use Rattle.crx_arcs.specs.meaning.Cells.{value_in, cell_text}
-use Rattle.crx_history.specs.Tails.{RowTail, Tail, row_tail, row_tails, tail_of}
+use Rattle.crx_history.specs.meaning.Compaction.{Marked, epoch_text, row_named, run_of, arc_of, newest_text}
+use Rattle.crx_history.specs.meaning.Compaction.{indicators_before, satellite_line}
+use Rattle.crx_arcs.specs.meaning.Cells.{value_in}
+use Rattle.crx_history.specs.Tails.{RowTail, Tail, row_tail, tail_of}
 use Rattle.crx_arcs.specs.ArcTails.{arc_tail}
 use Rattle.crx_history.specs.Steps.{no_tail, tail_named, cell_of_tail, flags_of_tail, row_line_in, row_tail_in}
 use Rattle.crx_arcs.specs.ArcSteps.{code_of_value, arc_of_value}
 use Rattle.crx_compact.specs.Laws.{EpochByTail}
 use Rattle.crx_rinex.proofs.EachPlace.{each_place-same, index-each_place}
 use Rattle.crx_rinex.specs.meaning.Epochs.{are_different}
+use Rattle.crx_compact.proofs.wayback.Lists.{mapped-same}
 use Rattle.crx_compact.proofs.wayback.Runs.{marked, named-made, rows_before}
 use Rattle.crx_compact.proofs.wayback.Facts.{difference-trimmed}
 use Rattle.crx_history.proofs.Identifiers.{each-own}
@@ -87,58 +85,27 @@ record RowByTail (full : Bool) (ms older : List Marked) (r : Row) : Type 0 where
 row-by_tail : (full : Bool) (e : Epoch) (older : List Marked) (r : Row)
     → row_named r.name e.rows ≡ Some r → RowByTail full (marked full e ∷ older) older r
 row-by_tail full e older r own =
-    let rs : List Row = rows_before full r.name older in
-    let run : run_of r.name (marked full e ∷ older) ≡ r ∷ rows_before full r.name older =
-    ap (λ (o : Option Row). stretch (o ∷ map (λ (q : Epoch). row_named r.name q.rows)
+    let rs = rows_before full r.name older in
+    let run = ap (λ (o : Option Row). stretch
+    (o ∷ map (λ (q : Epoch). row_named r.name q.rows)
     (map (λ (m : Marked). m.epoch) (if full then [] else back_to (λ (m : Marked). m.in_full) older)))) own in
-    let found : Option RowTail = tail_named r.name (start full older) in
-    let codes : codes_of (length r.values) (r ∷ rs)
-    ≡ each_place (length r.values) (λ j. code_of_value (value_in j r) (cell_of_tail j found)) =
-    each_place-same (length r.values) (λ j. code_at WRITTEN_ORDER (arc_of j (r ∷ rs)))
-    (λ j. code_of_value (value_in j r) (cell_of_tail j found)) (λ j.
-    code-next (value_in j r) (map (value_in j) rs)
+    let found = tail_named r.name (start full older) in
+    let codes = each_place-same (length r.values) (λ j. code_at WRITTEN_ORDER (arc_of j (r ∷ rs)))
+    (λ j. code_of_value (value_in j r) (cell_of_tail j found))
+    (λ j. code-next (value_in j r) (map (value_in j) rs)
     ∙ ap (code_of_value (value_in j r)) (sym (cell-left full r.name older j))) in
-    let cells : each_place (length r.values) (λ j. arc_tail WRITTEN_ORDER (arc_of j (r ∷ rs)))
-    ≡ each_place (length r.values) (λ j. arc_of_value (value_in j r) (cell_of_tail j found)) =
-    each_place-same (length r.values) (λ j. arc_tail WRITTEN_ORDER (arc_of j (r ∷ rs)))
-    (λ j. arc_of_value (value_in j r) (cell_of_tail j found)) (λ j.
-    arc-next (value_in j r) (map (value_in j) rs)
+    let cells = each_place-same (length r.values) (λ j. arc_tail WRITTEN_ORDER (arc_of j (r ∷ rs)))
+    (λ j. arc_of_value (value_in j r) (cell_of_tail j found))
+    (λ j. arc-next (value_in j r) (map (value_in j) rs)
     ∙ ap (arc_of_value (value_in j r)) (sym (cell-left full r.name older j))) in
-    let flags : text_difference (indicators_before (r ∷ rs)) r.flags ≡ text_difference (flags_of_tail found) r.flags =
+    let flags =
     before-flags r rs ∙ ap (λ t. text_difference t r.flags) (sym (flags-left full r.name older)) in
     record {
-      line =
-          ap (λ q. satellite_line q r) run
-          ∙ ap (λ cs. without_end_blanks
-          (flat_map cell_text cs ++ text_difference (indicators_before (r ∷ rs)) r.flags)) codes
-          ∙ ap (λ t. without_end_blanks (flat_map cell_text
-          (each_place (length r.values) (λ j. code_of_value (value_in j r) (cell_of_tail j found))) ++ t)) flags;
-      tail =
-          ap (λ q. row_tail q r) run
-          ∙ ap {B = RowTail} (λ cs. record { name = r.name; flags = without_end_blanks r.flags; cells = cs }) cells;
+      line = ap (λ q. satellite_line q r) run ∙ rw (codes, flags);
+      tail = ap (λ q. row_tail q r) run ∙ rw cells;
     }
 
 -- ---- one epoch more
-
-lines-rows : (full : Bool) (e : Epoch) (older : List Marked) (rows : List Row)
-    → AllByRecursion (λ (r : Row). row_named r.name e.rows ≡ Some r) rows
-    → map (λ (r : Row). satellite_line (run_of r.name (marked full e ∷ older)) r) rows
-    ≡ map (row_line_in (start full older).rows) rows
-lines-rows full e older [] own = refl
-lines-rows full e older (r ∷ rs) own =
-    ap (λ l. l ∷ map (λ (q : Row). satellite_line (run_of q.name (marked full e ∷ older)) q) rs)
-    (row-by_tail full e older r own.0).line
-    ∙ ap (λ ls. row_line_in (start full older).rows r ∷ ls) (lines-rows full e older rs own.1)
-
-tails-rows : (full : Bool) (e : Epoch) (older : List Marked) (rows : List Row)
-    → AllByRecursion (λ (r : Row). row_named r.name e.rows ≡ Some r) rows
-    → map (λ (r : Row). row_tail (run_of r.name (marked full e ∷ older)) r) rows
-    ≡ map (row_tail_in (start full older).rows) rows
-tails-rows full e older [] own = refl
-tails-rows full e older (r ∷ rs) own =
-    ap (λ t. t ∷ map (λ (q : Row). row_tail (run_of q.name (marked full e ∷ older)) q) rs)
-    (row-by_tail full e older r own.0).tail
-    ∙ ap (λ ts. row_tail_in (start full older).rows r ∷ ts) (tails-rows full e older rs own.1)
 
 abbrev clocks_before : Bool → List Marked → List (Option ℤ)
 clocks_before full older = map (λ (q : Epoch). q.clock)
@@ -157,31 +124,18 @@ text-left false older new = sym (difference-trimmed (newest_text older) new)
 epoch-by : (full : Bool) (e : Epoch) (older : List Marked)
     → are_different e.rows ≡ true → EpochByTail (marked full e) older
 epoch-by full e older h =
-    let own : AllByRecursion (λ (r : Row). row_named r.name e.rows ≡ Some r) e.rows =
-    each-own (λ (r : Row). r.name) e.rows h in
     let ms : List Marked = marked full e ∷ older in
-    let code : code_at WRITTEN_ORDER (clock_arc (marked full e ∷ older))
-    ≡ code_of_value e.clock (start full older).clock =
-    code-next e.clock (clocks_before full older) ∙ ap (code_of_value e.clock) (clock-left full older) in
-    let arc : arc_tail WRITTEN_ORDER (clock_arc (marked full e ∷ older))
-    ≡ arc_of_value e.clock (start full older).clock =
-    arc-next e.clock (clocks_before full older) ∙ ap (arc_of_value e.clock) (clock-left full older) in
-    record {
-      lines =
-          ap (λ t. t ∷ code_text (code_at WRITTEN_ORDER (clock_arc ms))
-          ∷ map (λ (r : Row). satellite_line (run_of r.name ms) r) e.rows) (text-left full older (epoch_text e))
-          ∙ ap (λ c. text_difference (start full older).text (epoch_text e)
-          ∷ code_text c ∷ map (λ (r : Row). satellite_line (run_of r.name ms) r) e.rows) code
-          ∙ ap (λ ls. text_difference (start full older).text (epoch_text e)
-          ∷ code_text (code_of_value e.clock (start full older).clock) ∷ ls) (lines-rows full e older e.rows own);
-      tail =
-          ap {B = Tail} (λ c. record { text = without_end_blanks (epoch_text e); clock = c; rows = row_tails ms }) arc
-          ∙ ap {B = Tail} (λ rs. record {
-            text = without_end_blanks (epoch_text e);
-            clock = arc_of_value e.clock (start full older).clock;
-            rows = rs;
-          }) (tails-rows full e older e.rows own);
-    }
+    let rows = (start full older).rows in
+    let own = each-own (λ (r : Row). r.name) e.rows h in
+    let code = code-next e.clock (clocks_before full older) in
+    let arc = arc-next e.clock (clocks_before full older) in
+    let lines = mapped-same (λ (r : Row). satellite_line (run_of r.name ms) r) (row_line_in rows)
+    (λ r here. (row-by_tail full e older r here).line) e.rows own in
+    let tails = mapped-same (λ (r : Row). row_tail (run_of r.name ms) r) (row_tail_in rows)
+    (λ r here. (row-by_tail full e older r here).tail) e.rows own in
+    let clock = clock-left full older in
+    let text = text-left full older (epoch_text e) in
+    record { lines = cc; tail = cc }
 
 pub epoch-by_tail : (m : Marked) (older : List Marked) → are_different m.epoch.rows ≡ true → EpochByTail m older
 epoch-by_tail m older h = epoch-by m.in_full m.epoch older h

@@ -21,7 +21,8 @@ use Rattle.crx_engine.specs.CheckingLaws.{IsCheckedOn}
 use Rattle.crx_rinex.specs.meaning.EpochPlaces.{OpenEpoch}
 use Rattle.crx_engine.proofs.following.Following.{fed-once}
 use Rattle.crx_engine.proofs.reading.StaysEnded.{rinex-stays}
-use Rattle.crx_engine.proofs.following.Check.{check-followed}
+use Rattle.crx_engine.proofs.following.Check.{check-carried_out}
+use Rattle.crx_engine.proofs.following.MoreLines.{more-line}
 use Rattle.crx_engine.proofs.standard.CheckLines.{phase-reached, line-grows, never-again}
 
 -- ---- what is seen of the lines
@@ -61,7 +62,9 @@ one-on lines line =
     let s : Seen OpenEpoch Totals = reading_seen lines in
     let step : Step OpenEpoch Totals = seen_next checking s line in
     let once : fed checking s line ≡ fed_once step = fed-once checking s line (once-again lines line) in
-    let h = check-followed lines line in
+    let h = more-line check-carried_out 1 (length lines) (length (lines ++ line ∷ [])) lines
+    (lines ++ line ∷ []) line
+    (omega arith) (length-append lines (line ∷ [])) refl in
     let before : Reading Epoch = rinex_reading false lines in
     let after : Reading Epoch = rinex_reading false (lines ++ line ∷ []) in
     let next : reading_seen (lines ++ line ∷ []) ≡ step.next = h.next

@@ -1,9 +1,7 @@
 -- Compaction line by line reads, keeps and writes as the compaction of all lines does.
-use Rattle.std.proofs.Common.{ℕ, ◌≡◌, ◌⊎◌, inl, inr, ◌+◌, Bool, true, false, List, [], ◌∷◌, Some, None, refl, ap, sym}
+use Rattle.std.proofs.Common.{◌≡◌, ◌+◌, Bool, true, false, List, [], ◌∷◌, Some, None, refl, ap, sym}
 use Rattle.std.proofs.Common.{◌∙◌}
-use Rattle.crx_lines.specs.meaning.Seen.{ReadLine}
 use Rattle.crx_rinex.specs.meaning.Observations.{Epoch}
-use Rattle.crx_rinex.specs.meaning.Places.{Here}
 use Rattle.crx_rinex.specs.meaning.Units.{HeaderLine, EventLine, EventRecord, Observation}
 use Rattle.crx_rinex.specs.meaning.EpochPlaces.{epoch_place}
 use Rattle.crx_rinex.proofs.SoundEpochs.{sound-epoch_place}
@@ -18,8 +16,8 @@ use Rattle.crx_reading.specs.meaning.Compacted.{epochs_accepted, is_at_every, is
 use Rattle.crx_reading.specs.CompactionByLine.{Written, compaction, written_of, rinex_open}
 use Rattle.crx_engine.proofs.reading.Forward.{rinex-forward}
 use Rattle.crx_engine.proofs.reading.Types.{counts-in_force}
-use Rattle.crx_engine.proofs.following.Following.{seen_in, IsSameEpoch, IsCarriedOut}
-use Rattle.crx_engine.proofs.following.Rinex.{agree-begins, agree-continues, no-lines}
+use Rattle.crx_engine.proofs.following.Following.{seen_in, IsCarriedOut}
+use Rattle.crx_engine.proofs.following.Rinex.{AreSame, either-same, agree-begins, agree-continues, no-lines}
 
 -- ---- an epoch that is read
 
@@ -45,28 +43,25 @@ same-tail choices (Accepted (EventRecord line) ∷ before) epoch =
 same-tail choices (Accepted (Observation last) ∷ before) epoch = refl
 same-tail choices (Warned at ∷ before) epoch = nothing-left (is_at_every choices.every (epochs_accepted before))
 
--- the two ways to say what is kept are one
-kept-either : (a b : Written) → (a ≡ b) ⊎ (a ≡ b) → a ≡ b
-kept-either a b (inl e) = e
-kept-either a b (inr e) = e
-
-same-epoch : (choices : Choices) (items : List (Item Epoch)) (lines : List ReadLine) (epoch : Epoch) (count : ℕ)
-    → epoch_place (types_in_force items) lines ≡ Here (Observation epoch) count
-    → IsSameEpoch compaction (written_of choices.every) (compact_unit choices) choices items epoch epoch
-same-epoch choices items lines epoch count here =
-    let whole = sound-epoch_place (types_in_force items) lines epoch count (counts-in_force items) here in
-    let by_tail = epoch-by_tail (marked choices items epoch) (marked_epochs choices.every items) whole.0.sound.apart in
-    record {
-      kept = λ number phase types kept either.
-          ap (λ (k : Written). compaction.kept_after (seen_in choices number phase types k) (Observation epoch))
-          (kept-either kept (written_of choices.every items) either)
-          ∙ ap (λ (t : Tail). record { index = epochs_accepted items + 1; tail = Some t })
-          (ap (λ t. tail_after t epoch) (sym (same-tail choices items epoch)) ∙ sym by_tail.tail);
-      lines = λ number phase types kept either.
-          ap (λ (k : Written). compaction.written (seen_in choices number phase types k) (Observation epoch))
-          (kept-either kept (written_of choices.every items) either)
-          ∙ ap (λ t. lines_after_tail t epoch) (sym (same-tail choices items epoch)) ∙ sym by_tail.lines;
-    }
+same-epochs : (choices : Choices)
+    → AreSame compaction (written_of choices.every) (compact_unit choices) choices
+same-epochs choices = record {
+  same = λ items lines epoch count here.
+      let whole = sound-epoch_place (types_in_force items) lines epoch count (counts-in_force items) here in
+      let by_tail = epoch-by_tail (marked choices items epoch) (marked_epochs choices.every items)
+      whole.0.sound.apart in
+      record {
+        kept = λ number phase types kept either.
+            ap (λ (k : Written). compaction.kept_after (seen_in choices number phase types k) (Observation epoch))
+            (either-same either)
+            ∙ ap (λ (t : Tail). record { index = epochs_accepted items + 1; tail = Some t })
+            (ap (λ t. tail_after t epoch) (sym (same-tail choices items epoch)) ∙ sym by_tail.tail);
+        lines = λ number phase types kept either.
+            ap (λ (k : Written). compaction.written (seen_in choices number phase types k) (Observation epoch))
+            (either-same either)
+            ∙ ap (λ t. lines_after_tail t epoch) (sym (same-tail choices items epoch)) ∙ sym by_tail.lines;
+      };
+}
 
 pub compaction-carried_out : (choices : Choices)
     → IsCarriedOut (λ (before : List (Item Epoch)). epoch_place (types_in_force before)) compaction rinex_open
@@ -75,11 +70,9 @@ compaction-carried_out choices = record {
   forward = rinex-forward;
   wants = λ items. refl;
   none_open = λ items. refl;
-  wanted_open = λ items lines wanted none. no-lines (types_in_force items) lines wanted none;
-  begins = λ items line. agree-begins compaction
-      (written_of choices.every) (compact_unit choices) choices (same-epoch choices) items line;
-  continues = λ items lines line so_far e. agree-continues compaction
-      (written_of choices.every) (compact_unit choices) choices (same-epoch choices) items lines line so_far e;
+  wanted_open = λ items. no-lines (types_in_force items);
+  begins = agree-begins (same-epochs choices);
+  continues = agree-continues (same-epochs choices);
   header_kept = λ items number types line. refl;
   header_lines = λ items number types line. refl;
   event_kept = λ items number phase types line. refl;

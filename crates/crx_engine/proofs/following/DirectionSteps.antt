@@ -8,10 +8,8 @@ use Rattle.crx_lines.specs.meaning.Seen.{ReadLine, seen}
 use Rattle.crx_lines.specs.declared.fault.At.{At}
 use Rattle.crx_reading.specs.meaning.Choices.{Choices}
 use Rattle.crx_reading.specs.CompactionByLine.{compaction, compaction_seen}
-use Rattle.crx_engine.specs.Compacted.{compaction_so_far}
 use Rattle.crx_reading.specs.meaning.Directions.{rinex_reading}
 use Rattle.crx_reading.specs.ExpansionByLine.{expansion, expansion_seen}
-use Rattle.crx_engine.specs.Expanded.{expansion_so_far}
 use Rattle.crx_reading.specs.meaning.Directions.{compact_reading}
 use Rattle.crx_reading.specs.meaning.Directions.{compaction_filter, expansion_filter}
 use Rattle.crx_rinex.specs.meaning.Printing.{lines_text}
@@ -26,10 +24,18 @@ use Rattle.crx_engine.proofs.following.MemoryOfRinex.{compaction-allowed, compac
 use Rattle.crx_engine.proofs.reading.Ended.{compaction-ended, expansion-ended}
 use Rattle.crx_engine.proofs.output.Readiness.{compaction-ready, expansion-ready}
 use Rattle.crx_engine.proofs.steps.EngineAnswers.{GoesLineByLine}
-
-one-more : (lines : List InputLine) (line : InputLine)
-    → map seen (lines ++ line ∷ []) ≡ map seen lines ++ seen line ∷ []
-one-more lines line = map-append seen lines (line ∷ [])
+use Rattle.std.proofs.Common.{true, length, Option, Some, refl}
+use Rattle.crx_rinex.specs.meaning.Units.{Unit as FileUnit}
+use Rattle.crx_reading.specs.meaning.Items.{Item}
+use Rattle.crx_reading.specs.meaning.Reading.{Reading, WholeReading}
+use Rattle.crx_reading.specs.meaning.Results.{written_lines, whole_course}
+use Rattle.crx_reading.specs.meaning.Memory.{memory_allowed, compaction_takes}
+use Rattle.crx_reading.specs.meaning.Compacted.{compact_unit, rinex_place, whole_rinex}
+use Rattle.crx_reading.specs.meaning.Expanded.{expanded_unit, whole_compact}
+use Rattle.crx_reading.specs.meaning.Directions.{compact_memory, course_so_far}
+use Rattle.crx_reading.specs.LineByLine.{Direction, Seen, Notice, seen_next}
+use Rattle.crx_reading.specs.Memory.{takes_memory}
+use Rattle.crx_engine.specs.Laws.{IsFollowed, IsEndedBy, IsReadyWhereLent, fed}
 
 text-then : (before after more : List (List ℕ))
     → after ≡ before ++ more → lines_text after ≡ lines_text before ++ lines_text more
@@ -38,66 +44,71 @@ text-then before after more e = ap lines_text e ∙ flat_map-append (λ (line : 
 warned-then : (before after more : List At) → after ≡ more ++ before → reverse after ≡ reverse before ++ reverse more
 warned-then before after more e = ap reverse e ∙ reverse-append more before
 
-pub compaction-goes : (choices : Choices)
-    → GoesLineByLine compaction (compaction_seen choices) (compaction_filter choices)
-compaction-goes choices = record {
+-- a direction whose filter reads its lines and writes its units goes line by line where its reading does
+goes-by : {E U O K : Type 0} (direction : Direction U O K) (seen_after : List ReadLine → Seen O K)
+    (unit_lines : List (Item E) → FileUnit E → List (List ℕ)) (reading : List ReadLine → Reading E)
+    (whole : List ReadLine → WholeReading E) (memory : List ReadLine → ReadLine → Option (List At))
+    → ((lines : List ReadLine) (line : ReadLine) → IsFollowed (seen_after (lines ++ line ∷ []))
+    (written_lines unit_lines (reading lines).items)
+    (written_lines unit_lines (reading (lines ++ line ∷ [])).items)
+    (warnings_in (reading lines).items) (warnings_in (reading (lines ++ line ∷ [])).items)
+    (fault_of_stop (reading (lines ++ line ∷ [])).stop) (fed direction (seen_after lines) line))
+    → ((lines : List ReadLine) → IsEndedBy (written_lines unit_lines (reading lines).items)
+    (written_lines unit_lines (whole lines).items) (warnings_in (reading lines).items)
+    (warnings_in (whole lines).items)
+    (whole lines).fault (seen_end direction (seen_after lines)))
+    → ((lines : List ReadLine) → (seen_after lines).number ≡ length lines)
+    → ((lines : List ReadLine) (line : ReadLine)
+    → takes_memory direction (seen_after lines) line ≡ true → memory lines line ≡ Some [])
+    → ((lines : List ReadLine) (line : ReadLine) (next : Seen O K) (notice : At)
+    → record { answer = Notice notice true; handed_out = []; next = next }
+    ≡ seen_next direction (seen_after lines) line
+    → takes_memory direction next line ≡ true → memory lines line ≡ Some (notice ∷ []))
+    → IsReadyWhereLent direction
+    → GoesLineByLine direction seen_after (record {
+      so_far = λ lines. course_so_far unit_lines (reading (map seen lines));
+      whole = λ lines. whole_course unit_lines (whole (map seen lines));
+      memory_after = λ lines line. memory (map seen lines) (seen line);
+    })
+goes-by direction seen_after unit_lines reading whole memory on ends number first again ready = record {
   follows = λ (lines : List InputLine) (line : InputLine).
-      let h = compacted-on choices (map seen lines) (seen line) in
-      let all = one-more lines line in
+      let h = on (map seen lines) (seen line) in
+      let all = map-append seen lines (line ∷ []) in
       record {
-        next = ap (λ (ls : List ReadLine). compaction_seen choices ls) all ∙ h.next;
-        output = ap (λ (ls : List ReadLine). lines_text (compaction_so_far choices ls)) all
-            ∙ text-then (compaction_so_far choices (map seen lines))
-            (compaction_so_far choices (map seen lines ++ seen line ∷ [])) _ h.handed_out;
-        warnings = ap (λ (ls : List ReadLine). reverse (warnings_in (rinex_reading choices.skip ls).items)) all
-            ∙ warned-then (warnings_in (rinex_reading choices.skip (map seen lines)).items)
-            (warnings_in (rinex_reading choices.skip (map seen lines ++ seen line ∷ [])).items) _ h.warned;
-        fault = ap (λ (ls : List ReadLine). fault_of_stop (rinex_reading choices.skip ls).stop) all ∙ h.failed;
+        next = ap seen_after all ∙ h.next;
+        output = ap (λ (ls : List ReadLine). lines_text (written_lines unit_lines (reading ls).items)) all
+            ∙ text-then _ _ _ h.handed_out;
+        warnings = ap (λ (ls : List ReadLine). reverse (warnings_in (reading ls).items)) all
+            ∙ warned-then (warnings_in (reading (map seen lines)).items) _
+            (fed direction (seen_after (map seen lines)) (seen line)).warned h.warned;
+        fault = ap (λ (ls : List ReadLine). fault_of_stop (reading ls).stop) all ∙ h.failed;
       };
   ends = λ (lines : List InputLine).
-      let h = compaction-ended choices (map seen lines) in
+      let h = ends (map seen lines) in
       record {
         handed_out = h.handed_out;
         output = ap lines_text h.written;
-        warnings = warned-then _ _ (noticed_by
-            (seen_end compaction (compaction_seen choices (map seen lines))).answer) h.warned;
+        warnings = warned-then (warnings_in (reading (map seen lines)).items) _
+            (noticed_by (seen_end direction (seen_after (map seen lines))).answer) h.warned;
         fault = h.failed;
       };
-  number = λ (lines : List InputLine). length-map lines seen;
-  memory_first = λ (lines : List InputLine) (line : InputLine) e.
-      compaction-allowed choices (map seen lines) (seen line) e;
-  memory_again = λ (lines : List InputLine) (line : InputLine) next notice step e.
-      compaction-allowed-again choices (map seen lines) (seen line) next notice step e;
-  ready = compaction-ready;
+  number = λ (lines : List InputLine). number (map seen lines) ∙ length-map lines seen;
+  memory_first = λ (lines : List InputLine) (line : InputLine). first (map seen lines) (seen line);
+  memory_again = λ (lines : List InputLine) (line : InputLine). again (map seen lines) (seen line);
+  ready = ready;
 }
 
+pub compaction-goes : (choices : Choices)
+    → GoesLineByLine compaction (compaction_seen choices) (compaction_filter choices)
+compaction-goes choices = goes-by compaction (compaction_seen choices) (compact_unit choices)
+    (rinex_reading choices.skip) (whole_rinex choices.skip)
+    (λ lines line. memory_allowed rinex_place compaction_takes
+    choices.skip (rinex_reading choices.skip lines) line) (compacted-on choices) (compaction-ended choices)
+    (λ lines. refl) (compaction-allowed choices) (compaction-allowed-again choices) compaction-ready
+
 pub expansion-goes : (choices : Choices) → GoesLineByLine expansion (expansion_seen choices) (expansion_filter choices)
-expansion-goes choices = record {
-  follows = λ (lines : List InputLine) (line : InputLine).
-      let h = expanded-on choices (map seen lines) (seen line) in
-      let all = one-more lines line in
-      record {
-        next = ap (λ (ls : List ReadLine). expansion_seen choices ls) all ∙ h.next;
-        output = ap (λ (ls : List ReadLine). lines_text (expansion_so_far choices ls)) all ∙ text-then (expansion_so_far
-            choices (map seen lines)) (expansion_so_far choices (map seen lines ++ seen line ∷ [])) _ h.handed_out;
-        warnings = ap (λ (ls : List ReadLine). reverse (warnings_in (compact_reading choices.skip ls).items)) all
-            ∙ warned-then (warnings_in (compact_reading choices.skip (map seen lines)).items)
-            (warnings_in (compact_reading choices.skip (map seen lines ++ seen line ∷ [])).items) _ h.warned;
-        fault = ap (λ (ls : List ReadLine). fault_of_stop (compact_reading choices.skip ls).stop) all ∙ h.failed;
-      };
-  ends = λ (lines : List InputLine).
-      let h = expansion-ended choices (map seen lines) in
-      record {
-        handed_out = h.handed_out;
-        output = ap lines_text h.written;
-        warnings = warned-then _ _ (noticed_by
-            (seen_end expansion (expansion_seen choices (map seen lines))).answer) h.warned;
-        fault = h.failed;
-      };
-  number = λ (lines : List InputLine). length-map lines seen;
-  memory_first = λ (lines : List InputLine) (line : InputLine) e.
-      expansion-allowed choices (map seen lines) (seen line) e;
-  memory_again = λ (lines : List InputLine) (line : InputLine) next notice step e.
-      expansion-allowed-again choices (map seen lines) (seen line) next notice step e;
-  ready = expansion-ready;
-}
+expansion-goes choices = goes-by expansion (expansion_seen choices) expanded_unit
+    (compact_reading choices.skip) (whole_compact choices.skip) (compact_memory choices.skip)
+    (expanded-on choices)
+    (expansion-ended choices) (λ lines. refl) (expansion-allowed choices) (expansion-allowed-again choices)
+    expansion-ready

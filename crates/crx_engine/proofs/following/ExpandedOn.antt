@@ -1,6 +1,6 @@
 -- An expansion is given one line more.
-use Rattle.std.proofs.Common.{ℕ, ◌≡◌, ◌+◌, ◌-◌, ◌≤◌, Bool, true, List, [], ◌∷◌, ◌++◌, length, drop, Option, Some, None}
-use Rattle.std.proofs.Common.{Result, Ok, Err, refl, ap, sym, subst, ◌∙◌, arith, length-append}
+use Rattle.std.proofs.Common.{ℕ, ◌≡◌, ◌+◌, ◌≤◌, Bool, List, [], ◌∷◌, ◌++◌, length, drop, Option, Some, None}
+use Rattle.std.proofs.Common.{Result, Ok, Err, refl, ap, sym, subst, arith, length-append}
 use Rattle.std.proofs.lemmas.List.{drop-append-le, length-drop}
 use Rattle.crx_lines.specs.meaning.Seen.{ReadLine, Content, Overlong}
 use Rattle.crx_lines.specs.declared.fault.Fault.{Fault}
@@ -12,22 +12,20 @@ use Rattle.crx_compact.specs.OpenEpochs.{OpenRawEpoch}
 use Rattle.crx_history.specs.Tails.{Tail}
 use Rattle.crx_reading.specs.meaning.Choices.{Choices}
 use Rattle.crx_reading.specs.meaning.Reading.{Reading, AtFault, AtLines, reading_from}
-use Rattle.crx_engine.specs.Laws.{continued_reading, IsFollowed, IsExpandedOn, fed, fed_once}
+use Rattle.crx_engine.specs.Laws.{IsFollowed, IsExpandedOn, Fed, fed, fed_once}
 use Rattle.crx_reading.specs.meaning.Reading.{fault_of_stop}
 use Rattle.crx_lines.specs.meaning.Faults.{is_skippable}
 use Rattle.crx_reading.specs.meaning.Messages.{warnings_in}
-use Rattle.crx_reading.specs.LineByLine.{Phase, InFirstLines, InHeader, Ended, Seen, Fails, moved_to, step_of_made}
+use Rattle.crx_reading.specs.LineByLine.{Phase, InFirstLines, Ended, Seen, Fails, made_in, step_of_made}
 use Rattle.crx_reading.specs.LineByLine.{seen_next, seen_of}
 use Rattle.crx_reading.specs.meaning.Expanded.{compact_place, crinex_version, crinex_program, first_lines}
-use Rattle.crx_reading.specs.meaning.Expanded.{expanded_unit}
 use Rattle.crx_engine.specs.Expanded.{expanded_lines}
 use Rattle.crx_reading.specs.ExpansionByLine.{expansion, compact_open, tail_of_items}
-use Rattle.crx_engine.proofs.reading.Resuming.{resumed}
-use Rattle.crx_engine.proofs.reading.ForwardCompact.{compact-forward, steady-first_lines}
-use Rattle.crx_engine.proofs.following.Following.{seen_in, Follows, fed-once, failed-ends}
-use Rattle.crx_engine.proofs.following.Lines.{next-line, quiet-elsewhere, never-before}
-use Rattle.crx_engine.proofs.reading.Stopping.{reading-stopped}
-use Rattle.crx_engine.proofs.following.Expansion.{compact_beginning, expansion-carried_out}
+use Rattle.crx_engine.proofs.reading.ForwardCompact.{steady-first_lines}
+use Rattle.crx_engine.proofs.following.Following.{seen_in, fed-once, failed-ends}
+use Rattle.crx_engine.proofs.following.MoreLines.{more-line}
+use Rattle.crx_engine.proofs.following.Lines.{quiet-elsewhere, never-before}
+use Rattle.crx_engine.proofs.following.Expansion.{expansion-carried_out}
 
 -- ---- the reading by where the first two lines are
 
@@ -54,44 +52,41 @@ seen_by choices lines p =
     seen_of expansion compact_open tail_of_items choices (length lines) (reading_by choices.skip lines p) in
     record seen { phase = phase_by lines p seen.phase }
 
--- one line more, by what stands at the first two lines before and then
+-- one line more, by what stands at the first two lines before and then, and by what it is fed as
+abbrev FollowsAs : Choices → List ReadLine → ReadLine → Place (List (List ℕ)) → Place (List (List ℕ))
+    → Fed OpenRawEpoch (Option Tail) → Type 0
+FollowsAs choices lines line before after line_fed =
+    let then : Reading ReadEpoch = reading_by choices.skip (lines ++ line ∷ []) after in
+    IsFollowed (seen_by choices (lines ++ line ∷ []) after)
+    (expanded_lines (reading_by choices.skip lines before).items) (expanded_lines then.items)
+    (warnings_in (reading_by choices.skip lines before).items) (warnings_in then.items)
+    (fault_of_stop then.stop) line_fed
+
 abbrev FollowsBy : Choices → List ReadLine → ReadLine → Place (List (List ℕ)) → Place (List (List ℕ)) → Type 0
 FollowsBy choices lines line before after =
-    IsFollowed (seen_by choices (lines ++ line ∷ []) after)
-    (expanded_lines (reading_by choices.skip lines before).items)
-    (expanded_lines (reading_by choices.skip (lines ++ line ∷ []) after).items)
-    (warnings_in (reading_by choices.skip lines before).items) (warnings_in (reading_by choices.skip
-    (lines ++ line ∷ []) after).items) (fault_of_stop (reading_by choices.skip (lines ++ line ∷ []) after).stop)
-    (fed expansion (seen_by choices lines before) line)
+    FollowsAs choices lines line before after (fed expansion (seen_by choices lines before) line)
+
+-- in the first two lines no line comes again
+abbrev FollowsOnce : Choices → List ReadLine → ReadLine → Type 0
+FollowsOnce choices lines line = FollowsAs choices lines line Wanted (first_lines (lines ++ line ∷ []))
+    (fed_once (seen_next expansion (seen_by choices lines Wanted) line))
+
+by-once : (choices : Choices) (lines : List ReadLine) (line : ReadLine) → FollowsOnce choices lines line
+    → FollowsBy choices lines line Wanted (first_lines (lines ++ line ∷ []))
+by-once choices lines line once =
+    let seen : Seen OpenRawEpoch (Option Tail) = seen_by choices lines Wanted in
+    subst (λ f. FollowsAs choices lines line Wanted (first_lines (lines ++ line ∷ [])) f)
+    (sym (fed-once expansion seen line (quiet-elsewhere expansion seen line
+    (made_in expansion seen.phase seen.types seen.kept line) refl))) once
 
 -- both lines are there: the reading goes on from the third
 after-both : (choices : Choices) (lines : List ReadLine) (line : ReadLine) (two : List (List ℕ)) (count : ℕ)
     → count ≤ length lines → FollowsBy choices lines line (Here two count) (Here two count)
 after-both choices lines line two count within =
-    let rest : List ReadLine = drop count lines in
-    let before : Reading ReadEpoch = reading_from compact_place choices.skip [] (count + 1) rest in
-    let left : length (drop count lines) ≡ length lines - count = length-drop count lines in
-    let same : drop count (lines ++ line ∷ []) ≡ rest ++ line ∷ [] = drop-append-le count lines (line ∷ []) within in
-    let more : reading_from compact_place choices.skip [] (count + 1) (rest ++ line ∷ [])
-    ≡ continued_reading compact_place choices.skip before (line ∷ []) =
-    resumed compact_place compact-forward choices.skip [] (count + 1) rest (line ∷ []) in
-    let all : length (lines ++ line ∷ []) ≡ length lines + 1 = length-append lines (line ∷ []) in
-    let stopped = reading-stopped compact_place compact-forward choices.skip
-    [] (count + 1) (length lines + 1) rest (omega (arith, left, within)) in
-    let step = next-line compact_beginning expansion compact_open tail_of_items expanded_unit choices
-    (expansion-carried_out choices) before.items before.stop (length lines) line stopped in
-    subst (λ n. IsFollowed (seen_of expansion compact_open tail_of_items choices n
-    (reading_from compact_place choices.skip [] (count + 1) (drop count (lines ++ line ∷ []))))
-    (expanded_lines before.items) (expanded_lines
-    (reading_from compact_place choices.skip [] (count + 1) (drop count (lines ++ line ∷ []))).items)
-    (warnings_in before.items) (warnings_in
-    (reading_from compact_place choices.skip [] (count + 1) (drop count (lines ++ line ∷ []))).items)
-    (fault_of_stop (reading_from compact_place choices.skip [] (count + 1) (drop count (lines ++ line ∷ []))).stop)
-    (fed expansion (seen_of expansion compact_open tail_of_items choices (length lines) before) line)) (sym all)
-    (subst (λ (r : Reading ReadEpoch).
-    Follows expansion compact_open tail_of_items expanded_unit choices (length lines + 1) before.items r
-    (fed expansion (seen_of expansion compact_open tail_of_items choices (length lines) before) line))
-    (sym (ap (λ ls. reading_from compact_place choices.skip [] (count + 1) ls) same ∙ more)) step)
+    more-line (expansion-carried_out choices) (count + 1) (length lines) (length (lines ++ line ∷ []))
+    (drop count lines)
+    (drop count (lines ++ line ∷ [])) line (omega (arith, length-drop count lines, within))
+    (length-append lines (line ∷ [])) (drop-append-le count lines (line ∷ []) within)
 
 -- one of them has a fault: it is answered again
 after-fault : (choices : Choices) (lines : List ReadLine) (line : ReadLine) (offset : ℕ) (fault : Fault)
@@ -120,32 +115,15 @@ ends choices count line fault = ap fed_once (failed-ends expansion
 -- the first line
 first-line : (choices : Choices) (line : ReadLine)
     → FollowsBy choices [] line (first_lines []) (first_lines (line ∷ []))
-first-line choices line =
-    subst (λ f. IsFollowed (seen_by choices (line ∷ []) (first_lines (line ∷ [])))
-    [] (expanded_lines (reading_by choices.skip (line ∷ []) (first_lines (line ∷ []))).items)
-    [] (warnings_in (reading_by choices.skip (line ∷ []) (first_lines (line ∷ []))).items)
-    (fault_of_stop (reading_by choices.skip (line ∷ []) (first_lines (line ∷ []))).stop) f)
-    (sym (fed-once expansion (seen_in choices 0 (InFirstLines 0) [] None) line
-    (quiet-elsewhere expansion (seen_in choices 0 (InFirstLines 0) [] None) line _ refl)))
-    (by_line line)
+first-line choices line = by-once choices [] line (by_line line)
   where
-    by_result : (content : List ℕ) (r : Result (List ℕ) Fault) → crinex_version content ≡ r
-        → IsFollowed (seen_by choices (Content content ∷ []) (first_lines (Content content ∷ []))) []
-        (expanded_lines (reading_by choices.skip (Content content ∷ []) (first_lines (Content content ∷ []))).items)
-        [] (warnings_in (reading_by choices.skip (Content content ∷ []) (first_lines (Content content ∷ []))).items)
-        (fault_of_stop (reading_by choices.skip (Content content ∷ []) (first_lines (Content content ∷ []))).stop)
-        (fed_once (step_of_made expansion
-        (seen_in choices 0 (InFirstLines 0) [] None) (Content content) (moved_to (InFirstLines 1) r)))
+    by_result : (content : List ℕ) (r : Result (List ℕ) Fault)
+        → crinex_version content ≡ r → FollowsOnce choices [] (Content content)
     by_result content (Ok version) e = rw e (record { next = refl; handed_out = refl; warned = refl; failed = refl })
     by_result content (Err fault) e = rw (e, ends choices 0 (Content content) fault)
         (record { next = refl; handed_out = refl; warned = refl; failed = refl })
 
-    by_line : (l : ReadLine)
-        → IsFollowed (seen_by choices (l ∷ []) (first_lines (l ∷ [])))
-        [] (expanded_lines (reading_by choices.skip (l ∷ []) (first_lines (l ∷ []))).items)
-        [] (warnings_in (reading_by choices.skip (l ∷ []) (first_lines (l ∷ []))).items)
-        (fault_of_stop (reading_by choices.skip (l ∷ []) (first_lines (l ∷ []))).stop)
-        (fed_once (seen_next expansion (seen_in choices 0 (InFirstLines 0) [] None) l))
+    by_line : (l : ReadLine) → FollowsOnce choices [] l
     by_line Overlong = rw (ends choices 0 Overlong LineTooLong)
         (record { next = refl; handed_out = refl; warned = refl; failed = refl })
     by_line (Content content) = by_result content (crinex_version content) refl
@@ -154,37 +132,16 @@ first-line choices line =
 second-line : (choices : Choices) (first : List ℕ) (line : ReadLine) (version : List ℕ)
     → crinex_version first ≡ Ok version
     → FollowsBy choices (Content first ∷ []) line Wanted (first_lines (Content first ∷ line ∷ []))
-second-line choices first line version good =
-    subst (λ f. IsFollowed (seen_by choices (Content first ∷ line ∷ []) (first_lines (Content first ∷ line ∷ [])))
-    [] (expanded_lines (reading_by choices.skip (Content first ∷ line ∷ [])
-    (first_lines (Content first ∷ line ∷ []))).items) [] (warnings_in (reading_by choices.skip
-    (Content first ∷ line ∷ []) (first_lines (Content first ∷ line ∷ []))).items) (fault_of_stop
-    (reading_by choices.skip (Content first ∷ line ∷ []) (first_lines (Content first ∷ line ∷ []))).stop) f)
-    (sym (fed-once expansion (seen_in choices 1 (InFirstLines 1) [] None) line
-    (quiet-elsewhere expansion (seen_in choices 1 (InFirstLines 1) [] None) line _ refl)))
-    (by_line line)
+second-line choices first line version good = by-once choices (Content first ∷ []) line (by_line line)
   where
-    by_result : (content : List ℕ) (r : Result (List ℕ) Fault) → crinex_program content ≡ r
-        → IsFollowed (seen_by choices (Content first ∷ Content content ∷ [])
-        (first_lines (Content first ∷ Content content ∷ []))) [] (expanded_lines (reading_by choices.skip
-        (Content first ∷ Content content ∷ []) (first_lines (Content first ∷ Content content ∷ []))).items)
-        [] (warnings_in (reading_by choices.skip (Content first ∷ Content content ∷ [])
-        (first_lines (Content first ∷ Content content ∷ []))).items) (fault_of_stop (reading_by choices.skip
-        (Content first ∷ Content content ∷ []) (first_lines (Content first ∷ Content content ∷ []))).stop)
-        (fed_once (step_of_made expansion
-        (seen_in choices 1 (InFirstLines 1) [] None) (Content content) (moved_to (InHeader true) r)))
+    by_result : (content : List ℕ) (r : Result (List ℕ) Fault)
+        → crinex_program content ≡ r → FollowsOnce choices (Content first ∷ []) (Content content)
     by_result content (Ok program) e =
         rw good (rw e (record { next = refl; handed_out = refl; warned = refl; failed = refl }))
     by_result content (Err fault) e = rw good (rw (e, ends choices 1 (Content content) fault)
         (record { next = refl; handed_out = refl; warned = refl; failed = refl }))
 
-    by_line : (l : ReadLine)
-        → IsFollowed (seen_by choices (Content first ∷ l ∷ []) (first_lines (Content first ∷ l ∷ [])))
-        [] (expanded_lines (reading_by choices.skip (Content first ∷ l ∷ [])
-        (first_lines (Content first ∷ l ∷ []))).items) [] (warnings_in (reading_by choices.skip
-        (Content first ∷ l ∷ []) (first_lines (Content first ∷ l ∷ []))).items) (fault_of_stop
-        (reading_by choices.skip (Content first ∷ l ∷ []) (first_lines (Content first ∷ l ∷ []))).stop)
-        (fed_once (seen_next expansion (seen_in choices 1 (InFirstLines 1) [] None) l))
+    by_line : (l : ReadLine) → FollowsOnce choices (Content first ∷ []) l
     by_line Overlong = rw good (rw (ends choices 1 Overlong LineTooLong)
         (record { next = refl; handed_out = refl; warned = refl; failed = refl }))
     by_line (Content content) = by_result content (crinex_program content) refl
@@ -197,15 +154,11 @@ pub data IsBeforeHeader (lines : List ReadLine) : Type 0 where
 
 two-lines : (first : List ℕ) (line : ReadLine) (lines : List ReadLine) (r : Result (List ℕ) Fault)
     → crinex_version first ≡ r → first_lines (Content first ∷ line ∷ lines) ≡ Wanted → ⊥
-two-lines first line lines (Err fault) e wanted = absurd (wrong e wanted)
-  where
-    wrong : crinex_version first ≡ Err fault → first_lines (Content first ∷ line ∷ lines) ≡ Wanted → ⊥
-    wrong h k = let at : first_lines (Content first ∷ line ∷ lines) ≡ Wrong 0 fault = rw h refl in absurd (cc)
-two-lines first Overlong lines (Ok version) e wanted = absurd (wrong e wanted)
-  where
-    wrong : crinex_version first ≡ Ok version → first_lines (Content first ∷ Overlong ∷ lines) ≡ Wanted → ⊥
-    wrong h k = let at : first_lines (Content first ∷ Overlong ∷ lines) ≡ Wrong 1 LineTooLong = rw h refl in absurd (cc)
-two-lines first (Content second) lines (Ok version) e wanted = absurd (decided (crinex_program second) refl)
+two-lines first line lines (Err fault) e wanted =
+    let at : first_lines (Content first ∷ line ∷ lines) ≡ Wrong 0 fault = rw e refl in absurd (cc)
+two-lines first Overlong lines (Ok version) e wanted =
+    let at : first_lines (Content first ∷ Overlong ∷ lines) ≡ Wrong 1 LineTooLong = rw e refl in absurd (cc)
+two-lines first (Content second) lines (Ok version) e wanted = decided (crinex_program second) refl
   where
     decided : (q : Result (List ℕ) Fault) → crinex_program second ≡ q → ⊥
     decided (Ok program) h = let at : first_lines (Content first ∷ Content second ∷ lines)

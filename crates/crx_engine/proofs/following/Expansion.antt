@@ -30,6 +30,7 @@ use Rattle.crx_reading.specs.ExpansionByLine.{made_of_raw_step, compact_begins, 
 use Rattle.crx_reading.specs.ExpansionByLine.{compact_open}
 use Rattle.crx_reading.proofs.Choosing.{by_bool}
 use Rattle.crx_engine.proofs.reading.ForwardCompact.{compact-forward}
+use Rattle.crx_engine.proofs.following.Lines.{one_line-decided}
 use Rattle.crx_engine.proofs.following.Following.{IsSameEpoch, AgreeOn, IsCarriedOut}
 
 -- where an epoch or an event may begin in compact text
@@ -48,42 +49,22 @@ record IsHeldAs (tail : Option Tail) (p : Place ReadEpoch) (held : HeldEpoch) (c
   here : p ≡ Here read count
   same : held_after tail read ≡ held
 
-abbrev count_or : ℕ → Place HeldEpoch → ℕ
-count_or other (Here x k) = k
-count_or other (Wrong k fault) = other
-count_or other Wanted = other
-
-abbrev thing_or : HeldEpoch → Place HeldEpoch → HeldEpoch
-thing_or other (Here x k) = x
-thing_or other (Wrong k fault) = other
-thing_or other Wanted = other
-
-abbrev fault_back : Place HeldEpoch → Place ReadEpoch
-fault_back (Here x k) = Wanted
-fault_back (Wrong k fault) = Wrong k fault
-fault_back Wanted = Wanted
-
 placed-here : (tail : Option Tail) (p : Place ReadEpoch) (held : HeldEpoch) (count : ℕ)
     → placed_as (held_after tail) p ≡ Here held count → IsHeldAs tail p held count
-placed-here tail (Here read n) held count e = record {
-  read = read;
-  here = ap {B = Place ReadEpoch}
-      (λ k. Here read k) (ap (count_or n) e);
-  same = ap (thing_or (held_after tail read)) e;
-}
-placed-here tail (Wrong k fault) held count e = absurd (cc)
-placed-here tail Wanted held count e = absurd (cc)
+placed-here tail (Here read n) held count e =
+    let many : n ≡ count = cc in
+    let same : held_after tail read ≡ held = cc in
+    record { read = read; here = ap (λ (k : ℕ). Here read k) many; same = same }
+placed-here tail p held count e = absurd (cc)
 
 placed-wrong : (tail : Option Tail) (p : Place ReadEpoch) (offset : ℕ) (fault : Fault)
     → placed_as (held_after tail) p ≡ Wrong offset fault → p ≡ Wrong offset fault
-placed-wrong tail (Here read n) offset fault e = absurd (cc)
-placed-wrong tail (Wrong k other) offset fault e = ap fault_back e
-placed-wrong tail Wanted offset fault e = absurd (cc)
+placed-wrong tail (Wrong k other) offset fault e = cc
+placed-wrong tail p offset fault e = absurd (cc)
 
 placed-wanted : (tail : Option Tail) (p : Place ReadEpoch) → placed_as (held_after tail) p ≡ Wanted → p ≡ Wanted
-placed-wanted tail (Here read n) e = absurd (cc)
-placed-wanted tail (Wrong k other) e = absurd (cc)
 placed-wanted tail Wanted e = refl
+placed-wanted tail p e = absurd (cc)
 
 -- ---- one line
 
@@ -128,8 +109,7 @@ agree-step choices items lines before (Faulty fault) place placed opens =
 -- a first line alone
 steps-last : (step : RawStep) → place_of_steps 0 step [] ≡ place_of_step 0 step
 steps-last (Going so_far) = refl
-steps-last (Whole held) = refl
-steps-last (Faulty fault) = refl
+steps-last step = refl
 
 agree-event : (choices : Choices) (items : List (Item ReadEpoch)) (content : List ℕ)
     → is_event_line content ≡ true → (o : Option ℕ) → records_in content ≡ o
@@ -201,15 +181,11 @@ observation-wanted (Here read count) e = absurd (cc)
 observation-wanted (Wrong offset fault) e = absurd (cc)
 observation-wanted Wanted e = refl
 
-line-not_wanted : {X : Type 0} (r : Result X Fault) → one_line r ≡ Wanted → ⊥
-line-not_wanted (Ok x) e = absurd (cc)
-line-not_wanted (Err fault) e = absurd (cc)
-
 event-not_wanted : (items : List (Item ReadEpoch)) (line : ReadLine) (lines : List ReadLine)
     → begins_event (line ∷ lines) ≡ true → compact_beginning items (line ∷ lines) ≡ Wanted → ⊥
 event-not_wanted items Overlong lines e wanted = absurd (true≢false (sym e))
 event-not_wanted items (Content content) lines e wanted =
-    line-not_wanted (event_line {E = ReadEpoch} content) (sym (at_event e) ∙ wanted)
+    one_line-decided (event_line {E = ReadEpoch} content) (sym (at_event e) ∙ wanted)
   where
     at_event : is_event_line content ≡ true
         → compact_beginning items (Content content ∷ lines) ≡ one_line (event_line content)
@@ -237,9 +213,9 @@ expansion-carried_out choices = record {
   forward = compact-forward;
   wants = λ items. refl;
   none_open = λ items. refl;
-  wanted_open = λ items lines wanted none. no-lines items lines wanted none;
-  begins = λ items line. agree-begins choices items line;
-  continues = λ items lines line so_far opens. agree-continues choices items lines line so_far opens;
+  wanted_open = no-lines;
+  begins = agree-begins choices;
+  continues = agree-continues choices;
   header_kept = λ items number types line. refl;
   header_lines = λ items number types line. refl;
   event_kept = λ items number phase types line. refl;

@@ -18,9 +18,9 @@ use Rattle.crx_reading.specs.meaning.Reading.{Stop, AtFault, AtLines, Looking, i
 use Rattle.crx_reading.specs.meaning.UnitPlaces.{event_record, header_line, header_line_fault, types_fault, unit_place}
 use Rattle.crx_reading.specs.meaning.UnitPlaces.{unless_wrong}
 use Rattle.crx_engine.specs.Laws.{is_again}
-use Rattle.crx_reading.specs.LineByLine.{Answer, BetweenUnits, Completes, Direction, Ended, Failed, Fails, InEpoch}
+use Rattle.crx_reading.specs.LineByLine.{Answer, BetweenUnits, Direction, Ended, Failed, Fails, InEpoch}
 use Rattle.crx_reading.specs.LineByLine.{InEvent}
-use Rattle.crx_reading.specs.LineByLine.{InHeader, Made, Moves, Notice, Phase, Quiet, Ready, Repeats, Seen, Step}
+use Rattle.crx_reading.specs.LineByLine.{InHeader, Made, Notice, Phase, Quiet, Ready, Seen, Step}
 use Rattle.crx_reading.specs.LineByLine.{after_warning, is_in_epoch, is_skipped_in, kept_in, phase_after_items}
 use Rattle.crx_reading.specs.LineByLine.{phase_in_body}
 use Rattle.crx_reading.specs.LineByLine.{seen_next, seen_of, step_of_made, with_phase}
@@ -31,8 +31,8 @@ use Rattle.crx_engine.proofs.following.Following.{AgreeOn, IsCarriedOut, body-ph
 use Rattle.crx_engine.proofs.following.Following.{failed-skipped}
 use Rattle.crx_engine.proofs.following.Following.{seen_in, skipped-same, wrong-last}
 use Rattle.crx_reading.proofs.Choosing.{by_bool}
-use Rattle.crx_engine.proofs.steps.EngineAnswers.{ComesAgain, comes-again}
-use Rattle.crx_engine.proofs.following.Lines.{IsStopped, only_none, record-place}
+use Rattle.crx_engine.proofs.steps.EngineAnswers.{ComesAgain, both-true, comes-again}
+use Rattle.crx_engine.proofs.following.Lines.{IsStopped, only_none, header-place, record-place}
 use Rattle.crx_reading.proofs.Choosing.{false-true}
 
 -- ---- types lines
@@ -51,14 +51,6 @@ counts-well line = by_types (is_types_line line) refl (count_in line) refl
         none is e = rw (is, e) refl
     by_types false is o e h = false-true h
 
-pub first-true : (a b : Bool) → (a && b) ≡ true → a ≡ true
-first-true true b e = refl
-first-true false b e = false-true e
-
-pub second-true : (a b : Bool) → (a && b) ≡ true → b ≡ true
-second-true true b e = e
-second-true false b e = false-true e
-
 pub not-true : (b : Bool) → not b ≡ true → b ≡ false
 not-true true e = false-true e
 not-true false e = refl
@@ -72,19 +64,19 @@ header-takes {E = E} takes items is_first line = by_fault (header_line_fault is_
     by_fault : (o : Option Fault) → header_line_fault is_first line ≡ o
         → (is_some (count_of_types_line line) && is_none o) ≡ true
         → place_takes {E = E} takes items 0 (one_line (unless_wrong (HeaderLine line) o)) ≡ true
-    by_fault None e h = (counts-well line (first-true (is_some (count_of_types_line line)) true h)).0
-    by_fault (Some fault) e h = false-true (second-true (is_some (count_of_types_line line)) false h)
+    by_fault None e h = (counts-well line (both-true (is_some (count_of_types_line line)) true h).0).0
+    by_fault (Some fault) e h = false-true (both-true (is_some (count_of_types_line line)) false h).1
 
 -- a record of an event
 record-takes : {E : Type 0} (takes : ℕ → Bool → Bool) (items : List (Item E)) (line : List ℕ)
     → (records_count_types items && is_some (count_of_types_line line)) ≡ true
     → place_takes takes items 0 (first_line (Content line ∷ []) (event_record (records_count_types items))) ≡ true
 record-takes {E = E} takes items line h =
-    let counted = first-true (records_count_types items) (is_some (count_of_types_line line)) h in
-    let well = counts-well line (second-true (records_count_types items) (is_some (count_of_types_line line)) h) in
+    let each = both-true (records_count_types items) (is_some (count_of_types_line line)) h in
+    let well = counts-well line each.1 in
     ap (λ (o : Option Fault). place_takes {E = E} takes items 0 (one_line (unless_wrong (EventRecord line) o)))
-    (ap (λ b. cond b (types_fault line) None) counted ∙ well.1)
-    ∙ ap (λ b. b && is_types_line line) counted ∙ well.0
+    (ap (λ b. cond b (types_fault line) None) each.0 ∙ well.1)
+    ∙ ap (λ b. b && is_types_line line) each.0 ∙ well.0
 
 -- ---- a direction that takes memory as its lines stand
 
@@ -100,10 +92,11 @@ pub record TakesAsItStands {E U O K : Type 0} (beginning : List (Item E) → Lis
       → open_with items lines ≡ Some so_far → direction.memory_next so_far line ≡ true
       → place_takes takes items (length lines) (beginning items (lines ++ Content line ∷ [])) ≡ true
 
-module _ {E U O K : Type 0} (beginning : List (Item E) → List ReadLine → Place (FileUnit E)) (direction : Direction U O K)
-    (open_with : List (Item E) → List ReadLine → Option O) (kept_of : List (Item E) → K)
-    (unit_lines : List (Item E) → FileUnit E → List (List ℕ)) (choices : Choices)
-    (h : IsCarriedOut beginning direction open_with kept_of unit_lines choices) (takes : ℕ → Bool → Bool)
+module _ {E U O K : Type 0} {beginning : List (Item E) → List ReadLine → Place (FileUnit E)}
+    {direction : Direction U O K}
+    {open_with : List (Item E) → List ReadLine → Option O} {kept_of : List (Item E) → K}
+    {unit_lines : List (Item E) → FileUnit E → List (List ℕ)} {choices : Choices}
+    (h : IsCarriedOut beginning direction open_with kept_of unit_lines choices) {takes : ℕ → Bool → Bool}
     (t : TakesAsItStands beginning direction open_with kept_of takes) where
   abbrev place : List (Item E) → List ReadLine → Place (FileUnit E)
   place = unit_place beginning
@@ -111,7 +104,8 @@ module _ {E U O K : Type 0} (beginning : List (Item E) → List ReadLine → Pla
   -- whether memory may run out in a phase
   abbrev taken_in : List (Item E) → ReadLine → Phase O → Bool
   taken_in items line phase = may_take_memory
-      (direction.memory_first (types_in_force items) (kept_in direction phase (kept_of items))) direction.memory_next phase line
+      (direction.memory_first (types_in_force items) (kept_in direction phase (kept_of items)))
+      direction.memory_next phase line
 
   -- where an epoch or an event may begin
   begins-takes : (items : List (Item E)) (line : List ℕ) → header_has_ended items ≡ true → records_left items ≡ 0
@@ -119,8 +113,8 @@ module _ {E U O K : Type 0} (beginning : List (Item E) → List ReadLine → Pla
       → line_takes place takes items [] (Content line) ≡ true
   begins-takes items line ended none e =
       ap (place_takes takes items 0) (body-place beginning items (Content line ∷ []) ended none)
-      ∙ t.first items line (not-true (is_event_line line) (first-true (not (is_event_line line)) _ e))
-      (second-true (not (is_event_line line)) _ e)
+      ∙ t.first items line (not-true (is_event_line line) (both-true (not (is_event_line line)) _ e).0)
+      (both-true (not (is_event_line line)) _ e).1
 
   -- where more lines are wanted
   lines-take : (items : List (Item E)) (rest : List ReadLine) (line : ReadLine) → place items rest ≡ Wanted
@@ -129,23 +123,17 @@ module _ {E U O K : Type 0} (beginning : List (Item E) → List ReadLine → Pla
       → taken_in items line (phase_after_items items (open_with items rest)) ≡ true
       → line_takes place takes items rest line ≡ true
   lines-take items rest line wanted false in_header left e_left so_far e_open e =
-      let none : rest ≡ [] = wants-first rest (sym (at_header rest in_header) ∙ wanted) in
+      let none : rest ≡ [] = only_none (header_line {E = E} (is_at_start items)) rest
+      (sym (header-place beginning items rest in_header) ∙ wanted) in
       let phase : phase_after_items items (open_with items rest) ≡ InHeader (is_at_start items) = rw in_header refl in
       subst (λ ls. line_takes place takes items ls line ≡ true) (sym none)
       (by_line line (subst (λ p. taken_in items line p ≡ true) phase e))
     where
-      wants-first : (ls : List ReadLine) → first_line ls (header_line {E = E} (is_at_start items)) ≡ Wanted → ls ≡ []
-      wants-first ls e = only_none (header_line (is_at_start items)) ls e
-
-      at_header : (ls : List ReadLine) → header_has_ended items ≡ false
-          → place items ls ≡ first_line ls (header_line (is_at_start items))
-      at_header ls e = rw e refl
-
       by_line : (l : ReadLine) → taken_in items l (InHeader (is_at_start items)) ≡ true
           → line_takes place takes items [] l ≡ true
       by_line Overlong e = false-true e
       by_line (Content content) e =
-          ap (place_takes takes items 0) (at_header (Content content ∷ []) in_header)
+          ap (place_takes takes items 0) (header-place beginning items (Content content ∷ []) in_header)
           ∙ header-takes takes items (is_at_start items) content e
   lines-take items rest line wanted true ended (suc left) e_left so_far e_open e =
       let none : rest ≡ [] = only_none (event_record (records_count_types items)) rest
@@ -180,30 +168,34 @@ module _ {E U O K : Type 0} (beginning : List (Item E) → List ReadLine → Pla
       by_line : (l : ReadLine) → taken_in items l (InEpoch so_far) ≡ true → line_takes place takes items rest l ≡ true
       by_line Overlong e = false-true e
       by_line (Content content) e =
-          ap (place_takes takes items (length rest)) (body-place beginning items (rest ++ Content content ∷ []) ended e_left)
-          ∙ t.next items rest content so_far e_open (second-true (not (begins_epoch content)) _ e)
+          ap (place_takes takes items (length rest))
+          (body-place beginning items (rest ++ Content content ∷ []) ended e_left)
+          ∙ t.next items rest content so_far e_open (both-true (not (begins_epoch content)) _ e).1
 
   -- memory may run out at a line at once
   pub allowed-first : (items : List (Item E)) (stop : Stop) (count : ℕ) (line : ReadLine)
       → IsStopped place items stop (count + 1)
-      → takes_memory direction (seen_of direction open_with kept_of choices count (record { items = items; stop = stop })) line
+      → takes_memory direction (seen_of direction open_with kept_of choices count
+      (record { items = items; stop = stop })) line
       ≡ true
       → memory_allowed place takes choices.skip (record { items = items; stop = stop }) line ≡ Some []
   allowed-first items (AtFault at) count Overlong stopped e = false-true e
   allowed-first items (AtFault at) count (Content line) stopped e = false-true e
   allowed-first items (AtLines number rest) count line stopped e =
-      ap (λ b. cond b (Some []) (takes_after_warning place takes choices.skip items number line (place items (rest ++ line ∷ []))))
+      ap (λ b. cond b (Some []) (takes_after_warning place takes choices.skip items number line
+      (place items (rest ++ line ∷ []))))
       (lines-take items rest line stopped.0 (header_has_ended items) refl (records_left items) refl
       (open_with items rest) refl e)
   allowed-first items (Looking number) count Overlong stopped e = false-true e
   allowed-first items (Looking number) count (Content line) stopped e =
-      let begins = first-true (begins_epoch line) _ e in
-      let takes_it = begins-takes items line stopped.1 stopped.2 (second-true (begins_epoch line) _ e) in
+      let begins = (both-true (begins_epoch line) _ e).0 in
+      let takes_it = begins-takes items line stopped.1 stopped.2 (both-true (begins_epoch line) _ e).1 in
       ap (λ b. cond (b && line_takes place takes items [] (Content line)) (Some []) None) begins
       ∙ ap (λ b. cond b (Some []) None) takes_it
 
   -- a line that cuts an epoch off, and is read anew after the warning
-  cut-takes : (items : List (Item E)) (number count : ℕ) (rest : List ReadLine) (line : ReadLine) (so_far : O) (next : Seen O K)
+  cut-takes : (items : List (Item E)) (number count : ℕ) (rest : List ReadLine) (line : ReadLine) (so_far : O)
+      (next : Seen O K)
       (notice : At) → place items rest ≡ Wanted → number + length rest ≡ count + 1
       → header_has_ended items ≡ true → records_left items ≡ 0 → open_with items rest ≡ Some so_far
       → (m : Made U O) → AgreeOn beginning direction open_with kept_of unit_lines choices items (rest ++ line ∷ []) m
@@ -212,12 +204,6 @@ module _ {E U O K : Type 0} (beginning : List (Item E) → List ReadLine → Pla
       → takes_memory direction next line ≡ true
       → memory_allowed place takes choices.skip (record { items = items; stop = AtLines number rest }) line
       ≡ Some (notice ∷ [])
-  cut-takes items number count rest line so_far next notice wanted counted ended none e_open (Completes unit) a e taken =
-      let no : true ≡ false = ap (λ (s : Step O K). is_again s.answer) e in absurd (cc)
-  cut-takes items number count rest line so_far next notice wanted counted ended none e_open (Moves phase) a e taken =
-      let no : true ≡ false = ap (λ (s : Step O K). is_again s.answer) e in absurd (cc)
-  cut-takes items number count rest line so_far next notice wanted counted ended none e_open (Repeats at) a e taken =
-      let no : true ≡ false = ap (λ (s : Step O K). is_again s.answer) e in absurd (cc)
   cut-takes items number count rest line so_far next notice wanted counted ended none e_open (Fails fault) a e taken =
       by_bool (is_skipped_in before fault)
       (λ on.
@@ -231,7 +217,7 @@ module _ {E U O K : Type 0} (beginning : List (Item E) → List ReadLine → Pla
       let then : next ≡ after_warning direction before (can_go_on line) = ap (λ (s : Step O K). s.next) is in
       let here : place items (rest ++ line ∷ []) ≡ Wrong a.0 fault =
       body-place beginning items (rest ++ line ∷ []) ended none ∙ a.1 in
-      let last : a.0 ≡ length rest = wrong-last place h.forward items rest line a.0 fault wanted here in
+      let last : a.0 ≡ length rest = wrong-last h.forward items rest line a.0 fault wanted here in
       let some : nat_lt 0 a.0 ≡ true = ap (nat_lt 0) last ∙ not_none rest e_open in
       let same : number + a.0 ≡ count + 1 = omega (arith, last, counted) in
       let skipped : is_skipped choices.skip items fault ≡ true =
@@ -281,11 +267,15 @@ module _ {E U O K : Type 0} (beginning : List (Item E) → List ReadLine → Pla
       anew Overlong t = false-true t
       anew (Content content) t =
           begins-takes (Warned at ∷ items) content ended refl
-          (subst (λ (k : K). (not (is_event_line content) && direction.memory_first (types_in_force items) k content) ≡ true)
-          kept_then (second-true (begins_epoch content) _ t))
+          (subst (λ (k : K). (not (is_event_line content) && direction.memory_first (types_in_force items) k
+          content) ≡ true)
+          kept_then (both-true (begins_epoch content) _ t).1)
+  cut-takes items number count rest line so_far next notice wanted counted ended none e_open m a e taken =
+      let no : true ≡ false = ap (λ (s : Step O K). is_again s.answer) e in absurd (cc)
 
   -- memory may run out at a line after its warning
-  pub allowed-again : (items : List (Item E)) (stop : Stop) (count : ℕ) (line : ReadLine) (next : Seen O K) (notice : At)
+  pub allowed-again : (items : List (Item E)) (stop : Stop) (count : ℕ) (line : ReadLine) (next : Seen O K)
+      (notice : At)
       → IsStopped place items stop (count + 1)
       → record { answer = Notice notice true; handed_out = []; next = next } ≡ seen_next direction
       (seen_of direction open_with kept_of choices count (record { items = items; stop = stop })) line
@@ -295,7 +285,8 @@ module _ {E U O K : Type 0} (beginning : List (Item E) → List ReadLine → Pla
       by_stop stop stopped (comes-again direction _ next line notice [] e) e
     where
       by_stop : (s : Stop) → IsStopped place items s (count + 1)
-          → ComesAgain (seen_of direction open_with kept_of choices count (record { items = items; stop = s })) next line
+          → ComesAgain (seen_of direction open_with kept_of choices count
+          (record { items = items; stop = s })) next line
           → record { answer = Notice notice true; handed_out = []; next = next } ≡ seen_next direction
           (seen_of direction open_with kept_of choices count (record { items = items; stop = s })) line
           → memory_allowed place takes choices.skip (record { items = items; stop = s }) line ≡ Some (notice ∷ [])
@@ -316,7 +307,8 @@ module _ {E U O K : Type 0} (beginning : List (Item E) → List ReadLine → Pla
               rw in_header refl in
               false-true (sym (ap is_in_epoch phase) ∙ again.epoch)
           by_items true ended (suc left) e_left so_far e_open =
-              let phase : phase_after_items items (open_with items rest) ≡ InEvent (suc left) (records_count_types items) =
+              let phase : phase_after_items items (open_with items rest)
+              ≡ InEvent (suc left) (records_count_types items) =
               rw (ended, e_left) refl in
               false-true (sym (ap is_in_epoch phase) ∙ again.epoch)
           by_items true ended zero e_left None e_open =

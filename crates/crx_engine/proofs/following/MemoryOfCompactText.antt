@@ -1,6 +1,6 @@
 -- The memory that an expansion takes, as its lines stand.
 use Rattle.std.proofs.Common.{ℕ, ◌≡◌, Bool, true, false, List, [], ◌∷◌, ◌++◌, length, Option, Some, None, Result}
-use Rattle.std.proofs.Common.{Ok, Err, refl, ap, sym, ◌∙◌, not}
+use Rattle.std.proofs.Common.{Ok, Err, refl, ap, sym, ◌∙◌}
 use Rattle.std.specs.Option.{is_some}
 use Rattle.std.proofs.lemmas.Option.{none-some}
 use Rattle.crx_lines.specs.meaning.Seen.{ReadLine, Content, Overlong}
@@ -22,8 +22,7 @@ use Rattle.crx_reading.specs.meaning.Memory.{expansion_takes, place_takes}
 use Rattle.crx_reading.specs.ExpansionByLine.{begins_event, compact_open, expansion, made_of_raw_step, tail_of_items}
 use Rattle.crx_engine.proofs.following.Expansion.{Agrees, agree-content, agree-continues, compact_beginning}
 use Rattle.crx_reading.proofs.Choosing.{false-true}
-use Rattle.crx_engine.proofs.following.Memory.{TakesAsItStands, allowed-again, allowed-first, first-true, not-true}
-use Rattle.crx_engine.proofs.following.Memory.{second-true}
+use Rattle.crx_engine.proofs.following.Memory.{TakesAsItStands, allowed-again, allowed-first, not-true}
 use Rattle.std.proofs.Common.{subst, ◌+◌, ◌-◌, ◌≤◌, drop, arith}
 use Rattle.std.proofs.lemmas.List.{length-drop}
 use Rattle.crx_lines.specs.declared.fault.At.{At}
@@ -33,7 +32,7 @@ use Rattle.crx_reading.specs.ExpansionByLine.{expansion_seen}
 use Rattle.crx_reading.specs.LineByLine.{Notice, Seen, seen_next}
 use Rattle.crx_reading.specs.Memory.{takes_memory}
 use Rattle.crx_reading.specs.meaning.Directions.{compact_memory}
-use Rattle.crx_reading.specs.meaning.Expanded.{compact_place, expanded_unit, first_lines}
+use Rattle.crx_reading.specs.meaning.Expanded.{compact_place, first_lines}
 use Rattle.crx_reading.specs.meaning.Memory.{memory_allowed}
 use Rattle.crx_reading.specs.meaning.Reading.{Reading, reading_from}
 use Rattle.crx_engine.proofs.following.ExpandedOn.{reading_by, seen_by}
@@ -41,7 +40,7 @@ use Rattle.crx_engine.proofs.following.Expansion.{expansion-carried_out}
 use Rattle.crx_engine.proofs.following.Lines.{IsStopped}
 use Rattle.crx_engine.proofs.reading.ForwardCompact.{compact-forward, steady-first_lines}
 use Rattle.crx_engine.proofs.reading.Stopping.{reading-stopped}
-use Rattle.crx_engine.proofs.steps.EngineAnswers.{comes-again}
+use Rattle.crx_engine.proofs.steps.EngineAnswers.{both-true, comes-again}
 
 -- a step without a fault takes memory, where its line does
 step-takes : (choices : Choices) (items : List (Item ReadEpoch)) (lines : List ReadLine) (count : ℕ) (step : RawStep)
@@ -88,7 +87,8 @@ by-tail types line None = refl
 by-tail types line (Some before) = opened-clock line before (satellites_of_line types (past_of_tail before) line)
 
 -- after its first line no epoch has a clock
-first-clock : (types : List Count) (tail : Option Tail) (line : ReadLine) → clock_read (first_step types tail line) ≡ false
+first-clock : (types : List Count) (tail : Option Tail) (line : ReadLine)
+    → clock_read (first_step types tail line) ≡ false
 first-clock types tail Overlong = refl
 first-clock types tail (Content line) = by-tail types line (tail_for_line tail line)
 
@@ -106,8 +106,7 @@ takes-next items (line ∷ []) so_far opens read =
 
     of_step : (step : RawStep) → clock_of (open_raw_after step []) ≡ clock_read step
     of_step (Going begun) = refl
-    of_step (Whole held) = refl
-    of_step (Faulty fault) = refl
+    of_step step = refl
 
     by_event : (b : Bool) → begins_event (line ∷ []) ≡ b → expansion_takes 1 true ≡ true
     by_event true e = absurd (none-some so_far (sym (closed e) ∙ opens))
@@ -137,10 +136,9 @@ expansion-takes choices = record {
       (not-true (is_faulty (first_step (types_in_force items) (tail_of_items items) (Content line))) good)
       (agree-content choices items line false other);
   next = λ items lines line so_far opens good.
-      let clock = first-true (is_some so_far.clock) (makes_epoch (next_step so_far (Content line))) good in
+      let each = both-true (is_some so_far.clock) (makes_epoch (next_step so_far (Content line))) good in
       last-takes choices items (lines ++ Content line ∷ []) (length lines) (next_step so_far (Content line))
-      (takes-next items lines so_far opens clock)
-      (second-true (is_some so_far.clock) (makes_epoch (next_step so_far (Content line))) good)
+      (takes-next items lines so_far opens each.0) each.1
       (agree-continues choices items lines (Content line) so_far opens);
 }
 
@@ -178,8 +176,8 @@ expansion-allowed choices lines line e =
         → takes_memory expansion (seen_by choices lines p) line ≡ true → memory_by choices lines line p p ≡ Some []
     decided (Here two count) is t =
         let r : Reading ReadEpoch = reading_from compact_place choices.skip [] (count + 1) (drop count lines) in
-        allowed-first compact_beginning expansion compact_open tail_of_items expanded_unit choices
-        (expansion-carried_out choices) expansion_takes (expansion-takes choices) r.items r.stop (length lines) line
+        allowed-first (expansion-carried_out choices) (expansion-takes choices) r.items r.stop (length lines)
+        line
         (stopped-after choices lines two count is) t
     decided (Wrong offset fault) is t = never line t
       where
@@ -196,19 +194,21 @@ expansion-allowed choices lines line e =
 
 pub expansion-allowed-again : (choices : Choices) (lines : List ReadLine) (line : ReadLine)
     (next : Seen OpenRawEpoch (Option Tail)) (notice : At)
-    → record { answer = Notice notice true; handed_out = []; next = next } ≡ seen_next expansion (expansion_seen choices lines) line
+    → record { answer = Notice notice true; handed_out = []; next = next }
+    ≡ seen_next expansion (expansion_seen choices lines) line
     → takes_memory expansion next line ≡ true
     → compact_memory choices.skip lines line ≡ Some (notice ∷ [])
 expansion-allowed-again choices lines line next notice step e =
     decided (first_lines lines) refl step
   where
     decided : (p : Place (List (List ℕ))) → first_lines lines ≡ p
-        → record { answer = Notice notice true; handed_out = []; next = next } ≡ seen_next expansion (seen_by choices lines p) line
+        → record { answer = Notice notice true; handed_out = []; next = next }
+        ≡ seen_next expansion (seen_by choices lines p) line
         → memory_by choices lines line p p ≡ Some (notice ∷ [])
     decided (Here two count) is s =
         let r : Reading ReadEpoch = reading_from compact_place choices.skip [] (count + 1) (drop count lines) in
-        allowed-again compact_beginning expansion compact_open tail_of_items expanded_unit choices
-        (expansion-carried_out choices) expansion_takes (expansion-takes choices) r.items r.stop (length lines) line
+        allowed-again (expansion-carried_out choices) (expansion-takes choices) r.items r.stop (length lines)
+        line
         next notice (stopped-after choices lines two count is) s e
     decided (Wrong offset fault) is s =
         false-true (comes-again expansion (seen_by choices lines (Wrong offset fault)) next line notice [] s).epoch

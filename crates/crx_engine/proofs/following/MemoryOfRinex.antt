@@ -9,7 +9,7 @@ use Rattle.crx_lines.specs.declared.fault.Fault.{Fault}
 use Rattle.crx_rinex.specs.meaning.EpochPlaces.{OpenEpoch, epoch_place, next_row, rows_wanted, with_next_row}
 use Rattle.crx_rinex.specs.meaning.Observations.{Epoch, Row}
 use Rattle.crx_rinex.specs.meaning.Places.{Place}
-use Rattle.crx_rinex.specs.meaning.Units.{Unit as FileUnit, HeaderLine, EventLine, EventRecord, Observation}
+use Rattle.crx_rinex.specs.meaning.Units.{Unit as FileUnit, Observation}
 use Rattle.crx_rinex.specs.EpochPlaces.{EpochStep, Going, Whole, Faulty, after_row, epoch_step, when_wanted}
 use Rattle.crx_reading.specs.meaning.Choices.{Choices}
 use Rattle.crx_reading.specs.meaning.Items.{Item, types_in_force}
@@ -20,7 +20,7 @@ use Rattle.crx_reading.specs.Memory.{takes_memory}
 use Rattle.crx_reading.specs.CheckByLine.{checking, no_choices, totals_of}
 use Rattle.crx_reading.specs.CompactionByLine.{compaction, is_whole_at_once, made_of_epoch_step, rinex_begins}
 use Rattle.crx_reading.specs.CompactionByLine.{Written, compaction_seen, rinex_open, written_of}
-use Rattle.crx_reading.specs.LineByLine.{Completes, Direction, Fails, Made, Moves, Notice, Repeats, Seen, seen_next}
+use Rattle.crx_reading.specs.LineByLine.{Completes, Direction, Made, Notice, Seen, seen_next}
 use Rattle.crx_reading.specs.LineByLine.{seen_of}
 use Rattle.crx_reading.specs.meaning.Compacted.{compact_unit, rinex_place}
 use Rattle.crx_engine.proofs.following.Check.{check-carried_out, printed_after}
@@ -33,22 +33,6 @@ use Rattle.crx_engine.proofs.reading.Stopping.{reading-stopped}
 
 abbrev pub rinex_beginning : List (Item Epoch) → List ReadLine → Place (FileUnit Epoch)
 rinex_beginning items = epoch_place (types_in_force items)
-
--- an epoch that is whole with its line
-whole-takes : {K : Type 0} (direction : Direction Epoch OpenEpoch K) (kept_of : List (Item Epoch) → K)
-    (unit_lines : List (Item Epoch) → FileUnit Epoch → List (List ℕ)) (choices : Choices) (items : List (Item Epoch))
-    (lines : List ReadLine) (takes : ℕ → Bool → Bool) → takes 0 true ≡ true
-    → (m : Made Epoch OpenEpoch) → is_whole_at_once m ≡ true
-    → AgreeOn rinex_beginning direction rinex_open kept_of unit_lines choices items lines m
-    → place_takes takes items 0 (rinex_beginning items lines) ≡ true
-whole-takes direction kept_of unit_lines choices items lines takes sure (Completes (HeaderLine line)) e a = false-true e
-whole-takes direction kept_of unit_lines choices items lines takes sure (Completes (EventLine line)) e a = false-true e
-whole-takes direction kept_of unit_lines choices items lines takes sure (Completes (EventRecord line)) e a = false-true e
-whole-takes direction kept_of unit_lines choices items lines takes sure (Completes (Observation epoch)) e a =
-    ap (place_takes takes items 0) a.2 ∙ sure
-whole-takes direction kept_of unit_lines choices items lines takes sure (Moves phase) e a = false-true e
-whole-takes direction kept_of unit_lines choices items lines takes sure (Fails fault) e a = false-true e
-whole-takes direction kept_of unit_lines choices items lines takes sure (Repeats at) e a = false-true e
 
 -- ---- satellites' lines
 
@@ -65,17 +49,23 @@ fine-row : (so_far : OpenEpoch) (r : Result Row Fault) → is_ok r ≡ true → 
 fine-row so_far (Err fault) e = false-true e
 fine-row so_far (Ok row) e = fine-when (rows_wanted (with_next_row so_far row)) (with_next_row so_far row)
 
-step-takes : {K : Type 0} (direction : Direction Epoch OpenEpoch K) (kept_of : List (Item Epoch) → K)
+module _ {K : Type 0} (direction : Direction Epoch OpenEpoch K) (kept_of : List (Item Epoch) → K)
     (unit_lines : List (Item Epoch) → FileUnit Epoch → List (List ℕ)) (choices : Choices) (items : List (Item Epoch))
-    (lines : List ReadLine) (takes : ℕ → Bool → Bool) (count : ℕ) → ((is_whole : Bool) → takes count is_whole ≡ true)
-    → (step : EpochStep) → is_fine step ≡ true
-    → AgreeOn rinex_beginning direction rinex_open kept_of unit_lines choices items lines (made_of_epoch_step step)
-    → place_takes takes items count (rinex_beginning items lines) ≡ true
-step-takes direction kept_of unit_lines choices items lines takes count sure (Going so_far) e a =
-    ap (place_takes takes items count) a.2 ∙ sure false
-step-takes direction kept_of unit_lines choices items lines takes count sure (Whole epoch) e a =
-    ap (place_takes takes items count) a.2 ∙ sure true
-step-takes direction kept_of unit_lines choices items lines takes count sure (Faulty fault) e a = false-true e
+    (lines : List ReadLine) (takes : ℕ → Bool → Bool) where
+  -- an epoch that is whole with its line
+  whole-takes : takes 0 true ≡ true → (m : Made Epoch OpenEpoch) → is_whole_at_once m ≡ true
+      → AgreeOn rinex_beginning direction rinex_open kept_of unit_lines choices items lines m
+      → place_takes takes items 0 (rinex_beginning items lines) ≡ true
+  whole-takes sure (Completes (Observation epoch)) e a = ap (place_takes takes items 0) a.2 ∙ sure
+  whole-takes sure m e a = false-true e
+
+  step-takes : (count : ℕ) → ((is_whole : Bool) → takes count is_whole ≡ true)
+      → (step : EpochStep) → is_fine step ≡ true
+      → AgreeOn rinex_beginning direction rinex_open kept_of unit_lines choices items lines (made_of_epoch_step step)
+      → place_takes takes items count (rinex_beginning items lines) ≡ true
+  step-takes count sure (Going so_far) e a = ap (place_takes takes items count) a.2 ∙ sure false
+  step-takes count sure (Whole epoch) e a = ap (place_takes takes items count) a.2 ∙ sure true
+  step-takes count sure (Faulty fault) e a = false-true e
 
 -- an epoch's line stands before it
 after-first : (takes : ℕ → Bool → Bool) → ((count : ℕ) (is_whole : Bool) → takes (suc count) is_whole ≡ true)
@@ -119,28 +109,30 @@ pub compaction-allowed : (choices : Choices) (lines : List ReadLine) (line : Rea
     → memory_allowed rinex_place compaction_takes choices.skip (rinex_reading choices.skip lines) line ≡ Some []
 compaction-allowed choices lines line e =
     let r : Reading Epoch = rinex_reading choices.skip lines in
-    allowed-first rinex_beginning compaction rinex_open (written_of choices.every) (compact_unit choices) choices
-    (compaction-carried_out choices) compaction_takes (compaction-takes choices) r.items r.stop (length lines) line
+    allowed-first (compaction-carried_out choices) (compaction-takes choices) r.items r.stop (length lines)
+    line
     (reading-stopped rinex_place rinex-forward choices.skip [] 1 (length lines + 1) lines (omega arith)) e
 
 pub compaction-allowed-again : (choices : Choices) (lines : List ReadLine) (line : ReadLine)
     (next : Seen OpenEpoch Written) (notice : At)
-    → record { answer = Notice notice true; handed_out = []; next = next } ≡ seen_next compaction (compaction_seen choices lines) line
+    → record { answer = Notice notice true; handed_out = []; next = next }
+    ≡ seen_next compaction (compaction_seen choices lines) line
     → takes_memory compaction next line ≡ true
     → memory_allowed rinex_place compaction_takes choices.skip (rinex_reading choices.skip lines) line
     ≡ Some (notice ∷ [])
 compaction-allowed-again choices lines line next notice step e =
     let r : Reading Epoch = rinex_reading choices.skip lines in
-    allowed-again rinex_beginning compaction rinex_open (written_of choices.every) (compact_unit choices) choices
-    (compaction-carried_out choices) compaction_takes (compaction-takes choices) r.items r.stop (length lines) line
-    next notice (reading-stopped rinex_place rinex-forward choices.skip [] 1 (length lines + 1) lines (omega arith)) step e
+    allowed-again (compaction-carried_out choices) (compaction-takes choices) r.items r.stop (length lines)
+    line
+    next notice (reading-stopped rinex_place rinex-forward choices.skip [] 1 (length lines + 1) lines
+    (omega arith)) step e
 
 pub check-allowed : (lines : List ReadLine) (line : ReadLine)
-    → takes_memory checking (seen_of checking rinex_open totals_of no_choices (length lines) (rinex_reading false lines)) line
+    → takes_memory checking (seen_of checking rinex_open totals_of no_choices (length lines)
+    (rinex_reading false lines)) line
     ≡ true
     → memory_allowed rinex_place check_takes false (rinex_reading false lines) line ≡ Some []
 check-allowed lines line e =
     let r : Reading Epoch = rinex_reading false lines in
-    allowed-first rinex_beginning checking rinex_open totals_of printed_after no_choices
-    check-carried_out check_takes check-takes r.items r.stop (length lines) line
+    allowed-first check-carried_out check-takes r.items r.stop (length lines) line
     (reading-stopped rinex_place rinex-forward false [] 1 (length lines + 1) lines (omega arith)) e

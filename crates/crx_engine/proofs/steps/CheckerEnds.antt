@@ -3,14 +3,12 @@ use Rattle.std.proofs.Common.{ℕ, ◌≡◌, true, false, List, Option, Some, N
 use Rattle.crx_lines.specs.meaning.Lines.{InputLine}
 use Rattle.crx_lines.specs.declared.fault.At.{At}
 use Rattle.crx_rinex.specs.meaning.EpochPlaces.{OpenEpoch}
-use Rattle.crx_rinex.specs.meaning.Observations.{Epoch}
 use Rattle.crx_rinex.specs.meaning.ObservationTypes.{Count}
 use Rattle.crx_reading.specs.CompactionByLine.{Written, compaction}
 use Rattle.crx_engine.specs.EngineSteps.{SettlesEnd, answer_of_step}
-use Rattle.crx_reading.specs.Stages.{is_held}
 use Rattle.crx_engine.specs.Laws.{failed_by}
-use Rattle.crx_reading.specs.LineByLine.{Phase, InFirstLines, InHeader, BetweenUnits, InEvent, InEpoch, LookingOn}
-use Rattle.crx_reading.specs.LineByLine.{Closed as SeenClosed, Ended as SeenEnded, Step as SeenStep, seen_end}
+use Rattle.crx_reading.specs.LineByLine.{Phase, InFirstLines}
+use Rattle.crx_reading.specs.LineByLine.{Step as SeenStep, seen_end}
 use Rattle.crx_reading.specs.RinexReaders.{reader_phase}
 use Rattle.crx_reading.specs.RinexStages.{open_epoch, is_rinex_stage}
 use Rattle.crx_reading.specs.meaning.Standard.{whole_reading_of, findings_of}
@@ -18,47 +16,24 @@ use Rattle.crx_reading.specs.CheckByLine.{Totals, checking, CheckSeen, no_choice
 use Rattle.crx_engine.specs.CheckerState.{checker_state_with}
 use Rattle.crx_reading.specs.Totals.{found_held}
 use Rattle.crx_engine.specs.declared.engine.Step.{Step}
-use Rattle.crx_engine.specs.declared.engine.Step.TheVariants.{Quiet, Ready, Warned}
+use Rattle.crx_engine.specs.declared.engine.Step.TheVariants.{Quiet}
 use Rattle.crx_reading.specs.declared.report.Totals.{Totals as Held}
 use Rattle.crx_reading.specs.declared.rinex_reader.RinexReader.{RinexReader}
 use Rattle.crx_engine.specs.declared.settled.Settled.{Settled}
-use Rattle.crx_reading.specs.declared.stage.Stage.{Stage}
-use Rattle.crx_reading.specs.declared.stage.Stage.TheVariants.{FirstLines, Header, Between, Event, Open, Looking}
-use Rattle.crx_reading.specs.declared.stage.Stage.TheVariants.{Closed}
-use Rattle.crx_reading.specs.declared.stage.Stage.TheVariants.{Ended}
 use Rattle.crx_engine.proofs.standard.CheckEnded.{check-ended}
 use Rattle.crx_engine.proofs.following.Following.{seen_in}
-use Rattle.crx_reading.proofs.Choosing.{false-true}
+use Rattle.crx_engine.proofs.steps.EngineLemmas.{held-open}
 
 -- the end is the same whatever is kept of the epochs
 end-same : (number : ℕ) (phase : Phase OpenEpoch) (types : List Count) (totals : Totals) (kept : Written)
     → (seen_end checking (seen_in no_choices number phase types totals)).answer
     ≡ (seen_end compaction (seen_in no_choices number phase types kept)).answer
 end-same number (InFirstLines count) types totals kept = refl
-end-same number (InHeader is_first) types totals kept = refl
-end-same number BetweenUnits types totals kept = refl
-end-same number (InEvent left counted) types totals kept = refl
-end-same number (InEpoch so_far) types totals kept = refl
-end-same number LookingOn types totals kept = refl
-end-same number SeenClosed types totals kept = refl
-end-same number (SeenEnded at) types totals kept = refl
-
-held-open : (stage : Stage) (types : List Count) (epoch : Option Epoch)
-    → is_rinex_stage stage epoch ≡ true → is_held stage (open_epoch types epoch) ≡ true
-held-open (FirstLines count) types epoch e = refl
-held-open (Header is_first) types epoch e = refl
-held-open Between types epoch e = refl
-held-open (Event left counted) types epoch e = refl
-held-open Open types None e = false-true e
-held-open Open types (Some epoch) e = refl
-held-open Looking types epoch e = refl
-held-open Closed types epoch e = refl
-held-open (Ended at) types epoch e = refl
+end-same number phase types totals kept = refl
 
 ok-none : (step : Step) → failed_by (answer_of_step (Ok step)) ≡ None
 ok-none Quiet = refl
-ok-none Ready = refl
-ok-none (Warned notice again) = refl
+ok-none step = refl
 
 -- the fault of the whole reading is the one that is answered
 pub end-fault : (reader : RinexReader)
@@ -73,7 +48,7 @@ end-fault reader number totals named lines settled settles consistent same =
     (open_epoch reader.types reader.epoch) None
     (record {
       is_phase = refl;
-      is_open = held-open reader.stage reader.types reader.epoch consistent;
+      is_open = held-open reader.types reader.stage reader.epoch consistent;
       is_count = refl;
       is_skip = refl;
     }) in

@@ -1,10 +1,9 @@
 -- A checker takes a line, by what its reader makes of it.
 use Rattle.std.proofs.Common.{map}
-use Rattle.std.proofs.Common.{ℕ, zero, suc, ◌≡◌, ◌⊎◌, inl, inr, ◌+◌, ◌-◌, ◌≤◌, rules, Bool, true, false, cond, List, []}
-use Rattle.std.proofs.Common.{◌∷◌, ◌++◌, length, Option, Some, None, refl, ap, sym, subst, ◌∙◌}
+use Rattle.std.proofs.Common.{ℕ, zero, suc, ◌≡◌, ◌⊎◌, inl, inr, ◌+◌, ◌-◌, Bool, true, false, cond, List, []}
+use Rattle.std.proofs.Common.{◌∷◌, ◌++◌, Option, Some, None, refl, ap, sym, subst, ◌∙◌}
 use Rattle.crx_lines.specs.meaning.Lines.{InputLine, is_long}
 use Rattle.crx_lines.specs.meaning.Seen.{ReadLine, Content, Overlong, seen}
-use Rattle.crx_lines.specs.declared.limits.TheConstants.{LINE_LIMIT}
 use Rattle.crx_lines.specs.declared.fault.Fault.{Fault}
 use Rattle.crx_lines.specs.declared.fault.Fault.TheVariants.{LineTooLong}
 use Rattle.crx_rinex.specs.meaning.EpochPlaces.{OpenEpoch}
@@ -18,8 +17,8 @@ use Rattle.crx_reading.specs.meaning.Filters.{with_next}
 use Rattle.crx_engine.specs.Engines.{RunsOutAt}
 use Rattle.crx_reading.specs.meaning.Items.{records_announced, counts_types}
 use Rattle.crx_engine.specs.Laws.{failed_by}
-use Rattle.crx_reading.specs.LineByLine.{Phase, InFirstLines, InHeader, BetweenUnits, InEvent, InEpoch, LookingOn}
-use Rattle.crx_reading.specs.LineByLine.{Closed, Ended, Seen, Step, Made, Completes, Moves, Fails, Repeats, made_in}
+use Rattle.crx_reading.specs.LineByLine.{Phase, InFirstLines, InHeader, BetweenUnits, InEvent, LookingOn}
+use Rattle.crx_reading.specs.LineByLine.{Closed, Ended, Seen, Step, Made, Moves, Fails, made_in}
 use Rattle.crx_reading.specs.LineByLine.{with_records_left, phase_after, types_after, step_of_made}
 use Rattle.crx_reading.specs.Memory.{takes_memory}
 use Rattle.crx_reading.specs.RinexReaders.{reader_phase, made_at, Completed, TakesRinexLine, RefusesRinexLine}
@@ -52,13 +51,7 @@ use Rattle.crx_reading.proofs.Choosing.{false-true}
 made-same : (phase : Phase OpenEpoch) (types : List Count) (kept : Totals) (line : ReadLine)
     → made_in checking phase types kept line ≡ made_in compaction phase types (record { index = 0; tail = None }) line
 made-same (InFirstLines count) types kept line = refl
-made-same (InHeader is_first) types kept line = refl
-made-same BetweenUnits types kept line = refl
-made-same (InEvent left counted) types kept line = refl
-made-same (InEpoch so_far) types kept line = refl
-made-same LookingOn types kept line = refl
-made-same Closed types kept line = refl
-made-same (Ended at) types kept line = refl
+made-same phase types kept line = refl
 
 -- ---- the step of a line
 
@@ -104,20 +97,15 @@ steps-to number totals line content before after made Epoch h =
 
 reached : (phase : Phase OpenEpoch) → is_reading phase ≡ true → IsReached phase
 reached (InFirstLines count) e = false-true e
-reached (InHeader is_first) e = tt
-reached BetweenUnits e = tt
-reached (InEvent left counted) e = tt
-reached (InEpoch so_far) e = tt
 reached LookingOn e = false-true e
 reached Closed e = false-true e
 reached (Ended at) e = false-true e
+reached phase e = tt
 
 grows-printed : (number : ℕ) (phase : Phase OpenEpoch) (types : List Count) (kept : Totals) (line : ReadLine)
     (made : Made ObservationEpoch OpenEpoch) → Grows number phase types kept line made → HasPrinted made
-grows-printed number phase types kept line (Completes unit) h = tt
 grows-printed number phase types kept line (Moves next) h = (printed_open phase, last_line (printed_open next), h refl)
-grows-printed number phase types kept line (Fails fault) h = tt
-grows-printed number phase types kept line (Repeats at) h = tt
+grows-printed number phase types kept line made h = tt
 
 pub has-printed : (before : RinexReader) (content : List ℕ)
     → is_reading (reader_phase before) ≡ true → HasPrinted (made_at before content (record { index = 0; tail = None }))
@@ -138,25 +126,15 @@ unit-reading phase (HeaderLine line) e = elim (is_end_of_header
     line) as (λ b. is_reading (cond b BetweenUnits (InHeader false)) ≡ true) [ true ↦ refl | false ↦ refl ]
 unit-reading phase (EventLine line) e = left-reading (records_announced line) (counts_types line)
 unit-reading (InEvent left counted) (EventRecord line) e = left-reading (left - 1) counted
-unit-reading (InFirstLines count) (EventRecord line) e = refl
-unit-reading (InHeader is_first) (EventRecord line) e = refl
-unit-reading BetweenUnits (EventRecord line) e = refl
-unit-reading (InEpoch so_far) (EventRecord line) e = refl
-unit-reading LookingOn (EventRecord line) e = refl
-unit-reading Closed (EventRecord line) e = refl
-unit-reading (Ended at) (EventRecord line) e = refl
-unit-reading phase (Observation epoch) e = refl
+unit-reading phase unit e = refl
 
 open-reading : (next : Phase OpenEpoch) (lines : List (List ℕ)) (line : List ℕ)
     → printed_open next ≡ lines ++ line ∷ [] → is_reading next ≡ true
 open-reading (InFirstLines count) lines line e = not-none lines line e
-open-reading (InHeader is_first) lines line e = refl
-open-reading BetweenUnits lines line e = refl
-open-reading (InEvent left counted) lines line e = refl
-open-reading (InEpoch so_far) lines line e = refl
 open-reading LookingOn lines line e = not-none lines line e
 open-reading Closed lines line e = not-none lines line e
 open-reading (Ended at) lines line e = not-none lines line e
+open-reading next lines line e = refl
 
 completed-reading : (before after : RinexReader) (made : Made ObservationEpoch OpenEpoch) (unit : Unit ObservationEpoch)
     → Completed made unit before after
@@ -237,7 +215,8 @@ failed-line before number totals named line lines fault is same =
 
 -- memory may run out at a line of an input as it may by what is seen
 check-allowed-of : (lines : List InputLine) (line : InputLine)
-    → takes_memory checking (check_seen lines).reading (seen line) ≡ true → check_filter.memory_after lines line ≡ Some []
+    → takes_memory checking (check_seen lines).reading (seen line) ≡ true
+    → check_filter.memory_after lines line ≡ Some []
 check-allowed-of lines line e =
     check-allowed (map seen lines) (seen line)
     (ap (λ n. takes_memory checking (seen_of checking rinex_open totals_of no_choices n
@@ -265,13 +244,10 @@ refused-line before number totals named line lines fault short (inr memory) same
 always-too_long : (phase : Phase OpenEpoch) (types : List Count) (kept : Totals)
     → is_reading phase ≡ true → made_in checking phase types kept Overlong ≡ Fails LineTooLong
 always-too_long (InFirstLines count) types kept e = false-true e
-always-too_long (InHeader is_first) types kept e = refl
-always-too_long BetweenUnits types kept e = refl
-always-too_long (InEvent left counted) types kept e = refl
-always-too_long (InEpoch so_far) types kept e = refl
 always-too_long LookingOn types kept e = false-true e
 always-too_long Closed types kept e = false-true e
 always-too_long (Ended at) types kept e = false-true e
+always-too_long phase types kept e = refl
 
 pub long-line : (before : RinexReader)
     (number : ℕ) (totals : Held) (named : Option ℕ) (line : InputLine) (lines : List InputLine)
@@ -282,6 +258,3 @@ long-line before number totals named line lines long reading same =
     failed-line before number totals named line lines LineTooLong
     (ap (λ l. made_in checking (reader_phase before) before.types (totals_held totals) l) (seen-long line long)
     ∙ always-too_long (reader_phase before) before.types (totals_held totals) reading) same
-
-pub short-line : (line : InputLine) → length line.content ≤ LINE_LIMIT → is_long line ≡ false
-short-line line h = search (rules, h)

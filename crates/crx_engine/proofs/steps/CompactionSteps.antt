@@ -28,9 +28,10 @@ use Rattle.crx_reading.specs.declared.rinex_reader.RinexReader.{RinexReader}
 use Rattle.crx_reading.specs.declared.rinex_reader.RinexStep.{RinexStep}
 use Rattle.crx_reading.specs.declared.rinex_reader.RinexStep.TheVariants.{Nothing, Epoch}
 use Rattle.crx_reading.specs.declared.stage.Stage.{Stage}
-use Rattle.crx_reading.specs.declared.stage.Stage.TheVariants.{FirstLines, Header, Between, Event, Open, Looking}
+use Rattle.crx_reading.specs.declared.stage.Stage.TheVariants.{Open, Looking}
 use Rattle.crx_reading.specs.declared.stage.Stage.TheVariants.{Closed}
 use Rattle.crx_reading.specs.declared.stage.Stage.TheVariants.{Ended}
+use Rattle.crx_engine.proofs.following.Following.{seen_in}
 use Rattle.crx_engine.proofs.steps.EngineLemmas.{out-fatal, fatal-counts, ran-out}
 
 -- an epoch that was completed is whole
@@ -45,44 +46,28 @@ whole-held made before after line step taken is =
 -- what is kept in a phase that no fault has ended
 kept-going : (held : Option OpenEpoch) (stage : Stage) (kept : Written)
     → is_ended stage ≡ false → kept_in compaction (seen_stage held stage) kept ≡ kept
-kept-going held (FirstLines count) kept e = refl
-kept-going held (Header is_first) kept e = refl
-kept-going held Between kept e = refl
-kept-going held (Event left counted) kept e = refl
 kept-going None Open kept e = refl
 kept-going (Some so_far) Open kept e = refl
-kept-going held Looking kept e = refl
-kept-going held Closed kept e = refl
 kept-going held (Ended at) kept e = absurd (cc)
+kept-going held stage kept e = refl
 
 -- a line after which nothing is to be written
 pub quiet-step : (choices : Choices)
     (number : ℕ) (kept : Written) (before after : RinexReader) (line : List ℕ) (ready : List (List ℕ)) → ready ≡ []
     → TakesRinexLine (made_at before line kept) before line Nothing after
-    → Steps compaction (record {
-      choices = choices;
-      number = number;
-      phase = reader_phase before;
-      types = before.types;
-      kept = kept;
-    }) (Content line) (Ok Quiet) ready
-    (record { choices = choices; number = number + 1; phase = reader_phase after; types = after.types; kept = kept })
+    → Steps compaction (seen_in choices number (reader_phase before) before.types kept) (Content line)
+    (Ok Quiet) ready
+    (seen_in choices (number + 1) (reader_phase after) after.types kept)
 quiet-step choices number kept before after line ready none taken =
     let phase = reader_phase after in
     let going = kept-going (open_epoch after.types after.epoch) after.stage kept taken.2 in
     inl (ap (λ (ls : List (List ℕ)). step_made (Ok Quiet) ls
-    (record { choices = choices; number = number + 1; phase = phase; types = after.types; kept = kept })) none
-    ∙ ap (λ (ts : List Count). step_made (Ok Quiet)
-    [] (record { choices = choices; number = number + 1; phase = phase; types = ts; kept = kept })) taken.1
-    ∙ ap (λ (k : Written). step_made (Ok Quiet) []
-    (record { choices = choices; number = number + 1; phase = phase; types = before.types; kept = k })) (sym going)
-    ∙ sym (ap (λ (m : Made ObservationEpoch OpenEpoch). step_of_made compaction (record {
-      choices = choices;
-      number = number;
-      phase = reader_phase before;
-      types = before.types;
-      kept = kept;
-    }) (Content line) m) taken.0))
+    (seen_in choices (number + 1) phase after.types kept)) none
+    ∙ ap (λ (ts : List Count). step_made (Ok Quiet) [] (seen_in choices (number + 1) phase ts kept)) taken.1
+    ∙ ap (λ (k : Written). step_made (Ok Quiet) [] (seen_in choices (number + 1) phase before.types k))
+    (sym going)
+    ∙ sym (ap (λ (m : Made ObservationEpoch OpenEpoch). step_of_made compaction
+    (seen_in choices number (reader_phase before) before.types kept) (Content line) m) taken.0))
 
 -- where the reading may take memory, the compaction may
 read-or-written : (first : List ℕ → Bool) (next : OpenEpoch → List ℕ → Bool) (phase : Phase OpenEpoch) (line : ReadLine)
@@ -122,32 +107,17 @@ refused-step before now line result ready after fault same step (inr out) fatal 
 pub seen-again : (choices : Choices) (number : ℕ) (kept : Written)
     (types now_types : List Count) (epoch now_epoch : Option ObservationEpoch) (stage now_stage : Stage)
     → now_stage ≡ stage → now_types ≡ types → now_epoch ≡ epoch
-    → ◌≡◌ {A = Seen OpenEpoch Written} (record {
-      choices = choices;
-      number = number;
-      phase = seen_stage (open_epoch now_types now_epoch) now_stage;
-      types = now_types;
-      kept = kept;
-    })
-    (record {
-      choices = choices;
-      number = number;
-      phase = seen_stage (open_epoch types epoch) stage;
-      types = types;
-      kept = kept;
-    })
+    → seen_in choices number (seen_stage (open_epoch now_types now_epoch) now_stage) now_types kept
+    ≡ seen_in choices number (seen_stage (open_epoch types epoch) stage) types kept
 seen-again choices number kept types now_types epoch now_epoch stage now_stage a b d = rw (a, b, d) refl
 
 -- a line that is too long
 pub overlong-made : (held : Option OpenEpoch) (stage : Stage) (types : List Count) (kept : Written)
     → (stage ≡ Looking → ⊥) → (stage ≡ Closed → ⊥) → ((at : At) → stage ≡ Ended at → ⊥)
     → made_in compaction (seen_stage held stage) types kept Overlong ≡ Fails LineTooLong
-overlong-made held (FirstLines count) types kept looks closes ends = refl
-overlong-made held (Header is_first) types kept looks closes ends = refl
-overlong-made held Between types kept looks closes ends = refl
-overlong-made held (Event left counted) types kept looks closes ends = refl
 overlong-made None Open types kept looks closes ends = refl
 overlong-made (Some so_far) Open types kept looks closes ends = refl
 overlong-made held Looking types kept looks closes ends = absurd (looks refl)
 overlong-made held Closed types kept looks closes ends = absurd (closes refl)
 overlong-made held (Ended at) types kept looks closes ends = absurd (ends at refl)
+overlong-made held stage types kept looks closes ends = refl

@@ -1,12 +1,14 @@
 -- From the steps of an engine of either direction to what every engine answers.
 use Rattle.std.proofs.Common.{ℕ, ◌≡◌, inl, inr, ◌+◌, Bool, true, false, cond, List, [], ◌∷◌, ◌++◌, map, length, Some}
-use Rattle.std.proofs.Common.{None, Result, Ok, Err, refl, ap, sym, subst, ◌∙◌, append-nil}
+use Rattle.std.proofs.Common.{None, Result, Ok, Err, refl, ap, sym, subst, ◌∙◌, append-nil, ◌≤◌, rules}
 use Rattle.std.specs.Prelude.{reverse, ◌&&◌}
 use Rattle.std.proofs.lemmas.List.{reverse-append}
 use Rattle.crx_lines.specs.meaning.Lines.{InputLine, is_long}
 use Rattle.crx_lines.specs.meaning.Seen.{ReadLine, Content, Overlong, seen}
 use Rattle.crx_lines.specs.declared.fault.At.{At}
 use Rattle.crx_lines.specs.declared.fault.Fault.TheVariants.{OutOfMemory}
+use Rattle.crx_lines.specs.declared.limits.TheConstants.{LINE_LIMIT}
+use Rattle.crx_reading.specs.meaning.Choices.{Choices}
 use Rattle.crx_reading.specs.meaning.Filters.{Filter, with_next}
 use Rattle.crx_rinex.specs.meaning.Printing.{lines_text}
 use Rattle.crx_engine.specs.Engines.{Awaited, IsAwaited, awaited_notices, GoesOn, EndsWith, EngineAnswers, Concludes}
@@ -15,7 +17,7 @@ use Rattle.crx_engine.specs.EngineSteps.{step_made, Steps}
 use Rattle.crx_engine.specs.Laws.{noticed_by, failed_by, is_again, is_ready, has_lines, Fed, fed_once, fed_twice, fed}
 use Rattle.crx_engine.specs.Laws.{IsReadyWhereLent}
 use Rattle.crx_reading.specs.LineByLine.{LookingOn}
-use Rattle.crx_reading.specs.LineByLine.{Seen, Direction, Made, Completes, Moves, Fails, Repeats, Notice}
+use Rattle.crx_reading.specs.LineByLine.{Seen, Direction, Made, Fails, Notice}
 use Rattle.crx_reading.specs.LineByLine.{Step as SeenStep, made_in, may_skip, is_in_epoch, is_skipped_in, failed_step}
 use Rattle.crx_reading.specs.LineByLine.{step_of_made, seen_next, seen_end}
 use Rattle.crx_reading.specs.Memory.{takes_memory}
@@ -24,6 +26,7 @@ use Rattle.crx_lines.specs.meaning.Faults.{is_skippable}
 use Rattle.crx_engine.specs.declared.engine.Step.{Step}
 use Rattle.crx_engine.specs.declared.engine.Step.TheVariants.{Quiet, Ready, Warned}
 use Rattle.crx_reading.proofs.Choosing.{by_bool}
+use Rattle.crx_engine.proofs.following.Following.{fed-once as feeds-once, fed-twice as feeds-twice}
 
 -- ---- what a direction has to keep to, in the words of a filter
 
@@ -69,7 +72,7 @@ pub record ComesAgain {O K : Type 0} (before next : Seen O K) (line : ReadLine) 
   pub phase : next.phase ≡ LookingOn
   pub number : next.number ≡ before.number
 
-both-true : (a b : Bool) → (a && b) ≡ true → (a ≡ true) × (b ≡ true)
+pub both-true : (a b : Bool) → (a && b) ≡ true → (a ≡ true) × (b ≡ true)
 both-true true true e = (refl, refl)
 both-true true false e = absurd (cc)
 both-true false b e = absurd (cc)
@@ -78,15 +81,6 @@ again-by-made : {U O K : Type 0} (direction : Direction U O K)
     (before next : Seen O K) (line : ReadLine) (at : At) (handed_out : List (List ℕ)) (made : Made U O)
     → record { answer = Notice at true; handed_out = handed_out; next = next } ≡ step_of_made direction before line made
     → ComesAgain before next line
-again-by-made {O = O} {K = K} direction before next line at handed_out (Completes unit) e =
-    let no : true ≡ false = ap (λ (s : SeenStep O K). is_again s.answer) e in
-    absurd (cc)
-again-by-made {O = O} {K = K} direction before next line at handed_out (Moves phase) e =
-    let no : true ≡ false = ap (λ (s : SeenStep O K). is_again s.answer) e in
-    absurd (cc)
-again-by-made {O = O} {K = K} direction before next line at handed_out (Repeats fault) e =
-    let no : true ≡ false = ap (λ (s : SeenStep O K). is_again s.answer) e in
-    absurd (cc)
 again-by-made {O = O} {K = K} direction before next line at handed_out (Fails fault) e =
     let again : Bool = is_in_epoch before.phase && can_go_on line in
     by_bool (is_skipped_in before fault)
@@ -123,6 +117,9 @@ again-by-made {O = O} {K = K} direction before next line at handed_out (Fails fa
     let is : is_again (failed_step direction before line fault).answer ≡ false = rw off refl in
     let yes : true ≡ false = ap (λ (s : SeenStep O K). is_again s.answer) step ∙ is in
     absurd (cc))
+again-by-made {O = O} {K = K} direction before next line at handed_out made e =
+    let no : true ≡ false = ap (λ (s : SeenStep O K). is_again s.answer) e in
+    absurd (cc)
 
 pub comes-again : {U O K : Type 0}
     (direction : Direction U O K) (before next : Seen O K) (line : ReadLine) (at : At) (handed_out : List (List ℕ))
@@ -140,8 +137,9 @@ none-handed_out : (lines : List (List ℕ)) → has_lines lines ≡ false → li
 none-handed_out [] e = refl
 none-handed_out (line ∷ lines) e = absurd (cc)
 
-module _ {U O K : Type 0} (direction : Direction U O K) (seen_after : List ReadLine
-    → Seen O K) (filter : Filter) (goes : GoesLineByLine direction seen_after filter) where
+module _ {U O K : Type 0} {direction : Direction U O K} {seen_after : List ReadLine → Seen O K}
+    {filter : Filter}
+    (goes : GoesLineByLine direction seen_after filter) where
   -- only a step that is ready lends lines
   quiet-handed_out : (before : Seen O K) (line : ReadLine) (step : SeenStep O K)
       → step ≡ seen_next direction before line → is_ready step.answer ≡ false → step.handed_out ≡ []
@@ -150,23 +148,17 @@ module _ {U O K : Type 0} (direction : Direction U O K) (seen_after : List ReadL
 
   -- ---- a line that is fed once, or comes a second time
 
-  abbrev fed_by : ReadLine → SeenStep O K → Fed O K
-  fed_by line s = elim (is_again s.answer) [ true ↦ fed_twice s (seen_next direction s.next line) | false ↦ fed_once s ]
-
-  by-once : (line : ReadLine) (step : SeenStep O K) → is_again step.answer ≡ false → fed_by line step ≡ fed_once step
-  by-once line step once = rw (once, fed_by) refl
-
-  by-again : (line : ReadLine) (step : SeenStep O K)
-      → is_again step.answer ≡ true → fed_by line step ≡ fed_twice step (seen_next direction step.next line)
-  by-again line step again = rw (again, fed_by) refl
-
   fed-once : (before : Seen O K) (line : ReadLine) (step : SeenStep O K) → step ≡ seen_next direction before line
       → is_again step.answer ≡ false → fed direction before line ≡ fed_once step
-  fed-once before line step e once = ap (fed_by line) (sym e) ∙ by-once line step once
+  fed-once before line step e once =
+      feeds-once direction before line (ap (λ (s : SeenStep O K). is_again s.answer) (sym e) ∙ once)
+      ∙ ap fed_once (sym e)
 
   fed-again : (before : Seen O K) (line : ReadLine) (step : SeenStep O K) → step ≡ seen_next direction before line
       → is_again step.answer ≡ true → fed direction before line ≡ fed_twice step (seen_next direction step.next line)
-  fed-again before line step e again = ap (fed_by line) (sym e) ∙ by-again line step again
+  fed-again before line step e again =
+      feeds-twice direction before line (ap (λ (s : SeenStep O K). is_again s.answer) (sym e) ∙ again)
+      ∙ ap (λ (s : SeenStep O K). fed_twice s (seen_next direction s.next line)) (sym e)
 
   module _ (lines : List InputLine) (line : InputLine) where
     abbrev first : Seen O K
@@ -179,13 +171,17 @@ module _ {U O K : Type 0} (direction : Direction U O K) (seen_after : List ReadL
         FollowsBy filter lines line (seen_after (map seen (with_next lines line))) x) e (goes.follows lines line)
 
     -- it goes on
-    goes-on : (f : Fed O K) (now : Seen O K) (texts : List (List ℕ)) (notices : List At) → fed direction first
-        (seen line) ≡ f → f.next ≡ now → f.handed_out ≡ texts → reverse f.warned ≡ notices → f.failed ≡ None
-        → HasTaken direction seen_after now (with_next lines line) []
+    goes-on : (shows : List InputLine → List Awaited → Type 0) (f : Fed O K) (now : Seen O K)
+        (texts : List (List ℕ))
+        (notices : List At)
+        → ((ls : List InputLine) (ns : List Awaited) → HasTaken direction seen_after now ls ns → shows ls ns)
+        → fed direction first (seen line) ≡ f → f.next ≡ now → f.handed_out ≡ texts → reverse f.warned ≡ notices
+        → f.failed ≡ None
+        → shows (with_next lines line) []
         × GoesOn (filter.so_far lines) (filter.so_far (with_next lines line)) texts notices
-    goes-on f now texts notices e next handed_out warned good =
+    goes-on shows f now texts notices showing e next handed_out warned good =
         let h = follows-fed f e in (
-          sym next ∙ sym h.next,
+          showing (with_next lines line) [] (sym next ∙ sym h.next),
           record {
             output = h.output ∙ ap (λ (ls : List (List ℕ)). (filter.so_far lines).output ++ lines_text ls) handed_out;
             warnings = h.warnings ∙ ap (λ (ns : List At). (filter.so_far lines).warnings ++ ns) warned;
@@ -213,14 +209,13 @@ module _ {U O K : Type 0} (direction : Direction U O K) (seen_after : List ReadL
         → step_made result ready now ≡ seen_next direction first (seen line)
         → EngineAnswers filter shows ready lines [] line result
     first-time shows now ready (Ok Quiet) showing e =
-        let none : ready ≡ [] = quiet-handed_out first (seen line) (step_made (Ok Quiet) ready now) e refl in
-        let g = goes-on (fed_once (step_made (Ok Quiet) ready now)) now
-        [] [] (fed-once first (seen line) (step_made (Ok Quiet) ready now) e refl) refl none refl refl in
-        (showing (with_next lines line) [] g.0, g.1)
+        let step = step_made (Ok Quiet) ready now in
+        goes-on shows (fed_once step) now [] [] showing (fed-once first (seen line) step e refl) refl
+        (quiet-handed_out first (seen line) step e refl) refl refl
     first-time shows now ready (Ok Ready) showing e =
-        let g = goes-on (fed_once (step_made (Ok Ready) ready now)) now ready
-        [] (fed-once first (seen line) (step_made (Ok Ready) ready now) e refl) refl refl refl refl in
-        (showing (with_next lines line) [] g.0, g.1)
+        let step = step_made (Ok Ready) ready now in
+        goes-on shows (fed_once step) now ready [] showing (fed-once first (seen line) step e refl) refl refl
+        refl refl
     first-time shows now ready (Ok (Warned notice true)) showing e =
         let step = step_made (Ok (Warned notice true)) ready now in
         let none : ready ≡ [] = quiet-handed_out first (seen line) step e refl in
@@ -237,10 +232,9 @@ module _ {U O K : Type 0} (direction : Direction U O K) (seen_after : List ReadL
         )
     first-time shows now ready (Ok (Warned notice false)) showing e =
         let step = step_made (Ok (Warned notice false)) ready now in
-        let none : ready ≡ [] = quiet-handed_out first (seen line) step e refl in
-        let g = goes-on (fed_once step) now
-        [] (notice ∷ []) (fed-once first (seen line) step e refl) refl none refl refl in
-        (showing (with_next lines line) [] g.0, g.1)
+        goes-on shows (fed_once step) now [] (notice ∷ []) showing (fed-once first (seen line) step e refl)
+        refl
+        (quiet-handed_out first (seen line) step e refl) refl refl
     first-time shows now ready (Err at) showing e =
         let step = step_made (Err at) ready now in
         inr (ends-with (fed_once step)
@@ -254,10 +248,8 @@ module _ {U O K : Type 0} (direction : Direction U O K) (seen_after : List ReadL
         → step_made result ready now ≡ seen_next direction before (seen line)
         → EngineAnswers filter shows ready lines (record { notice = notice; line = line } ∷ []) line result
     second-time shows notice before now ready result one showing e =
-        let step : SeenStep O K = record { answer = Notice notice true; handed_out = []; next = before } in
-        let twice : fed direction first (seen line) ≡ fed_twice step (step_made result ready now) =
-        fed-again first (seen line) step one refl ∙ ap (λ (s : SeenStep O K). fed_twice step s) (sym e) in
-        answers result twice e
+        answers result (fed-again first (seen line) step one refl
+        ∙ ap (λ (s : SeenStep O K). fed_twice step s) (sym e)) e
       where
         step : SeenStep O K
         step = record { answer = Notice notice true; handed_out = []; next = before }
@@ -266,23 +258,20 @@ module _ {U O K : Type 0} (direction : Direction U O K) (seen_after : List ReadL
             → step_made r ready now ≡ seen_next direction before (seen line)
             → EngineAnswers filter shows ready lines (record { notice = notice; line = line } ∷ []) line r
         answers (Ok Quiet) twice s =
-            let g = goes-on (fed_twice step (step_made (Ok Quiet) ready now)) now [] (notice ∷ []) twice refl
-            (quiet-handed_out before (seen line) (step_made (Ok Quiet) ready now) s refl) refl refl in
-            (showing (with_next lines line) [] g.0, g.1)
-        answers (Ok Ready) twice s =
-            let g = goes-on (fed_twice step (step_made (Ok Ready) ready now)) now ready
-            (notice ∷ []) twice refl refl refl refl in
-            (showing (with_next lines line) [] g.0, g.1)
+            goes-on shows (fed_twice step (step_made (Ok Quiet) ready now)) now [] (notice ∷ []) showing twice
+            refl
+            (quiet-handed_out before (seen line) (step_made (Ok Quiet) ready now) s refl) refl refl
+        answers (Ok Ready) twice s = goes-on shows (fed_twice step (step_made (Ok Ready) ready now)) now ready
+            (notice ∷ []) showing twice refl refl refl refl
         answers (Ok (Warned next true)) twice s =
             let again = comes-again direction before now (seen line) next ready s in
             let looking = comes-again direction first before (seen line) notice [] one in
             let no : true ≡ false = sym again.epoch ∙ ap is_in_epoch looking.phase in
             absurd (cc)
         answers (Ok (Warned next false)) twice s =
-            let g = goes-on (fed_twice step (step_made (Ok (Warned next false)) ready now)) now
-            [] (notice ∷ next ∷ []) twice refl
-            (quiet-handed_out before (seen line) (step_made (Ok (Warned next false)) ready now) s refl) refl refl in
-            (showing (with_next lines line) [] g.0, g.1)
+            goes-on shows (fed_twice step (step_made (Ok (Warned next false)) ready now)) now
+            [] (notice ∷ next ∷ []) showing twice refl
+            (quiet-handed_out before (seen line) (step_made (Ok (Warned next false)) ready now) s refl) refl refl
         answers (Err at) twice s =
             inr (ends-with (fed_twice step (step_made (Err at) ready now))
             (notice ∷ []) at twice (quiet-handed_out before (seen line) (step_made (Err at) ready now) s refl) refl refl)
@@ -303,7 +292,8 @@ module _ {U O K : Type 0} (direction : Direction U O K) (seen_after : List ReadL
         }))
 
   -- an engine's own step, or memory that ran out, is an answer
-  pub answers-line : (shows : List InputLine → List Awaited → Type 0) (before now : Seen O K) (lines : List InputLine)
+  answers-line : (shows : List InputLine → List Awaited → Type 0) (before now : Seen O K)
+      (lines : List InputLine)
       (notices : List Awaited) (line : InputLine) (ready : List (List ℕ)) (result : Result Step At)
       → ((ls : List InputLine) (ns : List Awaited) → HasTaken direction seen_after now ls ns → shows ls ns)
       → HasTaken direction seen_after before lines notices → IsAwaited notices line → Steps direction before
@@ -382,3 +372,46 @@ seen-long line e = rw e refl
 
 pub seen-short : (line : InputLine) → is_long line ≡ false → seen line ≡ Content line.content
 seen-short line e = rw e refl
+
+-- a line within the limit isn't too long
+pub short-line : (line : InputLine) → length line.content ≤ LINE_LIMIT → is_long line ≡ false
+short-line line h = search (rules, h)
+
+pub seen-within : (line : InputLine) (bytes : List ℕ)
+    → length line.content ≤ LINE_LIMIT → bytes ≡ line.content → seen line ≡ Content bytes
+seen-within line bytes h e = seen-short line (short-line line h)
+    ∙ ap (λ (content : List ℕ). Content content) (sym e)
+
+-- ---- an engine with its choices
+
+module _ {U O K : Type 0} {direction : Direction U O K} {seen_by : Choices → List ReadLine → Seen O K}
+    {filter_by : Choices → Filter}
+    (goes : (choices : Choices) → GoesLineByLine direction (seen_by choices) (filter_by choices)) where
+  -- its count is that of the lines
+  taken-lines : (choices : Choices) (now : Seen O K) (lines : List InputLine) (notices : List Awaited)
+      → HasTaken direction (seen_by choices) now lines notices → now.number ≡ length lines
+  taken-lines choices now lines [] taken = ap (λ (s : Seen O K). s.number) taken ∙ (goes choices).number lines
+  taken-lines choices now lines (a ∷ []) taken =
+      (comes-again direction (seen_by choices (map seen lines)) now (seen a.line) a.notice [] taken).number
+      ∙ (goes choices).number lines
+  taken-lines choices now lines (a ∷ b ∷ others) taken = absurd taken
+
+  -- an engine whose choices are as they were answers a line by what is seen of it, and shows the lines taken
+  pub answers-seen : (shows : List InputLine → List Awaited → Type 0) (before now : Seen O K)
+      (lines : List InputLine)
+      (notices : List Awaited) (line : InputLine) (read : ReadLine) (ready : List (List ℕ))
+      (result : Result Step At)
+      → ((ls : List InputLine) (ns : List Awaited)
+      → HasTaken direction (seen_by now.choices) now ls ns × (now.number ≡ length ls) → shows ls ns)
+      → now.choices ≡ before.choices → seen line ≡ read
+      → HasTaken direction (seen_by before.choices) before lines notices → IsAwaited notices line
+      → Steps direction before read result ready now
+      → EngineAnswers (filter_by before.choices) shows ready lines notices line result
+  answers-seen shows before now lines notices line read ready result showing same is taken awaited steps =
+      answers-line (goes before.choices) shows before now
+      lines notices line ready result
+      (λ ls ns then. showing ls ns (
+        subst (λ (c : Choices). HasTaken direction (seen_by c) now ls ns) (sym same) then,
+        taken-lines before.choices now ls ns then,
+      ))
+      taken awaited (subst (λ (l : ReadLine). Steps direction before l result ready now) (sym is) steps)

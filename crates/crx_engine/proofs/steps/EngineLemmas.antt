@@ -1,6 +1,6 @@
 -- What an engine of either direction has seen after a line.
 use Rattle.std.proofs.Common.{◌≡◌, inl, inr, ℕ, ◌+◌, Bool, true, false, List, Option, Some, None, Result, Ok, Err, refl}
-use Rattle.std.proofs.Common.{sym, ap, subst, ◌∙◌, true≢false}
+use Rattle.std.proofs.Common.{ap, subst, ◌∙◌}
 use Rattle.std.specs.Prelude.{◌&&◌}
 use Rattle.crx_lines.specs.meaning.Seen.{ReadLine, Content, Overlong}
 use Rattle.crx_lines.specs.declared.fault.At.{At}
@@ -8,8 +8,8 @@ use Rattle.crx_lines.specs.declared.fault.Fault.{Fault}
 use Rattle.crx_lines.specs.declared.fault.Fault.TheVariants.{OutOfMemory}
 use Rattle.crx_rinex.specs.meaning.Observations.{Epoch}
 use Rattle.crx_rinex.specs.meaning.ObservationTypes.{Count}
-use Rattle.crx_reading.specs.LineByLine.{Phase, Ended as SeenEnded, Seen, Direction, Answer, Quiet as SeenQuiet}
-use Rattle.crx_reading.specs.LineByLine.{Ready as SeenReady, Notice, Failed, Step as SeenStep, made_in, may_skip}
+use Rattle.crx_reading.specs.LineByLine.{Phase, Ended as SeenEnded, Seen, Direction}
+use Rattle.crx_reading.specs.LineByLine.{Failed, Step as SeenStep, made_in, may_skip}
 use Rattle.crx_reading.specs.LineByLine.{is_skipped_in, failed_step, step_of_made, seen_next, seen_end}
 use Rattle.crx_reading.specs.Memory.{may_take_memory, takes_memory}
 use Rattle.crx_lines.specs.meaning.Faults.{is_skippable}
@@ -17,25 +17,17 @@ use Rattle.crx_engine.specs.EngineSteps.{answer_of_step, step_made, RanOut, Step
 use Rattle.crx_reading.specs.Stages.{is_held}
 use Rattle.crx_reading.specs.RinexStages.{open_epoch, is_rinex_stage}
 use Rattle.crx_engine.specs.declared.engine.Step.{Step}
-use Rattle.crx_engine.specs.declared.engine.Step.TheVariants.{Quiet, Ready, Warned}
+use Rattle.crx_engine.specs.declared.engine.Step.TheVariants.{Quiet}
 use Rattle.crx_reading.specs.declared.stage.Stage.{Stage}
-use Rattle.crx_reading.specs.declared.stage.Stage.TheVariants.{FirstLines, Header, Between, Event, Open, Looking}
-use Rattle.crx_reading.specs.declared.stage.Stage.TheVariants.{Closed}
-use Rattle.crx_reading.specs.declared.stage.Stage.TheVariants.{Ended}
+use Rattle.crx_reading.specs.declared.stage.Stage.TheVariants.{Open}
 use Rattle.crx_reading.proofs.Choosing.{false-true}
 
 -- in the stage of an open epoch one is held
 pub held-open : (types : List Count) (stage : Stage) (epoch : Option Epoch)
     → is_rinex_stage stage epoch ≡ true → is_held stage (open_epoch types epoch) ≡ true
-held-open types (FirstLines count) epoch is = refl
-held-open types (Header is_first) epoch is = refl
-held-open types Between epoch is = refl
-held-open types (Event left counted) epoch is = refl
 held-open types Open None is = false-true is
 held-open types Open (Some epoch) is = refl
-held-open types Looking epoch is = refl
-held-open types Closed epoch is = refl
-held-open types (Ended at) epoch is = refl
+held-open types stage epoch is = refl
 
 -- a step in its parts
 pub same-step : {O K : Type 0} (one two : Result Step At) (lines handed_out : List (List ℕ)) (seen after : Seen O K)
@@ -79,24 +71,11 @@ ran-out direction before after line result fault out is allowed counted =
 
 -- ---- a fault that ended the run is answered again
 
-abbrev is_failed : Answer → Bool
-is_failed SeenQuiet = false
-is_failed SeenReady = false
-is_failed (Notice at again) = false
-is_failed (Failed at) = true
-
-abbrev failed_or : At → Answer → At
-failed_or other SeenQuiet = other
-failed_or other SeenReady = other
-failed_or other (Notice at again) = other
-failed_or other (Failed at) = at
-
 -- an answer that the run has failed is the fault that ended it
 pub failed-at : (r : Result Step At) (at : At) → answer_of_step r ≡ Failed at → r ≡ Err at
-failed-at (Ok Quiet) at e = absurd (true≢false (sym (ap is_failed e)))
-failed-at (Ok Ready) at e = absurd (true≢false (sym (ap is_failed e)))
-failed-at (Ok (Warned notice again)) at e = absurd (true≢false (sym (ap is_failed e)))
-failed-at (Err a) at e = ap (λ (x : At). Err x) (ap (failed_or a) e)
+failed-at (Err a) at e = cc
+failed-at (Ok Quiet) at e = absurd (cc)
+failed-at r at e = absurd (cc)
 
 never-ended : (O : Type 0) (first : List ℕ → Bool) (next : O → List ℕ → Bool) (at : At) (line : ReadLine)
     → may_take_memory {O = O} first next (SeenEnded at) line ≡ true → ⊥

@@ -1,5 +1,6 @@
 -- What an engine of expansion is seen as after a fault, after the end of the input, and after a line.
-use Rattle.std.proofs.Common.{◌≡◌, inl, inr, ℕ, ◌+◌, true, false, List, [], Option, Some, None, Result, Err, refl, sym}
+use Rattle.std.proofs.Common.{Bool, ◌≡◌, inl, inr, ℕ, ◌+◌, true, false, List}
+use Rattle.std.proofs.Common.{[], Option, Some, None, Result, Err, refl, sym}
 use Rattle.std.proofs.Common.{ap, ◌∙◌, if◌then◌else◌, true≢false}
 use Rattle.crx_rinex.specs.meaning.ObservationTypes.{Count}
 use Rattle.crx_compact.specs.OpenEpochs.{OpenRawEpoch, ColumnsState}
@@ -11,65 +12,59 @@ use Rattle.crx_lines.specs.declared.fault.Fault.{Fault}
 use Rattle.crx_lines.specs.declared.fault.Fault.TheVariants.{LineTooLong}
 use Rattle.crx_reading.specs.meaning.Choices.{Choices}
 use Rattle.crx_reading.specs.ExpansionByLine.{expansion}
-use Rattle.crx_reading.specs.LineByLine.{Phase, Seen, Fails, made_in, step_of_made, failed_step}
+use Rattle.crx_reading.specs.LineByLine.{Seen, Fails, made_in, step_of_made, failed_step}
 use Rattle.crx_lines.specs.meaning.Faults.{is_skippable}
-use Rattle.crx_engine.specs.EngineSteps.{Steps, settled_seen, step_made}
+use Rattle.crx_engine.specs.EngineSteps.{IsAt, Steps, settled_seen, step_made}
 use Rattle.crx_reading.specs.Stages.{is_held, is_settled, seen_stage}
 use Rattle.crx_reading.specs.CompactStages.{is_compact_stage, open_in}
 use Rattle.crx_reading.specs.CompactReaders.{RefusesCompactLine}
 use Rattle.crx_engine.specs.declared.engine.Step.{Step}
 use Rattle.crx_engine.specs.declared.settled.Settled.{Settled}
 use Rattle.crx_reading.specs.declared.stage.Stage.{Stage}
-use Rattle.crx_reading.specs.declared.stage.Stage.TheVariants.{FirstLines, Header, Between, Event, Open, Looking}
+use Rattle.crx_reading.specs.declared.stage.Stage.TheVariants.{Open, Looking}
 use Rattle.crx_reading.specs.declared.stage.Stage.TheVariants.{Closed}
 use Rattle.crx_reading.specs.declared.stage.Stage.TheVariants.{Ended}
+use Rattle.crx_engine.proofs.following.Following.{seen_in}
 use Rattle.crx_engine.proofs.steps.EngineLemmas.{fatal-counts}
-
-abbrev seen_as : Choices → ℕ → Phase OpenRawEpoch → List Count → Option Tail → Seen OpenRawEpoch (Option Tail)
-seen_as choices number phase types kept =
-    record { choices = choices; number = number; phase = phase; types = types; kept = kept }
 
 -- an engine that has stopped is seen as stopped
 pub settled-as : (before : Seen OpenRawEpoch (Option Tail)) (now : Option OpenRawEpoch)
     (s : Settled) (choices : Choices) (stage : Stage) (types : List Count) (kept : Option Tail)
     → before.choices ≡ choices → stage ≡ s.stage
     → types ≡ before.types → kept ≡ (if s.is_emptied then None else before.kept)
-    → step_made s.answer [] (seen_as choices s.number (seen_stage now stage) types kept)
+    → step_made s.answer [] (seen_in choices s.number (seen_stage now stage) types kept)
     ≡ step_made s.answer [] (settled_seen expansion before now s)
 settled-as before now s choices stage types kept chosen staged typed emptied =
-    ap (λ (c : Choices). step_made s.answer [] (seen_as c s.number (seen_stage now stage) types kept)) (sym chosen)
-    ∙ ap (λ (st : Stage). step_made s.answer [] (seen_as before.choices s.number (seen_stage now st) types kept)) staged
-    ∙ ap (λ (t : List Count). step_made s.answer
-    [] (seen_as before.choices s.number (seen_stage now s.stage) t kept)) typed
-    ∙ ap (λ (k : Option Tail). step_made s.answer
-    [] (seen_as before.choices s.number (seen_stage now s.stage) before.types k)) emptied
+    rw (← chosen, staged, typed, emptied) refl
 
 -- an epoch is held in the stage of an open one
-pub held-open : (stage : Stage) (columns : ColumnsState)
+held-open : (stage : Stage) (columns : ColumnsState)
     → is_compact_stage stage columns ≡ true → is_held stage (open_in columns) ≡ true
-held-open (FirstLines count) columns h = refl
-held-open (Header is_first) columns h = refl
-held-open Between columns h = refl
-held-open (Event left counted) columns h = refl
 held-open Open (Idle tail) h = absurd (true≢false (sym h))
 held-open Open (Reading begun) h = refl
-held-open Looking columns h = refl
-held-open Closed columns h = refl
-held-open (Ended at) columns h = refl
+held-open stage columns h = refl
+
+-- an engine is seen at its stage, as its columns hold an epoch
+pub at-stage : (before : Seen OpenRawEpoch (Option Tail)) (stage : Stage) (columns : ColumnsState) (count : ℕ)
+    (skips : Bool) → before.phase ≡ seen_stage (open_in columns) stage → is_compact_stage stage columns ≡ true
+    → before.number ≡ count → before.choices.skip ≡ skips → IsAt before (open_in columns) stage count skips
+at-stage before stage columns count skips phase consistent number skip = record {
+  is_phase = phase;
+  is_open = held-open stage columns consistent;
+  is_count = number;
+  is_skip = skip;
+}
 
 -- a line that is too long is a fault wherever lines are read
 pub too-long : (stage : Stage) (held : Option OpenRawEpoch) (types : List Count) (kept : Option Tail)
     → is_settled stage ≡ false
     → made_in expansion (seen_stage held stage) types kept Overlong ≡ Fails LineTooLong
-too-long (FirstLines count) held types kept h = refl
-too-long (Header is_first) held types kept h = refl
-too-long Between held types kept h = refl
-too-long (Event left counted) held types kept h = refl
 too-long Open None types kept h = refl
 too-long Open (Some so_far) types kept h = refl
 too-long Looking held types kept h = absurd (true≢false h)
 too-long Closed held types kept h = absurd (true≢false h)
 too-long (Ended at) held types kept h = absurd (true≢false h)
+too-long stage held types kept h = refl
 
 -- a line was refused: with its fault, or because memory ran out
 pub refused-line : (before after : Seen OpenRawEpoch (Option Tail))

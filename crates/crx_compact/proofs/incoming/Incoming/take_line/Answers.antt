@@ -3,7 +3,6 @@ use Rattle.std.specs.Prelude.{slice_get}
 use Rattle.crx_history.specs.meaning.EpochText.{Satellite}
 use Rattle.crx_compact.specs.OpenEpochs.{RawStep}
 use Rattle.crx_compact.specs.OpenLines.{OpenLines, AreLinesSoFar, HaveRowsAt, lines_so_far, made_of, step_after}
-use Rattle.crx_history.specs.RowsSoFar.{AreRowsSoFar}
 use Rattle.crx_compact.specs.declared.incoming.Stage.{Stage}
 use Rattle.crx_compact.specs.declared.incoming.Stage.TheVariants.{Rows}
 use Rattle.crx_history.specs.ShownRows.{shown_epoch}
@@ -18,11 +17,9 @@ pub returns-in_default-clause-ok : goal.returns-in_default-clause-ok
 returns-in_default-clause-ok c =
     let self = c.self.inside in
     let state : c.args.self.now ≡ lines_so_far Rows self.next self.count self.satellites =
-    sym c.self.view_is ∙ ap {B = Option OpenLines}
-    (λ (s : Stage). lines_so_far s self.next self.count self.satellites) c.in-Rows.is in
+    cc (c.self.view_is, c.in-Rows.is) in
     let none : slice_get self.satellites self.count ≡ None =
-    ap {B = Option Satellite} (λ (ss : List Satellite). slice_get ss self.count) (sym c.as_slice.ensures.value)
-    ∙ sym c.in_default.ensures in
+    cc (c.as_slice.ensures.value, c.in_default.ensures) in
     ap {B = RawStep} (λ (o : Option OpenLines). step_after c.args.before.now o c.args.line.now) state
     ∙ all-taken c.args.before.now self.next c.args.line.now self.count self.satellites (shown_epoch self.next self.count) none
     ∙ ap {B = RawStep} (λ (o : Option OpenLines). made_of c.args.before.now o) (sym state)
@@ -30,8 +27,7 @@ returns-in_default-clause-ok c =
 pub next_row-requires-clause-room : goal.next_row-requires-clause-room
 next_row-requires-clause-room c =
     let self = c.self.inside in
-    let room : HaveRows self.satellites self.next.rows =
-    subst (λ (s : Stage). HaveRowsAt s self.next self.satellites) c.in-Rows.is c.self.invariant.1 in
+    let room = rw c.in-Rows.is at c.self.invariant.1 in
     has-row self.satellites self.next.rows self.count c.in-Some.satellite.now room
     (ap {B = Option Satellite} (λ (ss : List Satellite). slice_get ss self.count) (sym c.as_slice.ensures.value)
     ∙ sym c.in-Some.ensures)
@@ -39,14 +35,10 @@ next_row-requires-clause-room c =
 pub invariant_of-self-in-Ok : goal.invariant_of-self-in-Ok
 invariant_of-self-in-Ok c =
     let self = c.self.inside in
-    let P : Stage → Type 0 = λ (s : Stage). AreLinesSoFar s self.next self.count self.satellites in
-    let rows : AreRowsSoFar (shown_epoch self.next self.count) self.next self.count self.satellites =
-    subst P c.in-Rows.is c.self.invariant.0 in
+    let rows = rw c.in-Rows.is at c.self.invariant.0 in
     let here : slice_get self.satellites self.count ≡ Some c.in-Some.satellite.now =
-    ap {B = Option Satellite} (λ (ss : List Satellite). slice_get ss self.count) (sym c.as_slice.ensures.value)
-    ∙ sym c.in-Some.ensures in
-    let room : HaveRows self.satellites self.next.rows =
-    subst (λ (s : Stage). HaveRowsAt s self.next self.satellites) c.in-Rows.is c.self.invariant.1 in
+    cc (c.as_slice.ensures.value, c.in-Some.ensures) in
+    let room = rw c.in-Rows.is at c.self.invariant.1 in
     subst (λ (s : Stage). AreLinesSoFar s c.next_row.new.next (self.count + 1) self.satellites
     × HaveRowsAt s c.next_row.new.next self.satellites) (sym c.in-Rows.is) (
       rows-more c.args.before.now self.next c.next_row.new.next c.args.line.now self.count
@@ -61,15 +53,11 @@ invariant_of-self-in-Ok c =
 pub returns-in-Ok-clause-ok : goal.returns-in-Ok-clause-ok
 returns-in-Ok-clause-ok c =
     let self = c.self.inside in
-    let P : Stage → Type 0 = λ (s : Stage). AreLinesSoFar s self.next self.count self.satellites in
-    let rows : AreRowsSoFar (shown_epoch self.next self.count) self.next self.count self.satellites =
-    subst P c.in-Rows.is c.self.invariant.0 in
+    let rows = rw c.in-Rows.is at c.self.invariant.0 in
     let here : slice_get self.satellites self.count ≡ Some c.in-Some.satellite.now =
-    ap {B = Option Satellite} (λ (ss : List Satellite). slice_get ss self.count) (sym c.as_slice.ensures.value)
-    ∙ sym c.in-Some.ensures in
+    cc (c.as_slice.ensures.value, c.in-Some.ensures) in
     let state : c.args.self.now ≡ lines_so_far Rows self.next self.count self.satellites =
-    sym c.self.view_is ∙ ap {B = Option OpenLines}
-    (λ (s : Stage). lines_so_far s self.next self.count self.satellites) c.in-Rows.is in
+    cc (c.self.view_is, c.in-Rows.is) in
     ap {B = RawStep} (λ (o : Option OpenLines). step_after c.args.before.now o c.args.line.now) state
     ∙ row-taken c.args.before.now self.next c.next_row.new.next c.args.line.now self.count
     self.satellites (shown_epoch self.next self.count) (shown_epoch c.next_row.new.next (self.count + 1)) c.in-Some.satellite.now rows here
@@ -82,11 +70,9 @@ pub returns-in-Err-clause-err : goal.returns-in-Err-clause-err
 returns-in-Err-clause-err c =
     let self = c.self.inside in
     let here : slice_get self.satellites self.count ≡ Some c.in-Some.satellite.now =
-    ap {B = Option Satellite} (λ (ss : List Satellite). slice_get ss self.count) (sym c.as_slice.ensures.value)
-    ∙ sym c.in-Some.ensures in
+    cc (c.as_slice.ensures.value, c.in-Some.ensures) in
     let state : c.args.self.now ≡ lines_so_far Rows self.next self.count self.satellites =
-    sym c.self.view_is ∙ ap {B = Option OpenLines}
-    (λ (s : Stage). lines_so_far s self.next self.count self.satellites) c.in-Rows.is in
+    cc (c.self.view_is, c.in-Rows.is) in
     ap {B = RawStep} (λ (o : Option OpenLines). step_after c.args.before.now o c.args.line.now) state
     ∙ row-refused c.args.before.now self.next c.args.line.now self.count
     self.satellites (shown_epoch self.next self.count) c.in-Some.satellite.now c.in-Err.fault here c.in-Err.ensures.err

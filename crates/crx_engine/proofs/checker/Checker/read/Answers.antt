@@ -7,7 +7,8 @@ use Rattle.crx_engine.specs.CheckerState.{is_reading, checker_state_with}
 use Rattle.crx_engine.specs.Engines.{RunsOutAt}
 use Rattle.crx_reading.specs.meaning.Filters.{with_next}
 use Rattle.crx_reading.specs.RinexReaders.{reader_phase, made_at, TakesRinexLine, RefusesRinexLine}
-use Rattle.crx_engine.proofs.steps.CheckerSteps.{has-printed, still-reading, took-line, refused-line, short-line}
+use Rattle.crx_engine.proofs.steps.EngineAnswers.{short-line}
+use Rattle.crx_engine.proofs.steps.CheckerSteps.{has-printed, still-reading, took-line, refused-line}
 use Rattle.crx_engine.proofs.checker.Checker.read.Goals as goal
 
 pub returns-in-Ok-clause-open : goal.returns-in-Ok-clause-open

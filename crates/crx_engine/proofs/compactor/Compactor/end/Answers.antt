@@ -1,5 +1,4 @@
-use Rattle.crx_reading.specs.meaning.Directions.{compaction_filter}
-use Rattle.crx_reading.specs.CompactionByLine.{compaction, compaction_seen}
+use Rattle.crx_reading.specs.CompactionByLine.{compaction}
 use Rattle.crx_engine.specs.CompactionState.{compaction_state}
 use Rattle.crx_engine.proofs.following.DirectionSteps.{compaction-goes}
 use Rattle.crx_engine.proofs.steps.EngineAnswers.{concludes}
@@ -9,8 +8,8 @@ use Rattle.crx_engine.proofs.compactor.Compactor.end.Goals as goal
 pub returns-clause-concludes : goal.returns-clause-concludes
 returns-clause-concludes c = λ lines taken.
     let before = compaction_state c.args.self.now.compaction in
-    concludes compaction (compaction_seen before.choices) (compaction_filter before.choices) (compaction-goes
-    before.choices) before (compaction_state c.end.new.self) lines _ c.end.result taken c.end.ensures.steps
+    concludes (compaction-goes before.choices) before (compaction_state c.end.new.self) lines _ c.end.result
+    taken c.end.ensures.steps
 
 pub returns-clause-repeated : goal.returns-clause-repeated
 returns-clause-repeated c = λ at is.

@@ -1,7 +1,5 @@
 use Rattle.std.proofs.Common.{ap, ◌∙◌}
 use Rattle.crx_engine.specs.EngineSteps.{step_made}
-use Rattle.crx_reading.specs.meaning.Directions.{compaction_filter}
-use Rattle.crx_reading.specs.CompactionByLine.{compaction, compaction_seen}
 use Rattle.crx_engine.specs.CompactorState.{compactor_seen, compactor_ready}
 use Rattle.crx_engine.proofs.following.DirectionSteps.{compaction-goes}
 use Rattle.crx_engine.proofs.steps.EngineAnswers.{concludes}
@@ -16,6 +14,6 @@ returns-clause-concludes c = λ lines shown.
     let self = c.args.self.now in
     let new = c.end.new.self in
     let choices = (compactor_seen self).choices in
-    concludes compaction (compaction_seen choices) (compaction_filter choices) (compaction-goes choices)
-    (compactor_seen self) (compactor_seen new) lines (compactor_ready new) c.end.result shown.0
+    concludes (compaction-goes choices) (compactor_seen self) (compactor_seen new) lines (compactor_ready new)
+    c.end.result shown.0
     (ap (λ ready. step_made c.end.result ready (compactor_seen new)) c.end.ensures.drained ∙ c.end.ensures.steps)

@@ -3,16 +3,15 @@ use Rattle.crx_lines.specs.declared.fault.At.{At}
 use Rattle.crx_compact.specs.OpenEpochs.{OpenRawEpoch, tail_held}
 use Rattle.crx_history.specs.Tails.{Tail}
 use Rattle.crx_reading.specs.CompactStages.{open_in}
-use Rattle.crx_engine.specs.EngineSteps.{IsAt, step_made}
+use Rattle.crx_engine.specs.EngineSteps.{step_made}
 use Rattle.crx_reading.specs.CompactReaders.{seen_in, compact_reader_state}
-use Rattle.crx_reading.specs.ExpansionByLine.{expansion, expansion_seen}
+use Rattle.crx_reading.specs.ExpansionByLine.{expansion}
 use Rattle.crx_engine.specs.ExpanderState.{expander_state}
 use Rattle.crx_reading.specs.declared.stage.Stage.{Stage}
 use Rattle.crx_reading.specs.declared.stage.Stage.TheVariants.{Ended}
 use Rattle.crx_reading.specs.LineByLine.{Step, seen_end}
-use Rattle.crx_engine.proofs.steps.ExpanderSteps.{held-open, settled-as}
+use Rattle.crx_engine.proofs.steps.ExpanderSteps.{at-stage, settled-as}
 use Rattle.crx_engine.proofs.steps.EngineLemmas.{failed-at}
-use Rattle.crx_reading.specs.meaning.Directions.{expansion_filter}
 use Rattle.crx_engine.proofs.following.DirectionSteps.{expansion-goes}
 use Rattle.crx_engine.proofs.steps.EngineAnswers.{concludes}
 use Rattle.crx_engine.proofs.expander.Expander.end.Goals as goal
@@ -23,14 +22,9 @@ returns-clause-ends c =
     let s = c.after_end-settled.result in
     let reader = c.settle.new.self in
     let held = open_in self.reader.columns in
-    let at : IsAt {O = OpenRawEpoch} {K = Option Tail}
-    (expander_state self) held self.reader.stage c.value-number.result c.skip.result =
-    record {
-      is_phase = refl;
-      is_open = held-open self.reader.stage self.reader.columns self.reader.consistent;
-      is_count = sym c.value-number.ensures.value;
-      is_skip = sym c.skip.ensures;
-    } in
+    let at = at-stage (expander_state self) self.reader.stage self.reader.columns c.value-number.result
+    c.skip.result
+    refl self.reader.consistent (sym c.value-number.ensures.value) (sym c.skip.ensures) in
     let after = compact_reader_state self.options s.number reader in
     ap (λ (n : ℕ). step_made s.answer self.lines (compact_reader_state self.options n reader)) c.of-self.ensures
     ∙ ap (λ (l : List (List ℕ)). step_made s.answer l after) c.requires.drained
@@ -42,14 +36,9 @@ pub returns-clause-repeated : goal.returns-clause-repeated
 returns-clause-repeated c = λ (at : At) (is : c.args.self.now.reader.stage ≡ Ended at).
     let self = c.args.self.now in
     let held = open_in self.reader.columns in
-    let known : IsAt {O = OpenRawEpoch} {K = Option Tail}
-    (expander_state self) held self.reader.stage c.value-number.result c.skip.result =
-    record {
-      is_phase = refl;
-      is_open = held-open self.reader.stage self.reader.columns self.reader.consistent;
-      is_count = sym c.value-number.ensures.value;
-      is_skip = sym c.skip.ensures;
-    } in
+    let known = at-stage (expander_state self) self.reader.stage self.reader.columns c.value-number.result
+    c.skip.result
+    refl self.reader.consistent (sym c.value-number.ensures.value) (sym c.skip.ensures) in
     let step = c.after_end-settled.ensures.expansion (expander_state self) held None known in
     failed-at c.after_end-settled.result.answer at
     (ap (λ (s : Step OpenRawEpoch (Option Tail)). s.answer) step
@@ -59,5 +48,4 @@ pub returns-clause-concludes : goal.returns-clause-concludes
 returns-clause-concludes c = λ lines taken.
     let self = c.args.self.now in
     let choices = self.options in
-    concludes expansion (expansion_seen choices) (expansion_filter choices)
-    (expansion-goes choices) (expander_state self) _ lines _ _ taken (returns-clause-ends c)
+    concludes (expansion-goes choices) (expander_state self) _ lines _ _ taken (returns-clause-ends c)

@@ -1,27 +1,21 @@
-use Rattle.std.proofs.Common.{rules, List, ℕ, Option, refl, sym, ap, ◌∙◌}
+use Rattle.std.proofs.Common.{rules, List, ℕ, refl, sym, ap, ◌∙◌}
 use Rattle.crx_lines.specs.meaning.Seen.{Overlong}
-use Rattle.crx_compact.specs.OpenEpochs.{OpenRawEpoch, tail_held}
-use Rattle.crx_history.specs.Tails.{Tail}
+use Rattle.crx_compact.specs.OpenEpochs.{tail_held}
 use Rattle.crx_reading.specs.CompactStages.{open_in}
-use Rattle.crx_engine.specs.EngineSteps.{IsAt, step_made}
+use Rattle.crx_engine.specs.EngineSteps.{step_made}
 use Rattle.crx_reading.specs.ExpansionByLine.{expansion}
 use Rattle.crx_engine.specs.ExpanderState.{expander_state}
 use Rattle.crx_reading.specs.LineByLine.{step_of_made}
-use Rattle.crx_engine.proofs.steps.ExpanderSteps.{held-open, too-long}
+use Rattle.crx_engine.proofs.steps.ExpanderSteps.{at-stage, too-long}
 use Rattle.crx_engine.proofs.expander.Expander.pass.Goals as goal
 
 pub returns : goal.returns
 returns c =
     let self = c.args.self.now in
     let held = open_in self.reader.columns in
-    let at : IsAt {O = OpenRawEpoch} {K = Option Tail} (expander_state self)
-    held self.reader.stage self.number self.options.skip = record {
-      is_phase = refl;
-      is_open = held-open
-          self.reader.stage self.reader.columns self.reader.consistent;
-      is_count = refl;
-      is_skip = refl;
-    } in
+    let at = at-stage (expander_state self) self.reader.stage self.reader.columns self.number
+    self.options.skip
+    refl self.reader.consistent refl refl in
     let failed = c.fail.ensures.fails (expander_state self) held Overlong at refl refl refl in
     record {
       steps = ap (λ (l : List (List ℕ)). step_made c.fail.result l (expander_state c.fail.new.self))

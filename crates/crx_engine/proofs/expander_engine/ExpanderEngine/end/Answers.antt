@@ -1,5 +1,3 @@
-use Rattle.crx_reading.specs.meaning.Directions.{expansion_filter}
-use Rattle.crx_reading.specs.ExpansionByLine.{expansion, expansion_seen}
 use Rattle.crx_engine.specs.ExpanderState.{expander_state}
 use Rattle.crx_engine.proofs.following.DirectionSteps.{expansion-goes}
 use Rattle.crx_engine.proofs.steps.EngineAnswers.{concludes}
@@ -14,5 +12,5 @@ returns-clause-concludes c = λ lines shown.
     let self = c.args.self.now in
     let new = c.end.new.self in
     let choices = self.options in
-    concludes expansion (expansion_seen choices) (expansion_filter choices) (expansion-goes choices)
-    (expander_state self) (expander_state new) lines new.lines c.end.result shown.0 c.end.ensures.ends
+    concludes (expansion-goes choices) (expander_state self) (expander_state new) lines new.lines c.end.result
+    shown.0 c.end.ensures.ends
