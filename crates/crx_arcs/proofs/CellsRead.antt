@@ -2,7 +2,7 @@
 use Rattle.std.specs.Prelude.{◌≡◌, ◌≤◌, ◌<◌, refl, ℕ, suc, ◌+◌, ◌-◌, ℤ, List, [], ◌∷◌, ◌++◌, length, map, take}
 use Rattle.std.specs.Prelude.{drop, slice_index_or, slice_set, Bool, true, false, Option, Some, None, Result, Ok, Err, if◌then◌else◌}
 use Rattle.std.proofs.Common.{sym, ◌∙◌, ap, arith, length-append, true≢false}
-use Rattle.std.proofs.lemmas.List.{drop-drop, length-drop, length-set, take_more_set, map-append}
+use Rattle.std.proofs.lemmas.List.{drop-drop, length-drop, length-map, length-set, take_more_set, map-append}
 use Rattle.crx_text.specs.meaning.Codes.{code_of, first_cell, after_cell}
 use Rattle.crx_text.specs.declared.code.Code.{Code}
 use Rattle.crx_lines.specs.declared.fault.Fault.{Fault}
@@ -65,10 +65,6 @@ arcs-more : (before : List (Option ArcTail)) (codes : List Code) (code : Code)
 arcs-more before [] code = refl
 arcs-more [] (c ∷ cs) code = ap {B = List (Option ArcTail)} (λ r. arc_of_code c None ∷ r) (arcs-more [] cs code)
 arcs-more (b ∷ bs) (c ∷ cs) code = ap {B = List (Option ArcTail)} (λ r. arc_of_code c b ∷ r) (arcs-more bs cs code)
-
-length-map : {X Y : Type 0} (f : X → Y) (xs : List X) → length (map f xs) ≡ length xs
-length-map f [] = refl
-length-map f (x ∷ xs) = ap suc (length-map f xs)
 
 -- the value that a code gives is the one that the arc after it shows
 abbrev ok-value : Result (Option ℤ) Fault → Option ℤ
@@ -179,7 +175,7 @@ read-more before count line k at at' arcs arcs' code value arc s h e v t w a l =
           l ∙ ap (λ xs. xs ++ arc ∷ []) s.left
           ∙ ap {B = List (Option ArcTail)} (λ x. arcs_of_codes before (codes_in s.cells) ++ x ∷ []) (a
           ∙ ap (λ m. arc_of_code code (slice_index_or before m None)) (sym s.counted
-          ∙ sym (length-map (λ (q : ReadCell). q.code) s.cells)))
+          ∙ sym (length-map s.cells (λ (q : ReadCell). q.code))))
           ∙ sym (arcs-more before (codes_in s.cells) code)
           ∙ ap (arcs_of_codes before) (sym (map-append (λ (q : ReadCell). q.code) s.cells (c ∷ [])));
       shown =
@@ -241,12 +237,3 @@ read-all before count line k at arcs s e =
       left = s.left;
       shown = s.shown;
     }
-
--- ---- a line from a place on
-
-pub all : {X : Type 0} (text : List X) → take (length text) text ≡ text
-all [] = refl
-all (x ∷ xs) = ap (λ r. x ∷ r) (all xs)
-
-pub from : (line : List ℕ) (at : ℕ) → take (length line - at) (drop at line) ≡ drop at line
-from line at = ap (λ n. take n (drop at line)) (sym (length-drop at line)) ∙ all (drop at line)

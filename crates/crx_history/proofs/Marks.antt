@@ -4,8 +4,8 @@ use Rattle.std.specs.Prelude.{take, drop, replicate, slice_index_or, Option, Non
 use Rattle.std.specs.Prelude.{OnErr, OnOk, if◌then◌else◌, ◌<◌, slice_set, ◌==◌, zero}
 use Rattle.std.specs.List.{list_all}
 use Rattle.std.proofs.Common.{sym, ◌∙◌, ap, arith}
-use Rattle.std.proofs.lemmas.List.{length-drop, length-map, take_more_set}
-use Rattle.crx_columns.specs.meaning.Columns.{columns, is_blank, without_end_blanks}
+use Rattle.std.proofs.lemmas.List.{length-map, take_more_set}
+use Rattle.crx_columns.specs.meaning.Columns.{columns, without_end_blanks}
 use Rattle.crx_columns.specs.meaning.Texts.{by_position, is_printable, is_kept}
 use Rattle.crx_columns.specs.Texts.{character_of, patched}
 use Rattle.crx_text.specs.declared.code.Code.{Code}
@@ -36,7 +36,6 @@ use Rattle.crx_history.proofs.Characters.{list_all-at, at-by_position}
 use Rattle.crx_rinex.proofs.Characters.{at, at-without_end_blanks, columns-are, list_all-from_at}
 use Rattle.crx_rinex.proofs.SoundEpochs.{length-columns}
 use Rattle.crx_arcs.proofs.PlaceByPlace.{at-padded, at-take}
-use Rattle.std.proofs.Math.Seq.{drop-nil}
 use Rattle.crx_text.specs.meaning.Codes.{code_of, after_cell}
 use Rattle.crx_history.proofs.Results.{ok-same, Follows, and_then-ok, before-ok}
 
@@ -130,10 +129,6 @@ pub line-bad_marks : (arcs : List (Option ArcTail))
 line-bad_marks arcs flags satellite line left at h read e =
     line-marks arcs flags satellite line at read.cells false h read.good read.marks e
 
-length-values : (cells : List ReadCell) → length (map (λ (c : ReadCell). c.value) cells) ≡ length cells
-length-values [] = refl
-length-values (c ∷ cs) = ap suc (length-values cs)
-
 -- ---- cells
 
 pub cells-count : (value : ℕ → Code → Result (Option ℤ) Fault) (texts : List (List ℕ)) (cells : List ReadCell)
@@ -176,7 +171,7 @@ line-held arcs flags satellite line left at name held h read e same columned =
     let codes : List Code = map (λ (c : ReadCell). c.code) read.cells in
     let count : length read.cells ≡ satellite.count = cells-many arcs satellite.count line left at read in
     let many : length left ≡ satellite.count =
-    sym (length-map left shown_value) ∙ ap length read.shown ∙ length-values read.cells ∙ count in
+    sym (length-map left shown_value) ∙ ap length read.shown ∙ length-map read.cells (λ (c : ReadCell). c.value) ∙ count in
     let kept : text ≡ flags_held (length codes) marked =
     t ∙ ap (λ n. flags_held n marked) (sym (length-map read.cells (λ (c : ReadCell). c.code) ∙ count)) in
     let shown : columns text 1 (2 * length left) ≡ columns marked 1 (2 * length read.cells) =
@@ -213,15 +208,6 @@ line-held arcs flags satellite line left at name held h read e same columned =
       tail = record { name = satellite.name; flags = flags_held (length codes) marked; cells = cs };
     })) read.left
     )
-
--- ---- a line from a place on
-
-all : (text : List ℕ) → take (length text) text ≡ text
-all [] = refl
-all (x ∷ xs) = ap (λ r. x ∷ r) (all xs)
-
-pub line-from : (line : List ℕ) (at : ℕ) → take (length line - at) (drop at line) ≡ drop at line
-line-from line at = ap (λ n. take n (drop at line)) (sym (length-drop at line)) ∙ all (drop at line)
 
 -- ---- faults as they are reported
 

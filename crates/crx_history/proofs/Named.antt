@@ -1,10 +1,9 @@
 -- Satellites whose identifiers stand at their places.
-use Rattle.std.proofs.Common.{◌≡◌, ℕ, zero, suc, ◌+◌, ◌<◌, ◌≤◌, false, List, [], ◌∷◌, ◌++◌, Some, length, get_or, map}
+use Rattle.std.proofs.Common.{◌≡◌, ℕ, zero, suc, ◌<◌, ◌≤◌, false, List, [], ◌∷◌, Some, get_or, map}
 use Rattle.std.proofs.Common.{take, drop, refl, ap, sym, ◌∙◌, arith}
 use Rattle.std.specs.Str.{bytes_eq}
 use Rattle.std.proofs.lemmas.Bool.{or_parts}
-use Rattle.std.proofs.lemmas.List.{get_or-map, get_or-take, length-take, map-append, take-map, take-take}
-use Rattle.std.proofs.Math.Seq.{get_or-append_seam}
+use Rattle.std.proofs.lemmas.List.{get_or-map, get_or-take, length-take, take-map, take-take}
 use Rattle.crx_rinex.specs.meaning.Epochs.{is_among}
 use Rattle.crx_rinex.proofs.Apart.{among-map}
 use Rattle.crx_history.specs.HeldRows.{AreNamed}

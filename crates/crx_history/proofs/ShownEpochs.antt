@@ -1,9 +1,9 @@
 -- The epoch that a history shows, row by row.
 use Rattle.std.specs.Prelude.{◌≡◌, refl, ℕ, ◌<◌, List, [], length, take, Option, Some, None, Ok, unwrap_or, ℤ, Bool}
 use Rattle.std.specs.Prelude.{true, false, ◌==◌, Result, Err, MatchResult, slice_get, is_some, ◌≤◌, suc, zero, ◌+◌, ◌∷◌}
-use Rattle.std.specs.Prelude.{◌++◌, map, slice_index_or}
+use Rattle.std.specs.Prelude.{map, slice_index_or}
 use Rattle.std.specs.Result.{is_ok}
-use Rattle.std.proofs.Common.{sym, ◌∙◌, ap, arith, true≢false, get_or, append_assoc}
+use Rattle.std.proofs.Common.{sym, ◌∙◌, ap, arith, true≢false, get_or}
 use Rattle.std.proofs.lemmas.Option.{slice_get_within, same_Some, slice_get-map}
 use Rattle.std.proofs.lemmas.List.{take_all, length-map, length-take-le, map-append, take-map, take-take}
 use Rattle.crx_lines.specs.declared.fault.Fault.{Fault}
@@ -18,12 +18,10 @@ use Rattle.crx_history.proofs.Results.{ok-same, no-err}
 use Rattle.crx_rinex.specs.meaning.Observations.{Row, Epoch}
 use Rattle.crx_history.specs.meaning.EpochText.{Satellite}
 use Rattle.crx_arcs.proofs.PlaceByPlace.{value-there}
-use Rattle.crx_history.proofs.EpochLines.{announced}
 use Rattle.std.specs.Option.{option_map}
 use Rattle.std.proofs.lemmas.Simd.{map-map}
 use Rattle.crx_columns.specs.meaning.Columns.{columns}
 use Rattle.crx_lines.specs.declared.limits.TheConstants.{HEAD_WIDTH}
-use Rattle.crx_rinex.specs.meaning.Printing.{printed_row}
 use Rattle.crx_history.specs.ShownRows.{shown_epoch, shown_row}
 use Rattle.crx_arcs.specs.ArcSteps.{shown_value}
 use Rattle.crx_history.proofs.Making.{taken_more}

@@ -1,11 +1,10 @@
 -- Running differences: their step, and their size.
 use Rattle.std.specs.Prelude.{◌≡◌, ◌≤◌, ◌<◌, refl, ℕ, zero, suc, ◌+◌, ◌-◌, ◌^◌, ℤ, pos, negsuc, ◌+ℤ◌, ◌-ℤ◌, List, []}
-use Rattle.std.specs.Prelude.{◌∷◌, ◌++◌, length, take, drop, min, slice_index_or, slice_get, slice_set, Bool, true, Option, Some}
+use Rattle.std.specs.Prelude.{◌∷◌, ◌++◌, length, take, drop, min, slice_index_or, slice_set, Bool, true, Option, Some}
 use Rattle.std.proofs.Common.{sym, ◌∙◌, ap, arith, subst, FitsSigned, w64, to_z, of_z, append_assoc, lit<, lit≤}
 use Rattle.std.proofs.Math.Nat.{pow-le-pow_right}
 use Rattle.std.proofs.lemmas.Int.{ints, to_z-of_z}
 use Rattle.std.proofs.lemmas.List.{take_more_set, drop-set-lt, length-take}
-use Rattle.std.proofs.lemmas.Option.{same_Some}
 use Rattle.std.proofs.lemmas.Grind.{common_steps}
 use Rattle.crx_arcs.specs.Arcs.{IsBelow, AreBelow, value_bound, kept_tail, IsArcInRange, IsNewestWithin}
 use Rattle.crx_text.specs.meaning.Numbers.{IsWithin}

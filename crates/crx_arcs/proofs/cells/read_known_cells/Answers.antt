@@ -1,7 +1,7 @@
 use Rattle.std.proofs.lemmas.Result.{err_from_is_err_and}
-use Rattle.std.proofs.lemmas.List.{length-drop, drop-drop}
-use Rattle.std.proofs.Common.{◌≡◌, ◌≤◌, ◌<◌, ◌+◌, ◌-◌, List, Option, ℕ, drop, length, take, sym, ap, ◌∙◌, arith, refl, subst, Bor}
-use Rattle.crx_arcs.proofs.CellsRead.{all, read-cell, read-refused, read-none, read-all, ReadSoFar}
+use Rattle.std.proofs.lemmas.List.{take_all, length-drop, drop-drop}
+use Rattle.std.proofs.Common.{◌≡◌, ◌≤◌, ◌<◌, ◌+◌, ◌-◌, List, Option, ℕ, drop, length, take, ap, ◌∙◌, arith, refl, subst, Bor}
+use Rattle.crx_arcs.proofs.CellsRead.{read-cell, read-refused, read-none, read-all, ReadSoFar}
 use Rattle.crx_arcs.specs.Cells.{CellsAreRead, IsCellRead}
 use Rattle.crx_arcs.specs.ArcTails.{ArcTail}
 use Rattle.crx_arcs.proofs.cells.read_known_cells.Goals as goal
@@ -52,7 +52,7 @@ returns-clause-ok c =
     let end : c.loop-place.place ≡ c.args.count = omega arith in
     let counted : length c.loop-place.arcs ≡ c.args.count = i.1.1 in
     let whole : take c.loop-place.place c.loop-place.arcs ≡ c.loop-place.arcs =
-    ap (λ n. take n c.loop-place.arcs) (end ∙ sym counted) ∙ all c.loop-place.arcs in
+    take_all c.loop-place.place c.loop-place.arcs (omega (arith, end, counted)) in
     let read = read-all _ _ _ _ _ _ i.1.0 end in
     let done = rw whole at read in
     let left : length c.loop-place.rest.now ≡ length (drop i.0 c.args.line.now) = ap length i.1.2 in

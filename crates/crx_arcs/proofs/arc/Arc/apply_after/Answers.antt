@@ -7,7 +7,7 @@ use Rattle.crx_arcs.specs.meaning.ArcValues.{is_within, in_range}
 use Rattle.crx_arcs.specs.ArcSteps.{differences_after}
 use Rattle.crx_arcs.specs.Arcs.{kept_tail}
 use Rattle.crx_arcs.proofs.arcs.Bounds.{within-is}
-use Rattle.crx_arcs.proofs.arcs.Running.{IsLast, StepsOn, accepted, stepped, same-bits, begun-list, begun-kept}
+use Rattle.crx_arcs.proofs.arcs.Running.{StepsOn, accepted, stepped, same-bits, begun-list, begun-kept}
 use Rattle.crx_arcs.proofs.arcs.Running.{lower-below, within-below, goes-on-kept}
 use Rattle.crx_arcs.proofs.arc.Arc.apply_after.Goals as goal
 
@@ -30,10 +30,8 @@ returns-else-not-is_within-clause-ok g c =
 
 pub value_after-value-requires-clause-below : goal.value_after-value-requires-clause-below
 value_after-value-requires-clause-below g c =
-    let last : IsLast c.earlier.inside.order c.earlier.inside.count c.min-last.result =
-    record { least = search rules } in
-    lower-below c.earlier.inside.order
-    c.earlier.inside.count c.min-last.result c.earlier.inside.differences last c.earlier.invariant.below
+    lower-below c.earlier.inside.order c.earlier.inside.count c.min-last.result _
+    (record { least = search rules }) c.earlier.invariant.below
 
 refused : (width : ℕ) (value : ℤ) (b : Bool) → b ≡ is_within width (to_z w64 (of_z w64 value))
     → b ≡ false → FitsSigned w64 value → Err OutOfRange ≡ in_range width value
@@ -45,20 +43,17 @@ pub returns-then-not-is_within-2-clause-value : goal.returns-then-not-is_within-
 returns-then-not-is_within-2-clause-value g c =
     let fits : FitsSigned w64 c.in-Step.number = search rules in
     let fits' : FitsSigned w64 c.value_after-value.result = search rules in
-    let more : 0 < c.earlier.inside.count = search rules in
     let on : StepsOn g.row.WIDTH c.earlier.inside.order c.earlier.inside.count
     c.min-last.result c.in-Step.number c.value_after-value.result c.earlier.inside.differences =
-    stepped _ _ _ _ _ _ _ c.min-last.ensures more c.earlier.told c.value_after-value.ensures fits in
+    stepped _ _ _ _ _ _ _ c.min-last.ensures (search rules) c.earlier.told c.value_after-value.ensures fits in
     rw (c.in-Step.is, ← c.earlier.view_is)
     (refused g.row.WIDTH c.value_after-value.result _ c.is_within-in-Step.ensures c.if-not-is_within-2.true fits'
     ∙ on.value_is)
 
 pub go_on_from-requires-clause-below : goal.go_on_from-requires-clause-below
 go_on_from-requires-clause-below g c =
-    let last : IsLast c.earlier.inside.order c.earlier.inside.count c.min-last.result =
-    record { least = search rules } in
-    lower-below c.earlier.inside.order
-    c.earlier.inside.count c.min-last.result c.earlier.inside.differences last c.earlier.invariant.below
+    lower-below c.earlier.inside.order c.earlier.inside.count c.min-last.result _
+    (record { least = search rules }) c.earlier.invariant.below
 
 pub go_on_from-requires-clause-next : goal.go_on_from-requires-clause-next
 go_on_from-requires-clause-next g c =
@@ -70,26 +65,22 @@ go_on_from-requires-clause-next g c =
 
 pub invariant_of-self-in-Step : goal.invariant_of-self-in-Step
 invariant_of-self-in-Step g c =
-    let last : IsLast c.earlier.inside.order c.earlier.inside.count c.min-last.result =
-    record { least = c.min-last.ensures } in
     let fits' : FitsSigned w64 c.value_after-value.result = search rules in
     let is : is_within g.row.WIDTH c.value_after-value.result ≡ true =
     accepted g.row.WIDTH _ _ c.is_within-in-Step.ensures c.if-not-is_within-2.false fits' in
     let after : take (c.min-last.result + 1) c.go_on_from.new.differences
     ≡ differences_after c.value_after-value.result (take c.min-last.result c.earlier.inside.differences) =
     rw (same-bits _ fits') at c.go_on_from.ensures.after in
-    goes-on-kept g.row.WIDTH c.earlier.inside.order c.earlier.inside.count
-    c.min-last.result c.earlier.inside.differences c.go_on_from.new.differences c.value_after-value.result last
+    goes-on-kept _ _ _ _ _ _ _ (record { least = c.min-last.ensures })
     c.earlier.invariant ((within-is _ _).0 is) after
 
 pub returns-else-not-is_within-2-clause-value : goal.returns-else-not-is_within-2-clause-value
 returns-else-not-is_within-2-clause-value g c =
     let fits : FitsSigned w64 c.in-Step.number = search rules in
     let fits' : FitsSigned w64 c.value_after-value.result = search rules in
-    let more : 0 < c.earlier.inside.count = search rules in
     let on : StepsOn g.row.WIDTH c.earlier.inside.order c.earlier.inside.count
     c.min-last.result c.in-Step.number c.value_after-value.result c.earlier.inside.differences =
-    stepped _ _ _ _ _ _ _ c.min-last.ensures more c.earlier.told c.value_after-value.ensures fits in
+    stepped _ _ _ _ _ _ _ c.min-last.ensures (search rules) c.earlier.told c.value_after-value.ensures fits in
     let is : is_within g.row.WIDTH c.value_after-value.result ≡ true =
     accepted g.row.WIDTH _ _ c.is_within-in-Step.ensures c.if-not-is_within-2.false fits' in
     let given : Ok (Some c.value_after-value.result) ≡ in_range g.row.WIDTH c.value_after-value.result =
@@ -101,9 +92,8 @@ pub returns-else-not-is_within-2-clause-ok : goal.returns-else-not-is_within-2-c
 returns-else-not-is_within-2-clause-ok g c =
     let fits : FitsSigned w64 c.in-Step.number = search rules in
     let fits' : FitsSigned w64 c.value_after-value.result = search rules in
-    let more : 0 < c.earlier.inside.count = search rules in
     let on : StepsOn g.row.WIDTH c.earlier.inside.order c.earlier.inside.count
     c.min-last.result c.in-Step.number c.value_after-value.result c.earlier.inside.differences =
-    stepped _ _ _ _ _ _ _ c.min-last.ensures more c.earlier.told c.value_after-value.ensures fits in
+    stepped _ _ _ _ _ _ _ c.min-last.ensures (search rules) c.earlier.told c.value_after-value.ensures fits in
     rw (c.in-Step.is, ← c.earlier.view_is)
     (ap (kept_tail c.earlier.inside.order) (rw (same-bits _ fits') at c.go_on_from.ensures.after) ∙ on.tail)

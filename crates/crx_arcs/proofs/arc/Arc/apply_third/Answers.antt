@@ -8,23 +8,19 @@ use Rattle.crx_arcs.specs.meaning.ArcValues.{is_within, in_range}
 use Rattle.crx_arcs.specs.ArcSteps.{differences_after, differences_by}
 use Rattle.crx_arcs.specs.Arcs.{kept_tail}
 use Rattle.crx_arcs.proofs.arcs.Bounds.{within-is}
-use Rattle.crx_arcs.proofs.arcs.Running.{IsLast, StepsOn, accepted, by-after, same-bits, lower-below, goes-on-kept}
+use Rattle.crx_arcs.proofs.arcs.Running.{StepsOn, accepted, by-after, same-bits, lower-below, goes-on-kept}
 use Rattle.crx_arcs.proofs.arcs.Running.{stepped}
 use Rattle.crx_arcs.proofs.arc.Arc.apply_third.Goals as goal
 
 pub sums_from_third-value-requires-clause-below : goal.sums_from_third-value-requires-clause-below
 sums_from_third-value-requires-clause-below g c =
     let third = c.is_third.ensures c.if-not-is_third.false in
-    let last : IsLast c.earlier.inside.order c.earlier.inside.count 3 =
-    record { least = omega (arith, third.0, third.1) } in
-    lower-below c.earlier.inside.order
-    c.earlier.inside.count 3 c.earlier.inside.differences last c.earlier.invariant.below
+    lower-below c.earlier.inside.order c.earlier.inside.count 3 _
+    (record { least = omega (arith, third.0, third.1) }) c.earlier.invariant.below
 
 pub invariant_of-self : goal.invariant_of-self
 invariant_of-self g c =
     let third = c.is_third.ensures c.if-not-is_third.false in
-    let last : IsLast c.earlier.inside.order c.earlier.inside.count 3 =
-    record { least = omega (arith, third.0, third.1) } in
     let fits : FitsSigned w64 c.args.number = search rules in
     let fits0 : FitsSigned w64 c.sums_from_third-value.result.0 = search rules in
     let fits1 : FitsSigned w64 c.sums_from_third-value.result.1 = search rules in
@@ -41,8 +37,8 @@ invariant_of-self g c =
     ≡ differences_after c.sums_from_third-value.result.0 (take 3 c.earlier.inside.differences) =
     put ∙ sums ∙ by-after c.args.number (take 3 c.earlier.inside.differences)
     ∙ ap (λ v. differences_after v (take 3 c.earlier.inside.differences)) (sym (ap newest sums)) in
-    rw third.0 at (goes-on-kept g.row.WIDTH c.earlier.inside.order c.earlier.inside.count
-    3 c.earlier.inside.differences c.put_four.new.differences c.sums_from_third-value.result.0 last
+    rw third.0 at (goes-on-kept _ c.earlier.inside.order c.earlier.inside.count 3 _ _ _
+    (record { least = omega (arith, third.0, third.1) })
     c.earlier.invariant ((within-is _ _).0 is) after)
 
 pub returns-clause-value : goal.returns-clause-value

@@ -1,10 +1,10 @@
-use Rattle.std.proofs.Common.{rules, ◌≡◌, ◌<◌, ◌+◌, ℤ, length, take, sym, ap, ◌∙◌, arith, FitsSigned, w64, subst}
+use Rattle.std.proofs.Common.{rules, ◌≡◌, ◌<◌, ◌+◌, length, take, ap, ◌∙◌, arith, FitsSigned, w64}
 use Rattle.crx_text.specs.meaning.Numbers.{IsWithin}
 use Rattle.crx_text.specs.declared.code.Code.TheVariants.{Step}
 use Rattle.crx_arcs.specs.ArcSteps.{differences_after, highest}
 use Rattle.crx_text.specs.Codes.{IsShort}
 use Rattle.crx_arcs.specs.Arcs.{kept_tail}
-use Rattle.crx_arcs.proofs.arcs.Running.{IsLast, GoesOn, same-bits, begun-tail, begun-kept, lower-below}
+use Rattle.crx_arcs.proofs.arcs.Running.{GoesOn, same-bits, begun-tail, begun-kept, lower-below}
 use Rattle.crx_arcs.proofs.arcs.Running.{within-below, goes-on-kept, goes-on, highest-short, within-short}
 use Rattle.crx_arcs.proofs.arc.Arc.push_after.Goals as goal
 
@@ -26,10 +26,8 @@ returns-then-before-eq0-clause-arc g c =
 
 pub go_on_from-highest-requires-clause-below : goal.go_on_from-highest-requires-clause-below
 go_on_from-highest-requires-clause-below g c =
-    let last : IsLast c.before-2.inside.order c.before-2.inside.count c.min-last.result =
-    record { least = search rules } in
-    lower-below c.before-2.inside.order
-    c.before-2.inside.count c.min-last.result c.before-2.inside.differences last c.before-2.invariant.below
+    lower-below c.before-2.inside.order c.before-2.inside.count c.min-last.result _
+    (record { least = search rules }) c.before-2.invariant.below
 
 pub go_on_from-highest-requires-clause-next : goal.go_on_from-highest-requires-clause-next
 go_on_from-highest-requires-clause-next g c =
@@ -39,42 +37,29 @@ go_on_from-highest-requires-clause-next g c =
 
 pub invariant_of-self-2 : goal.invariant_of-self-2
 invariant_of-self-2 g c =
-    let last : IsLast c.before-2.inside.order c.before-2.inside.count c.min-last.result =
-    record { least = search rules } in
     let fits : FitsSigned w64 c.in-Some.value = search rules in
     let within : IsWithin g.row.WIDTH c.in-Some.value = rw c.in-Some.is at c.requires in
     let after : take (c.min-last.result + 1) c.go_on_from-highest.new.differences
     ≡ differences_after c.in-Some.value (take c.min-last.result c.before-2.inside.differences) =
     rw (same-bits _ fits) at c.go_on_from-highest.ensures.after in
-    goes-on-kept g.row.WIDTH c.before-2.inside.order c.before-2.inside.count
-    c.min-last.result c.before-2.inside.differences c.go_on_from-highest.new.differences c.in-Some.value last
+    goes-on-kept _ _ _ _ _ _ _ (record { least = search rules })
     c.before-2.invariant within after
 
 pub returns-clause-code : goal.returns-clause-code
 returns-clause-code g c =
-    let last : IsLast c.before-2.inside.order c.before-2.inside.count c.min-last.result =
-    record { least = search rules } in
     let fits : FitsSigned w64 c.in-Some.value = search rules in
-    let some : 0 < length c.before-2.inside.differences = search rules in
-    let more : 0 < c.before-2.inside.count = search rules in
     let on : GoesOn c.before-2.inside.order
     c.before-2.inside.count c.min-last.result c.in-Some.value c.before-2.inside.differences =
-    goes-on c.before-2.inside.order
-    c.before-2.inside.count c.min-last.result c.in-Some.value c.before-2.inside.differences last more some in
+    goes-on _ _ _ _ _ (record { least = search rules }) (search rules) (search rules) in
     rw (c.in-Some.is, ← c.before-2.view_is)
     (ap Step (same-bits _ (search rules) ∙ (rw (same-bits _ fits) at c.go_on_from-highest.ensures.highest)) ∙ on.code)
 
 pub returns-clause-arc : goal.returns-clause-arc
 returns-clause-arc g c =
-    let last : IsLast c.before-2.inside.order c.before-2.inside.count c.min-last.result =
-    record { least = search rules } in
     let fits : FitsSigned w64 c.in-Some.value = search rules in
-    let some : 0 < length c.before-2.inside.differences = search rules in
-    let more : 0 < c.before-2.inside.count = search rules in
     let on : GoesOn c.before-2.inside.order
     c.before-2.inside.count c.min-last.result c.in-Some.value c.before-2.inside.differences =
-    goes-on c.before-2.inside.order
-    c.before-2.inside.count c.min-last.result c.in-Some.value c.before-2.inside.differences last more some in
+    goes-on _ _ _ _ _ (record { least = search rules }) (search rules) (search rules) in
     rw (c.in-Some.is, ← c.before-2.view_is)
     (ap (kept_tail c.before-2.inside.order) (rw (same-bits _ fits) at c.go_on_from-highest.ensures.after) ∙ on.tail)
 
@@ -87,8 +72,6 @@ returns-then-before-eq0-clause-printable g c =
 
 pub returns-clause-printable : goal.returns-clause-printable
 returns-clause-printable g c =
-    let last : IsLast c.before-2.inside.order c.before-2.inside.count c.min-last.result =
-    record { least = c.min-last.ensures } in
     let fits : FitsSigned w64 c.in-Some.value = search rules in
     let within : IsWithin g.row.WIDTH c.in-Some.value = rw c.in-Some.is at c.requires in
     let is : c.go_on_from-highest.result
@@ -96,8 +79,6 @@ returns-clause-printable g c =
     rw (same-bits _ fits) at c.go_on_from-highest.ensures.highest in
     let short : IsShort
     (highest (differences_after c.in-Some.value (take c.min-last.result c.before-2.inside.differences))) =
-    highest-short g.row.WIDTH c.before-2.inside.order c.before-2.inside.count
-    c.min-last.result c.in-Some.value c.before-2.inside.differences last c.before-2.invariant within in
-    let P : ℤ → Type 0 = IsShort in
-    let fits' : FitsSigned w64 c.go_on_from-highest.result = search rules in
-    rw (same-bits _ fits') (subst P (sym is) short)
+    highest-short _ c.before-2.inside.order c.before-2.inside.count c.min-last.result _ _
+    (record { least = c.min-last.ensures }) c.before-2.invariant within in
+    rw (same-bits c.go_on_from-highest.result (search rules), is) short

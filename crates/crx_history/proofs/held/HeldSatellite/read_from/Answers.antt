@@ -1,7 +1,7 @@
 use Rattle.std.proofs.lemmas.Result.{err_from_is_err_and}
 use Rattle.std.proofs.Common.{drop, length, arith}
-use Rattle.std.proofs.lemmas.List.{take_at}
-use Rattle.crx_history.proofs.Marks.{if-err, line-fault, line-from, line-held, marks-refused, on-both}
+use Rattle.std.proofs.lemmas.List.{take_at, take_rest}
+use Rattle.crx_history.proofs.Marks.{if-err, line-fault, line-held, marks-refused, on-both}
 use Rattle.crx_history.proofs.held.HeldSatellite.read_from.Goals as goal
 
 pub returns-in_err-at-clause-err : goal.returns-in_err-at-clause-err
@@ -15,7 +15,7 @@ pub returns-clause-err : goal.returns-clause-err
 returns-clause-err c =
     let read = rw (c.count-count.ensures.value) at c.in_ok-at.ensures.ok in
     let refused = rw (
-      line-from c.args.line.now
+      take_rest c.args.line.now
           c.in_ok-at.at,
       c.count-count.ensures.value,
     ) at c.read_indicators.ensures.err in
@@ -26,8 +26,8 @@ returns-clause-err c =
 pub returns-clause-ok : goal.returns-clause-ok
 returns-clause-ok c =
     let at = c.in_ok-at.at in
-    let marks = rw (line-from c.args.line.now at, c.count-count.ensures.value) at c.read_indicators.ensures.marks in
-    let held = rw (line-from c.args.line.now at, c.count-count.ensures.value) at c.read_indicators.ensures.held in
+    let marks = rw (take_rest c.args.line.now at, c.count-count.ensures.value) at c.read_indicators.ensures.marks in
+    let held = rw (take_rest c.args.line.now at, c.count-count.ensures.value) at c.read_indicators.ensures.held in
     let arcs = c.read_cells.new.arcs in
     let flags = c.read_indicators.new.held in
     let a = c.read_cells.auto.arcs in

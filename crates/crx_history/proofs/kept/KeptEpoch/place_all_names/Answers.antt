@@ -1,4 +1,4 @@
-use Rattle.std.proofs.Common.{List, subst, true, ◌≡◌, length}
+use Rattle.std.proofs.Common.{List, subst, length}
 use Rattle.crx_history.specs.HeldRows.{AreNamed}
 use Rattle.crx_history.specs.Tails.{RowTail}
 use Rattle.crx_history.proofs.Named.{named-fewer}

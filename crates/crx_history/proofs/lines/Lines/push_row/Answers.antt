@@ -1,4 +1,4 @@
-use Rattle.std.proofs.Common.{sym, ◌≡◌, ◌+◌, ◌++◌, ◌∷◌, [], List, ℕ, drop, length, take, ap, ◌∙◌, arith, rules}
+use Rattle.std.proofs.Common.{◌≡◌, ◌+◌, ◌++◌, ◌∷◌, [], List, ℕ, drop, length, take, ap, ◌∙◌, arith, rules}
 use Rattle.std.specs.Prelude.{flat_map}
 use Rattle.std.proofs.lemmas.List.{length-set, take_at}
 use Rattle.crx_columns.specs.meaning.Columns.{without_end_blanks}
@@ -8,7 +8,6 @@ use Rattle.crx_arcs.specs.meaning.Cells.{cell_text}
 use Rattle.crx_history.specs.LineLists.{cut}
 use Rattle.crx_columns.proofs.WrittenTexts.{same-before}
 use Rattle.crx_history.proofs.LineTexts.{row-pushed}
-use Rattle.crx_history.proofs.SoundTexts.{difference-trimmed}
 use Rattle.crx_history.proofs.lines.Lines.push_row.Goals as goal
 
 pub invariant_of-self-then-is_err : goal.invariant_of-self-then-is_err
