@@ -13,5 +13,4 @@ pub mod Overlays
 pub mod Cuts
 pub mod CodeTexts
 pub mod Lengths
-pub mod Lists
 pub mod Tailing

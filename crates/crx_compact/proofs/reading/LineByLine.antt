@@ -104,16 +104,16 @@ held-same before line satellites cell rows tail h =
       map-map (λ (r : RawRow). raw_row_tail_after (tail_named r.name before) r) (λ (r : ReadRow). r.raw) rows,
     )
 
-rows-held : (before : Tail) (line : List ℕ) (satellites : List Satellite)
+read_rows-held : (before : Tail) (line : List ℕ) (satellites : List Satellite)
     (cell : ReadCell) (tail : Option Tail) (lines : List ReadLine) (p : Place (List ReadRow))
     → tail_for_line tail line ≡ Some before
     → placed_as (held_after tail) (after_lines 1 (after_lines 1
     (then_place p lines (λ rows rest. Here (epoch_of_rows (read_begun before line satellites) cell rows) 0))))
     ≡ after_lines 2 (rows_placed (held_begun before line satellites) (held_clock before cell) [] p)
-rows-held before line satellites cell tail lines (Here rows n) h =
+read_rows-held before line satellites cell tail lines (Here rows n) h =
     grind (arith, held-same before line satellites cell rows tail h)
-rows-held before line satellites cell tail lines (Wrong n q) h = ap {B = Place HeldEpoch} (λ k. Wrong k q) (omega arith)
-rows-held before line satellites cell tail lines Wanted h = refl
+read_rows-held before line satellites cell tail lines (Wrong n q) h = ap {B = Place HeldEpoch} (λ k. Wrong k q) (omega arith)
+read_rows-held before line satellites cell tail lines Wanted h = refl
 
 clock-steps : (before : Tail) (line : List ℕ) (satellites : List Satellite) (tail : Option Tail) (lines : List ReadLine)
     → tail_for_line tail line ≡ Some before
@@ -130,7 +130,7 @@ clock-steps before line satellites tail (Content text ∷ lines) h = step (clock
         ≡ place_of_steps 1 (raw_step_with_clock (held_begun before line satellites) r) lines
     step (Err q) = refl
     step (Ok cell) =
-        rows-held before line satellites cell tail lines (rows_read (past_of_tail before) satellites lines) h
+        read_rows-held before line satellites cell tail lines (rows_read (past_of_tail before) satellites lines) h
         ∙ sym (rows-steps (held_begun before line satellites) (held_clock before cell) [] satellites 1 lines)
 
 pub steps-agree : (types : List Count) (tail : Option Tail) (lines : List ReadLine) → StepsAgree types tail lines

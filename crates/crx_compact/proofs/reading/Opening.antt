@@ -112,19 +112,26 @@ all-read Rows next count satellites state is h e =
     }
 
 -- what goes on from an open epoch doesn't depend on its clock, rows and satellites, where others are given
-gone-same : (before : Tail) (text : List ℕ) (c : Option HeldClock)
-    (rs : List HeldRow) (ss : List Satellite) (c' : Option HeldClock) (rs' : List HeldRow) (ss' : List Satellite)
+gone-same : (before : Tail) (text : List ℕ)
+    (one_clock : Option HeldClock) (one_rows : List HeldRow) (one_awaited : List Satellite)
+    (other_clock : Option HeldClock) (other_rows : List HeldRow) (other_awaited : List Satellite)
     (clock : HeldClock) (rows : List HeldRow) (awaited : List Satellite)
-    → whole_or_awaiting (record { before = before; text = text; clock = c; rows = rs; awaited = ss }) clock rows awaited
+    → whole_or_awaiting (record {
+      before = before;
+      text = text;
+      clock = one_clock;
+      rows = one_rows;
+      awaited = one_awaited;
+    }) clock rows awaited
     ≡ whole_or_awaiting (record {
       before = before;
       text = text;
-      clock = c';
-      rows = rs';
-      awaited = ss';
+      clock = other_clock;
+      rows = other_rows;
+      awaited = other_awaited;
     }) clock rows awaited
-gone-same before text c rs ss c' rs' ss' clock rows [] = refl
-gone-same before text c rs ss c' rs' ss' clock rows (s ∷ awaited) = refl
+gone-same before text one_clock one_rows one_awaited other_clock other_rows other_awaited clock rows [] = refl
+gone-same before text one_clock one_rows one_awaited other_clock other_rows other_awaited clock rows (s ∷ awaited) = refl
 
 -- ---- satellite lines
 
@@ -265,15 +272,13 @@ rows-more before next later line count satellites epoch after s h e r =
       named = cc (
         map-append (λ (w : Row). w.name) epoch.rows (r.row ∷ []),
         fits.0,
-        taken_more satellites
-            count s e,
+        taken_more satellites count s e,
         map-append (λ (w : Satellite). w.name) (take count satellites) (s ∷ []),
       );
       sized = cc (
         map-append (λ (w : Row). length w.values) epoch.rows (r.row ∷ []),
         fits.1,
-        taken_more
-            satellites count s e,
+        taken_more satellites count s e,
         map-append (λ (w : Satellite). w.count) (take count satellites) (s ∷ []),
       );
       within = let inside : count < length satellites = slice_get_within satellites count s e in omega

@@ -28,7 +28,7 @@ use Rattle.crx_history.specs.HeldRows.{past_of_tail}
 use Rattle.crx_compact.specs.OpenEpochs.{tail_for_line, epoch_after}
 use Rattle.crx_compact.specs.ReadingLaws.{HasSingleLines, RawByTail}
 use Rattle.crx_rinex.proofs.EachPlace.{each_place-same, index-each_place}
-use Rattle.crx_compact.proofs.wayback.Lists.{mapped-same}
+use Rattle.crx_compact.proofs.Lists.{mapped-same}
 use Rattle.crx_compact.proofs.wayback.Overlays.{overlaid-patched}
 use Rattle.crx_compact.proofs.wayback.Cuts.{overlaid-take}
 use Rattle.crx_compact.proofs.wayback.Runs.{named-made}

@@ -130,8 +130,7 @@ arc-read (Step number) (Some arc) h k =
     grind (
       arith,
       differences-few number (take arc.order arc.differences),
-      length-take arc.order
-          arc.differences,
+      length-take arc.order arc.differences,
     )
 
 cell-bounded : (cells : List (Option ArcTail)) (place : ℕ)
@@ -180,8 +179,7 @@ row-read before satellite read h waits facts =
       values = omega (arith, length-map facts.cells (λ (c : ReadCell). c.value), few);
       flags = omega (
         arith,
-        length-columns ((past_of_tail before).flags satellite.name marks) 1
-            (2 * length facts.cells),
+        length-columns ((past_of_tail before).flags satellite.name marks) 1 (2 * length facts.cells),
         few,
       );
       tail = record {

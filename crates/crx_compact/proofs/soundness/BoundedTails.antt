@@ -21,8 +21,7 @@ arc-bounded order [] = tt
 arc-bounded order (a ∷ older) =
     grind (
       arith,
-      length-each_place (suc (min (length (a ∷ older) - 1) order))
-          (λ i. difference i (a ∷ older)),
+      length-each_place (suc (min (length (a ∷ older) - 1) order)) (λ i. difference i (a ∷ older)),
     )
 
 row-bounded : (types : List Count) (run : List Row) (r : Row)

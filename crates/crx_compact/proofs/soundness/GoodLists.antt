@@ -32,7 +32,6 @@ reads-whole_lists (types ∷ counts) lines epochs count h e =
     let same = ap (thing_here (two.from ∷ one.from)) two.later in
     let P : List ReadEpoch → Type 0 = λ es. AreGood (types ∷ counts) es in
     subst P same (
-      reads-whole types raws others two.from two.count h.0 (good-marks counts one.from good)
-          two.first,
+      reads-whole types raws others two.from two.count h.0 (good-marks counts one.from good) two.first,
       good,
     )

@@ -35,7 +35,7 @@ use Rattle.crx_arcs.specs.meaning.Cells.{ReadCell}
 use Rattle.crx_history.specs.meaning.CompactPlaces.{ReadRow, ReadEpoch}
 use Rattle.crx_compact.specs.ReadingLaws.{HasPrintableMarks, IsGood, ReadsWholeEpochs}
 use Rattle.crx_rinex.proofs.EachPlace.{each_place-all, length-each_place}
-use Rattle.crx_compact.proofs.wayback.Lists.{all-from}
+use Rattle.crx_compact.proofs.Lists.{all-from}
 use Rattle.crx_compact.proofs.wayback.Overlays.{at-overlaid}
 use Rattle.crx_rinex.proofs.SoundEpochs.{length-columns}
 use Rattle.crx_history.proofs.Characters.{all-take, list_all-at, list_all-append}
@@ -106,11 +106,11 @@ marks-cut : (n : ℕ) (marks : List (List ℕ)) → ArePrintable marks → ArePr
 marks-cut n [] h = tt
 marks-cut n (w ∷ ws) h = (all-take is_printable n w h.0, marks-cut n ws h.1)
 
-run-printable : (name : List ℕ) (block : List RawEpoch)
+raw_run-printable : (name : List ℕ) (block : List RawEpoch)
     → AllByRecursion HasPrintableMarks block → ArePrintable (marks_of (raw_run_of name block))
-run-printable name [] h = tt
-run-printable name (e ∷ es) h =
-    choose (raw_row_named name e.rows) (found-printable name e.rows h.0) (run-printable name es h.1)
+raw_run-printable name [] h = tt
+raw_run-printable name (e ∷ es) h =
+    choose (raw_row_named name e.rows) (found-printable name e.rows h.0) (raw_run-printable name es h.1)
   where
     choose : (o : Option RawRow) → IfSome o (λ (r : RawRow). list_all is_printable r.marks ≡ true)
         → ArePrintable (marks_of (raw_run_of name es))
@@ -124,11 +124,11 @@ since-fits : (width : ℕ) (o : Option Started) (v : Option ℤ) → value_since
 since-fits width None v e = absurd (no-err NoArc v e)
 since-fits width (Some arc) v e = grind arith
 
-value-fits : (width : ℕ) (codes : List Code) (v : Option ℤ) → value_of width codes ≡ Ok v → IsMissingOrWithin width v
-value-fits width [] v e = subst (IsMissingOrWithin width) (ok-same None v e) tt
-value-fits width (Missing ∷ cs) v e = subst (IsMissingOrWithin width) (ok-same None v e) tt
-value-fits width (Start n x ∷ cs) v e = since-fits width (since_start (Start n x ∷ cs)) v e
-value-fits width (Step d ∷ cs) v e = since-fits width (since_start (Step d ∷ cs)) v e
+value_of-fits : (width : ℕ) (codes : List Code) (v : Option ℤ) → value_of width codes ≡ Ok v → IsMissingOrWithin width v
+value_of-fits width [] v e = subst (IsMissingOrWithin width) (ok-same None v e) tt
+value_of-fits width (Missing ∷ cs) v e = subst (IsMissingOrWithin width) (ok-same None v e) tt
+value_of-fits width (Start n x ∷ cs) v e = since-fits width (since_start (Start n x ∷ cs)) v e
+value_of-fits width (Step d ∷ cs) v e = since-fits width (since_start (Step d ∷ cs)) v e
 
 -- every value of some cells fits
 cells-fit : (value : ℕ → Code → Result (Option ℤ) Fault)
@@ -183,28 +183,28 @@ row-sound types block satellite read counts printable known h =
         counted = subst R (sym count) allowed;
         ranged = All-from_recursion IsValue values
             (cells-fit ((past_of_block block).value name)
-            (λ j c v e. value-fits OBSERVATION_WIDTH (c ∷ map (code_in j) (raw_run_of name block)) v e) h.cells
+            (λ j c v e. value_of-fits OBSERVATION_WIDTH (c ∷ map (code_in j) (raw_run_of name block)) v e) h.cells
             h.are_read);
         paired = omega (arith, wide, many);
         kept = all-columns is_kept ((past_of_block block).flags name read.raw.marks) 1 (2 * length h.cells) refl
             (overlaid-kept (read.raw.marks ∷ marks_of (raw_run_of name block))
-            (marks, run-printable name block printable));
+            (marks, raw_run-printable name block printable));
       },
       known.typed ∙ ap (λ n. Some n) (sym count),
     )
 
-abbrev Known : List Count → List Satellite → Type 0
-Known types satellites = AllByRecursion (IsKnown types) satellites
+abbrev AreKnown : List Count → List Satellite → Type 0
+AreKnown types satellites = AllByRecursion (IsKnown types) satellites
 
 known-all : (types : List Count) (satellites : List Satellite)
     → AllByRecursion (λ (s : Satellite). types_of_satellite types s.name ≡ Some s.count) satellites
-    → AllByRecursion (λ (n : List ℕ). length n ≡ 3) (names_of satellites) → Known types satellites
+    → AllByRecursion (λ (n : List ℕ). length n ≡ 3) (names_of satellites) → AreKnown types satellites
 known-all types [] h k = tt
 known-all types (s ∷ ss) h k = (record { typed = h.0; short = k.0 }, known-all types ss h.1 k.1)
 
 rows-sound : (types : List Count) (block : List RawEpoch) (satellites : List Satellite) (rows : List ReadRow)
     → AreCounts types → AllByRecursion HasPrintableMarks block
-    → Known types satellites → Paired (RowFacts (past_of_block block)) satellites rows
+    → AreKnown types satellites → Paired (RowFacts (past_of_block block)) satellites rows
     → AllByRecursion (λ (r : Row). IsSoundRow r × HasItsTypes types r) (map (λ (r : ReadRow). r.row) rows)
 rows-sound types block [] [] counts printable known h = tt
 rows-sound types block [] (r ∷ rs) counts printable known h = absurd h
@@ -255,7 +255,7 @@ reads-whole types older lines read count counts printable e =
     let many : length rows ≡ n = sym (length-map rows (λ (r : Row). r.name))
     ∙ ap length (names ∙ facts.line_ok.named.same) ∙ length-each_place n (λ k. columns text (42 + 3 * k) 3) in
     let announced = ap (λ o. unwrap_or o 0) facts.line_ok.counted in
-    let clock = value-fits CLOCK_WIDTH (facts.clock.code ∷ map (λ (q : RawEpoch). q.clock) block)
+    let clock = value_of-fits CLOCK_WIDTH (facts.clock.code ∷ map (λ (q : RawEpoch). q.clock) block)
     facts.clock.value facts.clock_ok in
     let G : ReadEpoch → Type 0 = λ r. IsGood types r in
     subst G facts.is_read (record {

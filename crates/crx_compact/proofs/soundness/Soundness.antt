@@ -114,8 +114,7 @@ read-cells value (text ∷ texts) cells e =
     let two = before-ok one.from rest cells one.next in
     subst (AreReadCells value) (ok-same (one.from ∷ two.from) cells two.next) (
       read-cell BadField (value 0) text one.from one.first,
-      read-cells (λ j. value (suc j)) texts two.from
-          two.first,
+      read-cells (λ j. value (suc j)) texts two.from two.first,
     )
 
 -- the values that the codes of some cells stand for
@@ -170,8 +169,7 @@ row-meant block satellite read h =
     subst P h.is_read (rw (
       cells-meant ((past_of_block block).value satellite.name) h.cells h.are_read,
       columns-cut (2 * length codes) (marks ∷ marks_of (raw_run_of satellite.name block)),
-      length-map h.cells
-          (λ (c : ReadCell). c.code),
+      length-map h.cells (λ (c : ReadCell). c.code),
     ))
 
 -- ---- all satellites
@@ -351,8 +349,7 @@ rows-meant block raw (s ∷ ss) (r ∷ rs) h own =
       own.0,
       raw-name (past_of_block block) s r h.0,
       row-meant block s r h.0,
-      rows-meant block
-          raw ss rs h.1 own.1,
+      rows-meant block raw ss rs h.1 own.1,
     )
 
 epoch-meant : (types : List Count) (older : List RawEpoch) (read : ReadEpoch) (count : ℕ)

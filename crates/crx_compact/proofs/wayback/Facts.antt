@@ -103,8 +103,7 @@ length-text types e h =
     grind (
       arith,
       length-append e.head (flat_map (λ (r : Row). r.name) e.rows),
-      length-names types e.rows
-          (typed-rows types e h),
+      length-names types e.rows (typed-rows types e h),
     )
 
 pub text-names : (types : List Count) (e : Epoch)
@@ -113,13 +112,6 @@ text-names types e h p = at-append_past e.head (flat_map (λ (r : Row). r.name) 
 
 pub trimmed-again : (text : List ℕ) → without_end_blanks (without_end_blanks text) ≡ without_end_blanks text
 trimmed-again text = same_characters (without_end_blanks text) text (λ p. at-without_end_blanks text p)
-
--- a difference doesn't depend on the blanks at the old text's end
-pub difference-trimmed : (old new : List ℕ) → text_difference (without_end_blanks old) new ≡ text_difference old new
-difference-trimmed old new =
-    same_characters (by_position mark_of (without_end_blanks old) new) (by_position mark_of old new) (λ p.
-    at-by_position mark_of refl (without_end_blanks old) new p
-    ∙ ap (λ c. mark_of c (at new p)) (at-without_end_blanks old p) ∙ sym (at-by_position mark_of refl old new p))
 
 -- ---- identifiers
 
@@ -148,12 +140,12 @@ names-read types text offset (r ∷ rs) h e =
     )
 
 -- the satellites of some rows, with their counts of types
-abbrev pub satellites_of : List Row → List Satellite
-satellites_of rows = map (λ (r : Row). record { name = r.name; count = length r.values }) rows
+abbrev pub satellites_of_rows : List Row → List Satellite
+satellites_of_rows rows = map (λ (r : Row). record { name = r.name; count = length r.values }) rows
 
 pub satellites-good : (types : List Count) (earlier : List (List ℕ)) (rows : List Row)
     → AllByRecursion (IsTypedRow types) rows → AreNew (λ (r : Row). r.name) earlier rows → are_different rows ≡ true
-    → satellites_named types earlier (map (λ (r : Row). r.name) rows) ≡ Ok (satellites_of rows)
+    → satellites_named types earlier (map (λ (r : Row). r.name) rows) ≡ Ok (satellites_of_rows rows)
 satellites-good types earlier [] h new k = refl
 satellites-good types earlier (r ∷ rs) h new k =
     let others : Result (List Satellite) Fault =
@@ -161,7 +153,7 @@ satellites-good types earlier (r ∷ rs) h new k =
     let alone : has_satellite r.name rs ≡ false =
     not-true (has_satellite r.name rs) (and_parts (not (has_satellite r.name rs)) (are_different rs) k).0 in
     let rest : satellites_named types (r.name ∷ earlier) (map (λ (q : Row). q.name) rs) ≡ Ok
-    (satellites_of rs) = satellites-good types (r.name ∷ earlier) rs h.1
+    (satellites_of_rows rs) = satellites-good types (r.name ∷ earlier) rs h.1
     (new-after (λ (q : Row). q.name) r.name earlier rs new.1 alone)
     (and_parts (not (has_satellite r.name rs)) (are_different rs) k).1 in
     cc

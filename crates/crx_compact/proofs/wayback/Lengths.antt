@@ -97,17 +97,17 @@ code-length j (x ∷ y ∷ ys) some few h all =
 
 -- ---- texts
 
-by_position-length : (f : ℕ → ℕ → ℕ) (n : ℕ) (as' bs : List ℕ)
-    → length as' ≤ n → length bs ≤ n → length (by_position f as' bs) ≤ n
+by_position-length : (f : ℕ → ℕ → ℕ) (n : ℕ) (xs ys : List ℕ)
+    → length xs ≤ n → length ys ≤ n → length (by_position f xs ys) ≤ n
 by_position-length f n [] [] h k = omega arith
-by_position-length f zero (a ∷ as') bs h k = absurd (omega (arith, h))
-by_position-length f zero [] (b ∷ bs) h k = absurd (omega (arith, k))
-by_position-length f (suc n) (a ∷ as') [] h k = let le : length (by_position f as' []) ≤ n =
-    by_position-length f n as' [] (omega (arith, h)) (omega arith) in omega (arith, le)
-by_position-length f (suc n) [] (b ∷ bs) h k = let le : length (by_position f [] bs) ≤ n =
-    by_position-length f n [] bs (omega arith) (omega (arith, k)) in omega (arith, le)
-by_position-length f (suc n) (a ∷ as') (b ∷ bs) h k = let le : length (by_position f as' bs) ≤ n =
-    by_position-length f n as' bs (omega (arith, h)) (omega (arith, k)) in omega (arith, le)
+by_position-length f zero (x ∷ xs) ys h k = absurd (omega (arith, h))
+by_position-length f zero [] (y ∷ ys) h k = absurd (omega (arith, k))
+by_position-length f (suc n) (x ∷ xs) [] h k = let le : length (by_position f xs []) ≤ n =
+    by_position-length f n xs [] (omega (arith, h)) (omega arith) in omega (arith, le)
+by_position-length f (suc n) [] (y ∷ ys) h k = let le : length (by_position f [] ys) ≤ n =
+    by_position-length f n [] ys (omega arith) (omega (arith, k)) in omega (arith, le)
+by_position-length f (suc n) (x ∷ xs) (y ∷ ys) h k = let le : length (by_position f xs ys) ≤ n =
+    by_position-length f n xs ys (omega (arith, h)) (omega (arith, k)) in omega (arith, le)
 
 pub difference-length : (n : ℕ) (old new : List ℕ)
     → length old ≤ n → length new ≤ n → length (text_difference old new) ≤ n
@@ -121,8 +121,7 @@ cells-length n (c ∷ cs) h =
     grind (
       arith,
       length-append (code_text c) (32 ∷ []),
-      length-append (code_text c ++ 32 ∷ [])
-          (flat_map cell_text cs),
+      length-append (code_text c ++ 32 ∷ []) (flat_map cell_text cs),
       cells-length n cs h.1,
     )
 

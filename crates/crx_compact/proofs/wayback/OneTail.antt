@@ -1,5 +1,5 @@
 -- The tail of what was written is the tail of its block as it is read.
-use Rattle.std.specs.Prelude.{◌≡◌, refl, ℕ, ℤ, Bool, List, [], ◌∷◌, length, map, Option, Some, None, if◌then◌else◌}
+use Rattle.std.specs.Prelude.{◌≡◌, refl, ℕ, ℤ, Bool, List, [], ◌∷◌, length, map, Option, Some, None}
 use Rattle.std.specs.List.{AllByRecursion}
 use Rattle.std.proofs.Common.{sym, ◌∙◌, ap, subst}
 use Rattle.std.proofs.lemmas.Simd.{map-map}
@@ -7,7 +7,7 @@ use Rattle.crx_columns.specs.meaning.Columns.{without_end_blanks}
 use Rattle.crx_lines.specs.declared.limits.TheConstants.{WRITTEN_ORDER}
 use Rattle.crx_rinex.specs.meaning.Observations.{Row, Epoch}
 use Rattle.crx_rinex.specs.meaning.ObservationTypes.{Count}
-use Rattle.crx_arcs.specs.meaning.Sequences.{back_to, stretch}
+use Rattle.crx_arcs.specs.meaning.Sequences.{stretch}
 use Rattle.crx_arcs.specs.meaning.Differences.{code_at}
 use Rattle.crx_history.specs.meaning.Compaction.{epoch_text, Marked, row_named, since_full, run_of, arc_of}
 use Rattle.crx_arcs.specs.meaning.Cells.{value_in}
@@ -21,11 +21,11 @@ use Rattle.crx_compact.specs.ReadingLaws.{raw_row, OneTail}
 use Rattle.crx_compact.specs.Laws.{AreWhole}
 use Rattle.crx_rinex.proofs.EachPlace.{each_place-same, length-each_place}
 use Rattle.crx_arcs.proofs.arcs.Inversion.{numbers_of, value-numbers, started-codes}
-use Rattle.crx_compact.proofs.wayback.Lists.{mapped-same}
+use Rattle.crx_compact.proofs.Lists.{mapped-same}
 use Rattle.crx_compact.proofs.wayback.Runs.{raw_block, marked, block-raws, raw_run, runs-read, codes_of_values}
 use Rattle.crx_compact.proofs.wayback.Runs.{clocks-read, codes-read, started-values, text-read, marks-read, rows_before}
 use Rattle.crx_history.proofs.Identifiers.{each-own}
-use Rattle.crx_compact.proofs.wayback.Rows.{IsRowOf, run-rows, flags-run}
+use Rattle.crx_compact.proofs.wayback.Rows.{IsRowOf, run-begins, rows-of_run, flags-run}
 use Rattle.crx_compact.proofs.wayback.Reading.{epochs-begin, epochs-unmarked}
 
 -- ---- arcs
@@ -63,12 +63,8 @@ row-left : (types : List Count) (full : Bool) (e : Epoch) (older : List Marked)
     (raw_row (run_of r.name (marked full e ∷ older)) r) ≡ row_tail (run_of r.name (marked full e ∷ older)) r
 row-left types full e older h r own =
     let ms : List Marked = marked full e ∷ older in
-    let run : run_of r.name (marked full e ∷ older) ≡ r ∷ rows_before full r.name older =
-    ap (λ (o : Option Row). stretch (o ∷ map (λ (q : Epoch). row_named r.name q.rows)
-    (map (λ (m : Marked). m.epoch) (if full then [] else back_to (λ (m : Marked). m.in_full) older)))) own in
-    let P : List Row → Type 0 = λ q. AllByRecursion (IsRowOf types r.name) q in
-    let rows : AllByRecursion (IsRowOf types r.name) (r ∷ rows_before full r.name older) =
-    subst P run (run-rows types r.name (since_full (marked full e ∷ older)) h) in
+    let run = run-begins full e older r own in
+    let rows = rows-of_run types full e older h r own in
     let Q : List Row → Type 0 = λ q. raw_row_tail (raw_run q) (raw_row q r) ≡ row_tail q r in
     ap (λ q. raw_row_tail q (raw_row (run_of r.name ms) r)) (runs-read r.name (marked full e ∷ older))
     ∙ subst Q (sym run) (row-same types r (rows_before full r.name older) rows)
@@ -95,6 +91,5 @@ pub one-tail : OneTail
 one-tail types m older h =
     cc (
       block-raws (m ∷ older) (epochs-begin types (since_full (m ∷ older)) h),
-      tail-same types m.in_full
-          m.epoch older h,
+      tail-same types m.in_full m.epoch older h,
     )

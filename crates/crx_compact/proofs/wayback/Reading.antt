@@ -1,6 +1,6 @@
 -- The compact lines of an epoch read as that epoch.
 use Rattle.std.specs.Prelude.{◌≡◌, refl, ◌≢◌, ℕ, ◌+◌, ◌-◌, Bool, true, false, List, [], ◌∷◌, ◌++◌}
-use Rattle.std.specs.Prelude.{length, map, drop, Option, Some, Result, Ok, Err, if◌then◌else◌}
+use Rattle.std.specs.Prelude.{length, map, drop, Some, Result, Ok, Err, if◌then◌else◌}
 use Rattle.std.specs.List.{list_all, AllByRecursion}
 use Rattle.std.proofs.Common.{sym, ◌∙◌, ap, subst, arith, drop_of_length-le}
 use Rattle.std.proofs.lemmas.List.{length-map, length-append, append_assoc, map-append}
@@ -18,7 +18,7 @@ use Rattle.crx_text.specs.declared.code.Code.{Code}
 use Rattle.crx_lines.specs.declared.fault.Fault.{Fault}
 use Rattle.crx_lines.specs.declared.fault.Fault.TheVariants.{BadEpoch}
 use Rattle.crx_lines.specs.declared.limits.TheConstants.{WRITTEN_ORDER, CLOCK_WIDTH}
-use Rattle.crx_arcs.specs.meaning.Sequences.{back_to, stretch, and_then}
+use Rattle.crx_arcs.specs.meaning.Sequences.{back_to, and_then}
 use Rattle.crx_arcs.specs.meaning.Differences.{code_at}
 use Rattle.crx_history.specs.meaning.Compaction.{Marked, epoch_text, row_named, since_full, run_of, clock_arc}
 use Rattle.crx_history.specs.meaning.Compaction.{newest_text, satellite_line, epoch_line, compact_epoch}
@@ -37,7 +37,7 @@ use Rattle.crx_compact.specs.ReadingLaws.{EpochReadsBack, raw_row, raw_of, raws_
 use Rattle.crx_compact.specs.ReadingLaws.{EachReadsBack, text_lines, epochs_at, marked_of, counts_of, reads_of}
 use Rattle.crx_compact.specs.ReadingLaws.{ReadsBack}
 use Rattle.crx_compact.specs.Laws.{AreWhole}
-use Rattle.crx_compact.proofs.wayback.Lists.{all-from}
+use Rattle.crx_compact.proofs.Lists.{all-from}
 use Rattle.crx_compact.proofs.wayback.Writable.{head-counted, typed-rows}
 use Rattle.crx_text.proofs.CodeTexts.{code_of-code_text}
 use Rattle.crx_columns.proofs.EndBlanks.{few_kept}
@@ -45,8 +45,8 @@ use Rattle.crx_compact.proofs.wayback.CodeTexts.{is_code_character, code-charact
 use Rattle.crx_compact.proofs.wayback.Runs.{raw_block, marked, Begins, begins_full, begins_later, block-raws, raw_run}
 use Rattle.crx_compact.proofs.wayback.Runs.{runs-read, clocks-read, value-back, text-read, rows_before}
 use Rattle.crx_compact.proofs.wayback.Facts.{text-kept, text-head, text-begins, length-text, text-names, names-read}
-use Rattle.crx_compact.proofs.wayback.Facts.{satellites_of, satellites-good, unmarked, difference-printable}
-use Rattle.crx_compact.proofs.wayback.Rows.{IsRowOf, run-rows, clock-printable, satellite_of, row-read}
+use Rattle.crx_compact.proofs.wayback.Facts.{satellites_of_rows, satellites-good, unmarked, difference-printable}
+use Rattle.crx_compact.proofs.wayback.Rows.{run-begins, rows-of_run, clock-printable, satellite_of, row-read}
 use Rattle.crx_history.proofs.Identifiers.{each-own, none-earlier}
 use Rattle.crx_rinex.proofs.Characters.{at, at-without_end_blanks, columns-are}
 
@@ -81,8 +81,7 @@ past-found false e (m ∷ older) raws h k =
     let block : block_of raws ≡ raw_block (m ∷ older) = k refl ∙ block-raws (m ∷ older) h.1 in
     rw (
       begins_later (epoch_text m.epoch) (epoch_text e) h.1.0 h.0,
-      not-empty raws (raw_of m older)
-          (before m.in_full older) block,
+      not-empty raws (raw_of m older) (before m.in_full older) block,
       block,
     )
 
@@ -103,7 +102,7 @@ text-columns types e h =
     ∙ at-without_end_blanks (epoch_text e) p ∙ text-head types e h p less)
 
 text-good : (types : List Count) (e : Epoch)
-    → IsWholeEpoch types e → satellites_of_text types (without_end_blanks (epoch_text e)) ≡ Ok (satellites_of e.rows)
+    → IsWholeEpoch types e → satellites_of_text types (without_end_blanks (epoch_text e)) ≡ Ok (satellites_of_rows e.rows)
 text-good types e h =
     let text = without_end_blanks (epoch_text e) in
     let count = ap epoch_count (text-columns types e h) ∙ head-counted types e h in
@@ -129,7 +128,7 @@ text-good_line types full e older h =
 line-good : (types : List Count) (full : Bool) (e : Epoch) (older : List Marked)
     → AreWhole types (since_full (marked full e ∷ older))
     → satellites_of_line types (past_of_block (before full older)) (epoch_line (marked full e) older)
-    ≡ Ok (satellites_of e.rows)
+    ≡ Ok (satellites_of_rows e.rows)
 line-good types full e older h =
     cc (
       difference-printable (if full then [] else newest_text older) (epoch_text e) (text-kept types e h.0),
@@ -170,8 +169,7 @@ clock-good types full e older h =
     rw (
       text-other (code_text code) characters,
       no-end_blanks (code_text code) characters,
-      code_of-code_text
-          code printable,
+      code_of-code_text code printable,
       value,
     )
 
@@ -196,12 +194,8 @@ row-reads : (types : List Count) (full : Bool) (e : Epoch) (older : List Marked)
     → (r : Row) → row_named r.name e.rows ≡ Some r
     → RowReads (past_of_block (before full older)) (marked full e ∷ older) r
 row-reads types full e older h r own =
-    let run : run_of r.name (marked full e ∷ older) ≡ r ∷ rows_before full r.name older =
-    ap (λ (o : Option Row). stretch (o ∷ map (λ (q : Epoch). row_named r.name q.rows)
-    (map (λ (m : Marked). m.epoch) (if full then [] else back_to (λ (m : Marked). m.in_full) older)))) own in
-    let P : List Row → Type 0 = λ q. AllByRecursion (IsRowOf types r.name) q in
-    let rows : AllByRecursion (IsRowOf types r.name) (r ∷ rows_before full r.name older) =
-    subst P run (run-rows types r.name (since_full (marked full e ∷ older)) h) in
+    let run = run-begins full e older r own in
+    let rows = rows-of_run types full e older h r own in
     let Q : List Row → Type 0 = λ q. satellite_line_read (past_of_block (before full older))
     (satellite_of r) (satellite_line q r) ≡ Ok (record { raw = raw_row q r; row = r }) in
     subst Q (sym run) (row-read types
@@ -209,7 +203,7 @@ row-reads types full e older h r own =
 
 rows-good : (past : Past) (ms : List Marked) (rows : List Row) (rest : List ReadLine)
     → AllByRecursion (RowReads past ms) rows
-    → rows_read past (satellites_of rows) (map Content (map (line_in ms) rows) ++ rest)
+    → rows_read past (satellites_of_rows rows) (map Content (map (line_in ms) rows) ++ rest)
     ≡ Here (map (read_in ms) rows) (length rows)
 rows-good past ms [] rest h = refl
 rows-good past ms (r ∷ rs) rest h = grind (arith, rows-good past ms rs rest h.1)
@@ -231,7 +225,7 @@ epoch-good types full e older raws rest h k =
     let past : Past = past_of_block (before full older) in
     let line : List ℕ = epoch_line (marked full e) older in
     let code : Code = code_at WRITTEN_ORDER (clock_arc (marked full e ∷ older)) in
-    let begun : BegunEpoch = record { line = line; past = past; satellites = satellites_of e.rows } in
+    let begun : BegunEpoch = record { line = line; past = past; satellites = satellites_of_rows e.rows } in
     let clock : ReadCell = record { code = code; value = e.clock } in
     let others : List ReadLine = map Content (map (line_in ms) e.rows) ++ rest in
     let later : List ReadLine = Content (code_text code) ∷ others in
@@ -256,8 +250,7 @@ epoch-good types full e older raws rest h k =
       clock-good types full e older h,
       rows-good past ms e.rows rest reads,
       same,
-      counted
-          (length e.rows),
+      counted (length e.rows),
     )
   where
     counted : (n : ℕ) → 1 + (1 + (n + 0)) ≡ 2 + n

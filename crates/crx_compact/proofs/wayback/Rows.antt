@@ -1,6 +1,7 @@
 -- A satellite's line reads as its row.
 use Rattle.std.specs.Prelude.{◌≡◌, refl, ℕ, zero, suc, ◌+◌, ◌-◌, ◌*◌, ◌^◌, ◌<◌, ◌≤◌, ℤ, Bool, true, false, cond, nat_eq}
 use Rattle.std.specs.Prelude.{List, [], ◌∷◌, ◌++◌, length, map, flat_map, slice_index_or, drop, All, Option, Some, None}
+use Rattle.std.specs.Prelude.{if◌then◌else◌}
 use Rattle.std.specs.Prelude.{Result, Ok, unwrap_or}
 use Rattle.std.specs.List.{list_all, AllByRecursion}
 use Rattle.std.specs.Str.{bytes_eq}
@@ -20,7 +21,7 @@ use Rattle.crx_text.specs.declared.code.Code.TheVariants.{Missing}
 use Rattle.crx_lines.specs.declared.fault.Fault.{Fault}
 use Rattle.crx_lines.specs.declared.limits.TheConstants.{WRITTEN_ORDER, OBSERVATION_WIDTH, CLOCK_WIDTH}
 use Rattle.crx_rinex.specs.meaning.EachPlace.{each_place}
-use Rattle.crx_arcs.specs.meaning.Sequences.{stretch}
+use Rattle.crx_arcs.specs.meaning.Sequences.{back_to, stretch}
 use Rattle.crx_arcs.specs.meaning.Differences.{code_at}
 use Rattle.crx_history.specs.meaning.Compaction.{Marked, run_of, since_full, row_named, arc_of}
 use Rattle.crx_arcs.specs.meaning.Cells.{value_in}
@@ -35,7 +36,7 @@ use Rattle.crx_history.specs.meaning.CompactPlaces.{are_marks, row_of_cells}
 use Rattle.crx_history.specs.meaning.CompactPlaces.{satellite_line_read}
 use Rattle.crx_compact.specs.Laws.{AreWhole, CodesFit}
 use Rattle.crx_rinex.proofs.EachPlace.{each_place-all, index-each_place, length-each_place, map-each_place}
-use Rattle.crx_compact.proofs.wayback.Lists.{all-from}
+use Rattle.crx_compact.proofs.Lists.{all-from}
 use Rattle.crx_compact.proofs.wayback.Writable.{IsTypedRow, typed-rows}
 use Rattle.crx_compact.specs.ReadingLaws.{raw_row}
 use Rattle.crx_rinex.specs.meaning.ObservationTypes.{Count}
@@ -43,7 +44,7 @@ use Rattle.crx_text.proofs.CodeTexts.{code_of-code_text}
 use Rattle.crx_compact.proofs.wayback.CodeTexts.{is_code_character, code-characters}
 use Rattle.crx_compact.proofs.wayback.Cells.{AreWritten, cells-written, marks-written, one_cell}
 use Rattle.crx_compact.proofs.wayback.Overlays.{at_past}
-use Rattle.crx_compact.proofs.wayback.Runs.{raw_run, codes-read, value-back, HasFlags, marks-new}
+use Rattle.crx_compact.proofs.wayback.Runs.{raw_run, codes-read, marked, rows_before, value-back, HasFlags, marks-new}
 use Rattle.crx_history.proofs.Characters.{bytes_eq-is}
 use Rattle.crx_arcs.proofs.arcs.Bounds.{IsNear, near-within, code-printable}
 use Rattle.crx_compact.proofs.wayback.Facts.{unmarked, at-difference, difference-printable, trimmed-again}
@@ -84,7 +85,20 @@ run-rows types name (e ∷ es) h =
     run-rows_step types name (row_named name e.rows) (map (λ (q : Epoch). row_named name q.rows) es)
     (found-row types name e.rows (typed-rows types e h.0)) (run-rows types name es h.1)
 
--- what each row's line has after a run of the row, the lines of some rows have
+-- the run of a satellite at an epoch that has a row of it: that row, and the rows before it
+pub run-begins : (full : Bool) (e : Epoch) (older : List Marked) (r : Row) → row_named r.name e.rows ≡ Some r
+    → run_of r.name (marked full e ∷ older) ≡ r ∷ rows_before full r.name older
+run-begins full e older r own = ap (λ (o : Option Row). stretch
+    (o ∷ map (λ (q : Epoch). row_named r.name q.rows)
+    (map (λ (m : Marked). m.epoch) (if full then [] else back_to (λ (m : Marked). m.in_full) older)))) own
+
+pub rows-of_run : (types : List Count) (full : Bool) (e : Epoch) (older : List Marked)
+    → AreWhole types (since_full (marked full e ∷ older)) → (r : Row) → row_named r.name e.rows ≡ Some r
+    → AllByRecursion (IsRowOf types r.name) (r ∷ rows_before full r.name older)
+rows-of_run types full e older h r own = subst (λ q. AllByRecursion (IsRowOf types r.name) q)
+    (run-begins full e older r own) (run-rows types r.name (since_full (marked full e ∷ older)) h)
+
+-- a property of the line that any row has after any run of its satellite holds of the lines of some rows
 pub lines-each : (P : List ℕ → Type 0) (types : List Count) (ms : List Marked)
     → ((name : List ℕ) (run : List Row) (r : Row) → AllByRecursion (IsRowOf types name) run → IsTypedRow types r
     → P (satellite_line run r)) → AreWhole types (since_full ms)
@@ -155,8 +169,7 @@ cells-good value (suc n) f v p h =
     cc (
       code_of-code_text (f 0) (p 0),
       h 0,
-      cells-good (λ i. value (suc i)) n (λ i. f (suc i))
-          (λ i. v (suc i)) (λ i. p (suc i)) (λ i. h (suc i)),
+      cells-good (λ i. value (suc i)) n (λ i. f (suc i)) (λ i. v (suc i)) (λ i. p (suc i)) (λ i. h (suc i)),
     )
 
 first_other : (text rest : List ℕ)
@@ -171,8 +184,7 @@ line-begins (c ∷ cs) marks less h =
     cc (
       at-without_end_blanks (flat_map cell_text (c ∷ cs) ++ marks) 0,
       one_cell c cs marks,
-      first_other
-          (code_text c) (flat_map cell_text cs ++ marks) h.0,
+      first_other (code_text c) (flat_map cell_text cs ++ marks) h.0,
     )
 
 -- ---- the marks of a line
@@ -255,11 +267,9 @@ row-again types block r rs h e =
     grind (
       arith,
       map-each_place (λ (c : ReadCell). c.code) (length r.values) (cells_at r rs),
-      map-each_place
-          (λ (c : ReadCell). c.value) (length r.values) (cells_at r rs),
+      map-each_place (λ (c : ReadCell). c.value) (length r.values) (cells_at r rs),
       values-again r.values,
-      length-each_place
-          (length r.values) (cells_at r rs),
+      length-each_place (length r.values) (cells_at r rs),
       e,
       marks-new r rs (flags-run types r.name (r ∷ rs) h),
       columns-are

@@ -112,8 +112,7 @@ runs-read name (m ∷ older) =
     cc (
       named-made (λ (r : Row). r.name) (λ (r : RawRow). r.name) (λ n r. raw_row (run_of n (m ∷ older)) r)
           (λ n r. refl) name m.epoch.rows,
-      run-step m.in_full name m.epoch older (row_named name m.epoch.rows) refl
-          (runs-read name older),
+      run-step m.in_full name m.epoch older (row_named name m.epoch.rows) refl (runs-read name older),
     )
 
 -- ---- arcs
@@ -166,8 +165,7 @@ value-back width (Some x) os h =
     cc (
       value-present width x (stretch os) (codes_of_values os),
       started-values x os,
-      started-codes
-          WRITTEN_ORDER (stretch os) x,
+      started-codes WRITTEN_ORDER (stretch os) x,
       value-numbers WRITTEN_ORDER (stretch os) x,
       (within-is width x).1 h,
     )

@@ -19,7 +19,7 @@ use Rattle.crx_arcs.specs.meaning.Differences.{code_at}
 use Rattle.crx_compact.specs.Laws.{AreWhole, has_no_epochs, LinesCanStand}
 use Rattle.crx_rinex.proofs.EachPlace.{length-each_place}
 use Rattle.crx_rinex.specs.meaning.Epochs.{IsWholeEpoch}
-use Rattle.crx_compact.proofs.wayback.Lists.{all-from}
+use Rattle.crx_compact.proofs.Lists.{all-from}
 use Rattle.crx_compact.proofs.wayback.Writable.{IsTypedRow, typed-rows}
 use Rattle.crx_compact.proofs.wayback.CodeTexts.{is_code_character, code-characters}
 use Rattle.crx_compact.proofs.wayback.Cells.{AreWritten}
@@ -39,8 +39,7 @@ code-printable (c ∷ cs) h =
     grind (
       arith,
       (and_parts (is_code_character c) (list_all is_code_character cs) h).0,
-      code-printable cs
-          (and_parts (is_code_character c) (list_all is_code_character cs) h).1,
+      code-printable cs (and_parts (is_code_character c) (list_all is_code_character cs) h).1,
     )
 
 cells-printable : (codes : List Code) → AreWritten codes → list_all is_printable (flat_map cell_text codes) ≡ true

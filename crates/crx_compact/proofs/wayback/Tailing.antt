@@ -20,9 +20,10 @@ use Rattle.crx_arcs.specs.ArcSteps.{code_of_value, arc_of_value}
 use Rattle.crx_compact.specs.Laws.{EpochByTail}
 use Rattle.crx_rinex.proofs.EachPlace.{each_place-same, index-each_place}
 use Rattle.crx_rinex.specs.meaning.Epochs.{are_different}
-use Rattle.crx_compact.proofs.wayback.Lists.{mapped-same}
+use Rattle.crx_compact.proofs.Lists.{mapped-same}
 use Rattle.crx_compact.proofs.wayback.Runs.{marked, named-made, rows_before}
-use Rattle.crx_compact.proofs.wayback.Facts.{difference-trimmed}
+use Rattle.crx_compact.proofs.wayback.Rows.{run-begins}
+use Rattle.crx_history.proofs.SoundTexts.{before-trimmed}
 use Rattle.crx_history.proofs.Identifiers.{each-own}
 use Rattle.crx_arcs.proofs.arcs.OneMore.{code-next, arc-next}
 
@@ -76,7 +77,7 @@ flags-left false name (m ∷ older) =
 before-flags : (r : Row) (rs : List Row)
     → text_difference (indicators_before (r ∷ rs)) r.flags ≡ text_difference (head_flags rs) r.flags
 before-flags r [] = refl
-before-flags r (q ∷ qs) = sym (difference-trimmed q.flags r.flags)
+before-flags r (q ∷ qs) = sym (before-trimmed q.flags r.flags)
 
 record RowByTail (full : Bool) (ms older : List Marked) (r : Row) : Type 0 where
   line : satellite_line (run_of r.name ms) r ≡ row_line_in (start full older).rows r
@@ -86,9 +87,7 @@ row-by_tail : (full : Bool) (e : Epoch) (older : List Marked) (r : Row)
     → row_named r.name e.rows ≡ Some r → RowByTail full (marked full e ∷ older) older r
 row-by_tail full e older r own =
     let rs = rows_before full r.name older in
-    let run = ap (λ (o : Option Row). stretch
-    (o ∷ map (λ (q : Epoch). row_named r.name q.rows)
-    (map (λ (m : Marked). m.epoch) (if full then [] else back_to (λ (m : Marked). m.in_full) older)))) own in
+    let run = run-begins full e older r own in
     let found = tail_named r.name (start full older) in
     let codes = each_place-same (length r.values) (λ j. code_at WRITTEN_ORDER (arc_of j (r ∷ rs)))
     (λ j. code_of_value (value_in j r) (cell_of_tail j found))
@@ -119,7 +118,7 @@ clock-left false older = refl
 text-left : (full : Bool) (older : List Marked) (new : List ℕ)
     → text_difference (if full then [] else newest_text older) new ≡ text_difference (start full older).text new
 text-left true older new = refl
-text-left false older new = sym (difference-trimmed (newest_text older) new)
+text-left false older new = sym (before-trimmed (newest_text older) new)
 
 epoch-by : (full : Bool) (e : Epoch) (older : List Marked)
     → are_different e.rows ≡ true → EpochByTail (marked full e) older

@@ -29,8 +29,7 @@ rows-typed : (types : List Count) (rows : List Row)
 rows-typed types [] h k = tt
 rows-typed types (r ∷ rs) h k = (
   (All-head IsSoundRow r rs h, All-head (HasItsTypes types) r rs k),
-  rows-typed types rs
-      (All-tail IsSoundRow r rs h) (All-tail (HasItsTypes types) r rs k),
+  rows-typed types rs (All-tail IsSoundRow r rs h) (All-tail (HasItsTypes types) r rs k),
 )
 
 -- ---- epochs

@@ -22,8 +22,7 @@ check-lawful = record {
       ∙ ap (λ o. record { output = []; warnings = []; fault = o }) (sym e);
   grows = λ lines more. record { rest = []; same = refl };
   goes_on = λ lines more. record {
-    rest = report_unless
-        (whole_reading_of (lines ++ more)).fault (findings_of (lines ++ more));
+    rest = report_unless (whole_reading_of (lines ++ more)).fault (findings_of (lines ++ more));
     same = refl;
   };
   found = λ lines at e. rinex-found false (map seen lines) at e;

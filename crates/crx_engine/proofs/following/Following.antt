@@ -82,8 +82,7 @@ module _ {E U O K : Type 0} (beginning : List (Item E) → List ReadLine → Pla
         → AgreeOn items (line ∷ []) (direction.begins (types_in_force items) (kept_of items) line)
     pub continues : (items : List (Item E)) (lines : List ReadLine) (line : ReadLine) (so_far : O)
         → open_with items lines ≡ Some so_far
-        → AgreeOn items
-        (lines ++ line ∷ []) (direction.continues so_far line)
+        → AgreeOn items (lines ++ line ∷ []) (direction.continues so_far line)
     pub header_kept : (items : List (Item E)) (number : ℕ) (types : List Count) (line : List ℕ)
         → direction.kept_after (seen_in choices number (InHeader (is_at_start items)) types (kept_of items))
         (HeaderLine line) ≡ kept_of (Accepted (HeaderLine line) ∷ items)
@@ -472,27 +471,25 @@ module _ {E U O K : Type 0} {beginning : List (Item E) → List ReadLine → Pla
       → Agrees items (rest ++ line ∷ []) made
       → may_skip phase ≡ true → AreKept items kept
       → IsInside items phase kept rest → number + length rest ≡ count + 1
-      → is_again (step_of_made direction (seen_at count phase items kept) line made).answer
-      ≡ false
+      → is_again (step_of_made direction (seen_at count phase items kept) line made).answer ≡ false
       → Follows (count + 1) items
       (reads (suc units) items number (rest ++ line ∷ []))
       (fed_once (step_of_made direction (seen_at count phase items kept) line made))
   body-once units items number count rest line phase kept
       (Completes (EventLine l)) ended none wanted agree may keeps inside counted quiet =
-      let wanted' = body-place beginning items rest ended none ∙ wanted in
+      let wanted_here = body-place beginning items rest ended none ∙ wanted in
       let here = body-place beginning items (rest ++ line ∷ []) ended none ∙ agree.1 in
       let all : length (rest ++ line ∷ []) ≡ length rest + 1 = length-append rest (line ∷ []) in
       let one : length (rest ++ line ∷ []) ≡ 1 = agree.2 in
-      let same : kept ≡ kept_of items =
-      first_kept rest inside (omega (arith, all, one)) in
+      let same : kept ≡ kept_of items = first_kept rest inside (omega (arith, all, one)) in
       subst (λ r. Follows (count + 1) items r (fed_once (step_of_made
       direction (seen_at count phase items kept) line (Completes (EventLine l)))))
       (sym (last-here h.forward choices.skip units items number rest line
-      (EventLine l) agree.0 wanted' here))
+      (EventLine l) agree.0 wanted_here here))
       (followed-unit count
       (number + agree.0) items phase kept (EventLine l) (EventLine l)
       (h.none_open (Accepted (EventLine l) ∷ items))
-      (event-phase)
+      event-phase
       refl
       (ap (λ k. direction.kept_after (seen_at count phase items k) (EventLine l)) same
       ∙ h.event_kept items count phase (types_in_force items) l)
@@ -508,13 +505,13 @@ module _ {E U O K : Type 0} {beginning : List (Item E) → List ReadLine → Pla
       event-phase = rw ended (records-phase (records_announced l) (counts_types l))
   body-once units items number count rest line phase kept
       (Completes (Observation held)) ended none wanted agree may keeps inside counted quiet =
-      let wanted' = body-place beginning items rest ended none ∙ wanted in
+      let wanted_here = body-place beginning items rest ended none ∙ wanted in
       let here = body-place beginning items (rest ++ line ∷ []) ended none ∙ agree.2 in
       let same = agree.3 in
       subst (λ r. Follows (count + 1) items r (fed_once (step_of_made
       direction (seen_at count phase items kept) line (Completes (Observation held)))))
       (sym (last-here h.forward choices.skip units items number rest line
-      (Observation agree.1) agree.0 wanted' here))
+      (Observation agree.1) agree.0 wanted_here here))
       (followed-unit count
       (number + agree.0) items phase kept (Observation agree.1) (Observation held)
       (h.none_open (Accepted (Observation agree.1) ∷ items))
@@ -537,7 +534,7 @@ module _ {E U O K : Type 0} {beginning : List (Item E) → List ReadLine → Pla
       (open-same items kept keeps)))
   body-once units items number count rest line phase kept
       (Fails fault) ended none wanted agree may keeps inside counted quiet =
-      let wanted' = body-place beginning items rest ended none ∙ wanted in
+      let wanted_here = body-place beginning items rest ended none ∙ wanted in
       let here = body-place beginning items (rest ++ line ∷ []) ended none ∙ agree.1 in
       let emptied = emptied-same items kept keeps in
       let at : At = record { line = count + 1; fault = fault } in
@@ -549,14 +546,14 @@ module _ {E U O K : Type 0} {beginning : List (Item E) → List ReadLine → Pla
       let looking = skipped-looking units items phase kept number rest line at inside off in
       subst (λ r. Follows (count + 1) items r
       (fed_once (failed_step direction (seen_at count phase items kept) line fault)))
-      (sym (last-skipped h.forward choices.skip units items number count rest line agree.0 fault wanted' here
+      (sym (last-skipped h.forward choices.skip units items number count rest line agree.0 fault wanted_here here
       (tested ∙ on) counted ∙ looking.1))
       (followed-skip count looking.0 items phase kept line fault (emptied
       ∙ h.warned items at) on off))
       (λ off.
       subst (λ r. Follows (count + 1) items r
       (fed_once (failed_step direction (seen_at count phase items kept) line fault)))
-      (sym (last-ends h.forward choices.skip units items number count rest line agree.0 fault wanted' here
+      (sym (last-ends h.forward choices.skip units items number count rest line agree.0 fault wanted_here here
       (tested ∙ off) counted))
       (followed-end count items phase kept line fault emptied off))
   body-once units items number count rest line phase kept

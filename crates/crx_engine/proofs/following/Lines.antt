@@ -47,7 +47,7 @@ use Rattle.crx_engine.proofs.following.Following.{followed-unit, followed-end}
 use Rattle.crx_engine.proofs.following.Following.{last-here, last-ends, last-skipped}
 use Rattle.crx_engine.proofs.following.Following.{skipped-again, records-phase}
 use Rattle.crx_engine.proofs.following.Following.{body-once}
-use Rattle.crx_engine.proofs.steps.EngineAnswers.{both-true}
+use Rattle.std.proofs.lemmas.Bool.{and_parts}
 
 -- only in an epoch does a line come again
 pub quiet-elsewhere : {U O K : Type 0} (direction : Direction U O K) (seen : Seen O K) (line : ReadLine)
@@ -196,7 +196,7 @@ module _ {E U O K : Type 0} {beginning : List (Item E) → List ReadLine → Pla
           (λ skipped.
           let both : (is_in_epoch phase && can_go_on line) ≡ true =
           sym (ap (λ (s : Step _ _). is_again s.answer) (failed-skipped direction seen line fault skipped)) ∙ on in
-          let each = both-true (is_in_epoch phase) (can_go_on line) both in
+          let each = and_parts (is_in_epoch phase) (can_go_on line) both in
           let looking : Seen O K = seen_at h count LookingOn items (direction.emptied kept) in
           let is_one : failed_step direction seen line fault
           ≡ record { answer = Notice at true; handed_out = []; next = looking } =
@@ -286,8 +286,8 @@ module _ {E U O K : Type 0} {beginning : List (Item E) → List ReadLine → Pla
       seen = seen_at h count phase items (kept_of items)
 
   -- the next line in the header
-  header-line : (units : ℕ) (items : List (Item E)) (count : ℕ) (line : ReadLine) → header_has_ended items
-      ≡ false
+  header-line : (units : ℕ) (items : List (Item E)) (count : ℕ) (line : ReadLine)
+      → header_has_ended items ≡ false
       → Follows h (count + 1) items (reads h (suc units) items (count + 1) (line ∷ []))
       (fed direction (seen_at h count (InHeader (is_at_start items)) items (kept_of items)) line)
   header-line units items count line e =
@@ -373,36 +373,36 @@ module _ {E U O K : Type 0} {beginning : List (Item E) → List ReadLine → Pla
       → Follows h (count + 1) items (reading_from (place h) choices.skip items number (rest ++ line ∷ []))
       (fed direction (seen_at h count (phase_after_items items (open_with items rest)) items
       (kept_in direction (phase_after_items items (open_with items rest)) (kept_of items))) line)
-  lines-line items number count rest line wanted counted false in_header left e_left so_far e_open =
+  lines-line items number count rest line wanted counted false in_header left left_is so_far open_is =
       let none : rest ≡ [] =
       only_none (header_line {E = E} (is_at_start items)) rest
       (sym (header-place beginning items rest in_header) ∙ wanted) in
       let first : number ≡ count + 1 = omega (arith, counted, ap length none) in
       let phase : phase_after_items items (open_with items rest) ≡ InHeader (is_at_start items) = rw in_header refl in
       rw (phase, none, first) (header-line 1 items count line in_header)
-  lines-line items number count rest line wanted counted true ended (suc left) e_left so_far e_open =
+  lines-line items number count rest line wanted counted true ended (suc left) left_is so_far open_is =
       let none : rest ≡ [] = only_none (event_record (records_count_types items)) rest
-      (sym (record-place beginning items left rest ended e_left) ∙ wanted) in
+      (sym (record-place beginning items left rest ended left_is) ∙ wanted) in
       let first : number ≡ count + 1 = omega (arith, counted, ap length none) in
       let phase : phase_after_items items (open_with items rest) ≡ InEvent (suc left) (records_count_types items) =
-      rw (ended, e_left) refl in
-      rw (phase, none, first) (record-line 1 items count left line ended e_left)
-  lines-line items number count rest line wanted counted true ended zero e_left None e_open =
+      rw (ended, left_is) refl in
+      rw (phase, none, first) (record-line 1 items count left line ended left_is)
+  lines-line items number count rest line wanted counted true ended zero left_is None open_is =
       let none : rest ≡ [] =
-      h.wanted_open items rest (sym (body-place beginning items rest ended e_left) ∙ wanted) e_open in
+      h.wanted_open items rest (sym (body-place beginning items rest ended left_is) ∙ wanted) open_is in
       let first : number ≡ count + 1 = omega (arith, counted, ap length none) in
       let phase : phase_after_items items (open_with items rest) ≡ BetweenUnits = body-phase items
-      (open_with items rest) ended e_left ∙ ap (λ o. phase_in_body 0 (records_count_types items) o) e_open in
-      rw (phase, none) (fresh-line items number count line BetweenUnits ended e_left refl refl first refl)
-  lines-line items number count rest line wanted counted true ended zero e_left (Some so_far) e_open =
+      (open_with items rest) ended left_is ∙ ap (λ o. phase_in_body 0 (records_count_types items) o) open_is in
+      rw (phase, none) (fresh-line items number count line BetweenUnits ended left_is refl refl first refl)
+  lines-line items number count rest line wanted counted true ended zero left_is (Some so_far) open_is =
       let phase : phase_after_items items (open_with items rest) ≡ InEpoch so_far = body-phase items
-      (open_with items rest) ended e_left ∙ ap (λ o. phase_in_body 0 (records_count_types items) o) e_open in
+      (open_with items rest) ended left_is ∙ ap (λ o. phase_in_body 0 (records_count_types items) o) open_is in
       rw (phase, more-units (place h) h.forward choices.skip items number rest line)
       (body-line (suc (length rest)) items number count rest line (InEpoch so_far)
-      (direction.kept_open (kept_of items)) (direction.continues so_far line) ended e_left
-      (sym (body-place beginning items rest ended e_left) ∙ wanted)
-      (h.continues items rest line so_far e_open) refl
-      (inr refl) (inside rest e_open) (λ e. some rest e_open) counted (omega arith) refl)
+      (direction.kept_open (kept_of items)) (direction.continues so_far line) ended left_is
+      (sym (body-place beginning items rest ended left_is) ∙ wanted)
+      (h.continues items rest line so_far open_is) refl
+      (inr refl) (inside rest open_is) (λ e. some rest open_is) counted (omega arith) refl)
     where
       inside : (ls : List ReadLine) → open_with items ls ≡ Some so_far
           → IsInside h items (InEpoch so_far) (direction.kept_open (kept_of items)) ls
@@ -424,8 +424,7 @@ module _ {E U O K : Type 0} {beginning : List (Item E) → List ReadLine → Pla
         next = refl;
         handed_out = sym (append-nil (written_lines unit_lines items));
         warned = refl;
-        failed =
-            refl;
+        failed = refl;
       }
   next-line items (AtLines number rest) count line stopped =
       lines-line items number count rest

@@ -22,7 +22,7 @@ use Rattle.crx_reading.specs.meaning.Memory.{expansion_takes, place_takes}
 use Rattle.crx_reading.specs.ExpansionByLine.{begins_event, compact_open, expansion, made_of_raw_step, tail_of_items}
 use Rattle.crx_engine.proofs.following.Expansion.{Agrees, agree-content, agree-continues, compact_beginning}
 use Rattle.crx_reading.proofs.Choosing.{false-true}
-use Rattle.crx_engine.proofs.following.Memory.{TakesAsItStands, allowed-again, allowed-first, not-true}
+use Rattle.crx_engine.proofs.following.Memory.{TakesAsItStands, allowed-again, allowed-first}
 use Rattle.std.proofs.Common.{subst, ◌+◌, ◌-◌, ◌≤◌, drop, arith}
 use Rattle.std.proofs.lemmas.List.{length-drop}
 use Rattle.crx_lines.specs.declared.fault.At.{At}
@@ -40,7 +40,8 @@ use Rattle.crx_engine.proofs.following.Expansion.{expansion-carried_out}
 use Rattle.crx_engine.proofs.following.Lines.{IsStopped}
 use Rattle.crx_engine.proofs.reading.ForwardCompact.{compact-forward, steady-first_lines}
 use Rattle.crx_engine.proofs.reading.Stopping.{reading-stopped}
-use Rattle.crx_engine.proofs.steps.EngineAnswers.{both-true, comes-again}
+use Rattle.std.proofs.lemmas.Bool.{and_parts, not-true}
+use Rattle.crx_engine.proofs.steps.EngineAnswers.{comes-again}
 
 -- a step without a fault takes memory, where its line does
 step-takes : (choices : Choices) (items : List (Item ReadEpoch)) (lines : List ReadLine) (count : ℕ) (step : RawStep)
@@ -136,7 +137,7 @@ expansion-takes choices = record {
       (not-true (is_faulty (first_step (types_in_force items) (tail_of_items items) (Content line))) good)
       (agree-content choices items line false other);
   next = λ items lines line so_far opens good.
-      let each = both-true (is_some so_far.clock) (makes_epoch (next_step so_far (Content line))) good in
+      let each = and_parts (is_some so_far.clock) (makes_epoch (next_step so_far (Content line))) good in
       last-takes choices items (lines ++ Content line ∷ []) (length lines) (next_step so_far (Content line))
       (takes-next items lines so_far opens each.0) each.1
       (agree-continues choices items lines (Content line) so_far opens);

@@ -1,4 +1,4 @@
--- One line more after some, where all are read from the first.
+-- One line more after some, where the reading begins with no items, at a line of any number.
 use Rattle.std.proofs.Common.{ℕ, ◌≡◌, ◌+◌, List, [], ◌∷◌, ◌++◌, length, Option, sym, subst}
 use Rattle.crx_lines.specs.meaning.Seen.{ReadLine}
 use Rattle.crx_rinex.specs.meaning.Places.{Place}
@@ -18,12 +18,15 @@ module _ {E U O K : Type 0} {beginning : List (Item E) → List ReadLine → Pla
     {kept_of : List (Item E) → K}
     {unit_lines : List (Item E) → FileUnit E → List (List ℕ)} {choices : Choices}
     (h : IsCarriedOut beginning direction open_with kept_of unit_lines choices) where
+  -- lines that are read with no items before them, the first at a line of some number
   abbrev pub read_from : ℕ → List ReadLine → Reading E
   read_from number lines = reading_from (place h) choices.skip [] number lines
 
+  -- what an engine that has taken some lines has seen of them
   abbrev pub seen_from : ℕ → ℕ → List ReadLine → Seen O K
   seen_from number count lines = seen_of direction open_with kept_of choices count (read_from number lines)
 
+  -- what a reading and an engine make of one line more agree
   pub more-line : (number count next : ℕ) (lines more : List ReadLine) (line : ReadLine)
       → number + length lines ≡ count + 1 → next ≡ count + 1 → more ≡ lines ++ line ∷ []
       → Follows h next (read_from number lines).items (read_from number more)

@@ -1,6 +1,7 @@
--- From the steps of an engine of either direction to what every engine answers.
+-- From the steps of an engine of either direction to what every engine answers, and to the lines it has taken.
 use Rattle.std.proofs.Common.{ℕ, ◌≡◌, inl, inr, ◌+◌, Bool, true, false, cond, List, [], ◌∷◌, ◌++◌, map, length, Some}
 use Rattle.std.proofs.Common.{None, Result, Ok, Err, refl, ap, sym, subst, ◌∙◌, append-nil, ◌≤◌, rules}
+use Rattle.std.proofs.lemmas.Bool.{and_parts}
 use Rattle.std.specs.Prelude.{reverse, ◌&&◌}
 use Rattle.std.proofs.lemmas.List.{reverse-append}
 use Rattle.crx_lines.specs.meaning.Lines.{InputLine, is_long}
@@ -72,11 +73,6 @@ pub record ComesAgain {O K : Type 0} (before next : Seen O K) (line : ReadLine) 
   pub phase : next.phase ≡ LookingOn
   pub number : next.number ≡ before.number
 
-pub both-true : (a b : Bool) → (a && b) ≡ true → (a ≡ true) × (b ≡ true)
-both-true true true e = (refl, refl)
-both-true true false e = absurd (cc)
-both-true false b e = absurd (cc)
-
 again-by-made : {U O K : Type 0} (direction : Direction U O K)
     (before next : Seen O K) (line : ReadLine) (at : At) (handed_out : List (List ℕ)) (made : Made U O)
     → record { answer = Notice at true; handed_out = handed_out; next = next } ≡ step_of_made direction before line made
@@ -101,10 +97,10 @@ again-by-made {O = O} {K = K} direction before next line at handed_out (Fails fa
     } =
     rw on refl in
     let yes : true ≡ again = ap (λ (s : SeenStep O K). is_again s.answer) (step ∙ is) in
-    let both = both-true (is_in_epoch before.phase) (can_go_on line) (sym yes) in
+    let both = and_parts (is_in_epoch before.phase) (can_go_on line) (sym yes) in
     let then = ap (λ (s : SeenStep O K). s.next) (step ∙ is) in
     record {
-      skips = (both-true before.choices.skip (may_skip before.phase && is_skippable fault) on).0;
+      skips = (and_parts before.choices.skip (may_skip before.phase && is_skippable fault) on).0;
       epoch = both.0;
       fits = both.1;
       phase = ap (λ (s : Seen O K). s.phase) then;
@@ -140,7 +136,7 @@ none-handed_out (line ∷ lines) e = absurd (cc)
 module _ {U O K : Type 0} {direction : Direction U O K} {seen_after : List ReadLine → Seen O K}
     {filter : Filter}
     (goes : GoesLineByLine direction seen_after filter) where
-  -- only a step that is ready lends lines
+  -- only a step that is ready hands out lines
   quiet-handed_out : (before : Seen O K) (line : ReadLine) (step : SeenStep O K)
       → step ≡ seen_next direction before line → is_ready step.answer ≡ false → step.handed_out ≡ []
   quiet-handed_out before line step e quiet = none-handed_out step.handed_out (ap (λ (s : SeenStep O K). has_lines s.handed_out) e
@@ -387,7 +383,7 @@ seen-within line bytes h e = seen-short line (short-line line h)
 module _ {U O K : Type 0} {direction : Direction U O K} {seen_by : Choices → List ReadLine → Seen O K}
     {filter_by : Choices → Filter}
     (goes : (choices : Choices) → GoesLineByLine direction (seen_by choices) (filter_by choices)) where
-  -- its count is that of the lines
+  -- the count of an engine that has taken some lines is that of the lines
   taken-lines : (choices : Choices) (now : Seen O K) (lines : List InputLine) (notices : List Awaited)
       → HasTaken direction (seen_by choices) now lines notices → now.number ≡ length lines
   taken-lines choices now lines [] taken = ap (λ (s : Seen O K). s.number) taken ∙ (goes choices).number lines

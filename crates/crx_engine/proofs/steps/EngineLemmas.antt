@@ -1,4 +1,4 @@
--- What an engine of either direction has seen after a line.
+-- Facts of an engine's steps in either direction: held epochs, faults that count, memory that ran out, a fault that is answered again.
 use Rattle.std.proofs.Common.{◌≡◌, inl, inr, ℕ, ◌+◌, Bool, true, false, List, Option, Some, None, Result, Ok, Err, refl}
 use Rattle.std.proofs.Common.{ap, subst, ◌∙◌}
 use Rattle.std.specs.Prelude.{◌&&◌}
