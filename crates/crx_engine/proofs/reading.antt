@@ -1,5 +1,7 @@
 -- How the reading of a file goes from line to line, where it stops, and what was accepted.
 pub mod Resuming
+pub mod WhatStands
+pub mod KeptThroughout
 pub mod Forward
 pub mod ForwardCompact
 pub mod Stopping

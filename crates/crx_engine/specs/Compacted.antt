@@ -2,9 +2,7 @@
 use Rattle.crx_reading.specs.meaning.Directions.{rinex_reading}
 use Rattle.std.specs.Prelude.{ℕ, List}
 use Rattle.crx_lines.specs.meaning.Seen.{ReadLine}
-use Rattle.crx_rinex.specs.meaning.Observations.{Epoch}
 use Rattle.crx_reading.specs.meaning.Choices.{Choices}
-use Rattle.crx_reading.specs.meaning.Items.{Item}
 use Rattle.crx_rinex.specs.meaning.Printing.{lines_text}
 use Rattle.crx_reading.specs.meaning.Compacted.{compact_lines}
 

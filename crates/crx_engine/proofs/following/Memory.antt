@@ -15,7 +15,7 @@ use Rattle.crx_reading.specs.meaning.Items.{Item, Warned, is_at_start, header_ha
 use Rattle.crx_reading.specs.meaning.Items.{records_count_types, types_in_force}
 use Rattle.crx_reading.specs.meaning.Memory.{line_takes, memory_allowed, place_takes, takes_after_warning}
 use Rattle.crx_reading.specs.meaning.Reading.{Stop, AtFault, AtLines, Looking, is_skipped, can_go_on}
-use Rattle.crx_reading.specs.meaning.UnitPlaces.{event_record, header_line, header_line_fault, types_fault, unit_place}
+use Rattle.crx_reading.specs.meaning.UnitPlaces.{event_record, header_line, header_line_fault, types_fault}
 use Rattle.crx_reading.specs.meaning.UnitPlaces.{unless_wrong}
 use Rattle.crx_engine.specs.Laws.{is_again}
 use Rattle.crx_reading.specs.LineByLine.{Answer, BetweenUnits, Direction, Ended, Failed, Fails, InEpoch}

@@ -1,7 +1,7 @@
 -- What is held between two lines is bounded.
-use Rattle.std.proofs.Common.{ℕ, zero, suc, ◌≡◌, Bool, true, false, cond, List, [], ◌∷◌, length, Option, Some, None}
+use Rattle.std.proofs.Common.{ℕ, zero, suc, ◌≡◌, Bool, List, [], ◌∷◌, Option, Some, None}
 use Rattle.std.proofs.Common.{IfSome, ap, sym, ◌∙◌, subst, arith}
-use Rattle.std.specs.Prelude.{All, not}
+use Rattle.std.specs.Prelude.{All}
 use Rattle.std.specs.List.{AllByRecursion}
 use Rattle.std.proofs.lemmas.List.Elements.{All-head, All-tail}
 use Rattle.crx_lines.specs.meaning.Seen.{ReadLine}
@@ -9,7 +9,7 @@ use Rattle.crx_lines.specs.declared.limits.TheConstants.{ORDER_LIMIT, WRITTEN_OR
 use Rattle.crx_rinex.specs.meaning.Observations.{Row, Epoch}
 use Rattle.crx_rinex.specs.meaning.ObservationTypes.{Count}
 use Rattle.crx_rinex.specs.ObservationTypes.{AreCounts}
-use Rattle.crx_rinex.specs.meaning.Places.{Here, Wrong, Wanted}
+use Rattle.crx_rinex.specs.meaning.Places.{Here}
 use Rattle.crx_rinex.specs.meaning.SatelliteLines.{IsSoundRow}
 use Rattle.crx_rinex.specs.meaning.Units.{HeaderLine, EventLine, EventRecord, Observation}
 use Rattle.crx_rinex.specs.meaning.EpochPlaces.{OpenEpoch}
@@ -28,10 +28,10 @@ use Rattle.crx_compact.proofs.soundness.Soundness.{reads-soundly}
 use Rattle.crx_history.proofs.Characters.{length-is}
 use Rattle.crx_reading.specs.meaning.Choices.{Choices}
 use Rattle.crx_reading.specs.meaning.Items.{Item, Accepted, Warned, header_has_ended, records_left, records_count_types}
-use Rattle.crx_reading.specs.meaning.Items.{is_at_start, types_in_force}
+use Rattle.crx_reading.specs.meaning.Items.{types_in_force}
 use Rattle.crx_reading.specs.meaning.Reading.{Reading, Stop, AtFault, AtLines, Looking}
-use Rattle.crx_reading.specs.LineByLine.{Phase, InFirstLines, InHeader, BetweenUnits, InEvent, InEpoch, LookingOn}
-use Rattle.crx_reading.specs.LineByLine.{Closed, Ended, kept_in, phase_in_body, phase_after_items, phase_of}
+use Rattle.crx_reading.specs.LineByLine.{Phase, InEpoch}
+use Rattle.crx_reading.specs.LineByLine.{Ended, kept_in, phase_in_body, phase_after_items, phase_of}
 use Rattle.crx_reading.specs.meaning.Compacted.{marked_epochs, rinex_place}
 use Rattle.crx_reading.specs.meaning.Directions.{rinex_reading}
 use Rattle.crx_reading.specs.CompactionByLine.{Written, compaction, written_of, rinex_open, compaction_seen}
@@ -41,9 +41,11 @@ use Rattle.crx_reading.specs.ExpansionByLine.{expansion, tail_of_items, begins_e
 use Rattle.crx_reading.specs.ExpansionByLine.{phase_from_first_lines, expansion_seen}
 use Rattle.crx_engine.specs.Laws.{ItemsAreRead, AreInPlace}
 use Rattle.crx_engine.specs.Bounds.{IsBoundedRow, IsBoundedEpoch, OfOpen, IsBoundedCompaction, IsBoundedExpansion}
+use Rattle.crx_reading.proofs.Choosing.{by_bool}
 use Rattle.crx_engine.proofs.wayback.ExpandedWhole.{epoch-read}
 use Rattle.crx_engine.proofs.reading.Types.{counts-in_force}
 use Rattle.crx_engine.proofs.wayback.Items.{marked_now, whole-next}
+use Rattle.crx_engine.proofs.reading.WhatStands.{by_first}
 use Rattle.crx_engine.proofs.reading.WhatWasRead.{items-read, compact-items-read}
 use Rattle.crx_engine.proofs.reading.InPlace.{items-in_place}
 
@@ -58,11 +60,9 @@ in-body P (suc left) counted so_far h = tt
 after-items : {E O : Type 0} (P : O → Type 0) (items : List (Item E)) (so_far : Option O)
     → IfSome so_far P → OfOpen P (phase_after_items items so_far)
 after-items P items so_far h =
-    elim (header_has_ended items) as (λ b. OfOpen P (cond (not b)
-    (InHeader (is_at_start items)) (phase_in_body (records_left items) (records_count_types items) so_far))) [
-      | true ↦ in-body P (records_left items) (records_count_types items) so_far h
-      | false ↦ tt
-    ]
+    by_bool (header_has_ended items)
+    (λ on. rw on (in-body P (records_left items) (records_count_types items) so_far h))
+    (λ off. rw off tt)
 
 open-phase : {E O : Type 0} (P : O → Type 0) (open_raw_with : List (Item E) → List ReadLine
     → Option O) (items : List (Item E)) (stop : Stop) → ((lines : List ReadLine) → IfSome (open_raw_with items lines) P)
@@ -103,25 +103,15 @@ open-epoch (Some so_far) h =
 -- what is kept of some items
 kept-bounded : (choices : Choices) (items : List (Item Epoch))
     → AreInPlace items → IfSome (written_of choices.every items).tail (IsBoundedTail WRITTEN_ORDER)
-kept-bounded choices [] h = tt
-kept-bounded choices (Accepted (HeaderLine line) ∷ before) h = tt
-kept-bounded choices (Accepted (EventLine line) ∷ before) h = tt
-kept-bounded choices (Accepted (EventRecord line) ∷ before) h = tt
 kept-bounded choices (Accepted (Observation epoch) ∷ before) h =
     written-bounded (types_in_force before) (marked_now choices.every before epoch)
     (marked_epochs choices.every before) (whole-next choices.every before epoch h)
-kept-bounded choices (Warned at ∷ before) h = tt
+kept-bounded choices items h = tt
 
 written-in : (phase : Phase OpenEpoch) (kept : Written) → IfSome kept.tail (IsBoundedTail WRITTEN_ORDER)
     → IfSome (kept_in compaction phase kept).tail (IsBoundedTail WRITTEN_ORDER)
-written-in (InFirstLines count) kept h = h
-written-in (InHeader is_first) kept h = h
-written-in BetweenUnits kept h = h
-written-in (InEvent left counted) kept h = h
-written-in (InEpoch so_far) kept h = h
-written-in LookingOn kept h = h
-written-in Closed kept h = h
 written-in (Ended at) kept h = tt
+written-in phase kept h = h
 
 pub compaction-bounded : (choices : Choices) (lines : List ReadLine)
     → IsBoundedCompaction (compaction_seen choices lines)
@@ -152,8 +142,9 @@ left-bounded [] h = tt
 left-bounded (Accepted (HeaderLine line) ∷ before) h = tt
 left-bounded (Accepted (EventLine line) ∷ before) h = left-bounded before h.1
 left-bounded (Accepted (EventRecord line) ∷ before) h =
-    elim (empties_state (records_count_types before) line) as (λ b. IfSome (tail_left (cond b [] (raws_kept before)))
-    (IsBoundedTail ORDER_LIMIT)) [ true ↦ tt | false ↦ left-bounded before h.1 ]
+    by_bool (empties_state (records_count_types before) line)
+    (λ on. rw on tt)
+    (λ off. rw off (left-bounded before h.1))
 left-bounded (Accepted (Observation read) ∷ before) h =
     let types : List Count = types_in_force before in
     let raws : List RawEpoch = raws_kept before in
@@ -180,34 +171,22 @@ open-with types tail (line ∷ lines) counts h =
 compact-open : (items : List (Item ReadEpoch)) (lines : List ReadLine)
     → IfSome (tail_of_items items) (IsBoundedTail ORDER_LIMIT) → IfSome (compact_open items lines) IsBoundedOpen
 compact-open items lines h =
-    elim (begins_event lines) as (λ b.
-    IfSome (cond b None (open_raw_with (types_in_force items) (tail_of_items items) lines)) IsBoundedOpen) [
-      | true ↦ tt
-      | false ↦ open-with (types_in_force items) (tail_of_items items) lines (counts-in_force items) h
-    ]
+    by_bool (begins_event lines)
+    (λ on. rw on tt)
+    (λ off. rw off (open-with (types_in_force items) (tail_of_items items) lines (counts-in_force items) h))
 
 left-in : (phase : Phase OpenRawEpoch) (kept : Option Tail)
     → IfSome kept (IsBoundedTail ORDER_LIMIT) → IfSome (kept_in expansion phase kept) (IsBoundedTail ORDER_LIMIT)
-left-in (InFirstLines count) kept h = h
-left-in (InHeader is_first) kept h = h
-left-in BetweenUnits kept h = h
-left-in (InEvent left counted) kept h = h
 left-in (InEpoch so_far) kept h = tt
-left-in LookingOn kept h = h
-left-in Closed kept h = h
 left-in (Ended at) kept h = tt
+left-in phase kept h = h
 
 first-phase : (lines : List ReadLine) (phase : Phase OpenRawEpoch)
     → OfOpen IsBoundedOpen phase → OfOpen IsBoundedOpen (phase_from_first_lines lines phase)
-first-phase lines phase h = elim (first_lines lines) as (λ p. OfOpen IsBoundedOpen (elim p [
-  | Here two count ↦ phase
-  | Wrong offset fault ↦ phase
-  | Wanted ↦ InFirstLines (length lines)
-])) [
-  | Here two count ↦ h
-  | Wrong offset fault ↦ h
-  | Wanted ↦ tt
-]
+first-phase lines phase h = by_first (first_lines lines)
+    (λ two count e. rw (e, phase_from_first_lines) h)
+    (λ offset fault e. rw (e, phase_from_first_lines) h)
+    (λ e. rw (e, phase_from_first_lines) tt)
 
 pub expansion-bounded : (choices : Choices) (lines : List ReadLine) → IsBoundedExpansion (expansion_seen choices lines)
 expansion-bounded choices lines =

@@ -1,5 +1,5 @@
 -- What an expansion has written.
-use Rattle.std.proofs.Common.{ℕ, ◌≡◌, ◌+◌, List, [], ◌++◌, length, drop, sym, ap, subst, refl, ◌∙◌, Bool, append-nil}
+use Rattle.std.proofs.Common.{ℕ, ◌≡◌, ◌+◌, List, [], ◌++◌, length, drop, sym, subst, refl, Bool, append-nil}
 use Rattle.std.proofs.lemmas.List.{drop-append-le}
 use Rattle.crx_lines.specs.meaning.Seen.{ReadLine}
 use Rattle.crx_rinex.specs.meaning.Places.{Place, Here, Wrong, Wanted}
@@ -7,7 +7,7 @@ use Rattle.crx_rinex.specs.Steady.{Remains}
 use Rattle.crx_history.specs.meaning.CompactPlaces.{ReadEpoch}
 use Rattle.crx_reading.specs.meaning.Choices.{Choices}
 use Rattle.crx_reading.specs.meaning.Items.{Item}
-use Rattle.crx_reading.specs.meaning.Reading.{Reading, WholeReading, reading_from, whole_reading}
+use Rattle.crx_reading.specs.meaning.Reading.{reading_from, whole_reading}
 use Rattle.crx_reading.specs.meaning.Expanded.{first_lines, compact_place, whole_compact, expanded_unit, expanded}
 use Rattle.crx_engine.specs.Expanded.{expanded_lines, expanded_so_far}
 use Rattle.crx_reading.specs.meaning.Directions.{compact_reading}
@@ -39,12 +39,8 @@ reading-more : (skip : Bool) (lines more : List ReadLine) (p : Place (List (List
 reading-more skip lines more (Here two count) e =
     let h = remains lines more (Here two count) e in
     let same : drop count (lines ++ more) ≡ drop count lines ++ more = drop-append-le count lines more h.0 in
-    subst (λ (r : Reading ReadEpoch). AreMore r.items (compact_reading skip (lines ++ more)).items)
-    (sym (reading-at skip lines two count e))
-    (subst (λ (r : Reading ReadEpoch). AreMore (reading_from compact_place skip
-    [] (count + 1) (drop count lines)).items r.items) (sym (reading-at skip (lines ++ more) two count h.1
-    ∙ ap (λ ls. reading_from compact_place skip [] (count + 1) ls) same))
-    (reading-items compact_place compact-forward skip (count + 1) (drop count lines) more))
+    rw (reading-at skip lines two count e, reading-at skip (lines ++ more) two count h.1, same)
+    (reading-items compact_place compact-forward skip (count + 1) (drop count lines) more)
 reading-more skip lines more (Wrong offset fault) e = rw (e, compact_reading) (from-none _)
 reading-more skip lines more Wanted e = rw (e, compact_reading) (from-none _)
 
@@ -53,12 +49,8 @@ pub whole-more : (skip : Bool) (lines more : List ReadLine) (p : Place (List (Li
 whole-more skip lines more (Here two count) e =
     let h = remains lines more (Here two count) e in
     let same : drop count (lines ++ more) ≡ drop count lines ++ more = drop-append-le count lines more h.0 in
-    subst (λ (r : Reading ReadEpoch). AreMore r.items (whole_compact skip (lines ++ more)).items)
-    (sym (reading-at skip lines two count e))
-    (subst (λ (r : WholeReading ReadEpoch).
-    AreMore (reading_from compact_place skip [] (count + 1) (drop count lines)).items r.items) (sym
-    (whole-at skip (lines ++ more) two count h.1 ∙ ap (λ ls. whole_reading compact_place skip (count + 1) ls) same))
-    (whole-items compact_place compact-forward skip (count + 1) (drop count lines) more))
+    rw (reading-at skip lines two count e, whole-at skip (lines ++ more) two count h.1, same)
+    (whole-items compact_place compact-forward skip (count + 1) (drop count lines) more)
 whole-more skip lines more (Wrong offset fault) e = rw (e, compact_reading) (from-none _)
 whole-more skip lines more Wanted e = rw (e, compact_reading) (from-none _)
 

@@ -1,15 +1,16 @@
 -- A reading stops at faults of lines alone, and so does the end of the input.
 use Rattle.std.proofs.Common.{ℕ, zero, suc, ◌≡◌, ◌+◌, max, Bool, true, List, [], ◌∷◌, length, drop, Option, Some, None}
-use Rattle.std.proofs.Common.{refl, sym, subst}
+use Rattle.std.proofs.Common.{refl, subst}
 use Rattle.std.specs.Prelude.{⊤, ◌==◌, nat_lt, not}
 use Rattle.crx_lines.specs.meaning.Seen.{ReadLine}
 use Rattle.crx_lines.specs.declared.fault.Fault.{Fault}
 use Rattle.crx_lines.specs.declared.fault.At.{At}
-use Rattle.crx_rinex.specs.meaning.Places.{Place, Here, Wrong, Wanted}
+use Rattle.crx_rinex.specs.meaning.Places.{Place}
 use Rattle.crx_rinex.specs.meaning.Units.{Unit as FileUnit}
 use Rattle.crx_reading.specs.meaning.Items.{Item, Accepted, Warned, header_has_ended, records_left}
 use Rattle.crx_reading.specs.meaning.Reading.{Reading, Stop, AtFault, AtLines, Looking, is_skipped, can_go_on}
 use Rattle.crx_reading.specs.meaning.Reading.{looked_for, reading_within, reading_from, fault_at_end, ended_with}
+use Rattle.crx_reading.specs.meaning.Reading.{after_fault}
 use Rattle.crx_reading.specs.meaning.Reading.{ended_reading, whole_reading}
 use Rattle.crx_reading.specs.meaning.Compacted.{rinex_place, whole_rinex}
 use Rattle.crx_reading.specs.meaning.Directions.{rinex_reading}
@@ -19,7 +20,7 @@ use Rattle.crx_reading.specs.meaning.Reading.{fault_of_stop}
 use Rattle.crx_engine.specs.Lawful.{is_of_lines}
 use Rattle.crx_reading.proofs.Choosing.{by_bool}
 use Rattle.crx_engine.proofs.reading.Resuming.{by_place, within-here, within-wrong, within-wanted}
-use Rattle.crx_engine.proofs.reading.Resuming.{fault-skipped, fault-ends, looked-here, looked-on}
+use Rattle.crx_engine.proofs.reading.WhatStands.{by_first}
 use Rattle.crx_engine.proofs.reading.LineFaults.{IsFineAt, IsFineFault, rinex-fine, compact-fine, first_lines-fine}
 
 abbrev IsFineStop : Stop → Type 0
@@ -36,33 +37,27 @@ looked-fine : {E : Type 0} (items : List (Item E)) (read : ℕ
     → IsFineStop (looked_for read items number lines).stop
 looked-fine items read number [] k = tt
 looked-fine items read number (line ∷ lines) k = by_bool (can_go_on line)
-    (λ on. subst (λ (r : Reading _). IsFineStop r.stop)
-    (sym (looked-here read items number line lines on)) (k number (line ∷ lines)))
-    (λ off. subst (λ (r : Reading _). IsFineStop r.stop)
-    (sym (looked-on read items number line lines off)) (looked-fine items read (number + 1) lines k))
+    (λ on. rw (on, looked_for) (k number (line ∷ lines)))
+    (λ off. rw (off, looked_for) (looked-fine items read (number + 1) lines k))
 
 within-fine : {E : Type 0} (place : List (Item E) → List ReadLine → Place (FileUnit E))
     → IsFinePlace place → (skip : Bool) (units : ℕ) (items : List (Item E)) (number : ℕ) (lines : List ReadLine)
     → IsFineStop (reading_within place skip units items number lines).stop
 within-fine place h skip zero items number lines = tt
 within-fine place h skip (suc units) items number lines = by_place (place items lines)
-    (λ unit count e. subst (λ (r : Reading _). IsFineStop r.stop)
-    (sym (within-here place skip units items number lines unit count e))
+    (λ unit count e. rw (within-here place skip units items number lines unit count e)
     (within-fine place h skip units (Accepted unit ∷ items) (number + count) (drop count lines)))
-    (λ offset fault e. subst (λ (r : Reading _). IsFineStop r.stop)
-    (sym (within-wrong place skip units items number lines offset fault e))
-    (by_bool (is_skipped skip items fault)
-    (λ on.
+    (λ offset fault e.
     let at : At = record { line = number + offset; fault = fault } in
-    subst (λ (r : Reading _). IsFineStop r.stop)
-    (sym (fault-skipped skip (reading_within place skip units) items number lines offset fault on))
+    let fine = subst (λ (p : Place _). IsFineAt p) e (h items lines) in
+    rw (within-wrong place skip units items number lines offset fault e)
+    (by_bool (is_skipped skip items fault)
+    (λ on. rw (on, after_fault)
     (looked-fine (Warned at ∷ items)
     (reading_within place skip units (Warned at ∷ items)) (number + max offset 1) (drop (max offset 1) lines)
     (λ n ls. within-fine place h skip units (Warned at ∷ items) n ls)))
-    (λ off. subst (λ (r : Reading _). IsFineStop r.stop)
-    (sym (fault-ends skip (reading_within place skip units) items number lines offset fault off))
-    (subst (λ (p : Place _). IsFineAt p) e (h items lines)))))
-    (λ e. subst (λ (r : Reading _). IsFineStop r.stop) (sym (within-wanted place skip units items number lines e)) tt)
+    (λ off. rw (off, after_fault) fine)))
+    (λ e. rw (within-wanted place skip units items number lines e) tt)
 
 from-fine : {E : Type 0} (place : List (Item E) → List ReadLine → Place (FileUnit E)) → IsFinePlace place
     → (skip : Bool) (number : ℕ) (lines : List ReadLine) → IsFineStop (reading_from place skip [] number lines).stop
@@ -105,8 +100,7 @@ of-stop : (stop : Stop) (at : At) → IsFineStop stop → fault_of_stop stop ≡
 of-stop (AtFault fault) at h e =
     let same : fault ≡ at = cc in
     subst (λ (a : At). is_of_lines a.fault ≡ true) same h
-of-stop (AtLines number lines) at h e = absurd (cc)
-of-stop (Looking number) at h e = absurd (cc)
+of-stop stop at h e = absurd (cc)
 
 of-end : (o : Option At) (at : At) → IsFineEnd o → o ≡ Some at → is_of_lines at.fault ≡ true
 of-end None at h e = absurd (cc)
@@ -123,12 +117,6 @@ pub rinex-found-at-end : (skip : Bool) (lines : List ReadLine) (at : At)
     → (whole_rinex skip lines).fault ≡ Some at → is_of_lines at.fault ≡ true
 rinex-found-at-end skip lines at e =
     of-end (whole_rinex skip lines).fault at (whole-fine rinex_place rinex-fine skip 1 lines) e
-
-by_first : {Y X : Type 0} (p : Place Y) → ((x : Y) (count : ℕ) → p ≡ Here x count → X)
-    → ((offset : ℕ) (fault : Fault) → p ≡ Wrong offset fault → X) → (p ≡ Wanted → X) → X
-by_first (Here x count) here wrong wanted = here x count refl
-by_first (Wrong offset fault) here wrong wanted = wrong offset fault refl
-by_first Wanted here wrong wanted = wanted refl
 
 compact-stop : (skip : Bool) (lines : List ReadLine) → IsFineStop (compact_reading skip lines).stop
 compact-stop skip lines = by_first (first_lines lines)

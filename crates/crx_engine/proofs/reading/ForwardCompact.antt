@@ -1,5 +1,5 @@
 -- What stands at a line of compact text is certain as soon as its last line has come.
-use Rattle.std.proofs.Common.{ℕ, ◌<◌, true, false, cond, List, [], ◌∷◌, ◌++◌, length, Result, Ok, Err, refl, ap, arith}
+use Rattle.std.proofs.Common.{ℕ, suc, ◌<◌, List, [], ◌∷◌, ◌++◌, length, Result, Ok, Err, refl, ap, arith}
 use Rattle.crx_lines.specs.meaning.Seen.{Content, Overlong}
 use Rattle.crx_lines.specs.declared.fault.Fault.{Fault}
 use Rattle.crx_rinex.specs.meaning.Places.{Place, Here, Wrong, Wanted, then_place, one_line, first_line}
@@ -17,6 +17,7 @@ use Rattle.crx_reading.specs.meaning.Items.{types_in_force}
 use Rattle.crx_reading.specs.meaning.Expanded.{raws_kept, event_line, as_observation, compact_epoch_place}
 use Rattle.crx_reading.specs.meaning.Expanded.{compact_place}
 use Rattle.crx_reading.specs.meaning.Expanded.{crinex_version, crinex_program, first_lines}
+use Rattle.crx_reading.proofs.Choosing.{by_bool}
 use Rattle.crx_engine.specs.Laws.{IsReadForward}
 use Rattle.crx_engine.proofs.reading.Forward.{unit_place-forward}
 
@@ -70,24 +71,19 @@ steady-compact types older [] [] = tt
 steady-compact types older [] (Overlong ∷ more) =
     observation-decided 0 (epoch_at types older (Overlong ∷ more)) (steady-epoch_at types older [] (Overlong ∷ more))
 steady-compact types older [] (Content line ∷ more) =
-    elim (is_event_line line) as (λ b. IsDecidedAfter 0 (cond b
-    (one_line (event_line {E = ReadEpoch} line)) (as_observation (epoch_at types older (Content line ∷ more))))) [
-      | true ↦ line-decided (event_line line)
-      | false ↦ observation-decided 0
-          (epoch_at types older (Content line ∷ more)) (steady-epoch_at types older [] (Content line ∷ more))
-    ]
+    by_bool (is_event_line line)
+    (λ on. rw on (line-decided (event_line {E = ReadEpoch} line)))
+    (λ off. rw off (observation-decided 0 (epoch_at types older (Content line ∷ more))
+    (steady-epoch_at types older [] (Content line ∷ more))))
 steady-compact types older (Overlong ∷ lines) more =
     observation-remains (length (Overlong ∷ lines)) (epoch_at types older (Overlong ∷ lines))
     (epoch_at types older (Overlong ∷ (lines ++ more))) (steady-epoch_at types older (Overlong ∷ lines) more)
 steady-compact types older (Content line ∷ lines) more =
-    elim (is_event_line line) as (λ b. Remains (length (Content line ∷ lines)) (cond b (one_line
-    (event_line {E = ReadEpoch} line)) (as_observation (epoch_at types older (Content line ∷ lines)))) (cond b
-    (one_line (event_line line)) (as_observation (epoch_at types older (Content line ∷ (lines ++ more)))))) [
-      | true ↦ line-remains (length (Content line ∷ lines)) (event_line line) (omega arith)
-      | false ↦ observation-remains (length (Content line ∷ lines))
-          (epoch_at types older (Content line ∷ lines)) (epoch_at types older (Content line ∷ (lines ++ more)))
-          (steady-epoch_at types older (Content line ∷ lines) more)
-    ]
+    by_bool (is_event_line line)
+    (λ on. rw on (line-remains (suc (length lines)) (event_line {E = ReadEpoch} line) (omega arith)))
+    (λ off. rw off (observation-remains (suc (length lines)) (epoch_at types older (Content line ∷ lines))
+    (epoch_at types older (Content line ∷ (lines ++ more)))
+    (steady-epoch_at types older (Content line ∷ lines) more)))
 
 pub compact-forward : IsReadForward compact_place
 compact-forward =

@@ -1,5 +1,5 @@
 -- What was accepted of a RINEX file is in place.
-use Rattle.std.proofs.Common.{ℕ, zero, suc, ◌≡◌, ◌+◌, Bool, true, false, cond, List, [], ◌∷◌, Option, Some, None}
+use Rattle.std.proofs.Common.{ℕ, zero, suc, ◌≡◌, ◌+◌, true, false, cond, List, [], ◌∷◌, Option, Some, None}
 use Rattle.std.proofs.Common.{Result, Ok, Err, refl, ap, sym, subst, ◌∙◌, arith}
 use Rattle.std.specs.Prelude.{⊤, drop}
 use Rattle.std.specs.List.{list_all}
@@ -9,7 +9,7 @@ use Rattle.std.specs.Option.{is_some}
 use Rattle.crx_lines.specs.meaning.Seen.{ReadLine, Content, Overlong}
 use Rattle.crx_columns.specs.meaning.Columns.{columns, character_at, is_blank}
 use Rattle.crx_lines.specs.declared.fault.Fault.{Fault}
-use Rattle.crx_lines.specs.declared.fault.Fault.TheVariants.{NotAnEpoch, BadEpoch}
+use Rattle.crx_lines.specs.declared.fault.Fault.TheVariants.{BadEpoch}
 use Rattle.crx_rinex.specs.meaning.Observations.{Epoch}
 use Rattle.crx_rinex.specs.meaning.Places.{Place, Here, Wrong, Wanted, after_lines, then_place, one_line, first_line}
 use Rattle.crx_rinex.specs.meaning.Units.{Unit as FileUnit, HeaderLine, EventLine, EventRecord, Observation}
@@ -21,7 +21,7 @@ use Rattle.crx_rinex.specs.meaning.EpochPlaces.{rest_at, unit_begun, epoch_place
 use Rattle.crx_rinex.proofs.SoundEpochs.{sound-epoch_place}
 use Rattle.crx_reading.specs.meaning.Items.{Item, Accepted, Warned, is_at_start, header_has_ended, records_left}
 use Rattle.crx_reading.specs.meaning.Items.{records_count_types, types_in_force}
-use Rattle.crx_reading.specs.meaning.UnitPlaces.{unless_wrong, types_fault, header_line_fault, header_line}
+use Rattle.crx_reading.specs.meaning.UnitPlaces.{types_fault, header_line_fault, header_line}
 use Rattle.crx_reading.specs.meaning.UnitPlaces.{event_record}
 use Rattle.crx_reading.specs.meaning.Compacted.{rinex_place}
 use Rattle.crx_engine.specs.Laws.{ItemsAreRead, IsInPlace, AreInPlace}
@@ -29,33 +29,7 @@ use Rattle.crx_reading.proofs.Choosing.{by_bool}
 use Rattle.crx_engine.proofs.following.Following.{body-place}
 use Rattle.crx_engine.proofs.following.Lines.{record-place}
 use Rattle.crx_engine.proofs.reading.Types.{counts-in_force}
-
--- ---- a unit of one line
-
--- what holds of a thing that stands somewhere
-abbrev OfHere : {X : Type 0} → (X → Type 0) → Place X → Type 0
-OfHere P (Here x count) = P x
-OfHere P (Wrong offset fault) = ⊤
-OfHere P Wanted = ⊤
-
-abbrev OfOk : {X : Type 0} → (X → Type 0) → Result X Fault → Type 0
-OfOk P (Ok x) = P x
-OfOk P (Err fault) = ⊤
-
-one-line : {X : Type 0} (P : X → Type 0) (r : Result X Fault) → OfOk P r → OfHere P (one_line r)
-one-line P (Ok x) h = h
-one-line P (Err fault) h = tt
-
-first-line : {X : Type 0} (P : X → Type 0) (read : List ℕ → Result X Fault) (lines : List ReadLine)
-    → ((line : List ℕ) → OfOk P (read line)) → OfHere P (first_line lines read)
-first-line P read [] h = tt
-first-line P read (Overlong ∷ lines) h = tt
-first-line P read (Content line ∷ lines) h = one-line P (read line) (h line)
-
-unless-wrong : (P : FileUnit Epoch → Type 0) (unit : FileUnit Epoch) (fault : Option Fault)
-    → (fault ≡ None → P unit) → OfOk P (unless_wrong unit fault)
-unless-wrong P unit None h = h refl
-unless-wrong P unit (Some fault) h = tt
+use Rattle.crx_engine.proofs.reading.WhatStands.{OfHere, OfOk, chosen, first-line, unless-wrong}
 
 -- ---- an epoch or an event
 
@@ -79,10 +53,6 @@ clock-begun : (line head : List ℕ) (count : ℕ) (o : Option (Option _))
 clock-begun line head count None = tt
 clock-begun line head count (Some clock) = tt
 
-chosen : {A : Type 0} (P : A → Type 0) (b : Bool) (x y : A) → P x → P y → P (cond b x y)
-chosen P true x y h k = h
-chosen P false x y h k = k
-
 epoch-begun : (line : List ℕ) (o : Option ℕ) → OfOk IsEventBegun (begun_by line (epoch_head line o))
 epoch-begun line None = tt
 epoch-begun line (Some count) =
@@ -93,25 +63,12 @@ epoch-begun line (Some count) =
 line-begun : (line : List ℕ) → OfOk IsEventBegun (beginning_of line)
 line-begun line = by_bool (begins_epoch line)
     (λ on. by_bool (is_event_flag (character_at line 32))
-    (λ event. subst (λ r. OfOk IsEventBegun (begun_by line r))
-    (sym (at_event on event)) (event-begun line (records_in line) (is_event on event) refl))
-    (λ other. subst (λ r. OfOk IsEventBegun (begun_by line r))
-    (sym (at_epoch on other)) (epoch-begun line (epoch_count (columns line 1 HEAD_WIDTH)))))
-    (λ off. subst (λ r. OfOk IsEventBegun (begun_by line r)) (sym (at_none off)) tt)
+    (λ event. rw (on, event, head_of) (event-begun line (records_in line) (is_event on event) refl))
+    (λ other. rw (on, other, head_of) (epoch-begun line (epoch_count (columns line 1 HEAD_WIDTH)))))
+    (λ off. rw (off, head_of) tt)
   where
-    at_event : begins_epoch line ≡ true → is_event_flag (character_at line 32) ≡ true
-        → head_of line ≡ event_head (character_at line 32) (records_in line)
-    at_event a b = rw (a, b) refl
-
     is_event : begins_epoch line ≡ true → is_event_flag (character_at line 32) ≡ true → is_event_line line ≡ true
     is_event a b = rw (a, b) refl
-
-    at_epoch : begins_epoch line ≡ true → is_event_flag (character_at line 32) ≡ false
-        → head_of line ≡ epoch_head line (epoch_count (columns line 1 HEAD_WIDTH))
-    at_epoch a b = rw (a, b) refl
-
-    at_none : begins_epoch line ≡ false → head_of line ≡ Err NotAnEpoch
-    at_none a = rw a refl
 
 after-here : {X : Type 0} (P : X → Type 0) (count : ℕ) (p : Place X) → OfHere P p → OfHere P (after_lines count p)
 after-here P count (Here x n) h = h

@@ -1,22 +1,21 @@
 -- What is written for some lines stands at the beginning of what is written for more lines.
-use Rattle.std.proofs.Common.{ℕ, zero, suc, ◌≡◌, ◌+◌, max, Bool, true, false, cond, List, [], ◌∷◌, ◌++◌, length, drop}
+use Rattle.std.proofs.Common.{ℕ, ◌≡◌, ◌+◌, Bool, List, [], ◌∷◌, ◌++◌, length}
 use Rattle.std.proofs.Common.{Option, Some, None, refl, ap, sym, subst, ◌∙◌, append_assoc, append-nil}
 use Rattle.std.proofs.lemmas.Grind.{flat_map-append}
 use Rattle.crx_lines.specs.meaning.Seen.{ReadLine}
 use Rattle.crx_lines.specs.declared.fault.Fault.{Fault}
-use Rattle.crx_lines.specs.declared.fault.At.{At}
 use Rattle.crx_rinex.specs.meaning.Places.{Place}
 use Rattle.crx_rinex.specs.meaning.Units.{Unit as FileUnit}
 use Rattle.crx_reading.specs.meaning.Items.{Item, Accepted, Warned}
-use Rattle.crx_reading.specs.meaning.Reading.{Reading, Stop, AtFault, AtLines, Looking, WholeReading, is_skipped}
-use Rattle.crx_reading.specs.meaning.Reading.{can_go_on, looked_for, reading_within, reading_from, fault_at_end}
+use Rattle.crx_reading.specs.meaning.Reading.{Reading, Stop, AtFault, AtLines, Looking, is_skipped}
+use Rattle.crx_reading.specs.meaning.Reading.{reading_within, reading_from, fault_at_end}
 use Rattle.crx_reading.specs.meaning.Reading.{ended_reading, ended_with, whole_reading}
 use Rattle.crx_engine.specs.Laws.{continued_reading, IsReadForward}
 use Rattle.crx_rinex.specs.meaning.Printing.{lines_text}
 use Rattle.crx_reading.specs.meaning.Results.{written_lines, Begins}
 use Rattle.crx_reading.proofs.Choosing.{by_bool}
-use Rattle.crx_engine.proofs.reading.Resuming.{by_place, within-here, within-wrong, within-wanted}
-use Rattle.crx_engine.proofs.reading.Resuming.{fault-skipped, fault-ends, looked-here, looked-on, resumed}
+use Rattle.crx_engine.proofs.reading.KeptThroughout.{IsKept, looked-kept, within-kept}
+use Rattle.crx_engine.proofs.reading.Resuming.{resumed}
 
 -- some items with others before them
 pub record AreMore {E : Type 0} (items all : List (Item E)) : Type 0 where
@@ -26,11 +25,9 @@ pub record AreMore {E : Type 0} (items all : List (Item E)) : Type 0 where
 pub no_more : {E : Type 0} (items : List (Item E)) → AreMore items items
 no_more items = record { news = []; same = refl }
 
-pub one_more : {E : Type 0} (item : Item E) (items all : List (Item E)) → AreMore (item ∷ items) all → AreMore items all
-one_more item items all h = record {
-  news = h.news ++ item ∷ [];
-  same = h.same ∙ sym (append_assoc h.news (item ∷ []) items);
-}
+one_more : {E : Type 0} (item : Item E) (items all : List (Item E))
+    → AreMore items all → AreMore items (item ∷ all)
+one_more item items all h = record { news = item ∷ h.news; same = ap (λ l. item ∷ l) h.same }
 
 pub more_of_more : {E : Type 0} (items some_more all : List (Item E))
     → AreMore items some_more → AreMore some_more all → AreMore items all
@@ -39,41 +36,19 @@ more_of_more items some_more all h k = record {
   same = k.same ∙ ap (λ l. k.news ++ l) h.same ∙ sym (append_assoc k.news h.news items);
 }
 
-looked-items : {E : Type 0} (items all : List (Item E)) (read : ℕ
-    → List ReadLine → Reading E) (number : ℕ) (lines : List ReadLine)
-    → AreMore items all → ((number : ℕ) (lines : List ReadLine) → AreMore items (read number lines).items)
-    → AreMore items (looked_for read all number lines).items
-looked-items items all read number [] h k = h
-looked-items items all read number (line ∷ lines) h k = by_bool (can_go_on line)
-    (λ on. subst (λ r. AreMore items (Reading.items r))
-    (sym (looked-here read all number line lines on)) (k number (line ∷ lines)))
-    (λ off. subst (λ r. AreMore items (Reading.items r))
-    (sym (looked-on read all number line lines off)) (looked-items items all read (number + 1) lines h k))
+more-kept : {E : Type 0} (place : List (Item E) → List ReadLine → Place (FileUnit E)) (skip : Bool)
+    (items : List (Item E)) → IsKept place skip (λ all lines. AreMore items all)
+more-kept place skip items = record {
+  here = λ all lines unit count e h. one_more (Accepted unit) items all h;
+  warned = λ all lines at on h. one_more (Warned at) items all h;
+  passed = λ all lines n h. h;
+}
 
-pub within-items : {E : Type 0} (place : List (Item E) → List ReadLine
+within-items : {E : Type 0} (place : List (Item E) → List ReadLine
     → Place (FileUnit E)) (skip : Bool) (units : ℕ) (items : List (Item E)) (number : ℕ) (lines : List ReadLine)
     → AreMore items (reading_within place skip units items number lines).items
-within-items place skip zero items number lines = no_more items
-within-items place skip (suc units) items number lines = by_place (place items lines)
-    (λ unit count e. subst (λ r. AreMore items (Reading.items r))
-    (sym (within-here place skip units items number lines unit count e))
-    (one_more (Accepted unit) items
-    _ (within-items place skip units (Accepted unit ∷ items) (number + count) (drop count lines))))
-    (λ offset fault e. subst (λ r. AreMore items (Reading.items r))
-    (sym (within-wrong place skip units items number lines offset fault e))
-    (by_bool (is_skipped skip items fault)
-    (λ on.
-    let at : At = record { line = number + offset; fault = fault } in
-    subst (λ r. AreMore items (Reading.items r))
-    (sym (fault-skipped skip (reading_within place skip units) items number lines offset fault on))
-    (looked-items items (Warned at ∷ items)
-    (reading_within place skip units (Warned at ∷ items)) (number + max offset 1) (drop (max offset 1) lines)
-    (one_more (Warned at) items (Warned at ∷ items) (no_more (Warned at ∷ items)))
-    (λ m ls. one_more (Warned at) items _ (within-items place skip units (Warned at ∷ items) m ls))))
-    (λ off. subst (λ r. AreMore items (Reading.items r))
-    (sym (fault-ends skip (reading_within place skip units) items number lines offset fault off)) (no_more items))))
-    (λ e. subst (λ r. AreMore items (Reading.items r))
-    (sym (within-wanted place skip units items number lines e)) (no_more items))
+within-items place skip units items number lines = (within-kept place skip (λ all ls. AreMore items all)
+    (more-kept place skip items) units items number lines (no_more items)).1
 
 pub continued_reading-items : {E : Type 0} (place : List (Item E)
     → List ReadLine → Place (FileUnit E)) (skip : Bool) (items : List (Item E)) (stop : Stop) (more : List ReadLine)
@@ -82,21 +57,16 @@ continued_reading-items place skip items (AtFault at) more = no_more items
 continued_reading-items place skip items (AtLines number lines) more =
     within-items place skip (length (lines ++ more) + 1) items number (lines ++ more)
 continued_reading-items place skip items (Looking number) more =
-    looked-items items items (reading_from place skip items) number more
-    (no_more items) (λ m ls. within-items place skip (length ls + 1) items m ls)
+    (looked-kept place skip (λ all ls. AreMore items all) (more-kept place skip items) items
+    (reading_from place skip items) number more (no_more items)
+    (λ m ls h. (ls, within-items place skip (length ls + 1) items m ls))).1
 
 ended_with-items : {E : Type 0} (skip : Bool) (items : List (Item E)) (number : ℕ) (fault : Option Fault)
     → AreMore items (ended_with skip items number fault).items
 ended_with-items skip items number None = no_more items
-ended_with-items skip items number (Some fault) =
-    elim (is_skipped skip items fault) as (λ b. AreMore items
-    (WholeReading.items (cond b (record {
-      items = Warned (record { line = number; fault = fault }) ∷ items;
-      fault = None;
-    }) (record { items = items; fault = Some (record { line = number; fault = fault }) })))) [
-      | true ↦ one_more (Warned (record { line = number; fault = fault })) items _ (no_more _)
-      | false ↦ no_more items
-    ]
+ended_with-items skip items number (Some fault) = by_bool (is_skipped skip items fault)
+    (λ on. rw on (one_more (Warned (record { line = number; fault = fault })) items items (no_more items)))
+    (λ off. rw off (no_more items))
 
 pub ended-items : {E : Type 0} (skip : Bool) (items : List (Item E)) (stop : Stop)
     → AreMore items (ended_reading skip (record { items = items; stop = stop })).items

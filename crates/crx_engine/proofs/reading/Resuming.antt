@@ -1,6 +1,6 @@
 -- A reading goes on from where it stopped, once more lines have come.
-use Rattle.std.proofs.Common.{ℕ, zero, suc, ◌≡◌, ◌+◌, ◌-◌, max, ◌<◌, ◌≤◌, Bool, true, false, List, [], ◌∷◌, ◌++◌}
-use Rattle.std.proofs.Common.{length, drop, refl, ap, sym, subst, ◌∙◌, arith, length-append}
+use Rattle.std.proofs.Common.{ℕ, zero, suc, ◌≡◌, ◌+◌, max, ◌<◌, ◌≤◌, Bool, true, false, List, [], ◌∷◌, ◌++◌}
+use Rattle.std.proofs.Common.{length, drop, refl, arith, length-append}
 use Rattle.std.proofs.lemmas.List.{drop-append-le, length-drop}
 use Rattle.crx_lines.specs.meaning.Seen.{ReadLine}
 use Rattle.crx_lines.specs.declared.fault.Fault.{Fault}
@@ -16,91 +16,82 @@ use Rattle.crx_reading.proofs.Choosing.{by_bool}
 
 -- ---- what stands at a place
 
--- a thing has at least one line, and its lines are among those there
-pub here-within : {E : Type 0} (place : List (Item E) → List ReadLine → Place (FileUnit E)) → IsReadForward place
-    → (items : List (Item E)) (lines : List ReadLine) (unit : FileUnit E) (count : ℕ)
-    → place items lines ≡ Here unit count → (0 < count) × (count ≤ length lines)
-here-within place h items lines unit count e =
-    let first : Remains 0 (place items []) (place items lines) = h.steady items [] lines in
-    let some : IsDecidedAfter 0 (place items lines) =
-    subst (λ p. Remains 0 p (place items lines)) (h.wants items) first in
-    let all : Remains (length lines) (place items lines) (place items (lines ++ [])) = h.steady items lines [] in
-    let within : Remains (length lines) (Here unit count) (place items (lines ++ [])) =
-    subst (λ p. Remains (length lines) p (place items (lines ++ []))) e all in
-    (subst (λ p. IsDecidedAfter 0 p) e some, within.0)
+module _ {E : Type 0} (place : List (Item E) → List ReadLine → Place (FileUnit E)) (h : IsReadForward place)
+    (items : List (Item E)) (lines : List ReadLine) where
+  -- a thing has at least one line, and its lines are among those there
+  pub here-within : (unit : FileUnit E) (count : ℕ)
+      → place items lines ≡ Here unit count → (0 < count) × (count ≤ length lines)
+  here-within unit count e =
+      let decided : IsDecidedAfter 0 (place items lines) = rw (h.wants items) at (h.steady items [] lines) in
+      let some : IsDecidedAfter 0 (Here unit count) = rw e at decided in
+      let within : Remains (length lines) (Here unit count) (place items (lines ++ [])) =
+      rw e at (h.steady items lines []) in
+      (some, within.0)
 
-pub wrong-within : {E : Type 0} (place : List (Item E) → List ReadLine → Place (FileUnit E)) → IsReadForward place
-    → (items : List (Item E)) (lines : List ReadLine) (offset : ℕ) (fault : Fault)
-    → place items lines ≡ Wrong offset fault → offset < length lines
-wrong-within place h items lines offset fault e =
-    let all : Remains (length lines) (place items lines) (place items (lines ++ [])) = h.steady items lines [] in
-    let within : Remains (length lines) (Wrong offset fault) (place items (lines ++ [])) =
-    subst (λ p. Remains (length lines) p (place items (lines ++ []))) e all in
-    within.0
+  pub wrong-within : (offset : ℕ) (fault : Fault)
+      → place items lines ≡ Wrong offset fault → offset < length lines
+  wrong-within offset fault e =
+      let within : Remains (length lines) (Wrong offset fault) (place items (lines ++ [])) =
+      rw e at (h.steady items lines []) in
+      within.0
 
--- it stays when more lines come
-pub here-stays : {E : Type 0} (place : List (Item E) → List ReadLine → Place (FileUnit E)) → IsReadForward place
-    → (items : List (Item E)) (lines more : List ReadLine) (unit : FileUnit E) (count : ℕ)
-    → place items lines ≡ Here unit count → place items (lines ++ more) ≡ Here unit count
-here-stays place h items lines more unit count e =
-    let stays : Remains (length lines) (Here unit count) (place items (lines ++ more)) =
-    subst (λ p. Remains (length lines) p (place items (lines ++ more))) e (h.steady items lines more) in
-    stays.1
+  -- it stays when more lines come
+  pub here-stays : (more : List ReadLine) (unit : FileUnit E) (count : ℕ)
+      → place items lines ≡ Here unit count → place items (lines ++ more) ≡ Here unit count
+  here-stays more unit count e =
+      let stays : Remains (length lines) (Here unit count) (place items (lines ++ more)) =
+      rw e at (h.steady items lines more) in
+      stays.1
 
-pub wrong-stays : {E : Type 0} (place : List (Item E) → List ReadLine → Place (FileUnit E)) → IsReadForward place
-    → (items : List (Item E)) (lines more : List ReadLine) (offset : ℕ) (fault : Fault)
-    → place items lines ≡ Wrong offset fault → place items (lines ++ more) ≡ Wrong offset fault
-wrong-stays place h items lines more offset fault e =
-    let stays : Remains (length lines) (Wrong offset fault) (place items (lines ++ more)) =
-    subst (λ p. Remains (length lines) p (place items (lines ++ more))) e (h.steady items lines more) in
-    stays.1
+  pub wrong-stays : (more : List ReadLine) (offset : ℕ) (fault : Fault)
+      → place items lines ≡ Wrong offset fault → place items (lines ++ more) ≡ Wrong offset fault
+  wrong-stays more offset fault e =
+      let stays : Remains (length lines) (Wrong offset fault) (place items (lines ++ more)) =
+      rw e at (h.steady items lines more) in
+      stays.1
 
 -- ---- one unit of a reading
 
-pub within-here : {E : Type 0} (place : List (Item E) → List ReadLine → Place (FileUnit E)) (skip : Bool)
-    (units : ℕ) (items : List (Item E)) (number : ℕ) (lines : List ReadLine) (unit : FileUnit E) (count : ℕ)
-    → place items lines ≡ Here unit count → reading_within place skip (suc units) items number lines
-    ≡ reading_within place skip units (Accepted unit ∷ items) (number + count) (drop count lines)
-within-here place skip units items number lines unit count e = rw (e, reading_within) refl
+module _ {E : Type 0} (place : List (Item E) → List ReadLine → Place (FileUnit E)) (skip : Bool) (units : ℕ)
+    (items : List (Item E)) (number : ℕ) (lines : List ReadLine) where
+  pub within-here : (unit : FileUnit E) (count : ℕ)
+      → place items lines ≡ Here unit count → reading_within place skip (suc units) items number lines
+      ≡ reading_within place skip units (Accepted unit ∷ items) (number + count) (drop count lines)
+  within-here unit count e = rw (e, reading_within) refl
 
-pub within-wrong : {E : Type 0} (place : List (Item E) → List ReadLine → Place (FileUnit E))
-    (skip : Bool) (units : ℕ) (items : List (Item E)) (number : ℕ) (lines : List ReadLine) (offset : ℕ) (fault : Fault)
-    → place items lines ≡ Wrong offset fault → reading_within place skip (suc units) items number lines
-    ≡ after_fault skip (reading_within place skip units) items number lines offset fault
-within-wrong place skip units items number lines offset fault e = rw (e, reading_within) refl
+  pub within-wrong : (offset : ℕ) (fault : Fault)
+      → place items lines ≡ Wrong offset fault → reading_within place skip (suc units) items number lines
+      ≡ after_fault skip (reading_within place skip units) items number lines offset fault
+  within-wrong offset fault e = rw (e, reading_within) refl
 
-pub within-wanted : {E : Type 0} (place : List (Item E) → List ReadLine
-    → Place (FileUnit E)) (skip : Bool) (units : ℕ) (items : List (Item E)) (number : ℕ) (lines : List ReadLine)
-    → place items lines ≡ Wanted → reading_within place skip (suc units) items number lines
-    ≡ record { items = items; stop = AtLines number lines }
-within-wanted place skip units items number lines e = rw (e, reading_within) refl
+  pub within-wanted : place items lines ≡ Wanted → reading_within place skip (suc units) items number lines
+      ≡ record { items = items; stop = AtLines number lines }
+  within-wanted e = rw (e, reading_within) refl
 
--- a fault that is skipped, and one that isn't
-pub fault-skipped : {E : Type 0} (skip : Bool) (read : List (Item E) → ℕ → List ReadLine
-    → Reading E) (items : List (Item E)) (number : ℕ) (lines : List ReadLine) (offset : ℕ) (fault : Fault)
-    → is_skipped skip items fault ≡ true
-    → after_fault skip read items number lines offset fault
-    ≡ looked_for (read (Warned (record { line = number + offset; fault = fault }) ∷ items)) (Warned
-    (record { line = number + offset; fault = fault }) ∷ items) (number + max offset 1) (drop (max offset 1) lines)
-fault-skipped skip read items number lines offset fault e = rw (e, after_fault) refl
+module _ {E : Type 0} (skip : Bool) (read : List (Item E) → ℕ → List ReadLine → Reading E)
+    (items : List (Item E)) (number : ℕ) (lines : List ReadLine) (offset : ℕ) (fault : Fault) where
+  -- a fault that is skipped, and one that isn't
+  pub fault-skipped : is_skipped skip items fault ≡ true
+      → after_fault skip read items number lines offset fault
+      ≡ looked_for (read (Warned (record { line = number + offset; fault = fault }) ∷ items))
+      (Warned (record { line = number + offset; fault = fault }) ∷ items)
+      (number + max offset 1) (drop (max offset 1) lines)
+  fault-skipped e = rw (e, after_fault) refl
 
-pub fault-ends : {E : Type 0} (skip : Bool) (read : List (Item E) → ℕ → List ReadLine
-    → Reading E) (items : List (Item E)) (number : ℕ) (lines : List ReadLine) (offset : ℕ) (fault : Fault)
-    → is_skipped skip items fault ≡ false
-    → after_fault skip read items number lines offset fault
-    ≡ record { items = items; stop = AtFault (record { line = number + offset; fault = fault }) }
-fault-ends skip read items number lines offset fault e = rw (e, after_fault) refl
+  pub fault-ends : is_skipped skip items fault ≡ false → after_fault skip read items number lines offset fault
+      ≡ record { items = items; stop = AtFault (record { line = number + offset; fault = fault }) }
+  fault-ends e = rw (e, after_fault) refl
 
--- where a line is looked for
-pub looked-here : {E : Type 0} (read : ℕ
-    → List ReadLine → Reading E) (items : List (Item E)) (number : ℕ) (line : ReadLine) (lines : List ReadLine)
-    → can_go_on line ≡ true → looked_for read items number (line ∷ lines) ≡ read number (line ∷ lines)
-looked-here read items number line lines e = rw (e, looked_for) refl
+module _ {E : Type 0} (read : ℕ → List ReadLine → Reading E) (items : List (Item E))
+    (number : ℕ) (line : ReadLine) (lines : List ReadLine) where
+  -- where a line is looked for
+  pub looked-here : can_go_on line ≡ true
+      → looked_for read items number (line ∷ lines) ≡ read number (line ∷ lines)
+  looked-here e = rw (e, looked_for) refl
 
-pub looked-on : {E : Type 0} (read : ℕ
-    → List ReadLine → Reading E) (items : List (Item E)) (number : ℕ) (line : ReadLine) (lines : List ReadLine)
-    → can_go_on line ≡ false → looked_for read items number (line ∷ lines) ≡ looked_for read items (number + 1) lines
-looked-on read items number line lines e = rw (e, looked_for) refl
+  pub looked-on : can_go_on line ≡ false
+      → looked_for read items number (line ∷ lines) ≡ looked_for read items (number + 1) lines
+  looked-on e = rw (e, looked_for) refl
 
 pub by_place : {E X : Type 0} (p : Place (FileUnit E)) → ((unit : FileUnit E) (count : ℕ) → p ≡ Here unit count → X)
     → ((offset : ℕ) (fault : Fault) → p ≡ Wrong offset fault → X) → (p ≡ Wanted → X) → X
@@ -116,10 +107,8 @@ looked-same : {E : Type 0} (items : List (Item E)) (one two : ℕ
     → length lines < bound → looked_for one items number lines ≡ looked_for two items number lines
 looked-same items one two bound number [] h short = refl
 looked-same items one two bound number (line ∷ lines) h short = by_bool (can_go_on line)
-    (λ on. looked-here one items number line lines on
-    ∙ h number (line ∷ lines) short ∙ sym (looked-here two items number line lines on))
-    (λ off. looked-on one items number line lines off ∙ looked-same items one two bound
-    (number + 1) lines h (omega arith) ∙ sym (looked-on two items number line lines off))
+    (λ on. rw (on, looked_for) (h number (line ∷ lines) short))
+    (λ off. rw (off, looked_for) (looked-same items one two bound (number + 1) lines h (omega arith)))
 
 pub enough-units : {E : Type 0} (place : List (Item E) → List ReadLine → Place (FileUnit E)) → IsReadForward place
     → (skip : Bool) (one two : ℕ) (items : List (Item E)) (number : ℕ) (lines : List ReadLine)
@@ -131,30 +120,24 @@ enough-units place h skip (suc one) (suc two) items number lines short_one short
     (λ unit count e.
     let within = here-within place h items lines unit count e in
     let some = within.0 in
-    let left : length (drop count lines) ≡ length lines - count = length-drop count lines in
-    within-here place skip one items number lines unit count e
-    ∙ enough-units place h skip one two
-    (Accepted unit ∷ items) (number + count) (drop count lines) (let in_lines = within.1 in
-    omega (arith, some, in_lines, left)) (let in_lines = within.1 in omega (arith, some, in_lines, left))
-    ∙ sym (within-here place skip two items number lines unit count e))
-    (λ offset fault e.
-    within-wrong place skip one items number lines offset fault e
-    ∙ by_bool (is_skipped skip items fault)
+    let in_lines = within.1 in
+    let left = length-drop count lines in
+    let same = enough-units place h skip one two (Accepted unit ∷ items) (number + count) (drop count lines)
+    (omega (arith, some, in_lines, left)) (omega (arith, some, in_lines, left)) in
+    rw (e, reading_within) same)
+    (λ offset fault e. by_bool (is_skipped skip items fault)
     (λ on.
     let at : At = record { line = number + offset; fault = fault } in
-    let n : ℕ = max offset 1 in
-    let short : offset < length lines = wrong-within place h items lines offset fault e in
-    let left : length (drop (max offset 1) lines) ≡ length lines - max offset 1 = length-drop (max offset 1) lines in
-    fault-skipped skip (reading_within place skip one) items number lines offset fault on
-    ∙ looked-same (Warned at ∷ items) (reading_within place skip one (Warned at ∷ items))
-    (reading_within place skip two (Warned at ∷ items)) (length lines) (number + n) (drop n lines)
+    let short = wrong-within place h items lines offset fault e in
+    let left = length-drop (max offset 1) lines in
+    let same = looked-same (Warned at ∷ items) (reading_within place skip one (Warned at ∷ items))
+    (reading_within place skip two (Warned at ∷ items)) (length lines)
+    (number + max offset 1) (drop (max offset 1) lines)
     (λ m ls few. enough-units place h skip one two (Warned at ∷ items) m ls (omega arith) (omega arith))
-    (omega (arith, short, left))
-    ∙ sym (fault-skipped skip (reading_within place skip two) items number lines offset fault on))
-    (λ off. fault-ends skip (reading_within place skip one) items number lines offset fault off
-    ∙ sym (fault-ends skip (reading_within place skip two) items number lines offset fault off))
-    ∙ sym (within-wrong place skip two items number lines offset fault e))
-    (λ e. within-wanted place skip one items number lines e ∙ sym (within-wanted place skip two items number lines e))
+    (omega (arith, short, left)) in
+    rw (e, reading_within, on, after_fault) same)
+    (λ off. rw (e, reading_within, off, after_fault) refl))
+    (λ e. rw (e, reading_within) refl)
 
 -- ---- more lines
 
@@ -169,11 +152,9 @@ looked-more : {E : Type 0} (place : List (Item E) → List ReadLine → Place (F
 looked-more place skip items one two bound number [] more h rest short =
     looked-same items two (reading_from place skip items) (suc (length more)) number more rest (omega arith)
 looked-more place skip items one two bound number (line ∷ lines) more h rest short = by_bool (can_go_on line)
-    (λ on. looked-here two items number line (lines ++ more) on ∙ h number (line ∷ lines) short
-    ∙ sym (ap (λ r. continued_reading place skip r more) (looked-here one items number line lines on)))
-    (λ off. looked-on two items number line (lines ++ more) off
-    ∙ looked-more place skip items one two bound (number + 1) lines more h rest (omega arith)
-    ∙ sym (ap (λ r. continued_reading place skip r more) (looked-on one items number line lines off)))
+    (λ on. rw (on, looked_for) (h number (line ∷ lines) short))
+    (λ off. rw (off, looked_for)
+    (looked-more place skip items one two bound (number + 1) lines more h rest (omega arith)))
 
 pub resumed-within : {E : Type 0} (place : List (Item E) → List ReadLine → Place (FileUnit E)) → IsReadForward place
     → (skip : Bool) (one two : ℕ) (items : List (Item E)) (number : ℕ) (lines more : List ReadLine)
@@ -188,42 +169,40 @@ resumed-within place h skip (suc one) (suc two) items number lines more short_on
     let within = here-within place h items lines unit count e in
     let some = within.0 in
     let in_lines = within.1 in
-    let left : length (drop count lines) ≡ length lines - count = length-drop count lines in
-    let rest : drop count (lines ++ more) ≡ drop count lines ++ more = drop-append-le count lines more in_lines in
-    within-here place skip two items number
-    (lines ++ more) unit count (here-stays place h items lines more unit count e)
-    ∙ ap (λ ls. reading_within place skip two (Accepted unit ∷ items) (number + count) ls) rest
-    ∙ resumed-within place h skip one two (Accepted unit ∷ items) (number + count)
-    (drop count lines) more (omega (arith, some, in_lines, left)) (omega (arith, some, in_lines, left))
-    ∙ sym (ap (λ r. continued_reading place skip r more) (within-here place skip one items number lines unit count e)))
+    let left = length-drop count lines in
+    let rest = drop-append-le count lines more in_lines in
+    rw (
+      within-here place skip one items number lines unit count e,
+      within-here place skip two items number (lines ++ more) unit count
+          (here-stays place h items lines more unit count e),
+      rest,
+    )
+    (resumed-within place h skip one two (Accepted unit ∷ items) (number + count)
+    (drop count lines) more (omega (arith, some, in_lines, left)) (omega (arith, some, in_lines, left))))
     (λ offset fault e.
-    within-wrong place skip two items number
-    (lines ++ more) offset fault (wrong-stays place h items lines more offset fault e)
-    ∙ by_bool (is_skipped skip items fault)
+    rw (
+      within-wrong place skip one items number lines offset fault e,
+      within-wrong place skip two items number (lines ++ more) offset fault
+          (wrong-stays place h items lines more offset fault e),
+    )
+    (by_bool (is_skipped skip items fault)
     (λ on.
     let at : At = record { line = number + offset; fault = fault } in
     let n : ℕ = max offset 1 in
-    let short : offset < length lines = wrong-within place h items lines offset fault e in
-    let left : length (drop (max offset 1) lines) ≡ length lines - max offset 1 = length-drop (max offset 1) lines in
+    let short = wrong-within place h items lines offset fault e in
+    let left = length-drop (max offset 1) lines in
     let rest : drop n (lines ++ more) ≡ drop n lines ++ more = drop-append-le n lines more (omega (arith, short)) in
-    fault-skipped skip (reading_within place skip two) items number (lines ++ more) offset fault on
-    ∙ ap (λ ls. looked_for (reading_within place skip two (Warned at ∷ items)) (Warned at ∷ items) (number + n) ls) rest
-    ∙ looked-more place skip (Warned at ∷ items) (reading_within place skip one (Warned at ∷ items))
+    rw (on, after_fault, rest)
+    (looked-more place skip (Warned at ∷ items) (reading_within place skip one (Warned at ∷ items))
     (reading_within place skip two (Warned at ∷ items)) (length lines) (number + n) (drop n lines) more
     (λ m ls few. resumed-within place h skip one two (Warned at ∷ items) m ls more (omega arith) (omega arith))
     (λ m ls few. enough-units place h skip two
     (length ls + 1) (Warned at ∷ items) m ls (omega (arith, short, few, short_two)) (omega arith))
-    (omega (arith, short, left))
-    ∙ sym (ap (λ r. continued_reading place skip r more)
-    (fault-skipped skip (reading_within place skip one) items number lines offset fault on)))
-    (λ off. fault-ends skip (reading_within place skip two) items number (lines ++ more) offset fault off
-    ∙ sym (ap (λ r. continued_reading place skip r more)
-    (fault-ends skip (reading_within place skip one) items number lines offset fault off)))
-    ∙ sym (ap (λ r. continued_reading place skip r more)
-    (within-wrong place skip one items number lines offset fault e)))
-    (λ e. enough-units place h skip (suc two) (length (lines ++ more) + 1) items number
-    (lines ++ more) (omega (arith, short_two, length-append lines more)) (omega arith)
-    ∙ sym (ap (λ r. continued_reading place skip r more) (within-wanted place skip one items number lines e)))
+    (omega (arith, short, left))))
+    (λ off. rw (off, after_fault) refl)))
+    (λ e. rw (within-wanted place skip one items number lines e)
+    (enough-units place h skip (suc two) (length (lines ++ more) + 1) items number
+    (lines ++ more) (omega (arith, short_two, length-append lines more)) (omega arith)))
 
 -- the reading of some lines and more goes on from the reading of the first
 pub resumed : {E : Type 0} (place : List (Item E) → List ReadLine → Place (FileUnit E))

@@ -9,7 +9,7 @@ use Rattle.crx_rinex.specs.Steady.{Remains}
 use Rattle.crx_rinex.specs.meaning.Units.{Unit as FileUnit}
 use Rattle.crx_history.specs.meaning.CompactPlaces.{ReadEpoch}
 use Rattle.crx_reading.specs.meaning.Items.{Item}
-use Rattle.crx_reading.specs.meaning.Reading.{Reading, Stop, AtFault, AtLines, Looking, reading_from, ended_reading}
+use Rattle.crx_reading.specs.meaning.Reading.{Reading, Stop, AtFault, AtLines, reading_from, ended_reading}
 use Rattle.crx_reading.specs.meaning.Reading.{whole_reading}
 use Rattle.crx_engine.specs.Laws.{continued_reading, IsReadForward, StaysEnded}
 use Rattle.crx_reading.specs.meaning.Reading.{fault_of_stop}
@@ -26,14 +26,12 @@ gone-same : {E : Type 0} (place : List (Item E) → List ReadLine → Place (Fil
     (skip : Bool) (items : List (Item E)) (stop : Stop) (more : List ReadLine) (at : At) → fault_of_stop stop ≡ Some at
     → continued_reading place skip (record { items = items; stop = stop }) more ≡ record { items = items; stop = stop }
 gone-same place skip items (AtFault fault) more at e = refl
-gone-same place skip items (AtLines number lines) more at e = absurd (none-some at e)
-gone-same place skip items (Looking number) more at e = absurd (none-some at e)
+gone-same place skip items stop more at e = absurd (none-some at e)
 
 ended-same : {E : Type 0} (skip : Bool) (items : List (Item E)) (stop : Stop) (at : At) → fault_of_stop stop
     ≡ Some at → ended_reading skip (record { items = items; stop = stop }) ≡ record { items = items; fault = Some at }
 ended-same skip items (AtFault fault) at e = ap (λ (o : Option At). record { items = items; fault = o }) e
-ended-same skip items (AtLines number lines) at e = absurd (none-some at e)
-ended-same skip items (Looking number) at e = absurd (none-some at e)
+ended-same skip items stop at e = absurd (none-some at e)
 
 stays-from : {E : Type 0} (place : List (Item E) → List ReadLine → Place (FileUnit E))
     → IsReadForward place → (skip : Bool) (number : ℕ) (lines more : List ReadLine) (at : At)

@@ -1,12 +1,13 @@
 -- The counts of types in force are allowed, and no letter stands twice among them.
-use Rattle.std.proofs.Common.{ℕ, ◌≡◌, true, false, cond, List, [], ◌∷◌, ◌++◌, Option, Some, None, refl, sym, subst}
+use Rattle.std.proofs.Common.{ℕ, ◌≡◌, List, [], ◌∷◌, ◌++◌, Option, Some, None, refl, sym, subst}
 use Rattle.std.proofs.lemmas.List.Elements.{All-nil}
-use Rattle.crx_rinex.specs.meaning.Units.{HeaderLine, EventLine, EventRecord, Observation}
+use Rattle.crx_rinex.specs.meaning.Units.{HeaderLine, EventRecord}
 use Rattle.crx_rinex.specs.meaning.ObservationTypes.{Count, types_of, is_types_line, count_in}
 use Rattle.crx_rinex.specs.ObservationTypes.{AreCounts, IsCount, with_line, after_count}
 use Rattle.crx_rinex.proofs.Counts.{types_of-push, AreCounts-with_count, count_in_allowed}
 use Rattle.crx_reading.specs.meaning.Items.{Item, Accepted, Warned, records_count_types, declaring_lines}
 use Rattle.crx_reading.specs.meaning.Items.{types_in_force}
+use Rattle.crx_reading.proofs.Choosing.{by_bool}
 
 no-counts : AreCounts []
 no-counts = record { allowed = All-nil IsCount; apart = refl }
@@ -18,8 +19,9 @@ after-count counts line (Some c) h e = let allowed = count_in_allowed line c.0 c
     AreCounts-with_count counts c.0 c.1 h allowed.0 allowed.1
 
 after-line : (counts : List Count) (line : List ℕ) → AreCounts counts → AreCounts (with_line counts line)
-after-line counts line h = elim (is_types_line line) as (λ b. AreCounts (after_count counts
-    (cond b (count_in line) None))) [ true ↦ after-count counts line (count_in line) h refl | false ↦ h ]
+after-line counts line h = by_bool (is_types_line line)
+    (λ on. rw on (after-count counts line (count_in line) h refl))
+    (λ off. rw off h)
 
 one-more : (lines : List (List ℕ)) (line : List ℕ)
     → AreCounts (types_of lines) → AreCounts (types_of (lines ++ line ∷ []))
@@ -28,12 +30,8 @@ one-more lines line h = subst AreCounts (sym (types_of-push lines line)) (after-
 pub counts-in_force : {E : Type 0} (items : List (Item E)) → AreCounts (types_in_force items)
 counts-in_force [] = no-counts
 counts-in_force (Accepted (HeaderLine line) ∷ before) = one-more (declaring_lines before) line (counts-in_force before)
-counts-in_force (Accepted (EventLine line) ∷ before) = counts-in_force before
-counts-in_force (Accepted (EventRecord line) ∷ before) =
-    elim (records_count_types before) as (λ b.
-    AreCounts (types_of (cond b (declaring_lines before ++ line ∷ []) (declaring_lines before)))) [
-      | true ↦ one-more (declaring_lines before) line (counts-in_force before)
-      | false ↦ counts-in_force before
-    ]
-counts-in_force (Accepted (Observation epoch) ∷ before) = counts-in_force before
+counts-in_force (Accepted (EventRecord line) ∷ before) = by_bool (records_count_types before)
+    (λ on. rw on (one-more (declaring_lines before) line (counts-in_force before)))
+    (λ off. rw off (counts-in_force before))
+counts-in_force (Accepted unit ∷ before) = counts-in_force before
 counts-in_force (Warned at ∷ before) = counts-in_force before

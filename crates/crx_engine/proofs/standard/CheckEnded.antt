@@ -8,20 +8,18 @@ use Rattle.crx_lines.specs.meaning.Seen.{ReadLine, seen}
 use Rattle.crx_lines.specs.declared.fault.Fault.{Fault}
 use Rattle.crx_rinex.specs.meaning.ObservationTypes.{Count}
 use Rattle.crx_rinex.specs.meaning.Observations.{Epoch}
-use Rattle.crx_rinex.specs.meaning.Units.{HeaderLine, EventLine, EventRecord, Observation}
+use Rattle.crx_rinex.specs.meaning.Units.{printed_unit, HeaderLine}
 use Rattle.crx_rinex.specs.meaning.EpochPlaces.{OpenEpoch}
-use Rattle.crx_rinex.specs.meaning.Printing.{printed_epoch}
-use Rattle.crx_reading.specs.meaning.Items.{Item, Accepted, Warned, is_at_start, types_in_force}
-use Rattle.crx_reading.specs.meaning.Reading.{Reading, WholeReading, Stop, AtFault, AtLines, Looking, fault_at_end}
+use Rattle.crx_reading.specs.meaning.Items.{Item, Accepted, Warned, is_at_start}
+use Rattle.crx_reading.specs.meaning.Reading.{Reading, WholeReading, Stop, AtFault, AtLines, fault_at_end}
 use Rattle.crx_reading.specs.meaning.Reading.{ended_with, ended_reading}
-use Rattle.crx_reading.specs.meaning.Compacted.{epochs_accepted, rinex_place, whole_rinex}
+use Rattle.crx_reading.specs.meaning.Compacted.{rinex_place, whole_rinex}
 use Rattle.crx_reading.specs.meaning.Directions.{rinex_reading}
-use Rattle.crx_reading.specs.LineByLine.{Phase, InFirstLines, InHeader, BetweenUnits, InEvent, InEpoch, LookingOn}
-use Rattle.crx_reading.specs.LineByLine.{Closed, Ended, Seen, kept_in, seen_end}
+use Rattle.crx_reading.specs.LineByLine.{Phase, InEpoch}
+use Rattle.crx_reading.specs.LineByLine.{Seen, kept_in, seen_end}
 use Rattle.crx_engine.specs.Laws.{AreInPlace, failed_by}
 use Rattle.crx_reading.specs.meaning.Reading.{fault_of_stop}
-use Rattle.crx_reading.specs.meaning.Standard.{Findings, printed_items, whole_reading_of, first_header_line, version_in}
-use Rattle.crx_reading.specs.meaning.Standard.{events_accepted, observations_accepted, first_not_standard}
+use Rattle.crx_reading.specs.meaning.Standard.{printed_items, whole_reading_of, first_header_line, version_in}
 use Rattle.crx_reading.specs.CheckByLine.{Totals, checking, totals_of, version_accepted, printed_open, printed_so_far}
 use Rattle.crx_reading.specs.CheckByLine.{no_choices, check_seen}
 use Rattle.crx_engine.specs.CheckingLaws.{IsCheckEnded}
@@ -41,9 +39,8 @@ at-end items number (Some fault) = refl
 
 same-items : (items : List (Item Epoch)) (stop : Stop)
     → WholeReading.items (ended_reading false (record { items = items; stop = stop })) ≡ items
-same-items items (AtFault at) = refl
 same-items items (AtLines number lines) = at-end items (number + length lines) (fault_at_end items lines)
-same-items items (Looking number) = refl
+same-items items stop = refl
 
 pub whole-items : (lines : List ReadLine)
     → WholeReading.items (whole_rinex false lines) ≡ Reading.items (rinex_reading false lines)
@@ -53,8 +50,7 @@ whole-items lines = let r : Reading Epoch = rinex_reading false lines in same-it
 good-stop : (items : List (Item Epoch)) (stop : Stop) → WholeReading.fault
     (ended_reading false (record { items = items; stop = stop })) ≡ None → fault_of_stop stop ≡ None
 good-stop items (AtFault at) e = e
-good-stop items (AtLines number lines) e = refl
-good-stop items (Looking number) e = refl
+good-stop items stop e = refl
 
 pub good-so_far : (lines : List ReadLine)
     → WholeReading.fault (whole_rinex false lines) ≡ None → fault_of_stop (rinex_reading false lines).stop ≡ None
@@ -63,14 +59,8 @@ good-so_far lines e = let r : Reading Epoch = rinex_reading false lines in good-
 -- and no epoch is open
 none-open : (number : ℕ) (phase : Phase OpenEpoch) (types : List Count) (kept : Totals)
     → failed_by (seen_end checking (seen_in no_choices number phase types kept)).answer ≡ None → printed_open phase ≡ []
-none-open number (InFirstLines count) types kept e = refl
-none-open number (InHeader is_first) types kept e = refl
-none-open number BetweenUnits types kept e = refl
-none-open number (InEvent left counted) types kept e = refl
 none-open number (InEpoch so_far) types kept e = absurd (none-some _ (sym e))
-none-open number LookingOn types kept e = refl
-none-open number Closed types kept e = refl
-none-open number (Ended at) types kept e = refl
+none-open number phase types kept e = refl
 
 -- ---- the version
 
@@ -99,23 +89,11 @@ is-first (Accepted (HeaderLine line) ∷ item ∷ before) h =
       version = first-kept (item ∷ before) (line ∷ []) k refl;
       some = λ e. first-more (item ∷ before) (line ∷ []) k refl;
     }
-is-first (Accepted (EventLine line) ∷ before) h =
+is-first (Accepted unit ∷ before) h =
     let k : IsFirst before = is-first before h.1 in
     record {
-      version = first-kept before (line ∷ []) k (started before (h.0).0);
-      some = λ e. first-more before (line ∷ []) k (started before (h.0).0);
-    }
-is-first (Accepted (EventRecord line) ∷ before) h =
-    let k : IsFirst before = is-first before h.1 in
-    record {
-      version = first-kept before (line ∷ []) k (started before (h.0).0);
-      some = λ e. first-more before (line ∷ []) k (started before (h.0).0);
-    }
-is-first (Accepted (Observation epoch) ∷ before) h =
-    let k : IsFirst before = is-first before h.1 in
-    record {
-      version = first-kept before (printed_epoch epoch) k (started before (h.0).0);
-      some = λ e. first-more before (printed_epoch epoch) k (started before (h.0).0);
+      version = first-kept before (printed_unit unit) k (started before (h.0).0);
+      some = λ e. first-more before (printed_unit unit) k (started before (h.0).0);
     }
 is-first (Warned at ∷ before) h =
     let k : IsFirst before = is-first before h.1 in
@@ -131,14 +109,8 @@ version-same lines =
 
 -- what is kept doesn't hang on the phase
 pub kept-always : (phase : Phase OpenEpoch) (kept : Totals) → kept_in checking phase kept ≡ kept
-kept-always (InFirstLines count) kept = refl
-kept-always (InHeader is_first) kept = refl
-kept-always BetweenUnits kept = refl
-kept-always (InEvent left counted) kept = refl
 kept-always (InEpoch so_far) kept = refl
-kept-always LookingOn kept = refl
-kept-always Closed kept = refl
-kept-always (Ended at) kept = refl
+kept-always phase kept = refl
 
 pub check-ended : (lines : List InputLine) → IsCheckEnded lines
 check-ended lines =
@@ -156,41 +128,7 @@ check-ended lines =
           let printed : printed_so_far lines ≡ printed_items r.items = ap (λ ls. printed_items r.items ++ ls) shut
           ∙ append-nil (printed_items r.items) in
           let kept : s.kept ≡ totals_of r.items = kept-always s.phase (totals_of r.items) in
-          ap (λ (t : Totals). record {
-            version = t.version;
-            systems = s.types;
-            epochs = t.epochs;
-            events = t.events;
-            observations = t.observations;
-            not_standard = first_not_standard 1 lines (printed_so_far lines);
-          }) kept
-          ∙ ap (λ v. record {
-            version = v;
-            systems = s.types;
-            epochs = epochs_accepted r.items;
-            events = events_accepted r.items;
-            observations = observations_accepted r.items;
-            not_standard = first_not_standard 1 lines (printed_so_far lines);
-          }) (version-same (map seen lines))
-          ∙ ap (λ ls. record {
-            version = version_in (first_header_line (printed_items r.items));
-            systems = s.types;
-            epochs = epochs_accepted r.items;
-            events = events_accepted r.items;
-            observations = observations_accepted r.items;
-            not_standard = first_not_standard 1 lines ls;
-          }) printed
-          ∙ sym (ap (findings_by lines) items);
-    }
-  where
-    findings_by : List InputLine → List (Item Epoch) → Findings
-    findings_by ls its = record {
-      version = version_in (first_header_line (printed_items its));
-      systems = types_in_force its;
-      epochs = epochs_accepted its;
-      events = events_accepted its;
-      observations = observations_accepted its;
-      not_standard = first_not_standard 1 ls (printed_items its);
+          rw (items, kept, version-same (map seen lines), printed) refl;
     }
 
 -- where the end is good, printing gives back as many lines as have come

@@ -1,6 +1,7 @@
 -- The lines that printing gives back for some lines of a file, and for one line more.
-use Rattle.std.proofs.Common.{ℕ, zero, suc, ◌≡◌, ◌+◌, ◌-◌, Bool, true, false, cond, not, List, [], ◌∷◌, ◌++◌, length}
-use Rattle.std.proofs.Common.{drop, Option, Some, None, Result, Ok, Err, refl, ap, sym, ◌∙◌, subst, append-nil}
+use Rattle.std.proofs.Common.{ℕ, zero, suc, ◌≡◌, ◌+◌, ◌-◌, Bool, true, false, cond, List, [], ◌∷◌}
+use Rattle.std.proofs.Common.{◌++◌, length, drop, Option, Some, None, Result, Ok, Err, refl, ap, sym}
+use Rattle.std.proofs.Common.{◌∙◌, append-nil}
 use Rattle.std.specs.Prelude.{⊤}
 use Rattle.std.proofs.lemmas.List.{map-append}
 use Rattle.std.proofs.lemmas.Option.{none-some}
@@ -16,20 +17,21 @@ use Rattle.crx_rinex.specs.meaning.EpochPlaces.{OpenEpoch, Beginning, EventBegin
 use Rattle.crx_rinex.specs.meaning.EpochPlaces.{rows_wanted, epoch_of, with_next_row, next_row}
 use Rattle.crx_rinex.specs.EpochPlaces.{after_row, when_wanted}
 use Rattle.crx_reading.specs.meaning.Items.{Item, Accepted, header_has_ended, records_left, records_count_types}
-use Rattle.crx_reading.specs.meaning.Items.{is_at_start, records_announced, counts_types}
+use Rattle.crx_reading.specs.meaning.Items.{records_announced, counts_types}
 use Rattle.crx_reading.specs.meaning.UnitPlaces.{unless_wrong, types_fault, header_line_fault}
 use Rattle.crx_reading.specs.meaning.Reading.{Reading, Stop, AtFault, AtLines, Looking, reading_within}
 use Rattle.crx_reading.specs.meaning.Compacted.{rinex_place}
 use Rattle.crx_reading.specs.meaning.Directions.{rinex_reading}
 use Rattle.crx_reading.specs.CompactionByLine.{made_of_epoch_step, made_of_beginning, rinex_open}
 use Rattle.crx_reading.specs.LineByLine.{Phase, InFirstLines, InHeader, BetweenUnits, InEvent, InEpoch, LookingOn}
-use Rattle.crx_reading.specs.LineByLine.{Closed, Ended, Made, Completes, Moves, Fails, Repeats, Step, made_of_unit}
+use Rattle.crx_reading.specs.LineByLine.{Closed, Ended, Made, Completes, Step, made_of_unit}
 use Rattle.crx_reading.specs.LineByLine.{made_in, with_records_left, step_of_made, phase_in_body, phase_after_items}
 use Rattle.crx_reading.specs.LineByLine.{phase_of}
 use Rattle.crx_engine.specs.Laws.{failed_by, is_again}
 use Rattle.crx_reading.specs.CheckByLine.{Totals, checking, printed_open, printed_made, no_choices}
+use Rattle.crx_reading.proofs.Choosing.{by_bool}
 use Rattle.crx_engine.proofs.following.Following.{seen_in}
-use Rattle.crx_engine.proofs.reading.Resuming.{by_place, within-here, within-wrong, within-wanted, fault-ends}
+use Rattle.crx_engine.proofs.reading.Resuming.{by_place, within-here, within-wrong, within-wanted}
 
 -- ---- where nothing is skipped, no line is looked for
 
@@ -42,13 +44,10 @@ within-found : (units : ℕ) (items : List (Item Epoch)) (number : ℕ) (lines :
     → IsFound (reading_within rinex_place false units items number lines).stop
 within-found zero items number lines = tt
 within-found (suc units) items number lines = by_place (rinex_place items lines)
-    (λ unit count e. subst (λ (r : Reading Epoch). IsFound r.stop) (sym (within-here rinex_place false units items
-    number lines unit count e)) (within-found units (Accepted unit ∷ items) (number + count) (drop count lines)))
-    (λ offset fault e. subst (λ (r : Reading Epoch). IsFound r.stop)
-    (sym (within-wrong rinex_place false units items number lines offset fault e
-    ∙ fault-ends false (reading_within rinex_place false units) items number lines offset fault refl)) tt)
-    (λ e. subst (λ (r : Reading Epoch). IsFound r.stop)
-    (sym (within-wanted rinex_place false units items number lines e)) tt)
+    (λ unit count e. rw (within-here rinex_place false units items number lines unit count e)
+    (within-found units (Accepted unit ∷ items) (number + count) (drop count lines)))
+    (λ offset fault e. rw (within-wrong rinex_place false units items number lines offset fault e) tt)
+    (λ e. rw (within-wanted rinex_place false units items number lines e) tt)
 
 -- the phases of a reading that skips nothing
 abbrev pub IsReached : Phase OpenEpoch → Type 0
@@ -67,11 +66,9 @@ body-reached zero counted (Some so_far) = tt
 body-reached (suc left) counted so_far = tt
 
 items-reached : (items : List (Item Epoch)) (so_far : Option OpenEpoch) → IsReached (phase_after_items items so_far)
-items-reached items so_far = elim (not (header_has_ended items)) as (λ b. IsReached
-    (cond b (InHeader (is_at_start items)) (phase_in_body (records_left items) (records_count_types items) so_far))) [
-      | true ↦ tt
-      | false ↦ body-reached (records_left items) (records_count_types items) so_far
-    ]
+items-reached items so_far = by_bool (header_has_ended items)
+    (λ on. rw on (body-reached (records_left items) (records_count_types items) so_far))
+    (λ off. rw off tt)
 
 stop-reached : (items : List (Item Epoch)) (stop : Stop)
     → IsFound stop → IsReached (phase_of rinex_open (record { items = items; stop = stop }))
@@ -183,6 +180,4 @@ pub never-again : (number : ℕ)
     (phase : Phase OpenEpoch) (types : List Count) (kept : Totals) (line : ReadLine) (made : Made Epoch OpenEpoch)
     → is_again (step_of_made checking (seen_in no_choices number phase types kept) line made).answer ≡ false
 never-again number phase types kept line (Completes unit) = refl
-never-again number phase types kept line (Moves next) = refl
-never-again number phase types kept line (Fails fault) = refl
-never-again number phase types kept line (Repeats at) = refl
+never-again number phase types kept line made = refl

@@ -1,7 +1,6 @@
 -- A file is named as standard exactly where it is; and that is where it comes back.
-use Rattle.std.proofs.Common.{ℕ, ◌≡◌, ◌+◌, Bool, true, cond, List, [], ◌∷◌, map, length, Option, Some, None, refl, ap}
-use Rattle.std.proofs.Common.{sym, ◌∙◌, arith}
-use Rattle.std.specs.Prelude.{◌&&◌}
+use Rattle.std.proofs.Common.{ℕ, ◌≡◌, ◌+◌, Bool, true, List, [], ◌∷◌, map, length, Option, Some, None}
+use Rattle.std.proofs.Common.{refl, ap, sym, ◌∙◌, arith}
 use Rattle.std.specs.List.{list_all}
 use Rattle.std.specs.Str.{bytes_eq}
 use Rattle.std.proofs.lemmas.Option.{none-some}
@@ -32,24 +31,21 @@ none-named number [] (text ∷ texts) many e = absurd (cc)
 none-named number (line ∷ lines) [] many e = absurd (cc)
 none-named number (line ∷ lines) (text ∷ texts) many e = by_bool (is_standard_line line text)
     (λ on.
-    let rest = none-named (number + 1) lines texts (omega (arith, many))
-    (sym (ap (λ b. cond b (first_not_standard (number + 1) lines texts) (Some number)) on) ∙ e) in
-    let plain : line.is_plain ≡ true = (and_parts line.is_plain (bytes_eq line.content text) on).0 in
-    let same : line.content ≡ text =
-    bytes_eq-is line.content text (and_parts line.is_plain (bytes_eq line.content text) on).1 in
-    (ap (λ b. b && are_plain lines) plain ∙ rest.0, ap (λ t. t ∷ contents lines) same ∙ ap (λ ts. text ∷ ts) rest.1))
-    (λ off. absurd (none-some number (sym e
-    ∙ ap (λ b. cond b (first_not_standard (number + 1) lines texts) (Some number)) off)))
+    let none = rw on at e in
+    let rest = none-named (number + 1) lines texts (omega (arith, many)) none in
+    let both = and_parts line.is_plain (bytes_eq line.content text) on in
+    (rw both.0 rest.0, cc (bytes_eq-is line.content text both.1, rest.1)))
+    (λ off.
+    let never = rw off at e in
+    absurd (none-some number (sym never)))
 
 -- and the converse
 all-standard : (number : ℕ) (lines : List InputLine)
     → are_plain lines ≡ true → first_not_standard number lines (contents lines) ≡ None
 all-standard number [] e = refl
 all-standard number (line ∷ lines) e =
-    let on : is_standard_line line line.content ≡ true = ap (λ b. b && bytes_eq line.content line.content)
-    (and_parts line.is_plain (are_plain lines) e).0 ∙ bytes_eq-same line.content in
-    ap (λ b. cond b (first_not_standard (number + 1) lines (contents lines)) (Some number)) on
-    ∙ all-standard (number + 1) lines (and_parts line.is_plain (are_plain lines) e).1
+    let both = and_parts line.is_plain (are_plain lines) e in
+    rw (both.0, bytes_eq-same line.content) (all-standard (number + 1) lines both.1)
 
 pub named-where_not : (input : List ℕ) → IsNamedWhereNot input
 named-where_not input good = (

@@ -41,9 +41,7 @@ pub header-same : {E : Type 0} (known : List (Item Epoch) → Epoch → E) (item
 header-same known [] = refl
 header-same known (Accepted (HeaderLine line) ∷ before) =
     ap (λ b. is_end_of_header line || b) (header-same known before)
-header-same known (Accepted (EventLine line) ∷ before) = header-same known before
-header-same known (Accepted (EventRecord line) ∷ before) = header-same known before
-header-same known (Accepted (Observation epoch) ∷ before) = header-same known before
+header-same known (Accepted unit ∷ before) = header-same known before
 header-same known (Warned at ∷ before) = header-same known before
 
 pub started : {E : Type 0} (items : List (Item E)) → header_has_ended items ≡ true → is_at_start items ≡ false
@@ -58,33 +56,26 @@ start-same known (Warned at ∷ before) h = started (carried known before) (head
 
 pub left-same : {E : Type 0} (known : List (Item Epoch) → Epoch → E) (items : List (Item Epoch))
     → AreInPlace items → records_left (carried known items) ≡ records_left items
-left-same known [] h = refl
-left-same known (Accepted (HeaderLine line) ∷ before) h = refl
-left-same known (Accepted (EventLine line) ∷ before) h = refl
 left-same known (Accepted (EventRecord line) ∷ before) h = ap (λ n. n - 1) (left-same known before h.1)
-left-same known (Accepted (Observation epoch) ∷ before) h = refl
 left-same known (Warned at ∷ before) h = left-same known before h.1 ∙ (h.0).1
+left-same known items h = refl
 
 pub count-same : {E : Type 0} (known : List (Item Epoch) → Epoch → E) (items : List (Item Epoch))
     → AreInPlace items → 0 < records_left items → records_count_types (carried known items) ≡ records_count_types items
-count-same known [] h some = refl
-count-same known (Accepted (HeaderLine line) ∷ before) h some = refl
-count-same known (Accepted (EventLine line) ∷ before) h some = refl
 count-same known (Accepted (EventRecord line) ∷ before) h some = count-same known before h.1 (h.0).1
-count-same known (Accepted (Observation epoch) ∷ before) h some = refl
 count-same known (Warned at ∷ before) h some = absurd (omega (arith, some))
+count-same known items h some = refl
 
 declares-same : {E : Type 0} (known : List (Item Epoch) → Epoch → E) (items : List (Item Epoch))
     → AreInPlace items → declaring_lines (carried known items) ≡ declaring_lines items
 declares-same known [] h = refl
 declares-same known (Accepted (HeaderLine line) ∷ before) h =
     ap (λ ls. ls ++ line ∷ []) (declares-same known before h.1)
-declares-same known (Accepted (EventLine line) ∷ before) h = declares-same known before h.1
 declares-same known (Accepted (EventRecord line) ∷ before) h =
     ap (λ b. cond b (declaring_lines (carried known before) ++ line ∷ []) (declaring_lines (carried known before)))
     (count-same known before h.1 (h.0).1)
     ∙ ap (λ ls. cond (records_count_types before) (ls ++ line ∷ []) ls) (declares-same known before h.1)
-declares-same known (Accepted (Observation epoch) ∷ before) h = declares-same known before h.1
+declares-same known (Accepted unit ∷ before) h = declares-same known before h.1
 declares-same known (Warned at ∷ before) h = declares-same known before h.1
 
 pub types-same : {E : Type 0} (known : List (Item Epoch) → Epoch → E) (items : List (Item Epoch))

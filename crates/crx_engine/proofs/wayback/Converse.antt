@@ -1,8 +1,8 @@
 -- A file comes back only where it is standard: the lines that are written are plain, and printed as they stand.
-use Rattle.std.proofs.Common.{ℕ, ℤ, zero, suc, pos, negsuc, ◌≡◌, ◌+◌, ◌-◌, ◌/◌, ◌%◌, ◌^◌, ◌<◌, ◌≤◌, true, false, cond}
-use Rattle.std.proofs.Common.{List, [], ◌∷◌, ◌++◌, map, length, take, drop, replicate, decimal, Option, Some, None}
-use Rattle.std.proofs.Common.{refl, ap, sym, ◌∙◌, arith, append_assoc}
-use Rattle.std.specs.Prelude.{◌==◌, not, All}
+use Rattle.std.proofs.Common.{ℕ, ℤ, zero, suc, pos, negsuc, ◌≡◌, ◌+◌, ◌-◌, ◌/◌, ◌%◌, ◌^◌, ◌<◌, ◌≤◌}
+use Rattle.std.proofs.Common.{true, false, List, [], ◌∷◌, ◌++◌, map, length, take, drop, replicate}
+use Rattle.std.proofs.Common.{decimal, Option, Some, None, refl, ap, sym, ◌∙◌, arith, append_assoc}
+use Rattle.std.specs.Prelude.{not, All}
 use Rattle.std.specs.List.{AllByRecursion, list_all}
 use Rattle.std.specs.Str.{all_ascii_digits}
 use Rattle.std.specs.Char.{is_ascii_digit}
@@ -27,7 +27,7 @@ use Rattle.crx_lines.proofs.PieceLemmas.{pieces-first}
 use Rattle.crx_text.proofs.ReadBack.{decimal_is_digits}
 use Rattle.crx_rinex.specs.meaning.Observations.{Row, Epoch}
 use Rattle.crx_rinex.specs.meaning.Printing.{printed_cells, printed_row, printed_epoch, lines_text}
-use Rattle.crx_rinex.specs.meaning.Units.{HeaderLine, EventLine, EventRecord, Observation}
+use Rattle.crx_rinex.specs.meaning.Units.{printed_unit, Observation}
 use Rattle.crx_reading.specs.meaning.Choices.{Choices, is_date}
 use Rattle.crx_reading.specs.meaning.Compacted.{compacted}
 use Rattle.crx_reading.specs.meaning.Expanded.{expanded}
@@ -35,6 +35,7 @@ use Rattle.crx_reading.specs.meaning.Items.{Item, Accepted, Warned, types_in_for
 use Rattle.crx_reading.specs.meaning.Reading.{WholeReading}
 use Rattle.crx_reading.specs.meaning.Results.{FilterResult}
 use Rattle.crx_reading.specs.meaning.Standard.{printed_items, whole_of, IsStandard}
+use Rattle.crx_reading.proofs.Choosing.{by_bool}
 use Rattle.crx_engine.specs.Laws.{AreInPlace}
 use Rattle.crx_reading.specs.meaning.WayBack.{OfCopiedLines, HaveNoReturns}
 use Rattle.crx_engine.proofs.wayback.WayBack.{IsSettled, whole-settled}
@@ -76,36 +77,35 @@ replicate-text (suc n) c h = and_from (is_printable c) (list_all is_printable (r
 kept-text : (text : List ℕ) → list_all is_kept text ≡ true → list_all is_printable text ≡ true
 kept-text [] h = refl
 kept-text (c ∷ cs) h =
-    and_from (is_printable c) (list_all is_printable cs) (and_parts (is_printable c) (not (c == 38)) (and_parts
-    (is_kept c) (list_all is_kept cs) h).0).0 (kept-text cs (and_parts (is_kept c) (list_all is_kept cs) h).1)
+    let both = and_parts (is_kept c) _ h in
+    let first = and_parts (is_printable c) _ both.0 in
+    and_from (is_printable c) (list_all is_printable cs) first.0 (kept-text cs both.1)
 
 digit-printable : (c : ℕ) → is_ascii_digit c ≡ true → is_printable c ≡ true
 digit-printable c h = grind (arith, h)
 
 digits-text : (text : List ℕ) → all_ascii_digits text ≡ true → list_all is_printable text ≡ true
 digits-text [] h = refl
-digits-text (c ∷ cs) h = and_from (is_printable c)
-    (list_all is_printable cs) (digit-printable c (and_parts (is_ascii_digit c) (all_ascii_digits cs) h).0)
-    (digits-text cs (and_parts (is_ascii_digit c) (all_ascii_digits cs) h).1)
+digits-text (c ∷ cs) h =
+    let both = and_parts (is_ascii_digit c) _ h in
+    and_from (is_printable c) (list_all is_printable cs) (digit-printable c both.0) (digits-text cs both.1)
 
 before-text : (c : ℕ) (text : List ℕ) → is_printable c ≡ true
     → list_all is_printable text ≡ true → list_all is_printable (before_end_blanks c text) ≡ true
-before-text c [] h k = elim (is_blank c) as (λ b. list_all is_printable (cond b [] (c ∷ [])) ≡ true) [
-  | true ↦ refl
-  | false ↦ and_from (is_printable c) true h refl
-]
+before-text c [] h k = by_bool (is_blank c) (λ on. rw on refl) (λ off. rw (off, h) refl)
 before-text c (d ∷ ds) h k = and_from (is_printable c) (list_all is_printable (d ∷ ds)) h k
 
 without_blanks-text : (text : List ℕ)
     → list_all is_printable text ≡ true → list_all is_printable (without_end_blanks text) ≡ true
 without_blanks-text [] h = refl
-without_blanks-text (c ∷ cs) h = before-text c (without_end_blanks cs) (and_parts (is_printable c)
-    (list_all is_printable cs) h).0 (without_blanks-text cs (and_parts (is_printable c) (list_all is_printable cs) h).1)
+without_blanks-text (c ∷ cs) h =
+    let both = and_parts (is_printable c) _ h in
+    before-text c (without_end_blanks cs) both.0 (without_blanks-text cs both.1)
 
 drop-text : (n : ℕ) (text : List ℕ) → list_all is_printable text ≡ true → list_all is_printable (drop n text) ≡ true
 drop-text zero text h = h
 drop-text (suc n) [] h = refl
-drop-text (suc n) (c ∷ cs) h = drop-text n cs (and_parts (is_printable c) (list_all is_printable cs) h).1
+drop-text (suc n) (c ∷ cs) h = drop-text n cs (and_parts (is_printable c) _ h).1
 
 -- a number's digits
 small-size : (width size : ℕ) → width ≤ 19 → size < 10 ^ (width - 1) → size < 2 ^ 64
@@ -190,15 +190,12 @@ printable-plain (line ∷ lines) h = (
 pub printed-plain : (items : List (Item Epoch)) → AreInPlace items
     → OfCopiedLines CanStand items → HaveNoReturns items → AllByRecursion IsPlainLine (printed_items items)
 printed-plain [] h k e = tt
-printed-plain (Accepted (HeaderLine line) ∷ before) h k e = append-plain (printed_items before)
-    (line ∷ []) (printed-plain before h.1 k.1 e.1) (record { one_line = (k.0).0; no_return = e.0 }, tt)
-printed-plain (Accepted (EventLine line) ∷ before) h k e = append-plain (printed_items before)
-    (line ∷ []) (printed-plain before h.1 k.1 e.1) (record { one_line = (k.0).0; no_return = e.0 }, tt)
-printed-plain (Accepted (EventRecord line) ∷ before) h k e = append-plain (printed_items before)
-    (line ∷ []) (printed-plain before h.1 k.1 e.1) (record { one_line = (k.0).0; no_return = e.0 }, tt)
 printed-plain (Accepted (Observation epoch) ∷ before) h k e =
     append-plain (printed_items before) (printed_epoch epoch) (printed-plain before h.1 k.1 e.1)
     (printable-plain (printed_epoch epoch) (epoch-printable (types_in_force before) epoch (h.0).2))
+printed-plain (Accepted unit ∷ before) h k e =
+    append-plain (printed_items before) (printed_unit unit) (printed-plain before h.1 k.1 e.1)
+    (record { one_line = (k.0).0; no_return = e.0 }, tt)
 printed-plain (Warned at ∷ before) h k e = printed-plain before h.1 k e
 
 pub all-plain : (lines : List (List ℕ)) → list_all (λ (line : InputLine). line.is_plain) (map plain lines) ≡ true

@@ -71,10 +71,8 @@ onto-no_feed b (p ∷ ps) other h = (All-cons NoFeed b p.bytes other h.0, h.1)
 by-byte : (b : ℕ) (ps : List Piece)
     → AllByRecursion FeedsNone ps → ((b == 10) ≡ true) × (b ≡ 10) ⊎ ((b == 10) ≡ false) × (b ≢ 10)
     → AllByRecursion FeedsNone (cond (b == 10) (record { bytes = []; is_ended = true } ∷ ps) (onto_first b ps))
-by-byte b ps h (inl is) = subst (λ t. AllByRecursion FeedsNone
-    (cond t (record { bytes = []; is_ended = true } ∷ ps) (onto_first b ps))) (sym is.0) (All-nil NoFeed, h)
-by-byte b ps h (inr is) = subst (λ t. AllByRecursion FeedsNone
-    (cond t (record { bytes = []; is_ended = true } ∷ ps) (onto_first b ps))) (sym is.0) (onto-no_feed b ps is.1 h)
+by-byte b ps h (inl is) = rw is.0 (All-nil NoFeed, h)
+by-byte b ps h (inr is) = rw is.0 (onto-no_feed b ps is.1 h)
 
 pieces-no_feed : (input : List ℕ) → AllByRecursion FeedsNone (pieces_of input)
 pieces-no_feed [] = tt
@@ -89,9 +87,8 @@ no_feed-without_return (b ∷ c ∷ bs) h = All-cons NoFeed b (without_return (c
 
 seen-stands : (l : InputLine) → HasNoFeed l.content → OfContent CanStand (seen l)
 seen-stands l h = by_bool (is_long l)
-    (λ long. subst (λ b. OfContent CanStand (cond b Overlong (Content l.content))) (sym long) tt)
-    (λ short. subst (λ b. OfContent CanStand (cond b Overlong (Content l.content)))
-    (sym short) (h, ltb-false LINE_LIMIT (length l.content) short))
+    (λ long. rw long tt)
+    (λ short. rw short (h, ltb-false LINE_LIMIT (length l.content) short))
 
 pieces-stand : (ps : List Piece)
     → AllByRecursion FeedsNone ps → AllByRecursion (OfContent CanStand) (map seen (map line_of ps))

@@ -1,28 +1,27 @@
 -- What was accepted of compact text: each epoch is whole, by the types in force where it was read.
-use Rattle.std.proofs.Common.{ℕ, ◌≡◌, Bool, true, false, cond, List, [], ◌∷◌, Option, Some, None, Ok, Err, refl, sym}
+use Rattle.std.proofs.Common.{ℕ, ◌≡◌, cond, List, [], ◌∷◌, None, refl}
 use Rattle.std.proofs.Common.{subst}
-use Rattle.std.specs.Prelude.{⊤, not, nat_lt}
+use Rattle.std.specs.Prelude.{⊤}
 use Rattle.std.specs.List.{AllByRecursion}
-use Rattle.crx_lines.specs.meaning.Seen.{ReadLine, Content, Overlong}
-use Rattle.crx_lines.specs.declared.fault.Fault.{Fault}
-use Rattle.crx_lines.specs.declared.fault.Fault.TheVariants.{BadEpoch}
-use Rattle.crx_rinex.specs.meaning.EpochLines.{is_event_line, records_in}
+use Rattle.crx_lines.specs.meaning.Seen.{ReadLine}
 use Rattle.crx_rinex.specs.meaning.ObservationTypes.{Count}
-use Rattle.crx_rinex.specs.meaning.Places.{Place, Here, Wrong, Wanted, one_line, first_line}
+use Rattle.crx_rinex.specs.meaning.Places.{Place, Here, Wrong, Wanted}
 use Rattle.crx_rinex.specs.meaning.Units.{Unit as FileUnit, HeaderLine, EventLine, EventRecord, Observation}
 use Rattle.crx_history.specs.meaning.Expansion.{RawEpoch}
 use Rattle.crx_history.specs.meaning.CompactPlaces.{ReadEpoch, epoch_at}
 use Rattle.crx_compact.specs.ReadingLaws.{HasPrintableMarks, IsGood}
 use Rattle.crx_compact.proofs.soundness.Goodness.{reads-whole}
-use Rattle.crx_reading.specs.meaning.Items.{Item, Accepted, Warned, is_at_start, header_has_ended, records_left}
+use Rattle.crx_reading.specs.meaning.Items.{Item, Accepted, Warned, is_at_start}
 use Rattle.crx_reading.specs.meaning.Items.{records_count_types, types_in_force}
-use Rattle.crx_reading.specs.meaning.UnitPlaces.{unless_wrong, types_fault, header_line_fault, header_line}
+use Rattle.crx_reading.specs.meaning.UnitPlaces.{types_fault, header_line_fault, header_line}
 use Rattle.crx_reading.specs.meaning.UnitPlaces.{event_record}
-use Rattle.crx_reading.specs.meaning.Expanded.{raws_kept, empties_state, event_line, as_observation}
+use Rattle.crx_reading.specs.meaning.Expanded.{raws_kept, empties_state, as_observation}
 use Rattle.crx_reading.specs.meaning.Expanded.{compact_epoch_place}
 use Rattle.crx_reading.specs.meaning.Expanded.{compact_place}
 use Rattle.crx_engine.specs.Laws.{ItemsAreRead}
 use Rattle.crx_engine.proofs.reading.Types.{counts-in_force}
+use Rattle.crx_engine.proofs.reading.WhatStands.{OfHere, chosen, first-line, unless-wrong}
+use Rattle.crx_engine.proofs.reading.WhatStands.{of-unit, of-compact}
 
 -- an epoch stood at some lines
 abbrev StoodThere : List Count → List RawEpoch → FileUnit ReadEpoch → Type 0
@@ -32,40 +31,6 @@ StoodThere types raws (EventRecord line) = ⊤
 StoodThere types raws (Observation read) = (lines : List ReadLine)
     × (count : ℕ) × (epoch_at types raws lines ≡ Here read count)
 
-abbrev OfHere : (FileUnit ReadEpoch → Type 0) → Place (FileUnit ReadEpoch) → Type 0
-OfHere P (Here unit count) = P unit
-OfHere P (Wrong offset fault) = ⊤
-OfHere P Wanted = ⊤
-
-chosen : {A : Type 0} (P : A → Type 0) (b : Bool) (x y : A) → P x → P y → P (cond b x y)
-chosen P true x y h k = h
-chosen P false x y h k = k
-
-copied : (P : FileUnit ReadEpoch → Type 0) (unit : FileUnit ReadEpoch) (wrong : Option Fault)
-    → P unit → OfHere P (one_line (unless_wrong unit wrong))
-copied P unit None h = h
-copied P unit (Some fault) h = tt
-
-header-stood : (P : FileUnit ReadEpoch → Type 0) (is_first : Bool) (lines : List ReadLine)
-    → ((line : List ℕ) → P (HeaderLine line)) → OfHere P (first_line lines (header_line is_first))
-header-stood P is_first [] h = tt
-header-stood P is_first (Overlong ∷ lines) h = tt
-header-stood P is_first (Content line ∷ lines) h = copied P (HeaderLine line) (header_line_fault is_first line) (h line)
-
-record-stood : (P : FileUnit ReadEpoch → Type 0) (counts : Bool) (lines : List ReadLine)
-    → ((line : List ℕ) → P (EventRecord line)) → OfHere P (first_line lines (event_record counts))
-record-stood P counts [] h = tt
-record-stood P counts (Overlong ∷ lines) h = tt
-record-stood P counts (Content line ∷ lines) h =
-    copied P (EventRecord line) (cond counts (types_fault line) None) (h line)
-
-event-stood : (types : List Count) (raws : List RawEpoch) (line : List ℕ) (o : Option ℕ)
-    → records_in line ≡ o → OfHere (StoodThere types raws) (one_line (event_line line))
-event-stood types raws line None e = let same : event_line {E = ReadEpoch} line ≡ Err BadEpoch =
-    rw (e, event_line) refl in subst (λ r. OfHere (StoodThere types raws) (one_line r)) (sym same) tt
-event-stood types raws line (Some n) e = let same : event_line {E = ReadEpoch} line ≡ Ok (EventLine line) =
-    rw (e, event_line) refl in subst (λ r. OfHere (StoodThere types raws) (one_line r)) (sym same) tt
-
 epoch-stood : (types : List Count) (raws : List RawEpoch) (lines : List ReadLine) (p : Place ReadEpoch)
     → epoch_at types raws lines ≡ p → OfHere (StoodThere types raws) (as_observation p)
 epoch-stood types raws lines (Here read count) e = (lines, count, e)
@@ -74,27 +39,22 @@ epoch-stood types raws lines Wanted e = tt
 
 begun-stood : (types : List Count) (raws : List RawEpoch) (lines : List ReadLine)
     → OfHere (StoodThere types raws) (compact_epoch_place types raws lines)
-begun-stood types raws [] = tt
-begun-stood types raws (Overlong ∷ lines) =
-    epoch-stood types raws (Overlong ∷ lines) (epoch_at types raws (Overlong ∷ lines)) refl
-begun-stood types raws (Content line ∷ lines) =
-    chosen (OfHere (StoodThere types raws))
-    (is_event_line line) (one_line (event_line line)) (as_observation (epoch_at types raws (Content line ∷ lines)))
-    (event-stood types raws line (records_in line) refl)
-    (epoch-stood types raws (Content line ∷ lines) (epoch_at types raws (Content line ∷ lines)) refl)
+begun-stood types raws lines =
+    of-compact (OfHere (StoodThere types raws)) types raws lines tt tt (λ line rest e. tt)
+    (epoch-stood types raws lines (epoch_at types raws lines) refl)
 
 unit-stood : (items : List (Item ReadEpoch)) (lines : List ReadLine)
     → OfHere (StoodThere (types_in_force items) (raws_kept items)) (compact_place items lines)
 unit-stood items lines =
     let P : FileUnit ReadEpoch → Type 0 = StoodThere (types_in_force items) (raws_kept items) in
-    chosen (OfHere P) (not (header_has_ended items)) (first_line lines (header_line (is_at_start items)))
-    (cond (nat_lt 0 (records_left items)) (first_line lines (event_record (records_count_types items)))
-    (compact_epoch_place (types_in_force items) (raws_kept items) lines))
-    (header-stood P (is_at_start items) lines (λ line. tt))
-    (chosen (OfHere P) (nat_lt 0 (records_left items)) (first_line lines (event_record (records_count_types items)))
-    (compact_epoch_place (types_in_force items) (raws_kept items) lines)
-    (record-stood P (records_count_types items) lines (λ line. tt))
-    (begun-stood (types_in_force items) (raws_kept items) lines))
+    of-unit (OfHere P) (λ (before : List (Item ReadEpoch)).
+    compact_epoch_place (types_in_force before) (raws_kept before)) items lines
+    (first-line P (header_line (is_at_start items)) lines
+    (λ line. unless-wrong P (HeaderLine line) (header_line_fault (is_at_start items) line) (λ good. tt)))
+    (first-line P (event_record (records_count_types items)) lines
+    (λ line. unless-wrong P (EventRecord line)
+    (cond (records_count_types items) (types_fault line) None) (λ good. tt)))
+    (begun-stood (types_in_force items) (raws_kept items) lines)
 
 -- an epoch that was accepted stood at some lines
 pub epoch-read : (before : List (Item ReadEpoch)) (read : ReadEpoch) (lines : List ReadLine) (count : ℕ)
@@ -127,9 +87,6 @@ marks-printable (Warned at ∷ before) h = tt
 
 pub epochs-good : (items : List (Item ReadEpoch)) → ItemsAreRead compact_place items → AreGoodEpochs items
 epochs-good [] h = tt
-epochs-good (Accepted (HeaderLine line) ∷ before) h = epochs-good before h.1
-epochs-good (Accepted (EventLine line) ∷ before) h = epochs-good before h.1
-epochs-good (Accepted (EventRecord line) ∷ before) h = epochs-good before h.1
 epochs-good (Accepted (Observation read) ∷ before) h =
     let rest : AreGoodEpochs before = epochs-good before h.1 in
     let stood = epoch-read before read (h.0).0 (h.0).1 (h.0).2 in (
@@ -137,4 +94,5 @@ epochs-good (Accepted (Observation read) ∷ before) h =
           (raws_kept before) stood.0 read stood.1 (counts-in_force before) (marks-printable before rest) stood.2,
       rest,
     )
+epochs-good (Accepted unit ∷ before) h = epochs-good before h.1
 epochs-good (Warned at ∷ before) h = epochs-good before h.1

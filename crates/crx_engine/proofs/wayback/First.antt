@@ -56,8 +56,8 @@ printable-other c d isn_t is_so is = let same : is_printable c ≡ is_printable 
 pub printable-no_feed : (line : List ℕ) → list_all is_printable line ≡ true → HasNoFeed line
 printable-no_feed [] h = All-nil NoFeed
 printable-no_feed (c ∷ cs) h =
-    All-cons NoFeed c cs (printable-other c 10 refl (and_parts (is_printable c) (list_all is_printable cs) h).0)
-    (printable-no_feed cs (and_parts (is_printable c) (list_all is_printable cs) h).1)
+    let both = and_parts (is_printable c) _ h in
+    All-cons NoFeed c cs (printable-other c 10 refl both.0) (printable-no_feed cs both.1)
 
 pub printable-no_return : (line : List ℕ) → list_all is_printable line ≡ true → ends_with_return line ≡ false
 printable-no_return [] h = refl
@@ -68,16 +68,16 @@ printable-no_return (c ∷ d ∷ ds) h =
 pub append-printable : (a b : List ℕ)
     → list_all is_printable a ≡ true → list_all is_printable b ≡ true → list_all is_printable (a ++ b) ≡ true
 append-printable [] b h k = k
-append-printable (c ∷ cs) b h k = and_from
-    (is_printable c) (list_all is_printable (cs ++ b)) (and_parts (is_printable c) (list_all is_printable cs) h).0
-    (append-printable cs b (and_parts (is_printable c) (list_all is_printable cs) h).1 k)
+append-printable (c ∷ cs) b h k =
+    let both = and_parts (is_printable c) _ h in
+    and_from (is_printable c) (list_all is_printable (cs ++ b)) both.0 (append-printable cs b both.1 k)
 
 pub take-printable : (n : ℕ) (a : List ℕ) → list_all is_printable a ≡ true → list_all is_printable (take n a) ≡ true
 take-printable zero a h = refl
 take-printable (suc n) [] h = refl
 take-printable (suc n) (c ∷ cs) h =
-    and_from (is_printable c) (list_all is_printable (take n cs)) (and_parts (is_printable c)
-    (list_all is_printable cs) h).0 (take-printable n cs (and_parts (is_printable c) (list_all is_printable cs) h).1)
+    let both = and_parts (is_printable c) _ h in
+    and_from (is_printable c) (list_all is_printable (take n cs)) both.0 (take-printable n cs both.1)
 
 pub program-printable : (date : List ℕ) → is_date date ≡ true → list_all is_printable (program_line date) ≡ true
 program-printable date h =

@@ -1,6 +1,6 @@
 -- What was accepted by a compaction, and how its compact text is read: the same header, events and types in force.
 use Rattle.std.proofs.Common.{ℕ, ◌≡◌, ◌+◌, Bool, true, false, cond, List, [], ◌∷◌, ◌++◌, map, length, Option, Some}
-use Rattle.std.proofs.Common.{None, Ok, refl, ap, sym, ◌∙◌, arith, subst, append-nil}
+use Rattle.std.proofs.Common.{None, Ok, refl, ap, sym, ◌∙◌, arith, append-nil}
 use Rattle.std.specs.Prelude.{◌||◌, drop}
 use Rattle.std.specs.Option.{is_some}
 use Rattle.std.proofs.lemmas.List.{length-map}
@@ -13,12 +13,11 @@ use Rattle.crx_rinex.specs.meaning.ObservationTypes.{Count}
 use Rattle.crx_history.specs.meaning.Compaction.{Marked, since_full, run_of, satellite_line, compact_epoch, epoch_line}
 use Rattle.crx_history.specs.meaning.Expansion.{RawEpoch, block_of}
 use Rattle.crx_history.specs.meaning.CompactPlaces.{ReadEpoch, epoch_at}
-use Rattle.crx_arcs.specs.meaning.Sequences.{back_to}
 use Rattle.crx_compact.specs.Laws.{AreWhole, LinesCanStand}
 use Rattle.crx_compact.specs.ReadingLaws.{raws_of, read_of, lines_of_epoch, EpochReadsBack}
 use Rattle.crx_compact.proofs.wayback.Reading.{each-reads_back}
 use Rattle.crx_compact.proofs.wayback.Standing.{lines-stand}
-use Rattle.crx_reading.specs.meaning.Items.{Item, Accepted, Warned, records_left, types_in_force}
+use Rattle.crx_reading.specs.meaning.Items.{Item, Accepted, records_left, types_in_force}
 use Rattle.crx_reading.specs.meaning.UnitPlaces.{types_fault, header_line_fault}
 use Rattle.crx_reading.specs.meaning.Compacted.{is_interrupted, is_at_every, is_in_full, marked_epochs, epochs_accepted}
 use Rattle.crx_reading.specs.meaning.Expanded.{raws_kept, event_line, as_observation, compact_epoch_place}
@@ -63,20 +62,13 @@ not-interrupted every before e = either-false (is_interrupted before) (is_at_eve
 -- they are whole by the types in force: types change only at an event, and the next epoch after it stands in full
 whole-since : (every : Option ℕ) (items : List (Item Epoch)) → AreInPlace items
     → is_interrupted items ≡ false → AreWhole (types_in_force items) (since_full (marked_epochs every items))
-whole-since every [] h e = absurd (cc)
-whole-since every (Accepted (HeaderLine line) ∷ before) h e = absurd (cc)
-whole-since every (Accepted (EventLine line) ∷ before) h e = absurd (cc)
-whole-since every (Accepted (EventRecord line) ∷ before) h e = absurd (cc)
 whole-since every (Accepted (Observation epoch) ∷ before) h e = (
   (h.0).2,
   by_bool (is_in_full every before)
-      (λ on. subst (λ b. AreWhole (types_in_force before) (map (λ (m : Marked). m.epoch)
-      (cond b [] (back_to (λ (m : Marked). m.in_full) (marked_epochs every before))))) (sym on) tt)
-      (λ off. subst (λ b. AreWhole (types_in_force before) (map
-      (λ (m : Marked). m.epoch) (cond b [] (back_to (λ (m : Marked). m.in_full) (marked_epochs every before)))))
-      (sym off) (whole-since every before h.1 (not-interrupted every before off))),
+      (λ on. rw on tt)
+      (λ off. rw off (whole-since every before h.1 (not-interrupted every before off))),
 )
-whole-since every (Warned at ∷ before) h e = absurd (cc)
+whole-since every items h e = absurd (cc)
 
 pub whole-next : (every : Option ℕ) (before : List (Item Epoch)) (epoch : Epoch)
     → AreInPlace (Accepted (Observation epoch) ∷ before)
@@ -86,15 +78,11 @@ whole-next every before epoch h = whole-since every (Accepted (Observation epoch
 -- the reader's block is that of the epochs written so far, where the next epoch may go on from them
 block-same : (every : Option ℕ) (items : List (Item Epoch)) → AreInPlace items → is_interrupted items ≡ false
     → block_of (raws_kept (read_back every items)) ≡ block_of (raws_of (marked_epochs every items))
-block-same every [] h e = absurd (cc)
-block-same every (Accepted (HeaderLine line) ∷ before) h e = absurd (cc)
-block-same every (Accepted (EventLine line) ∷ before) h e = absurd (cc)
-block-same every (Accepted (EventRecord line) ∷ before) h e = absurd (cc)
 block-same every (Accepted (Observation epoch) ∷ before) h e =
     EpochReadsBack.block (each-reads_back (types_in_force before) (marked_now every before epoch)
     (marked_epochs every before) (raws_kept (read_back every before)) (whole-next every before epoch h)
     (λ full. block-same every before h.1 (not-interrupted every before full)))
-block-same every (Warned at ∷ before) h e = absurd (cc)
+block-same every items h e = absurd (cc)
 
 -- an epoch's lines are read as the epoch
 epoch-back : (every : Option ℕ) (before : List (Item Epoch)) (epoch : Epoch)

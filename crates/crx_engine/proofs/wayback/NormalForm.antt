@@ -1,6 +1,6 @@
 -- The normal form of a file reads as the file, is standard, and is its own normal form.
-use Rattle.std.proofs.Common.{ℕ, zero, suc, ◌≡◌, ◌+◌, ◌*◌, ◌≤◌, true, false, cond, List, [], ◌∷◌, ◌++◌, map, length}
-use Rattle.std.proofs.Common.{drop, Option, Some, None, refl, ap, sym, ◌∙◌, arith, append-nil}
+use Rattle.std.proofs.Common.{ℕ, ◌≡◌, ◌+◌, ◌*◌, ◌≤◌, true, false, cond, List, [], ◌∷◌, ◌++◌, map, length}
+use Rattle.std.proofs.Common.{Option, Some, None, refl, ap, sym, ◌∙◌, arith, append-nil}
 use Rattle.std.specs.Prelude.{All}
 use Rattle.std.specs.List.{AllByRecursion, list_all}
 use Rattle.std.specs.Option.{is_some}
@@ -10,24 +10,24 @@ use Rattle.std.proofs.lemmas.Bool.{and_parts}
 use Rattle.crx_lines.specs.meaning.Lines.{InputLine, lines_of}
 use Rattle.crx_lines.specs.meaning.Seen.{ReadLine, Content, seen}
 use Rattle.crx_text.specs.meaning.Numbers.{clock_text}
-use Rattle.crx_columns.specs.meaning.Columns.{without_end_blanks, character_at}
+use Rattle.crx_columns.specs.meaning.Columns.{without_end_blanks}
 use Rattle.crx_lines.specs.declared.fault.Fault.{Fault}
 use Rattle.crx_lines.specs.declared.limits.TheConstants.{LINE_LIMIT, TYPES_LIMIT}
 use Rattle.crx_rinex.specs.meaning.Observations.{Row, Epoch}
 use Rattle.crx_rinex.specs.meaning.ObservationTypes.{Count}
-use Rattle.crx_rinex.specs.meaning.EpochLines.{begins_epoch, is_event_flag, is_event_line, records_in, event_head}
-use Rattle.crx_rinex.specs.meaning.EpochLines.{head_of, satellites_of}
+use Rattle.crx_rinex.specs.meaning.EpochLines.{begins_epoch, is_event_line, records_in}
+use Rattle.crx_rinex.specs.meaning.EpochLines.{satellites_of}
 use Rattle.crx_rinex.specs.meaning.SatelliteLines.{IsSoundRow}
 use Rattle.crx_rinex.specs.meaning.Epochs.{IsWholeEpoch}
-use Rattle.crx_rinex.specs.meaning.EpochPlaces.{begun_by, unit_begun, epoch_place}
-use Rattle.crx_rinex.specs.meaning.Places.{Place, Here, then_place, one_line}
+use Rattle.crx_rinex.specs.meaning.EpochPlaces.{epoch_place}
+use Rattle.crx_rinex.specs.meaning.Places.{Place, Here}
 use Rattle.crx_rinex.specs.meaning.Printing.{printed_cells, printed_row, printed_epoch, lines_text}
 use Rattle.crx_rinex.specs.meaning.Units.{Unit as FileUnit, HeaderLine, EventLine, EventRecord, Observation}
 use Rattle.crx_rinex.specs.meaning.Units.{printed_unit}
 use Rattle.crx_rinex.proofs.ReadingBack.{epoch-back, length-row, length-head}
 use Rattle.crx_reading.specs.meaning.Items.{Item, Accepted, Warned, records_left, types_in_force}
 use Rattle.crx_reading.specs.meaning.UnitPlaces.{types_fault, header_line_fault}
-use Rattle.crx_reading.specs.meaning.Reading.{Reading, WholeReading, Stop, AtFault, AtLines, Looking, reading_within}
+use Rattle.crx_reading.specs.meaning.Reading.{Reading, WholeReading, Stop, AtLines}
 use Rattle.crx_reading.specs.meaning.Reading.{fault_at_end, ended_with, ended_reading}
 use Rattle.crx_reading.specs.meaning.Messages.{warnings_in}
 use Rattle.crx_reading.specs.meaning.Compacted.{rinex_place, whole_rinex}
@@ -36,7 +36,7 @@ use Rattle.crx_reading.specs.meaning.Standard.{printed_items, whole_of, normal_f
 use Rattle.crx_engine.specs.Laws.{AreInPlace}
 use Rattle.crx_reading.specs.meaning.WayBack.{OfCopiedLines, HaveNoReturns}
 use Rattle.crx_engine.specs.NormalForm.{IsReadAsNormal, IsStandardAsNormal, IsNormalForGood}
-use Rattle.crx_engine.proofs.reading.Resuming.{by_place, within-here, within-wrong, within-wanted, fault-ends}
+use Rattle.crx_engine.proofs.reading.KeptThroughout.{within-kept}
 use Rattle.crx_engine.proofs.reading.Forward.{rinex-forward}
 use Rattle.crx_engine.proofs.following.Following.{body-place}
 use Rattle.crx_engine.proofs.wayback.Carried.{carried_unit, carried, header-same, start-same, left-same, count-same}
@@ -62,13 +62,8 @@ event-stands : (types : List Count) (line : List ℕ) (o : Option ℕ) → recor
     → is_some o ≡ true → is_event_line line ≡ true → epoch_place types (Content line ∷ []) ≡ Here (EventLine line) 1
 event-stands types line None e h event = absurd (cc)
 event-stands types line (Some n) e h event =
-    let begins : begins_epoch line ≡ true =
-    (and_parts (begins_epoch line) (is_event_flag (character_at line 32)) event).0 in
-    let flag : is_event_flag (character_at line 32) ≡ true =
-    (and_parts (begins_epoch line) (is_event_flag (character_at line 32)) event).1 in
-    let head : head_of line ≡ event_head (character_at line 32) (records_in line) = rw (begins, flag) refl in
-    ap (λ r. then_place (one_line (begun_by line r)) (Content line ∷ []) (unit_begun types)) (head
-    ∙ ap (event_head (character_at line 32)) e)
+    let both = and_parts (begins_epoch line) _ event in
+    rw (both.0, both.1, e) refl
 
 pub stands : StandsAgain rinex_place same_epoch (λ before. printed_unit)
 stands before (HeaderLine line) h =
@@ -102,32 +97,23 @@ none-at-end items number (Some fault) = refl
 
 none-ended : (items : List (Item Epoch)) (stop : Stop)
     → warnings_in (WholeReading.items (ended_reading false (record { items = items; stop = stop }))) ≡ warnings_in items
-none-ended items (AtFault at) = refl
 none-ended items (AtLines number lines) = none-at-end items (number + length lines) (fault_at_end items lines)
-none-ended items (Looking number) = refl
-
-within-none : (units : ℕ) (items : List (Item Epoch)) (number : ℕ) (lines : List ReadLine) → warnings_in items ≡ []
-    → warnings_in (Reading.items (reading_within rinex_place false units items number lines)) ≡ []
-within-none zero items number lines h = h
-within-none (suc units) items number lines h = by_place (rinex_place items lines)
-    (λ unit count e. ap (λ (r : Reading Epoch). warnings_in r.items) (within-here rinex_place false units items
-    number lines unit count e) ∙ within-none units (Accepted unit ∷ items) (number + count) (drop count lines) h)
-    (λ offset fault e. ap (λ (r : Reading Epoch). warnings_in r.items)
-    (within-wrong rinex_place false units items number lines offset fault e
-    ∙ fault-ends false (reading_within rinex_place false units) items number lines offset fault refl) ∙ h)
-    (λ e. ap (λ (r : Reading Epoch). warnings_in r.items)
-    (within-wanted rinex_place false units items number lines e) ∙ h)
+none-ended items stop = refl
 
 whole-none : (lines : List ReadLine) → warnings_in (WholeReading.items (whole_rinex false lines)) ≡ []
 whole-none lines =
     let r : Reading Epoch = rinex_reading false lines in
-    none-ended r.items r.stop ∙ within-none (length lines + 1) [] 1 lines refl
+    let kept = within-kept rinex_place false (λ items ls. warnings_in items ≡ [])
+    (record {
+      here = λ items ls unit count e h. h;
+      warned = λ items ls at on h. absurd (cc);
+      passed = λ items ls n h. h;
+    }) (length lines + 1) [] 1 lines refl in
+    none-ended r.items r.stop ∙ kept.1
 
 unit-same : (before : List (Item Epoch)) (unit : FileUnit Epoch) → carried_unit same_epoch before unit ≡ unit
-unit-same before (HeaderLine line) = refl
-unit-same before (EventLine line) = refl
-unit-same before (EventRecord line) = refl
 unit-same before (Observation epoch) = refl
+unit-same before unit = refl
 
 accepted-all : (items : List (Item Epoch)) → warnings_in items ≡ [] → accepted items ≡ items
 accepted-all [] h = refl
@@ -168,15 +154,11 @@ epoch-short types epoch h =
 printed-short : (items : List (Item Epoch))
     → AreInPlace items → OfCopiedLines CanStand items → AllByRecursion IsShort (printed_items items)
 printed-short [] h k = tt
-printed-short (Accepted (HeaderLine line) ∷ before) h k =
-    append-short (printed_items before) (line ∷ []) (printed-short before h.1 k.1) ((k.0).1, tt)
-printed-short (Accepted (EventLine line) ∷ before) h k =
-    append-short (printed_items before) (line ∷ []) (printed-short before h.1 k.1) ((k.0).1, tt)
-printed-short (Accepted (EventRecord line) ∷ before) h k =
-    append-short (printed_items before) (line ∷ []) (printed-short before h.1 k.1) ((k.0).1, tt)
 printed-short (Accepted (Observation epoch) ∷ before) h k =
     append-short (printed_items before)
     (printed_epoch epoch) (printed-short before h.1 k.1) (epoch-short (types_in_force before) epoch (h.0).2)
+printed-short (Accepted unit ∷ before) h k =
+    append-short (printed_items before) (printed_unit unit) (printed-short before h.1 k.1) ((k.0).1, tt)
 printed-short (Warned at ∷ before) h k = printed-short before h.1 k
 
 both-clean : (lines : List (List ℕ))

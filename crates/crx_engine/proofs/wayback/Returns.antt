@@ -1,7 +1,7 @@
 -- The bytes 13 of a file on the way to compact text and back: they never become more, and fewer where a copied line
 -- ends in CR. So a file that comes back has no such line.
-use Rattle.std.proofs.Common.{ℕ, zero, suc, ◌≡◌, ◌+◌, ◌<◌, ◌≤◌, true, false, cond, List, [], ◌∷◌, ◌++◌, map, take, drop}
-use Rattle.std.proofs.Common.{refl, ap, sym, ◌∙◌, arith, subst, append_assoc}
+use Rattle.std.proofs.Common.{ℕ, zero, suc, ◌≡◌, ◌+◌, ◌<◌, ◌≤◌, true, cond, List, [], ◌∷◌, ◌++◌, map}
+use Rattle.std.proofs.Common.{take, drop, refl, arith, append_assoc}
 use Rattle.std.specs.Prelude.{◌==◌}
 use Rattle.std.specs.List.{AllByRecursion, list_all}
 use Rattle.std.proofs.lemmas.Bool.{ne_eqb, and_parts}
@@ -42,10 +42,9 @@ returns-fewer (b ∷ c ∷ bs) e = let rest : returns (without_return (c ∷ bs)
 pub printable-none : (text : List ℕ) → list_all is_printable text ≡ true → returns text ≡ 0
 printable-none [] h = refl
 printable-none (c ∷ cs) h =
-    let other : (c == 13) ≡ false =
-    ne_eqb c 13 (printable-other c 13 refl (and_parts (is_printable c) (list_all is_printable cs) h).0) in
-    let rest : returns cs ≡ 0 = printable-none cs (and_parts (is_printable c) (list_all is_printable cs) h).1 in
-    rw (other, rest) refl
+    let both = and_parts (is_printable c) _ h in
+    let other = ne_eqb c 13 (printable-other c 13 refl both.0) in
+    rw (other, printable-none cs both.1) refl
 
 -- ---- of lines that are written
 
@@ -117,10 +116,10 @@ of-pieces [] = omega arith
 of-pieces (b ∷ bs) =
     let rest : returns_of (pieces_of bs) ≤ returns bs = of-pieces bs in
     by_bool (b == 10)
-    (λ on. subst (λ t. returns_of (cond t (record { bytes = []; is_ended = true } ∷ pieces_of bs)
-    (onto_first b (pieces_of bs))) ≤ returns (b ∷ bs)) (sym on) (omega (arith, rest)))
-    (λ off. subst (λ t. returns_of (cond t (record { bytes = []; is_ended = true } ∷ pieces_of bs) (onto_first b
-    (pieces_of bs))) ≤ returns (b ∷ bs)) (sym off) (let one = onto b (pieces_of bs) in omega (arith, rest, one)))
+    (λ on. rw on (omega (arith, rest)))
+    (λ off.
+    let one = onto b (pieces_of bs) in
+    rw off (omega (arith, rest, one)))
 
 -- what is read of an input has no more than the input
 pub read-input : (input : List ℕ) → returns_read (map seen (lines_of input)) ≤ returns input
@@ -158,11 +157,7 @@ read-written (line ∷ lines) h =
       bytes = line;
       is_ended = true;
     } ∷ pieces_of (lines_text lines) = pieces-first line (lines_text lines) h.0 in
-    let same : map seen (lines_of (lines_text (line ∷ lines)))
-    ≡ seen (line_of (record { bytes = line; is_ended = true })) ∷ map seen (lines_of (lines_text lines)) =
-    ap (λ t. map seen (lines_of t)) text ∙ ap (λ ps. map seen (map line_of ps)) pieces in
-    let one : returns_read (seen (line_of (record { bytes = line; is_ended = true })) ∷ map seen (lines_of
-    (lines_text lines))) ≤ returns (without_return line) + returns_read (map seen (lines_of (lines_text lines))) =
-    read-one (line_of (record { bytes = line; is_ended = true })) (map seen (lines_of (lines_text lines))) in
-    let rest : returns_read (map seen (lines_of (lines_text lines))) ≤ returns_left lines = read-written lines h.1 in
-    subst (λ ls. returns_read ls ≤ returns_left (line ∷ lines)) (sym same) (omega (arith, one, rest))
+    let read : InputLine = line_of (record { bytes = line; is_ended = true }) in
+    let one = read-one read (map seen (lines_of (lines_text lines))) in
+    let rest = read-written lines h.1 in
+    rw (text, pieces) (omega (arith, one, rest))

@@ -1,16 +1,14 @@
 -- A file comes back byte for byte only where no copied line ends in CR: else it comes back with fewer bytes 13. So it
 -- is standard.
-use Rattle.std.proofs.Common.{ℕ, ◌≡◌, ◌+◌, ◌<◌, ◌≤◌, Bool, true, false, cond, List, [], ◌∷◌, ◌++◌, map, length, drop}
-use Rattle.std.proofs.Common.{Option, Some, None, refl, ap, sym, ◌∙◌, arith, subst, ◌⊎◌, inl, inr}
+use Rattle.std.proofs.Common.{ℕ, ◌≡◌, ◌+◌, ◌<◌, ◌≤◌, Bool, true, false, List, [], ◌∷◌, ◌++◌, map}
+use Rattle.std.proofs.Common.{length, drop, Option, Some, None, refl, ap, sym, ◌∙◌, arith, ◌⊎◌, inl, inr}
 use Rattle.std.specs.List.{AllByRecursion, list_all}
 use Rattle.crx_lines.specs.Reading.{HasNoFeed}
 use Rattle.crx_lines.specs.meaning.Lines.{ends_with_return, without_return, lines_of}
 use Rattle.crx_lines.specs.meaning.Seen.{ReadLine, seen}
 use Rattle.crx_columns.specs.meaning.Texts.{is_printable}
 use Rattle.crx_lines.specs.declared.fault.Fault.{Fault}
-use Rattle.crx_lines.specs.declared.fault.At.{At}
 use Rattle.crx_rinex.specs.meaning.Observations.{Epoch}
-use Rattle.crx_rinex.specs.meaning.Places.{Here, Wrong, Wanted}
 use Rattle.crx_rinex.specs.meaning.Printing.{printed_epoch, lines_text}
 use Rattle.crx_rinex.specs.meaning.Units.{HeaderLine, EventLine, EventRecord, Observation}
 use Rattle.crx_history.specs.meaning.CompactPlaces.{ReadEpoch}
@@ -19,18 +17,19 @@ use Rattle.crx_compact.specs.Laws.{LinesCanStand}
 use Rattle.crx_compact.specs.ReadingLaws.{IsGood}
 use Rattle.crx_reading.specs.meaning.Choices.{Choices, is_date}
 use Rattle.crx_reading.specs.meaning.Items.{Item, Accepted, Warned, types_in_force}
-use Rattle.crx_reading.specs.meaning.Reading.{WholeReading, Stop, AtFault, AtLines, Looking, is_skipped, reading_from}
+use Rattle.crx_reading.specs.meaning.Reading.{WholeReading, Stop, AtLines, is_skipped, reading_from}
 use Rattle.crx_reading.specs.meaning.Reading.{fault_at_end, ended_with, ended_reading}
 use Rattle.crx_reading.specs.meaning.Results.{FilterResult}
 use Rattle.crx_reading.specs.meaning.Compacted.{version_line, program_line, marked_epochs, compact_lines, compacted}
-use Rattle.crx_reading.specs.meaning.Expanded.{compact_place, first_lines, fault_in_first_lines, whole_compact}
-use Rattle.crx_reading.specs.meaning.Expanded.{expanded}
+use Rattle.crx_reading.specs.meaning.Expanded.{compact_place, first_lines, whole_compact}
+use Rattle.crx_reading.specs.meaning.Expanded.{expanded, expanded_unit}
 use Rattle.crx_engine.specs.Expanded.{expanded_lines}
 use Rattle.crx_reading.specs.meaning.Standard.{whole_of}
 use Rattle.crx_engine.specs.Laws.{AreInPlace}
 use Rattle.crx_reading.specs.meaning.WayBack.{OfCopiedLines, HaveNoReturns}
 use Rattle.crx_engine.specs.WayBack.{IsStandardWhereSame}
 use Rattle.crx_reading.proofs.Choosing.{by_bool}
+use Rattle.crx_engine.proofs.reading.WhatStands.{by_first}
 use Rattle.crx_engine.proofs.reading.WhatWasRead.{items-read}
 use Rattle.crx_engine.proofs.wayback.Carried.{started}
 use Rattle.crx_engine.proofs.wayback.WayBack.{IsSettled, whole-settled, lines-same}
@@ -51,21 +50,6 @@ use Rattle.crx_engine.proofs.wayback.ReturnsRead.{returns_copied, rinex-within, 
 written-returns : (items : List (Item ReadEpoch))
     → AreGoodEpochs items → returns_in (expanded_lines items) ≡ returns_copied items
 written-returns [] h = refl
-written-returns (Accepted (HeaderLine line) ∷ before) h =
-    let all : returns_in (expanded_lines before ++ line ∷ [])
-    ≡ returns_in (expanded_lines before) + returns_in (line ∷ []) = in-append (expanded_lines before) (line ∷ []) in
-    let rest : returns_in (expanded_lines before) ≡ returns_copied before = written-returns before h in
-    omega (arith, all, rest)
-written-returns (Accepted (EventLine line) ∷ before) h =
-    let all : returns_in (expanded_lines before ++ line ∷ [])
-    ≡ returns_in (expanded_lines before) + returns_in (line ∷ []) = in-append (expanded_lines before) (line ∷ []) in
-    let rest : returns_in (expanded_lines before) ≡ returns_copied before = written-returns before h in
-    omega (arith, all, rest)
-written-returns (Accepted (EventRecord line) ∷ before) h =
-    let all : returns_in (expanded_lines before ++ line ∷ [])
-    ≡ returns_in (expanded_lines before) + returns_in (line ∷ []) = in-append (expanded_lines before) (line ∷ []) in
-    let rest : returns_in (expanded_lines before) ≡ returns_copied before = written-returns before h in
-    omega (arith, all, rest)
 written-returns (Accepted (Observation read) ∷ before) h =
     let all : returns_in (expanded_lines before ++ printed_epoch read.epoch) ≡ returns_in (expanded_lines before)
     + returns_in (printed_epoch read.epoch) = in-append (expanded_lines before) (printed_epoch read.epoch) in
@@ -73,40 +57,34 @@ written-returns (Accepted (Observation read) ∷ before) h =
     (printed_epoch read.epoch) (epoch-printable (types_in_force before) read.epoch (IsGood.whole h.0)) in
     let rest : returns_in (expanded_lines before) ≡ returns_copied before = written-returns before h.1 in
     omega (arith, all, none, rest)
+written-returns (Accepted unit ∷ before) h =
+    let all : returns_in (expanded_lines (Accepted unit ∷ before))
+    ≡ returns_in (expanded_lines before) + returns_in (expanded_unit before unit) =
+    in-append (expanded_lines before) (expanded_unit before unit) in
+    let rest = written-returns before h in
+    omega (arith, all, rest)
 written-returns (Warned at ∷ before) h = written-returns before h
 
 end-good : (skip : Bool) (items : List (Item ReadEpoch)) (number : ℕ) (o : Option Fault)
     → AreGoodEpochs items → AreGoodEpochs (WholeReading.items (ended_with skip items number o))
 end-good skip items number None h = h
 end-good skip items number (Some fault) h =
-    let at : At = record { line = number; fault = fault } in
-    elim (is_skipped skip items fault) as (λ b. AreGoodEpochs (WholeReading.items
-    (cond b (record { items = Warned at ∷ items; fault = None }) (record { items = items; fault = Some at }))))
-    [ true ↦ h | false ↦ h ]
+    by_bool (is_skipped skip items fault) (λ on. rw on h) (λ off. rw off h)
 
 ended-good : (skip : Bool) (items : List (Item ReadEpoch)) (stop : Stop) → AreGoodEpochs items
     → AreGoodEpochs (WholeReading.items (ended_reading skip (record { items = items; stop = stop })))
-ended-good skip items (AtFault at) h = h
 ended-good skip items (AtLines number lines) h =
     end-good skip items (number + length lines) (fault_at_end items lines) h
-ended-good skip items (Looking number) h = h
+ended-good skip items stop h = h
 
 pub whole-good : (skip : Bool) (lines : List ReadLine) → AreGoodEpochs (WholeReading.items (whole_compact skip lines))
-whole-good skip lines = elim (first_lines lines) as (λ p. AreGoodEpochs (WholeReading.items (elim p [
-  | Here two count ↦ ended_reading skip (reading_from compact_place skip [] (count + 1) (drop count lines))
-  | Wrong offset fault ↦ record { items = []; fault = Some (record { line = offset + 1; fault = fault }) }
-  | Wanted ↦ record {
-    items = [];
-    fault = Some (record { line = length lines + 1; fault = fault_in_first_lines (length lines) });
-  }
-]))) [
-  | Here two count ↦
-      let r = reading_from compact_place skip [] (count + 1) (drop count lines) in
-      ended-good skip r.items r.stop
-      (epochs-good r.items (items-read compact_place skip (count + 1) (drop count lines)))
-  | Wrong offset fault ↦ tt
-  | Wanted ↦ tt
-]
+whole-good skip lines = by_first (first_lines lines)
+    (λ two count e.
+    let r = reading_from compact_place skip [] (count + 1) (drop count lines) in
+    rw (e, whole_compact) (ended-good skip r.items r.stop
+    (epochs-good r.items (items-read compact_place skip (count + 1) (drop count lines)))))
+    (λ offset fault e. rw (e, whole_compact) tt)
+    (λ e. rw (e, whole_compact) tt)
 
 -- an expansion writes no more of them than it reads
 expanded-returns : (text : List ℕ) (choices : Choices)
@@ -119,7 +97,7 @@ expanded-returns text choices =
     written-returns items (whole-good choices.skip (map seen (lines_of text))) in
     let three : returns_copied items ≤ returns_read (map seen (lines_of text)) =
     compact-within choices.skip (map seen (lines_of text)) in
-    subst (λ n. n ≤ returns_read (map seen (lines_of text))) (sym (one ∙ two)) three
+    omega (arith, one, two, three)
 
 -- ---- compact text
 
@@ -237,8 +215,7 @@ compacted-returns choices items dated h =
     read-written lines
     (IsClean.one_line version-clean, (IsClean.one_line (program-clean choices.date dated), back.no_feed)) in
     let rest : returns_left (lines_back choices.every items) ≤ left_copied items = back.left in
-    subst (λ ls. returns_read (map seen (lines_of (lines_text ls))) ≤ left_copied items)
-    (sym same) (omega (arith, one, two, read, rest))
+    rw same (omega (arith, one, two, read, rest))
 
 -- ---- a file that comes back
 

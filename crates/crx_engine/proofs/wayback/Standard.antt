@@ -9,23 +9,25 @@ use Rattle.std.proofs.lemmas.Bool.{and_parts}
 use Rattle.crx_lines.specs.meaning.Lines.{Piece, InputLine, pieces_of, onto_first, ends_with_return, without_return}
 use Rattle.crx_lines.specs.meaning.Lines.{line_of, lines_of, is_long}
 use Rattle.crx_lines.proofs.PieceLemmas.{EachEnded}
-use Rattle.crx_lines.specs.meaning.Seen.{ReadLine, Content, Overlong, seen}
+use Rattle.crx_lines.specs.meaning.Seen.{ReadLine, seen}
 use Rattle.crx_lines.specs.declared.fault.Fault.{Fault}
 use Rattle.crx_lines.specs.declared.fault.At.{At}
 use Rattle.crx_rinex.specs.meaning.Observations.{Epoch}
 use Rattle.crx_rinex.specs.meaning.Places.{Place}
 use Rattle.crx_rinex.specs.meaning.Units.{Unit as FileUnit}
 use Rattle.crx_reading.specs.meaning.Choices.{Choices}
-use Rattle.crx_reading.specs.meaning.Items.{Item, Accepted, Warned}
-use Rattle.crx_reading.specs.meaning.Reading.{Reading, WholeReading, Stop, AtFault, AtLines, Looking, is_skipped}
-use Rattle.crx_reading.specs.meaning.Reading.{reading_within, fault_at_end, ended_with, ended_reading}
+use Rattle.crx_reading.specs.meaning.Items.{Item, Accepted}
+use Rattle.crx_reading.specs.meaning.Reading.{Reading, WholeReading, Stop, AtLines, is_skipped}
+use Rattle.crx_reading.specs.meaning.Reading.{after_fault, reading_within, fault_at_end}
+use Rattle.crx_reading.specs.meaning.Reading.{ended_with, ended_reading}
 use Rattle.crx_rinex.specs.meaning.Printing.{lines_text}
 use Rattle.crx_reading.specs.meaning.Compacted.{rinex_place, whole_rinex}
 use Rattle.crx_reading.specs.meaning.Directions.{rinex_reading}
 use Rattle.crx_reading.specs.meaning.Standard.{printed_items, whole_of}
 use Rattle.crx_reading.specs.meaning.WayBack.{OfCopiedLines, HaveNoReturns, written_well}
+use Rattle.crx_reading.proofs.Choosing.{by_bool}
 use Rattle.crx_engine.specs.WayBack.{NormalFormComesBack, StandardComesBack}
-use Rattle.crx_engine.proofs.reading.Resuming.{by_place, within-here, within-wrong, within-wanted, fault-ends}
+use Rattle.crx_engine.proofs.reading.Resuming.{by_place}
 use Rattle.crx_engine.proofs.wayback.Cut.{OfContent, return-kept}
 use Rattle.crx_engine.proofs.wayback.Reading.{items-copied}
 use Rattle.crx_engine.proofs.wayback.WayBack.{comes-back}
@@ -49,19 +51,15 @@ within-same place skip zero items number lines f =
     ended-same skip items (number + length lines) (fault_at_end items lines) f
 within-same place skip (suc units) items number lines f = by_place (place items lines)
     (λ unit count e.
-    ap (ended_reading skip) (within-here place skip units items number lines unit count e)
-    ∙ within-same place skip units (Accepted unit ∷ items)
-    (number + count) (drop count lines) (subst (λ r. WholeReading.fault (ended_reading false r) ≡ None)
-    (within-here place false units items number lines unit count e) f)
-    ∙ sym (ap (ended_reading false) (within-here place false units items number lines unit count e)))
-    (λ offset fault e. not-ended (record { line = number + offset; fault = fault })
-    (subst (λ r. WholeReading.fault (ended_reading false r) ≡ None) (within-wrong place false units items number lines
-    offset fault e ∙ fault-ends false (reading_within place false units) items number lines offset fault refl) f))
+    let good = rw (e, reading_within) at f in
+    rw (e, reading_within)
+    (within-same place skip units (Accepted unit ∷ items) (number + count) (drop count lines) good))
+    (λ offset fault e.
+    let never = rw (e, reading_within, after_fault) at f in
+    not-ended (record { line = number + offset; fault = fault }) never)
     (λ e.
-    ap (ended_reading skip) (within-wanted place skip units items number lines e)
-    ∙ ended-same skip items (number + length lines) (fault_at_end items lines) (subst (λ r.
-    WholeReading.fault (ended_reading false r) ≡ None) (within-wanted place false units items number lines e) f)
-    ∙ sym (ap (ended_reading false) (within-wanted place false units items number lines e)))
+    let good = rw (e, reading_within) at f in
+    rw (e, reading_within) (ended-same skip items (number + length lines) (fault_at_end items lines) good))
 
 pub same-reading : (skip : Bool) (lines : List ReadLine)
     → WholeReading.fault (whole_rinex false lines) ≡ None → whole_rinex skip lines ≡ whole_rinex false lines
@@ -71,17 +69,12 @@ same-reading skip lines f = within-same rinex_place skip (length lines + 1) [] 1
 
 ended-copied : (P : List ℕ → Type 0) (skip : Bool) (items : List (Item Epoch)) (stop : Stop) → OfCopiedLines P items
     → OfCopiedLines P (WholeReading.items (ended_reading skip (record { items = items; stop = stop })))
-ended-copied P skip items (AtFault at) h = h
-ended-copied P skip items (Looking number) h = h
 ended-copied P skip items (AtLines number lines) h = at-end (fault_at_end items lines)
   where
     at-end : (o : Option Fault) → OfCopiedLines P (WholeReading.items (ended_with skip items (number + length lines) o))
     at-end None = h
-    at-end (Some fault) =
-        let at : At = record { line = number + length lines; fault = fault } in
-        elim (is_skipped skip items fault) as (λ b. OfCopiedLines P (WholeReading.items
-        (cond b (record { items = Warned at ∷ items; fault = None }) (record { items = items; fault = Some at }))))
-        [ true ↦ h | false ↦ h ]
+    at-end (Some fault) = by_bool (is_skipped skip items fault) (λ on. rw on h) (λ off. rw off h)
+ended-copied P skip items stop h = h
 
 pub whole-copied : (P : List ℕ → Type 0) (skip : Bool) (lines : List ReadLine)
     → AllByRecursion (OfContent P) lines → OfCopiedLines P (WholeReading.items (whole_rinex skip lines))
@@ -97,27 +90,31 @@ not-true false e = refl
 
 -- the bytes of a plain line, which no CR ends
 plain-piece : (p : Piece) → InputLine.is_plain (line_of p) ≡ true → (p.is_ended ≡ true) × NoReturn p.bytes
-plain-piece p e = (
-  (and_parts p.is_ended (not (ends_with_return p.bytes)) e).0,
-  not-true
-      (ends_with_return p.bytes) (and_parts p.is_ended (not (ends_with_return p.bytes)) e).1,
-)
+plain-piece p e =
+    let both = and_parts p.is_ended _ e in
+    (both.0, not-true (ends_with_return p.bytes) both.1)
+
+abbrev are_plain : List Piece → Bool
+are_plain ps = list_all (λ (line : InputLine). line.is_plain) (map line_of ps)
+
+-- of the first piece, and of the others
+plain-parts : (p : Piece) (ps : List Piece) → are_plain (p ∷ ps) ≡ true
+    → (p.is_ended ≡ true) × NoReturn p.bytes × (are_plain ps ≡ true)
+plain-parts p ps e =
+    let both = and_parts (InputLine.is_plain (line_of p)) (are_plain ps) e in
+    let first = plain-piece p both.0 in
+    (first.0, first.1, both.1)
 
 seen-no_return : (l : InputLine) → NoReturn l.content → OfContent NoReturn (seen l)
-seen-no_return l h = elim (is_long l) as (λ b. OfContent NoReturn (cond b Overlong (Content l.content)))
-    [ true ↦ tt | false ↦ h ]
+seen-no_return l h = by_bool (is_long l) (λ on. rw on tt) (λ off. rw off h)
 
 pub plain-no_return : (ps : List Piece) → list_all (λ (line : InputLine). line.is_plain) (map line_of ps) ≡ true
     → AllByRecursion (OfContent NoReturn) (map seen (map line_of ps))
 plain-no_return [] e = tt
 plain-no_return (p ∷ ps) e =
-    let plain = plain-piece p (and_parts
-    (InputLine.is_plain (line_of p)) (list_all (λ (line : InputLine). line.is_plain) (map line_of ps)) e).0 in
-    let kept : without_return p.bytes ≡ p.bytes = return-kept p.bytes plain.1 in (
-      seen-no_return (line_of p) (subst NoReturn (sym kept) plain.1),
-      plain-no_return ps (and_parts
-          (InputLine.is_plain (line_of p)) (list_all (λ (line : InputLine). line.is_plain) (map line_of ps)) e).1,
-    )
+    let plain = plain-parts p ps e in
+    let kept : without_return p.bytes ≡ p.bytes = return-kept p.bytes plain.1 in
+    (seen-no_return (line_of p) (subst NoReturn (sym kept) plain.1), plain-no_return ps plain.2)
 
 -- ---- the text of an input's plain lines is the input
 
@@ -132,41 +129,26 @@ byte-text : (b : ℕ) (bs : List ℕ) (ps : List Piece) → (EachEnded ps → li
     → EachEnded (cond (b == 10) (record { bytes = []; is_ended = true } ∷ ps) (onto_first b ps))
     → lines_text (map (λ (p : Piece). p.bytes)
     (cond (b == 10) (record { bytes = []; is_ended = true } ∷ ps) (onto_first b ps))) ≡ b ∷ bs
-byte-text b bs ps h (inl is) =
-    subst (λ t. EachEnded (cond t (record { bytes = []; is_ended = true } ∷ ps) (onto_first b ps))
-    → lines_text (map (λ (p : Piece). p.bytes)
-    (cond t (record { bytes = []; is_ended = true } ∷ ps) (onto_first b ps))) ≡ b ∷ bs) (sym is.0)
-    (λ e. ap (λ t. 10 ∷ t) (h e.1) ∙ ap (λ c. c ∷ bs) (sym is.1))
-byte-text b bs ps h (inr is) =
-    subst (λ t. EachEnded (cond t (record { bytes = []; is_ended = true } ∷ ps) (onto_first b ps))
-    → lines_text (map (λ (p : Piece). p.bytes)
-    (cond t (record { bytes = []; is_ended = true } ∷ ps) (onto_first b ps))) ≡ b ∷ bs) (sym is.0)
-    (λ e. onto-text b bs ps e h)
+byte-text b bs ps h (inl is) = rw is.0 (λ e. ap (λ t. 10 ∷ t) (h e.1) ∙ ap (λ c. c ∷ bs) (sym is.1))
+byte-text b bs ps h (inr is) = rw is.0 (λ e. onto-text b bs ps e h)
 
 pieces-text : (input : List ℕ)
     → EachEnded (pieces_of input) → lines_text (map (λ (p : Piece). p.bytes) (pieces_of input)) ≡ input
 pieces-text [] e = refl
 pieces-text (b ∷ bs) e = byte-text b bs (pieces_of bs) (pieces-text bs) (eqb_tells b 10) e
 
-plain-ended : (ps : List Piece) → list_all (λ (line : InputLine). line.is_plain) (map line_of ps) ≡ true → EachEnded ps
+plain-ended : (ps : List Piece) → are_plain ps ≡ true → EachEnded ps
 plain-ended [] e = tt
 plain-ended (p ∷ ps) e =
-    let plain = plain-piece p (and_parts
-    (InputLine.is_plain (line_of p)) (list_all (λ (line : InputLine). line.is_plain) (map line_of ps)) e).0 in (
-      plain.0,
-      plain-ended ps (and_parts
-          (InputLine.is_plain (line_of p)) (list_all (λ (line : InputLine). line.is_plain) (map line_of ps)) e).1,
-    )
+    let plain = plain-parts p ps e in
+    (plain.0, plain-ended ps plain.2)
 
 plain-contents : (ps : List Piece) → list_all (λ (line : InputLine). line.is_plain) (map line_of ps) ≡ true
     → map (λ (line : InputLine). line.content) (map line_of ps) ≡ map (λ (p : Piece). p.bytes) ps
 plain-contents [] e = refl
 plain-contents (p ∷ ps) e =
-    let plain = plain-piece p (and_parts
-    (InputLine.is_plain (line_of p)) (list_all (λ (line : InputLine). line.is_plain) (map line_of ps)) e).0 in
-    ap (λ l. l ∷ map (λ (line : InputLine). line.content) (map line_of ps)) (return-kept p.bytes plain.1)
-    ∙ ap (λ ls. p.bytes ∷ ls) (plain-contents ps (and_parts
-    (InputLine.is_plain (line_of p)) (list_all (λ (line : InputLine). line.is_plain) (map line_of ps)) e).1)
+    let plain = plain-parts p ps e in
+    cc (return-kept p.bytes plain.1, plain-contents ps plain.2)
 
 pub plain-text : (input : List ℕ) → list_all (λ (line : InputLine). line.is_plain) (lines_of input) ≡ true
     → lines_text (map (λ (line : InputLine). line.content) (lines_of input)) ≡ input

@@ -1,6 +1,6 @@
 -- What was compacted comes back.
 use Rattle.std.proofs.Common.{ℕ, ◌≡◌, ◌+◌, ◌*◌, ◌≤◌, Bool, true, false, cond, List, [], ◌∷◌, ◌++◌, map, length, Option}
-use Rattle.std.proofs.Common.{Some, None, refl, ap, sym, ◌∙◌, arith, subst}
+use Rattle.std.proofs.Common.{Some, None, refl, ap, ◌∙◌, arith}
 use Rattle.std.specs.Prelude.{nat_lt, not, reverse}
 use Rattle.std.specs.List.{AllByRecursion, list_all}
 use Rattle.std.proofs.lemmas.Bool.{ltb-false}
@@ -13,6 +13,7 @@ use Rattle.crx_lines.specs.declared.limits.TheConstants.{TYPES_LIMIT, LINE_LIMIT
 use Rattle.crx_rinex.specs.meaning.Observations.{Epoch}
 use Rattle.crx_rinex.specs.meaning.Printing.{printed_epoch, lines_text}
 use Rattle.crx_rinex.specs.meaning.Units.{Unit as FileUnit, HeaderLine, EventLine, EventRecord, Observation}
+use Rattle.crx_rinex.specs.meaning.Units.{printed_unit}
 use Rattle.crx_history.specs.meaning.Compaction.{Marked, compact_epoch}
 use Rattle.crx_history.specs.meaning.CompactPlaces.{ReadEpoch}
 use Rattle.crx_compact.specs.Laws.{LinesCanStand}
@@ -81,16 +82,11 @@ end-settled skip items number rest h k None e f = let good = end-means items res
     record { in_place = h; copied = k; header = good.0; none = good.1 }
 end-settled skip items number rest h k (Some fault) e f = by_bool (is_skipped skip items fault)
     (λ on.
-    let at : At = record { line = number; fault = fault } in
     let facts = allowed skip items fault on in
-    subst (λ b. IsSettled (WholeReading.items (cond b
-    (record { items = Warned at ∷ items; fault = None }) (record { items = items; fault = Some at })))) (sym on)
-    (record { in_place = (facts, h); copied = k; header = facts.0; none = refl }))
+    rw on (record { in_place = (facts, h); copied = k; header = facts.0; none = refl }))
     (λ off.
     let at : At = record { line = number; fault = fault } in
-    let never : ◌≡◌ {A = Option At} (Some at) None =
-    subst (λ b. WholeReading.fault (cond b (record { items = Warned at ∷ items; fault = None })
-    (record { items = items; fault = Some at })) ≡ None) off f in
+    let never : ◌≡◌ {A = Option At} (Some at) None = rw off at f in
     absurd (cc))
 
 settled : (skip : Bool) (items : List (Item Epoch)) (stop : Stop) (next : ℕ)
@@ -119,12 +115,8 @@ lines-same choices [] h e = absurd (cc)
 lines-same choices (Accepted (HeaderLine line) ∷ []) h e = refl
 lines-same choices (Accepted (HeaderLine line) ∷ item ∷ before) h e =
     ap (λ ls. ls ++ line ∷ []) (lines-same choices (item ∷ before) h.1 refl)
-lines-same choices (Accepted (EventLine line) ∷ before) h e =
-    ap (λ ls. ls ++ line ∷ []) (lines-same choices before h.1 (started before (h.0).0))
-lines-same choices (Accepted (EventRecord line) ∷ before) h e =
-    ap (λ ls. ls ++ line ∷ []) (lines-same choices before h.1 (started before (h.0).0))
-lines-same choices (Accepted (Observation epoch) ∷ before) h e =
-    ap (λ ls. ls ++ compact_epoch (marked_now choices.every before epoch ∷ marked_epochs choices.every before))
+lines-same choices (Accepted unit ∷ before) h e =
+    ap (λ ls. ls ++ body_unit choices.every before unit)
     (lines-same choices before h.1 (started before (h.0).0))
 lines-same choices (Warned at ∷ before) h e = lines-same choices before h.1 (started before (h.0).0)
 
@@ -180,11 +172,9 @@ lines-clean every (Warned at ∷ before) h k e = lines-clean every before h.1 k 
 pub printed-same : (every : Option ℕ) (items : List (Item Epoch))
     → written_lines expanded_unit (read_back every items) ≡ printed_items items
 printed-same every [] = refl
-printed-same every (Accepted (HeaderLine line) ∷ before) = ap (λ ls. ls ++ line ∷ []) (printed-same every before)
-printed-same every (Accepted (EventLine line) ∷ before) = ap (λ ls. ls ++ line ∷ []) (printed-same every before)
-printed-same every (Accepted (EventRecord line) ∷ before) = ap (λ ls. ls ++ line ∷ []) (printed-same every before)
 printed-same every (Accepted (Observation epoch) ∷ before) =
     ap (λ ls. ls ++ printed_epoch epoch) (printed-same every before)
+printed-same every (Accepted unit ∷ before) = ap (λ ls. ls ++ printed_unit unit) (printed-same every before)
 printed-same every (Warned at ∷ before) = printed-same every before
 
 pub no-warnings : (every : Option ℕ) (items : List (Item Epoch)) → warnings_in (read_back every items) ≡ []

@@ -1,0 +1,81 @@
+-- What holds of each thing that can stand at some lines holds of the one that stands there.
+use Rattle.std.proofs.Common.{ℕ, ◌≡◌, Bool, true, false, cond, List, [], ◌∷◌, Option, Some, None, Result}
+use Rattle.std.proofs.Common.{Ok, Err, refl}
+use Rattle.std.specs.Prelude.{⊤, not, nat_lt}
+use Rattle.crx_lines.specs.meaning.Seen.{ReadLine, Content, Overlong}
+use Rattle.crx_lines.specs.declared.fault.Fault.{Fault}
+use Rattle.crx_lines.specs.declared.fault.Fault.TheVariants.{BadEpoch}
+use Rattle.crx_rinex.specs.meaning.EpochLines.{is_event_line, records_in}
+use Rattle.crx_rinex.specs.meaning.ObservationTypes.{Count}
+use Rattle.crx_rinex.specs.meaning.Places.{Place, Here, Wrong, Wanted, one_line, first_line}
+use Rattle.crx_rinex.specs.meaning.Units.{Unit as FileUnit, EventLine}
+use Rattle.crx_history.specs.meaning.CompactPlaces.{ReadEpoch, epoch_at}
+use Rattle.crx_history.specs.meaning.Expansion.{RawEpoch}
+use Rattle.crx_reading.specs.meaning.Items.{Item, is_at_start, header_has_ended, records_left, records_count_types}
+use Rattle.crx_reading.specs.meaning.UnitPlaces.{unless_wrong, header_line, event_record, unit_place}
+use Rattle.crx_reading.specs.meaning.Expanded.{event_line, as_observation, compact_epoch_place}
+use Rattle.crx_reading.proofs.Choosing.{by_bool}
+
+-- what holds of a thing that stands somewhere
+abbrev pub OfHere : {X : Type 0} → (X → Type 0) → Place X → Type 0
+OfHere P (Here x count) = P x
+OfHere P (Wrong offset fault) = ⊤
+OfHere P Wanted = ⊤
+
+abbrev pub OfOk : {X : Type 0} → (X → Type 0) → Result X Fault → Type 0
+OfOk P (Ok x) = P x
+OfOk P (Err fault) = ⊤
+
+pub by_first : {Y X : Type 0} (p : Place Y) → ((x : Y) (count : ℕ) → p ≡ Here x count → X)
+    → ((offset : ℕ) (fault : Fault) → p ≡ Wrong offset fault → X) → (p ≡ Wanted → X) → X
+by_first (Here x count) here wrong wanted = here x count refl
+by_first (Wrong offset fault) here wrong wanted = wrong offset fault refl
+by_first Wanted here wrong wanted = wanted refl
+
+-- one of two things is chosen, and what holds of both holds of it
+pub chosen : {A : Type 0} (P : A → Type 0) (b : Bool) (x y : A) → P x → P y → P (cond b x y)
+chosen P true x y h k = h
+chosen P false x y h k = k
+
+pub one-line : {X : Type 0} (P : X → Type 0) (r : Result X Fault) → OfOk P r → OfHere P (one_line r)
+one-line P (Ok x) h = h
+one-line P (Err fault) h = tt
+
+pub first-line : {X : Type 0} (P : X → Type 0) (read : List ℕ → Result X Fault) (lines : List ReadLine)
+    → ((line : List ℕ) → OfOk P (read line)) → OfHere P (first_line lines read)
+first-line P read [] h = tt
+first-line P read (Overlong ∷ lines) h = tt
+first-line P read (Content line ∷ lines) h = one-line P (read line) (h line)
+
+pub unless-wrong : {E : Type 0} (P : FileUnit E → Type 0) (unit : FileUnit E) (fault : Option Fault)
+    → (fault ≡ None → P unit) → OfOk P (unless_wrong unit fault)
+unless-wrong P unit None h = h refl
+unless-wrong P unit (Some fault) h = tt
+
+-- wherever a unit may stand
+pub of-unit : {E : Type 0} (P : Place (FileUnit E) → Type 0)
+    (beginning : List (Item E) → List ReadLine → Place (FileUnit E))
+    (items : List (Item E)) (lines : List ReadLine)
+    → P (first_line lines (header_line (is_at_start items)))
+    → P (first_line lines (event_record (records_count_types items)))
+    → P (beginning items lines) → P (unit_place beginning items lines)
+of-unit P beginning items lines header records begun =
+    chosen P (not (header_has_ended items)) (first_line lines (header_line (is_at_start items))) _ header
+    (chosen P (nat_lt 0 (records_left items)) (first_line lines (event_record (records_count_types items)))
+    (beginning items lines) records begun)
+
+-- where an epoch or an event of compact text may begin
+of-event : (P : Place (FileUnit ReadEpoch) → Type 0) (line : List ℕ) (o : Option ℕ) → records_in line ≡ o
+    → P (Here (EventLine line) 1) → P (Wrong 0 BadEpoch) → P (one_line (event_line line))
+of-event P line None e event bad = rw (e, event_line) bad
+of-event P line (Some count) e event bad = rw (e, event_line) event
+
+pub of-compact : (P : Place (FileUnit ReadEpoch) → Type 0) (types : List Count) (raws : List RawEpoch)
+    (lines : List ReadLine) → P Wanted → P (Wrong 0 BadEpoch)
+    → ((line : List ℕ) (rest : List ReadLine) → lines ≡ Content line ∷ rest → P (Here (EventLine line) 1))
+    → P (as_observation (epoch_at types raws lines)) → P (compact_epoch_place types raws lines)
+of-compact P types raws [] wanted bad event read = wanted
+of-compact P types raws (Overlong ∷ lines) wanted bad event read = read
+of-compact P types raws (Content line ∷ lines) wanted bad event read = by_bool (is_event_line line)
+    (λ on. rw on (of-event P line (records_in line) refl (event line lines refl) bad))
+    (λ off. rw off read)
