@@ -13,7 +13,7 @@ TOP = Path(__file__).resolve().parent.parent
 PAGE = TOP / "docs" / "CONTRACTS.md"
 ORDER = [
     "crx_lines", "crx_columns", "crx_text", "crx_rinex", "crx_arcs", "crx_history", "crx_compact", "crx_reading", "crx_engine", "crx_laws", "crx_filter",
-    "crx_program", "rnxcmp", "rnxcmp_c",
+    "crx_command", "crx_program", "rnxcmp", "rnxcmp_c",
 ]
 HEAD = """# Contracts
 

@@ -9,16 +9,20 @@ tests/run.py uses the same for the whole gate and for what changed.
 
 import hashlib
 import json
+import os
 import re
 import shutil
 import subprocess
 import sys
 import tempfile
 import time
+from concurrent.futures import FIRST_COMPLETED, ThreadPoolExecutor, wait
+from graphlib import TopologicalSorter
 from pathlib import Path
 
 TOP = Path(__file__).resolve().parent.parent
 CRATES = TOP / "crates"
+PROGRAM = "rnxcmp"  # the crate of the program
 LIBRARY = "rnxcmp_c"  # the crate of the static library for C
 LOG = TOP / "out/gate.log"
 STAMP = TOP / "out/green.json"  # what stood where all passed: a digest of each crate's files
@@ -40,8 +44,8 @@ def lacking():
 class Progress:
     """Reads what the prover prints, and says it in a line a crate, with the minutes so far."""
 
-    def __init__(self):
-        self.began = time.monotonic()
+    def __init__(self, began=None):
+        self.began = began or time.monotonic()
         self.section = []  # what was printed since the last title of a crate
         self.functions = ""
         self.crate = ""
@@ -150,16 +154,31 @@ def below(name, libraries):
 
 
 def build():
-    """Proves and builds the program, after the libraries below it: a build of all in one begins with another pass over all sources.
+    """Proves and builds the program and the libraries below it, at most two crates beside each other, each after those that it stands on.
     Whether that went well."""
-    progress = Progress()
-    steps = [(name, ["rt", "lib"]) for name in below("rnxcmp", crates())] + [("rnxcmp", ["rt", "run", "--", "--help"])]
-    for name, command in steps:
-        status, _ = followed(command, CRATES / name, progress.of_a_build)
-        if status:
-            show_log()
-            return False
+    uses = crates()
+    order = TopologicalSorter({name: uses[name] for name in [*below(PROGRAM, uses), PROGRAM]})
+    order.prepare()
+    began, waiting, running = time.monotonic(), [], {}
+    with ThreadPoolExecutor(2) as pool:
+        while order.is_active():
+            waiting += order.get_ready()
+            while waiting and len(running) < 2:
+                name = waiting.pop(0)
+                running[pool.submit(prove, name, bool(running), Progress(began))] = name
+            for ended in wait(running, return_when=FIRST_COMPLETED).done:
+                order.done(running.pop(ended))
+                if ended.result():
+                    show_log()
+                    return False
     return True
+
+
+def prove(name, is_beside, progress):
+    """Proves and builds a crate, with one job where another crate is proved beside it on two cores: the exit status."""
+    jobs = ["--jobs", "1"] if is_beside and len(os.sched_getaffinity(0)) < 4 else []
+    command = ["rt", "run", *jobs, "--", "--help"] if name == PROGRAM else ["rt", "lib", *jobs]
+    return followed(command, CRATES / name, progress.of_a_build)[0]
 
 
 def build_library():

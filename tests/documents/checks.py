@@ -104,7 +104,7 @@ def numbers():
     """The limits by their names, and what follows from them: how long the longest lines of an epoch are, and how many it has. FAULTS is how
     many faults there are, EVERY the greatest N of -e."""
     limits = (TOP / "crates/crx_lines/src/limits.rt").read_text(encoding="utf-8")
-    command = (TOP / "crates/crx_program/src/command.rt").read_text(encoding="utf-8")
+    command = (TOP / "crates/crx_command/src/command.rt").read_text(encoding="utf-8")
     found = {name: int(number) for name, number in re.findall(r"const (\w+): \w+ = ([\d_]+);", limits)}
     return {
         **found,
@@ -152,9 +152,9 @@ STATED = {
     ),
     "crates/crx_laws/src/salvage.rt": ("at most LINE_LIMIT bytes",),
     "crates/crx_reading/src/line_number.rt": ("at most INPUT_LIMIT lines",),
-    "crates/crx_program/src/command.rt": ("N from 1 to EVERY.", "at most EVERY", "at most DATE_LIMIT bytes"),
-    "crates/crx_program/src/job.rt": ("more than DATE_LIMIT bytes",),
-    "crates/crx_program/src/plan.rt": ("more than DATE_LIMIT bytes",),
+    "crates/crx_command/src/command.rt": ("N from 1 to EVERY.", "at most EVERY", "at most DATE_LIMIT bytes"),
+    "crates/crx_command/src/job.rt": ("more than DATE_LIMIT bytes",),
+    "crates/crx_command/src/plan.rt": ("more than DATE_LIMIT bytes",),
     "crates/rnxcmp_c/src/answer.rt": ("ended the run, from 1 to FAULTS;",),
 }
 

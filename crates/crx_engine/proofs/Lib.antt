@@ -4,3 +4,4 @@ pub mod steps
 pub mod output
 pub mod wayback
 pub mod standard
+pub mod damage

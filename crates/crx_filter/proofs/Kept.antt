@@ -13,7 +13,7 @@ use Rattle.crx_reading.specs.meaning.WayBack.{HasNormalForm}
 use Rattle.crx_engine.proofs.standard.CheckStandard.{named-where_not, standard-exactly_where_same}
 use Rattle.crx_engine.proofs.wayback.WayBack.{comes-back}
 use Rattle.crx_engine.proofs.wayback.Standard.{normal-comes_back, standard-comes_back}
-use Rattle.crx_laws.proofs.DamageStays.{saved-lines}
+use Rattle.crx_engine.proofs.damage.DamageStays.{saved-lines}
 use Rattle.crx_filter.specs.meaning.Promises.{IsPromiseKept, BringsBackWhatWasCompacted, SavesAllElse, JudgesStandard}
 use Rattle.crx_filter.specs.meaning.Spans.{Input, Device}
 use Rattle.crx_filter.specs.meaning.Runs.{IsResult, RunsAs}

@@ -49,7 +49,7 @@ pub(crate) enum Taken<'a> {
 }
 
 /// What became of a line that was given once.
-#[derive(Clone, Copy, Debug, PartialEq, Eq)]
+#[derive(Clone, Copy)]
 pub(crate) enum Once {
     /// It was taken; whether a warning was reported.
     Done(bool),

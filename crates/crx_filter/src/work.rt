@@ -14,7 +14,7 @@ use crx_lines::phase::Phase;
 use crx_text::{LineReader, Sink, Source};
 
 /// Where the work of a run ended.
-#[derive(Clone, Copy, Debug, PartialEq, Eq)]
+#[derive(Clone, Copy)]
 pub(crate) struct Work {
     /// The number of the last line that was read, 0 if none was.
     pub(crate) last: u64,

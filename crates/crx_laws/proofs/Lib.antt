@@ -1,9 +1,1 @@
-pub mod CutOff
-pub mod BlockReading
-pub mod GoingOn
-pub mod TextAfter
-pub mod DamagedText
-pub mod SavedText
-pub mod BlockSaved
-pub mod DamageStays
 pub mod ExpandedLendable

@@ -5,8 +5,8 @@ use Rattle.crx_lines.specs.declared.device.Source.{Ghosts as SourceGhosts}
 use Rattle.crx_reading.specs.meaning.Choices.{Choices}
 use Rattle.crx_filter.specs.meaning.Spans.{Input, Device, reader_span}
 use Rattle.crx_program.specs.meaning.Jobs.{IsJobDone, IsFilteredFrom, IsFilteredInto, IsNotBegun}
-use Rattle.crx_program.specs.declared.job.Job.{Job}
-use Rattle.crx_program.specs.declared.job.Tool.{Tool}
+use Rattle.crx_command.specs.declared.job.Job.{Job}
+use Rattle.crx_command.specs.declared.job.Tool.{Tool}
 
 -- a filter that ran from a file, into another or into the output
 pub from_file : {R S : Type 0} (sources : SourceGhosts R) (unread : R → Type 0) (sinks : SinkGhosts S) (source target : Option (List ℕ))

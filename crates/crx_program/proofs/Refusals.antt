@@ -3,13 +3,14 @@ use Rattle.std.proofs.Common.{◌≡◌, ◌∙◌, List, [], ℕ, Err, Some, in
 use Rattle.std.specs.Option.{IfSome}
 use Rattle.crx_filter.specs.meaning.Spans.{Device}
 use Rattle.crx_lines.specs.declared.fault.Fault.TheVariants.{OutOfMemory}
-use Rattle.crx_program.specs.meaning.Planning.{Plan, Help, Run, Refused, Refusal, Parse, DashTwice, TwoFiles, BadDate}
-use Rattle.crx_program.specs.meaning.Planning.{NoName}
-use Rattle.crx_program.specs.Planning.{plan_in}
-use Rattle.crx_program.specs.meaning.Program.{IsLineOf, IsRefused, IsShown, at_start}
-use Rattle.crx_program.specs.declared.job.Job.{Job}
-use Rattle.crx_program.specs.declared.job.UsageFault.{UsageFault}
-use Rattle.crx_program.specs.declared.job.UsageFault.TheVariants as usage_fault
+use Rattle.crx_command.specs.meaning.Planning.{Plan, Help, Run, Refused, Refusal, Parse, DashTwice, TwoFiles, BadDate}
+use Rattle.crx_command.specs.meaning.Planning.{NoName}
+use Rattle.crx_command.specs.Planning.{plan_in}
+use Rattle.crx_command.specs.meaning.ErrorLines.{IsLineOf}
+use Rattle.crx_program.specs.meaning.Program.{IsRefused, IsShown, at_start}
+use Rattle.crx_command.specs.declared.job.Job.{Job}
+use Rattle.crx_command.specs.declared.job.UsageFault.{UsageFault}
+use Rattle.crx_command.specs.declared.job.UsageFault.TheVariants as usage_fault
 
 -- each refusal has a line
 some_line : (refusal : Refusal) → (line : List ℕ) × IsLineOf refusal line

@@ -1,4 +1,1 @@
 pub mod meaning
-pub mod Names
-pub mod Planning
-pub mod Program

@@ -1,7 +1,3 @@
 -- What has to be believed: the definitions that the promises stand on. docs/READING.md gives their order.
-pub mod Commands
-pub mod Names
-pub mod Planning
 pub mod Program
-pub mod Dates
 pub mod Jobs

@@ -1,13 +1,14 @@
 //! The lines that a user reads where nothing is run.
 
 ghost use Rattle.std.specs.Prelude.{◌≡◌, Some, Err};
-ghost use Rattle.crx_program.specs.meaning.Planning.{Refusal, Refused};
-ghost use Rattle.crx_program.specs.Planning.{plan_in};
-ghost use Rattle.crx_program.specs.meaning.Program.{IsRefused, IsShown, IsShownOr, at_start, error_line};
+ghost use Rattle.crx_command.specs.meaning.Planning.{Refusal, Refused};
+ghost use Rattle.crx_command.specs.Planning.{plan_in};
+ghost use Rattle.crx_command.specs.meaning.ErrorLines.{error_line};
+ghost use Rattle.crx_program.specs.meaning.Program.{IsRefused, IsShown, IsShownOr, at_start};
 ghost use Rattle.crx_filter.specs.meaning.Spans.{span};
 
-use crate::job::UsageFault;
-use crate::word::Word;
+use crx_command::job::UsageFault;
+use crx_command::word::Word;
 use crx_filter::message::{Severity, message};
 use crx_text::{At, Fault, Sink, write_all_counted};
 use std::alloc::Global;

@@ -177,7 +177,7 @@ open_where_wanted (line ∷ lines) so_far wants h =
     (λ next. open_where_wanted lines next) (step_wants so_far line) (sym (step_at so_far line lines wants) ∙ h)
 
 -- one line more
-open_none : (begun : Option OpenEpoch) → open_after begun [] ≡ begun
+pub open_none : (begun : Option OpenEpoch) → open_after begun [] ≡ begun
 open_none None = refl
 open_none (Some so_far) = refl
 

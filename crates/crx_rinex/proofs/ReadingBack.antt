@@ -156,7 +156,7 @@ length-cells (value ∷ values) (a ∷ b ∷ flags) pairs fit =
 
 -- ---- a row
 
-name-length : (row : Row) → IsSoundRow row → length row.name ≡ 3
+pub name-length : (row : Row) → IsSoundRow row → length row.name ≡ 3
 name-length row h = eqb-true (length row.name) 3
     ((and_parts (length row.name == 3) (is_system (character_at row.name 1) && has_number row.name) h.named).0)
 

@@ -1,10 +1,10 @@
 //! The program's arguments and its standard streams.
 
+use crx_command::job::UsageFault;
+use crx_command::word::Word;
 use crx_filter::UntilFailure;
-use crx_program::job::UsageFault;
 use crx_program::program::{OUTPUT_BUFFER, run};
 use crx_program::refusal::{refuse, report_at_start};
-use crx_program::word::Word;
 use crx_text::{Fault, Std};
 use std::alloc::Global;
 use std::io::{BufWriter, Write};

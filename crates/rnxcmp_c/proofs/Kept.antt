@@ -12,7 +12,7 @@ use Rattle.crx_reading.specs.meaning.Standard.{Findings, checked, checked_by, fi
 use Rattle.crx_engine.proofs.standard.CheckStandard.{named-where_not}
 use Rattle.crx_engine.proofs.wayback.WayBack.{comes-back}
 use Rattle.crx_engine.proofs.wayback.Standard.{normal-comes_back, standard-comes_back}
-use Rattle.crx_laws.proofs.DamageStays.{saved-lines}
+use Rattle.crx_engine.proofs.damage.DamageStays.{saved-lines}
 use Rattle.rnxcmp_c.specs.meaning.Answers.{IsAnswer, Rooms, status_in}
 use Rattle.rnxcmp_c.specs.meaning.Promises.{CallBringsBackWhatWasCompacted, CallJudgesStandard, CallSavesAllElse}
 use Rattle.rnxcmp_c.specs.declared.answer.Answer.{Answer}

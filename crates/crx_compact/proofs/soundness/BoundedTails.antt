@@ -13,8 +13,9 @@ use Rattle.crx_history.specs.Tails.{row_tail, IsBoundedRowTail}
 use Rattle.crx_compact.specs.Laws.{WrittenAreBounded}
 use Rattle.crx_rinex.proofs.EachPlace.{each_place-all, length-each_place}
 use Rattle.crx_compact.proofs.wayback.Lengths.{few-satellites, text-short}
-use Rattle.crx_compact.proofs.wayback.Writable.{IsTypedRow, sound-name, typed-rows}
+use Rattle.crx_compact.proofs.wayback.Writable.{IsTypedRow, typed-rows}
 use Rattle.crx_columns.proofs.EndBlanks.{few_kept}
+use Rattle.crx_rinex.proofs.ReadingBack.{name-length}
 
 pub arc-bounded : (order : ℕ) (values : List ℤ) → IfSome (arc_tail order values) (IsBoundedArc order)
 arc-bounded order [] = tt
@@ -30,7 +31,7 @@ row-bounded types run r h =
     let trimmed = few_kept r.flags in
     let many = length-each_place (length r.values) (λ j. arc_tail WRITTEN_ORDER (arc_of j run)) in
     record {
-      name = sound-name r h.0;
+      name = name-length r h.0;
       flags = omega (arith, trimmed, h.0.paired, h.0.counted.1);
       few = omega (arith, many, h.0.counted.1);
       cells = each_place-all (λ (c : Option ArcTail). IfSome c (IsBoundedArc WRITTEN_ORDER)) (length r.values)

@@ -17,11 +17,12 @@ use Rattle.crx_rinex.specs.meaning.ObservationTypes.{Count}
 use Rattle.crx_history.specs.meaning.Compaction.{epoch_text}
 use Rattle.crx_rinex.proofs.EachPlace.{each_place-same}
 use Rattle.crx_history.proofs.Identifiers.{AreNew, new-after}
-use Rattle.crx_compact.proofs.wayback.Writable.{IsTypedRow, head-counted, sound-name, sound-name_kept, typed-rows}
+use Rattle.crx_compact.proofs.wayback.Writable.{IsTypedRow, head-counted, sound-name_kept, typed-rows}
 use Rattle.crx_history.proofs.Characters.{at-by_position, same_characters, list_all-at, list_all-append, if_some}
 use Rattle.crx_compact.proofs.wayback.Runs.{IsUnmarked}
 use Rattle.crx_rinex.proofs.Characters.{at, at-without_end_blanks, at-append, at-append_past, columns-are}
 use Rattle.crx_rinex.proofs.Characters.{list_all-from_at}
+use Rattle.crx_rinex.proofs.ReadingBack.{name-length}
 
 -- ---- tests of all characters
 
@@ -123,15 +124,15 @@ pub names-read : (types : List Count) (text : List ℕ) (offset : ℕ) (rows : L
 names-read types text offset [] h e = refl
 names-read types text offset (r ∷ rs) h e =
     let first : columns text (offset + 1 + 3 * 0) 3 ≡ r.name =
-    columns-are text (offset + 1 + 3 * 0) 3 r.name (sound-name r h.0.0)
+    columns-are text (offset + 1 + 3 * 0) 3 r.name (name-length r h.0.0)
     (λ p less. let place : offset + 1 + 3 * 0 - 1 + p ≡ offset + p = omega arith in ap (at text) place ∙ e p
-    ∙ at-append r.name (flat_map (λ (q : Row). q.name) rs) p (omega (arith, less, (sound-name r h.0.0)))) in
+    ∙ at-append r.name (flat_map (λ (q : Row). q.name) rs) p (omega (arith, less, (name-length r h.0.0)))) in
     let later : (k : ℕ) → columns text (offset + 1 + 3 * suc k) 3 ≡ columns text (offset + 3 + 1 + 3 * k) 3 =
     λ k. let place : offset + 1 + 3 * suc k ≡ offset + 3 + 1 + 3 * k = omega arith in ap
     (λ n. columns text n 3) place in
     let rest : (p : ℕ) → at text (offset + 3 + p) ≡ at (flat_map (λ (q : Row). q.name) rs) p =
     λ p. let place : offset + 3 + p ≡ offset + (3 + p) = omega arith in ap (at text) place ∙ e (3 + p)
-    ∙ at-append_past r.name (flat_map (λ (q : Row). q.name) rs) 3 p (sound-name r h.0.0) in
+    ∙ at-append_past r.name (flat_map (λ (q : Row). q.name) rs) 3 p (name-length r h.0.0) in
     rw (
       first,
       each_place-same (length rs) (λ k. columns text (offset + 1 + 3 * suc k) 3)

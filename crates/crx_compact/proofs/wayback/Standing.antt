@@ -49,7 +49,7 @@ cells-printable (c ∷ cs) h =
     (list_all-append is_printable (code_text c) (32 ∷ []) (code-printable (code_text c) h.0) refl)
     (cells-printable cs h.1)
 
-trimmed-printable : (text : List ℕ)
+pub trimmed-printable : (text : List ℕ)
     → list_all is_printable text ≡ true → list_all is_printable (without_end_blanks text) ≡ true
 trimmed-printable text h =
     list_all-from_at is_printable (without_end_blanks text)

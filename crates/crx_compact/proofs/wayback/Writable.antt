@@ -10,7 +10,8 @@ use Rattle.crx_columns.specs.meaning.Texts.{is_kept}
 use Rattle.crx_rinex.specs.meaning.SatelliteLines.{IsSoundRow, HasItsTypes}
 use Rattle.crx_rinex.specs.meaning.Epochs.{IsWholeEpoch}
 use Rattle.crx_rinex.specs.meaning.EpochLines.{epoch_count}
-use Rattle.crx_history.proofs.Characters.{length-is, name-kept}
+use Rattle.crx_history.proofs.Characters.{name-kept}
+use Rattle.crx_rinex.proofs.ReadingBack.{name-length}
 
 -- ---- rows
 
@@ -18,11 +19,8 @@ use Rattle.crx_history.proofs.Characters.{length-is, name-kept}
 abbrev pub IsTypedRow : List Count → Row → Type 0
 IsTypedRow types row = IsSoundRow row × HasItsTypes types row
 
-pub sound-name : (row : Row) → IsSoundRow row → length row.name ≡ 3
-sound-name row h = length-is row.name h.named
-
 pub sound-name_kept : (row : Row) → IsSoundRow row → list_all is_kept row.name ≡ true
-sound-name_kept row h = name-kept row.name (sound-name row h) h.named
+sound-name_kept row h = name-kept row.name (name-length row h) h.named
 
 rows-typed : (types : List Count) (rows : List Row)
     → All IsSoundRow rows → All (HasItsTypes types) rows → AllByRecursion (IsTypedRow types) rows

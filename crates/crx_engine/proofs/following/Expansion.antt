@@ -23,7 +23,6 @@ use Rattle.crx_compact.proofs.reading.LineByLine.{steps-agree, wanted-where_open
 use Rattle.crx_reading.specs.meaning.Choices.{Choices}
 use Rattle.crx_reading.specs.meaning.Items.{Item, types_in_force, records_count_types}
 use Rattle.crx_reading.specs.meaning.Expanded.{raws_kept, empties_state, event_line, as_observation}
-use Rattle.crx_reading.specs.meaning.Expanded.{compact_epoch_place}
 use Rattle.crx_reading.specs.meaning.Expanded.{expanded_unit}
 use Rattle.crx_reading.specs.LineByLine.{Made, made_of_unit}
 use Rattle.crx_reading.specs.ExpansionByLine.{made_of_raw_step, compact_begins, expansion, tail_of_items, begins_event}
@@ -32,10 +31,7 @@ use Rattle.crx_reading.proofs.Choosing.{by_bool}
 use Rattle.crx_engine.proofs.reading.ForwardCompact.{compact-forward}
 use Rattle.crx_engine.proofs.following.Lines.{one_line-decided}
 use Rattle.crx_engine.proofs.following.Following.{IsSameEpoch, AgreeOn, IsCarriedOut}
-
--- where an epoch or an event may begin in compact text
-abbrev pub compact_beginning : List (Item ReadEpoch) → List ReadLine → Place (FileUnit ReadEpoch)
-compact_beginning items = compact_epoch_place (types_in_force items) (raws_kept items)
+use Rattle.crx_engine.proofs.reading.ForwardCompact.{compact_beginning}
 
 abbrev pub Agrees : Choices → List (Item ReadEpoch) → List ReadLine → Made HeldEpoch OpenRawEpoch → Type 0
 Agrees choices items lines made =
@@ -176,7 +172,7 @@ agree-continues choices items (first ∷ rest) line so_far opens =
 
 -- ---- where more lines are wanted
 
-observation-wanted : (p : Place ReadEpoch) → as_observation p ≡ Wanted → p ≡ Wanted
+pub observation-wanted : (p : Place ReadEpoch) → as_observation p ≡ Wanted → p ≡ Wanted
 observation-wanted (Here read count) e = absurd (cc)
 observation-wanted (Wrong offset fault) e = absurd (cc)
 observation-wanted Wanted e = refl

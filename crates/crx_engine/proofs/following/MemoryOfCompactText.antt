@@ -20,7 +20,8 @@ use Rattle.crx_reading.specs.meaning.Choices.{Choices}
 use Rattle.crx_reading.specs.meaning.Items.{Item, types_in_force}
 use Rattle.crx_reading.specs.meaning.Memory.{expansion_takes, place_takes}
 use Rattle.crx_reading.specs.ExpansionByLine.{begins_event, compact_open, expansion, made_of_raw_step, tail_of_items}
-use Rattle.crx_engine.proofs.following.Expansion.{Agrees, agree-content, agree-continues, compact_beginning}
+use Rattle.crx_engine.proofs.following.Expansion.{Agrees, agree-content, agree-continues}
+use Rattle.crx_engine.proofs.reading.ForwardCompact.{compact_beginning}
 use Rattle.crx_reading.proofs.Choosing.{false-true}
 use Rattle.crx_engine.proofs.following.Memory.{TakesAsItStands, allowed-again, allowed-first}
 use Rattle.std.proofs.Common.{subst, ◌+◌, ◌-◌, ◌≤◌, drop, arith}

@@ -6,9 +6,8 @@ use Rattle.std.specs.Result.{is_ok}
 use Rattle.std.proofs.lemmas.Option.{none-some}
 use Rattle.crx_lines.specs.meaning.Seen.{ReadLine, Content}
 use Rattle.crx_lines.specs.declared.fault.Fault.{Fault}
-use Rattle.crx_rinex.specs.meaning.EpochPlaces.{OpenEpoch, epoch_place, next_row, rows_wanted, with_next_row}
+use Rattle.crx_rinex.specs.meaning.EpochPlaces.{OpenEpoch, next_row, rows_wanted, with_next_row}
 use Rattle.crx_rinex.specs.meaning.Observations.{Epoch, Row}
-use Rattle.crx_rinex.specs.meaning.Places.{Place}
 use Rattle.crx_rinex.specs.meaning.Units.{Unit as FileUnit, Observation}
 use Rattle.crx_rinex.specs.EpochPlaces.{EpochStep, Going, Whole, Faulty, after_row, epoch_step, when_wanted}
 use Rattle.crx_reading.specs.meaning.Choices.{Choices}
@@ -30,9 +29,7 @@ use Rattle.crx_reading.proofs.Choosing.{false-true}
 use Rattle.crx_engine.proofs.following.Memory.{TakesAsItStands, allowed-again, allowed-first}
 use Rattle.crx_engine.proofs.reading.Forward.{rinex-forward}
 use Rattle.crx_engine.proofs.reading.Stopping.{reading-stopped}
-
-abbrev pub rinex_beginning : List (Item Epoch) → List ReadLine → Place (FileUnit Epoch)
-rinex_beginning items = epoch_place (types_in_force items)
+use Rattle.crx_engine.proofs.reading.Forward.{rinex_beginning}
 
 -- ---- satellites' lines
 

@@ -1,7 +1,7 @@
 -- Lines of a RINEX file one by one: what the last of some lines makes is what stands at them. Every direction that
 -- reads RINEX goes this way.
 use Rattle.std.proofs.Common.{ℕ, zero, suc, ◌≡◌, ◌⊎◌, List, [], ◌∷◌, ◌++◌}
-use Rattle.std.proofs.Common.{length, Option, Some, None, Result, Ok, Err, inl}
+use Rattle.std.proofs.Common.{length, Some, None, Result, Ok, Err, inl}
 use Rattle.std.proofs.Common.{inr, refl, sym, ◌∙◌}
 use Rattle.std.proofs.lemmas.Option.{none-some}
 use Rattle.crx_lines.specs.meaning.Seen.{ReadLine, Content, Overlong}
@@ -15,7 +15,7 @@ use Rattle.crx_rinex.specs.meaning.EpochPlaces.{beginning_of, opened}
 use Rattle.crx_rinex.specs.meaning.EpochPlaces.{rows_wanted, epoch_of, rows_at, epoch_place}
 use Rattle.crx_rinex.specs.EpochPlaces.{EpochStep, Going, Whole, Faulty}
 use Rattle.crx_rinex.specs.EpochPlaces.{when_wanted, whole_or_going, epoch_step}
-use Rattle.crx_rinex.specs.EpochPlaces.{still_open, open_after, open_with, place_after}
+use Rattle.crx_rinex.specs.EpochPlaces.{still_open, open_with, place_after}
 use Rattle.crx_rinex.proofs.OpenEpochs.{wanted-open, next-by_open}
 use Rattle.crx_reading.specs.meaning.Choices.{Choices}
 use Rattle.crx_reading.specs.meaning.Items.{Item, types_in_force}
@@ -23,6 +23,7 @@ use Rattle.crx_reading.specs.LineByLine.{Made, Direction}
 use Rattle.crx_reading.specs.CompactionByLine.{made_of_epoch_step, made_of_beginning, rinex_begins}
 use Rattle.crx_reading.specs.CompactionByLine.{rinex_open}
 use Rattle.crx_engine.proofs.following.Following.{IsSameEpoch, AgreeOn}
+use Rattle.crx_rinex.proofs.OpenEpochs.{open_none}
 
 -- ---- what is asked of a direction
 
@@ -37,10 +38,6 @@ pub record AreSame {K : Type 0} (direction : Direction Epoch OpenEpoch K) (kept_
 pub either-same : {X : Type 0} {a b : X} → (a ≡ b) ⊎ (a ≡ b) → a ≡ b
 either-same (inl e) = e
 either-same (inr e) = e
-
-still-open : (so_far : Option OpenEpoch) → open_after so_far [] ≡ so_far
-still-open None = refl
-still-open (Some so_far) = refl
 
 -- ---- one line
 
@@ -68,7 +65,7 @@ module _ {K : Type 0} {direction : Direction Epoch OpenEpoch K} {kept_of : List 
   agree-beginning items content (Ok (EventBegins line)) e = (1, rw e refl, refl)
   agree-beginning items content (Ok (EpochBegins head)) e = agree-when items content
       (opened (types_in_force items) head) (rows_wanted (opened (types_in_force items) head))
-      (rw e refl) (rw e (still-open (still_open (whole_or_going (opened (types_in_force items) head)))))
+      (rw e refl) (rw e (open_none (still_open (whole_or_going (opened (types_in_force items) head)))))
 
   pub agree-begins : (items : List (Item Epoch)) (line : ReadLine)
       → Agrees items (line ∷ []) (rinex_begins (types_in_force items) (kept_of items) line)

@@ -1,5 +1,5 @@
 -- Lines that are written one after another, each with LF.
-use Rattle.std.proofs.Common.{◌≡◌, ℕ, ◌+◌, ◌<◌, List, [], ◌∷◌, ◌++◌, length, take, drop, Some, None, refl, sym, ap, ◌∙◌}
+use Rattle.std.proofs.Common.{◌≡◌, ℕ, ◌+◌, ◌<◌, List, [], ◌∷◌, ◌++◌, length, take, drop, Some, sym, ap, ◌∙◌}
 use Rattle.std.proofs.Common.{arith, append_assoc, length-append}
 use Rattle.std.specs.Prelude.{slice_get}
 use Rattle.std.proofs.Math.Seq.{take-append-add}
@@ -11,10 +11,6 @@ pub first-and-rest : (lines : List (List ℕ)) (line : List ℕ)
     → Some line ≡ slice_get lines 0 → lines ≡ line ∷ drop 1 lines
 first-and-rest [] line is = cc
 first-and-rest (l ∷ ls) line is = let same : line ≡ l = cc in ap (λ (x : List ℕ). x ∷ ls) (sym same)
-
-pub none-left : (lines : List (List ℕ)) → None ≡ slice_get lines 0 → lines ≡ []
-none-left [] is = refl
-none-left (l ∷ ls) is = cc
 
 -- what is still to be written after a line and its LF
 pub one-written : (all written line : List ℕ) (lines : List (List ℕ))

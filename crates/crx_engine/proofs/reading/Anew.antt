@@ -31,6 +31,7 @@ use Rattle.crx_engine.proofs.reading.Resuming.{by_place}
 use Rattle.crx_engine.proofs.reading.WhatStands.{OfHere, first-line, unless-wrong, of-compact}
 use Rattle.crx_engine.proofs.following.Following.{body-place}
 use Rattle.crx_engine.proofs.following.Lines.{record-place}
+use Rattle.crx_engine.proofs.reading.ForwardCompact.{compact_beginning}
 
 -- ---- the types after a record
 
@@ -119,24 +120,20 @@ begin-by_block types one two (Overlong ∷ lines) e =
 begin-by_block types one two (Content line ∷ lines) e =
     rw (epoch-by_block types one two (Content line ∷ lines) e) refl
 
--- where an epoch or an event may begin
-abbrev beginning : List (Item ReadEpoch) → List ReadLine → Place (FileUnit ReadEpoch)
-beginning items = compact_epoch_place (types_in_force items) (raws_kept items)
-
 event-same : (a b : List (Item ReadEpoch)) (left : ℕ) (lines : List ReadLine)
     → AreAlike a b → records_left a ≡ suc left → compact_place a lines ≡ compact_place b lines
 event-same a b left lines h some =
-    record-place beginning a left lines h.one some
+    record-place compact_beginning a left lines h.one some
     ∙ ap (λ c. first_line lines (event_record c)) (h.counts (omega (arith, some)))
-    ∙ sym (record-place beginning b left lines h.two (sym h.left ∙ some))
+    ∙ sym (record-place compact_beginning b left lines h.two (sym h.left ∙ some))
 
 place-same : (a b : List (Item ReadEpoch)) (lines : List ReadLine)
     → AreSame a b → (n : ℕ) → records_left a ≡ n → compact_place a lines ≡ compact_place b lines
 place-same a b lines h zero none =
-    body-place beginning a lines h.alike.one none
+    body-place compact_beginning a lines h.alike.one none
     ∙ begin-by_block (types_in_force a) (raws_kept a) (raws_kept b) lines h.block
     ∙ ap (λ types. compact_epoch_place types (raws_kept b) lines) h.alike.types
-    ∙ sym (body-place beginning b lines h.alike.two (sym h.alike.left ∙ none))
+    ∙ sym (body-place compact_beginning b lines h.alike.two (sym h.alike.left ∙ none))
 place-same a b lines h (suc left) some = event-same a b left lines h.alike some
 
 -- ---- which units can stand there
@@ -153,9 +150,9 @@ begun-follows items types raws lines =
 
 unit-follows : (items : List (Item ReadEpoch)) (lines : List ReadLine) → header_has_ended items ≡ true
     → (n : ℕ) → records_left items ≡ n → OfHere (MayFollow items) (compact_place items lines)
-unit-follows items lines ended zero none = rw (body-place beginning items lines ended none)
+unit-follows items lines ended zero none = rw (body-place compact_beginning items lines ended none)
     (begun-follows items (types_in_force items) (raws_kept items) lines)
-unit-follows items lines ended (suc left) some = rw (record-place beginning items left lines ended some)
+unit-follows items lines ended (suc left) some = rw (record-place compact_beginning items left lines ended some)
     (first-line (MayFollow items) (event_record (records_count_types items)) lines
     (λ line. unless-wrong (MayFollow items) (EventRecord line)
     (cond (records_count_types items) (types_fault line) None) (λ good. omega (arith, some))))
@@ -286,8 +283,8 @@ module _ (skip : Bool) (units : ℕ) (ih : IsAnew skip units)
       → ReadAlike skip (suc units) a b number (Content line ∷ lines)
   anew-line line lines e begins anew =
       let all : List ReadLine = Content line ∷ lines in
-      let one : compact_place a all ≡ beginning a all = body-place beginning a all h.one e in
-      let two : compact_place b all ≡ beginning b all = body-place beginning b all h.two (sym h.left ∙ e) in
+      let one : compact_place a all ≡ compact_beginning a all = body-place compact_beginning a all h.one e in
+      let two : compact_place b all ≡ compact_beginning b all = body-place compact_beginning b all h.two (sym h.left ∙ e) in
       by_bool (is_event_line line)
       (λ on. alike-step all (one_line (event_line line)) (one ∙ rw on refl) (two ∙ rw on refl)
       (anew-event line lines (records_in line) refl (rw on at anew)))
@@ -299,15 +296,15 @@ module _ (skip : Bool) (units : ℕ) (ih : IsAnew skip units)
   anew-step : (lines : List ReadLine) (left : ℕ) → records_left a ≡ left → starts_anew left lines ≡ true
       → ReadAlike skip (suc units) a b number lines
   anew-step [] zero e anew = alike-step [] Wanted
-      (body-place beginning a [] h.one e) (body-place beginning b [] h.two (sym h.left ∙ e)) tt
+      (body-place compact_beginning a [] h.one e) (body-place compact_beginning b [] h.two (sym h.left ∙ e)) tt
   anew-step (Overlong ∷ lines) zero e anew = absurd (cc)
   anew-step (Content line ∷ lines) zero e anew =
       let both = and_parts (begins_epoch line) _ anew in
       anew-line line lines e both.0 both.1
   anew-step lines (suc left) e anew =
       alike-step lines (first_line lines (event_record (records_count_types a)))
-      (record-place beginning a left lines h.one e)
-      (sym (event-same a b left lines h e) ∙ record-place beginning a left lines h.one e) (next lines anew)
+      (record-place compact_beginning a left lines h.one e)
+      (sym (event-same a b left lines h e) ∙ record-place compact_beginning a left lines h.one e) (next lines anew)
     where
       next : (lines : List ReadLine) → starts_anew (suc left) lines ≡ true
           → Next lines (first_line lines (event_record (records_count_types a)))

@@ -27,7 +27,8 @@ use Rattle.crx_engine.proofs.following.Following.{seen_in}
 use Rattle.crx_engine.proofs.following.Lines.{never-before}
 use Rattle.crx_engine.proofs.reading.Stopping.{reading-stopped}
 use Rattle.crx_engine.proofs.following.Compaction.{compaction-carried_out}
-use Rattle.crx_engine.proofs.following.Expansion.{compact_beginning, expansion-carried_out}
+use Rattle.crx_engine.proofs.following.Expansion.{expansion-carried_out}
+use Rattle.crx_engine.proofs.reading.ForwardCompact.{compact_beginning}
 use Rattle.crx_engine.proofs.following.ExpandedOn.{reading_by, seen_by}
 use Rattle.crx_engine.proofs.reading.Ending.{next-end}
 

@@ -57,10 +57,11 @@ in-event : {E : Type 0} (items : List (Item E)) (left : ℕ)
 in-event [] left e f = absurd (cc)
 in-event (item ∷ before) left e f = let more : nat_lt 0 (suc left) ≡ true = search rules in rw (e, f, more) refl
 
-between : {E : Type 0} (items : List (Item E))
+-- the end after whole units is good
+pub closes-well : {E : Type 0} (items : List (Item E))
     → header_has_ended items ≡ true → records_left items ≡ 0 → fault_at_end items [] ≡ None
-between [] e f = absurd (cc)
-between (item ∷ before) e f = rw (e, f) refl
+closes-well [] e f = absurd (cc)
+closes-well (item ∷ before) e f = rw (e, f) refl
 
 in-epoch : {E : Type 0} (items : List (Item E)) (line : ReadLine) (lines : List ReadLine)
     → header_has_ended items ≡ true → fault_at_end items (line ∷ lines) ≡ Some Truncated
@@ -115,7 +116,7 @@ lines-end {O = O} beginning direction open_with
     let phase : phase_after_items items (open_with items rest) ≡ BetweenUnits = body-phase items
     (open_with items rest) has_ended e_left ∙ ap (λ o. phase_in_body 0 (records_count_types items) o) e_open in
     let fault : fault_at_end items rest ≡ None = ap (λ ls. fault_at_end items ls) none
-    ∙ between items has_ended e_left in
+    ∙ closes-well items has_ended e_left in
     rw (phase, fault)
     (ends-same direction unit_lines choices items count BetweenUnits (types_in_force items) (kept_of items) None
     (λ f. skipped-same {O = O} choices count BetweenUnits

@@ -4,6 +4,8 @@ use Rattle.crx_lines.specs.meaning.Seen.{ReadLine}
 use Rattle.crx_rinex.specs.meaning.Places.{Place, Wanted, first_line}
 use Rattle.crx_rinex.specs.Steady.{IsSteady}
 use Rattle.crx_rinex.specs.meaning.Units.{Unit as FileUnit}
+use Rattle.crx_rinex.specs.meaning.Observations.{Epoch}
+use Rattle.crx_rinex.specs.meaning.EpochPlaces.{epoch_place}
 use Rattle.crx_rinex.proofs.Steady.{steady-first_line}
 use Rattle.crx_rinex.proofs.OpenEpochs.{steady-epoch_place}
 use Rattle.crx_reading.specs.meaning.Items.{Item, is_at_start, header_has_ended, records_left, records_count_types}
@@ -12,6 +14,10 @@ use Rattle.crx_reading.specs.meaning.UnitPlaces.{header_line, event_record, unit
 use Rattle.crx_reading.specs.meaning.Compacted.{rinex_place}
 use Rattle.crx_engine.specs.Laws.{IsReadForward}
 use Rattle.std.specs.Prelude.{nat_lt}
+
+-- where an epoch or an event may begin in RINEX
+abbrev pub rinex_beginning : List (Item Epoch) → List ReadLine → Place (FileUnit Epoch)
+rinex_beginning items = epoch_place (types_in_force items)
 
 -- one place or another
 chosen_steady : {X : Type 0} (b : Bool) (one two : List ReadLine → Place X)

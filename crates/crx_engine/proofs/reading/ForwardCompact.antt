@@ -1,43 +1,30 @@
 -- What stands at a line of compact text is certain as soon as its last line has come.
 use Rattle.std.proofs.Common.{ℕ, suc, ◌<◌, List, [], ◌∷◌, ◌++◌, length, Result, Ok, Err, refl, ap, arith}
-use Rattle.crx_lines.specs.meaning.Seen.{Content, Overlong}
+use Rattle.crx_lines.specs.meaning.Seen.{ReadLine, Content, Overlong}
+use Rattle.crx_rinex.specs.meaning.Units.{Unit as FileUnit}
 use Rattle.crx_lines.specs.declared.fault.Fault.{Fault}
 use Rattle.crx_rinex.specs.meaning.Places.{Place, Here, Wrong, Wanted, then_place, one_line, first_line}
 use Rattle.crx_rinex.specs.Steady.{IsSteady, Remains, IsDecidedAfter}
 use Rattle.crx_rinex.specs.meaning.EpochLines.{is_event_line}
 use Rattle.crx_rinex.specs.meaning.ObservationTypes.{Count}
 use Rattle.crx_rinex.proofs.Steady.{steady-here, steady-first_line, steady-then}
-use Rattle.crx_history.specs.meaning.EpochText.{Satellite}
 use Rattle.crx_history.specs.meaning.Expansion.{RawEpoch}
-use Rattle.crx_history.specs.meaning.Past.{Past, past_of_line}
-use Rattle.crx_history.specs.meaning.CompactPlaces.{ReadEpoch, BegunEpoch, epoch_begun, clock_line_read}
-use Rattle.crx_history.specs.meaning.CompactPlaces.{satellite_line_read, rows_read, epoch_of_rows, epoch_after_line}
+use Rattle.crx_history.specs.meaning.Past.{past_of_line}
+use Rattle.crx_history.specs.meaning.CompactPlaces.{ReadEpoch, epoch_begun}
+use Rattle.crx_history.specs.meaning.CompactPlaces.{epoch_after_line}
 use Rattle.crx_history.specs.meaning.CompactPlaces.{epoch_at}
-use Rattle.crx_reading.specs.meaning.Items.{types_in_force}
+use Rattle.crx_reading.specs.meaning.Items.{Item, types_in_force}
 use Rattle.crx_reading.specs.meaning.Expanded.{raws_kept, event_line, as_observation, compact_epoch_place}
 use Rattle.crx_reading.specs.meaning.Expanded.{compact_place}
 use Rattle.crx_reading.specs.meaning.Expanded.{crinex_version, crinex_program, first_lines}
 use Rattle.crx_reading.proofs.Choosing.{by_bool}
 use Rattle.crx_engine.specs.Laws.{IsReadForward}
 use Rattle.crx_engine.proofs.reading.Forward.{unit_place-forward}
+use Rattle.crx_compact.proofs.reading.SteadyEpochs.{steady-after_line}
 
-steady-rows_read : (past : Past) (satellites : List Satellite) → IsSteady (rows_read past satellites)
-steady-rows_read past [] = steady-here []
-steady-rows_read past (satellite ∷ satellites) =
-    steady-then (λ lines. first_line lines (satellite_line_read past satellite))
-    (λ row others. then_place (rows_read past satellites others) others (λ rows rest. Here (row ∷ rows) 0))
-    (steady-first_line (satellite_line_read past satellite))
-    (λ row. steady-then (rows_read past satellites)
-    (λ rows rest. Here (row ∷ rows) 0) (steady-rows_read past satellites) (λ rows. steady-here (row ∷ rows)))
-
-steady-after_line : (begun : BegunEpoch) → IsSteady (epoch_after_line begun)
-steady-after_line begun =
-    steady-then (λ lines. first_line lines (clock_line_read begun.past))
-    (λ clock others. then_place (rows_read begun.past begun.satellites others) others
-    (λ rows rest. Here (epoch_of_rows begun clock rows) 0))
-    (steady-first_line (clock_line_read begun.past))
-    (λ clock. steady-then (rows_read begun.past begun.satellites) (λ rows rest. Here (epoch_of_rows begun clock rows) 0)
-    (steady-rows_read begun.past begun.satellites) (λ rows. steady-here (epoch_of_rows begun clock rows)))
+-- where an epoch or an event may begin in compact text
+abbrev pub compact_beginning : List (Item ReadEpoch) → List ReadLine → Place (FileUnit ReadEpoch)
+compact_beginning items = compact_epoch_place (types_in_force items) (raws_kept items)
 
 pub steady-epoch_at : (types : List Count) (older : List RawEpoch) → IsSteady (epoch_at types older)
 steady-epoch_at types older =

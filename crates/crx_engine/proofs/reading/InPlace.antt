@@ -30,6 +30,7 @@ use Rattle.crx_engine.proofs.following.Following.{body-place}
 use Rattle.crx_engine.proofs.following.Lines.{record-place}
 use Rattle.crx_engine.proofs.reading.Types.{counts-in_force}
 use Rattle.crx_engine.proofs.reading.WhatStands.{OfHere, OfOk, chosen, first-line, unless-wrong}
+use Rattle.crx_engine.proofs.reading.Forward.{rinex_beginning}
 
 -- ---- an epoch or an event
 
@@ -105,21 +106,17 @@ begun-in_place before (EventRecord line) lines count ended none e h = absurd h
 begun-in_place before (Observation epoch) lines count ended none e h = let whole =
     sound-epoch_place (types_in_force before) lines epoch count (counts-in_force before) e in (ended, none, whole.0)
 
--- where an epoch or an event may begin
-abbrev beginning : List (Item Epoch) → List ReadLine → Place (FileUnit Epoch)
-beginning before = epoch_place (types_in_force before)
-
 in-body : (before : List (Item Epoch)) (unit : FileUnit Epoch) (lines : List ReadLine) (count : ℕ)
     → rinex_place before lines ≡ Here unit count
     → header_has_ended before ≡ true → (left : ℕ) → records_left before ≡ left → IsInPlace before unit
 in-body before unit lines count e ended zero none =
     let here : epoch_place (types_in_force before) lines ≡ Here unit count =
-    sym (body-place beginning before lines ended none) ∙ e in
+    sym (body-place rinex_beginning before lines ended none) ∙ e in
     begun-in_place before unit lines count ended none here
     (subst (λ p. OfHere IsBegun p) here (place-begun (types_in_force before) lines))
 in-body before unit lines count e ended (suc left) some =
     let here : first_line lines (event_record (records_count_types before)) ≡ Here unit count =
-    sym (record-place beginning before left lines ended some) ∙ e in
+    sym (record-place rinex_beginning before left lines ended some) ∙ e in
     subst (λ p. OfHere (IsInPlace before) p) here
     (first-line (IsInPlace before) (event_record (records_count_types before)) lines
     (λ line. unless-wrong (IsInPlace before) (EventRecord line)

@@ -13,12 +13,13 @@ use Rattle.crx_rinex.specs.meaning.ObservationTypes.{types_of}
 use Rattle.crx_reading.specs.meaning.Items.{Item, Accepted, Warned, is_at_start, header_has_ended, records_left}
 use Rattle.crx_reading.specs.meaning.Items.{records_count_types, declaring_lines, types_in_force}
 use Rattle.crx_reading.specs.meaning.UnitPlaces.{types_fault, header_line_fault, event_record, unit_place}
-use Rattle.crx_reading.specs.meaning.Reading.{Reading, AtLines, reading_within, reading_from, fault_at_end, ended_with}
+use Rattle.crx_reading.specs.meaning.Reading.{Reading, AtLines, reading_within, reading_from, ended_with}
 use Rattle.crx_reading.specs.meaning.Reading.{ended_reading, whole_reading}
 use Rattle.crx_engine.specs.Laws.{continued_reading, IsReadForward, AreInPlace}
 use Rattle.crx_reading.specs.meaning.Results.{written_lines}
 use Rattle.crx_engine.proofs.reading.Resuming.{within-here, within-wanted, enough-units, resumed}
 use Rattle.crx_engine.proofs.following.Lines.{record-place}
+use Rattle.crx_engine.proofs.reading.Ending.{closes-well}
 
 -- a unit with what is known of its epoch where it is read again
 abbrev pub carried_unit : {E : Type 0}
@@ -162,12 +163,6 @@ reads-again place known lines_of_unit forward stands skip number (Accepted unit 
     (number + length first + length (map Content more)) (number + length (first ++ more)) (omega (arith, same, all))
 
 -- ---- the end
-
--- the end after whole units is good
-closes-well : {E : Type 0} (items : List (Item E))
-    → header_has_ended items ≡ true → records_left items ≡ 0 → fault_at_end items [] ≡ None
-closes-well [] e f = absurd (cc)
-closes-well (item ∷ before) e f = rw (e, f) refl
 
 pub whole-again : {E : Type 0} (place : List (Item E) → List ReadLine → Place (FileUnit E)) (known : List (Item Epoch)
     → Epoch → E) (lines_of_unit : List (Item Epoch) → FileUnit Epoch → List (List ℕ))

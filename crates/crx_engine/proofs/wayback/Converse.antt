@@ -21,7 +21,6 @@ use Rattle.crx_lines.specs.declared.limits.TheConstants.{OBSERVATION_WIDTH, OBSE
 use Rattle.crx_lines.specs.declared.limits.TheConstants.{CLOCK_DECIMALS}
 use Rattle.crx_lines.specs.meaning.Lines.{InputLine, pieces_of, ends_with_return, line_of, lines_of}
 use Rattle.crx_lines.specs.Reading.{HasNoFeed}
-use Rattle.crx_columns.specs.meaning.Columns.{is_blank, before_end_blanks, without_end_blanks}
 use Rattle.crx_columns.specs.meaning.Texts.{is_printable, is_kept}
 use Rattle.crx_lines.proofs.PieceLemmas.{pieces-first}
 use Rattle.crx_text.proofs.ReadBack.{decimal_is_digits}
@@ -35,13 +34,13 @@ use Rattle.crx_reading.specs.meaning.Items.{Item, Accepted, Warned, types_in_for
 use Rattle.crx_reading.specs.meaning.Reading.{WholeReading}
 use Rattle.crx_reading.specs.meaning.Results.{FilterResult}
 use Rattle.crx_reading.specs.meaning.Standard.{printed_items, whole_of, IsStandard}
-use Rattle.crx_reading.proofs.Choosing.{by_bool}
 use Rattle.crx_engine.specs.Laws.{AreInPlace}
 use Rattle.crx_reading.specs.meaning.WayBack.{OfCopiedLines, HaveNoReturns}
 use Rattle.crx_engine.proofs.wayback.WayBack.{IsSettled, whole-settled}
 use Rattle.crx_engine.proofs.wayback.Cut.{CanStand, return-kept}
 use Rattle.crx_engine.proofs.wayback.Standard.{normal-comes_back}
 use Rattle.crx_engine.proofs.wayback.First.{append-printable, take-printable, printable-no_feed, printable-no_return}
+use Rattle.crx_compact.proofs.wayback.Standing.{trimmed-printable}
 
 -- a line that is plain wherever it is written
 pub record IsPlainLine (line : List ℕ) : Type 0 where
@@ -89,18 +88,6 @@ digits-text [] h = refl
 digits-text (c ∷ cs) h =
     let both = and_parts (is_ascii_digit c) _ h in
     and_from (is_printable c) (list_all is_printable cs) (digit-printable c both.0) (digits-text cs both.1)
-
-before-text : (c : ℕ) (text : List ℕ) → is_printable c ≡ true
-    → list_all is_printable text ≡ true → list_all is_printable (before_end_blanks c text) ≡ true
-before-text c [] h k = by_bool (is_blank c) (λ on. rw on refl) (λ off. rw (off, h) refl)
-before-text c (d ∷ ds) h k = and_from (is_printable c) (list_all is_printable (d ∷ ds)) h k
-
-without_blanks-text : (text : List ℕ)
-    → list_all is_printable text ≡ true → list_all is_printable (without_end_blanks text) ≡ true
-without_blanks-text [] h = refl
-without_blanks-text (c ∷ cs) h =
-    let both = and_parts (is_printable c) _ h in
-    before-text c (without_end_blanks cs) both.0 (without_blanks-text cs both.1)
 
 drop-text : (n : ℕ) (text : List ℕ) → list_all is_printable text ≡ true → list_all is_printable (drop n text) ≡ true
 drop-text zero text h = h
@@ -151,7 +138,7 @@ rows-printable : (rows : List Row)
     → All IsSoundRow rows → AllByRecursion (λ (line : List ℕ). list_all is_printable line ≡ true) (map printed_row rows)
 rows-printable [] k = tt
 rows-printable (row ∷ rows) k = (
-  without_blanks-text (row.name ++ printed_cells row.values row.flags)
+  trimmed-printable (row.name ++ printed_cells row.values row.flags)
       (append-printable row.name (printed_cells row.values row.flags)
       (kept-text row.name (sound-name_kept row (All-head IsSoundRow row rows k)))
       (cells-printable row.values row.flags (IsSoundRow.ranged (All-head IsSoundRow row rows k))
@@ -163,7 +150,7 @@ rows-printable (row ∷ rows) k = (
 pub epoch-printable : (types : List Count) (epoch : Epoch) → IsWholeEpoch types epoch
     → AllByRecursion (λ (line : List ℕ). list_all is_printable line ≡ true) (printed_epoch epoch)
 epoch-printable types epoch h = (
-  without_blanks-text (epoch.head ++ clock_text epoch.clock)
+  trimmed-printable (epoch.head ++ clock_text epoch.clock)
       (append-printable epoch.head (clock_text epoch.clock) (kept-text epoch.head (head-kept types epoch h))
       (number-printable CLOCK_WIDTH CLOCK_DECIMALS epoch.clock (omega arith) h.sound.head_sound.ranged)),
   rows-printable epoch.rows h.sound.rows_sound,

@@ -6,7 +6,7 @@ use Rattle.std.specs.Option.{is_some}
 use Rattle.std.proofs.lemmas.List.{length-map}
 use Rattle.crx_lines.specs.meaning.Seen.{ReadLine, Content}
 use Rattle.crx_rinex.specs.meaning.Observations.{Row, Epoch}
-use Rattle.crx_rinex.specs.meaning.Places.{Place, Here}
+use Rattle.crx_rinex.specs.meaning.Places.{Here}
 use Rattle.crx_rinex.specs.meaning.Units.{Unit as FileUnit, HeaderLine, EventLine, EventRecord, Observation}
 use Rattle.crx_rinex.specs.meaning.EpochLines.{is_event_line, records_in}
 use Rattle.crx_rinex.specs.meaning.ObservationTypes.{Count}
@@ -27,6 +27,7 @@ use Rattle.crx_reading.proofs.Choosing.{by_bool}
 use Rattle.crx_engine.proofs.following.Following.{body-place}
 use Rattle.crx_engine.proofs.wayback.Carried.{carried_unit, carried, header-same, start-same, left-same, count-same}
 use Rattle.crx_engine.proofs.wayback.Carried.{types-same, header-here, record-here}
+use Rattle.crx_engine.proofs.reading.ForwardCompact.{compact_beginning}
 
 -- an epoch with its mark
 abbrev pub marked_now : Option ℕ → List (Item Epoch) → Epoch → Marked
@@ -104,10 +105,6 @@ epoch-stands every before epoch h =
 
 -- ---- what stands at a unit's lines
 
--- where an epoch or an event may begin in compact text
-abbrev beginning : List (Item ReadEpoch) → List ReadLine → Place (FileUnit ReadEpoch)
-beginning items = compact_epoch_place (types_in_force items) (raws_kept items)
-
 event-here : (line : List ℕ) (o : Option ℕ)
     → records_in line ≡ o → is_some o ≡ true → event_line {E = ReadEpoch} line ≡ Ok (EventLine line)
 event-here line None e h = absurd (cc)
@@ -127,14 +124,14 @@ pub unit-here : (every : Option ℕ) (before : List (Item Epoch)) (unit : FileUn
     → compact_place (read_back every before) (map Content (body_unit every before unit))
     ≡ Here (unit_back every before unit) (length (body_unit every before unit))
 unit-here every before (HeaderLine line) h =
-    header-here beginning (read_back every before) line (header-same (known_back every) before ∙ (h.0).0)
+    header-here compact_beginning (read_back every before) line (header-same (known_back every) before ∙ (h.0).0)
     (ap (λ b. header_line_fault b line) (start-same (known_back every) before h.1) ∙ (h.0).1)
 unit-here every before (EventLine line) h =
-    body-place beginning (read_back every before) (Content line ∷ []) (header-same (known_back every) before
+    body-place compact_beginning (read_back every before) (Content line ∷ []) (header-same (known_back every) before
     ∙ (h.0).0) (left-same (known_back every) before h.1 ∙ (h.0).1)
     ∙ event-begins (types_in_force (read_back every before)) (raws_kept (read_back every before)) line (h.0).2 (h.0).3
 unit-here every before (EventRecord line) h =
-    record-here beginning (read_back every before) line (records_left before) (header-same (known_back every) before
+    record-here compact_beginning (read_back every before) line (records_left before) (header-same (known_back every) before
     ∙ (h.0).0) (left-same (known_back every) before h.1) (h.0).1
     (ap (λ b. cond b (types_fault line) None) (count-same (known_back every) before h.1 (h.0).1) ∙ (h.0).2)
 unit-here every before (Observation epoch) h =
@@ -148,7 +145,7 @@ unit-here every before (Observation epoch) h =
     let kept : length (map (λ (r : Row). satellite_line (run_of r.name (m ∷ older)) r) epoch.rows) ≡ length epoch.rows =
     length-map epoch.rows (λ (r : Row). satellite_line (run_of r.name (m ∷ older)) r) in
     let counted : 2 + length epoch.rows ≡ length (compact_epoch (m ∷ older)) = omega (arith, kept) in
-    body-place beginning (read_back every before) lines (header-same (known_back every) before
+    body-place compact_beginning (read_back every before) lines (header-same (known_back every) before
     ∙ (h.0).0) (left-same (known_back every) before h.1 ∙ (h.0).1)
     ∙ ap (λ types. compact_epoch_place types raws lines) (types-same (known_back every) before h.1)
     ∙ epoch-begins (types_in_force before) raws

@@ -20,7 +20,7 @@ use Rattle.crx_rinex.specs.meaning.EpochLines.{satellites_of}
 use Rattle.crx_rinex.specs.meaning.SatelliteLines.{IsSoundRow}
 use Rattle.crx_rinex.specs.meaning.Epochs.{IsWholeEpoch}
 use Rattle.crx_rinex.specs.meaning.EpochPlaces.{epoch_place}
-use Rattle.crx_rinex.specs.meaning.Places.{Place, Here}
+use Rattle.crx_rinex.specs.meaning.Places.{Here}
 use Rattle.crx_rinex.specs.meaning.Printing.{printed_cells, printed_row, printed_epoch, lines_text}
 use Rattle.crx_rinex.specs.meaning.Units.{Unit as FileUnit, HeaderLine, EventLine, EventRecord, Observation}
 use Rattle.crx_rinex.specs.meaning.Units.{printed_unit}
@@ -46,6 +46,7 @@ use Rattle.crx_engine.proofs.wayback.Cut.{IsClean, CanStand, lines-cut}
 use Rattle.crx_engine.proofs.wayback.Converse.{IsPlainLine, plain, lines-plain, printed-plain, all-plain}
 use Rattle.crx_engine.proofs.wayback.Converse.{contents-plain}
 use Rattle.crx_columns.proofs.EndBlanks.{few_kept}
+use Rattle.crx_engine.proofs.reading.Forward.{rinex_beginning}
 
 -- ---- what stands at a unit's printed lines
 
@@ -54,9 +55,6 @@ same_epoch before epoch = epoch
 
 abbrev accepted : List (Item Epoch) → List (Item Epoch)
 accepted items = carried same_epoch items
-
-abbrev beginning : List (Item Epoch) → List ReadLine → Place (FileUnit Epoch)
-beginning items = epoch_place (types_in_force items)
 
 event-stands : (types : List Count) (line : List ℕ) (o : Option ℕ) → records_in line ≡ o
     → is_some o ≡ true → is_event_line line ≡ true → epoch_place types (Content line ∷ []) ≡ Here (EventLine line) 1
@@ -67,21 +65,21 @@ event-stands types line (Some n) e h event =
 
 pub stands : StandsAgain rinex_place same_epoch (λ before. printed_unit)
 stands before (HeaderLine line) h =
-    header-here beginning (accepted before) line (header-same same_epoch before
+    header-here rinex_beginning (accepted before) line (header-same same_epoch before
     ∙ (h.0).0) (ap (λ b. header_line_fault b line) (start-same same_epoch before h.1) ∙ (h.0).1)
 stands before (EventLine line) h =
-    body-place beginning (accepted before) (Content line ∷ []) (header-same same_epoch before
+    body-place rinex_beginning (accepted before) (Content line ∷ []) (header-same same_epoch before
     ∙ (h.0).0) (left-same same_epoch before h.1 ∙ (h.0).1)
     ∙ event-stands (types_in_force (accepted before)) line (records_in line) refl (h.0).3 (h.0).2
 stands before (EventRecord line) h =
-    record-here beginning (accepted before) line (records_left before) (header-same same_epoch before
+    record-here rinex_beginning (accepted before) line (records_left before) (header-same same_epoch before
     ∙ (h.0).0) (left-same same_epoch before h.1) (h.0).1
     (ap (λ b. cond b (types_fault line) None) (count-same same_epoch before h.1 (h.0).1) ∙ (h.0).2)
 stands before (Observation epoch) h =
     let lines : List ReadLine = map Content (printed_epoch epoch) in
     let kept : length (map printed_row epoch.rows) ≡ length epoch.rows = length-map epoch.rows printed_row in
     let counted : length epoch.rows + 1 ≡ length (printed_epoch epoch) = omega (arith, kept) in
-    body-place beginning (accepted before) lines (header-same same_epoch before
+    body-place rinex_beginning (accepted before) lines (header-same same_epoch before
     ∙ (h.0).0) (left-same same_epoch before h.1 ∙ (h.0).1)
     ∙ ap (λ types. epoch_place types lines) (types-same same_epoch before h.1)
     ∙ ap (epoch_place (types_in_force before)) (sym (append-nil lines))

@@ -2,7 +2,7 @@
 -- its lines.
 use Rattle.std.proofs.Common.{ℕ, zero, suc, ◌≡◌, ◌≢◌, ◌+◌, Bool, true, false, cond, ◌⊎◌, inl, inr, List, [], ◌∷◌, map}
 use Rattle.std.proofs.Common.{length, drop, Option, Some, None, refl, ap, sym, ◌∙◌, subst}
-use Rattle.std.specs.Prelude.{◌==◌, not}
+use Rattle.std.specs.Prelude.{◌==◌}
 use Rattle.std.specs.List.{AllByRecursion, list_all}
 use Rattle.std.proofs.lemmas.Bool.Decides.{eqb_tells}
 use Rattle.std.proofs.lemmas.Bool.{and_parts}
@@ -31,6 +31,7 @@ use Rattle.crx_engine.proofs.reading.Resuming.{by_place}
 use Rattle.crx_engine.proofs.wayback.Cut.{OfContent, return-kept}
 use Rattle.crx_engine.proofs.wayback.Reading.{items-copied}
 use Rattle.crx_engine.proofs.wayback.WayBack.{comes-back}
+use Rattle.std.proofs.lemmas.Bool.{not-true}
 
 -- ---- where nothing is wrong, nothing is skipped
 
@@ -83,10 +84,6 @@ whole-copied P skip lines h = let r : Reading Epoch = rinex_reading skip lines i
 
 abbrev pub NoReturn : List ℕ → Type 0
 NoReturn line = ends_with_return line ≡ false
-
-not-true : (b : Bool) → not b ≡ true → b ≡ false
-not-true true e = absurd (cc)
-not-true false e = refl
 
 -- the bytes of a plain line, which no CR ends
 plain-piece : (p : Piece) → InputLine.is_plain (line_of p) ≡ true → (p.is_ended ≡ true) × NoReturn p.bytes

@@ -16,17 +16,14 @@ use Rattle.crx_reading.specs.meaning.Filters.{Filter}
 use Rattle.crx_reading.specs.meaning.Results.{FilterResult}
 use Rattle.crx_filter.specs.meaning.Runs.{RunsAs}
 use Rattle.crx_reading.specs.meaning.Standard.{checked}
-use Rattle.crx_program.specs.meaning.Dates.{IsDateText}
-use Rattle.crx_program.specs.declared.job.Job.{Job}
-use Rattle.crx_program.specs.declared.job.Tool.{Tool}
-use Rattle.crx_program.specs.declared.job.Tool.TheVariants.{Compact, Expand, Check}
-use Rattle.crx_program.specs.meaning.Program.{error_line, at_start, IsShownOr}
+use Rattle.crx_command.specs.meaning.Dates.{IsDefaultDate}
+use Rattle.crx_command.specs.declared.job.Job.{Job}
+use Rattle.crx_command.specs.declared.job.Tool.{Tool}
+use Rattle.crx_command.specs.declared.job.Tool.TheVariants.{Compact, Expand, Check}
+use Rattle.crx_command.specs.meaning.ErrorLines.{error_line}
+use Rattle.crx_program.specs.meaning.Program.{at_start, IsShownOr}
 
 -- ---- a run
-
--- the date of a run that has none among its words: the moment's, or none where no clock gives one
-abbrev pub IsDefaultDate : List ℕ → Type 0
-IsDefaultDate text = (text ≡ []) ⊎ ((nanoseconds : ℤ) × IsDateText nanoseconds text)
 
 -- the choices of a job; the date counts in a compaction alone
 abbrev pub IsChosen : Tool → Option (List ℕ) → Option ℕ → Bool → Choices → Type 0

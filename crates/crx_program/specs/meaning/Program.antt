@@ -1,29 +1,16 @@
 -- What a user reads where nothing is run, and what a run of the program leaves.
-use Rattle.std.specs.Prelude.{◌≡◌, ◌⊎◌, ⊤, ℕ, List, [], ◌++◌, Some, codes}
+use Rattle.std.specs.Prelude.{◌≡◌, ◌⊎◌, ℕ, List, [], Some}
 use Rattle.crx_lines.specs.meaning.Devices.{with_failed_flush, with_failed_write, with_flush}
 use Rattle.crx_lines.specs.declared.fault.Fault.{Fault}
 use Rattle.crx_lines.specs.declared.fault.Fault.TheVariants.{OutOfMemory, WriteFailed}
 use Rattle.crx_reading.specs.meaning.Messages.{error_text}
 use Rattle.crx_filter.specs.meaning.Spans.{Device, TookAll, TookPart}
-use Rattle.crx_program.specs.meaning.Planning.{Refusal, Parse, DashTwice, TwoFiles, BadDate, NoName}
-
--- ---- lines
-
--- what is wrong, and a name or nothing
-abbrev pub error_line : List ℕ → List ℕ → List ℕ
-error_line words name = codes "ERROR: " ++ words ++ name ++ codes "\n"
+use Rattle.crx_command.specs.meaning.Planning.{Refusal}
+use Rattle.crx_command.specs.meaning.ErrorLines.{IsLineOf}
 
 -- the message of a fault that came before the first line was read
 abbrev pub at_start : Fault → List ℕ
 at_start fault = error_text (Some (record { line = 0; fault = fault }))
-
--- the line of a refusal; where the parser refuses the words, no clause says which line it is
-abbrev pub IsLineOf : Refusal → List ℕ → Type 0
-IsLineOf Parse line = ⊤
-IsLineOf DashTwice line = line ≡ error_line (codes "- given twice") []
-IsLineOf TwoFiles line = line ≡ error_line (codes "more than one file name") []
-IsLineOf BadDate line = line ≡ error_line (codes "bad date") []
-IsLineOf (NoName name) line = line ≡ error_line (codes "no output name for ") name
 
 -- ---- messages
 

@@ -1,7 +1,7 @@
 use Rattle.std.proofs.Common.{subst, sym}
 use Rattle.crx_program.specs.meaning.Jobs.{IsFiltered}
 use Rattle.crx_filter.specs.meaning.Spans.{span, reader_span}
-use Rattle.crx_program.specs.declared.job.Tool.{Tool}
+use Rattle.crx_command.specs.declared.job.Tool.{Tool}
 use Rattle.crx_program.proofs.program.filter.Goals as goal
 
 pub returns-in-Compact : goal.returns-in-Compact

@@ -1,6 +1,6 @@
 use Rattle.std.proofs.Common.{◌∙◌, ap, string_bytes}
 use Rattle.crx_reading.specs.meaning.Choices.{is_date}
-use Rattle.crx_program.proofs.DateFits.{default_fits}
+use Rattle.crx_command.proofs.DateFits.{default_fits}
 use Rattle.crx_program.proofs.program.options_of.Goals as goal
 
 pub options_with-requires-in-None-Compact : goal.options_with-requires-in-None-Compact

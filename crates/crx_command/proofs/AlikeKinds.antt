@@ -1,0 +1,259 @@
+-- The kinds of error that a parse may have at some words come to one plan: help is never among others.
+use Rattle.std.proofs.Common.{⊎_elim, ◌≡◌, ◌+◌, ◌&&◌, ◌==◌, ℕ, Bool, zero, suc, true, false, not, cond}
+use Rattle.std.proofs.Common.{codes, refl, ap, List, [], ◌∷◌, min, length, nat_lt, Option, Some, None}
+use Rattle.std.proofs.Common.{is_some}
+use Rattle.std.specs.Prelude.{find, slice_get}
+use Rattle.std.specs.Option.{option_map_or}
+use Rattle.std.specs.Str.{bytes_eq, chars}
+use Rattle.clap.specs.Lexer.{long_of, short_of}
+use Rattle.clap.specs.Facts.{parser_of_value, unwrap_or_range}
+use Rattle.clap.specs.Matches.{count_text}
+use Rattle.clap.specs.ValueTests.{accepts}
+use Rattle.clap.specs.Walk.{Held, Names, Row, Rule, Step, Text, Waiting, Walk, action_of, answers_to, arg_by_id}
+use Rattle.clap.specs.Walk.{arg_by_index, arg_by_long, arg_by_short, attached_value, count_of, most_values}
+use Rattle.clap.specs.Walk.{nothing_held, reacted, settled, subcommand_met, takes_values, values_or_missing, walk}
+use Rattle.clap.specs.Walk.{walk_from, walked, with_default, word_met, idle, next}
+use Rattle.clap.specs.Walk.{option, positional, subcommand, trailing, value}
+use Rattle.clap.specs.Simple.{App, Shape, argument_words, built, label_of, names_of}
+use Rattle.clap.specs.Kinds.{IsAmong, Kinds, check_kinds, or_else, range_kinds, request_kinds, value_kinds}
+use Rattle.clap.specs.Kinds.{values_kinds}
+use Rattle.clap.specs.Faults.{action_fault, built_fault, bundle_step_fault, count_fault}
+use Rattle.clap.specs.Faults.{default_fault, defaults_fault, entered_fault, fault_of, flag_word_fault, flags_fault}
+use Rattle.clap.specs.Faults.{level_fault, long_fault, option_fault, other_fault, positional_fault}
+use Rattle.clap.specs.Faults.{react_fault, repeat_fault, set_fault, settle_fault, short_fault, step_fault, stray_fault}
+use Rattle.clap.specs.Faults.{turn_fault, use_fault, walk_fault, word_fault}
+use Rattle.clap.specs.declared.builder.ArgAction.{ArgAction}
+use Rattle.clap.specs.declared.builder.ArgAction.TheVariants as action
+use Rattle.clap.specs.declared.builder.ValueParser.{ValueParser}
+use Rattle.clap.specs.declared.error.ErrorKind.{ErrorKind}
+use Rattle.clap.specs.declared.error.ErrorKind.TheVariants as kind
+use Rattle.crx_command.specs.meaning.Commands.{program}
+use Rattle.crx_command.specs.meaning.Planning.{Plan, by_kind, by_kinds}
+
+-- each of the kinds comes to the plan of the first
+pub record Alike (kinds : Kinds) : Type 0 where
+  pub same : (k : ErrorKind) (plan : Plan) → IsAmong k kinds → by_kind k ≡ by_kinds kinds plan
+
+alike_none : Alike []
+alike_none = record { same = λ k plan h. absurd h }
+
+alike_one : (x : ErrorKind) → Alike (x ∷ [])
+alike_one x = record { same = λ k plan h. ⊎_elim (λ same. ap by_kind same) (λ none. absurd none) h }
+
+alike_or : (a b : Kinds) → Alike a → Alike b → Alike (or_else a b)
+alike_or [] b h g = g
+alike_or (x ∷ xs) b h g = h
+
+alike_if : (test : Bool) (a b : Kinds) → Alike a → Alike b → Alike (cond test a b)
+alike_if true a b h g = h
+alike_if false a b h g = g
+
+alike_option : {X : Type 0} (f : X → Kinds) (o : Option X) → ((x : X) → Alike (f x)) → Alike (option_map_or f o [])
+alike_option f None h = alike_none
+alike_option f (Some x) h = h x
+
+-- ---- one use of an argument
+
+alike_value : (i : Bool) (p : ValueParser) (text : Text) → Alike (value_kinds i p text)
+alike_value i p text = alike_if (accepts i p text) _ _ alike_none (alike_one _)
+
+alike_values : (i : Bool) (p : ValueParser) (texts : List Text) → Alike (values_kinds i p texts)
+alike_values i p [] = alike_none
+alike_values i p (text ∷ rest) = alike_or (value_kinds i p text) _ (alike_value i p text) (alike_values i p rest)
+
+alike_range : (least most n : ℕ) → Alike (range_kinds least most n)
+alike_range least most n = alike_if (nat_lt 0 least && n == 0) _ _ (alike_one _)
+    (alike_if (least == most) _ _ (alike_if (least == n) _ _ alike_none (alike_one _))
+    (alike_if (nat_lt n least) _ _ (alike_one _) (alike_if (nat_lt most n) _ _ (alike_one _) alike_none)))
+
+alike_request : (x : ArgAction) → Alike (request_kinds x)
+alike_request action.Help = alike_one _
+alike_request action.HelpShort = alike_one _
+alike_request action.HelpLong = alike_one _
+alike_request action.Version = alike_one _
+alike_request action.Set = alike_none
+alike_request action.Append = alike_none
+alike_request action.SetTrue = alike_none
+alike_request action.SetFalse = alike_none
+alike_request action.Count = alike_none
+
+alike_count : (a : Rule) (values : List Text) (rows : List Row) → Alike (count_fault a values rows)
+alike_count a [] rows = alike_value a.ignore_case
+    (parser_of_value a.parser) (count_text (min (count_of a.id rows + 1) 255))
+alike_count a (v ∷ vs) rows = alike_values _ _ (v ∷ vs)
+
+alike_set : (again : Bool) (a : Rule) (values : List Text) (rows : List Row) → Alike (set_fault again a values rows)
+alike_set again a values rows =
+    alike_or (repeat_fault again a.id rows) _ (alike_if _ _ _ (alike_one _) alike_none) (alike_values _ _ values)
+
+alike_action : (x : ArgAction) (again : Bool) (a : Rule) (values : List Text) (rows : List Row)
+    → Alike (action_fault x again a values rows)
+alike_action action.Set again a values rows = alike_set again a values rows
+alike_action action.SetTrue again a values rows = alike_set again a values rows
+alike_action action.SetFalse again a values rows = alike_set again a values rows
+alike_action action.Append again a values rows = alike_values _ _ values
+alike_action action.Count again a values rows = alike_count a values rows
+alike_action action.Help again a values rows = alike_one _
+alike_action action.HelpShort again a values rows = alike_one _
+alike_action action.HelpLong again a values rows = alike_one _
+alike_action action.Version again a values rows = alike_one _
+
+alike_use : (again : Bool) (a : Rule) (values : List Text) (rows : List Row) → Alike (use_fault again a values rows)
+alike_use again a values rows =
+    alike_or (range_kinds (unwrap_or_range a.range).start_inclusive (most_values a) (length values)) _
+    (alike_range (unwrap_or_range a.range).start_inclusive (most_values a) (length values))
+    (alike_action (action_of a) again a (values_or_missing a values) rows)
+
+-- ---- the words
+
+alike_settle : (c : List Rule) (again : Bool) (h : Held) → Alike (settle_fault c again h)
+alike_settle c again h = alike_option _ h.pending
+    (λ p. alike_option _ (arg_by_id c p.0) (λ a. alike_use again a p.1 h.rows))
+
+alike_react : (c : List Rule) (again : Bool) (a : Rule) (values : List Text) (h : Held)
+    → Alike (react_fault c again a values h)
+alike_react c again a values h =
+    alike_or (settle_fault c again h) _ (alike_settle c again h) (alike_use again a values (settled c h).rows)
+
+alike_with_value : (c : List Rule) (again : Bool) (a : Rule) (v : Option Text) (h : Held)
+    → Alike (option_fault c again a v h)
+alike_with_value c again a (Some v) h = alike_react c again a (v ∷ []) h
+alike_with_value c again a None h = alike_settle c again h
+
+alike_long : (c : List Rule) (again : Bool) (found : Option Rule) (v : Option Text) (h : Held)
+    → Alike (long_fault c again found v h)
+alike_long c again None v h = alike_one _
+alike_long c again (Some a) v h =
+    alike_if (takes_values a) _ _ (alike_with_value c again a v h)
+    (alike_if (is_some v) _ _ (alike_one _) (alike_react c again a [] h))
+
+alike_short : (c : List Rule) (again : Bool) (found : Option Rule) (rest : Text) (h : Held) (more : Held → Kinds)
+    → ((g : Held) → Alike (more g))
+    → Alike (short_fault c again found rest h more)
+alike_short c again None rest h more each = alike_one _
+alike_short c again (Some a) rest h more each =
+    alike_if (takes_values a) _ _ (alike_with_value c again a (attached_value rest) h)
+    (alike_or (react_fault c again a [] h) _ (alike_react c again a [] h) (each (reacted c a [] h)))
+
+alike_bundle_step : (c : List Rule)
+    (again : Bool) (x : Option ℕ) (flags : Text) (skip : ℕ) (h : Held) (more : Text → ℕ → Held → Kinds)
+    → ((t : Text) (n : ℕ) (g : Held) → Alike (more t n g)) → Alike (bundle_step_fault c again x flags skip h more)
+alike_bundle_step c again None flags skip h more each = alike_none
+alike_bundle_step c again (Some x) flags zero h more each =
+    alike_short c again (arg_by_short c x) _ h _ (λ g. each _ 0 g)
+alike_bundle_step c again (Some x) flags (suc skip) h more each = each _ skip h
+
+alike_flags : (c : List Rule) (again : Bool) (k : ℕ) (flags : Text) (skip : ℕ) (h : Held)
+    → Alike (flags_fault c again k flags skip h)
+unfolding flags_fault
+alike_flags c again zero flags skip h = alike_none
+alike_flags c again (suc k) flags skip h =
+    alike_bundle_step c again (slice_get (chars flags) 0) flags skip h (flags_fault c again k) (alike_flags c again k)
+
+alike_flag_word : (c : List Rule) (again : Bool) (long : Option (Text × Option Text)) (word : Text) (h : Held)
+    → Alike (flag_word_fault c again long word h)
+alike_flag_word c again (Some p) word h = alike_long c again (arg_by_long c p.0) p.1 h
+alike_flag_word c again None word h =
+    alike_option _ (short_of word) (λ flags. alike_flags c again (length flags) flags h.skip (record h { skip = 0 }))
+
+alike_plain_word : (s : Shape) (word : Text) (h : Held) → Alike (other_fault s None word h)
+alike_plain_word s word h = alike_if
+    (bytes_eq word (45 ∷ 45 ∷ [])) _ _ alike_none (alike_flag_word s.rules s.args_override_self (long_of word) word h)
+
+-- no subcommand is called `help`, or there is none
+abbrev NoHelp : Shape → Names → Type 0
+NoHelp s names = (waiting : Waiting) (word : Text) (h : Held)
+    → Alike (other_fault s (subcommand_met names waiting word) word h)
+
+no_names : (s : Shape) → NoHelp s []
+no_names s idle word h = alike_plain_word s word h
+no_names s (option id) word h = alike_plain_word s word h
+no_names s positional word h = alike_plain_word s word h
+
+disabled : (s : Shape) (met : Option Text) (word : Text) (h : Held)
+    → s.disable_help_subcommand ≡ true → Alike (other_fault s met word h)
+disabled s None word h off = alike_plain_word s word h
+disabled s (Some name) word h off = rw off (go (bytes_eq name (codes "help")))
+  where
+    go : (b : Bool) → Alike (cond (b && not true) (kind.DisplayHelp ∷ kind.InvalidSubcommand ∷ []) [])
+    go true = alike_none
+    go false = alike_none
+
+alike_word : (s : Shape) (names : Names) (is_trailing : Bool) (waiting : Waiting) (word : Text) (h : Held)
+    → NoHelp s names → Alike (word_fault s names is_trailing waiting word h)
+alike_word s names is_trailing waiting word h off = alike_if is_trailing _ _ alike_none (off waiting word h)
+
+alike_positional : (c : List Rule) (again : Bool) (a : Rule) (h : Held) → Alike (positional_fault c again a h)
+alike_positional c again a h = alike_if _ _ _ alike_none (alike_settle c again h)
+
+alike_stray : (s : Shape) → Alike (stray_fault s)
+alike_stray s = alike_if s.is_leaf _ _ (alike_one _)
+    (record {
+      same = λ k plan h. ⊎_elim
+          (λ same. ap by_kind same) (λ more. ⊎_elim (λ same. ap by_kind same) (λ none. absurd none) more) h;
+    })
+
+alike_position : (s : Shape) (h : Held) (found : Option Rule)
+    → Alike (option_map_or (λ a. positional_fault s.rules s.args_override_self a h) found (stray_fault s))
+alike_position s h None = alike_stray s
+alike_position s h (Some a) = alike_positional s.rules s.args_override_self a h
+
+alike_step : (s : Shape) (position : ℕ) (h : Held) (step : Step) → Alike (step_fault s position h step)
+alike_step s position h value = alike_position s h (arg_by_index s.rules position)
+alike_step s position h (next w) = alike_none
+alike_step s position h (trailing n) = alike_none
+alike_step s position h (subcommand name) = alike_none
+
+alike_turn : (s : Shape) (names : Names) (w : Walk) (word : Text) → NoHelp s names → Alike (turn_fault s names w word)
+alike_turn s names w word off = alike_if (is_some w.stopped) _ _ alike_none
+    (alike_or (word_fault s names w.is_trailing w.waiting word w.held)
+    _ (alike_word s names w.is_trailing w.waiting word w.held off)
+    (alike_step s w.position (word_met s.rules names w.is_trailing w.waiting w.position word w.held).0
+    (word_met s.rules names w.is_trailing w.waiting w.position word w.held).1))
+
+alike_walk : (s : Shape) (names : Names) (w : Walk) (words : List Text)
+    → NoHelp s names → Alike (walk_fault s names w words)
+unfolding walk_fault
+alike_walk s names w [] off = alike_none
+alike_walk s names w (word ∷ rest) off = alike_or (turn_fault s names w word) _ (alike_turn s names w word off)
+    (alike_walk s names (walked s.rules names w word) rest off)
+
+-- ---- after the words
+
+alike_default : (rows : List Row) (a : Rule) → Alike (default_fault rows a)
+alike_default rows a = alike_if _ _ _ alike_none
+    (alike_or (request_kinds (action_of a)) _ (alike_request (action_of a)) (alike_values _ _ a.defaults))
+
+alike_defaults : (rows : List Row) (rules : List Rule) → Alike (defaults_fault rows rules)
+unfolding defaults_fault
+alike_defaults rows [] = alike_none
+alike_defaults rows (a ∷ rest) =
+    alike_or (default_fault rows a) _ (alike_default rows a) (alike_defaults (with_default rows a) rest)
+
+alike_checks : (a b d : Bool) → Alike (check_kinds a b d)
+alike_checks a b d = alike_if a _ _ (alike_one _)
+    (alike_if b _ _ (alike_one _) (alike_if d _ _ (alike_one _) alike_none))
+
+alike_level : (s : Shape) (names : Names) (h : Held) (words : List Text) (has : Bool) (below : Kinds)
+    → NoHelp s names → Alike below
+    → Alike (level_fault s names h words has below)
+alike_level s names h words has below off under =
+    alike_or (walk_fault s names (walk_from h) words) _ (alike_walk s names (walk_from h) words off)
+    (alike_or below _ under
+    (alike_or (settle_fault s.rules s.args_override_self (walk s.rules names h words).held)
+    _ (alike_settle s.rules s.args_override_self (walk s.rules names h words).held)
+    (alike_or (defaults_fault (settled s.rules (walk s.rules names h words).held).rows s.rules) _
+    (alike_defaults (settled s.rules (walk s.rules names h words).held).rows s.rules) (alike_checks _ _ _))))
+
+alike_entered : (a : App) (stop : Option (Text × List Text)) → Alike (entered_fault a stop)
+alike_entered a stop = alike_option _ stop (λ p. alike_option _ (find (λ s. answers_to p.0 (label_of s)) a.subs)
+    (λ s. alike_level s [] nothing_held p.1 false [] (no_names s) alike_none))
+
+alike_built : (a : App) (h : Held) (words : List Text)
+    → a.top.disable_help_subcommand ≡ true → Alike (built_fault a h words)
+alike_built a h words off =
+    alike_level a.top (names_of a) h words
+    _ _ (λ waiting word g. disabled a.top (subcommand_met (names_of a) waiting word) word g off) (alike_entered a _)
+
+pub program_alike : (words : List Text) → Alike (fault_of program words)
+program_alike words = alike_built (built program) nothing_held (argument_words program words) refl

@@ -1,0 +1,83 @@
+-- The date of a job that words ask for fits its columns.
+use Rattle.std.proofs.Common.{◌≡◌, ◌∙◌, ap, refl, cond, not, true, false, Bool, ℕ, List, [], ◌∷◌, Option, Some, None}
+use Rattle.std.proofs.Common.{nat_lt}
+use Rattle.std.specs.Option.{option_map_or}
+use Rattle.clap.specs.Faults.{fault_of}
+use Rattle.clap.specs.Kinds.{Kinds}
+use Rattle.clap.specs.Simple.{subcommand_of}
+use Rattle.clap.specs.Walk.{Row}
+use Rattle.clap.specs.declared.error.ErrorKind.{ErrorKind}
+use Rattle.clap.specs.declared.error.ErrorKind.TheVariants as kind
+use Rattle.crx_reading.specs.meaning.Choices.{is_date}
+use Rattle.crx_command.specs.meaning.Commands.{program}
+use Rattle.crx_command.specs.meaning.Names.{output_name}
+use Rattle.crx_command.specs.meaning.Planning.{Given, Plan, Help, Run, Refused, by_kind, by_kinds, given_in, judged}
+use Rattle.crx_command.specs.meaning.Planning.{of_subcommand, plan_of, tool_named, with_source, with_target, writes_file}
+use Rattle.crx_command.specs.declared.job.Job.{Job}
+use Rattle.crx_command.specs.declared.job.Tool.{Tool}
+
+-- whether the date of a plan fits, where it has one
+abbrev date_is : Option (List ℕ) → Bool
+date_is date = option_map_or is_date date true
+
+abbrev fits : Plan → Bool
+fits Help = true
+fits (Run job) = date_is job.date
+fits (Refused refusal) = true
+
+kind_fits : (k : ErrorKind) → fits (by_kind k) ≡ true
+kind_fits kind.InvalidValue = refl
+kind_fits kind.UnknownArgument = refl
+kind_fits kind.InvalidSubcommand = refl
+kind_fits kind.NoEquals = refl
+kind_fits kind.ValueValidation = refl
+kind_fits kind.TooManyValues = refl
+kind_fits kind.TooFewValues = refl
+kind_fits kind.WrongNumberOfValues = refl
+kind_fits kind.ArgumentConflict = refl
+kind_fits kind.MissingRequiredArgument = refl
+kind_fits kind.MissingSubcommand = refl
+kind_fits kind.DisplayHelp = refl
+kind_fits kind.DisplayHelpOnMissingArgumentOrSubcommand = refl
+kind_fits kind.DisplayVersion = refl
+kind_fits kind.Io = refl
+kind_fits kind.Format = refl
+kind_fits kind.OutOfMemory = refl
+
+kinds_fit : (kinds : Kinds) (plan : Plan) → fits plan ≡ true → fits (by_kinds kinds plan) ≡ true
+kinds_fit [] plan h = h
+kinds_fit (k ∷ more) plan h = kind_fits k
+
+target_fits : (tool : Tool) (given : Given) (source : List ℕ) (target : Option (List ℕ))
+    → date_is given.date ≡ true → fits (with_target tool given source target) ≡ true
+target_fits tool given source None h = refl
+target_fits tool given source (Some target) h = h
+
+either_fits : (b : Bool) (p q : Plan) → fits p ≡ true → fits q ≡ true → fits (cond b p q) ≡ true
+either_fits true p q h g = h
+either_fits false p q h g = g
+
+source_fits : (tool : Tool) (given : Given) (source : Option (List ℕ))
+    → date_is given.date ≡ true → fits (with_source tool given source) ≡ true
+source_fits tool given None h = h
+source_fits tool given (Some source) h =
+    either_fits (writes_file tool given.dashes) _ _ (target_fits tool given source (output_name tool source) h) h
+
+unless_bad : (b : Bool) (p q : Plan) → fits p ≡ true → (b ≡ true → fits q ≡ true) → fits (cond (not b) p q) ≡ true
+unless_bad true p q h g = g refl
+unless_bad false p q h g = h
+
+judged_fits : (tool : Tool) (given : Given) → fits (judged tool given) ≡ true
+judged_fits tool given =
+    either_fits (nat_lt 1 given.dashes) _ _ refl
+    (either_fits (nat_lt 1 given.files) _ _ refl
+    (unless_bad (date_is given.date) _ _ refl (source_fits tool given given.file)))
+
+subcommand_fits : (found : Option (List ℕ × List Row)) → fits (of_subcommand found) ≡ true
+subcommand_fits None = refl
+subcommand_fits (Some found) = judged_fits (tool_named found.0) (given_in found.1)
+
+pub job_fits : (words : List (List ℕ)) (job : Job)
+    → Run job ≡ plan_of words → option_map_or is_date job.date true ≡ true
+job_fits words job e = ap fits e ∙ kinds_fit (fault_of program words)
+    (of_subcommand (subcommand_of program words)) (subcommand_fits (subcommand_of program words))

@@ -1,0 +1,46 @@
+-- A number that `u32` reads from a text.
+use Rattle.std.proofs.Common.{◌≡◌, ◌^◌, ◌&&◌, ℕ, Bool, true, false, refl, List, [], ◌∷◌, length, nat_lt, Option}
+use Rattle.std.proofs.Common.{Some, None, Result, Ok, Err, lt-ltb, ltb-true}
+use Rattle.std.specs.Char.{digit_value}
+use Rattle.std.specs.List.{list_all}
+use Rattle.std.specs.Str.Parse.{AllDigits, ParsesUnsigned, digits_value, without_leading_plus}
+use Rattle.clap.specs.Matches.{ReadsOne}
+use Rattle.clap.specs.ValueTests.{is_numeral}
+use Rattle.clap.proofs.WalkLemmas.{both}
+use Rattle.crx_command.specs.meaning.Planning.{counted_argument}
+
+digits_pass : (ds : List ℕ) → AllDigits 10 ds → list_all (λ d. nat_lt (digit_value d) 10) ds ≡ true
+digits_pass [] h = refl
+digits_pass (d ∷ ds) h = rw (lt-ltb (digit_value d) 10 h.0) (digits_pass ds h.1)
+
+digits_from : (ds : List ℕ) → list_all (λ d. nat_lt (digit_value d) 10) ds ≡ true → AllDigits 10 ds
+digits_from [] e = tt
+digits_from (d ∷ ds) e =
+    let parts = both _ _ e in
+    (ltb-true _ _ parts.0, digits_from ds parts.1)
+
+abbrev fits : List ℕ → Bool
+fits ds = is_numeral ds && nat_lt (digits_value 10 ds) (2 ^ 32)
+
+module _ {E : Type 0} (G : List ℕ
+    → Result ℕ E → Type 0) (parses : (text : List ℕ) (r : Result ℕ E) → G text r → ParsesUnsigned 32 10 text r) where
+  pub number_read : (text : List ℕ) (o : Option ℕ) → ReadsOne G text o → o ≡ counted_argument text
+  number_read text (Some n) h =
+      let ds = without_leading_plus text in
+      let parsed = parses text (Ok n) h in
+      rw (
+        lt-ltb 0 (length ds) parsed.0.0.0,
+        digits_pass ds parsed.0.0.1,
+        lt-ltb
+            (digits_value 10 ds) (2 ^ 32) parsed.0.1,
+        parsed.1,
+      ) refl
+  number_read text None h = go (fits (without_leading_plus text)) refl
+    where
+      go : (b : Bool) → fits (without_leading_plus text) ≡ b → None ≡ counted_argument text
+      go false t = rw t refl
+      go true t =
+          let outer = both _ _ t in
+          let inner = both _ _ outer.0 in
+          absurd (parses text (Err h.0) h.1
+          ((ltb-true _ _ inner.0, digits_from (without_leading_plus text) inner.1), ltb-true _ _ outer.1))

@@ -1,0 +1,46 @@
+-- From what the parser of command lines answers to a plan.
+use Rattle.std.proofs.Common.{◌≡◌, ◌≢◌, ◌∙◌, ⊎_elim, refl, sym, Option, Some, None}
+use Rattle.std.proofs.Common.{option_map, unwrap_or, subst, true}
+use Rattle.std.specs.Option.{IfSome}
+use Rattle.std.proofs.lemmas.Option.{none-some}
+use Rattle.clap.specs.Kinds.{HasKind, Kinds}
+use Rattle.clap.specs.Faults.{is_simple_and_free}
+use Rattle.clap.specs.Simple.{is_simple}
+use Rattle.clap.specs.Values.{kind_of}
+use Rattle.clap.specs.declared.error.Error.{Error}
+use Rattle.clap.specs.declared.error.ErrorKind.TheVariants.{OutOfMemory}
+use Rattle.clap.proofs.OnLiterals.{clap_on_literals}
+use Rattle.crx_command.specs.meaning.Commands.{program}
+use Rattle.crx_command.specs.meaning.Planning.{Plan, by_kind, by_kinds}
+use Rattle.crx_command.proofs.AlikeKinds.{Alike}
+
+pub program_is_simple : is_simple program ≡ true
+unfolding clap_on_literals
+program_is_simple = refl
+
+pub program_is_free : is_simple_and_free program ≡ true
+unfolding clap_on_literals
+program_is_free = refl
+
+-- an option of pairs, from its halves
+module _ {X A B : Type 0} (f : X → A) (g : X → B) where
+  abbrev pair : X → A × B
+  pair x = (f x, g x)
+
+  pub both_halves : (o : Option X) (a : A) (b : B)
+      → Some a ≡ option_map f o → Some b ≡ option_map (λ (p : A × B). p.1) (option_map pair o)
+      → ◌≡◌ {A = Option (A × B)} (Some (a, b)) (option_map pair o)
+  both_halves None a b first second = absurd (none-some a (sym first))
+  both_halves (Some x) a b first second = λ i. Some (unwrap_or (first i) a, unwrap_or (second i) b)
+
+-- an answer's plan is another, where the two are one
+pub same_plan : (o : Option Plan) (p q : Plan) → p ≡ q → IfSome o (λ plan. plan ≡ p) → IfSome o (λ plan. plan ≡ q)
+same_plan o p q same h = subst (λ (r : Plan). IfSome o (λ plan. plan ≡ r)) same h
+
+-- the plan of an error of the parser, whose kind is among those that it may have
+pub not_run_plan : (o : Option Plan) (e : Error) (kinds : Kinds) (rest : Plan) → Alike kinds → HasKind kinds e
+    → IfSome o (λ plan. (plan ≡ by_kind (kind_of e)) × (kind_of e ≢ OutOfMemory))
+    → IfSome o (λ plan. plan ≡ by_kinds kinds rest)
+not_run_plan None e kinds rest alike has h = h
+not_run_plan (Some plan) e kinds rest alike has h =
+    ⊎_elim (λ memory. absurd (h.1 memory)) (λ among. h.0 ∙ alike.same (kind_of e) rest among) has

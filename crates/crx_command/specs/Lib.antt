@@ -1,0 +1,4 @@
+pub mod meaning
+pub mod Names
+pub mod Planning
+pub mod Usage

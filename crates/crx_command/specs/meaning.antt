@@ -1,0 +1,6 @@
+-- What has to be believed: the definitions that the promises stand on. docs/READING.md gives their order.
+pub mod Commands
+pub mod Names
+pub mod Planning
+pub mod ErrorLines
+pub mod Dates

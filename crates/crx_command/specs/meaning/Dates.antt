@@ -1,0 +1,27 @@
+-- The date that the second line of Compact RINEX 3.0 shows, as `01-Jan-24 00:00`.
+use Rattle.std.specs.Prelude.{◌≡◌, ◌⊎◌, ℕ, ℤ, ◌+◌, ◌-◌, ◌/◌, ◌%◌, List, [], ◌∷◌, ◌++◌, codes, unsigned_abs}
+use Rattle.std.specs.List.{slice_index_or}
+use Rattle.jiff.specs.Words.{civil_nanos}
+use Rattle.jiff.specs.Types.{DateTime}
+
+abbrev pub months : List (List ℕ)
+months = codes "Jan" ∷ codes "Feb" ∷ codes "Mar" ∷ codes "Apr" ∷ codes "May" ∷ codes "Jun"
+    ∷ codes "Jul" ∷ codes "Aug" ∷ codes "Sep" ∷ codes "Oct" ∷ codes "Nov" ∷ codes "Dec" ∷ []
+
+-- a number below 100
+abbrev pub two_digits : ℕ → List ℕ
+two_digits n = (48 + n / 10) ∷ (48 + n % 10) ∷ []
+
+-- the day, the month's name and the year's last two digits, its sign left out; the hour and the minute
+abbrev pub date_text_of : DateTime → List ℕ
+date_text_of at = two_digits at.date.day ++ (codes "-" ++ (slice_index_or months (at.date.month - 1) [] ++ (codes "-"
+    ++ (two_digits (unsigned_abs at.date.year % 100)
+    ++ (codes " " ++ (two_digits at.time.hour ++ (codes ":" ++ two_digits at.time.minute)))))))
+
+-- what a clock in UTC shows that many nanoseconds after 1970 began (before it, where the number is negative)
+abbrev pub IsDateText : ℤ → List ℕ → Type 0
+IsDateText nanoseconds text = (at : DateTime) × (civil_nanos at ≡ nanoseconds) × (text ≡ date_text_of at)
+
+-- the date of a run that has none among its words: the moment's, or none where no clock gives one
+abbrev pub IsDefaultDate : List ℕ → Type 0
+IsDefaultDate text = (text ≡ []) ⊎ ((nanoseconds : ℤ) × IsDateText nanoseconds text)

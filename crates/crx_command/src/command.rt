@@ -1,0 +1,243 @@
+//! The command line: its subcommands, their options, and their help.
+
+ghost use Rattle.std.specs.Prelude.{◌≡◌, IfOk, codes, false, true};
+ghost use Rattle.clap.specs.Words.{Shape, app_of, new_app, rule_of, shape_of, with_rule, with_subcommand};
+ghost use Rattle.crx_command.specs.meaning.Commands.{checker, crx2rnx, date_rule, every_rule, flag_rule, names_rule, program, rnx2crx, top};
+
+use clap::{Arg, ArgAction, Command, value_parser};
+use std::alloc::{AllocError, Global};
+
+// The version is that of the file VERSION; tests/release compares.
+const ABOUT: &str = "rnxcmp 1.0.0: compacts, expands and checks RINEX 3.0x observation files";
+
+const HELP: &str = "\
+What goes in and out:
+  rnx2crx  a RINEX 3.0x observation file becomes Compact RINEX 3.0 (Hatanaka)
+  crx2rnx  Compact RINEX 3.0 becomes a RINEX 3.0x observation file
+  check    a RINEX 3.0x observation file is reported on in six lines
+
+Names: without a file name standard input is read, and without one or with `-`
+standard output is written. Else the output file is named after the input file:
+  .rnx <-> .crx   .RNX <-> .CRX   .24o <-> .24d   .24O <-> .24D   (any year)
+
+Whole folders: see rnxcmp-file --help, which does one file and loses nothing.
+
+Messages go to standard error, one line each:
+  ERROR line 7 code 18: bad indicator
+
+Exit status: 0 all went well; 1 an error ended the run, or the words or files
+aren't right; 2 there were warnings (-s), or the file isn't standard (check);
+126, 127 the program can't be started (127 too where the processor is older than
+x86-64-v2); 137 it was killed, as where a job has too little memory.
+
+Examples:
+  rnxcmp rnx2crx abcd0010.24o            # writes abcd0010.24d
+  rnxcmp crx2rnx - abcd0010.24d | less   # shows it
+  gzip -dc a.crx.gz | rnxcmp crx2rnx > a.rnx";
+
+const RNX2CRX_ABOUT: &str = "Compacts a RINEX 3.0x observation file";
+
+const RNX2CRX_HELP: &str = "\
+In: a RINEX 3.0x observation file. Out: Compact RINEX 3.0.
+Without FILE standard input is read. Without FILE, or with `-`, standard output
+is written; else the output is FILE with another ending: .rnx becomes .crx, .RNX
+.CRX, .24o .24d and .24O .24D (any year). A file that exists is overwritten only
+with -f.
+
+Exit status: 0 all went well; 1 an error ended the run (what was written stays);
+2 epochs were skipped with warnings (-s).
+
+Examples:
+  rnxcmp rnx2crx abcd0010.24o            # writes abcd0010.24d
+  rnxcmp rnx2crx -s -e 120 - a.rnx > a.crx
+  rnxcmp rnx2crx --date '01-Jan-24 00:00' < a.rnx > a.crx";
+
+const CRX2RNX_ABOUT: &str = "Expands Compact RINEX 3.0";
+
+const CRX2RNX_HELP: &str = "\
+In: Compact RINEX 3.0. Out: the RINEX 3.0x observation file that it stands for.
+Without FILE standard input is read. Without FILE, or with `-`, standard output
+is written; else the output is FILE with another ending: .crx becomes .rnx, .CRX
+.RNX, .24d .24o and .24D .24O (any year). A file that exists is overwritten only
+with -f.
+
+Exit status: 0 all went well; 1 an error ended the run (what was written stays);
+2 epochs were skipped with warnings (-s).
+
+Examples:
+  rnxcmp crx2rnx abcd0010.24d            # writes abcd0010.24o
+  gzip -dc a.crx.gz | rnxcmp crx2rnx -s > a.rnx";
+
+const CHECK_ABOUT: &str = "Reports on a RINEX 3.0x observation file";
+
+const CHECK_HELP: &str = "\
+In: a RINEX 3.0x observation file, FILE or else standard input. Out, on standard
+output, six lines: format, systems with their counts of types, epochs, events,
+observations, and standard `yes` or `no` with the number of the first line that
+isn't. A standard file comes back byte for byte when it is compacted and
+expanded.
+`-` has no effect.
+
+Exit status: 0 standard; 1 an error, no report; 2 accepted, but not standard.
+
+Examples:
+  rnxcmp check abcd0010.24o
+  rnxcmp crx2rnx - abcd0010.24d | rnxcmp check";
+
+const OBSERVATION_FILE: &str = "At most one observation file, and `-`, in any order";
+
+const COMPACT_FILE: &str = "At most one compact file, and `-`, in any order";
+
+const CHECKED_FILE: &str = "At most one observation file, and `-`, which changes nothing";
+
+/// `-e N`, N from 1 to 1000000.
+fn every_option<'a>(alloc: Global) -> Arg<'a>
+    ensures rule { rule_of result ≡ every_rule }
+    ensures local { result.global ≡ false }
+{
+    Arg::new(alloc, "every")
+        .short('e')
+        .value_name("N")
+        .value_parser(value_parser!(u32).range(1..=1_000_000))
+        .help("Start everything anew at every N epochs, at most 1000000")
+}
+
+/// `--date TEXT`.
+fn date_option<'a>(alloc: Global) -> Arg<'a>
+    ensures rule { rule_of result ≡ date_rule }
+    ensures local { result.global ≡ false }
+{
+    Arg::new(alloc, "date")
+        .long("date")
+        .value_name("TEXT")
+        .help("The date in line 2, at most 20 bytes [default: now]")
+}
+
+/// A flag of one letter.
+fn flag<'a>(alloc: Global, id: &'a str, letter: char, help: &'a str) -> Arg<'a>
+    ensures rule { rule_of result ≡ flag_rule id.now letter }
+    ensures local { result.global ≡ false }
+{
+    Arg::new(alloc, id)
+        .short(letter)
+        .action(ArgAction::SetTrue)
+        .help(help)
+}
+
+/// `-s`.
+fn skip_flag<'a>(alloc: Global) -> Arg<'a>
+    ensures rule { rule_of result ≡ flag_rule (codes "skip") 115 }
+    ensures local { result.global ≡ false }
+{
+    flag(
+        alloc,
+        "skip",
+        's',
+        "Warn about strange epochs and skip them",
+    )
+}
+
+/// `-f`.
+fn force_flag<'a>(alloc: Global) -> Arg<'a>
+    ensures rule { rule_of result ≡ flag_rule (codes "force") 102 }
+    ensures local { result.global ≡ false }
+{
+    flag(
+        alloc,
+        "force",
+        'f',
+        "Overwrite the output file where it exists",
+    )
+}
+
+/// `-` and a file's name, in any order.
+fn names_of_files<'a>(alloc: Global, help: &'a str) -> Arg<'a>
+    ensures rule { rule_of result ≡ names_rule }
+    ensures local { result.global ≡ false }
+{
+    Arg::new(alloc, "names")
+        .action(ArgAction::Append)
+        .num_args(0..)
+        .value_name("FILE")
+        .help(help)
+}
+
+/// A command without arguments: its name, what it does, and more help.
+fn titled<'a>(alloc: Global, name: &'a str, about: &'a str, help: &'a str) -> Command<'a>
+    ensures { app_of result ≡ new_app name.now }
+{
+    Command::new(alloc, name).about(about).after_help(help)
+}
+
+/// A command with `-s` and `-f` after its other arguments.
+fn with_flags<'a>(alloc: Global, command: Command<'a>) -> Result<Command<'a>, AllocError>
+    ensures { IfOk result (λ c. app_of c ≡ with_rule (with_rule (app_of command.entry)
+        (flag_rule (codes "skip") 115)) (flag_rule (codes "force") 102)) }
+{
+    command.arg(skip_flag(alloc))?.arg(force_flag(alloc))
+}
+
+/// `rnx2crx`.
+fn rnx2crx<'a>(alloc: Global) -> Result<Command<'a>, AllocError>
+    ensures { IfOk result (λ c. shape_of c ≡ rnx2crx) }
+{
+    let start = titled(alloc, "rnx2crx", RNX2CRX_ABOUT, RNX2CRX_HELP)
+        .override_usage("rnxcmp rnx2crx [OPTIONS] [FILE]...")
+        .arg(every_option(alloc))?;
+    with_flags(alloc, start)?
+        .arg(date_option(alloc))?
+        .arg(names_of_files(alloc, OBSERVATION_FILE))
+}
+
+/// `crx2rnx`.
+fn crx2rnx<'a>(alloc: Global) -> Result<Command<'a>, AllocError>
+    ensures { IfOk result (λ c. shape_of c ≡ crx2rnx) }
+{
+    let start = titled(alloc, "crx2rnx", CRX2RNX_ABOUT, CRX2RNX_HELP).override_usage(
+        "rnxcmp crx2rnx [OPTIONS] [FILE]...",
+    );
+    with_flags(alloc, start)?.arg(names_of_files(alloc, COMPACT_FILE))
+}
+
+/// `check`.
+fn checker<'a>(alloc: Global) -> Result<Command<'a>, AllocError>
+    ensures { IfOk result (λ c. shape_of c ≡ checker) }
+{
+    titled(alloc, "check", CHECK_ABOUT, CHECK_HELP)
+        .override_usage("rnxcmp check [FILE]...")
+        .arg(names_of_files(alloc, CHECKED_FILE))
+}
+
+/// The program without its subcommands.
+fn top<'a>(alloc: Global) -> Command<'a>
+    ensures { app_of result ≡ top }
+{
+    titled(alloc, "rnxcmp", ABOUT, HELP)
+        .no_binary_name(true)
+        .disable_help_subcommand(true)
+        .subcommand_required(true)
+}
+
+/// A command with one more subcommand, where there was memory to make that.
+fn joined<'a>(
+    command: Command<'a>,
+    made: Result<Command<'a>, AllocError>,
+) -> Result<Command<'a>, AllocError>
+    ensures { (shape : Shape) → IfOk made.entry (λ sub. shape_of sub ≡ shape) → shape.is_plain ≡ true
+        → IfOk result (λ c. app_of c ≡ with_subcommand (app_of command.entry) shape) }
+{
+    match made {
+        Ok(subcommand) => command.subcommand(subcommand),
+        Err(error) => Err(error),
+    }
+}
+
+/// The whole command line: `rnx2crx`, `crx2rnx` and `check`, each with its options and its help. The
+/// arguments come without the program's name.
+pub fn command<'a>(alloc: Global) -> Result<Command<'a>, AllocError>
+    ensures { IfOk result (λ c. app_of c ≡ program) }
+{
+    let one = joined(top(alloc), rnx2crx(alloc))?;
+    let two = joined(one, crx2rnx(alloc))?;
+    joined(two, checker(alloc))
+}

@@ -1,0 +1,67 @@
+//! The date in the second line of Compact RINEX 3.0.
+
+ghost use Rattle.std.specs.Prelude.{◌≡◌, ◌<◌, ◌-◌, ◌⊎◌, ◌++◌, ℤ, [], IfOk, OnOk, string_bytes};
+ghost use Rattle.crx_command.specs.meaning.Dates.{IsDateText, IsDefaultDate, date_text_of, months, two_digits};
+ghost use Rattle.std.specs.List.{slice_index_or};
+
+use jiff::Timestamp;
+use jiff::civil::DateTime;
+use jiff::tz::Offset;
+use std::alloc::{AllocError, Global};
+use std::time::Clock;
+
+static MONTHS: [&str; 12] = [
+    "Jan", "Feb", "Mar", "Apr", "May", "Jun", "Jul", "Aug", "Sep", "Oct", "Nov", "Dec",
+];
+
+/// Adds a number in two digits.
+fn push_two_digits(text: &mut String, number: u8) -> Result<(), AllocError>
+    requires { number < 100 }
+    ensures { OnOk result (string_bytes text.new ≡ string_bytes text.old ++ two_digits number) }
+{
+    text.push((b'0' + number / 10) as char)?;
+    text.push((b'0' + number % 10) as char)
+}
+
+/// The English name of a month in three letters.
+fn month_name(at: DateTime) -> &'static str
+    ensures { result.now ≡ slice_index_or months (at.date.month - 1) [] }
+{
+    MONTHS[at.month() as usize - 1]
+}
+
+/// What a clock shows, to the minute.
+fn shown(alloc: Global, at: DateTime) -> Result<String, AllocError>
+    ensures { IfOk result (λ text. string_bytes text ≡ date_text_of at) }
+{
+    let mut text = String::new(alloc);
+    push_two_digits(&mut text, at.day() as u8)?;
+    text.push_str("-")?;
+    text.push_str(month_name(at))?;
+    text.push_str("-")?;
+    push_two_digits(&mut text, (at.year().unsigned_abs() % 100) as u8)?;
+    text.push_str(" ")?;
+    push_two_digits(&mut text, at.hour() as u8)?;
+    text.push_str(":")?;
+    push_two_digits(&mut text, at.minute() as u8)?;
+    Ok(text)
+}
+
+/// A moment in UTC, as `31-Dec-23 23:59`: the day, the English name of the month in three letters,
+/// the last two digits of the year (its sign left out), the hour and the minute. Seconds are
+/// left out, so each text stands for the minute that it names, before 1970 too.
+pub fn date_text(alloc: Global, at: Timestamp) -> Result<String, AllocError>
+    ensures { IfOk result (λ text. IsDateText at.nanosecond (string_bytes text)) }
+{
+    shown(alloc, Offset::UTC.to_datetime(at))
+}
+
+/// The clock's moment as [`date_text`] gives it; an empty text where the clock gives none.
+pub fn default_date<C: Clock>(clock: &C, alloc: Global) -> Result<String, AllocError>
+    ensures { IfOk result (λ text. IsDefaultDate (string_bytes text)) }
+{
+    match Timestamp::now(clock) {
+        Ok(at) => date_text(alloc, at),
+        Err(_) => Ok(String::new(alloc)),
+    }
+}

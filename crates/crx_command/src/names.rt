@@ -1,0 +1,139 @@
+//! The name of the output file, made from that of the input file.
+
+ghost use Rattle.std.specs.Prelude.{◌≡◌, ◌++◌, IfOk, map, option_map};
+ghost use Rattle.crx_command.specs.meaning.Names.{ends_in_year, first_renamed, is_year, output_name, renamings, stem_of, without_ending};
+ghost use Rattle.crx_command.specs.Names.{renaming_of};
+
+use crate::job::Tool;
+use crate::word::Word;
+use std::alloc::{AllocError, Global};
+
+/// An ending of a file that is read, and the one of the file that is written from it.
+struct Ending {
+    old: &'static str,
+    new: &'static str,
+    /// Whether the ending counts only after a point and a year in two digits.
+    after_year: bool,
+}
+
+static COMPACTING: [Ending; 4] = [
+    Ending {
+        old: ".rnx",
+        new: ".crx",
+        after_year: false,
+    },
+    Ending {
+        old: ".RNX",
+        new: ".CRX",
+        after_year: false,
+    },
+    Ending {
+        old: "o",
+        new: "d",
+        after_year: true,
+    },
+    Ending {
+        old: "O",
+        new: "D",
+        after_year: true,
+    },
+];
+
+static EXPANDING: [Ending; 4] = [
+    Ending {
+        old: ".crx",
+        new: ".rnx",
+        after_year: false,
+    },
+    Ending {
+        old: ".CRX",
+        new: ".RNX",
+        after_year: false,
+    },
+    Ending {
+        old: "d",
+        new: "o",
+        after_year: true,
+    },
+    Ending {
+        old: "D",
+        new: "O",
+        after_year: true,
+    },
+];
+
+/// The endings that a subcommand changes; `check` writes no file.
+fn endings(tool: Tool) -> &'static [Ending]
+    ensures { map renaming_of result.now ≡ renamings tool }
+{
+    match tool {
+        Tool::Compact => &COMPACTING,
+        Tool::Expand => &EXPANDING,
+        Tool::Check => &[],
+    }
+}
+
+/// The name without its ending, where it has that ending.
+fn without_ending<'a>(name: &'a str, ending: &str) -> Option<&'a str>
+    ensures { option_map (λ stem. stem.now) result ≡ without_ending ending.now name.now }
+{
+    name.strip_suffix(ending)
+}
+
+/// Whether these are a point and two digits.
+fn is_year(bytes: &[u8]) -> bool
+    ensures { result ≡ is_year bytes.now }
+{
+    match bytes {
+        [point, tens, units] => {
+            *point == b'.' && tens.is_ascii_digit() && units.is_ascii_digit()
+        }
+        _ => false,
+    }
+}
+
+/// Whether the last three bytes are a point and two digits.
+fn ends_in_year(stem: &str) -> bool
+    ensures { result ≡ ends_in_year stem.now }
+{
+    let bytes = stem.as_bytes();
+    is_year(&bytes[bytes.len().saturating_sub(3)..])
+}
+
+/// The part of a name with this ending that the output's name has too; `None` where the name hasn't this ending.
+fn stem_of<'a>(name: &'a str, ending: &Ending) -> Option<&'a str>
+    ensures { option_map (λ stem. stem.now) result ≡ stem_of (renaming_of ending.now) name.now }
+{
+    let stem = without_ending(name, ending.old)?;
+    if ending.after_year && !ends_in_year(stem) {
+        return None;
+    }
+    Some(stem)
+}
+
+/// The part of the name that the output's name has too, and the ending that it gets, by the first ending that it has.
+fn renamed<'a>(endings: &[Ending], name: &'a str) -> Option<(&'a str, &'static str)>
+    ensures { option_map (λ p. p.0.now ++ p.1.now) result
+        ≡ first_renamed (map renaming_of endings.now) name.now }
+{
+    for ending in endings {
+        if let Some(stem) = stem_of(name, ending) {
+            return Some((stem, ending.new));
+        }
+    }
+    None
+}
+
+/// The name of the output file: that of the input file with another ending.
+///
+/// `rnx2crx` makes `.crx` of `.rnx`, `.CRX` of `.RNX`, and after a point and a year in two digits
+/// `d` of `o` and `D` of `O`, as `abcd0010.24d` of `abcd0010.24o`; `crx2rnx` goes the other way.
+/// `None` comes for any other name, and for each name with `check`.
+pub fn output_name(alloc: Global, tool: Tool, name: &str) -> Result<Option<Word>, AllocError>
+    ensures { IfOk result (λ target. target ≡ output_name tool name.now) }
+{
+    match renamed(endings(tool), name) {
+        Some((stem, ending)) => Ok(Some(Word::joined(alloc, stem, ending)?)),
+        None => Ok(None),
+    }
+}

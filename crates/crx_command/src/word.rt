@@ -1,0 +1,73 @@
+//! Texts that come from the command line or go to the user.
+
+ghost use Rattle.std.specs.Prelude.{◌≡◌, ◌++◌, IfOk};
+ghost use Rattle.crx_command.specs.meaning.ErrorLines.{error_line};
+
+use std::alloc::{AllocError, Global};
+use std::fmt;
+use std::marker::Model;
+
+/// A text, as a file's name or a help text. Contracts see it as its bytes.
+#[derive(Debug, Drop)]
+pub struct Word {
+    text: String,
+}
+
+impl Model for Word {
+    ghost use Rattle.std.specs.Prelude.{List, ℕ, string_bytes};
+
+    ghost Value = { List ℕ };
+
+    ghost view = { λ w. string_bytes w.text };
+}
+
+impl Word {
+    /// A copy of a text.
+    pub fn new(alloc: Global, text: &str) -> Result<Word, AllocError>
+        ensures { IfOk result (λ w. w ≡ text.now) }
+    {
+        Ok(Word {
+            text: String::from_str(alloc, text)?,
+        })
+    }
+
+    /// A text with another one after it.
+    pub fn joined(alloc: Global, start: &str, end: &str) -> Result<Word, AllocError>
+        ensures { IfOk result (λ w. w ≡ start.now ++ end.now) }
+    {
+        let mut text = String::from_str(alloc, start)?;
+        text.push_str(end)?;
+        Ok(Word { text })
+    }
+
+    /// The line of an error, as `ERROR: file exists: a.crx`, with its LF: what is wrong, and a name.
+    pub fn error_line(alloc: Global, words: &str, name: &str) -> Result<Word, AllocError>
+        ensures { IfOk result (λ w. w ≡ error_line words.now name.now) }
+    {
+        let mut text = String::from_str(alloc, "ERROR: ")?;
+        text.push_str(words)?;
+        text.push_str(name)?;
+        text.push_str("\n")?;
+        Ok(Word { text })
+    }
+
+    /// What a value shows of itself.
+    pub fn shown<T: fmt::Display>(alloc: Global, value: &T) -> Result<Word, AllocError> {
+        Ok(Word {
+            text: format!(in alloc; "{value}")?,
+        })
+    }
+
+    /// The text.
+    pub fn text(&self) -> &str
+        ensures { result.now ≡ self.now }
+    {
+        self.text.as_str()
+    }
+}
+
+impl fmt::Display for Word {
+    fn fmt<W: fmt::Write>(&self, f: &mut fmt::Formatter<W>) -> fmt::Result {
+        f.write_str(self.text.as_str())
+    }
+}
