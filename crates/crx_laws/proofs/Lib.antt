@@ -6,4 +6,4 @@ pub mod DamagedText
 pub mod SavedText
 pub mod BlockSaved
 pub mod DamageStays
-pub mod ExpandedLendable
+pub mod ExpandedReadyToHandOut
