@@ -1,7 +1,7 @@
 -- Texts that are written into bytes after others.
-use Rattle.std.specs.Prelude.{◌≡◌, ◌≤◌, ◌<◌, refl, ℕ, ◌+◌, ◌-◌, List, [], ◌∷◌, ◌++◌, length, set, take, drop}
+use Rattle.std.specs.Prelude.{◌≡◌, ◌≤◌, ◌<◌, ℕ, ◌+◌, ◌-◌, List, [], ◌∷◌, ◌++◌, length, set, take, drop}
 use Rattle.std.proofs.Common.{sym, ◌∙◌, ap, arith, append_assoc}
-use Rattle.std.proofs.lemmas.List.{drop-take, take-append-le, take-take, drop_at, take_at, take_more_set, length-append}
+use Rattle.std.proofs.lemmas.List.{drop-take, take-take, drop_at, take_at, take_more_set, length-append}
 use Rattle.std.proofs.lemmas.List.{length-take-le}
 use Rattle.std.proofs.Math.Seq.{take-append-add}
 use Rattle.crx_columns.specs.meaning.Columns.{without_end_blanks}

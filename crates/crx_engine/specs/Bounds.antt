@@ -59,7 +59,7 @@ pub record IsBoundedExpansion (seen : Seen OpenRawEpoch (Option Tail)) : Type 0 
 -- ---- what is borrowed
 
 -- the lines of a unit are few enough to be borrowed, and none is longer than so many bytes
-pub record AreLendable (longest : ℕ) (lines : List (List ℕ)) : Type 0 where
+pub record AreReadyToHandOut (longest : ℕ) (lines : List (List ℕ)) : Type 0 where
   pub few : length lines ≤ SATELLITES_LIMIT + 2
   pub short : AllByRecursion (λ (line : List ℕ). length line ≤ longest) lines
 
@@ -83,10 +83,10 @@ IsNotTooLong (Content line) = length line ≤ LINE_LIMIT
 IsNotTooLong Overlong = ⊤
 
 -- the lines of each accepted unit can be borrowed, where no line that was read is too long
-abbrev pub CompactIsLendable : Choices → List ReadLine → Type 0
-CompactIsLendable choices lines =
+abbrev pub CompactIsReadyToHandOut : Choices → List ReadLine → Type 0
+CompactIsReadyToHandOut choices lines =
     is_date choices.date ≡ true → AllByRecursion IsNotTooLong lines
-    → OfUnits (λ before unit. AreLendable (longest_of unit) (compact_unit choices before unit))
+    → OfUnits (λ before unit. AreReadyToHandOut (longest_of unit) (compact_unit choices before unit))
     (rinex_reading choices.skip lines).items
 
 -- the longest line of a unit in RINEX: that of an epoch has an identifier and so many cells, each with two indicators
@@ -97,8 +97,8 @@ longest_printed (EventRecord line) = LINE_LIMIT
 longest_printed (Observation read) = NAME_WIDTH + CELL_WIDTH * TYPES_LIMIT
 
 -- the state after the units that an expansion accepts is bounded
-abbrev pub ExpandedIsLendable : Choices → List ReadLine → Type 0
-ExpandedIsLendable choices lines =
+abbrev pub ExpandedIsReadyToHandOut : Choices → List ReadLine → Type 0
+ExpandedIsReadyToHandOut choices lines =
     AllByRecursion IsNotTooLong lines
-    → OfUnits (λ before unit. AreLendable (longest_printed unit) (expanded_unit before unit))
+    → OfUnits (λ before unit. AreReadyToHandOut (longest_printed unit) (expanded_unit before unit))
     (compact_reading choices.skip lines).items

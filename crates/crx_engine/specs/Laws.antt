@@ -224,6 +224,6 @@ has_lines [] = false
 has_lines (line ∷ lines) = true
 
 -- a line is answered as ready exactly where lines are borrowed
-abbrev pub IsReadyWhereLent : {U O K : Type 0} → Direction U O K → Type 0
-IsReadyWhereLent {O = O} {K = K} direction = (seen : Seen O K) (line : ReadLine)
+abbrev pub IsReadyWhereHandedOut : {U O K : Type 0} → Direction U O K → Type 0
+IsReadyWhereHandedOut {O = O} {K = K} direction = (seen : Seen O K) (line : ReadLine)
     → is_ready (seen_next direction seen line).answer ≡ has_lines (seen_next direction seen line).handed_out

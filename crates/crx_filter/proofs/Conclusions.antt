@@ -374,9 +374,9 @@ module _ (filter : Filter) (lawful : IsLawful filter)
       → (given : List ℕ) × input.gave given × RunsAs (result_by filter) filter input given writer messages status fault
       × (fault ≡ None → has_ended (lines_of given))
   runs-nothing has_ended last warned stop status fault is none gave counts wrote reported finished =
-      runs-as has_ended (record { rest = []; handed_out = 0; number = 0; phase = Open }) last warned stop status fault
+      runs-as has_ended (record { rest = []; passed = 0; number = 0; phase = Open }) last warned stop status fault
       (subst (λ (h : Option Halt). WorkEnds filter has_ended input writer1 messages1
-      (record { rest = []; handed_out = 0; number = 0; phase = Open }) last warned h) (sym is)
+      (record { rest = []; passed = 0; number = 0; phase = Open }) last warned h) (sym is)
       (inr (inr (inr (record {
         halt_is = refl;
         gave = gave;

@@ -124,12 +124,12 @@ overlong-number step at_end' counted counted' old new r going at-open at-ended a
     (subst (λ x. ReaderAnswers old found.0 at_end' counted counted' x new) is found.2) in
     a.3 ∙ a.1.number
 
-handed_out-more : (old new : ReaderState) (given : List ℕ) (at_end : Type 0) (bytes : List ℕ) (is_ended : Bool)
-    → TakesPiece old given at_end (record { bytes = bytes; is_ended = is_ended }) new → old.handed_out < new.handed_out
-handed_out-more old new given at_end bytes true t =
-    omega (arith, t.handed_out, ap length t.first.cut, length-append bytes (10 ∷ new.rest))
-handed_out-more old new given at_end bytes false t =
-    omega (arith, t.handed_out, ap length t.first.cut.0, ap length t.first.cut.1, t.first.cut.2)
+passed-more : (old new : ReaderState) (given : List ℕ) (at_end : Type 0) (bytes : List ℕ) (is_ended : Bool)
+    → TakesPiece old given at_end (record { bytes = bytes; is_ended = is_ended }) new → old.passed < new.passed
+passed-more old new given at_end bytes true t =
+    omega (arith, t.passed, ap length t.first.cut, length-append bytes (10 ∷ new.rest))
+passed-more old new given at_end bytes false t =
+    omega (arith, t.passed, ap length t.first.cut.0, ap length t.first.cut.1, t.first.cut.2)
 
 -- a line takes some bytes of the input
 module _ (step : List ℕ → Type 0)
@@ -137,19 +137,19 @@ module _ (step : List ℕ → Type 0)
     (going : (old.phase ≡ Open) ⊎ (old.phase ≡ Ended)) (at-open : old.phase ≡ Open
     → (more : List ℕ) × step more × ReaderAnswers old more at_end' counted counted' r new)
     (at-ended : old.phase ≡ Ended → r ≡ Ok None) where
-  pub line-handed_out : (line : Line) → r ≡ Ok (Some line) → (old.handed_out < new.handed_out) × (new.handed_out ≤ INPUT_LIMIT)
-  line-handed_out line is =
+  pub line-passed : (line : Line) → r ≡ Ok (Some line) → (old.passed < new.passed) × (new.passed ≤ INPUT_LIMIT)
+  line-passed line is =
       let e : old.phase ≡ Open = ⊎_elim (λ e. e) (λ e. absurd (some-not-none line (sym is ∙ at-ended e))) going in
       let found = at-open e in
       let a : ReaderAnswers old found.0 at_end' counted counted' (Ok (Some line)) new =
       subst (λ x. ReaderAnswers old found.0 at_end' counted counted' x new) is found.2 in
-      (handed_out-more old new found.0 at_end' a.0.bytes a.0.is_ended a.1, omega (arith, a.1.within))
+      (passed-more old new found.0 at_end' a.0.bytes a.0.is_ended a.1, omega (arith, a.1.within))
 
-  pub overlong-handed_out : (at : At) → r ≡ Err at → at.fault ≡ LineTooLong → (old.handed_out < new.handed_out) × (new.handed_out ≤ INPUT_LIMIT)
-  overlong-handed_out at is long =
+  pub overlong-passed : (at : At) → r ≡ Err at → at.fault ≡ LineTooLong → (old.passed < new.passed) × (new.passed ≤ INPUT_LIMIT)
+  overlong-passed at is long =
       let e : old.phase ≡ Open = ⊎_elim (λ e. e) (λ e. absurd (err-not-none at (sym is ∙ at-ended e))) going in
       let found = at-open e in
       let a : AnswersFault old found.0 at_end' counted counted' at LineTooLong new =
       subst (λ f. AnswersFault old found.0 at_end' counted counted' at f new) long
       (subst (λ x. ReaderAnswers old found.0 at_end' counted counted' x new) is found.2) in
-      (handed_out-more old new found.0 at_end' a.0.bytes a.0.is_ended a.1, omega (arith, a.1.within))
+      (passed-more old new found.0 at_end' a.0.bytes a.0.is_ended a.1, omega (arith, a.1.within))

@@ -26,7 +26,7 @@ pub record IsRunning (input : Input)
 
 -- each line so far had a byte at least, and all were within the limit of an input
 abbrev pub IsWithinLimit : ReaderState → Type 0
-IsWithinLimit now = (now.number ≤ now.handed_out) × (now.handed_out ≤ INPUT_LIMIT)
+IsWithinLimit now = (now.number ≤ now.passed) × (now.passed ≤ INPUT_LIMIT)
 
 -- ---- how a run ends
 

@@ -30,8 +30,8 @@ pub(crate) fn step<E: Engine, R: Source, W: Sink, M: Sink>(
     ensures running { OnOk result (E.is_open engine.new) }
     ensures drained { OnOk result (E.ready engine.new ≡ []) }
     ensures counted { OnOk result (IsWithinLimit (reading input.new)) }
-    ensures farther { IfOk result (λ o. IfSome o (λ _. ((reading input.old).handed_out < (reading input.new).handed_out)
-        × ((reading input.new).handed_out ≤ INPUT_LIMIT))) }
+    ensures farther { IfOk result (λ o. IfSome o (λ _. ((reading input.old).passed < (reading input.new).passed)
+        × ((reading input.new).passed ≤ INPUT_LIMIT))) }
     ensures goes { (r0 : R) (w0 : W) (m0 : M) (lines : List InputLine) → E.shows engine.old lines []
         → IsRunning
         (reader_span R.Source r0 reader.old)

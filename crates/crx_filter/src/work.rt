@@ -36,7 +36,7 @@ pub(crate) fn take_all<E: Engine, R: Source, W: Sink, M: Sink>(
     requires drained { E.ready engine.old ≡ [] }
     requires running { E.is_open engine.old }
     requires shown { E.shows engine.old [] [] }
-    requires first { reading input.old ≡ record { rest = []; handed_out = 0; number = 0; phase = Phase.Open } }
+    requires first { reading input.old ≡ record { rest = []; passed = 0; number = 0; phase = Phase.Open } }
     requires nothing { (E.filter engine.old).so_far [] ≡ record { output = []; warnings = []; fault = None } }
     ensures { WorkEnds (E.filter engine.old) (E.has_ended engine.new)
         (reader_span R.Source reader.old reader.new)

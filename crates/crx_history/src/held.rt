@@ -185,7 +185,7 @@ impl Model for HeldSatellite {
 }
 
 impl HeldSatellite {
-    /// A satellite without a name and without cells, to begin with.
+    /// A satellite without indicators and without cells, to begin with; its name is blank.
     pub fn new(alloc: Global) -> HeldSatellite
         ensures flags { result.flags ≡ [] }
         ensures cells { result.cells ≡ [] }

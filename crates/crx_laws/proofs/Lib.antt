@@ -1,1 +1,1 @@
-pub mod ExpandedLendable
+pub mod ExpandedReadyToHandOut

@@ -6,7 +6,7 @@ ghost use Rattle.crx_lines.specs.meaning.Lines.{lines_of};
 ghost use Rattle.crx_lines.specs.declared.fault.Fault.TheVariants.{NotAnEpoch, NotCompact};
 ghost use Rattle.crx_lines.specs.declared.fault.At.{At};
 ghost use Rattle.crx_engine.specs.Anew.{starts_anew, DependsOnTypes};
-ghost use Rattle.crx_engine.specs.Bounds.{IsBoundedCompaction, IsBoundedExpansion, CompactIsLendable, ExpandedIsLendable};
+ghost use Rattle.crx_engine.specs.Bounds.{IsBoundedCompaction, IsBoundedExpansion, CompactIsReadyToHandOut, ExpandedIsReadyToHandOut};
 ghost use Rattle.crx_reading.specs.meaning.Choices.{Choices};
 ghost use Rattle.crx_reading.specs.CompactionByLine.{compaction, compaction_seen};
 ghost use Rattle.crx_laws.specs.SmallFiles.{header, line_at, one_type_line, full_line_at, second_changed};
@@ -20,7 +20,7 @@ ghost use Rattle.crx_reading.specs.meaning.Expanded.{compact_place, whole_compac
 ghost use Rattle.crx_engine.specs.Expanded.{expanded_so_far};
 ghost use Rattle.crx_reading.specs.meaning.Directions.{compact_reading};
 ghost use Rattle.crx_rinex.specs.meaning.Printing.{lines_text};
-ghost use Rattle.crx_engine.specs.Laws.{IsReadForward, IsResumed, IsWrittenFirst, IsCompactedOn, IsExpandedOn, IsCompactionEnded, IsExpansionEnded, StaysEnded, ItemsAreRead, AreInPlace, IsReadyWhereLent};
+ghost use Rattle.crx_engine.specs.Laws.{IsReadForward, IsResumed, IsWrittenFirst, IsCompactedOn, IsExpandedOn, IsCompactionEnded, IsExpansionEnded, StaysEnded, ItemsAreRead, AreInPlace, IsReadyWhereHandedOut};
 ghost use Rattle.crx_reading.specs.meaning.Reading.{fault_of_stop};
 
 /// What stands at a line of a RINEX file is certain as soon as its last line has come; so the reading of some lines and more goes on
@@ -115,8 +115,8 @@ pub fn bounded_expansion()
 /// What is borrowed of a unit is bounded: at most 1001 lines, of at most 8192 bytes each; and where they are those of an epoch, of at most
 /// 7200 bytes each in compact text, and of at most 6403 bytes each in RINEX.
 pub fn bounded_lines()
-    ensures compaction { (choices : Choices) (lines : List ReadLine) → CompactIsLendable choices lines }
-    ensures expansion { (choices : Choices) (lines : List ReadLine) → ExpandedIsLendable choices lines }
+    ensures compaction { (choices : Choices) (lines : List ReadLine) → CompactIsReadyToHandOut choices lines }
+    ensures expansion { (choices : Choices) (lines : List ReadLine) → ExpandedIsReadyToHandOut choices lines }
 {}
 
 /// The reading of compact text starts anew between two units, where the next line begins with `>` and so does the one after the events
@@ -136,8 +136,8 @@ pub fn lines_that_start_anew()
 
 /// A line is answered as ready exactly where lines are borrowed.
 pub fn ready_where_borrowed()
-    ensures compaction { IsReadyWhereLent compaction }
-    ensures expansion { IsReadyWhereLent expansion }
+    ensures compaction { IsReadyWhereHandedOut compaction }
+    ensures expansion { IsReadyWhereHandedOut expansion }
 {}
 
 /// Both directions are lawful filters: a fault stays once it is found, what is written grows with the lines, and the faults are those

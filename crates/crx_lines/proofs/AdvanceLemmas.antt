@@ -2,18 +2,22 @@
 use Rattle.std.proofs.Common.{◌≡◌, ◌≢◌, ℕ, ◌+◌, ◌-◌, ◌<◌, ◌≤◌, Bool, true, false, not, ◌&&◌, cond, List, [], ◌∷◌, ◌++◌}
 use Rattle.std.proofs.Common.{◌⊎◌, length, take, drop, slice_index, IsTrue, MatchBool, sym, ap, ◌∙◌, subst, arith}
 use Rattle.std.proofs.Common.{⊎_elim, append-nil, append_assoc, length-append, length-take, length-drop}
-use Rattle.std.proofs.Common.{take-append-drop}
+use Rattle.std.proofs.Common.{take-append-drop, Option, Some, Ok}
 use Rattle.std.proofs.lemmas.List.{drop_more, get_or-take, take_all, drop_all, take_at, nil_from_length}
 use Rattle.std.proofs.lemmas.List.Elements.{All-append, All-from_get_or}
 use Rattle.std.proofs.lemmas.Bool.{true≢false, lt-ltb}
 use Rattle.crx_lines.specs.meaning.Devices.{Tally, with_failure}
 use Rattle.crx_lines.specs.meaning.Lines.{Piece, InputLine, line_of, is_long, without_return, ends_with_return}
-use Rattle.crx_lines.specs.Reading.{HasNoFeed, ReaderState, BeginsWith, TakesPiece, Stops, AnswersFault}
+use Rattle.crx_lines.specs.Readers.{part_shown}
+use Rattle.crx_lines.specs.Reading.{HasNoFeed, ReaderState, BeginsWith, TakesPiece, Stops, AnswersFault, AnswersAs}
+use Rattle.crx_lines.specs.Reading.{ReaderAnswers, line_shown, line_number}
 use Rattle.crx_lines.specs.declared.fault.At.{At}
 use Rattle.crx_lines.specs.declared.fault.Fault.{Fault}
 use Rattle.crx_lines.specs.declared.fault.Fault.TheVariants.{InputTooLong, ReadFailed}
 use Rattle.crx_lines.specs.Seeking.{Seeking}
 use Rattle.crx_lines.specs.declared.limits.TheConstants.{LINE_LIMIT, INPUT_LIMIT}
+use Rattle.crx_lines.specs.declared.line.Line.{Line}
+use Rattle.crx_lines.specs.declared.line.Part.{Part}
 use Rattle.crx_lines.specs.declared.phase.Phase.TheVariants.{Open, Ended}
 use Rattle.crx_lines.proofs.ReturnLemmas.{length-without_return}
 use Rattle.crx_lines.proofs.SeekLemmas.{Seeking-sum, Seeking-none}
@@ -78,19 +82,19 @@ module _ (gave : List ℕ → Type 0) (old held : List ℕ)
   pub takes : (is_ended : Bool) → EndIs held len is_ended at_end → (0 < passed + len) ⊎ (is_ended ≡ true)
       → (before after : ReaderState) (n : ℕ)
       → before.rest ≡ old → n ≡ len + cond is_ended 1 0 → after.rest ≡ drop n held
-      → after.handed_out ≡ before.handed_out + (passed + n) → before.handed_out + (length old + room) ≤ INPUT_LIMIT
+      → after.passed ≡ before.passed + (passed + n) → before.passed + (length old + room) ≤ INPUT_LIMIT
       → after.number ≡ before.number + 1 → after.phase ≡ cond is_ended Open Ended
       → TakesPiece before s.given at_end (piece_at s.front held len is_ended) after
-  takes is_ended end some before after n rest count left handed_out limit number phase =
+  takes is_ended end some before after n rest count left passes limit number phase =
       let whole = Seeking-sum gave old held room taken passed len s in
       let within = held-within is_ended n end count in
-      let sum : after.handed_out + length after.rest ≡ before.handed_out + (length old + taken) =
-      omega (arith, handed_out, ap length left, length-drop n held, whole, within) in
+      let sum : after.passed + length after.rest ≡ before.passed + (length old + taken) =
+      omega (arith, passes, ap length left, length-drop n held, whole, within) in
       record {
         first = subst (λ l. BeginsWith (l ++ s.given) at_end (piece_at s.front held len is_ended) after.rest) (sym rest)
             (subst (λ l. BeginsWith (old ++ s.given) at_end (piece_at s.front held len is_ended) l)
             (sym (left ∙ ap (λ k. drop k held) count)) (begins is_ended end some));
-        handed_out = omega (arith, sum, ap length rest, length-append before.rest s.given, s.taken_is);
+        passed = omega (arith, sum, ap length rest, length-append before.rest s.given, s.taken_is);
         within = omega (arith, sum, limit, s.within);
         number = number;
         phase = phase;
@@ -121,16 +125,16 @@ module _ (gave : List ℕ → Type 0) (old held : List ℕ)
       (bare, s.input ∙ ap (λ l. s.front ++ l) bare ∙ append-nil s.front ∙ nil_from_length s.front (s.passed_is ∙ none))
 
 -- no LF came within the limit, and a byte past it
-pub over-limit : (gave : List ℕ → Type 0) (old held : List ℕ) (room passed b handed_out : ℕ)
-    → (s : Seeking gave old held room room passed (length held)) → handed_out + (length old + room) ≡ INPUT_LIMIT
-    → (INPUT_LIMIT < handed_out + length (old ++ (s.given ++ b ∷ [])))
-    × HasNoFeed (take (INPUT_LIMIT - handed_out) (old ++ (s.given ++ b ∷ [])))
-over-limit gave old held room passed b handed_out s limit =
+pub over-limit : (gave : List ℕ → Type 0) (old held : List ℕ) (room passed b so_far : ℕ)
+    → (s : Seeking gave old held room room passed (length held)) → so_far + (length old + room) ≡ INPUT_LIMIT
+    → (INPUT_LIMIT < so_far + length (old ++ (s.given ++ b ∷ [])))
+    × HasNoFeed (take (INPUT_LIMIT - so_far) (old ++ (s.given ++ b ∷ [])))
+over-limit gave old held room passed b so_far s limit =
     let front = old ++ s.given in
-    let whole : length front ≡ INPUT_LIMIT - handed_out = omega (arith, length-append old s.given, s.taken_is, limit) in
-    let cut : take (INPUT_LIMIT - handed_out) (old ++ (s.given ++ b ∷ [])) ≡ s.front ++ held =
-    ap (take (INPUT_LIMIT - handed_out)) (sym (append_assoc old s.given (b ∷ [])))
-    ∙ take_at front (b ∷ []) (INPUT_LIMIT - handed_out) whole ∙ s.input in (
+    let whole : length front ≡ INPUT_LIMIT - so_far = omega (arith, length-append old s.given, s.taken_is, limit) in
+    let cut : take (INPUT_LIMIT - so_far) (old ++ (s.given ++ b ∷ [])) ≡ s.front ++ held =
+    ap (take (INPUT_LIMIT - so_far)) (sym (append_assoc old s.given (b ∷ [])))
+    ∙ take_at front (b ∷ []) (INPUT_LIMIT - so_far) whole ∙ s.input in (
       omega (arith, length-append old (s.given ++ b ∷ []), length-append s.given (b ∷ []), s.taken_is, limit),
       subst HasNoFeed (sym cut) (Seeking-none gave old held room room passed s),
     )
@@ -139,12 +143,12 @@ over-limit gave old held room passed b handed_out s limit =
 pub over-fault : (gave : List ℕ → Type 0) (old held : List ℕ) (room passed b : ℕ) (at_end : Type 0) (tally then : Tally)
     → (s : Seeking gave old held room room passed (length held)) (before after : ReaderState) (at : At) (fault : Fault)
     → fault ≡ InputTooLong → before.rest ≡ old
-    → before.handed_out + (length old + room) ≡ INPUT_LIMIT → Stops before at after → then ≡ tally
+    → before.passed + (length old + room) ≡ INPUT_LIMIT → Stops before at after → then ≡ tally
     → AnswersFault before (s.given ++ b ∷ []) at_end tally then at fault after
 over-fault gave old held room passed b at_end tally then s before after at fault is rest limit stops well =
-    let facts = over-limit gave old held room passed b before.handed_out s limit in
-    let P : List ℕ → Type 0 = λ l. (INPUT_LIMIT < before.handed_out + length (l ++ (s.given ++ b ∷ [])))
-    × HasNoFeed (take (INPUT_LIMIT - before.handed_out) (l ++ (s.given ++ b ∷ []))) in
+    let facts = over-limit gave old held room passed b before.passed s limit in
+    let P : List ℕ → Type 0 = λ l. (INPUT_LIMIT < before.passed + length (l ++ (s.given ++ b ∷ [])))
+    × HasNoFeed (take (INPUT_LIMIT - before.passed) (l ++ (s.given ++ b ∷ []))) in
     let there = subst P (sym rest) facts in
     subst (λ f. AnswersFault before (s.given ++ b ∷ []) at_end tally then at f after)
     (sym is) (there.0, there.1, stops, well)
@@ -153,12 +157,12 @@ pub read-fault : (gave : List ℕ
     → Type 0) (old held : List ℕ) (room taken passed : ℕ) (at_end : Type 0) (tally then : Tally)
     → (s : Seeking gave old held room taken passed (length held)) (before after : ReaderState) (at : At) (fault : Fault)
     → fault ≡ ReadFailed → before.rest ≡ old
-    → before.handed_out + (length old + room) ≡ INPUT_LIMIT → Stops before at after → then ≡ with_failure tally
+    → before.passed + (length old + room) ≡ INPUT_LIMIT → Stops before at after → then ≡ with_failure tally
     → AnswersFault before s.given at_end tally then at fault after
 read-fault gave old held room taken passed at_end tally then s before after at fault is rest limit stops bad =
     let none : HasNoFeed (before.rest ++ s.given) = subst HasNoFeed
     (sym (ap (λ l. l ++ s.given) rest ∙ s.input)) (Seeking-none gave old held room taken passed s) in
-    let within : before.handed_out + length (before.rest ++ s.given) ≤ INPUT_LIMIT =
+    let within : before.passed + length (before.rest ++ s.given) ≤ INPUT_LIMIT =
     omega (arith, length-append before.rest s.given, ap length rest, s.taken_is, s.within, limit) in
     subst (λ f. AnswersFault before s.given at_end tally then at f after) (sym is) (within, none, stops, bad)
 
@@ -172,3 +176,16 @@ shown-line front part content is_ended has_return is_plain same is returns plain
     ap (λ c. line c is_plain) (is ∙ ap without_return (sym same))
     ∙ ap (line (without_return (front ++ part))) (plain
     ∙ ap (λ r. is_ended && not r) (returns ∙ ap ends_with_return (sym same)))
+
+-- a line that is borrowed is answered as its place in the window was
+pub answers-line : (gave : List ℕ → Type 0) (at_end : Type 0) (bytes : List ℕ) (o : Option Part) (p : Part) (l : Line)
+    (old new : ReaderState) (before after : Tally)
+    → o ≡ Some p → line_shown l ≡ part_shown bytes p → line_number l ≡ new.number
+    → (given : List ℕ) × gave given
+    × AnswersAs (part_shown bytes) (λ _. new.number) old given at_end before after (Ok o) new
+    → (given : List ℕ) × gave given × ReaderAnswers old given at_end before after (Ok (Some l)) new
+answers-line gave at_end bytes o p l old new before after is shown number found =
+    let there = subst (λ (o : Option Part). (given : List ℕ) × gave given
+    × AnswersAs (part_shown bytes) (λ _. new.number) old given at_end before after (Ok o) new) is found in
+    let line = there.2 in
+    (there.0, there.1, (line.0, line.1, shown ∙ line.2, number, line.4))

@@ -47,7 +47,7 @@ take-past : (xs ys : List ℕ) (n room : ℕ) → n ≡ length xs + room → tak
 take-past xs ys n room e = ap (λ k. take k (xs ++ ys)) e ∙ take-append-add xs ys room
 
 pub HasRead-start : (gave : List ℕ → Type 0) (at_end : Type 0) (start : Tally) → gave []
-    → HasRead gave at_end start start (record { rest = []; handed_out = 0; number = 0; phase = Open }) []
+    → HasRead gave at_end start start (record { rest = []; passed = 0; number = 0; phase = Open }) []
 HasRead-start gave at_end start lead = record {
   given = [];
   lead = lead;
@@ -79,8 +79,8 @@ module _ (at_end : Type 0) (start counted counted' : Tally) (given more : List �
   line-ended : (bytes : List ℕ) → TakesPiece old more at_end (ended_piece bytes) new → counted' ≡ counted
       → IsOpen start counted' (given ++ more) new (lines ++ line_of (ended_piece bytes) ∷ [])
   line-ended bytes t same = record {
-    bytes = omega (arith, length-append given more, length-append old.rest more, t.handed_out, o.bytes);
-    within = omega (arith, length-append given more, length-append old.rest more, t.handed_out, o.bytes, t.within);
+    bytes = omega (arith, length-append given more, length-append old.rest more, t.passed, o.bytes);
+    within = omega (arith, length-append given more, length-append old.rest more, t.passed, o.bytes, t.within);
     first = λ x. over-piece lines_of (line_of (ended_piece bytes)) given
         more old.rest bytes new.rest x lines o.first t.first.cut (lines-first bytes (new.rest ++ x) t.first.no_feed);
     ended = λ x. over-piece ended_lines_of (line_of (ended_piece bytes)) given more
@@ -92,7 +92,7 @@ module _ (at_end : Type 0) (start counted counted' : Tally) (given more : List �
       → IsOver at_end start counted' (given ++ more) (lines ++ line_of (last_piece bytes) ∷ [])
   line-last bytes t same = record {
     reported = t.first.cut.3;
-    within = omega (arith, length-append given more, length-append old.rest more, t.handed_out, o.bytes, t.within);
+    within = omega (arith, length-append given more, length-append old.rest more, t.passed, o.bytes, t.within);
     all = sym (o.first more ∙ ap (λ l. lines ++ lines_of l) t.first.cut.0
         ∙ ap (λ l. lines ++ l) (lines-last bytes t.first.no_feed t.first.cut.2));
     counts = same ∙ ap with_end o.counts;
@@ -124,7 +124,7 @@ module _ (at_end : Type 0) (start counted counted' : Tally) (given more : List �
   ended-so-far front none =
       sym (o.ended front ∙ ap (λ l. lines ++ l) (ended_lines-none (old.rest ++ front) none) ∙ append-nil lines)
 
-  failed-stops : old.handed_out + length (old.rest ++ more) ≤ INPUT_LIMIT
+  failed-stops : old.passed + length (old.rest ++ more) ≤ INPUT_LIMIT
       → HasNoFeed (old.rest ++ more) → counted' ≡ with_failure counted
       → IsStopped ReadFailed start counted' (given ++ more) lines
   failed-stops within none same = (
@@ -133,13 +133,13 @@ module _ (at_end : Type 0) (start counted counted' : Tally) (given more : List �
     same ∙ ap with_failure o.counts,
   )
 
-  over-stops : INPUT_LIMIT < old.handed_out + length (old.rest ++ more)
-      → HasNoFeed (take (INPUT_LIMIT - old.handed_out) (old.rest ++ more)) → counted' ≡ counted
+  over-stops : INPUT_LIMIT < old.passed + length (old.rest ++ more)
+      → HasNoFeed (take (INPUT_LIMIT - old.passed) (old.rest ++ more)) → counted' ≡ counted
       → IsStopped InputTooLong start counted' (given ++ more) lines
   over-stops over none same =
       let room = INPUT_LIMIT - length given in
-      let first : take (INPUT_LIMIT - old.handed_out) (old.rest ++ more) ≡ old.rest ++ take room more =
-      take-past old.rest more (INPUT_LIMIT - old.handed_out) room (omega (arith, o.bytes, o.within)) in
+      let first : take (INPUT_LIMIT - old.passed) (old.rest ++ more) ≡ old.rest ++ take room more =
+      take-past old.rest more (INPUT_LIMIT - old.passed) room (omega (arith, o.bytes, o.within)) in
       let whole : take INPUT_LIMIT (given ++ more) ≡ given ++ take room more =
       take-past given more INPUT_LIMIT room (omega (arith, o.within)) in (
         omega (arith, over, length-append given more, length-append old.rest more, o.bytes),
@@ -148,12 +148,12 @@ module _ (at_end : Type 0) (start counted counted' : Tally) (given more : List �
       )
 
 -- a line has a byte
-handed_out-more : (old new : ReaderState) (given : List ℕ) (at_end : Type 0) (bytes : List ℕ) (is_ended : Bool)
-    → TakesPiece old given at_end (record { bytes = bytes; is_ended = is_ended }) new → old.handed_out < new.handed_out
-handed_out-more old new given at_end bytes true t =
-    omega (arith, t.handed_out, ap length t.first.cut, length-append bytes (10 ∷ new.rest))
-handed_out-more old new given at_end bytes false t =
-    omega (arith, t.handed_out, ap length t.first.cut.0, ap length t.first.cut.1, t.first.cut.2)
+passed-more : (old new : ReaderState) (given : List ℕ) (at_end : Type 0) (bytes : List ℕ) (is_ended : Bool)
+    → TakesPiece old given at_end (record { bytes = bytes; is_ended = is_ended }) new → old.passed < new.passed
+passed-more old new given at_end bytes true t =
+    omega (arith, t.passed, ap length t.first.cut, length-append bytes (10 ∷ new.rest))
+passed-more old new given at_end bytes false t =
+    omega (arith, t.passed, ap length t.first.cut.0, ap length t.first.cut.1, t.first.cut.2)
 
 module _ (gave gives step : List ℕ → Type 0)
     (at_end at_end' : Type 0) (start counted counted' : Tally) (old new : ReaderState) (lines : List InputLine)
@@ -168,7 +168,7 @@ module _ (gave gives step : List ℕ → Type 0)
   one-more more p line number t shown numbered = record {
     lines_are = ap (λ l. lines ++ l ∷ []) (sym shown);
     number_is = omega (arith, numbered, t.number, h.number, length_push lines (line_of p));
-    some = handed_out-more old new more at_end' p.bytes p.is_ended t;
+    some = passed-more old new more at_end' p.bytes p.is_ended t;
     within = omega (arith, t.within);
   }
 

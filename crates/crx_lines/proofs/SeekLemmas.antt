@@ -43,6 +43,14 @@ Seeking-searched gave old held room taken passed searched n s within none = reco
   searched_within = within;
 }
 
+-- the search in the bytes that are shown came as far as n
+pub Seeking-found : (gave : List ℕ → Type 0) (old held shown : List ℕ) (room taken passed searched n : ℕ)
+    → Seeking gave old held room taken passed searched → shown ≡ held → n < length shown
+    → ((k : ℕ) → searched ≤ k → k < n → slice_index shown k ≢ 10) → Seeking gave old held room taken passed n
+Seeking-found gave old held shown room taken passed searched n s same within none =
+    Seeking-searched gave old held room taken passed searched n s (omega (arith, within, ap length same))
+    (subst (λ l. (k : ℕ) → searched ≤ k → k < n → slice_index l k ≢ 10) same none)
+
 -- where all that is held was searched, no LF stands in what was discarded and held
 pub Seeking-none : (gave : List ℕ → Type 0) (old held : List ℕ) (room taken passed : ℕ)
     → (s : Seeking gave old held room taken passed (length held)) → HasNoFeed (s.front ++ held)

@@ -17,7 +17,7 @@ use Rattle.crx_lines.specs.declared.phase.Phase.TheVariants.{Open, Ended, Stoppe
 -- while lines may come: whatever comes after the bytes that were given, the lines so far are the first, and an
 -- LF ended each of them; no read failed or reported the end
 pub record IsOpen (start counted : Tally) (given : List ℕ) (now : ReaderState) (lines : List InputLine) : Type 0 where
-  pub bytes : length given ≡ now.handed_out + length now.rest
+  pub bytes : length given ≡ now.passed + length now.rest
   pub within : length given ≤ INPUT_LIMIT
   pub first : (more : List ℕ) → lines_of (given ++ more) ≡ lines ++ lines_of (now.rest ++ more)
   pub ended : (more : List ℕ) → ended_lines_of (given ++ more) ≡ lines ++ ended_lines_of (now.rest ++ more)
@@ -57,8 +57,8 @@ pub record IsOneMore (old new : ReaderState)
     (lines then : List InputLine) (line : InputLine) (number : ℕ) : Type 0 where
   pub lines_are : then ≡ lines ++ line ∷ []
   pub number_is : number ≡ length then
-  pub some : old.handed_out < new.handed_out
-  pub within : new.handed_out ≤ INPUT_LIMIT
+  pub some : old.passed < new.passed
+  pub within : new.passed ≤ INPUT_LIMIT
 
 -- what a fault says of the lines before it and those after it
 abbrev pub AtFault : Fault → At → ReaderState → ReaderState → List InputLine → List InputLine → Type 0

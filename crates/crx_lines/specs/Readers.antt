@@ -8,7 +8,7 @@ use Rattle.crx_lines.specs.declared.line.Part.{Part}
 
 -- how far a reader of lines is
 abbrev pub reading : LineReader → ReaderState
-reading r = record { rest = kept r.window.value; handed_out = r.handed_out; number = r.number; phase = r.phase }
+reading r = record { rest = kept r.window.value; passed = r.passed; number = r.number; phase = r.phase }
 
 -- the line whose content stands at a place among some bytes
 abbrev pub part_shown : List ℕ → Part → InputLine

@@ -28,8 +28,8 @@ line_number l = l.number
 pub record ReaderState : Type 0 where
   -- the bytes that were given and are of no line yet
   pub rest : List ℕ
-  -- how many bytes the lines so far had, with their ends
-  pub handed_out : ℕ
+  -- how many bytes the lines so far had, with their ends, those of refused lines too
+  pub passed : ℕ
   -- the number of the last line, 0 before the first
   pub number : ℕ
   -- whether lines may come, the end was reported with no line pending, or a fault is repeated
@@ -45,8 +45,8 @@ pub record BeginsWith (input : List ℕ) (at_end : Type 0) (p : Piece) (rest : L
 pub record TakesPiece (old : ReaderState)
     (given : List ℕ) (at_end : Type 0) (p : Piece) (new : ReaderState) : Type 0 where
   pub first : BeginsWith (old.rest ++ given) at_end p new.rest
-  pub handed_out : new.handed_out + length new.rest ≡ old.handed_out + length (old.rest ++ given)
-  pub within : new.handed_out + length new.rest ≤ INPUT_LIMIT
+  pub passed : new.passed + length new.rest ≡ old.passed + length (old.rest ++ given)
+  pub within : new.passed + length new.rest ≤ INPUT_LIMIT
   pub number : new.number ≡ old.number + 1
   pub phase : new.phase ≡ (if p.is_ended then Open else Ended)
 
@@ -63,10 +63,10 @@ AnswersFault old given at_end before after at LineTooLong new =
     (p : Piece) × TakesPiece old given at_end p new
     × IsTrue (is_long (line_of p)) × (at.line ≡ new.number) × (after ≡ tally_after_line p.is_ended before)
 AnswersFault old given at_end before after at InputTooLong new =
-    (INPUT_LIMIT < old.handed_out + length (old.rest ++ given))
-    × HasNoFeed (take (INPUT_LIMIT - old.handed_out) (old.rest ++ given)) × Stops old at new × (after ≡ before)
+    (INPUT_LIMIT < old.passed + length (old.rest ++ given))
+    × HasNoFeed (take (INPUT_LIMIT - old.passed) (old.rest ++ given)) × Stops old at new × (after ≡ before)
 AnswersFault old given at_end before after at ReadFailed new =
-    (old.handed_out + length (old.rest ++ given) ≤ INPUT_LIMIT)
+    (old.passed + length (old.rest ++ given) ≤ INPUT_LIMIT)
     × HasNoFeed (old.rest ++ given) × Stops old at new × (after ≡ with_failure before)
 AnswersFault old given at_end before after at _ new = ⊥
 

@@ -60,7 +60,7 @@ pub fn ended_lines_come_first()
 pub fn reading_starts<R: Source>()
     ensures { (start : R) → HasRead (λ given. R.gave start given start) (R.at_end start)
         (tally_of (R.failures start) (R.ends start)) (tally_of (R.failures start) (R.ends start))
-        (record { rest = []; handed_out = 0; number = 0; phase = Phase.Open }) [] }
+        (record { rest = []; passed = 0; number = 0; phase = Phase.Open }) [] }
 {}
 
 /// From one answer of a reader of lines to the next: what was read of the bytes that its source gave, and how often the

@@ -1,4 +1,4 @@
-//! Lines of an input, and what lends them one after another.
+//! Lines of an input, and what hands them out one after another.
 ghost use Rattle.std.specs.Prelude.{◌≡◌, ◌≢◌, ℕ, ◌+◌, ◌-◌, ◌<◌, ◌≤◌, ◌&&◌, ◌⊎◌, not, true, false, IsTrue, List, [], ◌++◌, length, slice_range, Option, Some, None, Ok, Err, IfOk, IfSome, Contains, if◌then◌else◌};
 ghost use Rattle.crx_lines.specs.meaning.Devices.{tally_of};
 ghost use Rattle.crx_lines.specs.declared.fault.At.{At};
@@ -93,15 +93,16 @@ fn is_plain(is_ended: bool, has_return: bool) -> bool
     is_ended && !has_return
 }
 
-/// Lends the lines of an input one after another, out of a buffer of its own.
+/// Hands out the lines of an input one after another, from a buffer of its own.
 #[derive(Drop)]
 pub struct LineReader {
     window: Box<Window>,
-    handed_out: u64,
+    /// How many bytes the lines so far had, with their ends, those of refused lines too.
+    passed: u64,
     number: u64,
     phase: Phase,
-    ghost counted: { number ≤ handed_out },
-    ghost limit: { handed_out + length (kept window.value) ≤ INPUT_LIMIT },
+    ghost counted: { number ≤ passed },
+    ghost limit: { passed + length (kept window.value) ≤ INPUT_LIMIT },
 }
 
 impl LineReader {
@@ -114,12 +115,12 @@ impl LineReader {
     /// A reader before its input's first line.
     pub fn new(alloc: Global) -> Result<LineReader, AllocError>
         ensures { IfOk result
-            (λ r. reading r ≡ record { rest = []; handed_out = 0; number = 0; phase = Phase.Open }) }
+            (λ r. reading r ≡ record { rest = []; passed = 0; number = 0; phase = Phase.Open }) }
     {
         let window = Box::new(alloc, Window::new(alloc)?)?;
         Ok(LineReader {
             window,
-            handed_out: 0,
+            passed: 0,
             number: 0,
             phase: Phase::Open,
         })
@@ -150,7 +151,7 @@ impl LineReader {
         };
         let place = self.window.content(len);
         self.window.pass(len + 1);
-        self.handed_out += len as u64 + 1;
+        self.passed += len as u64 + 1;
         self.number += 1;
         if place.to - place.from > LINE_LIMIT {
             return Err(At {
@@ -178,7 +179,7 @@ impl LineReader {
             (λ o. IfSome o (λ p. (p.from ≤ p.to) × (p.to ≤ SIZE) × (p.to - p.from ≤ LINE_LIMIT))) }
         ensures unasked { Contains (kept self.old.window.value) 10 → reader.new ≡ reader.old }
     {
-        let room = INPUT_LIMIT - self.handed_out - self.window.as_slice().len() as u64;
+        let room = INPUT_LIMIT - self.passed - self.window.as_slice().len() as u64;
         let found = match seek(&mut self.window, room, reader) {
             Ok(found) => found,
             Err(fault) => {
@@ -197,7 +198,7 @@ impl LineReader {
         let place = self.window.content(found.len);
         let held = found.held();
         self.window.pass(held);
-        self.handed_out += found.passed + held as u64;
+        self.passed += found.passed + held as u64;
         self.number += 1;
         self.phase = phase_after(found.is_ended);
         if is_over(found.passed, place.to - place.from) {
@@ -228,7 +229,7 @@ impl LineReader {
         }
     }
 
-    /// Lends the next line of what is kept and what `reader` gives after it, until the next call.
+    /// Hands out the next line of what is kept and what `reader` gives after it, until the next call.
     /// It asks `reader` only while what is kept holds no LF, and never after `reader` reported its end.
     ///
     /// `LineTooLong` is the answer to a line over `LINE_LIMIT`, once its end was read; the line

@@ -28,8 +28,9 @@ abbrev pub AreOfRows : ℕ → List (List ℕ) → List Row → Type 0
 AreOfRows known names rows = (known ≤ length names) × (known ≤ length rows)
     × (take known names ≡ map (λ (row : Row). row.name) (take known rows))
 
--- What holds of an epoch that is read row by row: the first `count` rows and identifiers are the epoch's, and after them stand spare ones
--- of earlier epochs; the first `known` rows and identifiers are of the same satellites. There are no more of them than an epoch can have.
+-- What holds of the parts of an epoch: its line is sound, and with the first `count` rows it is a sound epoch; the first `count`
+-- identifiers are those of these rows. Spare rows and identifiers may follow; the first `known` of both, at least `count`, are of the same
+-- satellites. Spare ones counted too, there are no more rows, and no more identifiers, than an epoch can have.
 abbrev pub AreEpochParts : ObservationHead → List (List ℕ) → List Row → ℕ → ℕ → Type 0
 AreEpochParts head names rows count known =
     IsSoundEpoch (record { head = head.head; clock = head.clock; rows = take count rows }) × (count ≤ length rows)

@@ -35,7 +35,7 @@ use Rattle.crx_reading.specs.meaning.Expanded.{expanded_unit, whole_compact}
 use Rattle.crx_reading.specs.meaning.Directions.{compact_memory, course_so_far}
 use Rattle.crx_reading.specs.LineByLine.{Direction, Seen, Notice, seen_next}
 use Rattle.crx_reading.specs.Memory.{takes_memory}
-use Rattle.crx_engine.specs.Laws.{IsFollowed, IsEndedBy, IsReadyWhereLent, fed}
+use Rattle.crx_engine.specs.Laws.{IsFollowed, IsEndedBy, IsReadyWhereHandedOut, fed}
 
 text-then : (before after more : List (List ℕ))
     → after ≡ before ++ more → lines_text after ≡ lines_text before ++ lines_text more
@@ -64,7 +64,7 @@ goes-by : {E U O K : Type 0} (direction : Direction U O K) (seen_after : List Re
     → record { answer = Notice notice true; handed_out = []; next = next }
     ≡ seen_next direction (seen_after lines) line
     → takes_memory direction next line ≡ true → memory lines line ≡ Some (notice ∷ []))
-    → IsReadyWhereLent direction
+    → IsReadyWhereHandedOut direction
     → GoesLineByLine direction seen_after (record {
       so_far = λ lines. course_so_far unit_lines (reading (map seen lines));
       whole = λ lines. whole_course unit_lines (whole (map seen lines));

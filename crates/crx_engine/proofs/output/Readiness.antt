@@ -11,7 +11,7 @@ use Rattle.crx_reading.specs.LineByLine.{made_in, step_of_made}
 use Rattle.crx_reading.specs.meaning.Compacted.{lines_before_header}
 use Rattle.crx_reading.specs.CompactionByLine.{Written, compaction, is_before_header}
 use Rattle.crx_reading.specs.ExpansionByLine.{expansion}
-use Rattle.crx_engine.specs.Laws.{is_ready, has_lines, IsReadyWhereLent}
+use Rattle.crx_engine.specs.Laws.{is_ready, has_lines, IsReadyWhereHandedOut}
 use Rattle.crx_reading.proofs.Choosing.{by_bool}
 use Rattle.crx_engine.proofs.following.Following.{failed-ends, failed-skipped}
 use Rattle.std.specs.Prelude.{Option}
@@ -45,10 +45,10 @@ expanded-some seen (EventLine line) = refl
 expanded-some seen (EventRecord line) = refl
 expanded-some seen (Observation held) = refl
 
-pub compaction-ready : IsReadyWhereLent compaction
+pub compaction-ready : IsReadyWhereHandedOut compaction
 compaction-ready seen line = step-ready compaction compact-some seen line
     (made_in compaction seen.phase seen.types seen.kept line)
 
-pub expansion-ready : IsReadyWhereLent expansion
+pub expansion-ready : IsReadyWhereHandedOut expansion
 expansion-ready seen line = step-ready expansion expanded-some seen line
     (made_in expansion seen.phase seen.types seen.kept line)

@@ -16,7 +16,7 @@ use Rattle.crx_engine.specs.Engines.{Awaited, IsAwaited, awaited_notices, GoesOn
 use Rattle.crx_engine.specs.EngineLines.{HasTaken}
 use Rattle.crx_engine.specs.EngineSteps.{step_made, Steps}
 use Rattle.crx_engine.specs.Laws.{noticed_by, failed_by, is_again, is_ready, has_lines, Fed, fed_once, fed_twice, fed}
-use Rattle.crx_engine.specs.Laws.{IsReadyWhereLent}
+use Rattle.crx_engine.specs.Laws.{IsReadyWhereHandedOut}
 use Rattle.crx_reading.specs.LineByLine.{LookingOn}
 use Rattle.crx_reading.specs.LineByLine.{Seen, Direction, Made, Fails, Notice}
 use Rattle.crx_reading.specs.LineByLine.{Step as SeenStep, made_in, may_skip, is_in_epoch, is_skipped_in, failed_step}
@@ -61,7 +61,7 @@ pub record GoesLineByLine {U O K : Type 0} (direction : Direction U O K) (seen_a
       → record { answer = Notice notice true; handed_out = []; next = next }
       ≡ seen_next direction (seen_after (map seen lines)) (seen line) → takes_memory direction next (seen line) ≡ true
       → filter.memory_after lines line ≡ Some (notice ∷ [])
-  pub ready : IsReadyWhereLent direction
+  pub ready : IsReadyWhereHandedOut direction
 
 -- ---- a line that comes again
 

@@ -7,8 +7,8 @@ use Rattle.crx_lines.specs.Reading.{ReaderState, line_shown, line_number}
 use Rattle.crx_lines.specs.Progress.{HasRead}
 use Rattle.crx_lines.specs.declared.phase.Phase.TheVariants.{Ended}
 use Rattle.crx_filter.specs.meaning.Spans.{Input, Device, span}
-use Rattle.crx_filter.proofs.StepReading.{line-read, overlong-read, stop-read, end-read, overlong-number, line-handed_out}
-use Rattle.crx_filter.proofs.StepReading.{overlong-handed_out, ended-not-open}
+use Rattle.crx_filter.proofs.StepReading.{line-read, overlong-read, stop-read, end-read, overlong-number, line-passed}
+use Rattle.crx_filter.proofs.StepReading.{overlong-passed, ended-not-open}
 use Rattle.crx_filter.proofs.StepLemmas.{goes-by, ends-by}
 use Rattle.crx_filter.proofs.step.step.Goals as goal
 
@@ -248,7 +248,7 @@ returns-in_default-clause-stops g c = λ r0 w0 m0 (lines : List InputLine) shown
 pub returns-in_ok-take_line-in-Ok-Some-clause-farther : goal.returns-in_ok-take_line-in-Ok-Some-clause-farther
 returns-in_ok-take_line-in-Ok-Some-clause-farther g c =
     let counts = λ (r : g.row.R.Denot). tally_of (g.R.Source.failures r) (g.R.Source.ends r) in
-    line-handed_out (λ given. g.R.Source.gave c.args.reader.now given c.next_line.new.reader)
+    line-passed (λ given. g.R.Source.gave c.args.reader.now given c.next_line.new.reader)
     (g.R.Source.at_end c.next_line.new.reader) (counts c.args.reader.now) (counts c.next_line.new.reader)
     (reading c.args.input.now) (reading c.next_line.follows.lender-at-none) c.next_line.result c.requires.going
     c.next_line.follows.holds-at-none.0 (λ e. (c.next_line.ensures.ended e).0) c.in-Ok-Some.line (c.in-Ok-Some.is
@@ -258,7 +258,7 @@ pub returns-in_ok-take_overlong-in-LineTooLong-clause-farther :
     goal.returns-in_ok-take_overlong-in-LineTooLong-clause-farther
 returns-in_ok-take_overlong-in-LineTooLong-clause-farther g c =
     let counts = λ (r : g.row.R.Denot). tally_of (g.R.Source.failures r) (g.R.Source.ends r) in
-    overlong-handed_out (λ given. g.R.Source.gave c.args.reader.now given c.next_line.new.reader)
+    overlong-passed (λ given. g.R.Source.gave c.args.reader.now given c.next_line.new.reader)
     (g.R.Source.at_end c.next_line.new.reader) (counts c.args.reader.now) (counts c.next_line.new.reader)
     (reading c.args.input.now) (reading c.next_line.follows.lender-at-none)
     c.next_line.result c.requires.going c.next_line.follows.holds-at-none.0

@@ -22,4 +22,4 @@ invariant-lines g l =
     × IsWithinLimit (reading l.input)
 
 abbrev pub decreases-lines : goal.decreases-lines
-decreases-lines g l = INPUT_LIMIT - (reading l.input).handed_out
+decreases-lines g l = INPUT_LIMIT - (reading l.input).passed

@@ -1,11 +1,11 @@
-use Rattle.std.proofs.Common.{ℕ, ◌+◌, ◌≤◌, List, [], ◌∷◌, ◌++◌, ⊎_elim, Ok, length, subst, sym, ap, ◌∙◌, refl, arith}
-use Rattle.std.proofs.Common.{append-nil}
+use Rattle.std.proofs.Common.{◌≡◌, ℕ, ◌+◌, ◌≤◌, List, [], ◌∷◌, ◌++◌, ⊎_elim, Ok, length, subst, sym, ap, ◌∙◌, refl, arith}
+use Rattle.std.proofs.Common.{append-nil, length-append}
 use Rattle.crx_lines.specs.Window.{kept}
 use Rattle.crx_lines.specs.Seeking.{Seeking}
 use Rattle.crx_lines.proofs.DeviceLemmas.{ends-some}
 use Rattle.crx_lines.proofs.WindowLemmas.{length-kept}
-use Rattle.crx_lines.proofs.SeekLemmas.{Seeking-start, Seeking-step, Seeking-filled, Seeking-same, Seeking-sum}
-use Rattle.crx_lines.proofs.SeekLemmas.{Seeking-not_old}
+use Rattle.crx_lines.proofs.SeekLemmas.{Seeking-start, Seeking-found, Seeking-step, Seeking-filled, Seeking-same}
+use Rattle.crx_lines.proofs.SeekLemmas.{Seeking-sum, Seeking-not_old}
 use Rattle.crx_lines.proofs.seek.seek.Goals as goal
 
 pub seeking-init : goal.seeking-init
@@ -15,6 +15,15 @@ seeking-init g c = (
   refl,
   refl,
   λ _. refl,
+)
+
+pub returns-in-Some-clause-ok : goal.returns-in-Some-clause-ok
+returns-in-Some-clause-ok g c = (
+  c.seeking.taken,
+  Seeking-found (λ given. g.R.Source.gave c.args.reader.now given c.seeking.reader)
+      (kept c.args.window.now) (kept c.seeking.window) c.as_slice.result.now c.args.room c.seeking.taken
+      c.seeking.passed c.seeking.searched c.in-Some.len c.seeking.invariant.0 c.as_slice.ensures.value
+      c.in-Some.ensures.within.1 c.in-Some.ensures.first,
 )
 
 pub overflow_add-passed : goal.overflow_add-passed
@@ -62,6 +71,11 @@ returns-in-Ok-false-clause-ok g c =
           g.met.R.Source.gave_both old now new given [] lead none.0) refl (ap length c.as_slice-searched.ensures.value),
     )
 
+pub returns-in-Ok-false-clause-end : goal.returns-in-Ok-false-clause-end
+returns-in-Ok-false-clause-end g c =
+    let none = c.in-Ok-false.ensures.none (ap Ok c.in-Ok-false.field-0-test) in
+    (ap length c.as_slice-searched.ensures.value, none.1)
+
 pub returns-in-Ok-false-clause-unasked : goal.returns-in-Ok-false-clause-unasked
 returns-in-Ok-false-clause-unasked g c =
     let old = c.args.reader.now in
@@ -103,6 +117,14 @@ returns-in-Ok-eq0-clause-ok g c =
           (λ given lead. g.met.R.Source.gave_both old now new given more.0 lead more.3) (more.1
           ∙ c.in-Ok-eq0.field-0-test) (omega (arith, s.within)) more.2 (ap length c.as_slice-searched.ensures.value),
     )
+
+pub returns-in-Ok-eq0-clause-end : goal.returns-in-Ok-eq0-clause-end
+returns-in-Ok-eq0-clause-end g c =
+    let more = c.in-Ok-eq0.ensures.ok in
+    let held = kept c.discarded.new.window in
+    let same : length (kept c.fill.new.self) ≡ length held =
+    omega (arith, ap length more.2, length-append held more.0, more.1, c.in-Ok-eq0.field-0-test) in
+    (ap length c.as_slice-searched.ensures.value ∙ sym same, c.in-Ok-eq0.ensures.end c.in-Ok-eq0.field-0-test)
 
 pub returns-in-Ok-eq0-clause-unasked : goal.returns-in-Ok-eq0-clause-unasked
 returns-in-Ok-eq0-clause-unasked g c =

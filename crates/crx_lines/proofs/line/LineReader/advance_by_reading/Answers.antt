@@ -11,6 +11,7 @@ use Rattle.crx_lines.specs.declared.limits.TheConstants.{INPUT_LIMIT, LINE_LIMIT
 use Rattle.crx_lines.specs.declared.fault.Fault.TheVariants.{InputTooLong, ReadFailed}
 use Rattle.crx_lines.proofs.DeviceLemmas.{tally-same, tally-line}
 use Rattle.crx_lines.proofs.SeekLemmas.{Seeking-sum}
+use Rattle.crx_lines.proofs.WindowLemmas.{length-kept}
 use Rattle.crx_lines.proofs.AdvanceLemmas.{EndIs, piece_at, takes, held-within, some-byte, whole-piece, content-long}
 use Rattle.crx_lines.proofs.AdvanceLemmas.{nothing, over-fault, read-fault, shown-line}
 use Rattle.crx_lines.proofs.line.LineReader.advance_by_reading.Goals as goal
@@ -24,12 +25,12 @@ invariant_of-self g c =
     let over = λ (e : c.in-Err.fault ≡ InputTooLong).
     let found = c.in-Err.ensures.over (ap Err e) in
     let sum = Seeking-sum _ (kept c.deref_mut.result.now) held _ _ found.1 (length held) found.2 in
-    let bound : old.handed_out + length held ≤ INPUT_LIMIT = omega (arith, sum, ap length same, ap length shown, old.limit) in
+    let bound : old.passed + length held ≤ INPUT_LIMIT = omega (arith, sum, ap length same, ap length shown, old.limit) in
     bound in
     let failed = λ (e : c.in-Err.fault ≡ ReadFailed).
     let found = c.in-Err.ensures.failed (ap Err e) in
     let sum = Seeking-sum _ (kept c.deref_mut.result.now) held _ found.0 found.1 (length held) found.2 in
-    let bound : old.handed_out + length held ≤ INPUT_LIMIT =
+    let bound : old.passed + length held ≤ INPUT_LIMIT =
     omega (arith, sum, ap length same, ap length shown, old.limit, found.2.within) in
     bound in
     record { counted = old.counted; limit = ⊎_elim over failed c.in-Err.ensures.faults }
@@ -39,7 +40,7 @@ returns-in-Err-clause-answers g c =
     let old = c.args.self.now in
     let same = ap kept c.deref_mut.ensures.value in
     let shown = c.as_slice.ensures.value ∙ ap kept c.deref.ensures in
-    let limit : old.handed_out + (length (kept c.deref_mut.result.now) + (INPUT_LIMIT - old.handed_out
+    let limit : old.passed + (length (kept c.deref_mut.result.now) + (INPUT_LIMIT - old.passed
     - length c.as_slice.result.now)) ≡ INPUT_LIMIT = omega (arith, ap length same, ap length shown, old.limit) in
     ⊎_elim
     (λ (e : c.in-Err.fault ≡ InputTooLong).
@@ -75,7 +76,7 @@ returns-then-is_nothing-clause-answers g c =
     × at_end = subst (λ b. EndIs held found.len b at_end) none.2 c.in-Ok.ensures.end in
     let facts = nothing gave start held _ _ _ _ at_end s none.0 none.1 end.0 in
     let asked = g.R.Source.ends c.args.reader.now in
-    let now : List ℕ → ReaderState = λ l. record { rest = l; handed_out = old.handed_out; number = old.number; phase = Ended } in (
+    let now : List ℕ → ReaderState = λ l. record { rest = l; passed = old.passed; number = old.number; phase = Ended } in (
       s.given,
       s.lead,
       (
@@ -88,12 +89,27 @@ returns-then-is_nothing-clause-answers g c =
       ),
     )
 
+pub held-held-requires : goal.held-held-requires
+held-held-requires g c =
+    let w = c.seek.new.window in
+    omega (arith, c.in-Ok.ensures.ok.1.searched_within, length-kept w.bytes.items w.start w.end, w.within)
+
+pub pass-requires : goal.pass-requires
+pass-requires g c =
+    let found = c.in-Ok.found in
+    let held = kept c.seek.new.window in
+    let within : c.held-held.result ≤ length held =
+    held-within (λ given. g.R.Source.gave c.args.reader.now given c.seek.new.reader) (kept c.deref_mut.result.now) held _
+    c.in-Ok.ensures.ok.0 found.passed found.len (g.R.Source.at_end c.seek.new.reader) c.in-Ok.ensures.ok.1 found.is_ended
+    c.held-held.result c.in-Ok.ensures.end c.held-held.ensures in
+    omega (arith, within, ap (λ w. length (kept w)) c.deref_mut-2.ensures.value)
+
 pub overflow_add-self : goal.overflow_add-self
 overflow_add-self g c =
     let old = c.args.self.now in
     let same = ap kept c.deref_mut.ensures.value in
     let shown = c.as_slice.ensures.value ∙ ap kept c.deref.ensures in
-    let limit : old.handed_out + (length (kept c.deref_mut.result.now) + (INPUT_LIMIT - old.handed_out
+    let limit : old.passed + (length (kept c.deref_mut.result.now) + (INPUT_LIMIT - old.passed
     - length c.as_slice.result.now)) ≡ INPUT_LIMIT = omega (arith, ap length same, ap length shown, old.limit) in
     let gave = λ (given : List ℕ). g.R.Source.gave c.args.reader.now given c.seek.new.reader in
     let start = kept c.deref_mut.result.now in
@@ -113,7 +129,7 @@ overflow_add-self-2 g c =
     let old = c.args.self.now in
     let same = ap kept c.deref_mut.ensures.value in
     let shown = c.as_slice.ensures.value ∙ ap kept c.deref.ensures in
-    let limit : old.handed_out + (length (kept c.deref_mut.result.now) + (INPUT_LIMIT - old.handed_out
+    let limit : old.passed + (length (kept c.deref_mut.result.now) + (INPUT_LIMIT - old.passed
     - length c.as_slice.result.now)) ≡ INPUT_LIMIT = omega (arith, ap length same, ap length shown, old.limit) in
     let gave = λ (given : List ℕ). g.R.Source.gave c.args.reader.now given c.seek.new.reader in
     let start = kept c.deref_mut.result.now in
@@ -133,7 +149,7 @@ invariant_of-self-2 g c =
     let old = c.args.self.now in
     let same = ap kept c.deref_mut.ensures.value in
     let shown = c.as_slice.ensures.value ∙ ap kept c.deref.ensures in
-    let limit : old.handed_out + (length (kept c.deref_mut.result.now) + (INPUT_LIMIT - old.handed_out
+    let limit : old.passed + (length (kept c.deref_mut.result.now) + (INPUT_LIMIT - old.passed
     - length c.as_slice.result.now)) ≡ INPUT_LIMIT = omega (arith, ap length same, ap length shown, old.limit) in
     let gave = λ (given : List ℕ). g.R.Source.gave c.args.reader.now given c.seek.new.reader in
     let start = kept c.deref_mut.result.now in
@@ -149,7 +165,7 @@ invariant_of-self-2 g c =
     let byte = some-byte gave start
     held _ taken found.passed found.len at_end s found.is_ended c.held-held.result some c.held-held.ensures in
     let now = c.pass.ensures.kept ∙ ap (λ w. drop c.held-held.result (kept w)) c.deref_mut-2.ensures.value in
-    let bound : (old.handed_out + (found.passed + c.held-held.result)) + length (kept c.pass.new.self) ≤ INPUT_LIMIT =
+    let bound : (old.passed + (found.passed + c.held-held.result)) + length (kept c.pass.new.self) ≤ INPUT_LIMIT =
     omega (arith, sum, within, s.within, limit, ap length now, length-drop c.held-held.result held) in
     record { counted = omega (arith, byte, old.counted); limit = bound }
 
@@ -158,7 +174,7 @@ returns-then-is_over-clause-answers g c =
     let old = c.args.self.now in
     let same = ap kept c.deref_mut.ensures.value in
     let shown = c.as_slice.ensures.value ∙ ap kept c.deref.ensures in
-    let limit : old.handed_out + (length (kept c.deref_mut.result.now) + (INPUT_LIMIT - old.handed_out
+    let limit : old.passed + (length (kept c.deref_mut.result.now) + (INPUT_LIMIT - old.passed
     - length c.as_slice.result.now)) ≡ INPUT_LIMIT = omega (arith, ap length same, ap length shown, old.limit) in
     let gave = λ (given : List ℕ). g.R.Source.gave c.args.reader.now given c.seek.new.reader in
     let start = kept c.deref_mut.result.now in
@@ -198,7 +214,7 @@ returns-clause-answers g c =
     let old = c.args.self.now in
     let same = ap kept c.deref_mut.ensures.value in
     let shown = c.as_slice.ensures.value ∙ ap kept c.deref.ensures in
-    let limit : old.handed_out + (length (kept c.deref_mut.result.now) + (INPUT_LIMIT - old.handed_out
+    let limit : old.passed + (length (kept c.deref_mut.result.now) + (INPUT_LIMIT - old.passed
     - length c.as_slice.result.now)) ≡ INPUT_LIMIT = omega (arith, ap length same, ap length shown, old.limit) in
     let gave = λ (given : List ℕ). g.R.Source.gave c.args.reader.now given c.seek.new.reader in
     let start = kept c.deref_mut.result.now in

@@ -1,4 +1,4 @@
-use Rattle.std.proofs.Common.{◌≡◌, ◌≤◌, ◌+◌, ◌-◌, ◌++◌, ℕ, length, take, drop, ap, ◌∙◌, arith}
+use Rattle.std.proofs.Common.{◌≡◌, ◌≤◌, ◌+◌, ◌-◌, ◌++◌, ℕ, length, take, drop, sym, ap, ◌∙◌, arith}
 use Rattle.std.proofs.Common.{length-take-le}
 use Rattle.std.proofs.lemmas.List.{take_at}
 use borrow.Rule.Slice.PartMut.{put_mid, same_len_mid}
@@ -41,3 +41,19 @@ returns-in-Err-clause-kept g c =
       c.deref_mut.ensures.value,
     )
     (unread w.bytes.items c.read.new.buffer w.start w.end _ w.ordered within ∙ c.make_room.ensures.kept)
+
+pub invariant_of-self : goal.invariant_of-self
+invariant_of-self g c =
+    let w = c.make_room.new.self in
+    let bytes = c.deref_mut.result.now in
+    let room : ℕ = w.end + c.min-room.result - w.end in
+    let long : length (put_mid w.end room bytes c.read.new.buffer) ≡ w.bytes.len =
+    same_len_mid w.end room bytes c.read.new.buffer c.read.auto.buffer ∙ c.deref_mut.ensures.len in
+    let size : w.bytes.len ≡ length w.bytes.items = sym c.deref_mut.ensures.len ∙ ap length c.deref_mut.ensures.value in
+    record {
+      ordered = omega (arith, w.ordered);
+      within = omega (arith, w.within, c.in-Ok.ensures.bound, c.read.auto.buffer, c.min-room.ensures);
+      whole = ap length (take_at (put_mid w.end room bytes c.read.new.buffer) (drop (length
+          (put_mid w.end room bytes c.read.new.buffer)) w.bytes.items) w.bytes.len long)
+          ∙ long ∙ size ∙ w.whole;
+    }

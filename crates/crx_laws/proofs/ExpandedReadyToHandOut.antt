@@ -33,7 +33,7 @@ use Rattle.crx_reading.specs.meaning.Expanded.{raws_kept, event_line, as_observa
 use Rattle.crx_reading.specs.meaning.Expanded.{compact_place}
 use Rattle.crx_reading.specs.meaning.Expanded.{first_lines, expanded_unit}
 use Rattle.crx_reading.specs.meaning.Directions.{compact_reading}
-use Rattle.crx_engine.specs.Bounds.{AreLendable, OfUnits, longest_printed, IsNotTooLong, ExpandedIsLendable}
+use Rattle.crx_engine.specs.Bounds.{AreReadyToHandOut, OfUnits, longest_printed, IsNotTooLong, ExpandedIsReadyToHandOut}
 use Rattle.crx_reading.proofs.Choosing.{by_bool}
 use Rattle.crx_engine.proofs.reading.Resuming.{by_place, within-here, within-wrong, within-wanted}
 use Rattle.crx_engine.proofs.reading.Resuming.{fault-skipped, fault-ends, looked-here, looked-on}
@@ -186,9 +186,9 @@ rows-short [] h = tt
 rows-short (row ∷ rows) h =
     (row-short row (All-head IsSoundRow row rows h), rows-short rows (All-tail IsSoundRow row rows h))
 
-epoch-lendable : (types : List Count) (epoch : Epoch)
-    → IsWholeEpoch types epoch → AreLendable longest (printed_epoch epoch)
-epoch-lendable types epoch h =
+epoch-ready_to_hand_out : (types : List Count) (epoch : Epoch)
+    → IsWholeEpoch types epoch → AreReadyToHandOut longest (printed_epoch epoch)
+epoch-ready_to_hand_out types epoch h =
     let trimmed : length (printed_head epoch.head epoch.clock) ≤ length (epoch.head ++ clock_text epoch.clock) =
     few_kept (epoch.head ++ clock_text epoch.clock) in
     let wide = length-head (record {
@@ -204,20 +204,20 @@ epoch-lendable types epoch h =
       short = (omega (arith, trimmed, wide), rows-short epoch.rows h.sound.rows_sound);
     }
 
-one-lendable : (line : List ℕ) → length line ≤ LINE_LIMIT → AreLendable LINE_LIMIT (line ∷ [])
-one-lendable line h = record { few = omega arith; short = (h, tt) }
+one-ready_to_hand_out : (line : List ℕ) → length line ≤ LINE_LIMIT → AreReadyToHandOut LINE_LIMIT (line ∷ [])
+one-ready_to_hand_out line h = record { few = omega arith; short = (h, tt) }
 
-units-lendable : (items : List (Item ReadEpoch)) → AreShort items → AreGoodEpochs items
-    → OfUnits (λ before unit. AreLendable (longest_printed unit) (expanded_unit before unit)) items
-units-lendable [] h k = tt
-units-lendable (Accepted (HeaderLine line) ∷ before) h k = (one-lendable line h.0, units-lendable before h.1 k)
-units-lendable (Accepted (EventLine line) ∷ before) h k = (one-lendable line h.0, units-lendable before h.1 k)
-units-lendable (Accepted (EventRecord line) ∷ before) h k = (one-lendable line h.0, units-lendable before h.1 k)
-units-lendable (Accepted (Observation read) ∷ before) h k =
-    (epoch-lendable (types_in_force before) read.epoch (IsGood.whole k.0), units-lendable before h.1 k.1)
-units-lendable (Warned at ∷ before) h k = units-lendable before h k
+units-ready_to_hand_out : (items : List (Item ReadEpoch)) → AreShort items → AreGoodEpochs items
+    → OfUnits (λ before unit. AreReadyToHandOut (longest_printed unit) (expanded_unit before unit)) items
+units-ready_to_hand_out [] h k = tt
+units-ready_to_hand_out (Accepted (HeaderLine line) ∷ before) h k = (one-ready_to_hand_out line h.0, units-ready_to_hand_out before h.1 k)
+units-ready_to_hand_out (Accepted (EventLine line) ∷ before) h k = (one-ready_to_hand_out line h.0, units-ready_to_hand_out before h.1 k)
+units-ready_to_hand_out (Accepted (EventRecord line) ∷ before) h k = (one-ready_to_hand_out line h.0, units-ready_to_hand_out before h.1 k)
+units-ready_to_hand_out (Accepted (Observation read) ∷ before) h k =
+    (epoch-ready_to_hand_out (types_in_force before) read.epoch (IsGood.whole k.0), units-ready_to_hand_out before h.1 k.1)
+units-ready_to_hand_out (Warned at ∷ before) h k = units-ready_to_hand_out before h k
 
-pub expanded-lendable : (choices : Choices) (lines : List ReadLine) → ExpandedIsLendable choices lines
-expanded-lendable choices lines short =
-    units-lendable (compact_reading choices.skip lines).items (items-short choices.skip lines short)
+pub expanded-ready_to_hand_out : (choices : Choices) (lines : List ReadLine) → ExpandedIsReadyToHandOut choices lines
+expanded-ready_to_hand_out choices lines short =
+    units-ready_to_hand_out (compact_reading choices.skip lines).items (items-short choices.skip lines short)
     (epochs-good (compact_reading choices.skip lines).items (compact-items-read choices.skip lines))
