@@ -3,7 +3,7 @@ use Rattle.std.proofs.Common.{◌≡◌, ℕ, ℤ, ◌+◌, ◌-◌, ◌*◌, �
 use Rattle.std.proofs.Common.{None, length, take, drop, replicate, get_or, refl, ap, sym, subst, ◌∙◌, arith, suc, zero}
 use Rattle.std.specs.List.{concat, list_all}
 use Rattle.std.proofs.lemmas.Bool.{and_from, and_parts}
-use Rattle.std.proofs.lemmas.List.Elements.{All-replicate}
+use Rattle.std.proofs.lemmas.List.Elements.{All-replicate, All-set}
 use Rattle.std.proofs.lemmas.List.Folds.{concat-append, list_all-append}
 use Rattle.std.specs.Prelude.{slice_set, slice_index_or}
 use Rattle.crx_lines.specs.declared.limits.TheConstants.{NAME_WIDTH}
@@ -13,12 +13,13 @@ use Rattle.std.proofs.lemmas.Option.{option_and_then_some, same_Some, none-some}
 use Rattle.crx_columns.specs.meaning.Columns.{character_at, columns}
 use Rattle.crx_rinex.specs.meaning.EachPlace.{each_place}
 use Rattle.crx_rinex.specs.meaning.Observations.{Row}
+use Rattle.crx_text.specs.Numbers.{IsObservation}
 use Rattle.crx_text.specs.meaning.Numbers.{observation_of, number_of}
 use Rattle.crx_columns.specs.meaning.Texts.{is_kept}
 use Rattle.crx_rinex.specs.meaning.ObservationTypes.{is_system, count_of, Count, IsAllowedCount}
 use Rattle.crx_rinex.specs.meaning.SatelliteLines.{all_some, values_in, flags_at, flags_in, field, has_number, types_of_satellite}
 use Rattle.crx_rinex.specs.meaning.SatelliteLines.{is_identifier, IsSoundRow, IsValue}
-use Rattle.crx_rinex.specs.SatelliteLines.{blank_row, with_flags}
+use Rattle.crx_rinex.specs.SatelliteLines.{blank_row, with_flags, with_value}
 use Rattle.crx_rinex.proofs.EachPlace.{each_place-more, index-each_place, length-each_place}
 
 -- one value more
@@ -159,6 +160,25 @@ sound-blank name m named small =
       ranged = All-replicate IsValue m None tt;
       paired = length-replicate (2 * m) 32 ∙ ap (λ (n : ℕ). 2 * n) (sym (length-replicate {A = Option ℤ} m None));
       kept = all_kept_blanks (2 * m);
+    }
+
+-- a value of which every number that it has fits its columns
+pub is-value : (value : Option ℤ)
+    → ((number : ℤ) → value ≡ Some number → IsObservation number) → IsValue value
+is-value None h = tt
+is-value (Some number) h = h number refl
+
+pub sound-with_value : (row : Row) (k : ℕ) (value : Option ℤ)
+    → IsSoundRow row → IsValue value → IsSoundRow (with_value row k value)
+sound-with_value row k value h sound =
+    let same : length row.values ≡ length (slice_set row.values k value) =
+    sym (length-set row.values k value) in
+    record {
+      named = h.named;
+      counted = subst IsAllowedCount same h.counted;
+      ranged = All-set IsValue row.values k value sound h.ranged;
+      paired = h.paired ∙ ap (λ (n : ℕ). 2 * n) same;
+      kept = h.kept;
     }
 
 pub sound-with_flags : (row : Row) (flags : List ℕ) → IsSoundRow row

@@ -1,14 +1,15 @@
 -- Identifiers of a list, whose places a map has.
 use Rattle.std.proofs.Common.{◌≡◌, ℕ, zero, suc, ◌<◌, ◌≤◌, true, false, ◌||◌, List, [], ◌∷◌, ◌++◌, length, get_or, take}
 use Rattle.std.proofs.Common.{ltb, Option, Some, None, Result, Ok, Err, OnOk, OnErr, refl, ap, sym, subst, ◌∙◌, inl}
-use Rattle.std.proofs.Common.{inr, arith}
+use Rattle.std.proofs.Common.{inr, arith, ◌+◌}
 use Rattle.std.specs.Prelude.{Bool}
 use Rattle.std.specs.Str.{bytes_eq}
 use Rattle.std.proofs.lemmas.Bool.{cases_Bool, false≢true, false_from_ne_true, ltb-true, ltb-false}
 use Rattle.std.proofs.lemmas.Option.{none-some, same_Some}
 use Rattle.std.proofs.lemmas.Slice.Eq.{bytes_eq-Decides}
-use Rattle.std.proofs.Math.Seq.{get_or-append_seam}
+use Rattle.std.proofs.Math.Seq.{get_or-append_seam, take-length}
 use Rattle.std.proofs.lemmas.List.{get_or-take, get_or_append_left, length-take, length_push}
+use Rattle.std.proofs.lemmas.List.{length-take-le, take-append-le}
 use Rattle.indexmap.specs.IndexMap.{IndexMap, get, Updates}
 use Rattle.crx_rinex.specs.meaning.Epochs.{is_among}
 use Rattle.crx_rinex.specs.Identifiers.{AreAtPlaces, CanStandAt}
@@ -106,3 +107,35 @@ new-at_place names place m at h =
     sym (at name place h refl) ∙ can-take name names place (get bytes_eq m name) (at name) k e same)
     (λ k e before same. let is = same_Some place k e in let within = length-take place names in
     absurd (omega (arith, is, before, within, h)))
+
+-- what can stand in a list can stand in the list without its last one
+pub before-last-can-stand : (names : List (List ℕ)) (name other : List ℕ) (place : Option ℕ)
+    → CanStandAt (names ++ name ∷ []) other place → CanStandAt names other place
+before-last-can-stand names name other place h k within is =
+    h k (omega (arith, within, length_push names name))
+    (get_or_append_left names (name ∷ []) [] k within ∙ is)
+
+-- identifiers up to a place, and one more
+pub record PutAt (place : ℕ) (names : List (List ℕ)) (name : List ℕ) : Type 0 where
+  pub counted : length (take place names) ≡ place
+  pub counted_next : length (take place names ++ name ∷ []) ≡ place + 1
+  pub kept : take place (take place names ++ name ∷ []) ≡ take place names
+  pub kept_alone : take place (take place names) ≡ take place names
+  pub next : take (place + 1) (take place names ++ name ∷ []) ≡ take place names ++ name ∷ []
+
+pub put-at : (place : ℕ) (names : List (List ℕ)) (name : List ℕ)
+    → place ≤ length names → PutAt place names name
+put-at place names name within =
+    let before : List (List ℕ) = take place names in
+    let counted : length before ≡ place = length-take-le place names within in
+    let counted-next : length (before ++ name ∷ []) ≡ place + 1 =
+    length_push before name ∙ ap (λ n. n + 1) counted in
+    let kept-alone : take place before ≡ before =
+    ap (λ n. take n before) (sym counted) ∙ take-length before in
+    record {
+      counted = counted;
+      counted_next = counted-next;
+      kept = take-append-le place before (name ∷ []) (omega arith) ∙ kept-alone;
+      kept_alone = kept-alone;
+      next = ap (λ n. take n (before ++ name ∷ [])) (sym counted-next) ∙ take-length (before ++ name ∷ []);
+    }

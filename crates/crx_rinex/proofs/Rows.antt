@@ -174,3 +174,35 @@ unread head names rows count known row d h here is =
       h.7,
       known-put known names rows count row d h.8 here is,
     )
+
+-- the same where any row is written over it: the identifiers before it stay, and no later one is known to be
+-- that of the row at its place
+pub unread-alone : (head : ObservationHead) (names next : List (List ℕ))
+    (rows : List Row) (count known : ℕ) (row : Row)
+    → AreEpochParts head names rows count known → count < length rows → count ≤ length next
+    → take count next ≡ take count names → length next ≤ SATELLITES_LIMIT
+    → AreEpochParts head next (set rows count row) count count
+unread-alone head names next rows count known row h within long kept few =
+    let same : take count (set rows count row) ≡ take count rows = take-set rows count row in
+    let named : take count next ≡ map (λ (r : Row). r.name) (take count (set rows count row)) =
+    kept ∙ h.4 ∙ ap (map (λ (r : Row). r.name)) (sym same) in
+    let counted : length (set rows count row) ≡ length rows = length-set rows count row in (
+      subst (λ (rs : List Row). IsSoundEpoch (record { head = head.head; clock = head.clock; rows = rs }))
+          (sym same) h.0,
+      omega (arith, within, counted),
+      h.2,
+      long,
+      named,
+      omega (arith, h.5, counted),
+      few,
+      omega arith,
+      (long, omega (arith, within, counted), named),
+    )
+
+-- such a row doesn't count yet
+pub unread-view : (head : List ℕ) (clock : Option ℤ)
+    (rows : List Row) (count : ℕ) (row : Row) (epoch : Epoch)
+    → record { head = head; clock = clock; rows = take count rows } ≡ epoch
+    → record { head = head; clock = clock; rows = take count (set rows count row) } ≡ epoch
+unread-view head clock rows count row epoch is =
+    ap (λ (rs : List Row). record { head = head; clock = clock; rows = rs }) (take-set rows count row) ∙ is

@@ -1,16 +1,17 @@
 use Rattle.std.proofs.Common.{◌≡◌, ℕ, ◌<◌, List, ap, sym, ◌∙◌, take, not, false, true, length, slice_set, refl, arith}
-use Rattle.std.proofs.Common.{inl, inr, map, subst}
-use Rattle.std.proofs.lemmas.List.{length-set, take-set, take_more_set}
+use Rattle.std.proofs.Common.{inl, inr}
+use Rattle.std.proofs.lemmas.List.{length-set, take_more_set}
 use Rattle.std.specs.Prelude.{Err}
 use Rattle.crx_lines.specs.declared.fault.Fault.{Fault}
 use Rattle.crx_rinex.specs.meaning.Observations.{Row, Epoch}
-use Rattle.crx_rinex.specs.meaning.Epochs.{has_satellite, is_among, IsSoundEpoch}
+use Rattle.crx_rinex.specs.meaning.Epochs.{has_satellite, is_among}
 use Rattle.crx_rinex.specs.Epochs.{is_full_epoch, with_row}
 use Rattle.crx_rinex.specs.meaning.EpochPlaces.{row_if_new}
 use Rattle.crx_columns.specs.meaning.Columns.{columns}
 use Rattle.crx_lines.specs.declared.limits.TheConstants.{NAME_WIDTH, SATELLITES_LIMIT}
 use Rattle.crx_rinex.proofs.GoodRows.{good-new, repeated}
 use Rattle.crx_rinex.proofs.Rows.{by_names, named_rows, names-long, names-next, sound-put}
+use Rattle.crx_rinex.proofs.Rows.{unread-alone, unread-view}
 use Rattle.crx_rinex.proofs.epoch.Epoch.read_other_row.Goals as goal
 
 pub invariant_of-self-in-Ok-true : goal.invariant_of-self-in-Ok-true
@@ -137,72 +138,85 @@ returns-in-Err-put-clause-refused c =
 
 pub invariant_of-self-in-Ok-false : goal.invariant_of-self-in-Ok-false
 invariant_of-self-in-Ok-false c =
-    let head = c.self.inside.head in
     let rows = c.self.inside.rows.items in
     let count = c.self.inside.count in
-    let row : Row = c.read_again.new.self in
-    let within : count < length rows = let a = c.if-self-len.false in let b =
-    c.self.inside.rows.ok.0 in let e = c.len.ensures in let f = c.self.invariant.1 in omega (arith, a, b, e, f) in
-    let same : take count (slice_set rows count row) ≡ take count rows = take-set rows count row in (
-      subst (λ (rs : List Row). IsSoundEpoch (record { head = head.head; clock = head.clock; rows = rs })) (sym same)
-          c.self.invariant.0,
-      omega (arith, within, length-set rows count row),
-      c.self.invariant.2,
-      c.put.ensures.within,
-      c.put.ensures.kept ∙ c.self.invariant.4 ∙ ap (map (λ (r : Row). r.name)) (sym same),
-      omega (arith, length-set rows count row, c.self.invariant.5),
-      c.put.ensures.few SATELLITES_LIMIT c.self.invariant.6 (omega (arith, within, c.self.invariant.5)),
-      omega arith,
-      (
-        c.put.ensures.within,
-        omega (arith, within, length-set rows count row),
-        c.put.ensures.kept ∙ c.self.invariant.4 ∙ ap (map (λ (r : Row). r.name)) (sym same),
-      ),
-    )
+    let within : count < length rows = let a = c.if-self-len.false in
+    let b = c.self.inside.rows.ok.0 in
+    let e = c.len.ensures in let f = c.self.invariant.1 in omega (arith, a, b, e, f) in
+    unread-alone c.self.inside.head c.self.inside.names c.put.new.self
+    rows count c.self.inside.known c.read_again.new.self c.self.invariant within
+    c.put.ensures.within c.put.ensures.kept
+    (c.put.ensures.few SATELLITES_LIMIT c.self.invariant.6
+    (omega (arith, within, c.self.invariant.5)))
 
 pub invariant_of-self-in-Err-put : goal.invariant_of-self-in-Err-put
 invariant_of-self-in-Err-put c =
-    let head = c.self.inside.head in
     let rows = c.self.inside.rows.items in
     let count = c.self.inside.count in
-    let row : Row = c.read_again.new.self in
-    let within : count < length rows = let a = c.if-self-len.false in let b =
-    c.self.inside.rows.ok.0 in let e = c.len.ensures in let f = c.self.invariant.1 in omega (arith, a, b, e, f) in
-    let same : take count (slice_set rows count row) ≡ take count rows = take-set rows count row in (
-      subst (λ (rs : List Row). IsSoundEpoch (record { head = head.head; clock = head.clock; rows = rs })) (sym same)
-          c.self.invariant.0,
-      omega (arith, within, length-set rows count row),
-      c.self.invariant.2,
-      c.put.ensures.within,
-      c.put.ensures.kept ∙ c.self.invariant.4 ∙ ap (map (λ (r : Row). r.name)) (sym same),
-      omega (arith, length-set rows count row, c.self.invariant.5),
-      c.put.ensures.few SATELLITES_LIMIT c.self.invariant.6 (omega (arith, within, c.self.invariant.5)),
-      omega arith,
-      (
-        c.put.ensures.within,
-        omega (arith, within, length-set rows count row),
-        c.put.ensures.kept ∙ c.self.invariant.4 ∙ ap (map (λ (r : Row). r.name)) (sym same),
-      ),
-    )
+    let within : count < length rows = let a = c.if-self-len.false in
+    let b = c.self.inside.rows.ok.0 in
+    let e = c.len.ensures in let f = c.self.invariant.1 in omega (arith, a, b, e, f) in
+    unread-alone c.self.inside.head c.self.inside.names c.put.new.self
+    rows count c.self.inside.known c.read_again.new.self c.self.invariant within
+    c.put.ensures.within c.put.ensures.kept
+    (c.put.ensures.few SATELLITES_LIMIT c.self.invariant.6
+    (omega (arith, within, c.self.invariant.5)))
 
 pub invariant_of-self : goal.invariant_of-self
 invariant_of-self c =
     let rows = c.self.inside.rows.items in
     let count = c.self.inside.count in
-    let row : Row = c.read_again.new.self in
-    let within : count < length rows = let a = c.if-self-len.false in let b =
-    c.self.inside.rows.ok.0 in let e = c.len.ensures in let f = c.self.invariant.1 in omega (arith, a, b, e, f) in
-    let same : take count (slice_set rows count row) ≡ take count rows = take-set rows count row in
-    let named = c.self.invariant.4 ∙ ap (map (λ (r : Row). r.name)) (sym same) in (
-      subst (λ (rs : List Row). IsSoundEpoch
-          (record { head = c.self.inside.head.head; clock = c.self.inside.head.clock; rows = rs })) (sym same)
-          c.self.invariant.0,
-      omega (arith, within, length-set rows count row),
-      c.self.invariant.2,
-      c.self.invariant.3,
-      named,
-      omega (arith, length-set rows count row, c.self.invariant.5),
-      c.self.invariant.6,
-      omega arith,
-      (c.self.invariant.3, omega (arith, within, length-set rows count row), named),
-    )
+    let within : count < length rows = let a = c.if-self-len.false in
+    let b = c.self.inside.rows.ok.0 in
+    let e = c.len.ensures in let f = c.self.invariant.1 in omega (arith, a, b, e, f) in
+    unread-alone c.self.inside.head c.self.inside.names c.self.inside.names
+    rows count c.self.inside.known c.read_again.new.self c.self.invariant within c.self.invariant.3 refl
+    c.self.invariant.6
+
+pub invariant_of-self-in-Err-read_again : goal.invariant_of-self-in-Err-read_again
+invariant_of-self-in-Err-read_again c =
+    let rows = c.self.inside.rows.items in
+    let count = c.self.inside.count in
+    let within : count < length rows = let a = c.if-self-len.false in
+    let b = c.self.inside.rows.ok.0 in
+    let e = c.len.ensures in let f = c.self.invariant.1 in omega (arith, a, b, e, f) in
+    unread-alone c.self.inside.head c.self.inside.names c.self.inside.names
+    rows count c.self.inside.known c.read_again.new.self c.self.invariant within c.self.invariant.3 refl
+    c.self.invariant.6
+
+pub returns-in-Some-fault_before_memory-clause-err : goal.returns-in-Some-fault_before_memory-clause-err
+returns-in-Some-fault_before_memory-clause-err c =
+    unread-view c.self.inside.head.head c.self.inside.head.clock c.self.inside.rows.items c.self.inside.count
+    c.read_again.new.self c.args.self.now c.self.view_is
+
+pub returns-in-Err-read_again-clause-err : goal.returns-in-Err-read_again-clause-err
+returns-in-Err-read_again-clause-err c =
+    unread-view c.self.inside.head.head c.self.inside.head.clock c.self.inside.rows.items c.self.inside.count
+    c.read_again.new.self c.args.self.now c.self.view_is
+
+pub returns-in-Ok-false-clause-err : goal.returns-in-Ok-false-clause-err
+returns-in-Ok-false-clause-err c =
+    unread-view c.self.inside.head.head c.self.inside.head.clock c.self.inside.rows.items c.self.inside.count
+    c.read_again.new.self c.args.self.now c.self.view_is
+
+pub returns-in-Err-put-clause-err : goal.returns-in-Err-put-clause-err
+returns-in-Err-put-clause-err c =
+    unread-view c.self.inside.head.head c.self.inside.head.clock c.self.inside.rows.items c.self.inside.count
+    c.read_again.new.self c.args.self.now c.self.view_is
+
+pub fault_before_memory-requires : goal.fault_before_memory-requires
+fault_before_memory-requires c = c.self.invariant.3
+
+pub fault_before_memory-requires-in-Err-read_again : goal.fault_before_memory-requires-in-Err-read_again
+fault_before_memory-requires-in-Err-read_again c = c.self.invariant.3
+
+pub push-requires : goal.push-requires
+push-requires c = c.requires
+
+pub put-requires : goal.put-requires
+put-requires c = record { within = c.self.invariant.3 }
+
+pub index_mut-row-requires : goal.index_mut-row-requires
+index_mut-row-requires c =
+    let a = c.if-self-len.false in let b = c.self.inside.rows.ok.0 in
+    let e = c.len.ensures in let f = c.self.invariant.1 in omega (arith, a, b, e, f)

@@ -10,6 +10,7 @@ use Rattle.crx_rinex.specs.Epochs.{is_full_epoch, with_row}
 use Rattle.crx_rinex.specs.meaning.EpochPlaces.{row_if_new}
 use Rattle.crx_rinex.proofs.GoodRows.{good-new}
 use Rattle.crx_rinex.proofs.Rows.{unread, known-new, known-next, known-put, names-next, sound-put}
+use Rattle.crx_rinex.proofs.Rows.{unread-view}
 use Rattle.crx_rinex.proofs.epoch.Epoch.read_row.Goals as goal
 
 -- the row that was read stands in the place of another one of its satellite
@@ -99,3 +100,36 @@ invariant_of-self c =
     unread c.self.inside.head c.self.inside.names rows count
     c.self.inside.known row c.index_mut-row.result.now c.self.invariant here
     (c.read_known.ensures.name ∙ ap (λ (r : Row). r.name) c.index_mut-row.ensures.value)
+
+pub index-requires : goal.index-requires
+index-requires c =
+    let here = c.if-self.true in let known = c.self.invariant.8.1 in
+    let counted = c.self.inside.rows.ok.0 in omega (arith, here, known, counted)
+
+pub index_mut-row-requires : goal.index_mut-row-requires
+index_mut-row-requires c =
+    let here = c.if-self.true in let known = c.self.invariant.8.1 in
+    let counted = c.self.inside.rows.ok.0 in omega (arith, here, known, counted)
+
+pub returns-in_err-read_known-clause-ok : goal.returns-in_err-read_known-clause-ok
+returns-in_err-read_known-clause-ok c =
+    let p = err_from_is_err_and c.from_residual.result c.from_residual.ensures.1 in rw p.1 tt
+
+pub returns-in_err-read_known-clause-err : goal.returns-in_err-read_known-clause-err
+returns-in_err-read_known-clause-err c =
+    let p = err_from_is_err_and c.from_residual.result c.from_residual.ensures.1 in
+    rw p.1 (
+    unread-view c.self.inside.head.head c.self.inside.head.clock c.self.inside.rows.items c.self.inside.count
+    c.read_known.new.self c.args.self.now c.self.view_is)
+
+pub read_other_row-requires : goal.read_other_row-requires
+read_other_row-requires c = c.requires
+
+pub returns-clause-ok : goal.returns-clause-ok
+returns-clause-ok c = c.read_other_row.ensures.ok
+
+pub returns-clause-refused : goal.returns-clause-refused
+returns-clause-refused c = c.read_other_row.ensures.refused
+
+pub returns-clause-err : goal.returns-clause-err
+returns-clause-err c = c.read_other_row.ensures.err

@@ -1,5 +1,8 @@
-use Rattle.std.proofs.Common.{◌≡◌, ◌*◌, length, ap, ◌∙◌, arith}
-use Rattle.crx_rinex.specs.meaning.SatelliteLines.{is_identifier}
+use Rattle.std.proofs.Common.{◌≡◌, ◌*◌, ℕ, length, ap, sym, ◌∙◌, arith, refl, inl, inr}
+use Rattle.std.specs.Option.{is_some}
+use Rattle.std.proofs.lemmas.List.{with_items_is}
+use Rattle.std.proofs.lemmas.Result.{IfOk-from_err, err_from_is_err_and}
+use Rattle.crx_rinex.specs.meaning.SatelliteLines.{is_identifier, row_of_types, row_with, values_in}
 use Rattle.crx_rinex.proofs.Cells.{sound-written}
 use Rattle.crx_rinex.proofs.satellite_row.SatRow.read.Goals as goal
 
@@ -19,3 +22,55 @@ invariant_of-result c =
 
 pub returns-clause-sound : goal.returns-clause-sound
 returns-clause-sound c = invariant_of-result c
+
+pub read_cells-requires-clause-paired : goal.read_cells-requires-clause-paired
+read_cells-requires-clause-paired c =
+    c.deref_mut-2.ensures.len ∙ c.in-Ok-vec.ensures.len
+    ∙ ap (λ (m : ℕ). 2 * m) (sym (c.deref_mut.ensures.len ∙ c.in-Ok.ensures.len))
+
+pub read_cells-requires-clause-few : goal.read_cells-requires-clause-few
+read_cells-requires-clause-few c =
+    rw (c.deref_mut.ensures.len, c.in-Ok.ensures.len) c.in-Some.ensures.allowed.1
+
+pub returns-in_default-vec-clause-err : goal.returns-in_default-vec-clause-err
+returns-in_default-vec-clause-err c =
+    inr (refl, ap (λ o. is_some o) (sym c.types_of_satellite.ensures.value ∙ c.in-Some.is))
+
+pub returns-in_default-vec-2-clause-err : goal.returns-in_default-vec-2-clause-err
+returns-in_default-vec-2-clause-err c =
+    inr (refl, ap (λ o. is_some o) (sym c.types_of_satellite.ensures.value ∙ c.in-Some.is))
+
+pub returns-in_err-read_cells-clause-ok : goal.returns-in_err-read_cells-clause-ok
+returns-in_err-read_cells-clause-ok c = IfOk-from_err _ _ c.from_residual.ensures.0
+
+pub returns-in_err-read_cells-clause-sound : goal.returns-in_err-read_cells-clause-sound
+returns-in_err-read_cells-clause-sound c = IfOk-from_err _ _ c.from_residual.ensures.0
+
+pub returns-in_default-clause-err : goal.returns-in_default-clause-err
+returns-in_default-clause-err c =
+    inl (ap (row_of_types c.args.line.now) (sym c.types_of_satellite.ensures.value ∙ c.in_default.is))
+
+pub returns-in_err-read_cells-clause-err : goal.returns-in_err-read_cells-clause-err
+returns-in_err-read_cells-clause-err c =
+    let line = c.args.line.now in
+    let p = err_from_is_err_and c.from_residual.result c.from_residual.ensures.1 in
+    rw (p.1, p.2)
+    (inl (ap (row_of_types line) (sym c.types_of_satellite.ensures.value ∙ c.in-Some.is)
+    ∙ ap (λ (m : ℕ). row_with m line (values_in m line))
+    (sym (c.deref_mut.ensures.len ∙ c.in-Ok.ensures.len))
+    ∙ c.in_err-read_cells.ensures.err))
+
+pub returns-clause-ok : goal.returns-clause-ok
+returns-clause-ok c =
+    let line = c.args.line.now in
+    rw (
+      with_items_is c.in-Ok.values c.read_cells.new.values
+          (c.read_cells.auto.values ∙ c.deref_mut.ensures.len),
+      with_items_is c.in-Ok-vec.flags c.read_cells.new.flags
+          (c.read_cells.auto.flags ∙ c.deref_mut-2.ensures.len),
+      c.identifier.ensures,
+    )
+    (ap (row_of_types line) (sym c.types_of_satellite.ensures.value ∙ c.in-Some.is)
+    ∙ ap (λ (m : ℕ). row_with m line (values_in m line))
+    (sym (c.deref_mut.ensures.len ∙ c.in-Ok.ensures.len))
+    ∙ c.in_ok-read_cells.ensures.ok)
