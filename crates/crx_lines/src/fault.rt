@@ -2,11 +2,11 @@
 
 ghost use Rattle.std.specs.Prelude.{◌≡◌};
 
-use std::error::Error;
 use std::fmt;
+use thiserror::Error;
 
 /// A fault of an input, of a device, or of memory. It is shown by its words.
-#[derive(Clone, Copy, Debug, PartialEq, Eq)]
+#[derive(Clone, Copy, Debug, PartialEq, Eq, Error)]
 pub enum Fault {
     /// A line's content is longer than the limit.
     LineTooLong,
@@ -132,10 +132,8 @@ impl fmt::Display for Fault {
     }
 }
 
-impl Error for Fault {}
-
 /// A fault and the number of its line, counted from 1.
-#[derive(Clone, Copy, Debug, PartialEq, Eq, thiserror::Error)]
+#[derive(Clone, Copy, Debug, PartialEq, Eq, Error)]
 #[error("line {line} code {}: {fault}", self.fault.code())]
 pub struct At {
     /// The line's number, from 1; 0 where no line was read.
