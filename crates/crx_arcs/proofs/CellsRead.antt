@@ -1,10 +1,8 @@
 -- The cells of a line, read from left to right.
 use Rattle.std.specs.Prelude.{◌≡◌, ◌≤◌, ◌<◌, refl, ℕ, suc, ◌+◌, ◌-◌, ℤ, List, [], ◌∷◌, ◌++◌, length, map, take}
 use Rattle.std.specs.Prelude.{drop, slice_index_or, slice_set, Bool, true, false, Option, Some, None, Result, Ok, Err, if◌then◌else◌}
-use Rattle.std.specs.Prelude.{IfSome, OnSome, is_some}
 use Rattle.std.proofs.Common.{sym, ◌∙◌, ap, arith, length-append, true≢false}
 use Rattle.std.proofs.lemmas.List.{drop-drop, length-drop, length-map, length-set, take_more_set, map-append}
-use Rattle.std.proofs.lemmas.List.{get_or_default}
 use Rattle.crx_text.specs.meaning.Codes.{code_of, first_cell, after_cell}
 use Rattle.crx_text.specs.declared.code.Code.{Code}
 use Rattle.crx_lines.specs.declared.fault.Fault.{Fault}
@@ -186,29 +184,6 @@ read-more before count line k at at' arcs arcs' code value arc s h e v t w a l =
           ∙ ap {B = List (Option ℤ)} (λ x. values_in s.cells ++ x ∷ []) (ap shown_value a
           ∙ shown-code OBSERVATION_WIDTH code (slice_index_or before k None) value v)
           ∙ sym (map-append (λ (q : ReadCell). q.value) s.cells (c ∷ []));
-    }
-
--- a cell whose code is a difference that gives a value, with its arc in its place among others
-pub step-read : (before old : List (Option ArcTail)) (place taken : ℕ)
-    (text : List ℕ) (number : ℤ) (arc new : Option ArcTail) (value : Option ℤ)
-    → place < length before → arc ≡ slice_index_or before place arc
-    → code_of (first_cell text) ≡ Some (Step number)
-    → drop taken text ≡ after_cell text → taken ≤ length text
-    → IfSome value (λ v. value_of_code OBSERVATION_WIDTH (Step number) arc ≡ Ok (Some v))
-    → OnSome value (new ≡ arc_of_code (Step number) arc) → is_some value ≡ true
-    → IsCellRead before place text old (slice_set old place new) taken
-step-read before old place taken text number arc new None within here formed after inside given left is =
-    absurd (true≢false (sym is))
-step-read before old place taken text number arc new (Some v) within here formed after inside given left is =
-    let same : arc ≡ slice_index_or before place None = here ∙ get_or_default before place arc None within in
-    record {
-      code = Step number;
-      value = Some v;
-      formed = formed;
-      given = ap (value_of_code OBSERVATION_WIDTH (Step number)) (sym same) ∙ given;
-      left = ap (slice_set old place) (left ∙ ap (arc_of_code (Step number)) same);
-      after = after;
-      within = inside;
     }
 
 -- the next cell, with its arc in its place among others

@@ -133,11 +133,6 @@ next-below k ds h hs =
 pub same-bits : (value : ℤ) → FitsSigned w64 value → to_z w64 (of_z w64 value) ≡ value
 same-bits value h = to_z-of_z w64 value h
 
--- so is the number of a code
-pub short-bits : (number : ℤ) → IsShort number → to_z w64 (of_z w64 number) ≡ number
-short-bits (pos n) h = same-bits (pos n) (omega (arith, ints, h))
-short-bits (negsuc n) h = same-bits (negsuc n) (omega (arith, ints, h))
-
 pub first-fits : (k : ℕ) (ds : List ℤ)
     → k < length ds → k ≤ 9 → AreBelow (order_bound k) (drop k ds) → FitsSigned w64 (slice_index_or ds k (pos 0))
 first-fits k ds h few hs =
