@@ -55,7 +55,7 @@ impl Printed {
         self.next > 0 && self.epoch.row(self.next - 1).is_none()
     }
 
-    /// Lends the next line, without its line end; `None` once none is pending.
+    /// Hands out the next line, without its line end; `None` once none is pending.
     pub fn next_line(&mut self) -> Option<&[u8]>
         ensures value { option_copied result ≡ slice_get self.old 0 }
         // That line is no longer pending.

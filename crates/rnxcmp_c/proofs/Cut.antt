@@ -12,7 +12,7 @@ use Rattle.crx_filter.specs.declared.taking.Halt.TheVariants.{Fault, Unwritten, 
 use Rattle.crx_filter.specs.meaning.Spans.{Device}
 use Rattle.crx_filter.specs.Taking.{IsCut, IsHalted}
 use Rattle.rnxcmp_c.specs.declared.devices.Collected.{Collected}
-use Rattle.rnxcmp_c.specs.Going.{AreCutShort, LineStops, StopsBy}
+use Rattle.rnxcmp_c.specs.Going.{LineStops, StopsBy}
 use Rattle.crx_reading.specs.meaning.Results.{Begins}
 use Rattle.crx_filter.specs.meaning.Spans.{AreNext}
 use Rattle.rnxcmp_c.proofs.GoingLemmas.{begins-then, notices-both}
