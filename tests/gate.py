@@ -164,8 +164,9 @@ def build():
         while order.is_active():
             waiting += order.get_ready()
             while waiting and len(running) < 2:
+                is_beside = bool(running) or len(waiting) > 1
                 name = waiting.pop(0)
-                running[pool.submit(prove, name, bool(running), Progress(began))] = name
+                running[pool.submit(prove, name, is_beside, Progress(began))] = name
             for ended in wait(running, return_when=FIRST_COMPLETED).done:
                 order.done(running.pop(ended))
                 if ended.result():
@@ -175,7 +176,7 @@ def build():
 
 
 def prove(name, is_beside, progress):
-    """Proves and builds a crate, with one job where another crate is proved beside it on two cores: the exit status."""
+    """Proves and builds a crate, with one job where another crate is proved beside it on few cores: the exit status."""
     jobs = ["--jobs", "1"] if is_beside and len(os.sched_getaffinity(0)) < 4 else []
     command = ["rt", "run", *jobs, "--", "--help"] if name == PROGRAM else ["rt", "lib", *jobs]
     return followed(command, CRATES / name, progress.of_a_build)[0]
