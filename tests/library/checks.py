@@ -275,7 +275,7 @@ def check_processor(work):
     """On an old processor each call has an answer of its own."""
     if not shutil.which("gcc"):
         return "there is no gcc"
-    (work / "words.inc").write_bytes(subprocess.run([sys.executable, TOP / "library/words.py", TOP / "crates/crx_lines/src/fault.rt"], capture_output=True).stdout)
+    (work / "words.inc").write_bytes(subprocess.run([sys.executable, TOP / "library/words.py", TOP / "crates/crx_faults/src/fault.rt"], capture_output=True).stdout)
     (work / "old.c").write_text(
         '#include <rnxcmp.h>\n#include <string.h>\nint main(void) { rnxcmp_answer a, none; memset(&none, 0, sizeof none); none.status = RNXCMP_BAD_PROCESSOR;\n'
         "int s = rnxcmp_compact(\"x\", 1, NULL, NULL, 0, NULL, 0, &a); if (s != 5 || memcmp(&a, &none, sizeof a)) return 1;\n"
@@ -315,7 +315,7 @@ def check_no_memory(program, work):
         "line = a.line;\n"
         "if (s != 1 || a.code != 22 || a.output_length || a.messages_length || memcmp(out, as_before, sizeof out) || memcmp(told, as_before, sizeof told)) { printf(\"growth %ld: %d %u\\n\", k, s, a.code); return 1; } } }\n"
     )
-    (work / "words.inc").write_bytes(subprocess.run([sys.executable, TOP / "library/words.py", TOP / "crates/crx_lines/src/fault.rt"], capture_output=True).stdout)
+    (work / "words.inc").write_bytes(subprocess.run([sys.executable, TOP / "library/words.py", TOP / "crates/crx_faults/src/fault.rt"], capture_output=True).stdout)
     sources = [str(work / "refusing.c"), str(TOP / "library/rnxcmp.c"), str(TOP / "library/heap.c"), str(PROVED)]
     command = ["gcc", '-DRNXCMP_VERSION="0"', "-Wl,--wrap=malloc,--wrap=realloc", "-I", str(TOP / "include"), "-I", str(work), *sources, "-o", str(work / "refusing")]
     built = subprocess.run(command, capture_output=True, text=True, timeout=60)

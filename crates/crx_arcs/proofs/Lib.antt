@@ -1,4 +1,2 @@
 pub mod arcs
 pub mod SameTexts
-pub mod CellsRead
-pub mod PlaceByPlace

@@ -2,5 +2,4 @@ pub mod meaning
 pub mod ArcTails
 pub mod ArcSteps
 pub mod Arcs
-pub mod Cells
 pub mod ArcLaws

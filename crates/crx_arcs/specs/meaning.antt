@@ -2,4 +2,3 @@
 pub mod Sequences
 pub mod Differences
 pub mod ArcValues
-pub mod Cells

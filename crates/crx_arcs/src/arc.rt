@@ -11,12 +11,13 @@ ghost use Rattle.crx_arcs.specs.ArcLaws.{accepted, arc_of_codes, arc_of_values};
 ghost use Rattle.crx_arcs.specs.meaning.Sequences.{stretch};
 ghost use Rattle.crx_text.specs.declared.code.Code.{Code};
 ghost use Rattle.crx_text.specs.declared.code.Code.TheVariants.{Step};
-ghost use Rattle.crx_lines.specs.declared.limits.TheConstants.{CLOCK_WIDTH, DIGITS_LIMIT, ORDER_LIMIT, WRITTEN_ORDER};
+ghost use Rattle.crx_faults.specs.declared.limits.TheConstants.{CLOCK_WIDTH, DIGITS_LIMIT, ORDER_LIMIT, WRITTEN_ORDER};
 ghost use Rattle.crx_arcs.specs.ArcSteps.{shown_value};
 ghost use Rattle.crx_arcs.specs.ArcSteps.{arc_of_code, arc_of_value, code_of_value, differences_after, differences_by, highest, value_of_code};
 
-use crx_lines::limits::{CLOCK_WIDTH, OBSERVATION_WIDTH, ORDER_LIMIT, WRITTEN_ORDER};
-use crx_text::{Code, Fault};
+use crx_faults::Fault;
+use crx_faults::limits::{CLOCK_WIDTH, OBSERVATION_WIDTH, ORDER_LIMIT, WRITTEN_ORDER};
+use crx_text::Code;
 use std::marker::Model;
 
 /// The most differences that an arc stores: those of order 0 to [`ORDER_LIMIT`].
@@ -229,7 +230,7 @@ impl<const WIDTH: usize> Arc<WIDTH> {
 
     /// The code of a next value of another arc, which this one replaces as it goes on: that of [`Arc::push`] on a copy.
     #[inline(always)]
-    pub(crate) fn push_after(&mut self, before: &Self, value: Option<i64>) -> Code
+    pub fn push_after(&mut self, before: &Self, value: Option<i64>) -> Code
         requires { IsMissingOrWithin WIDTH value }
         ensures code { result ≡ code_of_value value before.now }
         ensures printable { IsPrintable result }
@@ -264,7 +265,7 @@ impl<const WIDTH: usize> Arc<WIDTH> {
     /// no other code has to be tried, and the differences are written once, without a copy of the arc before. `None` comes where the arc
     /// before has another order or fewer values, and then this one is as it was.
     #[inline(always)]
-    pub(crate) fn push_third(&mut self, before: &Self, value: i64) -> Option<i64>
+    pub fn push_third(&mut self, before: &Self, value: i64) -> Option<i64>
         requires { IsWithin WIDTH value }
         ensures code { IfSome result (λ number. code_of_value (Some value) before.now ≡ Step number) }
         ensures short { IfSome result IsShort }
@@ -301,7 +302,7 @@ impl<const WIDTH: usize> Arc<WIDTH> {
 
     /// Does what [`Arc::apply`] does to a copy of an earlier arc, and replaces this one by it.
     #[inline(always)]
-    pub(crate) fn apply_after(&mut self, earlier: &Self, code: Code) -> Result<Option<i64>, Fault>
+    pub fn apply_after(&mut self, earlier: &Self, code: Code) -> Result<Option<i64>, Fault>
         requires { IsPrintable code }
         ensures value { result ≡ value_of_code WIDTH code earlier.now }
         ensures ok { OnOk result (self.new ≡ arc_of_code code earlier.now) }
@@ -347,7 +348,7 @@ impl<const WIDTH: usize> Arc<WIDTH> {
     /// of the earlier arc. `None` comes where the earlier arc has another order or fewer values, or where the value doesn't fit, and then
     /// this one is as it was.
     #[inline(always)]
-    pub(crate) fn apply_third(&mut self, earlier: &Self, number: i64) -> Option<i64>
+    pub fn apply_third(&mut self, earlier: &Self, number: i64) -> Option<i64>
         requires { IsShort number }
         ensures value { IfSome result
             (λ value. value_of_code WIDTH (Step number) earlier.now ≡ Ok (Some value)) }
@@ -381,7 +382,7 @@ impl<const WIDTH: usize> Arc<WIDTH> {
 
     /// Ends the arc: it is one without values.
     #[inline(always)]
-    pub(crate) fn end(&mut self)
+    pub fn end(&mut self)
         ensures { self.new ≡ None }
     {
         self.count = 0;

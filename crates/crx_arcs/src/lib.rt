@@ -1,8 +1,7 @@
-//! Arcs and cells: the values of an observation or of the clock to codes and back by running differences, and the cells of a satellite line.
+//! Arcs: the values of an observation or of the clock to codes and back, by running differences.
 #![tactic(auto)]
 
 pub mod arc;
-pub mod cells;
 pub mod same;
 
 pub use arc::{ClockArc, ObsArc};

@@ -3,7 +3,7 @@
 ghost use Rattle.std.specs.Prelude.{◌≡◌, ◌≢◌, ◌+◌, ◌≤◌, length};
 ghost use Rattle.std.specs.Bool.{MatchBool};
 
-use crx_text::copy_text;
+use crx_columns::copies::copy_text;
 use std::simd::prelude::*;
 
 /// Whether the first so many characters of two texts are the same, and the last so many.

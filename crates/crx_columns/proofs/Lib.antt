@@ -7,3 +7,4 @@ pub mod PositionParts
 pub mod Positions
 pub mod TextEnds
 pub mod WrittenTexts
+pub mod EachPlace

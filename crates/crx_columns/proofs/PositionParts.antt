@@ -7,7 +7,7 @@ use Rattle.std.proofs.lemmas.Simd.{length-zip2}
 use Rattle.std.specs.Simd.Lanes.{zip2}
 use Rattle.crx_columns.specs.meaning.Texts.{by_position}
 use Rattle.crx_columns.specs.declared.difference.TheConstants.{BLANKS}
-use Rattle.crx_lines.specs.declared.limits.TheConstants.{LINE_LIMIT}
+use Rattle.crx_faults.specs.declared.limits.TheConstants.{LINE_LIMIT}
 use Rattle.crx_columns.proofs.Positions.{by_position-split, by_position-old, by_position-other}
 
 blanks_are : BLANKS ≡ replicate LINE_LIMIT 32

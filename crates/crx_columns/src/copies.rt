@@ -1,7 +1,7 @@
 //! Short texts copied, and blanks put, without a call of the C library, which takes more instructions than so few bytes.
 
 ghost use Rattle.std.specs.Prelude.{ℕ, ◌≡◌, ◌≤◌, ◌<◌, length, replicate};
-ghost use Rattle.crx_lines.specs.declared.limits.TheConstants.{LINE_LIMIT};
+ghost use Rattle.crx_faults.specs.declared.limits.TheConstants.{LINE_LIMIT};
 
 use crate::difference::BLANKS;
 use crate::lanes::{Rule, write_by_rule};

@@ -5,11 +5,11 @@ ghost use Rattle.std.specs.List.{list_all};
 ghost use Rattle.std.specs.Simd.Lanes.{zip2};
 ghost use Rattle.crx_columns.specs.meaning.Texts.{is_kept, is_printable, mark_of, by_position, text_difference};
 ghost use Rattle.crx_columns.specs.Texts.{character_of, patched};
-ghost use Rattle.crx_lines.specs.declared.limits.TheConstants.{LINE_LIMIT};
+ghost use Rattle.crx_faults.specs.declared.limits.TheConstants.{LINE_LIMIT};
 
 use crate::lanes::{Kind, Rule, all_of, write_by_rule};
 use crate::text::Text;
-use crx_lines::limits::LINE_LIMIT;
+use crx_faults::limits::LINE_LIMIT;
 use std::simd::prelude::*;
 use thiserror::Error;
 
@@ -20,7 +20,7 @@ pub struct BadCharacter;
 
 /// Writes the marks that lead from the old text to the new one: blank where nothing changes, `&`
 /// where a character becomes blank, else the new character; blanks at the end are dropped. It asks
-/// for at most [`LINE_LIMIT`](crx_lines::limits::LINE_LIMIT) bytes. `BadCharacter` comes where the new
+/// for at most [`LINE_LIMIT`](crx_faults::limits::LINE_LIMIT) bytes. `BadCharacter` comes where the new
 /// text holds a byte outside 32 to 126, or `&`, and then `out` stays as it was.
 pub fn diff_text(old: &Text, new: &[u8], out: &mut Text) -> Result<(), BadCharacter>
     requires { length new.now ≤ LINE_LIMIT }
@@ -32,7 +32,7 @@ pub fn diff_text(old: &Text, new: &[u8], out: &mut Text) -> Result<(), BadCharac
 }
 
 /// Writes the marks that lead from an old text to a new one, as [`diff_text`] does, where the old one is a slice. It asks for at most
-/// [`LINE_LIMIT`](crx_lines::limits::LINE_LIMIT) bytes in each.
+/// [`LINE_LIMIT`](crx_faults::limits::LINE_LIMIT) bytes in each.
 pub fn diff_bytes(old: &[u8], new: &[u8], out: &mut Text) -> Result<(), BadCharacter>
     requires old_fits { length old.now ≤ LINE_LIMIT }
     requires new_fits { length new.now ≤ LINE_LIMIT }
@@ -61,7 +61,7 @@ pub fn append_difference(old: &[u8], new: &[u8], out: &mut Text)
 
 /// Writes the text that marks make of the old one: a blank leaves the old character, `&` gives a
 /// blank, another character stands for itself; blanks at the end are dropped. It asks for at most
-/// [`LINE_LIMIT`](crx_lines::limits::LINE_LIMIT) bytes. `BadCharacter` comes where the marks hold a
+/// [`LINE_LIMIT`](crx_faults::limits::LINE_LIMIT) bytes. `BadCharacter` comes where the marks hold a
 /// byte outside 32 to 126, and then `out` stays as it was.
 pub fn patch_text(old: &Text, marks: &[u8], out: &mut Text) -> Result<(), BadCharacter>
     requires { length marks.now ≤ LINE_LIMIT }
@@ -73,7 +73,7 @@ pub fn patch_text(old: &Text, marks: &[u8], out: &mut Text) -> Result<(), BadCha
 }
 
 /// Writes the text that marks make of an old one, as [`patch_text`] does, where the old one is a slice. It asks for at most
-/// [`LINE_LIMIT`](crx_lines::limits::LINE_LIMIT) bytes in each.
+/// [`LINE_LIMIT`](crx_faults::limits::LINE_LIMIT) bytes in each.
 pub fn patch_bytes(old: &[u8], marks: &[u8], out: &mut Text) -> Result<(), BadCharacter>
     requires old_fits { length old.now ≤ LINE_LIMIT }
     requires marks_fit { length marks.now ≤ LINE_LIMIT }

@@ -1,7 +1,8 @@
-//! Texts by their columns: cut, trimmed, copied and compared, and the differences of two texts column by column. Lines, devices, faults and
-//! limits are those of crx_lines.
+//! Texts by their columns: cut, trimmed, copied and compared, and the differences of two texts column by column. Faults and limits
+//! are those of crx_faults.
 #![tactic(auto)]
 
+pub mod appending;
 pub mod block;
 pub mod columns;
 pub mod copies;

@@ -2,10 +2,10 @@
 
 ghost use Rattle.std.specs.Prelude.{◌≡◌, ◌+◌, ◌<◌, ◌≤◌, ◌↔◌, List, [], ◌∷◌, ◌++◌, ℕ, length, take, OnOk, OnErr, IsErr, IsTrue};
 ghost use Rattle.crx_columns.specs.meaning.Columns.{without_end_blanks};
-ghost use Rattle.crx_lines.specs.declared.limits.TheConstants.{LINE_LIMIT};
+ghost use Rattle.crx_faults.specs.declared.limits.TheConstants.{LINE_LIMIT};
 
 use crate::lanes::LANES;
-use crx_lines::limits::LINE_LIMIT;
+use crx_faults::limits::LINE_LIMIT;
 use std::marker::Model;
 use std::simd::prelude::*;
 use thiserror::Error;

@@ -5,11 +5,11 @@ use Rattle.std.proofs.Common.{inr}
 use Rattle.std.specs.List.{list_all, slice_index_or}
 use Rattle.std.specs.Prelude.{unsigned_abs, ℤ, if◌then◌else◌}
 use Rattle.std.proofs.lemmas.List.Folds.{list_all-append}
-use Rattle.clap.proofs.WalkLemmas.{both}
+use Rattle.std.proofs.lemmas.Bool.{and_parts}
 use Rattle.jiff.specs.Types.{DateTime}
 use Rattle.jiff.specs.Words.{days_in_month}
 use Rattle.crx_columns.specs.meaning.Texts.{is_printable}
-use Rattle.crx_reading.specs.meaning.Choices.{is_date}
+use Rattle.crx_options.specs.meaning.Choices.{is_date}
 use Rattle.crx_command.specs.meaning.Dates.{IsDateText, IsDefaultDate, date_text_of, months, two_digits}
 
 -- a text of so many bytes at most, each printable
@@ -45,14 +45,14 @@ fits_three name = nat_le (length name) 3 && list_all is_printable name
 
 three : (name : List ℕ) → fits_three name ≡ true → Fits 3 name
 three name h =
-    let parts = both (nat_le (length name) 3) (list_all is_printable name) h in
+    let parts = and_parts (nat_le (length name) 3) (list_all is_printable name) h in
     record { short = leb-true (length name) 3 parts.0; printable = parts.1 }
 
 named : (names : List (List ℕ)) (k : ℕ)
     → list_all fits_three names ≡ true → fits_three (slice_index_or names k []) ≡ true
 named [] k h = refl
-named (name ∷ names) zero h = (both (fits_three name) (list_all fits_three names) h).0
-named (name ∷ names) (suc k) h = named names k (both (fits_three name) (list_all fits_three names) h).1
+named (name ∷ names) zero h = (and_parts (fits_three name) (list_all fits_three names) h).0
+named (name ∷ names) (suc k) h = named names k (and_parts (fits_three name) (list_all fits_three names) h).1
 
 -- a month has at most 31 days
 month_ends : (is_second is_leap is_shorter : Bool)

@@ -7,4 +7,3 @@ pub mod SteadyEpochs
 pub mod Forgetting
 pub mod RawTailing
 pub mod Blocks
-pub mod BorrowedLines

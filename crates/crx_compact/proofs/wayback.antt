@@ -1,5 +1,4 @@
 -- What is written of epochs reads back as these epochs.
-pub mod BackByLines
 pub mod Reading
 pub mod Rows
 pub mod Cells
@@ -8,7 +7,6 @@ pub mod Encoding
 pub mod Facts
 pub mod Writable
 pub mod Standing
-pub mod OneTail
 pub mod Overlays
 pub mod Cuts
 pub mod CodeTexts

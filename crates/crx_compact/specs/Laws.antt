@@ -7,8 +7,8 @@ use Rattle.crx_columns.specs.meaning.Texts.{text_difference, is_printable}
 use Rattle.crx_columns.specs.Texts.{patched}
 use Rattle.crx_text.specs.Codes.{IsPrintable}
 use Rattle.crx_rinex.specs.meaning.Observations.{Epoch}
-use Rattle.crx_rinex.specs.meaning.ObservationTypes.{Count}
-use Rattle.crx_lines.specs.declared.limits.TheConstants.{WRITTEN_ORDER, TYPES_LIMIT}
+use Rattle.crx_header.specs.meaning.ObservationTypes.{Count}
+use Rattle.crx_faults.specs.declared.limits.TheConstants.{WRITTEN_ORDER, TYPES_LIMIT}
 use Rattle.crx_rinex.specs.meaning.Epochs.{IsWholeEpoch}
 use Rattle.crx_arcs.specs.meaning.Differences.{code_at}
 use Rattle.crx_history.specs.meaning.Compaction.{Marked, since_full, run_of, arc_of, clock_arc, compact_epoch}

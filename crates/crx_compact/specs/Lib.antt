@@ -4,5 +4,4 @@ pub mod Laws
 pub mod ReadingLaws
 pub mod OpenLines
 pub mod ReadBlocks
-pub mod BorrowedLines
 pub mod Holdings

@@ -6,19 +6,19 @@ use Rattle.std.specs.List.{AllByRecursion}
 use Rattle.std.specs.Option.{option_map}
 use Rattle.crx_columns.specs.meaning.Columns.{columns}
 use Rattle.crx_columns.specs.Texts.{patched}
-use Rattle.crx_lines.specs.meaning.Seen.{ReadLine, Content, Overlong}
-use Rattle.crx_lines.specs.declared.limits.TheConstants.{HEAD_WIDTH, NAME_WIDTH, ORDER_LIMIT, TYPES_LIMIT}
-use Rattle.crx_lines.specs.declared.limits.TheConstants.{SATELLITES_LIMIT}
-use Rattle.crx_lines.specs.declared.fault.Fault.{Fault}
-use Rattle.crx_lines.specs.declared.fault.Fault.TheVariants.{LineTooLong, NotAnEpoch}
+use Rattle.crx_faults.specs.meaning.Seen.{ReadLine, Content, Overlong}
+use Rattle.crx_faults.specs.declared.limits.TheConstants.{HEAD_WIDTH, NAME_WIDTH, ORDER_LIMIT, TYPES_LIMIT}
+use Rattle.crx_faults.specs.declared.limits.TheConstants.{SATELLITES_LIMIT}
+use Rattle.crx_faults.specs.declared.fault.Fault.{Fault}
+use Rattle.crx_faults.specs.declared.fault.Fault.TheVariants.{LineTooLong, NotAnEpoch}
 use Rattle.crx_rinex.specs.meaning.Observations.{Epoch}
 use Rattle.crx_rinex.specs.meaning.Printing.{printed_epoch}
-use Rattle.crx_rinex.specs.meaning.ObservationTypes.{Count}
+use Rattle.crx_header.specs.meaning.ObservationTypes.{Count}
 use Rattle.crx_rinex.specs.meaning.Places.{Place, Here, Wrong, Wanted}
 use Rattle.crx_arcs.specs.meaning.Sequences.{and_then}
 use Rattle.crx_rinex.specs.meaning.EpochLines.{begins_epoch}
 use Rattle.crx_history.specs.meaning.EpochText.{Satellite}
-use Rattle.crx_arcs.specs.meaning.Cells.{ReadCell}
+use Rattle.crx_cells.specs.meaning.Cells.{ReadCell}
 use Rattle.crx_history.specs.meaning.CompactPlaces.{ReadRow, ReadEpoch, satellites_of_line, clock_line_read}
 use Rattle.crx_history.specs.meaning.CompactPlaces.{satellite_line_read, epoch_against}
 use Rattle.crx_arcs.specs.ArcTails.{ArcTail, IsBoundedArc}

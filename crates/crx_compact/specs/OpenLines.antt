@@ -3,8 +3,8 @@ use Rattle.std.specs.Prelude.{ℕ, List, [], ◌∷◌, length, map, take, drop,
 use Rattle.std.specs.Prelude.{◌&&◌, ◌==◌}
 use Rattle.std.specs.Option.{option_and_then}
 use Rattle.crx_columns.specs.meaning.Columns.{columns}
-use Rattle.crx_lines.specs.declared.limits.TheConstants.{HEAD_WIDTH}
-use Rattle.crx_lines.specs.declared.fault.Fault.TheVariants.{NotAnEpoch}
+use Rattle.crx_faults.specs.declared.limits.TheConstants.{HEAD_WIDTH}
+use Rattle.crx_faults.specs.declared.fault.Fault.TheVariants.{NotAnEpoch}
 use Rattle.crx_rinex.specs.meaning.Observations.{Row, Epoch}
 use Rattle.crx_history.specs.meaning.EpochText.{Satellite}
 use Rattle.crx_history.specs.Tails.{RowTail, Tail}

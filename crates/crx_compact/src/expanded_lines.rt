@@ -4,10 +4,11 @@ ghost use Rattle.std.specs.Prelude.{◌≡◌, ◌≤◌, ◌<◌, ◌↔◌, �
 ghost use Rattle.std.specs.Borrow.{sem};
 ghost use Rattle.std.specs.Io.BufRead.{Rests};
 ghost use Rattle.std.specs.Option.{option_copied};
-ghost use Rattle.crx_lines.specs.declared.limits.TheConstants.{HEAD_WIDTH, LINE_LIMIT};
+ghost use Rattle.crx_faults.specs.declared.limits.TheConstants.{HEAD_WIDTH, LINE_LIMIT};
 ghost use Rattle.crx_columns.specs.meaning.Columns.{columns};
 ghost use Rattle.crx_rinex.specs.meaning.EpochLines.{epoch_count};
-ghost use Rattle.crx_rinex.specs.meaning.Printing.{lines_text, printed_epoch, printed_row};
+ghost use Rattle.crx_rinex.specs.meaning.Printing.{printed_epoch, printed_row};
+ghost use Rattle.crx_faults.specs.meaning.Lines.{lines_text};
 ghost use Rattle.crx_history.specs.ShownRows.{shown_epoch, shown_row};
 ghost use Rattle.crx_compact.specs.contracts.expanded_lines.CopiedLine.{the_row as row_of_copied};
 ghost use Rattle.crx_compact.specs.contracts.expanded_lines.ExpandedLines.{the_row};

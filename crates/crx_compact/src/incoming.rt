@@ -2,7 +2,7 @@
 
 ghost use Rattle.std.specs.Option.{option_copied};
 ghost use Rattle.std.specs.Prelude.{slice_get, ◌≡◌, ◌≤◌, ◌<◌, ◌⊎◌, None, Some, Ok, Err, length, is_some, false, true, OnOk, OnErr, IfOk, IfErr, IfSome, []};
-ghost use Rattle.crx_lines.specs.declared.limits.TheConstants.{LINE_LIMIT};
+ghost use Rattle.crx_faults.specs.declared.limits.TheConstants.{LINE_LIMIT};
 ghost use Rattle.crx_history.specs.Tails.{Tail};
 ghost use Rattle.crx_compact.specs.OpenEpochs.{opened_raw, is_faulty, Whole, Faulty};
 ghost use Rattle.crx_history.specs.HeldRows.{row_after, HasRow, IsNextRow};
@@ -12,10 +12,12 @@ ghost use Rattle.crx_rinex.specs.meaning.Printing.{printed_epoch};
 ghost use Rattle.crx_compact.specs.OpenLines.{open_raw, made_of, step_after, epoch_so_far, have_all_come};
 
 use crate::expanded_lines::ExpandedLines;
+use crx_faults::Fault;
+use crx_header::Types;
 use crx_history::awaited::{AwaitedSatellite, AwaitedSatellites};
 use crx_history::kept::KeptEpoch;
-use crx_rinex::{Epoch, Types, begins_epoch};
-use crx_text::{Fault, Text};
+use crx_rinex::{Epoch, begins_epoch};
+use crx_text::Text;
 use std::alloc::{AllocError, Global};
 use std::marker::Model;
 use std::mem;

@@ -6,7 +6,6 @@ pub mod columns;
 pub mod expanded_lines;
 mod incoming;
 pub mod laws;
-pub mod read_back;
 
 pub use coded::Coded;
 pub use columns::Columns;

@@ -1,5 +1,2 @@
 -- The lines that are ready to be written, and how much is held of them.
-pub mod ReadyToHandOut
 pub mod Readiness
-pub mod ReadyLines
-pub mod Bounds

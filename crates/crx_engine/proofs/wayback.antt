@@ -7,7 +7,6 @@ pub mod Reading
 pub mod Standard
 pub mod Converse
 pub mod Carried
-pub mod NormalForm
 pub mod ExpandedWhole
 pub mod Returns
 pub mod ReturnsRead

@@ -1,7 +1,7 @@
 -- Where the reading of compact text starts anew: what stands from there on depends on the observation types in force,
 -- and on the lines from there on alone. Lists of items have the newest first.
 use Rattle.std.specs.Prelude.{◌≡◌, ℕ, zero, suc, Bool, true, false, ◌&&◌, List, [], ◌∷◌, ◌++◌, if◌then◌else◌}
-use Rattle.crx_lines.specs.meaning.Seen.{ReadLine, Content, Overlong}
+use Rattle.crx_faults.specs.meaning.Seen.{ReadLine, Content, Overlong}
 use Rattle.crx_rinex.specs.meaning.EpochLines.{begins_epoch, is_event_line}
 use Rattle.crx_history.specs.meaning.CompactPlaces.{ReadEpoch}
 use Rattle.crx_reading.specs.meaning.Items.{Item, header_has_ended, records_announced, records_left, types_in_force}

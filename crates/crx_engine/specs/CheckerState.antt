@@ -1,9 +1,9 @@
 -- What a checker is seen as.
 use Rattle.std.specs.Prelude.{◌≡◌, ℕ, Bool, true, false, List, [], drop, length, Option, Some, None}
 use Rattle.std.proofs.Common.{ap}
-use Rattle.crx_lines.specs.meaning.Lines.{InputLine}
+use Rattle.crx_faults.specs.meaning.Lines.{InputLine}
 use Rattle.crx_rinex.specs.meaning.EpochPlaces.{OpenEpoch}
-use Rattle.crx_engine.specs.Engines.{Awaited}
+use Rattle.crx_runs.specs.Engines.{Awaited}
 use Rattle.crx_reading.specs.LineByLine.{Phase, InHeader, BetweenUnits, InEvent, InEpoch}
 use Rattle.crx_reading.specs.RinexReaders.{reader_phase}
 use Rattle.crx_reading.specs.meaning.Standard.{Findings, report_lines, findings_of}

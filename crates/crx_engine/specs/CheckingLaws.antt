@@ -1,7 +1,7 @@
 -- What the laws of a check say.
 use Rattle.std.specs.Prelude.{◌≡◌, ◌↔◌, ℕ, true, false, List, [], ◌∷◌, ◌++◌, None}
-use Rattle.crx_lines.specs.meaning.Lines.{InputLine, lines_of}
-use Rattle.crx_reading.specs.meaning.Choices.{Choices, is_date}
+use Rattle.crx_faults.specs.meaning.Lines.{InputLine, lines_of}
+use Rattle.crx_options.specs.meaning.Choices.{Choices, is_date}
 use Rattle.crx_reading.specs.LineByLine.{seen_end}
 use Rattle.crx_engine.specs.Laws.{failed_by, is_again}
 use Rattle.crx_reading.specs.meaning.Compacted.{compacted}

@@ -1,10 +1,10 @@
 -- What an engine of compaction is seen as.
 use Rattle.std.specs.Prelude.{ℕ, List}
 use Rattle.crx_rinex.specs.meaning.EpochPlaces.{OpenEpoch}
-use Rattle.crx_lines.specs.meaning.Lines.{InputLine}
+use Rattle.crx_faults.specs.meaning.Lines.{InputLine}
 use Rattle.crx_reading.specs.CompactionByLine.{Written, compaction, compaction_seen}
 use Rattle.crx_engine.specs.EngineLines.{HasTaken}
-use Rattle.crx_engine.specs.Engines.{Awaited}
+use Rattle.crx_runs.specs.Engines.{Awaited}
 use Rattle.crx_reading.specs.LineByLine.{Seen}
 use Rattle.crx_engine.specs.CompactionState.{compaction_state}
 use Rattle.crx_reading.specs.ReadyLines.{pending_lines}

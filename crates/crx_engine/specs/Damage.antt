@@ -1,8 +1,8 @@
 -- Beside meaning/Damage: what code and proofs see of it.
 use Rattle.std.specs.Prelude.{ℕ, ◌≡◌, true, List, ◌∷◌, ◌++◌}
 use Rattle.crx_rinex.specs.meaning.Observations.{Epoch}
-use Rattle.crx_reading.specs.meaning.Choices.{Choices, is_date}
-use Rattle.crx_rinex.specs.meaning.Printing.{lines_text}
+use Rattle.crx_options.specs.meaning.Choices.{Choices, is_date}
+use Rattle.crx_faults.specs.meaning.Lines.{lines_text}
 use Rattle.crx_reading.specs.meaning.Compacted.{compact_lines, compacted}
 use Rattle.crx_reading.specs.meaning.Expanded.{expanded}
 use Rattle.crx_reading.specs.meaning.Standard.{whole_of}

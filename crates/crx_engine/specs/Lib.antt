@@ -2,11 +2,7 @@ pub mod Compacted
 pub mod Expanded
 pub mod Damage
 pub mod Laws
-pub mod Bounds
-pub mod Lawful
-pub mod Engines
 pub mod WayBack
-pub mod NormalForm
 pub mod EngineSteps
 pub mod CompactionState
 pub mod CompactorState

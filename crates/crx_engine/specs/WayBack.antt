@@ -1,11 +1,11 @@
 -- Beside meaning/WayBack: what code and proofs see of it.
 use Rattle.std.specs.Prelude.{◌≡◌, ℕ, true, List, None, map}
-use Rattle.crx_lines.specs.meaning.Lines.{lines_of}
-use Rattle.crx_lines.specs.meaning.Seen.{seen}
+use Rattle.crx_faults.specs.meaning.Lines.{lines_of}
+use Rattle.crx_faults.specs.meaning.Seen.{seen}
 use Rattle.crx_rinex.specs.meaning.Observations.{Epoch}
-use Rattle.crx_reading.specs.meaning.Choices.{Choices, is_date}
+use Rattle.crx_options.specs.meaning.Choices.{Choices, is_date}
 use Rattle.crx_reading.specs.meaning.Reading.{WholeReading}
-use Rattle.crx_rinex.specs.meaning.Printing.{lines_text}
+use Rattle.crx_faults.specs.meaning.Lines.{lines_text}
 use Rattle.crx_reading.specs.meaning.Compacted.{whole_rinex, compacted}
 use Rattle.crx_reading.specs.meaning.Expanded.{expanded}
 use Rattle.crx_reading.specs.meaning.Standard.{printed_items, whole_of, normal_form, IsStandard}

@@ -1,32 +1,34 @@
 //! The check of a RINEX file, one line at a time.
 
 ghost use Rattle.std.specs.Prelude.{◌≡◌, ◌≤◌, ◌<◌, ◌+◌, ◌⊎◌, ℕ, List, [], None, Some, true, false, drop, slice_get, OnErr, OnOk, IfErr, IfOk};
-ghost use Rattle.crx_lines.specs.declared.limits.TheConstants.{INPUT_LIMIT};
+ghost use Rattle.crx_faults.specs.declared.limits.TheConstants.{INPUT_LIMIT};
 ghost use Rattle.crx_rinex.specs.meaning.EpochPlaces.{OpenEpoch};
 ghost use Rattle.crx_rinex.specs.meaning.Observations.{Epoch as ObservationEpoch};
-ghost use Rattle.crx_lines.specs.meaning.Lines.{InputLine};
+ghost use Rattle.crx_faults.specs.meaning.Lines.{InputLine};
 ghost use Rattle.crx_lines.specs.Reading.{line_shown, line_number};
 ghost use Rattle.crx_reading.specs.CheckByLine.{check_seen, earliest, printed_made, totals_made};
 ghost use Rattle.crx_reading.specs.meaning.Directions.{check_filter, fault_so_far};
 ghost use Rattle.crx_reading.specs.Totals.{AreBounded, HasPrinted, totals_held};
 ghost use Rattle.crx_engine.specs.CheckerState.{HasEnded, CheckerHasTaken, CheckerIsOpen, pending_report, checker_state};
 ghost use Rattle.crx_reading.specs.CompactionByLine.{is_before_header};
-ghost use Rattle.crx_engine.specs.Engines.{RunsOutAt};
-ghost use Rattle.crx_reading.specs.meaning.Filters.{with_next};
+ghost use Rattle.crx_runs.specs.Engines.{RunsOutAt};
+ghost use Rattle.crx_runs.specs.meaning.Filters.{with_next};
 ghost use Rattle.crx_reading.specs.LineByLine.{Made};
 ghost use Rattle.crx_reading.specs.RinexReaders.{reader_phase, TakesRinexLine};
 ghost use Rattle.crx_reading.specs.meaning.Standard.{is_standard_line};
 ghost use Rattle.crx_reading.specs.declared.rinex_reader.RinexReader.{RinexReader};
 ghost use Rattle.crx_rinex.specs.Printing.{last_line};
 
-use crate::engine::{Engine, Step};
 use crate::settled::after_end;
-use crx_lines::limits::VERSION_WIDTH;
+use crx_faults::limits::VERSION_WIDTH;
+use crx_faults::{At, Fault};
+use crx_lines::Line;
 use crx_reading::report::{Totals, print_report_line};
 use crx_reading::rinex_reader::{RinexReader, RinexStep};
 use crx_reading::stage::Stage;
 use crx_reading::totals::{counted, is_given_back};
-use crx_text::{At, Fault, Line, Text};
+use crx_runs::{Engine, Step};
+use crx_text::Text;
 use std::alloc::Global;
 
 /// Checks a RINEX file, whose lines it takes one at a time; once the whole input was accepted, the six lines of the

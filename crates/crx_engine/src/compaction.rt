@@ -1,19 +1,19 @@
 //! What a compaction keeps between two lines of RINEX, and what it does with the next one.
 
 ghost use Rattle.std.specs.Prelude.{◌≡◌, ◌≤◌, true};
-ghost use Rattle.crx_lines.specs.declared.limits.TheConstants.{INPUT_LIMIT};
+ghost use Rattle.crx_faults.specs.declared.limits.TheConstants.{INPUT_LIMIT};
 ghost use Rattle.crx_compact.specs.OpenEpochs.{is_idle};
 ghost use Rattle.crx_reading.specs.meaning.Compacted.{is_at_every};
 
-use crate::engine::Step;
 use crate::settled::{Settled, after_end, after_fault};
 use crx_compact::Columns;
-use crx_reading::options::Options;
+use crx_faults::{At, Fault};
+use crx_options::Options;
 use crx_reading::ready_lines::ReadyLines;
 use crx_reading::rinex_reader::{RinexReader, RinexStep};
 use crx_reading::stage::Stage;
 use crx_rinex::begins_epoch;
-use crx_text::{At, Fault};
+use crx_runs::Step;
 use std::alloc::{AllocError, Global};
 
 /// What a compaction keeps between two lines.
@@ -43,17 +43,17 @@ fn is_at_every(every: Option<u32>, index: u64) -> bool
 
 impl Compaction {
     ghost use Rattle.std.specs.Prelude.{◌+◌, ◌<◌, ◌⊎◌, ◌≢◌, [], length, OnOk, OnErr, IfOk, IfErr, Ok, Err, Some, None, false};
-    ghost use Rattle.crx_lines.specs.meaning.Seen.{ReadLine, Content, Overlong};
-    ghost use Rattle.crx_lines.specs.declared.limits.TheConstants.{LINE_LIMIT};
+    ghost use Rattle.crx_faults.specs.meaning.Seen.{ReadLine, Content, Overlong};
+    ghost use Rattle.crx_faults.specs.declared.limits.TheConstants.{LINE_LIMIT};
     ghost use Rattle.crx_rinex.specs.meaning.Observations.{Epoch as ObservationEpoch};
     ghost use Rattle.crx_rinex.specs.meaning.Units.{Observation};
     ghost use Rattle.crx_reading.specs.CompactionByLine.{compact_written, compaction, compaction_seen, written_kept};
     ghost use Rattle.crx_reading.specs.RinexReaders.{made_at, TakesRinexLine};
     ghost use Rattle.crx_reading.specs.declared.rinex_reader.RinexReader.{RinexReader};
-    ghost use Rattle.crx_engine.specs.Engines.{answer_given};
+    ghost use Rattle.crx_runs.specs.Engines.{answer_given};
     ghost use Rattle.crx_reading.specs.LineByLine.{Ended, failed_step, seen_end, seen_next};
     ghost use Rattle.crx_reading.specs.meaning.Reading.{can_go_on};
-    ghost use Rattle.crx_lines.specs.meaning.Faults.{is_skippable};
+    ghost use Rattle.crx_faults.specs.meaning.Faults.{is_skippable};
     ghost use Rattle.crx_reading.specs.ReadyLines.{pending_lines};
     ghost use Rattle.crx_reading.specs.RinexStages.{is_whole, open_epoch};
     ghost use Rattle.crx_engine.specs.EngineSteps.{Steps, step_made, settled_seen};

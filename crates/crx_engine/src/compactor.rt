@@ -1,10 +1,12 @@
 //! The engine that compacts RINEX one line at a time.
 
 use crate::compaction::Compaction;
-use crate::engine::{Step, answer_given};
-use crx_reading::options::Options;
+use crx_faults::At;
+use crx_lines::Line;
+use crx_options::Options;
 use crx_reading::ready_lines::ReadyLines;
-use crx_text::{At, Line};
+use crx_runs::Step;
+use crx_runs::engine::answer_given;
 use std::alloc::{AllocError, Global};
 
 /// Makes Compact RINEX 3.0 of the lines of a RINEX file, which it takes one at a time; the lines to be written are
@@ -22,18 +24,18 @@ impl Compactor {
     ghost use Rattle.std.specs.Borrow.{sem};
     ghost use Rattle.std.specs.Io.BufRead.{Rests};
     ghost use Rattle.std.specs.Option.{option_copied};
-    ghost use Rattle.crx_lines.specs.meaning.Lines.{InputLine, is_long};
+    ghost use Rattle.crx_faults.specs.meaning.Lines.{InputLine, is_long};
     ghost use Rattle.crx_lines.specs.Reading.{line_shown, line_number};
-    ghost use Rattle.crx_lines.specs.meaning.Seen.{Content, Overlong};
-    ghost use Rattle.crx_lines.specs.declared.fault.At.{At};
-    ghost use Rattle.crx_lines.specs.declared.limits.TheConstants.{INPUT_LIMIT, LINE_LIMIT};
+    ghost use Rattle.crx_faults.specs.meaning.Seen.{Content, Overlong};
+    ghost use Rattle.crx_faults.specs.declared.fault.At.{At};
+    ghost use Rattle.crx_faults.specs.declared.limits.TheConstants.{INPUT_LIMIT, LINE_LIMIT};
     ghost use Rattle.crx_reading.specs.CompactionByLine.{compaction, compaction_seen};
     ghost use Rattle.crx_reading.specs.LineByLine.{Ended, seen_next, seen_end};
     ghost use Rattle.crx_engine.specs.EngineSteps.{Steps, step_made};
     ghost use Rattle.crx_engine.specs.CompactorState.{compactor_seen, compactor_ready, compactor_took};
     ghost use Rattle.crx_reading.specs.meaning.Directions.{compaction_filter};
-    ghost use Rattle.crx_rinex.specs.meaning.Printing.{lines_text};
-    ghost use Rattle.crx_engine.specs.Engines.{EngineAnswers, answer_given, Awaited, Concludes, IsAwaited};
+    ghost use Rattle.crx_faults.specs.meaning.Lines.{lines_text};
+    ghost use Rattle.crx_runs.specs.Engines.{EngineAnswers, answer_given, Awaited, Concludes, IsAwaited};
     ghost use Rattle.crx_engine.specs.contracts.compactor.Compactor.{the_row};
 
     /// A compaction before the first line of its input. It takes the memory for the lines that are copied; `AllocError` comes

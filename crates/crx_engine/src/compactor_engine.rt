@@ -7,8 +7,9 @@ ghost use Rattle.crx_reading.specs.CompactionByLine.{compaction, compaction_seen
 ghost use Rattle.crx_engine.specs.CompactorState.{compactor_seen, compactor_ready};
 
 use crate::compactor::Compactor;
-use crate::engine::{Engine, Step};
-use crx_text::{At, Line};
+use crx_faults::At;
+use crx_lines::Line;
+use crx_runs::{Engine, Step};
 
 impl Engine for Compactor {
     ghost filter = { λ c. compaction_filter (compactor_seen c).choices };

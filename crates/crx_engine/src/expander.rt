@@ -1,29 +1,31 @@
 //! Expansion, one line of compact text at a time.
 
 ghost use Rattle.std.specs.Prelude.{◌≡◌, ℕ, ◌+◌, ◌≤◌, ◌<◌, ◌↔◌, List, [], IsTrue, IfOk, IfErr, OnErr, Err, Ok, true, false, drop, length, slice_get, if◌then◌else◌, is_some, IfSome};
-ghost use Rattle.crx_lines.specs.meaning.Lines.{InputLine, is_long};
-ghost use Rattle.crx_lines.specs.meaning.Seen.{Content, Overlong};
+ghost use Rattle.crx_faults.specs.meaning.Lines.{InputLine, is_long};
+ghost use Rattle.crx_faults.specs.meaning.Seen.{Content, Overlong};
 ghost use Rattle.crx_lines.specs.Reading.{line_number, line_shown};
-ghost use Rattle.crx_lines.specs.declared.fault.At.{At};
-ghost use Rattle.crx_lines.specs.declared.limits.TheConstants.{INPUT_LIMIT, LINE_LIMIT};
-ghost use Rattle.crx_reading.specs.meaning.Choices.{Choices};
+ghost use Rattle.crx_faults.specs.declared.fault.At.{At};
+ghost use Rattle.crx_faults.specs.declared.limits.TheConstants.{INPUT_LIMIT, LINE_LIMIT};
+ghost use Rattle.crx_options.specs.meaning.Choices.{Choices};
 ghost use Rattle.crx_reading.specs.meaning.Directions.{expansion_filter};
-ghost use Rattle.crx_engine.specs.Engines.{EngineAnswers, answer_given, Awaited, Concludes, IsAwaited};
+ghost use Rattle.crx_runs.specs.Engines.{EngineAnswers, answer_given, Awaited, Concludes, IsAwaited};
 ghost use Rattle.crx_engine.specs.EngineSteps.{Steps, step_made};
 ghost use Rattle.crx_reading.specs.LineByLine.{seen_end, seen_next};
 ghost use Rattle.crx_reading.specs.ExpansionByLine.{expansion, expansion_seen};
-ghost use Rattle.crx_lines.specs.meaning.Faults.{is_skippable};
+ghost use Rattle.crx_faults.specs.meaning.Faults.{is_skippable};
 ghost use Rattle.crx_reading.specs.declared.stage.Stage.TheVariants.{Ended, Open};
 
-use crate::engine::{Step, answer_given};
 use crate::settled::{after_end, after_fault};
 use crx_compact::ExpandedLines;
+use crx_faults::{At, Fault};
+use crx_lines::Line;
+use crx_options::Options;
 use crx_reading::compact_reader::CompactReader;
 use crx_reading::line_number::LineNumber;
-use crx_reading::options::Options;
 use crx_reading::stage::Stage;
 use crx_rinex::begins_epoch;
-use crx_text::{At, Fault, Line};
+use crx_runs::Step;
+use crx_runs::engine::answer_given;
 use std::alloc::{AllocError, Global};
 
 /// Makes RINEX of the lines of Compact RINEX 3.0, which it takes one at a time; the lines to be written are borrowed from it.
@@ -44,7 +46,7 @@ impl Expander {
     ghost use Rattle.std.specs.Option.{option_copied};
     ghost use Rattle.crx_engine.specs.contracts.expander.Expander.{the_row};
     ghost use Rattle.crx_engine.specs.ExpanderState.{Fails, expander_took, expander_state};
-    ghost use Rattle.crx_rinex.specs.meaning.Printing.{lines_text};
+    ghost use Rattle.crx_faults.specs.meaning.Lines.{lines_text};
 
     /// An expansion before the first line of its input. Of the options it uses alone whether faults are skipped.
     ///

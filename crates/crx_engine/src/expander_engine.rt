@@ -6,9 +6,10 @@ ghost use Rattle.crx_engine.specs.EngineLines.{HasTaken};
 ghost use Rattle.crx_reading.specs.ExpansionByLine.{expansion, expansion_seen};
 ghost use Rattle.crx_engine.specs.ExpanderState.{expander_state};
 
-use crate::engine::{Engine, Step};
 use crate::expander::Expander;
-use crx_text::{At, Line};
+use crx_faults::At;
+use crx_lines::Line;
+use crx_runs::{Engine, Step};
 
 impl Engine for Expander {
     ghost filter = { λ e. expansion_filter e.options };

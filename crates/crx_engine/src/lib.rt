@@ -5,14 +5,11 @@ pub mod checker;
 mod compaction;
 pub mod compactor;
 mod compactor_engine;
-pub mod engine;
 pub mod expander;
 mod expander_engine;
 pub mod laws;
 mod settled;
 
 pub use compactor::Compactor;
-pub use crx_reading::appending;
-pub use crx_reading::options::{BadDate, Options};
-pub use engine::Step;
+pub use crx_options::{BadDate, Options};
 pub use expander::Expander;

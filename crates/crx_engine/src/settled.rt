@@ -3,17 +3,17 @@
 ghost use Rattle.std.specs.Prelude.{◌≡◌, ◌+◌, ◌<◌, ◌≤◌, Option, true, false, IfErr, Err};
 ghost use Rattle.crx_rinex.specs.meaning.EpochPlaces.{OpenEpoch};
 ghost use Rattle.crx_compact.specs.OpenEpochs.{OpenRawEpoch};
-ghost use Rattle.crx_lines.specs.declared.limits.TheConstants.{INPUT_LIMIT};
+ghost use Rattle.crx_faults.specs.declared.limits.TheConstants.{INPUT_LIMIT};
 ghost use Rattle.crx_reading.specs.LineByLine.{fault_at_end_in};
-ghost use Rattle.crx_lines.specs.meaning.Faults.{is_skippable};
+ghost use Rattle.crx_faults.specs.meaning.Faults.{is_skippable};
 ghost use Rattle.crx_reading.specs.CompactionByLine.{compaction};
 ghost use Rattle.crx_reading.specs.ExpansionByLine.{expansion};
 ghost use Rattle.crx_engine.specs.EngineSteps.{SettlesEnd, SettlesFault};
 ghost use Rattle.crx_reading.specs.Stages.{is_held, is_settled, seen_stage};
 
-use crate::engine::Step;
+use crx_faults::{At, Fault};
 use crx_reading::stage::Stage;
-use crx_text::{At, Fault};
+use crx_runs::Step;
 
 /// What is answered to a fault or to the end of the input, and where the run is then.
 #[derive(Clone, Copy)]

@@ -1,13 +1,13 @@
 -- Worked examples: what small files come to.
 use Rattle.std.specs.Prelude.{ℕ, Bool, true, false, List, [], ◌∷◌, ◌++◌, Some, None, codes, length}
-use Rattle.crx_lines.specs.declared.fault.Fault.{Fault}
-use Rattle.crx_lines.specs.declared.fault.At.{At}
-use Rattle.crx_lines.specs.meaning.Seen.{Content}
-use Rattle.crx_lines.specs.meaning.Lines.{InputLine, lines_of}
-use Rattle.crx_reading.specs.meaning.Choices.{Choices}
-use Rattle.crx_reading.specs.meaning.Messages.{message_text, warning_text}
-use Rattle.crx_reading.specs.meaning.Results.{FilterResult}
-use Rattle.crx_rinex.specs.meaning.Printing.{lines_text}
+use Rattle.crx_faults.specs.declared.fault.Fault.{Fault}
+use Rattle.crx_faults.specs.declared.fault.At.{At}
+use Rattle.crx_faults.specs.meaning.Seen.{Content}
+use Rattle.crx_faults.specs.meaning.Lines.{InputLine, lines_of}
+use Rattle.crx_options.specs.meaning.Choices.{Choices}
+use Rattle.crx_runs.specs.meaning.Messages.{message_text, warning_text}
+use Rattle.crx_runs.specs.meaning.Results.{FilterResult}
+use Rattle.crx_faults.specs.meaning.Lines.{lines_text}
 use Rattle.crx_reading.specs.meaning.Compacted.{compacted}
 use Rattle.crx_reading.specs.meaning.Expanded.{expanded}
 use Rattle.crx_reading.specs.meaning.Standard.{Findings, checked}

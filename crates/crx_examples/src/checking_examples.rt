@@ -1,8 +1,8 @@
 //! Worked examples of the check, by the definitions alone: each is the contract of a function that does nothing.
 
 ghost use Rattle.std.specs.Prelude.{◌≡◌, ◌∷◌, ◌++◌, [], Some, None, codes};
-ghost use Rattle.crx_lines.specs.declared.fault.Fault.TheVariants.{BadFlags};
-ghost use Rattle.crx_rinex.specs.meaning.Printing.{lines_text};
+ghost use Rattle.crx_faults.specs.declared.fault.Fault.TheVariants.{BadFlags};
+ghost use Rattle.crx_faults.specs.meaning.Lines.{lines_text};
 ghost use Rattle.crx_examples.specs.FilterExamples.{failed, report, reported, found_line_by_line};
 ghost use Rattle.crx_laws.specs.SmallFiles.{header, epoch_line_at, line_at, observed, file_of_five, returned_text};
 

@@ -2,12 +2,12 @@
 
 ghost use Rattle.std.specs.Prelude.{◌≡◌, ◌∷◌, ◌++◌, [], pos, neg_ℤ, codes, Some, None};
 ghost use Rattle.std.specs.List.{AllByRecursion};
-ghost use Rattle.crx_lines.specs.declared.fault.Fault.TheVariants.{LineTooLong, NotAnEpoch, BadEpoch, BadClock, BadSatellite, RepeatedSatellite, NoArc, OutOfRange, BadField, BadFlags, Truncated};
-ghost use Rattle.crx_rinex.specs.Examples.{one_type};
+ghost use Rattle.crx_faults.specs.declared.fault.Fault.TheVariants.{LineTooLong, NotAnEpoch, BadEpoch, BadClock, BadSatellite, RepeatedSatellite, NoArc, OutOfRange, BadField, BadFlags, Truncated};
+ghost use Rattle.crx_laws.specs.Examples.{one_type};
 ghost use Rattle.crx_examples.specs.CompactExamples.{head_at, full_line, epoch_of_one, five_epochs, five_epochs_restarted, one_missing, one_away, ending, clocks, extremes, no_satellites, two_systems, e05, epoch_of_systems, epochs_read, epochs_in, half_open_raw, two_epochs, two_typed};
-ghost use Rattle.crx_lines.specs.meaning.Seen.{Content, Overlong};
+ghost use Rattle.crx_faults.specs.meaning.Seen.{Content, Overlong};
 ghost use Rattle.crx_rinex.specs.meaning.Places.{Here, Wrong, Wanted};
-ghost use Rattle.crx_rinex.specs.ObservationTypes.{AreCounts};
+ghost use Rattle.crx_header.specs.ObservationTypes.{AreCounts};
 ghost use Rattle.crx_compact.specs.OpenEpochs.{open_raw_with, first_step, state_after, tail_held};
 ghost use Rattle.crx_compact.specs.OpenEpochs.RawStep.{Faulty};
 ghost use Rattle.crx_compact.specs.ReadingLaws.{text_lines, raws_of, AreWholeByTypes, HasSingleLines, HasPrintableMarks};

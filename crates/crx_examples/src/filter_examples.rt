@@ -1,13 +1,13 @@
 //! Worked examples, by the definitions alone: each is the contract of a function that does nothing.
 
 ghost use Rattle.std.specs.Prelude.{◌≡◌, ◌∷◌, ◌++◌, [], take, drop, true, false, codes};
-ghost use Rattle.crx_lines.specs.declared.fault.Fault.TheVariants.{MissingVersion, NoEndOfHeader, NotCompact, BadProgLine, RepeatedSatellite, NoArc, BadClock, BadFlags, Truncated, NotAnEpoch, BadEpoch};
+ghost use Rattle.crx_faults.specs.declared.fault.Fault.TheVariants.{MissingVersion, NoEndOfHeader, NotCompact, BadProgLine, RepeatedSatellite, NoArc, BadClock, BadFlags, Truncated, NotAnEpoch, BadEpoch};
 ghost use Rattle.crx_examples.specs.FilterExamples.{two_types, good, failed, warned, warning, compaction_of, expansion_of, compaction_answers, expansion_answers, notice, report, reported};
 ghost use Rattle.crx_laws.specs.SmallFiles.{comment_event, damaged_before_event, damaged_by, other_block, last_damaged_by, blanks, header, first_two, epoch_line_at, line_at, full_line_at, second_changed, one_type_line, observed, plain_choices, with_skip, in_full_every_second, returned_text};
 ghost use Rattle.crx_reading.specs.meaning.Damage.{IsDamaged, IsSalvaged};
 ghost use Rattle.crx_reading.specs.meaning.Expanded.{expanded};
 ghost use Rattle.crx_reading.specs.meaning.Standard.{checked};
-ghost use Rattle.crx_rinex.specs.meaning.Printing.{lines_text};
+ghost use Rattle.crx_faults.specs.meaning.Lines.{lines_text};
 ghost use Rattle.crx_reading.specs.LineByLine.{Quiet, Ready};
 
 /// A header alone.

@@ -1,13 +1,13 @@
 -- What runs bring back, save and judge follows from what they are, by the laws.
 use Rattle.std.proofs.Common.{ℕ, ◌≡◌, List, ◌++◌, Option, Some, None, refl, sym, subst, ◌∙◌}
 use Rattle.std.specs.Prelude.{◌↔◌}
-use Rattle.crx_lines.specs.meaning.Lines.{lines_of}
-use Rattle.crx_lines.specs.declared.fault.At.{At}
-use Rattle.crx_reading.specs.meaning.Choices.{Choices}
+use Rattle.crx_faults.specs.meaning.Lines.{lines_of}
+use Rattle.crx_faults.specs.declared.fault.At.{At}
+use Rattle.crx_options.specs.meaning.Choices.{Choices}
 use Rattle.crx_reading.specs.meaning.Compacted.{compacted}
 use Rattle.crx_reading.specs.meaning.Expanded.{expanded}
-use Rattle.crx_reading.specs.meaning.Filters.{Filter}
-use Rattle.crx_reading.specs.meaning.Results.{FilterResult}
+use Rattle.crx_runs.specs.meaning.Filters.{Filter}
+use Rattle.crx_runs.specs.meaning.Results.{FilterResult}
 use Rattle.crx_reading.specs.meaning.Standard.{Findings, findings_of, report_status, checked_by, checked}
 use Rattle.crx_reading.specs.meaning.WayBack.{HasNormalForm}
 use Rattle.crx_engine.proofs.standard.CheckStandard.{named-where_not, standard-exactly_where_same}
@@ -15,8 +15,8 @@ use Rattle.crx_engine.proofs.wayback.WayBack.{comes-back}
 use Rattle.crx_engine.proofs.wayback.Standard.{normal-comes_back, standard-comes_back}
 use Rattle.crx_engine.proofs.damage.DamageStays.{saved-lines}
 use Rattle.crx_filter.specs.meaning.Promises.{IsPromiseKept, BringsBackWhatWasCompacted, SavesAllElse, JudgesStandard}
-use Rattle.crx_filter.specs.meaning.Spans.{Input, Device}
-use Rattle.crx_filter.specs.meaning.Runs.{IsResult, RunsAs}
+use Rattle.crx_runs.specs.meaning.Spans.{Input, Device}
+use Rattle.crx_runs.specs.meaning.Runs.{IsResult, RunsAs}
 
 -- a promise that the result of each whole input keeps is kept by a run
 pub kept : (result_of : List ℕ → FilterResult) (filter : Filter) (promise : List ℕ

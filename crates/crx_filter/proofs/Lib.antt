@@ -1,9 +1,1 @@
-pub mod TakingTwice
-pub mod RunningSteps
-pub mod StepReading
-pub mod StepLemmas
-pub mod WorkLemmas
-pub mod Salvaged
-pub mod RunEndings
-pub mod Conclusions
 pub mod Kept

@@ -1,19 +1,19 @@
 //! The check of a RINEX file.
 
 ghost use Rattle.std.specs.Prelude.{◌≡◌, ℕ, List, [], None, Some};
-ghost use Rattle.crx_lines.specs.declared.fault.At.{At};
+ghost use Rattle.crx_faults.specs.declared.fault.At.{At};
 ghost use Rattle.crx_engine.specs.CheckerState.{CheckerHasTaken, CheckerIsOpen, pending_report};
 ghost use Rattle.crx_reading.specs.meaning.Directions.{check_filter};
 ghost use Rattle.crx_filter.specs.meaning.Promises.{JudgesStandard, Keeps};
-ghost use Rattle.crx_filter.specs.meaning.Runs.{Runs};
+ghost use Rattle.crx_runs.specs.meaning.Runs.{Runs};
 ghost use Rattle.crx_reading.specs.meaning.Standard.{checked, report_status};
-ghost use Rattle.crx_filter.specs.meaning.Spans.{span};
-ghost use Rattle.crx_filter.specs.meaning.Spans.{reader_span};
+ghost use Rattle.crx_runs.specs.meaning.Spans.{span};
+ghost use Rattle.crx_runs.specs.meaning.Spans.{reader_span};
 
-use crate::outcome::Outcome;
-use crate::run::run;
 use crx_engine::checker::Checker;
-use crx_text::{Sink, Source};
+use crx_lines::{Sink, Source};
+use crx_runs::Outcome;
+use crx_runs::run::run;
 use std::alloc::Global;
 
 /// What a check answers: where no fault ended it, the status says whether the file is standard.

@@ -5,21 +5,21 @@ ghost use Rattle.crx_reading.specs.meaning.Compacted.{compacted};
 ghost use Rattle.crx_reading.specs.meaning.Directions.{compaction_filter, expansion_filter};
 ghost use Rattle.crx_reading.specs.meaning.Expanded.{expanded};
 ghost use Rattle.crx_filter.specs.meaning.Promises.{BringsBackWhatWasCompacted, Keeps, SavesAllElse};
-ghost use Rattle.crx_filter.specs.meaning.Runs.{Runs};
-ghost use Rattle.crx_filter.specs.meaning.Spans.{span};
-ghost use Rattle.crx_filter.specs.meaning.Spans.{reader_span};
+ghost use Rattle.crx_runs.specs.meaning.Runs.{Runs};
+ghost use Rattle.crx_runs.specs.meaning.Spans.{span};
+ghost use Rattle.crx_runs.specs.meaning.Spans.{reader_span};
 
-use crate::outcome::Outcome;
-use crate::start::start;
 use crx_engine::{Compactor, Expander, Options};
-use crx_text::{Sink, Source};
+use crx_lines::{Sink, Source};
+use crx_runs::Outcome;
+use crx_runs::start::start;
 use std::alloc::Global;
 
 /// Compacts a RINEX 3.0x observation file into Compact RINEX 3.0: reads it once from front to back, writes each line as soon as it
 /// is ready, and reports warnings and the fault that ends the run, one line each.
 ///
 /// Where no device failed and memory didn't run out, the output, the messages, the status and the fault are those of the compaction of
-/// the whole input, of at most [`INPUT_LIMIT`](crx_lines::limits::INPUT_LIMIT) bytes. `ReadFailed`, `WriteFailed`, `InputTooLong` and
+/// the whole input, of at most [`INPUT_LIMIT`](crx_faults::limits::INPUT_LIMIT) bytes. `ReadFailed`, `WriteFailed`, `InputTooLong` and
 /// `OutOfMemory` come where a device or memory failed or the input is longer; what was written by then is a prefix of the defined output.
 #[inline(never)]
 pub fn compact<R: Source, W: Sink, M: Sink>(
@@ -46,7 +46,7 @@ pub fn compact<R: Source, W: Sink, M: Sink>(
 /// Expands Compact RINEX 3.0 into RINEX 3.0x, in the same way; of the options it uses alone whether faults are skipped.
 ///
 /// Where no device failed and memory didn't run out, the output, the messages, the status and the fault are those of the expansion of
-/// the whole input, of at most [`INPUT_LIMIT`](crx_lines::limits::INPUT_LIMIT) bytes. `ReadFailed`, `WriteFailed`, `InputTooLong` and
+/// the whole input, of at most [`INPUT_LIMIT`](crx_faults::limits::INPUT_LIMIT) bytes. `ReadFailed`, `WriteFailed`, `InputTooLong` and
 /// `OutOfMemory` come where a device or memory failed or the input is longer; what was written by then is a prefix of the defined output.
 #[inline(never)]
 pub fn expand<R: Source, W: Sink, M: Sink>(

@@ -3,19 +3,8 @@
 
 mod checks;
 mod filters;
-mod finish;
-pub mod message;
-pub mod outcome;
-mod ready;
-mod run;
-mod start;
-mod step;
-pub mod taking;
-pub mod until_failure;
-mod work;
 
 pub use checks::check;
-pub use crx_engine::{BadDate, Compactor, Expander, Options, Step};
+pub use crx_engine::{BadDate, Compactor, Expander, Options};
+pub use crx_runs::{Outcome, Step, UntilFailure};
 pub use filters::{compact, expand};
-pub use outcome::Outcome;
-pub use until_failure::UntilFailure;

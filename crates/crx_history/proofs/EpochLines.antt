@@ -6,10 +6,10 @@ use Rattle.std.specs.Str.{bytes_eq}
 use Rattle.std.proofs.Common.{ap, subst, sym, ◌∙◌}
 use Rattle.std.proofs.lemmas.Bool.{and_from}
 use Rattle.crx_columns.specs.meaning.Columns.{is_blank, columns}
-use Rattle.crx_rinex.specs.meaning.ObservationTypes.{Count}
+use Rattle.crx_header.specs.meaning.ObservationTypes.{Count}
 use Rattle.crx_rinex.specs.meaning.Epochs.{is_among, are_apart}
-use Rattle.crx_lines.specs.declared.fault.Fault.{Fault}
-use Rattle.crx_lines.specs.declared.fault.Fault.TheVariants.{BadEpoch, BadSatellite, RepeatedSatellite}
+use Rattle.crx_faults.specs.declared.fault.Fault.{Fault}
+use Rattle.crx_faults.specs.declared.fault.Fault.TheVariants.{BadEpoch, BadSatellite, RepeatedSatellite}
 use Rattle.crx_arcs.specs.meaning.Sequences.{before_all}
 use Rattle.crx_rinex.specs.meaning.EpochLines.{epoch_count}
 use Rattle.crx_columns.specs.meaning.Texts.{is_printable}
@@ -24,9 +24,9 @@ use Rattle.crx_rinex.proofs.Apart.{apart-map}
 use Rattle.crx_history.specs.Tails.{Tail}
 use Rattle.crx_history.specs.HeldRows.{past_of_tail}
 use Rattle.crx_history.specs.RowsSoFar.{AreAnnounced}
-use Rattle.crx_rinex.proofs.EachPlace.{length-each_place}
+use Rattle.crx_columns.proofs.EachPlace.{length-each_place}
 use Rattle.crx_columns.specs.Texts.{patched}
-use Rattle.crx_lines.specs.declared.limits.TheConstants.{HEAD_WIDTH, NAME_WIDTH}
+use Rattle.crx_faults.specs.declared.limits.TheConstants.{HEAD_WIDTH, NAME_WIDTH}
 
 -- whether no identifier stands twice
 abbrev pub differ : List (List ℕ) → Bool

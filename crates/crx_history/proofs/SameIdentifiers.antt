@@ -4,14 +4,14 @@ use Rattle.std.specs.Prelude.{Result, Err, if◌then◌else◌}
 use Rattle.std.specs.List.{list_all}
 use Rattle.std.proofs.Common.{sym, ◌∙◌, ap, arith}
 use Rattle.std.proofs.lemmas.List.{drop-drop, length-map}
-use Rattle.crx_lines.specs.declared.limits.TheConstants.{HEAD_WIDTH, NAME_WIDTH}
-use Rattle.crx_lines.specs.declared.fault.Fault.{Fault}
-use Rattle.crx_lines.specs.declared.fault.Fault.TheVariants.{BadEpoch}
+use Rattle.crx_faults.specs.declared.limits.TheConstants.{HEAD_WIDTH, NAME_WIDTH}
+use Rattle.crx_faults.specs.declared.fault.Fault.{Fault}
+use Rattle.crx_faults.specs.declared.fault.Fault.TheVariants.{BadEpoch}
 use Rattle.crx_columns.specs.meaning.Columns.{columns, is_blank}
-use Rattle.crx_rinex.specs.meaning.ObservationTypes.{Count}
-use Rattle.crx_rinex.specs.meaning.EachPlace.{each_place}
+use Rattle.crx_header.specs.meaning.ObservationTypes.{Count}
+use Rattle.crx_columns.specs.meaning.EachPlace.{each_place}
 use Rattle.crx_rinex.specs.meaning.EpochLines.{epoch_count}
-use Rattle.crx_rinex.proofs.EachPlace.{each_place-same, length-each_place}
+use Rattle.crx_columns.proofs.EachPlace.{each_place-same, length-each_place}
 use Rattle.crx_history.specs.meaning.CompactPlaces.{satellites_counted, satellites_of_text}
 use Rattle.crx_history.specs.meaning.EpochText.{Satellite, names_in, satellites_named}
 use Rattle.crx_history.specs.meaning.Past.{Past, past_of_block}

@@ -6,8 +6,8 @@ use Rattle.std.specs.Result.{is_ok}
 use Rattle.std.proofs.Common.{sym, ◌∙◌, ap, arith, true≢false, get_or}
 use Rattle.std.proofs.lemmas.Option.{slice_get_within, same_Some, slice_get-map}
 use Rattle.std.proofs.lemmas.List.{take_all, length-map, length-take-le, map-append, take-map, take-take}
-use Rattle.crx_lines.specs.declared.fault.Fault.{Fault}
-use Rattle.crx_lines.specs.declared.fault.Fault.TheVariants.{BadEpoch}
+use Rattle.crx_faults.specs.declared.fault.Fault.{Fault}
+use Rattle.crx_faults.specs.declared.fault.Fault.TheVariants.{BadEpoch}
 use Rattle.crx_rinex.specs.meaning.EpochLines.{ObservationHead, satellites_of, epoch_count}
 use Rattle.crx_rinex.specs.Epochs.{begun, is_full_epoch, with_row}
 use Rattle.crx_rinex.specs.meaning.Epochs.{has_satellite, is_among, are_apart}
@@ -17,11 +17,11 @@ use Rattle.crx_history.specs.RowsSoFar.{AreRowsSoFar}
 use Rattle.crx_history.proofs.Results.{ok-same, no-err}
 use Rattle.crx_rinex.specs.meaning.Observations.{Row, Epoch}
 use Rattle.crx_history.specs.meaning.EpochText.{Satellite}
-use Rattle.crx_arcs.proofs.PlaceByPlace.{value-there}
+use Rattle.crx_cells.proofs.PlaceByPlace.{value-there}
 use Rattle.std.specs.Option.{option_map}
 use Rattle.std.proofs.lemmas.Simd.{map-map}
 use Rattle.crx_columns.specs.meaning.Columns.{columns}
-use Rattle.crx_lines.specs.declared.limits.TheConstants.{HEAD_WIDTH}
+use Rattle.crx_faults.specs.declared.limits.TheConstants.{HEAD_WIDTH}
 use Rattle.crx_history.specs.ShownRows.{shown_epoch, shown_row}
 use Rattle.crx_arcs.specs.ArcSteps.{shown_value}
 use Rattle.crx_history.proofs.Making.{taken_more}

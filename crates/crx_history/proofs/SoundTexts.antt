@@ -5,12 +5,12 @@ use Rattle.std.specs.List.{list_all}
 use Rattle.std.proofs.lemmas.Bool.Decides.{Decides-eqb}
 use Rattle.std.proofs.lemmas.Bool.{and_parts}
 use Rattle.std.proofs.Common.{ap, arith, inl, inr, length-append, ◌∙◌, sym}
-use Rattle.crx_lines.specs.declared.limits.TheConstants.{LINE_LIMIT}
+use Rattle.crx_faults.specs.declared.limits.TheConstants.{LINE_LIMIT}
 use Rattle.std.specs.Prelude.{◌<◌, ◌+◌, ◌-◌, ◌++◌, ◌⊎◌, replicate}
 use Rattle.crx_columns.specs.Texts.{character_of, patched}
-use Rattle.crx_rinex.specs.meaning.ObservationTypes.{IsAllowedCount}
+use Rattle.crx_header.specs.meaning.ObservationTypes.{IsAllowedCount}
 use Rattle.crx_rinex.proofs.SoundEpochs.{length-columns}
-use Rattle.crx_arcs.proofs.PlaceByPlace.{at-padded, at-take}
+use Rattle.crx_cells.proofs.PlaceByPlace.{at-padded, at-take}
 use Rattle.crx_history.proofs.Characters.{at-take_past, within-or_past}
 use Rattle.crx_columns.specs.meaning.Columns.{character_at, columns, is_blank, without_end_blanks, before_end_blanks}
 use Rattle.crx_rinex.specs.meaning.Observations.{Row, Epoch}

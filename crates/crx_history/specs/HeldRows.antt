@@ -2,14 +2,14 @@
 use Rattle.std.specs.Prelude.{◌≡◌, ◌≤◌, ℕ, true, List, length, ◌+◌, ◌++◌, ◌∷◌, map, take, [], Option, None, Some}
 use Rattle.std.specs.Prelude.{Result, Ok, slice_get, slice_set, Bool}
 use Rattle.std.specs.List.{list_all}
-use Rattle.crx_lines.specs.declared.limits.TheConstants.{LINE_LIMIT, OBSERVATION_WIDTH, CLOCK_WIDTH}
-use Rattle.crx_rinex.specs.meaning.ObservationTypes.{IsAllowedCount}
+use Rattle.crx_faults.specs.declared.limits.TheConstants.{LINE_LIMIT, OBSERVATION_WIDTH, CLOCK_WIDTH}
+use Rattle.crx_header.specs.meaning.ObservationTypes.{IsAllowedCount}
 use Rattle.crx_rinex.specs.meaning.SatelliteLines.{is_identifier}
 use Rattle.crx_history.specs.meaning.EpochText.{Satellite}
 use Rattle.crx_columns.specs.meaning.Texts.{is_kept}
 use Rattle.crx_rinex.specs.meaning.Epochs.{are_apart}
 use Rattle.crx_columns.specs.Texts.{patched}
-use Rattle.crx_lines.specs.declared.fault.Fault.{Fault}
+use Rattle.crx_faults.specs.declared.fault.Fault.{Fault}
 use Rattle.crx_arcs.specs.meaning.Sequences.{and_then}
 use Rattle.crx_history.specs.meaning.Past.{Past}
 use Rattle.crx_history.specs.meaning.CompactPlaces.{ReadRow, satellite_line_read}
@@ -17,7 +17,7 @@ use Rattle.crx_arcs.specs.ArcTails.{ArcTail}
 use Rattle.crx_history.specs.Tails.{RowTail, Tail}
 use Rattle.crx_history.specs.Steps.{flags_of_tail, flags_held, tail_named, cell_of_tail, raw_row_tail_after}
 use Rattle.crx_history.specs.ShownRows.{shown_row}
-use Rattle.crx_arcs.specs.Cells.{arcs_of_codes, value_at_place}
+use Rattle.crx_cells.specs.Cells.{arcs_of_codes, value_at_place}
 use Rattle.crx_rinex.specs.meaning.Observations.{Row}
 use Rattle.crx_arcs.specs.ArcSteps.{value_of_code}
 

@@ -1,6 +1,6 @@
 -- Lines one after another in one text, each followed by LF.
 use Rattle.std.specs.Prelude.{◌≡◌, ◌≤◌, ℕ, suc, List, [], ◌∷◌, length, take, drop}
-pub use Rattle.crx_rinex.specs.meaning.Printing.{lines_text}
+pub use Rattle.crx_faults.specs.meaning.Lines.{lines_text}
 
 -- the lines of these lengths in a text in which one character follows each of them
 abbrev pub cut : List ℕ → List ℕ → List (List ℕ)

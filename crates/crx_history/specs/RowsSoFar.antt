@@ -1,16 +1,16 @@
 -- The satellites of an epoch text, the clock, and the rows of which so many have come, as a history shows them.
 use Rattle.std.specs.Prelude.{◌≡◌, ℕ, ◌≤◌, List, length, map, take, drop, true, Some, Ok}
 use Rattle.crx_columns.specs.meaning.Columns.{columns}
-use Rattle.crx_lines.specs.declared.limits.TheConstants.{HEAD_WIDTH}
+use Rattle.crx_faults.specs.declared.limits.TheConstants.{HEAD_WIDTH}
 use Rattle.crx_rinex.specs.meaning.Observations.{Row, Epoch}
 use Rattle.crx_history.specs.meaning.EpochText.{Satellite}
 use Rattle.crx_rinex.specs.meaning.EpochLines.{epoch_count}
 use Rattle.crx_history.specs.Tails.{Tail}
 use Rattle.crx_history.specs.HeldRows.{past_of_tail}
 use Rattle.crx_rinex.specs.meaning.Epochs.{are_apart}
-use Rattle.crx_arcs.specs.meaning.Cells.{ReadCell}
+use Rattle.crx_cells.specs.meaning.Cells.{ReadCell}
 use Rattle.crx_history.specs.meaning.CompactPlaces.{clock_line_read, satellites_of_text}
-use Rattle.crx_rinex.specs.meaning.ObservationTypes.{Count}
+use Rattle.crx_header.specs.meaning.ObservationTypes.{Count}
 use Rattle.crx_arcs.specs.ArcSteps.{arc_of_code, shown_value}
 
 -- the satellites of an epoch text: as many as its columns announce, and no two of one identifier

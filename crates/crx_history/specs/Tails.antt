@@ -3,9 +3,9 @@ use Rattle.std.specs.Prelude.{◌≡◌, ℕ, List, [], ◌∷◌, map, length, 
 use Rattle.std.specs.List.{AllByRecursion}
 use Rattle.crx_columns.specs.meaning.Columns.{without_end_blanks}
 use Rattle.crx_rinex.specs.meaning.Observations.{Row}
-use Rattle.crx_lines.specs.declared.limits.TheConstants.{WRITTEN_ORDER, TYPES_LIMIT, SATELLITES_LIMIT, HEAD_WIDTH}
-use Rattle.crx_lines.specs.declared.limits.TheConstants.{NAME_WIDTH}
-use Rattle.crx_rinex.specs.meaning.EachPlace.{each_place}
+use Rattle.crx_faults.specs.declared.limits.TheConstants.{WRITTEN_ORDER, TYPES_LIMIT, SATELLITES_LIMIT, HEAD_WIDTH}
+use Rattle.crx_faults.specs.declared.limits.TheConstants.{NAME_WIDTH}
+use Rattle.crx_columns.specs.meaning.EachPlace.{each_place}
 use Rattle.crx_history.specs.meaning.Compaction.{Marked, run_of, arc_of, clock_arc, newest_text}
 use Rattle.crx_history.specs.meaning.Expansion.{RawEpoch, RawRow, block_of, raw_run_of, marks_of, overlaid, code_in}
 use Rattle.crx_arcs.specs.meaning.ArcValues.{since_start}

@@ -3,18 +3,17 @@
 ghost use Rattle.std.specs.Bool.{OnTrue};
 ghost use Rattle.std.specs.Prelude.{◌≡◌, ◌≤◌, ◌⊎◌, ◌+◌, ◌++◌, ◌∷◌, [], true, false, Some, Ok, Err, drop, length, slice_get, take, map, OnOk, IfErr};
 ghost use Rattle.crx_columns.specs.meaning.Columns.{columns};
-ghost use Rattle.crx_lines.specs.declared.limits.TheConstants.{HEAD_WIDTH, LINE_LIMIT, SATELLITES_LIMIT};
+ghost use Rattle.crx_faults.specs.declared.limits.TheConstants.{HEAD_WIDTH, LINE_LIMIT, SATELLITES_LIMIT};
 ghost use Rattle.crx_rinex.specs.meaning.EpochLines.{epoch_count};
-ghost use Rattle.crx_rinex.specs.meaning.ObservationTypes.{IsAllowedCount};
+ghost use Rattle.crx_header.specs.meaning.ObservationTypes.{IsAllowedCount};
 ghost use Rattle.crx_rinex.specs.meaning.SatelliteLines.{is_identifier};
 ghost use Rattle.crx_history.specs.meaning.CompactPlaces.{satellites_of_text};
 ghost use Rattle.crx_history.specs.meaning.EpochText.{Satellite, names_in, satellites_named};
 
-use crx_lines::limits::{HEAD_WIDTH, LINE_LIMIT, NAME_WIDTH, SATELLITES_LIMIT};
-use crx_rinex::{
-    EpochLine, Identifiers, Types, after_columns, all_blank, identifier, padded, types_of_satellite,
-};
-use crx_text::Fault;
+use crx_faults::Fault;
+use crx_faults::limits::{HEAD_WIDTH, LINE_LIMIT, NAME_WIDTH, SATELLITES_LIMIT};
+use crx_header::{Types, after_columns, all_blank, identifier, padded};
+use crx_rinex::{EpochLine, Identifiers, types_of_satellite};
 use std::alloc::{AllocError, Global};
 use std::marker::Model;
 
@@ -74,7 +73,7 @@ pub struct AwaitedSatellites {
 
 impl Model for AwaitedSatellites {
     ghost use Rattle.std.specs.Prelude.{◌≡◌, ◌≤◌, List, true, length};
-    ghost use Rattle.crx_lines.specs.declared.limits.TheConstants.{SATELLITES_LIMIT};
+    ghost use Rattle.crx_faults.specs.declared.limits.TheConstants.{SATELLITES_LIMIT};
     ghost use Rattle.crx_history.specs.meaning.EpochText.{Satellite};
     ghost use Rattle.crx_history.specs.RowsSoFar.{WereRead};
 

@@ -6,7 +6,7 @@ ghost use Rattle.std.specs.List.{flat_map, list_all};
 ghost use Rattle.std.specs.Result.{is_ok};
 ghost use Rattle.crx_columns.specs.meaning.Columns.{without_end_blanks};
 ghost use Rattle.crx_columns.specs.meaning.Texts.{is_kept, is_printable};
-ghost use Rattle.crx_lines.specs.declared.limits.TheConstants.{LINE_LIMIT, NAME_WIDTH, SATELLITES_LIMIT};
+ghost use Rattle.crx_faults.specs.declared.limits.TheConstants.{LINE_LIMIT, NAME_WIDTH, SATELLITES_LIMIT};
 ghost use Rattle.crx_rinex.specs.meaning.EpochLines.{begins_epoch};
 ghost use Rattle.crx_rinex.specs.meaning.Observations.{Row};
 ghost use Rattle.crx_rinex.specs.meaning.Epochs.{IsSoundEpoch};
@@ -19,7 +19,7 @@ ghost use Rattle.crx_history.specs.Steps.{lines_after_tail, no_tail, row_line_in
 ghost use Rattle.crx_arcs.specs.meaning.Sequences.{named};
 ghost use Rattle.crx_history.specs.Tails.{RowTail};
 ghost use Rattle.crx_columns.specs.meaning.Columns.{columns};
-ghost use Rattle.crx_lines.specs.declared.limits.TheConstants.{HEAD_WIDTH};
+ghost use Rattle.crx_faults.specs.declared.limits.TheConstants.{HEAD_WIDTH};
 ghost use Rattle.crx_rinex.specs.meaning.EpochLines.{epoch_count};
 ghost use Rattle.crx_rinex.specs.meaning.Epochs.{has_satellite};
 ghost use Rattle.crx_rinex.specs.Epochs.{is_full_epoch, with_row};
@@ -34,13 +34,12 @@ use crate::held::{HeldSatellite, find, push_change, push_code};
 use crate::lines::Lines;
 use crate::refusals::fault_of_text;
 use crx_arcs::arc::ClockArc;
-use crx_lines::limits::{HEAD_WIDTH, LINE_LIMIT, NAME_WIDTH, SATELLITES_LIMIT};
-use crx_rinex::{
-    Epoch, EpochLine, Identifiers, SatRow, Types, after_columns, begins_epoch, is_same_identifier,
-    padded, print_head, put_identifier,
-};
+use crx_faults::Fault;
+use crx_faults::limits::{HEAD_WIDTH, LINE_LIMIT, NAME_WIDTH, SATELLITES_LIMIT};
+use crx_header::{Types, after_columns, is_same_identifier, padded, put_identifier};
+use crx_rinex::{Epoch, EpochLine, Identifiers, SatRow, begins_epoch, print_head};
 use crx_text::difference::patch_bytes;
-use crx_text::{Fault, Text, code_read, trim_end};
+use crx_text::{Text, code_read, trim_end};
 use std::alloc::{AllocError, Global};
 use std::marker::Model;
 
@@ -67,7 +66,7 @@ pub struct KeptEpoch {
 
 impl Model for KeptEpoch {
     ghost use Rattle.std.specs.Prelude.{◌≤◌, length};
-    ghost use Rattle.crx_lines.specs.declared.limits.TheConstants.{LINE_LIMIT, SATELLITES_LIMIT};
+    ghost use Rattle.crx_faults.specs.declared.limits.TheConstants.{LINE_LIMIT, SATELLITES_LIMIT};
     ghost use Rattle.crx_history.specs.HeldRows.{AreApart, ArePlaced};
     ghost use Rattle.crx_history.specs.Tails.{Tail};
 

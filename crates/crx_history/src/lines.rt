@@ -4,9 +4,9 @@ ghost use Rattle.std.specs.Prelude.{ℕ, ◌≡◌, ◌≤◌, ◌<◌, ◌+◌,
 ghost use Rattle.std.specs.Borrow.{sem};
 ghost use Rattle.std.specs.Io.BufRead.{Rests};
 ghost use Rattle.std.specs.Option.{option_copied};
-ghost use Rattle.crx_lines.specs.declared.limits.TheConstants.{LINE_LIMIT};
+ghost use Rattle.crx_faults.specs.declared.limits.TheConstants.{LINE_LIMIT};
 ghost use Rattle.crx_columns.specs.meaning.Columns.{without_end_blanks};
-ghost use Rattle.crx_arcs.specs.Cells.{arcs_of_row, codes_of_row};
+ghost use Rattle.crx_cells.specs.Cells.{arcs_of_row, codes_of_row};
 ghost use Rattle.crx_history.specs.meaning.Compaction.{line_of_codes};
 ghost use Rattle.crx_history.specs.LineLists.{lines_text};
 ghost use Rattle.crx_history.specs.contracts.lines.Lines.{the_row};
@@ -15,8 +15,8 @@ ghost use Rattle.crx_history.specs.ShownRows.{shown_row};
 
 use crate::held::HeldSatellite;
 use crx_arcs::arc::ObsArc;
-use crx_arcs::cells::CELL_ROOM;
-use crx_lines::limits::{CELL_WIDTH, NAME_WIDTH};
+use crx_cells::cells::CELL_ROOM;
+use crx_faults::limits::{CELL_WIDTH, NAME_WIDTH};
 use crx_rinex::SatRow;
 use crx_text::Text;
 use crx_text::block::{grow, put_line};

@@ -3,16 +3,15 @@
 
 ghost use Rattle.std.specs.Prelude.{◌≡◌, ◌≤◌, ◌⊎◌, List, [], ℕ, Err, true};
 ghost use Rattle.std.specs.Result.{is_ok};
-ghost use Rattle.crx_lines.specs.declared.limits.TheConstants.{SATELLITES_LIMIT};
+ghost use Rattle.crx_faults.specs.declared.limits.TheConstants.{SATELLITES_LIMIT};
 ghost use Rattle.crx_rinex.specs.meaning.Epochs.{is_among};
 ghost use Rattle.crx_history.specs.meaning.CompactPlaces.{satellites_of_text};
 ghost use Rattle.crx_history.specs.meaning.EpochText.{names_in, satellites_named};
 
-use crx_lines::limits::{HEAD_WIDTH, NAME_WIDTH};
-use crx_rinex::{
-    EpochLine, Types, after_columns, all_blank, identifier, padded, types_of_satellite,
-};
-use crx_text::Fault;
+use crx_faults::Fault;
+use crx_faults::limits::{HEAD_WIDTH, NAME_WIDTH};
+use crx_header::{Types, after_columns, all_blank, identifier, padded};
+use crx_rinex::{EpochLine, types_of_satellite};
 
 /// Whether an identifier is one of the first so many of an epoch text.
 fn is_among_first(text: &[u8], count: usize, name: [u8; NAME_WIDTH]) -> bool

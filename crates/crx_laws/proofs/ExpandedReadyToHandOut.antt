@@ -6,15 +6,15 @@ use Rattle.std.specs.List.{AllByRecursion}
 use Rattle.std.proofs.lemmas.List.{length-map}
 use Rattle.std.proofs.lemmas.List.Elements.{All-head, All-tail}
 use Rattle.crx_text.specs.meaning.Numbers.{clock_text}
-use Rattle.crx_lines.specs.meaning.Seen.{ReadLine, Content, Overlong}
-use Rattle.crx_lines.specs.declared.fault.At.{At}
-use Rattle.crx_lines.specs.declared.fault.Fault.{Fault}
-use Rattle.crx_lines.specs.declared.fault.Fault.TheVariants.{BadEpoch}
-use Rattle.crx_lines.specs.declared.limits.TheConstants.{LINE_LIMIT, NAME_WIDTH, CELL_WIDTH, TYPES_LIMIT}
+use Rattle.crx_faults.specs.meaning.Seen.{ReadLine, Content, Overlong}
+use Rattle.crx_faults.specs.declared.fault.At.{At}
+use Rattle.crx_faults.specs.declared.fault.Fault.{Fault}
+use Rattle.crx_faults.specs.declared.fault.Fault.TheVariants.{BadEpoch}
+use Rattle.crx_faults.specs.declared.limits.TheConstants.{LINE_LIMIT, NAME_WIDTH, CELL_WIDTH, TYPES_LIMIT}
 use Rattle.crx_rinex.specs.meaning.Observations.{Row, Epoch}
 use Rattle.crx_rinex.specs.meaning.EpochLines.{is_event_line, records_in, satellites_of}
 use Rattle.crx_rinex.specs.meaning.Epochs.{IsWholeEpoch}
-use Rattle.crx_rinex.specs.meaning.ObservationTypes.{Count}
+use Rattle.crx_header.specs.meaning.ObservationTypes.{Count}
 use Rattle.crx_rinex.specs.meaning.Places.{Place, Here, Wrong, Wanted, one_line, first_line}
 use Rattle.crx_rinex.specs.meaning.Printing.{printed_cells, printed_row, printed_head, printed_epoch}
 use Rattle.crx_rinex.specs.meaning.SatelliteLines.{IsSoundRow}
@@ -22,7 +22,7 @@ use Rattle.crx_rinex.specs.meaning.Units.{Unit as FileUnit, HeaderLine, EventLin
 use Rattle.crx_rinex.proofs.ReadingBack.{length-row, length-head}
 use Rattle.crx_history.specs.meaning.CompactPlaces.{ReadEpoch, epoch_at}
 use Rattle.crx_compact.specs.ReadingLaws.{IsGood}
-use Rattle.crx_reading.specs.meaning.Choices.{Choices}
+use Rattle.crx_options.specs.meaning.Choices.{Choices}
 use Rattle.crx_reading.specs.meaning.Items.{Item, Accepted, Warned, is_at_start, header_has_ended, records_left}
 use Rattle.crx_reading.specs.meaning.Items.{records_count_types, types_in_force}
 use Rattle.crx_reading.specs.meaning.UnitPlaces.{unless_wrong, types_fault, header_line_fault, header_line}
@@ -33,7 +33,7 @@ use Rattle.crx_reading.specs.meaning.Expanded.{raws_kept, event_line, as_observa
 use Rattle.crx_reading.specs.meaning.Expanded.{compact_place}
 use Rattle.crx_reading.specs.meaning.Expanded.{first_lines, expanded_unit}
 use Rattle.crx_reading.specs.meaning.Directions.{compact_reading}
-use Rattle.crx_engine.specs.Bounds.{AreReadyToHandOut, OfUnits, longest_printed, IsNotTooLong, ExpandedIsReadyToHandOut}
+use Rattle.crx_laws.specs.Bounds.{AreReadyToHandOut, OfUnits, longest_printed, IsNotTooLong, ExpandedIsReadyToHandOut}
 use Rattle.crx_reading.proofs.Choosing.{by_bool}
 use Rattle.crx_engine.proofs.reading.Resuming.{by_place, within-here, within-wrong, within-wanted}
 use Rattle.crx_engine.proofs.reading.Resuming.{fault-skipped, fault-ends, looked-here, looked-on}

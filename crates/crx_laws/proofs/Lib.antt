@@ -1,1 +1,6 @@
+pub mod reading
+pub mod soundness
+pub mod wayback
+pub mod output
 pub mod ExpandedReadyToHandOut
+pub mod OpenSound

@@ -1,1 +1,5 @@
 pub mod SmallFiles
+pub mod Examples
+pub mod BorrowedLines
+pub mod NormalForm
+pub mod Bounds

@@ -1,11 +1,15 @@
-//! The laws of what Compact RINEX and both filters mean, each the contract of a function that does nothing.
+//! The laws of lines, of RINEX and Compact RINEX, and of what both filters and the check mean. Each is the contract of a function that does
+//! nothing, but for the way back through `Columns`, which reads what was written.
 #![tactic(auto)]
 
 pub mod checking_laws;
 pub mod compact_laws;
 pub mod compact_reading;
 pub mod filter_laws;
+pub mod line_laws;
 pub mod normal_form;
+pub mod read_back;
+pub mod reading_back;
 pub mod rinex_laws;
 pub mod salvage;
 pub mod way_back;

@@ -1,13 +1,13 @@
 //! The way back: each law is the contract of a function that does nothing.
 
 ghost use Rattle.std.specs.Prelude.{◌≡◌, ◌∷◌, ◌++◌, [], List, ℕ, None, true, codes, map};
-ghost use Rattle.crx_lines.specs.meaning.Seen.{seen};
-ghost use Rattle.crx_lines.specs.meaning.Lines.{lines_of};
-ghost use Rattle.crx_reading.specs.meaning.Choices.{Choices, is_date};
+ghost use Rattle.crx_faults.specs.meaning.Seen.{seen};
+ghost use Rattle.crx_faults.specs.meaning.Lines.{lines_of};
+ghost use Rattle.crx_options.specs.meaning.Choices.{Choices, is_date};
 ghost use Rattle.crx_reading.specs.meaning.Compacted.{whole_rinex, compacted};
 ghost use Rattle.crx_reading.specs.meaning.Expanded.{expanded};
 ghost use Rattle.crx_laws.specs.SmallFiles.{blanks, header, epoch_line_at, observed, line_at, plain_choices};
-ghost use Rattle.crx_rinex.specs.meaning.Printing.{lines_text};
+ghost use Rattle.crx_faults.specs.meaning.Lines.{lines_text};
 ghost use Rattle.crx_reading.specs.meaning.Standard.{whole_of, IsStandard};
 ghost use Rattle.crx_engine.specs.WayBack.{ComesBack, NormalFormComesBack, StandardComesBack, IsStandardWhereSame};
 ghost use Rattle.crx_reading.specs.meaning.WayBack.{HaveNoReturns};

@@ -3,10 +3,7 @@
 #![tactic(auto)]
 
 pub mod device;
-pub mod fault;
 pub mod feed;
-pub mod laws;
-pub mod limits;
 pub mod line;
 pub mod phase;
 mod seek;
@@ -14,6 +11,5 @@ mod window;
 pub mod write;
 
 pub use device::{ReadFailed, Sink, Source, Std, WriteFailed, open_file};
-pub use fault::{At, Fault};
 pub use line::{Line, LineReader};
 pub use write::write_all_counted;

@@ -1,6 +1,6 @@
 //! How far the reading of an input is.
 
-use crate::fault::At;
+use crx_faults::At;
 
 /// Whether lines may come.
 #[derive(Clone, Copy, Debug, PartialEq, Eq)]

@@ -2,8 +2,8 @@
 use Rattle.std.proofs.Common.{◌≡◌, ℕ, List, Option, Some, None, is_some, subst, sym, true, true≢false}
 use Rattle.crx_lines.specs.declared.device.Sink.{Ghosts as SinkGhosts}
 use Rattle.crx_lines.specs.declared.device.Source.{Ghosts as SourceGhosts}
-use Rattle.crx_reading.specs.meaning.Choices.{Choices}
-use Rattle.crx_filter.specs.meaning.Spans.{Input, Device, reader_span}
+use Rattle.crx_options.specs.meaning.Choices.{Choices}
+use Rattle.crx_runs.specs.meaning.Spans.{Input, Device, reader_span}
 use Rattle.crx_program.specs.meaning.Jobs.{IsJobDone, IsFilteredFrom, IsFilteredInto, IsNotBegun}
 use Rattle.crx_command.specs.declared.job.Job.{Job}
 use Rattle.crx_command.specs.declared.job.Tool.{Tool}

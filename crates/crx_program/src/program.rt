@@ -2,19 +2,21 @@
 
 ghost use Rattle.std.specs.Prelude.{◌≡◌, ◌⊎◌, IfOk, is_some, map, string_bytes, true};
 ghost use Rattle.std.specs.Option.{option_map_or};
-ghost use Rattle.crx_reading.specs.meaning.Choices.{choices_of, is_date};
+ghost use Rattle.crx_options.specs.meaning.Choices.{choices_of, is_date};
 ghost use Rattle.crx_command.specs.meaning.Planning.{Help, Refusal, Refused, Run, plan_of};
 ghost use Rattle.crx_program.specs.meaning.Jobs.{is_unread, IsChosen, IsJobDone, IsFiltered, IsFilteredFrom, IsFilteredInto, IsFilteredToFile, IsNotBegun};
 ghost use Rattle.crx_program.specs.meaning.Program.{IsHelped, IsRefused, IsShown, at_start};
-ghost use Rattle.crx_filter.specs.meaning.Spans.{span, reader_span};
+ghost use Rattle.crx_runs.specs.meaning.Spans.{span, reader_span};
 
 use crate::refusal::{refuse, report, report_at_start};
 use crx_command::date::default_date;
 use crx_command::job::{Decision, Job, Tool};
 use crx_command::plan::plan;
 use crx_command::word::Word;
-use crx_filter::{Options, UntilFailure, check, compact, expand};
-use crx_text::{Fault, Sink, Source, Std, open_file, write_all_counted};
+use crx_faults::Fault;
+use crx_filter::{Options, check, compact, expand};
+use crx_lines::{Sink, Source, Std, open_file, write_all_counted};
+use crx_runs::UntilFailure;
 use std::alloc::{AllocError, Global};
 use std::fs::OpenOptions;
 use std::io::{BufWriter, ErrorKind, Write};

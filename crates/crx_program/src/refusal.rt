@@ -5,12 +5,13 @@ ghost use Rattle.crx_command.specs.meaning.Planning.{Refusal, Refused};
 ghost use Rattle.crx_command.specs.Planning.{plan_in};
 ghost use Rattle.crx_command.specs.meaning.ErrorLines.{error_line};
 ghost use Rattle.crx_program.specs.meaning.Program.{IsRefused, IsShown, IsShownOr, at_start};
-ghost use Rattle.crx_filter.specs.meaning.Spans.{span};
+ghost use Rattle.crx_runs.specs.meaning.Spans.{span};
 
 use crx_command::job::UsageFault;
 use crx_command::word::Word;
-use crx_filter::message::{Severity, message};
-use crx_text::{At, Fault, Sink, write_all_counted};
+use crx_faults::{At, Fault};
+use crx_lines::{Sink, write_all_counted};
+use crx_runs::message::{Severity, message};
 use std::alloc::Global;
 
 /// The exit status of a run that an error ended.

@@ -3,10 +3,10 @@ use Rattle.std.proofs.Common.{◌≡◌, inl, inr, Bool, true, List, [], ℕ, Op
 use Rattle.std.proofs.Common.{ap, ◌∙◌, true≢false, if◌then◌else◌, not}
 use Rattle.std.proofs.lemmas.Bool.{and_from}
 use Rattle.std.specs.Prelude.{◌&&◌, IfErr}
-use Rattle.crx_lines.specs.meaning.Seen.{Content}
-use Rattle.crx_lines.specs.declared.fault.Fault.{Fault}
+use Rattle.crx_faults.specs.meaning.Seen.{Content}
+use Rattle.crx_faults.specs.declared.fault.Fault.{Fault}
 use Rattle.crx_columns.specs.Texts.{patched}
-use Rattle.crx_rinex.specs.meaning.ObservationTypes.{Count}
+use Rattle.crx_header.specs.meaning.ObservationTypes.{Count}
 use Rattle.crx_rinex.specs.meaning.EpochLines.{begins_epoch, is_event_line}
 use Rattle.crx_history.specs.meaning.EpochText.{Satellite}
 use Rattle.crx_history.specs.Tails.{Tail}

@@ -9,10 +9,10 @@ use Rattle.std.specs.Result.{is_ok}
 use Rattle.std.proofs.lemmas.Bool.Decides.{nat_tests}
 use Rattle.crx_columns.specs.meaning.Columns.{columns, character_at, is_blank}
 use Rattle.crx_text.specs.meaning.Numbers.{clock_of}
-use Rattle.crx_lines.specs.meaning.Seen.{Content}
-use Rattle.crx_lines.specs.declared.fault.Fault.{Fault}
-use Rattle.crx_lines.specs.declared.fault.Fault.TheVariants.{NotAnEpoch}
-use Rattle.crx_lines.specs.declared.limits.TheConstants.{HEAD_WIDTH, CLOCK_WIDTH}
+use Rattle.crx_faults.specs.meaning.Seen.{Content}
+use Rattle.crx_faults.specs.declared.fault.Fault.{Fault}
+use Rattle.crx_faults.specs.declared.fault.Fault.TheVariants.{NotAnEpoch}
+use Rattle.crx_faults.specs.declared.limits.TheConstants.{HEAD_WIDTH, CLOCK_WIDTH}
 use Rattle.crx_rinex.specs.meaning.Observations.{Row, Epoch as ObservationEpoch}
 use Rattle.crx_rinex.specs.meaning.EpochLines.{HeadLine, EventHead, EpochHead, ObservationHead, begins_epoch}
 use Rattle.crx_rinex.specs.meaning.EpochLines.{is_event_flag, is_event_line, records_in, event_head, epoch_head}
@@ -21,7 +21,7 @@ use Rattle.crx_rinex.specs.meaning.EpochPlaces.{OpenEpoch, begun_by, beginning_o
 use Rattle.crx_rinex.specs.EpochPlaces.{Going, Whole, when_wanted, whole_or_going, after_row}
 use Rattle.crx_rinex.specs.Epochs.{begun, is_full_epoch, AddsRow}
 use Rattle.crx_rinex.specs.meaning.Epochs.{IsSoundEpoch}
-use Rattle.crx_rinex.specs.meaning.ObservationTypes.{Count}
+use Rattle.crx_header.specs.meaning.ObservationTypes.{Count}
 use Rattle.crx_rinex.specs.meaning.SatelliteLines.{row_of}
 use Rattle.crx_rinex.specs.meaning.Units.{EventLine}
 use Rattle.crx_reading.specs.CompactionByLine.{Written, compaction, epoch_written, is_next_row, is_whole_at_once}

@@ -4,10 +4,10 @@ use Rattle.std.proofs.Common.{ap, sym, ◌∙◌}
 use Rattle.std.specs.Prelude.{◌&&◌, is_none}
 use Rattle.std.specs.Option.{is_some}
 use Rattle.std.proofs.lemmas.Bool.{and_from}
-use Rattle.crx_lines.specs.declared.fault.Fault.{Fault}
-use Rattle.crx_lines.specs.declared.fault.Fault.TheVariants.{BadTypesLine, OutOfMemory}
-use Rattle.crx_rinex.specs.meaning.ObservationTypes.{is_types_line, is_bad_types_line, count_of_types_line, count_in}
-use Rattle.crx_rinex.specs.meaning.ObservationTypes.{Count}
+use Rattle.crx_faults.specs.declared.fault.Fault.{Fault}
+use Rattle.crx_faults.specs.declared.fault.Fault.TheVariants.{BadTypesLine, OutOfMemory}
+use Rattle.crx_header.specs.meaning.ObservationTypes.{is_types_line, is_bad_types_line, count_of_types_line, count_in}
+use Rattle.crx_header.specs.meaning.ObservationTypes.{Count}
 use Rattle.crx_reading.proofs.Choosing.{false-true}
 use Rattle.crx_reading.specs.meaning.UnitPlaces.{types_fault, first_fault}
 

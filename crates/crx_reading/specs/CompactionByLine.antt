@@ -2,17 +2,17 @@
 use Rattle.std.specs.Prelude.{ℕ, Bool, true, false, ◌+◌, List, [], ◌∷◌, ◌++◌, length, Option, Some, None, Result, Ok}
 use Rattle.std.specs.Prelude.{Err, if◌then◌else◌}
 use Rattle.std.specs.Result.{is_ok}
-use Rattle.crx_lines.specs.meaning.Seen.{ReadLine, Content}
-use Rattle.crx_lines.specs.declared.fault.Fault.{Fault}
+use Rattle.crx_faults.specs.meaning.Seen.{ReadLine, Content}
+use Rattle.crx_faults.specs.declared.fault.Fault.{Fault}
 use Rattle.crx_rinex.specs.meaning.Observations.{Epoch}
 use Rattle.crx_rinex.specs.meaning.Units.{Unit, HeaderLine, EventLine, EventRecord, Observation}
-use Rattle.crx_rinex.specs.meaning.ObservationTypes.{Count}
+use Rattle.crx_header.specs.meaning.ObservationTypes.{Count}
 use Rattle.crx_rinex.specs.meaning.EpochPlaces.{OpenEpoch, Beginning, EventBegins, EpochBegins, beginning_of, opened}
 use Rattle.crx_rinex.specs.meaning.EpochPlaces.{next_row}
 use Rattle.crx_rinex.specs.EpochPlaces.{EpochStep, Going, Whole, Faulty, whole_or_going, epoch_step, open_with}
 use Rattle.crx_history.specs.Tails.{Tail, tail_or_nothing}
 use Rattle.crx_history.specs.Steps.{lines_after_tail, tail_after, tail_written_after}
-use Rattle.crx_reading.specs.meaning.Choices.{Choices}
+use Rattle.crx_options.specs.meaning.Choices.{Choices}
 use Rattle.crx_reading.specs.meaning.Items.{Item, types_in_force}
 use Rattle.crx_reading.specs.LineByLine.{Phase, InHeader, InEpoch, Seen, Made, Completes, Moves, Fails, Repeats}
 use Rattle.crx_reading.specs.LineByLine.{made_of_line, Direction, seen_of}

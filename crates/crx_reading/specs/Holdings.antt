@@ -1,7 +1,7 @@
 -- All that the parts of engines hold between two lines of an input, part by part. By the law `readers_hold` one that
 -- takes over these parts of another is that other; so there is no part beside them, in which a record of the past
 -- lines could grow.
-use Rattle.crx_reading.specs.declared.options.Options.TheInside.{Inside as OptionsInside}
+use Rattle.crx_options.specs.declared.options.Options.TheInside.{Inside as OptionsInside}
 use Rattle.crx_reading.specs.declared.line_number.LineNumber.TheInside.{Inside as LineNumberInside}
 use Rattle.crx_reading.specs.declared.rinex_reader.RinexReader.{RinexReader}
 use Rattle.crx_reading.specs.declared.ready_lines.ReadyLines.{ReadyLines}

@@ -3,20 +3,20 @@
 -- that of the epochs before, and U what a whole epoch gives.
 use Rattle.std.specs.Prelude.{ℕ, zero, suc, Bool, true, false, not, ◌&&◌, ◌+◌, ◌-◌, List, [], Option, Some, None}
 use Rattle.std.specs.Prelude.{Result, Ok, Err, if◌then◌else◌}
-use Rattle.crx_lines.specs.meaning.Seen.{ReadLine, Content, Overlong}
-use Rattle.crx_lines.specs.declared.fault.At.{At}
-use Rattle.crx_lines.specs.declared.fault.Fault.{Fault}
-use Rattle.crx_lines.specs.declared.fault.Fault.TheVariants.{LineTooLong, MissingVersion, NoEndOfHeader, Truncated}
-use Rattle.crx_rinex.specs.meaning.Header.{is_end_of_header}
-use Rattle.crx_rinex.specs.meaning.ObservationTypes.{Count}
-use Rattle.crx_rinex.specs.ObservationTypes.{with_line}
+use Rattle.crx_faults.specs.meaning.Seen.{ReadLine, Content, Overlong}
+use Rattle.crx_faults.specs.declared.fault.At.{At}
+use Rattle.crx_faults.specs.declared.fault.Fault.{Fault}
+use Rattle.crx_faults.specs.declared.fault.Fault.TheVariants.{LineTooLong, MissingVersion, NoEndOfHeader, Truncated}
+use Rattle.crx_header.specs.meaning.Header.{is_end_of_header}
+use Rattle.crx_header.specs.meaning.ObservationTypes.{Count}
+use Rattle.crx_header.specs.ObservationTypes.{with_line}
 use Rattle.crx_rinex.specs.meaning.Units.{Unit, HeaderLine, EventLine, EventRecord, Observation}
-use Rattle.crx_reading.specs.meaning.Choices.{Choices}
+use Rattle.crx_options.specs.meaning.Choices.{Choices}
 use Rattle.crx_reading.specs.meaning.Items.{Item, is_at_start, header_has_ended, records_announced, records_left}
 use Rattle.crx_reading.specs.meaning.Items.{counts_types, records_count_types, types_in_force}
 use Rattle.crx_reading.specs.meaning.UnitPlaces.{header_line, event_record}
 use Rattle.crx_reading.specs.meaning.Reading.{Reading, AtFault, AtLines, Looking, can_go_on}
-use Rattle.crx_lines.specs.meaning.Faults.{is_skippable}
+use Rattle.crx_faults.specs.meaning.Faults.{is_skippable}
 use Rattle.crx_reading.specs.meaning.Expanded.{crinex_version, crinex_program, fault_in_first_lines}
 
 -- ---- what is seen between two lines

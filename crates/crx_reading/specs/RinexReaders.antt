@@ -1,8 +1,8 @@
 -- What a reader of RINEX makes of a line.
 use Rattle.std.specs.Prelude.{◌≡◌, ◌⊎◌, ℕ, true, false, List, Some}
-use Rattle.crx_lines.specs.meaning.Seen.{Content}
-use Rattle.crx_lines.specs.declared.fault.Fault.{Fault}
-use Rattle.crx_lines.specs.declared.fault.Fault.TheVariants.{OutOfMemory}
+use Rattle.crx_faults.specs.meaning.Seen.{Content}
+use Rattle.crx_faults.specs.declared.fault.Fault.{Fault}
+use Rattle.crx_faults.specs.declared.fault.Fault.TheVariants.{OutOfMemory}
 use Rattle.crx_rinex.specs.meaning.Observations.{Epoch as ObservationEpoch}
 use Rattle.crx_rinex.specs.Epochs.{is_full_epoch}
 use Rattle.crx_rinex.specs.meaning.EpochPlaces.{OpenEpoch}

@@ -4,7 +4,7 @@ use Rattle.crx_rinex.specs.meaning.Observations.{Epoch}
 use Rattle.crx_rinex.specs.meaning.EpochLines.{satellites_of}
 use Rattle.crx_rinex.specs.meaning.EpochPlaces.{OpenEpoch}
 use Rattle.crx_rinex.specs.Epochs.{is_full_epoch}
-use Rattle.crx_rinex.specs.meaning.ObservationTypes.{Count}
+use Rattle.crx_header.specs.meaning.ObservationTypes.{Count}
 use Rattle.crx_reading.specs.declared.stage.Stage.{Stage}
 use Rattle.crx_reading.specs.declared.stage.Stage.TheVariants.{FirstLines, Header, Between, Event, Open, Looking}
 use Rattle.crx_reading.specs.declared.stage.Stage.TheVariants.{Closed}

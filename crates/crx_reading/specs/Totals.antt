@@ -1,9 +1,9 @@
 -- What a check counts, as code stores it.
 use Rattle.std.specs.Prelude.{◌≡◌, ◌≤◌, ◌*◌, ⊤, ℕ, List, [], ◌∷◌, ◌++◌, Option}
-use Rattle.crx_lines.specs.declared.limits.TheConstants.{SATELLITES_LIMIT, TYPES_LIMIT}
+use Rattle.crx_faults.specs.declared.limits.TheConstants.{SATELLITES_LIMIT, TYPES_LIMIT}
 use Rattle.crx_rinex.specs.meaning.EpochPlaces.{OpenEpoch}
 use Rattle.crx_rinex.specs.meaning.Observations.{Epoch}
-use Rattle.crx_rinex.specs.meaning.ObservationTypes.{Count}
+use Rattle.crx_header.specs.meaning.ObservationTypes.{Count}
 use Rattle.crx_reading.specs.LineByLine.{Made, Completes, Moves, Fails, Repeats}
 use Rattle.crx_reading.specs.meaning.Standard.{Findings, version_in}
 use Rattle.crx_reading.specs.CheckByLine.{Totals as TotalsSeen, printed_open}

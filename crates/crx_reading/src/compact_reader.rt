@@ -1,11 +1,11 @@
 //! Compact RINEX 3.0, one line at a time: what each line is, the observation types in force, and the epoch whose lines come.
 
 ghost use Rattle.std.specs.Prelude.{◌≡◌, ◌≢◌, ◌≤◌, ℕ, if◌then◌else◌, [], None, true, false, length, IfOk, IfErr, OnErr, OnOk};
-ghost use Rattle.crx_lines.specs.declared.limits.TheConstants.{LINE_LIMIT};
-ghost use Rattle.crx_lines.specs.meaning.Seen.{Content};
+ghost use Rattle.crx_faults.specs.declared.limits.TheConstants.{LINE_LIMIT};
+ghost use Rattle.crx_faults.specs.meaning.Seen.{Content};
 ghost use Rattle.crx_compact.specs.OpenEpochs.{is_idle, tail_held};
 ghost use Rattle.crx_compact.specs.OpenEpochs.ColumnsState.{Idle};
-ghost use Rattle.crx_reading.specs.meaning.Choices.{Choices};
+ghost use Rattle.crx_options.specs.meaning.Choices.{Choices};
 ghost use Rattle.crx_reading.specs.CompactStages.{is_compact_stage, open_in, wants_lines};
 ghost use Rattle.crx_reading.specs.Stages.{is_ended, is_settled, seen_stage};
 ghost use Rattle.crx_reading.specs.meaning.Expanded.{empties_state};
@@ -20,8 +20,9 @@ use crate::first_lines::{check_program, check_version};
 use crate::stage::{Stage, after_header_line, counts_types, with_records_left};
 use crate::types_lines::{accept_header_line, accept_record};
 use crx_compact::{Columns, ExpandedLines};
-use crx_rinex::{Types, begins_epoch, is_event_line, is_types};
-use crx_text::Fault;
+use crx_faults::Fault;
+use crx_header::{Types, is_types};
+use crx_rinex::{begins_epoch, is_event_line};
 use std::alloc::Global;
 
 /// Reads compact text one line at a time.

@@ -2,10 +2,10 @@
 
 ghost use Rattle.std.specs.Prelude.{◌≡◌, Some, None, true, MatchResult};
 ghost use Rattle.crx_rinex.specs.meaning.EpochLines.{is_event_line, records_in};
-ghost use Rattle.crx_lines.specs.declared.fault.Fault.TheVariants.{BadEpoch};
+ghost use Rattle.crx_faults.specs.declared.fault.Fault.TheVariants.{BadEpoch};
 
+use crx_faults::Fault;
 use crx_rinex::Head;
-use crx_text::Fault;
 
 /// How many records follow an event's first line, by its columns 33 to 35; `BadEpoch` where these hold no count.
 pub(crate) fn records_announced(line: &[u8]) -> Result<usize, Fault>

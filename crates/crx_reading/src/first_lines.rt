@@ -4,8 +4,8 @@ ghost use Rattle.std.specs.Prelude.{◌≡◌, Ok, Err, MatchResult};
 ghost use Rattle.crx_reading.specs.meaning.Expanded.{crinex_program, crinex_version};
 
 use crate::crinex::{CRINEX_PROGRAM_LABEL, CRINEX_VERSION, CRINEX_VERSION_LABEL};
-use crx_rinex::is_labelled;
-use crx_text::Fault;
+use crx_faults::Fault;
+use crx_header::is_labelled;
 use crx_text::columns::trimmed;
 
 /// Checks the first line of compact text: `3.0` in columns 1 to 20 and the label `CRINEX VERS   / TYPE`, else `NotCompact`.

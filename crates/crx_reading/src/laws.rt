@@ -2,7 +2,7 @@
 
 ghost use Rattle.std.specs.Prelude.{◌≡◌};
 ghost use Rattle.crx_reading.specs.Holdings.{options_with, line_number_with, rinex_reader_with, ready_lines_with, compact_reader_with};
-ghost use Rattle.crx_reading.specs.declared.options.Options.TheInside.{Inside as OptionsInside};
+ghost use Rattle.crx_options.specs.declared.options.Options.TheInside.{Inside as OptionsInside};
 ghost use Rattle.crx_reading.specs.declared.line_number.LineNumber.TheInside.{Inside as LineNumberInside};
 ghost use Rattle.crx_reading.specs.declared.rinex_reader.RinexReader.{RinexReader};
 ghost use Rattle.crx_reading.specs.declared.ready_lines.ReadyLines.{ReadyLines};

@@ -1,7 +1,7 @@
 //! The number of a line of the input.
 
 ghost use Rattle.std.specs.Prelude.{◌≡◌, ◌≤◌, ◌<◌, ◌+◌};
-ghost use Rattle.crx_lines.specs.declared.limits.TheConstants.{INPUT_LIMIT};
+ghost use Rattle.crx_faults.specs.declared.limits.TheConstants.{INPUT_LIMIT};
 
 use std::marker::Model;
 
@@ -13,7 +13,7 @@ pub struct LineNumber {
 
 impl Model for LineNumber {
     ghost use Rattle.std.specs.Prelude.{ℕ, ◌≤◌};
-    ghost use Rattle.crx_lines.specs.declared.limits.TheConstants.{INPUT_LIMIT};
+    ghost use Rattle.crx_faults.specs.declared.limits.TheConstants.{INPUT_LIMIT};
 
     ghost Value = { ℕ };
 

@@ -1,19 +1,19 @@
 //! The lines that a compaction has ready.
 
 ghost use Rattle.std.specs.Prelude.{◌≡◌, ◌≤◌, ◌++◌, ◌∷◌, ◌↔◌, if◌then◌else◌, [], drop, length, slice_get, is_some, IfOk, IfSome, IsSome, IsTrue, OnOk, OnErr, Some, true};
-ghost use Rattle.crx_lines.specs.declared.limits.TheConstants.{DATE_LIMIT, LINE_LIMIT};
+ghost use Rattle.crx_faults.specs.declared.limits.TheConstants.{DATE_LIMIT, LINE_LIMIT};
 ghost use Rattle.crx_rinex.specs.Epochs.{is_full_epoch};
 ghost use Rattle.crx_compact.specs.OpenEpochs.{is_idle, tail_held};
 ghost use Rattle.crx_compact.specs.OpenEpochs.ColumnsState.{Idle};
 ghost use Rattle.crx_history.specs.Steps.{lines_after_tail, tail_after, tail_written_after};
 ghost use Rattle.crx_reading.specs.meaning.Compacted.{program_line, lines_before_header};
-ghost use Rattle.crx_rinex.specs.meaning.Printing.{lines_text};
+ghost use Rattle.crx_faults.specs.meaning.Lines.{lines_text};
 
-use crate::appending::append;
 use crate::crinex::{CRINEX_PROGRAM, CRINEX_PROGRAM_LABEL, CRINEX_VERSION_LINE};
-use crate::options::in_columns;
+use crx_columns::appending::append;
 use crx_compact::Columns;
 use crx_history::lines::Lines;
+use crx_options::options::in_columns;
 use crx_rinex::Epoch;
 use crx_text::Text;
 use std::alloc::{AllocError, Global};

@@ -5,9 +5,10 @@ ghost use Rattle.std.specs.List.{flat_map};
 ghost use Rattle.crx_reading.specs.meaning.Standard.{standard_text, systems_text, count_text, report_lines};
 ghost use Rattle.crx_reading.specs.Totals.{totals_held, found_held};
 
-use crate::appending::append;
-use crx_lines::limits::VERSION_WIDTH;
-use crx_rinex::{Epoch, Types};
+use crx_columns::appending::append;
+use crx_faults::limits::VERSION_WIDTH;
+use crx_header::Types;
+use crx_rinex::Epoch;
 use crx_text::Text;
 use crx_text::columns::trimmed;
 use itoa::Buffer;

@@ -7,8 +7,9 @@ ghost use Rattle.crx_reading.specs.RinexStages.{is_rinex_stage};
 
 use crate::stage::{Stage, after_header_line, counts_types, with_records_left};
 use crate::types_lines::{accept_header_line, accept_record};
-use crx_rinex::{Epoch, EpochLine, Head, Types, begins_epoch};
-use crx_text::Fault;
+use crx_faults::Fault;
+use crx_header::Types;
+use crx_rinex::{Epoch, EpochLine, Head, begins_epoch};
 use std::alloc::Global;
 
 /// What a line of RINEX is, where it has no fault.
@@ -81,7 +82,7 @@ impl RinexReader {
 
     /// Takes a line, where no fault has ended the reading; while a line that begins with `>` is looked for, others are passed over.
     ///
-    /// In the header: the faults of [`header_first`](crx_rinex::header_first) for the first line, then `BadTypesLine`. Among an event's
+    /// In the header: the faults of [`header_first`](crx_header::header_first) for the first line, then `BadTypesLine`. Among an event's
     /// records `BadTypesLine`, where types lines count. Where an epoch or an event may begin, the faults of [`Head::read`]. In an epoch
     /// `Truncated` where the line begins with `>`, then those of [`Epoch::read_row`]. `OutOfMemory` comes only at a line without a
     /// fault: a types line that counts, or a satellite's line. After a fault the reader is as it was.

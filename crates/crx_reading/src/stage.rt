@@ -7,11 +7,11 @@ ghost use Rattle.crx_reading.specs.LineByLine.{is_in_epoch, may_skip, with_recor
 ghost use Rattle.crx_reading.specs.meaning.Items.{counts_types};
 ghost use Rattle.crx_reading.specs.Stages.{seen_stage, is_held, is_settled};
 ghost use Rattle.crx_reading.specs.RinexStages.{is_rinex_stage};
-ghost use Rattle.crx_rinex.specs.meaning.Header.{is_end_of_header};
+ghost use Rattle.crx_header.specs.meaning.Header.{is_end_of_header};
 ghost use Rattle.crx_rinex.specs.meaning.Observations.{Epoch};
 
-use crx_rinex::is_end;
-use crx_text::At;
+use crx_faults::At;
+use crx_header::is_end;
 
 /// Where a run is between two lines.
 #[derive(Clone, Copy)]

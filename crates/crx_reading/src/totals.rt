@@ -3,7 +3,7 @@
 ghost use Rattle.std.specs.Prelude.{◌≡◌, ◌≤◌, ◌<◌, ◌*◌, ◌+◌, ℕ, Some, true};
 ghost use Rattle.std.specs.Str.{bytes_eq};
 ghost use Rattle.std.specs.Option.{option_copied};
-ghost use Rattle.crx_lines.specs.declared.limits.TheConstants.{INPUT_LIMIT, SATELLITES_LIMIT, TYPES_LIMIT};
+ghost use Rattle.crx_faults.specs.declared.limits.TheConstants.{INPUT_LIMIT, SATELLITES_LIMIT, TYPES_LIMIT};
 ghost use Rattle.crx_rinex.specs.meaning.EpochPlaces.{OpenEpoch};
 ghost use Rattle.crx_rinex.specs.meaning.Observations.{Epoch as ObservationEpoch};
 ghost use Rattle.crx_rinex.specs.Printing.{last_line};
@@ -16,7 +16,8 @@ ghost use Rattle.crx_reading.specs.declared.rinex_reader.RinexReader.{RinexReade
 
 use crate::report::Totals;
 use crate::rinex_reader::{RinexReader, RinexStep};
-use crx_rinex::{padded, print_last_line};
+use crx_header::padded;
+use crx_rinex::print_last_line;
 use crx_text::Text;
 
 /// The totals with those of a line that was taken, by what it was.

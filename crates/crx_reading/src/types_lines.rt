@@ -2,12 +2,12 @@
 
 ghost use Rattle.std.specs.Option.{is_some};
 ghost use Rattle.std.specs.Prelude.{◌≡◌, ◌⊎◌, ◌&&◌, None, Some, is_none, true, false, if◌then◌else◌, OnOk, OnErr, IfErr};
-ghost use Rattle.crx_rinex.specs.meaning.ObservationTypes.{count_of_types_line};
-ghost use Rattle.crx_rinex.specs.ObservationTypes.{with_line};
+ghost use Rattle.crx_header.specs.meaning.ObservationTypes.{count_of_types_line};
+ghost use Rattle.crx_header.specs.ObservationTypes.{with_line};
 ghost use Rattle.crx_reading.specs.meaning.UnitPlaces.{header_line_fault, types_fault};
 
-use crx_rinex::{Types, header_first};
-use crx_text::Fault;
+use crx_faults::Fault;
+use crx_header::{Types, header_first};
 
 /// Takes in a header line, or answers what is wrong with it: the first line has checks of its own. After a fault the types
 /// are as they were.

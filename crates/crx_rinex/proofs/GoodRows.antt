@@ -7,13 +7,13 @@ use Rattle.std.specs.Result.{is_ok}
 use Rattle.std.proofs.lemmas.Bool.{false≢true}
 use Rattle.crx_columns.specs.meaning.Columns.{columns, is_blank}
 use Rattle.crx_columns.specs.meaning.Texts.{is_kept}
-use Rattle.crx_lines.specs.declared.fault.Fault.{Fault}
-use Rattle.crx_lines.specs.declared.fault.Fault.TheVariants.{BadField, BadFlags, RepeatedSatellite}
-use Rattle.crx_lines.specs.declared.limits.TheConstants.{CELL_WIDTH, NAME_WIDTH}
+use Rattle.crx_faults.specs.declared.fault.Fault.{Fault}
+use Rattle.crx_faults.specs.declared.fault.Fault.TheVariants.{BadField, BadFlags, RepeatedSatellite}
+use Rattle.crx_faults.specs.declared.limits.TheConstants.{CELL_WIDTH, NAME_WIDTH}
 use Rattle.crx_rinex.specs.meaning.Observations.{Row}
 use Rattle.crx_rinex.specs.meaning.Epochs.{has_satellite}
 use Rattle.crx_rinex.specs.meaning.EpochPlaces.{row_if_new}
-use Rattle.crx_rinex.specs.meaning.ObservationTypes.{Count}
+use Rattle.crx_header.specs.meaning.ObservationTypes.{Count}
 use Rattle.crx_rinex.specs.meaning.SatelliteLines.{flags_in, row_of, row_of_types, row_with, types_of_satellite}
 use Rattle.crx_rinex.specs.meaning.SatelliteLines.{values_in}
 

@@ -1,13 +1,10 @@
 pub mod Apart
 pub mod Finding
-pub mod EachPlace
 pub mod Cells
 pub mod Characters
-pub mod Counts
 pub mod Lines
 pub mod Steady
 pub mod OpenEpochs
-pub mod OpenSound
 pub mod Ranges
 pub mod ReadingBack
 pub mod Rows

@@ -4,13 +4,13 @@ use Rattle.std.proofs.Common.{Ok, Err, refl, ap, sym, subst, ◌∙◌, inl, inr
 use Rattle.std.specs.Prelude.{⊤}
 use Rattle.std.proofs.lemmas.List.{length_push}
 use Rattle.std.proofs.lemmas.Option.{same_Some, none-some}
-use Rattle.crx_lines.specs.meaning.Seen.{ReadLine, Content, Overlong}
-use Rattle.crx_lines.specs.declared.fault.Fault.{Fault}
+use Rattle.crx_faults.specs.meaning.Seen.{ReadLine, Content, Overlong}
+use Rattle.crx_faults.specs.declared.fault.Fault.{Fault}
 use Rattle.crx_rinex.specs.meaning.Observations.{Row, Epoch}
 use Rattle.crx_rinex.specs.meaning.Units.{Unit, Observation}
 use Rattle.crx_rinex.specs.meaning.Places.{Place, Here, Wrong, Wanted, after_lines, then_place, one_line, first_line}
 use Rattle.crx_rinex.specs.meaning.EpochLines.{ObservationHead}
-use Rattle.crx_rinex.specs.meaning.ObservationTypes.{Count}
+use Rattle.crx_header.specs.meaning.ObservationTypes.{Count}
 use Rattle.crx_rinex.specs.Steady.{IsSteady}
 use Rattle.crx_rinex.specs.meaning.EpochPlaces.{OpenEpoch, Beginning, EventBegins, EpochBegins, opened, rows_wanted}
 use Rattle.crx_rinex.specs.meaning.EpochPlaces.{epoch_of, with_next_row, next_row, row_at, rows_at, rest_at}

@@ -14,13 +14,13 @@ use Rattle.std.proofs.lemmas.Option.{none-some}
 use Rattle.crx_columns.specs.meaning.Columns.{character_at, columns, is_blank, without_first_blanks}
 use Rattle.crx_text.specs.meaning.Numbers.{number_of, missing_or_number, observation_of, observation_text, clock_of}
 use Rattle.crx_text.specs.meaning.Numbers.{clock_text, IsWithin}
-use Rattle.crx_lines.specs.meaning.Seen.{ReadLine, Content}
-use Rattle.crx_lines.specs.declared.limits.TheConstants.{OBSERVATION_WIDTH, OBSERVATION_DECIMALS, CLOCK_WIDTH}
-use Rattle.crx_lines.specs.declared.limits.TheConstants.{CLOCK_DECIMALS}
+use Rattle.crx_faults.specs.meaning.Seen.{ReadLine, Content}
+use Rattle.crx_faults.specs.declared.limits.TheConstants.{OBSERVATION_WIDTH, OBSERVATION_DECIMALS, CLOCK_WIDTH}
+use Rattle.crx_faults.specs.declared.limits.TheConstants.{CLOCK_DECIMALS}
 use Rattle.crx_text.proofs.ReadBack.{number_of-number_text}
 use Rattle.crx_columns.specs.meaning.Texts.{is_kept}
 use Rattle.crx_rinex.specs.meaning.Observations.{Row, Epoch}
-use Rattle.crx_rinex.specs.meaning.ObservationTypes.{Count, is_system}
+use Rattle.crx_header.specs.meaning.ObservationTypes.{Count, is_system}
 use Rattle.crx_rinex.specs.meaning.EpochLines.{EpochHead, ObservationHead, IsObservationHead, IsClockOffset}
 use Rattle.crx_rinex.specs.meaning.EpochLines.{begins_epoch, is_event_flag, is_observation_flag, satellites_in}
 use Rattle.crx_rinex.specs.meaning.EpochLines.{satellites_of, epoch_count, epoch_head, with_clock, head_of}
@@ -33,8 +33,8 @@ use Rattle.crx_rinex.specs.meaning.Units.{Observation}
 use Rattle.crx_rinex.specs.meaning.Printing.{printed_cells, printed_row, printed_head, printed_epoch}
 use Rattle.crx_rinex.specs.meaning.SatelliteLines.{all_some, field, flags_at, flags_in, has_number, types_of_satellite}
 use Rattle.crx_rinex.specs.meaning.SatelliteLines.{row_with, row_of_types, row_of, IsValue, IsSoundRow, HasItsTypes}
-use Rattle.crx_rinex.specs.meaning.EachPlace.{each_place}
-use Rattle.crx_rinex.proofs.EachPlace.{each_place-same}
+use Rattle.crx_columns.specs.meaning.EachPlace.{each_place}
+use Rattle.crx_columns.proofs.EachPlace.{each_place-same}
 use Rattle.crx_rinex.proofs.Characters.{at, at-without_end_blanks, at-drop, at-append, at-append_past, columns-are}
 use Rattle.crx_rinex.proofs.Characters.{list_all-from_at}
 use Rattle.crx_rinex.proofs.Apart.{other_way}

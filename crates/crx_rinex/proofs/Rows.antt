@@ -4,8 +4,8 @@ use Rattle.std.proofs.Common.{ap, sym, subst, ◌∙◌, inl, inr, arith, Option
 use Rattle.std.specs.List.{list_all}
 use Rattle.std.specs.Option.{option_and_then}
 use Rattle.crx_columns.specs.meaning.Columns.{character_at, columns}
-use Rattle.crx_lines.specs.declared.limits.TheConstants.{SATELLITES_LIMIT}
-use Rattle.crx_rinex.specs.meaning.Label.{number_in}
+use Rattle.crx_faults.specs.declared.limits.TheConstants.{SATELLITES_LIMIT}
+use Rattle.crx_header.specs.meaning.Label.{number_in}
 use Rattle.std.proofs.lemmas.Bool.{cases_Bool, leb-true, eqb-false}
 use Rattle.std.specs.Prelude.{ℤ, slice_set}
 use Rattle.std.proofs.lemmas.List.{length-take, length-take-le, length_push, map-append, take_all, take_more_set}

@@ -1,7 +1,7 @@
 -- Beside meaning/Epochs: what code and proofs see of it.
 use Rattle.std.specs.Prelude.{◌≡◌, ◌≤◌, ℕ, List, Bool, [], ◌∷◌, ◌++◌, ◌==◌, length, map, take, Result, Ok, Err}
-use Rattle.crx_lines.specs.declared.fault.Fault.{Fault}
-use Rattle.crx_lines.specs.declared.limits.TheConstants.{SATELLITES_LIMIT}
+use Rattle.crx_faults.specs.declared.fault.Fault.{Fault}
+use Rattle.crx_faults.specs.declared.limits.TheConstants.{SATELLITES_LIMIT}
 use Rattle.crx_rinex.specs.meaning.Observations.{Row, Epoch}
 use Rattle.crx_rinex.specs.meaning.EpochLines.{IsObservationHead, ObservationHead, satellites_of}
 use Rattle.crx_rinex.specs.meaning.Epochs.{IsSoundEpoch}

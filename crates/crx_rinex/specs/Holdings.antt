@@ -1,7 +1,7 @@
 -- All that epochs and what stands in them hold between two lines of an input, part by part. By the law `epochs_hold`
 -- one that takes over these parts of another is that other; so there is no part beside them, in which a record of the
 -- past lines could grow.
-use Rattle.crx_rinex.specs.declared.types.Types.TheInside.{Inside as TypesInside}
+use Rattle.crx_header.specs.declared.types.Types.TheInside.{Inside as TypesInside}
 use Rattle.crx_rinex.specs.declared.satellite_row.SatRow.TheInside.{Inside as SatRowInside}
 use Rattle.crx_rinex.specs.declared.identifiers.Identifiers.TheInside.{Inside as IdentifiersInside}
 use Rattle.crx_rinex.specs.declared.epoch_line.EpochLine.TheInside.{Inside as EpochLineInside}

@@ -1,5 +1,4 @@
 pub mod meaning
-pub mod ObservationTypes
 pub mod Heads
 pub mod SatelliteLines
 pub mod Epochs
@@ -8,5 +7,4 @@ pub mod Printing
 pub mod Steady
 pub mod EpochPlaces
 pub mod Laws
-pub mod Examples
 pub mod Holdings

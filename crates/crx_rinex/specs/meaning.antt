@@ -1,9 +1,5 @@
 -- What has to be believed: the definitions that the promises stand on. docs/READING.md gives their order.
-pub mod Label
-pub mod ObservationTypes
-pub mod Header
 pub mod EpochLines
-pub mod EachPlace
 pub mod SatelliteLines
 pub mod Observations
 pub mod Epochs

@@ -6,7 +6,7 @@ ghost use Rattle.std.specs.List.{sum_by};
 ghost use Rattle.std.specs.Option.{option_copied};
 ghost use Rattle.std.specs.Result.{is_ok};
 ghost use Rattle.crx_columns.specs.meaning.Columns.{columns};
-ghost use Rattle.crx_lines.specs.declared.limits.TheConstants.{NAME_WIDTH, SATELLITES_LIMIT, TYPES_LIMIT};
+ghost use Rattle.crx_faults.specs.declared.limits.TheConstants.{NAME_WIDTH, SATELLITES_LIMIT, TYPES_LIMIT};
 ghost use Rattle.crx_rinex.specs.meaning.EpochLines.{satellites_of, IsObservationHead};
 ghost use Rattle.crx_rinex.specs.Epochs.{begun, is_full_epoch, with_row, AddsRow};
 ghost use Rattle.crx_rinex.specs.meaning.Epochs.{has_satellite, is_among, IsSoundEpoch};
@@ -14,12 +14,11 @@ ghost use Rattle.crx_rinex.specs.meaning.EpochPlaces.{row_if_new};
 ghost use Rattle.crx_rinex.specs.meaning.Observations.{observations_in, observations_of};
 ghost use Rattle.crx_rinex.specs.meaning.SatelliteLines.{row_of, IsSoundRow};
 
-use crate::columns::identifier;
 use crate::epoch_line::EpochLine;
 use crate::identifiers::Identifiers;
 use crate::satellite_row::{SatRow, row_fault};
-use crate::types::Types;
-use crx_text::Fault;
+use crx_faults::Fault;
+use crx_header::{Types, identifier};
 use std::alloc::Global;
 use std::marker::Model;
 

@@ -5,14 +5,17 @@ ghost use Rattle.std.specs.List.{list_all};
 ghost use Rattle.std.specs.Option.{ForSome};
 ghost use Rattle.crx_columns.specs.meaning.Columns.{columns};
 ghost use Rattle.crx_text.specs.Numbers.{IsClock};
-ghost use Rattle.crx_lines.specs.declared.limits.TheConstants.{HEAD_WIDTH};
+ghost use Rattle.crx_faults.specs.declared.limits.TheConstants.{HEAD_WIDTH};
 ghost use Rattle.crx_columns.specs.meaning.Texts.{is_kept};
 ghost use Rattle.crx_rinex.specs.meaning.EpochLines.{head_of, begins_epoch, epoch_count, epoch_head, is_event_flag, is_event_line, is_observation_flag, records_in, satellites_in, EpochHead, IsObservationHead};
 ghost use Rattle.crx_rinex.specs.Heads.{head_line};
 
-use crate::columns::{after_columns, all_blank, character, is_blank, number, padded};
-use crx_lines::limits::{CLOCK_WIDTH, HEAD_WIDTH, SATELLITES_LIMIT};
-use crx_text::{Fault, all_kept, clock_read};
+use crx_columns::columns::{character, is_blank};
+use crx_faults::Fault;
+use crx_faults::limits::{CLOCK_WIDTH, HEAD_WIDTH, SATELLITES_LIMIT};
+use crx_header::columns::number;
+use crx_header::{after_columns, all_blank, padded};
+use crx_text::{all_kept, clock_read};
 use std::marker::Model;
 
 /// The first line of an observation epoch: columns 1 to 41, the count of satellites that they hold, and the

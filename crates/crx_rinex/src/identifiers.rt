@@ -5,7 +5,7 @@ ghost use Rattle.std.specs.Bool.{OnTrue};
 ghost use Rattle.crx_rinex.specs.meaning.Epochs.{is_among};
 ghost use Rattle.crx_rinex.specs.Identifiers.{AreAtPlaces, CanStandAt};
 
-use crx_lines::limits::NAME_WIDTH;
+use crx_faults::limits::NAME_WIDTH;
 use indexmap::IndexMap;
 use std::alloc::{AllocError, Global};
 use std::marker::Model;

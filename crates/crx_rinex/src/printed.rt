@@ -5,14 +5,14 @@ ghost use Rattle.std.specs.Bool.{OnTrue};
 ghost use Rattle.std.specs.Borrow.{sem};
 ghost use Rattle.std.specs.Io.BufRead.{Rests};
 ghost use Rattle.std.specs.Option.{option_copied};
-ghost use Rattle.crx_lines.specs.declared.limits.TheConstants.{SATELLITES_LIMIT};
+ghost use Rattle.crx_faults.specs.declared.limits.TheConstants.{SATELLITES_LIMIT};
 ghost use Rattle.crx_rinex.specs.Printing.{last_line};
 ghost use Rattle.crx_rinex.specs.meaning.Printing.{printed_epoch, printed_head};
 ghost use Rattle.crx_rinex.specs.contracts.printed.Printed.{the_row};
 
 use crate::epoch::Epoch;
 use crate::epoch_line::EpochLine;
-use crx_lines::limits::{CLOCK_WIDTH, SATELLITES_LIMIT};
+use crx_faults::limits::{CLOCK_WIDTH, SATELLITES_LIMIT};
 use crx_text::{Text, clock_print};
 use std::marker::Model;
 
@@ -26,7 +26,7 @@ pub struct Printed {
 
 impl Model for Printed {
     ghost use Rattle.std.specs.Prelude.{ℕ, List, drop, ◌≤◌, ◌+◌};
-    ghost use Rattle.crx_lines.specs.declared.limits.TheConstants.{SATELLITES_LIMIT};
+    ghost use Rattle.crx_faults.specs.declared.limits.TheConstants.{SATELLITES_LIMIT};
     ghost use Rattle.crx_rinex.specs.meaning.Printing.{printed_epoch};
 
     ghost Value = { List (List ℕ) };

@@ -6,24 +6,22 @@ ghost use Rattle.std.specs.List.{list_all};
 ghost use Rattle.std.specs.Option.{option_map, ForSome};
 ghost use Rattle.std.specs.Result.{is_ok};
 ghost use Rattle.crx_columns.specs.meaning.Columns.{character_at, columns, is_blank};
-ghost use Rattle.crx_lines.specs.declared.limits.TheConstants.{CELL_WIDTH, LINE_LIMIT, NAME_WIDTH, OBSERVATION_WIDTH, TYPES_LIMIT};
+ghost use Rattle.crx_faults.specs.declared.limits.TheConstants.{CELL_WIDTH, LINE_LIMIT, NAME_WIDTH, OBSERVATION_WIDTH, TYPES_LIMIT};
 ghost use Rattle.crx_text.specs.meaning.Numbers.{observation_of, observation_text};
 ghost use Rattle.crx_text.specs.Numbers.{IsObservation};
 ghost use Rattle.crx_columns.specs.meaning.Texts.{is_kept};
-ghost use Rattle.crx_rinex.specs.meaning.ObservationTypes.{IsAllowedCount};
+ghost use Rattle.crx_header.specs.meaning.ObservationTypes.{IsAllowedCount};
 ghost use Rattle.crx_rinex.specs.meaning.Observations.{observations_of};
 ghost use Rattle.crx_rinex.specs.meaning.Printing.{printed_cells, printed_row};
 ghost use Rattle.crx_rinex.specs.SatelliteLines.{blank_row, with_flags, with_value, AreCellsRead};
 ghost use Rattle.crx_rinex.specs.meaning.SatelliteLines.{field, flags_in, has_number, is_identifier, row_of, row_with, types_of_satellite, values_in, IsSoundRow, IsValue};
 
-use crate::columns::{
-    after_columns, all_blank, character, first_identifier, identifier, is_same_identifier, padded,
-};
-use crate::types::Types;
-use crx_lines::limits::{CELL_WIDTH, NAME_WIDTH, OBSERVATION_WIDTH, TYPES_LIMIT};
-use crx_text::{
-    Fault, Text, all_kept, copy_text, obs_print_cell, obs_read, obs_read_into, put_blanks,
-};
+use crx_columns::columns::character;
+use crx_faults::Fault;
+use crx_faults::limits::{CELL_WIDTH, NAME_WIDTH, OBSERVATION_WIDTH, TYPES_LIMIT};
+use crx_header::columns::first_identifier;
+use crx_header::{Types, after_columns, all_blank, identifier, is_same_identifier, padded};
+use crx_text::{Text, all_kept, copy_text, obs_print_cell, obs_read, obs_read_into, put_blanks};
 use std::alloc::Global;
 use std::marker::Model;
 

@@ -6,8 +6,9 @@ ghost use Rattle.crx_compact.specs.OpenEpochs.ColumnsState.{Idle};
 use crate::owned::Owned;
 use crate::rinex::{ONE_TYPE, TWO_TYPES, types_of};
 use crx_compact::Columns;
-use crx_rinex::{Epoch, Head, Types};
-use crx_text::Fault;
+use crx_faults::Fault;
+use crx_header::Types;
+use crx_rinex::{Epoch, Head};
 use std::alloc::Global;
 
 mod cases;

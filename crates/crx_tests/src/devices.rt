@@ -1,8 +1,9 @@
 //! What a device of std is asked, call by call: `Std` neither tries again nor leaves out a call, nor does `UntilFailure` before a failure.
 
 use crate::expecting::expect_at;
-use crx_filter::UntilFailure;
-use crx_text::{Fault, Sink, Source, Std};
+use crx_faults::Fault;
+use crx_lines::{Sink, Source, Std};
+use crx_runs::UntilFailure;
 use std::io;
 use std::io::{Read, Write};
 use std::process::Abort;

@@ -2,7 +2,7 @@
 ghost use Rattle.std.specs.Prelude.{◌<◌};
 
 use crate::expecting::expect_at;
-use crx_text::{LineReader, Std};
+use crx_lines::{LineReader, Std};
 use std::alloc::Global;
 use std::process::Abort;
 use std::test::Fail;

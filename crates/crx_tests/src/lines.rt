@@ -2,8 +2,9 @@
 
 use crate::expecting::expect_at;
 use crx_devices::{FailingSource, Plan, When};
-use crx_lines::limits::LINE_LIMIT;
-use crx_text::{At, Fault, Line, LineReader, Source, Std};
+use crx_faults::limits::LINE_LIMIT;
+use crx_faults::{At, Fault};
+use crx_lines::{Line, LineReader, Source, Std};
 use std::alloc::{AllocError, Global};
 use std::process::Abort;
 use std::test::Fail;

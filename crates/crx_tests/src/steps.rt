@@ -1,12 +1,14 @@
 //! The engines line by line: what they answer to each line of a text, and how many lines are ready then.
 
 ghost use Rattle.std.specs.Prelude.{◌≡◌, ◌<◌};
-ghost use Rattle.crx_engine.specs.Engines.{taken_after};
+ghost use Rattle.crx_runs.specs.Engines.{taken_after};
 
 use crate::expecting::expect_at;
 use crate::texts::text;
-use crx_engine::{Options, Step};
-use crx_text::{At, Fault, Line, LineReader, Std};
+use crx_engine::Options;
+use crx_faults::{At, Fault};
+use crx_lines::{Line, LineReader, Std};
+use crx_runs::Step;
 use std::alloc::Global;
 use std::process::Abort;
 use std::test::Fail;

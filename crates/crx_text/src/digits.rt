@@ -12,10 +12,10 @@ ghost use Rattle.crx_text.specs.meaning.Numbers.{signed_number, without_minus};
 ghost use Rattle.crx_text.specs.meaning.Codes.{after_cell, first_cell};
 ghost use Rattle.crx_text.specs.Codes.{counted_digits};
 ghost use Rattle.crx_text.specs.FirstDigits.{HasFirstDigits, above_zero, is_below_ten, written};
-ghost use Rattle.crx_lines.specs.declared.limits.TheConstants.{DIGITS_LIMIT};
+ghost use Rattle.crx_faults.specs.declared.limits.TheConstants.{DIGITS_LIMIT};
 
 use crx_columns::copies::copy_text;
-use crx_lines::limits::DIGITS_LIMIT;
+use crx_faults::limits::DIGITS_LIMIT;
 use std::simd::prelude::*;
 
 /// The most columns of a number, its point among them, that an `i64` holds in every form.

@@ -1,5 +1,5 @@
 //! The texts that RINEX and Compact RINEX files are made of: numbers in columns, and codes. Texts and their differences are those of
-//! crx_columns, lines, devices, faults and limits those of crx_lines; they are handed on.
+//! crx_columns, faults and limits those of crx_faults; they are handed on.
 #![tactic(auto)]
 
 mod clock_field;
@@ -18,10 +18,7 @@ pub use crx_columns::difference::{
 };
 pub use crx_columns::text::{Text, TextFull, trim_end};
 pub use crx_columns::{block, columns, difference, text};
-pub use crx_lines::{
-    At, Fault, Line, LineReader, ReadFailed, Sink, Source, Std, WriteFailed, open_file,
-    write_all_counted,
-};
+pub use crx_faults::{At, Fault};
 pub use number::{
     BadField, clock_print, clock_read, obs_print, obs_print_cell, obs_print_cell_into, obs_read,
     obs_read_into, obs_read_usual,

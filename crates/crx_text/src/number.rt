@@ -6,7 +6,7 @@ ghost use Rattle.std.specs.Bool.{OnFalse, OnTrue};
 ghost use Rattle.std.specs.Option.{ForSome};
 ghost use Rattle.std.specs.Result.{result_ok};
 ghost use Rattle.crx_text.specs.declared.digits.TheConstants.{WIDEST};
-ghost use Rattle.crx_lines.specs.declared.limits.TheConstants.{CELL_WIDTH, LINE_LIMIT, OBSERVATION_WIDTH, CLOCK_WIDTH};
+ghost use Rattle.crx_faults.specs.declared.limits.TheConstants.{CELL_WIDTH, LINE_LIMIT, OBSERVATION_WIDTH, CLOCK_WIDTH};
 ghost use Rattle.crx_columns.specs.meaning.Columns.{without_first_blanks};
 ghost use Rattle.crx_text.specs.meaning.Numbers.{IsWithin, number_of, observation_of, clock_of, size_of, decimal_number, number_text, observation_text, clock_text, size_text, zero_padded};
 ghost use Rattle.crx_text.specs.Numbers.{IsObservation, IsClock};
@@ -16,7 +16,7 @@ use crate::field_text::{size_print_by_lanes, size_print_in_cell};
 use crate::{clock_field, clock_text, field};
 use crx_columns::columns::trim_start;
 use crx_columns::text::Text;
-use crx_lines::limits::{
+use crx_faults::limits::{
     CELL_WIDTH, CLOCK_DECIMALS, CLOCK_WIDTH, OBSERVATION_DECIMALS, OBSERVATION_WIDTH,
 };
 use itoa::write_digits;

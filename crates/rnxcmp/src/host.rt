@@ -2,10 +2,11 @@
 
 use crx_command::job::UsageFault;
 use crx_command::word::Word;
-use crx_filter::UntilFailure;
+use crx_faults::Fault;
+use crx_lines::Std;
 use crx_program::program::{OUTPUT_BUFFER, run};
 use crx_program::refusal::{refuse, report_at_start};
-use crx_text::{Fault, Std};
+use crx_runs::UntilFailure;
 use std::alloc::Global;
 use std::io::{BufWriter, Write};
 use std::process::ExitCode;

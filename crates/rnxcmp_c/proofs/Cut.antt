@@ -3,18 +3,18 @@ use Rattle.std.proofs.Common.{◌≡◌, ◌⊎◌, ⊎_elim, ℕ, inl, inr, Lis
 use Rattle.std.proofs.Common.{Err, IfErr, MatchResult, refl, sym, ap, subst, ◌∙◌, append-nil}
 use Rattle.std.proofs.Common.{append_assoc}
 use Rattle.std.proofs.lemmas.List.{take-append-drop}
-use Rattle.crx_lines.specs.declared.fault.At.{At}
-use Rattle.crx_lines.specs.declared.fault.Fault.TheVariants.{OutOfMemory}
-use Rattle.crx_reading.specs.meaning.Results.{Course}
-use Rattle.crx_reading.specs.meaning.Messages.{notices_text}
-use Rattle.crx_filter.specs.declared.taking.Halt.{Halt}
-use Rattle.crx_filter.specs.declared.taking.Halt.TheVariants.{Fault, Unwritten, Unreported}
-use Rattle.crx_filter.specs.meaning.Spans.{Device}
-use Rattle.crx_filter.specs.Taking.{IsCut, IsHalted}
+use Rattle.crx_faults.specs.declared.fault.At.{At}
+use Rattle.crx_faults.specs.declared.fault.Fault.TheVariants.{OutOfMemory}
+use Rattle.crx_runs.specs.meaning.Results.{Course}
+use Rattle.crx_runs.specs.meaning.Messages.{notices_text}
+use Rattle.crx_runs.specs.declared.taking.Halt.{Halt}
+use Rattle.crx_runs.specs.declared.taking.Halt.TheVariants.{Fault, Unwritten, Unreported}
+use Rattle.crx_runs.specs.meaning.Spans.{Device}
+use Rattle.crx_runs.specs.Taking.{IsCut, IsHalted}
 use Rattle.rnxcmp_c.specs.declared.devices.Collected.{Collected}
 use Rattle.rnxcmp_c.specs.Going.{LineStops, StopsBy}
-use Rattle.crx_reading.specs.meaning.Results.{Begins}
-use Rattle.crx_filter.specs.meaning.Spans.{AreNext}
+use Rattle.crx_runs.specs.meaning.Results.{Begins}
+use Rattle.crx_runs.specs.meaning.Spans.{AreNext}
 use Rattle.rnxcmp_c.proofs.GoingLemmas.{begins-then, notices-both}
 
 none-not-some : {notices : List At} → ◌≡◌ {A = Option (List At)} None (Some notices) → ⊥

@@ -4,16 +4,16 @@ use Rattle.std.proofs.Common.{length, take, drop, slice_index, None, refl, sym, 
 use Rattle.std.proofs.Common.{append_assoc, length-append, length-take}
 use Rattle.std.proofs.lemmas.List.{drop_more, get_or-take, take-append-drop}
 use Rattle.std.proofs.lemmas.List.Elements.{All-append, All-from_get_or}
-use Rattle.crx_lines.specs.meaning.Lines.{InputLine, lines_of}
-use Rattle.crx_lines.specs.meaning.Seen.{ended_lines_of}
+use Rattle.crx_faults.specs.meaning.Lines.{InputLine, lines_of}
+use Rattle.crx_faults.specs.meaning.Seen.{ended_lines_of}
 use Rattle.crx_lines.specs.Reading.{HasNoFeed}
-use Rattle.crx_lines.specs.declared.fault.At.{At}
+use Rattle.crx_faults.specs.declared.fault.At.{At}
 use Rattle.crx_lines.proofs.ProgressLemmas.{lines-first, lines-last, ended_lines-first, ended_lines-none}
-use Rattle.crx_engine.specs.Engines.{Awaited}
-use Rattle.crx_engine.specs.Lawful.{IsLawful}
-use Rattle.crx_reading.specs.meaning.Filters.{Filter, with_next}
-use Rattle.crx_reading.specs.meaning.Messages.{notices_text, warning_text}
-use Rattle.crx_reading.specs.meaning.Results.{Begins, Course, are_some}
+use Rattle.crx_runs.specs.Engines.{Awaited}
+use Rattle.crx_runs.specs.Lawful.{IsLawful}
+use Rattle.crx_runs.specs.meaning.Filters.{Filter, with_next}
+use Rattle.crx_runs.specs.meaning.Messages.{notices_text, warning_text}
+use Rattle.crx_runs.specs.meaning.Results.{Begins, Course, are_some}
 use Rattle.rnxcmp_c.specs.declared.held.Held.{Held}
 use Rattle.rnxcmp_c.specs.declared.devices.Collected.{Collected}
 use Rattle.rnxcmp_c.specs.Going.{HandlePast, fed_with, IsText, IsGoing, IsBroken, Breaks, MovesOn, EndsThere, LineStops}

@@ -3,21 +3,21 @@ use Rattle.std.proofs.Common.{◌≡◌, ◌⊎◌, inl, inr, ℕ, ◌+◌, ◌<
 use Rattle.std.proofs.Common.{true, false}
 use Rattle.std.proofs.Common.{◌++◌, nat_lt, arith, refl, sym, ap, ◌∙◌, subst, append-nil, length-append, ⊎_elim}
 use Rattle.std.proofs.lemmas.Bool.{ltb-true, ltb-false}
-use Rattle.crx_lines.specs.meaning.Lines.{lines_of}
-use Rattle.crx_lines.specs.meaning.Seen.{ended_lines_of}
+use Rattle.crx_faults.specs.meaning.Lines.{lines_of}
+use Rattle.crx_faults.specs.meaning.Seen.{ended_lines_of}
 use Rattle.crx_lines.specs.Reading.{HasNoFeed}
 use Rattle.crx_lines.proofs.ProgressLemmas.{ended_lines-come_first, lines-last}
-use Rattle.crx_engine.specs.Lawful.{IsLawful}
-use Rattle.crx_reading.specs.meaning.Messages.{notices_text}
-use Rattle.crx_reading.specs.meaning.Results.{Course, FilterResult, are_some}
-use Rattle.crx_lines.specs.declared.limits.TheConstants.{INPUT_LIMIT}
-use Rattle.crx_filter.specs.declared.outcome.Outcome.{Outcome}
+use Rattle.crx_runs.specs.Lawful.{IsLawful}
+use Rattle.crx_runs.specs.meaning.Messages.{notices_text}
+use Rattle.crx_runs.specs.meaning.Results.{Course, FilterResult, are_some}
+use Rattle.crx_faults.specs.declared.limits.TheConstants.{INPUT_LIMIT}
+use Rattle.crx_runs.specs.declared.outcome.Outcome.{Outcome}
 use Rattle.rnxcmp_c.specs.Going.{HandlePast, fed_with}
 use Rattle.rnxcmp_c.specs.Handles.{IsFresh, ReaderRuns, nothing_fed}
 use Rattle.rnxcmp_c.specs.Handles.{ReaderEndsBy, FeedsBy, HasEndedBy, HasFedBy, IsLineReached, ReaderIsOver, ReaderStands}
 use Rattle.rnxcmp_c.specs.Handles.{StandsBy, Task}
 use Rattle.rnxcmp_c.specs.Handles.{RunIsOutOfMemory, filter_for, result_for}
-use Rattle.crx_reading.specs.meaning.Filters.{Filter}
+use Rattle.crx_runs.specs.meaning.Filters.{Filter}
 use Rattle.rnxcmp_c.specs.meaning.Answers.{line_in}
 use Rattle.rnxcmp_c.specs.declared.answer.Answer.{Answer}
 use Rattle.rnxcmp_c.specs.declared.engines.AnyEngine.{AnyEngine}

@@ -1,19 +1,19 @@
 -- A reader's run has ended as the whole run of its input does.
 use Rattle.std.proofs.Common.{◌≡◌, ◌⊎◌, inl, inr, ⊎_elim, ℕ, List, [], ◌++◌, Option, Some, None, refl, sym, ap, ◌∙◌, subst}
 use Rattle.std.proofs.Common.{append-nil, append_assoc}
-use Rattle.crx_lines.specs.meaning.Lines.{lines_of}
-use Rattle.crx_lines.specs.declared.fault.At.{At}
-use Rattle.crx_lines.specs.declared.fault.Fault.TheVariants.{OutOfMemory}
+use Rattle.crx_faults.specs.meaning.Lines.{lines_of}
+use Rattle.crx_faults.specs.declared.fault.At.{At}
+use Rattle.crx_faults.specs.declared.fault.Fault.TheVariants.{OutOfMemory}
 use Rattle.crx_reading.specs.meaning.Directions.{check_filter, report_unless}
-use Rattle.crx_engine.specs.Lawful.{IsLawful}
-use Rattle.crx_reading.specs.meaning.Filters.{Filter}
-use Rattle.crx_reading.specs.meaning.Messages.{error_text, notices_text}
-use Rattle.crx_reading.specs.meaning.Results.{Begins, Course, FilterResult, good_status, result_of_course, status_after}
+use Rattle.crx_runs.specs.Lawful.{IsLawful}
+use Rattle.crx_runs.specs.meaning.Filters.{Filter}
+use Rattle.crx_runs.specs.meaning.Messages.{error_text, notices_text}
+use Rattle.crx_runs.specs.meaning.Results.{Begins, Course, FilterResult, good_status, result_of_course, status_after}
 use Rattle.crx_reading.specs.meaning.Standard.{Findings, checked_by, findings_of, report_status, whole_of}
 use Rattle.crx_engine.proofs.following.CheckLawful.{check-lawful}
 use Rattle.crx_engine.proofs.following.Lawful.{compaction-lawful, expansion-lawful}
-use Rattle.crx_filter.specs.declared.outcome.Outcome.{Outcome}
-use Rattle.crx_filter.specs.meaning.Runs.{FaultIs}
+use Rattle.crx_runs.specs.declared.outcome.Outcome.{Outcome}
+use Rattle.crx_runs.specs.meaning.Runs.{FaultIs}
 use Rattle.rnxcmp_c.specs.Going.{AreFirstWarnings, Breaks, LineFails, IsAll, IsText, HandlePast}
 use Rattle.rnxcmp_c.specs.Handles.{Task, Compact, Expand, Check, IsOf, ReaderIsOver, IsPut, IsPutDown, IsPutSilently}
 use Rattle.rnxcmp_c.specs.Handles.{AreMessagesCut, RunIsOutOfMemory, filter_for}

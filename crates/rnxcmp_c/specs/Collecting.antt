@@ -1,9 +1,9 @@
 -- What was collected of a run over the caller's input.
 use Rattle.std.specs.Prelude.{◌≡◌}
-use Rattle.crx_lines.specs.meaning.Faults.{code_of_fault}
-use Rattle.crx_lines.specs.declared.fault.Fault.TheVariants.{OutOfMemory}
-use Rattle.crx_reading.specs.meaning.Results.{FilterResult}
-use Rattle.crx_filter.specs.declared.outcome.Outcome.{Outcome}
+use Rattle.crx_faults.specs.meaning.Faults.{code_of_fault}
+use Rattle.crx_faults.specs.declared.fault.Fault.TheVariants.{OutOfMemory}
+use Rattle.crx_runs.specs.meaning.Results.{FilterResult}
+use Rattle.crx_runs.specs.declared.outcome.Outcome.{Outcome}
 use Rattle.rnxcmp_c.specs.meaning.Answers.{fault_code_in}
 use Rattle.rnxcmp_c.specs.declared.devices.Collected.{Collected}
 use Rattle.rnxcmp_c.specs.declared.runs.Run.{Run}

@@ -1,16 +1,16 @@
 -- A run between two calls, by the bytes that were fed and the texts that were taken.
 use Rattle.std.specs.Prelude.{◌≡◌, ◌⊎◌, ◌<◌, ◌≤◌, ℕ, ◌+◌, Bool, ◌||◌, List, [], ◌++◌, length, Some, None}
-use Rattle.crx_lines.specs.meaning.Lines.{InputLine, line_of, lines_of}
-use Rattle.crx_lines.specs.meaning.Seen.{ended_lines_of}
+use Rattle.crx_faults.specs.meaning.Lines.{InputLine, line_of, lines_of}
+use Rattle.crx_faults.specs.meaning.Seen.{ended_lines_of}
 use Rattle.crx_lines.specs.Reading.{HasNoFeed}
-use Rattle.crx_lines.specs.declared.fault.At.{At}
-use Rattle.crx_lines.specs.declared.fault.Fault.TheVariants.{OutOfMemory}
-use Rattle.crx_engine.specs.Engines.{Awaited}
-use Rattle.crx_reading.specs.meaning.Filters.{Filter}
-use Rattle.crx_reading.specs.meaning.Messages.{notices_text}
-use Rattle.crx_reading.specs.meaning.Results.{Begins, Course, are_some}
-use Rattle.crx_filter.specs.declared.taking.Halt.{Halt}
-use Rattle.crx_filter.specs.declared.taking.Halt.TheVariants.{Fault, Unwritten, Unreported}
+use Rattle.crx_faults.specs.declared.fault.At.{At}
+use Rattle.crx_faults.specs.declared.fault.Fault.TheVariants.{OutOfMemory}
+use Rattle.crx_runs.specs.Engines.{Awaited}
+use Rattle.crx_runs.specs.meaning.Filters.{Filter}
+use Rattle.crx_runs.specs.meaning.Messages.{notices_text}
+use Rattle.crx_runs.specs.meaning.Results.{Begins, Course, are_some}
+use Rattle.crx_runs.specs.declared.taking.Halt.{Halt}
+use Rattle.crx_runs.specs.declared.taking.Halt.TheVariants.{Fault, Unwritten, Unreported}
 use Rattle.rnxcmp_c.specs.declared.devices.Collected.{Collected}
 use Rattle.rnxcmp_c.specs.declared.held.Held.{Held}
 

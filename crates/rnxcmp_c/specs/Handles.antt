@@ -1,17 +1,17 @@
 -- A handle between two calls.
 use Rattle.std.specs.Prelude.{◌≡◌, ◌⊎◌, ◌<◌, ◌≤◌, ⊤, ℕ, ◌+◌, Bool, List, [], ◌++◌, length, Option, Some, None}
-use Rattle.crx_lines.specs.meaning.Lines.{InputLine, lines_of}
-use Rattle.crx_lines.specs.meaning.Seen.{ended_lines_of}
-use Rattle.crx_lines.specs.declared.limits.TheConstants.{INPUT_LIMIT}
-use Rattle.crx_lines.specs.declared.fault.At.{At}
-use Rattle.crx_lines.specs.declared.fault.Fault.TheVariants.{InputTooLong, OutOfMemory}
-use Rattle.crx_lines.specs.meaning.Faults.{code_of_fault}
-use Rattle.crx_reading.specs.meaning.Choices.{Choices}
+use Rattle.crx_faults.specs.meaning.Lines.{InputLine, lines_of}
+use Rattle.crx_faults.specs.meaning.Seen.{ended_lines_of}
+use Rattle.crx_faults.specs.declared.limits.TheConstants.{INPUT_LIMIT}
+use Rattle.crx_faults.specs.declared.fault.At.{At}
+use Rattle.crx_faults.specs.declared.fault.Fault.TheVariants.{InputTooLong, OutOfMemory}
+use Rattle.crx_faults.specs.meaning.Faults.{code_of_fault}
+use Rattle.crx_options.specs.meaning.Choices.{Choices}
 use Rattle.crx_reading.specs.meaning.Compacted.{compacted}
 use Rattle.crx_reading.specs.meaning.Expanded.{expanded}
-use Rattle.crx_reading.specs.meaning.Filters.{Filter}
-use Rattle.crx_reading.specs.meaning.Results.{Begins, FilterResult, good_status}
-use Rattle.crx_reading.specs.meaning.Messages.{error_text}
+use Rattle.crx_runs.specs.meaning.Filters.{Filter}
+use Rattle.crx_runs.specs.meaning.Results.{Begins, FilterResult, good_status}
+use Rattle.crx_runs.specs.meaning.Messages.{error_text}
 use Rattle.crx_reading.specs.meaning.Standard.{checked, report_status}
 use Rattle.crx_reading.specs.meaning.Directions.{check_filter}
 use Rattle.crx_engine.specs.CheckerState.{CheckerHasTaken, CheckerIsOpen, HasEnded as CheckerHasEnded, pending_report}
@@ -19,11 +19,11 @@ use Rattle.crx_reading.specs.CompactionByLine.{compaction, compaction_seen}
 use Rattle.crx_engine.specs.CompactorState.{compactor_ready, compactor_seen}
 use Rattle.crx_reading.specs.meaning.Directions.{compaction_filter, expansion_filter}
 use Rattle.crx_engine.specs.EngineLines.{HasTaken}
-use Rattle.crx_engine.specs.Engines.{Awaited}
+use Rattle.crx_runs.specs.Engines.{Awaited}
 use Rattle.crx_engine.specs.ExpanderState.{expander_state}
 use Rattle.crx_reading.specs.ExpansionByLine.{expansion, expansion_seen}
-use Rattle.crx_filter.specs.declared.outcome.Outcome.{Outcome}
-use Rattle.crx_filter.specs.meaning.Runs.{FaultIs}
+use Rattle.crx_runs.specs.declared.outcome.Outcome.{Outcome}
+use Rattle.crx_runs.specs.meaning.Runs.{FaultIs}
 use Rattle.rnxcmp_c.specs.Going.{AreFirstWarnings, IsGoing, HandlePast, fed_with}
 use Rattle.rnxcmp_c.specs.meaning.Answers.{bare_answer, fault_code_in, line_in}
 use Rattle.rnxcmp_c.specs.declared.answer.Answer.{Answer}

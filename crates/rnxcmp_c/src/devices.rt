@@ -5,7 +5,7 @@ ghost use Rattle.std.proofs.KnownBytes.{Appends-nil, Appends-trans, Consumes-nil
 ghost use Rattle.rnxcmp_c.specs.meaning.Answers.{placed};
 
 use crate::answer::place;
-use crx_text::{ReadFailed, Sink, Source, WriteFailed};
+use crx_lines::{ReadFailed, Sink, Source, WriteFailed};
 use std::alloc::Global;
 
 /// Gives the bytes that it was made with. It never fails.

@@ -1,9 +1,9 @@
 //! The engines of the three tasks, as one type.
 
 ghost use Rattle.std.specs.Prelude.{◌≡◌, ◌≤◌, ◌+◌, [], length, OnOk, IfErr};
-ghost use Rattle.crx_lines.specs.declared.limits.TheConstants.{INPUT_LIMIT};
-ghost use Rattle.crx_lines.specs.meaning.Lines.{lines_of};
-ghost use Rattle.crx_engine.specs.Lawful.{IsLawful};
+ghost use Rattle.crx_faults.specs.declared.limits.TheConstants.{INPUT_LIMIT};
+ghost use Rattle.crx_faults.specs.meaning.Lines.{lines_of};
+ghost use Rattle.crx_runs.specs.Lawful.{IsLawful};
 ghost use Rattle.rnxcmp_c.specs.Going.{Breaks, LineFails, IsAll, IsGoing, HandlePast, fed_with};
 ghost use Rattle.rnxcmp_c.specs.Handles.{IsOf, Task, engine_filter, has_ended_of, is_open_of, ready_of, shows_of, status_at_end};
 
@@ -11,7 +11,7 @@ use crate::held::Held;
 use crate::lines::{take_bytes, take_last};
 use crx_engine::checker::Checker;
 use crx_engine::{Compactor, Expander};
-use crx_text::At;
+use crx_faults::At;
 
 /// The engine of a run.
 #[derive(Drop)]

@@ -5,18 +5,18 @@
 //! far as it does. Else nothing in the caller's rooms is changed.
 
 ghost use Rattle.std.specs.Prelude.{◌≡◌, ◌<◌, ◌≤◌, length, Some, true, false};
-ghost use Rattle.crx_reading.specs.meaning.Choices.{Choices, choices_of, is_date};
+ghost use Rattle.crx_options.specs.meaning.Choices.{Choices, choices_of, is_date};
 ghost use Rattle.crx_reading.specs.meaning.Compacted.{compacted};
 ghost use Rattle.crx_reading.specs.meaning.Expanded.{expanded};
 ghost use Rattle.crx_reading.specs.meaning.Standard.{checked};
-ghost use Rattle.crx_lines.specs.declared.limits.TheConstants.{INPUT_LIMIT};
+ghost use Rattle.crx_faults.specs.declared.limits.TheConstants.{INPUT_LIMIT};
 ghost use Rattle.rnxcmp_c.specs.meaning.Answers.{HasNoMemory, IsAnswer, IsDateRefused, CallIsOutOfMemory, IsTooLong, rooms};
 ghost use Rattle.rnxcmp_c.specs.meaning.Promises.{CallBringsBackWhatWasCompacted, CallJudgesStandard, CallSavesAllElse};
 
 use crate::answer::{Answer, date_refused, out_of_memory, too_long};
 use crate::runs::{Run, compaction, examination, expansion};
+use crx_faults::limits::INPUT_LIMIT;
 use crx_filter::Options;
-use crx_lines::limits::INPUT_LIMIT;
 use std::alloc::Global;
 
 /// Whether an input has more bytes than the limit.

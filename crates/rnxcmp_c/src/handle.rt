@@ -5,9 +5,9 @@
 //! texts while the run goes on, and the whole of them after its end.
 
 ghost use Rattle.std.specs.Prelude.{◌≡◌, ◌⊎◌, [], IfSome, length, take, Some, true, false};
-ghost use Rattle.crx_reading.specs.meaning.Choices.{Choices, choices_of, is_date};
-ghost use Rattle.crx_lines.specs.declared.fault.Fault.TheVariants.{OutOfMemory};
-ghost use Rattle.crx_lines.specs.meaning.Faults.{code_of_fault};
+ghost use Rattle.crx_options.specs.meaning.Choices.{Choices, choices_of, is_date};
+ghost use Rattle.crx_faults.specs.declared.fault.Fault.TheVariants.{OutOfMemory};
+ghost use Rattle.crx_faults.specs.meaning.Faults.{code_of_fault};
 ghost use Rattle.rnxcmp_c.specs.Going.{HandlePast};
 ghost use Rattle.rnxcmp_c.specs.Handles.{IsFresh, IsMisused, Task, nothing_fed, taken_with};
 ghost use Rattle.rnxcmp_c.specs.Opened.{AnswersHandle, EndedAlike, EndsHandle, FeedsHandle, HandleStands, Holds, IsSoundHandle, IsUnchanged, messages_kept, output_kept};

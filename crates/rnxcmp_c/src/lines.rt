@@ -1,20 +1,21 @@
 //! Lines out of the bytes that are fed, through an engine.
 
 ghost use Rattle.std.specs.Prelude.{◌≡◌, ◌⊎◌, ◌≤◌, ◌<◌, ◌+◌, List, [], length, take, drop, false, true, OnOk, IfOk, IfErr};
-ghost use Rattle.crx_lines.specs.declared.fault.At.{At};
-ghost use Rattle.crx_lines.specs.declared.limits.TheConstants.{INPUT_LIMIT};
-ghost use Rattle.crx_lines.specs.meaning.Lines.{InputLine, ends_with_return, lines_of, without_return};
-ghost use Rattle.crx_engine.specs.Lawful.{IsLawful};
-ghost use Rattle.crx_reading.specs.meaning.Filters.{with_next};
+ghost use Rattle.crx_faults.specs.declared.fault.At.{At};
+ghost use Rattle.crx_faults.specs.declared.limits.TheConstants.{INPUT_LIMIT};
+ghost use Rattle.crx_faults.specs.meaning.Lines.{InputLine, ends_with_return, lines_of, without_return};
+ghost use Rattle.crx_runs.specs.Lawful.{IsLawful};
+ghost use Rattle.crx_runs.specs.meaning.Filters.{with_next};
 ghost use Rattle.rnxcmp_c.specs.Going.{Breaks, LineFails, IsAll, IsGoing, IsKept, MovesOn, HandlePast, LineStops, RanOutAt, StopsBy, fed_with, piece_line};
 
 use crate::devices::Collected;
 use crate::held::Held;
-use crx_engine::engine::Engine;
-use crx_filter::taking::{Halt, take_end, take_line, take_overlong};
+use crx_faults::limits::LINE_LIMIT;
+use crx_faults::{At, Fault};
+use crx_lines::Line;
 use crx_lines::feed::feed_from;
-use crx_lines::limits::LINE_LIMIT;
-use crx_text::{At, Fault, Line};
+use crx_runs::Engine;
+use crx_runs::taking::{Halt, take_end, take_line, take_overlong};
 
 /// The fault that ended a run at a line: where the output or the messages couldn't be kept, memory ran out.
 fn fault_of(halt: Halt, line: u64) -> At

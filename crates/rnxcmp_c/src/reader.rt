@@ -1,7 +1,7 @@
 //! A run that goes on from call to call.
 
 ghost use Rattle.std.specs.Prelude.{◌≡◌, ◌<◌, ◌≤◌, ◌+◌, length, take, true, false, None, Some};
-ghost use Rattle.crx_lines.specs.declared.limits.TheConstants.{INPUT_LIMIT};
+ghost use Rattle.crx_faults.specs.declared.limits.TheConstants.{INPUT_LIMIT};
 ghost use Rattle.rnxcmp_c.specs.Going.{HandlePast, fed_with};
 ghost use Rattle.rnxcmp_c.specs.Handles.{Ends, Feeds, ReaderHasEnded, HasFed, IsPut, ReaderRuns, ReaderStands, Task, answer_now, taken_with};
 ghost use Rattle.rnxcmp_c.specs.meaning.Answers.{placed};
@@ -9,10 +9,10 @@ ghost use Rattle.rnxcmp_c.specs.meaning.Answers.{placed};
 use crate::answer::{Answer, code_in, line_in, misused, too_long};
 use crate::engines::{AnyEngine, end_any, status_at_end, take_any};
 use crate::held::Held;
-use crx_filter::Outcome;
-use crx_filter::message::{Severity, message};
-use crx_lines::limits::INPUT_LIMIT;
-use crx_text::{At, Fault};
+use crx_faults::limits::INPUT_LIMIT;
+use crx_faults::{At, Fault};
+use crx_runs::Outcome;
+use crx_runs::message::{Severity, message};
 
 /// A run between two calls.
 #[derive(Drop)]

@@ -3,18 +3,19 @@
 ghost use Rattle.std.specs.Prelude.{◌≡◌, ◌≢◌, ◌⊎◌, ◌≤◌, length, IfErr, IfOk, OnErr};
 ghost use Rattle.crx_reading.specs.meaning.Compacted.{compacted};
 ghost use Rattle.crx_reading.specs.meaning.Expanded.{expanded};
-ghost use Rattle.crx_reading.specs.meaning.Results.{FilterResult};
+ghost use Rattle.crx_runs.specs.meaning.Results.{FilterResult};
 ghost use Rattle.crx_reading.specs.meaning.Standard.{checked};
-ghost use Rattle.crx_lines.specs.declared.limits.TheConstants.{INPUT_LIMIT};
-ghost use Rattle.crx_lines.specs.declared.fault.Fault.TheVariants.{OutOfMemory};
-ghost use Rattle.crx_lines.specs.meaning.Faults.{code_of_fault};
+ghost use Rattle.crx_faults.specs.declared.limits.TheConstants.{INPUT_LIMIT};
+ghost use Rattle.crx_faults.specs.declared.fault.Fault.TheVariants.{OutOfMemory};
+ghost use Rattle.crx_faults.specs.meaning.Faults.{code_of_fault};
 ghost use Rattle.rnxcmp_c.specs.meaning.Answers.{IsAnswer, fault_code_in, line_in, rooms};
 ghost use Rattle.rnxcmp_c.specs.Collecting.{HasMemory, IsCollected, IsRun};
 
 use crate::answer::{Answer, NO_ROOM, code_in, line_in, place};
 use crate::devices::{Collected, Given};
-use crx_filter::{Options, Outcome, check, compact, expand};
-use crx_text::Fault;
+use crx_faults::Fault;
+use crx_filter::{Options, check, compact, expand};
+use crx_runs::Outcome;
 use std::alloc::Global;
 
 /// What a run answered, wrote and reported.

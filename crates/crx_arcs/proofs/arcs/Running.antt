@@ -15,7 +15,7 @@ use Rattle.crx_arcs.specs.meaning.Differences.{newest}
 use Rattle.crx_arcs.specs.ArcSteps.{differences_after, onto_sum, differences_by, highest, code_of_value, arc_of_value}
 use Rattle.crx_arcs.specs.ArcSteps.{value_of_code, arc_of_code}
 use Rattle.crx_arcs.specs.meaning.ArcValues.{in_range, is_within}
-use Rattle.crx_lines.specs.declared.limits.TheConstants.{WRITTEN_ORDER}
+use Rattle.crx_faults.specs.declared.limits.TheConstants.{WRITTEN_ORDER}
 
 -- ---- size
 

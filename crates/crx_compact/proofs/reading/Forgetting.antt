@@ -1,16 +1,16 @@
 -- A line that begins with > forgets what was read before it.
 use Rattle.std.specs.Prelude.{◌≡◌, ℕ, true, List, [], ◌∷◌, drop, Option, Some, None, Result, Ok, Err, if◌then◌else◌}
 use Rattle.std.proofs.Common.{sym, ◌∙◌, ap}
-use Rattle.crx_lines.specs.meaning.Seen.{ReadLine, Content}
-use Rattle.crx_lines.specs.declared.fault.Fault.{Fault}
-use Rattle.crx_lines.specs.declared.fault.Fault.TheVariants.{NotAnEpoch}
-use Rattle.crx_rinex.specs.meaning.ObservationTypes.{Count}
+use Rattle.crx_faults.specs.meaning.Seen.{ReadLine, Content}
+use Rattle.crx_faults.specs.declared.fault.Fault.{Fault}
+use Rattle.crx_faults.specs.declared.fault.Fault.TheVariants.{NotAnEpoch}
+use Rattle.crx_header.specs.meaning.ObservationTypes.{Count}
 use Rattle.crx_rinex.specs.meaning.Places.{Place, Here, then_place, one_line, first_line}
 use Rattle.crx_rinex.specs.meaning.EpochLines.{begins_epoch}
 use Rattle.crx_history.specs.meaning.Expansion.{RawEpoch, block_of}
 use Rattle.crx_history.specs.meaning.Past.{Past, past_of_block, past_of_epochs, past_of_line}
 use Rattle.crx_history.specs.meaning.CompactPlaces.{satellites_of_line, BegunEpoch, epoch_begun}
-use Rattle.crx_arcs.specs.meaning.Cells.{ReadCell}
+use Rattle.crx_cells.specs.meaning.Cells.{ReadCell}
 use Rattle.crx_history.specs.meaning.CompactPlaces.{clock_line_read, rows_read, ReadEpoch, epoch_of_rows}
 use Rattle.crx_history.specs.meaning.CompactPlaces.{epoch_after_line, epoch_at}
 use Rattle.crx_compact.specs.ReadingLaws.{Forgets}

@@ -5,16 +5,16 @@ use Rattle.std.proofs.Common.{◌∙◌, ap}
 use Rattle.crx_text.specs.declared.code.Code.{Code}
 use Rattle.crx_text.specs.declared.code.Code.TheVariants.{Missing, Start, Step}
 use Rattle.crx_text.specs.meaning.Codes.{code_of}
-use Rattle.crx_lines.specs.declared.fault.Fault.{Fault}
-use Rattle.crx_lines.specs.declared.fault.Fault.TheVariants.{BadField, BadFlags, OutOfMemory, OutOfRange, Truncated}
-use Rattle.crx_lines.specs.declared.limits.TheConstants.{OBSERVATION_WIDTH}
+use Rattle.crx_faults.specs.declared.fault.Fault.{Fault}
+use Rattle.crx_faults.specs.declared.fault.Fault.TheVariants.{BadField, BadFlags, OutOfMemory, OutOfRange, Truncated}
+use Rattle.crx_faults.specs.declared.limits.TheConstants.{OBSERVATION_WIDTH}
 use Rattle.crx_rinex.specs.meaning.EpochLines.{begins_epoch}
 use Rattle.crx_arcs.specs.meaning.Sequences.{and_then, before_all}
 use Rattle.crx_history.specs.meaning.EpochText.{Satellite}
 use Rattle.crx_arcs.specs.meaning.ArcValues.{in_range, is_within}
-use Rattle.crx_arcs.specs.meaning.Cells.{ReadCell, cell_read, cells_read, cells_of}
+use Rattle.crx_cells.specs.meaning.Cells.{ReadCell, cell_read, cells_read, cells_of}
 use Rattle.crx_history.specs.meaning.CompactPlaces.{ReadRow, are_marks}
-use Rattle.crx_arcs.specs.meaning.Cells.{after_cells}
+use Rattle.crx_cells.specs.meaning.Cells.{after_cells}
 use Rattle.crx_history.specs.meaning.CompactPlaces.{row_of_cells, row_of_line, row_with_marks}
 use Rattle.crx_history.specs.meaning.CompactPlaces.{satellite_line_read}
 use Rattle.crx_history.specs.HeldRows.{HeldRow, held_row, past_of_tail}

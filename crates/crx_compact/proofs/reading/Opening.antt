@@ -6,16 +6,16 @@ use Rattle.std.proofs.Common.{sym, ◌∙◌, ap, subst, arith, true≢false, ad
 use Rattle.std.proofs.lemmas.Option.{slice_get_within}
 use Rattle.std.proofs.lemmas.List.{length-take, length-append, length-map, length-take-le, length-drop, map-append}
 use Rattle.std.proofs.lemmas.List.{take_all}
-use Rattle.crx_lines.specs.declared.fault.Fault.{Fault}
+use Rattle.crx_faults.specs.declared.fault.Fault.{Fault}
 use Rattle.crx_rinex.specs.meaning.Printing.{printed_epoch}
 use Rattle.crx_rinex.specs.Epochs.{with_row}
 use Rattle.crx_rinex.specs.meaning.Epochs.{are_apart}
 use Rattle.crx_rinex.proofs.Apart.{apart-fewer, apart-map}
-use Rattle.crx_arcs.specs.meaning.Cells.{ReadCell}
+use Rattle.crx_cells.specs.meaning.Cells.{ReadCell}
 use Rattle.crx_arcs.specs.ArcTails.{ArcTail}
 use Rattle.crx_history.specs.Tails.{RowTail, Tail}
 use Rattle.crx_history.specs.HeldRows.{row_after, AreApart, held_row, HeldRow, past_of_tail, IsNextRow}
-use Rattle.crx_lines.specs.meaning.Seen.{Content}
+use Rattle.crx_faults.specs.meaning.Seen.{Content}
 use Rattle.crx_compact.specs.OpenEpochs.{ColumnsState, Faulty, HasMade, HasPrintedLines, first_step, is_idle, line_step, opened_raw}
 use Rattle.crx_compact.specs.OpenEpochs.{step_in, tail_for_line, Idle, HeldClock, OpenRawEpoch, RawStep}
 use Rattle.crx_compact.specs.OpenEpochs.{Whole, whole_or_awaiting}
@@ -31,9 +31,9 @@ use Rattle.crx_history.proofs.Results.{and_then-ok, ok-same}
 use Rattle.crx_history.specs.meaning.CompactPlaces.{satellite_line_read}
 use Rattle.std.proofs.Math.ListN.{drop_of_length-le}
 use Rattle.crx_columns.specs.meaning.Columns.{columns}
-use Rattle.crx_lines.specs.declared.limits.TheConstants.{HEAD_WIDTH}
+use Rattle.crx_faults.specs.declared.limits.TheConstants.{HEAD_WIDTH}
 use Rattle.crx_rinex.specs.meaning.Observations.{Row, Epoch}
-use Rattle.crx_rinex.specs.meaning.ObservationTypes.{Count}
+use Rattle.crx_header.specs.meaning.ObservationTypes.{Count}
 use Rattle.crx_history.specs.meaning.EpochText.{Satellite}
 use Rattle.crx_history.proofs.Making.{taken_more}
 

@@ -1,6 +1,6 @@
 -- What stands at compact lines is certain as soon as its last line has come.
 use Rattle.std.specs.Prelude.{ℕ, List, [], ◌∷◌, Option}
-use Rattle.crx_rinex.specs.meaning.ObservationTypes.{Count}
+use Rattle.crx_header.specs.meaning.ObservationTypes.{Count}
 use Rattle.crx_rinex.specs.meaning.Places.{Here, then_place, first_line}
 use Rattle.crx_rinex.specs.Steady.{IsSteady}
 use Rattle.crx_rinex.proofs.Steady.{steady-here, steady-first_line, steady-then}

@@ -1,6 +1,6 @@
 -- What a line makes of an open epoch, by what was read of it.
 use Rattle.std.specs.Prelude.{◌≡◌, ℕ, List, [], ◌∷◌, ◌++◌, Some, Result, Ok, Err}
-use Rattle.crx_lines.specs.declared.fault.Fault.{Fault}
+use Rattle.crx_faults.specs.declared.fault.Fault.{Fault}
 use Rattle.crx_history.specs.meaning.EpochText.{Satellite}
 use Rattle.crx_history.specs.meaning.CompactPlaces.{ReadRow, satellite_line_read}
 use Rattle.crx_compact.specs.OpenEpochs.{HeldClock, OpenRawEpoch, whole_or_awaiting}

@@ -10,18 +10,18 @@ use Rattle.std.proofs.lemmas.Bool.{and_parts, and_from}
 use Rattle.crx_columns.specs.meaning.Columns.{columns, character_at, is_blank}
 use Rattle.crx_text.specs.meaning.Numbers.{IsMissingOrWithin}
 use Rattle.crx_rinex.specs.meaning.Observations.{Row}
-use Rattle.crx_rinex.specs.meaning.ObservationTypes.{Count, is_system, count_of, IsAllowedCount}
-use Rattle.crx_rinex.specs.ObservationTypes.{AreCounts}
+use Rattle.crx_header.specs.meaning.ObservationTypes.{Count, is_system, count_of, IsAllowedCount}
+use Rattle.crx_header.specs.ObservationTypes.{AreCounts}
 use Rattle.crx_rinex.specs.meaning.EpochLines.{begins_epoch}
 use Rattle.crx_rinex.specs.meaning.SatelliteLines.{has_number, IsValue, IsSoundRow, HasItsTypes, types_of_satellite}
 use Rattle.crx_rinex.proofs.Apart.{apart-map}
-use Rattle.crx_rinex.proofs.Counts.{allowed_of, system_of}
+use Rattle.crx_header.proofs.Counts.{allowed_of, system_of}
 use Rattle.crx_rinex.proofs.Rows.{satellites_few}
 use Rattle.crx_text.specs.declared.code.Code.{Code}
 use Rattle.crx_text.specs.declared.code.Code.TheVariants.{Missing, Start, Step}
-use Rattle.crx_lines.specs.declared.fault.Fault.{Fault}
-use Rattle.crx_lines.specs.declared.fault.Fault.TheVariants.{NoArc}
-use Rattle.crx_lines.specs.declared.limits.TheConstants.{OBSERVATION_WIDTH, CLOCK_WIDTH}
+use Rattle.crx_faults.specs.declared.fault.Fault.{Fault}
+use Rattle.crx_faults.specs.declared.fault.Fault.TheVariants.{NoArc}
+use Rattle.crx_faults.specs.declared.limits.TheConstants.{OBSERVATION_WIDTH, CLOCK_WIDTH}
 use Rattle.crx_columns.specs.meaning.Texts.{is_kept, is_printable}
 use Rattle.crx_arcs.specs.meaning.Sequences.{stretch}
 use Rattle.crx_history.specs.meaning.EpochText.{Satellite}
@@ -31,10 +31,10 @@ use Rattle.crx_history.specs.meaning.Expansion.{raw_row_named, raw_run_of, marks
 use Rattle.crx_arcs.specs.meaning.ArcValues.{since_start}
 use Rattle.crx_arcs.specs.meaning.ArcValues.{value_since, value_of}
 use Rattle.crx_history.specs.meaning.Past.{Past, past_of_block}
-use Rattle.crx_arcs.specs.meaning.Cells.{ReadCell}
+use Rattle.crx_cells.specs.meaning.Cells.{ReadCell}
 use Rattle.crx_history.specs.meaning.CompactPlaces.{ReadRow, ReadEpoch}
 use Rattle.crx_compact.specs.ReadingLaws.{HasPrintableMarks, IsGood, ReadsWholeEpochs}
-use Rattle.crx_rinex.proofs.EachPlace.{each_place-all, length-each_place}
+use Rattle.crx_columns.proofs.EachPlace.{each_place-all, length-each_place}
 use Rattle.crx_compact.proofs.Lists.{all-from}
 use Rattle.crx_compact.proofs.wayback.Overlays.{at-overlaid}
 use Rattle.crx_rinex.proofs.SoundEpochs.{length-columns}

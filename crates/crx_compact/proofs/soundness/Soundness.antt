@@ -6,17 +6,17 @@ use Rattle.std.proofs.Common.{sym, ◌∙◌, ap, subst, arith}
 use Rattle.std.proofs.lemmas.List.{length-map}
 use Rattle.crx_columns.specs.meaning.Columns.{columns, without_end_blanks}
 use Rattle.crx_text.specs.meaning.Codes.{code_of}
-use Rattle.crx_lines.specs.meaning.Seen.{ReadLine, Content, Overlong}
+use Rattle.crx_faults.specs.meaning.Seen.{ReadLine, Content, Overlong}
 use Rattle.crx_rinex.specs.meaning.Observations.{Row, Epoch}
-use Rattle.crx_rinex.specs.meaning.ObservationTypes.{Count}
+use Rattle.crx_header.specs.meaning.ObservationTypes.{Count}
 use Rattle.crx_rinex.proofs.Apart.{apart-map}
 use Rattle.crx_rinex.specs.meaning.Places.{Place, Here, Wrong, Wanted, then_place, after_lines, first_line, one_line}
 use Rattle.crx_text.specs.declared.code.Code.{Code}
 use Rattle.crx_text.specs.declared.code.Code.TheVariants.{Missing}
-use Rattle.crx_lines.specs.declared.fault.Fault.{Fault}
-use Rattle.crx_lines.specs.declared.fault.Fault.TheVariants.{NotAnEpoch, BadClock, BadField, BadFlags}
-use Rattle.crx_lines.specs.declared.fault.Fault.TheVariants.{Truncated}
-use Rattle.crx_rinex.specs.meaning.EachPlace.{each_place}
+use Rattle.crx_faults.specs.declared.fault.Fault.{Fault}
+use Rattle.crx_faults.specs.declared.fault.Fault.TheVariants.{NotAnEpoch, BadClock, BadField, BadFlags}
+use Rattle.crx_faults.specs.declared.fault.Fault.TheVariants.{Truncated}
+use Rattle.crx_columns.specs.meaning.EachPlace.{each_place}
 use Rattle.crx_arcs.specs.meaning.Sequences.{and_then, before_all}
 use Rattle.crx_history.specs.Expansion.{all_ok, text_of, row_from, rows_from, epoch_of_block, epoch_from}
 use Rattle.crx_rinex.specs.meaning.EpochLines.{begins_epoch}
@@ -28,7 +28,7 @@ use Rattle.crx_history.specs.meaning.CompactPlaces.{satellites_of_line, BegunEpo
 use Rattle.crx_history.specs.meaning.CompactPlaces.{are_marks, ReadRow, row_of_cells, row_with_marks, row_of_line}
 use Rattle.crx_history.specs.meaning.CompactPlaces.{satellite_line_read, rows_read, ReadEpoch, epoch_of_rows}
 use Rattle.crx_history.specs.meaning.CompactPlaces.{epoch_after_line, epoch_at}
-use Rattle.crx_arcs.specs.meaning.Cells.{ReadCell, cell_read, cells_read, cells_of, after_cells}
+use Rattle.crx_cells.specs.meaning.Cells.{ReadCell, cell_read, cells_read, cells_of, after_cells}
 use Rattle.crx_compact.specs.ReadingLaws.{HasSingleLines, ReadsSoundly}
 use Rattle.crx_history.proofs.Identifiers.{each-own}
 use Rattle.crx_history.proofs.Results.{no-err, ok-same, Follows, and_then-ok, if-err, if-ok, if-true, before-ok}

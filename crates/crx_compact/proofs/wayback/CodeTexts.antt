@@ -14,7 +14,7 @@ use Rattle.crx_text.specs.meaning.Codes.{code_text}
 use Rattle.crx_text.specs.Codes.{IsShort, IsPrintable}
 use Rattle.crx_text.specs.declared.code.Code.{Code}
 use Rattle.crx_text.specs.declared.code.Code.TheVariants.{Missing, Start, Step}
-use Rattle.crx_lines.specs.declared.limits.TheConstants.{ORDER_LIMIT, DIGITS_LIMIT}
+use Rattle.crx_faults.specs.declared.limits.TheConstants.{ORDER_LIMIT, DIGITS_LIMIT}
 
 -- ---- characters of codes: digits, a minus and &
 

@@ -9,13 +9,13 @@ use Rattle.crx_columns.specs.meaning.Columns.{character_at, without_end_blanks, 
 use Rattle.crx_columns.specs.meaning.Texts.{text_difference, mark_of, by_position, is_kept, is_printable}
 use Rattle.crx_rinex.specs.meaning.Observations.{Row, Epoch}
 use Rattle.crx_rinex.specs.meaning.Epochs.{has_satellite, are_different, IsWholeEpoch}
-use Rattle.crx_lines.specs.declared.fault.Fault.{Fault}
-use Rattle.crx_rinex.specs.meaning.EachPlace.{each_place}
+use Rattle.crx_faults.specs.declared.fault.Fault.{Fault}
+use Rattle.crx_columns.specs.meaning.EachPlace.{each_place}
 use Rattle.crx_rinex.specs.meaning.EpochLines.{begins_epoch, is_observation_flag, satellites_in}
 use Rattle.crx_history.specs.meaning.EpochText.{Satellite, satellites_named}
-use Rattle.crx_rinex.specs.meaning.ObservationTypes.{Count}
+use Rattle.crx_header.specs.meaning.ObservationTypes.{Count}
 use Rattle.crx_history.specs.meaning.Compaction.{epoch_text}
-use Rattle.crx_rinex.proofs.EachPlace.{each_place-same}
+use Rattle.crx_columns.proofs.EachPlace.{each_place-same}
 use Rattle.crx_history.proofs.Identifiers.{AreNew, new-after}
 use Rattle.crx_compact.proofs.wayback.Writable.{IsTypedRow, head-counted, sound-name_kept, typed-rows}
 use Rattle.crx_history.proofs.Characters.{at-by_position, same_characters, list_all-at, list_all-append, if_some}

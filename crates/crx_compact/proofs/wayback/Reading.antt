@@ -10,14 +10,14 @@ use Rattle.std.proofs.lemmas.Bool.{and_parts}
 use Rattle.crx_columns.specs.meaning.Columns.{is_blank, without_end_blanks, columns}
 use Rattle.crx_text.specs.meaning.Codes.{code_text}
 use Rattle.crx_text.specs.Codes.{IsPrintable}
-use Rattle.crx_lines.specs.meaning.Seen.{ReadLine, Content}
+use Rattle.crx_faults.specs.meaning.Seen.{ReadLine, Content}
 use Rattle.crx_rinex.specs.meaning.Observations.{Row, Epoch}
-use Rattle.crx_rinex.specs.meaning.ObservationTypes.{Count}
+use Rattle.crx_header.specs.meaning.ObservationTypes.{Count}
 use Rattle.crx_rinex.specs.meaning.Places.{Here}
 use Rattle.crx_text.specs.declared.code.Code.{Code}
-use Rattle.crx_lines.specs.declared.fault.Fault.{Fault}
-use Rattle.crx_lines.specs.declared.fault.Fault.TheVariants.{BadEpoch}
-use Rattle.crx_lines.specs.declared.limits.TheConstants.{WRITTEN_ORDER, CLOCK_WIDTH}
+use Rattle.crx_faults.specs.declared.fault.Fault.{Fault}
+use Rattle.crx_faults.specs.declared.fault.Fault.TheVariants.{BadEpoch}
+use Rattle.crx_faults.specs.declared.limits.TheConstants.{WRITTEN_ORDER, CLOCK_WIDTH}
 use Rattle.crx_arcs.specs.meaning.Sequences.{back_to, and_then}
 use Rattle.crx_arcs.specs.meaning.Differences.{code_at}
 use Rattle.crx_history.specs.meaning.Compaction.{Marked, epoch_text, row_named, since_full, run_of, clock_arc}
@@ -29,7 +29,7 @@ use Rattle.crx_arcs.specs.meaning.ArcValues.{value_of}
 use Rattle.crx_history.specs.meaning.Past.{Past, past_of_block, past_of_epochs, past_of_line}
 use Rattle.crx_history.specs.meaning.CompactPlaces.{satellites_counted, satellites_of_text, satellites_of_line}
 use Rattle.crx_history.specs.meaning.CompactPlaces.{BegunEpoch, epoch_begun, clock_line_read}
-use Rattle.crx_arcs.specs.meaning.Cells.{ReadCell}
+use Rattle.crx_cells.specs.meaning.Cells.{ReadCell}
 use Rattle.crx_history.specs.meaning.CompactPlaces.{ReadRow, satellite_line_read, rows_read, ReadEpoch, epoch_of_rows}
 use Rattle.crx_history.specs.meaning.CompactPlaces.{epoch_at}
 use Rattle.crx_rinex.specs.meaning.Epochs.{IsWholeEpoch}

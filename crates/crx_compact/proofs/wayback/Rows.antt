@@ -18,28 +18,28 @@ use Rattle.crx_text.specs.Codes.{IsPrintable}
 use Rattle.crx_rinex.specs.meaning.Observations.{Row, Epoch}
 use Rattle.crx_text.specs.declared.code.Code.{Code}
 use Rattle.crx_text.specs.declared.code.Code.TheVariants.{Missing}
-use Rattle.crx_lines.specs.declared.fault.Fault.{Fault}
-use Rattle.crx_lines.specs.declared.limits.TheConstants.{WRITTEN_ORDER, OBSERVATION_WIDTH, CLOCK_WIDTH}
-use Rattle.crx_rinex.specs.meaning.EachPlace.{each_place}
+use Rattle.crx_faults.specs.declared.fault.Fault.{Fault}
+use Rattle.crx_faults.specs.declared.limits.TheConstants.{WRITTEN_ORDER, OBSERVATION_WIDTH, CLOCK_WIDTH}
+use Rattle.crx_columns.specs.meaning.EachPlace.{each_place}
 use Rattle.crx_arcs.specs.meaning.Sequences.{back_to, stretch}
 use Rattle.crx_arcs.specs.meaning.Differences.{code_at}
 use Rattle.crx_history.specs.meaning.Compaction.{Marked, run_of, since_full, row_named, arc_of}
-use Rattle.crx_arcs.specs.meaning.Cells.{value_in}
+use Rattle.crx_cells.specs.meaning.Cells.{value_in}
 use Rattle.crx_history.specs.meaning.Compaction.{indicators_before, codes_of, satellite_line}
-use Rattle.crx_arcs.specs.meaning.Cells.{cell_text}
+use Rattle.crx_cells.specs.meaning.Cells.{cell_text}
 use Rattle.crx_history.specs.meaning.EpochText.{Satellite}
 use Rattle.crx_history.specs.meaning.Expansion.{RawEpoch, raw_run_of, code_in}
 use Rattle.crx_arcs.specs.meaning.ArcValues.{value_of}
 use Rattle.crx_history.specs.meaning.Past.{Past, past_of_block}
-use Rattle.crx_arcs.specs.meaning.Cells.{ReadCell, cells_read, cells_of, after_cells}
+use Rattle.crx_cells.specs.meaning.Cells.{ReadCell, cells_read, cells_of, after_cells}
 use Rattle.crx_history.specs.meaning.CompactPlaces.{are_marks, row_of_cells}
 use Rattle.crx_history.specs.meaning.CompactPlaces.{satellite_line_read}
 use Rattle.crx_compact.specs.Laws.{AreWhole, CodesFit}
-use Rattle.crx_rinex.proofs.EachPlace.{each_place-all, index-each_place, length-each_place, map-each_place}
+use Rattle.crx_columns.proofs.EachPlace.{each_place-all, index-each_place, length-each_place, map-each_place}
 use Rattle.crx_compact.proofs.Lists.{all-from}
 use Rattle.crx_compact.proofs.wayback.Writable.{IsTypedRow, typed-rows}
 use Rattle.crx_compact.specs.ReadingLaws.{raw_row}
-use Rattle.crx_rinex.specs.meaning.ObservationTypes.{Count}
+use Rattle.crx_header.specs.meaning.ObservationTypes.{Count}
 use Rattle.crx_text.proofs.CodeTexts.{code_of-code_text}
 use Rattle.crx_compact.proofs.wayback.CodeTexts.{is_code_character, code-characters}
 use Rattle.crx_compact.proofs.wayback.Cells.{AreWritten, cells-written, marks-written, one_cell}

@@ -8,16 +8,16 @@ use Rattle.crx_columns.specs.meaning.Columns.{character_at, without_end_blanks}
 use Rattle.crx_columns.specs.meaning.Texts.{text_difference, is_printable, mark_of, is_kept}
 use Rattle.crx_text.specs.meaning.Codes.{code_text}
 use Rattle.crx_text.specs.declared.code.Code.{Code}
-use Rattle.crx_lines.specs.declared.limits.TheConstants.{WRITTEN_ORDER}
+use Rattle.crx_faults.specs.declared.limits.TheConstants.{WRITTEN_ORDER}
 use Rattle.crx_rinex.specs.meaning.Observations.{Row, Epoch}
-use Rattle.crx_rinex.specs.meaning.ObservationTypes.{Count}
+use Rattle.crx_header.specs.meaning.ObservationTypes.{Count}
 use Rattle.crx_rinex.specs.meaning.EpochLines.{begins_epoch, is_event_flag, is_event_line, is_observation_flag}
 use Rattle.crx_history.specs.meaning.Compaction.{Marked, epoch_text, since_full, run_of, arc_of, clock_arc, newest_text}
 use Rattle.crx_history.specs.meaning.Compaction.{indicators_before, codes_of, satellite_line, epoch_line}
-use Rattle.crx_arcs.specs.meaning.Cells.{cell_text}
+use Rattle.crx_cells.specs.meaning.Cells.{cell_text}
 use Rattle.crx_arcs.specs.meaning.Differences.{code_at}
 use Rattle.crx_compact.specs.Laws.{AreWhole, has_no_epochs, LinesCanStand}
-use Rattle.crx_rinex.proofs.EachPlace.{length-each_place}
+use Rattle.crx_columns.proofs.EachPlace.{length-each_place}
 use Rattle.crx_rinex.specs.meaning.Epochs.{IsWholeEpoch}
 use Rattle.crx_compact.proofs.Lists.{all-from}
 use Rattle.crx_compact.proofs.wayback.Writable.{IsTypedRow, typed-rows}

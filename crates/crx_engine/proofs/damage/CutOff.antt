@@ -4,11 +4,11 @@ use Rattle.std.proofs.Common.{refl, ap, sym, ◌∙◌, subst, arith}
 use Rattle.std.proofs.lemmas.List.{drop-append-le, length-drop}
 use Rattle.crx_columns.specs.meaning.Columns.{without_end_blanks}
 use Rattle.crx_text.specs.meaning.Codes.{code_of}
-use Rattle.crx_lines.specs.meaning.Seen.{ReadLine, Content, Overlong}
-use Rattle.crx_lines.specs.declared.fault.Fault.{Fault}
-use Rattle.crx_lines.specs.declared.fault.Fault.TheVariants.{BadClock, Truncated}
+use Rattle.crx_faults.specs.meaning.Seen.{ReadLine, Content, Overlong}
+use Rattle.crx_faults.specs.declared.fault.Fault.{Fault}
+use Rattle.crx_faults.specs.declared.fault.Fault.TheVariants.{BadClock, Truncated}
 use Rattle.crx_rinex.specs.meaning.EpochLines.{begins_epoch}
-use Rattle.crx_rinex.specs.meaning.ObservationTypes.{Count}
+use Rattle.crx_header.specs.meaning.ObservationTypes.{Count}
 use Rattle.crx_rinex.specs.meaning.Places.{Place, Here, Wrong, Wanted, after_lines, then_place, one_line, first_line}
 use Rattle.crx_rinex.specs.Steady.{IsSteady, Remains}
 use Rattle.crx_rinex.proofs.Steady.{steady-first_line}
@@ -16,7 +16,7 @@ use Rattle.crx_history.specs.meaning.EpochText.{Satellite}
 use Rattle.crx_history.specs.meaning.Expansion.{RawEpoch}
 use Rattle.crx_history.specs.meaning.Past.{Past, past_of_line}
 use Rattle.crx_history.specs.meaning.CompactPlaces.{BegunEpoch, ReadEpoch, epoch_begun, clock_line_read}
-use Rattle.crx_arcs.specs.meaning.Cells.{cell_read}
+use Rattle.crx_cells.specs.meaning.Cells.{cell_read}
 use Rattle.crx_history.specs.meaning.CompactPlaces.{row_of_line, satellite_line_read, rows_read, epoch_of_rows}
 use Rattle.crx_history.specs.meaning.CompactPlaces.{epoch_after_line, epoch_at}
 use Rattle.crx_compact.proofs.reading.SteadyEpochs.{steady-rows_read}

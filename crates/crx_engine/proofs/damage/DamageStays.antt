@@ -5,21 +5,24 @@ use Rattle.std.proofs.Common.{reverse, Option, None, refl, ap, sym, ◌∙◌, s
 use Rattle.std.specs.List.{AllByRecursion, flat_map, list_all}
 use Rattle.std.proofs.lemmas.List.{append_cancel_left, map-append, take-append-drop}
 use Rattle.std.proofs.Math.Seq.{drop-append_seam}
-use Rattle.crx_lines.specs.meaning.Lines.{Piece, pieces_of, lines_of}
-use Rattle.crx_lines.specs.meaning.Seen.{ReadLine, Content, seen}
-use Rattle.crx_lines.specs.declared.fault.At.{At}
+use Rattle.crx_faults.specs.meaning.Lines.{Piece, pieces_of, lines_of}
+use Rattle.crx_faults.specs.meaning.Seen.{ReadLine, Content, seen}
+use Rattle.crx_faults.specs.declared.fault.At.{At}
 use Rattle.crx_rinex.specs.meaning.Observations.{Epoch}
 use Rattle.crx_rinex.specs.meaning.Epochs.{IsWholeEpoch}
-use Rattle.crx_rinex.specs.meaning.Printing.{printed_epoch, lines_text}
+use Rattle.crx_rinex.specs.meaning.Printing.{printed_epoch}
+use Rattle.crx_faults.specs.meaning.Lines.{lines_text}
 use Rattle.crx_rinex.specs.meaning.Units.{Observation}
 use Rattle.crx_history.specs.meaning.Compaction.{epoch_line}
 use Rattle.crx_history.specs.meaning.CompactPlaces.{ReadEpoch}
 use Rattle.crx_compact.specs.Laws.{LinesCanStand}
-use Rattle.crx_reading.specs.meaning.Choices.{Choices, is_date}
+use Rattle.crx_options.specs.meaning.Choices.{Choices, is_date}
 use Rattle.crx_reading.specs.meaning.Items.{Item, Accepted, header_has_ended, records_left, types_in_force}
 use Rattle.crx_reading.specs.meaning.Reading.{Reading, WholeReading, reading_from, ended_reading}
-use Rattle.crx_reading.specs.meaning.Messages.{notices_text, warnings_in}
-use Rattle.crx_reading.specs.meaning.Results.{status_after, result_of}
+use Rattle.crx_runs.specs.meaning.Messages.{notices_text}
+use Rattle.crx_reading.specs.meaning.Written.{warnings_in}
+use Rattle.crx_runs.specs.meaning.Results.{status_after}
+use Rattle.crx_reading.specs.meaning.Written.{result_of}
 use Rattle.crx_reading.specs.meaning.Compacted.{marked_epochs, version_line, program_line, compact_unit, compact_lines}
 use Rattle.crx_reading.specs.meaning.Compacted.{whole_rinex}
 use Rattle.crx_reading.specs.meaning.Expanded.{compact_place, expanded_unit, whole_compact, expanded}

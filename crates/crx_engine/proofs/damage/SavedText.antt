@@ -3,7 +3,7 @@ use Rattle.std.proofs.Common.{ℕ, ◌≡◌, ◌≤◌, ◌-◌, inl, inr, Bool
 use Rattle.std.proofs.Common.{Option, refl, ap, sym, ◌∙◌, arith, subst, append_assoc, append-nil}
 use Rattle.std.specs.Prelude.{◌||◌}
 use Rattle.std.specs.List.{AllByRecursion, flat_map}
-use Rattle.crx_lines.specs.declared.fault.At.{At}
+use Rattle.crx_faults.specs.declared.fault.At.{At}
 use Rattle.crx_rinex.specs.meaning.Observations.{Epoch}
 use Rattle.crx_rinex.specs.meaning.Epochs.{IsWholeEpoch}
 use Rattle.crx_rinex.specs.meaning.Printing.{printed_epoch}
@@ -13,7 +13,7 @@ use Rattle.crx_compact.specs.ReadingLaws.{IsGood}
 use Rattle.crx_reading.specs.meaning.Items.{Item, Accepted, Warned, ends_header, header_has_ended, records_left}
 use Rattle.crx_reading.specs.meaning.Items.{types_in_force}
 use Rattle.crx_reading.specs.meaning.Reading.{Reading}
-use Rattle.crx_reading.specs.meaning.Messages.{warnings_in}
+use Rattle.crx_reading.specs.meaning.Written.{warnings_in}
 use Rattle.crx_reading.specs.meaning.Expanded.{compact_place, expanded_unit}
 use Rattle.crx_engine.specs.Expanded.{expanded_lines}
 use Rattle.crx_engine.specs.Laws.{ItemsAreRead}

@@ -6,19 +6,19 @@ use Rattle.std.specs.Prelude.{◌&&◌, ◌||◌}
 use Rattle.std.proofs.lemmas.List.{map-append, length-map}
 use Rattle.std.proofs.lemmas.Bool.{and_parts}
 use Rattle.crx_columns.specs.meaning.Columns.{character_at}
-use Rattle.crx_lines.specs.meaning.Seen.{ReadLine, Content}
+use Rattle.crx_faults.specs.meaning.Seen.{ReadLine, Content}
 use Rattle.crx_rinex.specs.meaning.Observations.{Epoch}
 use Rattle.crx_rinex.specs.meaning.EpochLines.{begins_epoch, is_event_flag, is_event_line}
 use Rattle.crx_rinex.specs.meaning.Places.{Here}
 use Rattle.crx_rinex.specs.meaning.Units.{HeaderLine, EventLine, EventRecord, Observation}
 use Rattle.crx_history.specs.meaning.Compaction.{Marked, compact_epoch, epoch_line}
 use Rattle.crx_compact.specs.Laws.{LinesCanStand, has_no_epochs}
-use Rattle.crx_reading.specs.meaning.Choices.{Choices}
+use Rattle.crx_options.specs.meaning.Choices.{Choices}
 use Rattle.crx_reading.specs.meaning.Items.{Item, Accepted, Warned, ends_header, header_has_ended, records_announced}
 use Rattle.crx_reading.specs.meaning.Items.{records_left}
 use Rattle.crx_reading.specs.meaning.Reading.{AtLines, reading_from}
 use Rattle.crx_engine.specs.Laws.{continued_reading, AreInPlace}
-use Rattle.crx_reading.specs.meaning.Results.{written_lines}
+use Rattle.crx_reading.specs.meaning.Written.{written_lines}
 use Rattle.crx_reading.specs.meaning.Compacted.{is_interrupted, is_at_every, is_in_full, marked_epochs, epochs_accepted}
 use Rattle.crx_reading.specs.meaning.Expanded.{compact_place}
 use Rattle.crx_engine.specs.Anew.{starts_anew}

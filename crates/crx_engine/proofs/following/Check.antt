@@ -1,12 +1,12 @@
 -- A check line by line reads as the whole reading does, and keeps its totals.
 use Rattle.std.proofs.Common.{ℕ, ◌+◌, false, List, [], length, refl, ap}
 use Rattle.std.proofs.Common.{arith}
-use Rattle.crx_lines.specs.meaning.Seen.{ReadLine}
+use Rattle.crx_faults.specs.meaning.Seen.{ReadLine}
 use Rattle.crx_rinex.specs.meaning.Observations.{Epoch}
 use Rattle.crx_rinex.specs.meaning.Units.{Unit as FileUnit, Observation, printed_unit}
 use Rattle.crx_rinex.specs.meaning.EpochPlaces.{epoch_place}
 use Rattle.crx_reading.specs.meaning.Items.{Item, types_in_force}
-use Rattle.crx_reading.specs.meaning.Messages.{warnings_in}
+use Rattle.crx_reading.specs.meaning.Written.{warnings_in}
 use Rattle.crx_reading.specs.meaning.Reading.{Reading}
 use Rattle.crx_engine.specs.Laws.{IsEndedBy}
 use Rattle.crx_reading.specs.meaning.Compacted.{rinex_place, whole_rinex}

@@ -1,10 +1,10 @@
 -- A check as a filter: a fault of the lines so far is that of all lines.
 use Rattle.std.proofs.Common.{◌≡◌, false, [], ◌++◌, map, Some, refl, ap, sym, ◌∙◌}
 use Rattle.std.proofs.lemmas.List.{map-append}
-use Rattle.crx_lines.specs.meaning.Seen.{seen}
+use Rattle.crx_faults.specs.meaning.Seen.{seen}
 use Rattle.crx_rinex.specs.meaning.Observations.{Epoch}
 use Rattle.crx_reading.specs.meaning.Reading.{WholeReading}
-use Rattle.crx_engine.specs.Lawful.{IsLawful}
+use Rattle.crx_runs.specs.Lawful.{IsLawful}
 use Rattle.crx_reading.specs.meaning.Compacted.{whole_rinex}
 use Rattle.crx_reading.specs.meaning.Standard.{whole_reading_of, findings_of}
 use Rattle.crx_reading.specs.meaning.Directions.{report_unless, check_filter}

@@ -3,9 +3,9 @@ use Rattle.std.proofs.Common.{ℕ, ◌≡◌, ◌+◌, true, false, cond, List, 
 use Rattle.std.proofs.Common.{refl, ap, sym, ◌∙◌, subst, arith, length-append, append-nil, append_assoc}
 use Rattle.std.proofs.lemmas.List.{map-append, length-map}
 use Rattle.std.proofs.lemmas.Option.{none-some}
-use Rattle.crx_lines.specs.meaning.Lines.{InputLine}
-use Rattle.crx_lines.specs.meaning.Seen.{ReadLine, seen}
-use Rattle.crx_lines.specs.declared.fault.At.{At}
+use Rattle.crx_faults.specs.meaning.Lines.{InputLine}
+use Rattle.crx_faults.specs.meaning.Seen.{ReadLine, seen}
+use Rattle.crx_faults.specs.declared.fault.At.{At}
 use Rattle.crx_rinex.specs.meaning.Observations.{Epoch}
 use Rattle.crx_rinex.specs.Printing.{last_line}
 use Rattle.crx_reading.specs.meaning.Reading.{Reading}

@@ -1,7 +1,7 @@
 -- A compaction is given one line more.
 use Rattle.std.proofs.Common.{List, [], ◌∷◌, ◌++◌, length, refl, arith, length-append}
-use Rattle.crx_lines.specs.meaning.Seen.{ReadLine}
-use Rattle.crx_reading.specs.meaning.Choices.{Choices}
+use Rattle.crx_faults.specs.meaning.Seen.{ReadLine}
+use Rattle.crx_options.specs.meaning.Choices.{Choices}
 use Rattle.crx_engine.specs.Laws.{IsCompactedOn}
 use Rattle.crx_engine.proofs.following.MoreLines.{more-line}
 use Rattle.crx_engine.proofs.following.Compaction.{compaction-carried_out}

@@ -10,7 +10,7 @@ use Rattle.crx_compact.specs.Laws.{tail_before}
 use Rattle.crx_history.specs.Tails.{Tail}
 use Rattle.crx_history.specs.Steps.{no_tail, lines_after_tail, tail_after, tail_written_after}
 use Rattle.crx_compact.proofs.wayback.Tailing.{epoch-by_tail}
-use Rattle.crx_reading.specs.meaning.Choices.{Choices}
+use Rattle.crx_options.specs.meaning.Choices.{Choices}
 use Rattle.crx_reading.specs.meaning.Items.{Item, Accepted, Warned, types_in_force}
 use Rattle.crx_reading.specs.meaning.Compacted.{epochs_accepted, is_at_every, is_in_full, marked_epochs, compact_unit}
 use Rattle.crx_reading.specs.CompactionByLine.{Written, compaction, written_of, rinex_open}

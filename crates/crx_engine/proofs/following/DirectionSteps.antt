@@ -3,19 +3,19 @@ use Rattle.std.proofs.Common.{ℕ, ◌≡◌, List, [], ◌∷◌, ◌++◌, map
 use Rattle.std.specs.Prelude.{reverse}
 use Rattle.std.proofs.lemmas.List.{length-map, map-append, reverse-append}
 use Rattle.std.proofs.lemmas.Grind.{flat_map-append}
-use Rattle.crx_lines.specs.meaning.Lines.{InputLine}
-use Rattle.crx_lines.specs.meaning.Seen.{ReadLine, seen}
-use Rattle.crx_lines.specs.declared.fault.At.{At}
-use Rattle.crx_reading.specs.meaning.Choices.{Choices}
+use Rattle.crx_faults.specs.meaning.Lines.{InputLine}
+use Rattle.crx_faults.specs.meaning.Seen.{ReadLine, seen}
+use Rattle.crx_faults.specs.declared.fault.At.{At}
+use Rattle.crx_options.specs.meaning.Choices.{Choices}
 use Rattle.crx_reading.specs.CompactionByLine.{compaction, compaction_seen}
 use Rattle.crx_reading.specs.meaning.Directions.{rinex_reading}
 use Rattle.crx_reading.specs.ExpansionByLine.{expansion, expansion_seen}
 use Rattle.crx_reading.specs.meaning.Directions.{compact_reading}
 use Rattle.crx_reading.specs.meaning.Directions.{compaction_filter, expansion_filter}
-use Rattle.crx_rinex.specs.meaning.Printing.{lines_text}
+use Rattle.crx_faults.specs.meaning.Lines.{lines_text}
 use Rattle.crx_engine.specs.Laws.{noticed_by}
 use Rattle.crx_reading.specs.meaning.Reading.{fault_of_stop}
-use Rattle.crx_reading.specs.meaning.Messages.{warnings_in}
+use Rattle.crx_reading.specs.meaning.Written.{warnings_in}
 use Rattle.crx_reading.specs.LineByLine.{seen_end}
 use Rattle.crx_engine.proofs.following.CompactedOn.{compacted-on}
 use Rattle.crx_engine.proofs.following.ExpandedOn.{expanded-on}
@@ -28,7 +28,7 @@ use Rattle.std.proofs.Common.{true, length, Option, Some, refl}
 use Rattle.crx_rinex.specs.meaning.Units.{Unit as FileUnit}
 use Rattle.crx_reading.specs.meaning.Items.{Item}
 use Rattle.crx_reading.specs.meaning.Reading.{Reading, WholeReading}
-use Rattle.crx_reading.specs.meaning.Results.{written_lines, whole_course}
+use Rattle.crx_reading.specs.meaning.Written.{written_lines, whole_course}
 use Rattle.crx_reading.specs.meaning.Memory.{memory_allowed, compaction_takes}
 use Rattle.crx_reading.specs.meaning.Compacted.{compact_unit, rinex_place, whole_rinex}
 use Rattle.crx_reading.specs.meaning.Expanded.{expanded_unit, whole_compact}

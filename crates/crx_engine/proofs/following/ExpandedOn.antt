@@ -2,20 +2,20 @@
 use Rattle.std.proofs.Common.{ℕ, ◌≡◌, ◌+◌, ◌≤◌, Bool, List, [], ◌∷◌, ◌++◌, length, drop, Option, Some, None}
 use Rattle.std.proofs.Common.{Result, Ok, Err, refl, ap, sym, subst, arith, length-append}
 use Rattle.std.proofs.lemmas.List.{drop-append-le, length-drop}
-use Rattle.crx_lines.specs.meaning.Seen.{ReadLine, Content, Overlong}
-use Rattle.crx_lines.specs.declared.fault.Fault.{Fault}
-use Rattle.crx_lines.specs.declared.fault.Fault.TheVariants.{LineTooLong}
+use Rattle.crx_faults.specs.meaning.Seen.{ReadLine, Content, Overlong}
+use Rattle.crx_faults.specs.declared.fault.Fault.{Fault}
+use Rattle.crx_faults.specs.declared.fault.Fault.TheVariants.{LineTooLong}
 use Rattle.crx_rinex.specs.meaning.Places.{Place, Here, Wrong, Wanted}
 use Rattle.crx_rinex.specs.Steady.{Remains}
 use Rattle.crx_history.specs.meaning.CompactPlaces.{ReadEpoch}
 use Rattle.crx_compact.specs.OpenEpochs.{OpenRawEpoch}
 use Rattle.crx_history.specs.Tails.{Tail}
-use Rattle.crx_reading.specs.meaning.Choices.{Choices}
+use Rattle.crx_options.specs.meaning.Choices.{Choices}
 use Rattle.crx_reading.specs.meaning.Reading.{Reading, AtFault, AtLines, reading_from}
 use Rattle.crx_engine.specs.Laws.{IsFollowed, IsExpandedOn, Fed, fed, fed_once}
 use Rattle.crx_reading.specs.meaning.Reading.{fault_of_stop}
-use Rattle.crx_lines.specs.meaning.Faults.{is_skippable}
-use Rattle.crx_reading.specs.meaning.Messages.{warnings_in}
+use Rattle.crx_faults.specs.meaning.Faults.{is_skippable}
+use Rattle.crx_reading.specs.meaning.Written.{warnings_in}
 use Rattle.crx_reading.specs.LineByLine.{Phase, InFirstLines, Ended, Seen, Fails, made_in, step_of_made}
 use Rattle.crx_reading.specs.LineByLine.{seen_next, seen_of}
 use Rattle.crx_reading.specs.meaning.Expanded.{compact_place, crinex_version, crinex_program, first_lines}

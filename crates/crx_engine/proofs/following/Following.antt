@@ -4,23 +4,23 @@ use Rattle.std.proofs.Common.{[], ◌∷◌, ◌++◌, length, drop, Option, Som
 use Rattle.std.proofs.Common.{length-append, append-nil}
 use Rattle.std.specs.Prelude.{◌&&◌}
 use Rattle.std.proofs.Math.Seq.{drop-length, drop-append_seam}
-use Rattle.crx_lines.specs.meaning.Seen.{ReadLine}
-use Rattle.crx_lines.specs.declared.fault.Fault.{Fault}
-use Rattle.crx_lines.specs.declared.fault.At.{At}
-use Rattle.crx_rinex.specs.meaning.Header.{is_end_of_header}
-use Rattle.crx_rinex.specs.meaning.ObservationTypes.{Count}
+use Rattle.crx_faults.specs.meaning.Seen.{ReadLine}
+use Rattle.crx_faults.specs.declared.fault.Fault.{Fault}
+use Rattle.crx_faults.specs.declared.fault.At.{At}
+use Rattle.crx_header.specs.meaning.Header.{is_end_of_header}
+use Rattle.crx_header.specs.meaning.ObservationTypes.{Count}
 use Rattle.crx_rinex.specs.meaning.Places.{Place, Here, Wrong, Wanted}
 use Rattle.crx_rinex.specs.Steady.{Remains, IsDecidedAfter}
 use Rattle.crx_rinex.specs.meaning.Units.{Unit as FileUnit, HeaderLine, EventLine, EventRecord, Observation}
-use Rattle.crx_reading.specs.meaning.Choices.{Choices}
+use Rattle.crx_options.specs.meaning.Choices.{Choices}
 use Rattle.crx_reading.specs.meaning.Items.{Item, Accepted, Warned, is_at_start, header_has_ended, records_announced}
 use Rattle.crx_reading.specs.meaning.Items.{records_left, counts_types, records_count_types, types_in_force}
 use Rattle.crx_reading.specs.meaning.UnitPlaces.{unit_place}
 use Rattle.crx_reading.specs.meaning.Reading.{Reading, AtFault, AtLines, Looking, is_skipped, can_go_on, looked_for}
 use Rattle.crx_reading.specs.meaning.Reading.{reading_within}
-use Rattle.crx_lines.specs.meaning.Faults.{is_skippable}
-use Rattle.crx_reading.specs.meaning.Results.{written_lines}
-use Rattle.crx_reading.specs.meaning.Messages.{warnings_in}
+use Rattle.crx_faults.specs.meaning.Faults.{is_skippable}
+use Rattle.crx_reading.specs.meaning.Written.{written_lines}
+use Rattle.crx_reading.specs.meaning.Written.{warnings_in}
 use Rattle.crx_reading.specs.LineByLine.{Phase, InHeader, BetweenUnits, InEvent, InEpoch, LookingOn}
 use Rattle.crx_reading.specs.LineByLine.{Ended, Seen, Made, Completes, Moves, Fails, Repeats, Direction, Quiet}
 use Rattle.crx_reading.specs.LineByLine.{Ready, Notice, Failed, Step, with_records_left, after_record, phase_after}

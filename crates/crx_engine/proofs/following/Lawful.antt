@@ -1,15 +1,16 @@
 -- Both directions are lawful filters.
 use Rattle.std.proofs.Common.{◌≡◌, List, ◌++◌, map, Option, Some, refl, sym, ap, subst, ◌∙◌}
 use Rattle.std.proofs.lemmas.List.{map-append}
-use Rattle.crx_lines.specs.meaning.Lines.{InputLine}
-use Rattle.crx_lines.specs.meaning.Seen.{ReadLine, seen}
-use Rattle.crx_lines.specs.declared.fault.At.{At}
+use Rattle.crx_faults.specs.meaning.Lines.{InputLine}
+use Rattle.crx_faults.specs.meaning.Seen.{ReadLine, seen}
+use Rattle.crx_faults.specs.declared.fault.At.{At}
 use Rattle.crx_rinex.specs.meaning.Observations.{Epoch}
 use Rattle.crx_history.specs.meaning.CompactPlaces.{ReadEpoch}
-use Rattle.crx_reading.specs.meaning.Choices.{Choices}
+use Rattle.crx_options.specs.meaning.Choices.{Choices}
 use Rattle.crx_reading.specs.meaning.Reading.{WholeReading}
-use Rattle.crx_rinex.specs.meaning.Printing.{lines_text}
-use Rattle.crx_reading.specs.meaning.Results.{Begins, whole_course}
+use Rattle.crx_faults.specs.meaning.Lines.{lines_text}
+use Rattle.crx_runs.specs.meaning.Results.{Begins}
+use Rattle.crx_reading.specs.meaning.Written.{whole_course}
 use Rattle.crx_reading.specs.meaning.Reading.{fault_of_stop}
 use Rattle.crx_reading.specs.meaning.Compacted.{rinex_place, compact_unit, compact_lines, whole_rinex}
 use Rattle.crx_engine.specs.Compacted.{compacted_so_far}
@@ -18,7 +19,7 @@ use Rattle.crx_reading.specs.meaning.Expanded.{expanded_unit, whole_compact}
 use Rattle.crx_engine.specs.Expanded.{expanded_lines, expanded_so_far}
 use Rattle.crx_reading.specs.meaning.Directions.{compact_reading}
 use Rattle.crx_reading.specs.meaning.Directions.{course_so_far, compaction_filter, expansion_filter}
-use Rattle.crx_engine.specs.Lawful.{IsLawful}
+use Rattle.crx_runs.specs.Lawful.{IsLawful}
 use Rattle.crx_engine.proofs.reading.Forward.{rinex-forward}
 use Rattle.crx_engine.proofs.reading.Prefixes.{text-more, whole-items}
 use Rattle.crx_engine.proofs.reading.RinexPrefixes.{compacted-first}

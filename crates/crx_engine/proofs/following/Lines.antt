@@ -5,18 +5,18 @@ use Rattle.std.proofs.Common.{◌++◌, length, Option, Some, None, Result, Ok, 
 use Rattle.std.proofs.Common.{refl, ap, sym, subst, ◌∙◌, arith}
 use Rattle.std.proofs.Common.{length-append, append-nil, append_assoc, rules}
 use Rattle.std.specs.Prelude.{◌||◌, ◌&&◌, ◌==◌, ⊤, nat_lt}
-use Rattle.crx_lines.specs.meaning.Seen.{ReadLine, Content, Overlong}
-use Rattle.crx_lines.specs.declared.fault.Fault.{Fault}
-use Rattle.crx_lines.specs.declared.fault.Fault.TheVariants.{LineTooLong}
-use Rattle.crx_lines.specs.declared.fault.At.{At}
-use Rattle.crx_rinex.specs.meaning.Header.{is_end_of_header}
-use Rattle.crx_rinex.specs.meaning.ObservationTypes.{Count, types_of}
-use Rattle.crx_rinex.specs.ObservationTypes.{with_line}
-use Rattle.crx_rinex.proofs.Counts.{types_of-push}
+use Rattle.crx_faults.specs.meaning.Seen.{ReadLine, Content, Overlong}
+use Rattle.crx_faults.specs.declared.fault.Fault.{Fault}
+use Rattle.crx_faults.specs.declared.fault.Fault.TheVariants.{LineTooLong}
+use Rattle.crx_faults.specs.declared.fault.At.{At}
+use Rattle.crx_header.specs.meaning.Header.{is_end_of_header}
+use Rattle.crx_header.specs.meaning.ObservationTypes.{Count, types_of}
+use Rattle.crx_header.specs.ObservationTypes.{with_line}
+use Rattle.crx_header.proofs.Counts.{types_of-push}
 use Rattle.std.proofs.lemmas.Option.{none-some}
 use Rattle.crx_rinex.specs.meaning.Places.{Place, Wanted, one_line, first_line}
 use Rattle.crx_rinex.specs.meaning.Units.{Unit as FileUnit, HeaderLine, EventRecord}
-use Rattle.crx_reading.specs.meaning.Choices.{Choices}
+use Rattle.crx_options.specs.meaning.Choices.{Choices}
 use Rattle.crx_reading.specs.meaning.Items.{Item, Accepted, Warned, is_at_start}
 use Rattle.crx_reading.specs.meaning.Items.{header_has_ended, records_left}
 use Rattle.crx_reading.specs.meaning.Items.{records_count_types, declaring_lines, types_in_force}
@@ -24,10 +24,10 @@ use Rattle.crx_reading.specs.meaning.UnitPlaces.{unless_wrong, types_fault, head
 use Rattle.crx_reading.specs.meaning.UnitPlaces.{event_record, unit_place}
 use Rattle.crx_reading.specs.meaning.Reading.{Reading, Stop, AtFault, AtLines, Looking, is_skipped, can_go_on}
 use Rattle.crx_reading.specs.meaning.Reading.{reading_within, reading_from}
-use Rattle.crx_lines.specs.meaning.Faults.{is_skippable}
+use Rattle.crx_faults.specs.meaning.Faults.{is_skippable}
 use Rattle.crx_engine.specs.Laws.{continued_reading, IsReadForward, fed, fed_once, fed_twice, is_again}
-use Rattle.crx_reading.specs.meaning.Results.{written_lines}
-use Rattle.crx_reading.specs.meaning.Messages.{warnings_in}
+use Rattle.crx_reading.specs.meaning.Written.{written_lines}
+use Rattle.crx_reading.specs.meaning.Written.{warnings_in}
 use Rattle.crx_reading.specs.LineByLine.{Phase, InHeader, BetweenUnits, InEvent, InEpoch}
 use Rattle.crx_reading.specs.LineByLine.{LookingOn, Seen, Made}
 use Rattle.crx_reading.specs.LineByLine.{Completes, Fails, Direction, Notice, Step, made_of_unit}

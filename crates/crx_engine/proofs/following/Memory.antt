@@ -3,14 +3,14 @@ use Rattle.std.proofs.Common.{ℕ, zero, suc, ◌≡◌, ◌+◌, Bool, true, fa
 use Rattle.std.proofs.Common.{Option, Some, None, refl, ap, sym, subst, ◌∙◌, arith}
 use Rattle.std.specs.Prelude.{◌&&◌, nat_lt, is_none}
 use Rattle.std.specs.Option.{is_some}
-use Rattle.crx_lines.specs.meaning.Seen.{ReadLine, Content, Overlong}
-use Rattle.crx_lines.specs.declared.fault.Fault.{Fault}
-use Rattle.crx_lines.specs.declared.fault.At.{At}
+use Rattle.crx_faults.specs.meaning.Seen.{ReadLine, Content, Overlong}
+use Rattle.crx_faults.specs.declared.fault.Fault.{Fault}
+use Rattle.crx_faults.specs.declared.fault.At.{At}
 use Rattle.crx_rinex.specs.meaning.EpochLines.{begins_epoch, is_event_line}
-use Rattle.crx_rinex.specs.meaning.ObservationTypes.{Count, count_in, count_of_types_line, is_types_line}
+use Rattle.crx_header.specs.meaning.ObservationTypes.{Count, count_in, count_of_types_line, is_types_line}
 use Rattle.crx_rinex.specs.meaning.Places.{Place, Wrong, Wanted, first_line, one_line}
 use Rattle.crx_rinex.specs.meaning.Units.{Unit as FileUnit, HeaderLine, EventRecord}
-use Rattle.crx_reading.specs.meaning.Choices.{Choices}
+use Rattle.crx_options.specs.meaning.Choices.{Choices}
 use Rattle.crx_reading.specs.meaning.Items.{Item, Warned, is_at_start, header_has_ended, records_left}
 use Rattle.crx_reading.specs.meaning.Items.{records_count_types, types_in_force}
 use Rattle.crx_reading.specs.meaning.Memory.{line_takes, memory_allowed, place_takes, takes_after_warning}

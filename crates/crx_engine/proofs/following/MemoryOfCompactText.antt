@@ -3,9 +3,9 @@ use Rattle.std.proofs.Common.{ℕ, ◌≡◌, Bool, true, false, List, [], ◌�
 use Rattle.std.proofs.Common.{Ok, Err, refl, ap, sym, ◌∙◌}
 use Rattle.std.specs.Option.{is_some}
 use Rattle.std.proofs.lemmas.Option.{none-some}
-use Rattle.crx_lines.specs.meaning.Seen.{ReadLine, Content, Overlong}
-use Rattle.crx_lines.specs.declared.fault.Fault.{Fault}
-use Rattle.crx_rinex.specs.meaning.ObservationTypes.{Count}
+use Rattle.crx_faults.specs.meaning.Seen.{ReadLine, Content, Overlong}
+use Rattle.crx_faults.specs.declared.fault.Fault.{Fault}
+use Rattle.crx_header.specs.meaning.ObservationTypes.{Count}
 use Rattle.crx_history.specs.meaning.CompactPlaces.{ReadEpoch, satellites_of_line}
 use Rattle.crx_history.specs.meaning.EpochText.{Satellite}
 use Rattle.crx_compact.specs.OpenEpochs.{OpenRawEpoch, RawStep, Going, Whole, Faulty, first_step, is_faulty}
@@ -16,7 +16,7 @@ use Rattle.crx_history.specs.HeldRows.{past_of_tail}
 use Rattle.crx_history.specs.Tails.{Tail}
 use Rattle.crx_arcs.specs.meaning.Sequences.{and_then}
 use Rattle.crx_columns.specs.Texts.{patched}
-use Rattle.crx_reading.specs.meaning.Choices.{Choices}
+use Rattle.crx_options.specs.meaning.Choices.{Choices}
 use Rattle.crx_reading.specs.meaning.Items.{Item, types_in_force}
 use Rattle.crx_reading.specs.meaning.Memory.{expansion_takes, place_takes}
 use Rattle.crx_reading.specs.ExpansionByLine.{begins_event, compact_open, expansion, made_of_raw_step, tail_of_items}
@@ -26,7 +26,7 @@ use Rattle.crx_reading.proofs.Choosing.{false-true}
 use Rattle.crx_engine.proofs.following.Memory.{TakesAsItStands, allowed-again, allowed-first}
 use Rattle.std.proofs.Common.{subst, ◌+◌, ◌-◌, ◌≤◌, drop, arith}
 use Rattle.std.proofs.lemmas.List.{length-drop}
-use Rattle.crx_lines.specs.declared.fault.At.{At}
+use Rattle.crx_faults.specs.declared.fault.At.{At}
 use Rattle.crx_rinex.specs.Steady.{Remains}
 use Rattle.crx_rinex.specs.meaning.Places.{Place, Here, Wrong, Wanted}
 use Rattle.crx_reading.specs.ExpansionByLine.{expansion_seen}

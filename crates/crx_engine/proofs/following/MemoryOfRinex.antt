@@ -1,16 +1,16 @@
 -- The memory that a compaction and a check take, as their lines stand.
 use Rattle.std.proofs.Common.{ℕ, zero, suc, ◌≡◌, Bool, true, false, List, [], ◌∷◌, ◌++◌, length, Some, Result}
 use Rattle.std.proofs.Common.{Ok, Err, refl, ap, ◌∙◌, ◌+◌, arith}
-use Rattle.crx_lines.specs.declared.fault.At.{At}
+use Rattle.crx_faults.specs.declared.fault.At.{At}
 use Rattle.std.specs.Result.{is_ok}
 use Rattle.std.proofs.lemmas.Option.{none-some}
-use Rattle.crx_lines.specs.meaning.Seen.{ReadLine, Content}
-use Rattle.crx_lines.specs.declared.fault.Fault.{Fault}
+use Rattle.crx_faults.specs.meaning.Seen.{ReadLine, Content}
+use Rattle.crx_faults.specs.declared.fault.Fault.{Fault}
 use Rattle.crx_rinex.specs.meaning.EpochPlaces.{OpenEpoch, next_row, rows_wanted, with_next_row}
 use Rattle.crx_rinex.specs.meaning.Observations.{Epoch, Row}
 use Rattle.crx_rinex.specs.meaning.Units.{Unit as FileUnit, Observation}
 use Rattle.crx_rinex.specs.EpochPlaces.{EpochStep, Going, Whole, Faulty, after_row, epoch_step, when_wanted}
-use Rattle.crx_reading.specs.meaning.Choices.{Choices}
+use Rattle.crx_options.specs.meaning.Choices.{Choices}
 use Rattle.crx_reading.specs.meaning.Items.{Item, types_in_force}
 use Rattle.crx_reading.specs.meaning.Memory.{check_takes, compaction_takes, memory_allowed, place_takes}
 use Rattle.crx_reading.specs.meaning.Directions.{rinex_reading}

@@ -4,10 +4,10 @@ use Rattle.std.proofs.Common.{ℕ, zero, suc, ◌≡◌, ◌⊎◌, List, [], �
 use Rattle.std.proofs.Common.{length, Some, None, Result, Ok, Err, inl}
 use Rattle.std.proofs.Common.{inr, refl, sym, ◌∙◌}
 use Rattle.std.proofs.lemmas.Option.{none-some}
-use Rattle.crx_lines.specs.meaning.Seen.{ReadLine, Content, Overlong}
-use Rattle.crx_lines.specs.declared.fault.Fault.{Fault}
+use Rattle.crx_faults.specs.meaning.Seen.{ReadLine, Content, Overlong}
+use Rattle.crx_faults.specs.declared.fault.Fault.{Fault}
 use Rattle.crx_rinex.specs.meaning.Observations.{Epoch}
-use Rattle.crx_rinex.specs.meaning.ObservationTypes.{Count}
+use Rattle.crx_header.specs.meaning.ObservationTypes.{Count}
 use Rattle.crx_rinex.specs.meaning.Places.{Here, Wanted, after_lines, then_place}
 use Rattle.crx_rinex.specs.meaning.Units.{Unit as FileUnit, Observation}
 use Rattle.crx_rinex.specs.meaning.EpochPlaces.{OpenEpoch, Beginning, EventBegins, EpochBegins}
@@ -17,7 +17,7 @@ use Rattle.crx_rinex.specs.EpochPlaces.{EpochStep, Going, Whole, Faulty}
 use Rattle.crx_rinex.specs.EpochPlaces.{when_wanted, whole_or_going, epoch_step}
 use Rattle.crx_rinex.specs.EpochPlaces.{still_open, open_with, place_after}
 use Rattle.crx_rinex.proofs.OpenEpochs.{wanted-open, next-by_open}
-use Rattle.crx_reading.specs.meaning.Choices.{Choices}
+use Rattle.crx_options.specs.meaning.Choices.{Choices}
 use Rattle.crx_reading.specs.meaning.Items.{Item, types_in_force}
 use Rattle.crx_reading.specs.LineByLine.{Made, Direction}
 use Rattle.crx_reading.specs.CompactionByLine.{made_of_epoch_step, made_of_beginning, rinex_begins}

@@ -1,6 +1,6 @@
 -- A line is answered as ready exactly where lines are borrowed.
 use Rattle.std.proofs.Common.{ℕ, ◌≡◌, Bool, true, false, List, [], ◌∷◌, ◌++◌, refl, ap, sym, ◌∙◌}
-use Rattle.crx_lines.specs.meaning.Seen.{ReadLine}
+use Rattle.crx_faults.specs.meaning.Seen.{ReadLine}
 use Rattle.crx_rinex.specs.meaning.Observations.{Epoch}
 use Rattle.crx_rinex.specs.meaning.Units.{Unit as FileUnit, HeaderLine, EventLine, EventRecord, Observation}
 use Rattle.crx_compact.specs.OpenEpochs.{HeldEpoch, OpenRawEpoch}

@@ -1,18 +1,18 @@
 -- What an expansion has written.
 use Rattle.std.proofs.Common.{ℕ, ◌≡◌, ◌+◌, List, [], ◌++◌, length, drop, sym, subst, refl, Bool, append-nil}
 use Rattle.std.proofs.lemmas.List.{drop-append-le}
-use Rattle.crx_lines.specs.meaning.Seen.{ReadLine}
+use Rattle.crx_faults.specs.meaning.Seen.{ReadLine}
 use Rattle.crx_rinex.specs.meaning.Places.{Place, Here, Wrong, Wanted}
 use Rattle.crx_rinex.specs.Steady.{Remains}
 use Rattle.crx_history.specs.meaning.CompactPlaces.{ReadEpoch}
-use Rattle.crx_reading.specs.meaning.Choices.{Choices}
+use Rattle.crx_options.specs.meaning.Choices.{Choices}
 use Rattle.crx_reading.specs.meaning.Items.{Item}
 use Rattle.crx_reading.specs.meaning.Reading.{reading_from, whole_reading}
 use Rattle.crx_reading.specs.meaning.Expanded.{first_lines, compact_place, whole_compact, expanded_unit, expanded}
 use Rattle.crx_engine.specs.Expanded.{expanded_lines, expanded_so_far}
 use Rattle.crx_reading.specs.meaning.Directions.{compact_reading}
-use Rattle.crx_rinex.specs.meaning.Printing.{lines_text}
-use Rattle.crx_reading.specs.meaning.Results.{Begins}
+use Rattle.crx_faults.specs.meaning.Lines.{lines_text}
+use Rattle.crx_runs.specs.meaning.Results.{Begins}
 use Rattle.crx_engine.specs.Laws.{IsWrittenFirst}
 use Rattle.crx_engine.proofs.reading.ForwardCompact.{compact-forward, steady-first_lines}
 use Rattle.crx_engine.proofs.reading.Prefixes.{AreMore, text-more, reading-items, whole-items}

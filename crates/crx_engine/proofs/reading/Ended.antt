@@ -2,17 +2,17 @@
 use Rattle.std.proofs.Common.{ℕ, ◌≡◌, ◌+◌, ◌-◌, Bool, false, List, [], length, drop, Option, Some, None, refl, subst}
 use Rattle.std.proofs.Common.{arith, append-nil}
 use Rattle.std.proofs.lemmas.List.{length-drop}
-use Rattle.crx_lines.specs.meaning.Seen.{ReadLine}
+use Rattle.crx_faults.specs.meaning.Seen.{ReadLine}
 use Rattle.crx_rinex.specs.meaning.Observations.{Epoch}
 use Rattle.crx_rinex.specs.meaning.Places.{Place, Here, Wrong, Wanted}
 use Rattle.crx_rinex.specs.Steady.{Remains}
 use Rattle.crx_history.specs.meaning.CompactPlaces.{ReadEpoch}
 use Rattle.crx_compact.specs.OpenEpochs.{OpenRawEpoch}
 use Rattle.crx_history.specs.Tails.{Tail}
-use Rattle.crx_reading.specs.meaning.Choices.{Choices}
+use Rattle.crx_options.specs.meaning.Choices.{Choices}
 use Rattle.crx_reading.specs.meaning.Reading.{Reading, WholeReading, reading_from, ended_reading}
-use Rattle.crx_lines.specs.meaning.Faults.{is_skippable}
-use Rattle.crx_reading.specs.meaning.Messages.{warnings_in}
+use Rattle.crx_faults.specs.meaning.Faults.{is_skippable}
+use Rattle.crx_reading.specs.meaning.Written.{warnings_in}
 use Rattle.crx_reading.specs.LineByLine.{InFirstLines, Seen, seen_end, is_skipped_in}
 use Rattle.crx_reading.specs.meaning.Compacted.{rinex_place, compact_unit}
 use Rattle.crx_reading.specs.meaning.Directions.{rinex_reading}

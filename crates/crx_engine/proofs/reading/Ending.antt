@@ -3,21 +3,21 @@ use Rattle.std.proofs.Common.{ℕ, zero, suc, ◌≡◌, ◌+◌, Bool, true, fa
 use Rattle.std.proofs.Common.{None, refl, ap, sym, ◌∙◌, rules}
 use Rattle.std.specs.Prelude.{◌&&◌, ◌==◌, nat_lt}
 use Rattle.std.proofs.lemmas.Option.{none-some}
-use Rattle.crx_lines.specs.meaning.Seen.{ReadLine}
-use Rattle.crx_lines.specs.declared.fault.Fault.{Fault}
-use Rattle.crx_lines.specs.declared.fault.Fault.TheVariants.{MissingVersion, NoEndOfHeader, Truncated}
+use Rattle.crx_faults.specs.meaning.Seen.{ReadLine}
+use Rattle.crx_faults.specs.declared.fault.Fault.{Fault}
+use Rattle.crx_faults.specs.declared.fault.Fault.TheVariants.{MissingVersion, NoEndOfHeader, Truncated}
 use Rattle.crx_rinex.specs.meaning.Places.{Place, Wanted, first_line}
-use Rattle.crx_rinex.specs.meaning.ObservationTypes.{Count}
+use Rattle.crx_header.specs.meaning.ObservationTypes.{Count}
 use Rattle.crx_rinex.specs.meaning.Units.{Unit as FileUnit}
-use Rattle.crx_reading.specs.meaning.Choices.{Choices}
+use Rattle.crx_options.specs.meaning.Choices.{Choices}
 use Rattle.crx_reading.specs.meaning.Items.{Item, is_at_start, header_has_ended, records_left, records_count_types}
 use Rattle.crx_reading.specs.meaning.Items.{types_in_force}
 use Rattle.crx_reading.specs.meaning.UnitPlaces.{header_line, event_record, unit_place}
 use Rattle.crx_reading.specs.meaning.Reading.{WholeReading, Stop, AtFault, AtLines, Looking, is_skipped, fault_at_end}
 use Rattle.crx_reading.specs.meaning.Reading.{ended_with, ended_reading}
-use Rattle.crx_lines.specs.meaning.Faults.{is_skippable}
-use Rattle.crx_reading.specs.meaning.Results.{written_lines}
-use Rattle.crx_reading.specs.meaning.Messages.{warnings_in}
+use Rattle.crx_faults.specs.meaning.Faults.{is_skippable}
+use Rattle.crx_reading.specs.meaning.Written.{written_lines}
+use Rattle.crx_reading.specs.meaning.Written.{warnings_in}
 use Rattle.crx_reading.specs.LineByLine.{Phase, InHeader, BetweenUnits, InEvent, InEpoch, Direction, Step}
 use Rattle.crx_reading.specs.LineByLine.{is_skipped_in}
 use Rattle.crx_reading.specs.LineByLine.{kept_in, end_step, seen_end, phase_in_body, phase_after_items, seen_of}

@@ -6,21 +6,21 @@ use Rattle.std.specs.List.{list_all, list_any}
 use Rattle.std.specs.Str.{bytes_eq}
 use Rattle.crx_columns.specs.meaning.Columns.{columns, is_blank, without_end_blanks}
 use Rattle.crx_text.specs.meaning.Codes.{code_of}
-use Rattle.crx_lines.specs.meaning.Seen.{ReadLine, Content, Overlong}
+use Rattle.crx_faults.specs.meaning.Seen.{ReadLine, Content, Overlong}
 use Rattle.crx_text.specs.declared.code.Code.{Code}
 use Rattle.crx_text.specs.declared.code.Code.TheVariants.{Missing, Start, Step}
-use Rattle.crx_lines.specs.declared.limits.TheConstants.{HEAD_WIDTH, NAME_WIDTH, CLOCK_WIDTH, OBSERVATION_WIDTH}
-use Rattle.crx_lines.specs.declared.fault.Fault.{Fault}
-use Rattle.crx_lines.specs.declared.fault.Fault.TheVariants.{BadEpoch, BadClock, RepeatedSatellite, BadField}
-use Rattle.crx_lines.specs.declared.fault.Fault.TheVariants.{OutOfRange, BadFlags, Truncated, LineTooLong}
+use Rattle.crx_faults.specs.declared.limits.TheConstants.{HEAD_WIDTH, NAME_WIDTH, CLOCK_WIDTH, OBSERVATION_WIDTH}
+use Rattle.crx_faults.specs.declared.fault.Fault.{Fault}
+use Rattle.crx_faults.specs.declared.fault.Fault.TheVariants.{BadEpoch, BadClock, RepeatedSatellite, BadField}
+use Rattle.crx_faults.specs.declared.fault.Fault.TheVariants.{OutOfRange, BadFlags, Truncated, LineTooLong}
 use Rattle.crx_rinex.specs.meaning.EpochLines.{epoch_count, begins_epoch}
-use Rattle.crx_rinex.specs.meaning.ObservationTypes.{Count}
+use Rattle.crx_header.specs.meaning.ObservationTypes.{Count}
 use Rattle.crx_rinex.specs.meaning.Places.{Place, Here, Wrong, Wanted, after_lines, then_place, one_line, first_line}
 use Rattle.crx_rinex.specs.meaning.SatelliteLines.{types_of_satellite}
 use Rattle.crx_history.specs.meaning.CompactPlaces.{BegunEpoch, satellites_counted, satellites_of_text}
 use Rattle.crx_history.specs.meaning.CompactPlaces.{satellites_of_line, epoch_begun, clock_line_read}
-use Rattle.crx_arcs.specs.meaning.Cells.{cell_read}
-use Rattle.crx_arcs.specs.meaning.Cells.{cells_of, after_cells, cells_read}
+use Rattle.crx_cells.specs.meaning.Cells.{cell_read}
+use Rattle.crx_cells.specs.meaning.Cells.{cells_of, after_cells, cells_read}
 use Rattle.crx_history.specs.meaning.CompactPlaces.{are_marks, row_of_cells}
 use Rattle.crx_history.specs.meaning.CompactPlaces.{row_with_marks, row_of_line, satellite_line_read, rows_read}
 use Rattle.crx_history.specs.meaning.CompactPlaces.{epoch_of_rows, epoch_after_line, epoch_at}
@@ -32,7 +32,7 @@ use Rattle.crx_arcs.specs.meaning.ArcValues.{Started, is_within, value_since, va
 use Rattle.crx_history.specs.meaning.Expansion.{block_of, code_in, raw_run_of}
 use Rattle.crx_history.specs.meaning.Past.{Past, past_of_block, past_of_epochs, past_of_line}
 use Rattle.crx_arcs.specs.meaning.Sequences.{and_then, before_all}
-use Rattle.crx_lines.specs.meaning.Faults.{is_skippable}
+use Rattle.crx_faults.specs.meaning.Faults.{is_skippable}
 use Rattle.crx_engine.proofs.reading.WhatStands.{chosen}
 
 -- ---- results and places whose faults pass a test

@@ -1,6 +1,6 @@
 -- What stands at a line is certain as soon as its last line has come, in both directions.
 use Rattle.std.proofs.Common.{◌≡◌, Bool, true, false, not, cond, List, [], refl}
-use Rattle.crx_lines.specs.meaning.Seen.{ReadLine}
+use Rattle.crx_faults.specs.meaning.Seen.{ReadLine}
 use Rattle.crx_rinex.specs.meaning.Places.{Place, Wanted, first_line}
 use Rattle.crx_rinex.specs.Steady.{IsSteady}
 use Rattle.crx_rinex.specs.meaning.Units.{Unit as FileUnit}

@@ -4,18 +4,18 @@ use Rattle.std.proofs.Common.{Result, Ok, Err, refl, ap, sym, subst, ◌∙◌, 
 use Rattle.std.specs.Prelude.{⊤, drop}
 use Rattle.std.specs.List.{list_all}
 use Rattle.crx_text.specs.meaning.Numbers.{clock_of}
-use Rattle.crx_lines.specs.declared.limits.TheConstants.{HEAD_WIDTH, CLOCK_WIDTH}
+use Rattle.crx_faults.specs.declared.limits.TheConstants.{HEAD_WIDTH, CLOCK_WIDTH}
 use Rattle.std.specs.Option.{is_some}
-use Rattle.crx_lines.specs.meaning.Seen.{ReadLine, Content, Overlong}
+use Rattle.crx_faults.specs.meaning.Seen.{ReadLine, Content, Overlong}
 use Rattle.crx_columns.specs.meaning.Columns.{columns, character_at, is_blank}
-use Rattle.crx_lines.specs.declared.fault.Fault.{Fault}
-use Rattle.crx_lines.specs.declared.fault.Fault.TheVariants.{BadEpoch}
+use Rattle.crx_faults.specs.declared.fault.Fault.{Fault}
+use Rattle.crx_faults.specs.declared.fault.Fault.TheVariants.{BadEpoch}
 use Rattle.crx_rinex.specs.meaning.Observations.{Epoch}
 use Rattle.crx_rinex.specs.meaning.Places.{Place, Here, Wrong, Wanted, after_lines, then_place, one_line, first_line}
 use Rattle.crx_rinex.specs.meaning.Units.{Unit as FileUnit, HeaderLine, EventLine, EventRecord, Observation}
 use Rattle.crx_rinex.specs.meaning.EpochLines.{begins_epoch, is_event_flag, is_event_line, records_in, event_head}
 use Rattle.crx_rinex.specs.meaning.EpochLines.{epoch_head, with_clock, head_of, epoch_count}
-use Rattle.crx_rinex.specs.meaning.ObservationTypes.{Count}
+use Rattle.crx_header.specs.meaning.ObservationTypes.{Count}
 use Rattle.crx_rinex.specs.meaning.EpochPlaces.{Beginning, EventBegins, EpochBegins, opened, begun_by, beginning_of}
 use Rattle.crx_rinex.specs.meaning.EpochPlaces.{rest_at, unit_begun, epoch_place}
 use Rattle.crx_rinex.proofs.SoundEpochs.{sound-epoch_place}

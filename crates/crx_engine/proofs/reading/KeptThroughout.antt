@@ -1,7 +1,7 @@
 -- What each step of a reading keeps holds of all that it has accepted.
 use Rattle.std.proofs.Common.{ℕ, zero, suc, ◌≡◌, ◌+◌, max, Bool, true, List, [], ◌∷◌, drop}
-use Rattle.crx_lines.specs.meaning.Seen.{ReadLine}
-use Rattle.crx_lines.specs.declared.fault.At.{At}
+use Rattle.crx_faults.specs.meaning.Seen.{ReadLine}
+use Rattle.crx_faults.specs.declared.fault.At.{At}
 use Rattle.crx_rinex.specs.meaning.Places.{Place, Here}
 use Rattle.crx_rinex.specs.meaning.Units.{Unit as FileUnit}
 use Rattle.crx_reading.specs.meaning.Items.{Item, Accepted, Warned}

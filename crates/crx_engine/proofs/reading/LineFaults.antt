@@ -6,17 +6,17 @@ use Rattle.std.specs.List.{list_all}
 use Rattle.std.specs.Str.{bytes_eq}
 use Rattle.crx_columns.specs.meaning.Columns.{columns, character_at, is_blank, without_blanks}
 use Rattle.crx_text.specs.meaning.Numbers.{clock_of}
-use Rattle.crx_lines.specs.meaning.Seen.{ReadLine}
-use Rattle.crx_lines.specs.declared.limits.TheConstants.{HEAD_WIDTH, NAME_WIDTH, CELL_WIDTH, CLOCK_WIDTH}
-use Rattle.crx_lines.specs.declared.fault.Fault.{Fault}
-use Rattle.crx_lines.specs.declared.fault.Fault.TheVariants.{InputTooLong, ReadFailed, WriteFailed, OutOfMemory}
-use Rattle.crx_lines.specs.declared.fault.Fault.TheVariants.{MissingVersion, UnsupportedVersion, NotObservation}
-use Rattle.crx_lines.specs.declared.fault.Fault.TheVariants.{BadTypesLine, NotCompact, BadProgLine, NotAnEpoch}
-use Rattle.crx_lines.specs.declared.fault.Fault.TheVariants.{BadEpoch, RepeatedSatellite, BadField, BadFlags, Truncated}
+use Rattle.crx_faults.specs.meaning.Seen.{ReadLine}
+use Rattle.crx_faults.specs.declared.limits.TheConstants.{HEAD_WIDTH, NAME_WIDTH, CELL_WIDTH, CLOCK_WIDTH}
+use Rattle.crx_faults.specs.declared.fault.Fault.{Fault}
+use Rattle.crx_faults.specs.declared.fault.Fault.TheVariants.{InputTooLong, ReadFailed, WriteFailed, OutOfMemory}
+use Rattle.crx_faults.specs.declared.fault.Fault.TheVariants.{MissingVersion, UnsupportedVersion, NotObservation}
+use Rattle.crx_faults.specs.declared.fault.Fault.TheVariants.{BadTypesLine, NotCompact, BadProgLine, NotAnEpoch}
+use Rattle.crx_faults.specs.declared.fault.Fault.TheVariants.{BadEpoch, RepeatedSatellite, BadField, BadFlags, Truncated}
 use Rattle.crx_columns.specs.meaning.Texts.{is_kept}
-use Rattle.crx_rinex.specs.meaning.Header.{is_supported, first_header_fault}
-use Rattle.crx_rinex.specs.declared.labels.TheConstants.{VERSION_LABEL}
-use Rattle.crx_rinex.specs.meaning.Label.{has_label}
+use Rattle.crx_header.specs.meaning.Header.{is_supported, first_header_fault}
+use Rattle.crx_header.specs.declared.labels.TheConstants.{VERSION_LABEL}
+use Rattle.crx_header.specs.meaning.Label.{has_label}
 use Rattle.crx_rinex.specs.meaning.EpochLines.{HeadLine, EventHead, EpochHead, is_event_flag, records_in}
 use Rattle.crx_rinex.specs.meaning.EpochLines.{epoch_count, event_head, with_clock, epoch_head, head_of, begins_epoch}
 use Rattle.crx_rinex.specs.meaning.EpochPlaces.{OpenEpoch, Beginning, EventBegins, EpochBegins, opened, rows_wanted}
@@ -24,7 +24,7 @@ use Rattle.crx_rinex.specs.meaning.EpochPlaces.{with_next_row, row_if_new, next_
 use Rattle.crx_rinex.specs.meaning.EpochPlaces.{beginning_of, unit_begun, epoch_place}
 use Rattle.crx_rinex.specs.meaning.Epochs.{has_satellite}
 use Rattle.crx_rinex.specs.meaning.Observations.{Row, Epoch}
-use Rattle.crx_rinex.specs.meaning.ObservationTypes.{Count, is_bad_types_line}
+use Rattle.crx_header.specs.meaning.ObservationTypes.{Count, is_bad_types_line}
 use Rattle.crx_rinex.specs.meaning.Places.{Place, Here, Wrong, Wanted, first_line}
 use Rattle.crx_rinex.specs.meaning.SatelliteLines.{types_of_satellite, values_in, flags_in, row_with, row_of_types}
 use Rattle.crx_rinex.specs.meaning.SatelliteLines.{row_of}
@@ -40,8 +40,8 @@ use Rattle.crx_reading.specs.meaning.Compacted.{rinex_place}
 use Rattle.crx_reading.specs.meaning.Expanded.{as_observation, compact_epoch_place, compact_place}
 use Rattle.crx_reading.specs.meaning.Expanded.{raws_kept}
 use Rattle.crx_reading.specs.meaning.Expanded.{crinex_version, crinex_program, first_lines}
-use Rattle.crx_lines.specs.meaning.Faults.{is_skippable}
-use Rattle.crx_engine.specs.Lawful.{is_of_lines}
+use Rattle.crx_faults.specs.meaning.Faults.{is_skippable}
+use Rattle.crx_runs.specs.Lawful.{is_of_lines}
 use Rattle.crx_engine.proofs.reading.EpochFaults.{FaultsPass, FaultsPassAt, place-then, place-first}
 use Rattle.crx_engine.proofs.reading.WhatStands.{chosen, of-unit, of-compact}
 use Rattle.crx_engine.proofs.reading.EpochFaults.{IsSkippableAt, epoch-skippable}

@@ -2,8 +2,8 @@
 use Rattle.std.proofs.Common.{ℕ, ◌≡◌, ◌+◌, Bool, List, [], ◌∷◌, ◌++◌, length}
 use Rattle.std.proofs.Common.{Option, Some, None, refl, ap, sym, subst, ◌∙◌, append_assoc, append-nil}
 use Rattle.std.proofs.lemmas.Grind.{flat_map-append}
-use Rattle.crx_lines.specs.meaning.Seen.{ReadLine}
-use Rattle.crx_lines.specs.declared.fault.Fault.{Fault}
+use Rattle.crx_faults.specs.meaning.Seen.{ReadLine}
+use Rattle.crx_faults.specs.declared.fault.Fault.{Fault}
 use Rattle.crx_rinex.specs.meaning.Places.{Place}
 use Rattle.crx_rinex.specs.meaning.Units.{Unit as FileUnit}
 use Rattle.crx_reading.specs.meaning.Items.{Item, Accepted, Warned}
@@ -11,8 +11,9 @@ use Rattle.crx_reading.specs.meaning.Reading.{Reading, Stop, AtFault, AtLines, L
 use Rattle.crx_reading.specs.meaning.Reading.{reading_within, reading_from, fault_at_end}
 use Rattle.crx_reading.specs.meaning.Reading.{ended_reading, ended_with, whole_reading}
 use Rattle.crx_engine.specs.Laws.{continued_reading, IsReadForward}
-use Rattle.crx_rinex.specs.meaning.Printing.{lines_text}
-use Rattle.crx_reading.specs.meaning.Results.{written_lines, Begins}
+use Rattle.crx_faults.specs.meaning.Lines.{lines_text}
+use Rattle.crx_runs.specs.meaning.Results.{Begins}
+use Rattle.crx_reading.specs.meaning.Written.{written_lines}
 use Rattle.crx_reading.proofs.Choosing.{by_bool}
 use Rattle.crx_engine.proofs.reading.KeptThroughout.{IsKept, looked-kept, within-kept}
 use Rattle.crx_engine.proofs.reading.Resuming.{resumed}

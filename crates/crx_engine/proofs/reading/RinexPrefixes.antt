@@ -1,11 +1,11 @@
 -- What a compaction has written.
 use Rattle.std.proofs.Common.{List, sym, subst}
-use Rattle.crx_lines.specs.meaning.Seen.{ReadLine}
-use Rattle.crx_reading.specs.meaning.Choices.{Choices}
+use Rattle.crx_faults.specs.meaning.Seen.{ReadLine}
+use Rattle.crx_options.specs.meaning.Choices.{Choices}
 use Rattle.crx_reading.specs.meaning.Compacted.{rinex_place, compact_unit, compact_lines, compacted, whole_rinex}
 use Rattle.crx_engine.specs.Compacted.{compacted_so_far}
-use Rattle.crx_rinex.specs.meaning.Printing.{lines_text}
-use Rattle.crx_reading.specs.meaning.Results.{Begins}
+use Rattle.crx_faults.specs.meaning.Lines.{lines_text}
+use Rattle.crx_runs.specs.meaning.Results.{Begins}
 use Rattle.crx_engine.specs.Laws.{IsWrittenFirst}
 use Rattle.crx_engine.proofs.reading.Forward.{rinex-forward}
 use Rattle.crx_engine.proofs.reading.Prefixes.{text-more, reading-items, whole-items}

@@ -2,9 +2,9 @@
 use Rattle.std.proofs.Common.{ℕ, ◌≡◌, List, [], ◌∷◌, ◌++◌, Option, Some, None, refl, sym, subst}
 use Rattle.std.proofs.lemmas.List.Elements.{All-nil}
 use Rattle.crx_rinex.specs.meaning.Units.{HeaderLine, EventRecord}
-use Rattle.crx_rinex.specs.meaning.ObservationTypes.{Count, types_of, is_types_line, count_in}
-use Rattle.crx_rinex.specs.ObservationTypes.{AreCounts, IsCount, with_line, after_count}
-use Rattle.crx_rinex.proofs.Counts.{types_of-push, AreCounts-with_count, count_in_allowed}
+use Rattle.crx_header.specs.meaning.ObservationTypes.{Count, types_of, is_types_line, count_in}
+use Rattle.crx_header.specs.ObservationTypes.{AreCounts, IsCount, with_line, after_count}
+use Rattle.crx_header.proofs.Counts.{types_of-push, AreCounts-with_count, count_in_allowed}
 use Rattle.crx_reading.specs.meaning.Items.{Item, Accepted, Warned, records_count_types, declaring_lines}
 use Rattle.crx_reading.specs.meaning.Items.{types_in_force}
 use Rattle.crx_reading.proofs.Choosing.{by_bool}

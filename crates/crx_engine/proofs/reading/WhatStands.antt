@@ -2,11 +2,11 @@
 use Rattle.std.proofs.Common.{ℕ, ◌≡◌, Bool, true, false, cond, List, [], ◌∷◌, Option, Some, None, Result}
 use Rattle.std.proofs.Common.{Ok, Err, refl}
 use Rattle.std.specs.Prelude.{⊤, not, nat_lt}
-use Rattle.crx_lines.specs.meaning.Seen.{ReadLine, Content, Overlong}
-use Rattle.crx_lines.specs.declared.fault.Fault.{Fault}
-use Rattle.crx_lines.specs.declared.fault.Fault.TheVariants.{BadEpoch}
+use Rattle.crx_faults.specs.meaning.Seen.{ReadLine, Content, Overlong}
+use Rattle.crx_faults.specs.declared.fault.Fault.{Fault}
+use Rattle.crx_faults.specs.declared.fault.Fault.TheVariants.{BadEpoch}
 use Rattle.crx_rinex.specs.meaning.EpochLines.{is_event_line, records_in}
-use Rattle.crx_rinex.specs.meaning.ObservationTypes.{Count}
+use Rattle.crx_header.specs.meaning.ObservationTypes.{Count}
 use Rattle.crx_rinex.specs.meaning.Places.{Place, Here, Wrong, Wanted, one_line, first_line}
 use Rattle.crx_rinex.specs.meaning.Units.{Unit as FileUnit, EventLine}
 use Rattle.crx_history.specs.meaning.CompactPlaces.{ReadEpoch, epoch_at}

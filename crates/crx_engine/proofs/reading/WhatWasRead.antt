@@ -2,14 +2,14 @@
 use Rattle.std.proofs.Common.{ℕ, ◌≡◌, ◌+◌, Bool, true, List, [], length, drop, rules}
 use Rattle.std.proofs.lemmas.Bool.{and_parts}
 use Rattle.std.specs.Prelude.{◌==◌}
-use Rattle.crx_lines.specs.meaning.Seen.{ReadLine}
-use Rattle.crx_lines.specs.declared.fault.Fault.{Fault}
+use Rattle.crx_faults.specs.meaning.Seen.{ReadLine}
+use Rattle.crx_faults.specs.declared.fault.Fault.{Fault}
 use Rattle.crx_rinex.specs.meaning.Places.{Place}
 use Rattle.crx_rinex.specs.meaning.Units.{Unit as FileUnit}
 use Rattle.crx_reading.specs.meaning.Items.{Item, header_has_ended, records_left}
 use Rattle.crx_reading.specs.meaning.Reading.{is_skipped}
 use Rattle.crx_reading.specs.meaning.Reading.{reading_from}
-use Rattle.crx_lines.specs.meaning.Faults.{is_skippable}
+use Rattle.crx_faults.specs.meaning.Faults.{is_skippable}
 use Rattle.crx_reading.specs.meaning.Expanded.{compact_place, first_lines}
 use Rattle.crx_reading.specs.meaning.Directions.{compact_reading}
 use Rattle.crx_engine.specs.Laws.{ItemsAreRead}

@@ -3,10 +3,10 @@ use Rattle.std.proofs.Common.{ℕ, ◌≡◌, ◌+◌, false, List, [], ◌∷�
 use Rattle.std.proofs.Common.{◌∙◌, append-nil}
 use Rattle.std.proofs.lemmas.List.{length-map}
 use Rattle.std.proofs.lemmas.Option.{none-some}
-use Rattle.crx_lines.specs.meaning.Lines.{InputLine}
-use Rattle.crx_lines.specs.meaning.Seen.{ReadLine, seen}
-use Rattle.crx_lines.specs.declared.fault.Fault.{Fault}
-use Rattle.crx_rinex.specs.meaning.ObservationTypes.{Count}
+use Rattle.crx_faults.specs.meaning.Lines.{InputLine}
+use Rattle.crx_faults.specs.meaning.Seen.{ReadLine, seen}
+use Rattle.crx_faults.specs.declared.fault.Fault.{Fault}
+use Rattle.crx_header.specs.meaning.ObservationTypes.{Count}
 use Rattle.crx_rinex.specs.meaning.Observations.{Epoch}
 use Rattle.crx_rinex.specs.meaning.Units.{printed_unit, HeaderLine}
 use Rattle.crx_rinex.specs.meaning.EpochPlaces.{OpenEpoch}

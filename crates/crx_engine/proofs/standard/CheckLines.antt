@@ -5,11 +5,11 @@ use Rattle.std.proofs.Common.{◌∙◌, append-nil}
 use Rattle.std.specs.Prelude.{⊤}
 use Rattle.std.proofs.lemmas.List.{map-append}
 use Rattle.std.proofs.lemmas.Option.{none-some}
-use Rattle.crx_lines.specs.meaning.Seen.{ReadLine, Content, Overlong}
-use Rattle.crx_lines.specs.declared.fault.Fault.{Fault}
-use Rattle.crx_rinex.specs.meaning.Header.{is_end_of_header}
+use Rattle.crx_faults.specs.meaning.Seen.{ReadLine, Content, Overlong}
+use Rattle.crx_faults.specs.declared.fault.Fault.{Fault}
+use Rattle.crx_header.specs.meaning.Header.{is_end_of_header}
 use Rattle.crx_rinex.specs.meaning.Observations.{Row, Epoch}
-use Rattle.crx_rinex.specs.meaning.ObservationTypes.{Count}
+use Rattle.crx_header.specs.meaning.ObservationTypes.{Count}
 use Rattle.crx_rinex.specs.meaning.Units.{HeaderLine, EventRecord}
 use Rattle.crx_rinex.specs.Printing.{last_line}
 use Rattle.crx_rinex.specs.meaning.Printing.{printed_row, printed_head, printed_epoch}

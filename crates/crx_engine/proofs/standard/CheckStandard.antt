@@ -6,9 +6,9 @@ use Rattle.std.specs.Str.{bytes_eq}
 use Rattle.std.proofs.lemmas.Option.{none-some}
 use Rattle.std.proofs.lemmas.Bool.{and_parts}
 use Rattle.crx_history.proofs.Characters.{bytes_eq-same, bytes_eq-is}
-use Rattle.crx_lines.specs.meaning.Lines.{InputLine, lines_of}
-use Rattle.crx_reading.specs.meaning.Choices.{Choices}
-use Rattle.crx_reading.specs.meaning.Results.{FilterResult}
+use Rattle.crx_faults.specs.meaning.Lines.{InputLine, lines_of}
+use Rattle.crx_options.specs.meaning.Choices.{Choices}
+use Rattle.crx_runs.specs.meaning.Results.{FilterResult}
 use Rattle.crx_reading.specs.meaning.Standard.{printed_items, whole_of, is_standard_line, first_not_standard}
 use Rattle.crx_reading.specs.meaning.Standard.{findings_of, report_status, checked_by, checked, IsStandard}
 use Rattle.crx_engine.specs.CheckingLaws.{IsNamedWhereNot, IsStandardExactlyWhereSame}

@@ -1,9 +1,9 @@
 -- A checker takes the end of the input.
 use Rattle.std.proofs.Common.{ℕ, ◌≡◌, true, false, List, Option, Some, None, Result, Ok, Err, refl, ap, sym, ◌∙◌}
-use Rattle.crx_lines.specs.meaning.Lines.{InputLine}
-use Rattle.crx_lines.specs.declared.fault.At.{At}
+use Rattle.crx_faults.specs.meaning.Lines.{InputLine}
+use Rattle.crx_faults.specs.declared.fault.At.{At}
 use Rattle.crx_rinex.specs.meaning.EpochPlaces.{OpenEpoch}
-use Rattle.crx_rinex.specs.meaning.ObservationTypes.{Count}
+use Rattle.crx_header.specs.meaning.ObservationTypes.{Count}
 use Rattle.crx_reading.specs.CompactionByLine.{Written, compaction}
 use Rattle.crx_engine.specs.EngineSteps.{SettlesEnd, answer_of_step}
 use Rattle.crx_engine.specs.Laws.{failed_by}
@@ -15,8 +15,8 @@ use Rattle.crx_reading.specs.meaning.Standard.{whole_reading_of, findings_of}
 use Rattle.crx_reading.specs.CheckByLine.{Totals, checking, CheckSeen, no_choices, check_seen, found_by}
 use Rattle.crx_engine.specs.CheckerState.{checker_state_with}
 use Rattle.crx_reading.specs.Totals.{found_held}
-use Rattle.crx_engine.specs.declared.engine.Step.{Step}
-use Rattle.crx_engine.specs.declared.engine.Step.TheVariants.{Quiet}
+use Rattle.crx_runs.specs.declared.engine.Step.{Step}
+use Rattle.crx_runs.specs.declared.engine.Step.TheVariants.{Quiet}
 use Rattle.crx_reading.specs.declared.report.Totals.{Totals as Held}
 use Rattle.crx_reading.specs.declared.rinex_reader.RinexReader.{RinexReader}
 use Rattle.crx_engine.specs.declared.settled.Settled.{Settled}

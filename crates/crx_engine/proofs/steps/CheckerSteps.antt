@@ -2,19 +2,19 @@
 use Rattle.std.proofs.Common.{map}
 use Rattle.std.proofs.Common.{ℕ, zero, suc, ◌≡◌, ◌⊎◌, inl, inr, ◌+◌, ◌-◌, Bool, true, false, cond, List, []}
 use Rattle.std.proofs.Common.{◌∷◌, ◌++◌, Option, Some, None, refl, ap, sym, subst, ◌∙◌}
-use Rattle.crx_lines.specs.meaning.Lines.{InputLine, is_long}
-use Rattle.crx_lines.specs.meaning.Seen.{ReadLine, Content, Overlong, seen}
-use Rattle.crx_lines.specs.declared.fault.Fault.{Fault}
-use Rattle.crx_lines.specs.declared.fault.Fault.TheVariants.{LineTooLong}
+use Rattle.crx_faults.specs.meaning.Lines.{InputLine, is_long}
+use Rattle.crx_faults.specs.meaning.Seen.{ReadLine, Content, Overlong, seen}
+use Rattle.crx_faults.specs.declared.fault.Fault.{Fault}
+use Rattle.crx_faults.specs.declared.fault.Fault.TheVariants.{LineTooLong}
 use Rattle.crx_rinex.specs.meaning.EpochPlaces.{OpenEpoch}
-use Rattle.crx_rinex.specs.meaning.Header.{is_end_of_header}
+use Rattle.crx_header.specs.meaning.Header.{is_end_of_header}
 use Rattle.crx_rinex.specs.meaning.Observations.{Epoch as ObservationEpoch}
-use Rattle.crx_rinex.specs.meaning.ObservationTypes.{Count}
+use Rattle.crx_header.specs.meaning.ObservationTypes.{Count}
 use Rattle.crx_rinex.specs.Printing.{last_line}
 use Rattle.crx_rinex.specs.meaning.Units.{Unit, HeaderLine, EventLine, EventRecord, Observation}
 use Rattle.crx_reading.specs.CompactionByLine.{compaction, is_before_header}
-use Rattle.crx_reading.specs.meaning.Filters.{with_next}
-use Rattle.crx_engine.specs.Engines.{RunsOutAt}
+use Rattle.crx_runs.specs.meaning.Filters.{with_next}
+use Rattle.crx_runs.specs.Engines.{RunsOutAt}
 use Rattle.crx_reading.specs.meaning.Items.{records_announced, counts_types}
 use Rattle.crx_engine.specs.Laws.{failed_by}
 use Rattle.crx_reading.specs.LineByLine.{Phase, InFirstLines, InHeader, BetweenUnits, InEvent, LookingOn}

@@ -1,29 +1,29 @@
 -- What a compaction makes of a line that has a fault, is too long, or completes an epoch.
 use Rattle.std.proofs.Common.{◌≡◌, ◌⊎◌, inl, inr, ℕ, ◌+◌, true, false, List, [], Option, Some, None, Result, Ok, Err}
 use Rattle.std.proofs.Common.{refl, sym, ap, subst, ◌∙◌}
-use Rattle.crx_lines.specs.meaning.Seen.{ReadLine, Content, Overlong}
-use Rattle.crx_lines.specs.declared.fault.At.{At}
-use Rattle.crx_lines.specs.declared.fault.Fault.{Fault}
-use Rattle.crx_lines.specs.declared.fault.Fault.TheVariants.{OutOfMemory, LineTooLong}
+use Rattle.crx_faults.specs.meaning.Seen.{ReadLine, Content, Overlong}
+use Rattle.crx_faults.specs.declared.fault.At.{At}
+use Rattle.crx_faults.specs.declared.fault.Fault.{Fault}
+use Rattle.crx_faults.specs.declared.fault.Fault.TheVariants.{OutOfMemory, LineTooLong}
 use Rattle.crx_rinex.specs.meaning.Observations.{Epoch as ObservationEpoch}
 use Rattle.std.specs.Prelude.{Bool, not, ◌&&◌}
 use Rattle.std.proofs.lemmas.Bool.{and_parts, false≢true}
 use Rattle.crx_rinex.specs.meaning.EpochLines.{begins_epoch, is_event_line}
 use Rattle.crx_rinex.specs.meaning.EpochPlaces.{OpenEpoch}
-use Rattle.crx_rinex.specs.meaning.ObservationTypes.{Count}
-use Rattle.crx_reading.specs.meaning.Choices.{Choices}
+use Rattle.crx_header.specs.meaning.ObservationTypes.{Count}
+use Rattle.crx_options.specs.meaning.Choices.{Choices}
 use Rattle.crx_reading.specs.CompactionByLine.{Written, compaction, epoch_written, is_next_row}
 use Rattle.crx_reading.specs.LineByLine.{Phase, InFirstLines, InHeader, BetweenUnits, InEvent, InEpoch, LookingOn}
 use Rattle.crx_reading.specs.LineByLine.{Closed as SeenClosed, Ended as SeenEnded, Seen, Made, Fails, made_in, kept_in}
 use Rattle.crx_reading.specs.LineByLine.{failed_step, step_of_made}
 use Rattle.crx_reading.specs.Memory.{may_take_memory}
-use Rattle.crx_lines.specs.meaning.Faults.{is_skippable}
+use Rattle.crx_faults.specs.meaning.Faults.{is_skippable}
 use Rattle.crx_reading.specs.Stages.{is_ended, seen_stage}
 use Rattle.crx_engine.specs.EngineSteps.{step_made, Steps}
 use Rattle.crx_reading.specs.RinexStages.{open_epoch, is_whole}
 use Rattle.crx_reading.specs.RinexReaders.{made_at, reader_phase, TakesRinexLine, CompletedEpoch}
-use Rattle.crx_engine.specs.declared.engine.Step.{Step}
-use Rattle.crx_engine.specs.declared.engine.Step.TheVariants.{Quiet}
+use Rattle.crx_runs.specs.declared.engine.Step.{Step}
+use Rattle.crx_runs.specs.declared.engine.Step.TheVariants.{Quiet}
 use Rattle.crx_reading.specs.declared.rinex_reader.RinexReader.{RinexReader}
 use Rattle.crx_reading.specs.declared.rinex_reader.RinexStep.{RinexStep}
 use Rattle.crx_reading.specs.declared.rinex_reader.RinexStep.TheVariants.{Nothing, Epoch}

@@ -4,15 +4,15 @@ use Rattle.std.proofs.Common.{None, Result, Ok, Err, refl, ap, sym, subst, ◌�
 use Rattle.std.proofs.lemmas.Bool.{and_parts}
 use Rattle.std.specs.Prelude.{reverse, ◌&&◌}
 use Rattle.std.proofs.lemmas.List.{reverse-append}
-use Rattle.crx_lines.specs.meaning.Lines.{InputLine, is_long}
-use Rattle.crx_lines.specs.meaning.Seen.{ReadLine, Content, Overlong, seen}
-use Rattle.crx_lines.specs.declared.fault.At.{At}
-use Rattle.crx_lines.specs.declared.fault.Fault.TheVariants.{OutOfMemory}
-use Rattle.crx_lines.specs.declared.limits.TheConstants.{LINE_LIMIT}
-use Rattle.crx_reading.specs.meaning.Choices.{Choices}
-use Rattle.crx_reading.specs.meaning.Filters.{Filter, with_next}
-use Rattle.crx_rinex.specs.meaning.Printing.{lines_text}
-use Rattle.crx_engine.specs.Engines.{Awaited, IsAwaited, awaited_notices, GoesOn, EndsWith, EngineAnswers, Concludes}
+use Rattle.crx_faults.specs.meaning.Lines.{InputLine, is_long}
+use Rattle.crx_faults.specs.meaning.Seen.{ReadLine, Content, Overlong, seen}
+use Rattle.crx_faults.specs.declared.fault.At.{At}
+use Rattle.crx_faults.specs.declared.fault.Fault.TheVariants.{OutOfMemory}
+use Rattle.crx_faults.specs.declared.limits.TheConstants.{LINE_LIMIT}
+use Rattle.crx_options.specs.meaning.Choices.{Choices}
+use Rattle.crx_runs.specs.meaning.Filters.{Filter, with_next}
+use Rattle.crx_faults.specs.meaning.Lines.{lines_text}
+use Rattle.crx_runs.specs.Engines.{Awaited, IsAwaited, awaited_notices, GoesOn, EndsWith, EngineAnswers, Concludes}
 use Rattle.crx_engine.specs.EngineLines.{HasTaken}
 use Rattle.crx_engine.specs.EngineSteps.{step_made, Steps}
 use Rattle.crx_engine.specs.Laws.{noticed_by, failed_by, is_again, is_ready, has_lines, Fed, fed_once, fed_twice, fed}
@@ -23,9 +23,9 @@ use Rattle.crx_reading.specs.LineByLine.{Step as SeenStep, made_in, may_skip, is
 use Rattle.crx_reading.specs.LineByLine.{step_of_made, seen_next, seen_end}
 use Rattle.crx_reading.specs.Memory.{takes_memory}
 use Rattle.crx_reading.specs.meaning.Reading.{can_go_on}
-use Rattle.crx_lines.specs.meaning.Faults.{is_skippable}
-use Rattle.crx_engine.specs.declared.engine.Step.{Step}
-use Rattle.crx_engine.specs.declared.engine.Step.TheVariants.{Quiet, Ready, Warned}
+use Rattle.crx_faults.specs.meaning.Faults.{is_skippable}
+use Rattle.crx_runs.specs.declared.engine.Step.{Step}
+use Rattle.crx_runs.specs.declared.engine.Step.TheVariants.{Quiet, Ready, Warned}
 use Rattle.crx_reading.proofs.Choosing.{by_bool}
 use Rattle.crx_engine.proofs.following.Following.{fed-once as feeds-once, fed-twice as feeds-twice}
 

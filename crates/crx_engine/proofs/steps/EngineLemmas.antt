@@ -2,22 +2,22 @@
 use Rattle.std.proofs.Common.{◌≡◌, inl, inr, ℕ, ◌+◌, Bool, true, false, List, Option, Some, None, Result, Ok, Err, refl}
 use Rattle.std.proofs.Common.{ap, subst, ◌∙◌}
 use Rattle.std.specs.Prelude.{◌&&◌}
-use Rattle.crx_lines.specs.meaning.Seen.{ReadLine, Content, Overlong}
-use Rattle.crx_lines.specs.declared.fault.At.{At}
-use Rattle.crx_lines.specs.declared.fault.Fault.{Fault}
-use Rattle.crx_lines.specs.declared.fault.Fault.TheVariants.{OutOfMemory}
+use Rattle.crx_faults.specs.meaning.Seen.{ReadLine, Content, Overlong}
+use Rattle.crx_faults.specs.declared.fault.At.{At}
+use Rattle.crx_faults.specs.declared.fault.Fault.{Fault}
+use Rattle.crx_faults.specs.declared.fault.Fault.TheVariants.{OutOfMemory}
 use Rattle.crx_rinex.specs.meaning.Observations.{Epoch}
-use Rattle.crx_rinex.specs.meaning.ObservationTypes.{Count}
+use Rattle.crx_header.specs.meaning.ObservationTypes.{Count}
 use Rattle.crx_reading.specs.LineByLine.{Phase, Ended as SeenEnded, Seen, Direction}
 use Rattle.crx_reading.specs.LineByLine.{Failed, Step as SeenStep, made_in, may_skip}
 use Rattle.crx_reading.specs.LineByLine.{is_skipped_in, failed_step, step_of_made, seen_next, seen_end}
 use Rattle.crx_reading.specs.Memory.{may_take_memory, takes_memory}
-use Rattle.crx_lines.specs.meaning.Faults.{is_skippable}
+use Rattle.crx_faults.specs.meaning.Faults.{is_skippable}
 use Rattle.crx_engine.specs.EngineSteps.{answer_of_step, step_made, RanOut, Steps}
 use Rattle.crx_reading.specs.Stages.{is_held}
 use Rattle.crx_reading.specs.RinexStages.{open_epoch, is_rinex_stage}
-use Rattle.crx_engine.specs.declared.engine.Step.{Step}
-use Rattle.crx_engine.specs.declared.engine.Step.TheVariants.{Quiet}
+use Rattle.crx_runs.specs.declared.engine.Step.{Step}
+use Rattle.crx_runs.specs.declared.engine.Step.TheVariants.{Quiet}
 use Rattle.crx_reading.specs.declared.stage.Stage.{Stage}
 use Rattle.crx_reading.specs.declared.stage.Stage.TheVariants.{Open}
 use Rattle.crx_reading.proofs.Choosing.{false-true}

@@ -2,23 +2,23 @@
 use Rattle.std.proofs.Common.{Bool, ◌≡◌, inl, inr, ℕ, ◌+◌, true, false, List}
 use Rattle.std.proofs.Common.{[], Option, Some, None, Result, Err, refl, sym}
 use Rattle.std.proofs.Common.{ap, ◌∙◌, if◌then◌else◌, true≢false}
-use Rattle.crx_rinex.specs.meaning.ObservationTypes.{Count}
+use Rattle.crx_header.specs.meaning.ObservationTypes.{Count}
 use Rattle.crx_compact.specs.OpenEpochs.{OpenRawEpoch, ColumnsState}
 use Rattle.crx_history.specs.Tails.{Tail}
 use Rattle.crx_compact.specs.OpenEpochs.ColumnsState.{Idle, Reading}
-use Rattle.crx_lines.specs.meaning.Seen.{Content, Overlong}
-use Rattle.crx_lines.specs.declared.fault.At.{At}
-use Rattle.crx_lines.specs.declared.fault.Fault.{Fault}
-use Rattle.crx_lines.specs.declared.fault.Fault.TheVariants.{LineTooLong}
-use Rattle.crx_reading.specs.meaning.Choices.{Choices}
+use Rattle.crx_faults.specs.meaning.Seen.{Content, Overlong}
+use Rattle.crx_faults.specs.declared.fault.At.{At}
+use Rattle.crx_faults.specs.declared.fault.Fault.{Fault}
+use Rattle.crx_faults.specs.declared.fault.Fault.TheVariants.{LineTooLong}
+use Rattle.crx_options.specs.meaning.Choices.{Choices}
 use Rattle.crx_reading.specs.ExpansionByLine.{expansion}
 use Rattle.crx_reading.specs.LineByLine.{Seen, Fails, made_in, step_of_made, failed_step}
-use Rattle.crx_lines.specs.meaning.Faults.{is_skippable}
+use Rattle.crx_faults.specs.meaning.Faults.{is_skippable}
 use Rattle.crx_engine.specs.EngineSteps.{IsAt, Steps, settled_seen, step_made}
 use Rattle.crx_reading.specs.Stages.{is_held, is_settled, seen_stage}
 use Rattle.crx_reading.specs.CompactStages.{is_compact_stage, open_in}
 use Rattle.crx_reading.specs.CompactReaders.{RefusesCompactLine}
-use Rattle.crx_engine.specs.declared.engine.Step.{Step}
+use Rattle.crx_runs.specs.declared.engine.Step.{Step}
 use Rattle.crx_engine.specs.declared.settled.Settled.{Settled}
 use Rattle.crx_reading.specs.declared.stage.Stage.{Stage}
 use Rattle.crx_reading.specs.declared.stage.Stage.TheVariants.{Open, Looking}

@@ -2,16 +2,16 @@
 use Rattle.std.proofs.Common.{◌≡◌, inl, inr, ℕ, ◌+◌, Bool, true, false, ◌&&◌, List, [], Result, Ok, Err, IfOk, refl}
 use Rattle.std.proofs.Common.{sym, subst, if◌then◌else◌}
 use Rattle.std.specs.Prelude.{⊤}
-use Rattle.crx_lines.specs.meaning.Seen.{ReadLine}
-use Rattle.crx_lines.specs.declared.fault.At.{At}
+use Rattle.crx_faults.specs.meaning.Seen.{ReadLine}
+use Rattle.crx_faults.specs.declared.fault.At.{At}
 use Rattle.crx_reading.specs.meaning.Reading.{can_go_on}
 use Rattle.crx_reading.specs.LineByLine.{Direction, Seen, Made, Completes, Moves, Fails, Repeats, Ended, Answer}
 use Rattle.crx_reading.specs.LineByLine.{Quiet as SeenQuiet, Ready as SeenReady, Notice, Failed, Step as SeenStep}
 use Rattle.crx_reading.specs.LineByLine.{is_in_epoch, is_skipped_in, after_warning, with_phase, made_in, step_of_made}
-use Rattle.crx_engine.specs.Engines.{taken_after, IsDrainedAfter}
+use Rattle.crx_runs.specs.Engines.{taken_after, IsDrainedAfter}
 use Rattle.crx_engine.specs.EngineSteps.{Steps, answer_of_step, step_made}
-use Rattle.crx_engine.specs.declared.engine.Step.{Step}
-use Rattle.crx_engine.specs.declared.engine.Step.TheVariants.{Quiet, Ready, Warned}
+use Rattle.crx_runs.specs.declared.engine.Step.{Step}
+use Rattle.crx_runs.specs.declared.engine.Step.TheVariants.{Quiet, Ready, Warned}
 
 -- a line counts unless it comes again, and only where the answer is that lines are ready are some borrowed
 abbrev Counts : ℕ → Answer → ℕ → List (List ℕ) → Type 0

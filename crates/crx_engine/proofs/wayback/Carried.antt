@@ -4,19 +4,19 @@ use Rattle.std.proofs.Common.{ℕ, zero, suc, ◌≡◌, ◌+◌, ◌-◌, ◌<�
 use Rattle.std.proofs.Common.{length, drop, None, refl, ap, sym, ◌∙◌, arith, length-append}
 use Rattle.std.specs.Prelude.{◌||◌}
 use Rattle.std.proofs.lemmas.List.{map-append, length-map, drop_all}
-use Rattle.crx_lines.specs.meaning.Seen.{ReadLine, Content}
+use Rattle.crx_faults.specs.meaning.Seen.{ReadLine, Content}
 use Rattle.crx_rinex.specs.meaning.Observations.{Epoch}
 use Rattle.crx_rinex.specs.meaning.Places.{Place, Here, first_line}
 use Rattle.crx_rinex.specs.meaning.Units.{Unit as FileUnit, HeaderLine, EventLine, EventRecord, Observation}
-use Rattle.crx_rinex.specs.meaning.Header.{is_end_of_header}
-use Rattle.crx_rinex.specs.meaning.ObservationTypes.{types_of}
+use Rattle.crx_header.specs.meaning.Header.{is_end_of_header}
+use Rattle.crx_header.specs.meaning.ObservationTypes.{types_of}
 use Rattle.crx_reading.specs.meaning.Items.{Item, Accepted, Warned, is_at_start, header_has_ended, records_left}
 use Rattle.crx_reading.specs.meaning.Items.{records_count_types, declaring_lines, types_in_force}
 use Rattle.crx_reading.specs.meaning.UnitPlaces.{types_fault, header_line_fault, event_record, unit_place}
 use Rattle.crx_reading.specs.meaning.Reading.{Reading, AtLines, reading_within, reading_from, ended_with}
 use Rattle.crx_reading.specs.meaning.Reading.{ended_reading, whole_reading}
 use Rattle.crx_engine.specs.Laws.{continued_reading, IsReadForward, AreInPlace}
-use Rattle.crx_reading.specs.meaning.Results.{written_lines}
+use Rattle.crx_reading.specs.meaning.Written.{written_lines}
 use Rattle.crx_engine.proofs.reading.Resuming.{within-here, within-wanted, enough-units, resumed}
 use Rattle.crx_engine.proofs.following.Lines.{record-place}
 use Rattle.crx_engine.proofs.reading.Ending.{closes-well}

@@ -14,25 +14,26 @@ use Rattle.crx_text.specs.meaning.Numbers.{clock_text}
 use Rattle.crx_text.proofs.Spellings.{abs_within}
 use Rattle.crx_rinex.specs.meaning.SatelliteLines.{IsSoundRow, IsValue}
 use Rattle.crx_rinex.specs.meaning.Epochs.{IsWholeEpoch}
-use Rattle.crx_rinex.specs.meaning.ObservationTypes.{Count}
+use Rattle.crx_header.specs.meaning.ObservationTypes.{Count}
 use Rattle.crx_compact.proofs.wayback.Writable.{sound-name_kept}
 use Rattle.crx_compact.proofs.wayback.Facts.{head-kept}
-use Rattle.crx_lines.specs.declared.limits.TheConstants.{OBSERVATION_WIDTH, OBSERVATION_DECIMALS, CLOCK_WIDTH}
-use Rattle.crx_lines.specs.declared.limits.TheConstants.{CLOCK_DECIMALS}
-use Rattle.crx_lines.specs.meaning.Lines.{InputLine, pieces_of, ends_with_return, line_of, lines_of}
+use Rattle.crx_faults.specs.declared.limits.TheConstants.{OBSERVATION_WIDTH, OBSERVATION_DECIMALS, CLOCK_WIDTH}
+use Rattle.crx_faults.specs.declared.limits.TheConstants.{CLOCK_DECIMALS}
+use Rattle.crx_faults.specs.meaning.Lines.{InputLine, pieces_of, ends_with_return, line_of, lines_of}
 use Rattle.crx_lines.specs.Reading.{HasNoFeed}
 use Rattle.crx_columns.specs.meaning.Texts.{is_printable, is_kept}
 use Rattle.crx_lines.proofs.PieceLemmas.{pieces-first}
 use Rattle.crx_text.proofs.ReadBack.{decimal_is_digits}
 use Rattle.crx_rinex.specs.meaning.Observations.{Row, Epoch}
-use Rattle.crx_rinex.specs.meaning.Printing.{printed_cells, printed_row, printed_epoch, lines_text}
+use Rattle.crx_rinex.specs.meaning.Printing.{printed_cells, printed_row, printed_epoch}
+use Rattle.crx_faults.specs.meaning.Lines.{lines_text}
 use Rattle.crx_rinex.specs.meaning.Units.{printed_unit, Observation}
-use Rattle.crx_reading.specs.meaning.Choices.{Choices, is_date}
+use Rattle.crx_options.specs.meaning.Choices.{Choices, is_date}
 use Rattle.crx_reading.specs.meaning.Compacted.{compacted}
 use Rattle.crx_reading.specs.meaning.Expanded.{expanded}
 use Rattle.crx_reading.specs.meaning.Items.{Item, Accepted, Warned, types_in_force}
 use Rattle.crx_reading.specs.meaning.Reading.{WholeReading}
-use Rattle.crx_reading.specs.meaning.Results.{FilterResult}
+use Rattle.crx_runs.specs.meaning.Results.{FilterResult}
 use Rattle.crx_reading.specs.meaning.Standard.{printed_items, whole_of, IsStandard}
 use Rattle.crx_engine.specs.Laws.{AreInPlace}
 use Rattle.crx_reading.specs.meaning.WayBack.{OfCopiedLines, HaveNoReturns}

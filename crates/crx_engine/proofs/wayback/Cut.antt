@@ -6,13 +6,13 @@ use Rattle.std.specs.List.{AllByRecursion}
 use Rattle.std.proofs.lemmas.List.Elements.{All-head, All-tail, All-cons, All-nil}
 use Rattle.std.proofs.lemmas.Bool.{ltb-false, le-ltb}
 use Rattle.std.proofs.lemmas.Bool.Decides.{eqb_tells}
-use Rattle.crx_lines.specs.meaning.Lines.{Piece, InputLine, pieces_of, onto_first, ends_with_return, without_return}
-use Rattle.crx_lines.specs.meaning.Lines.{line_of, lines_of, is_long}
+use Rattle.crx_faults.specs.meaning.Lines.{Piece, InputLine, pieces_of, onto_first, ends_with_return, without_return}
+use Rattle.crx_faults.specs.meaning.Lines.{line_of, lines_of, is_long}
 use Rattle.crx_lines.specs.Reading.{HasNoFeed}
-use Rattle.crx_lines.specs.meaning.Seen.{ReadLine, Content, Overlong, seen}
-use Rattle.crx_lines.specs.declared.limits.TheConstants.{LINE_LIMIT}
+use Rattle.crx_faults.specs.meaning.Seen.{ReadLine, Content, Overlong, seen}
+use Rattle.crx_faults.specs.declared.limits.TheConstants.{LINE_LIMIT}
 use Rattle.crx_lines.proofs.PieceLemmas.{pieces-first, NoFeed}
-use Rattle.crx_rinex.specs.meaning.Printing.{lines_text}
+use Rattle.crx_faults.specs.meaning.Lines.{lines_text}
 use Rattle.crx_reading.proofs.Choosing.{by_bool}
 
 -- a line that is read as it was written

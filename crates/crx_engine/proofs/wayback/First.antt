@@ -9,15 +9,15 @@ use Rattle.std.proofs.lemmas.List.{length-take-le}
 use Rattle.std.proofs.lemmas.List.Elements.{All-cons, All-nil}
 use Rattle.std.proofs.lemmas.Bool.{ne_eqb, and_parts, and_from}
 use Rattle.crx_lines.specs.Reading.{HasNoFeed}
-use Rattle.crx_lines.specs.meaning.Lines.{ends_with_return}
+use Rattle.crx_faults.specs.meaning.Lines.{ends_with_return}
 use Rattle.crx_columns.specs.meaning.Columns.{without_end_blanks}
-use Rattle.crx_lines.specs.meaning.Seen.{ReadLine, Content}
+use Rattle.crx_faults.specs.meaning.Seen.{ReadLine, Content}
 use Rattle.crx_columns.specs.meaning.Texts.{is_printable}
-use Rattle.crx_lines.specs.declared.limits.TheConstants.{DATE_LIMIT}
+use Rattle.crx_faults.specs.declared.limits.TheConstants.{DATE_LIMIT}
 use Rattle.crx_rinex.specs.meaning.Places.{Here}
-use Rattle.crx_rinex.specs.meaning.Label.{label_of}
+use Rattle.crx_header.specs.meaning.Label.{label_of}
 use Rattle.crx_reading.specs.declared.crinex.TheConstants.{CRINEX_PROGRAM, CRINEX_PROGRAM_LABEL}
-use Rattle.crx_reading.specs.meaning.Choices.{is_date}
+use Rattle.crx_options.specs.meaning.Choices.{is_date}
 use Rattle.crx_reading.specs.meaning.Compacted.{left_justified, version_line, program_line}
 use Rattle.crx_reading.specs.meaning.Expanded.{crinex_program, first_lines}
 use Rattle.crx_engine.proofs.wayback.Cut.{IsClean}

@@ -4,12 +4,12 @@ use Rattle.std.proofs.Common.{None, Ok, refl, ap, sym, ◌∙◌, arith, append-
 use Rattle.std.specs.Prelude.{◌||◌, drop}
 use Rattle.std.specs.Option.{is_some}
 use Rattle.std.proofs.lemmas.List.{length-map}
-use Rattle.crx_lines.specs.meaning.Seen.{ReadLine, Content}
+use Rattle.crx_faults.specs.meaning.Seen.{ReadLine, Content}
 use Rattle.crx_rinex.specs.meaning.Observations.{Row, Epoch}
 use Rattle.crx_rinex.specs.meaning.Places.{Here}
 use Rattle.crx_rinex.specs.meaning.Units.{Unit as FileUnit, HeaderLine, EventLine, EventRecord, Observation}
 use Rattle.crx_rinex.specs.meaning.EpochLines.{is_event_line, records_in}
-use Rattle.crx_rinex.specs.meaning.ObservationTypes.{Count}
+use Rattle.crx_header.specs.meaning.ObservationTypes.{Count}
 use Rattle.crx_history.specs.meaning.Compaction.{Marked, since_full, run_of, satellite_line, compact_epoch, epoch_line}
 use Rattle.crx_history.specs.meaning.Expansion.{RawEpoch, block_of}
 use Rattle.crx_history.specs.meaning.CompactPlaces.{ReadEpoch, epoch_at}

@@ -3,20 +3,20 @@
 use Rattle.std.proofs.Common.{ℕ, zero, suc, ◌+◌, Bool, cond, List, [], ◌∷◌, length, drop, Option}
 use Rattle.std.proofs.Common.{Some, None, Result, Ok, Err, subst}
 use Rattle.std.specs.List.{AllByRecursion}
-use Rattle.crx_lines.specs.meaning.Seen.{ReadLine, Content, Overlong}
-use Rattle.crx_lines.specs.declared.fault.Fault.{Fault}
+use Rattle.crx_faults.specs.meaning.Seen.{ReadLine, Content, Overlong}
+use Rattle.crx_faults.specs.declared.fault.Fault.{Fault}
 use Rattle.crx_rinex.specs.meaning.Observations.{Epoch}
 use Rattle.crx_rinex.specs.meaning.Places.{Place, Here, Wrong, Wanted, after_lines, then_place, one_line, first_line}
 use Rattle.crx_rinex.specs.meaning.Units.{Unit as FileUnit, HeaderLine, EventRecord, Observation}
 use Rattle.crx_rinex.specs.meaning.EpochLines.{HeadLine, EventHead, EpochHead, head_of}
-use Rattle.crx_rinex.specs.meaning.ObservationTypes.{Count}
+use Rattle.crx_header.specs.meaning.ObservationTypes.{Count}
 use Rattle.crx_rinex.specs.meaning.EpochPlaces.{opened, begun_by, rest_at, unit_begun, epoch_place}
 use Rattle.crx_reading.specs.meaning.Items.{Item, is_at_start}
 use Rattle.crx_reading.specs.meaning.Items.{records_count_types, types_in_force}
 use Rattle.crx_reading.specs.meaning.UnitPlaces.{unless_wrong, header_line_fault, types_fault, header_line}
 use Rattle.crx_reading.specs.meaning.UnitPlaces.{event_record}
 use Rattle.crx_reading.specs.meaning.Reading.{reading_from}
-use Rattle.crx_reading.specs.meaning.Results.{written_lines}
+use Rattle.crx_reading.specs.meaning.Written.{written_lines}
 use Rattle.crx_reading.specs.meaning.Compacted.{rinex_place}
 use Rattle.crx_reading.specs.meaning.WayBack.{OfCopiedLine, OfCopiedLines}
 use Rattle.crx_engine.proofs.reading.WhatStands.{OfHere, of-unit}

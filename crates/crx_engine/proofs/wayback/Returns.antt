@@ -5,13 +5,13 @@ use Rattle.std.proofs.Common.{take, drop, refl, arith, append_assoc}
 use Rattle.std.specs.Prelude.{◌==◌}
 use Rattle.std.specs.List.{AllByRecursion, list_all}
 use Rattle.std.proofs.lemmas.Bool.{ne_eqb, and_parts}
-use Rattle.crx_lines.specs.meaning.Lines.{Piece, InputLine, pieces_of, onto_first, ends_with_return, without_return}
-use Rattle.crx_lines.specs.meaning.Lines.{line_of, lines_of, is_long}
+use Rattle.crx_faults.specs.meaning.Lines.{Piece, InputLine, pieces_of, onto_first, ends_with_return, without_return}
+use Rattle.crx_faults.specs.meaning.Lines.{line_of, lines_of, is_long}
 use Rattle.crx_lines.specs.Reading.{HasNoFeed}
-use Rattle.crx_lines.specs.meaning.Seen.{ReadLine, Content, Overlong, seen}
+use Rattle.crx_faults.specs.meaning.Seen.{ReadLine, Content, Overlong, seen}
 use Rattle.crx_columns.specs.meaning.Texts.{is_printable}
 use Rattle.crx_lines.proofs.PieceLemmas.{pieces-first}
-use Rattle.crx_rinex.specs.meaning.Printing.{lines_text}
+use Rattle.crx_faults.specs.meaning.Lines.{lines_text}
 use Rattle.crx_reading.proofs.Choosing.{by_bool}
 use Rattle.crx_engine.proofs.wayback.First.{printable-other}
 

@@ -4,22 +4,23 @@ use Rattle.std.proofs.Common.{ℕ, ◌≡◌, ◌+◌, ◌<◌, ◌≤◌, Bool,
 use Rattle.std.proofs.Common.{length, drop, Option, Some, None, refl, ap, sym, ◌∙◌, arith, ◌⊎◌, inl, inr}
 use Rattle.std.specs.List.{AllByRecursion, list_all}
 use Rattle.crx_lines.specs.Reading.{HasNoFeed}
-use Rattle.crx_lines.specs.meaning.Lines.{ends_with_return, without_return, lines_of}
-use Rattle.crx_lines.specs.meaning.Seen.{ReadLine, seen}
+use Rattle.crx_faults.specs.meaning.Lines.{ends_with_return, without_return, lines_of}
+use Rattle.crx_faults.specs.meaning.Seen.{ReadLine, seen}
 use Rattle.crx_columns.specs.meaning.Texts.{is_printable}
-use Rattle.crx_lines.specs.declared.fault.Fault.{Fault}
+use Rattle.crx_faults.specs.declared.fault.Fault.{Fault}
 use Rattle.crx_rinex.specs.meaning.Observations.{Epoch}
-use Rattle.crx_rinex.specs.meaning.Printing.{printed_epoch, lines_text}
+use Rattle.crx_rinex.specs.meaning.Printing.{printed_epoch}
+use Rattle.crx_faults.specs.meaning.Lines.{lines_text}
 use Rattle.crx_rinex.specs.meaning.Units.{HeaderLine, EventLine, EventRecord, Observation}
 use Rattle.crx_history.specs.meaning.CompactPlaces.{ReadEpoch}
 use Rattle.crx_history.specs.meaning.Compaction.{compact_epoch}
 use Rattle.crx_compact.specs.Laws.{LinesCanStand}
 use Rattle.crx_compact.specs.ReadingLaws.{IsGood}
-use Rattle.crx_reading.specs.meaning.Choices.{Choices, is_date}
+use Rattle.crx_options.specs.meaning.Choices.{Choices, is_date}
 use Rattle.crx_reading.specs.meaning.Items.{Item, Accepted, Warned, types_in_force}
 use Rattle.crx_reading.specs.meaning.Reading.{WholeReading, Stop, AtLines, is_skipped, reading_from}
 use Rattle.crx_reading.specs.meaning.Reading.{fault_at_end, ended_with, ended_reading}
-use Rattle.crx_reading.specs.meaning.Results.{FilterResult}
+use Rattle.crx_runs.specs.meaning.Results.{FilterResult}
 use Rattle.crx_reading.specs.meaning.Compacted.{version_line, program_line, marked_epochs, compact_lines, compacted}
 use Rattle.crx_reading.specs.meaning.Expanded.{compact_place, first_lines, whole_compact}
 use Rattle.crx_reading.specs.meaning.Expanded.{expanded, expanded_unit}

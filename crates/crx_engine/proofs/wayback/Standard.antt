@@ -6,21 +6,21 @@ use Rattle.std.specs.Prelude.{◌==◌}
 use Rattle.std.specs.List.{AllByRecursion, list_all}
 use Rattle.std.proofs.lemmas.Bool.Decides.{eqb_tells}
 use Rattle.std.proofs.lemmas.Bool.{and_parts}
-use Rattle.crx_lines.specs.meaning.Lines.{Piece, InputLine, pieces_of, onto_first, ends_with_return, without_return}
-use Rattle.crx_lines.specs.meaning.Lines.{line_of, lines_of, is_long}
+use Rattle.crx_faults.specs.meaning.Lines.{Piece, InputLine, pieces_of, onto_first, ends_with_return, without_return}
+use Rattle.crx_faults.specs.meaning.Lines.{line_of, lines_of, is_long}
 use Rattle.crx_lines.proofs.PieceLemmas.{EachEnded}
-use Rattle.crx_lines.specs.meaning.Seen.{ReadLine, seen}
-use Rattle.crx_lines.specs.declared.fault.Fault.{Fault}
-use Rattle.crx_lines.specs.declared.fault.At.{At}
+use Rattle.crx_faults.specs.meaning.Seen.{ReadLine, seen}
+use Rattle.crx_faults.specs.declared.fault.Fault.{Fault}
+use Rattle.crx_faults.specs.declared.fault.At.{At}
 use Rattle.crx_rinex.specs.meaning.Observations.{Epoch}
 use Rattle.crx_rinex.specs.meaning.Places.{Place}
 use Rattle.crx_rinex.specs.meaning.Units.{Unit as FileUnit}
-use Rattle.crx_reading.specs.meaning.Choices.{Choices}
+use Rattle.crx_options.specs.meaning.Choices.{Choices}
 use Rattle.crx_reading.specs.meaning.Items.{Item, Accepted}
 use Rattle.crx_reading.specs.meaning.Reading.{Reading, WholeReading, Stop, AtLines, is_skipped}
 use Rattle.crx_reading.specs.meaning.Reading.{after_fault, reading_within, fault_at_end}
 use Rattle.crx_reading.specs.meaning.Reading.{ended_with, ended_reading}
-use Rattle.crx_rinex.specs.meaning.Printing.{lines_text}
+use Rattle.crx_faults.specs.meaning.Lines.{lines_text}
 use Rattle.crx_reading.specs.meaning.Compacted.{rinex_place, whole_rinex}
 use Rattle.crx_reading.specs.meaning.Directions.{rinex_reading}
 use Rattle.crx_reading.specs.meaning.Standard.{printed_items, whole_of}

@@ -4,27 +4,29 @@ use Rattle.std.proofs.Common.{Some, None, refl, ap, ◌∙◌, arith}
 use Rattle.std.specs.Prelude.{nat_lt, not, reverse}
 use Rattle.std.specs.List.{AllByRecursion, list_all}
 use Rattle.std.proofs.lemmas.Bool.{ltb-false}
-use Rattle.crx_lines.specs.meaning.Lines.{lines_of, ends_with_return}
-use Rattle.crx_lines.specs.meaning.Seen.{ReadLine, Content, seen}
+use Rattle.crx_faults.specs.meaning.Lines.{lines_of, ends_with_return}
+use Rattle.crx_faults.specs.meaning.Seen.{ReadLine, Content, seen}
 use Rattle.crx_columns.specs.meaning.Texts.{is_printable}
-use Rattle.crx_lines.specs.declared.fault.Fault.{Fault}
-use Rattle.crx_lines.specs.declared.fault.At.{At}
-use Rattle.crx_lines.specs.declared.limits.TheConstants.{TYPES_LIMIT, LINE_LIMIT}
+use Rattle.crx_faults.specs.declared.fault.Fault.{Fault}
+use Rattle.crx_faults.specs.declared.fault.At.{At}
+use Rattle.crx_faults.specs.declared.limits.TheConstants.{TYPES_LIMIT, LINE_LIMIT}
 use Rattle.crx_rinex.specs.meaning.Observations.{Epoch}
-use Rattle.crx_rinex.specs.meaning.Printing.{printed_epoch, lines_text}
+use Rattle.crx_rinex.specs.meaning.Printing.{printed_epoch}
+use Rattle.crx_faults.specs.meaning.Lines.{lines_text}
 use Rattle.crx_rinex.specs.meaning.Units.{Unit as FileUnit, HeaderLine, EventLine, EventRecord, Observation}
 use Rattle.crx_rinex.specs.meaning.Units.{printed_unit}
 use Rattle.crx_history.specs.meaning.Compaction.{Marked, compact_epoch}
 use Rattle.crx_history.specs.meaning.CompactPlaces.{ReadEpoch}
 use Rattle.crx_compact.specs.Laws.{LinesCanStand}
 use Rattle.crx_compact.proofs.wayback.Lengths.{lines-short}
-use Rattle.crx_reading.specs.meaning.Choices.{Choices}
+use Rattle.crx_options.specs.meaning.Choices.{Choices}
 use Rattle.crx_reading.specs.meaning.Items.{Item, Accepted, Warned, is_at_start, header_has_ended, records_left}
 use Rattle.crx_reading.specs.meaning.Items.{types_in_force}
 use Rattle.crx_reading.specs.meaning.Reading.{Reading, WholeReading, Stop, AtFault, AtLines, Looking, is_skipped}
 use Rattle.crx_reading.specs.meaning.Reading.{reading_from, fault_at_end, ended_with, ended_reading}
-use Rattle.crx_reading.specs.meaning.Messages.{warnings_in}
-use Rattle.crx_reading.specs.meaning.Results.{written_lines, result_of_course, result_of}
+use Rattle.crx_reading.specs.meaning.Written.{warnings_in}
+use Rattle.crx_runs.specs.meaning.Results.{result_of_course}
+use Rattle.crx_reading.specs.meaning.Written.{written_lines, result_of}
 use Rattle.crx_reading.specs.meaning.Compacted.{rinex_place, marked_epochs, version_line, program_line, whole_rinex}
 use Rattle.crx_reading.specs.meaning.Compacted.{compact_lines}
 use Rattle.crx_reading.specs.meaning.Directions.{rinex_reading}

@@ -3,17 +3,17 @@ use Rattle.std.specs.Prelude.{ℕ, ◌+◌, ◌*◌, List, [], ◌∷◌, Option
 use Rattle.std.specs.List.{list_any}
 use Rattle.std.specs.Str.{bytes_eq}
 use Rattle.crx_columns.specs.meaning.Columns.{columns}
-use Rattle.crx_lines.specs.declared.limits.TheConstants.{HEAD_WIDTH, NAME_WIDTH}
-use Rattle.crx_lines.specs.declared.fault.Fault.{Fault}
-use Rattle.crx_lines.specs.declared.fault.Fault.TheVariants.{BadSatellite, RepeatedSatellite}
-use Rattle.crx_rinex.specs.meaning.EachPlace.{each_place}
+use Rattle.crx_faults.specs.declared.limits.TheConstants.{HEAD_WIDTH, NAME_WIDTH}
+use Rattle.crx_faults.specs.declared.fault.Fault.{Fault}
+use Rattle.crx_faults.specs.declared.fault.Fault.TheVariants.{BadSatellite, RepeatedSatellite}
+use Rattle.crx_columns.specs.meaning.EachPlace.{each_place}
 use Rattle.crx_arcs.specs.meaning.Sequences.{before_all}
 pub use Rattle.crx_columns.specs.meaning.Texts.{is_printable}
-pub use Rattle.crx_rinex.specs.meaning.Label.{number_in}
+pub use Rattle.crx_header.specs.meaning.Label.{number_in}
 pub use Rattle.crx_rinex.specs.meaning.EpochLines.{begins_epoch, is_observation_flag, count_within_limit, satellites_in}
 pub use Rattle.crx_rinex.specs.meaning.EpochLines.{epoch_count}
 pub use Rattle.crx_rinex.specs.meaning.SatelliteLines.{types_of_satellite}
-use Rattle.crx_rinex.specs.meaning.ObservationTypes.{Count}
+use Rattle.crx_header.specs.meaning.ObservationTypes.{Count}
 
 -- the identifiers after the 41 columns, three characters each
 abbrev pub names_in : List ℕ → ℕ → List (List ℕ)

@@ -2,19 +2,20 @@
 -- Lists of items have the newest first.
 use Rattle.std.specs.Prelude.{ℕ, Bool, true, false, ◌||◌, ◌&&◌, ◌+◌, ◌%◌, List, [], ◌∷◌, ◌++◌, ◌==◌, Option, Some, None}
 use Rattle.std.specs.Prelude.{nat_lt, take, replicate, map}
-use Rattle.crx_lines.specs.meaning.Seen.{ReadLine, seen}
-use Rattle.crx_lines.specs.meaning.Lines.{lines_of}
+use Rattle.crx_faults.specs.meaning.Seen.{ReadLine, seen}
+use Rattle.crx_faults.specs.meaning.Lines.{lines_of}
 use Rattle.crx_rinex.specs.meaning.Observations.{Epoch}
 use Rattle.crx_rinex.specs.meaning.Places.{Place}
 use Rattle.crx_rinex.specs.meaning.Units.{Unit, HeaderLine, EventLine, EventRecord, Observation}
 use Rattle.crx_rinex.specs.meaning.EpochPlaces.{epoch_place}
 use Rattle.crx_history.specs.meaning.Compaction.{Marked, compact_epoch}
 use Rattle.crx_reading.specs.declared.crinex.TheConstants.{CRINEX_VERSION_LINE, CRINEX_PROGRAM, CRINEX_PROGRAM_LABEL}
-use Rattle.crx_reading.specs.meaning.Choices.{Choices}
+use Rattle.crx_options.specs.meaning.Choices.{Choices}
 use Rattle.crx_reading.specs.meaning.Items.{Item, Accepted, Warned, is_at_start, types_in_force}
 use Rattle.crx_reading.specs.meaning.UnitPlaces.{unit_place}
 use Rattle.crx_reading.specs.meaning.Reading.{WholeReading, whole_reading}
-use Rattle.crx_reading.specs.meaning.Results.{FilterResult, written_lines, result_of}
+use Rattle.crx_runs.specs.meaning.Results.{FilterResult}
+use Rattle.crx_reading.specs.meaning.Written.{written_lines, result_of}
 
 -- what stands at a line of a RINEX file, after these items
 abbrev pub rinex_place : List (Item Epoch) → List ReadLine → Place (Unit Epoch)

@@ -3,17 +3,18 @@
 use Rattle.std.specs.Prelude.{ℕ, ◌≡◌, ◌⊎◌, Bool, true, false, not, ◌&&◌, ⊤, List, [], ◌∷◌, ◌++◌, ◌≤◌, suc, None, map}
 use Rattle.std.specs.Prelude.{length, drop, take}
 use Rattle.std.specs.List.{AllByRecursion, list_all, flat_map}
-use Rattle.crx_lines.specs.meaning.Lines.{Piece, InputLine, pieces_of, lines_of, is_long}
-use Rattle.crx_lines.specs.declared.fault.At.{At}
+use Rattle.crx_faults.specs.meaning.Lines.{Piece, InputLine, pieces_of, lines_of, is_long}
+use Rattle.crx_faults.specs.declared.fault.At.{At}
 use Rattle.crx_rinex.specs.meaning.Observations.{Epoch}
 use Rattle.crx_rinex.specs.meaning.EpochLines.{begins_epoch}
 use Rattle.crx_rinex.specs.meaning.Epochs.{IsWholeEpoch}
-use Rattle.crx_rinex.specs.meaning.Printing.{printed_epoch, lines_text}
+use Rattle.crx_rinex.specs.meaning.Printing.{printed_epoch}
+use Rattle.crx_faults.specs.meaning.Lines.{lines_text}
 use Rattle.crx_rinex.specs.meaning.Units.{HeaderLine, EventLine, EventRecord, Observation}
-use Rattle.crx_reading.specs.meaning.Choices.{Choices}
+use Rattle.crx_options.specs.meaning.Choices.{Choices}
 use Rattle.crx_reading.specs.meaning.Items.{Item, Accepted, Warned, types_in_force}
-use Rattle.crx_reading.specs.meaning.Messages.{notices_text}
-use Rattle.crx_reading.specs.meaning.Results.{FilterResult, status_after}
+use Rattle.crx_runs.specs.meaning.Messages.{notices_text}
+use Rattle.crx_runs.specs.meaning.Results.{FilterResult, status_after}
 use Rattle.crx_reading.specs.meaning.Compacted.{is_in_full, compact_unit, compact_lines}
 use Rattle.crx_reading.specs.meaning.Standard.{IsStandard, whole_of, printed_items}
 

@@ -1,22 +1,23 @@
 -- Both directions and the check as filters: what is written and reported for the lines so far, and for all lines of an
 -- input; and at which lines memory may run out. Lists of items have the newest first.
 use Rattle.std.specs.Prelude.{List, ℕ, ◌+◌, Bool, false, [], drop, map, reverse, Option, Some, None}
-use Rattle.crx_lines.specs.meaning.Seen.{ReadLine, seen}
-use Rattle.crx_lines.specs.declared.fault.At.{At}
+use Rattle.crx_faults.specs.meaning.Seen.{ReadLine, seen}
+use Rattle.crx_faults.specs.declared.fault.At.{At}
 use Rattle.crx_rinex.specs.meaning.Observations.{Epoch}
 use Rattle.crx_rinex.specs.meaning.Places.{Here, Wrong, Wanted}
 use Rattle.crx_rinex.specs.meaning.Units.{Unit}
 use Rattle.crx_history.specs.meaning.CompactPlaces.{ReadEpoch}
-use Rattle.crx_reading.specs.meaning.Choices.{Choices}
+use Rattle.crx_options.specs.meaning.Choices.{Choices}
 use Rattle.crx_reading.specs.meaning.Items.{Item}
 use Rattle.crx_reading.specs.meaning.Reading.{Reading, AtFault, AtLines, fault_of_stop, reading_from}
-use Rattle.crx_reading.specs.meaning.Results.{Course, written_lines, whole_course}
-use Rattle.crx_rinex.specs.meaning.Printing.{lines_text}
-use Rattle.crx_reading.specs.meaning.Messages.{warnings_in}
+use Rattle.crx_runs.specs.meaning.Results.{Course}
+use Rattle.crx_reading.specs.meaning.Written.{written_lines, whole_course}
+use Rattle.crx_faults.specs.meaning.Lines.{lines_text}
+use Rattle.crx_reading.specs.meaning.Written.{warnings_in}
 use Rattle.crx_reading.specs.meaning.Memory.{check_takes, compaction_takes, expansion_takes, memory_allowed}
 use Rattle.crx_reading.specs.meaning.Standard.{Findings, findings_of, report_lines, whole_reading_of}
-use Rattle.crx_lines.specs.meaning.Lines.{InputLine}
-use Rattle.crx_reading.specs.meaning.Filters.{Filter}
+use Rattle.crx_faults.specs.meaning.Lines.{InputLine}
+use Rattle.crx_runs.specs.meaning.Filters.{Filter}
 use Rattle.crx_reading.specs.meaning.Compacted.{compact_unit, rinex_place, whole_rinex}
 use Rattle.crx_reading.specs.meaning.Expanded.{compact_place, expanded_unit, first_lines, whole_compact}
 

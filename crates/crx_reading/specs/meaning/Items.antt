@@ -2,12 +2,12 @@
 -- Lists of items have the newest first. E is what is known of an observation epoch.
 use Rattle.std.specs.Prelude.{ℕ, Bool, true, false, ◌||◌, ◌&&◌, ◌-◌, List, [], ◌∷◌, ◌++◌, if◌then◌else◌, nat_le}
 use Rattle.std.specs.Prelude.{unwrap_or}
-use Rattle.crx_lines.specs.declared.fault.At.{At}
+use Rattle.crx_faults.specs.declared.fault.At.{At}
 use Rattle.crx_columns.specs.meaning.Columns.{character_at}
 use Rattle.crx_rinex.specs.meaning.Units.{Unit, HeaderLine, EventLine, EventRecord, Observation}
-use Rattle.crx_rinex.specs.meaning.Header.{is_end_of_header}
+use Rattle.crx_header.specs.meaning.Header.{is_end_of_header}
 use Rattle.crx_rinex.specs.meaning.EpochLines.{records_in}
-use Rattle.crx_rinex.specs.meaning.ObservationTypes.{Count, types_of}
+use Rattle.crx_header.specs.meaning.ObservationTypes.{Count, types_of}
 
 -- a unit that was accepted, or a warning in the place of one
 pub data Item (E : Type 0) : Type 0 where

@@ -4,9 +4,9 @@
 -- Lists of items have the newest first.
 use Rattle.std.specs.Prelude.{ℕ, zero, suc, Bool, true, false, ◌&&◌, ◌+◌, List, [], ◌∷◌, ◌++◌, length, Option, Some, None}
 use Rattle.std.specs.Prelude.{if◌then◌else◌, nat_lt}
-use Rattle.crx_lines.specs.meaning.Seen.{ReadLine}
-use Rattle.crx_lines.specs.declared.fault.At.{At}
-use Rattle.crx_rinex.specs.meaning.ObservationTypes.{is_types_line}
+use Rattle.crx_faults.specs.meaning.Seen.{ReadLine}
+use Rattle.crx_faults.specs.declared.fault.At.{At}
+use Rattle.crx_header.specs.meaning.ObservationTypes.{is_types_line}
 use Rattle.crx_rinex.specs.meaning.Places.{Place, Here, Wrong, Wanted}
 use Rattle.crx_rinex.specs.meaning.Units.{Unit, HeaderLine, EventLine, EventRecord, Observation}
 use Rattle.crx_reading.specs.meaning.Items.{Item, Warned, records_count_types}

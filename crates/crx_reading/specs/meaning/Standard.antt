@@ -5,18 +5,19 @@ use Rattle.std.specs.Prelude.{if◌then◌else◌, codes, decimal}
 use Rattle.std.specs.List.{list_all, flat_map}
 use Rattle.std.specs.Str.{bytes_eq}
 use Rattle.crx_columns.specs.meaning.Columns.{columns, without_blanks}
-use Rattle.crx_lines.specs.meaning.Lines.{InputLine, lines_of}
-use Rattle.crx_lines.specs.meaning.Seen.{seen}
-use Rattle.crx_lines.specs.declared.fault.At.{At}
-use Rattle.crx_lines.specs.declared.limits.TheConstants.{VERSION_WIDTH}
+use Rattle.crx_faults.specs.meaning.Lines.{InputLine, lines_of}
+use Rattle.crx_faults.specs.meaning.Seen.{seen}
+use Rattle.crx_faults.specs.declared.fault.At.{At}
+use Rattle.crx_faults.specs.declared.limits.TheConstants.{VERSION_WIDTH}
 use Rattle.crx_rinex.specs.meaning.Observations.{Epoch, observations_in}
 use Rattle.crx_rinex.specs.meaning.Units.{HeaderLine, EventLine, EventRecord, Observation, printed_unit}
-use Rattle.crx_rinex.specs.meaning.ObservationTypes.{Count}
+use Rattle.crx_header.specs.meaning.ObservationTypes.{Count}
 use Rattle.crx_reading.specs.meaning.Items.{Item, Accepted, Warned, types_in_force}
 use Rattle.crx_reading.specs.meaning.Reading.{WholeReading}
-use Rattle.crx_reading.specs.meaning.Messages.{error_text}
-use Rattle.crx_reading.specs.meaning.Results.{FilterResult, written_lines}
-use Rattle.crx_rinex.specs.meaning.Printing.{lines_text}
+use Rattle.crx_runs.specs.meaning.Messages.{error_text}
+use Rattle.crx_runs.specs.meaning.Results.{FilterResult}
+use Rattle.crx_reading.specs.meaning.Written.{written_lines}
+use Rattle.crx_faults.specs.meaning.Lines.{lines_text}
 use Rattle.crx_reading.specs.meaning.Compacted.{epochs_accepted, whole_rinex}
 
 -- the lines of some items, as RINEX prints them

@@ -1,13 +1,13 @@
 -- What stands at a line of an observation file, the header and an event's records being read alike in RINEX and in
 -- compact text: RINEX 3.05, tables A2 and A3, with this project's profile.
 use Rattle.std.specs.Prelude.{ℕ, Bool, List, Option, Some, None, Result, Ok, Err, if◌then◌else◌, nat_lt, not}
-use Rattle.crx_lines.specs.meaning.Seen.{ReadLine}
-use Rattle.crx_lines.specs.declared.fault.Fault.{Fault}
-use Rattle.crx_lines.specs.declared.fault.Fault.TheVariants.{BadTypesLine}
+use Rattle.crx_faults.specs.meaning.Seen.{ReadLine}
+use Rattle.crx_faults.specs.declared.fault.Fault.{Fault}
+use Rattle.crx_faults.specs.declared.fault.Fault.TheVariants.{BadTypesLine}
 use Rattle.crx_rinex.specs.meaning.Places.{Place, first_line}
 use Rattle.crx_rinex.specs.meaning.Units.{Unit, HeaderLine, EventRecord}
-use Rattle.crx_rinex.specs.meaning.Header.{first_header_fault}
-use Rattle.crx_rinex.specs.meaning.ObservationTypes.{is_bad_types_line}
+use Rattle.crx_header.specs.meaning.Header.{first_header_fault}
+use Rattle.crx_header.specs.meaning.ObservationTypes.{is_bad_types_line}
 use Rattle.crx_reading.specs.meaning.Items.{Item, is_at_start, header_has_ended, records_left, records_count_types}
 
 -- a unit, or what is wrong with its line

@@ -1,11 +1,11 @@
 -- The way back: what an expansion makes of the compact text that a compaction wrote.
 -- Lists of items have the newest first.
 use Rattle.std.specs.Prelude.{◌≡◌, ℕ, false, List, [], ◌∷◌, None, ⊤}
-use Rattle.crx_lines.specs.meaning.Lines.{ends_with_return}
+use Rattle.crx_faults.specs.meaning.Lines.{ends_with_return}
 use Rattle.crx_rinex.specs.meaning.Observations.{Epoch}
 use Rattle.crx_rinex.specs.meaning.Units.{Unit as FileUnit, HeaderLine, EventLine, EventRecord, Observation}
 use Rattle.crx_reading.specs.meaning.Items.{Item, Accepted, Warned}
-use Rattle.crx_reading.specs.meaning.Results.{FilterResult}
+use Rattle.crx_runs.specs.meaning.Results.{FilterResult}
 use Rattle.crx_reading.specs.meaning.Standard.{whole_of}
 
 -- what holds of a line that is copied: a header line, an event's first line, or a record

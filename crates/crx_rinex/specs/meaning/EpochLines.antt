@@ -6,10 +6,10 @@ use Rattle.std.specs.Option.{option_and_then}
 use Rattle.crx_columns.specs.meaning.Columns.{columns, character_at, is_blank}
 use Rattle.crx_text.specs.meaning.Numbers.{clock_of, IsMissingOrWithin}
 use Rattle.crx_columns.specs.meaning.Texts.{is_kept}
-use Rattle.crx_lines.specs.declared.limits.TheConstants.{SATELLITES_LIMIT, HEAD_WIDTH, CLOCK_WIDTH}
-use Rattle.crx_lines.specs.declared.fault.Fault.{Fault}
-use Rattle.crx_lines.specs.declared.fault.Fault.TheVariants.{NotAnEpoch, BadEpoch, BadClock}
-use Rattle.crx_rinex.specs.meaning.Label.{number_in}
+use Rattle.crx_faults.specs.declared.limits.TheConstants.{SATELLITES_LIMIT, HEAD_WIDTH, CLOCK_WIDTH}
+use Rattle.crx_faults.specs.declared.fault.Fault.{Fault}
+use Rattle.crx_faults.specs.declared.fault.Fault.TheVariants.{NotAnEpoch, BadEpoch, BadClock}
+use Rattle.crx_header.specs.meaning.Label.{number_in}
 
 -- what a line that begins with > stands for: an event with its flag and the count of its records, or an observation
 -- epoch with columns 1 to 41, the count of its satellites, and the receiver clock offset

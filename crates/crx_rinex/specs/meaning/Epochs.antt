@@ -4,7 +4,7 @@ use Rattle.std.specs.List.{list_any}
 use Rattle.std.specs.Str.{bytes_eq}
 use Rattle.crx_rinex.specs.meaning.Observations.{Row, Epoch}
 use Rattle.crx_rinex.specs.meaning.EpochLines.{IsObservationHead, satellites_of}
-use Rattle.crx_rinex.specs.meaning.ObservationTypes.{Count}
+use Rattle.crx_header.specs.meaning.ObservationTypes.{Count}
 use Rattle.crx_rinex.specs.meaning.SatelliteLines.{IsSoundRow, HasItsTypes}
 
 -- whether some rows have a satellite

@@ -1,6 +1,5 @@
 -- How an observation epoch is printed: RINEX 3.05, table A3.
 use Rattle.std.specs.Prelude.{ℕ, ℤ, List, [], ◌∷◌, ◌++◌, Option, take, drop, map}
-use Rattle.std.specs.List.{flat_map}
 use Rattle.crx_columns.specs.meaning.Columns.{without_end_blanks}
 use Rattle.crx_text.specs.meaning.Numbers.{observation_text, clock_text}
 use Rattle.crx_rinex.specs.meaning.Observations.{Row, Epoch}
@@ -21,7 +20,3 @@ printed_head head clock = without_end_blanks (head ++ clock_text clock)
 -- the lines of an observation epoch
 abbrev pub printed_epoch : Epoch → List (List ℕ)
 printed_epoch epoch = printed_head epoch.head epoch.clock ∷ map printed_row epoch.rows
-
--- lines, each followed by LF
-abbrev pub lines_text : List (List ℕ) → List ℕ
-lines_text lines = flat_map (λ (line : List ℕ). line ++ 10 ∷ []) lines

@@ -6,13 +6,13 @@ use Rattle.std.specs.List.{list_all, concat}
 use Rattle.std.specs.Option.{option_and_then}
 use Rattle.crx_columns.specs.meaning.Columns.{columns, character_at, is_blank}
 use Rattle.crx_text.specs.meaning.Numbers.{observation_of, IsMissingOrWithin}
-use Rattle.crx_rinex.specs.meaning.EachPlace.{each_place}
+use Rattle.crx_columns.specs.meaning.EachPlace.{each_place}
 use Rattle.crx_rinex.specs.meaning.Observations.{Row}
-use Rattle.crx_lines.specs.declared.limits.TheConstants.{OBSERVATION_WIDTH, NAME_WIDTH, CELL_WIDTH}
-use Rattle.crx_lines.specs.declared.fault.Fault.{Fault}
-use Rattle.crx_lines.specs.declared.fault.Fault.TheVariants.{BadSatellite, BadField, BadFlags}
+use Rattle.crx_faults.specs.declared.limits.TheConstants.{OBSERVATION_WIDTH, NAME_WIDTH, CELL_WIDTH}
+use Rattle.crx_faults.specs.declared.fault.Fault.{Fault}
+use Rattle.crx_faults.specs.declared.fault.Fault.TheVariants.{BadSatellite, BadField, BadFlags}
 use Rattle.crx_columns.specs.meaning.Texts.{is_kept}
-use Rattle.crx_rinex.specs.meaning.ObservationTypes.{Count, IsAllowedCount, count_of, is_system}
+use Rattle.crx_header.specs.meaning.ObservationTypes.{Count, IsAllowedCount, count_of, is_system}
 
 -- whether columns 2 and 3 of a satellite line go on with an identifier: a digit or a blank, and a digit
 abbrev pub has_number : List ℕ → Bool

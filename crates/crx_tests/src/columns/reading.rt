@@ -2,14 +2,14 @@
 
 ghost use Rattle.std.specs.Bool.{OnTrue};
 ghost use Rattle.std.specs.Prelude.{◌≡◌, ◌≤◌, length, false};
-ghost use Rattle.crx_lines.specs.declared.limits.TheConstants.{LINE_LIMIT};
+ghost use Rattle.crx_faults.specs.declared.limits.TheConstants.{LINE_LIMIT};
 ghost use Rattle.crx_rinex.specs.meaning.EpochLines.{is_event_line};
 
 use super::cases::{Table, both_forms, both_ways, read_alone};
 use super::*;
 use crate::expecting::{expect, expect_at};
-use crx_compact::read_back::read_back;
-use crx_lines::limits::LINE_LIMIT;
+use crx_faults::limits::LINE_LIMIT;
+use crx_laws::read_back::read_back;
 use crx_rinex::{Printed, is_event_line};
 use std::process::Abort;
 use std::test::Fail;

@@ -10,7 +10,7 @@ use Rattle.crx_columns.specs.meaning.Columns.{is_blank}
 use Rattle.crx_text.specs.meaning.Numbers.{without_minus, signed_number}
 use Rattle.crx_text.specs.declared.code.Code.{Code}
 use Rattle.crx_text.specs.declared.code.Code.TheVariants.{Missing, Start, Step}
-use Rattle.crx_lines.specs.declared.limits.TheConstants.{ORDER_LIMIT, DIGITS_LIMIT}
+use Rattle.crx_faults.specs.declared.limits.TheConstants.{ORDER_LIMIT, DIGITS_LIMIT}
 
 -- ---- printing
 

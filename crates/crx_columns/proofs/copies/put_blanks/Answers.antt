@@ -1,6 +1,6 @@
 use Rattle.std.proofs.Common.{ℕ, length, ◌∙◌}
 use Rattle.std.proofs.lemmas.List.{take-replicate}
-use Rattle.crx_lines.specs.declared.limits.TheConstants.{LINE_LIMIT}
+use Rattle.crx_faults.specs.declared.limits.TheConstants.{LINE_LIMIT}
 use Rattle.crx_columns.proofs.copies.put_blanks.Goals as goal
 
 pub returns : goal.returns

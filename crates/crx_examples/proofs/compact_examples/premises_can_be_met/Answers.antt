@@ -6,10 +6,10 @@ use Rattle.std.proofs.lemmas.List.Elements.{All-cons, All-nil}
 use Rattle.std.specs.Fmt.{digits}
 use Rattle.crx_text.specs.meaning.Codes.{coded_number}
 use Rattle.crx_text.specs.Numbers.{IsObservation}
-use Rattle.crx_rinex.specs.ObservationTypes.{IsCount}
+use Rattle.crx_header.specs.ObservationTypes.{IsCount}
 use Rattle.crx_rinex.specs.meaning.SatelliteLines.{IsValue, IsSoundRow, HasItsTypes}
 use Rattle.crx_rinex.specs.meaning.Epochs.{IsWholeEpoch}
-use Rattle.crx_rinex.specs.Examples.{one_type}
+use Rattle.crx_laws.specs.Examples.{one_type}
 use Rattle.crx_examples.specs.CompactExamples.{row_of_g01, epoch_of_one}
 use Rattle.crx_examples.proofs.compact_examples.premises_can_be_met.Goals as goal
 

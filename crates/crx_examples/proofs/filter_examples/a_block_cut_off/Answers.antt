@@ -3,12 +3,12 @@ use Rattle.std.proofs.Common.{refl, arith, [], ◌∷◌, ◌++◌, codes, inl}
 use Rattle.std.specs.Fmt.{digits}
 use Rattle.crx_text.specs.meaning.Codes.{coded_number}
 use Rattle.crx_text.specs.meaning.Numbers.{size_of, number_of, number_text}
-use Rattle.crx_lines.specs.declared.fault.Fault.TheVariants.{Truncated}
+use Rattle.crx_faults.specs.declared.fault.Fault.TheVariants.{Truncated}
 use Rattle.crx_laws.specs.SmallFiles.{header, header_items, first_two, epoch_at_second, epoch_line_at, full_line_at}
 use Rattle.crx_laws.specs.SmallFiles.{observed, plain_choices}
-use Rattle.crx_rinex.specs.meaning.Printing.{lines_text}
+use Rattle.crx_faults.specs.meaning.Lines.{lines_text}
 use Rattle.crx_reading.specs.meaning.Damage.{IsDamaged}
-use Rattle.crx_reading.specs.meaning.Messages.{warning_text}
+use Rattle.crx_runs.specs.meaning.Messages.{warning_text}
 use Rattle.crx_examples.proofs.filter_examples.a_block_cut_off.Goals as goal
 
 cut : IsDamaged (lines_text (header ++ epoch_line_at 0 1 ∷ observed (codes "1.000") ∷ [])) plain_choices

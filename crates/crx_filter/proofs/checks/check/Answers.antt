@@ -1,7 +1,7 @@
 use Rattle.crx_reading.specs.meaning.Directions.{check_filter}
 use Rattle.crx_reading.specs.meaning.Standard.{checked}
 use Rattle.crx_filter.specs.meaning.Promises.{JudgesStandard}
-use Rattle.crx_filter.specs.meaning.Spans.{Input, reader_span, Device, span}
+use Rattle.crx_runs.specs.meaning.Spans.{Input, reader_span, Device, span}
 use Rattle.crx_filter.proofs.Kept.{kept, judges-standard}
 use Rattle.crx_filter.proofs.checks.check.Goals as goal
 

@@ -7,7 +7,7 @@ use Rattle.crx_reading.specs.LineByLine.{Seen}
 use Rattle.crx_reading.specs.meaning.Expanded.{expanded}
 use Rattle.crx_engine.specs.ExpanderState.{expander_state}
 use Rattle.crx_reading.specs.meaning.Directions.{expansion_filter}
-use Rattle.crx_filter.specs.meaning.Spans.{Input, reader_span, Device, span}
+use Rattle.crx_runs.specs.meaning.Spans.{Input, reader_span, Device, span}
 use Rattle.std.proofs.lemmas.Result.{IfOk-weaker}
 use Rattle.crx_engine.proofs.following.Lawful.{expansion-lawful}
 use Rattle.crx_filter.specs.meaning.Promises.{BringsBackWhatWasCompacted, SavesAllElse}

@@ -3,7 +3,7 @@ use Rattle.std.proofs.Common.{drop, length, sym, ap, ◌∙◌, inl, arith}
 use Rattle.std.proofs.lemmas.List.{length_push, map-append}
 use Rattle.crx_columns.specs.meaning.Columns.{columns}
 use Rattle.crx_history.specs.meaning.EpochText.{Satellite, names_in}
-use Rattle.crx_rinex.proofs.EachPlace.{drop_all-each_place}
+use Rattle.crx_columns.proofs.EachPlace.{drop_all-each_place}
 use Rattle.crx_history.proofs.Naming.{among-named, named-bad, named-twice, named-more, named-all, next-name}
 use Rattle.crx_rinex.proofs.Rows.{names-long}
 use Rattle.crx_history.proofs.awaited.read_names.Goals as goal

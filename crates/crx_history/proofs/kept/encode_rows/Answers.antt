@@ -1,5 +1,5 @@
 use Rattle.std.proofs.Common.{◌≡◌, ◌≤◌, ◌<◌, ◌++◌, ◌∷◌, [], List, ℕ, Option, Some, length, slice_get, zero, suc, sym, ap, ◌∙◌, arith}
-use Rattle.crx_lines.specs.declared.limits.TheConstants.{SATELLITES_LIMIT}
+use Rattle.crx_faults.specs.declared.limits.TheConstants.{SATELLITES_LIMIT}
 use Rattle.std.proofs.lemmas.List.{take_more_set, length-set}
 use Rattle.crx_rinex.specs.meaning.Observations.{Row}
 use Rattle.crx_history.specs.Tails.{RowTail}

@@ -1,5 +1,5 @@
 use Rattle.std.proofs.Common.{◌≤◌, ◌-◌, [], take, length}
-use Rattle.crx_lines.specs.declared.limits.TheConstants.{SATELLITES_LIMIT}
+use Rattle.crx_faults.specs.declared.limits.TheConstants.{SATELLITES_LIMIT}
 use Rattle.crx_history.specs.Steps.{row_line_in, row_tail_in}
 use Rattle.crx_history.proofs.Making.{Made}
 use Rattle.crx_history.proofs.kept.encode_rows.Given as goal

@@ -1,6 +1,6 @@
 use Rattle.std.proofs.Common.{◌∙◌, arith}
 use Rattle.std.proofs.lemmas.List.{length-set}
-use Rattle.crx_lines.specs.declared.limits.TheConstants.{SATELLITES_LIMIT}
+use Rattle.crx_faults.specs.declared.limits.TheConstants.{SATELLITES_LIMIT}
 use Rattle.crx_history.proofs.RoomForRows.{room-all, room-more}
 use Rattle.crx_history.proofs.ShownRows.{get-there}
 use Rattle.crx_history.proofs.kept.fill_rows.Goals as goal

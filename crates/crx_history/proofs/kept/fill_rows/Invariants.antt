@@ -1,5 +1,5 @@
 use Rattle.std.specs.Prelude.{◌≡◌, ◌≤◌, length, map, take}
-use Rattle.crx_lines.specs.declared.limits.TheConstants.{SATELLITES_LIMIT}
+use Rattle.crx_faults.specs.declared.limits.TheConstants.{SATELLITES_LIMIT}
 use Rattle.crx_history.specs.meaning.EpochText.{Satellite}
 use Rattle.crx_history.specs.Tails.{RowTail}
 use Rattle.crx_history.proofs.kept.fill_rows.Given as goal

@@ -2,7 +2,7 @@ use Rattle.std.proofs.Common.{◌≡◌, ◌≤◌, ◌++◌, List, ℕ, true, l
 use Rattle.std.specs.List.{list_all}
 use Rattle.crx_columns.specs.meaning.Columns.{without_end_blanks}
 use Rattle.crx_columns.specs.meaning.Texts.{is_kept}
-use Rattle.crx_lines.specs.declared.limits.TheConstants.{LINE_LIMIT}
+use Rattle.crx_faults.specs.declared.limits.TheConstants.{LINE_LIMIT}
 use Rattle.crx_history.specs.meaning.Compaction.{epoch_text}
 use Rattle.crx_history.proofs.SoundTexts.{trimmed-fits, trimmed-plain}
 use Rattle.crx_history.proofs.kept.renew_text.Goals as goal

@@ -1,4 +1,4 @@
-use Rattle.crx_compact.proofs.soundness.BoundedTails.{written-bounded}
+use Rattle.crx_laws.proofs.soundness.BoundedTails.{written-bounded}
 use Rattle.crx_laws.proofs.compact_laws.bounded_tails.Goals as goal
 
 pub returns : goal.returns

@@ -1,4 +1,4 @@
-use Rattle.crx_compact.proofs.soundness.BoundedReading.{read-bounded}
+use Rattle.crx_laws.proofs.soundness.BoundedReading.{read-bounded}
 use Rattle.crx_laws.proofs.compact_reading.bounded_reading.Goals as goal
 
 pub returns : goal.returns

@@ -1,4 +1,4 @@
-use Rattle.crx_engine.proofs.output.Bounds.{compaction-bounded}
+use Rattle.crx_laws.proofs.output.Bounds.{compaction-bounded}
 use Rattle.crx_laws.proofs.filter_laws.bounded_compaction.Goals as goal
 
 pub returns : goal.returns

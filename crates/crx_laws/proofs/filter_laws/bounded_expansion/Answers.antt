@@ -1,4 +1,4 @@
-use Rattle.crx_engine.proofs.output.Bounds.{expansion-bounded}
+use Rattle.crx_laws.proofs.output.Bounds.{expansion-bounded}
 use Rattle.crx_laws.proofs.filter_laws.bounded_expansion.Goals as goal
 
 pub returns : goal.returns

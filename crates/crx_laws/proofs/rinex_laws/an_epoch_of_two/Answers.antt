@@ -2,7 +2,7 @@
 use Rattle.std.proofs.Common.{[], refl, arith}
 use Rattle.std.proofs.lemmas.List.Elements.{All-cons, All-nil}
 use Rattle.crx_text.specs.meaning.Numbers.{number_of, size_of}
-use Rattle.crx_rinex.specs.ObservationTypes.{IsCount}
+use Rattle.crx_header.specs.ObservationTypes.{IsCount}
 use Rattle.crx_laws.proofs.rinex_laws.an_epoch_of_two.Goals as goal
 
 pub returns : goal.returns

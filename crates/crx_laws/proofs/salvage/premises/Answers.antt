@@ -3,11 +3,11 @@ use Rattle.std.proofs.Common.{ℕ, refl, List, [], ◌∷◌, ◌++◌, codes, i
 use Rattle.std.specs.List.{list_all}
 use Rattle.std.specs.Fmt.{digits}
 use Rattle.crx_text.specs.meaning.Codes.{coded_number}
-use Rattle.crx_lines.specs.meaning.Lines.{Piece, lines_of, pieces_of}
+use Rattle.crx_faults.specs.meaning.Lines.{Piece, lines_of, pieces_of}
 use Rattle.crx_text.specs.meaning.Numbers.{size_of, number_of, number_text}
 use Rattle.crx_rinex.specs.meaning.Units.{EventLine, EventRecord, Observation}
 use Rattle.crx_reading.specs.meaning.Items.{Accepted}
-use Rattle.crx_rinex.specs.meaning.Printing.{lines_text}
+use Rattle.crx_faults.specs.meaning.Lines.{lines_text}
 use Rattle.crx_reading.specs.meaning.Standard.{IsStandard}
 use Rattle.crx_reading.specs.meaning.Damage.{may_replace, IsDamaged}
 use Rattle.crx_laws.specs.SmallFiles.{blanks, line_at, file_of_five, with_event, plain_choices, in_full_every_second}

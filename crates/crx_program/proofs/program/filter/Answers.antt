@@ -1,6 +1,6 @@
 use Rattle.std.proofs.Common.{subst, sym}
 use Rattle.crx_program.specs.meaning.Jobs.{IsFiltered}
-use Rattle.crx_filter.specs.meaning.Spans.{span, reader_span}
+use Rattle.crx_runs.specs.meaning.Spans.{span, reader_span}
 use Rattle.crx_command.specs.declared.job.Tool.{Tool}
 use Rattle.crx_program.proofs.program.filter.Goals as goal
 

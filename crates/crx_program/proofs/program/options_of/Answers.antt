@@ -1,5 +1,5 @@
 use Rattle.std.proofs.Common.{◌∙◌, ap, string_bytes}
-use Rattle.crx_reading.specs.meaning.Choices.{is_date}
+use Rattle.crx_options.specs.meaning.Choices.{is_date}
 use Rattle.crx_command.proofs.DateFits.{default_fits}
 use Rattle.crx_program.proofs.program.options_of.Goals as goal
 

@@ -1,7 +1,7 @@
 use Rattle.std.proofs.Common.{◌≡◌, ◌∙◌, map, inl, inr, refl, string_bytes}
 use Rattle.crx_command.specs.meaning.Planning.{Run, plan_of}
 use Rattle.crx_program.specs.meaning.Jobs.{NoMemory}
-use Rattle.crx_filter.specs.meaning.Spans.{span, reader_span}
+use Rattle.crx_runs.specs.meaning.Spans.{span, reader_span}
 use Rattle.crx_command.specs.declared.job.Job.{Job}
 use Rattle.crx_program.proofs.FilterEnds.{done_for}
 use Rattle.crx_command.proofs.JobFits.{job_fits}

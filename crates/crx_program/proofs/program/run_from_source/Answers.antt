@@ -1,6 +1,6 @@
 use Rattle.std.proofs.Common.{◌≡◌, ◌∙◌, Some, ap, inl, inr, is_some, refl, sym, true}
 use Rattle.crx_program.specs.meaning.Jobs.{CannotRead}
-use Rattle.crx_filter.specs.meaning.Spans.{span, reader_span}
+use Rattle.crx_runs.specs.meaning.Spans.{span, reader_span}
 use Rattle.crx_program.proofs.FilterEnds.{from_file, still_not_begun}
 use Rattle.crx_program.proofs.program.run_from_source.Goals as goal
 

@@ -1,6 +1,6 @@
 use Rattle.std.proofs.Common.{List, ℕ, subst, ◌∙◌}
 use Rattle.crx_program.specs.meaning.Program.{IsShown}
-use Rattle.crx_filter.specs.meaning.Spans.{span}
+use Rattle.crx_runs.specs.meaning.Spans.{span}
 use Rattle.crx_program.proofs.refusal.report_at_start.Goals as goal
 
 pub returns-clause-shown : goal.returns-clause-shown

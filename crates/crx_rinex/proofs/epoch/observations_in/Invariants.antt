@@ -1,6 +1,6 @@
 use Rattle.std.proofs.Common.{◌≡◌, ◌≤◌, ◌*◌, take}
 use Rattle.std.specs.List.{sum_by}
-use Rattle.crx_lines.specs.declared.limits.TheConstants.{TYPES_LIMIT}
+use Rattle.crx_faults.specs.declared.limits.TheConstants.{TYPES_LIMIT}
 use Rattle.crx_rinex.specs.meaning.Observations.{observations_of}
 use Rattle.crx_rinex.proofs.epoch.observations_in.Given as goal
 

@@ -2,7 +2,7 @@ use Rattle.std.proofs.Common.{◌≡◌, true, ap, sym, ◌∙◌}
 use Rattle.std.proofs.lemmas.Option.{IfSome_then}
 use Rattle.std.proofs.lemmas.Bool.{and_from}
 use Rattle.crx_columns.specs.meaning.Columns.{character_at}
-use Rattle.crx_rinex.specs.meaning.ObservationTypes.{is_system}
+use Rattle.crx_header.specs.meaning.ObservationTypes.{is_system}
 use Rattle.crx_rinex.specs.meaning.SatelliteLines.{has_number}
 use Rattle.crx_rinex.proofs.Cells.{identifier_columns}
 use Rattle.crx_rinex.proofs.satellite_row.types_of_satellite.Goals as goal

@@ -1,5 +1,5 @@
 use Rattle.std.proofs.Common.{subst}
-use Rattle.crx_reading.specs.meaning.Choices.{Choices}
+use Rattle.crx_options.specs.meaning.Choices.{Choices}
 use Rattle.crx_reading.specs.meaning.Compacted.{compacted}
 use Rattle.rnxcmp_c.specs.Collecting.{IsRun}
 use Rattle.rnxcmp_c.proofs.exports.rnxcmp_c_compact.Goals as goal

@@ -1,8 +1,9 @@
 use Rattle.std.proofs.Common.{map, subst, sym, ◌∙◌}
-use Rattle.crx_lines.specs.meaning.Lines.{lines_of}
-use Rattle.crx_lines.specs.meaning.Seen.{seen}
+use Rattle.crx_faults.specs.meaning.Lines.{lines_of}
+use Rattle.crx_faults.specs.meaning.Seen.{seen}
 use Rattle.crx_reading.specs.meaning.Expanded.{expanded_unit, whole_compact}
-use Rattle.crx_reading.specs.meaning.Results.{FilterResult, result_of}
+use Rattle.crx_runs.specs.meaning.Results.{FilterResult}
+use Rattle.crx_reading.specs.meaning.Written.{result_of}
 use Rattle.rnxcmp_c.specs.meaning.Answers.{IsAnswer, rooms}
 use Rattle.rnxcmp_c.proofs.Kept.{brings-back, saves-all_else}
 use Rattle.rnxcmp_c.proofs.exports.rnxcmp_c_expand.Goals as goal

@@ -1,6 +1,6 @@
 use Rattle.std.proofs.Common.{List, rules}
 use Rattle.std.proofs.lemmas.Result.{err_from_is_err_and, IfErr-weaker}
-use Rattle.crx_lines.specs.meaning.Lines.{InputLine}
+use Rattle.crx_faults.specs.meaning.Lines.{InputLine}
 use Rattle.rnxcmp_c.proofs.Cut.{halted-stops, made-of, stops-at}
 use Rattle.rnxcmp_c.proofs.lines.end_run.Goals as goal
 

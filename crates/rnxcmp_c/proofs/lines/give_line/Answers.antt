@@ -1,10 +1,10 @@
 use Rattle.std.proofs.Common.{◌≡◌, ◌+◌, List, length, IfErr, subst, ◌<◌, rules}
 use Rattle.std.proofs.lemmas.Bool.{lt-ltb}
 use Rattle.std.proofs.lemmas.Result.{IfErr-weaker}
-use Rattle.crx_lines.specs.meaning.Lines.{InputLine}
-use Rattle.crx_lines.specs.declared.limits.TheConstants.{LINE_LIMIT}
+use Rattle.crx_faults.specs.meaning.Lines.{InputLine}
+use Rattle.crx_faults.specs.declared.limits.TheConstants.{LINE_LIMIT}
 use Rattle.crx_lines.specs.Reading.{line_shown}
-use Rattle.crx_reading.specs.meaning.Filters.{with_next}
+use Rattle.crx_runs.specs.meaning.Filters.{with_next}
 use Rattle.rnxcmp_c.specs.Going.{StopsBy, piece_line}
 use Rattle.rnxcmp_c.proofs.Cut.{cut-stops}
 use Rattle.rnxcmp_c.proofs.lines.give_line.Goals as goal

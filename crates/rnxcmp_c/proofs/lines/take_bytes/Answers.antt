@@ -1,7 +1,7 @@
 use Rattle.std.proofs.Common.{ℕ, List, ◌++◌, take, drop, sym, ap, ◌∙◌, subst, append_assoc}
 use Rattle.std.proofs.lemmas.List.{take-append-drop}
 use Rattle.std.proofs.lemmas.Result.{err_from_is_err_and}
-use Rattle.crx_reading.specs.meaning.Filters.{Filter}
+use Rattle.crx_runs.specs.meaning.Filters.{Filter}
 use Rattle.rnxcmp_c.specs.Going.{Breaks, IsGoing, HandlePast, fed_with}
 use Rattle.rnxcmp_c.proofs.lines.take_bytes.Goals as goal
 

@@ -1,9 +1,9 @@
 use Rattle.std.proofs.Common.{◌≡◌, ℕ, ◌+◌, ◌<◌, List, [], ◌∷◌, length, OnOk, IfErr, sym, ap, subst, false, ◌∙◌}
 use Rattle.std.proofs.Common.{length-append}
 use Rattle.std.proofs.lemmas.Result.{on_ok_weaker, IfErr-weaker, err_from_is_err_and}
-use Rattle.crx_lines.specs.meaning.Lines.{InputLine}
-use Rattle.crx_lines.specs.meaning.Seen.{ended_lines_of}
-use Rattle.crx_reading.specs.meaning.Filters.{Filter, with_next}
+use Rattle.crx_faults.specs.meaning.Lines.{InputLine}
+use Rattle.crx_faults.specs.meaning.Seen.{ended_lines_of}
+use Rattle.crx_runs.specs.meaning.Filters.{Filter, with_next}
 use Rattle.rnxcmp_c.specs.Going.{MovesOn, HandlePast, LineStops, piece_line}
 use Rattle.rnxcmp_c.proofs.GoingLemmas.{all-ended, all-but_last, ends-well, ends-badly, last-text, last-flag}
 use Rattle.rnxcmp_c.proofs.GoingLemmas.{last-fails}

@@ -1,7 +1,7 @@
 use Rattle.std.proofs.Common.{◌≡◌, ℕ, ◌+◌, List, [], ◌∷◌, ◌++◌, length, take, drop, refl, sym, ap, ◌∙◌, subst, arith}
 use Rattle.std.proofs.lemmas.List.{take_all, take_more}
 use Rattle.std.proofs.lemmas.Result.{err_from_is_err_and}
-use Rattle.crx_lines.specs.meaning.Seen.{ended_lines_of}
+use Rattle.crx_faults.specs.meaning.Seen.{ended_lines_of}
 use Rattle.crx_lines.specs.Reading.{HasNoFeed}
 use Rattle.rnxcmp_c.specs.Going.{Breaks, IsGoing, HandlePast, fed_with}
 use Rattle.rnxcmp_c.specs.declared.held.Held.{Held}

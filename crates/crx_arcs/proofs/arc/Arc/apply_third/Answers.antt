@@ -1,8 +1,8 @@
 use Rattle.std.proofs.Common.{rules, ◌≡◌, [], ◌∷◌, ℤ, true, take, sym, ap, ◌∙◌, arith, FitsSigned, w64, Some, Result}
 use Rattle.std.proofs.Common.{Ok, Err, Option}
 use Rattle.std.specs.Prelude.{if◌then◌else◌}
-use Rattle.crx_lines.specs.declared.fault.Fault.{Fault}
-use Rattle.crx_lines.specs.declared.fault.Fault.TheVariants.{OutOfRange}
+use Rattle.crx_faults.specs.declared.fault.Fault.{Fault}
+use Rattle.crx_faults.specs.declared.fault.Fault.TheVariants.{OutOfRange}
 use Rattle.crx_arcs.specs.meaning.Differences.{newest}
 use Rattle.crx_arcs.specs.meaning.ArcValues.{is_within, in_range}
 use Rattle.crx_arcs.specs.ArcSteps.{differences_after, differences_by}

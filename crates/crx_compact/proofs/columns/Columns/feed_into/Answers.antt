@@ -1,5 +1,5 @@
 use Rattle.std.proofs.Common.{◌∙◌, sym, subst, true, List, ℕ, Option, Some, None, if◌then◌else◌}
-use Rattle.crx_lines.specs.meaning.Seen.{Content}
+use Rattle.crx_faults.specs.meaning.Seen.{Content}
 use Rattle.crx_history.specs.Tails.{Tail}
 use Rattle.crx_compact.specs.OpenEpochs.{HasPrintedLines, step_in}
 use Rattle.crx_compact.specs.OpenLines.{OpenLines, columns_state}

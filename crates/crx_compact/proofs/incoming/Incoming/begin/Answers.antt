@@ -4,7 +4,7 @@ use Rattle.crx_history.specs.HeldRows.{HaveRows}
 use Rattle.crx_history.specs.RowsSoFar.{AreAnnounced}
 use Rattle.crx_history.specs.Tails.{Tail}
 use Rattle.std.specs.Result.{is_ok}
-use Rattle.crx_lines.specs.declared.fault.Fault.{Fault}
+use Rattle.crx_faults.specs.declared.fault.Fault.{Fault}
 use Rattle.crx_arcs.specs.meaning.Sequences.{and_then}
 use Rattle.crx_history.proofs.EpochLines.{announced}
 use Rattle.crx_compact.proofs.incoming.Incoming.begin.Goals as goal

@@ -1,11 +1,11 @@
 use Rattle.std.proofs.Common.{◌≡◌, ◌⊎◌, ◌≤◌, [], None, Some, length, ap, sym, subst, ◌∙◌}
 use Rattle.crx_lines.specs.Reading.{line_shown}
-use Rattle.crx_lines.specs.declared.limits.TheConstants.{LINE_LIMIT}
-use Rattle.crx_lines.specs.declared.fault.At.{At}
+use Rattle.crx_faults.specs.declared.limits.TheConstants.{LINE_LIMIT}
+use Rattle.crx_faults.specs.declared.fault.At.{At}
 use Rattle.crx_reading.specs.meaning.Directions.{check_filter, fault_so_far}
 use Rattle.crx_engine.specs.CheckerState.{is_reading, checker_state_with}
-use Rattle.crx_engine.specs.Engines.{RunsOutAt}
-use Rattle.crx_reading.specs.meaning.Filters.{with_next}
+use Rattle.crx_runs.specs.Engines.{RunsOutAt}
+use Rattle.crx_runs.specs.meaning.Filters.{with_next}
 use Rattle.crx_reading.specs.RinexReaders.{reader_phase, made_at, TakesRinexLine, RefusesRinexLine}
 use Rattle.crx_engine.proofs.steps.EngineAnswers.{short-line}
 use Rattle.crx_engine.proofs.steps.CheckerSteps.{has-printed, still-reading, took-line, refused-line}

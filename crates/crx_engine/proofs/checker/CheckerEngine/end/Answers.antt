@@ -1,5 +1,5 @@
 use Rattle.std.proofs.Common.{refl, ap, sym, ◌∙◌}
-use Rattle.crx_rinex.specs.meaning.Printing.{lines_text}
+use Rattle.crx_faults.specs.meaning.Lines.{lines_text}
 use Rattle.crx_reading.specs.meaning.Standard.{Findings, report_lines, findings_of}
 use Rattle.crx_reading.specs.meaning.Directions.{report_unless}
 use Rattle.crx_engine.proofs.steps.CheckerEnds.{end-fault, good-end, bad-end, found-there}

@@ -1,8 +1,8 @@
 use Rattle.std.proofs.Common.{◌≡◌, inr, Some, refl, ap, sym, subst}
-use Rattle.crx_lines.specs.declared.fault.At.{At}
+use Rattle.crx_faults.specs.declared.fault.At.{At}
 use Rattle.crx_reading.specs.meaning.Directions.{fault_so_far}
-use Rattle.crx_engine.specs.Engines.{awaited_notices}
-use Rattle.crx_reading.specs.meaning.Filters.{with_next}
+use Rattle.crx_runs.specs.Engines.{awaited_notices}
+use Rattle.crx_runs.specs.meaning.Filters.{with_next}
 use Rattle.crx_engine.proofs.steps.CheckerSteps.{long-line}
 use Rattle.crx_engine.proofs.checker.CheckerEngine.overlong.Goals as goal
 

@@ -1,5 +1,5 @@
 use Rattle.std.proofs.Common.{ap, sym, refl, ◌∙◌, []}
-use Rattle.crx_lines.specs.meaning.Seen.{ReadLine}
+use Rattle.crx_faults.specs.meaning.Seen.{ReadLine}
 use Rattle.crx_reading.specs.CompactionByLine.{Written, compaction}
 use Rattle.crx_rinex.specs.meaning.EpochPlaces.{OpenEpoch}
 use Rattle.crx_reading.specs.LineByLine.{Seen}

@@ -1,5 +1,5 @@
 use Rattle.std.proofs.Common.{refl, sym, subst, rules}
-use Rattle.crx_lines.specs.meaning.Seen.{Content}
+use Rattle.crx_faults.specs.meaning.Seen.{Content}
 use Rattle.crx_engine.specs.CompactionState.{compaction_state}
 use Rattle.crx_reading.specs.RinexReaders.{made_at, TakesRinexLine}
 use Rattle.crx_reading.specs.declared.rinex_reader.RinexStep.{RinexStep}

@@ -1,5 +1,5 @@
 use Rattle.std.proofs.Common.{sym, refl, ap, ◌∙◌}
-use Rattle.crx_lines.specs.meaning.Seen.{Overlong}
+use Rattle.crx_faults.specs.meaning.Seen.{Overlong}
 use Rattle.crx_reading.specs.CompactionByLine.{compaction}
 use Rattle.crx_engine.specs.CompactionState.{compaction_state}
 use Rattle.crx_reading.specs.LineByLine.{step_of_made}

@@ -1,8 +1,8 @@
 use Rattle.std.proofs.Common.{Result, sym, subst, ◌∙◌}
-use Rattle.crx_lines.specs.declared.fault.At.{At}
-use Rattle.crx_engine.specs.declared.engine.Step.{Step}
+use Rattle.crx_faults.specs.declared.fault.At.{At}
+use Rattle.crx_runs.specs.declared.engine.Step.{Step}
 use Rattle.crx_lines.specs.Reading.{line_shown}
-use Rattle.crx_lines.specs.meaning.Seen.{Content}
+use Rattle.crx_faults.specs.meaning.Seen.{Content}
 use Rattle.crx_engine.specs.EngineSteps.{Steps}
 use Rattle.crx_reading.specs.CompactionByLine.{compaction}
 use Rattle.crx_engine.specs.CompactionState.{compaction_state}

@@ -1,5 +1,5 @@
 use Rattle.std.proofs.Common.{inl}
-use Rattle.crx_lines.specs.meaning.Seen.{Overlong}
+use Rattle.crx_faults.specs.meaning.Seen.{Overlong}
 use Rattle.crx_reading.specs.CompactionByLine.{compaction}
 use Rattle.crx_engine.specs.CompactionState.{compaction_state}
 use Rattle.crx_reading.specs.ReadyLines.{pending_lines}

@@ -1,5 +1,5 @@
 use Rattle.std.proofs.Common.{inl}
-use Rattle.crx_lines.specs.meaning.Seen.{Overlong}
+use Rattle.crx_faults.specs.meaning.Seen.{Overlong}
 use Rattle.crx_engine.specs.CompactorState.{compactor_seen, compactor_ready}
 use Rattle.crx_engine.proofs.following.DirectionSteps.{compaction-goes}
 use Rattle.crx_engine.proofs.steps.EngineAnswers.{answers-seen, seen-long}

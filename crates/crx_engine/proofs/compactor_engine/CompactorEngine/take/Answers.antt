@@ -1,6 +1,6 @@
 use Rattle.crx_lines.specs.Reading.{line_shown}
-use Rattle.crx_lines.specs.meaning.Seen.{Content}
-use Rattle.crx_engine.specs.Engines.{answer_given}
+use Rattle.crx_faults.specs.meaning.Seen.{Content}
+use Rattle.crx_runs.specs.Engines.{answer_given}
 use Rattle.crx_reading.specs.CompactionByLine.{compaction}
 use Rattle.crx_engine.specs.CompactorState.{compactor_seen, compactor_ready}
 use Rattle.crx_engine.proofs.following.DirectionSteps.{compaction-goes}

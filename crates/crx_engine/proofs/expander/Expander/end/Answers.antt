@@ -1,5 +1,5 @@
 use Rattle.std.proofs.Common.{◌≡◌, List, ℕ, Option, None, refl, sym, ap, ◌∙◌}
-use Rattle.crx_lines.specs.declared.fault.At.{At}
+use Rattle.crx_faults.specs.declared.fault.At.{At}
 use Rattle.crx_compact.specs.OpenEpochs.{OpenRawEpoch, tail_held}
 use Rattle.crx_history.specs.Tails.{Tail}
 use Rattle.crx_reading.specs.CompactStages.{open_in}

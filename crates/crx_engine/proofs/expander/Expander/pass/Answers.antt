@@ -1,5 +1,5 @@
 use Rattle.std.proofs.Common.{rules, List, ℕ, refl, sym, ap, ◌∙◌}
-use Rattle.crx_lines.specs.meaning.Seen.{Overlong}
+use Rattle.crx_faults.specs.meaning.Seen.{Overlong}
 use Rattle.crx_compact.specs.OpenEpochs.{tail_held}
 use Rattle.crx_reading.specs.CompactStages.{open_in}
 use Rattle.crx_engine.specs.EngineSteps.{step_made}

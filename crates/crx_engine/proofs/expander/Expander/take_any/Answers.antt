@@ -1,5 +1,5 @@
 use Rattle.std.proofs.Common.{refl, sym}
-use Rattle.crx_lines.specs.meaning.Seen.{Content}
+use Rattle.crx_faults.specs.meaning.Seen.{Content}
 use Rattle.crx_reading.specs.CompactStages.{open_in}
 use Rattle.crx_engine.specs.ExpanderState.{expander_state}
 use Rattle.crx_engine.proofs.steps.ExpanderSteps.{at-stage, refused-line}

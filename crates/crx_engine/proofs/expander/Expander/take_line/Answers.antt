@@ -1,5 +1,5 @@
 use Rattle.std.proofs.Common.{◌≡◌, true, refl, sym, ap, subst}
-use Rattle.crx_lines.specs.meaning.Seen.{Content}
+use Rattle.crx_faults.specs.meaning.Seen.{Content}
 use Rattle.crx_reading.specs.CompactStages.{open_in}
 use Rattle.crx_reading.specs.Stages.{seen_stage}
 use Rattle.crx_engine.specs.ExpanderState.{expander_state}

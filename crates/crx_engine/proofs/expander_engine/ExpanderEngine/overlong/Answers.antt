@@ -1,5 +1,5 @@
 use Rattle.std.proofs.Common.{inl}
-use Rattle.crx_lines.specs.meaning.Seen.{Overlong}
+use Rattle.crx_faults.specs.meaning.Seen.{Overlong}
 use Rattle.crx_engine.specs.ExpanderState.{expander_state}
 use Rattle.crx_engine.proofs.following.DirectionSteps.{expansion-goes}
 use Rattle.crx_engine.proofs.steps.EngineAnswers.{answers-seen, seen-long}

@@ -2,8 +2,8 @@ use Rattle.std.proofs.Common.{◌≡◌, ◌++◌, ◌∷◌, [], List, ℕ, Opt
 use Rattle.std.specs.Option.{option_copied}
 use Rattle.std.specs.Prelude.{flat_map}
 use Rattle.crx_columns.specs.meaning.Columns.{without_end_blanks}
-use Rattle.crx_arcs.specs.Cells.{codes_of_row}
-use Rattle.crx_arcs.specs.meaning.Cells.{cell_text}
+use Rattle.crx_cells.specs.Cells.{codes_of_row}
+use Rattle.crx_cells.specs.meaning.Cells.{cell_text}
 use Rattle.crx_history.specs.meaning.Compaction.{line_of_codes}
 use Rattle.crx_history.specs.Steps.{row_line_after}
 use Rattle.crx_arcs.specs.ArcTails.{ArcTail}

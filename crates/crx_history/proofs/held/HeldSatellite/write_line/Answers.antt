@@ -1,8 +1,8 @@
 use Rattle.std.proofs.Common.{◌+◌, ◌++◌, List, ℕ, length, take, ap, ◌∙◌, arith}
 use Rattle.std.specs.Prelude.{flat_map}
 use Rattle.crx_columns.specs.meaning.Columns.{without_end_blanks}
-use Rattle.crx_arcs.specs.Cells.{codes_of_row}
-use Rattle.crx_arcs.specs.meaning.Cells.{cell_text}
+use Rattle.crx_cells.specs.Cells.{codes_of_row}
+use Rattle.crx_cells.specs.meaning.Cells.{cell_text}
 use Rattle.crx_columns.proofs.WrittenTexts.{LineWritten, line-written}
 use Rattle.crx_history.proofs.held.HeldSatellite.write_line.Goals as goal
 

@@ -1,6 +1,6 @@
 use Rattle.std.proofs.Common.{ap, ◌∙◌, ◌≡◌, [], List, ℕ, ℤ, Bool, Option, is_some, length, slice_index_or, arith}
 use Rattle.crx_columns.specs.meaning.Columns.{columns}
-use Rattle.crx_lines.specs.declared.limits.TheConstants.{HEAD_WIDTH}
+use Rattle.crx_faults.specs.declared.limits.TheConstants.{HEAD_WIDTH}
 use Rattle.crx_rinex.specs.meaning.EpochLines.{epoch_count}
 use Rattle.crx_rinex.specs.Epochs.{is_full_epoch, with_row}
 use Rattle.crx_rinex.specs.meaning.Epochs.{has_satellite}

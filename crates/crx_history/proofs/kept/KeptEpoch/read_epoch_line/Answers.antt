@@ -3,8 +3,8 @@ use Rattle.std.proofs.Common.{sym, ◌∙◌, if◌then◌else◌}
 use Rattle.std.specs.List.{list_all}
 use Rattle.std.specs.Result.{is_ok}
 use Rattle.std.proofs.lemmas.Bool.{false≢true}
-use Rattle.crx_lines.specs.declared.fault.Fault.{Fault}
-use Rattle.crx_lines.specs.declared.fault.Fault.TheVariants.{BadEpoch, OutOfMemory}
+use Rattle.crx_faults.specs.declared.fault.Fault.{Fault}
+use Rattle.crx_faults.specs.declared.fault.Fault.TheVariants.{BadEpoch, OutOfMemory}
 use Rattle.crx_columns.specs.meaning.Texts.{is_printable}
 use Rattle.crx_columns.specs.Texts.{patched}
 use Rattle.crx_history.specs.meaning.CompactPlaces.{satellites_of_text}

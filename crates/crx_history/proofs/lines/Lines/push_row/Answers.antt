@@ -3,8 +3,8 @@ use Rattle.std.specs.Prelude.{flat_map}
 use Rattle.std.proofs.lemmas.List.{length-set, take_at}
 use Rattle.crx_columns.specs.meaning.Columns.{without_end_blanks}
 use Rattle.crx_columns.specs.meaning.Texts.{text_difference}
-use Rattle.crx_arcs.specs.Cells.{codes_of_row}
-use Rattle.crx_arcs.specs.meaning.Cells.{cell_text}
+use Rattle.crx_cells.specs.Cells.{codes_of_row}
+use Rattle.crx_cells.specs.meaning.Cells.{cell_text}
 use Rattle.crx_history.specs.LineLists.{cut}
 use Rattle.crx_columns.proofs.WrittenTexts.{same-before}
 use Rattle.crx_history.proofs.LineTexts.{row-pushed}

@@ -3,7 +3,7 @@ use Rattle.std.specs.Prelude.{slice_set}
 use Rattle.std.proofs.lemmas.List.{get_or_default, length-set, take_more_set}
 use Rattle.std.proofs.lemmas.Result.{err_from_is_err_and}
 use Rattle.crx_columns.specs.meaning.Columns.{columns}
-use Rattle.crx_lines.specs.declared.limits.TheConstants.{NAME_WIDTH}
+use Rattle.crx_faults.specs.declared.limits.TheConstants.{NAME_WIDTH}
 use Rattle.crx_rinex.specs.meaning.Observations.{Row, Epoch}
 use Rattle.crx_rinex.specs.meaning.Epochs.{has_satellite}
 use Rattle.crx_rinex.specs.Epochs.{is_full_epoch, with_row}

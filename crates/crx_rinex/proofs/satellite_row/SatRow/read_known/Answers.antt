@@ -3,7 +3,7 @@ use Rattle.std.proofs.Common.{◌≢◌, length}
 use Rattle.std.proofs.lemmas.Option.{same_Some}
 use Rattle.std.specs.Result.{is_ok}
 use Rattle.std.proofs.lemmas.Result.{IfErr-weaker, on_ok_weaker}
-use Rattle.crx_lines.specs.declared.fault.Fault.TheVariants.{OutOfMemory}
+use Rattle.crx_faults.specs.declared.fault.Fault.TheVariants.{OutOfMemory}
 use Rattle.crx_rinex.specs.meaning.Observations.{Row}
 use Rattle.crx_rinex.specs.meaning.SatelliteLines.{types_of_satellite, row_of, row_of_types, row_with, values_in}
 use Rattle.crx_rinex.proofs.Cells.{known_types}

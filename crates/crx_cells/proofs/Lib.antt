@@ -1,0 +1,2 @@
+pub mod CellsRead
+pub mod PlaceByPlace

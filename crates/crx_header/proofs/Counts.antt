@@ -1,0 +1,307 @@
+-- Counts of types, letter by letter: what a map from letters holds is what the lines declare.
+use Rattle.std.proofs.Common.{◌≡◌, ℕ, ◌+◌, ◌<◌, ◌≤◌, suc, length, Bool, true, false, cond, eqb}
+use Rattle.std.proofs.Common.{List, [], ◌∷◌, ◌++◌, Option, Some, None, is_none, IfSome, OnSome, refl, ap, sym, subst}
+use Rattle.std.proofs.Common.{get_or, set, unwrap_or, ◌≢◌}
+use Rattle.std.proofs.Common.{◌∙◌, inl, inr, arith, leb, ◌&&◌}
+use Rattle.std.specs.List.{All, cons_option, list_any}
+use Rattle.std.specs.Map.{lookup}
+use Rattle.std.proofs.lemmas.Bool.{cases_eq, cases_Bool, eq-eqb, ne_eqb, eqb-true, leb-true, and_parts, and_from}
+use Rattle.std.proofs.lemmas.Bool.{false≢true}
+use Rattle.std.proofs.lemmas.List.{append-nil, get_or-set_same, get_or-set_other}
+use Rattle.std.proofs.lemmas.List.Elements.{filter_map-append, All-cons, All-head, All-tail, All-weaker}
+use Rattle.std.proofs.lemmas.Map.Entries.{All-lookup}
+use Rattle.indexmap.specs.IndexMap.{insert_entry}
+use Rattle.crx_header.specs.meaning.ObservationTypes.{Count, IsAllowedCount, system_letters, is_system, count_of}
+use Rattle.crx_header.specs.meaning.ObservationTypes.{without, last_count, last_counts, counts_in, count_of_types_line}
+use Rattle.crx_header.specs.meaning.ObservationTypes.{types_of, is_types_line, count_in, count_if_allowed}
+use Rattle.crx_header.specs.declared.types.TheConstants.{LETTERS}
+use Rattle.crx_header.specs.ObservationTypes.{AreCounts, AreByLetter, IsCount, letters_differ, with_count, after_count, with_line}
+use Rattle.crx_faults.specs.declared.limits.TheConstants.{TYPES_LIMIT}
+use Rattle.crx_header.specs.meaning.Label.{number_in}
+use Rattle.crx_columns.specs.meaning.Columns.{character_at, columns}
+use Rattle.std.proofs.lemmas.Option.{cond_some, option_and_then_some}
+
+same_test : (a b : ℕ) → eqb a b ≡ eqb b a
+same_test a b =
+    elim (cases_eq a b) [
+      | inl e ↦ eq-eqb a b e ∙ sym (eq-eqb b a (sym e))
+      | inr n ↦ ne_eqb a b n ∙ sym (ne_eqb b a (λ e. n (sym e)))
+    ]
+
+-- a map's look-up
+pub lookup_is_count : (es : List Count) (letter : ℕ) → lookup (eqb letter) es ≡ count_of es letter
+lookup_is_count [] letter = refl
+lookup_is_count (e ∷ es) letter = rw (same_test letter e.0, lookup_is_count es letter) refl
+
+-- a map's insert
+pub insert_is_with : (es : List Count) (letter count : ℕ)
+    → insert_entry eqb es letter count ≡ with_count es letter count
+insert_is_with [] letter count = refl
+insert_is_with (e ∷ es) letter count = rw (insert_is_with es letter count) refl
+
+last_count-push : (letter count : ℕ) (cs : List Count) (c : Count)
+    → last_count letter count (cs ++ c ∷ []) ≡ cond (eqb c.0 letter) c.1 (last_count letter count cs)
+last_count-push letter count [] c = refl
+last_count-push letter count (d ∷ ds) c =
+    elim (eqb d.0 letter) as (λ b. cond b (last_count letter d.1 (ds ++ c ∷ [])) (last_count letter count
+    (ds ++ c ∷ [])) ≡ cond (eqb c.0 letter) c.1 (cond b (last_count letter d.1 ds) (last_count letter count ds)))
+    [ true ↦ last_count-push letter d.1 ds c | false ↦ last_count-push letter count ds c ]
+
+-- what is left of the others is the same after a letter's own count
+without-with_same : (letter count : ℕ) (es : List Count)
+    → without letter (with_count es letter count) ≡ without letter es
+without-with_same letter count [] = let e : eqb letter letter ≡ true = eq-eqb letter letter refl in rw e refl
+without-with_same letter count (e ∷ es) =
+    elim (cases_Bool (eqb letter e.0)) [
+      | inl t ↦ let h : eqb e.0 letter ≡ true = same_test e.0 letter ∙ t in rw (t, h) refl
+      | inr f ↦ let h : eqb e.0 letter ≡ false = same_test e.0 letter ∙ f in
+          rw (f, h) (ap (λ (r : List Count). e ∷ r) (without-with_same letter count es))
+    ]
+
+without-with_other : (a letter count : ℕ) (es : List Count)
+    → eqb letter a ≡ false → without a (with_count es letter count) ≡ with_count (without a es) letter count
+without-with_other a letter count [] n = rw n refl
+without-with_other a letter count (e ∷ es) n =
+    elim (cases_Bool (eqb letter e.0)) [
+      | inl t ↦ let h : eqb e.0 a ≡ false = ap (λ (x : ℕ). eqb x a) (sym (eqb-true letter e.0 t))
+          ∙ n in rw (t, h, t) refl
+      | inr f ↦ elim (cases_Bool (eqb e.0 a)) [
+        | inl y ↦ rw (f, y) (without-with_other a letter count es n)
+        | inr y ↦ rw (f, y, f) (ap (λ (r : List Count). e ∷ r) (without-with_other a letter count es n))
+      ]
+    ]
+
+last_counts-push : (cs : List Count) (c : Count) → last_counts (cs ++ c ∷ []) ≡ with_count (last_counts cs) c.0 c.1
+last_counts-push [] c = refl
+last_counts-push (d ∷ ds) c =
+    let others = ap (without d.0) (last_counts-push ds c) in
+    let last = last_count-push d.0 d.1 ds c in
+    elim (cases_Bool (eqb c.0 d.0)) [
+      | inl t ↦
+          let same : without d.0 (with_count (last_counts ds) c.0 c.1) ≡ without d.0 (last_counts ds) =
+          subst (λ (x : ℕ). without x (with_count (last_counts ds) c.0 c.1) ≡ without x (last_counts ds))
+          (eqb-true c.0 d.0 t) (without-with_same c.0 c.1 (last_counts ds)) in
+          rw (last, others, same, t) refl
+      | inr f ↦
+          let same : without d.0 (with_count (last_counts ds) c.0 c.1)
+          ≡ with_count (without d.0 (last_counts ds)) c.0 c.1 = without-with_other d.0 c.0 c.1 (last_counts ds) f in
+          rw (last, others, same, f) refl
+    ]
+
+-- what the lines declare, one line on
+pub types_of-push : (lines : List (List ℕ)) (line : List ℕ)
+    → types_of (lines ++ line ∷ []) ≡ with_line (types_of lines) line
+types_of-push lines line =
+    ap last_counts (filter_map-append count_of_types_line lines (line ∷ []))
+    ∙ (elim (count_of_types_line line) as (λ o. last_counts (counts_in lines ++ cons_option o [])
+    ≡ after_count (types_of lines) o)
+    [ None ↦ ap last_counts (append-nil (counts_in lines)) | Some c ↦ last_counts-push (counts_in lines) c ])
+
+-- counts stay allowed
+allowed-with_count : (es : List Count) (letter count : ℕ)
+    → All IsCount es → is_system letter ≡ true → IsAllowedCount count → All IsCount (with_count es letter count)
+allowed-with_count [] letter count h s a = All-cons IsCount (letter, count) [] (s, a) h
+allowed-with_count (e ∷ es) letter count h s a =
+    let first : IsCount e = All-head IsCount e es h in
+    let rest : All IsCount es = All-tail IsCount e es h in
+    elim (eqb letter e.0) as (λ b. All IsCount (cond b ((e.0, count) ∷ es) (e ∷ with_count es letter count))) [
+      | true ↦ All-cons IsCount (e.0, count) es (first.0, a) rest
+      | false ↦ All-cons IsCount e (with_count es letter count) first (allowed-with_count es letter count rest s a)
+    ]
+
+-- another letter's count leaves a letter absent
+absent-with_count : (es : List Count) (a letter count : ℕ)
+    → eqb letter a ≡ false → is_none (count_of es a) ≡ true → is_none (count_of (with_count es letter count) a) ≡ true
+absent-with_count [] a letter count n h = rw n refl
+absent-with_count (e ∷ es) a letter count n h =
+    elim (cases_Bool (eqb e.0 a)) [
+      | inl t ↦ absurd (false≢true ((rw t at h)))
+      | inr f ↦ elim (eqb letter e.0) as (λ b.
+          is_none (count_of (cond b ((e.0, count) ∷ es) (e ∷ with_count es letter count)) a) ≡ true) [
+            | true ↦ rw f (rw f at h)
+            | false ↦ rw f (absent-with_count es a letter count n (rw f at h))
+          ]
+    ]
+
+apart-with_count : (es : List Count) (letter count : ℕ)
+    → letters_differ es ≡ true → letters_differ (with_count es letter count) ≡ true
+apart-with_count [] letter count h = refl
+apart-with_count (e ∷ es) letter count h =
+    let parts = and_parts (is_none (count_of es e.0)) (letters_differ es) h in
+    elim (cases_Bool (eqb letter e.0)) [
+      | inl t ↦ rw t h
+      | inr f ↦ rw f (and_from (is_none (count_of (with_count es letter count) e.0)) (letters_differ (with_count es
+          letter count)) (absent-with_count es e.0 letter count f parts.0) (apart-with_count es letter count parts.1))
+    ]
+
+pub AreCounts-with_count : (es : List Count) (letter count : ℕ)
+    → AreCounts es → is_system letter ≡ true → IsAllowedCount count → AreCounts (with_count es letter count)
+AreCounts-with_count es letter count h s a =
+    record {
+      allowed = allowed-with_count es letter count h.allowed s a;
+      apart = apart-with_count es letter count h.apart;
+    }
+
+pub allowed_of : (es : List Count) (letter : ℕ) → AreCounts es → IfSome (count_of es letter) IsAllowedCount
+allowed_of es letter h =
+    let Q : Count → Type 0 = λ c. IsAllowedCount c.1 in
+    subst (λ (o : Option ℕ). IfSome o IsAllowedCount) (lookup_is_count es letter)
+    (All-lookup IsAllowedCount (eqb letter) es (All-weaker IsCount Q (λ c p. p.1) es h.allowed))
+
+-- a line that isn't a types line changes nothing
+pub with_line-other : (counts : List Count) (line : List ℕ)
+    → is_types_line line ≡ false → with_line counts line ≡ counts
+with_line-other counts line h = ap (λ (b : Bool). after_count counts (cond b (count_in line) None)) h
+
+pub with_line-types : (counts : List Count) (line : List ℕ) (letter count : ℕ) → is_types_line line ≡ true
+    → count_in line ≡ Some (letter, count) → with_line counts line ≡ with_count counts letter count
+with_line-types counts line letter count h e =
+    ap (λ (b : Bool). after_count counts (cond b (count_in line) None)) h ∙ ap (after_count counts) e
+
+allowed_if : (l n letter count : ℕ)
+    → count_if_allowed l n ≡ Some (letter, count) → (is_system letter ≡ true) × IsAllowedCount count
+allowed_if l n letter count g =
+    let s = cond_some (is_system l && (leb 1 n && leb n TYPES_LIMIT)) (l, n) (letter, count) g in
+    let a = and_parts (is_system l) (leb 1 n && leb n TYPES_LIMIT) s.0 in
+    let b = and_parts (leb 1 n) (leb n TYPES_LIMIT) a.1 in
+    let e : l ≡ letter = ap (λ (p : ℕ × ℕ). p.0) s.1 in
+    let m : n ≡ count = ap (λ (p : ℕ × ℕ). p.1) s.1 in
+    (ap is_system (sym e) ∙ a.0, (omega (arith, leb-true 1 n b.0), omega (arith, leb-true n TYPES_LIMIT b.1)))
+
+-- what a types line says is allowed
+pub count_in_allowed : (line : List ℕ) (letter count : ℕ)
+    → count_in line ≡ Some (letter, count) → (is_system letter ≡ true) × IsAllowedCount count
+count_in_allowed line letter count h =
+    option_and_then_some {P = (is_system letter ≡ true) × IsAllowedCount count}
+    (count_if_allowed (character_at line 1)) (number_in (columns line 4 3)) (letter, count) h
+    (λ n e g. allowed_if (character_at line 1) n letter count g)
+
+-- a letter that has a count is that of a system
+system_in : (es : List Count) (letter : ℕ) → All IsCount es → OnSome (count_of es letter) (is_system letter ≡ true)
+system_in [] letter h = tt
+system_in (e ∷ es) letter h =
+    elim (cases_Bool (eqb e.0 letter)) [
+      | inl t ↦ rw t (ap is_system (sym (eqb-true e.0 letter t)) ∙ (All-head IsCount e es h).0)
+      | inr f ↦ rw f (system_in es letter (All-tail IsCount e es h))
+    ]
+
+pub system_of : (es : List Count) (letter : ℕ) → AreCounts es → OnSome (count_of es letter) (is_system letter ≡ true)
+system_of es letter h = system_in es letter h.allowed
+
+-- ---- counts by letter
+
+-- another letter's count stays, and a letter's new count is its own
+count_with : (es : List Count) (letter count a : ℕ) → unwrap_or (count_of (with_count es letter count) a) 0
+    ≡ cond (eqb letter a) count (unwrap_or (count_of es a) 0)
+count_with [] letter count a =
+    elim (eqb letter a) as (λ b. unwrap_or (cond b (Some count) None) 0 ≡ cond b count 0) [ true ↦ refl | false ↦ refl ]
+count_with (e ∷ es) letter count a =
+    elim (cases_Bool (eqb letter e.0)) [
+      | inl t ↦
+          let same : e.0 ≡ letter = sym (eqb-true letter e.0 t) in
+          rw (t, same) (elim (eqb letter a) as (λ b. unwrap_or (cond b (Some count) (count_of es a)) 0
+          ≡ cond b count (unwrap_or (cond b (Some e.1) (count_of es a)) 0)) [ true ↦ refl | false ↦ refl ])
+      | inr f ↦ elim (cases_Bool (eqb e.0 a)) [
+        | inl y ↦
+            let other : eqb letter a ≡ false = ap (eqb letter) (sym (eqb-true e.0 a y)) ∙ f in
+            rw (f, y, other) refl
+        | inr n ↦ rw (f, n) (count_with es letter count a)
+      ]
+    ]
+
+pub AreByLetter-with_count : (table : List ℕ) (es : List Count) (letter count : ℕ) → AreByLetter table es
+    → letter < length table → AreByLetter (set table letter count) (with_count es letter count)
+AreByLetter-with_count table es letter count h within = λ a few.
+    elim (cases_Bool (eqb letter a)) [
+      | inl t ↦ rw (count_with es letter count a, t)
+          (ap (λ (k : ℕ). get_or (set table letter count) k 0) (sym (eqb-true letter a t))
+          ∙ get_or-set_same table letter count 0 within)
+      | inr f ↦ rw (count_with es letter count a, f)
+          (get_or-set_other table letter a count 0 (λ e. false≢true (sym f ∙ eq-eqb letter a (sym e))) ∙ h a few)
+    ]
+
+-- a letter without a count at its place has none, and one with a count has that
+none_by_zero : (o : Option ℕ) → IfSome o IsAllowedCount → unwrap_or o 0 ≡ 0 → o ≡ None
+none_by_zero None a e = refl
+none_by_zero (Some n) a e = absurd (omega (arith, a.0, e))
+
+some_by_count : (o : Option ℕ) (n : ℕ) → unwrap_or o 0 ≡ n → n ≢ 0 → o ≡ Some n
+some_by_count None n e some = absurd (some (sym e))
+some_by_count (Some m) n e some = ap Some e
+
+pub absent_by_letter : (table : List ℕ) (es : List Count) (letter : ℕ) → AreCounts es → AreByLetter table es
+    → letter < LETTERS → get_or table letter 0 ≡ 0 → count_of es letter ≡ None
+absent_by_letter table es letter sound h few none =
+    none_by_zero (count_of es letter) (allowed_of es letter sound) (sym (h letter few) ∙ none)
+
+pub present_by_letter : (table : List ℕ) (es : List Count) (letter : ℕ) → AreByLetter table es
+    → letter < LETTERS → get_or table letter 0 ≢ 0 → count_of es letter ≡ Some (get_or table letter 0)
+present_by_letter table es letter h few some =
+    some_by_count (count_of es letter) (get_or table letter 0) (sym (h letter few)) some
+
+-- ---- few systems
+
+-- how often a letter stands among some counts
+abbrev times : ℕ → List Count → ℕ
+times letter [] = 0
+times letter (c ∷ cs) = cond (eqb c.0 letter) (suc (times letter cs)) (times letter cs)
+
+never : (letter : ℕ) (cs : List Count) → is_none (count_of cs letter) ≡ true → times letter cs ≡ 0
+never letter [] h = refl
+never letter (c ∷ cs) h =
+    elim (cases_Bool (eqb c.0 letter)) [
+      | inl t ↦ absurd (false≢true ((rw t at h)))
+      | inr f ↦ rw f (never letter cs (rw f at h))
+    ]
+
+once : (letter : ℕ) (cs : List Count) → letters_differ cs ≡ true → times letter cs ≤ 1
+once letter [] h = omega arith
+once letter (c ∷ cs) h =
+    let parts = and_parts (is_none (count_of cs c.0)) (letters_differ cs) h in
+    elim (cases_Bool (eqb c.0 letter)) [
+      | inl t ↦
+          let same : c.0 ≡ letter = eqb-true c.0 letter t in
+          let rest : times letter cs ≡ 0 = subst (λ l. times l cs ≡ 0) same (never c.0 cs parts.0) in
+          rw t (omega (arith, rest))
+      | inr f ↦ rw f (once letter cs parts.1)
+    ]
+
+-- how often the letters of a list stand among some counts, all together
+abbrev times_of_any : List ℕ → List Count → ℕ
+times_of_any [] cs = 0
+times_of_any (l ∷ ls) cs = times l cs + times_of_any ls cs
+
+few_times : (letters : List ℕ) (cs : List Count) → letters_differ cs ≡ true → times_of_any letters cs ≤ length letters
+few_times [] cs h = omega arith
+few_times (l ∷ ls) cs h = let a = once l cs h in let b = few_times ls cs h in omega (arith, a, b)
+
+more_times : (letters : List ℕ) (c : Count) (cs : List Count) → times_of_any letters cs ≤ times_of_any letters (c ∷ cs)
+more_times [] c cs = omega arith
+more_times (l ∷ ls) c cs =
+    let rest = more_times ls c cs in
+    elim (eqb c.0 l) as (λ b. times l cs + times_of_any ls cs ≤ cond b (suc (times l cs))
+    (times l cs) + times_of_any ls (c ∷ cs)) [ true ↦ omega (arith, rest) | false ↦ omega (arith, rest) ]
+
+one_time_more : (letters : List ℕ) (c : Count) (cs : List Count)
+    → list_any (λ l. eqb l c.0) letters ≡ true → times_of_any letters cs < times_of_any letters (c ∷ cs)
+one_time_more [] c cs h = absurd (false≢true h)
+one_time_more (l ∷ ls) c cs h =
+    let rest = more_times ls c cs in
+    elim (cases_Bool (eqb l c.0)) [
+      | inl t ↦ let e : eqb c.0 l ≡ true = same_test c.0 l ∙ t in rw e (omega (arith, rest))
+      | inr f ↦
+          let more = one_time_more ls c cs (rw f at h) in
+          elim (eqb c.0 l) as (λ b. times l cs + times_of_any ls cs < cond b (suc (times l cs))
+          (times l cs) + times_of_any ls (c ∷ cs)) [ true ↦ omega (arith, rest) | false ↦ omega (arith, more) ]
+    ]
+
+all_times : (cs : List Count) → All IsCount cs → length cs ≤ times_of_any system_letters cs
+all_times [] h = omega arith
+all_times (c ∷ cs) h =
+    let more = one_time_more system_letters c cs (All-head IsCount c cs h).0 in
+    let rest = all_times cs (All-tail IsCount c cs h) in
+    omega (arith, more, rest)
+
+pub systems_few : (counts : List Count) → AreCounts counts → length counts ≤ length system_letters
+systems_few counts h = let a = all_times counts h.allowed in let b = few_times system_letters counts h.apart in
+    omega (arith, a, b)

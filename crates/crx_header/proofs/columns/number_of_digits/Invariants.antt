@@ -1,0 +1,13 @@
+use Rattle.std.proofs.Common.{◌≡◌, ◌<◌, drop}
+use Rattle.std.specs.Char.{is_ascii_digit}
+use Rattle.std.specs.List.{list_all}
+use Rattle.std.specs.Str.Parse.{digits_value_after, digits_value}
+use Rattle.crx_header.proofs.columns.number_of_digits.Given as goal
+
+-- the digits that are left decide, and go on from the number so far, which has a digit for each one passed
+abbrev pub invariant-loop-c : goal.invariant-loop-c
+invariant-loop-c l =
+    (list_all is_ascii_digit (drop l.c-index l.digits) ≡ list_all is_ascii_digit l.digits)
+    × (digits_value_after 10 l.number (drop l.c-index l.digits) ≡ digits_value 10 l.digits)
+    × (l.c-index < 1 → l.number < 1)
+    × (l.c-index < 2 → l.number < 10) × (l.c-index < 3 → l.number < 100) × (l.number < 1000)

@@ -1,0 +1,44 @@
+use Rattle.std.proofs.Common.{◌≡◌, ℕ, List, Some, true, false, ap, sym, ◌∙◌, length, arith}
+use Rattle.crx_header.specs.declared.types.TheConstants.{LETTERS}
+use Rattle.crx_header.specs.meaning.ObservationTypes.{Count, is_types_line, count_in, types_of}
+use Rattle.crx_header.specs.ObservationTypes.{with_line, with_count}
+use Rattle.crx_header.proofs.Counts.{insert_is_with, types_of-push, with_line-other, with_line-types, count_in_allowed}
+use Rattle.crx_header.proofs.Counts.{AreCounts-with_count, AreByLetter-with_count}
+use Rattle.crx_header.proofs.types.Types.accept_line.Goals as goal
+
+pub returns-then-not-is_types-clause-declared : goal.returns-then-not-is_types-clause-declared
+returns-then-not-is_types-clause-declared c = λ lines h.
+    let other : is_types_line c.args.line.now ≡ false = sym c.is_types.ensures ∙ c.if-not-is_types.true in
+    h ∙ sym (types_of-push lines c.args.line.now ∙ with_line-other (types_of lines) c.args.line.now other)
+
+-- the map after the insert is the counts after the line
+inserted : (es now old : List Count) (line : List ℕ) (letter count : ℕ)
+    → is_types_line line ≡ true → Some (letter, count) ≡ count_in line
+    → es ≡ now → (new : List Count) → new ≡ with_count es letter count → new ≡ with_line now line
+inserted es now old line letter count t h v new e =
+    e ∙ ap (λ (s : List Count). with_count s letter count) v ∙ sym (with_line-types now line letter count t (sym h))
+
+pub returns-clause-ok : goal.returns-clause-ok
+returns-clause-ok c =
+    inserted c.self.inside.counts.entries
+    c.args.self.now c.args.self.now c.args.line.now c.in-Some.letter c.in-Some.count
+    (sym c.is_types.ensures ∙ c.if-not-is_types.false) c.in-Some.ensures.value c.self.view_is c.insert.new.self.entries
+    (c.in-Ok.ensures.entries ∙ insert_is_with c.self.inside.counts.entries c.in-Some.letter c.in-Some.count)
+
+pub returns-clause-declared : goal.returns-clause-declared
+returns-clause-declared c = λ lines h.
+    returns-clause-ok c ∙ ap (λ (s : List Count). with_line s c.args.line.now) h
+    ∙ sym (types_of-push lines c.args.line.now)
+
+pub invariant_of-self-2 : goal.invariant_of-self-2
+invariant_of-self-2 c =
+    let entries = c.self.inside.counts.entries in
+    let letter = c.in-Some.letter in
+    let count = c.in-Some.count in
+    let allowed = count_in_allowed c.args.line.now letter count (sym c.in-Some.ensures.value) in
+    let long : length c.self.inside.by_letter ≡ LETTERS = search in
+    rw (c.in-Ok.ensures.entries ∙ insert_is_with entries letter count) (
+      AreCounts-with_count entries letter count c.self.invariant.0 allowed.0 allowed.1,
+      AreByLetter-with_count c.self.inside.by_letter entries letter count c.self.invariant.1
+          (omega (arith, long, c.in-Some.ensures.byte)),
+    )

@@ -1,0 +1,30 @@
+use Rattle.std.proofs.Common.{◌≡◌, ℕ, Option, OnSome, IfSome, true, sym, subst, ap, ◌∙◌, List}
+use Rattle.crx_header.specs.meaning.ObservationTypes.{Count, count_of, is_system, IsAllowedCount}
+use Rattle.crx_header.proofs.Counts.{absent_by_letter, present_by_letter, allowed_of, system_of}
+use Rattle.crx_header.proofs.types.Types.count.Goals as goal
+
+pub returns-then-count-eq0-clause-value : goal.returns-then-count-eq0-clause-value
+returns-then-count-eq0-clause-value c =
+    sym (ap (λ (es : List Count). count_of es c.args.letter) (sym c.self.view_is)
+    ∙ absent_by_letter c.self.inside.by_letter c.self.inside.counts.entries c.args.letter
+    c.self.invariant.0 c.self.invariant.1 c.ranges.letter.fits c.if-count-eq0.true)
+
+pub returns-clause-value : goal.returns-clause-value
+returns-clause-value c =
+    sym (ap (λ (es : List Count). count_of es c.args.letter) (sym c.self.view_is)
+    ∙ present_by_letter c.self.inside.by_letter c.self.inside.counts.entries c.args.letter
+    c.self.invariant.1 c.ranges.letter.fits c.if-count-eq0.false)
+
+pub returns-clause-allowed : goal.returns-clause-allowed
+returns-clause-allowed c =
+    subst (λ (o : Option ℕ). IfSome o IsAllowedCount)
+    (present_by_letter c.self.inside.by_letter c.self.inside.counts.entries c.args.letter
+    c.self.invariant.1 c.ranges.letter.fits c.if-count-eq0.false)
+    (allowed_of c.self.inside.counts.entries c.args.letter c.self.invariant.0)
+
+pub returns-clause-system : goal.returns-clause-system
+returns-clause-system c =
+    subst (λ (o : Option ℕ). OnSome o (is_system c.args.letter ≡ true))
+    (present_by_letter c.self.inside.by_letter c.self.inside.counts.entries c.args.letter
+    c.self.invariant.1 c.ranges.letter.fits c.if-count-eq0.false)
+    (system_of c.self.inside.counts.entries c.args.letter c.self.invariant.0)

@@ -1,0 +1,18 @@
+use Rattle.std.specs.List.{slice_get}
+use Rattle.std.proofs.Common.{List, ap, subst, sym, ◌∙◌}
+use Rattle.std.proofs.lemmas.Option.{get_or_from_slice_get, slice_get_within}
+use Rattle.crx_header.specs.meaning.ObservationTypes.{Count}
+use Rattle.crx_header.specs.ObservationTypes.{IsCount}
+use Rattle.crx_header.proofs.types.Types.entry.Goals as goal
+
+pub returns-clause-value : goal.returns-clause-value
+returns-clause-value c =
+    c.in_ok-letter.ensures.entry ∙ ap (λ (counts : List Count). slice_get counts c.args.index) c.self.view_is
+
+pub returns-clause-allowed : goal.returns-clause-allowed
+returns-clause-allowed c =
+    let counts : List Count = c.self.inside.counts.entries in
+    let entry : Count = (c.in_ok-letter.letter.now, c.in_ok-letter.count.now) in
+    let found = sym c.in_ok-letter.ensures.entry in
+    subst IsCount (get_or_from_slice_get counts c.args.index entry entry found)
+    (c.self.invariant.0.allowed c.args.index entry (slice_get_within counts c.args.index entry found))

@@ -1,0 +1,4 @@
+-- What has to be believed: the definitions that the promises stand on. docs/READING.md gives their order.
+pub mod Label
+pub mod Header
+pub mod ObservationTypes

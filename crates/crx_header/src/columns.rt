@@ -1,0 +1,90 @@
+//! Labels of header lines and numbers in columns, with the columns of a line.
+//! RINEX 3.05, tables A1 and A2.
+
+ghost use Rattle.std.specs.Prelude.{◌≡◌, ◌≤◌, ◌<◌, ◌+◌, ◌++◌, ◌≢◌, length, take, IfSome, MatchBool};
+ghost use Rattle.crx_faults.specs.declared.limits.TheConstants.{LINE_LIMIT, NAME_WIDTH};
+ghost use Rattle.crx_columns.specs.meaning.Columns.{columns};
+ghost use Rattle.crx_header.specs.meaning.Label.{has_label, number_in, number_of_digits};
+
+use crx_columns::columns::{character, end_trimmed, is_blank, trimmed};
+pub use crx_columns::columns::{after_columns, all_blank, padded};
+use crx_faults::limits::NAME_WIDTH;
+
+/// The number that at most three digits spell.
+fn number_of_digits(digits: &[u8]) -> Option<usize>
+    requires { length digits.now ≤ 3 }
+    ensures value { result ≡ number_of_digits digits.now }
+    ensures small { IfSome result (λ number. number < 1000) }
+{
+    if digits.is_empty() {
+        return None;
+    }
+    let mut number = 0;
+    for c in digits {
+        if !c.is_ascii_digit() {
+            return None;
+        }
+        number = number * 10 + usize::from(*c - b'0');
+    }
+    Some(number)
+}
+
+/// The number in three columns from a first one on: digits, with blanks before or after them.
+pub fn number(line: &[u8], first: usize) -> Option<usize>
+    requires from_one { 1 ≤ first }
+    ensures value { result ≡ number_in (columns line.now first 3) }
+    ensures small { IfSome result (λ number. number < 1000) }
+{
+    number_of_digits(trimmed(line, first, 3))
+}
+
+/// Whether a header line has this label in its columns 61 to 80.
+pub fn is_labelled(line: &[u8], label: &[u8]) -> bool
+    ensures { result ≡ has_label label.now line.now }
+{
+    end_trimmed(line, 61, 20) == label
+}
+
+/// The identifier in three columns from a first one on, blanks after the line's end included.
+#[inline(always)]
+pub fn identifier(line: &[u8], first: usize) -> [u8; NAME_WIDTH]
+    requires from_one { 1 ≤ first }
+    requires few { first ≤ LINE_LIMIT }
+    ensures { result ≡ columns line.now first NAME_WIDTH }
+{
+    [
+        character(line, first),
+        character(line, first + 1),
+        character(line, first + 2),
+    ]
+}
+
+/// Puts an identifier in place of the bytes from an index on. Three bytes are stored singly: a copy would test whether the two texts
+/// overlap.
+#[inline(always)]
+pub fn put_identifier(bytes: &mut [u8], at: usize, name: [u8; NAME_WIDTH])
+    requires { at + NAME_WIDTH ≤ length bytes.old }
+    ensures { take (at + NAME_WIDTH) bytes.new ≡ take at bytes.old ++ name }
+{
+    bytes[at] = name[0];
+    bytes[at + 1] = name[1];
+    bytes[at + 2] = name[2];
+}
+
+/// The identifier in the first three columns of a line that has as many: no column is asked for past the line's end.
+#[inline(always)]
+pub fn first_identifier(line: &[u8]) -> [u8; NAME_WIDTH]
+    requires { NAME_WIDTH ≤ length line.now }
+    ensures { result ≡ columns line.now 1 NAME_WIDTH }
+{
+    [line[0], line[1], line[2]]
+}
+
+/// `true` says that two identifiers are the same, and `false` that they aren't: their first two bytes are compared as one number.
+#[inline(always)]
+pub fn is_same_identifier(one: [u8; NAME_WIDTH], other: [u8; NAME_WIDTH]) -> bool
+    ensures { MatchBool result (one ≡ other) (one ≢ other) }
+{
+    u16::from_le_bytes([one[0], one[1]]) == u16::from_le_bytes([other[0], other[1]])
+        && one[2] == other[2]
+}

@@ -1,0 +1,50 @@
+//! Header lines: the first one, and the one that ends the header. RINEX 3.05, table A2.
+
+ghost use Rattle.std.specs.Prelude.{◌≡◌, None, Some, MatchResult};
+ghost use Rattle.crx_header.specs.meaning.Header.{first_header_fault, is_end_of_header, is_supported};
+
+use crate::columns::is_labelled;
+use crate::labels::{END_LABEL, VERSION_LABEL};
+use crx_columns::columns::{character, trimmed};
+use crx_faults::Fault;
+use crx_faults::limits::VERSION_WIDTH;
+
+/// Checks the first line of a header, `RINEX VERSION / TYPE` (RINEX 3.05, table A2).
+///
+/// `MissingVersion` comes where columns 61 to 80 hold another label; then `UnsupportedVersion` where the
+/// version in columns 1 to 9 is none of `3`, `3.0` and `3.0` with one more digit; then
+/// `NotObservation` where column 21 isn't `O`.
+pub fn header_first(line: &[u8]) -> Result<(), Fault>
+    ensures { MatchResult result
+        (λ _. first_header_fault line.now ≡ None)
+        (λ fault. first_header_fault line.now ≡ Some fault) }
+{
+    if !is_labelled(line, &VERSION_LABEL) {
+        return Err(Fault::MissingVersion);
+    }
+    if !is_supported(trimmed(line, 1, VERSION_WIDTH)) {
+        return Err(Fault::UnsupportedVersion);
+    }
+    if character(line, 21) != b'O' {
+        return Err(Fault::NotObservation);
+    }
+    Ok(())
+}
+
+/// Whether a version, without blanks at its ends, is one that is read: `3`, `3.0`, or `3.0` and a digit.
+fn is_supported(version: &[u8]) -> bool
+    ensures { result ≡ is_supported version.now }
+{
+    match version {
+        [b'3'] | [b'3', b'.', b'0'] => true,
+        [b'3', b'.', b'0', digit] => digit.is_ascii_digit(),
+        _ => false,
+    }
+}
+
+/// Whether a line is the one that ends the header, `END OF HEADER` in columns 61 to 80 (RINEX 3.05, table A2).
+pub fn is_end(line: &[u8]) -> bool
+    ensures { result ≡ is_end_of_header line.now }
+{
+    is_labelled(line, &END_LABEL)
+}

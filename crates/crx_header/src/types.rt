@@ -1,0 +1,139 @@
+//! The observation types of the satellite systems. RINEX 3.05, table A2, `SYS / # / OBS TYPES`.
+
+ghost use Rattle.std.specs.Prelude.{◌≡◌, ◌≤◌, ◌<◌, ◌⊎◌, ℕ, List, [], ◌∷◌, ◌++◌, Some, true, false, is_some, OnOk, OnErr, IfOk, IfErr, IfSome, OnSome, slice_get, length};
+ghost use Rattle.crx_header.specs.meaning.ObservationTypes.{count_of, count_in, count_of_types_line, is_bad_types_line, is_system, is_types_line, types_of, IsAllowedCount};
+ghost use Rattle.crx_header.specs.ObservationTypes.{with_line, IsCount};
+
+use crate::columns::{is_labelled, number};
+use crate::labels::TYPES_LABEL;
+use crx_columns::columns::character;
+use crx_faults::Fault;
+use crx_faults::limits::TYPES_LIMIT;
+use indexmap::IndexMap;
+use std::alloc::Global;
+use std::marker::Model;
+
+/// How many bytes there are that a letter may be.
+const LETTERS: usize = 256;
+
+/// How many observation types each satellite system has, the systems in the order in which their letters
+/// first appeared.
+#[derive(Drop)]
+pub struct Types {
+    counts: IndexMap<u8, usize>,
+    /// The count of each letter, 0 where it has none: a satellite line asks for the count of its system by one load.
+    by_letter: [u16; LETTERS],
+}
+
+impl Model for Types {
+    ghost use Rattle.crx_header.specs.meaning.ObservationTypes.{Count};
+    ghost use Rattle.crx_header.specs.ObservationTypes.{AreCounts, AreByLetter};
+    ghost use Rattle.std.specs.Prelude.{List};
+
+    ghost Value = { List Count };
+
+    ghost view = { λ types. types.counts.entries };
+
+    ghost invariant = { λ types. AreCounts types.counts.entries × AreByLetter types.by_letter types.counts.entries };
+}
+
+impl Types {
+    /// No types.
+    pub fn new(alloc: Global) -> Types
+        ensures { result ≡ [] }
+    {
+        Types {
+            counts: IndexMap::new(alloc),
+            by_letter: [0; LETTERS],
+        }
+    }
+
+    /// Takes in a line. A line with the label `SYS / # / OBS TYPES` and a letter in column 1 (RINEX 3.05,
+    /// table A2) replaces the count of its system; any other line, a continuation too, changes nothing.
+    ///
+    /// `BadTypesLine` comes where column 1 of such a line is the letter of no system, or columns 4 to 6 hold
+    /// no count from 1 to the limit; `OutOfMemory` only where such a line was good. After either the types are
+    /// as they were.
+    pub fn accept_line(&mut self, line: &[u8]) -> Result<(), Fault>
+        // Types are what the accepted lines declare.
+        ensures declared { (lines : List (List ℕ)) → self.old ≡ types_of lines
+            → OnOk result (self.new ≡ types_of (lines ++ line.now ∷ [])) }
+        ensures ok { OnOk result (self.new ≡ with_line self.old line.now) }
+        ensures good { OnOk result (is_bad_types_line line.now ≡ false) }
+        ensures bad { IfErr result (λ fault.
+            ((fault ≡ Fault.BadTypesLine) × (is_bad_types_line line.now ≡ true))
+            ⊎ ((fault ≡ Fault.OutOfMemory) × (is_some (count_of_types_line line.now) ≡ true))) }
+        ensures err { OnErr result (self.new ≡ self.old) }
+    {
+        if !is_types(line) {
+            return Ok(());
+        }
+        let Some((letter, count)) = count_in(line) else {
+            return Err(Fault::BadTypesLine);
+        };
+        let Ok(_) = self.counts.insert(letter, count) else {
+            return Err(Fault::OutOfMemory);
+        };
+        self.by_letter[letter as usize] = count as u16;
+        Ok(())
+    }
+
+    /// How many types a system has, by its letter.
+    #[inline(always)]
+    pub fn count(&self, letter: u8) -> Option<usize>
+        ensures value { result ≡ count_of self.now letter }
+        ensures allowed { IfSome result IsAllowedCount }
+        ensures system { OnSome result (is_system letter ≡ true) }
+    {
+        let count = self.by_letter[letter as usize];
+        if count == 0 {
+            return None;
+        }
+        Some(count as usize)
+    }
+
+    /// How many systems have types: at most seven.
+    pub fn systems(&self) -> usize
+        ensures value { result ≡ length self.now }
+        ensures few { result ≤ 7 }
+    {
+        self.counts.len()
+    }
+
+    /// The letter of the system that appeared at this place, from 0, and how many types it has.
+    #[inline(always)]
+    pub fn entry(&self, index: usize) -> Option<(u8, usize)>
+        ensures value { result ≡ slice_get self.now index }
+        ensures allowed { IfSome result IsCount }
+    {
+        let (letter, count) = self.counts.get_index(index)?;
+        Some((*letter, *count))
+    }
+}
+
+/// Whether a line begins the list of a system's types: its label is `SYS / # / OBS TYPES`, and column 1 isn't blank
+/// (RINEX 3.05, table A2). Where column 1 is blank the line goes on with such a list, and counts nothing.
+pub fn is_types(line: &[u8]) -> bool
+    ensures { result ≡ is_types_line line.now }
+{
+    is_labelled(line, &TYPES_LABEL) && character(line, 1) != b' '
+}
+
+/// What a types line says: the letter in column 1 and the count in columns 4 to 6.
+fn count_in(line: &[u8]) -> Option<(u8, usize)>
+    ensures value { result ≡ count_in line.now }
+    ensures allowed { IfSome result IsCount }
+    ensures byte { IfSome result (λ count. count.0 < LETTERS) }
+{
+    let letter = character(line, 1);
+    let count = number(line, 4)?;
+    let is_allowed = is_system(letter) && 1 <= count && count <= TYPES_LIMIT;
+    is_allowed.then_some((letter, count))
+}
+
+/// Whether a letter is that of a system: GPS, GLONASS, Galileo, QZSS, BDS, NavIC/IRNSS, SBAS.
+fn is_system(letter: u8) -> bool
+    ensures { result ≡ is_system letter }
+{
+    b"GREJCIS".contains(&letter)
+}

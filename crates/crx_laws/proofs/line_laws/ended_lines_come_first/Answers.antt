@@ -1,0 +1,5 @@
+use Rattle.crx_lines.proofs.ProgressLemmas.{ended_lines-come_first}
+use Rattle.crx_laws.proofs.line_laws.ended_lines_come_first.Goals as goal
+
+pub returns : goal.returns
+returns c = ended_lines-come_first

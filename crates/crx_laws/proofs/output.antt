@@ -1,0 +1,3 @@
+-- The lines that are ready to be written, and how much is held of them.
+pub mod ReadyToHandOut
+pub mod Bounds

@@ -1,0 +1,203 @@
+-- What is held between two lines is bounded.
+use Rattle.std.proofs.Common.{ℕ, zero, suc, ◌≡◌, Bool, List, [], ◌∷◌, Option, Some, None}
+use Rattle.std.proofs.Common.{IfSome, ap, sym, ◌∙◌, subst, arith}
+use Rattle.std.specs.Prelude.{All}
+use Rattle.std.specs.List.{AllByRecursion}
+use Rattle.std.proofs.lemmas.List.Elements.{All-head, All-tail}
+use Rattle.crx_faults.specs.meaning.Seen.{ReadLine}
+use Rattle.crx_faults.specs.declared.limits.TheConstants.{ORDER_LIMIT, WRITTEN_ORDER}
+use Rattle.crx_rinex.specs.meaning.Observations.{Row, Epoch}
+use Rattle.crx_header.specs.meaning.ObservationTypes.{Count}
+use Rattle.crx_header.specs.ObservationTypes.{AreCounts}
+use Rattle.crx_rinex.specs.meaning.Places.{Here}
+use Rattle.crx_rinex.specs.meaning.SatelliteLines.{IsSoundRow}
+use Rattle.crx_rinex.specs.meaning.Units.{HeaderLine, EventLine, EventRecord, Observation}
+use Rattle.crx_rinex.specs.meaning.EpochPlaces.{OpenEpoch}
+use Rattle.crx_header.proofs.Counts.{systems_few}
+use Rattle.crx_laws.proofs.OpenSound.{IsOpenSoundly, open-sound}
+use Rattle.crx_history.specs.meaning.CompactPlaces.{ReadEpoch, epoch_at}
+use Rattle.crx_history.specs.meaning.Expansion.{RawEpoch}
+use Rattle.crx_history.specs.Tails.{Tail, IsBoundedTail, tail_left}
+use Rattle.crx_compact.specs.OpenEpochs.{OpenRawEpoch, IsBoundedOpen, epoch_after, first_step, held_after, placed_as}
+use Rattle.crx_compact.specs.OpenEpochs.{place_by_steps, open_raw_with}
+use Rattle.crx_laws.proofs.soundness.BoundedTails.{written-bounded}
+use Rattle.crx_laws.proofs.soundness.BoundedReading.{read-bounded, open-bounded, place-bounded, OfHeld}
+use Rattle.crx_compact.proofs.reading.LineByLine.{steps-agree}
+use Rattle.crx_compact.proofs.reading.RawTailing.{place-by_tail, left-by_tail}
+use Rattle.crx_compact.proofs.soundness.Soundness.{reads-soundly}
+use Rattle.crx_history.proofs.Characters.{length-is}
+use Rattle.crx_options.specs.meaning.Choices.{Choices}
+use Rattle.crx_reading.specs.meaning.Items.{Item, Accepted, Warned, header_has_ended, records_left, records_count_types}
+use Rattle.crx_reading.specs.meaning.Items.{types_in_force}
+use Rattle.crx_reading.specs.meaning.Reading.{Reading, Stop, AtFault, AtLines, Looking}
+use Rattle.crx_reading.specs.LineByLine.{Phase, InEpoch}
+use Rattle.crx_reading.specs.LineByLine.{Ended, kept_in, phase_in_body, phase_after_items, phase_of}
+use Rattle.crx_reading.specs.meaning.Compacted.{marked_epochs, rinex_place}
+use Rattle.crx_reading.specs.meaning.Directions.{rinex_reading}
+use Rattle.crx_reading.specs.CompactionByLine.{Written, compaction, written_of, rinex_open, compaction_seen}
+use Rattle.crx_reading.specs.meaning.Expanded.{compact_place, empties_state, raws_kept, first_lines}
+use Rattle.crx_reading.specs.meaning.Directions.{compact_reading}
+use Rattle.crx_reading.specs.ExpansionByLine.{expansion, tail_of_items, begins_event, compact_open}
+use Rattle.crx_reading.specs.ExpansionByLine.{phase_from_first_lines, expansion_seen}
+use Rattle.crx_engine.specs.Laws.{ItemsAreRead, AreInPlace}
+use Rattle.crx_laws.specs.Bounds.{IsBoundedRow, IsBoundedEpoch, OfOpen, IsBoundedCompaction, IsBoundedExpansion}
+use Rattle.crx_reading.proofs.Choosing.{by_bool}
+use Rattle.crx_engine.proofs.wayback.ExpandedWhole.{epoch-read}
+use Rattle.crx_engine.proofs.reading.Types.{counts-in_force}
+use Rattle.crx_engine.proofs.wayback.Items.{marked_now, whole-next}
+use Rattle.crx_engine.proofs.reading.WhatStands.{by_first}
+use Rattle.crx_engine.proofs.reading.WhatWasRead.{items-read, compact-items-read}
+use Rattle.crx_engine.proofs.reading.InPlace.{items-in_place}
+
+-- ---- the epoch that is open
+
+in-body : {O : Type 0} (P : O → Type 0) (left : ℕ) (counted : Bool) (so_far : Option O)
+    → IfSome so_far P → OfOpen P (phase_in_body left counted so_far)
+in-body P zero counted None h = tt
+in-body P zero counted (Some so_far) h = h
+in-body P (suc left) counted so_far h = tt
+
+after-items : {E O : Type 0} (P : O → Type 0) (items : List (Item E)) (so_far : Option O)
+    → IfSome so_far P → OfOpen P (phase_after_items items so_far)
+after-items P items so_far h =
+    by_bool (header_has_ended items)
+    (λ on. rw on (in-body P (records_left items) (records_count_types items) so_far h))
+    (λ off. rw off tt)
+
+open-phase : {E O : Type 0} (P : O → Type 0) (open_raw_with : List (Item E) → List ReadLine
+    → Option O) (items : List (Item E)) (stop : Stop) → ((lines : List ReadLine) → IfSome (open_raw_with items lines) P)
+    → OfOpen P (phase_of open_raw_with (record { items = items; stop = stop }))
+open-phase P open_raw_with items (AtFault at) h = tt
+open-phase P open_raw_with items (AtLines number lines) h = after-items P items (open_raw_with items lines) (h lines)
+open-phase P open_raw_with items (Looking number) h = tt
+
+-- ---- a compaction
+
+rows-bounded : (rows : List Row) → All IsSoundRow rows → AllByRecursion IsBoundedRow rows
+rows-bounded [] h = tt
+rows-bounded (row ∷ rows) h =
+    let sound : IsSoundRow row = All-head IsSoundRow row rows h in
+    let few = sound.counted.1 in
+    let pairs = sound.paired in (
+      record {
+        name = length-is row.name sound.named;
+        values = few;
+        flags = omega (arith, few, pairs);
+      },
+      rows-bounded rows (All-tail IsSoundRow row rows h),
+    )
+
+open-epoch : (so_far : Option OpenEpoch) → IfSome so_far IsOpenSoundly → IfSome so_far IsBoundedEpoch
+open-epoch None h = tt
+open-epoch (Some so_far) h =
+    let wants = h.wants in
+    let within = h.sound.head.within in
+    record {
+      systems = systems_few so_far.types h.counts;
+      counts = h.counts;
+      head = h.sound.head.width;
+      few = omega (arith, wants, within);
+      rows = rows-bounded so_far.rows h.sound.rows;
+    }
+
+-- what is kept of some items
+kept-bounded : (choices : Choices) (items : List (Item Epoch))
+    → AreInPlace items → IfSome (written_of choices.every items).tail (IsBoundedTail WRITTEN_ORDER)
+kept-bounded choices (Accepted (Observation epoch) ∷ before) h =
+    written-bounded (types_in_force before) (marked_now choices.every before epoch)
+    (marked_epochs choices.every before) (whole-next choices.every before epoch h)
+kept-bounded choices items h = tt
+
+written-in : (phase : Phase OpenEpoch) (kept : Written) → IfSome kept.tail (IsBoundedTail WRITTEN_ORDER)
+    → IfSome (kept_in compaction phase kept).tail (IsBoundedTail WRITTEN_ORDER)
+written-in (Ended at) kept h = tt
+written-in phase kept h = h
+
+pub compaction-bounded : (choices : Choices) (lines : List ReadLine)
+    → IsBoundedCompaction (compaction_seen choices lines)
+compaction-bounded choices lines =
+    let r : Reading Epoch = rinex_reading choices.skip lines in
+    let counts : AreCounts (types_in_force r.items) = counts-in_force r.items in
+    record {
+      systems = systems_few (types_in_force r.items) counts;
+      counts = counts;
+      tail = written-in (phase_of rinex_open r) (written_of choices.every r.items)
+          (kept-bounded choices r.items (items-in_place r.items (items-read rinex_place choices.skip 1 lines)));
+      open_epoch = open-phase IsBoundedEpoch rinex_open r.items r.stop
+          (λ ls. open-epoch (rinex_open r.items ls) (open-sound (types_in_force r.items) ls counts));
+    }
+
+-- ---- an expansion
+
+by-steps : (types : List Count) (tail : Option Tail) (lines : List ReadLine)
+    → AreCounts types → IfSome tail (IsBoundedTail ORDER_LIMIT) → OfHeld (place_by_steps types tail lines)
+by-steps types tail [] counts h = tt
+by-steps types tail (line ∷ lines) counts h =
+    place-bounded lines 0 (first_step types tail line) (read-bounded.first types tail line counts h)
+
+-- what is left of the epochs that were read
+left-bounded : (items : List (Item ReadEpoch))
+    → ItemsAreRead compact_place items → IfSome (tail_left (raws_kept items)) (IsBoundedTail ORDER_LIMIT)
+left-bounded [] h = tt
+left-bounded (Accepted (HeaderLine line) ∷ before) h = tt
+left-bounded (Accepted (EventLine line) ∷ before) h = left-bounded before h.1
+left-bounded (Accepted (EventRecord line) ∷ before) h =
+    by_bool (empties_state (records_count_types before) line)
+    (λ on. rw on tt)
+    (λ off. rw off (left-bounded before h.1))
+left-bounded (Accepted (Observation read) ∷ before) h =
+    let types : List Count = types_in_force before in
+    let raws : List RawEpoch = raws_kept before in
+    let stood = epoch-read before read (h.0).0 (h.0).1 (h.0).2 in
+    let lines : List ReadLine = stood.0 in
+    let count : ℕ = stood.1 in
+    let here : epoch_at types raws lines ≡ Here read count = stood.2 in
+    let after : epoch_after types (tail_left raws) lines ≡ Here read count =
+    sym (place-by_tail types raws lines) ∙ here in
+    let placed : place_by_steps types (tail_left raws) lines ≡ Here (held_after (tail_left raws) read) count =
+    sym (steps-agree types (tail_left raws) lines) ∙ ap (placed_as (held_after (tail_left raws))) after in
+    let bounded : IsBoundedTail ORDER_LIMIT (held_after (tail_left raws) read).tail = subst OfHeld placed
+    (by-steps types (tail_left raws) lines (counts-in_force before) (left-bounded before h.1)) in
+    subst (λ o. IfSome o (IsBoundedTail ORDER_LIMIT))
+    (sym (left-by_tail read.raw raws (reads-soundly types raws lines read count here).single)) bounded
+left-bounded (Warned at ∷ before) h = tt
+
+open-with : (types : List Count) (tail : Option Tail) (lines : List ReadLine)
+    → AreCounts types → IfSome tail (IsBoundedTail ORDER_LIMIT) → IfSome (open_raw_with types tail lines) IsBoundedOpen
+open-with types tail [] counts h = tt
+open-with types tail (line ∷ lines) counts h =
+    open-bounded lines (first_step types tail line) (read-bounded.first types tail line counts h)
+
+compact-open : (items : List (Item ReadEpoch)) (lines : List ReadLine)
+    → IfSome (tail_of_items items) (IsBoundedTail ORDER_LIMIT) → IfSome (compact_open items lines) IsBoundedOpen
+compact-open items lines h =
+    by_bool (begins_event lines)
+    (λ on. rw on tt)
+    (λ off. rw off (open-with (types_in_force items) (tail_of_items items) lines (counts-in_force items) h))
+
+left-in : (phase : Phase OpenRawEpoch) (kept : Option Tail)
+    → IfSome kept (IsBoundedTail ORDER_LIMIT) → IfSome (kept_in expansion phase kept) (IsBoundedTail ORDER_LIMIT)
+left-in (InEpoch so_far) kept h = tt
+left-in (Ended at) kept h = tt
+left-in phase kept h = h
+
+first-phase : (lines : List ReadLine) (phase : Phase OpenRawEpoch)
+    → OfOpen IsBoundedOpen phase → OfOpen IsBoundedOpen (phase_from_first_lines lines phase)
+first-phase lines phase h = by_first (first_lines lines)
+    (λ two count e. rw (e, phase_from_first_lines) h)
+    (λ offset fault e. rw (e, phase_from_first_lines) h)
+    (λ e. rw (e, phase_from_first_lines) tt)
+
+pub expansion-bounded : (choices : Choices) (lines : List ReadLine) → IsBoundedExpansion (expansion_seen choices lines)
+expansion-bounded choices lines =
+    let r : Reading ReadEpoch = compact_reading choices.skip lines in
+    let counts : AreCounts (types_in_force r.items) = counts-in_force r.items in
+    let left : IfSome (tail_of_items r.items) (IsBoundedTail ORDER_LIMIT) =
+    left-bounded r.items (compact-items-read choices.skip lines) in
+    record {
+      systems = systems_few (types_in_force r.items) counts;
+      counts = counts;
+      tail = left-in (phase_of compact_open r) (tail_of_items r.items) left;
+      open_epoch = first-phase lines (phase_of compact_open r)
+          (open-phase IsBoundedOpen compact_open r.items r.stop (λ ls. compact-open r.items ls left));
+    }

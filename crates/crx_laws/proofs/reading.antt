@@ -1,0 +1,2 @@
+-- Compact text read line by line.
+pub mod BorrowedLines

@@ -1,0 +1,5 @@
+use Rattle.crx_rinex.proofs.ReadingBack.{epoch-back}
+use Rattle.crx_laws.proofs.reading_back.an_epoch_is_read_back.Goals as goal
+
+pub returns : goal.returns
+returns c = epoch-back

@@ -1,0 +1,27 @@
+-- Compact lines that are borrowed one after another, as they are read.
+use Rattle.std.specs.Prelude.{◌≡◌, ◌≤◌, ℕ, false, List, length, Option, Some, None}
+use Rattle.std.specs.List.{AllByRecursion}
+use Rattle.crx_faults.specs.declared.limits.TheConstants.{LINE_LIMIT}
+use Rattle.crx_faults.specs.declared.fault.Fault.{Fault}
+use Rattle.crx_rinex.specs.meaning.EpochLines.{is_event_line}
+use Rattle.crx_rinex.specs.meaning.Observations.{Epoch}
+use Rattle.crx_rinex.specs.meaning.Places.{Place, Here, Wrong, Wanted}
+use Rattle.crx_compact.specs.OpenEpochs.{ColumnsState, HeldEpoch, Idle}
+
+-- a line that may be read as one of an observation epoch
+pub record IsReadable (line : List ℕ) : Type 0 where
+  pub short : length line ≤ LINE_LIMIT
+  pub no_event : is_event_line line ≡ false
+
+abbrev pub AreReadable : List (List ℕ) → Type 0
+AreReadable lines = AllByRecursion IsReadable lines
+
+-- what was made of lines, by what stands there: the epoch, or none where more lines are wanted
+abbrev pub HasGiven : Place HeldEpoch → ColumnsState → Option Epoch → Type 0
+HasGiven place after None = place ≡ Wanted
+HasGiven place after (Some epoch) = (held : HeldEpoch)
+    × (count : ℕ) × (place ≡ Here held count) × (epoch ≡ held.epoch) × (after ≡ Idle (Some held.tail))
+
+-- a fault that stands there
+abbrev pub IsFaultAt : Place HeldEpoch → Fault → Type 0
+IsFaultAt place fault = (offset : ℕ) × (place ≡ Wrong offset fault)

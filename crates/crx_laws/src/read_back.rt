@@ -1,0 +1,83 @@
+//! The way back: what one `Columns` makes of an epoch, another one reads.
+
+ghost use Rattle.std.specs.Prelude.{◌≡◌, ◌⊎◌, ◌↔◌, ◌∷◌, List, Some, true, false, map, IfOk, IfErr, IsTrue};
+ghost use Rattle.crx_faults.specs.meaning.Seen.{Content};
+ghost use Rattle.crx_history.specs.meaning.Compaction.{Marked, compact_epoch, since_full};
+ghost use Rattle.crx_compact.specs.Laws.{AreWhole};
+ghost use Rattle.crx_laws.specs.BorrowedLines.{AreReadable, HasGiven, IsReadable, IsFaultAt};
+ghost use Rattle.crx_compact.specs.OpenEpochs.{is_idle, place_by_steps, tail_held};
+ghost use Rattle.crx_compact.specs.OpenEpochs.ColumnsState.{Idle};
+ghost use Rattle.crx_history.specs.Tails.{tail_or_nothing};
+
+use crx_compact::{Coded, Columns};
+use crx_faults::Fault;
+use crx_faults::limits::LINE_LIMIT;
+use crx_header::Types;
+use crx_rinex::{Epoch, is_event_line};
+
+/// Whether a line may be one of an observation epoch: it is no longer than a line may be, and begins no event.
+fn is_readable(line: &[u8]) -> bool
+    ensures { IsTrue result ↔ IsReadable line.now }
+{
+    line.len() <= LINE_LIMIT && !is_event_line(line)
+}
+
+/// Reads compact lines that are borrowed one after another, up to the epoch that they make; `None` where more lines are
+/// needed.
+///
+/// The faults are those of [`Columns::begin`] and [`Columns::feed`]; `NotAnEpoch` comes at an event's line too, and at one that
+/// is longer than a line may be.
+fn read_coded(
+    columns: &mut Columns,
+    types: &Types,
+    coded: &mut Coded,
+) -> Result<Option<Epoch>, Fault>
+    requires idle { is_idle columns.old ≡ true }
+    ensures given { IfOk result (λ given. HasGiven
+        (place_by_steps types.now (tail_held columns.old) (map Content coded.old.lines)) columns.new given) }
+    ensures refused { AreReadable coded.old.lines
+        → IfErr result (λ fault. IsFaultAt (place_by_steps types.now
+        (tail_held columns.old) (map Content coded.old.lines)) fault ⊎ (fault ≡ Fault.OutOfMemory)) }
+{
+    let Some(first) = coded.next_line() else {
+        return Ok(None);
+    };
+    if !is_readable(first) {
+        return Err(Fault::NotAnEpoch);
+    }
+    columns.begin(types, first)?;
+    while let Some(line) = coded.next_line() {
+        if !is_readable(line) {
+            return Err(Fault::NotAnEpoch);
+        }
+        if let Some(epoch) = columns.feed(line)? {
+            return Ok(Some(epoch));
+        }
+    }
+    Ok(None)
+}
+
+/// Reads the compact lines of an epoch that was coded, by the counts of types that its rows have: gives the epoch back.
+///
+/// Where the columns have the history of the epochs before, or the epoch stands in full, only `OutOfMemory` can refuse it. Otherwise
+/// the faults are those of [`Columns::begin`] and [`Columns::feed`]. `NotAnEpoch` comes also at an event's line and at
+/// one that is longer than a line may be; where that isn't the first line, the columns stay in the midst of an epoch.
+pub fn read_back(
+    columns: &mut Columns,
+    types: &Types,
+    coded: &mut Coded,
+) -> Result<Option<Epoch>, Fault>
+    requires idle { is_idle columns.old ≡ true }
+    // After any epochs at all, written so that they can be read: the lines give the newest of them, and the reader then has the
+    // history that the writer has.
+    ensures epoch { (m : Marked) (older : List Marked)
+        → AreWhole types.now (since_full (m ∷ older)) → coded.old.lines ≡ compact_epoch (m ∷ older)
+        → (m.in_full ≡ false → tail_held columns.old ≡ tail_or_nothing older)
+        → IfOk result (λ given. (given ≡ Some m.epoch) × (columns.new ≡ Idle (tail_or_nothing (m ∷ older)))) }
+    ensures refused { (m : Marked) (older : List Marked)
+        → AreWhole types.now (since_full (m ∷ older)) → coded.old.lines ≡ compact_epoch (m ∷ older)
+        → (m.in_full ≡ false → tail_held columns.old ≡ tail_or_nothing older)
+        → IfErr result (λ fault. fault ≡ Fault.OutOfMemory) }
+{
+    read_coded(columns, types, coded)
+}

@@ -1,5 +1,0 @@
-use Rattle.crx_lines.proofs.ProgressLemmas.{ended_lines-come_first}
-use Rattle.crx_lines.proofs.laws.ended_lines_come_first.Goals as goal
-
-pub returns : goal.returns
-returns c = ended_lines-come_first

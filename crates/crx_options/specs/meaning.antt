@@ -1,0 +1,2 @@
+-- What has to be believed: the definitions that the promises stand on. docs/READING.md gives their order.
+pub mod Choices

@@ -1,5 +1,0 @@
-use Rattle.crx_rinex.proofs.ReadingBack.{epoch-back}
-use Rattle.crx_rinex.proofs.reading_back.an_epoch_is_read_back.Goals as goal
-
-pub returns : goal.returns
-returns c = epoch-back

@@ -1,0 +1,9 @@
+pub mod output
+pub mod TakingTwice
+pub mod RunningSteps
+pub mod StepReading
+pub mod StepLemmas
+pub mod WorkLemmas
+pub mod Salvaged
+pub mod RunEndings
+pub mod Conclusions

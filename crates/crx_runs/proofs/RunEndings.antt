@@ -1,0 +1,377 @@
+-- What stands after a run, by how its work ended and how it was finished.
+use Rattle.std.proofs.Common.{◌≡◌, ◌⊎◌, inl, inr, ℕ, ◌+◌, Bool, true, List, [], ◌++◌, length, take, Option, Some, None}
+use Rattle.std.proofs.Common.{refl, sym, ap, subst, ◌∙◌, append-nil}
+use Rattle.crx_lines.specs.meaning.Devices.{with_failed_flush, with_failed_write, with_flush}
+use Rattle.crx_faults.specs.meaning.Lines.{InputLine, lines_of}
+use Rattle.crx_lines.specs.Reading.{ReaderState}
+use Rattle.crx_lines.specs.Progress.{IsStopped}
+use Rattle.crx_faults.specs.declared.fault.At.{At}
+use Rattle.crx_faults.specs.declared.fault.Fault.{Fault}
+use Rattle.crx_faults.specs.declared.fault.Fault.TheVariants.{InputTooLong, ReadFailed, WriteFailed, OutOfMemory}
+use Rattle.crx_lines.proofs.ProgressLemmas.{HasRead-stopped}
+use Rattle.crx_runs.specs.declared.taking.Halt.{Halt}
+use Rattle.crx_runs.specs.declared.taking.Halt.TheVariants as halt
+use Rattle.crx_runs.specs.meaning.Results.{Course}
+use Rattle.crx_runs.specs.meaning.Filters.{Filter, with_next}
+use Rattle.crx_runs.specs.meaning.Messages.{error_text, notices_text}
+use Rattle.crx_runs.specs.meaning.Spans.{Device, TookAll, AreNext, Input, IsPart}
+use Rattle.crx_runs.specs.Running.{EndsAt, WellDone, StoppedByReader, StoppedByLine, StoppedByEnd, StoppedAtStart}
+use Rattle.crx_runs.specs.Endings.{Finishes, IsReported, IsFlushed, FlushFailed, write_failed_at}
+use Rattle.crx_runs.specs.Lawful.{IsLawful, is_of_lines}
+use Rattle.crx_runs.specs.meaning.Interruptions.{complete_lines, IsTurn, IsWritten, AreReported, NoMemoryAtLine, FaultFound}
+use Rattle.crx_runs.specs.meaning.Interruptions.{Stands, IsFrontPart}
+use Rattle.crx_runs.proofs.TakingTwice.{all-all}
+use Rattle.crx_runs.proofs.RunningSteps.{took-same, took-part}
+use Rattle.crx_runs.proofs.Salvaged.{complete-stopped, all-read, all-of, taken-read, begins-itself, begins-taken}
+use Rattle.crx_runs.proofs.Salvaged.{first-whole, first-after-turn, first-before-turn, first-complete}
+
+-- a part that was taken, and nothing after it
+pub part-still : (first second both : Device)
+    (same : second.before ≡ first.after) (start : both.before ≡ first.before) (end : both.after ≡ second.after)
+    (joined : (xs ys : List ℕ) → first.took xs → second.took ys → both.took (xs ++ ys))
+    (xs all : List ℕ) → IsPart first xs all → TookAll second [] → IsPart both xs all
+part-still first second both same start end joined xs all a b = record {
+  count = a.count;
+  some = a.some;
+  less = a.less;
+  took = subst both.took (append-nil (take a.count all)) (joined (take a.count all) [] a.took b.0);
+  failed = end ∙ b.1 ∙ same ∙ a.failed ∙ ap with_failed_write (sym start);
+}
+
+-- the one fault of a run
+pub one-fault : (P : At → Type 0) (at other : At) (fault : Option At)
+    → fault ≡ Some at → P at → fault ≡ Some other → P other
+one-fault P at other (Some it) is p same =
+    let e : at ≡ other = cc in
+    subst P e p
+one-fault P at other None is p same = absurd (cc)
+
+module _ (filter : Filter) (lawful : IsLawful filter)
+    (input : Input) (writer1 writer2 writer messages1 messages2 messages : Device)
+    (wsame : writer2.before ≡ writer1.after)
+    (wstart : writer.before ≡ writer1.before) (wend : writer.after ≡ writer2.after)
+    (wjoined : (xs ys : List ℕ) → writer1.took xs
+    → writer2.took ys → writer.took (xs ++ ys)) (wflushed : writer2.flushed → writer.flushed)
+    (msame : messages2.before ≡ messages1.after)
+    (mstart : messages.before ≡ messages1.before) (mend : messages.after ≡ messages2.after)
+    (mjoined : (xs ys : List ℕ) → messages1.took xs → messages2.took ys → messages.took (xs ++ ys)) where
+  abbrev StandsAfter : List ℕ → ℕ → Option At → Type 0
+  StandsAfter given status fault = (at : At)
+      → fault ≡ Some at → (status ≡ 1) × Stands filter input given writer messages at at.fault
+
+  -- ---- devices
+
+  written : (text : List ℕ) → TookAll writer1 text → IsFlushed writer2 ⊎ FlushFailed writer2 → IsWritten writer text
+  written text a (inl b) = (
+    subst writer.took (append-nil text) (wjoined text [] a.0 b.0),
+    inl (wend ∙ b.1 ∙ ap with_flush (wsame ∙ a.1 ∙ sym wstart), wflushed b.2),
+  )
+  written text a (inr b) = (
+    subst writer.took (append-nil text) (wjoined text [] a.0 b.0),
+    inr (wend ∙ b.1 ∙ ap with_failed_flush (wsame ∙ a.1 ∙ sym wstart)),
+  )
+
+  was-taken : (text : List ℕ) → IsWritten writer text → writer.took text
+  was-taken text a = a.0
+
+  reported : (warnings : List At) (at : At)
+      → TookAll messages1 (notices_text warnings) → IsReported messages2 at → AreReported messages warnings at
+  reported warnings at a (inl b) = inl (all-all messages1 messages2 messages msame mstart mend mjoined
+      (notices_text warnings) (error_text (Some at)) a b)
+  reported warnings at a (inr b) =
+      let all = notices_text warnings ++ error_text (Some at) in
+      inr (took-part messages1 messages2 messages msame mstart mend mjoined
+      (notices_text warnings) (error_text (Some at)) [] all a b (sym (append-nil all)))
+
+  -- ---- a line, or the end
+
+  module _ (given : List ℕ) (before after : Course)
+      (last : ℕ) (turn : IsTurn filter input given before after last) (can : Option (List At)) (number : ℕ) where
+    found-stands : (f : Fault) (at : At) → is_of_lines f ≡ true
+        → FaultFound filter input given writer messages at → Stands filter input given writer messages at f
+    found-stands InputTooLong at e r = absurd (cc)
+    found-stands ReadFailed at e r = absurd (cc)
+    found-stands WriteFailed at e r = absurd (cc)
+    found-stands OutOfMemory at e r = absurd (cc)
+    found-stands _ at e r = r
+
+    pub turn-stands : (halt : Halt) (warned : Bool) (status : ℕ) (fault : Option At)
+        → ((at : At) (notices : List At) → can ≡ Some notices → at.line ≡ number → (notices ≡ []) ⊎ AreNext
+        before after notices → IsWritten writer before.output → AreReported messages (before.warnings ++ notices) at
+        → NoMemoryAtLine filter input given writer messages at)
+        → ((at : At) → after.fault ≡ Some at → is_of_lines at.fault ≡ true)
+        → EndsAt can number writer1 messages1 before after halt
+        → Finishes writer2 messages2 last warned (Some halt) status fault → StandsAfter given status fault
+    turn-stands (halt.Fault at) warned status fault memory found (inl ran) finished other is = (
+      finished.3,
+      one-fault (λ (a : At). Stands filter input given writer messages a a.fault) at other fault finished.2
+          (subst (λ f. Stands filter input given writer messages at f) (sym ran.fault)
+          (inr (memory at ran.notices ran.allowed ran.place ran.next (written before.output ran.wrote finished.0)
+          (reported (before.warnings ++ ran.notices) at ran.reported finished.1))))
+          is,
+    )
+    turn-stands (halt.Fault at) warned status fault memory found (inr r) finished other is = (
+      finished.3,
+      one-fault (λ (a : At). Stands filter input given writer messages a a.fault) at other fault finished.2
+          (found-stands at.fault at (found at r.fault)
+          (record {
+            before = before;
+            after = after;
+            last = last;
+            turn = turn;
+            fault = r.fault;
+            wrote = written after.output r.wrote finished.0;
+            reported = reported after.warnings at r.reported finished.1;
+          }))
+          is,
+    )
+    turn-stands halt.Unwritten warned status fault memory found r finished other is = (
+      finished.3,
+      one-fault (λ (a : At). Stands filter input given writer messages a a.fault)
+          (write_failed_at last) other fault finished.2
+          (inl (record {
+            before = before;
+            after = after;
+            turn = turn;
+            good = r.good;
+            wrote = part-still writer1 writer2
+                writer wsame wstart wend wjoined before.output after.output r.wrote finished.0;
+            reported = reported after.warnings (write_failed_at last) r.reported finished.1;
+          }))
+          is,
+    )
+    turn-stands halt.Unreported warned status fault memory found r finished other is = (
+      finished.3,
+      one-fault (λ (a : At). Stands filter input given writer messages a a.fault)
+          (write_failed_at last) other fault finished.2
+          (inr (inl (record {
+            before = before;
+            after = after;
+            turn = turn;
+            wrote = took-same writer1 writer2
+                writer wsame wstart wend wjoined before.output before.output r.wrote finished.0 refl;
+            reported = part-still messages1 messages2 messages msame mstart mend mjoined
+                (notices_text before.warnings) (notices_text after.warnings) r.reported finished.1;
+          })))
+          is,
+    )
+
+    pub turn-front : (halt : Halt) (warned : Bool) (status : ℕ) (fault : Option At)
+        → EndsAt can number writer1 messages1 before after halt
+        → Finishes writer2 messages2 last warned (Some halt) status fault → IsFrontPart filter input given writer
+    turn-front (halt.Fault at) warned status fault (inl ran) finished = record {
+      written = before.output;
+      wrote = was-taken before.output (written before.output ran.wrote finished.0);
+      first = first-before-turn filter lawful input given before after last before.output turn
+          (begins-itself before.output);
+    }
+    turn-front (halt.Fault at) warned status fault (inr r) finished = record {
+      written = after.output;
+      wrote = was-taken after.output (written after.output r.wrote finished.0);
+      first = first-after-turn filter lawful input given before after last after.output turn
+          (begins-itself after.output);
+    }
+    turn-front halt.Unwritten warned status fault r finished =
+        let part =
+        part-still writer1 writer2 writer wsame wstart wend wjoined before.output after.output r.wrote finished.0 in
+        record {
+          written = take part.count after.output;
+          wrote = part.took;
+          first = first-after-turn filter lawful input given before after last
+              (take part.count after.output) turn (begins-taken part.count after.output);
+        }
+    turn-front halt.Unreported warned status fault r finished = record {
+      written = before.output;
+      wrote = (took-same writer1 writer2
+          writer wsame wstart wend wjoined before.output before.output r.wrote finished.0 refl).0;
+      first = first-before-turn filter lawful input given before after last before.output turn
+          (begins-itself before.output);
+    }
+
+  -- ---- the work of a run
+
+  pub line-stands : (now : ReaderState) (last : ℕ) (warned : Bool)
+      (halt : Halt) (status : ℕ) (fault : Option At) (s : StoppedByLine filter input writer1 messages1 now last halt)
+      → Finishes writer2 messages2 last warned (Some halt) status fault
+      → StandsAfter s.ends.read.given status fault × IsFrontPart filter input s.ends.read.given writer
+  line-stands now last warned halt status fault s finished =
+      let h = s.ends.read in
+      let next = with_next s.lines s.ends.line in
+      let before = filter.so_far s.lines in
+      let after = filter.so_far next in
+      let can = filter.memory_after s.lines s.ends.line in
+      let number : ℕ = length s.lines + 1 in
+      let taken = taken-read input now next h s.ends.going in
+      let turn : IsTurn filter input h.given before after last = inl (record {
+        lines = s.lines;
+        line = s.ends.line;
+        taken = taken;
+        before_is = refl;
+        after_is = refl;
+        last_is = s.last_is;
+      }) in (
+        turn-stands h.given before after last turn can number halt warned status fault
+            (λ at notices allowed place next-ones wrote reported. record {
+              lines = s.lines;
+              line = s.ends.line;
+              taken = taken;
+              place = place;
+              allowed = allowed;
+              notices = notices;
+              next = next-ones;
+              wrote = wrote;
+              reported = reported;
+            })
+            (λ at bad. lawful.found next at bad) s.ends.ends finished,
+        turn-front h.given before after last turn can number halt warned status fault s.ends.ends finished,
+      )
+
+  pub end-stands : (now : ReaderState) (last : ℕ) (warned : Bool)
+      (halt : Halt) (status : ℕ) (fault : Option At) (s : StoppedByEnd filter input writer1 messages1 now last halt)
+      → Finishes writer2 messages2 last warned (Some halt) status fault
+      → StandsAfter s.read.given status fault × IsFrontPart filter input s.read.given writer
+  end-stands now last warned halt status fault s finished =
+      let h = s.read in
+      let before = filter.so_far s.lines in
+      let after = filter.whole s.lines in
+      let all = all-read input now s.lines h s.ended in
+      let turn : IsTurn filter input h.given before after last =
+      inr (record {
+        all = all-of input h.given s.lines all;
+        before_is = ap filter.so_far (sym all.same);
+        after_is = ap filter.whole (sym all.same);
+        last_is = s.last_is ∙ ap length (sym all.same);
+      }) in (
+        turn-stands h.given before after last turn None (length s.lines) halt warned status fault
+            (λ at notices allowed place next-ones wrote reported. absurd (cc))
+            (λ at bad. lawful.found_at_end s.lines at bad) s.ends finished,
+        turn-front h.given before after last turn None (length s.lines) halt warned status fault s.ends finished,
+      )
+
+  -- the reading stopped
+  stopped-stands : (given : List ℕ) (lines : List InputLine) (f : Fault) (at : At)
+      → IsStopped f input.start input.counted given lines → at.line ≡ length lines + 1
+      → (filter.so_far lines).fault ≡ None → IsWritten writer (filter.so_far lines).output
+      → AreReported messages (filter.so_far lines).warnings at → Stands filter input given writer messages at f
+  stopped-stands given lines InputTooLong at s line good wrote reported =
+      let same : lines ≡ complete_lines given = s.1 in
+      record {
+        past = s.0;
+        counted = s.2;
+        stopped = record {
+          line = line ∙ ap (λ (ls : List InputLine). length ls + 1) same;
+          good = subst (λ (ls : List InputLine). (filter.so_far ls).fault ≡ None) same good;
+          wrote = subst (λ (ls : List InputLine). IsWritten writer (filter.so_far ls).output) same wrote;
+          reported = subst (λ (ls : List InputLine). AreReported messages (filter.so_far ls).warnings at) same reported;
+        };
+      }
+  stopped-stands given lines ReadFailed at s line good wrote reported =
+      let same : lines ≡ complete_lines given = complete-stopped given lines ReadFailed input.start input.counted s in
+      record {
+        counted = s.2;
+        within = s.0;
+        stopped = record {
+          line = line ∙ ap (λ (ls : List InputLine). length ls + 1) same;
+          good = subst (λ (ls : List InputLine). (filter.so_far ls).fault ≡ None) same good;
+          wrote = subst (λ (ls : List InputLine). IsWritten writer (filter.so_far ls).output) same wrote;
+          reported = subst (λ (ls : List InputLine). AreReported messages (filter.so_far ls).warnings at) same reported;
+        };
+      }
+  stopped-stands given lines _ at s line good wrote reported = absurd s
+
+  pub reader-stands : (now : ReaderState) (last : ℕ) (warned : Bool)
+      (stop : Halt) (status : ℕ) (fault : Option At) (s : StoppedByReader filter input writer1 messages1 now last stop)
+      → Finishes writer2 messages2 last warned (Some stop) status fault
+      → StandsAfter s.stopped.read.given status fault × IsFrontPart filter input s.stopped.read.given writer
+  reader-stands now last warned stop status fault s finishes =
+      let finished : Finishes writer2 messages2 last warned (Some (halt.Fault s.at)) status fault =
+      subst (λ (h : Halt). Finishes writer2 messages2 last warned (Some h) status fault) s.halt_is finishes in
+      let h = s.stopped.read in
+      let course = filter.so_far s.lines in
+      let stopped =
+      HasRead-stopped input.gave input.at_end input.start input.counted now s.lines h s.at s.stopped.stopped in
+      let wrote = written course.output s.stopped.wrote finished.0 in
+      let reported = reported course.warnings s.at s.stopped.reported finished.1 in
+      let same = complete-stopped h.given s.lines s.at.fault input.start input.counted stopped.0 in (
+        (λ (other : At) is. (
+          finished.3,
+          one-fault (λ (a : At). Stands filter input h.given writer messages a a.fault) s.at other fault finished.2
+              (stopped-stands h.given s.lines s.at.fault s.at stopped.0 stopped.1 s.stopped.good wrote reported) is,
+        )),
+        record {
+          written = course.output;
+          wrote = was-taken course.output wrote;
+          first = first-complete filter lawful input h.given s.lines same;
+        },
+      )
+
+  pub start-stands : (last : ℕ) (warned : Bool)
+      (stop : Halt) (status : ℕ) (fault : Option At) (s : StoppedAtStart input writer1 messages1 last stop)
+      → Finishes writer2 messages2 last warned (Some stop) status fault
+      → StandsAfter [] status fault × IsFrontPart filter input [] writer
+  start-stands last warned stop status fault s finishes =
+      let at : At = record { line = 0; fault = OutOfMemory } in
+      let finished : Finishes writer2 messages2 last warned (Some (halt.Fault at)) status fault =
+      subst (λ (h : Halt). Finishes writer2 messages2 last warned (Some h) status fault) s.halt_is finishes in
+      let wrote = written [] s.wrote finished.0 in (
+        (λ (other : At) is. (
+          finished.3,
+          one-fault (λ (a : At). Stands filter input [] writer messages a a.fault) at other fault finished.2
+              (inl (record {
+                line = refl;
+                nothing = refl;
+                wrote = wrote;
+                reported = reported [] at s.reported finished.1;
+              })) is,
+        )),
+        record {
+          written = [];
+          wrote = was-taken [] wrote;
+          first = inl (record { rest = (filter.so_far (complete_lines [])).output; same = refl });
+        },
+      )
+
+  -- the flush alone failed
+  pub flush-stands : (has_ended : List InputLine → Type 0) (now : ReaderState) (last : ℕ)
+      (warned : Bool) (status : ℕ) (at : At) (done : WellDone filter has_ended input writer1 messages1 now last warned)
+      → Finishes writer2 messages2 last warned None status (Some at) → StandsAfter done.read.given status (Some at)
+  flush-stands has_ended now last warned status at done finished other is =
+      let h = done.read in
+      let all = all-read input now done.lines h done.ended in
+      let course = filter.whole done.lines in
+      let same : done.lines ≡ lines_of h.given = sym all.same in
+      let flushed = finished.0 in
+      let reported = reported course.warnings
+      (write_failed_at last) done.reported (subst (IsReported messages2) finished.2 finished.1) in (
+        finished.3,
+        one-fault (λ (a : At). Stands filter input h.given writer messages a a.fault)
+            (write_failed_at last) other (Some at) (ap Some finished.2)
+            (inr (inr (record {
+              all = all-of input h.given done.lines all;
+              line = done.last_is ∙ ap length same;
+              good = ap (λ (ls : List InputLine). (filter.whole ls).fault) (sym same) ∙ done.good;
+              wrote = subst (λ (ls : List InputLine). writer.took (filter.whole ls).output) same
+                  (subst writer.took (append-nil course.output) (wjoined course.output [] done.wrote.0 flushed.0));
+              counted = wend ∙ flushed.1 ∙ ap with_failed_flush (wsame ∙ done.wrote.1 ∙ sym wstart);
+              reported = subst (λ (ls : List InputLine).
+                  AreReported messages (filter.whole ls).warnings (write_failed_at last)) same reported;
+            }))) is,
+      )
+
+  pub well-front : (has_ended : List InputLine → Type 0) (now : ReaderState)
+      (last : ℕ) (warned : Bool) (done : WellDone filter has_ended input writer1 messages1 now last warned)
+      → writer2.took [] → IsFrontPart filter input done.read.given writer
+  well-front has_ended now last warned done flushed =
+      let h = done.read in
+      let all = all-read input now done.lines h done.ended in
+      let course = filter.whole done.lines in
+      record {
+        written = course.output;
+        wrote = subst writer.took (append-nil course.output) (wjoined course.output [] done.wrote.0 flushed);
+        first = first-whole filter lawful input h.given course.output (all-of input h.given done.lines all)
+            (record {
+              rest = [];
+              same = ap (λ (ls : List InputLine). (filter.whole ls).output) all.same
+                  ∙ sym (append-nil course.output);
+            });
+      }

@@ -1,0 +1,155 @@
+-- What a reader of lines answers, by the lines that were read before.
+use Rattle.std.proofs.Common.{◌≡◌, ◌⊎◌, inl, inr, ⊎_elim, ℕ, ◌+◌, ◌<◌, ◌≤◌, Bool, true, false, cond, List, ◌∷◌, ◌++◌}
+use Rattle.std.proofs.Common.{length, Option, Some, None, Result, Ok, Err, refl, sym, ap, subst, ◌∙◌, arith}
+use Rattle.std.proofs.Common.{length-append}
+use Rattle.std.proofs.lemmas.List.{length_push}
+use Rattle.crx_lines.specs.meaning.Devices.{Tally}
+use Rattle.crx_faults.specs.meaning.Lines.{InputLine, is_long}
+use Rattle.crx_lines.specs.Reading.{ReaderState, ReaderAnswers, AnswersFault, TakesPiece, line_shown, line_number}
+use Rattle.crx_lines.specs.Progress.{HasRead, AtFault}
+use Rattle.crx_faults.specs.declared.limits.TheConstants.{INPUT_LIMIT}
+use Rattle.crx_faults.specs.declared.fault.At.{At}
+use Rattle.crx_faults.specs.declared.fault.Fault.{Fault}
+use Rattle.crx_faults.specs.declared.fault.Fault.TheVariants.{LineTooLong, InputTooLong, ReadFailed}
+use Rattle.crx_lines.specs.declared.line.Line.{Line}
+use Rattle.crx_lines.specs.declared.phase.Phase.{Phase}
+use Rattle.crx_lines.specs.declared.phase.Phase.TheVariants.{Open, Ended, Stopped}
+use Rattle.crx_lines.proofs.ProgressLemmas.{HasRead-next}
+use Rattle.crx_runs.specs.meaning.Filters.{with_next}
+
+-- a line was read: these lines and it
+pub record ReadsLine (gives : List ℕ → Type 0) (at_end : Type 0)
+    (start counted : Tally) (new : ReaderState) (lines : List InputLine) (line : InputLine) (number : ℕ) : Type 0 where
+  pub read : HasRead gives at_end start counted new (with_next lines line)
+  pub going : (new.phase ≡ Open) ⊎ (new.phase ≡ Ended)
+  pub number_is : number ≡ length lines + 1
+
+some-not-none : (line : Line) → ◌≡◌ {A = Result (Option Line) At} (Ok (Some line)) (Ok None) → ⊥
+some-not-none line e = cc
+
+err-not-none : (at : At) → ◌≡◌ {A = Result (Option Line) At} (Err at) (Ok None) → ⊥
+err-not-none at e = cc
+
+pub ended-not-open : ◌≡◌ {A = Phase} Ended Open → ⊥
+ended-not-open e = cc
+
+phase-going : (b : Bool) (f : Phase) → f ≡ cond b Open Ended → (f ≡ Open) ⊎ (f ≡ Ended)
+phase-going true f is = inl is
+phase-going false f is = inr is
+
+module _ (gave gives step : List ℕ → Type 0)
+    (at_end at_end' : Type 0) (start counted counted' : Tally) (old new : ReaderState) (lines : List InputLine)
+    (h : HasRead gave at_end start counted old lines) (goes : (given more : List ℕ)
+    → gave given → step more → gives (given ++ more))
+    (r : Result (Option Line) At) (going : (old.phase ≡ Open) ⊎ (old.phase ≡ Ended))
+    (at-open : old.phase ≡ Open → (more : List ℕ) × step more × ReaderAnswers old more at_end' counted counted' r new)
+    (at-ended : old.phase ≡ Ended → r ≡ Ok None) where
+  open-if : (r ≡ Ok None → ⊥) → old.phase ≡ Open
+  open-if some = ⊎_elim (λ e. e) (λ e. absurd (some (at-ended e))) going
+
+  pub line-read : (line : Line) → r ≡ Ok (Some line)
+      → ReadsLine gives at_end' start counted' new lines (line_shown line) (line_number line)
+  line-read line is =
+      let e = open-if (λ none. some-not-none line (sym is ∙ none)) in
+      let found = at-open e in
+      let a : ReaderAnswers old found.0 at_end' counted counted' (Ok (Some line)) new =
+      subst (λ x. ReaderAnswers old found.0 at_end' counted counted' x new) is found.2 in
+      let n = HasRead-next gave gives
+      step at_end at_end' start counted counted' old new lines h goes e found.0 found.1 (Ok (Some line)) a in
+      record {
+        read = subst (λ l. HasRead gives at_end' start counted' new l) n.1.lines_are n.2;
+        going = phase-going a.0.is_ended new.phase a.1.phase;
+        number_is = omega (arith, n.1.number_is, ap length n.1.lines_are, length_push lines (line_shown line));
+      }
+
+  pub overlong-read : (at : At) → r ≡ Err at → at.fault ≡ LineTooLong
+      → (line : InputLine) × (is_long line ≡ true) × ReadsLine gives at_end' start counted' new lines line at.line
+  overlong-read at is long =
+      let e = open-if (λ none. err-not-none at (sym is ∙ none)) in
+      let found = at-open e in
+      let a : AnswersFault old found.0 at_end' counted counted' at LineTooLong new =
+      subst (λ f. AnswersFault old found.0 at_end' counted counted' at f new) long
+      (subst (λ x. ReaderAnswers old found.0 at_end' counted counted' x new) is found.2) in
+      let n = HasRead-next gave gives step at_end at_end' start counted counted' old new lines h goes e found.0 found.1
+      (Err at) (subst (λ x. ReaderAnswers old found.0 at_end' counted counted' x new) is found.2) in
+      let one : AtFault LineTooLong at old new lines n.0 = subst (λ f. AtFault f at old new lines n.0) long n.1 in (
+        one.0,
+        one.1,
+        record {
+          read = subst (λ l. HasRead gives at_end' start counted' new l) one.2.lines_are n.2;
+          going = phase-going a.0.is_ended new.phase a.1.phase;
+          number_is = omega (arith, one.2.number_is, ap length one.2.lines_are, length_push lines one.0);
+        },
+      )
+
+  stop-by : (f : Fault) (at : At) → (f ≡ LineTooLong → ⊥)
+      → (then : List InputLine) → AtFault f at old new lines then → (then ≡ lines) × (new.phase ≡ Stopped at)
+  stop-by LineTooLong at other then a = absurd (other refl)
+  stop-by InputTooLong at other then a = a
+  stop-by ReadFailed at other then a = a
+  stop-by _ at other then a = absurd a
+
+  pub stop-read : (at : At) → r ≡ Err at → (at.fault ≡ LineTooLong → ⊥)
+      → HasRead gives at_end' start counted' new lines × (new.phase ≡ Stopped at)
+  stop-read at is other =
+      let e = open-if (λ none. err-not-none at (sym is ∙ none)) in
+      let found = at-open e in
+      let n = HasRead-next gave gives step at_end at_end' start counted counted' old new lines h goes e found.0 found.1
+      (Err at) (subst (λ x. ReaderAnswers old found.0 at_end' counted counted' x new) is found.2) in
+      let stopped = stop-by at.fault at other n.0 n.1 in
+      (subst (λ l. HasRead gives at_end' start counted' new l) stopped.0 n.2, stopped.1)
+
+  pub end-read : r ≡ Ok None → (old.phase ≡ Ended → HasRead gives at_end' start counted' new lines
+      × (new.phase ≡ Ended)) → HasRead gives at_end' start counted' new lines × (new.phase ≡ Ended)
+  end-read is kept =
+      let Claim : Type 0 = HasRead gives at_end' start counted' new lines × (new.phase ≡ Ended) in
+      let opened : old.phase ≡ Open → Claim = λ e.
+      let found = at-open e in
+      let n = HasRead-next gave gives step at_end at_end' start counted counted' old new lines h goes e found.0 found.1
+      (Ok None) (subst (λ x. ReaderAnswers old found.0 at_end' counted counted' x new) is found.2) in
+      (subst (λ l. HasRead gives at_end' start counted' new l) n.1.0 n.2, n.1.1) in
+      ⊎_elim opened kept going
+
+-- the number of a line that is too long
+pub overlong-number : (step : List ℕ
+    → Type 0) (at_end' : Type 0) (counted counted' : Tally) (old new : ReaderState) (r : Result (Option Line) At)
+    → (old.phase ≡ Open) ⊎ (old.phase ≡ Ended)
+    → (old.phase ≡ Open → (more : List ℕ) × step more × ReaderAnswers old more at_end' counted counted' r new)
+    → (old.phase ≡ Ended → r ≡ Ok None) → (at : At) → r ≡ Err at → at.fault ≡ LineTooLong → at.line ≡ old.number + 1
+overlong-number step at_end' counted counted' old new r going at-open at-ended at is long =
+    let e : old.phase ≡ Open = ⊎_elim (λ e. e) (λ e. absurd (err-not-none at (sym is ∙ at-ended e))) going in
+    let found = at-open e in
+    let a : AnswersFault old found.0 at_end' counted counted' at LineTooLong new =
+    subst (λ f. AnswersFault old found.0 at_end' counted counted' at f new) long
+    (subst (λ x. ReaderAnswers old found.0 at_end' counted counted' x new) is found.2) in
+    a.3 ∙ a.1.number
+
+passed-more : (old new : ReaderState) (given : List ℕ) (at_end : Type 0) (bytes : List ℕ) (is_ended : Bool)
+    → TakesPiece old given at_end (record { bytes = bytes; is_ended = is_ended }) new → old.passed < new.passed
+passed-more old new given at_end bytes true t =
+    omega (arith, t.passed, ap length t.first.cut, length-append bytes (10 ∷ new.rest))
+passed-more old new given at_end bytes false t =
+    omega (arith, t.passed, ap length t.first.cut.0, ap length t.first.cut.1, t.first.cut.2)
+
+-- a line takes some bytes of the input
+module _ (step : List ℕ → Type 0)
+    (at_end' : Type 0) (counted counted' : Tally) (old new : ReaderState) (r : Result (Option Line) At)
+    (going : (old.phase ≡ Open) ⊎ (old.phase ≡ Ended)) (at-open : old.phase ≡ Open
+    → (more : List ℕ) × step more × ReaderAnswers old more at_end' counted counted' r new)
+    (at-ended : old.phase ≡ Ended → r ≡ Ok None) where
+  pub line-passed : (line : Line) → r ≡ Ok (Some line) → (old.passed < new.passed) × (new.passed ≤ INPUT_LIMIT)
+  line-passed line is =
+      let e : old.phase ≡ Open = ⊎_elim (λ e. e) (λ e. absurd (some-not-none line (sym is ∙ at-ended e))) going in
+      let found = at-open e in
+      let a : ReaderAnswers old found.0 at_end' counted counted' (Ok (Some line)) new =
+      subst (λ x. ReaderAnswers old found.0 at_end' counted counted' x new) is found.2 in
+      (passed-more old new found.0 at_end' a.0.bytes a.0.is_ended a.1, omega (arith, a.1.within))
+
+  pub overlong-passed : (at : At) → r ≡ Err at → at.fault ≡ LineTooLong → (old.passed < new.passed) × (new.passed ≤ INPUT_LIMIT)
+  overlong-passed at is long =
+      let e : old.phase ≡ Open = ⊎_elim (λ e. e) (λ e. absurd (err-not-none at (sym is ∙ at-ended e))) going in
+      let found = at-open e in
+      let a : AnswersFault old found.0 at_end' counted counted' at LineTooLong new =
+      subst (λ f. AnswersFault old found.0 at_end' counted counted' at f new) long
+      (subst (λ x. ReaderAnswers old found.0 at_end' counted counted' x new) is found.2) in
+      (passed-more old new found.0 at_end' a.0.bytes a.0.is_ended a.1, omega (arith, a.1.within))

@@ -1,0 +1,49 @@
+use Rattle.std.proofs.Common.{◌≡◌, IfOk, refl, subst}
+use Rattle.std.specs.Prelude.{⊤}
+use Rattle.crx_runs.specs.meaning.Filters.{Filter}
+use Rattle.crx_runs.specs.meaning.Spans.{Input, reader_span, Device, span}
+use Rattle.crx_runs.specs.Runs.{result_by}
+use Rattle.crx_runs.specs.meaning.Runs.{RunsAs}
+use Rattle.crx_runs.proofs.Conclusions.{runs-nothing}
+use Rattle.crx_runs.proofs.start.start.Goals as goal
+
+pub returns-in-Ok : goal.returns-in-Ok
+returns-in-Ok g c = record {
+  runs = λ (filter : Filter) lawful same.
+      let r = c.args.reader.now in
+      let then = c.run.new.reader in
+      let input : Input = reader_span g.R.Source r then in
+      let w0 = c.args.writer.now in
+      let m0 = c.args.messages.now in
+      let writer : Device = span g.W.Sink w0 c.run.new.writer in
+      let messages : Device = span g.M.Sink m0 c.run.new.messages in
+      let ran = c.run.ensures.runs in
+      let is : g.E.Engine.filter c.in-Ok.engine ≡ filter =
+      subst (λ x. IfOk x (λ e. g.E.Engine.filter e ≡ filter)) c.in-Ok.is same in (
+        ran.0,
+        ran.1,
+        subst (λ (f : Filter).
+            RunsAs (result_by f) f input ran.0 writer messages c.run.result.status c.run.result.fault) is ran.2,
+      );
+}
+
+pub returns-in-Err : goal.returns-in-Err
+returns-in-Err g c = record {
+  runs = λ (filter : Filter) lawful same.
+      let work = c.no_memory.result in
+      let r = c.args.reader.now in
+      let w = c.args.writer.now in
+      let m = c.args.messages.now in
+      let input : Input = reader_span g.R.Source r r in
+      let writer1 : Device = span g.W.Sink w w in
+      let writer2 : Device = span g.W.Sink w c.finish.new.writer in
+      let messages1 : Device = span g.M.Sink m m in
+      let messages2 : Device = span g.M.Sink m c.finish.new.messages in
+      let ran = runs-nothing filter lawful input writer1 writer2 writer2 messages1 messages2 messages2
+      refl refl refl (λ xs ys a b. g.met.W.Sink.took_both w w c.finish.new.writer xs ys a b) (λ f. f)
+      refl refl refl (λ xs ys a b. g.met.M.Sink.took_both m m c.finish.new.messages xs ys a b)
+      (λ lines. ⊤) work.last work.warned work.halt c.finish.result.status c.finish.result.fault
+      c.no_memory.ensures.halt c.no_memory.ensures.last (g.met.R.Source.gave_none r) refl
+      (g.met.W.Sink.took_none w, refl) (g.met.M.Sink.took_none m, refl) c.finish.ensures in
+      (ran.0, ran.1, ran.2);
+}

@@ -1,0 +1,95 @@
+-- What an engine answers, line by line.
+use Rattle.std.specs.Prelude.{◌≡◌, ◌⊎◌, ℕ, ◌+◌, ⊤, Bool, true, false, List, [], ◌∷◌, ◌++◌, length, Some, None, Result}
+use Rattle.std.specs.Prelude.{Ok, Err}
+use Rattle.crx_faults.specs.meaning.Lines.{InputLine}
+use Rattle.crx_faults.specs.declared.fault.At.{At}
+use Rattle.crx_faults.specs.declared.fault.Fault.TheVariants.{OutOfMemory}
+use Rattle.crx_runs.specs.meaning.Results.{Course}
+use Rattle.crx_runs.specs.meaning.Filters.{Filter, with_next}
+use Rattle.crx_faults.specs.meaning.Lines.{lines_text}
+use Rattle.crx_runs.specs.declared.engine.Step.{Step}
+use Rattle.crx_runs.specs.declared.engine.Step.TheVariants.{Quiet, Ready, Warned}
+
+-- how many lines were taken after an answer: a line that is to come a second time doesn't count yet
+abbrev pub taken_after : Step → ℕ → ℕ
+taken_after Quiet count = count + 1
+taken_after Ready count = count + 1
+taken_after (Warned notice true) count = count
+taken_after (Warned notice false) count = count + 1
+
+-- only an engine that is ready has pending lines
+abbrev pub IsDrainedAfter : Step → List (List ℕ) → Type 0
+IsDrainedAfter Ready ready = ⊤
+IsDrainedAfter Quiet ready = ready ≡ []
+IsDrainedAfter (Warned notice again) ready = ready ≡ []
+
+-- the answer to a line: that nothing is to be done, or the answer that is stored
+abbrev pub answer_given : Bool → Result Step At → Result Step At
+answer_given true kept = Ok Quiet
+answer_given false kept = kept
+
+-- a course goes on: these lines are written then, these warnings are reported, and no fault ends it
+pub record GoesOn (before after : Course) (texts : List (List ℕ)) (notices : List At) : Type 0 where
+  pub output : after.output ≡ before.output ++ lines_text texts
+  pub warnings : after.warnings ≡ before.warnings ++ notices
+  pub good : after.fault ≡ None
+
+-- a course ends with a fault: nothing more is written
+pub record EndsWith (before after : Course) (notices : List At) (at : At) : Type 0 where
+  pub output : after.output ≡ before.output
+  pub warnings : after.warnings ≡ before.warnings ++ notices
+  pub fault : after.fault ≡ Some at
+
+-- a warning is the first that a line adds
+abbrev pub IsNext : Filter → List InputLine → InputLine → At → Type 0
+IsNext filter lines line notice = (more : List At)
+    × ((filter.so_far (with_next lines line)).warnings ≡ (filter.so_far lines).warnings ++ notice ∷ more)
+
+-- a warning that was answered to a line which is to come a second time
+pub record Awaited : Type 0 where
+  pub notice : At
+  pub line : InputLine
+
+-- the warnings themselves
+abbrev pub awaited_notices : List Awaited → List At
+awaited_notices [] = []
+awaited_notices (a ∷ others) = a.notice ∷ awaited_notices others
+
+-- where a line is to come a second time, it is this one
+abbrev pub IsAwaited : List Awaited → InputLine → Type 0
+IsAwaited [] line = ⊤
+IsAwaited (a ∷ others) line = a.line ≡ line
+
+-- memory ran out at a line that may take some, after these of its warnings
+pub record RunsOutAt (filter : Filter)
+    (lines : List InputLine) (line : InputLine) (notices : List At) (at : At) : Type 0 where
+  pub fault : at.fault ≡ OutOfMemory
+  pub place : at.line ≡ length lines + 1
+  pub allowed : filter.memory_after lines line ≡ Some notices
+
+-- what an engine answers to a line. It showed these lines, and where the line comes a second time the warning of the
+-- first time: nothing, pending lines, a warning with the line or before it comes a second time, or a fault
+abbrev pub EngineAnswers : Filter → (List InputLine → List Awaited → Type 0)
+    → List (List ℕ) → List InputLine → List Awaited → InputLine → Result Step At → Type 0
+EngineAnswers filter shows ready lines notices line (Ok Quiet) =
+    shows (with_next lines line) []
+    × GoesOn (filter.so_far lines) (filter.so_far (with_next lines line)) [] (awaited_notices notices)
+EngineAnswers filter shows ready lines notices line (Ok Ready) =
+    shows (with_next lines line) []
+    × GoesOn (filter.so_far lines) (filter.so_far (with_next lines line)) ready (awaited_notices notices)
+EngineAnswers filter shows ready lines notices line (Ok (Warned notice true)) =
+    shows lines (record { notice = notice; line = line } ∷ []) × (notices ≡ []) × IsNext filter lines line notice
+EngineAnswers filter shows ready lines notices line (Ok (Warned notice false)) =
+    shows (with_next lines line) [] × GoesOn
+    (filter.so_far lines) (filter.so_far (with_next lines line)) [] (awaited_notices notices ++ notice ∷ [])
+EngineAnswers filter shows ready lines notices line (Err at) =
+    RunsOutAt filter lines line (awaited_notices notices) at ⊎ EndsWith
+    (filter.so_far lines) (filter.so_far (with_next lines line)) (awaited_notices notices) at
+
+-- what an engine answers at the end of the input, after these lines
+abbrev pub Concludes : Filter → List (List ℕ) → List InputLine → Result Step At → Type 0
+Concludes filter ready lines (Ok Quiet) = (ready ≡ []) × GoesOn (filter.so_far lines) (filter.whole lines) [] []
+Concludes filter ready lines (Ok Ready) = GoesOn (filter.so_far lines) (filter.whole lines) ready []
+Concludes filter ready lines (Ok (Warned notice again)) = (ready ≡ [])
+    × GoesOn (filter.so_far lines) (filter.whole lines) [] (notice ∷ [])
+Concludes filter ready lines (Err at) = EndsWith (filter.so_far lines) (filter.whole lines) [] at

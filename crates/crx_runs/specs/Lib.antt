@@ -1,0 +1,8 @@
+pub mod meaning
+pub mod Engines
+pub mod Lawful
+pub mod Severities
+pub mod Taking
+pub mod Running
+pub mod Endings
+pub mod Runs

@@ -1,0 +1,11 @@
+-- Beside meaning/Runs: what code and proofs see of it.
+use Rattle.std.specs.Prelude.{ℕ, List}
+use Rattle.crx_faults.specs.meaning.Lines.{lines_of}
+use Rattle.crx_runs.specs.meaning.Filters.{Filter}
+use Rattle.crx_runs.specs.meaning.Results.{FilterResult, result_of_course}
+
+-- ---- the whole run
+
+-- what a filter makes of an input
+abbrev pub result_by : Filter → List ℕ → FilterResult
+result_by filter input = result_of_course (filter.whole (lines_of input))

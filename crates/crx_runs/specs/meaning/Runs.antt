@@ -1,0 +1,61 @@
+-- What a whole run writes, reports and answers, by what its reader gave; and how it ended.
+use Rattle.std.specs.Prelude.{◌≡◌, ◌⊎◌, ◌<◌, ◌≤◌, ◌-◌, ◌^◌, ℕ, List, [], ◌++◌, length, Option, Some, None}
+use Rattle.crx_lines.specs.meaning.Devices.{one_more, with_flush}
+use Rattle.crx_faults.specs.declared.fault.At.{At}
+use Rattle.crx_faults.specs.declared.fault.Fault.{Fault}
+use Rattle.crx_faults.specs.declared.fault.Fault.TheVariants.{ReadFailed, OutOfMemory}
+use Rattle.crx_faults.specs.declared.limits.TheConstants.{INPUT_LIMIT}
+use Rattle.crx_runs.specs.meaning.Filters.{Filter}
+use Rattle.crx_runs.specs.meaning.Interruptions.{Stands, IsFrontPart}
+use Rattle.crx_runs.specs.meaning.Results.{FilterResult}
+use Rattle.crx_runs.specs.meaning.Spans.{Device, Input}
+
+-- ---- the whole run
+
+-- a run wrote, reported and answered this
+pub record IsResult (result : FilterResult) (writer messages : Device) (status : ℕ) (fault : Option At) : Type 0 where
+  pub output : writer.took result.output
+  pub messages_are : messages.took result.messages
+  pub status_is : status ≡ result.status
+  pub fault_is : fault ≡ result.fault
+
+-- a device counted no failure, and could have counted one
+abbrev pub NoneFailed : ℕ → ℕ → Type 0
+NoneFailed before after = (after ≡ before) × (before < 2 ^ 64 - 1)
+
+-- whether the fault is this one
+abbrev pub FaultIs : Fault → Option At → Type 0
+FaultIs fault None = ⊥
+FaultIs fault (Some at) = at.fault ≡ fault
+
+-- what a run is by the bytes that its reader gave: by the result of a whole input, and by the filter
+pub record RunsAs (result_of : List ℕ → FilterResult) (filter : Filter)
+    (input : Input) (given : List ℕ) (writer messages : Device) (status : ℕ) (fault : Option At) : Type 0 where
+  -- where no device failed and memory didn't run out, the run is that of every input within the limit that begins with
+  -- these bytes, and is these bytes where its end was reported
+  pub whole : NoneFailed input.start.failures input.counted.failures
+      → NoneFailed writer.before.failures writer.after.failures
+      → NoneFailed messages.before.failures messages.after.failures → (FaultIs OutOfMemory fault → ⊥)
+      → (rest : List ℕ) → (input.at_end → rest ≡ [])
+      → length (given ++ rest) ≤ INPUT_LIMIT → IsResult (result_of (given ++ rest)) writer messages status fault
+  -- where no fault stands, the end of the input was reported, no device failed, the writer was flushed once and the
+  -- messages never, and the run is that of these bytes
+  pub good : fault ≡ None → input.at_end × (length given ≤ INPUT_LIMIT) × (input.counted.failures
+      ≡ input.start.failures) × (writer.after ≡ with_flush writer.before) × (messages.after ≡ messages.before)
+      × IsResult (result_of given) writer messages status fault
+  -- where no fault stands, all that was written was handed on: the writer was flushed last
+  pub flushed : fault ≡ None → writer.flushed
+  -- where a fault stands, the status is 1, and the fault says what ended the run and what was written and reported by
+  -- then
+  pub ended : (at : At) → fault ≡ Some at → (status ≡ 1) × Stands filter input given writer messages at at.fault
+  -- the end of the input was reported at most once: it was never asked for again
+  pub asked : (input.counted.ends ≡ input.start.ends) ⊎ (input.counted.ends ≡ one_more input.start.ends)
+  -- no read failed, unless that is the fault
+  pub read : (FaultIs ReadFailed fault → ⊥) → input.counted.failures ≡ input.start.failures
+  -- what was written is a prefix of the defined output
+  pub front : IsFrontPart filter input given writer
+
+-- a run from a reader to a writer and to messages: its reader gave some bytes, and it is what they make of it
+abbrev pub Runs : (List ℕ → FilterResult) → Filter → Input → Device → Device → ℕ → Option At → Type 0
+Runs result_of filter input writer messages status fault = (given : List ℕ)
+    × input.gave given × RunsAs result_of filter input given writer messages status fault

@@ -1,0 +1,141 @@
+//! Engines: they take the lines of an input one at a time, and what is to be written is borrowed from them.
+
+ghost use Rattle.std.specs.Prelude.{◌≡◌, ◌≤◌, ◌+◌, ℕ, List, [], drop, length, slice_get, Result, if◌then◌else◌, is_some, IfOk, IfSome, IsTrue, OnErr, true};
+ghost use Rattle.std.specs.Borrow.{sem};
+ghost use Rattle.std.specs.Io.BufRead.{Rests};
+ghost use Rattle.std.specs.Option.{option_copied};
+ghost use Rattle.crx_faults.specs.meaning.Lines.{InputLine, is_long};
+ghost use Rattle.crx_lines.specs.Reading.{line_shown, line_number};
+ghost use Rattle.crx_faults.specs.declared.fault.At.{At};
+ghost use Rattle.crx_faults.specs.declared.limits.TheConstants.{INPUT_LIMIT};
+ghost use Rattle.crx_runs.specs.meaning.Filters.{Filter};
+ghost use Rattle.crx_faults.specs.meaning.Lines.{lines_text};
+ghost use Rattle.crx_runs.specs.Engines.{EngineAnswers, answer_given, Awaited, IsAwaited, Concludes, IsDrainedAfter, taken_after};
+
+use crx_faults::At;
+use crx_lines::Line;
+
+/// What an engine answers to a line.
+#[derive(Clone, Copy, Debug, PartialEq, Eq)]
+pub enum Step {
+    /// Nothing is to be written yet.
+    Quiet,
+    /// Lines are ready to be borrowed and written.
+    Ready,
+    /// A fault is skipped.
+    Warned {
+        /// The fault and its line.
+        notice: At,
+        /// Whether the line that was fed is to be fed once more: reading goes on at it.
+        again: bool,
+    },
+}
+
+/// The answer to a line: that nothing is to be done, or the answer that is stored.
+pub fn answer_given(is_quiet: bool, kept: Result<Step, At>) -> Result<Step, At>
+    ensures { result ≡ answer_given is_quiet kept }
+{
+    if is_quiet { Ok(Step::Quiet) } else { kept }
+}
+
+/// A filter that takes the lines of an input one at a time; the lines that are to be written are borrowed from it.
+pub trait Engine {
+    ghost use Rattle.crx_runs.specs.declared.engine.Step.{Step};
+
+    // What it is to write and to report.
+    ghost filter: { Self → Filter };
+
+    // These lines were taken, and where a line is to come a second time, the warning that was answered to it.
+    ghost shows: { Self → List InputLine → List Awaited → Type 0 };
+
+    // The lines that are pending.
+    ghost ready: { Self → List (List ℕ) };
+
+    // The number of the last line that was taken, 0 before the first.
+    ghost taken: { Self → ℕ };
+
+    // The end of the input wasn't answered yet.
+    ghost is_open: { Self → Type 0 };
+
+    // The answer to the line that `take` took last, where it answered `false`.
+    ghost answer: { Self → Result Step At };
+
+    // The end of the input was taken after these lines.
+    ghost has_ended: { Self → List InputLine → Type 0 };
+
+    /// Takes a line. `true` says that nothing is to be written yet and nothing to be reported; after `false`
+    /// [`Engine::answer`] says what is.
+    fn take(&mut self, line: Line<'_>) -> bool
+        requires drained { ready self.old ≡ [] }
+        requires running { is_open self.old }
+        requires next { line_number line ≡ taken self.old + 1 }
+        requires within { line_number line ≤ INPUT_LIMIT }
+        ensures filter { filter self.new ≡ filter self.old }
+        ensures running { IfOk (answer_given result (answer self.new)) (λ _. is_open self.new) }
+        ensures drained { IfOk (answer_given result (answer self.new))
+            (λ step. IsDrainedAfter step (ready self.new)) }
+        ensures nothing { OnErr (answer_given result (answer self.new)) (ready self.new ≡ []) }
+        ensures count { IfOk (answer_given result (answer self.new))
+            (λ step. taken self.new ≡ taken_after step (taken self.old)) }
+        ensures answers { (lines : List InputLine) (notices : List Awaited) → shows self.old lines notices
+            → IsAwaited notices (line_shown line.entry)
+            → EngineAnswers (filter self.old) (shows self.new) (ready self.new) lines notices
+            (line_shown line.entry) (answer_given result (answer self.new)) };
+
+    /// The answer to the line that [`Engine::take`] took last, where it answered `false`: what is to be written or reported.
+    fn answer(&self) -> Result<Step, At>
+        ensures { result ≡ answer self.now };
+
+    /// Takes a line that is too long, by its number.
+    fn overlong(&mut self, number: u64) -> Result<Step, At>
+        requires drained { ready self.old ≡ [] }
+        requires running { is_open self.old }
+        requires next { number ≡ taken self.old + 1 }
+        requires within { number ≤ INPUT_LIMIT }
+        ensures filter { filter self.new ≡ filter self.old }
+        ensures running { IfOk result (λ _. is_open self.new) }
+        ensures drained { IfOk result (λ step. IsDrainedAfter step (ready self.new)) }
+        ensures nothing { OnErr result (ready self.new ≡ []) }
+        ensures count { IfOk result (λ step. taken self.new ≡ taken_after step (taken self.old)) }
+        ensures answers { (lines : List InputLine) (notices : List Awaited) (line : InputLine)
+            → shows self.old lines notices
+            → IsAwaited notices line
+            → is_long line ≡ true
+            → EngineAnswers (filter self.old) (shows self.new) (ready self.new) lines notices line result };
+
+    /// Takes the end of the input.
+    fn end(&mut self) -> Result<Step, At>
+        requires drained { ready self.old ≡ [] }
+        requires running { is_open self.old }
+        requires within { taken self.old ≤ INPUT_LIMIT }
+        ensures filter { filter self.new ≡ filter self.old }
+        ensures drained { IfOk result (λ step. IsDrainedAfter step (ready self.new)) }
+        ensures nothing { OnErr result (ready self.new ≡ []) }
+        ensures concludes { (lines : List InputLine) → shows self.old lines []
+            → Concludes (filter self.old) (ready self.new) lines result }
+        ensures ended { (lines : List InputLine)
+            → shows self.old lines [] → IfOk result (λ _. has_ended self.new lines) };
+
+    /// Borrows the next of the lines that are ready, without its line end; `None` once none is pending.
+    fn next_line(&mut self) -> Option<&[u8]>
+        ensures value { option_copied result ≡ slice_get (ready self.old) 0 }
+        ensures* after_borrow { sem 𝓛 (Rests Self.row self.entry (λ new.
+            (ready new ≡ drop 1 (ready self.old)) × (filter new ≡ filter self.old)
+            × ((lines : List InputLine) (notices : List Awaited)
+            → shows self.old lines notices → shows new lines notices)
+            × (is_open self.old → is_open new)
+            × ((lines : List InputLine) → has_ended self.old lines → has_ended new lines))) };
+
+    /// Borrows all lines that are ready as one text, each followed by LF, after which none is pending. After `None` they stay as they
+    /// are, and [`Engine::next_line`] gives them.
+    fn take_text(&mut self) -> Option<&[u8]>
+        ensures value { IfSome result (λ text. text.now ≡ lines_text (ready self.old)) }
+        ensures* after_borrow { sem 𝓛 (Rests Self.row self.entry (λ new.
+            (ready new ≡ (if is_some result then [] else ready self.old)) × (filter new ≡ filter self.old)
+            × ((lines : List InputLine) (notices : List Awaited)
+            → shows self.old lines notices → shows new lines notices)
+            × (is_open self.old → is_open new)
+            × ((lines : List InputLine) → has_ended self.old lines → has_ended new lines))) };
+
+    ghost counted: { (e : Self) (lines : List InputLine) (notices : List Awaited) → shows e lines notices → taken e ≡ length lines };
+}

@@ -1,0 +1,86 @@
+//! The end of a run: the writer is flushed, and the fault is reported.
+
+ghost use Rattle.std.specs.Prelude.{◌≡◌, ◌⊎◌, [], Some};
+ghost use Rattle.crx_lines.specs.meaning.Devices.{one_more};
+ghost use Rattle.crx_runs.specs.Endings.{Finishes, IsReported, write_failed_at};
+ghost use Rattle.crx_runs.specs.meaning.Spans.{span};
+
+use crate::message::{Severity, message};
+use crate::outcome::Outcome;
+use crate::taking::Halt;
+use crate::work::Work;
+use crx_faults::{At, Fault};
+use crx_lines::{Sink, write_all_counted};
+
+/// Reports a fault once the writer was flushed, well or not; a failure ends the message where it comes. The writer is there for the
+/// contract alone, so that no message comes before the flush.
+#[inline(never)]
+fn report<W: Sink, M: Sink>(_writer: &W, messages: &mut M, at: At) -> Outcome
+    requires flushed { (before : W)
+        × W.took before [] _writer.now × (W.flushes _writer.now ≡ one_more (W.flushes before)) }
+    ensures reported { IsReported (span M.Sink messages.old messages.new) at }
+    ensures fault { result.fault ≡ Some at }
+    ensures status { result.status ≡ 1 }
+{
+    let outcome = Outcome {
+        status: 1,
+        fault: Some(at),
+    };
+    match write_all_counted(messages, message(Severity::Error, at).bytes()) {
+        Ok(()) => outcome,
+        Err(_) => outcome,
+    }
+}
+
+/// Reports a writer that failed, which isn't flushed, at the last line that was read; a failure ends the message where it comes.
+#[inline(never)]
+fn report_unwritten<M: Sink>(messages: &mut M, last: u64) -> Outcome
+    ensures reported { IsReported (span M.Sink messages.old messages.new) (write_failed_at last) }
+    ensures fault { result.fault ≡ Some (write_failed_at last) }
+    ensures status { result.status ≡ 1 }
+{
+    let at = At {
+        line: last,
+        fault: Fault::WriteFailed,
+    };
+    let ended = Outcome {
+        status: 1,
+        fault: Some(at),
+    };
+    match write_all_counted(messages, message(Severity::Error, at).bytes()) {
+        Ok(()) => ended,
+        Err(_) => ended,
+    }
+}
+
+/// Finishes a run whose work has ended. A writer that failed isn't flushed; a flush that fails is `WriteFailed` at the
+/// last line that was read, unless a fault stands. Then the fault is reported, but for a warning that couldn't be.
+pub(crate) fn finish<W: Sink, M: Sink>(writer: &mut W, messages: &mut M, work: Work) -> Outcome
+    ensures { Finishes
+        (span W.Sink writer.old writer.new)
+        (span M.Sink messages.old messages.new)
+        work.last work.warned work.halt result.status result.fault }
+{
+    let unwritten = At {
+        line: work.last,
+        fault: Fault::WriteFailed,
+    };
+    match work.halt {
+        None => match writer.flush() {
+            Ok(()) => Outcome {
+                status: if work.warned { 2 } else { 0 },
+                fault: None,
+            },
+            Err(_) => report(writer, messages, unwritten),
+        },
+        Some(Halt::Fault(at)) => {
+            let _ = writer.flush();
+            report(writer, messages, at)
+        }
+        Some(Halt::Unwritten) => report_unwritten(messages, work.last),
+        Some(Halt::Unreported) => Outcome {
+            status: 1,
+            fault: Some(unwritten),
+        },
+    }
+}

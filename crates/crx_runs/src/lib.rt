@@ -1,0 +1,19 @@
+//! A run of any engine: from a reader of lines to a writer and messages. An engine takes the lines of an input, one after another, and
+//! has lines ready to be written.
+#![tactic(auto)]
+
+pub mod engine;
+mod finish;
+pub mod message;
+pub mod outcome;
+mod ready;
+pub mod run;
+pub mod start;
+mod step;
+pub mod taking;
+pub mod until_failure;
+mod work;
+
+pub use engine::{Engine, Step};
+pub use outcome::Outcome;
+pub use until_failure::UntilFailure;

@@ -1,0 +1,38 @@
+//! The start of a run: an engine that was made, or couldn't be since memory ran out.
+
+ghost use Rattle.std.specs.Prelude.{◌≡◌, ℕ, List, [], IfOk};
+ghost use Rattle.crx_runs.specs.meaning.Filters.{Filter};
+ghost use Rattle.crx_runs.specs.Lawful.{IsLawful};
+ghost use Rattle.crx_runs.specs.Runs.{result_by};
+ghost use Rattle.crx_runs.specs.meaning.Runs.{Runs};
+ghost use Rattle.crx_runs.specs.meaning.Spans.{span};
+ghost use Rattle.crx_runs.specs.meaning.Spans.{reader_span};
+
+use crate::engine::Engine;
+use crate::finish::finish;
+use crate::outcome::Outcome;
+use crate::run::{no_memory, run};
+use crx_lines::{Sink, Source};
+use std::alloc::{AllocError, Global};
+
+/// Runs an engine over an input where it could be made; where it couldn't, memory ran out before the first line.
+pub fn start<E: Engine + Drop, R: Source, W: Sink, M: Sink>(
+    alloc: Global,
+    engine: Result<E, AllocError>,
+    reader: &mut R,
+    writer: &mut W,
+    messages: &mut M,
+) -> Outcome
+    requires fresh { IfOk engine (λ e. (E.ready e ≡ []) × E.is_open e × E.shows e [] []) }
+    requires lawful { IfOk engine (λ e. IsLawful (E.filter e)) }
+    ensures runs { (filter : Filter) → IsLawful filter → IfOk engine (λ e. E.filter e ≡ filter)
+        → Runs (result_by filter) filter
+        (reader_span R.Source reader.old reader.new)
+        (span W.Sink writer.old writer.new)
+        (span M.Sink messages.old messages.new) result.status result.fault }
+{
+    match engine {
+        Ok(mut engine) => run(alloc, &mut engine, reader, writer, messages),
+        Err(_) => finish(writer, messages, no_memory()),
+    }
+}

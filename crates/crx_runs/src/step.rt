@@ -1,0 +1,67 @@
+//! One step of a run: the next line of the input, or its end.
+
+ghost use Rattle.std.specs.Prelude.{◌≡◌, ◌⊎◌, ◌+◌, ℕ, List, [], IfOk, IfErr, IfSome, OnOk, ◌<◌, ◌≤◌};
+ghost use Rattle.crx_faults.specs.meaning.Lines.{InputLine};
+ghost use Rattle.crx_lines.specs.Readers.{reading};
+ghost use Rattle.crx_faults.specs.declared.limits.TheConstants.{INPUT_LIMIT};
+ghost use Rattle.crx_runs.specs.Running.{IsWithinLimit, IsRunning, Goes, StopsAt};
+ghost use Rattle.crx_runs.specs.meaning.Spans.{reader_span};
+ghost use Rattle.crx_runs.specs.meaning.Spans.{span};
+
+use crate::engine::Engine;
+use crate::taking::{Halt, take_line, take_overlong};
+use crx_faults::Fault;
+use crx_lines::phase::Phase;
+use crx_lines::{LineReader, Sink, Source};
+
+/// Reads the next line and takes it; whether a warning was reported, or `None` at the end of the input.
+pub(crate) fn step<E: Engine, R: Source, W: Sink, M: Sink>(
+    engine: &mut E,
+    input: &mut LineReader,
+    reader: &mut R,
+    writer: &mut W,
+    messages: &mut M,
+) -> Result<Option<bool>, Halt>
+    requires drained { E.ready engine.old ≡ [] }
+    requires running { E.is_open engine.old }
+    requires going { ((reading input.old).phase ≡ Phase.Open) ⊎ ((reading input.old).phase ≡ Phase.Ended) }
+    requires next { (reading input.old).number ≡ E.taken engine.old }
+    requires counted { IsWithinLimit (reading input.old) }
+    ensures filter { E.filter engine.new ≡ E.filter engine.old }
+    ensures running { OnOk result (E.is_open engine.new) }
+    ensures drained { OnOk result (E.ready engine.new ≡ []) }
+    ensures counted { OnOk result (IsWithinLimit (reading input.new)) }
+    ensures farther { IfOk result (λ o. IfSome o (λ _. ((reading input.old).passed < (reading input.new).passed)
+        × ((reading input.new).passed ≤ INPUT_LIMIT))) }
+    ensures goes { (r0 : R) (w0 : W) (m0 : M) (lines : List InputLine) → E.shows engine.old lines []
+        → IsRunning
+        (reader_span R.Source r0 reader.old)
+        (span W.Sink w0 writer.old)
+        (span M.Sink m0 messages.old)
+        (reading input.old) lines ((E.filter engine.old).so_far lines)
+        → IfOk result (λ progress. Goes (E.filter engine.old) (E.shows engine.new)
+        (reader_span R.Source r0 reader.new)
+        (span W.Sink w0 writer.new)
+        (span M.Sink m0 messages.new)
+        (reading input.new) lines progress) }
+    ensures stops { (r0 : R) (w0 : W) (m0 : M) (lines : List InputLine) → E.shows engine.old lines []
+        → IsRunning
+        (reader_span R.Source r0 reader.old)
+        (span W.Sink w0 writer.old)
+        (span M.Sink m0 messages.old)
+        (reading input.old) lines ((E.filter engine.old).so_far lines)
+        → IfErr result (λ halt. StopsAt (E.filter engine.old)
+        (reader_span R.Source r0 reader.new)
+        (span W.Sink w0 writer.new)
+        (span M.Sink m0 messages.new)
+        (reading input.new) lines halt) }
+{
+    match input.next_line(reader) {
+        Ok(Some(line)) => Ok(Some(take_line(engine, writer, messages, line)?)),
+        Ok(None) => Ok(None),
+        Err(at) => match at.fault {
+            Fault::LineTooLong => Ok(Some(take_overlong(engine, writer, messages, at.line)?)),
+            _ => Err(Halt::Fault(at)),
+        },
+    }
+}
