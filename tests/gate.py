@@ -17,7 +17,6 @@ import sys
 import tempfile
 import time
 from concurrent.futures import FIRST_COMPLETED, ThreadPoolExecutor, wait
-from graphlib import TopologicalSorter
 from pathlib import Path
 
 TOP = Path(__file__).resolve().parent.parent
@@ -27,6 +26,10 @@ LIBRARY = "rnxcmp_c"  # the crate of the static library for C
 LOG = TOP / "out/gate.log"
 STAMP = TOP / "out/green.json"  # what stood where all passed: a digest of each crate's files
 SHOWN = 20  # lines of the log that are shown after a failure
+KIT = Path(shutil.which("rt") or "rt").resolve().parent.parent  # the toolchain
+BACKEND = ["--toolchain", f"{KIT}/toolchain", "--backend", "llvm"]
+PROVED = TOP / "out/proved"  # what `make` proved: the rlib of each library, and a sum of what it was made from
+PROVED_PARTS = ("src", "specs", "proofs")  # the folders of a crate that its proof reads
 
 
 def lacking():
@@ -44,11 +47,11 @@ def lacking():
 class Progress:
     """Reads what the prover prints, and says it in a line a crate, with the minutes so far."""
 
-    def __init__(self, began=None):
+    def __init__(self, began=None, crate=""):
         self.began = began or time.monotonic()
         self.section = []  # what was printed since the last title of a crate
         self.functions = ""
-        self.crate = ""
+        self.crate = crate
         self.refused = {}  # edits that the prover refused, by crate
         self.tests = ""
 
@@ -154,40 +157,111 @@ def below(name, libraries):
 
 
 def build():
-    """Proves and builds the program and the libraries below it, at most two crates beside each other, each after those that it stands on.
-    Whether that went well."""
+    """Proves and builds the program and the libraries below it, each after those that it stands on: the crates of the longest chain one after
+    another, and beside them the others, one at a time, first what a crate of the chain needs soonest. Whether that went well."""
     uses = crates()
-    order = TopologicalSorter({name: uses[name] for name in [*below(PROGRAM, uses), PROGRAM]})
-    order.prepare()
-    began, waiting, running = time.monotonic(), [], {}
+    names = [*below(PROGRAM, uses), PROGRAM]
+    chain, sums = chain_of(names, uses), sums_of(names, uses)
+    others = sorted((name for name in names if name not in chain), key=lambda name: next(at for at, it in enumerate(chain) if name in below(it, uses)))
+    began, running = time.monotonic(), {}
+    done = [name for name in names if is_proved(name, sums[name])]
+    for name in done:
+        Progress(began).say(name, "proved before, as it stands")
     with ThreadPoolExecutor(2) as pool:
-        while order.is_active():
-            waiting += order.get_ready()
-            while waiting and len(running) < 2:
-                is_beside = bool(running) or len(waiting) > 1
-                name = waiting.pop(0)
-                running[pool.submit(prove, name, is_beside, Progress(began))] = name
+        while len(done) < len(names):
+            for line in (chain, others):
+                if not any(name in line for name in running.values()):
+                    ready = [name for name in line if name not in done and set(done).issuperset(uses[name])]
+                    for name in ready[:1]:
+                        running[pool.submit(prove, name, sums[name], line is others, Progress(began, name))] = name
             for ended in wait(running, return_when=FIRST_COMPLETED).done:
-                order.done(running.pop(ended))
                 if ended.result():
                     show_log()
                     return False
+                done.append(running.pop(ended))
     return True
 
 
-def prove(name, is_beside, progress):
-    """Proves and builds a crate, with one job where another crate is proved beside it on few cores: the exit status."""
-    jobs = ["--jobs", "1"] if is_beside and len(os.sched_getaffinity(0)) < 4 else []
-    command = ["rt", "run", *jobs, "--", "--help"] if name == PROGRAM else ["rt", "lib", *jobs]
-    return followed(command, CRATES / name, progress.of_a_build)[0]
+def sums_of(names, uses):
+    """Of each crate a sum of all that its proof reads: its files, the toolchain, and the crates that it stands on."""
+    sums = {}
+    for name in names:
+        sums[name] = hashlib.sha256(repr([(KIT / "KIT-ID").read_text(), digest(name, [sums[it] for it in uses[name]], PROVED_PARTS)]).encode()).hexdigest()
+    return sums
+
+
+def chain_of(names, uses):
+    """The longest chain of crates up to the last one, by their bytes, lowest first: each stands on the one before."""
+    length, under = {}, {}
+    for name in names:
+        size = sum(path.stat().st_size for part in PROVED_PARTS for path in (CRATES / name / part).rglob("*") if path.is_file())
+        under[name] = max(uses[name], key=length.get, default=None)
+        length[name] = size + length.get(under[name], 0)
+    chain = [names[-1]]
+    while under[chain[0]]:
+        chain.insert(0, under[chain[0]])
+    return chain
+
+
+def made_of(name):
+    """What is made of a crate: the program, or the rlib of a library, with its statements and without its proofs."""
+    return CRATES / name / "out" / name if name == PROGRAM else PROVED / f"{name}.rlib"
+
+
+def is_proved(name, wanted):
+    """Whether what was made of a crate was made from the files that stand there now."""
+    stamp = PROVED / f"{name}.sum"
+    return made_of(name).exists() and stamp.exists() and stamp.read_text() == wanted
+
+
+def prove(name, wanted, is_beside, progress):
+    """Proves and builds a crate, beside another or with a job on each core: the exit status."""
+    PROVED.mkdir(parents=True, exist_ok=True)
+    stamp = PROVED / f"{name}.sum"
+    stamp.unlink(missing_ok=True)
+    command = [*rattle_build(name, PROVED), "--jobs", str(1 if is_beside else jobs())]
+    if name != PROGRAM:
+        status, _ = followed([*command, "--statements", "-o", str(made_of(name))], CRATES / name, progress.of_a_build)
+    else:
+        command += [*BACKEND, "-o", str(PROVED / f"{name}.o")]
+        status = followed(command, CRATES / name, progress.of_a_build)[0] or link(PROVED / f"{name}.o", made_of(name))
+    if not status:
+        stamp.write_text(wanted)
+    return status
+
+
+def jobs():
+    """How many modules of a crate are checked at a time, each in a process of up to 2 GB."""
+    memory = os.sysconf("SC_PHYS_PAGES") * os.sysconf("SC_PAGE_SIZE")
+    return max(1, min(len(os.sched_getaffinity(0)), 4, memory // 2_000_000_000))
+
+
+def rattle_build(name, folder):
+    """The words of a build that proves a crate over the rlibs of this repository's crates in a folder."""
+    libraries = next(line for line in listed() if line.split(":")[0].split()[0] == name).split(":")[1].split()
+    root = "src/main.rt" if (CRATES / name / "src/main.rt").exists() else "src/lib.rt"
+    words = [f"{KIT}/bin/rattle", "build", "--crate-name", name, root, "--links", f"{name}="]
+    for library in dict.fromkeys(["std", *libraries]):
+        words += ["--extern", f"{library}={folder if library in crates() else KIT / 'rlibs'}/{library}.rlib"]
+    words += ["-L", f"dependency={KIT}/rlibs", "-L", f"dependency={folder}"]
+    return [*words, "--antt-project", f"{KIT}/rattle/logic/antt-project.json", "--logic-built", f"{KIT}/logic_built"]
+
+
+def link(made, program):
+    """Links the program: the exit status."""
+    program.parent.mkdir(exist_ok=True)
+    words = [f"{KIT}/bin/rattle-link", "--target", "x86_64-unknown-linux-gnu", "--toolchain", f"{KIT}/toolchain", "-o", str(program)]
+    return followed([*words, str(made), f"{KIT}/c/libos_c.a", f"{KIT}/c/liblibc_c.a"], TOP, lambda line: None)[0]
 
 
 def build_library():
     """Proves and builds the static library for C, over the libraries that `make` left, or else over those that the gate passed.
     Whether that went well."""
-    libraries = below(LIBRARY, crates())
-    if all((CRATES / name / "out/rlib/stamp").exists() for name in libraries):
-        status, _ = followed(["rt", "lib"], CRATES / LIBRARY, Progress().of_a_build)
+    uses = crates()
+    libraries = below(LIBRARY, uses)
+    sums = sums_of([*libraries], uses)
+    if all(is_proved(name, sums[name]) for name in libraries):
+        status = build_archive(PROVED)
     else:
         status = build_library_apart(libraries)
     if status:
@@ -205,27 +279,23 @@ def build_library_apart(libraries):
         lines = [line for line in listed() if line.split(":")[0] in libraries]
         (copy / "crates.txt").write_text("\n".join(lines) + "\n")
         for name in libraries:
-            for part in ("src", "specs", "proofs"):
+            for part in PROVED_PARTS:
                 shutil.copytree(CRATES / name / part, copy / "crates" / name / part)
         status, _ = followed(["rt", "ci"], copy, Progress().of_the_gate)
-        return status or followed(static_build(libraries, copy), CRATES / LIBRARY, Progress().of_a_build)[0]
+        if status:
+            return status
+        made = copy / "made"
+        made.mkdir()
+        for name in libraries:
+            (made / f"{name}.rlib").symlink_to(copy / "crates" / name / "out/rlib" / f"{name}.rlib")
+        return build_archive(made)
 
 
-def static_build(libraries, copy):
-    """The command that proves the crate of the static library, over the libraries in a copy, and builds its archive."""
-    kit = Path(shutil.which("rt")).resolve().parent.parent
-    named = next(line for line in listed() if line.split()[0] == LIBRARY).split(":")[1].split()
+def build_archive(folder):
+    """Proves the crate of the static library, over the libraries in a folder, and builds its archive: the exit status."""
     (CRATES / LIBRARY / "out").mkdir(exist_ok=True)
-    words = ["rattle", "build", "--crate-name", LIBRARY, "src/lib.rt", "--crate-type", "staticlib", "--links", f"{LIBRARY}="]
-    for name in ["std", *(name for name in named if name not in libraries)]:
-        words += ["--extern", f"{name}={kit}/rlibs/{name}.rlib"]
-    for name in named:
-        if name in libraries:
-            words += ["--extern", f"{name}={copy}/crates/{name}/out/rlib/{name}.rlib"]
-    for folder in (f"{kit}/rlibs", *(f"{copy}/crates/{name}/out/rlib" for name in libraries)):
-        words += ["-L", f"dependency={folder}"]
-    words += ["--antt-project", f"{kit}/rattle/logic/antt-project.json", "--logic-built", f"{kit}/logic_built"]
-    return [*words, "--toolchain", f"{kit}/toolchain", "--backend", "llvm", "-o", f"out/lib{LIBRARY}.a"]
+    words = [*rattle_build(LIBRARY, folder), "--crate-type", "staticlib", "--jobs", str(jobs()), *BACKEND, "-o", f"out/lib{LIBRARY}.a"]
+    return followed(words, CRATES / LIBRARY, Progress(crate=LIBRARY).of_a_build)[0]
 
 
 def ci(program):
@@ -259,11 +329,13 @@ def crates():
     return {name: below[name] for name in ordered}
 
 
-def digest(name, below):
-    """A digest of a crate's files, and of the crates that it stands on."""
+def digest(name, below, parts=()):
+    """A digest of a crate's files, all or those in some folders, and of the crates that it stands on."""
     made = hashlib.sha256()
     folder = CRATES / name
     for path in sorted(path for path in folder.rglob("*") if path.is_file() and path.relative_to(folder).parts[0] != "out"):
+        if parts and path.relative_to(folder).parts[0] not in parts:
+            continue
         made.update(str(path.relative_to(folder)).encode() + b"\0" + path.read_bytes() + b"\0")
     made.update(" ".join(below).encode())
     return made.hexdigest()
@@ -305,8 +377,9 @@ def quick():
             passed, failed = passed + good, failed + (not good)
             said = ("proved" if verb == "check" else last) if good else f"FAILED (rt {verb})"
             (progress.say if good else progress.say_failure)(name, said)
-    if not failed and not build():
+    if not failed and followed(["rt", "run", "--", "--help"], CRATES / PROGRAM, progress.of_a_proof)[0]:
         failed += 1
+        show_log()
     return passed, failed
 
 
