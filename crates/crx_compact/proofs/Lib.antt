@@ -2,4 +2,4 @@ pub mod reading
 pub mod wayback
 pub mod soundness
 mod ReadyParts
-mod Lists
+pub mod Lists
