@@ -157,23 +157,29 @@ def below(name, libraries):
 
 
 def build():
-    """Proves and builds the program and the libraries below it, each after those that it stands on: the crates of the longest chain one after
-    another, and beside them the others, one at a time, first what a crate of the chain needs soonest. Whether that went well."""
+    """Proves and builds the program and the libraries below it: one after another the crates of the longest chain, with those that the next one
+    of them waits for; and beside them another one, in the time that they leave. Whether that went well."""
     uses = crates()
     names = [*below(PROGRAM, uses), PROGRAM]
     chain, sums = chain_of(names, uses), sums_of(names, uses)
     others = sorted((name for name in names if name not in chain), key=lambda name: next(at for at, it in enumerate(chain) if name in below(it, uses)))
-    began, running = time.monotonic(), {}
+    began, running, beside = time.monotonic(), {}, set()
     done = [name for name in names if is_proved(name, sums[name])]
     for name in done:
         Progress(began).say(name, "proved before, as it stands")
+
+    def start(line, is_beside):
+        for name in [it for it in line if it not in done and it not in running.values() and set(done).issuperset(uses[it])][:1]:
+            running[pool.submit(prove, name, sums[name], is_beside, Progress(began, name))] = name
+            beside.update([name] * is_beside)
+
     with ThreadPoolExecutor(2) as pool:
         while len(done) < len(names):
-            for line in (chain, others):
-                if not any(name in line for name in running.values()):
-                    ready = [name for name in line if name not in done and set(done).issuperset(uses[name])]
-                    for name in ready[:1]:
-                        running[pool.submit(prove, name, sums[name], line is others, Progress(began, name))] = name
+            if beside.issuperset(running.values()):
+                following = next(name for name in chain if name not in done)
+                start([*below(following, uses), following], False)
+            if beside.isdisjoint(running.values()):
+                start(others, True)
             for ended in wait(running, return_when=FIRST_COMPLETED).done:
                 if ended.result():
                     show_log()
@@ -215,11 +221,11 @@ def is_proved(name, wanted):
 
 
 def prove(name, wanted, is_beside, progress):
-    """Proves and builds a crate, beside another or with a job on each core: the exit status."""
+    """Proves and builds a crate, with a job on each core, or beside another in the time that this one leaves: the exit status."""
     PROVED.mkdir(parents=True, exist_ok=True)
     stamp = PROVED / f"{name}.sum"
     stamp.unlink(missing_ok=True)
-    command = [*rattle_build(name, PROVED), "--jobs", str(1 if is_beside else jobs())]
+    command = [*(["nice", "-n", "19"] if is_beside else []), *rattle_build(name, PROVED), "--jobs", str(1 if is_beside else jobs())]
     if name != PROGRAM:
         status, _ = followed([*command, "--statements", "-o", str(made_of(name))], CRATES / name, progress.of_a_build)
     else:
