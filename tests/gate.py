@@ -216,8 +216,9 @@ def made_of(name):
 
 def is_proved(name, wanted):
     """Whether what was made of a crate was made from the files that stand there now."""
-    stamp = PROVED / f"{name}.sum"
-    return made_of(name).exists() and stamp.exists() and stamp.read_text() == wanted
+    stamp, made = PROVED / f"{name}.sum", made_of(name)
+    is_there = made.exists() and (name != PROGRAM or made.with_suffix(".o").exists())
+    return is_there and stamp.exists() and stamp.read_text() == wanted
 
 
 def prove(name, wanted, is_beside, progress):
@@ -229,8 +230,9 @@ def prove(name, wanted, is_beside, progress):
     if name != PROGRAM:
         status, _ = followed([*command, "--statements", "-o", str(made_of(name))], CRATES / name, progress.of_a_build)
     else:
-        command += [*BACKEND, "-o", str(PROVED / f"{name}.o")]
-        status = followed(command, CRATES / name, progress.of_a_build)[0] or link(PROVED / f"{name}.o", made_of(name))
+        made = made_of(name).with_suffix(".o")  # a release is linked of it too
+        made.parent.mkdir(exist_ok=True)
+        status = followed([*command, *BACKEND, "-o", str(made)], CRATES / name, progress.of_a_build)[0] or link(made, made_of(name))
     if not status:
         stamp.write_text(wanted)
     return status
@@ -255,7 +257,6 @@ def rattle_build(name, folder):
 
 def link(made, program):
     """Links the program: the exit status."""
-    program.parent.mkdir(exist_ok=True)
     words = [f"{KIT}/bin/rattle-link", "--target", "x86_64-unknown-linux-gnu", "--toolchain", f"{KIT}/toolchain", "-o", str(program)]
     return followed([*words, str(made), f"{KIT}/c/libos_c.a", f"{KIT}/c/liblibc_c.a"], TOP, lambda line: None)[0]
 
