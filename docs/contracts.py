@@ -12,8 +12,8 @@ from pathlib import Path
 TOP = Path(__file__).resolve().parent.parent
 PAGE = TOP / "docs" / "CONTRACTS.md"
 ORDER = [
-    "crx_faults", "crx_lines", "crx_columns", "crx_text", "crx_header", "crx_rinex", "crx_arcs", "crx_cells", "crx_history", "crx_compact", "crx_options",
-    "crx_reading", "crx_runs", "crx_engine", "crx_laws", "crx_filter", "crx_command", "crx_program", "rnxcmp", "rnxcmp_c",
+    "crx_faults", "crx_lines", "crx_columns", "crx_text", "crx_header", "crx_rinex", "crx_arcs", "crx_history", "crx_compact", "crx_options",
+    "crx_reading", "crx_runs", "crx_filter", "crx_laws", "crx_command", "crx_program", "rnxcmp", "rnxcmp_c",
 ]
 HEAD = """# Contracts
 

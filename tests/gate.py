@@ -30,16 +30,16 @@ KIT = Path(shutil.which("rt") or "rt").resolve().parent.parent  # the toolchain
 BACKEND = ["--toolchain", f"{KIT}/toolchain", "--backend", "llvm"]
 PROVED = TOP / "out/proved"  # what `make` proved: the rlib of each library, and a sum of what it was made from
 PROVED_PARTS = ("src", "specs", "proofs")  # the folders of a crate that its proof reads
+SHARED_MEMORY = 4_000_000_000  # bytes that are to be free in memory before the prover's own files go there: a crate has some 300 MB of them
 
 
 def lacking():
     """What is missing of the toolchain, in a line that is printed, and whether nothing can be done without it."""
-    named = re.search(r"`rt version` prints `([^`]+)`", (TOP / "README.md").read_text())
-    wanted = named[1] if named else ""
+    wanted = re.search(r"`(rattle-kit-\S+ logic \S+)`", (TOP / "README.md").read_text())[1]
     if not shutil.which("rt"):
         return f"there is no command rt on the path: README.md names the Rattle toolchain that it belongs to ({wanted})", True
     version = subprocess.run(["rt", "version"], capture_output=True, text=True, stdin=subprocess.DEVNULL).stdout.strip()
-    if wanted and version != wanted:
+    if version.partition(" logic ")[2] != wanted.partition(" logic ")[2]:
         return f"rt version prints {version}, and README.md names {wanted}: proofs may fail", False
     return "", False
 
@@ -115,14 +115,16 @@ class Progress:
         self.refused = {}
 
 
-def followed(command, folder, each):
-    """Runs a command, with what it prints into the log and line by line to a call: the exit status and the last line."""
+def followed(command, folder, each, temporary=None):
+    """Runs a command, with what it prints into the log and line by line to a call: the exit status and the last line. Its temporary files
+    go into a folder, if one is given."""
     LOG.parent.mkdir(exist_ok=True)
     last = ""
     with LOG.open("a") as log:
         print(f"$ {' '.join(command)} (in {folder})", file=log, flush=True)
         streams = {"stdin": subprocess.DEVNULL, "stdout": subprocess.PIPE, "stderr": subprocess.STDOUT}
-        with subprocess.Popen(command, cwd=folder, text=True, errors="replace", **streams) as process:
+        environment = {**os.environ, "TMPDIR": temporary} if temporary else None
+        with subprocess.Popen(command, cwd=folder, env=environment, text=True, errors="replace", **streams) as process:
             for line in process.stdout:
                 log.write(line)
                 log.flush()
@@ -157,29 +159,22 @@ def below(name, libraries):
 
 
 def build():
-    """Proves and builds the program and the libraries below it: one after another the crates of the longest chain, with those that the next one
-    of them waits for; and beside them another one, in the time that they leave. Whether that went well."""
+    """Proves and builds the program and the libraries below it: as many crates at once as there are cores, with a job each, and first those that
+    the longest chain of crates waits for; one that has cores to itself has more jobs. Whether that went well."""
     uses = crates()
     names = [*below(PROGRAM, uses), PROGRAM]
-    chain, sums = chain_of(names, uses), sums_of(names, uses)
-    others = sorted((name for name in names if name not in chain), key=lambda name: next(at for at, it in enumerate(chain) if name in below(it, uses)))
-    began, running, beside = time.monotonic(), {}, set()
+    sums, rank = sums_of(names, uses), ranks_of(names, uses)
+    began, running = time.monotonic(), {}
     done = [name for name in names if is_proved(name, sums[name])]
     for name in done:
         Progress(began).say(name, "proved before, as it stands")
-
-    def start(line, is_beside):
-        for name in [it for it in line if it not in done and it not in running.values() and set(done).issuperset(uses[it])][:1]:
-            running[pool.submit(prove, name, sums[name], is_beside, Progress(began, name))] = name
-            beside.update([name] * is_beside)
-
-    with ThreadPoolExecutor(2) as pool:
+    with temporary() as folder, ThreadPoolExecutor(cores()) as pool:
         while len(done) < len(names):
-            if beside.issuperset(running.values()):
-                following = next(name for name in chain if name not in done)
-                start([*below(following, uses), following], False)
-            if beside.isdisjoint(running.values()):
-                start(others, True)
+            ready = [name for name in names if name not in done and name not in running.values() and set(done).issuperset(uses[name])]
+            ready = sorted(ready, key=rank.get, reverse=True)[: cores() - len(running)]
+            jobs = max(1, cores() // (len(running) + len(ready)))
+            for name in ready:
+                running[pool.submit(prove, name, sums[name], jobs, folder, Progress(began, name))] = name
             for ended in wait(running, return_when=FIRST_COMPLETED).done:
                 if ended.result():
                     show_log()
@@ -196,17 +191,13 @@ def sums_of(names, uses):
     return sums
 
 
-def chain_of(names, uses):
-    """The longest chain of crates up to the last one, by their bytes, lowest first: each stands on the one before."""
-    length, under = {}, {}
-    for name in names:
+def ranks_of(names, uses):
+    """Of each crate the bytes of the longest chain of crates from it up to the last one, each of which stands on the one before."""
+    rank = {}
+    for name in reversed(names):
         size = sum(path.stat().st_size for part in PROVED_PARTS for path in (CRATES / name / part).rglob("*") if path.is_file())
-        under[name] = max(uses[name], key=length.get, default=None)
-        length[name] = size + length.get(under[name], 0)
-    chain = [names[-1]]
-    while under[chain[0]]:
-        chain.insert(0, under[chain[0]])
-    return chain
+        rank[name] = size + max((rank[above] for above in names if name in uses[above]), default=0)
+    return rank
 
 
 def made_of(name):
@@ -221,27 +212,34 @@ def is_proved(name, wanted):
     return is_there and stamp.exists() and stamp.read_text() == wanted
 
 
-def prove(name, wanted, is_beside, progress):
-    """Proves and builds a crate, with a job on each core, or beside another in the time that this one leaves: the exit status."""
+def prove(name, wanted, jobs, folder, progress):
+    """Proves and builds a crate with so many jobs, over a folder for the prover's own files: the exit status."""
     PROVED.mkdir(parents=True, exist_ok=True)
     stamp = PROVED / f"{name}.sum"
     stamp.unlink(missing_ok=True)
-    command = [*(["nice", "-n", "19"] if is_beside else []), *rattle_build(name, PROVED), "--jobs", str(1 if is_beside else jobs())]
+    command = [*rattle_build(name, PROVED), "--jobs", str(jobs)]
     if name != PROGRAM:
-        status, _ = followed([*command, "--statements", "-o", str(made_of(name))], CRATES / name, progress.of_a_build)
+        status, _ = followed([*command, "--statements", "-o", str(made_of(name))], CRATES / name, progress.of_a_build, folder)
     else:
         made = made_of(name).with_suffix(".o")  # a release is linked of it too
         made.parent.mkdir(exist_ok=True)
-        status = followed([*command, *BACKEND, "-o", str(made)], CRATES / name, progress.of_a_build)[0] or link(made, made_of(name))
+        status = followed([*command, *BACKEND, "-o", str(made)], CRATES / name, progress.of_a_build, folder)[0] or link(made, made_of(name))
     if not status:
         stamp.write_text(wanted)
     return status
 
 
-def jobs():
-    """How many modules of a crate are checked at a time, each in a process of up to 2 GB."""
+def cores():
+    """How many proofs run at a time, each in a process of up to 2 GB."""
     memory = os.sysconf("SC_PHYS_PAGES") * os.sysconf("SC_PAGE_SIZE")
     return max(1, min(len(os.sched_getaffinity(0)), 4, memory // 2_000_000_000))
+
+
+def temporary():
+    """A folder for the prover's own files, some thousands a crate: in memory, where there is room."""
+    memory = Path("/dev/shm")
+    has_room = os.access(memory, os.W_OK) and shutil.disk_usage(memory).free > SHARED_MEMORY
+    return tempfile.TemporaryDirectory(prefix="rnxcmp-", dir=memory if has_room else None)
 
 
 def rattle_build(name, folder):
@@ -301,7 +299,7 @@ def build_library_apart(libraries):
 def build_archive(folder):
     """Proves the crate of the static library, over the libraries in a folder, and builds its archive: the exit status."""
     (CRATES / LIBRARY / "out").mkdir(exist_ok=True)
-    words = [*rattle_build(LIBRARY, folder), "--crate-type", "staticlib", "--jobs", str(jobs()), *BACKEND, "-o", f"out/lib{LIBRARY}.a"]
+    words = [*rattle_build(LIBRARY, folder), "--crate-type", "staticlib", "--jobs", str(cores()), *BACKEND, "-o", f"out/lib{LIBRARY}.a"]
     return followed(words, CRATES / LIBRARY, Progress(crate=LIBRARY).of_a_build)[0]
 
 

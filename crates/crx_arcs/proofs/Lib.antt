@@ -1,2 +1,4 @@
 pub mod arcs
+pub mod CellsRead
+pub mod PlaceByPlace
 pub mod SameTexts

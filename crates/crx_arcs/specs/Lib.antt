@@ -3,3 +3,4 @@ pub mod ArcTails
 pub mod ArcSteps
 pub mod Arcs
 pub mod ArcLaws
+pub mod Cells

@@ -2,3 +2,4 @@
 pub mod Sequences
 pub mod Differences
 pub mod ArcValues
+pub mod Cells

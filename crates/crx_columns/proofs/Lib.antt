@@ -1,4 +1,5 @@
 pub mod Blanks
+pub mod Characters
 pub mod CopiedTexts
 pub mod EndBlanks
 pub mod LaneTexts

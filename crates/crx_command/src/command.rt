@@ -234,7 +234,7 @@ fn joined<'a>(
 
 /// The whole command line: `rnx2crx`, `crx2rnx` and `check`, each with its options and its help. The
 /// arguments come without the program's name.
-pub fn command<'a>(alloc: Global) -> Result<Command<'a>, AllocError>
+pub(crate) fn command<'a>(alloc: Global) -> Result<Command<'a>, AllocError>
     ensures { IfOk result (λ c. app_of c ≡ program) }
 {
     let one = joined(top(alloc), rnx2crx(alloc))?;

@@ -18,7 +18,7 @@ use Rattle.crx_rinex.specs.meaning.Places.{Place, Here, Wrong, Wanted}
 use Rattle.crx_arcs.specs.meaning.Sequences.{and_then}
 use Rattle.crx_rinex.specs.meaning.EpochLines.{begins_epoch}
 use Rattle.crx_history.specs.meaning.EpochText.{Satellite}
-use Rattle.crx_cells.specs.meaning.Cells.{ReadCell}
+use Rattle.crx_arcs.specs.meaning.Cells.{ReadCell}
 use Rattle.crx_history.specs.meaning.CompactPlaces.{ReadRow, ReadEpoch, satellites_of_line, clock_line_read}
 use Rattle.crx_history.specs.meaning.CompactPlaces.{satellite_line_read, epoch_against}
 use Rattle.crx_arcs.specs.ArcTails.{ArcTail, IsBoundedArc}

@@ -13,7 +13,7 @@ use Rattle.crx_reading.specs.meaning.Expanded.{expanded}
 use Rattle.crx_reading.specs.meaning.Standard.{Findings, checked}
 use Rattle.crx_reading.specs.CheckByLine.{CheckSeen, check_seen, check_next, found_by}
 use Rattle.crx_reading.specs.LineByLine.{Direction, Seen, Step, Answer, Notice, seen_next}
-use Rattle.crx_engine.specs.Laws.{is_again}
+use Rattle.crx_filter.specs.Laws.{is_again}
 use Rattle.crx_reading.specs.CompactionByLine.{compaction, compaction_seen}
 use Rattle.crx_reading.specs.ExpansionByLine.{expansion, expansion_seen}
 use Rattle.crx_laws.specs.SmallFiles.{blanks}

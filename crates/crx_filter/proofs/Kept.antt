@@ -10,10 +10,10 @@ use Rattle.crx_runs.specs.meaning.Filters.{Filter}
 use Rattle.crx_runs.specs.meaning.Results.{FilterResult}
 use Rattle.crx_reading.specs.meaning.Standard.{Findings, findings_of, report_status, checked_by, checked}
 use Rattle.crx_reading.specs.meaning.WayBack.{HasNormalForm}
-use Rattle.crx_engine.proofs.standard.CheckStandard.{named-where_not, standard-exactly_where_same}
-use Rattle.crx_engine.proofs.wayback.WayBack.{comes-back}
-use Rattle.crx_engine.proofs.wayback.Standard.{normal-comes_back, standard-comes_back}
-use Rattle.crx_engine.proofs.damage.DamageStays.{saved-lines}
+use Rattle.crx_filter.proofs.standard.CheckStandard.{named-where_not, standard-exactly_where_same}
+use Rattle.crx_filter.proofs.wayback.WayBack.{comes-back}
+use Rattle.crx_filter.proofs.wayback.Standard.{normal-comes_back, standard-comes_back}
+use Rattle.crx_filter.proofs.damage.DamageStays.{saved-lines}
 use Rattle.crx_filter.specs.meaning.Promises.{IsPromiseKept, BringsBackWhatWasCompacted, SavesAllElse, JudgesStandard}
 use Rattle.crx_runs.specs.meaning.Spans.{Input, Device}
 use Rattle.crx_runs.specs.meaning.Runs.{IsResult, RunsAs}

@@ -1,1 +1,15 @@
 pub mod meaning
+pub mod Compacted
+pub mod Expanded
+pub mod Damage
+pub mod Laws
+pub mod WayBack
+pub mod EngineSteps
+pub mod CompactionState
+pub mod CompactorState
+pub mod CheckingLaws
+pub mod Anew
+pub mod ExpanderState
+pub mod EngineLines
+pub mod CheckerState
+pub mod Holdings

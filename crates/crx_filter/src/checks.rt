@@ -2,7 +2,7 @@
 
 ghost use Rattle.std.specs.Prelude.{◌≡◌, ℕ, List, [], None, Some};
 ghost use Rattle.crx_faults.specs.declared.fault.At.{At};
-ghost use Rattle.crx_engine.specs.CheckerState.{CheckerHasTaken, CheckerIsOpen, pending_report};
+ghost use Rattle.crx_filter.specs.CheckerState.{CheckerHasTaken, CheckerIsOpen, pending_report};
 ghost use Rattle.crx_reading.specs.meaning.Directions.{check_filter};
 ghost use Rattle.crx_filter.specs.meaning.Promises.{JudgesStandard, Keeps};
 ghost use Rattle.crx_runs.specs.meaning.Runs.{Runs};
@@ -10,7 +10,7 @@ ghost use Rattle.crx_reading.specs.meaning.Standard.{checked, report_status};
 ghost use Rattle.crx_runs.specs.meaning.Spans.{span};
 ghost use Rattle.crx_runs.specs.meaning.Spans.{reader_span};
 
-use crx_engine::checker::Checker;
+use crate::checker::Checker;
 use crx_lines::{Sink, Source};
 use crx_runs::Outcome;
 use crx_runs::run::run;

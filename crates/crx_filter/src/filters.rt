@@ -9,7 +9,7 @@ ghost use Rattle.crx_runs.specs.meaning.Runs.{Runs};
 ghost use Rattle.crx_runs.specs.meaning.Spans.{span};
 ghost use Rattle.crx_runs.specs.meaning.Spans.{reader_span};
 
-use crx_engine::{Compactor, Expander, Options};
+use crate::{Compactor, Expander, Options};
 use crx_lines::{Sink, Source};
 use crx_runs::Outcome;
 use crx_runs::start::start;

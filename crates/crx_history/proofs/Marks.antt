@@ -18,7 +18,7 @@ use Rattle.crx_columns.specs.meaning.EachPlace.{each_place}
 use Rattle.crx_arcs.specs.meaning.Sequences.{and_then, before_all}
 use Rattle.crx_rinex.specs.meaning.EpochLines.{begins_epoch}
 use Rattle.crx_history.specs.meaning.EpochText.{Satellite}
-use Rattle.crx_cells.specs.meaning.Cells.{ReadCell, after_cells, cells_of, cells_read, cell_read}
+use Rattle.crx_arcs.specs.meaning.Cells.{ReadCell, after_cells, cells_of, cells_read, cell_read}
 use Rattle.crx_history.specs.meaning.CompactPlaces.{ReadRow, satellite_line_read, are_marks, row_of_cells, row_of_line}
 use Rattle.crx_history.specs.meaning.CompactPlaces.{row_with_marks}
 use Rattle.crx_history.specs.meaning.Past.{Past}
@@ -26,16 +26,15 @@ use Rattle.crx_arcs.specs.ArcTails.{ArcTail}
 use Rattle.crx_history.specs.Tails.{RowTail, Tail}
 use Rattle.crx_arcs.specs.ArcSteps.{arc_of_code, value_of_code, shown_value}
 use Rattle.crx_history.specs.Steps.{cell_of_tail, flags_held, flags_of_tail, tail_named}
-use Rattle.crx_cells.proofs.CellsRead.{cells-same}
+use Rattle.crx_arcs.proofs.CellsRead.{cells-same}
 use Rattle.crx_history.specs.ShownRows.{shown_row}
 use Rattle.crx_history.specs.HeldRows.{HeldRow, held_row, past_of_tail, arcs_of_tail, held_from, past_of_row, row_after}
 use Rattle.crx_history.specs.HeldRows.{row_held, row_held_from, IsNextRow}
-use Rattle.crx_cells.specs.Cells.{value_at_place, CellsAreRead, arcs_of_codes}
+use Rattle.crx_arcs.specs.Cells.{value_at_place, CellsAreRead, arcs_of_codes}
 use Rattle.crx_history.proofs.SoundTexts.{held-columns, patched-trimmed}
 use Rattle.crx_history.proofs.Characters.{list_all-at, at-by_position}
-use Rattle.crx_rinex.proofs.Characters.{at, at-without_end_blanks, columns-are, list_all-from_at}
-use Rattle.crx_rinex.proofs.SoundEpochs.{length-columns}
-use Rattle.crx_cells.proofs.PlaceByPlace.{at-padded, at-take}
+use Rattle.crx_columns.proofs.Characters.{at, at-without_end_blanks, columns-are, list_all-from_at, length-columns}
+use Rattle.crx_arcs.proofs.PlaceByPlace.{at-padded, at-take}
 use Rattle.crx_text.specs.meaning.Codes.{code_of, after_cell}
 use Rattle.crx_history.proofs.Results.{ok-same, Follows, and_then-ok, before-ok}
 

@@ -17,7 +17,7 @@ use Rattle.crx_history.specs.RowsSoFar.{AreRowsSoFar}
 use Rattle.crx_history.proofs.Results.{ok-same, no-err}
 use Rattle.crx_rinex.specs.meaning.Observations.{Row, Epoch}
 use Rattle.crx_history.specs.meaning.EpochText.{Satellite}
-use Rattle.crx_cells.proofs.PlaceByPlace.{value-there}
+use Rattle.crx_arcs.proofs.PlaceByPlace.{value-there}
 use Rattle.std.specs.Option.{option_map}
 use Rattle.std.proofs.lemmas.Simd.{map-map}
 use Rattle.crx_columns.specs.meaning.Columns.{columns}

@@ -9,8 +9,8 @@ use Rattle.crx_faults.specs.declared.limits.TheConstants.{LINE_LIMIT}
 use Rattle.std.specs.Prelude.{◌<◌, ◌+◌, ◌-◌, ◌++◌, ◌⊎◌, replicate}
 use Rattle.crx_columns.specs.Texts.{character_of, patched}
 use Rattle.crx_header.specs.meaning.ObservationTypes.{IsAllowedCount}
-use Rattle.crx_rinex.proofs.SoundEpochs.{length-columns}
-use Rattle.crx_cells.proofs.PlaceByPlace.{at-padded, at-take}
+use Rattle.crx_columns.proofs.Characters.{length-columns, at, at-without_end_blanks, columns-are, list_all-from_at}
+use Rattle.crx_arcs.proofs.PlaceByPlace.{at-padded, at-take}
 use Rattle.crx_history.proofs.Characters.{at-take_past, within-or_past}
 use Rattle.crx_columns.specs.meaning.Columns.{character_at, columns, is_blank, without_end_blanks, before_end_blanks}
 use Rattle.crx_rinex.specs.meaning.Observations.{Row, Epoch}
@@ -25,7 +25,6 @@ use Rattle.crx_history.proofs.Characters.{if_some, list_all-append, list_all-at}
 use Rattle.crx_history.proofs.Characters.{at-by_position, same_characters}
 use Rattle.crx_columns.specs.meaning.Texts.{by_position, mark_of, text_difference, is_kept}
 use Rattle.crx_history.proofs.Characters.{length-is, name-kept}
-use Rattle.crx_rinex.proofs.Characters.{at, at-without_end_blanks, columns-are, list_all-from_at}
 use Rattle.crx_columns.proofs.EndBlanks.{few_kept}
 
 abbrev names : List Row → List ℕ

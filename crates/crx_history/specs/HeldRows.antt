@@ -17,7 +17,7 @@ use Rattle.crx_arcs.specs.ArcTails.{ArcTail}
 use Rattle.crx_history.specs.Tails.{RowTail, Tail}
 use Rattle.crx_history.specs.Steps.{flags_of_tail, flags_held, tail_named, cell_of_tail, raw_row_tail_after}
 use Rattle.crx_history.specs.ShownRows.{shown_row}
-use Rattle.crx_cells.specs.Cells.{arcs_of_codes, value_at_place}
+use Rattle.crx_arcs.specs.Cells.{arcs_of_codes, value_at_place}
 use Rattle.crx_rinex.specs.meaning.Observations.{Row}
 use Rattle.crx_arcs.specs.ArcSteps.{value_of_code}
 

@@ -8,7 +8,7 @@ use Rattle.crx_rinex.specs.meaning.EpochLines.{epoch_count}
 use Rattle.crx_history.specs.Tails.{Tail}
 use Rattle.crx_history.specs.HeldRows.{past_of_tail}
 use Rattle.crx_rinex.specs.meaning.Epochs.{are_apart}
-use Rattle.crx_cells.specs.meaning.Cells.{ReadCell}
+use Rattle.crx_arcs.specs.meaning.Cells.{ReadCell}
 use Rattle.crx_history.specs.meaning.CompactPlaces.{clock_line_read, satellites_of_text}
 use Rattle.crx_header.specs.meaning.ObservationTypes.{Count}
 use Rattle.crx_arcs.specs.ArcSteps.{arc_of_code, shown_value}

@@ -5,12 +5,11 @@ use Rattle.crx_columns.specs.meaning.Columns.{without_end_blanks}
 use Rattle.crx_columns.specs.meaning.Texts.{text_difference}
 use Rattle.crx_columns.specs.Texts.{patched}
 use Rattle.crx_text.specs.meaning.Codes.{code_text}
-use Rattle.crx_rinex.specs.meaning.Observations.{Row, Epoch}
+use Rattle.crx_rinex.specs.meaning.Observations.{Row, Epoch, value_in}
 use Rattle.crx_text.specs.declared.code.Code.{Code}
 use Rattle.crx_columns.specs.meaning.EachPlace.{each_place}
 use Rattle.crx_arcs.specs.meaning.Sequences.{named}
 use Rattle.crx_history.specs.meaning.Compaction.{epoch_text, line_of_codes}
-use Rattle.crx_cells.specs.meaning.Cells.{value_in}
 use Rattle.crx_history.specs.meaning.Expansion.{RawRow, RawEpoch, code_in}
 use Rattle.crx_arcs.specs.ArcTails.{ArcTail}
 use Rattle.crx_history.specs.Tails.{RowTail, Tail}

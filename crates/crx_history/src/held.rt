@@ -10,17 +10,17 @@ ghost use Rattle.crx_text.specs.Codes.{IsPrintable};
 ghost use Rattle.crx_columns.specs.meaning.Texts.{text_difference};
 ghost use Rattle.crx_columns.specs.Texts.{patched};
 ghost use Rattle.crx_faults.specs.declared.limits.TheConstants.{CELL_WIDTH, LINE_LIMIT, NAME_WIDTH, TYPES_LIMIT};
-ghost use Rattle.crx_cells.specs.declared.cells.TheConstants.{CELL_ROOM};
+ghost use Rattle.crx_arcs.specs.declared.cells.TheConstants.{CELL_ROOM};
 ghost use Rattle.std.specs.Option.{option_copied};
 ghost use Rattle.crx_columns.specs.meaning.Columns.{columns, without_end_blanks};
 ghost use Rattle.crx_rinex.specs.meaning.Printing.{printed_row};
 ghost use Rattle.crx_history.specs.ShownRows.{shown_row};
-ghost use Rattle.crx_cells.specs.Cells.{arcs_of_row, codes_of_row};
+ghost use Rattle.crx_arcs.specs.Cells.{arcs_of_cells, codes_of_cells};
 ghost use Rattle.crx_history.specs.HeldRows.{AreHeldFlags};
 ghost use Rattle.crx_history.specs.meaning.CompactPlaces.{are_marks};
 ghost use Rattle.crx_history.specs.HeldRows.{row_held, row_held_from};
 ghost use Rattle.crx_header.specs.meaning.ObservationTypes.{IsAllowedCount};
-ghost use Rattle.crx_cells.specs.meaning.Cells.{cell_text};
+ghost use Rattle.crx_arcs.specs.meaning.Cells.{cell_text};
 ghost use Rattle.crx_arcs.specs.meaning.Sequences.{named};
 ghost use Rattle.crx_history.specs.Steps.{row_line_after, row_tail_after};
 ghost use Rattle.crx_history.specs.Tails.{RowTail};
@@ -28,8 +28,8 @@ ghost use Rattle.crx_history.specs.Tails.{RowTail};
 use crate::awaited::AwaitedSatellite;
 use crate::lines::Lines;
 use crx_arcs::arc::ObsArc;
+use crx_arcs::cells::{print_cells, read_cells, write_cells};
 use crx_arcs::same::{copy_compared, is_same_text};
-use crx_cells::cells::{print_cells, read_cells, write_cells};
 use crx_faults::Fault;
 use crx_faults::limits::{CELL_WIDTH, NAME_WIDTH};
 use crx_header::{after_columns, all_blank, put_identifier};
@@ -269,13 +269,13 @@ impl HeldSatellite {
     ) -> usize
         requires counted { length self.old.cells ≡ length row.now.values }
         requires room { at + (CELL_ROOM * length row.now.values + length marks.now) < length bytes.old }
-        ensures after { self.new ≡ record self.old { cells = arcs_of_row arcs.now row.now } }
+        ensures after { self.new ≡ record self.old { cells = arcs_of_cells arcs.now row.now.values } }
         ensures line { take (at + result) bytes.new
             ≡ take at bytes.old ++ without_end_blanks
-            (flat_map cell_text (codes_of_row arcs.now row.now) ++ marks.now) }
+            (flat_map cell_text (codes_of_cells arcs.now row.now.values) ++ marks.now) }
         ensures within { at + result < length bytes.new }
     {
-        let end = write_cells(arcs, row, &mut self.arcs, bytes, at);
+        let end = write_cells(arcs, row.values(), &mut self.arcs, bytes, at);
         let end = put_text(bytes, end, marks);
         trim_end(&bytes[at..end]).len()
     }

@@ -6,7 +6,7 @@ ghost use Rattle.std.specs.Io.BufRead.{Rests};
 ghost use Rattle.std.specs.Option.{option_copied};
 ghost use Rattle.crx_faults.specs.declared.limits.TheConstants.{LINE_LIMIT};
 ghost use Rattle.crx_columns.specs.meaning.Columns.{without_end_blanks};
-ghost use Rattle.crx_cells.specs.Cells.{arcs_of_row, codes_of_row};
+ghost use Rattle.crx_arcs.specs.Cells.{arcs_of_cells, codes_of_cells};
 ghost use Rattle.crx_history.specs.meaning.Compaction.{line_of_codes};
 ghost use Rattle.crx_history.specs.LineLists.{lines_text};
 ghost use Rattle.crx_history.specs.contracts.lines.Lines.{the_row};
@@ -15,7 +15,7 @@ ghost use Rattle.crx_history.specs.ShownRows.{shown_row};
 
 use crate::held::HeldSatellite;
 use crx_arcs::arc::ObsArc;
-use crx_cells::cells::CELL_ROOM;
+use crx_arcs::cells::CELL_ROOM;
 use crx_faults::limits::{CELL_WIDTH, NAME_WIDTH};
 use crx_rinex::SatRow;
 use crx_text::Text;
@@ -101,10 +101,10 @@ impl Lines {
         ensures after { OnOk result (satellite.new ≡ record {
           name = row.now.name;
           flags = without_end_blanks row.now.flags;
-          cells = arcs_of_row arcs.now row.now;
+          cells = arcs_of_cells arcs.now row.now.values;
         }) }
         ensures line { OnOk result (self.new
-            ≡ self.old ++ line_of_codes (codes_of_row arcs.now row.now) flags.now row.now.flags ∷ []) }
+            ≡ self.old ++ line_of_codes (codes_of_cells arcs.now row.now.values) flags.now row.now.flags ∷ []) }
     {
         satellite.begin(row, flags, part)?;
         let start = self.filled;

@@ -16,7 +16,8 @@ use Rattle.crx_rinex.specs.meaning.EpochLines.{is_event_line, records_in, satell
 use Rattle.crx_rinex.specs.meaning.Epochs.{IsWholeEpoch}
 use Rattle.crx_header.specs.meaning.ObservationTypes.{Count}
 use Rattle.crx_rinex.specs.meaning.Places.{Place, Here, Wrong, Wanted, one_line, first_line}
-use Rattle.crx_rinex.specs.meaning.Printing.{printed_cells, printed_row, printed_head, printed_epoch}
+use Rattle.crx_rinex.specs.meaning.Printing.{printed_row, printed_head, printed_epoch}
+use Rattle.crx_text.specs.meaning.PrintedCells.{printed_cells}
 use Rattle.crx_rinex.specs.meaning.SatelliteLines.{IsSoundRow}
 use Rattle.crx_rinex.specs.meaning.Units.{Unit as FileUnit, HeaderLine, EventLine, EventRecord, Observation}
 use Rattle.crx_rinex.proofs.ReadingBack.{length-row, length-head}
@@ -35,10 +36,10 @@ use Rattle.crx_reading.specs.meaning.Expanded.{first_lines, expanded_unit}
 use Rattle.crx_reading.specs.meaning.Directions.{compact_reading}
 use Rattle.crx_laws.specs.Bounds.{AreReadyToHandOut, OfUnits, longest_printed, IsNotTooLong, ExpandedIsReadyToHandOut}
 use Rattle.crx_reading.proofs.Choosing.{by_bool}
-use Rattle.crx_engine.proofs.reading.Resuming.{by_place, within-here, within-wrong, within-wanted}
-use Rattle.crx_engine.proofs.reading.Resuming.{fault-skipped, fault-ends, looked-here, looked-on}
-use Rattle.crx_engine.proofs.reading.WhatWasRead.{compact-items-read}
-use Rattle.crx_engine.proofs.wayback.ExpandedWhole.{AreGoodEpochs, epochs-good}
+use Rattle.crx_filter.proofs.reading.Resuming.{by_place, within-here, within-wrong, within-wanted}
+use Rattle.crx_filter.proofs.reading.Resuming.{fault-skipped, fault-ends, looked-here, looked-on}
+use Rattle.crx_filter.proofs.reading.WhatWasRead.{compact-items-read}
+use Rattle.crx_filter.proofs.wayback.ExpandedWhole.{AreGoodEpochs, epochs-good}
 use Rattle.crx_columns.proofs.EndBlanks.{few_kept}
 
 -- ---- lines that are copied are lines that were read

@@ -4,7 +4,7 @@ ghost use Rattle.std.specs.Prelude.{◌≡◌, [], List, ℕ, None, true};
 ghost use Rattle.crx_faults.specs.meaning.Lines.{InputLine};
 ghost use Rattle.crx_reading.specs.meaning.Directions.{check_filter};
 ghost use Rattle.crx_options.specs.meaning.Choices.{Choices, is_date};
-ghost use Rattle.crx_engine.specs.CheckingLaws.{IsCheckedOn, IsCheckEnded, IsNamedWhereNot, IsStandardExactlyWhereSame};
+ghost use Rattle.crx_filter.specs.CheckingLaws.{IsCheckedOn, IsCheckEnded, IsNamedWhereNot, IsStandardExactlyWhereSame};
 ghost use Rattle.crx_laws.specs.SmallFiles.{file_of_five, plain_choices, returned_text};
 ghost use Rattle.crx_faults.specs.meaning.Lines.{lines_text};
 ghost use Rattle.crx_runs.specs.Lawful.{IsLawful};

@@ -9,7 +9,7 @@ ghost use Rattle.crx_reading.specs.meaning.Expanded.{expanded};
 ghost use Rattle.crx_laws.specs.SmallFiles.{blanks, header, epoch_line_at, observed, line_at, plain_choices};
 ghost use Rattle.crx_faults.specs.meaning.Lines.{lines_text};
 ghost use Rattle.crx_reading.specs.meaning.Standard.{whole_of, IsStandard};
-ghost use Rattle.crx_engine.specs.WayBack.{ComesBack, NormalFormComesBack, StandardComesBack, IsStandardWhereSame};
+ghost use Rattle.crx_filter.specs.WayBack.{ComesBack, NormalFormComesBack, StandardComesBack, IsStandardWhereSame};
 ghost use Rattle.crx_reading.specs.meaning.WayBack.{HaveNoReturns};
 
 /// Whatever was compacted comes back: where the compaction isn't ended by a fault, the expansion of its compact text writes each

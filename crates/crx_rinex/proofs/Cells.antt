@@ -14,11 +14,11 @@ use Rattle.crx_columns.specs.meaning.Columns.{character_at, columns}
 use Rattle.crx_columns.specs.meaning.EachPlace.{each_place}
 use Rattle.crx_rinex.specs.meaning.Observations.{Row}
 use Rattle.crx_text.specs.Numbers.{IsObservation}
-use Rattle.crx_text.specs.meaning.Numbers.{observation_of, number_of}
+use Rattle.crx_text.specs.meaning.Numbers.{observation_of, number_of, IsValue}
 use Rattle.crx_columns.specs.meaning.Texts.{is_kept}
 use Rattle.crx_header.specs.meaning.ObservationTypes.{is_system, count_of, Count, IsAllowedCount}
 use Rattle.crx_rinex.specs.meaning.SatelliteLines.{all_some, values_in, flags_at, flags_in, field, has_number, types_of_satellite}
-use Rattle.crx_rinex.specs.meaning.SatelliteLines.{is_identifier, IsSoundRow, IsValue}
+use Rattle.crx_rinex.specs.meaning.SatelliteLines.{is_identifier, IsSoundRow}
 use Rattle.crx_rinex.specs.SatelliteLines.{blank_row, with_flags, with_value}
 use Rattle.crx_columns.proofs.EachPlace.{each_place-more, index-each_place, length-each_place}
 

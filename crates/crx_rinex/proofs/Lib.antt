@@ -1,7 +1,6 @@
 pub mod Apart
 pub mod Finding
 pub mod Cells
-pub mod Characters
 pub mod Lines
 pub mod Steady
 pub mod OpenEpochs

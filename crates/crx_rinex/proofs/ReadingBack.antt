@@ -13,7 +13,7 @@ use Rattle.std.proofs.lemmas.List.Folds.{list_any-append}
 use Rattle.std.proofs.lemmas.Option.{none-some}
 use Rattle.crx_columns.specs.meaning.Columns.{character_at, columns, is_blank, without_first_blanks}
 use Rattle.crx_text.specs.meaning.Numbers.{number_of, missing_or_number, observation_of, observation_text, clock_of}
-use Rattle.crx_text.specs.meaning.Numbers.{clock_text, IsWithin}
+use Rattle.crx_text.specs.meaning.Numbers.{clock_text, IsWithin, IsValue}
 use Rattle.crx_faults.specs.meaning.Seen.{ReadLine, Content}
 use Rattle.crx_faults.specs.declared.limits.TheConstants.{OBSERVATION_WIDTH, OBSERVATION_DECIMALS, CLOCK_WIDTH}
 use Rattle.crx_faults.specs.declared.limits.TheConstants.{CLOCK_DECIMALS}
@@ -30,13 +30,14 @@ use Rattle.crx_rinex.specs.meaning.EpochPlaces.{next_row, rows_at, rest_at, begu
 use Rattle.crx_rinex.specs.meaning.EpochPlaces.{epoch_place}
 use Rattle.crx_rinex.specs.meaning.Places.{Here, after_lines, then_place, one_line}
 use Rattle.crx_rinex.specs.meaning.Units.{Observation}
-use Rattle.crx_rinex.specs.meaning.Printing.{printed_cells, printed_row, printed_head, printed_epoch}
+use Rattle.crx_rinex.specs.meaning.Printing.{printed_row, printed_head, printed_epoch}
+use Rattle.crx_text.specs.meaning.PrintedCells.{printed_cells}
 use Rattle.crx_rinex.specs.meaning.SatelliteLines.{all_some, field, flags_at, flags_in, has_number, types_of_satellite}
-use Rattle.crx_rinex.specs.meaning.SatelliteLines.{row_with, row_of_types, row_of, IsValue, IsSoundRow, HasItsTypes}
+use Rattle.crx_rinex.specs.meaning.SatelliteLines.{row_with, row_of_types, row_of, IsSoundRow, HasItsTypes}
 use Rattle.crx_columns.specs.meaning.EachPlace.{each_place}
 use Rattle.crx_columns.proofs.EachPlace.{each_place-same}
-use Rattle.crx_rinex.proofs.Characters.{at, at-without_end_blanks, at-drop, at-append, at-append_past, columns-are}
-use Rattle.crx_rinex.proofs.Characters.{list_all-from_at}
+use Rattle.crx_columns.proofs.Characters.{at, at-without_end_blanks, at-drop, at-append, at-append_past, columns-are}
+use Rattle.crx_columns.proofs.Characters.{list_all-from_at}
 use Rattle.crx_rinex.proofs.Apart.{other_way}
 use Rattle.crx_rinex.proofs.SoundEpochs.{name_types}
 

@@ -9,7 +9,7 @@ use Rattle.std.proofs.lemmas.List.{length_push, length-append, length-take, leng
 use Rattle.std.proofs.lemmas.List.Elements.{All-cons, All-nil, All-push}
 use Rattle.std.proofs.lemmas.Option.{option_and_then_some, same_Some, none-some}
 use Rattle.crx_columns.specs.meaning.Columns.{character_at, columns, is_blank}
-use Rattle.crx_text.specs.meaning.Numbers.{observation_of, clock_of}
+use Rattle.crx_text.specs.meaning.Numbers.{observation_of, clock_of, IsValue}
 use Rattle.crx_faults.specs.meaning.Seen.{ReadLine, Content, Overlong}
 use Rattle.crx_faults.specs.declared.fault.Fault.{Fault}
 use Rattle.crx_faults.specs.declared.fault.Fault.TheVariants.{NotAnEpoch, BadEpoch, RepeatedSatellite, BadField}
@@ -26,12 +26,13 @@ use Rattle.crx_rinex.specs.meaning.EpochLines.{is_event_flag, begins_epoch, epoc
 use Rattle.crx_rinex.specs.meaning.EpochLines.{with_clock, head_of, records_in, satellites_of}
 use Rattle.crx_rinex.specs.meaning.SatelliteLines.{row_of, row_of_types, row_with, values_in, flags_in, flags_at, field}
 use Rattle.crx_rinex.specs.meaning.SatelliteLines.{all_some, types_of_satellite, has_number, is_identifier, IsSoundRow}
-use Rattle.crx_rinex.specs.meaning.SatelliteLines.{IsValue, HasItsTypes}
+use Rattle.crx_rinex.specs.meaning.SatelliteLines.{HasItsTypes}
 use Rattle.crx_rinex.specs.meaning.Epochs.{has_satellite, are_different, IsWholeEpoch}
 use Rattle.crx_rinex.specs.meaning.EpochPlaces.{OpenEpoch, Beginning, EventBegins, EpochBegins, opened, rows_wanted}
 use Rattle.crx_rinex.specs.meaning.EpochPlaces.{epoch_of, with_next_row, row_if_new, next_row, rows_at, rest_at}
 use Rattle.crx_rinex.specs.meaning.EpochPlaces.{begun_by, beginning_of, unit_begun, epoch_place}
 use Rattle.crx_columns.specs.meaning.EachPlace.{each_place}
+use Rattle.crx_columns.proofs.Characters.{length-columns}
 use Rattle.crx_columns.proofs.EachPlace.{each_place-all, length-each_place}
 use Rattle.crx_rinex.proofs.Cells.{flags_in_more, identifier_columns}
 use Rattle.crx_header.proofs.Counts.{allowed_of, system_of}
@@ -145,16 +146,6 @@ pub sound-row_of : (types : List Count) (line : List ℕ) → AreCounts types �
 sound-row_of types line counts = types_case types line counts (types_of_satellite types line) refl
 
 -- ---- an epoch line
-
-pub length-columns : (line : List ℕ) (first width : ℕ) → length (columns line first width) ≡ width
-length-columns line first width =
-    omega (
-      arith,
-      length-take width (drop (first - 1) line ++ replicate width 32),
-      length-append
-          (drop (first - 1) line) (replicate width 32),
-      length-replicate {A = ℕ} width 32,
-    )
 
 abbrev pub IsSoundHead : Result HeadLine Fault → Type 0
 IsSoundHead (Err fault) = ⊤

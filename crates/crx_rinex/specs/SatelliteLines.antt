@@ -1,6 +1,7 @@
 -- Beside meaning/SatelliteLines: what code and proofs see of it.
 use Rattle.std.specs.Prelude.{ℕ, ℤ, ◌≡◌, ◌≤◌, ◌*◌, ◌-◌, All, List, ◌++◌, Option, None, Some, length, replicate, slice_set, take}
-use Rattle.crx_rinex.specs.meaning.SatelliteLines.{flags_in, values_in, IsValue}
+use Rattle.crx_rinex.specs.meaning.SatelliteLines.{flags_in, values_in}
+use Rattle.crx_text.specs.meaning.Numbers.{IsValue}
 use Rattle.crx_rinex.specs.meaning.Observations.{Row}
 
 -- a row of m missing values with blank indicators

@@ -7,14 +7,15 @@ ghost use Rattle.std.specs.Option.{option_map, ForSome};
 ghost use Rattle.std.specs.Result.{is_ok};
 ghost use Rattle.crx_columns.specs.meaning.Columns.{character_at, columns, is_blank};
 ghost use Rattle.crx_faults.specs.declared.limits.TheConstants.{CELL_WIDTH, LINE_LIMIT, NAME_WIDTH, OBSERVATION_WIDTH, TYPES_LIMIT};
-ghost use Rattle.crx_text.specs.meaning.Numbers.{observation_of, observation_text};
+ghost use Rattle.crx_text.specs.meaning.Numbers.{observation_of, observation_text, IsValue};
 ghost use Rattle.crx_text.specs.Numbers.{IsObservation};
 ghost use Rattle.crx_columns.specs.meaning.Texts.{is_kept};
 ghost use Rattle.crx_header.specs.meaning.ObservationTypes.{IsAllowedCount};
 ghost use Rattle.crx_rinex.specs.meaning.Observations.{observations_of};
-ghost use Rattle.crx_rinex.specs.meaning.Printing.{printed_cells, printed_row};
+ghost use Rattle.crx_rinex.specs.meaning.Printing.{printed_row};
+ghost use Rattle.crx_text.specs.meaning.PrintedCells.{printed_cells};
 ghost use Rattle.crx_rinex.specs.SatelliteLines.{blank_row, with_flags, with_value, AreCellsRead};
-ghost use Rattle.crx_rinex.specs.meaning.SatelliteLines.{field, flags_in, has_number, is_identifier, row_of, row_with, types_of_satellite, values_in, IsSoundRow, IsValue};
+ghost use Rattle.crx_rinex.specs.meaning.SatelliteLines.{field, flags_in, has_number, is_identifier, row_of, row_with, types_of_satellite, values_in, IsSoundRow};
 
 use crx_columns::columns::character;
 use crx_faults::Fault;

@@ -2,7 +2,7 @@
 
 use crate::expecting::expect;
 use crate::texts::shown;
-use crx_engine::Options;
+use crx_filter::Options;
 
 /// Dates, and whether they are taken.
 const DATES: &[(&[u8], bool)] = &[

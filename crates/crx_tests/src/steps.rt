@@ -5,8 +5,8 @@ ghost use Rattle.crx_runs.specs.Engines.{taken_after};
 
 use crate::expecting::expect_at;
 use crate::texts::text;
-use crx_engine::Options;
 use crx_faults::{At, Fault};
+use crx_filter::Options;
 use crx_lines::{Line, LineReader, Std};
 use crx_runs::Step;
 use std::alloc::Global;

@@ -9,10 +9,10 @@ use Rattle.crx_reading.specs.meaning.Expanded.{expanded}
 use Rattle.crx_reading.specs.meaning.WayBack.{HasNormalForm}
 use Rattle.crx_runs.specs.meaning.Results.{FilterResult}
 use Rattle.crx_reading.specs.meaning.Standard.{Findings, checked, checked_by, findings_of, report_status}
-use Rattle.crx_engine.proofs.standard.CheckStandard.{named-where_not}
-use Rattle.crx_engine.proofs.wayback.WayBack.{comes-back}
-use Rattle.crx_engine.proofs.wayback.Standard.{normal-comes_back, standard-comes_back}
-use Rattle.crx_engine.proofs.damage.DamageStays.{saved-lines}
+use Rattle.crx_filter.proofs.standard.CheckStandard.{named-where_not}
+use Rattle.crx_filter.proofs.wayback.WayBack.{comes-back}
+use Rattle.crx_filter.proofs.wayback.Standard.{normal-comes_back, standard-comes_back}
+use Rattle.crx_filter.proofs.damage.DamageStays.{saved-lines}
 use Rattle.rnxcmp_c.specs.meaning.Answers.{IsAnswer, Rooms, status_in}
 use Rattle.rnxcmp_c.specs.meaning.Promises.{CallBringsBackWhatWasCompacted, CallJudgesStandard, CallSavesAllElse}
 use Rattle.rnxcmp_c.specs.declared.answer.Answer.{Answer}

@@ -10,8 +10,8 @@ use Rattle.crx_runs.specs.meaning.Filters.{Filter}
 use Rattle.crx_runs.specs.meaning.Messages.{error_text, notices_text}
 use Rattle.crx_runs.specs.meaning.Results.{Begins, Course, FilterResult, good_status, result_of_course, status_after}
 use Rattle.crx_reading.specs.meaning.Standard.{Findings, checked_by, findings_of, report_status, whole_of}
-use Rattle.crx_engine.proofs.following.CheckLawful.{check-lawful}
-use Rattle.crx_engine.proofs.following.Lawful.{compaction-lawful, expansion-lawful}
+use Rattle.crx_filter.proofs.following.CheckLawful.{check-lawful}
+use Rattle.crx_filter.proofs.following.Lawful.{compaction-lawful, expansion-lawful}
 use Rattle.crx_runs.specs.declared.outcome.Outcome.{Outcome}
 use Rattle.crx_runs.specs.meaning.Runs.{FaultIs}
 use Rattle.rnxcmp_c.specs.Going.{AreFirstWarnings, Breaks, LineFails, IsAll, IsText, HandlePast}

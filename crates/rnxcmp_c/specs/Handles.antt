@@ -14,13 +14,13 @@ use Rattle.crx_runs.specs.meaning.Results.{Begins, FilterResult, good_status}
 use Rattle.crx_runs.specs.meaning.Messages.{error_text}
 use Rattle.crx_reading.specs.meaning.Standard.{checked, report_status}
 use Rattle.crx_reading.specs.meaning.Directions.{check_filter}
-use Rattle.crx_engine.specs.CheckerState.{CheckerHasTaken, CheckerIsOpen, HasEnded as CheckerHasEnded, pending_report}
+use Rattle.crx_filter.specs.CheckerState.{CheckerHasTaken, CheckerIsOpen, HasEnded as CheckerHasEnded, pending_report}
 use Rattle.crx_reading.specs.CompactionByLine.{compaction, compaction_seen}
-use Rattle.crx_engine.specs.CompactorState.{compactor_ready, compactor_seen}
+use Rattle.crx_filter.specs.CompactorState.{compactor_ready, compactor_seen}
 use Rattle.crx_reading.specs.meaning.Directions.{compaction_filter, expansion_filter}
-use Rattle.crx_engine.specs.EngineLines.{HasTaken}
+use Rattle.crx_filter.specs.EngineLines.{HasTaken}
 use Rattle.crx_runs.specs.Engines.{Awaited}
-use Rattle.crx_engine.specs.ExpanderState.{expander_state}
+use Rattle.crx_filter.specs.ExpanderState.{expander_state}
 use Rattle.crx_reading.specs.ExpansionByLine.{expansion, expansion_seen}
 use Rattle.crx_runs.specs.declared.outcome.Outcome.{Outcome}
 use Rattle.crx_runs.specs.meaning.Runs.{FaultIs}

@@ -9,9 +9,9 @@ ghost use Rattle.rnxcmp_c.specs.Handles.{IsOf, Task, engine_filter, has_ended_of
 
 use crate::held::Held;
 use crate::lines::{take_bytes, take_last};
-use crx_engine::checker::Checker;
-use crx_engine::{Compactor, Expander};
 use crx_faults::At;
+use crx_filter::checker::Checker;
+use crx_filter::{Compactor, Expander};
 
 /// The engine of a run.
 #[derive(Drop)]

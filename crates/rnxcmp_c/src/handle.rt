@@ -21,7 +21,7 @@ use crate::held::Held;
 use crate::loose::Loose;
 use crate::place::Place;
 use crate::reader::Reader;
-use crx_engine::checker::Checker;
+use crx_filter::checker::Checker;
 use crx_filter::{Compactor, Expander, Options};
 use std::alloc::Global;
 use std::mem::replace;

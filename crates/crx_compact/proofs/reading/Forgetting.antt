@@ -10,7 +10,7 @@ use Rattle.crx_rinex.specs.meaning.EpochLines.{begins_epoch}
 use Rattle.crx_history.specs.meaning.Expansion.{RawEpoch, block_of}
 use Rattle.crx_history.specs.meaning.Past.{Past, past_of_block, past_of_epochs, past_of_line}
 use Rattle.crx_history.specs.meaning.CompactPlaces.{satellites_of_line, BegunEpoch, epoch_begun}
-use Rattle.crx_cells.specs.meaning.Cells.{ReadCell}
+use Rattle.crx_arcs.specs.meaning.Cells.{ReadCell}
 use Rattle.crx_history.specs.meaning.CompactPlaces.{clock_line_read, rows_read, ReadEpoch, epoch_of_rows}
 use Rattle.crx_history.specs.meaning.CompactPlaces.{epoch_after_line, epoch_at}
 use Rattle.crx_compact.specs.ReadingLaws.{Forgets}

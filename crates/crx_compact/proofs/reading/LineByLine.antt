@@ -14,7 +14,7 @@ use Rattle.crx_arcs.specs.meaning.Sequences.{and_then}
 use Rattle.crx_history.specs.meaning.EpochText.{Satellite}
 use Rattle.crx_history.specs.meaning.Expansion.{RawRow}
 use Rattle.crx_history.specs.meaning.CompactPlaces.{BegunEpoch, epoch_begun, satellites_of_line}
-use Rattle.crx_cells.specs.meaning.Cells.{ReadCell}
+use Rattle.crx_arcs.specs.meaning.Cells.{ReadCell}
 use Rattle.crx_history.specs.meaning.CompactPlaces.{clock_line_read, ReadRow, satellite_line_read, rows_read}
 use Rattle.crx_history.specs.meaning.CompactPlaces.{epoch_of_rows, epoch_after_line}
 use Rattle.crx_history.specs.Tails.{Tail}

@@ -12,9 +12,9 @@ use Rattle.crx_rinex.specs.meaning.EpochLines.{begins_epoch}
 use Rattle.crx_arcs.specs.meaning.Sequences.{and_then, before_all}
 use Rattle.crx_history.specs.meaning.EpochText.{Satellite}
 use Rattle.crx_arcs.specs.meaning.ArcValues.{in_range, is_within}
-use Rattle.crx_cells.specs.meaning.Cells.{ReadCell, cell_read, cells_read, cells_of}
+use Rattle.crx_arcs.specs.meaning.Cells.{ReadCell, cell_read, cells_read, cells_of}
 use Rattle.crx_history.specs.meaning.CompactPlaces.{ReadRow, are_marks}
-use Rattle.crx_cells.specs.meaning.Cells.{after_cells}
+use Rattle.crx_arcs.specs.meaning.Cells.{after_cells}
 use Rattle.crx_history.specs.meaning.CompactPlaces.{row_of_cells, row_of_line, row_with_marks}
 use Rattle.crx_history.specs.meaning.CompactPlaces.{satellite_line_read}
 use Rattle.crx_history.specs.HeldRows.{HeldRow, held_row, past_of_tail}

@@ -11,7 +11,7 @@ use Rattle.crx_rinex.specs.meaning.Printing.{printed_epoch}
 use Rattle.crx_rinex.specs.Epochs.{with_row}
 use Rattle.crx_rinex.specs.meaning.Epochs.{are_apart}
 use Rattle.crx_rinex.proofs.Apart.{apart-fewer, apart-map}
-use Rattle.crx_cells.specs.meaning.Cells.{ReadCell}
+use Rattle.crx_arcs.specs.meaning.Cells.{ReadCell}
 use Rattle.crx_arcs.specs.ArcTails.{ArcTail}
 use Rattle.crx_history.specs.Tails.{RowTail, Tail}
 use Rattle.crx_history.specs.HeldRows.{row_after, AreApart, held_row, HeldRow, past_of_tail, IsNextRow}

@@ -8,12 +8,12 @@ use Rattle.std.proofs.lemmas.List.{length-map}
 use Rattle.std.proofs.lemmas.List.Elements.{All-from_recursion}
 use Rattle.std.proofs.lemmas.Bool.{and_parts, and_from}
 use Rattle.crx_columns.specs.meaning.Columns.{columns, character_at, is_blank}
-use Rattle.crx_text.specs.meaning.Numbers.{IsMissingOrWithin}
+use Rattle.crx_text.specs.meaning.Numbers.{IsMissingOrWithin, IsValue}
 use Rattle.crx_rinex.specs.meaning.Observations.{Row}
 use Rattle.crx_header.specs.meaning.ObservationTypes.{Count, is_system, count_of, IsAllowedCount}
 use Rattle.crx_header.specs.ObservationTypes.{AreCounts}
 use Rattle.crx_rinex.specs.meaning.EpochLines.{begins_epoch}
-use Rattle.crx_rinex.specs.meaning.SatelliteLines.{has_number, IsValue, IsSoundRow, HasItsTypes, types_of_satellite}
+use Rattle.crx_rinex.specs.meaning.SatelliteLines.{has_number, IsSoundRow, HasItsTypes, types_of_satellite}
 use Rattle.crx_rinex.proofs.Apart.{apart-map}
 use Rattle.crx_header.proofs.Counts.{allowed_of, system_of}
 use Rattle.crx_rinex.proofs.Rows.{satellites_few}
@@ -31,19 +31,18 @@ use Rattle.crx_history.specs.meaning.Expansion.{raw_row_named, raw_run_of, marks
 use Rattle.crx_arcs.specs.meaning.ArcValues.{since_start}
 use Rattle.crx_arcs.specs.meaning.ArcValues.{value_since, value_of}
 use Rattle.crx_history.specs.meaning.Past.{Past, past_of_block}
-use Rattle.crx_cells.specs.meaning.Cells.{ReadCell}
+use Rattle.crx_arcs.specs.meaning.Cells.{ReadCell}
 use Rattle.crx_history.specs.meaning.CompactPlaces.{ReadRow, ReadEpoch}
 use Rattle.crx_compact.specs.ReadingLaws.{HasPrintableMarks, IsGood, ReadsWholeEpochs}
 use Rattle.crx_columns.proofs.EachPlace.{each_place-all, length-each_place}
 use Rattle.crx_compact.proofs.Lists.{all-from}
 use Rattle.crx_compact.proofs.wayback.Overlays.{at-overlaid}
-use Rattle.crx_rinex.proofs.SoundEpochs.{length-columns}
+use Rattle.crx_columns.proofs.Characters.{length-columns, list_all-from_at}
 use Rattle.crx_history.proofs.Characters.{all-take, list_all-at, list_all-append}
 use Rattle.crx_history.proofs.Results.{no-err, ok-same}
 use Rattle.crx_compact.proofs.soundness.Soundness.{AreReadCells, RowFacts, Paired}
 use Rattle.crx_history.proofs.EpochLines.{names_of, differ}
 use Rattle.crx_compact.proofs.soundness.Soundness.{block_for, epoch-facts}
-use Rattle.crx_rinex.proofs.Characters.{list_all-from_at}
 
 -- ---- columns
 

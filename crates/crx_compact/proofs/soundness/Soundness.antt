@@ -28,7 +28,7 @@ use Rattle.crx_history.specs.meaning.CompactPlaces.{satellites_of_line, BegunEpo
 use Rattle.crx_history.specs.meaning.CompactPlaces.{are_marks, ReadRow, row_of_cells, row_with_marks, row_of_line}
 use Rattle.crx_history.specs.meaning.CompactPlaces.{satellite_line_read, rows_read, ReadEpoch, epoch_of_rows}
 use Rattle.crx_history.specs.meaning.CompactPlaces.{epoch_after_line, epoch_at}
-use Rattle.crx_cells.specs.meaning.Cells.{ReadCell, cell_read, cells_read, cells_of, after_cells}
+use Rattle.crx_arcs.specs.meaning.Cells.{ReadCell, cell_read, cells_read, cells_of, after_cells}
 use Rattle.crx_compact.specs.ReadingLaws.{HasSingleLines, ReadsSoundly}
 use Rattle.crx_history.proofs.Identifiers.{each-own}
 use Rattle.crx_history.proofs.Results.{no-err, ok-same, Follows, and_then-ok, if-err, if-ok, if-true, before-ok}

@@ -20,8 +20,8 @@ use Rattle.crx_history.proofs.Identifiers.{AreNew, new-after}
 use Rattle.crx_compact.proofs.wayback.Writable.{IsTypedRow, head-counted, sound-name_kept, typed-rows}
 use Rattle.crx_history.proofs.Characters.{at-by_position, same_characters, list_all-at, list_all-append, if_some}
 use Rattle.crx_compact.proofs.wayback.Runs.{IsUnmarked}
-use Rattle.crx_rinex.proofs.Characters.{at, at-without_end_blanks, at-append, at-append_past, columns-are}
-use Rattle.crx_rinex.proofs.Characters.{list_all-from_at}
+use Rattle.crx_columns.proofs.Characters.{at, at-without_end_blanks, at-append, at-append_past, columns-are}
+use Rattle.crx_columns.proofs.Characters.{list_all-from_at}
 use Rattle.crx_rinex.proofs.ReadingBack.{name-length}
 
 -- ---- tests of all characters

@@ -11,15 +11,14 @@ use Rattle.std.proofs.lemmas.List.{length-append}
 use Rattle.std.proofs.Math.Nat.{pow-le-pow_right}
 use Rattle.crx_columns.specs.meaning.Texts.{by_position, mark_of, text_difference}
 use Rattle.crx_text.specs.meaning.Codes.{code_text}
-use Rattle.crx_rinex.specs.meaning.Observations.{Row, Epoch}
+use Rattle.crx_rinex.specs.meaning.Observations.{Row, Epoch, value_in}
 use Rattle.crx_text.specs.declared.code.Code.{Code}
 use Rattle.crx_faults.specs.declared.limits.TheConstants.{WRITTEN_ORDER, DIGITS_LIMIT, TYPES_LIMIT, SATELLITES_LIMIT}
 use Rattle.crx_faults.specs.declared.limits.TheConstants.{OBSERVATION_WIDTH, CLOCK_WIDTH}
 use Rattle.crx_arcs.specs.meaning.Differences.{difference, code_at}
 use Rattle.crx_history.specs.meaning.Compaction.{Marked, epoch_text, since_full, arc_of, clock_arc}
-use Rattle.crx_cells.specs.meaning.Cells.{value_in}
 use Rattle.crx_history.specs.meaning.Compaction.{newest_text, indicators_before, codes_of, satellite_line}
-use Rattle.crx_cells.specs.meaning.Cells.{cell_text}
+use Rattle.crx_arcs.specs.meaning.Cells.{cell_text}
 use Rattle.crx_history.specs.meaning.Compaction.{compact_epoch}
 use Rattle.crx_header.specs.meaning.ObservationTypes.{Count}
 use Rattle.crx_text.specs.meaning.Numbers.{IsWithin}

@@ -29,7 +29,7 @@ use Rattle.crx_arcs.specs.meaning.ArcValues.{value_of}
 use Rattle.crx_history.specs.meaning.Past.{Past, past_of_block, past_of_epochs, past_of_line}
 use Rattle.crx_history.specs.meaning.CompactPlaces.{satellites_counted, satellites_of_text, satellites_of_line}
 use Rattle.crx_history.specs.meaning.CompactPlaces.{BegunEpoch, epoch_begun, clock_line_read}
-use Rattle.crx_cells.specs.meaning.Cells.{ReadCell}
+use Rattle.crx_arcs.specs.meaning.Cells.{ReadCell}
 use Rattle.crx_history.specs.meaning.CompactPlaces.{ReadRow, satellite_line_read, rows_read, ReadEpoch, epoch_of_rows}
 use Rattle.crx_history.specs.meaning.CompactPlaces.{epoch_at}
 use Rattle.crx_rinex.specs.meaning.Epochs.{IsWholeEpoch}
@@ -48,7 +48,7 @@ use Rattle.crx_compact.proofs.wayback.Facts.{text-kept, text-head, text-begins, 
 use Rattle.crx_compact.proofs.wayback.Facts.{satellites_of_rows, satellites-good, unmarked, difference-printable}
 use Rattle.crx_compact.proofs.wayback.Rows.{run-begins, rows-of_run, clock-printable, satellite_of, row-read}
 use Rattle.crx_history.proofs.Identifiers.{each-own, none-earlier}
-use Rattle.crx_rinex.proofs.Characters.{at, at-without_end_blanks, columns-are}
+use Rattle.crx_columns.proofs.Characters.{at, at-without_end_blanks, columns-are}
 
 -- ---- the epochs of a block
 

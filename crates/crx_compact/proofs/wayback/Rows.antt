@@ -8,14 +8,13 @@ use Rattle.std.specs.Str.{bytes_eq}
 use Rattle.std.proofs.Common.{sym, ◌∙◌, ap, subst, arith, not-suc-le-zero}
 use Rattle.std.proofs.lemmas.List.{get_or_past}
 use Rattle.std.proofs.lemmas.List.Elements.{All-head, All-tail}
-use Rattle.crx_text.specs.meaning.Numbers.{IsWithin, IsMissingOrWithin}
+use Rattle.crx_text.specs.meaning.Numbers.{IsWithin, IsMissingOrWithin, IsValue}
 use Rattle.crx_rinex.specs.meaning.EpochLines.{IsClockOffset, begins_epoch}
-use Rattle.crx_rinex.specs.meaning.SatelliteLines.{IsValue}
 use Rattle.crx_columns.specs.meaning.Columns.{is_blank, without_end_blanks}
 use Rattle.crx_columns.specs.meaning.Texts.{text_difference, mark_of, by_position}
 use Rattle.crx_text.specs.meaning.Codes.{code_text}
 use Rattle.crx_text.specs.Codes.{IsPrintable}
-use Rattle.crx_rinex.specs.meaning.Observations.{Row, Epoch}
+use Rattle.crx_rinex.specs.meaning.Observations.{Row, Epoch, value_in}
 use Rattle.crx_text.specs.declared.code.Code.{Code}
 use Rattle.crx_text.specs.declared.code.Code.TheVariants.{Missing}
 use Rattle.crx_faults.specs.declared.fault.Fault.{Fault}
@@ -24,14 +23,13 @@ use Rattle.crx_columns.specs.meaning.EachPlace.{each_place}
 use Rattle.crx_arcs.specs.meaning.Sequences.{back_to, stretch}
 use Rattle.crx_arcs.specs.meaning.Differences.{code_at}
 use Rattle.crx_history.specs.meaning.Compaction.{Marked, run_of, since_full, row_named, arc_of}
-use Rattle.crx_cells.specs.meaning.Cells.{value_in}
 use Rattle.crx_history.specs.meaning.Compaction.{indicators_before, codes_of, satellite_line}
-use Rattle.crx_cells.specs.meaning.Cells.{cell_text}
+use Rattle.crx_arcs.specs.meaning.Cells.{cell_text}
 use Rattle.crx_history.specs.meaning.EpochText.{Satellite}
 use Rattle.crx_history.specs.meaning.Expansion.{RawEpoch, raw_run_of, code_in}
 use Rattle.crx_arcs.specs.meaning.ArcValues.{value_of}
 use Rattle.crx_history.specs.meaning.Past.{Past, past_of_block}
-use Rattle.crx_cells.specs.meaning.Cells.{ReadCell, cells_read, cells_of, after_cells}
+use Rattle.crx_arcs.specs.meaning.Cells.{ReadCell, cells_read, cells_of, after_cells}
 use Rattle.crx_history.specs.meaning.CompactPlaces.{are_marks, row_of_cells}
 use Rattle.crx_history.specs.meaning.CompactPlaces.{satellite_line_read}
 use Rattle.crx_compact.specs.Laws.{AreWhole, CodesFit}
@@ -48,7 +46,7 @@ use Rattle.crx_compact.proofs.wayback.Runs.{raw_run, codes-read, marked, rows_be
 use Rattle.crx_history.proofs.Characters.{bytes_eq-is}
 use Rattle.crx_arcs.proofs.arcs.Bounds.{IsNear, near-within, code-printable}
 use Rattle.crx_compact.proofs.wayback.Facts.{unmarked, at-difference, difference-printable, trimmed-again}
-use Rattle.crx_rinex.proofs.Characters.{at, at-drop, at-without_end_blanks, columns-are, list_all-from_at}
+use Rattle.crx_columns.proofs.Characters.{at, at-drop, at-without_end_blanks, columns-are, list_all-from_at}
 
 -- ---- rows of a run
 

@@ -14,7 +14,7 @@ use Rattle.crx_header.specs.meaning.ObservationTypes.{Count}
 use Rattle.crx_rinex.specs.meaning.EpochLines.{begins_epoch, is_event_flag, is_event_line, is_observation_flag}
 use Rattle.crx_history.specs.meaning.Compaction.{Marked, epoch_text, since_full, run_of, arc_of, clock_arc, newest_text}
 use Rattle.crx_history.specs.meaning.Compaction.{indicators_before, codes_of, satellite_line, epoch_line}
-use Rattle.crx_cells.specs.meaning.Cells.{cell_text}
+use Rattle.crx_arcs.specs.meaning.Cells.{cell_text}
 use Rattle.crx_arcs.specs.meaning.Differences.{code_at}
 use Rattle.crx_compact.specs.Laws.{AreWhole, has_no_epochs, LinesCanStand}
 use Rattle.crx_columns.proofs.EachPlace.{length-each_place}
@@ -29,7 +29,7 @@ use Rattle.crx_compact.proofs.wayback.Facts.{head_tests, text-kept, text-head}
 use Rattle.crx_compact.proofs.wayback.Facts.{text-begins, at-difference, difference-printable}
 use Rattle.crx_compact.proofs.wayback.Rows.{IsRowOf, clock-printable, line-begins, lines-each, written-codes}
 use Rattle.crx_compact.proofs.wayback.Reading.{text-other}
-use Rattle.crx_rinex.proofs.Characters.{at, at-without_end_blanks, list_all-from_at}
+use Rattle.crx_columns.proofs.Characters.{at, at-without_end_blanks, list_all-from_at}
 
 -- ---- characters
 

@@ -6,13 +6,12 @@ use Rattle.std.proofs.Common.{sym, ◌∙◌, ap}
 use Rattle.std.proofs.lemmas.List.{get_or_past}
 use Rattle.crx_columns.specs.meaning.Columns.{without_end_blanks}
 use Rattle.crx_columns.specs.meaning.Texts.{text_difference}
-use Rattle.crx_rinex.specs.meaning.Observations.{Row, Epoch}
+use Rattle.crx_rinex.specs.meaning.Observations.{Row, Epoch, value_in}
 use Rattle.crx_faults.specs.declared.limits.TheConstants.{WRITTEN_ORDER}
 use Rattle.crx_arcs.specs.meaning.Sequences.{back_to, stretch}
 use Rattle.crx_arcs.specs.meaning.Differences.{code_at}
 use Rattle.crx_history.specs.meaning.Compaction.{Marked, epoch_text, row_named, run_of, arc_of, newest_text}
 use Rattle.crx_history.specs.meaning.Compaction.{indicators_before, satellite_line}
-use Rattle.crx_cells.specs.meaning.Cells.{value_in}
 use Rattle.crx_history.specs.Tails.{RowTail, Tail, row_tail, tail_of}
 use Rattle.crx_arcs.specs.ArcTails.{arc_tail}
 use Rattle.crx_history.specs.Steps.{no_tail, tail_named, cell_of_tail, flags_of_tail, row_line_in, row_tail_in}

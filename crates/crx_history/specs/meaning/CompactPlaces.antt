@@ -18,7 +18,7 @@ use Rattle.crx_columns.specs.meaning.Texts.{is_printable}
 use Rattle.crx_history.specs.meaning.EpochText.{names_in, Satellite, satellites_named}
 use Rattle.crx_history.specs.meaning.Expansion.{RawRow, RawEpoch}
 use Rattle.crx_history.specs.meaning.Past.{Past, past_of_line}
-use Rattle.crx_cells.specs.meaning.Cells.{ReadCell, cell_read, cells_of, after_cells, cells_read}
+use Rattle.crx_arcs.specs.meaning.Cells.{ReadCell, cell_read, cells_of, after_cells, cells_read}
 
 -- ---- the epoch line
 

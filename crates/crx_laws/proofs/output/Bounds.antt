@@ -39,15 +39,15 @@ use Rattle.crx_reading.specs.meaning.Expanded.{compact_place, empties_state, raw
 use Rattle.crx_reading.specs.meaning.Directions.{compact_reading}
 use Rattle.crx_reading.specs.ExpansionByLine.{expansion, tail_of_items, begins_event, compact_open}
 use Rattle.crx_reading.specs.ExpansionByLine.{phase_from_first_lines, expansion_seen}
-use Rattle.crx_engine.specs.Laws.{ItemsAreRead, AreInPlace}
+use Rattle.crx_filter.specs.Laws.{ItemsAreRead, AreInPlace}
 use Rattle.crx_laws.specs.Bounds.{IsBoundedRow, IsBoundedEpoch, OfOpen, IsBoundedCompaction, IsBoundedExpansion}
 use Rattle.crx_reading.proofs.Choosing.{by_bool}
-use Rattle.crx_engine.proofs.wayback.ExpandedWhole.{epoch-read}
-use Rattle.crx_engine.proofs.reading.Types.{counts-in_force}
-use Rattle.crx_engine.proofs.wayback.Items.{marked_now, whole-next}
-use Rattle.crx_engine.proofs.reading.WhatStands.{by_first}
-use Rattle.crx_engine.proofs.reading.WhatWasRead.{items-read, compact-items-read}
-use Rattle.crx_engine.proofs.reading.InPlace.{items-in_place}
+use Rattle.crx_filter.proofs.wayback.ExpandedWhole.{epoch-read}
+use Rattle.crx_filter.proofs.reading.Types.{counts-in_force}
+use Rattle.crx_filter.proofs.wayback.Items.{marked_now, whole-next}
+use Rattle.crx_filter.proofs.reading.WhatStands.{by_first}
+use Rattle.crx_filter.proofs.reading.WhatWasRead.{items-read, compact-items-read}
+use Rattle.crx_filter.proofs.reading.InPlace.{items-in_place}
 
 -- ---- the epoch that is open
 

@@ -12,15 +12,15 @@ use Rattle.crx_options.specs.meaning.Choices.{Choices, is_date}
 use Rattle.crx_reading.specs.meaning.Items.{Item, Accepted, Warned, is_at_start, types_in_force}
 use Rattle.crx_reading.specs.meaning.Compacted.{lines_before_header, marked_epochs, compact_unit, rinex_place}
 use Rattle.crx_reading.specs.meaning.Directions.{rinex_reading}
-use Rattle.crx_engine.specs.Laws.{AreInPlace}
+use Rattle.crx_filter.specs.Laws.{AreInPlace}
 use Rattle.crx_reading.specs.meaning.WayBack.{OfCopiedLine, OfCopiedLines}
 use Rattle.crx_laws.specs.Bounds.{AreReadyToHandOut, OfUnits, longest_of, IsNotTooLong, CompactIsReadyToHandOut}
-use Rattle.crx_engine.proofs.reading.InPlace.{items-in_place}
-use Rattle.crx_engine.proofs.reading.WhatWasRead.{items-read}
-use Rattle.crx_engine.proofs.wayback.Cut.{IsClean, OfContent}
-use Rattle.crx_engine.proofs.wayback.First.{program-clean, version-clean}
-use Rattle.crx_engine.proofs.wayback.Items.{marked_now, whole-next}
-use Rattle.crx_engine.proofs.wayback.Reading.{items-copied}
+use Rattle.crx_filter.proofs.reading.InPlace.{items-in_place}
+use Rattle.crx_filter.proofs.reading.WhatWasRead.{items-read}
+use Rattle.crx_filter.proofs.wayback.Cut.{IsClean, OfContent}
+use Rattle.crx_filter.proofs.wayback.First.{program-clean, version-clean}
+use Rattle.crx_filter.proofs.wayback.Items.{marked_now, whole-next}
+use Rattle.crx_filter.proofs.wayback.Reading.{items-copied}
 
 abbrev IsShort : List ℕ → Type 0
 IsShort line = length line ≤ LINE_LIMIT

@@ -6,7 +6,7 @@ use Rattle.std.specs.List.{list_all, AllByRecursion}
 use Rattle.std.specs.Option.{option_map}
 use Rattle.std.proofs.Common.{sym, ◌∙◌, ap, subst, arith}
 use Rattle.std.proofs.lemmas.List.{length-map, length-append, length-take}
-use Rattle.crx_rinex.proofs.SoundEpochs.{length-columns}
+use Rattle.crx_columns.proofs.Characters.{length-columns, at, at-without_end_blanks, at-drop}
 use Rattle.crx_columns.specs.meaning.Columns.{is_blank, character_at, before_end_blanks, without_end_blanks, columns}
 use Rattle.crx_text.specs.meaning.Codes.{code_of, coded_number}
 use Rattle.crx_columns.specs.Texts.{patched, character_of}
@@ -21,14 +21,13 @@ use Rattle.crx_rinex.specs.meaning.Places.{Place, Here, Wrong, Wanted}
 use Rattle.crx_rinex.specs.meaning.SatelliteLines.{types_of_satellite}
 use Rattle.crx_header.specs.meaning.ObservationTypes.{Count, IsAllowedCount}
 use Rattle.crx_header.specs.ObservationTypes.{AreCounts}
-use Rattle.crx_rinex.proofs.Characters.{at, at-without_end_blanks, at-drop}
 use Rattle.crx_header.proofs.Counts.{allowed_of}
 use Rattle.crx_rinex.proofs.Rows.{satellites_few}
 use Rattle.crx_arcs.specs.meaning.Sequences.{and_then, named}
 use Rattle.crx_rinex.specs.meaning.EpochLines.{begins_epoch}
 use Rattle.crx_history.specs.meaning.EpochText.{Satellite}
 use Rattle.crx_history.specs.meaning.Expansion.{RawRow, code_in}
-use Rattle.crx_cells.specs.meaning.Cells.{ReadCell, cell_read}
+use Rattle.crx_arcs.specs.meaning.Cells.{ReadCell, cell_read}
 use Rattle.crx_history.specs.meaning.CompactPlaces.{ReadRow}
 use Rattle.crx_history.specs.meaning.CompactPlaces.{clock_line_read}
 use Rattle.crx_history.specs.meaning.CompactPlaces.{satellite_line_read, satellites_of_line}

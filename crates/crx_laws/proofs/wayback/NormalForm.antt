@@ -21,7 +21,8 @@ use Rattle.crx_rinex.specs.meaning.SatelliteLines.{IsSoundRow}
 use Rattle.crx_rinex.specs.meaning.Epochs.{IsWholeEpoch}
 use Rattle.crx_rinex.specs.meaning.EpochPlaces.{epoch_place}
 use Rattle.crx_rinex.specs.meaning.Places.{Here}
-use Rattle.crx_rinex.specs.meaning.Printing.{printed_cells, printed_row, printed_epoch}
+use Rattle.crx_rinex.specs.meaning.Printing.{printed_row, printed_epoch}
+use Rattle.crx_text.specs.meaning.PrintedCells.{printed_cells}
 use Rattle.crx_faults.specs.meaning.Lines.{lines_text}
 use Rattle.crx_rinex.specs.meaning.Units.{Unit as FileUnit, HeaderLine, EventLine, EventRecord, Observation}
 use Rattle.crx_rinex.specs.meaning.Units.{printed_unit}
@@ -34,20 +35,20 @@ use Rattle.crx_reading.specs.meaning.Written.{warnings_in}
 use Rattle.crx_reading.specs.meaning.Compacted.{rinex_place, whole_rinex}
 use Rattle.crx_reading.specs.meaning.Directions.{rinex_reading}
 use Rattle.crx_reading.specs.meaning.Standard.{printed_items, whole_of, normal_form}
-use Rattle.crx_engine.specs.Laws.{AreInPlace}
+use Rattle.crx_filter.specs.Laws.{AreInPlace}
 use Rattle.crx_reading.specs.meaning.WayBack.{OfCopiedLines, HaveNoReturns}
 use Rattle.crx_laws.specs.NormalForm.{IsReadAsNormal, IsStandardAsNormal, IsNormalForGood}
-use Rattle.crx_engine.proofs.reading.KeptThroughout.{within-kept}
-use Rattle.crx_engine.proofs.reading.Forward.{rinex-forward}
-use Rattle.crx_engine.proofs.following.Following.{body-place}
-use Rattle.crx_engine.proofs.wayback.Carried.{carried_unit, carried, header-same, start-same, left-same, count-same}
-use Rattle.crx_engine.proofs.wayback.Carried.{types-same, header-here, record-here, StandsAgain, whole-again}
-use Rattle.crx_engine.proofs.wayback.WayBack.{IsSettled, whole-settled}
-use Rattle.crx_engine.proofs.wayback.Cut.{IsClean, CanStand, lines-cut}
-use Rattle.crx_engine.proofs.wayback.Converse.{IsPlainLine, plain, lines-plain, printed-plain, all-plain}
-use Rattle.crx_engine.proofs.wayback.Converse.{contents-plain}
+use Rattle.crx_filter.proofs.reading.KeptThroughout.{within-kept}
+use Rattle.crx_filter.proofs.reading.Forward.{rinex-forward}
+use Rattle.crx_filter.proofs.following.Following.{body-place}
+use Rattle.crx_filter.proofs.wayback.Carried.{carried_unit, carried, header-same, start-same, left-same, count-same}
+use Rattle.crx_filter.proofs.wayback.Carried.{types-same, header-here, record-here, StandsAgain, whole-again}
+use Rattle.crx_filter.proofs.wayback.WayBack.{IsSettled, whole-settled}
+use Rattle.crx_filter.proofs.wayback.Cut.{IsClean, CanStand, lines-cut}
+use Rattle.crx_filter.proofs.wayback.Converse.{IsPlainLine, plain, lines-plain, printed-plain, all-plain}
+use Rattle.crx_filter.proofs.wayback.Converse.{contents-plain}
 use Rattle.crx_columns.proofs.EndBlanks.{few_kept}
-use Rattle.crx_engine.proofs.reading.Forward.{rinex_beginning}
+use Rattle.crx_filter.proofs.reading.Forward.{rinex_beginning}
 
 -- ---- what stands at a unit's printed lines
 

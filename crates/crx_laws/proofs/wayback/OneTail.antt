@@ -5,12 +5,11 @@ use Rattle.std.proofs.Common.{sym, ◌∙◌, ap, subst}
 use Rattle.std.proofs.lemmas.Simd.{map-map}
 use Rattle.crx_columns.specs.meaning.Columns.{without_end_blanks}
 use Rattle.crx_faults.specs.declared.limits.TheConstants.{WRITTEN_ORDER}
-use Rattle.crx_rinex.specs.meaning.Observations.{Row, Epoch}
+use Rattle.crx_rinex.specs.meaning.Observations.{Row, Epoch, value_in}
 use Rattle.crx_header.specs.meaning.ObservationTypes.{Count}
 use Rattle.crx_arcs.specs.meaning.Sequences.{stretch}
 use Rattle.crx_arcs.specs.meaning.Differences.{code_at}
 use Rattle.crx_history.specs.meaning.Compaction.{epoch_text, Marked, row_named, since_full, run_of, arc_of}
-use Rattle.crx_cells.specs.meaning.Cells.{value_in}
 use Rattle.crx_history.specs.meaning.Compaction.{codes_of}
 use Rattle.crx_history.specs.meaning.Expansion.{RawRow, RawEpoch, overlaid, raw_run_of, code_in}
 use Rattle.crx_arcs.specs.meaning.ArcValues.{since_start}

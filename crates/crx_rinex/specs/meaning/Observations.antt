@@ -1,5 +1,5 @@
 -- Observation epochs as values: RINEX 3.05, the observation data record (epoch line and satellite lines).
-use Rattle.std.specs.Prelude.{ℕ, ℤ, Option, List, is_some, filter, length}
+use Rattle.std.specs.Prelude.{ℕ, ℤ, Option, None, List, is_some, filter, length, slice_index_or}
 use Rattle.std.specs.List.{sum_by}
 
 -- a satellite in an epoch: its identifier of three characters; the values of its observation types in the header's
@@ -16,6 +16,10 @@ pub record Epoch : Type 0 where
   pub head : List ℕ
   pub clock : Option ℤ
   pub rows : List Row
+
+-- the value at a place of a row, counted from 0
+abbrev pub value_in : ℕ → Row → Option ℤ
+value_in place row = slice_index_or row.values place None
 
 -- how many values of a satellite aren't missing
 abbrev pub observations_of : Row → ℕ

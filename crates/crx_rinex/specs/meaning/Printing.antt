@@ -1,13 +1,9 @@
 -- How an observation epoch is printed: RINEX 3.05, table A3.
-use Rattle.std.specs.Prelude.{ℕ, ℤ, List, [], ◌∷◌, ◌++◌, Option, take, drop, map}
+use Rattle.std.specs.Prelude.{ℕ, ℤ, List, ◌∷◌, ◌++◌, Option, map}
 use Rattle.crx_columns.specs.meaning.Columns.{without_end_blanks}
-use Rattle.crx_text.specs.meaning.Numbers.{observation_text, clock_text}
+use Rattle.crx_text.specs.meaning.Numbers.{clock_text}
+use Rattle.crx_text.specs.meaning.PrintedCells.{printed_cells}
 use Rattle.crx_rinex.specs.meaning.Observations.{Row, Epoch}
-
--- each value with its two indicators
-abbrev pub printed_cells : List (Option ℤ) → List ℕ → List ℕ
-printed_cells [] flags = []
-printed_cells (value ∷ values) flags = observation_text value ++ take 2 flags ++ printed_cells values (drop 2 flags)
 
 -- a satellite line: the identifier and the cells, without the blanks at its end
 abbrev pub printed_row : Row → List ℕ

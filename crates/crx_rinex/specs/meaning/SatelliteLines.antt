@@ -5,7 +5,7 @@ use Rattle.std.specs.Char.{is_ascii_digit}
 use Rattle.std.specs.List.{list_all, concat}
 use Rattle.std.specs.Option.{option_and_then}
 use Rattle.crx_columns.specs.meaning.Columns.{columns, character_at, is_blank}
-use Rattle.crx_text.specs.meaning.Numbers.{observation_of, IsMissingOrWithin}
+use Rattle.crx_text.specs.meaning.Numbers.{observation_of, IsValue}
 use Rattle.crx_columns.specs.meaning.EachPlace.{each_place}
 use Rattle.crx_rinex.specs.meaning.Observations.{Row}
 use Rattle.crx_faults.specs.declared.limits.TheConstants.{OBSERVATION_WIDTH, NAME_WIDTH, CELL_WIDTH}
@@ -65,10 +65,6 @@ row_of types line = row_of_types line (types_of_satellite types line)
 -- an identifier: the letter of a system, a digit or a blank, and a digit
 abbrev pub is_identifier : List ℕ → Bool
 is_identifier name = (length name == NAME_WIDTH) && (is_system (character_at name 1) && has_number name)
-
--- a value that fits its columns, or none
-abbrev pub IsValue : Option ℤ → Type 0
-IsValue value = IsMissingOrWithin OBSERVATION_WIDTH value
 
 -- what is true of every row: its identifier has the form of one; it has as many values as a system may have types, each
 -- within its columns; and two indicators for each, of the characters that may stand there

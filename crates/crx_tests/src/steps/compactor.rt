@@ -1,11 +1,11 @@
 //! The engine that compacts.
 
 ghost use Rattle.std.specs.Prelude.{◌≡◌, ◌+◌, [], length};
-ghost use Rattle.crx_engine.specs.CompactorState.{compactor_seen, compactor_ready};
+ghost use Rattle.crx_filter.specs.CompactorState.{compactor_seen, compactor_ready};
 
 use super::*;
 use crate::owned::Owned;
-use crx_engine::Compactor;
+use crx_filter::Compactor;
 
 /// Takes the lines that are ready, at most four: how many there were.
 fn take_ready(engine: &mut Compactor) -> usize

@@ -1,11 +1,11 @@
 //! The engine that expands.
 
 ghost use Rattle.std.specs.Prelude.{◌≡◌, ◌+◌, [], length};
-ghost use Rattle.crx_engine.specs.ExpanderState.{expander_state};
+ghost use Rattle.crx_filter.specs.ExpanderState.{expander_state};
 
 use super::*;
 use crate::owned::Owned;
-use crx_engine::Expander;
+use crx_filter::Expander;
 
 /// Takes the lines that are ready, at most four: how many there were.
 fn take_ready(engine: &mut Expander) -> usize

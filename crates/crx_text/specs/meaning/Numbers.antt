@@ -68,6 +68,10 @@ pub record IsWithin (width : ℕ) (number : ℤ) : Type 0 where
 abbrev pub IsMissingOrWithin : ℕ → Option ℤ → Type 0
 IsMissingOrWithin width number = IfSome number (IsWithin width)
 
+-- an observation that fits its columns, or none
+abbrev pub IsValue : Option ℤ → Type 0
+IsValue value = IsMissingOrWithin OBSERVATION_WIDTH value
+
 -- ---- printing
 
 -- a number's digits, with zeros before them up to so many digits

@@ -7,7 +7,8 @@ use Rattle.std.specs.Fmt.{digits}
 use Rattle.crx_text.specs.meaning.Codes.{coded_number}
 use Rattle.crx_text.specs.Numbers.{IsObservation}
 use Rattle.crx_header.specs.ObservationTypes.{IsCount}
-use Rattle.crx_rinex.specs.meaning.SatelliteLines.{IsValue, IsSoundRow, HasItsTypes}
+use Rattle.crx_rinex.specs.meaning.SatelliteLines.{IsSoundRow, HasItsTypes}
+use Rattle.crx_text.specs.meaning.Numbers.{IsValue}
 use Rattle.crx_rinex.specs.meaning.Epochs.{IsWholeEpoch}
 use Rattle.crx_laws.specs.Examples.{one_type}
 use Rattle.crx_examples.specs.CompactExamples.{row_of_g01, epoch_of_one}

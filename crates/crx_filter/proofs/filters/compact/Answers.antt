@@ -2,11 +2,11 @@ use Rattle.std.proofs.Common.{◌≡◌, [], ap}
 use Rattle.crx_rinex.specs.meaning.EpochPlaces.{OpenEpoch}
 use Rattle.crx_reading.specs.LineByLine.{Seen}
 use Rattle.crx_reading.specs.CompactionByLine.{Written, compaction_seen}
-use Rattle.crx_engine.specs.CompactorState.{compactor_seen}
-use Rattle.crx_engine.specs.declared.compactor.Compactor.{Compactor}
+use Rattle.crx_filter.specs.CompactorState.{compactor_seen}
+use Rattle.crx_filter.specs.declared.compactor.Compactor.{Compactor}
 use Rattle.crx_reading.specs.meaning.Directions.{compaction_filter}
 use Rattle.std.proofs.lemmas.Result.{IfOk-weaker}
-use Rattle.crx_engine.proofs.following.Lawful.{compaction-lawful}
+use Rattle.crx_filter.proofs.following.Lawful.{compaction-lawful}
 use Rattle.crx_filter.proofs.filters.compact.Goals as goal
 
 pub returns : goal.returns

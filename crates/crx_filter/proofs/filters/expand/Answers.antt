@@ -2,14 +2,14 @@ use Rattle.std.proofs.Common.{◌≡◌, ℕ, List, [], Option, ap}
 use Rattle.crx_compact.specs.OpenEpochs.{OpenRawEpoch}
 use Rattle.crx_history.specs.Tails.{Tail}
 use Rattle.crx_reading.specs.ExpansionByLine.{expansion_seen}
-use Rattle.crx_engine.specs.declared.expander.Expander.{Expander}
+use Rattle.crx_filter.specs.declared.expander.Expander.{Expander}
 use Rattle.crx_reading.specs.LineByLine.{Seen}
 use Rattle.crx_reading.specs.meaning.Expanded.{expanded}
-use Rattle.crx_engine.specs.ExpanderState.{expander_state}
+use Rattle.crx_filter.specs.ExpanderState.{expander_state}
 use Rattle.crx_reading.specs.meaning.Directions.{expansion_filter}
 use Rattle.crx_runs.specs.meaning.Spans.{Input, reader_span, Device, span}
 use Rattle.std.proofs.lemmas.Result.{IfOk-weaker}
-use Rattle.crx_engine.proofs.following.Lawful.{expansion-lawful}
+use Rattle.crx_filter.proofs.following.Lawful.{expansion-lawful}
 use Rattle.crx_filter.specs.meaning.Promises.{BringsBackWhatWasCompacted, SavesAllElse}
 use Rattle.crx_filter.proofs.Kept.{kept, brings-back, saves-all_else}
 use Rattle.crx_filter.proofs.filters.expand.Goals as goal

@@ -4,7 +4,7 @@ use Rattle.std.specs.List.{flat_map}
 use Rattle.std.proofs.Math.Seq.{take-append_seam}
 use Rattle.std.proofs.lemmas.List.{append-nil, length-append, length-replicate, length-take, take_all, take_at}
 use Rattle.crx_rinex.specs.meaning.Observations.{Row}
-use Rattle.crx_cells.proofs.PlaceByPlace.{some-there}
+use Rattle.crx_arcs.proofs.PlaceByPlace.{some-there}
 use Rattle.crx_history.proofs.Making.{taken_all, texts_more, texts_all}
 use Rattle.crx_history.proofs.kept.push_names.Goals as goal
 

@@ -1,4 +1,4 @@
-use Rattle.crx_engine.proofs.reading.Anew.{depends-on_types}
+use Rattle.crx_filter.proofs.reading.Anew.{depends-on_types}
 use Rattle.crx_laws.proofs.filter_laws.reading_starts_anew.Goals as goal
 
 pub returns : goal.returns

@@ -1,5 +1,5 @@
-use Rattle.crx_engine.proofs.reading.Resuming.{resumed}
-use Rattle.crx_engine.proofs.reading.ForwardCompact.{compact-forward}
+use Rattle.crx_filter.proofs.reading.Resuming.{resumed}
+use Rattle.crx_filter.proofs.reading.ForwardCompact.{compact-forward}
 use Rattle.crx_reading.specs.meaning.Expanded.{compact_place}
 use Rattle.crx_laws.proofs.filter_laws.resumed_compact.Goals as goal
 

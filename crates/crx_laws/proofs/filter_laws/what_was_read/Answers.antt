@@ -1,5 +1,5 @@
 use Rattle.crx_reading.specs.meaning.Compacted.{rinex_place}
-use Rattle.crx_engine.proofs.reading.WhatWasRead.{items-read, compact-items-read}
+use Rattle.crx_filter.proofs.reading.WhatWasRead.{items-read, compact-items-read}
 use Rattle.crx_laws.proofs.filter_laws.what_was_read.Goals as goal
 
 pub returns : goal.returns

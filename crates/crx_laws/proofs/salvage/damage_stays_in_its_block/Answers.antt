@@ -1,4 +1,4 @@
-use Rattle.crx_engine.proofs.damage.DamageStays.{saved-lines}
+use Rattle.crx_filter.proofs.damage.DamageStays.{saved-lines}
 use Rattle.crx_laws.proofs.salvage.damage_stays_in_its_block.Goals as goal
 
 pub returns : goal.returns

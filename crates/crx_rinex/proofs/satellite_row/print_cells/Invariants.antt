@@ -1,5 +1,5 @@
 use Rattle.std.proofs.Common.{◌≡◌, ◌+◌, ◌*◌, ◌++◌, length, drop}
-use Rattle.crx_rinex.specs.meaning.Printing.{printed_cells}
+use Rattle.crx_text.specs.meaning.PrintedCells.{printed_cells}
 use Rattle.crx_rinex.proofs.satellite_row.print_cells.Given as goal
 
 -- the cells that are left complete the text, and there is room for them

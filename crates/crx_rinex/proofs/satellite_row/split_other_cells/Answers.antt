@@ -3,7 +3,7 @@ use Rattle.std.proofs.Common.{◌++◌, ◌∷◌, [], refl}
 use Rattle.std.proofs.lemmas.List.{take_more_set, length-set}
 use Rattle.std.proofs.lemmas.List.Elements.{All-push, All-same}
 use Rattle.crx_columns.specs.meaning.Columns.{character_at}
-use Rattle.crx_rinex.specs.meaning.SatelliteLines.{IsValue}
+use Rattle.crx_text.specs.meaning.Numbers.{IsValue}
 use Rattle.crx_rinex.proofs.Cells.{values_in_none, values_in_more, pair_pushed}
 use Rattle.crx_rinex.proofs.satellite_row.split_other_cells.Goals as goal
 

@@ -1,5 +1,6 @@
 use Rattle.std.proofs.Common.{◌≡◌, ◌*◌, Some, length, take, All}
-use Rattle.crx_rinex.specs.meaning.SatelliteLines.{values_in, flags_in, IsValue}
+use Rattle.crx_rinex.specs.meaning.SatelliteLines.{values_in, flags_in}
+use Rattle.crx_text.specs.meaning.Numbers.{IsValue}
 use Rattle.crx_rinex.proofs.satellite_row.split_plain_cells.Given as goal
 
 -- the cells so far

@@ -2,8 +2,8 @@ use Rattle.std.proofs.Common.{◌≡◌, ℕ, ℤ, ◌+◌, ◌*◌, ◌<◌, �
 use Rattle.std.specs.Prelude.{slice_set}
 use Rattle.std.proofs.lemmas.List.{get_or_past, length-set, take_all, take_more_set}
 use Rattle.std.proofs.lemmas.List.Elements.{All-push, All-same}
-use Rattle.crx_text.specs.meaning.Numbers.{observation_of}
-use Rattle.crx_rinex.specs.meaning.SatelliteLines.{field, flags_in, values_in, IsValue}
+use Rattle.crx_text.specs.meaning.Numbers.{observation_of, IsValue}
+use Rattle.crx_rinex.specs.meaning.SatelliteLines.{field, flags_in, values_in}
 use Rattle.crx_rinex.proofs.Cells.{read_inside, values_in_more, pair_pushed}
 use Rattle.crx_rinex.proofs.satellite_row.take_last_cell.Goals as goal
 

@@ -1,6 +1,6 @@
-use Rattle.crx_engine.specs.CompactorState.{compactor_seen}
-use Rattle.crx_engine.proofs.following.CheckLawful.{check-lawful}
-use Rattle.crx_engine.proofs.following.Lawful.{compaction-lawful, expansion-lawful}
+use Rattle.crx_filter.specs.CompactorState.{compactor_seen}
+use Rattle.crx_filter.proofs.following.CheckLawful.{check-lawful}
+use Rattle.crx_filter.proofs.following.Lawful.{compaction-lawful, expansion-lawful}
 use Rattle.rnxcmp_c.proofs.engines.end_any.Goals as goal
 
 pub take_last-requires-clause-lawful : goal.take_last-requires-clause-lawful

@@ -1,7 +1,7 @@
 use Rattle.std.proofs.Common.{◌≡◌, [], sym, ap, ◌∙◌}
 use Rattle.crx_rinex.specs.meaning.EpochPlaces.{OpenEpoch}
 use Rattle.crx_reading.specs.CompactionByLine.{Written, compaction_seen}
-use Rattle.crx_engine.specs.CompactorState.{compactor_seen}
+use Rattle.crx_filter.specs.CompactorState.{compactor_seen}
 use Rattle.crx_reading.specs.meaning.Directions.{compaction_filter}
 use Rattle.crx_reading.specs.LineByLine.{Seen}
 use Rattle.crx_options.specs.meaning.Choices.{Choices}

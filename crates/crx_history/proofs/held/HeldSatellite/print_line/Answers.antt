@@ -1,6 +1,7 @@
 use Rattle.std.proofs.Common.{sym, ◌+◌, ◌*◌, ◌++◌, List, ℕ, Option, length, map, take, ap, ◌∙◌, arith}
 use Rattle.crx_columns.specs.meaning.Columns.{columns, without_end_blanks}
-use Rattle.crx_rinex.specs.meaning.Printing.{printed_cells, printed_row}
+use Rattle.crx_rinex.specs.meaning.Printing.{printed_row}
+use Rattle.crx_text.specs.meaning.PrintedCells.{printed_cells}
 use Rattle.crx_columns.proofs.WrittenTexts.{LineWritten, line-written}
 use Rattle.crx_history.specs.ShownRows.{shown_row}
 use Rattle.crx_arcs.specs.ArcSteps.{shown_value}

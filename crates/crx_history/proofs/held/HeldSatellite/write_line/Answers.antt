@@ -1,40 +1,48 @@
-use Rattle.std.proofs.Common.{◌+◌, ◌++◌, List, ℕ, length, take, ap, ◌∙◌, arith}
+use Rattle.std.proofs.Common.{◌≡◌, ◌+◌, ◌++◌, List, Option, ℕ, ℤ, length, take, ap, ◌∙◌, arith}
 use Rattle.std.specs.Prelude.{flat_map}
 use Rattle.crx_columns.specs.meaning.Columns.{without_end_blanks}
-use Rattle.crx_cells.specs.Cells.{codes_of_row}
-use Rattle.crx_cells.specs.meaning.Cells.{cell_text}
+use Rattle.crx_arcs.specs.Cells.{codes_of_cells}
+use Rattle.crx_arcs.specs.meaning.Cells.{cell_text}
 use Rattle.crx_columns.proofs.WrittenTexts.{LineWritten, line-written}
 use Rattle.crx_history.proofs.held.HeldSatellite.write_line.Goals as goal
 
 pub returns-clause-line : goal.returns-clause-line
 returns-clause-line c =
-    let cells : List ℕ = flat_map cell_text (codes_of_row c.args.arcs.now c.args.row.now) in
+    let cells : List ℕ = flat_map cell_text (codes_of_cells c.args.arcs.now c.args.row.now.values) in
     let marks : List ℕ = c.args.marks.now in
     let room = c.requires.room in
     let within = c.write_cells-end.ensures.within in
+    let count = ap length c.values.ensures.value in
     let end = c.put_text-end.ensures.end in
     let same = c.write_cells-end.auto.bytes in
     let same' = c.put_text-end.auto.bytes in
+    let put : take c.write_cells-end.result c.write_cells-end.new.bytes ≡ take c.args.at c.args.bytes.now ++ cells =
+    c.write_cells-end.ensures.written
+    ∙ ap (λ (vs : List (Option ℤ)). take c.args.at c.args.bytes.now ++ flat_map cell_text (codes_of_cells c.args.arcs.now vs))
+    c.values.ensures.value in
     let written : LineWritten c.put_text-end.new.bytes c.args.bytes.now cells marks c.args.at c.put_text-end.result =
-    line-written _ _ _ _ _ _ (c.put_text-end.ensures.put
-    ∙ ap (λ (t : List ℕ). t ++ marks) c.write_cells-end.ensures.written)
-    (omega (arith, room, within, end, same, same')) (omega (arith, room)) in
+    line-written _ _ _ _ _ _ (c.put_text-end.ensures.put ∙ ap (λ (t : List ℕ). t ++ marks) put)
+    (omega (arith, room, within, count, end, same, same')) (omega (arith, room)) in
     let trimmed = c.trim_end.ensures ∙ ap without_end_blanks written.seen in
     ap (λ (t : List ℕ). take (c.args.at + length t) c.put_text-end.new.bytes) trimmed ∙ written.is
 
 pub returns-clause-within : goal.returns-clause-within
 returns-clause-within c =
-    let cells : List ℕ = flat_map cell_text (codes_of_row c.args.arcs.now c.args.row.now) in
+    let cells : List ℕ = flat_map cell_text (codes_of_cells c.args.arcs.now c.args.row.now.values) in
     let marks : List ℕ = c.args.marks.now in
     let room = c.requires.room in
     let within = c.write_cells-end.ensures.within in
+    let count = ap length c.values.ensures.value in
     let end = c.put_text-end.ensures.end in
     let same = c.write_cells-end.auto.bytes in
     let same' = c.put_text-end.auto.bytes in
+    let put : take c.write_cells-end.result c.write_cells-end.new.bytes ≡ take c.args.at c.args.bytes.now ++ cells =
+    c.write_cells-end.ensures.written
+    ∙ ap (λ (vs : List (Option ℤ)). take c.args.at c.args.bytes.now ++ flat_map cell_text (codes_of_cells c.args.arcs.now vs))
+    c.values.ensures.value in
     let written : LineWritten c.put_text-end.new.bytes c.args.bytes.now cells marks c.args.at c.put_text-end.result =
-    line-written _ _ _ _ _ _ (c.put_text-end.ensures.put
-    ∙ ap (λ (t : List ℕ). t ++ marks) c.write_cells-end.ensures.written)
-    (omega (arith, room, within, end, same, same')) (omega (arith, room)) in
+    line-written _ _ _ _ _ _ (c.put_text-end.ensures.put ∙ ap (λ (t : List ℕ). t ++ marks) put)
+    (omega (arith, room, within, count, end, same, same')) (omega (arith, room)) in
     let trimmed = ap length (c.trim_end.ensures ∙ ap without_end_blanks written.seen) in
     let kept = written.within in
-    omega (arith, room, within, end, same, same', trimmed, kept)
+    omega (arith, room, within, count, end, same, same', trimmed, kept)

@@ -1,8 +1,8 @@
 use Rattle.std.proofs.Common.{rules, ap, ◌∙◌, sym}
 use Rattle.crx_faults.specs.declared.limits.TheConstants.{CLOCK_WIDTH}
-use Rattle.crx_cells.specs.meaning.Cells.{ReadCell}
+use Rattle.crx_arcs.specs.meaning.Cells.{ReadCell}
 use Rattle.crx_arcs.specs.ArcSteps.{shown_value}
-use Rattle.crx_cells.proofs.CellsRead.{shown-code}
+use Rattle.crx_arcs.proofs.CellsRead.{shown-code}
 use Rattle.crx_history.proofs.kept.KeptEpoch.read_clock.Goals as goal
 
 pub returns-clause-ok : goal.returns-clause-ok

@@ -3,7 +3,7 @@ use Rattle.std.proofs.lemmas.Option.{slice_get_within}
 use Rattle.crx_arcs.specs.meaning.Sequences.{named}
 use Rattle.crx_history.specs.Tails.{RowTail, Tail}
 use Rattle.crx_history.specs.HeldRows.{row_held}
-use Rattle.crx_cells.proofs.PlaceByPlace.{value-there}
+use Rattle.crx_arcs.proofs.PlaceByPlace.{value-there}
 use Rattle.crx_history.proofs.Marks.{if-err, next-row, on-ok, row-by_tail}
 use Rattle.crx_history.proofs.kept.KeptEpoch.read_row.Goals as goal
 

@@ -3,8 +3,8 @@ use Rattle.std.specs.Prelude.{flat_map}
 use Rattle.std.proofs.lemmas.List.{length-set, take_at}
 use Rattle.crx_columns.specs.meaning.Columns.{without_end_blanks}
 use Rattle.crx_columns.specs.meaning.Texts.{text_difference}
-use Rattle.crx_cells.specs.Cells.{codes_of_row}
-use Rattle.crx_cells.specs.meaning.Cells.{cell_text}
+use Rattle.crx_arcs.specs.Cells.{codes_of_cells}
+use Rattle.crx_arcs.specs.meaning.Cells.{cell_text}
 use Rattle.crx_history.specs.LineLists.{cut}
 use Rattle.crx_columns.proofs.WrittenTexts.{same-before}
 use Rattle.crx_history.proofs.LineTexts.{row-pushed}
@@ -24,7 +24,7 @@ invariant_of-self-then-is_err c =
     let same : take inside.filled new ≡ take inside.filled inside.bytes.items =
     same-before new grown _ inside.filled c.write_line-length.result
     (c.write_line-length.ensures.line ∙ ap (λ (t : List ℕ). take inside.filled t ++ without_end_blanks
-    (flat_map cell_text (codes_of_row c.args.arcs.now c.args.row.now) ++ c.bytes.result.now)) seen)
+    (flat_map cell_text (codes_of_cells c.args.arcs.now c.args.row.now.values) ++ c.bytes.result.now)) seen)
     (omega (arith, kept, longer)) ∙ c.in_ok-grow.ensures.same inside.filled kept in
     let room = c.write_line-length.ensures.within in
     rw (take_at new (drop (length new) grown) c.grow.new.bytes.len long, lengths, same)
@@ -45,7 +45,7 @@ invariant_of-self-2 c =
     grown new _ inside.filled c.write_line-length.result inside.handed_out inside.handed_out_bytes c.self.invariant.0
     (omega (arith, kept, longer)) (c.in_ok-grow.ensures.same inside.filled kept)
     (c.write_line-length.ensures.line ∙ ap (λ (t : List ℕ). take inside.filled t ++ without_end_blanks
-    (flat_map cell_text (codes_of_row c.args.arcs.now c.args.row.now) ++ c.bytes.result.now)) seen)
+    (flat_map cell_text (codes_of_cells c.args.arcs.now c.args.row.now.values) ++ c.bytes.result.now)) seen)
     c.write_line-length.ensures.within lengths in
     let room = c.write_line-length.ensures.within in
     rw (take_at new (drop (length new) grown) c.grow.new.bytes.len long)
@@ -58,7 +58,7 @@ returns-clause-line c =
     let new = c.write_line-length.new.bytes in
     let seen = c.deref_mut.ensures.value in
     let before = c.args.flags.now in
-    let cells : List ℕ = flat_map cell_text (codes_of_row c.args.arcs.now c.args.row.now) in
+    let cells : List ℕ = flat_map cell_text (codes_of_cells c.args.arcs.now c.args.row.now.values) in
     let long : length new ≡ c.grow.new.bytes.len = let a =
     c.write_line-length.auto.bytes in let b = c.deref_mut.ensures.len in omega (arith, a, b) in
     let lengths : c.push.new.self.items ≡ inside.lengths.items ++ c.write_line-length.result ∷ [] = search rules in

@@ -1,5 +1,5 @@
 use Rattle.std.proofs.Common.{◌≡◌, []}
-use Rattle.crx_engine.specs.CompactorState.{compactor_seen, compactor_ready}
+use Rattle.crx_filter.specs.CompactorState.{compactor_seen, compactor_ready}
 use Rattle.crx_tests.proofs.steps.compactor.feed_all.Given as goal
 
 -- all lines were taken, and so many count

@@ -1,5 +1,5 @@
 use Rattle.std.proofs.Common.{◌≡◌, []}
-use Rattle.crx_engine.specs.ExpanderState.{expander_state}
+use Rattle.crx_filter.specs.ExpanderState.{expander_state}
 use Rattle.crx_tests.proofs.steps.expander.feed_all.Given as goal
 
 -- all lines were taken, and so many count

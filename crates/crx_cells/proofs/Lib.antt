@@ -1,2 +1,0 @@
-pub mod CellsRead
-pub mod PlaceByPlace

@@ -1,0 +1,212 @@
+-- What is read after a damaged block is what the undamaged text has there.
+use Rattle.std.proofs.Common.{ℕ, ◌≡◌, ◌+◌, ◌≤◌, true, false, cond, List, [], ◌∷◌, ◌++◌, map, length, Option, None, refl}
+use Rattle.std.proofs.Common.{ap, sym, ◌∙◌, subst, append_assoc, append-nil}
+use Rattle.std.proofs.lemmas.Bool.{and_parts}
+use Rattle.crx_faults.specs.meaning.Lines.{InputLine, pieces_of, lines_of}
+use Rattle.crx_faults.specs.meaning.Seen.{ReadLine, Content, Overlong, seen}
+use Rattle.crx_faults.specs.declared.fault.At.{At}
+use Rattle.crx_rinex.specs.meaning.Observations.{Epoch}
+use Rattle.crx_rinex.specs.meaning.EpochLines.{begins_epoch, is_event_line}
+use Rattle.crx_rinex.specs.meaning.Units.{Observation}
+use Rattle.crx_history.specs.meaning.CompactPlaces.{ReadEpoch}
+use Rattle.crx_options.specs.meaning.Choices.{Choices}
+use Rattle.crx_reading.specs.meaning.Items.{Item, Accepted, Warned, header_has_ended, records_announced, records_left}
+use Rattle.crx_reading.specs.meaning.Items.{types_in_force}
+use Rattle.crx_reading.specs.meaning.Reading.{Reading, WholeReading, AtLines, reading_from, ended_reading}
+use Rattle.crx_filter.specs.Laws.{continued_reading, AreInPlace}
+use Rattle.crx_reading.specs.meaning.Compacted.{version_line, program_line, compact_unit, compact_lines}
+use Rattle.crx_reading.specs.meaning.Expanded.{compact_place}
+use Rattle.crx_reading.specs.meaning.WayBack.{HaveNoReturns}
+use Rattle.crx_filter.specs.Anew.{IsBetweenUnits, GoOnAlike, starts_anew}
+use Rattle.crx_reading.specs.meaning.Damage.{lines_of_epochs, with_epochs, IsDamaged}
+use Rattle.crx_filter.proofs.reading.Resuming.{within-wanted, resumed}
+use Rattle.crx_filter.proofs.reading.Anew.{depends-on_types}
+use Rattle.crx_filter.proofs.reading.ForwardCompact.{compact-forward}
+use Rattle.crx_filter.proofs.wayback.Carried.{started, header-same, left-same, types-same, reads-again}
+use Rattle.crx_filter.proofs.wayback.Items.{body_unit, known_back, read_back, unit-here}
+use Rattle.crx_filter.proofs.wayback.Reading.{lines_back}
+use Rattle.crx_filter.proofs.wayback.WayBack.{IsSettled, whole-settled, lines-same}
+use Rattle.crx_filter.proofs.wayback.Standard.{NoReturn, whole-copied, plain-no_return}
+use Rattle.crx_filter.proofs.damage.BlockReading.{IsBlockRead, with_reads, reads-between, reads-types}
+use Rattle.crx_filter.proofs.damage.GoingOn.{with_warnings, warned-between, warned-types, GoesOnAt, EndsAfter, block-goes_on}
+use Rattle.crx_filter.proofs.damage.GoingOn.{block-ends, ends-well}
+use Rattle.crx_filter.proofs.damage.TextAfter.{lines_on, written-on, reads-on}
+use Rattle.crx_filter.proofs.damage.SavedText.{header-append, left-append}
+
+-- ---- the epochs of a block
+
+pub epochs-append : (before : List (Item Epoch)) (one two : List Epoch)
+    → with_epochs before (one ++ two) ≡ with_epochs (with_epochs before one) two
+epochs-append before [] two = refl
+epochs-append before (epoch ∷ one) two = epochs-append (Accepted (Observation epoch) ∷ before) one two
+
+pub epochs-in_place : (before : List (Item Epoch)) (epochs : List Epoch)
+    → AreInPlace (with_epochs before epochs) → AreInPlace before
+epochs-in_place before [] h = h
+epochs-in_place before (epoch ∷ later) h = let more = epochs-in_place (Accepted (Observation epoch) ∷ before) later h in
+    more.1
+
+pub rest-in_place : (later before : List (Item Epoch)) → AreInPlace (later ++ before) → AreInPlace before
+rest-in_place [] before h = h
+rest-in_place (Accepted unit ∷ later) before h = rest-in_place later before h.1
+rest-in_place (Warned at ∷ later) before h = rest-in_place later before h.1
+
+pub epochs-header : (before : List (Item Epoch)) (epochs : List Epoch)
+    → header_has_ended before ≡ true → header_has_ended (with_epochs before epochs) ≡ true
+epochs-header before [] h = h
+epochs-header before (epoch ∷ later) h = epochs-header (Accepted (Observation epoch) ∷ before) later h
+
+pub epochs-left : (before : List (Item Epoch)) (epochs : List Epoch)
+    → records_left before ≡ 0 → records_left (with_epochs before epochs) ≡ 0
+epochs-left before [] h = h
+epochs-left before (epoch ∷ later) h = epochs-left (Accepted (Observation epoch) ∷ before) later refl
+
+pub epochs-types : (before : List (Item Epoch)) (epochs : List Epoch)
+    → types_in_force (with_epochs before epochs) ≡ types_in_force before
+epochs-types before [] = refl
+epochs-types before (epoch ∷ later) = epochs-types (Accepted (Observation epoch) ∷ before) later
+
+pub epochs-lines : (choices : Choices) (before : List (Item Epoch)) (epochs : List Epoch) → lines_back choices.every
+    (with_epochs before epochs) ≡ lines_back choices.every before ++ lines_of_epochs choices before epochs
+epochs-lines choices before [] = sym (append-nil (lines_back choices.every before))
+epochs-lines choices before (epoch ∷ later) =
+    epochs-lines choices (Accepted (Observation epoch) ∷ before) later
+    ∙ append_assoc (lines_back choices.every before) (compact_unit choices before (Observation epoch))
+    (lines_of_epochs choices (Accepted (Observation epoch) ∷ before) later)
+
+-- ---- how compact text is read up to some items
+
+pub back-between : (every : Option ℕ) (items : List (Item Epoch))
+    → AreInPlace items → header_has_ended items ≡ true → records_left items ≡ 0 → IsBetweenUnits (read_back every items)
+back-between every items h header none = record {
+  header = header-same (known_back every) items
+      ∙ header;
+  none = left-same (known_back every) items h ∙ none;
+}
+
+pub up_to : (every : Option ℕ) (items : List (Item Epoch)) (more : List ReadLine) → AreInPlace items
+    → reading_from compact_place true [] 3 (map Content (lines_back every items) ++ more)
+    ≡ reading_from compact_place true (read_back every items) (3 + length (lines_back every items)) more
+up_to every items more h =
+    resumed compact_place compact-forward true [] 3 (map Content (lines_back every items)) more
+    ∙ ap (λ r. continued_reading compact_place true r more) (reads-again compact_place
+    (known_back every) (body_unit every) compact-forward (unit-here every) true 3 items h)
+
+-- ---- after the block
+
+-- a reading that ended well, after these items and at most one warning, with what an undamaged reading has after the
+-- block
+pub record IsSaved (items block all : List (Item ReadEpoch)) (whole : WholeReading ReadEpoch) : Type 0 where
+  pub warnings : List At
+  pub few : length warnings ≤ 1
+  pub more : List (Item ReadEpoch)
+  pub rest : more ++ block ≡ all
+  pub same : whole ≡ record { items = more ++ with_warnings warnings items; fault = None }
+
+-- what is known of the undamaged text
+pub record IsUndamaged (every : Option ℕ) (after block : List (Item Epoch)) : Type 0 where
+  pub in_place : AreInPlace (after ++ block)
+  pub header : header_has_ended block ≡ true
+  pub left : records_left block ≡ 0
+  pub closed : records_left (after ++ block) ≡ 0
+
+anew-saved : (every : Option ℕ) (after block : List (Item Epoch))
+    (items : List (Item ReadEpoch)) (r : Reading ReadEpoch) (line : List ℕ) (tail : List ReadLine)
+    → IsUndamaged every after block → map Content (lines_on every after block) ≡ Content line ∷ tail
+    → starts_anew 0 (Content line ∷ tail) ≡ true
+    → IsBetweenUnits items → types_in_force items ≡ types_in_force block → GoesOnAt items (Content line ∷ tail) r
+    → IsSaved items (read_back every block) (read_back every (after ++ block)) (ended_reading true r)
+anew-saved every after block items r line tail h e anew between types g =
+    let x : List (Item ReadEpoch) = with_warnings g.warnings items in
+    let y : List (Item ReadEpoch) = read_back every block in
+    let all : List (Item ReadEpoch) = read_back every (after ++ block) in
+    let placed : AreInPlace block = rest-in_place after block h.in_place in
+    let x_between : IsBetweenUnits x = warned-between g.warnings items between in
+    let y_between : IsBetweenUnits y = back-between every block placed h.header h.left in
+    let alike : GoOnAlike x y (reading_from compact_place true x g.number (Content line ∷ tail))
+    (reading_from compact_place true y g.number (Content line ∷ tail)) =
+    depends-on_types true x y g.number (Content line ∷ tail) x_between y_between (warned-types g.warnings items
+    ∙ types ∙ sym (types-same (known_back every) block placed)) anew in
+    let last : ℕ = g.number + length (lines_on every after block) in
+    let both : ◌≡◌ {A = Reading ReadEpoch}
+    (record { items = alike.more ++ y; stop = alike.stop }) (record { items = all; stop = AtLines last [] }) =
+    sym alike.second ∙ ap (λ ls. reading_from compact_place true y g.number ls) (sym e)
+    ∙ reads-on every true g.number after block h.in_place in
+    let rest : alike.more ++ y ≡ all = ap (λ (s : Reading ReadEpoch). s.items) both in
+    let end : IsBetweenUnits (alike.more ++ x) = record {
+      header = header-append alike.more x x_between.header;
+      none = left-append alike.more x y (x_between.none ∙ sym y_between.none)
+          ∙ ap records_left rest ∙ left-same (known_back every) (after ++ block) h.in_place ∙ h.closed;
+    } in
+    let stop : alike.stop ≡ AtLines last [] = ap (λ (s : Reading ReadEpoch). s.stop) both in
+    let read : r ≡ record { items = alike.more ++ x; stop = AtLines last [] } = g.same
+    ∙ alike.first ∙ ap (λ k. record { items = alike.more ++ x; stop = k }) stop in
+    record {
+      warnings = g.warnings;
+      few = g.few;
+      more = alike.more;
+      rest = rest;
+      same = ap (ended_reading true) read ∙ ends-well (alike.more ++ x) last end;
+    }
+
+-- what comes after a block that was read, whatever it is
+pub tail-saved : (every : Option ℕ) (after block : List (Item Epoch)) (before : List (Item ReadEpoch)) (number : ℕ)
+    (lines tail : List ReadLine) (b : IsBlockRead before (reading_from compact_place true before number lines))
+    → IsUndamaged every after block → map Content (lines_on every after block) ≡ tail
+    → starts_anew 0 tail ≡ true → IsBetweenUnits before → types_in_force before ≡ types_in_force block
+    → IsSaved (with_reads before b.reads) (read_back every block) (read_back every (after ++ block))
+    (ended_reading true (reading_from compact_place true before number (lines ++ tail)))
+tail-saved every after block before number lines [] b h e anew between types =
+    let r : Reading ReadEpoch = reading_from compact_place true before number lines in
+    let end : EndsAfter (with_reads before b.reads) (ended_reading true r) = block-ends before r b between in
+    let y : List (Item ReadEpoch) = read_back every block in
+    record {
+      warnings = end.warnings;
+      few = end.few;
+      more = [];
+      rest = ap (λ (s : Reading ReadEpoch). s.items)
+          (sym (within-wanted compact_place true 0 y 0 [] (compact-forward.wants y))
+          ∙ ap (λ ls. reading_from compact_place true y 0 ls) (sym e) ∙ reads-on every true 0 after block h.in_place);
+      same = ap (λ ls. ended_reading true (reading_from compact_place true before number ls))
+          (append-nil lines) ∙ end.same;
+    }
+tail-saved every after block before number lines (Overlong ∷ tail) b h e anew between types = absurd (cc)
+tail-saved every after block before number lines (Content line ∷ tail) b h e anew between types =
+    let r : Reading ReadEpoch = reading_from compact_place true before number lines in
+    let begins : begins_epoch line ≡ true = (and_parts
+    (begins_epoch line) (cond (is_event_line line) (starts_anew (records_announced line) tail) true) anew).0 in
+    subst (λ (s : Reading ReadEpoch). IsSaved
+    (with_reads before b.reads) (read_back every block) (read_back every (after ++ block)) (ended_reading true s))
+    (sym (resumed compact_place compact-forward true before number lines (Content line ∷ tail)))
+    (anew-saved every after block (with_reads before b.reads) (continued_reading compact_place true r (Content line
+    ∷ tail)) line tail h e anew (reads-between before b.reads between) (reads-types before b.reads ∙ types)
+    (block-goes_on before r b line tail between begins))
+
+-- ---- a damaged text, and what is known of it
+
+abbrev pub contents : List InputLine → List (List ℕ)
+contents lines = map (λ (line : InputLine). line.content) lines
+
+-- the items of a standard file, with the epochs of one block among them
+pub record IsPlaced (choices : Choices)
+    (before : List (Item Epoch)) (first : Epoch) (others : List Epoch) (after : List (Item Epoch)) : Type 0 where
+  pub settled : IsSettled (after ++ with_epochs before (first ∷ others))
+  pub no_returns : HaveNoReturns (after ++ with_epochs before (first ∷ others))
+
+pub placed : (input : List ℕ) (choices : Choices) (damaged : List ℕ) (d : IsDamaged input choices damaged)
+    → IsPlaced choices d.before d.first d.others d.after
+placed input choices damaged d = record {
+  settled = subst IsSettled d.parts (whole-settled false input d.standard.good);
+  no_returns = subst HaveNoReturns d.parts
+      (whole-copied NoReturn false (map seen (lines_of input)) (plain-no_return (pieces_of input) d.standard.plain));
+}
+
+-- the compact text of all items is that up to the block's end and that after it
+pub text-parts : (choices : Choices) (after block : List (Item Epoch))
+    → AreInPlace (after ++ block) → header_has_ended (after ++ block) ≡ true → header_has_ended block ≡ true
+    → compact_lines choices (after ++ block) ≡ compact_lines choices block ++ lines_on choices.every after block
+text-parts choices after block h all header =
+    lines-same choices (after ++ block) h (started (after ++ block) all)
+    ∙ ap (λ ls. version_line ∷ program_line choices.date ∷ ls) (written-on choices.every after block)
+    ∙ sym (ap (λ ls. ls ++ lines_on choices.every after block)
+    (lines-same choices block (rest-in_place after block h) (started block header)))

@@ -1,0 +1,151 @@
+-- After a damaged block: reading goes on at the next line that begins with >, with at most one warning before it.
+use Rattle.std.proofs.Common.{ℕ, suc, ◌≡◌, ◌+◌, ◌≤◌, max, inl, inr, true, List, [], ◌∷◌, ◌++◌, length, drop, Some, None}
+use Rattle.std.proofs.Common.{refl, ap, sym, ◌∙◌, subst, arith, length-append}
+use Rattle.std.proofs.Math.Seq.{drop-append_seam}
+use Rattle.crx_faults.specs.meaning.Seen.{ReadLine, Content, Overlong}
+use Rattle.crx_faults.specs.declared.fault.At.{At}
+use Rattle.crx_faults.specs.declared.fault.Fault.TheVariants.{Truncated}
+use Rattle.crx_rinex.specs.meaning.EpochLines.{begins_epoch}
+use Rattle.crx_rinex.specs.meaning.Places.{Wanted}
+use Rattle.crx_history.specs.meaning.CompactPlaces.{ReadEpoch}
+use Rattle.crx_reading.specs.meaning.Items.{Item, Warned, header_has_ended, records_left, types_in_force}
+use Rattle.crx_reading.specs.meaning.Reading.{Reading, WholeReading, AtLines, is_skipped, looked_for, reading_within}
+use Rattle.crx_reading.specs.meaning.Reading.{reading_from, fault_at_end, ended_with, ended_reading}
+use Rattle.crx_filter.specs.Laws.{continued_reading}
+use Rattle.crx_reading.specs.meaning.Expanded.{compact_place}
+use Rattle.crx_filter.specs.Anew.{IsBetweenUnits}
+use Rattle.crx_filter.proofs.reading.Resuming.{enough-units, within-wrong, fault-skipped, looked-here}
+use Rattle.crx_filter.proofs.reading.ForwardCompact.{compact-forward}
+use Rattle.crx_filter.proofs.damage.BlockReading.{IsBlockText, EndsBlock, IsBlockRead, with_reads, reads-between, skipped-here}
+use Rattle.crx_filter.proofs.damage.BlockReading.{place-cut}
+
+-- some warnings after these items, the newest first
+abbrev pub with_warnings : List At → List (Item ReadEpoch) → List (Item ReadEpoch)
+with_warnings [] items = items
+with_warnings (at ∷ older) items = Warned at ∷ with_warnings older items
+
+pub warned-between : (warnings : List At) (items : List (Item ReadEpoch))
+    → IsBetweenUnits items → IsBetweenUnits (with_warnings warnings items)
+warned-between [] items h = h
+warned-between (at ∷ older) items h =
+    record { header = IsBetweenUnits.header (warned-between older items h); none = refl }
+
+pub warned-types : (warnings : List At) (items : List (Item ReadEpoch))
+    → types_in_force (with_warnings warnings items) ≡ types_in_force items
+warned-types [] items = refl
+warned-types (at ∷ older) items = warned-types older items
+
+-- reading goes on at some lines, after these items and at most one warning
+pub record GoesOnAt (items : List (Item ReadEpoch)) (tail : List ReadLine) (r : Reading ReadEpoch) : Type 0 where
+  pub warnings : List At
+  pub few : length warnings ≤ 1
+  pub number : ℕ
+  pub same : r ≡ reading_from compact_place true (with_warnings warnings items) number tail
+
+-- an epoch that is open is cut off, and reading goes on at the very line that does so
+cut-goes_on : (items : List (Item ReadEpoch)) (number : ℕ) (rest : List ReadLine) (line : List ℕ) (tail : List ReadLine)
+    → IsBetweenUnits items → IsBlockText rest → compact_place items rest ≡ Wanted → begins_epoch line ≡ true
+    → GoesOnAt items (Content line ∷ tail) (reading_from compact_place true items number (rest ++ Content line ∷ tail))
+cut-goes_on items number [] line tail h text e begins =
+    record { warnings = []; few = omega arith; number = number; same = refl }
+cut-goes_on items number (Overlong ∷ rest) line tail h text e begins = absurd text
+cut-goes_on items number (Content first ∷ rest) line tail h text e begins =
+    let open_lines : List ReadLine = Content first ∷ rest in
+    let all : List ReadLine = open_lines ++ Content line ∷ tail in
+    let offset : ℕ = suc (length rest) in
+    let at : At = record { line = number + offset; fault = Truncated } in
+    let n : ℕ = max offset 1 in
+    let on : is_skipped true items Truncated ≡ true = skipped-here items Truncated h refl in
+    let read : List (Item ReadEpoch)
+    → ℕ → List ReadLine → Reading ReadEpoch = reading_within compact_place true (length all) in
+    let past : n ≡ length open_lines = omega arith in
+    let left : drop n all ≡ Content line ∷ tail = ap (λ k. drop k all) past
+    ∙ drop-append_seam open_lines (Content line ∷ tail) in
+    let counted : length all ≡ length open_lines + length (Content line ∷ tail) =
+    length-append open_lines (Content line ∷ tail) in
+    record {
+      warnings = at ∷ [];
+      few = omega arith;
+      number = number + n;
+      same = enough-units compact_place compact-forward true
+          (length all + 1) (suc (length all)) items number all (omega arith) (omega arith)
+          ∙ within-wrong compact_place true
+          (length all) items number all offset Truncated (place-cut items first rest line tail h text.0 begins e)
+          ∙ fault-skipped true read items number all offset Truncated on
+          ∙ ap (λ ls. looked_for (read (Warned at ∷ items)) (Warned at ∷ items) (number + n) ls) left
+          ∙ looked-here (read (Warned at ∷ items)) (Warned at ∷ items) (number + n) (Content line) tail begins
+          ∙ enough-units compact_place compact-forward true (length all) (length (Content line ∷ tail) + 1)
+          (Warned at ∷ items) (number + n) (Content line ∷ tail) (omega (arith, counted)) (omega arith);
+    }
+
+goes_on : (items : List (Item ReadEpoch)) (r : Reading ReadEpoch) (line : List ℕ) (tail : List ReadLine)
+    → IsBetweenUnits items → EndsBlock items r → begins_epoch line ≡ true
+    → GoesOnAt items (Content line ∷ tail) (continued_reading compact_place true r (Content line ∷ tail))
+goes_on items r line tail h (inl (number, rest, text, e, is)) begins =
+    subst (λ (s : Reading ReadEpoch). GoesOnAt items (Content line ∷ tail) (continued_reading compact_place true s
+    (Content line ∷ tail))) (sym is) (cut-goes_on items number rest line tail h text e begins)
+goes_on items r line tail h (inr (at, number, is)) begins = record {
+  warnings = at ∷ [];
+  few = omega arith;
+  number = number;
+  same = ap (λ s. continued_reading compact_place true s (Content line ∷ tail)) is ∙ looked-here
+      (reading_from compact_place true (Warned at ∷ items)) (Warned at ∷ items) number (Content line) tail begins;
+}
+
+-- after a block that was read, at a line that begins with >
+pub block-goes_on : (items : List (Item ReadEpoch)) (r : Reading ReadEpoch)
+    (h : IsBlockRead items r) (line : List ℕ) (tail : List ReadLine) → IsBetweenUnits items → begins_epoch line ≡ true
+    → GoesOnAt (with_reads items h.reads)
+    (Content line ∷ tail) (continued_reading compact_place true r (Content line ∷ tail))
+block-goes_on items r h line tail between begins =
+    goes_on (with_reads items h.reads) r line tail (reads-between items h.reads between) h.ends begins
+
+-- ---- the end of the input
+
+-- a reading that ends well, after these items and at most one warning
+pub record EndsAfter (items : List (Item ReadEpoch)) (whole : WholeReading ReadEpoch) : Type 0 where
+  pub warnings : List At
+  pub few : length warnings ≤ 1
+  pub same : whole ≡ record { items = with_warnings warnings items; fault = None }
+
+-- the end after whole units is good
+pub ends-well : (items : List (Item ReadEpoch)) (number : ℕ) → IsBetweenUnits items
+    → ended_reading true (record { items = items; stop = AtLines number [] }) ≡ record { items = items; fault = None }
+ends-well [] number h = let never = h.header in absurd (cc)
+ends-well (item ∷ before) number h = ap (ended_with true (item ∷ before) (number + 0)) (good h.header h.none)
+  where
+    good : header_has_ended (item ∷ before) ≡ true
+        → records_left (item ∷ before) ≡ 0 → fault_at_end (item ∷ before) [] ≡ None
+    good a b = rw (a, b) refl
+
+ends-inside : (items : List (Item ReadEpoch)) (number : ℕ) (line : ReadLine) (rest : List ReadLine)
+    → IsBetweenUnits items
+    → EndsAfter items (ended_reading true (record { items = items; stop = AtLines number (line ∷ rest) }))
+ends-inside [] number line rest h = let never = h.header in absurd (cc)
+ends-inside (item ∷ before) number line rest h =
+    let at : At = record { line = number + length (line ∷ rest); fault = Truncated } in
+    let on : is_skipped true (item ∷ before) Truncated ≡ true = skipped-here (item ∷ before) Truncated h refl in
+    record { warnings = at ∷ []; few = omega arith; same = skips on }
+  where
+    skips : is_skipped true (item ∷ before) Truncated ≡ true
+        → ended_with true (item ∷ before) (number + length (line ∷ rest)) (Some Truncated) ≡ record {
+          items = Warned
+              (record { line = number + length (line ∷ rest); fault = Truncated }) ∷ item ∷ before;
+          fault = None;
+        }
+    skips on = rw (on, ended_with) refl
+
+ends-after : (items : List (Item ReadEpoch)) (r : Reading ReadEpoch)
+    → IsBetweenUnits items → EndsBlock items r → EndsAfter items (ended_reading true r)
+ends-after items r h (inl (number, [], text, e, is)) =
+    record { warnings = []; few = omega arith; same = ap (ended_reading true) is ∙ ends-well items number h }
+ends-after items r h (inl (number, line ∷ rest, text, e, is)) =
+    subst (λ (s : Reading ReadEpoch). EndsAfter items (ended_reading true s))
+    (sym is) (ends-inside items number line rest h)
+ends-after items r h (inr (at, number, is)) =
+    record { warnings = at ∷ []; few = omega arith; same = ap (ended_reading true) is }
+
+-- after a block that was read, at the end of the input
+pub block-ends : (items : List (Item ReadEpoch)) (r : Reading ReadEpoch) (h : IsBlockRead items r)
+    → IsBetweenUnits items → EndsAfter (with_reads items h.reads) (ended_reading true r)
+block-ends items r h between = ends-after (with_reads items h.reads) r (reads-between items h.reads between) h.ends

@@ -1,0 +1,154 @@
+-- What is written and reported after damage: the texts of items one after another, and the epochs among them.
+use Rattle.std.proofs.Common.{ℕ, ◌≡◌, ◌≤◌, ◌-◌, inl, inr, Bool, true, false, List, [], ◌∷◌, ◌++◌, map, length, reverse}
+use Rattle.std.proofs.Common.{Option, refl, ap, sym, ◌∙◌, arith, subst, append_assoc, append-nil}
+use Rattle.std.specs.Prelude.{◌||◌}
+use Rattle.std.specs.List.{AllByRecursion, flat_map}
+use Rattle.crx_faults.specs.declared.fault.At.{At}
+use Rattle.crx_rinex.specs.meaning.Observations.{Epoch}
+use Rattle.crx_rinex.specs.meaning.Epochs.{IsWholeEpoch}
+use Rattle.crx_rinex.specs.meaning.Printing.{printed_epoch}
+use Rattle.crx_rinex.specs.meaning.Units.{HeaderLine, EventLine, EventRecord, Observation}
+use Rattle.crx_history.specs.meaning.CompactPlaces.{ReadEpoch}
+use Rattle.crx_compact.specs.ReadingLaws.{IsGood}
+use Rattle.crx_reading.specs.meaning.Items.{Item, Accepted, Warned, ends_header, header_has_ended, records_left}
+use Rattle.crx_reading.specs.meaning.Items.{types_in_force}
+use Rattle.crx_reading.specs.meaning.Reading.{Reading}
+use Rattle.crx_reading.specs.meaning.Written.{warnings_in}
+use Rattle.crx_reading.specs.meaning.Expanded.{compact_place, expanded_unit}
+use Rattle.crx_filter.specs.Expanded.{expanded_lines}
+use Rattle.crx_filter.specs.Laws.{ItemsAreRead}
+use Rattle.crx_reading.specs.meaning.Damage.{with_epochs}
+use Rattle.crx_filter.proofs.wayback.ExpandedWhole.{AreGoodEpochs, epochs-good}
+use Rattle.crx_filter.proofs.wayback.Items.{read_back}
+use Rattle.crx_filter.proofs.damage.BlockReading.{EndsBlock, with_reads}
+use Rattle.crx_filter.proofs.damage.GoingOn.{with_warnings}
+
+-- ---- what is written
+
+abbrev pub epochs_in : List ReadEpoch → List Epoch
+epochs_in reads = map (λ (read : ReadEpoch). read.epoch) reads
+
+pub lines-append : (later before : List (Item ReadEpoch))
+    → expanded_lines (later ++ before) ≡ expanded_lines before ++ expanded_lines later
+lines-append [] before = sym (append-nil (expanded_lines before))
+lines-append (Accepted unit ∷ later) before = ap (λ ls. ls ++ expanded_unit before unit) (lines-append later before)
+    ∙ append_assoc (expanded_lines before) (expanded_lines later) (expanded_unit before unit)
+lines-append (Warned at ∷ later) before = lines-append later before
+
+pub lines-warned : (warnings : List At) (items : List (Item ReadEpoch))
+    → expanded_lines (with_warnings warnings items) ≡ expanded_lines items
+lines-warned [] items = refl
+lines-warned (at ∷ older) items = lines-warned older items
+
+pub lines-read : (items : List (Item ReadEpoch)) (reads : List ReadEpoch)
+    → expanded_lines (with_reads items reads) ≡ expanded_lines items ++ flat_map printed_epoch (epochs_in reads)
+lines-read items [] = sym (append-nil (expanded_lines items))
+lines-read items (read ∷ later) =
+    lines-read (Accepted (Observation read) ∷ items) later
+    ∙ append_assoc (expanded_lines items) (printed_epoch read.epoch) (flat_map printed_epoch (epochs_in later))
+
+-- ---- what is reported
+
+pub warnings-append : (later before : List (Item ReadEpoch))
+    → warnings_in (later ++ before) ≡ warnings_in later ++ warnings_in before
+warnings-append [] before = refl
+warnings-append (Accepted unit ∷ later) before = warnings-append later before
+warnings-append (Warned at ∷ later) before = ap (λ w. at ∷ w) (warnings-append later before)
+
+pub warnings-with : (warnings : List At) (items : List (Item ReadEpoch))
+    → warnings_in (with_warnings warnings items) ≡ warnings ++ warnings_in items
+warnings-with [] items = refl
+warnings-with (at ∷ older) items = ap (λ w. at ∷ w) (warnings-with older items)
+
+pub warnings-read : (items : List (Item ReadEpoch)) (reads : List ReadEpoch)
+    → warnings_in (with_reads items reads) ≡ warnings_in items
+warnings-read items [] = refl
+warnings-read items (read ∷ later) = warnings-read (Accepted (Observation read) ∷ items) later
+
+pub none-first : (one two : List At) → one ++ two ≡ [] → one ≡ []
+none-first [] two e = refl
+none-first (at ∷ one) two e = absurd (cc)
+
+pub few-reversed : (warnings : List At) → length warnings ≤ 1 → reverse warnings ≡ warnings
+few-reversed [] few = refl
+few-reversed (at ∷ []) few = refl
+few-reversed (at ∷ next ∷ older) few = absurd (omega (arith, few))
+
+-- ---- between two units
+
+pub header-append : (later before : List (Item ReadEpoch))
+    → header_has_ended before ≡ true → header_has_ended (later ++ before) ≡ true
+header-append [] before h = h
+header-append (item ∷ later) before h = ap (λ b. ends_header item || b) (header-append later before h)
+    ∙ either (ends_header item)
+  where
+    either : (b : Bool) → (b || true) ≡ true
+    either true = refl
+    either false = refl
+
+-- records are left after some items as they are after others
+pub left-append : (later one two : List (Item ReadEpoch))
+    → records_left one ≡ records_left two → records_left (later ++ one) ≡ records_left (later ++ two)
+left-append [] one two e = e
+left-append (Accepted (HeaderLine line) ∷ later) one two e = refl
+left-append (Accepted (EventLine line) ∷ later) one two e = refl
+left-append (Accepted (EventRecord line) ∷ later) one two e = ap (λ n. n - 1) (left-append later one two e)
+left-append (Accepted (Observation read) ∷ later) one two e = refl
+left-append (Warned at ∷ later) one two e = refl
+
+-- ---- the epochs are whole
+
+good-before : (items : List (Item ReadEpoch)) (reads : List ReadEpoch)
+    → AreGoodEpochs (with_reads items reads) → AreGoodEpochs items
+good-before items [] h = h
+good-before items (read ∷ later) h = let more = good-before (Accepted (Observation read) ∷ items) later h in more.1
+
+whole-reads : (items : List (Item ReadEpoch)) (reads : List ReadEpoch)
+    → AreGoodEpochs (with_reads items reads) → AllByRecursion (IsWholeEpoch (types_in_force items)) (epochs_in reads)
+whole-reads items [] h = tt
+whole-reads items (read ∷ later) h =
+    let one = good-before (Accepted (Observation read) ∷ items) later h in
+    (IsGood.whole one.0, whole-reads (Accepted (Observation read) ∷ items) later h)
+
+read-ends : (items : List (Item ReadEpoch)) (r : Reading ReadEpoch)
+    → EndsBlock items r → ItemsAreRead compact_place r.items → ItemsAreRead compact_place items
+read-ends items r (inl (number, rest, text, e, is)) h =
+    subst (λ (s : Reading ReadEpoch). ItemsAreRead compact_place s.items) is h
+read-ends items r (inr (at, number, is)) h = let all =
+    subst (λ (s : Reading ReadEpoch). ItemsAreRead compact_place s.items) is h in all.1
+
+pub whole-block : (items : List (Item ReadEpoch)) (reads : List ReadEpoch) (r : Reading ReadEpoch)
+    → EndsBlock (with_reads items reads) r → ItemsAreRead compact_place r.items
+    → AllByRecursion (IsWholeEpoch (types_in_force items)) (epochs_in reads)
+whole-block items reads r ends h =
+    whole-reads items reads (epochs-good (with_reads items reads) (read-ends (with_reads items reads) r ends h))
+
+-- ---- which epochs were read
+
+-- the epochs among some items, the oldest first
+abbrev pub epochs_of : List (Item ReadEpoch) → List Epoch
+epochs_of [] = []
+epochs_of (Accepted (HeaderLine line) ∷ before) = epochs_of before
+epochs_of (Accepted (EventLine line) ∷ before) = epochs_of before
+epochs_of (Accepted (EventRecord line) ∷ before) = epochs_of before
+epochs_of (Accepted (Observation read) ∷ before) = epochs_of before ++ read.epoch ∷ []
+epochs_of (Warned at ∷ before) = epochs_of before
+
+epochs-read : (items : List (Item ReadEpoch)) (reads : List ReadEpoch)
+    → epochs_of (with_reads items reads) ≡ epochs_of items ++ epochs_in reads
+epochs-read items [] = sym (append-nil (epochs_of items))
+epochs-read items (read ∷ later) = epochs-read (Accepted (Observation read) ∷ items) later
+    ∙ append_assoc (epochs_of items) (read.epoch ∷ []) (epochs_in later)
+
+pub epochs-ended : (items : List (Item ReadEpoch)) (reads : List ReadEpoch) (r : Reading ReadEpoch)
+    → EndsBlock (with_reads items reads) r → epochs_of r.items ≡ epochs_of items ++ epochs_in reads
+epochs-ended items reads r (inl (number, rest, text, e, is)) = ap (λ (s : Reading ReadEpoch). epochs_of s.items) is
+    ∙ epochs-read items reads
+epochs-ended items reads r (inr (at, number, is)) = ap (λ (s : Reading ReadEpoch). epochs_of s.items) is
+    ∙ epochs-read items reads
+
+pub epochs-back : (every : Option ℕ) (before : List (Item Epoch)) (epochs : List Epoch)
+    → epochs_of (read_back every (with_epochs before epochs)) ≡ epochs_of (read_back every before) ++ epochs
+epochs-back every before [] = sym (append-nil (epochs_of (read_back every before)))
+epochs-back every before (epoch ∷ later) = epochs-back every (Accepted (Observation epoch) ∷ before) later
+    ∙ append_assoc (epochs_of (read_back every before)) (epoch ∷ []) later

@@ -1,0 +1,215 @@
+-- The compact text that a compaction writes after a block: it is read, whatever the line numbers are, as its units; and
+-- all starts anew at its first line.
+use Rattle.std.proofs.Common.{ℕ, zero, suc, ◌≡◌, ◌+◌, ◌-◌, ◌<◌, Bool, true, false, cond, List, [], ◌∷◌, ◌++◌, map}
+use Rattle.std.proofs.Common.{length, Option, refl, ap, sym, ◌∙◌, arith, length-append, append-nil, append_assoc}
+use Rattle.std.specs.Prelude.{◌&&◌, ◌||◌}
+use Rattle.std.proofs.lemmas.List.{map-append, length-map}
+use Rattle.std.proofs.lemmas.Bool.{and_parts}
+use Rattle.crx_columns.specs.meaning.Columns.{character_at}
+use Rattle.crx_faults.specs.meaning.Seen.{ReadLine, Content}
+use Rattle.crx_rinex.specs.meaning.Observations.{Epoch}
+use Rattle.crx_rinex.specs.meaning.EpochLines.{begins_epoch, is_event_flag, is_event_line}
+use Rattle.crx_rinex.specs.meaning.Places.{Here}
+use Rattle.crx_rinex.specs.meaning.Units.{HeaderLine, EventLine, EventRecord, Observation}
+use Rattle.crx_history.specs.meaning.Compaction.{Marked, compact_epoch, epoch_line}
+use Rattle.crx_compact.specs.Laws.{LinesCanStand, has_no_epochs}
+use Rattle.crx_options.specs.meaning.Choices.{Choices}
+use Rattle.crx_reading.specs.meaning.Items.{Item, Accepted, Warned, ends_header, header_has_ended, records_announced}
+use Rattle.crx_reading.specs.meaning.Items.{records_left}
+use Rattle.crx_reading.specs.meaning.Reading.{AtLines, reading_from}
+use Rattle.crx_filter.specs.Laws.{continued_reading, AreInPlace}
+use Rattle.crx_reading.specs.meaning.Written.{written_lines}
+use Rattle.crx_reading.specs.meaning.Compacted.{is_interrupted, is_at_every, is_in_full, marked_epochs, epochs_accepted}
+use Rattle.crx_reading.specs.meaning.Expanded.{compact_place}
+use Rattle.crx_filter.specs.Anew.{starts_anew}
+use Rattle.crx_reading.specs.meaning.Damage.{BeginsAnew}
+use Rattle.crx_filter.proofs.reading.Resuming.{within-wanted, resumed}
+use Rattle.crx_filter.proofs.reading.ForwardCompact.{compact-forward}
+use Rattle.crx_filter.proofs.wayback.Carried.{one-unit, at-line}
+use Rattle.crx_filter.proofs.wayback.Items.{marked_now, body_unit, unit_back, read_back, unit-here, epoch-stands}
+
+-- the lines of some items after others
+abbrev pub lines_on : Option ℕ → List (Item Epoch) → List (Item Epoch) → List (List ℕ)
+lines_on every [] before = []
+lines_on every (Accepted unit ∷ later) before = lines_on every later before ++ body_unit every (later ++ before) unit
+lines_on every (Warned at ∷ later) before = lines_on every later before
+
+pub written-on : (every : Option ℕ) (later before : List (Item Epoch)) → written_lines
+    (body_unit every) (later ++ before) ≡ written_lines (body_unit every) before ++ lines_on every later before
+written-on every [] before = sym (append-nil (written_lines (body_unit every) before))
+written-on every (Accepted unit ∷ later) before =
+    ap (λ ls. ls ++ body_unit every (later ++ before) unit) (written-on every later before) ∙ append_assoc
+    (written_lines (body_unit every) before) (lines_on every later before) (body_unit every (later ++ before) unit)
+written-on every (Warned at ∷ later) before = written-on every later before
+
+-- ---- they are read as their units
+
+pub reads-on : (every : Option ℕ) (skip : Bool) (number : ℕ) (later before : List (Item Epoch))
+    → AreInPlace (later ++ before)
+    → reading_from compact_place skip (read_back every before) number (map Content (lines_on every later before))
+    ≡ record {
+      items = read_back every (later ++ before);
+      stop = AtLines (number + length (lines_on every later before)) [];
+    }
+reads-on every skip number [] before h = within-wanted compact_place skip 0
+    (read_back every before) number [] (compact-forward.wants (read_back every before))
+    ∙ at-line (read_back every before) number (number + 0) (omega arith)
+reads-on every skip number (Warned at ∷ later) before h = reads-on every skip number later before h.1
+reads-on every skip number (Accepted unit ∷ later) before h =
+    let first : List (List ℕ) = lines_on every later before in
+    let more : List (List ℕ) = body_unit every (later ++ before) unit in
+    let same : length (map Content more) ≡ length more = length-map more Content in
+    let all : length (first ++ more) ≡ length first + length more = length-append first more in
+    let here : compact_place (read_back every (later ++ before)) (map Content more)
+    ≡ Here (unit_back every (later ++ before) unit) (length (map Content more)) =
+    unit-here every (later ++ before) unit h ∙ ap (λ n. Here (unit_back every (later ++ before) unit) n) (sym same) in
+    ap (λ ls. reading_from compact_place skip (read_back every before) number ls) (map-append Content first more)
+    ∙ resumed compact_place compact-forward skip (read_back every before) number (map Content first) (map Content more)
+    ∙ ap (λ r. continued_reading compact_place skip r (map Content more)) (reads-on every skip number later before h.1)
+    ∙ one-unit compact_place compact-forward skip (read_back every (later ++ before))
+    (number + length first) (map Content more) (unit_back every (later ++ before) unit) here
+    ∙ at-line (Accepted (unit_back every (later ++ before) unit) ∷ read_back every (later ++ before))
+    (number + length first + length (map Content more)) (number + length (first ++ more)) (omega (arith, same, all))
+
+-- ---- all starts anew
+
+-- whether an epoch is among some items
+abbrev has_observation : List (Item Epoch) → Bool
+has_observation [] = false
+has_observation (Accepted (HeaderLine line) ∷ before) = has_observation before
+has_observation (Accepted (EventLine line) ∷ before) = has_observation before
+has_observation (Accepted (EventRecord line) ∷ before) = has_observation before
+has_observation (Accepted (Observation epoch) ∷ before) = true
+has_observation (Warned at ∷ before) = has_observation before
+
+begins-rest : (choices : Choices) (block : List (Item Epoch)) (item : Item Epoch) (items : List (Item Epoch))
+    → BeginsAnew choices block (item ∷ items) → BeginsAnew choices block items
+begins-rest choices block item [] h = tt
+begins-rest choices block (Accepted (HeaderLine line)) (next ∷ items) h = h
+begins-rest choices block (Accepted (EventLine line)) (next ∷ items) h = h
+begins-rest choices block (Accepted (EventRecord line)) (next ∷ items) h = h
+begins-rest choices block (Accepted (Observation epoch)) (next ∷ items) h = h
+begins-rest choices block (Warned at) (next ∷ items) h = h
+
+interrupted-full : (every : Option ℕ) (items : List (Item Epoch))
+    → is_interrupted items ≡ true → is_in_full every items ≡ true
+interrupted-full every items e = ap (λ b. b || is_at_every every (epochs_accepted items)) e
+
+-- the first epoch after a block stands in full
+first-full : (choices : Choices) (block : List (Item Epoch)) (epoch : Epoch) (items : List (Item Epoch))
+    → BeginsAnew choices block (Accepted (Observation epoch) ∷ items) → has_observation items ≡ false
+    → is_in_full choices.every (items ++ block) ≡ true
+first-full choices block epoch [] h none = h
+first-full choices block epoch (Accepted (HeaderLine line) ∷ items) h none =
+    interrupted-full choices.every (Accepted (HeaderLine line) ∷ (items ++ block)) refl
+first-full choices block epoch (Accepted (EventLine line) ∷ items) h none =
+    interrupted-full choices.every (Accepted (EventLine line) ∷ (items ++ block)) refl
+first-full choices block epoch (Accepted (EventRecord line) ∷ items) h none =
+    interrupted-full choices.every (Accepted (EventRecord line) ∷ (items ++ block)) refl
+first-full choices block epoch (Accepted (Observation other) ∷ items) h none = absurd (cc)
+first-full choices block epoch (Warned at ∷ items) h none =
+    interrupted-full choices.every (Warned at ∷ (items ++ block)) refl
+
+header-stays : (items block : List (Item Epoch))
+    → header_has_ended block ≡ true → header_has_ended (items ++ block) ≡ true
+header-stays [] block h = h
+header-stays (item ∷ items) block h = ap (λ b. ends_header item || b) (header-stays items block h)
+    ∙ either (ends_header item)
+  where
+    either : (b : Bool) → (b || true) ≡ true
+    either true = refl
+    either false = refl
+
+pub one-more : (first : List (List ℕ)) (line : List ℕ) (more : List ReadLine)
+    → map Content (first ++ line ∷ []) ++ more ≡ map Content first ++ Content line ∷ more
+one-more first line more = ap (λ ls. ls ++ more) (map-append Content first (line ∷ []))
+    ∙ append_assoc (map Content first) (Content line ∷ []) more
+
+event-begins : (line : List ℕ) → is_event_line line ≡ true → begins_epoch line ≡ true
+event-begins line e = (and_parts (begins_epoch line) (is_event_flag (character_at line 32)) e).0
+
+anew-event : (line : List ℕ) (more : List ReadLine)
+    → is_event_line line ≡ true → starts_anew 0 (Content line ∷ more) ≡ starts_anew (records_announced line) more
+anew-event line more e =
+    ap (λ b. b && cond (is_event_line line) (starts_anew (records_announced line) more) true) (event-begins line e)
+    ∙ ap (λ b. cond b (starts_anew (records_announced line) more) true) e
+
+anew-epoch : (line : List ℕ) (more : List ReadLine)
+    → begins_epoch line ≡ true → is_event_line line ≡ false → starts_anew 0 (Content line ∷ more) ≡ true
+anew-epoch line more begins e =
+    ap (λ b. b && cond (is_event_line line) (starts_anew (records_announced line) more) true) begins
+    ∙ ap (λ b. cond b (starts_anew (records_announced line) more) true) e
+
+anew-record : (n : ℕ) (line : List ℕ) (more : List ReadLine)
+    → 0 < n → starts_anew n (Content line ∷ more) ≡ starts_anew (n - 1) more
+anew-record zero line more some = absurd (omega (arith, some))
+anew-record (suc n) line more some = ap (λ k. starts_anew k more) (omega arith)
+
+-- what comes after the lines of some items has to start anew where no epoch is among them
+abbrev GoesAnew : Choices → List (Item Epoch) → List (Item Epoch) → Type 0
+GoesAnew choices block items =
+    (more : List ReadLine) → starts_anew 0 (map Content (lines_on choices.every items block) ++ more)
+    ≡ cond (has_observation items) true (starts_anew (records_left (items ++ block)) more)
+
+goes-anew : (choices : Choices) (block items : List (Item Epoch)) → header_has_ended block ≡ true → records_left block
+    ≡ 0 → AreInPlace (items ++ block) → BeginsAnew choices block items → GoesAnew choices block items
+goes-anew choices block [] header none h k more = ap (λ n. starts_anew n more) (sym none)
+goes-anew choices block (Accepted (HeaderLine line) ∷ items) header none h k more = let never = sym (h.0).0
+    ∙ header-stays items block header in absurd (cc)
+goes-anew choices block (Accepted (EventLine line) ∷ items) header none h k more =
+    ap (starts_anew 0) (one-more (lines_on choices.every items block) line more)
+    ∙ goes-anew choices block items header none h.1
+    (begins-rest choices block (Accepted (EventLine line)) items k) (Content line ∷ more)
+    ∙ ap (λ n. cond (has_observation items) true (starts_anew n (Content line ∷ more))) (h.0).1
+    ∙ ap (λ b. cond (has_observation items) true b) (anew-event line more (h.0).2)
+goes-anew choices block (Accepted (EventRecord line) ∷ items) header none h k more =
+    ap (starts_anew 0) (one-more (lines_on choices.every items block) line more)
+    ∙ goes-anew choices block items header none h.1
+    (begins-rest choices block (Accepted (EventRecord line)) items k) (Content line ∷ more)
+    ∙ ap (λ b. cond (has_observation items) true b) (anew-record (records_left (items ++ block)) line more (h.0).1)
+goes-anew choices block (Accepted (Observation epoch) ∷ items) header none h k more =
+    let before : List (Item Epoch) = items ++ block in
+    let m : Marked = marked_now choices.every before epoch in
+    let older : List Marked = marked_epochs choices.every before in
+    let lines : List (List ℕ) = compact_epoch (m ∷ older) in
+    let stands : LinesCanStand m older = epoch-stands choices.every before epoch h in
+    let first : List (List ℕ) = lines_on choices.every items block in
+    ap (λ ls. starts_anew 0 (ls ++ more)) (map-append Content first lines)
+    ∙ ap (starts_anew 0) (append_assoc (map Content first) (map Content lines) more)
+    ∙ goes-anew choices block items header none h.1
+    (begins-rest choices block (Accepted (Observation epoch)) items k) (map Content lines ++ more)
+    ∙ by_observation (has_observation items) refl (starts_anew (records_left before) (map Content lines ++ more))
+    (λ no_epoch.
+    ap (λ n. starts_anew n (map Content lines ++ more)) (h.0).1
+    ∙ anew-epoch (epoch_line m older) (map Content (tail_of lines) ++ more) (stands.first
+    ∙ ap (λ b. b || has_no_epochs older) (first-full choices block epoch items k no_epoch)) (stands.no_event).0)
+  where
+    tail_of : List (List ℕ) → List (List ℕ)
+    tail_of [] = []
+    tail_of (line ∷ lines) = lines
+
+    by_observation : (b : Bool) → has_observation items ≡ b
+        → (c : Bool) → (has_observation items ≡ false → c ≡ true) → cond b true c ≡ true
+    by_observation true e c h = refl
+    by_observation false e c h = h e
+goes-anew choices block (Warned at ∷ items) header none h k more =
+    goes-anew choices block items header none h.1 (begins-rest choices block (Warned at) items k) more
+    ∙ ap (λ n. cond (has_observation items) true (starts_anew n more)) (h.0).1
+
+no-more : (n : ℕ) → starts_anew n [] ≡ true
+no-more zero = refl
+no-more (suc n) = refl
+
+-- all starts anew at the lines after a block
+pub text-anew : (choices : Choices) (block items : List (Item Epoch)) → header_has_ended block ≡ true
+    → records_left block ≡ 0 → AreInPlace (items ++ block) → BeginsAnew choices block items
+    → starts_anew 0 (map Content (lines_on choices.every items block)) ≡ true
+text-anew choices block items header none h k =
+    ap (starts_anew 0) (sym (append-nil (map Content (lines_on choices.every items block))))
+    ∙ goes-anew choices block items header none h k []
+    ∙ ap (λ b. cond (has_observation items) true b) (no-more (records_left (items ++ block)))
+    ∙ either (has_observation items)
+  where
+    either : (b : Bool) → cond b true true ≡ true
+    either true = refl
+    either false = refl

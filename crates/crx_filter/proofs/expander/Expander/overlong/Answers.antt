@@ -1,0 +1,15 @@
+use Rattle.std.proofs.Common.{inl}
+use Rattle.crx_faults.specs.meaning.Seen.{Overlong}
+use Rattle.crx_filter.specs.ExpanderState.{expander_state}
+use Rattle.crx_filter.proofs.following.DirectionSteps.{expansion-goes}
+use Rattle.crx_filter.proofs.steps.EngineAnswers.{answers-seen, seen-long}
+use Rattle.crx_filter.proofs.expander.Expander.overlong.Goals as goal
+
+pub returns-clause-answers : goal.returns-clause-answers
+returns-clause-answers c = λ lines notices line taken awaited long.
+    let new = c.pass.new.self in
+    answers-seen expansion-goes _ (expander_state c.args.self.now) (expander_state new) lines notices line
+    Overlong
+    new.lines c.pass.result (λ ls ns shown. shown.0) c.pass.ensures.options (seen-long line long) taken
+    awaited
+    (inl c.pass.ensures.steps)

@@ -1,0 +1,19 @@
+use Rattle.std.proofs.Common.{refl, sym}
+use Rattle.crx_faults.specs.meaning.Seen.{Content}
+use Rattle.crx_reading.specs.CompactStages.{open_in}
+use Rattle.crx_filter.specs.ExpanderState.{expander_state}
+use Rattle.crx_filter.proofs.steps.ExpanderSteps.{at-stage, refused-line}
+use Rattle.crx_filter.proofs.expander.Expander.take_any.Goals as goal
+
+pub returns-in-Err-clause-steps : goal.returns-in-Err-clause-steps
+returns-in-Err-clause-steps c =
+    let self = c.args.self.now in
+    let line = c.args.line.now in
+    let held = open_in self.reader.columns in
+    let at = at-stage (expander_state self) self.reader.stage self.reader.columns self.number
+    self.options.skip
+    refl self.reader.consistent refl refl in
+    let failed = c.fail.ensures.fails
+    (expander_state self) held (Content line) at refl (sym c.in-Err.ensures.types) (sym c.begins_epoch.ensures) in
+    refused-line (expander_state self) (expander_state c.fail.new.self) line c.in-Err.fault
+    c.fail.result c.fail.new.self.lines failed c.fail.ensures.drained c.fail.ensures.fatal c.in-Err.ensures.refuses

@@ -1,0 +1,26 @@
+use Rattle.std.proofs.Common.{◌≡◌, true, refl, sym, ap, subst}
+use Rattle.crx_faults.specs.meaning.Seen.{Content}
+use Rattle.crx_reading.specs.CompactStages.{open_in}
+use Rattle.crx_reading.specs.Stages.{seen_stage}
+use Rattle.crx_filter.specs.ExpanderState.{expander_state}
+use Rattle.crx_reading.specs.declared.stage.Stage.{Stage}
+use Rattle.crx_reading.specs.declared.stage.Stage.TheVariants.{Open}
+use Rattle.crx_filter.proofs.steps.ExpanderSteps.{at-stage, refused-line}
+use Rattle.crx_filter.proofs.expander.Expander.take_line.Goals as goal
+use Rattle.crx_reading.specs.CompactStages.{is_compact_stage}
+
+pub returns-in-Err-clause-steps : goal.returns-in-Err-clause-steps
+returns-in-Err-clause-steps c =
+    let self = c.args.self.now in
+    let line = c.args.line.now in
+    let held = open_in self.reader.columns in
+    let at = at-stage (expander_state self) Open self.reader.columns self.number self.options.skip
+    (ap (seen_stage held) c.in-Open.is)
+    (subst (λ (stage : Stage). is_compact_stage stage self.reader.columns ≡ true) c.in-Open.is
+    self.reader.consistent)
+    refl refl in
+    let failed = c.store_fault.ensures.fails
+    (expander_state self) held (Content line) at refl (sym c.in-Err.ensures.types) (sym c.begins_epoch.ensures) in
+    let new = c.store_fault.new.self in
+    refused-line (expander_state self) (expander_state new) line c.in-Err.fault new.answer
+    new.lines failed c.store_fault.ensures.drained c.store_fault.ensures.fatal c.in-Err.ensures.refuses

@@ -1,0 +1,67 @@
+-- A check line by line reads as the whole reading does, and keeps its totals.
+use Rattle.std.proofs.Common.{ℕ, ◌+◌, false, List, [], length, refl, ap}
+use Rattle.std.proofs.Common.{arith}
+use Rattle.crx_faults.specs.meaning.Seen.{ReadLine}
+use Rattle.crx_rinex.specs.meaning.Observations.{Epoch}
+use Rattle.crx_rinex.specs.meaning.Units.{Unit as FileUnit, Observation, printed_unit}
+use Rattle.crx_rinex.specs.meaning.EpochPlaces.{epoch_place}
+use Rattle.crx_reading.specs.meaning.Items.{Item, types_in_force}
+use Rattle.crx_reading.specs.meaning.Written.{warnings_in}
+use Rattle.crx_reading.specs.meaning.Reading.{Reading}
+use Rattle.crx_filter.specs.Laws.{IsEndedBy}
+use Rattle.crx_reading.specs.meaning.Compacted.{rinex_place, whole_rinex}
+use Rattle.crx_reading.specs.meaning.Directions.{rinex_reading}
+use Rattle.crx_reading.specs.CompactionByLine.{rinex_open}
+use Rattle.crx_reading.specs.LineByLine.{seen_of, seen_end}
+use Rattle.crx_reading.specs.meaning.Standard.{printed_items}
+use Rattle.crx_reading.specs.CheckByLine.{Totals, checking, totals_of, no_choices}
+use Rattle.crx_filter.proofs.reading.Forward.{rinex-forward}
+use Rattle.crx_filter.proofs.following.Following.{seen_in, IsCarriedOut}
+use Rattle.crx_filter.proofs.following.Rinex.{AreSame, either-same, agree-begins, agree-continues, no-lines}
+use Rattle.crx_filter.proofs.reading.Stopping.{reading-stopped}
+use Rattle.crx_filter.proofs.reading.Ending.{next-end}
+
+-- the lines of a unit, whatever stands before it
+abbrev pub printed_after : List (Item Epoch) → FileUnit Epoch → List (List ℕ)
+printed_after before = printed_unit
+
+check-same : AreSame checking totals_of printed_after no_choices
+check-same = record {
+  same = λ items lines epoch count here. record {
+    kept = λ number phase types kept either. ap (λ (k : Totals). checking.kept_after
+        (seen_in no_choices number phase types k) (Observation epoch)) (either-same either);
+    lines = λ number phase types kept either. refl;
+  };
+}
+
+pub check-carried_out : IsCarriedOut (λ (before : List (Item Epoch)). epoch_place (types_in_force before))
+    checking rinex_open totals_of printed_after no_choices
+check-carried_out = record {
+  forward = rinex-forward;
+  wants = λ items. refl;
+  none_open = λ items. refl;
+  wanted_open = λ items. no-lines (types_in_force items);
+  begins = agree-begins check-same;
+  continues = agree-continues check-same;
+  header_kept = λ items number types line. refl;
+  header_lines = λ items number types line. refl;
+  event_kept = λ items number phase types line. refl;
+  event_lines = λ items number phase types kept line. refl;
+  record_kept = λ items number left types line. refl;
+  record_lines = λ items number phase types kept line. refl;
+  warned = λ items at. refl;
+  emptied_open = λ kept. refl;
+  open_open = λ kept. refl;
+}
+
+-- the end of the input
+pub check-end : (lines : List ReadLine)
+    → IsEndedBy (printed_items (rinex_reading false lines).items)
+    (printed_items (whole_rinex false lines).items) (warnings_in (rinex_reading false lines).items)
+    (warnings_in (whole_rinex false lines).items) (whole_rinex false lines).fault
+    (seen_end checking (seen_of checking rinex_open totals_of no_choices (length lines) (rinex_reading false lines)))
+check-end lines =
+    let r : Reading Epoch = rinex_reading false lines in
+    let stopped = reading-stopped rinex_place rinex-forward false [] 1 (length lines + 1) lines (omega arith) in
+    next-end _ checking rinex_open
+    totals_of printed_after no_choices check-carried_out r.items r.stop (length lines) stopped

@@ -1,0 +1,85 @@
+-- Compaction line by line reads, keeps and writes as the compaction of all lines does.
+use Rattle.std.proofs.Common.{◌≡◌, ◌+◌, Bool, true, false, List, [], ◌∷◌, Some, None, refl, ap, sym}
+use Rattle.std.proofs.Common.{◌∙◌}
+use Rattle.crx_rinex.specs.meaning.Observations.{Epoch}
+use Rattle.crx_rinex.specs.meaning.Units.{HeaderLine, EventLine, EventRecord, Observation}
+use Rattle.crx_rinex.specs.meaning.EpochPlaces.{epoch_place}
+use Rattle.crx_rinex.proofs.SoundEpochs.{sound-epoch_place}
+use Rattle.crx_history.specs.meaning.Compaction.{Marked}
+use Rattle.crx_compact.specs.Laws.{tail_before}
+use Rattle.crx_history.specs.Tails.{Tail}
+use Rattle.crx_history.specs.Steps.{no_tail, lines_after_tail, tail_after, tail_written_after}
+use Rattle.crx_compact.proofs.wayback.Tailing.{epoch-by_tail}
+use Rattle.crx_options.specs.meaning.Choices.{Choices}
+use Rattle.crx_reading.specs.meaning.Items.{Item, Accepted, Warned, types_in_force}
+use Rattle.crx_reading.specs.meaning.Compacted.{epochs_accepted, is_at_every, is_in_full, marked_epochs, compact_unit}
+use Rattle.crx_reading.specs.CompactionByLine.{Written, compaction, written_of, rinex_open}
+use Rattle.crx_filter.proofs.reading.Forward.{rinex-forward}
+use Rattle.crx_filter.proofs.reading.Types.{counts-in_force}
+use Rattle.crx_filter.proofs.following.Following.{seen_in, IsCarriedOut}
+use Rattle.crx_filter.proofs.following.Rinex.{AreSame, either-same, agree-begins, agree-continues, no-lines}
+
+-- ---- an epoch that is read
+
+-- the epoch after some items, with its mark
+abbrev marked : Choices → List (Item Epoch) → Epoch → Marked
+marked choices items epoch = record { in_full = is_in_full choices.every items; epoch = epoch }
+
+nothing-left : (at_every : Bool) → no_tail ≡ tail_written_after at_every None
+nothing-left true = refl
+nothing-left false = refl
+
+-- what the next epoch is written after
+same-tail : (choices : Choices) (items : List (Item Epoch)) (epoch : Epoch)
+    → tail_before (marked choices items epoch) (marked_epochs choices.every items)
+    ≡ tail_written_after (is_at_every choices.every (epochs_accepted items)) (written_of choices.every items).tail
+same-tail choices [] epoch = nothing-left (is_at_every choices.every 0)
+same-tail choices (Accepted (HeaderLine line) ∷ before) epoch =
+    nothing-left (is_at_every choices.every (epochs_accepted before))
+same-tail choices (Accepted (EventLine line) ∷ before) epoch =
+    nothing-left (is_at_every choices.every (epochs_accepted before))
+same-tail choices (Accepted (EventRecord line) ∷ before) epoch =
+    nothing-left (is_at_every choices.every (epochs_accepted before))
+same-tail choices (Accepted (Observation last) ∷ before) epoch = refl
+same-tail choices (Warned at ∷ before) epoch = nothing-left (is_at_every choices.every (epochs_accepted before))
+
+same-epochs : (choices : Choices)
+    → AreSame compaction (written_of choices.every) (compact_unit choices) choices
+same-epochs choices = record {
+  same = λ items lines epoch count here.
+      let whole = sound-epoch_place (types_in_force items) lines epoch count (counts-in_force items) here in
+      let by_tail = epoch-by_tail (marked choices items epoch) (marked_epochs choices.every items)
+      whole.0.sound.apart in
+      record {
+        kept = λ number phase types kept either.
+            ap (λ (k : Written). compaction.kept_after (seen_in choices number phase types k) (Observation epoch))
+            (either-same either)
+            ∙ ap (λ (t : Tail). record { index = epochs_accepted items + 1; tail = Some t })
+            (ap (λ t. tail_after t epoch) (sym (same-tail choices items epoch)) ∙ sym by_tail.tail);
+        lines = λ number phase types kept either.
+            ap (λ (k : Written). compaction.written (seen_in choices number phase types k) (Observation epoch))
+            (either-same either)
+            ∙ ap (λ t. lines_after_tail t epoch) (sym (same-tail choices items epoch)) ∙ sym by_tail.lines;
+      };
+}
+
+pub compaction-carried_out : (choices : Choices)
+    → IsCarriedOut (λ (before : List (Item Epoch)). epoch_place (types_in_force before)) compaction rinex_open
+    (written_of choices.every) (compact_unit choices) choices
+compaction-carried_out choices = record {
+  forward = rinex-forward;
+  wants = λ items. refl;
+  none_open = λ items. refl;
+  wanted_open = λ items. no-lines (types_in_force items);
+  begins = agree-begins (same-epochs choices);
+  continues = agree-continues (same-epochs choices);
+  header_kept = λ items number types line. refl;
+  header_lines = λ items number types line. refl;
+  event_kept = λ items number phase types line. refl;
+  event_lines = λ items number phase types kept line. refl;
+  record_kept = λ items number left types line. refl;
+  record_lines = λ items number phase types kept line. refl;
+  warned = λ items at. refl;
+  emptied_open = λ kept. refl;
+  open_open = λ kept. refl;
+}

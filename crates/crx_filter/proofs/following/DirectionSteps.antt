@@ -1,0 +1,114 @@
+-- Both directions go line by line, in the words of their filters.
+use Rattle.std.proofs.Common.{ℕ, ◌≡◌, List, [], ◌∷◌, ◌++◌, map, ap, ◌∙◌}
+use Rattle.std.specs.Prelude.{reverse}
+use Rattle.std.proofs.lemmas.List.{length-map, map-append, reverse-append}
+use Rattle.std.proofs.lemmas.Grind.{flat_map-append}
+use Rattle.crx_faults.specs.meaning.Lines.{InputLine}
+use Rattle.crx_faults.specs.meaning.Seen.{ReadLine, seen}
+use Rattle.crx_faults.specs.declared.fault.At.{At}
+use Rattle.crx_options.specs.meaning.Choices.{Choices}
+use Rattle.crx_reading.specs.CompactionByLine.{compaction, compaction_seen}
+use Rattle.crx_reading.specs.meaning.Directions.{rinex_reading}
+use Rattle.crx_reading.specs.ExpansionByLine.{expansion, expansion_seen}
+use Rattle.crx_reading.specs.meaning.Directions.{compact_reading}
+use Rattle.crx_reading.specs.meaning.Directions.{compaction_filter, expansion_filter}
+use Rattle.crx_faults.specs.meaning.Lines.{lines_text}
+use Rattle.crx_filter.specs.Laws.{noticed_by}
+use Rattle.crx_reading.specs.meaning.Reading.{fault_of_stop}
+use Rattle.crx_reading.specs.meaning.Written.{warnings_in}
+use Rattle.crx_reading.specs.LineByLine.{seen_end}
+use Rattle.crx_filter.proofs.following.CompactedOn.{compacted-on}
+use Rattle.crx_filter.proofs.following.ExpandedOn.{expanded-on}
+use Rattle.crx_filter.proofs.following.MemoryOfCompactText.{expansion-allowed, expansion-allowed-again}
+use Rattle.crx_filter.proofs.following.MemoryOfRinex.{compaction-allowed, compaction-allowed-again}
+use Rattle.crx_filter.proofs.reading.Ended.{compaction-ended, expansion-ended}
+use Rattle.crx_filter.proofs.output.Readiness.{compaction-ready, expansion-ready}
+use Rattle.crx_filter.proofs.steps.EngineAnswers.{GoesLineByLine}
+use Rattle.std.proofs.Common.{true, length, Option, Some, refl}
+use Rattle.crx_rinex.specs.meaning.Units.{Unit as FileUnit}
+use Rattle.crx_reading.specs.meaning.Items.{Item}
+use Rattle.crx_reading.specs.meaning.Reading.{Reading, WholeReading}
+use Rattle.crx_reading.specs.meaning.Written.{written_lines, whole_course}
+use Rattle.crx_reading.specs.meaning.Memory.{memory_allowed, compaction_takes}
+use Rattle.crx_reading.specs.meaning.Compacted.{compact_unit, rinex_place, whole_rinex}
+use Rattle.crx_reading.specs.meaning.Expanded.{expanded_unit, whole_compact}
+use Rattle.crx_reading.specs.meaning.Directions.{compact_memory, course_so_far}
+use Rattle.crx_reading.specs.LineByLine.{Direction, Seen, Notice, seen_next}
+use Rattle.crx_reading.specs.Memory.{takes_memory}
+use Rattle.crx_filter.specs.Laws.{IsFollowed, IsEndedBy, IsReadyWhereHandedOut, fed}
+
+text-then : (before after more : List (List ℕ))
+    → after ≡ before ++ more → lines_text after ≡ lines_text before ++ lines_text more
+text-then before after more e = ap lines_text e ∙ flat_map-append (λ (line : List ℕ). line ++ 10 ∷ []) before more
+
+warned-then : (before after more : List At) → after ≡ more ++ before → reverse after ≡ reverse before ++ reverse more
+warned-then before after more e = ap reverse e ∙ reverse-append more before
+
+-- a direction whose filter reads its lines and writes its units goes line by line where its reading does
+goes-by : {E U O K : Type 0} (direction : Direction U O K) (seen_after : List ReadLine → Seen O K)
+    (unit_lines : List (Item E) → FileUnit E → List (List ℕ)) (reading : List ReadLine → Reading E)
+    (whole : List ReadLine → WholeReading E) (memory : List ReadLine → ReadLine → Option (List At))
+    → ((lines : List ReadLine) (line : ReadLine) → IsFollowed (seen_after (lines ++ line ∷ []))
+    (written_lines unit_lines (reading lines).items)
+    (written_lines unit_lines (reading (lines ++ line ∷ [])).items)
+    (warnings_in (reading lines).items) (warnings_in (reading (lines ++ line ∷ [])).items)
+    (fault_of_stop (reading (lines ++ line ∷ [])).stop) (fed direction (seen_after lines) line))
+    → ((lines : List ReadLine) → IsEndedBy (written_lines unit_lines (reading lines).items)
+    (written_lines unit_lines (whole lines).items) (warnings_in (reading lines).items)
+    (warnings_in (whole lines).items)
+    (whole lines).fault (seen_end direction (seen_after lines)))
+    → ((lines : List ReadLine) → (seen_after lines).number ≡ length lines)
+    → ((lines : List ReadLine) (line : ReadLine)
+    → takes_memory direction (seen_after lines) line ≡ true → memory lines line ≡ Some [])
+    → ((lines : List ReadLine) (line : ReadLine) (next : Seen O K) (notice : At)
+    → record { answer = Notice notice true; handed_out = []; next = next }
+    ≡ seen_next direction (seen_after lines) line
+    → takes_memory direction next line ≡ true → memory lines line ≡ Some (notice ∷ []))
+    → IsReadyWhereHandedOut direction
+    → GoesLineByLine direction seen_after (record {
+      so_far = λ lines. course_so_far unit_lines (reading (map seen lines));
+      whole = λ lines. whole_course unit_lines (whole (map seen lines));
+      memory_after = λ lines line. memory (map seen lines) (seen line);
+    })
+goes-by direction seen_after unit_lines reading whole memory on ends number first again ready = record {
+  follows = λ (lines : List InputLine) (line : InputLine).
+      let h = on (map seen lines) (seen line) in
+      let all = map-append seen lines (line ∷ []) in
+      record {
+        next = ap seen_after all ∙ h.next;
+        output = ap (λ (ls : List ReadLine). lines_text (written_lines unit_lines (reading ls).items)) all
+            ∙ text-then _ _ _ h.handed_out;
+        warnings = ap (λ (ls : List ReadLine). reverse (warnings_in (reading ls).items)) all
+            ∙ warned-then (warnings_in (reading (map seen lines)).items) _
+            (fed direction (seen_after (map seen lines)) (seen line)).warned h.warned;
+        fault = ap (λ (ls : List ReadLine). fault_of_stop (reading ls).stop) all ∙ h.failed;
+      };
+  ends = λ (lines : List InputLine).
+      let h = ends (map seen lines) in
+      record {
+        handed_out = h.handed_out;
+        output = ap lines_text h.written;
+        warnings = warned-then (warnings_in (reading (map seen lines)).items) _
+            (noticed_by (seen_end direction (seen_after (map seen lines))).answer) h.warned;
+        fault = h.failed;
+      };
+  number = λ (lines : List InputLine). number (map seen lines) ∙ length-map lines seen;
+  memory_first = λ (lines : List InputLine) (line : InputLine). first (map seen lines) (seen line);
+  memory_again = λ (lines : List InputLine) (line : InputLine). again (map seen lines) (seen line);
+  ready = ready;
+}
+
+pub compaction-goes : (choices : Choices)
+    → GoesLineByLine compaction (compaction_seen choices) (compaction_filter choices)
+compaction-goes choices = goes-by compaction (compaction_seen choices) (compact_unit choices)
+    (rinex_reading choices.skip) (whole_rinex choices.skip)
+    (λ lines line. memory_allowed rinex_place compaction_takes
+    choices.skip (rinex_reading choices.skip lines) line) (compacted-on choices) (compaction-ended choices)
+    (λ lines. refl) (compaction-allowed choices) (compaction-allowed-again choices) compaction-ready
+
+pub expansion-goes : (choices : Choices) → GoesLineByLine expansion (expansion_seen choices) (expansion_filter choices)
+expansion-goes choices = goes-by expansion (expansion_seen choices) expanded_unit
+    (compact_reading choices.skip) (whole_compact choices.skip) (compact_memory choices.skip)
+    (expanded-on choices)
+    (expansion-ended choices) (λ lines. refl) (expansion-allowed choices) (expansion-allowed-again choices)
+    expansion-ready

@@ -1,0 +1,209 @@
+-- An expansion is given one line more.
+use Rattle.std.proofs.Common.{ℕ, ◌≡◌, ◌+◌, ◌≤◌, Bool, List, [], ◌∷◌, ◌++◌, length, drop, Option, Some, None}
+use Rattle.std.proofs.Common.{Result, Ok, Err, refl, ap, sym, subst, arith, length-append}
+use Rattle.std.proofs.lemmas.List.{drop-append-le, length-drop}
+use Rattle.crx_faults.specs.meaning.Seen.{ReadLine, Content, Overlong}
+use Rattle.crx_faults.specs.declared.fault.Fault.{Fault}
+use Rattle.crx_faults.specs.declared.fault.Fault.TheVariants.{LineTooLong}
+use Rattle.crx_rinex.specs.meaning.Places.{Place, Here, Wrong, Wanted}
+use Rattle.crx_rinex.specs.Steady.{Remains}
+use Rattle.crx_history.specs.meaning.CompactPlaces.{ReadEpoch}
+use Rattle.crx_compact.specs.OpenEpochs.{OpenRawEpoch}
+use Rattle.crx_history.specs.Tails.{Tail}
+use Rattle.crx_options.specs.meaning.Choices.{Choices}
+use Rattle.crx_reading.specs.meaning.Reading.{Reading, AtFault, AtLines, reading_from}
+use Rattle.crx_filter.specs.Laws.{IsFollowed, IsExpandedOn, Fed, fed, fed_once}
+use Rattle.crx_reading.specs.meaning.Reading.{fault_of_stop}
+use Rattle.crx_faults.specs.meaning.Faults.{is_skippable}
+use Rattle.crx_reading.specs.meaning.Written.{warnings_in}
+use Rattle.crx_reading.specs.LineByLine.{Phase, InFirstLines, Ended, Seen, Fails, made_in, step_of_made}
+use Rattle.crx_reading.specs.LineByLine.{seen_next, seen_of}
+use Rattle.crx_reading.specs.meaning.Expanded.{compact_place, crinex_version, crinex_program, first_lines}
+use Rattle.crx_filter.specs.Expanded.{expanded_lines}
+use Rattle.crx_reading.specs.ExpansionByLine.{expansion, compact_open, tail_of_items}
+use Rattle.crx_filter.proofs.reading.ForwardCompact.{steady-first_lines}
+use Rattle.crx_filter.proofs.following.Following.{seen_in, fed-once, failed-ends}
+use Rattle.crx_filter.proofs.following.MoreLines.{more-line}
+use Rattle.crx_filter.proofs.following.Lines.{quiet-elsewhere, never-before}
+use Rattle.crx_filter.proofs.following.Expansion.{expansion-carried_out}
+
+-- ---- the reading by where the first two lines are
+
+-- the reading of compact text by what stands at its first two lines
+abbrev pub reading_by : Bool → List ReadLine → Place (List (List ℕ)) → Reading ReadEpoch
+reading_by skip lines p =
+    elim p [
+      | Here two count ↦ reading_from compact_place skip [] (count + 1) (drop count lines)
+      | Wrong offset fault ↦ record { items = []; stop = AtFault (record { line = offset + 1; fault = fault }) }
+      | Wanted ↦ record { items = []; stop = AtLines 1 lines }
+    ]
+
+abbrev pub phase_by : List ReadLine → Place (List (List ℕ)) → Phase OpenRawEpoch → Phase OpenRawEpoch
+phase_by lines p phase =
+    elim p [
+      | Here two count ↦ phase
+      | Wrong offset fault ↦ phase
+      | Wanted ↦ InFirstLines (length lines)
+    ]
+
+abbrev pub seen_by : Choices → List ReadLine → Place (List (List ℕ)) → Seen OpenRawEpoch (Option Tail)
+seen_by choices lines p =
+    let seen : Seen OpenRawEpoch (Option Tail) =
+    seen_of expansion compact_open tail_of_items choices (length lines) (reading_by choices.skip lines p) in
+    record seen { phase = phase_by lines p seen.phase }
+
+-- one line more, by what stands at the first two lines before and then, and by what it is fed as
+abbrev FollowsAs : Choices → List ReadLine → ReadLine → Place (List (List ℕ)) → Place (List (List ℕ))
+    → Fed OpenRawEpoch (Option Tail) → Type 0
+FollowsAs choices lines line before after line_fed =
+    let then : Reading ReadEpoch = reading_by choices.skip (lines ++ line ∷ []) after in
+    IsFollowed (seen_by choices (lines ++ line ∷ []) after)
+    (expanded_lines (reading_by choices.skip lines before).items) (expanded_lines then.items)
+    (warnings_in (reading_by choices.skip lines before).items) (warnings_in then.items)
+    (fault_of_stop then.stop) line_fed
+
+abbrev FollowsBy : Choices → List ReadLine → ReadLine → Place (List (List ℕ)) → Place (List (List ℕ)) → Type 0
+FollowsBy choices lines line before after =
+    FollowsAs choices lines line before after (fed expansion (seen_by choices lines before) line)
+
+-- in the first two lines no line comes again
+abbrev FollowsOnce : Choices → List ReadLine → ReadLine → Type 0
+FollowsOnce choices lines line = FollowsAs choices lines line Wanted (first_lines (lines ++ line ∷ []))
+    (fed_once (seen_next expansion (seen_by choices lines Wanted) line))
+
+by-once : (choices : Choices) (lines : List ReadLine) (line : ReadLine) → FollowsOnce choices lines line
+    → FollowsBy choices lines line Wanted (first_lines (lines ++ line ∷ []))
+by-once choices lines line once =
+    let seen : Seen OpenRawEpoch (Option Tail) = seen_by choices lines Wanted in
+    subst (λ f. FollowsAs choices lines line Wanted (first_lines (lines ++ line ∷ [])) f)
+    (sym (fed-once expansion seen line (quiet-elsewhere expansion seen line
+    (made_in expansion seen.phase seen.types seen.kept line) refl))) once
+
+-- both lines are there: the reading goes on from the third
+after-both : (choices : Choices) (lines : List ReadLine) (line : ReadLine) (two : List (List ℕ)) (count : ℕ)
+    → count ≤ length lines → FollowsBy choices lines line (Here two count) (Here two count)
+after-both choices lines line two count within =
+    more-line (expansion-carried_out choices) (count + 1) (length lines) (length (lines ++ line ∷ []))
+    (drop count lines)
+    (drop count (lines ++ line ∷ [])) line (omega (arith, length-drop count lines, within))
+    (length-append lines (line ∷ [])) (drop-append-le count lines (line ∷ []) within)
+
+-- one of them has a fault: it is answered again
+after-fault : (choices : Choices) (lines : List ReadLine) (line : ReadLine) (offset : ℕ) (fault : Fault)
+    → FollowsBy choices lines line (Wrong offset fault) (Wrong offset fault)
+after-fault choices lines line offset fault =
+    let all : length (lines ++ line ∷ []) ≡ length lines + 1 = length-append lines (line ∷ []) in
+    record {
+      next = ap (λ (n : ℕ). seen_in choices n (Ended (record { line = offset + 1; fault = fault })) [] None) all;
+      handed_out = refl;
+      warned = refl;
+      failed = refl;
+    }
+
+-- a fault in the first two lines is never skipped
+ends : (choices : Choices) (count : ℕ) (line : ReadLine) (fault : Fault)
+    → fed_once (step_of_made expansion (seen_in choices count (InFirstLines count) [] None) line (Fails fault))
+    ≡ record {
+      warned = [];
+      failed = Some (record { line = count + 1; fault = fault });
+      handed_out = [];
+      next = seen_in choices (count + 1) (Ended (record { line = count + 1; fault = fault })) [] None;
+    }
+ends choices count line fault = ap fed_once (failed-ends expansion
+    (seen_in choices count (InFirstLines count) [] None) line fault (never-before choices.skip (is_skippable fault)))
+
+-- the first line
+first-line : (choices : Choices) (line : ReadLine)
+    → FollowsBy choices [] line (first_lines []) (first_lines (line ∷ []))
+first-line choices line = by-once choices [] line (by_line line)
+  where
+    by_result : (content : List ℕ) (r : Result (List ℕ) Fault)
+        → crinex_version content ≡ r → FollowsOnce choices [] (Content content)
+    by_result content (Ok version) e = rw e (record { next = refl; handed_out = refl; warned = refl; failed = refl })
+    by_result content (Err fault) e = rw (e, ends choices 0 (Content content) fault)
+        (record { next = refl; handed_out = refl; warned = refl; failed = refl })
+
+    by_line : (l : ReadLine) → FollowsOnce choices [] l
+    by_line Overlong = rw (ends choices 0 Overlong LineTooLong)
+        (record { next = refl; handed_out = refl; warned = refl; failed = refl })
+    by_line (Content content) = by_result content (crinex_version content) refl
+
+-- the second line, the first being good
+second-line : (choices : Choices) (first : List ℕ) (line : ReadLine) (version : List ℕ)
+    → crinex_version first ≡ Ok version
+    → FollowsBy choices (Content first ∷ []) line Wanted (first_lines (Content first ∷ line ∷ []))
+second-line choices first line version good = by-once choices (Content first ∷ []) line (by_line line)
+  where
+    by_result : (content : List ℕ) (r : Result (List ℕ) Fault)
+        → crinex_program content ≡ r → FollowsOnce choices (Content first ∷ []) (Content content)
+    by_result content (Ok program) e =
+        rw good (rw e (record { next = refl; handed_out = refl; warned = refl; failed = refl }))
+    by_result content (Err fault) e = rw good (rw (e, ends choices 1 (Content content) fault)
+        (record { next = refl; handed_out = refl; warned = refl; failed = refl }))
+
+    by_line : (l : ReadLine) → FollowsOnce choices (Content first ∷ []) l
+    by_line Overlong = rw good (rw (ends choices 1 Overlong LineTooLong)
+        (record { next = refl; handed_out = refl; warned = refl; failed = refl }))
+    by_line (Content content) = by_result content (crinex_program content) refl
+
+-- where one of the two lines is wanted, there is none, or a good first line alone
+pub data IsBeforeHeader (lines : List ReadLine) : Type 0 where
+  NoLine : lines ≡ [] → IsBeforeHeader lines
+  OneLine : (first version : List ℕ)
+      → lines ≡ Content first ∷ [] → crinex_version first ≡ Ok version → IsBeforeHeader lines
+
+two-lines : (first : List ℕ) (line : ReadLine) (lines : List ReadLine) (r : Result (List ℕ) Fault)
+    → crinex_version first ≡ r → first_lines (Content first ∷ line ∷ lines) ≡ Wanted → ⊥
+two-lines first line lines (Err fault) e wanted =
+    let at : first_lines (Content first ∷ line ∷ lines) ≡ Wrong 0 fault = rw e refl in absurd (cc)
+two-lines first Overlong lines (Ok version) e wanted =
+    let at : first_lines (Content first ∷ Overlong ∷ lines) ≡ Wrong 1 LineTooLong = rw e refl in absurd (cc)
+two-lines first (Content second) lines (Ok version) e wanted = decided (crinex_program second) refl
+  where
+    decided : (q : Result (List ℕ) Fault) → crinex_program second ≡ q → ⊥
+    decided (Ok program) h = let at : first_lines (Content first ∷ Content second ∷ lines)
+        ≡ Here (version ∷ program ∷ []) 2 = rw e (rw h refl) in absurd (cc)
+    decided (Err fault) h = let at : first_lines (Content first ∷ Content second ∷ lines) ≡ Wrong 1 fault =
+        rw e (rw h refl) in absurd (cc)
+
+before-header : (lines : List ReadLine) → first_lines lines ≡ Wanted → IsBeforeHeader lines
+before-header [] wanted = NoLine refl
+before-header (Overlong ∷ lines) wanted = absurd (cc)
+before-header (Content first ∷ []) wanted = by_result (crinex_version first) refl
+  where
+    by_result : (r : Result (List ℕ) Fault) → crinex_version first ≡ r → IsBeforeHeader (Content first ∷ [])
+    by_result (Ok version) e = OneLine first version refl e
+    by_result (Err fault) e = let at : first_lines (Content first ∷ []) ≡ Wrong 0 fault = rw e refl in absurd (cc)
+before-header (Content first ∷ line ∷ lines) wanted =
+    absurd (two-lines first line lines (crinex_version first) refl wanted)
+
+by-first_lines : (choices : Choices) (lines : List ReadLine) (line : ReadLine) (p : Place (List (List ℕ)))
+    → first_lines lines ≡ p → FollowsBy choices lines line (first_lines lines) (first_lines (lines ++ line ∷ []))
+by-first_lines choices lines line (Here two count) e =
+    let remains : Remains (length lines) (Here two count) (first_lines (lines ++ line ∷ [])) = subst
+    (λ p. Remains (length lines) p (first_lines (lines ++ line ∷ []))) e (steady-first_lines lines (line ∷ [])) in
+    subst (λ p. FollowsBy choices lines line p (first_lines (lines ++ line ∷ []))) (sym e)
+    (subst (λ q. FollowsBy choices lines line (Here two count) q)
+    (sym remains.1) (after-both choices lines line two count remains.0))
+by-first_lines choices lines line (Wrong offset fault) e =
+    let remains : Remains (length lines) (Wrong offset fault) (first_lines (lines ++ line ∷ [])) = subst
+    (λ p. Remains (length lines) p (first_lines (lines ++ line ∷ []))) e (steady-first_lines lines (line ∷ [])) in
+    subst (λ p. FollowsBy choices lines line p (first_lines (lines ++ line ∷ []))) (sym e)
+    (subst (λ q. FollowsBy choices lines line (Wrong offset fault) q)
+    (sym remains.1) (after-fault choices lines line offset fault))
+by-first_lines choices lines line Wanted e = by_lines (before-header lines e)
+  where
+    by_lines : IsBeforeHeader lines
+        → FollowsBy choices lines line (first_lines lines) (first_lines (lines ++ line ∷ []))
+    by_lines (NoLine none) = subst (λ ls. FollowsBy choices ls line (first_lines ls) (first_lines (ls ++ line ∷ [])))
+        (sym none) (first-line choices line)
+    by_lines (OneLine first version one good) =
+        subst (λ ls. FollowsBy choices ls line (first_lines ls) (first_lines (ls ++ line ∷ []))) (sym one)
+        (subst (λ p. FollowsBy choices (Content first ∷ []) line p (first_lines (Content first ∷ line ∷ [])))
+        (sym (wanted good)) (second-line choices first line version good))
+      where
+        wanted : crinex_version first ≡ Ok version → first_lines (Content first ∷ []) ≡ Wanted
+        wanted h = rw h refl
+
+pub expanded-on : (choices : Choices) (lines : List ReadLine) (line : ReadLine) → IsExpandedOn choices lines line
+expanded-on choices lines line = by-first_lines choices lines line (first_lines lines) refl

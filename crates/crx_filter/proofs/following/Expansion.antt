@@ -1,0 +1,225 @@
+-- Expansion line by line reads, keeps and writes as the expansion of all lines does.
+use Rattle.std.proofs.Common.{ℕ, suc, ◌≡◌, Bool, true, false, cond, List, [], ◌∷◌, ◌++◌, length, Option, Some, None}
+use Rattle.std.proofs.Common.{Result, Ok, Err, refl, ap, sym, ◌∙◌, true≢false}
+use Rattle.std.specs.Option.{is_some}
+use Rattle.std.proofs.lemmas.Option.{none-some}
+use Rattle.crx_faults.specs.meaning.Seen.{ReadLine, Content, Overlong}
+use Rattle.crx_faults.specs.declared.fault.Fault.{Fault}
+use Rattle.crx_faults.specs.declared.fault.Fault.TheVariants.{BadEpoch}
+use Rattle.crx_rinex.specs.meaning.EpochLines.{is_event_line, records_in}
+use Rattle.crx_rinex.specs.meaning.Printing.{printed_epoch}
+use Rattle.crx_rinex.specs.meaning.Places.{Place, Here, Wrong, Wanted, one_line}
+use Rattle.crx_rinex.specs.meaning.Units.{Unit as FileUnit, EventLine}
+use Rattle.crx_history.specs.meaning.Expansion.{RawEpoch}
+use Rattle.crx_history.specs.meaning.CompactPlaces.{ReadEpoch, epoch_at}
+use Rattle.crx_history.specs.Tails.{Tail, tail_left}
+use Rattle.crx_compact.specs.OpenEpochs.{epoch_after, OpenRawEpoch, HeldEpoch, RawStep, Going, Whole, Faulty}
+use Rattle.crx_compact.specs.OpenEpochs.{first_step, next_step, placed_as, held_after, place_of_step, place_of_steps}
+use Rattle.crx_compact.specs.OpenEpochs.{open_raw_after, open_raw_with}
+use Rattle.crx_compact.specs.ReadingLaws.{is_wanted}
+use Rattle.crx_compact.proofs.soundness.Soundness.{reads-soundly}
+use Rattle.crx_compact.proofs.reading.RawTailing.{place-by_tail, left-by_tail}
+use Rattle.crx_compact.proofs.reading.LineByLine.{steps-agree, wanted-where_open, steps-from_open}
+use Rattle.crx_options.specs.meaning.Choices.{Choices}
+use Rattle.crx_reading.specs.meaning.Items.{Item, types_in_force, records_count_types}
+use Rattle.crx_reading.specs.meaning.Expanded.{raws_kept, empties_state, event_line, as_observation}
+use Rattle.crx_reading.specs.meaning.Expanded.{expanded_unit}
+use Rattle.crx_reading.specs.LineByLine.{Made, made_of_unit}
+use Rattle.crx_reading.specs.ExpansionByLine.{made_of_raw_step, compact_begins, expansion, tail_of_items, begins_event}
+use Rattle.crx_reading.specs.ExpansionByLine.{compact_open}
+use Rattle.crx_reading.proofs.Choosing.{by_bool}
+use Rattle.crx_filter.proofs.reading.ForwardCompact.{compact-forward}
+use Rattle.crx_filter.proofs.following.Lines.{one_line-decided}
+use Rattle.crx_filter.proofs.following.Following.{IsSameEpoch, AgreeOn, IsCarriedOut}
+use Rattle.crx_filter.proofs.reading.ForwardCompact.{compact_beginning}
+
+abbrev pub Agrees : Choices → List (Item ReadEpoch) → List ReadLine → Made HeldEpoch OpenRawEpoch → Type 0
+Agrees choices items lines made =
+    AgreeOn compact_beginning expansion compact_open tail_of_items expanded_unit choices items lines made
+
+-- ---- what stands at a place, by what it leaves
+
+-- an epoch that was read is held as the steps hold it
+record IsHeldAs (tail : Option Tail) (p : Place ReadEpoch) (held : HeldEpoch) (count : ℕ) : Type 0 where
+  read : ReadEpoch
+  here : p ≡ Here read count
+  same : held_after tail read ≡ held
+
+placed-here : (tail : Option Tail) (p : Place ReadEpoch) (held : HeldEpoch) (count : ℕ)
+    → placed_as (held_after tail) p ≡ Here held count → IsHeldAs tail p held count
+placed-here tail (Here read n) held count e =
+    let many : n ≡ count = cc in
+    let same : held_after tail read ≡ held = cc in
+    record { read = read; here = ap (λ (k : ℕ). Here read k) many; same = same }
+placed-here tail p held count e = absurd (cc)
+
+placed-wrong : (tail : Option Tail) (p : Place ReadEpoch) (offset : ℕ) (fault : Fault)
+    → placed_as (held_after tail) p ≡ Wrong offset fault → p ≡ Wrong offset fault
+placed-wrong tail (Wrong k other) offset fault e = cc
+placed-wrong tail p offset fault e = absurd (cc)
+
+placed-wanted : (tail : Option Tail) (p : Place ReadEpoch) → placed_as (held_after tail) p ≡ Wanted → p ≡ Wanted
+placed-wanted tail Wanted e = refl
+placed-wanted tail p e = absurd (cc)
+
+-- ---- one line
+
+-- an epoch is kept and written as it is held
+same-epoch : (choices : Choices) (items : List (Item ReadEpoch)) (lines : List ReadLine) (read : ReadEpoch)
+    (held : HeldEpoch) (count : ℕ) → epoch_at (types_in_force items) (raws_kept items) lines ≡ Here read count
+    → held_after (tail_of_items items) read ≡ held
+    → IsSameEpoch expansion tail_of_items expanded_unit choices items read held
+same-epoch choices items lines read held count here same = record {
+  kept = λ number phase types kept either.
+      ap {B = Option Tail} (λ (h : HeldEpoch). Some h.tail) (sym same)
+      ∙ sym (left-by_tail read.raw (raws_kept items)
+      (reads-soundly (types_in_force items) (raws_kept items) lines read count here).single);
+  lines = λ number phase types kept either. ap (λ (h : HeldEpoch). printed_epoch h.epoch) (sym same);
+}
+
+-- what some lines make where no event begins, by the step that the last of them is
+agree-step : (choices : Choices) (items : List (Item ReadEpoch)) (lines : List ReadLine) (before : ℕ) (step : RawStep)
+    → compact_beginning items lines ≡ as_observation (epoch_at (types_in_force items) (raws_kept items) lines)
+    → placed_as (held_after (tail_of_items items)) (epoch_after (types_in_force items) (tail_of_items items) lines)
+    ≡ place_of_step before step
+    → compact_open items lines ≡ open_raw_after step []
+    → Agrees choices items lines (made_of_raw_step step)
+agree-step choices items lines before (Going so_far) place placed opens =
+    let here = place-by_tail (types_in_force items) (raws_kept items) lines
+    ∙ placed-wanted (tail_of_items items) _ placed in
+    (so_far, refl, place ∙ ap as_observation here, opens)
+agree-step choices items lines before (Whole held) place placed opens =
+    let h = placed-here (tail_of_items items) _ held (suc before) placed in
+    let here = place-by_tail (types_in_force items) (raws_kept items) lines ∙ h.here in (
+      suc before,
+      h.read,
+      place
+          ∙ ap as_observation here,
+      same-epoch choices items lines h.read held (suc before) here h.same,
+    )
+agree-step choices items lines before (Faulty fault) place placed opens =
+    let here = place-by_tail (types_in_force items) (raws_kept items) lines
+    ∙ placed-wrong (tail_of_items items) _ before fault placed in
+    (before, place ∙ ap as_observation here)
+
+-- a first line alone
+steps-last : (step : RawStep) → place_of_steps 0 step [] ≡ place_of_step 0 step
+steps-last (Going so_far) = refl
+steps-last step = refl
+
+agree-event : (choices : Choices) (items : List (Item ReadEpoch)) (content : List ℕ)
+    → is_event_line content ≡ true → (o : Option ℕ) → records_in content ≡ o
+    → Agrees choices items (Content content ∷ []) (made_of_unit (elim o as (λ _. Result (FileUnit HeldEpoch) Fault)
+    [ Some count ↦ Ok (EventLine content) | None ↦ Err BadEpoch ]))
+agree-event choices items content is None e = (0, rw is (rw (e, event_line) refl))
+agree-event choices items content is (Some count) e = (1, rw is (rw (e, event_line) refl), refl)
+
+pub agree-content : (choices : Choices) (items : List (Item ReadEpoch)) (content : List ℕ) (b : Bool)
+    → is_event_line content ≡ b
+    → Agrees choices items (Content content ∷ []) (cond b (made_of_unit (event_line content))
+    (made_of_raw_step (first_step (types_in_force items) (tail_of_items items) (Content content))))
+agree-content choices items content true e = agree-event choices items content e (records_in content) refl
+agree-content choices items content false e =
+    agree-step choices items (Content content ∷ []) 0
+    (first_step (types_in_force items) (tail_of_items items) (Content content)) (rw e refl)
+    (steps-agree (types_in_force items) (tail_of_items items) (Content content ∷ [])
+    ∙ steps-last (first_step (types_in_force items) (tail_of_items items) (Content content)))
+    (rw e refl)
+
+agree-begins : (choices : Choices) (items : List (Item ReadEpoch)) (line : ReadLine)
+    → Agrees choices items (line ∷ []) (compact_begins (types_in_force items) (tail_of_items items) line)
+agree-begins choices items Overlong = (0, refl)
+agree-begins choices items (Content content) = agree-content choices items content (is_event_line content) refl
+
+-- where an epoch is open, no event began
+no-event : (items : List (Item ReadEpoch)) (lines : List ReadLine) (so_far : OpenRawEpoch) (b : Bool)
+    → begins_event lines ≡ b → compact_open items lines ≡ Some so_far → begins_event lines ≡ false
+no-event items lines so_far true e opens = absurd (none-some so_far (sym (closed lines e) ∙ opens))
+  where
+    closed : (ls : List ReadLine) → begins_event ls ≡ true → compact_open items ls ≡ None
+    closed ls e = rw e refl
+no-event items lines so_far false e opens = e
+
+by-steps : (items : List (Item ReadEpoch)) (lines : List ReadLine) → begins_event lines ≡ false
+    → compact_open items lines ≡ open_raw_with (types_in_force items) (tail_of_items items) lines
+by-steps items lines e = rw e refl
+
+at-observation : (items : List (Item ReadEpoch)) (line : ReadLine) (lines : List ReadLine)
+    → begins_event (line ∷ lines) ≡ false → compact_beginning items (line ∷ lines)
+    ≡ as_observation (epoch_at (types_in_force items) (raws_kept items) (line ∷ lines))
+at-observation items Overlong lines e = refl
+at-observation items (Content content) lines e = rw e refl
+
+same-beginning : (line : ReadLine) (lines more : List ReadLine)
+    → begins_event (line ∷ lines) ≡ false → begins_event (line ∷ more) ≡ false
+same-beginning Overlong lines more e = refl
+same-beginning (Content content) lines more e = e
+
+pub agree-continues : (choices : Choices) (items : List (Item ReadEpoch))
+    (lines : List ReadLine) (line : ReadLine) (so_far : OpenRawEpoch) → compact_open items lines ≡ Some so_far
+    → Agrees choices items (lines ++ line ∷ []) (made_of_raw_step (next_step so_far line))
+agree-continues choices items [] line so_far opens = absurd (none-some so_far opens)
+agree-continues choices items (first ∷ rest) line so_far opens =
+    let none : begins_event (first ∷ rest) ≡ false =
+    no-event items (first ∷ rest) so_far (begins_event (first ∷ rest)) refl opens in
+    let more : begins_event (first ∷ (rest ++ line ∷ [])) ≡ false =
+    same-beginning first rest (rest ++ line ∷ []) none in
+    let step = steps-from_open (types_in_force items)
+    (tail_of_items items) (first ∷ rest) line so_far (sym (by-steps items (first ∷ rest) none) ∙ opens) in
+    agree-step choices items (first ∷ (rest ++ line ∷ []))
+    (length (first ∷ rest)) (next_step so_far line) (at-observation items first (rest ++ line ∷ []) more)
+    step.place (by-steps items (first ∷ (rest ++ line ∷ [])) more ∙ step.open_epoch)
+
+-- ---- where more lines are wanted
+
+pub observation-wanted : (p : Place ReadEpoch) → as_observation p ≡ Wanted → p ≡ Wanted
+observation-wanted (Here read count) e = absurd (cc)
+observation-wanted (Wrong offset fault) e = absurd (cc)
+observation-wanted Wanted e = refl
+
+event-not_wanted : (items : List (Item ReadEpoch)) (line : ReadLine) (lines : List ReadLine)
+    → begins_event (line ∷ lines) ≡ true → compact_beginning items (line ∷ lines) ≡ Wanted → ⊥
+event-not_wanted items Overlong lines e wanted = absurd (true≢false (sym e))
+event-not_wanted items (Content content) lines e wanted =
+    one_line-decided (event_line {E = ReadEpoch} content) (sym (at_event e) ∙ wanted)
+  where
+    at_event : is_event_line content ≡ true
+        → compact_beginning items (Content content ∷ lines) ≡ one_line (event_line content)
+    at_event h = rw h refl
+
+no-lines : (items : List (Item ReadEpoch)) (lines : List ReadLine)
+    → compact_beginning items lines ≡ Wanted → compact_open items lines ≡ None → lines ≡ []
+no-lines items [] wanted none = refl
+no-lines items (line ∷ lines) wanted none = by_bool (begins_event (line ∷ lines))
+    (λ on. absurd (event-not_wanted items line lines on wanted))
+    (λ off.
+    let here = observation-wanted _ (sym (at-observation items line lines off) ∙ wanted) in
+    let after : epoch_after (types_in_force items) (tail_of_items items) (line ∷ lines) ≡ Wanted =
+    sym (place-by_tail (types_in_force items) (raws_kept items) (line ∷ lines)) ∙ here in
+    absurd (true≢false (sym (ap is_wanted after) ∙ wanted-where_open (types_in_force items)
+    (tail_of_items items) (line ∷ lines) ∙ ap is_some (sym (by-steps items (line ∷ lines) off) ∙ none))))
+
+kept-record : (b : Bool) (raws : List RawEpoch) → cond b None (tail_left raws) ≡ tail_left (cond b [] raws)
+kept-record true raws = refl
+kept-record false raws = refl
+
+pub expansion-carried_out : (choices : Choices)
+    → IsCarriedOut compact_beginning expansion compact_open tail_of_items expanded_unit choices
+expansion-carried_out choices = record {
+  forward = compact-forward;
+  wants = λ items. refl;
+  none_open = λ items. refl;
+  wanted_open = no-lines;
+  begins = agree-begins choices;
+  continues = agree-continues choices;
+  header_kept = λ items number types line. refl;
+  header_lines = λ items number types line. refl;
+  event_kept = λ items number phase types line. refl;
+  event_lines = λ items number phase types kept line. refl;
+  record_kept =
+      λ items number left types line. kept-record (empties_state (records_count_types items) line) (raws_kept items);
+  record_lines = λ items number phase types kept line. refl;
+  warned = λ items at. refl;
+  emptied_open = λ kept. refl;
+  open_open = λ kept. refl;
+}

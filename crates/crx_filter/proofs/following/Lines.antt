@@ -1,0 +1,454 @@
+-- One line more, wherever a reading has stopped.
+use Rattle.std.proofs.Common.{ℕ, zero, suc, ◌≡◌, inl, inr, ◌+◌, ◌-◌, ◌<◌}
+use Rattle.std.proofs.Common.{Bool, true, false, not, cond, List, [], ◌∷◌}
+use Rattle.std.proofs.Common.{◌++◌, length, Option, Some, None, Result, Ok, Err}
+use Rattle.std.proofs.Common.{refl, ap, sym, subst, ◌∙◌, arith}
+use Rattle.std.proofs.Common.{length-append, append-nil, append_assoc, rules}
+use Rattle.std.specs.Prelude.{◌||◌, ◌&&◌, ◌==◌, ⊤, nat_lt}
+use Rattle.crx_faults.specs.meaning.Seen.{ReadLine, Content, Overlong}
+use Rattle.crx_faults.specs.declared.fault.Fault.{Fault}
+use Rattle.crx_faults.specs.declared.fault.Fault.TheVariants.{LineTooLong}
+use Rattle.crx_faults.specs.declared.fault.At.{At}
+use Rattle.crx_header.specs.meaning.Header.{is_end_of_header}
+use Rattle.crx_header.specs.meaning.ObservationTypes.{Count, types_of}
+use Rattle.crx_header.specs.ObservationTypes.{with_line}
+use Rattle.crx_header.proofs.Counts.{types_of-push}
+use Rattle.std.proofs.lemmas.Option.{none-some}
+use Rattle.crx_rinex.specs.meaning.Places.{Place, Wanted, one_line, first_line}
+use Rattle.crx_rinex.specs.meaning.Units.{Unit as FileUnit, HeaderLine, EventRecord}
+use Rattle.crx_options.specs.meaning.Choices.{Choices}
+use Rattle.crx_reading.specs.meaning.Items.{Item, Accepted, Warned, is_at_start}
+use Rattle.crx_reading.specs.meaning.Items.{header_has_ended, records_left}
+use Rattle.crx_reading.specs.meaning.Items.{records_count_types, declaring_lines, types_in_force}
+use Rattle.crx_reading.specs.meaning.UnitPlaces.{unless_wrong, types_fault, header_line_fault, header_line}
+use Rattle.crx_reading.specs.meaning.UnitPlaces.{event_record, unit_place}
+use Rattle.crx_reading.specs.meaning.Reading.{Reading, Stop, AtFault, AtLines, Looking, is_skipped, can_go_on}
+use Rattle.crx_reading.specs.meaning.Reading.{reading_within, reading_from}
+use Rattle.crx_faults.specs.meaning.Faults.{is_skippable}
+use Rattle.crx_filter.specs.Laws.{continued_reading, IsReadForward, fed, fed_once, fed_twice, is_again}
+use Rattle.crx_reading.specs.meaning.Written.{written_lines}
+use Rattle.crx_reading.specs.meaning.Written.{warnings_in}
+use Rattle.crx_reading.specs.LineByLine.{Phase, InHeader, BetweenUnits, InEvent, InEpoch}
+use Rattle.crx_reading.specs.LineByLine.{LookingOn, Seen, Made}
+use Rattle.crx_reading.specs.LineByLine.{Completes, Fails, Direction, Notice, Step, made_of_unit}
+use Rattle.crx_reading.specs.LineByLine.{made_in, phase_after, types_after, may_skip}
+use Rattle.crx_reading.specs.LineByLine.{is_in_epoch, is_skipped_in}
+use Rattle.crx_reading.specs.LineByLine.{kept_in, after_warning, failed_step, step_of_made}
+use Rattle.crx_reading.specs.LineByLine.{seen_next, phase_in_body}
+use Rattle.crx_reading.specs.LineByLine.{phase_after_items, seen_of}
+use Rattle.crx_reading.proofs.Choosing.{by_bool, false-true}
+use Rattle.crx_filter.proofs.reading.Resuming.{enough-units, looked-here, looked-on}
+use Rattle.crx_filter.proofs.following.Following.{IsCarriedOut, AreKept, IsInside, Follows, Agrees}
+use Rattle.crx_filter.proofs.following.Following.{place, reads, seen_at}
+use Rattle.crx_filter.proofs.following.Following.{emptied-same, skipped-same, body-place}
+use Rattle.crx_filter.proofs.following.Following.{body-phase, fed-once}
+use Rattle.crx_filter.proofs.following.Following.{fed-twice, failed-ends, failed-skipped}
+use Rattle.crx_filter.proofs.following.Following.{followed-unit, followed-end}
+use Rattle.crx_filter.proofs.following.Following.{last-here, last-ends, last-skipped}
+use Rattle.crx_filter.proofs.following.Following.{skipped-again, records-phase}
+use Rattle.crx_filter.proofs.following.Following.{body-once}
+use Rattle.std.proofs.lemmas.Bool.{and_parts}
+
+-- only in an epoch does a line come again
+pub quiet-elsewhere : {U O K : Type 0} (direction : Direction U O K) (seen : Seen O K) (line : ReadLine)
+    (made : Made U O) → is_in_epoch seen.phase ≡ false → is_again (step_of_made direction seen line made).answer ≡ false
+quiet-elsewhere direction seen line (Fails fault) e = by_bool (is_skipped_in seen fault)
+    (λ on. ap (λ (s : Step _ _). is_again s.answer) (failed-skipped direction seen line fault on)
+    ∙ ap (λ b. b && can_go_on line) e)
+    (λ off. ap (λ (s : Step _ _). is_again s.answer) (failed-ends direction seen line fault off))
+quiet-elsewhere direction seen line made e = refl
+
+-- ---- lines of the header, and an event's records
+
+pub never-before : (skip b : Bool) → (skip && (false && b)) ≡ false
+never-before true b = refl
+never-before false b = refl
+
+header-phase : {E O : Type 0} (items : List (Item E)) (is_first : Bool) (line : List ℕ) → header_has_ended items ≡ false
+    → phase_after_items {O = O} (Accepted (HeaderLine line) ∷ items) None
+    ≡ phase_after {U = E} (InHeader is_first) (HeaderLine line)
+header-phase {E = E} {O = O} items is_first line e =
+    let inside : Phase O = InHeader false in
+    let outside : Phase O = BetweenUnits in
+    ap (λ b. cond (not (is_end_of_header line || b)) inside outside) e
+    ∙ (elim (is_end_of_header line) as (λ b. cond (not (b || false)) inside outside ≡ cond b outside inside)
+    [ true ↦ refl | false ↦ refl ])
+
+pub never-in-event : (skip : Bool) (left : ℕ) (b : Bool) → (skip && ((suc left == 0) && b)) ≡ false
+never-in-event skip left b = let some : (suc left == 0) ≡ false = search rules in rw some (never-before skip b)
+
+record-types : (counted : Bool) (lines : List (List ℕ)) (line : List ℕ) → types_of
+    (cond counted (lines ++ line ∷ []) lines) ≡ cond counted (with_line (types_of lines) line) (types_of lines)
+record-types true lines line = types_of-push lines line
+record-types false lines line = refl
+
+record-phase : {E O : Type 0} (items : List (Item E)) (left : ℕ) (line : List ℕ)
+    → header_has_ended items ≡ true → records_left items ≡ suc left
+    → phase_after_items {O = O} (Accepted (EventRecord line) ∷ items) None
+    ≡ phase_after {U = E} (InEvent (suc left) (records_count_types items)) (EventRecord line)
+record-phase items left line ended some = rw (ended, some) (records-phase (suc left - 1) (records_count_types items))
+
+pub header-place : {E : Type 0} (beginning : List (Item E) → List ReadLine → Place (FileUnit E))
+    (items : List (Item E))
+    (lines : List ReadLine) → header_has_ended items ≡ false
+    → unit_place beginning items lines ≡ first_line lines (header_line (is_at_start items))
+header-place beginning items lines e = rw e refl
+
+pub record-place : {E : Type 0} (beginning : List (Item E) → List ReadLine → Place (FileUnit E)) (items : List (Item E))
+    (left : ℕ) (lines : List ReadLine) → header_has_ended items ≡ true → records_left items ≡ suc left
+    → unit_place beginning items lines ≡ first_line lines (event_record (records_count_types items))
+record-place beginning items left lines ended some = let more : nat_lt 0 (suc left) ≡ true = search rules in
+    rw (ended, some, more) refl
+
+-- ---- where a reading has stopped
+
+-- one line decides what stands there
+pub one_line-decided : {X : Type 0} (r : Result X Fault) → one_line r ≡ Wanted → ⊥
+one_line-decided (Ok x) e = absurd (cc)
+one_line-decided (Err fault) e = absurd (cc)
+
+-- where the first line is wanted, none has come
+pub only_none : {X : Type 0} (read : List ℕ → Result X Fault) (ls : List ReadLine)
+    → first_line ls read ≡ Wanted → ls ≡ []
+only_none read [] e = refl
+only_none read (Overlong ∷ ls) e = absurd (cc)
+only_none read (Content content ∷ ls) e = absurd (one_line-decided (read content) e)
+
+-- where the reading of so many lines can stop
+abbrev pub IsStopped : {E : Type 0}
+    → (List (Item E) → List ReadLine → Place (FileUnit E)) → List (Item E) → Stop → ℕ → Type 0
+IsStopped place items (AtFault at) next = ⊤
+IsStopped place items (AtLines number rest) next = (place items rest ≡ Wanted) × (number + length rest ≡ next)
+IsStopped place items (Looking number) next = (number ≡ next)
+    × (header_has_ended items ≡ true) × (records_left items ≡ 0)
+
+more-units : {E : Type 0} (place : List (Item E) → List ReadLine → Place (FileUnit E))
+    → IsReadForward place → (skip : Bool) (items : List (Item E)) (number : ℕ) (rest : List ReadLine) (line : ReadLine)
+    → reading_from place skip items number (rest ++ line ∷ [])
+    ≡ reading_within place skip (suc (suc (length rest))) items number (rest ++ line ∷ [])
+more-units place h skip items number rest line =
+    let all : length (rest ++ line ∷ []) ≡ length rest + 1 = length-append rest (line ∷ []) in
+    enough-units place h skip (length (rest ++ line ∷ []) + 1)
+    (suc (suc (length rest))) items number (rest ++ line ∷ []) (omega arith) (omega (arith, all))
+
+-- what a line makes that is looked at as the first of an epoch or an event, or passed over
+made-looking : {U O K : Type 0} (direction : Direction U O K) (types : List Count) (kept : K)
+    (line : ReadLine)
+    → can_go_on line ≡ true → made_in direction LookingOn types kept line ≡ direction.begins types kept line
+made-looking direction types kept line e = rw e refl
+
+-- ---- one line more
+
+module _ {E U O K : Type 0} {beginning : List (Item E) → List ReadLine → Place (FileUnit E)}
+    {direction : Direction U O K}
+    {open_with : List (Item E) → List ReadLine → Option O} {kept_of : List (Item E) → K}
+    {unit_lines : List (Item E) → FileUnit E → List (List ℕ)} {choices : Choices}
+    (h : IsCarriedOut beginning direction open_with kept_of unit_lines choices) where
+  -- what is kept of a line that comes twice, in the order of its two steps
+  followed-twice : (count : ℕ) (items : List (Item E)) (at : At) (r : Reading E) (next : Seen O K)
+      (two : Step O K)
+      → Follows h count (Warned at ∷ items) r (fed_once two)
+      → Follows h count items r (fed_twice (record { answer = Notice at true; handed_out = []; next = next }) two)
+  followed-twice count items at r next two f = record {
+    next = f.next;
+    handed_out = f.handed_out;
+    warned = f.warned ∙ sym (append_assoc _ (at ∷ []) (warnings_in items));
+    failed = f.failed;
+  }
+
+  -- the next line where an epoch or an event may begin or in an epoch, given a second time where it is to come again
+  body-line : (units : ℕ) (items : List (Item E))
+      (number count : ℕ) (rest : List ReadLine) (line : ReadLine) (phase : Phase O) (kept : K) (made : Made U O)
+      → header_has_ended items ≡ true → records_left items ≡ 0 → beginning items rest ≡ Wanted
+      → Agrees h items (rest ++ line ∷ []) made
+      → may_skip phase ≡ true → AreKept h items kept → IsInside h items phase kept rest
+      → (is_in_epoch phase ≡ true → 0 < length rest) → number + length rest ≡ count + 1 → length rest < units
+      → made_in direction phase (types_in_force items) kept line ≡ made
+      → Follows h (count + 1) items (reads h (suc units) items number (rest ++ line ∷ []))
+      (fed direction (seen_at h count phase items kept) line)
+  body-line units items number count
+      rest line phase kept made ended none wanted agree may keeps inside within counted enough e =
+      by_bool (is_again (step made).answer)
+      (λ on. subst (λ f. Follows h (count + 1) items after f)
+      (sym (fed-twice direction seen line (ap (λ m. is_again (step m).answer) e ∙ on)
+      ∙ ap (λ m. fed_twice (step m) (seen_next direction (step m).next line)) e))
+      (again made agree on))
+      (λ off. subst (λ f. Follows h (count + 1) items after f)
+      (sym (fed-once direction seen line (ap (λ m. is_again (step m).answer) e ∙ off)
+      ∙ ap (λ m. fed_once (step m)) e))
+      (body-once h units items number count rest line phase kept made ended none wanted agree may keeps inside
+      counted off))
+    where
+      seen : Seen O K
+      seen = seen_at h count phase items kept
+
+      after : Reading E
+      after = reads h (suc units) items number (rest ++ line ∷ [])
+
+      step : Made U O → Step O K
+      step = step_of_made direction seen line
+
+      again : (m : Made U O) → Agrees h items (rest ++ line ∷ []) m → is_again (step m).answer ≡ true
+          → Follows h (count + 1) items after (fed_twice (step m) (seen_next direction (step m).next line))
+      again (Fails fault) a on =
+          let at : At = record { line = count + 1; fault = fault } in
+          by_bool (is_skipped_in seen fault)
+          (λ skipped.
+          let both : (is_in_epoch phase && can_go_on line) ≡ true =
+          sym (ap (λ (s : Step _ _). is_again s.answer) (failed-skipped direction seen line fault skipped)) ∙ on in
+          let each = and_parts (is_in_epoch phase) (can_go_on line) both in
+          let looking : Seen O K = seen_at h count LookingOn items (direction.emptied kept) in
+          let is_one : failed_step direction seen line fault
+          ≡ record { answer = Notice at true; handed_out = []; next = looking } =
+          failed-skipped direction seen line fault skipped
+          ∙ ap (λ (b : Bool). record { answer = Notice at b; handed_out = []; next = after_warning direction seen b }) both in
+          let kept_then : direction.emptied kept ≡ kept_of (Warned at ∷ items) =
+          emptied-same h items kept keeps ∙ h.warned items at in
+          let made_then : Made U O = direction.begins (types_in_force items) (kept_of (Warned at ∷ items))
+          line in
+          let is_made : made_in direction LookingOn (types_in_force items) (direction.emptied kept) line
+          ≡ made_then =
+          made-looking direction (types_in_force items) (direction.emptied kept) line each.1
+          ∙ ap (λ k. direction.begins (types_in_force items) k line) kept_then in
+          let some : 0 < length rest = within each.0 in
+          let anew : Reading E = reads h 2 (Warned at ∷ items) (count + 1) (line ∷ []) in
+          let same_reading : after ≡ anew =
+          last-skipped h.forward choices.skip units items number count rest line a.0 fault
+          (body-place beginning items rest ended none ∙ wanted)
+          (body-place beginning items (rest ++ line ∷ []) ended none ∙ a.1)
+          (skipped-same choices count phase (types_in_force items) kept items fault ended none may ∙ skipped)
+          counted
+          ∙ skipped-again h units items number count rest line at some counted each.1
+          ∙ enough-units (place h) h.forward choices.skip units 2
+          (Warned at ∷ items) (count + 1) (line ∷ []) (omega (arith, enough, some)) (omega arith) in
+          subst (λ r. Follows h (count + 1) items r
+          (fed_twice (step (Fails fault)) (seen_next direction (step (Fails fault)).next line)))
+          (sym same_reading)
+          (subst (λ (s : Step O K). Follows h (count + 1) items anew
+          (fed_twice s (seen_next direction s.next line)))
+          (sym is_one)
+          (subst (λ m. Follows h (count + 1) items anew (fed_twice (record {
+            answer = Notice at true;
+            handed_out = [];
+            next = looking;
+          }) (step_of_made direction looking line m))) (sym is_made)
+          (followed-twice (count + 1) items at anew looking (step_of_made direction looking line made_then)
+          (body-once h 1 (Warned at ∷ items) (count + 1) count [] line LookingOn (direction.emptied kept)
+          made_then
+          ended refl (h.wants (Warned at ∷ items)) (h.begins (Warned at ∷ items) line) refl (inl kept_then)
+          kept_then
+          (omega arith) (quiet-elsewhere direction looking line made_then refl))))))
+          (λ off. false-true (sym (ap (λ (s : Step _ _). is_again s.answer) (failed-ends direction seen line fault off))
+          ∙ on))
+      again m a on = false-true on
+
+  -- a line that is a unit of its own, or has a fault that is never skipped
+  simple-line : (units : ℕ) (items : List (Item E))
+      (count : ℕ) (line : ReadLine) (phase : Phase O) (fault : Option Fault) (unit : FileUnit E) (same : FileUnit U)
+      → place h items (line ∷ []) ≡ one_line (unless_wrong unit fault)
+      → ((f : Fault) → is_skipped choices.skip items f ≡ false)
+      → ((f : Fault) → is_skipped_in (seen_at h count phase items (kept_of items)) f ≡ false)
+      → phase_after_items {O = O} (Accepted unit ∷ items) None ≡ phase_after phase same
+      → types_in_force (Accepted unit ∷ items) ≡ types_after phase (types_in_force items) same
+      → direction.kept_after (seen_at h count phase items (kept_of items)) same
+      ≡ kept_of (Accepted unit ∷ items)
+      → direction.written (seen_at h count phase items (kept_of items)) same ≡ unit_lines items unit
+      → Follows h (count + 1) items (reads h (suc units) items (count + 1) (line ∷ []))
+      (fed_once (step_of_made direction (seen_at h count phase items (kept_of items)) line
+      (made_of_unit (unless_wrong same fault))))
+  simple-line units items count line phase None unit same here never never_in phases types keeps lines =
+      subst (λ r. Follows h (count + 1) items r (fed_once (step_of_made
+      direction (seen_at h count phase items (kept_of items)) line (Completes same))))
+      (sym (last-here h.forward choices.skip units items
+      (count + 1) [] line unit 1 (h.forward.wants items) here))
+      (followed-unit h count (count + 1 + 1) items phase
+      (kept_of items) unit same (h.none_open (Accepted unit ∷ items)) phases types keeps lines)
+  simple-line units items count line phase (Some fault) unit same here never never_in phases types keeps
+      lines =
+      subst (λ r. Follows h (count + 1) items r (fed_once
+      (failed_step direction (seen_at h count phase items (kept_of items)) line fault)))
+      (sym (last-ends h.forward choices.skip units items
+      (count + 1) count [] line 0 fault (h.forward.wants items) here (never fault) (omega arith)))
+      (followed-end h count items phase (kept_of items) line fault refl (never_in fault))
+
+  -- a line outside an epoch is fed once
+  line-once : (count : ℕ) (items : List (Item E)) (line : ReadLine) (phase : Phase O) (r : Reading E)
+      → is_in_epoch phase ≡ false
+      → Follows h (count + 1) items r
+      (fed_once (seen_next direction (seen_at h count phase items (kept_of items)) line))
+      → Follows h (count + 1) items r (fed direction (seen_at h count phase items (kept_of items)) line)
+  line-once count items line phase r outside follows =
+      subst (λ f. Follows h (count + 1) items r f) (sym (fed-once direction seen line
+      (quiet-elsewhere direction seen line (made_in direction phase seen.types seen.kept line) outside)))
+      follows
+    where
+      seen : Seen O K
+      seen = seen_at h count phase items (kept_of items)
+
+  -- the next line in the header
+  header-line : (units : ℕ) (items : List (Item E)) (count : ℕ) (line : ReadLine)
+      → header_has_ended items ≡ false
+      → Follows h (count + 1) items (reads h (suc units) items (count + 1) (line ∷ []))
+      (fed direction (seen_at h count (InHeader (is_at_start items)) items (kept_of items)) line)
+  header-line units items count line e =
+      line-once count items line (InHeader (is_at_start items))
+      (reads h (suc units) items (count + 1) (line ∷ []))
+      refl (by_line line)
+    where
+      simple : (content : List ℕ) (l : ReadLine) (fault : Option Fault)
+          → place h items (l ∷ []) ≡ one_line (unless_wrong (HeaderLine content) fault)
+          → Follows h (count + 1) items (reads h (suc units) items (count + 1) (l ∷ []))
+          (fed_once (step_of_made direction
+          (seen_at h count (InHeader (is_at_start items)) items (kept_of items)) l
+          (made_of_unit (unless_wrong (HeaderLine content) fault))))
+      simple content l fault here =
+          simple-line units items count l
+          (InHeader (is_at_start items)) fault (HeaderLine content) (HeaderLine content) here
+          (λ f. rw e (never-before choices.skip ((records_left items == 0) && is_skippable f)))
+          (λ f. never-before choices.skip (is_skippable f))
+          (header-phase items (is_at_start items) content e)
+          (types_of-push (declaring_lines items) content)
+          (h.header_kept items count (types_in_force items) content)
+          (h.header_lines items count (types_in_force items) content)
+
+      by_line : (l : ReadLine) → Follows h (count + 1) items (reads h (suc units) items (count + 1) (l ∷ []))
+          (fed_once (seen_next direction (seen_at h count (InHeader (is_at_start items)) items
+          (kept_of items)) l))
+      by_line Overlong = simple [] Overlong (Some LineTooLong) (rw e refl)
+      by_line (Content content) =
+          simple content (Content content) (header_line_fault (is_at_start items) content) (rw e refl)
+
+  -- the next record of an event
+  record-line : (units : ℕ) (items : List (Item E)) (count left : ℕ) (line : ReadLine)
+      → header_has_ended items ≡ true → records_left items ≡ suc left
+      → Follows h (count + 1) items (reads h (suc units) items (count + 1) (line ∷ []))
+      (fed direction (seen_at h count (InEvent (suc left) (records_count_types items)) items (kept_of items))
+      line)
+  record-line units items count left line ended some =
+      line-once count items line phase (reads h (suc units) items (count + 1) (line ∷ [])) refl (by_line line)
+    where
+      phase : Phase O
+      phase = InEvent (suc left) (records_count_types items)
+
+      simple : (content : List ℕ) (l : ReadLine) (fault : Option Fault)
+          → place h items (l ∷ []) ≡ one_line (unless_wrong (EventRecord content) fault)
+          → Follows h (count + 1) items (reads h (suc units) items (count + 1) (l ∷ []))
+          (fed_once (step_of_made direction (seen_at h count phase items (kept_of items)) l
+          (made_of_unit (unless_wrong (EventRecord content) fault))))
+      simple content l fault here =
+          simple-line units items count l phase fault (EventRecord content) (EventRecord content) here
+          (λ f. rw (ended, some) (never-in-event choices.skip left (is_skippable f)))
+          (λ f. never-before choices.skip (is_skippable f))
+          (record-phase items left content ended some)
+          (record-types (records_count_types items) (declaring_lines items) content)
+          (h.record_kept items count (suc left) (types_in_force items) content)
+          (h.record_lines items count phase (types_in_force items) (kept_of items) content)
+
+      by_line : (l : ReadLine) → Follows h (count + 1) items (reads h (suc units) items (count + 1) (l ∷ []))
+          (fed_once (seen_next direction (seen_at h count phase items (kept_of items)) l))
+      by_line Overlong = simple [] Overlong
+          (Some LineTooLong) (record-place beginning items left (Overlong ∷ []) ended some)
+      by_line (Content content) = simple content (Content content) (cond (records_count_types items)
+          (types_fault content) None) (record-place beginning items left (Content content ∷ []) ended some)
+
+  -- where an epoch or an event may begin, no line of it having come
+  fresh-line : (items : List (Item E)) (number count : ℕ) (line : ReadLine) (phase : Phase O)
+      → header_has_ended items ≡ true → records_left items ≡ 0
+      → may_skip phase ≡ true → is_in_epoch phase ≡ false → number ≡ count + 1
+      → made_in direction phase (types_in_force items) (kept_of items) line
+      ≡ direction.begins (types_in_force items) (kept_of items) line
+      → Follows h (count + 1) items (reading_from (place h) choices.skip items number (line ∷ []))
+      (fed direction (seen_at h count phase items (kept_of items)) line)
+  fresh-line items number count line phase ended none may outside counted made =
+      body-line 1 items number count
+      [] line phase (kept_of items) (direction.begins (types_in_force items) (kept_of items) line)
+      ended none (h.wants items) (h.begins items line) may
+      (inl refl) refl (λ e. false-true (sym outside ∙ e)) (omega (arith, counted)) (omega arith) made
+
+  -- one line more, where more lines are wanted
+  lines-line : (items : List (Item E)) (number count : ℕ) (rest : List ReadLine) (line : ReadLine)
+      → place h items rest ≡ Wanted → number + length rest ≡ count + 1
+      → (ended : Bool) → header_has_ended items ≡ ended
+      → (left : ℕ) → records_left items ≡ left → (so_far : Option O) → open_with items rest ≡ so_far
+      → Follows h (count + 1) items (reading_from (place h) choices.skip items number (rest ++ line ∷ []))
+      (fed direction (seen_at h count (phase_after_items items (open_with items rest)) items
+      (kept_in direction (phase_after_items items (open_with items rest)) (kept_of items))) line)
+  lines-line items number count rest line wanted counted false in_header left left_is so_far open_is =
+      let none : rest ≡ [] =
+      only_none (header_line {E = E} (is_at_start items)) rest
+      (sym (header-place beginning items rest in_header) ∙ wanted) in
+      let first : number ≡ count + 1 = omega (arith, counted, ap length none) in
+      let phase : phase_after_items items (open_with items rest) ≡ InHeader (is_at_start items) = rw in_header refl in
+      rw (phase, none, first) (header-line 1 items count line in_header)
+  lines-line items number count rest line wanted counted true ended (suc left) left_is so_far open_is =
+      let none : rest ≡ [] = only_none (event_record (records_count_types items)) rest
+      (sym (record-place beginning items left rest ended left_is) ∙ wanted) in
+      let first : number ≡ count + 1 = omega (arith, counted, ap length none) in
+      let phase : phase_after_items items (open_with items rest) ≡ InEvent (suc left) (records_count_types items) =
+      rw (ended, left_is) refl in
+      rw (phase, none, first) (record-line 1 items count left line ended left_is)
+  lines-line items number count rest line wanted counted true ended zero left_is None open_is =
+      let none : rest ≡ [] =
+      h.wanted_open items rest (sym (body-place beginning items rest ended left_is) ∙ wanted) open_is in
+      let first : number ≡ count + 1 = omega (arith, counted, ap length none) in
+      let phase : phase_after_items items (open_with items rest) ≡ BetweenUnits = body-phase items
+      (open_with items rest) ended left_is ∙ ap (λ o. phase_in_body 0 (records_count_types items) o) open_is in
+      rw (phase, none) (fresh-line items number count line BetweenUnits ended left_is refl refl first refl)
+  lines-line items number count rest line wanted counted true ended zero left_is (Some so_far) open_is =
+      let phase : phase_after_items items (open_with items rest) ≡ InEpoch so_far = body-phase items
+      (open_with items rest) ended left_is ∙ ap (λ o. phase_in_body 0 (records_count_types items) o) open_is in
+      rw (phase, more-units (place h) h.forward choices.skip items number rest line)
+      (body-line (suc (length rest)) items number count rest line (InEpoch so_far)
+      (direction.kept_open (kept_of items)) (direction.continues so_far line) ended left_is
+      (sym (body-place beginning items rest ended left_is) ∙ wanted)
+      (h.continues items rest line so_far open_is) refl
+      (inr refl) (inside rest open_is) (λ e. some rest open_is) counted (omega arith) refl)
+    where
+      inside : (ls : List ReadLine) → open_with items ls ≡ Some so_far
+          → IsInside h items (InEpoch so_far) (direction.kept_open (kept_of items)) ls
+      inside [] e = absurd (none-some so_far (sym (h.none_open items) ∙ e))
+      inside (l ∷ ls) e = refl
+
+      some : (ls : List ReadLine) → open_with items ls ≡ Some so_far → 0 < length ls
+      some [] e = absurd (none-some so_far (sym (h.none_open items) ∙ e))
+      some (l ∷ ls) e = omega arith
+
+  -- one line more, wherever a reading has stopped
+  pub next-line : (items : List (Item E)) (stop : Stop) (count : ℕ) (line : ReadLine)
+      → IsStopped (place h) items stop (count + 1)
+      → Follows h (count + 1) items
+      (continued_reading (place h) choices.skip (record { items = items; stop = stop }) (line ∷ []))
+      (fed direction (seen_of direction open_with kept_of choices count (record { items = items; stop = stop })) line)
+  next-line items (AtFault at) count line stopped =
+      record {
+        next = refl;
+        handed_out = sym (append-nil (written_lines unit_lines items));
+        warned = refl;
+        failed = refl;
+      }
+  next-line items (AtLines number rest) count line stopped =
+      lines-line items number count rest
+      line stopped.0 stopped.1 (header_has_ended items) refl (records_left items) refl (open_with items rest) refl
+  next-line items (Looking number) count line stopped = by_bool (can_go_on line)
+      (λ on. subst (λ r. Follows h (count + 1) items r (fed direction seen line))
+      (sym (looked-here (reading_from (place h) choices.skip items) items number line [] on))
+      (fresh-line items number count line LookingOn stopped.1 stopped.2 refl refl stopped.0
+      (made-looking direction (types_in_force items) (kept_of items) line on)))
+      (λ off. subst (λ r. Follows h (count + 1) items r (fed direction seen line))
+      (sym (looked-on (reading_from (place h) choices.skip items) items number line [] off))
+      (line-once count items line LookingOn (record { items = items; stop = Looking (number + 1) }) refl
+      (passed off)))
+    where
+      seen : Seen O K
+      seen = seen_at h count LookingOn items (kept_of items)
+
+      passed : can_go_on line ≡ false → Follows h (count + 1) items (record {
+        items = items;
+        stop = Looking (number + 1);
+      }) (fed_once (seen_next direction seen line))
+      passed off = rw off (record {
+        next = refl;
+        handed_out = sym (append-nil (written_lines unit_lines items));
+        warned = refl;
+        failed = refl;
+      })

@@ -1,0 +1,317 @@
+-- Where memory may run out at a line by what is seen before it, it may by what stands there.
+use Rattle.std.proofs.Common.{ℕ, zero, suc, ◌≡◌, ◌+◌, Bool, true, false, not, cond, List, [], ◌∷◌, ◌++◌, length}
+use Rattle.std.proofs.Common.{Option, Some, None, refl, ap, sym, subst, ◌∙◌, arith}
+use Rattle.std.specs.Prelude.{◌&&◌, nat_lt, is_none}
+use Rattle.std.specs.Option.{is_some}
+use Rattle.crx_faults.specs.meaning.Seen.{ReadLine, Content, Overlong}
+use Rattle.crx_faults.specs.declared.fault.Fault.{Fault}
+use Rattle.crx_faults.specs.declared.fault.At.{At}
+use Rattle.crx_rinex.specs.meaning.EpochLines.{begins_epoch, is_event_line}
+use Rattle.crx_header.specs.meaning.ObservationTypes.{Count, count_in, count_of_types_line, is_types_line}
+use Rattle.crx_rinex.specs.meaning.Places.{Place, Wrong, Wanted, first_line, one_line}
+use Rattle.crx_rinex.specs.meaning.Units.{Unit as FileUnit, HeaderLine, EventRecord}
+use Rattle.crx_options.specs.meaning.Choices.{Choices}
+use Rattle.crx_reading.specs.meaning.Items.{Item, Warned, is_at_start, header_has_ended, records_left}
+use Rattle.crx_reading.specs.meaning.Items.{records_count_types, types_in_force}
+use Rattle.crx_reading.specs.meaning.Memory.{line_takes, memory_allowed, place_takes, takes_after_warning}
+use Rattle.crx_reading.specs.meaning.Reading.{Stop, AtFault, AtLines, Looking, is_skipped, can_go_on}
+use Rattle.crx_reading.specs.meaning.UnitPlaces.{event_record, header_line, header_line_fault, types_fault}
+use Rattle.crx_reading.specs.meaning.UnitPlaces.{unless_wrong}
+use Rattle.crx_filter.specs.Laws.{is_again}
+use Rattle.crx_reading.specs.LineByLine.{Answer, BetweenUnits, Direction, Ended, Failed, Fails, InEpoch}
+use Rattle.crx_reading.specs.LineByLine.{InEvent}
+use Rattle.crx_reading.specs.LineByLine.{InHeader, Made, Notice, Phase, Quiet, Ready, Seen, Step}
+use Rattle.crx_reading.specs.LineByLine.{after_warning, is_in_epoch, is_skipped_in, kept_in, phase_after_items}
+use Rattle.crx_reading.specs.LineByLine.{phase_in_body}
+use Rattle.crx_reading.specs.LineByLine.{seen_next, seen_of, step_of_made, with_phase}
+use Rattle.crx_reading.specs.Memory.{may_take_memory, takes_memory}
+use Rattle.std.proofs.Common.{rules}
+use Rattle.std.proofs.lemmas.Option.{none-some}
+use Rattle.crx_filter.proofs.following.Following.{AgreeOn, IsCarriedOut, body-phase, body-place, failed-ends, place}
+use Rattle.crx_filter.proofs.following.Following.{failed-skipped}
+use Rattle.crx_filter.proofs.following.Following.{seen_in, skipped-same, wrong-last}
+use Rattle.crx_reading.proofs.Choosing.{by_bool}
+use Rattle.std.proofs.lemmas.Bool.{and_parts, not-true}
+use Rattle.crx_filter.proofs.steps.EngineAnswers.{ComesAgain, comes-again}
+use Rattle.crx_filter.proofs.following.Lines.{IsStopped, only_none, header-place, record-place}
+use Rattle.crx_reading.proofs.Choosing.{false-true}
+
+-- ---- types lines
+
+-- a types line that counts is a good one
+counts-well : (line : List ℕ) → is_some (count_of_types_line line) ≡ true
+    → (is_types_line line ≡ true) × (types_fault line ≡ None)
+counts-well line = by_types (is_types_line line) refl (count_in line) refl
+  where
+    by_types : (b : Bool) → is_types_line line ≡ b → (o : Option Count) → count_in line ≡ o
+        → is_some (cond b o None) ≡ true → (b ≡ true) × (types_fault line ≡ None)
+    by_types true is None e h = false-true h
+    by_types true is (Some count) e h = (refl, none is e)
+      where
+        none : is_types_line line ≡ true → count_in line ≡ Some count → types_fault line ≡ None
+        none is e = rw (is, e) refl
+    by_types false is o e h = false-true h
+
+-- a header line, by its fault
+header-takes : {E : Type 0} (takes : ℕ → Bool → Bool) (items : List (Item E)) (is_first : Bool) (line : List ℕ)
+    → (is_some (count_of_types_line line) && is_none (header_line_fault is_first line)) ≡ true
+    → place_takes takes items 0 (first_line (Content line ∷ []) (header_line is_first)) ≡ true
+header-takes {E = E} takes items is_first line = by_fault (header_line_fault is_first line) refl
+  where
+    by_fault : (o : Option Fault) → header_line_fault is_first line ≡ o
+        → (is_some (count_of_types_line line) && is_none o) ≡ true
+        → place_takes {E = E} takes items 0 (one_line (unless_wrong (HeaderLine line) o)) ≡ true
+    by_fault None e h = (counts-well line (and_parts (is_some (count_of_types_line line)) true h).0).0
+    by_fault (Some fault) e h = false-true (and_parts (is_some (count_of_types_line line)) false h).1
+
+-- a record of an event
+record-takes : {E : Type 0} (takes : ℕ → Bool → Bool) (items : List (Item E)) (line : List ℕ)
+    → (records_count_types items && is_some (count_of_types_line line)) ≡ true
+    → place_takes takes items 0 (first_line (Content line ∷ []) (event_record (records_count_types items))) ≡ true
+record-takes {E = E} takes items line h =
+    let each = and_parts (records_count_types items) (is_some (count_of_types_line line)) h in
+    let well = counts-well line each.1 in
+    ap (λ (o : Option Fault). place_takes {E = E} takes items 0 (one_line (unless_wrong (EventRecord line) o)))
+    (ap (λ b. cond b (types_fault line) None) each.0 ∙ well.1)
+    ∙ ap (λ b. b && is_types_line line) each.0 ∙ well.0
+
+-- ---- a direction that takes memory as its lines stand
+
+-- where a line may take memory by what is kept, it does by what stands at the lines: where an epoch or an event may begin, and in
+-- an epoch
+pub record TakesAsItStands {E U O K : Type 0} (beginning : List (Item E) → List ReadLine → Place (FileUnit E))
+    (direction : Direction U O K) (open_with : List (Item E) → List ReadLine → Option O) (kept_of : List (Item E) → K)
+    (takes : ℕ → Bool → Bool) : Type 0 where
+  pub first : (items : List (Item E)) (line : List ℕ) → is_event_line line ≡ false
+      → direction.memory_first (types_in_force items) (kept_of items) line ≡ true
+      → place_takes takes items 0 (beginning items (Content line ∷ [])) ≡ true
+  pub next : (items : List (Item E)) (lines : List ReadLine) (line : List ℕ) (so_far : O)
+      → open_with items lines ≡ Some so_far → direction.memory_next so_far line ≡ true
+      → place_takes takes items (length lines) (beginning items (lines ++ Content line ∷ [])) ≡ true
+
+module _ {E U O K : Type 0} {beginning : List (Item E) → List ReadLine → Place (FileUnit E)}
+    {direction : Direction U O K}
+    {open_with : List (Item E) → List ReadLine → Option O} {kept_of : List (Item E) → K}
+    {unit_lines : List (Item E) → FileUnit E → List (List ℕ)} {choices : Choices}
+    (h : IsCarriedOut beginning direction open_with kept_of unit_lines choices) {takes : ℕ → Bool → Bool}
+    (t : TakesAsItStands beginning direction open_with kept_of takes) where
+  -- whether memory may run out in a phase
+  abbrev taken_in : List (Item E) → ReadLine → Phase O → Bool
+  taken_in items line phase = may_take_memory
+      (direction.memory_first (types_in_force items) (kept_in direction phase (kept_of items)))
+      direction.memory_next phase line
+
+  -- where an epoch or an event may begin
+  begins-takes : (items : List (Item E)) (line : List ℕ) → header_has_ended items ≡ true → records_left items ≡ 0
+      → (not (is_event_line line) && direction.memory_first (types_in_force items) (kept_of items) line) ≡ true
+      → line_takes (place h) takes items [] (Content line) ≡ true
+  begins-takes items line ended none e =
+      ap (place_takes takes items 0) (body-place beginning items (Content line ∷ []) ended none)
+      ∙ t.first items line (not-true (is_event_line line) (and_parts (not (is_event_line line)) _ e).0)
+      (and_parts (not (is_event_line line)) _ e).1
+
+  -- where more lines are wanted
+  lines-take : (items : List (Item E)) (rest : List ReadLine) (line : ReadLine) → place h items rest ≡ Wanted
+      → (ended : Bool) → header_has_ended items ≡ ended → (left : ℕ) → records_left items ≡ left
+      → (so_far : Option O) → open_with items rest ≡ so_far
+      → taken_in items line (phase_after_items items (open_with items rest)) ≡ true
+      → line_takes (place h) takes items rest line ≡ true
+  lines-take items rest line wanted false in_header left left_is so_far open_is e =
+      let none : rest ≡ [] = only_none (header_line {E = E} (is_at_start items)) rest
+      (sym (header-place beginning items rest in_header) ∙ wanted) in
+      let phase : phase_after_items items (open_with items rest) ≡ InHeader (is_at_start items) = rw in_header refl in
+      subst (λ ls. line_takes (place h) takes items ls line ≡ true) (sym none)
+      (by_line line (subst (λ p. taken_in items line p ≡ true) phase e))
+    where
+      by_line : (l : ReadLine) → taken_in items l (InHeader (is_at_start items)) ≡ true
+          → line_takes (place h) takes items [] l ≡ true
+      by_line Overlong e = false-true e
+      by_line (Content content) e =
+          ap (place_takes takes items 0) (header-place beginning items (Content content ∷ []) in_header)
+          ∙ header-takes takes items (is_at_start items) content e
+  lines-take items rest line wanted true ended (suc left) left_is so_far open_is e =
+      let none : rest ≡ [] = only_none (event_record (records_count_types items)) rest
+      (sym (record-place beginning items left rest ended left_is) ∙ wanted) in
+      let phase : phase_after_items items (open_with items rest) ≡ InEvent (suc left) (records_count_types items) =
+      rw (ended, left_is) refl in
+      subst (λ ls. line_takes (place h) takes items ls line ≡ true) (sym none)
+      (by_line line (subst (λ p. taken_in items line p ≡ true) phase e))
+    where
+      by_line : (l : ReadLine) → taken_in items l (InEvent (suc left) (records_count_types items)) ≡ true
+          → line_takes (place h) takes items [] l ≡ true
+      by_line Overlong e = false-true e
+      by_line (Content content) e =
+          ap (place_takes takes items 0) (record-place beginning items left (Content content ∷ []) ended left_is)
+          ∙ record-takes takes items content e
+  lines-take items rest line wanted true ended zero left_is None open_is e =
+      let wanted_here : beginning items rest ≡ Wanted = sym (body-place beginning items rest ended left_is) ∙ wanted in
+      let none : rest ≡ [] = h.wanted_open items rest wanted_here open_is in
+      let phase : phase_after_items items (open_with items rest) ≡ BetweenUnits = body-phase items
+      (open_with items rest) ended left_is ∙ ap (λ o. phase_in_body 0 (records_count_types items) o) open_is in
+      subst (λ ls. line_takes (place h) takes items ls line ≡ true) (sym none)
+      (by_line line (subst (λ p. taken_in items line p ≡ true) phase e))
+    where
+      by_line : (l : ReadLine) → taken_in items l BetweenUnits ≡ true → line_takes (place h) takes items [] l ≡ true
+      by_line Overlong e = false-true e
+      by_line (Content content) e = begins-takes items content ended left_is e
+  lines-take items rest line wanted true ended zero left_is (Some so_far) open_is e =
+      let phase : phase_after_items items (open_with items rest) ≡ InEpoch so_far = body-phase items
+      (open_with items rest) ended left_is ∙ ap (λ o. phase_in_body 0 (records_count_types items) o) open_is in
+      by_line line (subst (λ p. taken_in items line p ≡ true) phase e)
+    where
+      by_line : (l : ReadLine) → taken_in items l (InEpoch so_far) ≡ true → line_takes (place h) takes items rest l ≡ true
+      by_line Overlong e = false-true e
+      by_line (Content content) e =
+          ap (place_takes takes items (length rest))
+          (body-place beginning items (rest ++ Content content ∷ []) ended left_is)
+          ∙ t.next items rest content so_far open_is (and_parts (not (begins_epoch content)) _ e).1
+
+  -- memory may run out at a line at once
+  pub allowed-first : (items : List (Item E)) (stop : Stop) (count : ℕ) (line : ReadLine)
+      → IsStopped (place h) items stop (count + 1)
+      → takes_memory direction (seen_of direction open_with kept_of choices count
+      (record { items = items; stop = stop })) line
+      ≡ true
+      → memory_allowed (place h) takes choices.skip (record { items = items; stop = stop }) line ≡ Some []
+  allowed-first items (AtFault at) count Overlong stopped e = false-true e
+  allowed-first items (AtFault at) count (Content line) stopped e = false-true e
+  allowed-first items (AtLines number rest) count line stopped e =
+      ap (λ b. cond b (Some []) (takes_after_warning (place h) takes choices.skip items number line
+      (place h items (rest ++ line ∷ []))))
+      (lines-take items rest line stopped.0 (header_has_ended items) refl (records_left items) refl
+      (open_with items rest) refl e)
+  allowed-first items (Looking number) count Overlong stopped e = false-true e
+  allowed-first items (Looking number) count (Content line) stopped e =
+      let begins = (and_parts (begins_epoch line) _ e).0 in
+      let takes_it = begins-takes items line stopped.1 stopped.2 (and_parts (begins_epoch line) _ e).1 in
+      ap (λ b. cond (b && line_takes (place h) takes items [] (Content line)) (Some []) None) begins
+      ∙ ap (λ b. cond b (Some []) None) takes_it
+
+  -- a line that cuts an epoch off, and is read anew after the warning
+  cut-takes : (items : List (Item E)) (number count : ℕ) (rest : List ReadLine) (line : ReadLine) (so_far : O)
+      (next : Seen O K)
+      (notice : At) → place h items rest ≡ Wanted → number + length rest ≡ count + 1
+      → header_has_ended items ≡ true → records_left items ≡ 0 → open_with items rest ≡ Some so_far
+      → (m : Made U O) → AgreeOn beginning direction open_with kept_of unit_lines choices items (rest ++ line ∷ []) m
+      → record { answer = Notice notice true; handed_out = []; next = next } ≡ step_of_made direction
+      (seen_in choices count (InEpoch so_far) (types_in_force items) (direction.kept_open (kept_of items))) line m
+      → takes_memory direction next line ≡ true
+      → memory_allowed (place h) takes choices.skip (record { items = items; stop = AtLines number rest }) line
+      ≡ Some (notice ∷ [])
+  cut-takes items number count rest line so_far next notice wanted counted ended none open_is (Fails fault) a e taken =
+      by_bool (is_skipped_in before fault)
+      (λ on.
+      let is : record { answer = Notice notice true; handed_out = []; next = next } ≡ record {
+        answer = Notice at (can_go_on line);
+        handed_out = [];
+        next = after_warning direction before (can_go_on line);
+      } = e ∙ failed-skipped direction before line fault on in
+      let goes : can_go_on line ≡ true = sym (ap (λ (s : Step O K). is_again s.answer) is) in
+      let noted : notice ≡ at = ap (λ (s : Step O K). noticed_or at s.answer) is in
+      let then : next ≡ after_warning direction before (can_go_on line) = ap (λ (s : Step O K). s.next) is in
+      let here : place h items (rest ++ line ∷ []) ≡ Wrong a.0 fault =
+      body-place beginning items (rest ++ line ∷ []) ended none ∙ a.1 in
+      let last : a.0 ≡ length rest = wrong-last h.forward items rest line a.0 fault wanted here in
+      let some : nat_lt 0 a.0 ≡ true = ap (nat_lt 0) last ∙ not_none rest open_is in
+      let same : number + a.0 ≡ count + 1 = omega (arith, last, counted) in
+      let skipped : is_skipped choices.skip items fault ≡ true =
+      skipped-same choices count (InEpoch so_far) (types_in_force items) (direction.kept_open (kept_of items))
+      items fault ended none refl ∙ on in
+      let again : line_takes (place h) takes (Warned at ∷ items) [] line ≡ true =
+      anew line (subst (λ (s : Seen O K). takes_memory direction s line ≡ true) then taken) in
+      ap (λ (p : Place (FileUnit E)). cond (place_takes takes items (length rest) p) (Some [])
+      (takes_after_warning (place h) takes choices.skip items number line p)) here
+      ∙ ap (λ (n : ℕ). cond (is_skipped choices.skip items fault && ((nat_lt 0 a.0 && can_go_on line)
+      && line_takes (place h) takes (Warned (record { line = n; fault = fault }) ∷ items) [] line))
+      (Some (record { line = n; fault = fault } ∷ [])) None) same
+      ∙ ap (λ b. cond b (Some (at ∷ [])) None) (all-true skipped some goes again)
+      ∙ ap (λ (n : At). Some (n ∷ [])) (sym noted))
+      (λ off.
+      let is : record { answer = Notice notice true; handed_out = []; next = next } ≡ record {
+        answer = Failed at;
+        handed_out = [];
+        next = with_phase direction before (Ended at);
+      } = e ∙ failed-ends direction before line fault off in
+      let no : true ≡ false = ap (λ (s : Step O K). is_again s.answer) is in absurd (cc))
+    where
+      at : At
+      at = record { line = count + 1; fault = fault }
+
+      before : Seen O K
+      before = seen_in choices count (InEpoch so_far) (types_in_force items) (direction.kept_open (kept_of items))
+
+      noticed_or : At → Answer → At
+      noticed_or other Quiet = other
+      noticed_or other Ready = other
+      noticed_or other (Notice found again) = found
+      noticed_or other (Failed found) = other
+
+      not_none : (ls : List ReadLine) → open_with items ls ≡ Some so_far → nat_lt 0 (length ls) ≡ true
+      not_none [] opens = absurd (none-some so_far (sym (h.none_open items) ∙ opens))
+      not_none (l ∷ ls) opens = search rules
+
+      all-true : {a b c d : Bool} → a ≡ true → b ≡ true → c ≡ true → d ≡ true → (a && ((b && c) && d)) ≡ true
+      all-true p q r s = rw (p, q, r, s) refl
+
+      kept_then : direction.emptied (direction.kept_open (kept_of items)) ≡ kept_of (Warned at ∷ items)
+      kept_then = h.emptied_open (kept_of items) ∙ h.warned items at
+
+      anew : (l : ReadLine) → takes_memory direction (after_warning direction before (can_go_on line)) l ≡ true
+          → line_takes (place h) takes (Warned at ∷ items) [] l ≡ true
+      anew Overlong t = false-true t
+      anew (Content content) t =
+          begins-takes (Warned at ∷ items) content ended refl
+          (subst (λ (k : K). (not (is_event_line content) && direction.memory_first (types_in_force items) k
+          content) ≡ true)
+          kept_then (and_parts (begins_epoch content) _ t).1)
+  cut-takes items number count rest line so_far next notice wanted counted ended none open_is m a e taken =
+      let no : true ≡ false = ap (λ (s : Step O K). is_again s.answer) e in absurd (cc)
+
+  -- memory may run out at a line after its warning
+  pub allowed-again : (items : List (Item E)) (stop : Stop) (count : ℕ) (line : ReadLine) (next : Seen O K)
+      (notice : At)
+      → IsStopped (place h) items stop (count + 1)
+      → record { answer = Notice notice true; handed_out = []; next = next } ≡ seen_next direction
+      (seen_of direction open_with kept_of choices count (record { items = items; stop = stop })) line
+      → takes_memory direction next line ≡ true
+      → memory_allowed (place h) takes choices.skip (record { items = items; stop = stop }) line ≡ Some (notice ∷ [])
+  allowed-again items stop count line next notice stopped e taken =
+      by_stop stop stopped (comes-again direction _ next line notice [] e) e
+    where
+      by_stop : (s : Stop) → IsStopped (place h) items s (count + 1)
+          → ComesAgain (seen_of direction open_with kept_of choices count
+          (record { items = items; stop = s })) next line
+          → record { answer = Notice notice true; handed_out = []; next = next } ≡ seen_next direction
+          (seen_of direction open_with kept_of choices count (record { items = items; stop = s })) line
+          → memory_allowed (place h) takes choices.skip (record { items = items; stop = s }) line ≡ Some (notice ∷ [])
+      by_stop (AtFault at) stopped again e = false-true again.epoch
+      by_stop (Looking number) stopped again e = false-true again.epoch
+      by_stop (AtLines number rest) stopped again e =
+          by_items (header_has_ended items) refl (records_left items) refl (open_with items rest) refl
+        where
+          in_phase : Phase O → Seen O K
+          in_phase phase = seen_in choices count phase (types_in_force items) (kept_in direction phase (kept_of items))
+
+          by_items : (ended : Bool) → header_has_ended items ≡ ended → (left : ℕ) → records_left items ≡ left
+              → (so_far : Option O) → open_with items rest ≡ so_far
+              → memory_allowed (place h) takes choices.skip (record { items = items; stop = AtLines number rest }) line
+              ≡ Some (notice ∷ [])
+          by_items false in_header left left_is so_far open_is =
+              let phase : phase_after_items items (open_with items rest) ≡ InHeader (is_at_start items) =
+              rw in_header refl in
+              false-true (sym (ap is_in_epoch phase) ∙ again.epoch)
+          by_items true ended (suc left) left_is so_far open_is =
+              let phase : phase_after_items items (open_with items rest)
+              ≡ InEvent (suc left) (records_count_types items) =
+              rw (ended, left_is) refl in
+              false-true (sym (ap is_in_epoch phase) ∙ again.epoch)
+          by_items true ended zero left_is None open_is =
+              let phase : phase_after_items items (open_with items rest) ≡ BetweenUnits = body-phase items
+              (open_with items rest) ended left_is ∙ ap (λ o. phase_in_body 0 (records_count_types items) o) open_is in
+              false-true (sym (ap is_in_epoch phase) ∙ again.epoch)
+          by_items true ended zero left_is (Some so_far) open_is =
+              let phase : phase_after_items items (open_with items rest) ≡ InEpoch so_far = body-phase items
+              (open_with items rest) ended left_is ∙ ap (λ o. phase_in_body 0 (records_count_types items) o) open_is in
+              cut-takes items number count rest line so_far next notice stopped.0 stopped.1 ended left_is open_is
+              (direction.continues so_far line) (h.continues items rest line so_far open_is)
+              (e ∙ ap (λ p. seen_next direction (in_phase p) line) phase) taken

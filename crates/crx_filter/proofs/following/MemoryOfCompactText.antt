@@ -1,0 +1,218 @@
+-- The memory that an expansion takes, as its lines stand.
+use Rattle.std.proofs.Common.{ℕ, ◌≡◌, Bool, true, false, List, [], ◌∷◌, ◌++◌, length, Option, Some, None, Result}
+use Rattle.std.proofs.Common.{Ok, Err, refl, ap, sym, ◌∙◌}
+use Rattle.std.specs.Option.{is_some}
+use Rattle.std.proofs.lemmas.Option.{none-some}
+use Rattle.crx_faults.specs.meaning.Seen.{ReadLine, Content, Overlong}
+use Rattle.crx_faults.specs.declared.fault.Fault.{Fault}
+use Rattle.crx_header.specs.meaning.ObservationTypes.{Count}
+use Rattle.crx_history.specs.meaning.CompactPlaces.{ReadEpoch, satellites_of_line}
+use Rattle.crx_history.specs.meaning.EpochText.{Satellite}
+use Rattle.crx_compact.specs.OpenEpochs.{OpenRawEpoch, RawStep, Going, Whole, Faulty, first_step, is_faulty}
+use Rattle.crx_compact.specs.OpenEpochs.{makes_epoch}
+use Rattle.crx_compact.specs.OpenEpochs.{next_step}
+use Rattle.crx_compact.specs.OpenEpochs.{open_raw_after, open_raw_with, opened_raw, opening, tail_for_line}
+use Rattle.crx_history.specs.HeldRows.{past_of_tail}
+use Rattle.crx_history.specs.Tails.{Tail}
+use Rattle.crx_arcs.specs.meaning.Sequences.{and_then}
+use Rattle.crx_columns.specs.Texts.{patched}
+use Rattle.crx_options.specs.meaning.Choices.{Choices}
+use Rattle.crx_reading.specs.meaning.Items.{Item, types_in_force}
+use Rattle.crx_reading.specs.meaning.Memory.{expansion_takes, place_takes}
+use Rattle.crx_reading.specs.ExpansionByLine.{begins_event, compact_open, expansion, made_of_raw_step, tail_of_items}
+use Rattle.crx_filter.proofs.following.Expansion.{Agrees, agree-content, agree-continues}
+use Rattle.crx_filter.proofs.reading.ForwardCompact.{compact_beginning}
+use Rattle.crx_reading.proofs.Choosing.{false-true}
+use Rattle.crx_filter.proofs.following.Memory.{TakesAsItStands, allowed-again, allowed-first}
+use Rattle.std.proofs.Common.{subst, ◌+◌, ◌-◌, ◌≤◌, drop, arith}
+use Rattle.std.proofs.lemmas.List.{length-drop}
+use Rattle.crx_faults.specs.declared.fault.At.{At}
+use Rattle.crx_rinex.specs.Steady.{Remains}
+use Rattle.crx_rinex.specs.meaning.Places.{Place, Here, Wrong, Wanted}
+use Rattle.crx_reading.specs.ExpansionByLine.{expansion_seen}
+use Rattle.crx_reading.specs.LineByLine.{Notice, Seen, seen_next}
+use Rattle.crx_reading.specs.Memory.{takes_memory}
+use Rattle.crx_reading.specs.meaning.Directions.{compact_memory}
+use Rattle.crx_reading.specs.meaning.Expanded.{compact_place, first_lines}
+use Rattle.crx_reading.specs.meaning.Memory.{memory_allowed}
+use Rattle.crx_reading.specs.meaning.Reading.{Reading, reading_from}
+use Rattle.crx_filter.proofs.following.ExpandedOn.{reading_by, seen_by}
+use Rattle.crx_filter.proofs.following.Expansion.{expansion-carried_out}
+use Rattle.crx_filter.proofs.following.Lines.{IsStopped}
+use Rattle.crx_filter.proofs.reading.ForwardCompact.{compact-forward, steady-first_lines}
+use Rattle.crx_filter.proofs.reading.Stopping.{reading-stopped}
+use Rattle.std.proofs.lemmas.Bool.{and_parts, not-true}
+use Rattle.crx_filter.proofs.steps.EngineAnswers.{comes-again}
+
+-- a step without a fault takes memory, where its line does
+step-takes : (choices : Choices) (items : List (Item ReadEpoch)) (lines : List ReadLine) (count : ℕ) (step : RawStep)
+    → ((is_whole : Bool) → expansion_takes count is_whole ≡ true) → is_faulty step ≡ false
+    → Agrees choices items lines (made_of_raw_step step)
+    → place_takes expansion_takes items count (compact_beginning items lines) ≡ true
+step-takes choices items lines count (Going so_far) takes fine a =
+    ap (place_takes expansion_takes items count) a.2 ∙ takes false
+step-takes choices items lines count (Whole held) takes fine a =
+    ap (place_takes expansion_takes items count) a.2 ∙ takes true
+step-takes choices items lines count (Faulty fault) takes fine a = absurd (cc)
+
+-- a step that makes an epoch takes memory, where the epoch's last line does
+last-takes : (choices : Choices) (items : List (Item ReadEpoch)) (lines : List ReadLine) (count : ℕ) (step : RawStep)
+    → expansion_takes count true ≡ true → makes_epoch step ≡ true
+    → Agrees choices items lines (made_of_raw_step step)
+    → place_takes expansion_takes items count (compact_beginning items lines) ≡ true
+last-takes choices items lines count (Going so_far) takes last a = absurd (cc)
+last-takes choices items lines count (Whole held) takes last a =
+    ap (place_takes expansion_takes items count) a.2 ∙ takes
+last-takes choices items lines count (Faulty fault) takes last a = absurd (cc)
+
+-- ---- the clock line
+
+abbrev clock_read : RawStep → Bool
+clock_read (Going so_far) = is_some so_far.clock
+clock_read (Whole held) = false
+clock_read (Faulty fault) = false
+
+opened-clock : (line : List ℕ) (before : Tail) (read : Result (List Satellite) Fault)
+    → clock_read (opening (and_then read (λ (satellites : List Satellite). Ok (record {
+      before = before;
+      text = patched before.text line;
+      clock = None;
+      rows = [];
+      awaited = satellites;
+    })))) ≡ false
+opened-clock line before (Ok satellites) = refl
+opened-clock line before (Err fault) = refl
+
+by-tail : (types : List Count) (line : List ℕ) (tail : Option Tail)
+    → clock_read (opening (opened_raw types line tail)) ≡ false
+by-tail types line None = refl
+by-tail types line (Some before) = opened-clock line before (satellites_of_line types (past_of_tail before) line)
+
+-- after its first line no epoch has a clock
+first-clock : (types : List Count) (tail : Option Tail) (line : ReadLine)
+    → clock_read (first_step types tail line) ≡ false
+first-clock types tail Overlong = refl
+first-clock types tail (Content line) = by-tail types line (tail_for_line tail line)
+
+-- where the clock line has come, two lines stand before the next one
+takes-next : (items : List (Item ReadEpoch)) (lines : List ReadLine) (so_far : OpenRawEpoch)
+    → compact_open items lines ≡ Some so_far → is_some so_far.clock ≡ true
+    → expansion_takes (length lines) true ≡ true
+takes-next items [] so_far opens read = absurd (none-some so_far opens)
+takes-next items (line ∷ []) so_far opens read =
+    by_event (begins_event (line ∷ [])) refl
+  where
+    clock_of : Option OpenRawEpoch → Bool
+    clock_of None = false
+    clock_of (Some begun) = is_some begun.clock
+
+    of_step : (step : RawStep) → clock_of (open_raw_after step []) ≡ clock_read step
+    of_step (Going begun) = refl
+    of_step step = refl
+
+    by_event : (b : Bool) → begins_event (line ∷ []) ≡ b → expansion_takes 1 true ≡ true
+    by_event true e = absurd (none-some so_far (sym (closed e) ∙ opens))
+      where
+        closed : begins_event (line ∷ []) ≡ true → compact_open items (line ∷ []) ≡ None
+        closed h = rw h refl
+    by_event false e =
+        let none : clock_of (compact_open items (line ∷ [])) ≡ false = ap clock_of (same e)
+        ∙ of_step (first_step (types_in_force items) (tail_of_items items) line)
+        ∙ first-clock (types_in_force items) (tail_of_items items) line in
+        false-true (sym none ∙ ap clock_of opens ∙ read)
+      where
+        same : begins_event (line ∷ []) ≡ false → compact_open items (line ∷ [])
+            ≡ open_raw_with (types_in_force items) (tail_of_items items) (line ∷ [])
+        same h = rw h refl
+takes-next items (one ∷ two ∷ lines) so_far opens read = refl
+
+takes-always : (is_whole : Bool) → expansion_takes 0 is_whole ≡ true
+takes-always is_whole = refl
+
+pub expansion-takes : (choices : Choices)
+    → TakesAsItStands compact_beginning expansion compact_open tail_of_items expansion_takes
+expansion-takes choices = record {
+  first = λ items line other good.
+      step-takes choices items (Content line ∷ []) 0
+      (first_step (types_in_force items) (tail_of_items items) (Content line)) takes-always
+      (not-true (is_faulty (first_step (types_in_force items) (tail_of_items items) (Content line))) good)
+      (agree-content choices items line false other);
+  next = λ items lines line so_far opens good.
+      let each = and_parts (is_some so_far.clock) (makes_epoch (next_step so_far (Content line))) good in
+      last-takes choices items (lines ++ Content line ∷ []) (length lines) (next_step so_far (Content line))
+      (takes-next items lines so_far opens each.0) each.1
+      (agree-continues choices items lines (Content line) so_far opens);
+}
+
+-- ---- where memory may run out
+
+-- the same by what stands at the first two lines
+abbrev memory_by : Choices → List ReadLine → ReadLine → Place (List (List ℕ)) → Place (List (List ℕ)) → Option (List At)
+memory_by choices lines line p read =
+    elim p [
+      | Here two count ↦
+          memory_allowed compact_place expansion_takes choices.skip (reading_by choices.skip lines read) line
+      | Wrong offset fault ↦ None
+      | Wanted ↦ None
+    ]
+
+stopped-after : (choices : Choices) (lines : List ReadLine) (two : List (List ℕ)) (count : ℕ)
+    → first_lines lines ≡ Here two count
+    → IsStopped compact_place (reading_from compact_place choices.skip [] (count + 1) (drop count lines)).items
+    (reading_from compact_place choices.skip [] (count + 1) (drop count lines)).stop (length lines + 1)
+stopped-after choices lines two count e =
+    let remains : Remains (length lines) (Here two count) (first_lines (lines ++ [])) = subst
+    (λ p. Remains (length lines) p (first_lines (lines ++ []))) e (steady-first_lines lines []) in
+    let within : count ≤ length lines = remains.0 in
+    let left : length (drop count lines) ≡ length lines - count = length-drop count lines in
+    reading-stopped compact_place compact-forward choices.skip
+    [] (count + 1) (length lines + 1) (drop count lines) (omega (arith, left, within))
+
+pub expansion-allowed : (choices : Choices) (lines : List ReadLine) (line : ReadLine)
+    → takes_memory expansion (expansion_seen choices lines) line ≡ true
+    → compact_memory choices.skip lines line ≡ Some []
+expansion-allowed choices lines line e =
+    decided (first_lines lines) refl e
+  where
+    decided : (p : Place (List (List ℕ))) → first_lines lines ≡ p
+        → takes_memory expansion (seen_by choices lines p) line ≡ true → memory_by choices lines line p p ≡ Some []
+    decided (Here two count) is t =
+        let r : Reading ReadEpoch = reading_from compact_place choices.skip [] (count + 1) (drop count lines) in
+        allowed-first (expansion-carried_out choices) (expansion-takes choices) r.items r.stop (length lines)
+        line
+        (stopped-after choices lines two count is) t
+    decided (Wrong offset fault) is t = never line t
+      where
+        never : (l : ReadLine) → takes_memory expansion (seen_by choices lines (Wrong offset fault)) l ≡ true
+            → memory_by choices lines line (Wrong offset fault) (Wrong offset fault) ≡ Some []
+        never Overlong t = false-true t
+        never (Content content) t = false-true t
+    decided Wanted is t = never line t
+      where
+        never : (l : ReadLine) → takes_memory expansion (seen_by choices lines Wanted) l ≡ true
+            → memory_by choices lines line Wanted Wanted ≡ Some []
+        never Overlong t = false-true t
+        never (Content content) t = false-true t
+
+pub expansion-allowed-again : (choices : Choices) (lines : List ReadLine) (line : ReadLine)
+    (next : Seen OpenRawEpoch (Option Tail)) (notice : At)
+    → record { answer = Notice notice true; handed_out = []; next = next }
+    ≡ seen_next expansion (expansion_seen choices lines) line
+    → takes_memory expansion next line ≡ true
+    → compact_memory choices.skip lines line ≡ Some (notice ∷ [])
+expansion-allowed-again choices lines line next notice step e =
+    decided (first_lines lines) refl step
+  where
+    decided : (p : Place (List (List ℕ))) → first_lines lines ≡ p
+        → record { answer = Notice notice true; handed_out = []; next = next }
+        ≡ seen_next expansion (seen_by choices lines p) line
+        → memory_by choices lines line p p ≡ Some (notice ∷ [])
+    decided (Here two count) is s =
+        let r : Reading ReadEpoch = reading_from compact_place choices.skip [] (count + 1) (drop count lines) in
+        allowed-again (expansion-carried_out choices) (expansion-takes choices) r.items r.stop (length lines)
+        line
+        next notice (stopped-after choices lines two count is) s e
+    decided (Wrong offset fault) is s =
+        false-true (comes-again expansion (seen_by choices lines (Wrong offset fault)) next line notice [] s).epoch
+    decided Wanted is s =
+        false-true (comes-again expansion (seen_by choices lines Wanted) next line notice [] s).epoch

@@ -1,0 +1,40 @@
+-- One line more after some, where the reading begins with no items, at a line of any number.
+use Rattle.std.proofs.Common.{ℕ, ◌≡◌, ◌+◌, List, [], ◌∷◌, ◌++◌, length, Option, sym, subst}
+use Rattle.crx_faults.specs.meaning.Seen.{ReadLine}
+use Rattle.crx_rinex.specs.meaning.Places.{Place}
+use Rattle.crx_rinex.specs.meaning.Units.{Unit as FileUnit}
+use Rattle.crx_options.specs.meaning.Choices.{Choices}
+use Rattle.crx_reading.specs.meaning.Items.{Item}
+use Rattle.crx_reading.specs.meaning.Reading.{Reading, reading_from}
+use Rattle.crx_reading.specs.LineByLine.{Direction, Seen, seen_of}
+use Rattle.crx_filter.specs.Laws.{fed}
+use Rattle.crx_filter.proofs.reading.Resuming.{resumed}
+use Rattle.crx_filter.proofs.reading.Stopping.{reading-stopped}
+use Rattle.crx_filter.proofs.following.Following.{IsCarriedOut, Follows, place}
+use Rattle.crx_filter.proofs.following.Lines.{next-line}
+
+module _ {E U O K : Type 0} {beginning : List (Item E) → List ReadLine → Place (FileUnit E)}
+    {direction : Direction U O K} {open_with : List (Item E) → List ReadLine → Option O}
+    {kept_of : List (Item E) → K}
+    {unit_lines : List (Item E) → FileUnit E → List (List ℕ)} {choices : Choices}
+    (h : IsCarriedOut beginning direction open_with kept_of unit_lines choices) where
+  -- lines that are read with no items before them, the first at a line of some number
+  abbrev pub read_from : ℕ → List ReadLine → Reading E
+  read_from number lines = reading_from (place h) choices.skip [] number lines
+
+  -- what an engine that has taken some lines has seen of them
+  abbrev pub seen_from : ℕ → ℕ → List ReadLine → Seen O K
+  seen_from number count lines = seen_of direction open_with kept_of choices count (read_from number lines)
+
+  -- what a reading and an engine make of one line more agree
+  pub more-line : (number count next : ℕ) (lines more : List ReadLine) (line : ReadLine)
+      → number + length lines ≡ count + 1 → next ≡ count + 1 → more ≡ lines ++ line ∷ []
+      → Follows h next (read_from number lines).items (read_from number more)
+      (fed direction (seen_from number count lines) line)
+  more-line number count next lines more line counted after all =
+      let before : Reading E = read_from number lines in
+      rw (after, all) (subst (λ r. Follows h (count + 1) before.items r
+      (fed direction (seen_from number count lines) line))
+      (sym (resumed (place h) h.forward choices.skip [] number lines (line ∷ [])))
+      (next-line h before.items before.stop count line
+      (reading-stopped (place h) h.forward choices.skip [] number (count + 1) lines counted)))

@@ -1,0 +1,97 @@
+-- Lines of a RINEX file one by one: what the last of some lines makes is what stands at them. Every direction that
+-- reads RINEX goes this way.
+use Rattle.std.proofs.Common.{ℕ, zero, suc, ◌≡◌, ◌⊎◌, List, [], ◌∷◌, ◌++◌}
+use Rattle.std.proofs.Common.{length, Some, None, Result, Ok, Err, inl}
+use Rattle.std.proofs.Common.{inr, refl, sym, ◌∙◌}
+use Rattle.std.proofs.lemmas.Option.{none-some}
+use Rattle.crx_faults.specs.meaning.Seen.{ReadLine, Content, Overlong}
+use Rattle.crx_faults.specs.declared.fault.Fault.{Fault}
+use Rattle.crx_rinex.specs.meaning.Observations.{Epoch}
+use Rattle.crx_header.specs.meaning.ObservationTypes.{Count}
+use Rattle.crx_rinex.specs.meaning.Places.{Here, Wanted, after_lines, then_place}
+use Rattle.crx_rinex.specs.meaning.Units.{Unit as FileUnit, Observation}
+use Rattle.crx_rinex.specs.meaning.EpochPlaces.{OpenEpoch, Beginning, EventBegins, EpochBegins}
+use Rattle.crx_rinex.specs.meaning.EpochPlaces.{beginning_of, opened}
+use Rattle.crx_rinex.specs.meaning.EpochPlaces.{rows_wanted, epoch_of, rows_at, epoch_place}
+use Rattle.crx_rinex.specs.EpochPlaces.{EpochStep, Going, Whole, Faulty}
+use Rattle.crx_rinex.specs.EpochPlaces.{when_wanted, whole_or_going, epoch_step}
+use Rattle.crx_rinex.specs.EpochPlaces.{still_open, open_with, place_after}
+use Rattle.crx_rinex.proofs.OpenEpochs.{wanted-open, next-by_open}
+use Rattle.crx_options.specs.meaning.Choices.{Choices}
+use Rattle.crx_reading.specs.meaning.Items.{Item, types_in_force}
+use Rattle.crx_reading.specs.LineByLine.{Made, Direction}
+use Rattle.crx_reading.specs.CompactionByLine.{made_of_epoch_step, made_of_beginning, rinex_begins}
+use Rattle.crx_reading.specs.CompactionByLine.{rinex_open}
+use Rattle.crx_filter.proofs.following.Following.{IsSameEpoch, AgreeOn}
+use Rattle.crx_rinex.proofs.OpenEpochs.{open_none}
+
+-- ---- what is asked of a direction
+
+-- an epoch that is read is kept and written as it is
+pub record AreSame {K : Type 0} (direction : Direction Epoch OpenEpoch K) (kept_of : List (Item Epoch) → K)
+    (unit_lines : List (Item Epoch) → FileUnit Epoch → List (List ℕ)) (choices : Choices) : Type 0 where
+  pub same : (items : List (Item Epoch)) (lines : List ReadLine) (epoch : Epoch) (count : ℕ)
+      → epoch_place (types_in_force items) lines ≡ Here (Observation epoch) count
+      → IsSameEpoch direction kept_of unit_lines choices items epoch epoch
+
+-- what an open epoch leaves as it was is kept in one way
+pub either-same : {X : Type 0} {a b : X} → (a ≡ b) ⊎ (a ≡ b) → a ≡ b
+either-same (inl e) = e
+either-same (inr e) = e
+
+-- ---- one line
+
+module _ {K : Type 0} {direction : Direction Epoch OpenEpoch K} {kept_of : List (Item Epoch) → K}
+    {unit_lines : List (Item Epoch) → FileUnit Epoch → List (List ℕ)} {choices : Choices}
+    (s : AreSame direction kept_of unit_lines choices) where
+  abbrev Agrees : List (Item Epoch) → List ReadLine → Made Epoch OpenEpoch → Type 0
+  Agrees = AgreeOn (λ (before : List (Item Epoch)). epoch_place (types_in_force before))
+      direction rinex_open kept_of unit_lines choices
+
+  -- a line that begins an epoch with so many satellites
+  agree-when : (items : List (Item Epoch)) (content : List ℕ) (so_far : OpenEpoch) (wanted : ℕ)
+      → epoch_place (types_in_force items) (Content content ∷ [])
+      ≡ after_lines 1 (then_place (rows_at so_far wanted []) [] (λ epoch rest. Here (Observation epoch) 0))
+      → open_with (types_in_force items) (Content content ∷ []) ≡ still_open (when_wanted wanted so_far)
+      → Agrees items (Content content ∷ []) (made_of_epoch_step (when_wanted wanted so_far))
+  agree-when items content so_far zero place opens =
+      (1, epoch_of so_far, place, s.same items (Content content ∷ []) (epoch_of so_far) 1 place)
+  agree-when items content so_far (suc wanted) place opens = (so_far, refl, place, opens)
+
+  agree-beginning : (items : List (Item Epoch)) (content : List ℕ) (b : Result Beginning Fault)
+      → beginning_of content ≡ b
+      → Agrees items (Content content ∷ []) (made_of_beginning (types_in_force items) b)
+  agree-beginning items content (Err fault) e = (0, rw e refl)
+  agree-beginning items content (Ok (EventBegins line)) e = (1, rw e refl, refl)
+  agree-beginning items content (Ok (EpochBegins head)) e = agree-when items content
+      (opened (types_in_force items) head) (rows_wanted (opened (types_in_force items) head))
+      (rw e refl) (rw e (open_none (still_open (whole_or_going (opened (types_in_force items) head)))))
+
+  pub agree-begins : (items : List (Item Epoch)) (line : ReadLine)
+      → Agrees items (line ∷ []) (rinex_begins (types_in_force items) (kept_of items) line)
+  agree-begins items Overlong = (0, refl)
+  agree-begins items (Content content) = agree-beginning items content (beginning_of content) refl
+
+  agree-step : (items : List (Item Epoch)) (lines : List ReadLine) (line : ReadLine) (step : EpochStep)
+      → epoch_place (types_in_force items) (lines ++ line ∷ []) ≡ place_after (length lines) step
+      → open_with (types_in_force items) (lines ++ line ∷ []) ≡ still_open step
+      → Agrees items (lines ++ line ∷ []) (made_of_epoch_step step)
+  agree-step items lines line (Going so_far) place opens = (so_far, refl, place, opens)
+  agree-step items lines line (Whole epoch) place opens =
+      (suc (length lines), epoch, place, s.same items (lines ++ line ∷ []) epoch (suc (length lines)) place)
+  agree-step items lines line (Faulty fault) place opens = (length lines, place)
+
+  pub agree-continues : (items : List (Item Epoch)) (lines : List ReadLine) (line : ReadLine)
+      (so_far : OpenEpoch)
+      → rinex_open items lines ≡ Some so_far
+      → Agrees items (lines ++ line ∷ []) (made_of_epoch_step (epoch_step so_far line))
+  agree-continues items lines line so_far e =
+      let decided = next-by_open (types_in_force items) lines line so_far e in
+      agree-step items lines line (epoch_step so_far line) decided.place decided.left_open
+
+pub no-lines : (types : List Count) (lines : List ReadLine)
+    → epoch_place types lines ≡ Wanted → open_with types lines ≡ None → lines ≡ []
+no-lines types lines wanted none = elim ((wanted-open types lines).0 wanted) as (λ _. lines ≡ []) [
+  | inl e ↦ e
+  | inr some ↦ absurd (none-some some.0 (sym none ∙ some.1))
+]

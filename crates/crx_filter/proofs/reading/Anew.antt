@@ -1,0 +1,331 @@
+-- Where the reading of compact text starts anew, it depends on the types in force alone.
+use Rattle.std.proofs.Common.{ℕ, zero, suc, ◌≡◌, ◌+◌, ◌-◌, ◌<◌, max, Bool, true, cond, List, [], ◌∷◌, ◌++◌}
+use Rattle.std.proofs.Common.{length, drop, Option, Some, None, refl, ap, sym, ◌∙◌, arith, subst}
+use Rattle.std.proofs.Common.{append_assoc}
+use Rattle.std.proofs.lemmas.Bool.{and_parts}
+use Rattle.std.specs.Prelude.{⊤}
+use Rattle.crx_faults.specs.meaning.Seen.{ReadLine, Content, Overlong}
+use Rattle.crx_faults.specs.declared.fault.Fault.{Fault}
+use Rattle.crx_faults.specs.declared.fault.At.{At}
+use Rattle.crx_rinex.specs.meaning.EpochLines.{begins_epoch, is_event_line, records_in}
+use Rattle.crx_header.specs.meaning.ObservationTypes.{Count}
+use Rattle.crx_header.specs.ObservationTypes.{with_line}
+use Rattle.crx_rinex.specs.meaning.Places.{Place, Here, Wrong, Wanted, one_line, first_line}
+use Rattle.crx_rinex.specs.meaning.Units.{Unit as FileUnit, HeaderLine, EventLine, EventRecord, Observation}
+use Rattle.crx_header.proofs.Counts.{types_of-push}
+use Rattle.crx_history.specs.meaning.Expansion.{RawEpoch, block_of}
+use Rattle.crx_history.specs.meaning.Past.{Past, past_of_block, past_of_epochs}
+use Rattle.crx_history.specs.meaning.CompactPlaces.{ReadEpoch, epoch_at}
+use Rattle.crx_compact.proofs.reading.Forgetting.{forgets}
+use Rattle.crx_reading.specs.meaning.Items.{Item, Accepted, Warned, header_has_ended, records_announced, records_left}
+use Rattle.crx_reading.specs.meaning.Items.{records_count_types, declaring_lines, types_in_force}
+use Rattle.crx_reading.specs.meaning.UnitPlaces.{unless_wrong, types_fault, event_record}
+use Rattle.crx_reading.specs.meaning.Reading.{Reading, Stop, AtFault, AtLines, Looking, is_skipped, can_go_on}
+use Rattle.crx_reading.specs.meaning.Reading.{looked_for, reading_within, after_fault}
+use Rattle.crx_reading.specs.meaning.Expanded.{raws_kept, empties_state, event_line, as_observation}
+use Rattle.crx_reading.specs.meaning.Expanded.{compact_epoch_place}
+use Rattle.crx_reading.specs.meaning.Expanded.{compact_place}
+use Rattle.crx_filter.specs.Anew.{starts_anew, GoOnAlike, DependsOnTypes}
+use Rattle.crx_reading.proofs.Choosing.{by_bool}
+use Rattle.crx_filter.proofs.reading.Resuming.{by_place}
+use Rattle.crx_filter.proofs.reading.WhatStands.{OfHere, first-line, unless-wrong, of-compact}
+use Rattle.crx_filter.proofs.following.Following.{body-place}
+use Rattle.crx_filter.proofs.following.Lines.{record-place}
+use Rattle.crx_filter.proofs.reading.ForwardCompact.{compact_beginning}
+
+-- ---- the types after a record
+
+record-types : (items : List (Item ReadEpoch)) (line : List ℕ) → types_in_force (Accepted (EventRecord line) ∷ items)
+    ≡ cond (records_count_types items) (with_line (types_in_force items) line) (types_in_force items)
+record-types items line = by_bool (records_count_types items)
+    (λ on. rw on (types_of-push (declaring_lines items) line))
+    (λ off. rw off refl)
+
+-- ---- two lists of items that are alike
+
+-- both are in the body of a file, with the same records to come and the same types
+pub record AreAlike (a b : List (Item ReadEpoch)) : Type 0 where
+  pub one : header_has_ended a ≡ true
+  pub two : header_has_ended b ≡ true
+  pub left : records_left a ≡ records_left b
+  pub counts : 0 < records_left a → records_count_types a ≡ records_count_types b
+  pub types : types_in_force a ≡ types_in_force b
+
+-- and what is read next goes on from the same block
+pub record AreSame (a b : List (Item ReadEpoch)) : Type 0 where
+  pub alike : AreAlike a b
+  pub block : block_of (raws_kept a) ≡ block_of (raws_kept b)
+
+-- the units that can stand after some items
+abbrev MayFollow : List (Item ReadEpoch) → FileUnit ReadEpoch → Type 0
+MayFollow items (HeaderLine line) = ⊥
+MayFollow items (EventLine line) = ⊤
+MayFollow items (EventRecord line) = 0 < records_left items
+MayFollow items (Observation read) = ⊤
+
+alike-unit : (a b : List (Item ReadEpoch)) (unit : FileUnit ReadEpoch)
+    → MayFollow a unit → AreAlike a b → AreAlike (Accepted unit ∷ a) (Accepted unit ∷ b)
+alike-unit a b (HeaderLine line) f h = absurd f
+alike-unit a b (EventRecord line) f h = record {
+  one = h.one;
+  two = h.two;
+  left = ap (λ n. n - 1) h.left;
+  counts = λ still. h.counts f;
+  types = cc (record-types a line, record-types b line, h.counts f, h.types);
+}
+alike-unit a b unit f h =
+    record { one = h.one; two = h.two; left = refl; counts = λ some. refl; types = h.types }
+
+same-unit : (a b : List (Item ReadEpoch)) (unit : FileUnit ReadEpoch)
+    → MayFollow a unit → AreSame a b → AreSame (Accepted unit ∷ a) (Accepted unit ∷ b)
+same-unit a b unit f h = record { alike = alike-unit a b unit f h.alike; block = block-same unit f }
+  where
+    block-same : (unit : FileUnit ReadEpoch) → MayFollow a unit
+        → block_of (raws_kept (Accepted unit ∷ a)) ≡ block_of (raws_kept (Accepted unit ∷ b))
+    block-same (HeaderLine line) f = absurd f
+    block-same (EventLine line) f = h.block
+    block-same (EventRecord line) f = by_bool (empties_state (records_count_types b) line)
+        (λ on. rw (h.alike.counts f, on) refl)
+        (λ off. rw (h.alike.counts f, off) h.block)
+    block-same (Observation read) f = rw h.block refl
+
+same-warned : (a b : List (Item ReadEpoch)) (at : At) → AreAlike a b → AreSame (Warned at ∷ a) (Warned at ∷ b)
+same-warned a b at h = record {
+  alike = record { one = h.one; two = h.two; left = refl; counts = λ some. refl; types = h.types };
+  block = refl;
+}
+
+-- ---- the same stands at the same lines
+
+-- what the lines of a block give depends on the block alone
+abbrev past-of : (block : List RawEpoch) → Option Past
+past-of [] = None
+past-of (e ∷ older) = Some (past_of_block (e ∷ older))
+
+past-by_block : (raws : List RawEpoch) → past_of_epochs raws ≡ past-of (block_of raws)
+past-by_block [] = refl
+past-by_block (e ∷ older) = refl
+
+epoch-by_block : (types : List Count) (one two : List RawEpoch) (lines : List ReadLine)
+    → block_of one ≡ block_of two → epoch_at types one lines ≡ epoch_at types two lines
+epoch-by_block types one two lines e =
+    let same : past_of_epochs one ≡ past_of_epochs two = cc (past-by_block one, e, past-by_block two) in
+    rw same refl
+
+begin-by_block : (types : List Count) (one two : List RawEpoch) (lines : List ReadLine)
+    → block_of one ≡ block_of two → compact_epoch_place types one lines ≡ compact_epoch_place types two lines
+begin-by_block types one two [] e = refl
+begin-by_block types one two (Overlong ∷ lines) e =
+    ap as_observation (epoch-by_block types one two (Overlong ∷ lines) e)
+begin-by_block types one two (Content line ∷ lines) e =
+    rw (epoch-by_block types one two (Content line ∷ lines) e) refl
+
+event-same : (a b : List (Item ReadEpoch)) (left : ℕ) (lines : List ReadLine)
+    → AreAlike a b → records_left a ≡ suc left → compact_place a lines ≡ compact_place b lines
+event-same a b left lines h some =
+    record-place compact_beginning a left lines h.one some
+    ∙ ap (λ c. first_line lines (event_record c)) (h.counts (omega (arith, some)))
+    ∙ sym (record-place compact_beginning b left lines h.two (sym h.left ∙ some))
+
+place-same : (a b : List (Item ReadEpoch)) (lines : List ReadLine)
+    → AreSame a b → (n : ℕ) → records_left a ≡ n → compact_place a lines ≡ compact_place b lines
+place-same a b lines h zero none =
+    body-place compact_beginning a lines h.alike.one none
+    ∙ begin-by_block (types_in_force a) (raws_kept a) (raws_kept b) lines h.block
+    ∙ ap (λ types. compact_epoch_place types (raws_kept b) lines) h.alike.types
+    ∙ sym (body-place compact_beginning b lines h.alike.two (sym h.alike.left ∙ none))
+place-same a b lines h (suc left) some = event-same a b left lines h.alike some
+
+-- ---- which units can stand there
+
+epoch-follows : (items : List (Item ReadEpoch)) (p : Place ReadEpoch) → OfHere (MayFollow items) (as_observation p)
+epoch-follows items (Here read count) = tt
+epoch-follows items p = tt
+
+begun-follows : (items : List (Item ReadEpoch)) (types : List Count) (raws : List RawEpoch) (lines : List ReadLine)
+    → OfHere (MayFollow items) (compact_epoch_place types raws lines)
+begun-follows items types raws lines =
+    of-compact (OfHere (MayFollow items)) types raws lines tt tt (λ line rest e. tt)
+    (epoch-follows items (epoch_at types raws lines))
+
+unit-follows : (items : List (Item ReadEpoch)) (lines : List ReadLine) → header_has_ended items ≡ true
+    → (n : ℕ) → records_left items ≡ n → OfHere (MayFollow items) (compact_place items lines)
+unit-follows items lines ended zero none = rw (body-place compact_beginning items lines ended none)
+    (begun-follows items (types_in_force items) (raws_kept items) lines)
+unit-follows items lines ended (suc left) some = rw (record-place compact_beginning items left lines ended some)
+    (first-line (MayFollow items) (event_record (records_count_types items)) lines
+    (λ line. unless-wrong (MayFollow items) (EventRecord line)
+    (cond (records_count_types items) (types_fault line) None) (λ good. omega (arith, some))))
+
+-- ---- the same units are read
+
+skipped-alike : (skip : Bool) (a b : List (Item ReadEpoch)) (fault : Fault)
+    → AreAlike a b → is_skipped skip a fault ≡ is_skipped skip b fault
+skipped-alike skip a b fault h = rw (h.one, h.two, h.left) refl
+
+-- one item more
+onto : {a b : List (Item ReadEpoch)} {item : Item ReadEpoch} {one two : Reading ReadEpoch}
+    → GoOnAlike (item ∷ a) (item ∷ b) one two → GoOnAlike a b one two
+onto {a = a} {b = b} {item = item} h = record {
+  more = h.more ++ item ∷ [];
+  stop = h.stop;
+  first = rw (append_assoc h.more (item ∷ []) a) h.first;
+  second = rw (append_assoc h.more (item ∷ []) b) h.second;
+}
+
+stopped : {a b : List (Item ReadEpoch)} (stop : Stop)
+    → GoOnAlike a b (record { items = a; stop = stop }) (record { items = b; stop = stop })
+stopped stop = record { more = []; stop = stop; first = refl; second = refl }
+
+looked : (a b : List (Item ReadEpoch)) (one two : ℕ
+    → List ReadLine → Reading ReadEpoch) (number : ℕ) (lines : List ReadLine)
+    → ((n : ℕ) (ls : List ReadLine) → GoOnAlike a b (one n ls) (two n ls))
+    → GoOnAlike a b (looked_for one a number lines) (looked_for two b number lines)
+looked a b one two number [] h = stopped (Looking number)
+looked a b one two number (line ∷ lines) h = by_bool (can_go_on line)
+    (λ on. rw (on, looked_for) (h number (line ∷ lines)))
+    (λ off. rw (off, looked_for) (looked a b one two (number + 1) lines h))
+
+-- after the one and the other items, so many units are read alike
+abbrev ReadAlike : Bool → ℕ → List (Item ReadEpoch) → List (Item ReadEpoch) → ℕ → List ReadLine → Type 0
+ReadAlike skip units a b number lines =
+    GoOnAlike a b (reading_within compact_place skip units a number lines)
+    (reading_within compact_place skip units b number lines)
+
+-- one step: what stands there is the same, and what is read after it goes on alike
+one-step : (skip : Bool) (units : ℕ) (a b : List (Item ReadEpoch)) (number : ℕ) (lines : List ReadLine)
+    → AreAlike a b → compact_place a lines ≡ compact_place b lines
+    → ((unit : FileUnit ReadEpoch) (count : ℕ) → compact_place a lines ≡ Here unit count
+    → ReadAlike skip units (Accepted unit ∷ a) (Accepted unit ∷ b) (number + count) (drop count lines))
+    → ((at : At) (n : ℕ) (ls : List ReadLine) → ReadAlike skip units (Warned at ∷ a) (Warned at ∷ b) n ls)
+    → ReadAlike skip (suc units) a b number lines
+one-step skip units a b number lines h same next warned = by_place (compact_place a lines)
+    (λ unit count e. rw (e, sym same ∙ e, reading_within) (onto (next unit count e)))
+    (λ offset fault e. by_bool (is_skipped skip a fault)
+    (λ on.
+    let at : At = record { line = number + offset; fault = fault } in
+    let past : ℕ = max offset 1 in
+    rw (e, sym same ∙ e, reading_within, on, sym (skipped-alike skip a b fault h) ∙ on, after_fault)
+    (onto (looked (Warned at ∷ a) (Warned at ∷ b) _ _ (number + past) (drop past lines) (warned at))))
+    (λ off. rw (e, sym same ∙ e, reading_within, off, sym (skipped-alike skip a b fault h) ∙ off, after_fault)
+    (stopped (AtFault (record { line = number + offset; fault = fault })))))
+    (λ e. rw (e, sym same ∙ e, reading_within) (stopped (AtLines number lines)))
+
+-- from the same state the same is read
+reads-same : (skip : Bool) (units : ℕ) (a b : List (Item ReadEpoch)) (number : ℕ) (lines : List ReadLine)
+    → AreSame a b → ReadAlike skip units a b number lines
+reads-same skip zero a b number lines h = stopped (AtLines number lines)
+reads-same skip (suc units) a b number lines h =
+    one-step skip units a b number lines h.alike (place-same a b lines h (records_left a) refl)
+    (λ unit count e. reads-same skip units (Accepted unit ∷ a) (Accepted unit ∷ b) (number + count) (drop count lines)
+    (same-unit a b unit (subst (OfHere (MayFollow a)) e (unit-follows a lines h.alike.one (records_left a) refl)) h))
+    (λ at n ls. reads-same skip units (Warned at ∷ a) (Warned at ∷ b) n ls (same-warned a b at h.alike))
+
+-- ---- where all starts anew
+
+-- so it is where all starts anew, of so many units
+abbrev IsAnew : Bool → ℕ → Type 0
+IsAnew skip units =
+    (a b : List (Item ReadEpoch)) (number : ℕ) (lines : List ReadLine) (left : ℕ)
+    → AreAlike a b → records_left a ≡ left → starts_anew left lines ≡ true
+    → ReadAlike skip units a b number lines
+
+module _ (skip : Bool) (units : ℕ) (ih : IsAnew skip units)
+    (a b : List (Item ReadEpoch)) (h : AreAlike a b) (number : ℕ) where
+  -- what is read after a unit
+  abbrev Next : List ReadLine → Place (FileUnit ReadEpoch) → Type 0
+  Next lines (Here unit count) =
+      ReadAlike skip units (Accepted unit ∷ a) (Accepted unit ∷ b) (number + count) (drop count lines)
+  Next lines (Wrong offset fault) = ⊤
+  Next lines Wanted = ⊤
+
+  alike-step : (lines : List ReadLine) (p : Place (FileUnit ReadEpoch)) → compact_place a lines ≡ p
+      → compact_place b lines ≡ p → Next lines p → ReadAlike skip (suc units) a b number lines
+  alike-step lines p e f next =
+      one-step skip units a b number lines h (e ∙ sym f)
+      (λ unit count is. subst (Next lines) (sym e ∙ is) next)
+      (λ at n ls. reads-same skip units (Warned at ∷ a) (Warned at ∷ b) n ls (same-warned a b at h))
+
+  -- an epoch whose line begins with > is its block's first
+  anew-observed : (line : List ℕ) (lines : List ReadLine) (types : List Count) (p : Place ReadEpoch)
+      → begins_epoch line ≡ true → epoch_at types [] (Content line ∷ lines) ≡ p
+      → Next (Content line ∷ lines) (as_observation p)
+  anew-observed line lines types (Here read count) begins e =
+      let one = forgets types (raws_kept a) line lines begins in
+      let two = forgets types (raws_kept b) line lines begins in
+      reads-same skip units (Accepted (Observation read) ∷ a)
+      (Accepted (Observation read) ∷ b) (number + count) (drop count (Content line ∷ lines))
+      (record {
+        alike = alike-unit a b (Observation read) tt h;
+        block = one.block read count (one.place ∙ e) ∙ sym (two.block read count (two.place ∙ e));
+      })
+  anew-observed line lines types p begins e = tt
+
+  anew-record : (line : List ℕ) (lines : List ReadLine) (left : ℕ) (fault : Option Fault)
+      → records_left a ≡ suc left → starts_anew left lines ≡ true
+      → Next (Content line ∷ lines) (one_line (unless_wrong (EventRecord line) fault))
+  anew-record line lines left None e anew =
+      ih (Accepted (EventRecord line) ∷ a) (Accepted (EventRecord line) ∷ b) (number + 1) lines left
+      (alike-unit a b (EventRecord line) (omega (arith, e)) h) (omega (arith, e)) anew
+  anew-record line lines left (Some fault) e anew = tt
+
+  anew-event : (line : List ℕ) (lines : List ReadLine) (o : Option ℕ)
+      → records_in line ≡ o → starts_anew (records_announced line) lines ≡ true
+      → Next (Content line ∷ lines) (one_line (event_line line))
+  anew-event line lines None is anew = rw (is, event_line) tt
+  anew-event line lines (Some n) is anew =
+      let next = ih (Accepted (EventLine line) ∷ a) (Accepted (EventLine line) ∷ b) (number + 1) lines
+      (records_announced line) (alike-unit a b (EventLine line) tt h) refl anew in
+      rw (is, event_line) next
+
+  anew-line : (line : List ℕ) (lines : List ReadLine) → records_left a ≡ 0 → begins_epoch line ≡ true
+      → cond (is_event_line line) (starts_anew (records_announced line) lines) true ≡ true
+      → ReadAlike skip (suc units) a b number (Content line ∷ lines)
+  anew-line line lines e begins anew =
+      let all : List ReadLine = Content line ∷ lines in
+      let one : compact_place a all ≡ compact_beginning a all = body-place compact_beginning a all h.one e in
+      let two : compact_place b all ≡ compact_beginning b all = body-place compact_beginning b all h.two (sym h.left ∙ e) in
+      by_bool (is_event_line line)
+      (λ on. alike-step all (one_line (event_line line)) (one ∙ rw on refl) (two ∙ rw on refl)
+      (anew-event line lines (records_in line) refl (rw on at anew)))
+      (λ off. alike-step all (as_observation (epoch_at (types_in_force a) [] all))
+      (one ∙ rw (off, (forgets (types_in_force a) (raws_kept a) line lines begins).place) refl)
+      (two ∙ rw (off, (forgets (types_in_force b) (raws_kept b) line lines begins).place, h.types) refl)
+      (anew-observed line lines (types_in_force a) (epoch_at (types_in_force a) [] all) begins refl))
+
+  anew-step : (lines : List ReadLine) (left : ℕ) → records_left a ≡ left → starts_anew left lines ≡ true
+      → ReadAlike skip (suc units) a b number lines
+  anew-step [] zero e anew = alike-step [] Wanted
+      (body-place compact_beginning a [] h.one e) (body-place compact_beginning b [] h.two (sym h.left ∙ e)) tt
+  anew-step (Overlong ∷ lines) zero e anew = absurd (cc)
+  anew-step (Content line ∷ lines) zero e anew =
+      let both = and_parts (begins_epoch line) _ anew in
+      anew-line line lines e both.0 both.1
+  anew-step lines (suc left) e anew =
+      alike-step lines (first_line lines (event_record (records_count_types a)))
+      (record-place compact_beginning a left lines h.one e)
+      (sym (event-same a b left lines h e) ∙ record-place compact_beginning a left lines h.one e) (next lines anew)
+    where
+      next : (lines : List ReadLine) → starts_anew (suc left) lines ≡ true
+          → Next lines (first_line lines (event_record (records_count_types a)))
+      next [] anew = tt
+      next (Overlong ∷ lines) anew = tt
+      next (Content line ∷ lines) anew =
+          anew-record line lines left (cond (records_count_types a) (types_fault line) None) e anew
+
+reads-anew : (skip : Bool) (units : ℕ) → IsAnew skip units
+reads-anew skip zero a b number lines left h e anew = stopped (AtLines number lines)
+reads-anew skip (suc units) a b number lines left h e anew =
+    anew-step skip units (reads-anew skip units) a b h number lines left e anew
+
+pub depends-on_types : DependsOnTypes
+depends-on_types skip before other number lines one two types anew =
+    reads-anew skip (length lines + 1) before other number lines 0
+    (record {
+      one = one.header;
+      two = two.header;
+      left = one.none ∙ sym two.none;
+      counts = λ some. (let none = one.none in absurd (omega (arith, some, none)));
+      types = types;
+    })
+    one.none anew

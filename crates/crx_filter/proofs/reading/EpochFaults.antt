@@ -1,0 +1,242 @@
+-- The faults of an epoch of compact text can all be skipped.
+use Rattle.std.proofs.Common.{ℕ, ℤ, suc, ◌≡◌, ◌+◌, ◌*◌, Bool, true, List, [], ◌∷◌, map, drop, Option, Some}
+use Rattle.std.proofs.Common.{None, Result, Ok, Err, refl}
+use Rattle.std.specs.Prelude.{⊤, not}
+use Rattle.std.specs.List.{list_all, list_any}
+use Rattle.std.specs.Str.{bytes_eq}
+use Rattle.crx_columns.specs.meaning.Columns.{columns, is_blank, without_end_blanks}
+use Rattle.crx_text.specs.meaning.Codes.{code_of}
+use Rattle.crx_faults.specs.meaning.Seen.{ReadLine, Content, Overlong}
+use Rattle.crx_text.specs.declared.code.Code.{Code}
+use Rattle.crx_text.specs.declared.code.Code.TheVariants.{Missing, Start, Step}
+use Rattle.crx_faults.specs.declared.limits.TheConstants.{HEAD_WIDTH, NAME_WIDTH, CLOCK_WIDTH, OBSERVATION_WIDTH}
+use Rattle.crx_faults.specs.declared.fault.Fault.{Fault}
+use Rattle.crx_faults.specs.declared.fault.Fault.TheVariants.{BadEpoch, BadClock, RepeatedSatellite, BadField}
+use Rattle.crx_faults.specs.declared.fault.Fault.TheVariants.{OutOfRange, BadFlags, Truncated, LineTooLong}
+use Rattle.crx_rinex.specs.meaning.EpochLines.{epoch_count, begins_epoch}
+use Rattle.crx_header.specs.meaning.ObservationTypes.{Count}
+use Rattle.crx_rinex.specs.meaning.Places.{Place, Here, Wrong, Wanted, after_lines, then_place, one_line, first_line}
+use Rattle.crx_rinex.specs.meaning.SatelliteLines.{types_of_satellite}
+use Rattle.crx_history.specs.meaning.CompactPlaces.{BegunEpoch, satellites_counted, satellites_of_text}
+use Rattle.crx_history.specs.meaning.CompactPlaces.{satellites_of_line, epoch_begun, clock_line_read}
+use Rattle.crx_arcs.specs.meaning.Cells.{cell_read}
+use Rattle.crx_arcs.specs.meaning.Cells.{cells_of, after_cells, cells_read}
+use Rattle.crx_history.specs.meaning.CompactPlaces.{are_marks, row_of_cells}
+use Rattle.crx_history.specs.meaning.CompactPlaces.{row_with_marks, row_of_line, satellite_line_read, rows_read}
+use Rattle.crx_history.specs.meaning.CompactPlaces.{epoch_of_rows, epoch_after_line, epoch_at}
+use Rattle.crx_arcs.specs.meaning.Differences.{value_at}
+use Rattle.crx_history.specs.meaning.EpochText.{Satellite, satellite_before, satellites_named, names_in}
+use Rattle.crx_columns.specs.meaning.Texts.{is_printable}
+use Rattle.crx_history.specs.meaning.Expansion.{RawEpoch}
+use Rattle.crx_arcs.specs.meaning.ArcValues.{Started, is_within, value_since, value_of, since_start}
+use Rattle.crx_history.specs.meaning.Expansion.{block_of, code_in, raw_run_of}
+use Rattle.crx_history.specs.meaning.Past.{Past, past_of_block, past_of_epochs, past_of_line}
+use Rattle.crx_arcs.specs.meaning.Sequences.{and_then, before_all}
+use Rattle.crx_faults.specs.meaning.Faults.{is_skippable}
+use Rattle.crx_filter.proofs.reading.WhatStands.{chosen}
+
+-- ---- results and places whose faults pass a test
+
+abbrev pub FaultsPass : {X : Type 0} → (Fault → Bool) → Result X Fault → Type 0
+FaultsPass test (Ok x) = ⊤
+FaultsPass test (Err fault) = test fault ≡ true
+
+abbrev pub FaultsPassAt : {X : Type 0} → (Fault → Bool) → Place X → Type 0
+FaultsPassAt test (Here x count) = ⊤
+FaultsPassAt test (Wrong offset fault) = test fault ≡ true
+FaultsPassAt test Wanted = ⊤
+
+module _ (test : Fault → Bool) where
+  pub place-after : {X : Type 0} (count : ℕ) (p : Place X)
+      → FaultsPassAt test p → FaultsPassAt test (after_lines count p)
+  place-after count (Here x more) a = tt
+  place-after count (Wrong offset fault) a = a
+  place-after count Wanted a = tt
+
+  pub place-then : {X Y : Type 0} (p : Place X) (lines : List ReadLine) (next : X → List ReadLine → Place Y)
+      → FaultsPassAt test p → ((x : X) (ls : List ReadLine) → FaultsPassAt test (next x ls))
+      → FaultsPassAt test (then_place p lines next)
+  place-then (Here x count) lines next a b =
+      place-after count (next x (drop count lines)) (b x (drop count lines))
+  place-then (Wrong offset fault) lines next a b = a
+  place-then Wanted lines next a b = tt
+
+  pub place-line : {X : Type 0} (r : Result X Fault) → FaultsPass test r → FaultsPassAt test (one_line r)
+  place-line (Ok x) a = tt
+  place-line (Err fault) a = a
+
+  pub place-first : test LineTooLong ≡ true → {X : Type 0} (lines : List ReadLine)
+      (read : List ℕ → Result X Fault)
+      → ((line : List ℕ) → FaultsPass test (read line)) → FaultsPassAt test (first_line lines read)
+  place-first long [] read a = tt
+  place-first long (Overlong ∷ lines) read a = long
+  place-first long (Content line ∷ lines) read a = place-line (read line) (a line)
+
+-- ---- results and places whose faults can be skipped
+
+abbrev IsSkippableResult : {X : Type 0} → Result X Fault → Type 0
+IsSkippableResult r = FaultsPass is_skippable r
+
+abbrev pub IsSkippableAt : {X : Type 0} → Place X → Type 0
+IsSkippableAt p = FaultsPassAt is_skippable p
+
+skippable-and_then : {X Y : Type 0} (r : Result X Fault) (f : X → Result Y Fault)
+    → IsSkippableResult r → ((x : X) → IsSkippableResult (f x)) → IsSkippableResult (and_then r f)
+skippable-and_then (Ok x) f a b = b x
+skippable-and_then (Err fault) f a b = a
+
+skippable-before : {X : Type 0} (x : X) (r : Result (List X) Fault)
+    → IsSkippableResult r → IsSkippableResult (before_all x r)
+skippable-before x (Ok xs) a = tt
+skippable-before x (Err fault) a = a
+
+-- ---- an epoch's lines
+
+since-skippable : (width : ℕ) (arc : Option Started) → IsSkippableResult (value_since width arc)
+since-skippable width None = refl
+since-skippable width (Some arc) = chosen IsSkippableResult (is_within width (value_at arc.order arc.numbers))
+    (Ok (Some (value_at arc.order arc.numbers))) (Err OutOfRange) tt refl
+
+value-skippable : (width : ℕ) (cells : List Code) → IsSkippableResult (value_of width cells)
+value-skippable width [] = tt
+value-skippable width (Missing ∷ older) = tt
+value-skippable width (Start order value ∷ older) = since-skippable width (since_start (Start order value ∷ older))
+value-skippable width (Step number ∷ older) = since-skippable width (since_start (Step number ∷ older))
+
+-- what is given to the lines of an epoch refuses them by faults that can be skipped
+record IsSkippablePast (past : Past) : Type 0 where
+  clock : (code : Code) → IsSkippableResult (past.clock code)
+  value : (name : List ℕ) (place : ℕ) (code : Code) → IsSkippableResult (past.value name place code)
+
+block-skippable : (block : List RawEpoch) → IsSkippablePast (past_of_block block)
+block-skippable block = record {
+  clock = λ code. value-skippable CLOCK_WIDTH (code ∷ map (λ (e : RawEpoch). e.clock) block);
+  value = λ name place code. value-skippable OBSERVATION_WIDTH (code ∷ map (code_in place) (raw_run_of name block));
+}
+
+abbrev IsSkippableOption : Option Past → Type 0
+IsSkippableOption None = ⊤
+IsSkippableOption (Some past) = IsSkippablePast past
+
+epochs-skippable : (older : List RawEpoch) → IsSkippableOption (past_of_epochs older)
+epochs-skippable [] = tt
+epochs-skippable (e ∷ older) = block-skippable (block_of (e ∷ older))
+
+past-skippable : (older : List RawEpoch) (line : List ℕ) → IsSkippableOption (past_of_line older line)
+past-skippable older line = chosen IsSkippableOption
+    (begins_epoch line) (Some (past_of_block [])) (past_of_epochs older) (block-skippable []) (epochs-skippable older)
+
+before-skippable : (earlier : List (List ℕ)) (name : List ℕ) (count : Option ℕ) (others : Result (List Satellite) Fault)
+    → IsSkippableResult others → IsSkippableResult (satellite_before earlier name count others)
+before-skippable earlier name None others a = refl
+before-skippable earlier name (Some count) others a =
+    chosen IsSkippableResult (list_any (bytes_eq name) earlier) (Err RepeatedSatellite) (before_all (record {
+      name = name;
+      count = count;
+    }) others) refl (skippable-before (record { name = name; count = count }) others a)
+
+named-skippable : (types : List Count) (earlier names : List (List ℕ))
+    → IsSkippableResult (satellites_named types earlier names)
+named-skippable types earlier [] = tt
+named-skippable types earlier (name ∷ names) = before-skippable earlier name (types_of_satellite types name)
+    (satellites_named types (name ∷ earlier) names) (named-skippable types (name ∷ earlier) names)
+
+counted-skippable : (types : List Count) (text : List ℕ) (count : Option ℕ)
+    → IsSkippableResult (satellites_counted types text count)
+counted-skippable types text None = refl
+counted-skippable types text (Some count) =
+    chosen IsSkippableResult (list_all is_blank (drop (HEAD_WIDTH + NAME_WIDTH * count) text))
+    (satellites_named types [] (names_in text count)) (Err BadEpoch)
+    (named-skippable types [] (names_in text count)) refl
+
+satellites-skippable : (types : List Count) (past : Past) (line : List ℕ)
+    → IsSkippableResult (satellites_of_line types past line)
+satellites-skippable types past line =
+    chosen IsSkippableResult (not (list_all is_printable line))
+    (Err BadEpoch) (satellites_of_text types (past.text line)) refl
+    (counted-skippable types (past.text line) (epoch_count (columns (past.text line) 1 HEAD_WIDTH)))
+
+-- an epoch line that was read, by what is given to its lines
+abbrev IsBegunWell : Result BegunEpoch Fault → Type 0
+IsBegunWell (Ok begun) = IsSkippablePast begun.past
+IsBegunWell (Err fault) = is_skippable fault ≡ true
+
+begun-well : (line : List ℕ) (past : Past)
+    → IsSkippablePast past → (r : Result (List Satellite) Fault) → IsSkippableResult r
+    → IsBegunWell (and_then r (λ satellites. Ok (record { line = line; past = past; satellites = satellites })))
+begun-well line past h (Ok satellites) a = h
+begun-well line past h (Err fault) a = a
+
+epoch_begun-well : (types : List Count) (line : List ℕ) (past : Option Past)
+    → IsSkippableOption past → IsBegunWell (epoch_begun types line past)
+epoch_begun-well types line None h = refl
+epoch_begun-well types line (Some past) h =
+    begun-well line past h (satellites_of_line types past line) (satellites-skippable types past line)
+
+cell-skippable : (malformed : Fault) (value : Code → Result (Option ℤ) Fault) (code : Option Code)
+    → is_skippable malformed ≡ true
+    → ((c : Code) → IsSkippableResult (value c)) → IsSkippableResult (cell_read malformed value code)
+cell-skippable malformed value None a b = a
+cell-skippable malformed value (Some code) a b = skippable-and_then (value code) _ (b code) (λ v. tt)
+
+clock_line-skippable : (past : Past)
+    → IsSkippablePast past → (line : List ℕ) → IsSkippableResult (clock_line_read past line)
+clock_line-skippable past h line =
+    chosen IsSkippableResult (begins_epoch line) (Err Truncated)
+    (cell_read BadClock past.clock (code_of (without_end_blanks line)))
+    refl (cell-skippable BadClock past.clock (code_of (without_end_blanks line)) refl h.clock)
+
+cells-skippable : (value : ℕ → Code → Result (Option ℤ) Fault) → ((place : ℕ) (c : Code)
+    → IsSkippableResult (value place c)) → (texts : List (List ℕ)) → IsSkippableResult (cells_read value texts)
+cells-skippable value h [] = tt
+cells-skippable value h (text ∷ texts) =
+    skippable-and_then (cell_read BadField (value 0) (code_of text)) (λ cell. before_all cell
+    (cells_read (λ place. value (suc place)) texts)) (cell-skippable BadField (value 0) (code_of text) refl (h 0))
+    (λ cell. skippable-before cell (cells_read (λ place. value (suc place)) texts)
+    (cells-skippable (λ place. value (suc place)) (λ place c. h (suc place) c) texts))
+
+row_line-skippable : (past : Past) → IsSkippablePast past
+    → (satellite : Satellite) (line : List ℕ) → IsSkippableResult (satellite_line_read past satellite line)
+row_line-skippable past h satellite line =
+    let marks : List ℕ = after_cells satellite.count line in
+    chosen IsSkippableResult (begins_epoch line) (Err Truncated) (row_of_line past satellite line) refl
+    (skippable-and_then (cells_read (past.value satellite.name) (cells_of satellite.count line))
+    (λ cells. row_with_marks past satellite marks cells)
+    (cells-skippable (past.value satellite.name) (h.value satellite.name) (cells_of satellite.count line))
+    (λ cells. chosen IsSkippableResult (are_marks satellite.count marks)
+    (Ok (row_of_cells past satellite.name marks cells)) (Err BadFlags) tt refl))
+
+rows_read-skippable : (past : Past) → IsSkippablePast past
+    → (satellites : List Satellite) (lines : List ReadLine) → IsSkippableAt (rows_read past satellites lines)
+rows_read-skippable past h [] lines = tt
+rows_read-skippable past h (satellite ∷ satellites) lines =
+    place-then is_skippable (first_line lines (satellite_line_read past satellite))
+    lines _ (place-first is_skippable refl lines
+    (satellite_line_read past satellite) (row_line-skippable past h satellite))
+    (λ row others. place-then is_skippable (rows_read past satellites others) others
+    (λ rows rest. Here (row ∷ rows) 0) (rows_read-skippable past h satellites others) (λ rows rest. tt))
+
+after_line-skippable : (begun : BegunEpoch)
+    → IsSkippablePast begun.past → (lines : List ReadLine) → IsSkippableAt (epoch_after_line begun lines)
+after_line-skippable begun h lines =
+    place-then is_skippable (first_line lines (clock_line_read begun.past))
+    lines _ (place-first is_skippable refl lines
+    (clock_line_read begun.past) (clock_line-skippable begun.past h))
+    (λ clock others. place-then is_skippable (rows_read begun.past begun.satellites others) others
+    (λ rows rest. Here (epoch_of_rows begun clock rows) 0)
+    (rows_read-skippable begun.past h begun.satellites others) (λ rows rest. tt))
+
+begun_line-skippable : (r : Result BegunEpoch Fault) → IsBegunWell r → (lines : List ReadLine)
+    → IsSkippableAt (then_place (one_line r) lines (λ begun others. epoch_after_line begun others))
+begun_line-skippable (Ok begun) h lines =
+    place-after is_skippable 1 (epoch_after_line begun (drop 1 lines))
+    (after_line-skippable begun h (drop 1 lines))
+begun_line-skippable (Err fault) h lines = h
+
+pub epoch-skippable : (types : List Count) (older : List RawEpoch) (lines : List ReadLine)
+    → IsSkippableAt (epoch_at types older lines)
+epoch-skippable types older [] = tt
+epoch-skippable types older (Overlong ∷ lines) = refl
+epoch-skippable types older (Content line ∷ lines) =
+    begun_line-skippable (epoch_begun types line (past_of_line older line))
+    (epoch_begun-well types line (past_of_line older line) (past-skippable older line)) (Content line ∷ lines)

@@ -1,0 +1,51 @@
+-- What stands at a line is certain as soon as its last line has come, in both directions.
+use Rattle.std.proofs.Common.{◌≡◌, Bool, true, false, not, cond, List, [], refl}
+use Rattle.crx_faults.specs.meaning.Seen.{ReadLine}
+use Rattle.crx_rinex.specs.meaning.Places.{Place, Wanted, first_line}
+use Rattle.crx_rinex.specs.Steady.{IsSteady}
+use Rattle.crx_rinex.specs.meaning.Units.{Unit as FileUnit}
+use Rattle.crx_rinex.specs.meaning.Observations.{Epoch}
+use Rattle.crx_rinex.specs.meaning.EpochPlaces.{epoch_place}
+use Rattle.crx_rinex.proofs.Steady.{steady-first_line}
+use Rattle.crx_rinex.proofs.OpenEpochs.{steady-epoch_place}
+use Rattle.crx_reading.specs.meaning.Items.{Item, is_at_start, header_has_ended, records_left, records_count_types}
+use Rattle.crx_reading.specs.meaning.Items.{types_in_force}
+use Rattle.crx_reading.specs.meaning.UnitPlaces.{header_line, event_record, unit_place}
+use Rattle.crx_reading.specs.meaning.Compacted.{rinex_place}
+use Rattle.crx_filter.specs.Laws.{IsReadForward}
+use Rattle.std.specs.Prelude.{nat_lt}
+
+-- where an epoch or an event may begin in RINEX
+abbrev pub rinex_beginning : List (Item Epoch) → List ReadLine → Place (FileUnit Epoch)
+rinex_beginning items = epoch_place (types_in_force items)
+
+-- one place or another
+chosen_steady : {X : Type 0} (b : Bool) (one two : List ReadLine → Place X)
+    → IsSteady one → IsSteady two → IsSteady (λ lines. cond b (one lines) (two lines))
+chosen_steady true one two h k = h
+chosen_steady false one two h k = k
+
+chosen_wanted : {X : Type 0} (b : Bool) (one two : Place X) → one ≡ Wanted → two ≡ Wanted → cond b one two ≡ Wanted
+chosen_wanted true one two h k = h
+chosen_wanted false one two h k = k
+
+pub unit_place-forward : {E : Type 0} (beginning : List (Item E) → List ReadLine → Place (FileUnit E))
+    → ((items : List (Item E)) → IsSteady (beginning items))
+    → ((items : List (Item E)) → beginning items [] ≡ Wanted) → IsReadForward (unit_place beginning)
+unit_place-forward beginning steady wants = record {
+  steady = λ items.
+      chosen_steady (not (header_has_ended items)) (λ lines. first_line lines (header_line (is_at_start items)))
+      (λ lines. cond (nat_lt 0 (records_left items))
+      (first_line lines (event_record (records_count_types items))) (beginning items lines))
+      (steady-first_line (header_line (is_at_start items)))
+      (chosen_steady (nat_lt 0 (records_left items))
+      (λ lines. first_line lines (event_record (records_count_types items))) (beginning items)
+      (steady-first_line (event_record (records_count_types items))) (steady items));
+  wants = λ items.
+      chosen_wanted (not (header_has_ended items)) Wanted
+      (cond (nat_lt 0 (records_left items)) Wanted (beginning items [])) refl
+      (chosen_wanted (nat_lt 0 (records_left items)) Wanted (beginning items []) refl (wants items));
+}
+
+pub rinex-forward : IsReadForward rinex_place
+rinex-forward = unit_place-forward _ (λ items. steady-epoch_place (types_in_force items)) (λ items. refl)

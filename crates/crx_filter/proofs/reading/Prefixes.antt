@@ -1,0 +1,117 @@
+-- What is written for some lines stands at the beginning of what is written for more lines.
+use Rattle.std.proofs.Common.{ℕ, ◌≡◌, ◌+◌, Bool, List, [], ◌∷◌, ◌++◌, length}
+use Rattle.std.proofs.Common.{Option, Some, None, refl, ap, sym, subst, ◌∙◌, append_assoc, append-nil}
+use Rattle.std.proofs.lemmas.Grind.{flat_map-append}
+use Rattle.crx_faults.specs.meaning.Seen.{ReadLine}
+use Rattle.crx_faults.specs.declared.fault.Fault.{Fault}
+use Rattle.crx_rinex.specs.meaning.Places.{Place}
+use Rattle.crx_rinex.specs.meaning.Units.{Unit as FileUnit}
+use Rattle.crx_reading.specs.meaning.Items.{Item, Accepted, Warned}
+use Rattle.crx_reading.specs.meaning.Reading.{Reading, Stop, AtFault, AtLines, Looking, is_skipped}
+use Rattle.crx_reading.specs.meaning.Reading.{reading_within, reading_from, fault_at_end}
+use Rattle.crx_reading.specs.meaning.Reading.{ended_reading, ended_with, whole_reading}
+use Rattle.crx_filter.specs.Laws.{continued_reading, IsReadForward}
+use Rattle.crx_faults.specs.meaning.Lines.{lines_text}
+use Rattle.crx_runs.specs.meaning.Results.{Begins}
+use Rattle.crx_reading.specs.meaning.Written.{written_lines}
+use Rattle.crx_reading.proofs.Choosing.{by_bool}
+use Rattle.crx_filter.proofs.reading.KeptThroughout.{IsKept, looked-kept, within-kept}
+use Rattle.crx_filter.proofs.reading.Resuming.{resumed}
+
+-- some items with others before them
+pub record AreMore {E : Type 0} (items all : List (Item E)) : Type 0 where
+  pub news : List (Item E)
+  pub same : all ≡ news ++ items
+
+pub no_more : {E : Type 0} (items : List (Item E)) → AreMore items items
+no_more items = record { news = []; same = refl }
+
+one_more : {E : Type 0} (item : Item E) (items all : List (Item E))
+    → AreMore items all → AreMore items (item ∷ all)
+one_more item items all h = record { news = item ∷ h.news; same = ap (λ l. item ∷ l) h.same }
+
+pub more_of_more : {E : Type 0} (items some_more all : List (Item E))
+    → AreMore items some_more → AreMore some_more all → AreMore items all
+more_of_more items some_more all h k = record {
+  news = k.news ++ h.news;
+  same = k.same ∙ ap (λ l. k.news ++ l) h.same ∙ sym (append_assoc k.news h.news items);
+}
+
+more-kept : {E : Type 0} (place : List (Item E) → List ReadLine → Place (FileUnit E)) (skip : Bool)
+    (items : List (Item E)) → IsKept place skip (λ all lines. AreMore items all)
+more-kept place skip items = record {
+  here = λ all lines unit count e h. one_more (Accepted unit) items all h;
+  warned = λ all lines at on h. one_more (Warned at) items all h;
+  passed = λ all lines n h. h;
+}
+
+within-items : {E : Type 0} (place : List (Item E) → List ReadLine
+    → Place (FileUnit E)) (skip : Bool) (units : ℕ) (items : List (Item E)) (number : ℕ) (lines : List ReadLine)
+    → AreMore items (reading_within place skip units items number lines).items
+within-items place skip units items number lines = (within-kept place skip (λ all ls. AreMore items all)
+    (more-kept place skip items) units items number lines (no_more items)).1
+
+pub continued_reading-items : {E : Type 0} (place : List (Item E)
+    → List ReadLine → Place (FileUnit E)) (skip : Bool) (items : List (Item E)) (stop : Stop) (more : List ReadLine)
+    → AreMore items (continued_reading place skip (record { items = items; stop = stop }) more).items
+continued_reading-items place skip items (AtFault at) more = no_more items
+continued_reading-items place skip items (AtLines number lines) more =
+    within-items place skip (length (lines ++ more) + 1) items number (lines ++ more)
+continued_reading-items place skip items (Looking number) more =
+    (looked-kept place skip (λ all ls. AreMore items all) (more-kept place skip items) items
+    (reading_from place skip items) number more (no_more items)
+    (λ m ls h. (ls, within-items place skip (length ls + 1) items m ls))).1
+
+ended_with-items : {E : Type 0} (skip : Bool) (items : List (Item E)) (number : ℕ) (fault : Option Fault)
+    → AreMore items (ended_with skip items number fault).items
+ended_with-items skip items number None = no_more items
+ended_with-items skip items number (Some fault) = by_bool (is_skipped skip items fault)
+    (λ on. rw on (one_more (Warned (record { line = number; fault = fault })) items items (no_more items)))
+    (λ off. rw off (no_more items))
+
+pub ended-items : {E : Type 0} (skip : Bool) (items : List (Item E)) (stop : Stop)
+    → AreMore items (ended_reading skip (record { items = items; stop = stop })).items
+ended-items skip items (AtFault at) = no_more items
+ended-items skip items (AtLines number lines) =
+    ended_with-items skip items (number + length lines) (fault_at_end items lines)
+ended-items skip items (Looking number) = no_more items
+
+-- ---- the text of more items
+
+pub written-more : {E : Type 0} (unit_lines : List (Item E) → FileUnit E → List (List ℕ)) (news items : List (Item E))
+    → (rest : List (List ℕ)) × (written_lines unit_lines (news ++ items) ≡ written_lines unit_lines items ++ rest)
+written-more unit_lines [] items = ([], sym (append-nil (written_lines unit_lines items)))
+written-more unit_lines (Accepted unit ∷ news) items =
+    let h = written-more unit_lines news items in (
+      h.0 ++ unit_lines (news ++ items) unit,
+      ap (λ l. l ++ unit_lines (news ++ items) unit) h.1
+          ∙ append_assoc (written_lines unit_lines items) h.0 (unit_lines (news ++ items) unit),
+    )
+written-more unit_lines (Warned at ∷ news) items = written-more unit_lines news items
+
+pub text-more : {E : Type 0} (unit_lines : List (Item E)
+    → FileUnit E → List (List ℕ)) (items all : List (Item E)) → AreMore items all
+    → Begins (lines_text (written_lines unit_lines all)) (lines_text (written_lines unit_lines items))
+text-more unit_lines items all h =
+    let m = written-more unit_lines h.news items in
+    record {
+      rest = lines_text m.0;
+      same = ap (λ l. lines_text (written_lines unit_lines l)) h.same ∙ ap lines_text m.1
+          ∙ flat_map-append (λ (line : List ℕ). line ++ 10 ∷ []) (written_lines unit_lines items) m.0;
+    }
+
+-- the items of the reading of some lines and more
+pub reading-items : {E : Type 0} (place : List (Item E) → List ReadLine → Place (FileUnit E))
+    → IsReadForward place → (skip : Bool) (number : ℕ) (lines more : List ReadLine)
+    → AreMore (reading_from place skip [] number lines).items (reading_from place skip [] number (lines ++ more)).items
+reading-items place h skip number lines more =
+    let r : Reading _ = reading_from place skip [] number lines in
+    subst (λ s. AreMore r.items (Reading.items s))
+    (sym (resumed place h skip [] number lines more)) (continued_reading-items place skip r.items r.stop more)
+
+pub whole-items : {E : Type 0} (place : List (Item E) → List ReadLine → Place (FileUnit E))
+    → IsReadForward place → (skip : Bool) (number : ℕ) (lines more : List ReadLine)
+    → AreMore (reading_from place skip [] number lines).items (whole_reading place skip number (lines ++ more)).items
+whole-items place h skip number lines more =
+    let all : Reading _ = reading_from place skip [] number (lines ++ more) in
+    more_of_more _ all.items _ (reading-items place h skip number lines more) (ended-items skip all.items all.stop)

@@ -1,0 +1,212 @@
+-- A reading goes on from where it stopped, once more lines have come.
+use Rattle.std.proofs.Common.{ℕ, zero, suc, ◌≡◌, ◌+◌, max, ◌<◌, ◌≤◌, Bool, true, false, List, [], ◌∷◌, ◌++◌}
+use Rattle.std.proofs.Common.{length, drop, refl, arith, length-append}
+use Rattle.std.proofs.lemmas.List.{drop-append-le, length-drop}
+use Rattle.crx_faults.specs.meaning.Seen.{ReadLine}
+use Rattle.crx_faults.specs.declared.fault.Fault.{Fault}
+use Rattle.crx_faults.specs.declared.fault.At.{At}
+use Rattle.crx_rinex.specs.meaning.Places.{Place, Here, Wrong, Wanted}
+use Rattle.crx_rinex.specs.Steady.{Remains, IsDecidedAfter}
+use Rattle.crx_rinex.specs.meaning.Units.{Unit as FileUnit}
+use Rattle.crx_reading.specs.meaning.Items.{Item, Accepted, Warned}
+use Rattle.crx_reading.specs.meaning.Reading.{Reading, AtFault, AtLines, is_skipped, can_go_on, looked_for, after_fault}
+use Rattle.crx_reading.specs.meaning.Reading.{reading_within, reading_from}
+use Rattle.crx_filter.specs.Laws.{continued_reading, IsReadForward, IsResumed}
+use Rattle.crx_reading.proofs.Choosing.{by_bool}
+
+-- ---- what stands at a place
+
+module _ {E : Type 0} (place : List (Item E) → List ReadLine → Place (FileUnit E)) (h : IsReadForward place)
+    (items : List (Item E)) (lines : List ReadLine) where
+  -- a thing has at least one line, and its lines are among those there
+  pub here-within : (unit : FileUnit E) (count : ℕ)
+      → place items lines ≡ Here unit count → (0 < count) × (count ≤ length lines)
+  here-within unit count e =
+      let decided : IsDecidedAfter 0 (place items lines) = rw (h.wants items) at (h.steady items [] lines) in
+      let some : IsDecidedAfter 0 (Here unit count) = rw e at decided in
+      let within : Remains (length lines) (Here unit count) (place items (lines ++ [])) =
+      rw e at (h.steady items lines []) in
+      (some, within.0)
+
+  pub wrong-within : (offset : ℕ) (fault : Fault)
+      → place items lines ≡ Wrong offset fault → offset < length lines
+  wrong-within offset fault e =
+      let within : Remains (length lines) (Wrong offset fault) (place items (lines ++ [])) =
+      rw e at (h.steady items lines []) in
+      within.0
+
+  -- it stays when more lines come
+  pub here-stays : (more : List ReadLine) (unit : FileUnit E) (count : ℕ)
+      → place items lines ≡ Here unit count → place items (lines ++ more) ≡ Here unit count
+  here-stays more unit count e =
+      let stays : Remains (length lines) (Here unit count) (place items (lines ++ more)) =
+      rw e at (h.steady items lines more) in
+      stays.1
+
+  pub wrong-stays : (more : List ReadLine) (offset : ℕ) (fault : Fault)
+      → place items lines ≡ Wrong offset fault → place items (lines ++ more) ≡ Wrong offset fault
+  wrong-stays more offset fault e =
+      let stays : Remains (length lines) (Wrong offset fault) (place items (lines ++ more)) =
+      rw e at (h.steady items lines more) in
+      stays.1
+
+-- ---- one unit of a reading
+
+module _ {E : Type 0} (place : List (Item E) → List ReadLine → Place (FileUnit E)) (skip : Bool) (units : ℕ)
+    (items : List (Item E)) (number : ℕ) (lines : List ReadLine) where
+  pub within-here : (unit : FileUnit E) (count : ℕ)
+      → place items lines ≡ Here unit count → reading_within place skip (suc units) items number lines
+      ≡ reading_within place skip units (Accepted unit ∷ items) (number + count) (drop count lines)
+  within-here unit count e = rw (e, reading_within) refl
+
+  pub within-wrong : (offset : ℕ) (fault : Fault)
+      → place items lines ≡ Wrong offset fault → reading_within place skip (suc units) items number lines
+      ≡ after_fault skip (reading_within place skip units) items number lines offset fault
+  within-wrong offset fault e = rw (e, reading_within) refl
+
+  pub within-wanted : place items lines ≡ Wanted → reading_within place skip (suc units) items number lines
+      ≡ record { items = items; stop = AtLines number lines }
+  within-wanted e = rw (e, reading_within) refl
+
+module _ {E : Type 0} (skip : Bool) (read : List (Item E) → ℕ → List ReadLine → Reading E)
+    (items : List (Item E)) (number : ℕ) (lines : List ReadLine) (offset : ℕ) (fault : Fault) where
+  -- a fault that is skipped, and one that isn't
+  pub fault-skipped : is_skipped skip items fault ≡ true
+      → after_fault skip read items number lines offset fault
+      ≡ looked_for (read (Warned (record { line = number + offset; fault = fault }) ∷ items))
+      (Warned (record { line = number + offset; fault = fault }) ∷ items)
+      (number + max offset 1) (drop (max offset 1) lines)
+  fault-skipped e = rw (e, after_fault) refl
+
+  pub fault-ends : is_skipped skip items fault ≡ false → after_fault skip read items number lines offset fault
+      ≡ record { items = items; stop = AtFault (record { line = number + offset; fault = fault }) }
+  fault-ends e = rw (e, after_fault) refl
+
+module _ {E : Type 0} (read : ℕ → List ReadLine → Reading E) (items : List (Item E))
+    (number : ℕ) (line : ReadLine) (lines : List ReadLine) where
+  -- where a line is looked for
+  pub looked-here : can_go_on line ≡ true
+      → looked_for read items number (line ∷ lines) ≡ read number (line ∷ lines)
+  looked-here e = rw (e, looked_for) refl
+
+  pub looked-on : can_go_on line ≡ false
+      → looked_for read items number (line ∷ lines) ≡ looked_for read items (number + 1) lines
+  looked-on e = rw (e, looked_for) refl
+
+pub by_place : {E X : Type 0} (p : Place (FileUnit E)) → ((unit : FileUnit E) (count : ℕ) → p ≡ Here unit count → X)
+    → ((offset : ℕ) (fault : Fault) → p ≡ Wrong offset fault → X) → (p ≡ Wanted → X) → X
+by_place (Here unit count) here wrong wanted = here unit count refl
+by_place (Wrong offset fault) here wrong wanted = wrong offset fault refl
+by_place Wanted here wrong wanted = wanted refl
+
+-- ---- the bound on units doesn't matter where it is high enough
+
+looked-same : {E : Type 0} (items : List (Item E)) (one two : ℕ
+    → List ReadLine → Reading E) (bound number : ℕ) (lines : List ReadLine)
+    → ((number : ℕ) (lines : List ReadLine) → length lines < bound → one number lines ≡ two number lines)
+    → length lines < bound → looked_for one items number lines ≡ looked_for two items number lines
+looked-same items one two bound number [] h short = refl
+looked-same items one two bound number (line ∷ lines) h short = by_bool (can_go_on line)
+    (λ on. rw (on, looked_for) (h number (line ∷ lines) short))
+    (λ off. rw (off, looked_for) (looked-same items one two bound (number + 1) lines h (omega arith)))
+
+pub enough-units : {E : Type 0} (place : List (Item E) → List ReadLine → Place (FileUnit E)) → IsReadForward place
+    → (skip : Bool) (one two : ℕ) (items : List (Item E)) (number : ℕ) (lines : List ReadLine)
+    → length lines < one → length lines < two
+    → reading_within place skip one items number lines ≡ reading_within place skip two items number lines
+enough-units place h skip zero two items number lines short_one short_two = absurd (omega arith)
+enough-units place h skip (suc one) zero items number lines short_one short_two = absurd (omega arith)
+enough-units place h skip (suc one) (suc two) items number lines short_one short_two = by_place (place items lines)
+    (λ unit count e.
+    let within = here-within place h items lines unit count e in
+    let some = within.0 in
+    let in_lines = within.1 in
+    let left = length-drop count lines in
+    let same = enough-units place h skip one two (Accepted unit ∷ items) (number + count) (drop count lines)
+    (omega (arith, some, in_lines, left)) (omega (arith, some, in_lines, left)) in
+    rw (e, reading_within) same)
+    (λ offset fault e. by_bool (is_skipped skip items fault)
+    (λ on.
+    let at : At = record { line = number + offset; fault = fault } in
+    let short = wrong-within place h items lines offset fault e in
+    let left = length-drop (max offset 1) lines in
+    let same = looked-same (Warned at ∷ items) (reading_within place skip one (Warned at ∷ items))
+    (reading_within place skip two (Warned at ∷ items)) (length lines)
+    (number + max offset 1) (drop (max offset 1) lines)
+    (λ m ls few. enough-units place h skip one two (Warned at ∷ items) m ls (omega arith) (omega arith))
+    (omega (arith, short, left)) in
+    rw (e, reading_within, on, after_fault) same)
+    (λ off. rw (e, reading_within, off, after_fault) refl))
+    (λ e. rw (e, reading_within) refl)
+
+-- ---- more lines
+
+looked-more : {E : Type 0} (place : List (Item E) → List ReadLine → Place (FileUnit E)) (skip : Bool)
+    (items : List (Item E)) (one two : ℕ → List ReadLine → Reading E) (bound number : ℕ) (lines more : List ReadLine)
+    → ((number : ℕ) (lines : List ReadLine)
+    → length lines < bound → two number (lines ++ more) ≡ continued_reading place skip (one number lines) more)
+    → ((number : ℕ) (lines : List ReadLine)
+    → length lines < suc (length more) → two number lines ≡ reading_from place skip items number lines)
+    → length lines < bound → looked_for two items number (lines ++ more)
+    ≡ continued_reading place skip (looked_for one items number lines) more
+looked-more place skip items one two bound number [] more h rest short =
+    looked-same items two (reading_from place skip items) (suc (length more)) number more rest (omega arith)
+looked-more place skip items one two bound number (line ∷ lines) more h rest short = by_bool (can_go_on line)
+    (λ on. rw (on, looked_for) (h number (line ∷ lines) short))
+    (λ off. rw (off, looked_for)
+    (looked-more place skip items one two bound (number + 1) lines more h rest (omega arith)))
+
+pub resumed-within : {E : Type 0} (place : List (Item E) → List ReadLine → Place (FileUnit E)) → IsReadForward place
+    → (skip : Bool) (one two : ℕ) (items : List (Item E)) (number : ℕ) (lines more : List ReadLine)
+    → length lines < one → length lines + length more < two
+    → reading_within place skip two items number (lines ++ more)
+    ≡ continued_reading place skip (reading_within place skip one items number lines) more
+resumed-within place h skip zero two items number lines more short_one short_two = absurd (omega arith)
+resumed-within place h skip (suc one) zero items number lines more short_one short_two = absurd (omega arith)
+resumed-within place h skip (suc one) (suc two) items number lines more short_one short_two =
+    by_place (place items lines)
+    (λ unit count e.
+    let within = here-within place h items lines unit count e in
+    let some = within.0 in
+    let in_lines = within.1 in
+    let left = length-drop count lines in
+    let rest = drop-append-le count lines more in_lines in
+    rw (
+      within-here place skip one items number lines unit count e,
+      within-here place skip two items number (lines ++ more) unit count
+          (here-stays place h items lines more unit count e),
+      rest,
+    )
+    (resumed-within place h skip one two (Accepted unit ∷ items) (number + count)
+    (drop count lines) more (omega (arith, some, in_lines, left)) (omega (arith, some, in_lines, left))))
+    (λ offset fault e.
+    rw (
+      within-wrong place skip one items number lines offset fault e,
+      within-wrong place skip two items number (lines ++ more) offset fault
+          (wrong-stays place h items lines more offset fault e),
+    )
+    (by_bool (is_skipped skip items fault)
+    (λ on.
+    let at : At = record { line = number + offset; fault = fault } in
+    let n : ℕ = max offset 1 in
+    let short = wrong-within place h items lines offset fault e in
+    let left = length-drop (max offset 1) lines in
+    let rest : drop n (lines ++ more) ≡ drop n lines ++ more = drop-append-le n lines more (omega (arith, short)) in
+    rw (on, after_fault, rest)
+    (looked-more place skip (Warned at ∷ items) (reading_within place skip one (Warned at ∷ items))
+    (reading_within place skip two (Warned at ∷ items)) (length lines) (number + n) (drop n lines) more
+    (λ m ls few. resumed-within place h skip one two (Warned at ∷ items) m ls more (omega arith) (omega arith))
+    (λ m ls few. enough-units place h skip two
+    (length ls + 1) (Warned at ∷ items) m ls (omega (arith, short, few, short_two)) (omega arith))
+    (omega (arith, short, left))))
+    (λ off. rw (off, after_fault) refl)))
+    (λ e. rw (within-wanted place skip one items number lines e)
+    (enough-units place h skip (suc two) (length (lines ++ more) + 1) items number
+    (lines ++ more) (omega (arith, short_two, length-append lines more)) (omega arith)))
+
+-- the reading of some lines and more goes on from the reading of the first
+pub resumed : {E : Type 0} (place : List (Item E) → List ReadLine → Place (FileUnit E))
+    → IsReadForward place → IsResumed place
+resumed place h skip items number lines more =
+    resumed-within place h skip (length lines + 1)
+    (length (lines ++ more) + 1) items number lines more (omega arith) (omega (arith, length-append lines more))

@@ -1,0 +1,145 @@
+-- The end of the input, as a check takes it; and which files it names as standard.
+use Rattle.std.proofs.Common.{ℕ, ◌≡◌, ◌+◌, false, List, [], ◌∷◌, ◌++◌, map, length, Option, Some, None, refl, ap, sym}
+use Rattle.std.proofs.Common.{◌∙◌, append-nil}
+use Rattle.std.proofs.lemmas.List.{length-map}
+use Rattle.std.proofs.lemmas.Option.{none-some}
+use Rattle.crx_faults.specs.meaning.Lines.{InputLine}
+use Rattle.crx_faults.specs.meaning.Seen.{ReadLine, seen}
+use Rattle.crx_faults.specs.declared.fault.Fault.{Fault}
+use Rattle.crx_header.specs.meaning.ObservationTypes.{Count}
+use Rattle.crx_rinex.specs.meaning.Observations.{Epoch}
+use Rattle.crx_rinex.specs.meaning.Units.{printed_unit, HeaderLine}
+use Rattle.crx_rinex.specs.meaning.EpochPlaces.{OpenEpoch}
+use Rattle.crx_reading.specs.meaning.Items.{Item, Accepted, Warned, is_at_start}
+use Rattle.crx_reading.specs.meaning.Reading.{Reading, WholeReading, Stop, AtFault, AtLines, fault_at_end}
+use Rattle.crx_reading.specs.meaning.Reading.{ended_with, ended_reading}
+use Rattle.crx_reading.specs.meaning.Compacted.{rinex_place, whole_rinex}
+use Rattle.crx_reading.specs.meaning.Directions.{rinex_reading}
+use Rattle.crx_reading.specs.LineByLine.{Phase, InEpoch}
+use Rattle.crx_reading.specs.LineByLine.{Seen, kept_in, seen_end}
+use Rattle.crx_filter.specs.Laws.{AreInPlace, failed_by}
+use Rattle.crx_reading.specs.meaning.Reading.{fault_of_stop}
+use Rattle.crx_reading.specs.meaning.Standard.{printed_items, whole_reading_of, first_header_line, version_in}
+use Rattle.crx_reading.specs.CheckByLine.{Totals, checking, totals_of, version_accepted, printed_open, printed_so_far}
+use Rattle.crx_reading.specs.CheckByLine.{no_choices, check_seen}
+use Rattle.crx_filter.specs.CheckingLaws.{IsCheckEnded}
+use Rattle.crx_filter.proofs.following.Following.{seen_in}
+use Rattle.crx_filter.proofs.following.Check.{check-end}
+use Rattle.crx_filter.proofs.following.CheckedOn.{same-seen, as-many}
+use Rattle.crx_filter.proofs.reading.InPlace.{items-in_place}
+use Rattle.crx_filter.proofs.reading.WhatWasRead.{items-read}
+use Rattle.crx_filter.proofs.wayback.Carried.{started}
+
+-- ---- at the end nothing is accepted and nothing dropped
+
+at-end : (items : List (Item Epoch)) (number : ℕ) (fault : Option Fault)
+    → WholeReading.items (ended_with false items number fault) ≡ items
+at-end items number None = refl
+at-end items number (Some fault) = refl
+
+same-items : (items : List (Item Epoch)) (stop : Stop)
+    → WholeReading.items (ended_reading false (record { items = items; stop = stop })) ≡ items
+same-items items (AtLines number lines) = at-end items (number + length lines) (fault_at_end items lines)
+same-items items stop = refl
+
+pub whole-items : (lines : List ReadLine)
+    → WholeReading.items (whole_rinex false lines) ≡ Reading.items (rinex_reading false lines)
+whole-items lines = let r : Reading Epoch = rinex_reading false lines in same-items r.items r.stop
+
+-- where the end is good, no fault ended the reading
+good-stop : (items : List (Item Epoch)) (stop : Stop) → WholeReading.fault
+    (ended_reading false (record { items = items; stop = stop })) ≡ None → fault_of_stop stop ≡ None
+good-stop items (AtFault at) e = e
+good-stop items stop e = refl
+
+pub good-so_far : (lines : List ReadLine)
+    → WholeReading.fault (whole_rinex false lines) ≡ None → fault_of_stop (rinex_reading false lines).stop ≡ None
+good-so_far lines e = let r : Reading Epoch = rinex_reading false lines in good-stop r.items r.stop e
+
+-- and no epoch is open
+none-open : (number : ℕ) (phase : Phase OpenEpoch) (types : List Count) (kept : Totals)
+    → failed_by (seen_end checking (seen_in no_choices number phase types kept)).answer ≡ None → printed_open phase ≡ []
+none-open number (InEpoch so_far) types kept e = absurd (none-some _ (sym e))
+none-open number phase types kept e = refl
+
+-- ---- the version
+
+-- the header's first line is the first of all lines
+record IsFirst (items : List (Item Epoch)) : Type 0 where
+  version : version_accepted items ≡ version_in (first_header_line (printed_items items))
+  some : is_at_start items ≡ false → (first : List ℕ) × (rest : List (List ℕ)) × (printed_items items ≡ first ∷ rest)
+
+first-kept : (items : List (Item Epoch)) (more : List (List ℕ)) → IsFirst items
+    → is_at_start items ≡ false → version_accepted items ≡ version_in (first_header_line (printed_items items ++ more))
+first-kept items more h e =
+    let some = h.some e in
+    h.version ∙ ap (λ ls. version_in (first_header_line ls)) (some.2)
+    ∙ ap (λ ls. version_in (first_header_line (ls ++ more))) (sym some.2)
+
+first-more : (items : List (Item Epoch)) (more : List (List ℕ)) → IsFirst items → is_at_start items ≡ false
+    → (first : List ℕ) × (rest : List (List ℕ)) × (printed_items items ++ more ≡ first ∷ rest)
+first-more items more h e = let some = h.some e in (some.0, some.1 ++ more, ap (λ ls. ls ++ more) some.2)
+
+is-first : (items : List (Item Epoch)) → AreInPlace items → IsFirst items
+is-first [] h = record { version = refl; some = λ e. absurd (cc) }
+is-first (Accepted (HeaderLine line) ∷ []) h = record { version = refl; some = λ e. (line, [], refl) }
+is-first (Accepted (HeaderLine line) ∷ item ∷ before) h =
+    let k : IsFirst (item ∷ before) = is-first (item ∷ before) h.1 in
+    record {
+      version = first-kept (item ∷ before) (line ∷ []) k refl;
+      some = λ e. first-more (item ∷ before) (line ∷ []) k refl;
+    }
+is-first (Accepted unit ∷ before) h =
+    let k : IsFirst before = is-first before h.1 in
+    record {
+      version = first-kept before (printed_unit unit) k (started before (h.0).0);
+      some = λ e. first-more before (printed_unit unit) k (started before (h.0).0);
+    }
+is-first (Warned at ∷ before) h =
+    let k : IsFirst before = is-first before h.1 in
+    record { version = k.version; some = λ e. k.some (started before (h.0).0) }
+
+pub version-same : (lines : List ReadLine) → version_accepted (rinex_reading false lines).items
+    ≡ version_in (first_header_line (printed_items (rinex_reading false lines).items))
+version-same lines =
+    let r : Reading Epoch = rinex_reading false lines in
+    (is-first r.items (items-in_place r.items (items-read rinex_place false 1 lines))).version
+
+-- ---- the end
+
+-- what is kept doesn't hang on the phase
+pub kept-always : (phase : Phase OpenEpoch) (kept : Totals) → kept_in checking phase kept ≡ kept
+kept-always (InEpoch so_far) kept = refl
+kept-always phase kept = refl
+
+pub check-ended : (lines : List InputLine) → IsCheckEnded lines
+check-ended lines =
+    let r : Reading Epoch = rinex_reading false (map seen lines) in
+    let items : WholeReading.items (whole_reading_of lines) ≡ r.items = whole-items (map seen lines) in
+    let failed : WholeReading.fault (whole_reading_of lines)
+    ≡ failed_by (seen_end checking (check_seen lines).reading).answer =
+    (check-end (map seen lines)).failed
+    ∙ ap (λ (s : Seen OpenEpoch Totals). failed_by (seen_end checking s).answer) (sym (same-seen lines)) in
+    record {
+      fault = failed;
+      found = λ good.
+          let s : Seen OpenEpoch Totals = (check_seen lines).reading in
+          let shut : printed_open s.phase ≡ [] = none-open s.number s.phase s.types s.kept (sym failed ∙ good) in
+          let printed : printed_so_far lines ≡ printed_items r.items = ap (λ ls. printed_items r.items ++ ls) shut
+          ∙ append-nil (printed_items r.items) in
+          let kept : s.kept ≡ totals_of r.items = kept-always s.phase (totals_of r.items) in
+          rw (items, kept, version-same (map seen lines), printed) refl;
+    }
+
+-- where the end is good, printing gives back as many lines as have come
+pub whole-many : (lines : List InputLine) → WholeReading.fault (whole_reading_of lines) ≡ None
+    → length (printed_items (whole_reading_of lines).items) ≡ length lines
+whole-many lines good =
+    let r : Reading Epoch = rinex_reading false (map seen lines) in
+    let s : Seen OpenEpoch Totals = (check_seen lines).reading in
+    let failed : failed_by (seen_end checking s).answer ≡ None = sym (check-ended lines).fault ∙ good in
+    let shut : printed_open s.phase ≡ [] = none-open s.number s.phase s.types s.kept failed in
+    let all : length (printed_items r.items ++ printed_open s.phase) ≡ length lines =
+    as-many (map seen lines) (good-so_far (map seen lines) good) ∙ length-map lines seen in
+    ap (λ (its : List (Item Epoch)). length (printed_items its)) (whole-items (map seen lines)) ∙ ap length
+    (sym (append-nil (printed_items r.items))) ∙ ap (λ ls. length (printed_items r.items ++ ls)) (sym shut) ∙ all

@@ -1,0 +1,183 @@
+-- The lines that printing gives back for some lines of a file, and for one line more.
+use Rattle.std.proofs.Common.{ℕ, zero, suc, ◌≡◌, ◌+◌, ◌-◌, Bool, true, false, cond, List, [], ◌∷◌}
+use Rattle.std.proofs.Common.{◌++◌, length, drop, Option, Some, None, Result, Ok, Err, refl, ap, sym}
+use Rattle.std.proofs.Common.{◌∙◌, append-nil}
+use Rattle.std.specs.Prelude.{⊤}
+use Rattle.std.proofs.lemmas.List.{map-append}
+use Rattle.std.proofs.lemmas.Option.{none-some}
+use Rattle.crx_faults.specs.meaning.Seen.{ReadLine, Content, Overlong}
+use Rattle.crx_faults.specs.declared.fault.Fault.{Fault}
+use Rattle.crx_header.specs.meaning.Header.{is_end_of_header}
+use Rattle.crx_rinex.specs.meaning.Observations.{Row, Epoch}
+use Rattle.crx_header.specs.meaning.ObservationTypes.{Count}
+use Rattle.crx_rinex.specs.meaning.Units.{HeaderLine, EventRecord}
+use Rattle.crx_rinex.specs.Printing.{last_line}
+use Rattle.crx_rinex.specs.meaning.Printing.{printed_row, printed_head, printed_epoch}
+use Rattle.crx_rinex.specs.meaning.EpochPlaces.{OpenEpoch, Beginning, EventBegins, EpochBegins, beginning_of, opened}
+use Rattle.crx_rinex.specs.meaning.EpochPlaces.{rows_wanted, epoch_of, with_next_row, next_row}
+use Rattle.crx_rinex.specs.EpochPlaces.{after_row, when_wanted}
+use Rattle.crx_reading.specs.meaning.Items.{Item, Accepted, header_has_ended, records_left, records_count_types}
+use Rattle.crx_reading.specs.meaning.Items.{records_announced, counts_types}
+use Rattle.crx_reading.specs.meaning.UnitPlaces.{unless_wrong, types_fault, header_line_fault}
+use Rattle.crx_reading.specs.meaning.Reading.{Reading, Stop, AtFault, AtLines, Looking, reading_within}
+use Rattle.crx_reading.specs.meaning.Compacted.{rinex_place}
+use Rattle.crx_reading.specs.meaning.Directions.{rinex_reading}
+use Rattle.crx_reading.specs.CompactionByLine.{made_of_epoch_step, made_of_beginning, rinex_open}
+use Rattle.crx_reading.specs.LineByLine.{Phase, InFirstLines, InHeader, BetweenUnits, InEvent, InEpoch, LookingOn}
+use Rattle.crx_reading.specs.LineByLine.{Closed, Ended, Made, Completes, Step, made_of_unit}
+use Rattle.crx_reading.specs.LineByLine.{made_in, with_records_left, step_of_made, phase_in_body, phase_after_items}
+use Rattle.crx_reading.specs.LineByLine.{phase_of}
+use Rattle.crx_filter.specs.Laws.{failed_by, is_again}
+use Rattle.crx_reading.specs.CheckByLine.{Totals, checking, printed_open, printed_made, no_choices}
+use Rattle.crx_reading.proofs.Choosing.{by_bool}
+use Rattle.crx_filter.proofs.following.Following.{seen_in}
+use Rattle.crx_filter.proofs.reading.Resuming.{by_place, within-here, within-wrong, within-wanted}
+
+-- ---- where nothing is skipped, no line is looked for
+
+abbrev IsFound : Stop → Type 0
+IsFound (AtFault at) = ⊤
+IsFound (AtLines number lines) = ⊤
+IsFound (Looking number) = ⊥
+
+within-found : (units : ℕ) (items : List (Item Epoch)) (number : ℕ) (lines : List ReadLine)
+    → IsFound (reading_within rinex_place false units items number lines).stop
+within-found zero items number lines = tt
+within-found (suc units) items number lines = by_place (rinex_place items lines)
+    (λ unit count e. rw (within-here rinex_place false units items number lines unit count e)
+    (within-found units (Accepted unit ∷ items) (number + count) (drop count lines)))
+    (λ offset fault e. rw (within-wrong rinex_place false units items number lines offset fault e) tt)
+    (λ e. rw (within-wanted rinex_place false units items number lines e) tt)
+
+-- the phases of a reading that skips nothing
+abbrev pub IsReached : Phase OpenEpoch → Type 0
+IsReached (InFirstLines count) = ⊥
+IsReached (InHeader is_first) = ⊤
+IsReached BetweenUnits = ⊤
+IsReached (InEvent left counted) = ⊤
+IsReached (InEpoch so_far) = ⊤
+IsReached LookingOn = ⊥
+IsReached Closed = ⊥
+IsReached (Ended at) = ⊤
+
+body-reached : (left : ℕ) (counted : Bool) (so_far : Option OpenEpoch) → IsReached (phase_in_body left counted so_far)
+body-reached zero counted None = tt
+body-reached zero counted (Some so_far) = tt
+body-reached (suc left) counted so_far = tt
+
+items-reached : (items : List (Item Epoch)) (so_far : Option OpenEpoch) → IsReached (phase_after_items items so_far)
+items-reached items so_far = by_bool (header_has_ended items)
+    (λ on. rw on (body-reached (records_left items) (records_count_types items) so_far))
+    (λ off. rw off tt)
+
+stop-reached : (items : List (Item Epoch)) (stop : Stop)
+    → IsFound stop → IsReached (phase_of rinex_open (record { items = items; stop = stop }))
+stop-reached items (AtFault at) h = tt
+stop-reached items (AtLines number lines) h = items-reached items (rinex_open items lines)
+stop-reached items (Looking number) h = absurd h
+
+pub phase-reached : (lines : List ReadLine) → IsReached (phase_of rinex_open (rinex_reading false lines))
+phase-reached lines = let r : Reading Epoch = rinex_reading false lines in
+    stop-reached r.items r.stop (within-found (length lines + 1) [] 1 lines)
+
+-- ---- the last line of what a line makes
+
+last-of : (lines : List (List ℕ)) (line : List ℕ) → last_line (lines ++ line ∷ []) ≡ line
+last-of [] line = refl
+last-of (first ∷ []) line = refl
+last-of (first ∷ second ∷ lines) line = last-of (second ∷ lines) line
+
+-- an epoch with one row more is printed with one line more
+row-printed : (so_far : OpenEpoch) (row : Row) → printed_epoch (epoch_of (with_next_row so_far row))
+    ≡ printed_epoch (epoch_of so_far) ++ last_line (printed_epoch (epoch_of (with_next_row so_far row))) ∷ []
+row-printed so_far row =
+    let more : printed_epoch (epoch_of (with_next_row so_far row))
+    ≡ printed_epoch (epoch_of so_far) ++ printed_row row ∷ [] =
+    ap (λ ls. printed_head so_far.head.head so_far.head.clock ∷ ls) (map-append printed_row so_far.rows (row ∷ [])) in
+    more ∙ ap (λ l. printed_epoch (epoch_of so_far) ++ l ∷ [])
+    (sym (ap last_line more ∙ last-of (printed_epoch (epoch_of so_far)) (printed_row row)))
+
+-- ---- one line more
+
+-- the step of a line makes the lines grow by one, unless it is a fault
+abbrev pub Grows : ℕ → Phase OpenEpoch → List Count → Totals → ReadLine → Made Epoch OpenEpoch → Type 0
+Grows number phase types kept line made =
+    let step : Step OpenEpoch Totals = step_of_made checking (seen_in no_choices number phase types kept) line made in
+    failed_by step.answer ≡ None → step.handed_out ++ printed_open step.next.phase
+    ≡ printed_open phase ++ last_line (printed_made made) ∷ []
+
+none-open : (left : ℕ) (counted : Bool) → printed_open (with_records_left left counted) ≡ []
+none-open zero counted = refl
+none-open (suc left) counted = refl
+
+header-grows : (number : ℕ) (is_first : Bool)
+    (types : List Count) (kept : Totals) (content : List ℕ) (fault : Option Fault)
+    → Grows number (InHeader is_first) types kept
+    (Content content) (made_of_unit (unless_wrong (HeaderLine content) fault))
+header-grows number is_first types kept content None f =
+    elim (is_end_of_header content) as (λ b. content ∷ printed_open (cond b BetweenUnits (InHeader false))
+    ≡ content ∷ []) [ true ↦ refl | false ↦ refl ]
+header-grows number is_first types kept content (Some fault) f = absurd (none-some _ (sym f))
+
+record-grows : (number left : ℕ)
+    (counted : Bool) (types : List Count) (kept : Totals) (content : List ℕ) (fault : Option Fault)
+    → Grows number (InEvent left counted) types kept
+    (Content content) (made_of_unit (unless_wrong (EventRecord content) fault))
+record-grows number left counted types kept content None f = ap (λ ls. content ∷ ls) (none-open (left - 1) counted)
+record-grows number left counted types kept content (Some fault) f = absurd (none-some _ (sym f))
+
+opened-grows : (number : ℕ) (types : List Count) (kept : Totals) (content : List ℕ) (head : _) (wanted : ℕ)
+    → Grows number BetweenUnits types kept
+    (Content content) (made_of_epoch_step (when_wanted wanted (opened types head)))
+opened-grows number types kept content head zero f = refl
+opened-grows number types kept content head (suc wanted) f = refl
+
+beginning-grows : (number : ℕ) (types : List Count) (kept : Totals) (content : List ℕ) (b : Result Beginning Fault)
+    → Grows number BetweenUnits types kept (Content content) (made_of_beginning types b)
+beginning-grows number types kept content (Err fault) f = absurd (none-some _ (sym f))
+beginning-grows number types kept content (Ok (EventBegins line)) f =
+    ap (λ ls. line ∷ ls) (none-open (records_announced line) (counts_types line))
+beginning-grows number types kept content (Ok (EpochBegins head)) f =
+    opened-grows number types kept content head (rows_wanted (opened types head)) f
+
+wanted-grows : (number : ℕ) (types : List Count)
+    (kept : Totals) (content : List ℕ) (so_far : OpenEpoch) (row : Row) (wanted : ℕ)
+    → Grows number (InEpoch so_far) types kept
+    (Content content) (made_of_epoch_step (when_wanted wanted (with_next_row so_far row)))
+wanted-grows number types kept content so_far row zero f =
+    append-nil (printed_epoch (epoch_of (with_next_row so_far row))) ∙ row-printed so_far row
+wanted-grows number types kept content so_far row (suc wanted) f = row-printed so_far row
+
+row-grows : (number : ℕ) (types : List Count)
+    (kept : Totals) (content : List ℕ) (so_far : OpenEpoch) (row : Result Row Fault)
+    → Grows number (InEpoch so_far) types kept (Content content) (made_of_epoch_step (after_row so_far row))
+row-grows number types kept content so_far (Err fault) f = absurd (none-some _ (sym f))
+row-grows number types kept content so_far (Ok row) f =
+    wanted-grows number types kept content so_far row (rows_wanted (with_next_row so_far row)) f
+
+pub line-grows : (number : ℕ) (phase : Phase OpenEpoch) (types : List Count) (kept : Totals) (line : ReadLine)
+    → IsReached phase → Grows number phase types kept line (made_in checking phase types kept line)
+line-grows number (InFirstLines count) types kept line h f = absurd h
+line-grows number (InHeader is_first) types kept Overlong h f = absurd (none-some _ (sym f))
+line-grows number (InHeader is_first) types kept (Content content) h f =
+    header-grows number is_first types kept content (header_line_fault is_first content) f
+line-grows number BetweenUnits types kept Overlong h f = absurd (none-some _ (sym f))
+line-grows number BetweenUnits types kept (Content content) h f =
+    beginning-grows number types kept content (beginning_of content) f
+line-grows number (InEvent left counted) types kept Overlong h f = absurd (none-some _ (sym f))
+line-grows number (InEvent left counted) types kept (Content content) h f =
+    record-grows number left counted types kept content (cond counted (types_fault content) None) f
+line-grows number (InEpoch so_far) types kept Overlong h f = absurd (none-some _ (sym f))
+line-grows number (InEpoch so_far) types kept (Content content) h f =
+    row-grows number types kept content so_far (next_row so_far content) f
+line-grows number LookingOn types kept line h f = absurd h
+line-grows number Closed types kept line h f = absurd h
+line-grows number (Ended at) types kept line h f = absurd (none-some at (sym f))
+
+-- ---- no line comes again
+
+pub never-again : (number : ℕ)
+    (phase : Phase OpenEpoch) (types : List Count) (kept : Totals) (line : ReadLine) (made : Made Epoch OpenEpoch)
+    → is_again (step_of_made checking (seen_in no_choices number phase types kept) line made).answer ≡ false
+never-again number phase types kept line (Completes unit) = refl
+never-again number phase types kept line made = refl

@@ -1,0 +1,72 @@
+-- A checker takes the end of the input.
+use Rattle.std.proofs.Common.{ℕ, ◌≡◌, true, false, List, Option, Some, None, Result, Ok, Err, refl, ap, sym, ◌∙◌}
+use Rattle.crx_faults.specs.meaning.Lines.{InputLine}
+use Rattle.crx_faults.specs.declared.fault.At.{At}
+use Rattle.crx_rinex.specs.meaning.EpochPlaces.{OpenEpoch}
+use Rattle.crx_header.specs.meaning.ObservationTypes.{Count}
+use Rattle.crx_reading.specs.CompactionByLine.{Written, compaction}
+use Rattle.crx_filter.specs.EngineSteps.{SettlesEnd, answer_of_step}
+use Rattle.crx_filter.specs.Laws.{failed_by}
+use Rattle.crx_reading.specs.LineByLine.{Phase, InFirstLines}
+use Rattle.crx_reading.specs.LineByLine.{Step as SeenStep, seen_end}
+use Rattle.crx_reading.specs.RinexReaders.{reader_phase}
+use Rattle.crx_reading.specs.RinexStages.{open_epoch, is_rinex_stage}
+use Rattle.crx_reading.specs.meaning.Standard.{whole_reading_of, findings_of}
+use Rattle.crx_reading.specs.CheckByLine.{Totals, checking, CheckSeen, no_choices, check_seen, found_by}
+use Rattle.crx_filter.specs.CheckerState.{checker_state_with}
+use Rattle.crx_reading.specs.Totals.{found_held}
+use Rattle.crx_runs.specs.declared.engine.Step.{Step}
+use Rattle.crx_runs.specs.declared.engine.Step.TheVariants.{Quiet}
+use Rattle.crx_reading.specs.declared.report.Totals.{Totals as Held}
+use Rattle.crx_reading.specs.declared.rinex_reader.RinexReader.{RinexReader}
+use Rattle.crx_filter.specs.declared.settled.Settled.{Settled}
+use Rattle.crx_filter.proofs.standard.CheckEnded.{check-ended}
+use Rattle.crx_filter.proofs.following.Following.{seen_in}
+use Rattle.crx_filter.proofs.steps.EngineLemmas.{held-open}
+
+-- the end is the same whatever is kept of the epochs
+end-same : (number : ℕ) (phase : Phase OpenEpoch) (types : List Count) (totals : Totals) (kept : Written)
+    → (seen_end checking (seen_in no_choices number phase types totals)).answer
+    ≡ (seen_end compaction (seen_in no_choices number phase types kept)).answer
+end-same number (InFirstLines count) types totals kept = refl
+end-same number phase types totals kept = refl
+
+ok-none : (step : Step) → failed_by (answer_of_step (Ok step)) ≡ None
+ok-none Quiet = refl
+ok-none step = refl
+
+-- the fault of the whole reading is the one that is answered
+pub end-fault : (reader : RinexReader)
+    (number : ℕ) (totals : Held) (named : Option ℕ) (lines : List InputLine) (settled : Settled)
+    → SettlesEnd compaction reader.stage number false settled → is_rinex_stage reader.stage reader.epoch ≡ true
+    → checker_state_with reader number totals named ≡ check_seen lines
+    → (whole_reading_of lines).fault ≡ failed_by (answer_of_step settled.answer)
+end-fault reader number totals named lines settled settles consistent same =
+    let kept : Written = record { index = 0; tail = None } in
+    let now : CheckSeen = checker_state_with reader number totals named in
+    let step = settles (seen_in no_choices number (reader_phase reader) reader.types kept)
+    (open_epoch reader.types reader.epoch) None
+    (record {
+      is_phase = refl;
+      is_open = held-open reader.types reader.stage reader.epoch consistent;
+      is_count = refl;
+      is_skip = refl;
+    }) in
+    (check-ended lines).fault
+    ∙ ap (λ (b : CheckSeen). failed_by (seen_end checking b.reading).answer) (sym same)
+    ∙ ap failed_by (end-same number (reader_phase reader) reader.types now.reading.kept kept)
+    ∙ ap (λ (s : SeenStep OpenEpoch Written). failed_by s.answer) (sym step)
+
+pub good-end : (lines : List InputLine) (answer : Result Step At) (step : Step) → (whole_reading_of lines).fault
+    ≡ failed_by (answer_of_step answer) → answer ≡ Ok step → (whole_reading_of lines).fault ≡ None
+good-end lines answer step e is = e ∙ ap (λ a. failed_by (answer_of_step a)) is ∙ ok-none step
+
+pub bad-end : (lines : List InputLine) (answer : Result Step At) (at : At) → (whole_reading_of lines).fault
+    ≡ failed_by (answer_of_step answer) → answer ≡ Err at → (whole_reading_of lines).fault ≡ Some at
+bad-end lines answer at e is = e ∙ ap (λ a. failed_by (answer_of_step a)) is
+
+-- what is held then is what there is to find
+pub found-there : (reader : RinexReader) (number : ℕ) (totals : Held) (named : Option ℕ) (lines : List InputLine)
+    → checker_state_with reader number totals named ≡ check_seen lines → (whole_reading_of lines).fault ≡ None
+    → found_held totals reader.types named ≡ findings_of lines
+found-there reader number totals named lines same good = ap found_by same ∙ (check-ended lines).found good

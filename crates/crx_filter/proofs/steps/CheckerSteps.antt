@@ -1,0 +1,260 @@
+-- A checker takes a line, by what its reader makes of it.
+use Rattle.std.proofs.Common.{map}
+use Rattle.std.proofs.Common.{ℕ, zero, suc, ◌≡◌, ◌⊎◌, inl, inr, ◌+◌, ◌-◌, Bool, true, false, cond, List, []}
+use Rattle.std.proofs.Common.{◌∷◌, ◌++◌, Option, Some, None, refl, ap, sym, subst, ◌∙◌}
+use Rattle.crx_faults.specs.meaning.Lines.{InputLine, is_long}
+use Rattle.crx_faults.specs.meaning.Seen.{ReadLine, Content, Overlong, seen}
+use Rattle.crx_faults.specs.declared.fault.Fault.{Fault}
+use Rattle.crx_faults.specs.declared.fault.Fault.TheVariants.{LineTooLong}
+use Rattle.crx_rinex.specs.meaning.EpochPlaces.{OpenEpoch}
+use Rattle.crx_header.specs.meaning.Header.{is_end_of_header}
+use Rattle.crx_rinex.specs.meaning.Observations.{Epoch as ObservationEpoch}
+use Rattle.crx_header.specs.meaning.ObservationTypes.{Count}
+use Rattle.crx_rinex.specs.Printing.{last_line}
+use Rattle.crx_rinex.specs.meaning.Units.{Unit, HeaderLine, EventLine, EventRecord, Observation}
+use Rattle.crx_reading.specs.CompactionByLine.{compaction, is_before_header}
+use Rattle.crx_runs.specs.meaning.Filters.{with_next}
+use Rattle.crx_runs.specs.Engines.{RunsOutAt}
+use Rattle.crx_reading.specs.meaning.Items.{records_announced, counts_types}
+use Rattle.crx_filter.specs.Laws.{failed_by}
+use Rattle.crx_reading.specs.LineByLine.{Phase, InFirstLines, InHeader, BetweenUnits, InEvent, LookingOn}
+use Rattle.crx_reading.specs.LineByLine.{Closed, Ended, Seen, Step, Made, Moves, Fails, made_in}
+use Rattle.crx_reading.specs.LineByLine.{with_records_left, phase_after, types_after, step_of_made}
+use Rattle.crx_reading.specs.Memory.{takes_memory}
+use Rattle.crx_reading.specs.RinexReaders.{reader_phase, made_at, Completed, TakesRinexLine, RefusesRinexLine}
+use Rattle.crx_reading.specs.meaning.Standard.{is_standard_line}
+use Rattle.crx_reading.specs.CheckByLine.{Totals, checking, totals_with, totals_made, printed_open, printed_made}
+use Rattle.crx_reading.specs.CheckByLine.{earliest, CheckSeen, no_choices, check_seen, check_step, check_next}
+use Rattle.crx_reading.specs.meaning.Directions.{check_filter, fault_so_far}
+use Rattle.crx_reading.specs.Totals.{totals_held, HasPrinted}
+use Rattle.crx_filter.specs.CheckerState.{checker_state_with, is_reading}
+use Rattle.crx_reading.specs.declared.report.Totals.{Totals as Held}
+use Rattle.crx_reading.specs.declared.rinex_reader.RinexReader.{RinexReader}
+use Rattle.crx_reading.specs.declared.rinex_reader.RinexStep.{RinexStep}
+use Rattle.crx_reading.specs.declared.rinex_reader.RinexStep.TheVariants.{Nothing, Header, Event, Record, Epoch}
+use Rattle.crx_filter.proofs.steps.EngineAnswers.{seen-short, seen-long}
+use Rattle.crx_filter.proofs.following.Following.{seen_in}
+use Rattle.crx_filter.proofs.following.MemoryOfRinex.{check-allowed}
+use Rattle.std.proofs.lemmas.List.{length-map}
+use Rattle.crx_reading.specs.CompactionByLine.{rinex_open}
+use Rattle.crx_reading.specs.CheckByLine.{totals_of}
+use Rattle.crx_reading.specs.LineByLine.{seen_of}
+use Rattle.crx_reading.specs.meaning.Directions.{rinex_reading}
+use Rattle.crx_filter.proofs.standard.CheckLines.{IsReached, Grows, line-grows}
+use Rattle.crx_filter.proofs.following.CheckedOn.{checked-on}
+use Rattle.crx_filter.proofs.standard.CheckEnded.{kept-always}
+use Rattle.crx_reading.proofs.Checkers.{not-none}
+use Rattle.crx_reading.proofs.Choosing.{false-true}
+
+-- a check keeps nothing of the epochs: what a line makes does not hang on it
+
+made-same : (phase : Phase OpenEpoch) (types : List Count) (kept : Totals) (line : ReadLine)
+    → made_in checking phase types kept line ≡ made_in compaction phase types (record { index = 0; tail = None }) line
+made-same (InFirstLines count) types kept line = refl
+made-same phase types kept line = refl
+
+-- ---- the step of a line
+
+abbrev StepsTo : ℕ → Totals → ReadLine → RinexReader → RinexReader → Made ObservationEpoch OpenEpoch → Type 0
+StepsTo number totals line before after made =
+    let step : Step OpenEpoch Totals =
+    step_of_made checking (seen_in no_choices number (reader_phase before) before.types totals) line made in
+    (failed_by step.answer ≡ None) × (step.next ≡ seen_in no_choices (number + 1)
+    (reader_phase after) after.types (totals_made totals (is_before_header (reader_phase before)) made))
+
+completed-steps : (number : ℕ) (totals : Totals) (line : ReadLine)
+    (before after : RinexReader) (made : Made ObservationEpoch OpenEpoch) (unit : Unit ObservationEpoch)
+    → Completed made unit before after → StepsTo number totals line before after made
+completed-steps number totals line before after made unit h =
+    subst (StepsTo number totals line before after) (sym h.unit_made) (
+      refl,
+      ap (λ p. seen_in no_choices (number + 1) p (types_after (reader_phase before) before.types unit)
+          (totals_with totals (is_before_header (reader_phase before)) unit)) (sym h.phase_then)
+          ∙ ap (λ t. seen_in no_choices (number + 1) (reader_phase after) t
+          (totals_with totals (is_before_header (reader_phase before)) unit)) (sym h.types_then),
+    )
+
+steps-to : (number : ℕ) (totals : Totals) (line : ReadLine)
+    (content : List ℕ) (before after : RinexReader) (made : Made ObservationEpoch OpenEpoch) (step : RinexStep)
+    → TakesRinexLine made before content step after → StepsTo number totals line before after made
+steps-to number totals line content before after made Nothing h =
+    subst (StepsTo number totals line before after) (sym h.0) (
+      refl,
+      ap (λ k. seen_in no_choices (number + 1) (reader_phase after) before.types k)
+          (kept-always (reader_phase after) totals)
+          ∙ ap (λ t. seen_in no_choices (number + 1) (reader_phase after) t totals) (sym h.1),
+    )
+steps-to number totals line content before after made (Header is_first) h =
+    completed-steps number totals line before after made (HeaderLine content) h.0
+steps-to number totals line content before after made Event h =
+    completed-steps number totals line before after made (EventLine content) h
+steps-to number totals line content before after made Record h =
+    completed-steps number totals line before after made (EventRecord content) h
+steps-to number totals line content before after made Epoch h =
+    completed-steps number totals line before after made (Observation h.epoch) h.is
+
+-- ---- lines can come on
+
+reached : (phase : Phase OpenEpoch) → is_reading phase ≡ true → IsReached phase
+reached (InFirstLines count) e = false-true e
+reached LookingOn e = false-true e
+reached Closed e = false-true e
+reached (Ended at) e = false-true e
+reached phase e = tt
+
+grows-printed : (number : ℕ) (phase : Phase OpenEpoch) (types : List Count) (kept : Totals) (line : ReadLine)
+    (made : Made ObservationEpoch OpenEpoch) → Grows number phase types kept line made → HasPrinted made
+grows-printed number phase types kept line (Moves next) h = (printed_open phase, last_line (printed_open next), h refl)
+grows-printed number phase types kept line made h = tt
+
+pub has-printed : (before : RinexReader) (content : List ℕ)
+    → is_reading (reader_phase before) ≡ true → HasPrinted (made_at before content (record { index = 0; tail = None }))
+has-printed before content reading =
+    let none : Totals = record { version = []; epochs = 0; events = 0; observations = 0 } in
+    subst HasPrinted (made-same (reader_phase before) before.types none (Content content))
+    (grows-printed 0 (reader_phase before) before.types none
+    (Content content) (made_in checking (reader_phase before) before.types none (Content content)) (line-grows 0
+    (reader_phase before) before.types none (Content content) (reached (reader_phase before) reading)))
+
+left-reading : (left : ℕ) (counted : Bool) → is_reading (with_records_left left counted) ≡ true
+left-reading zero counted = refl
+left-reading (suc left) counted = refl
+
+unit-reading : (phase : Phase OpenEpoch) (unit : Unit ObservationEpoch)
+    → is_reading phase ≡ true → is_reading (phase_after phase unit) ≡ true
+unit-reading phase (HeaderLine line) e = elim (is_end_of_header
+    line) as (λ b. is_reading (cond b BetweenUnits (InHeader false)) ≡ true) [ true ↦ refl | false ↦ refl ]
+unit-reading phase (EventLine line) e = left-reading (records_announced line) (counts_types line)
+unit-reading (InEvent left counted) (EventRecord line) e = left-reading (left - 1) counted
+unit-reading phase unit e = refl
+
+open-reading : (next : Phase OpenEpoch) (lines : List (List ℕ)) (line : List ℕ)
+    → printed_open next ≡ lines ++ line ∷ [] → is_reading next ≡ true
+open-reading (InFirstLines count) lines line e = not-none lines line e
+open-reading LookingOn lines line e = not-none lines line e
+open-reading Closed lines line e = not-none lines line e
+open-reading (Ended at) lines line e = not-none lines line e
+open-reading next lines line e = refl
+
+completed-reading : (before after : RinexReader) (made : Made ObservationEpoch OpenEpoch) (unit : Unit ObservationEpoch)
+    → Completed made unit before after
+    → is_reading (reader_phase before) ≡ true → is_reading (reader_phase after) ≡ true
+completed-reading before after made unit h e = ap is_reading h.phase_then ∙ unit-reading (reader_phase before) unit e
+
+pub still-reading : (before after : RinexReader)
+    (content : List ℕ) (made : Made ObservationEpoch OpenEpoch) (step : RinexStep)
+    → TakesRinexLine made before content step after
+    → HasPrinted made → is_reading (reader_phase before) ≡ true → is_reading (reader_phase after) ≡ true
+still-reading before after content made Nothing h some e =
+    let printed : HasPrinted (Moves (reader_phase after)) = subst HasPrinted h.0 some in
+    open-reading (reader_phase after) printed.0 printed.1 printed.2
+still-reading before after content made (Header is_first) h some e =
+    completed-reading before after made (HeaderLine content) h.0 e
+still-reading before after content made Event h some e = completed-reading before after made (EventLine content) h e
+still-reading before after content made Record h some e = completed-reading before after made (EventRecord content) h e
+still-reading before after content made Epoch h some e =
+    completed-reading before after made (Observation h.epoch) h.is e
+
+-- ---- what is seen then
+
+pub took-line : (before after : RinexReader) (number : ℕ)
+    (totals then : Held) (named named_then : Option ℕ) (line : InputLine) (step : RinexStep) (lines : List InputLine)
+    → is_long line ≡ false → TakesRinexLine
+    (made_at before line.content (record { index = 0; tail = None })) before line.content step after
+    → totals_held then ≡ totals_made (totals_held totals)
+    (is_before_header (reader_phase before)) (made_at before line.content (record { index = 0; tail = None }))
+    → named_then ≡ earliest named (is_standard_line line
+    (last_line (printed_made (made_at before line.content (record { index = 0; tail = None }))))) (number + 1)
+    → checker_state_with before number totals named ≡ check_seen lines
+    → (fault_so_far (with_next lines line) ≡ None)
+    × (checker_state_with after (number + 1) then named_then ≡ check_seen (with_next lines line))
+took-line before after number totals then named named_then line step lines short takes totals_then named_is same =
+    let made : Made ObservationEpoch OpenEpoch = made_at before line.content (record { index = 0; tail = None }) in
+    let now : CheckSeen = checker_state_with before number totals named in
+    let held : Totals = totals_held totals in
+    let is : made_in checking (reader_phase before) before.types held (seen line) ≡ made =
+    ap (λ l. made_in checking (reader_phase before) before.types held l) (seen-short line short)
+    ∙ made-same (reader_phase before) before.types held (Content line.content) in
+    let steps : StepsTo number held (seen line) before after made =
+    steps-to number held (seen line) line.content before after made step takes in
+    let good : failed_by (check_step now line).answer ≡ None =
+    ap (λ m. failed_by (step_of_made checking now.reading (seen line) m).answer) is ∙ steps.0 in
+    let on = checked-on lines line in
+    let none : fault_so_far (with_next lines line) ≡ None = on.fault
+    ∙ ap (λ (b : CheckSeen). failed_by (check_step b line).answer) (sym same) ∙ good in
+    let reading : (check_step now line).next
+    ≡ seen_in no_choices (number + 1) (reader_phase after) after.types (totals_held then) =
+    ap (λ m. (step_of_made checking now.reading (seen line) m).next) is
+    ∙ steps.1 ∙ ap (λ t. seen_in no_choices (number + 1) (reader_phase after) after.types t) (sym totals_then) in
+    let named_same : earliest named (is_standard_line line (last_line (printed_made
+    (made_in checking (reader_phase before) before.types held (seen line))))) (number + 1) ≡ named_then =
+    ap (λ m. earliest named (is_standard_line line (last_line (printed_made m))) (number + 1)) is ∙ sym named_is in
+    let next : check_next now line ≡ checker_state_with after (number + 1) then named_then =
+    ap (λ (s : Seen OpenEpoch Totals). record {
+      reading = s;
+      not_standard = earliest named (is_standard_line line (last_line
+          (printed_made (made_in checking (reader_phase before) before.types held (seen line))))) (number + 1);
+    }) reading
+    ∙ ap (λ n. record {
+      reading = seen_in no_choices (number + 1) (reader_phase after) after.types (totals_held then);
+      not_standard = n;
+    }) named_same in
+    (none, sym next ∙ ap (λ (b : CheckSeen). check_next b line) same ∙ sym (on.next none))
+
+-- ---- faults
+
+failed-line : (before : RinexReader)
+    (number : ℕ) (totals : Held) (named : Option ℕ) (line : InputLine) (lines : List InputLine) (fault : Fault)
+    → made_in checking (reader_phase before) before.types (totals_held totals) (seen line) ≡ Fails fault
+    → checker_state_with before number totals named ≡ check_seen lines
+    → fault_so_far (with_next lines line) ≡ Some (record { line = number + 1; fault = fault })
+failed-line before number totals named line lines fault is same =
+    let now : CheckSeen = checker_state_with before number totals named in
+    (checked-on lines line).fault ∙ ap (λ (b : CheckSeen). failed_by (check_step b line).answer) (sym same)
+    ∙ ap (λ m. failed_by (step_of_made checking now.reading (seen line) m).answer) is
+
+-- memory may run out at a line of an input as it may by what is seen
+check-allowed-of : (lines : List InputLine) (line : InputLine)
+    → takes_memory checking (check_seen lines).reading (seen line) ≡ true
+    → check_filter.memory_after lines line ≡ Some []
+check-allowed-of lines line e =
+    check-allowed (map seen lines) (seen line)
+    (ap (λ n. takes_memory checking (seen_of checking rinex_open totals_of no_choices n
+    (rinex_reading false (map seen lines))) (seen line)) (length-map lines seen) ∙ e)
+
+pub refused-line : (before : RinexReader)
+    (number : ℕ) (totals : Held) (named : Option ℕ) (line : InputLine) (lines : List InputLine) (fault : Fault)
+    → is_long line ≡ false → RefusesRinexLine (made_at before line.content (record { index = 0; tail = None }))
+    before line.content fault → checker_state_with before number totals named ≡ check_seen lines
+    → RunsOutAt check_filter lines line [] (record { line = number + 1; fault = fault })
+    ⊎ (fault_so_far (with_next lines line) ≡ Some (record { line = number + 1; fault = fault }))
+refused-line before number totals named line lines fault short (inl fails) same =
+    inr (failed-line before number totals named line lines fault
+    (ap (λ l. made_in checking (reader_phase before) before.types (totals_held totals) l) (seen-short line short)
+    ∙ made-same (reader_phase before) before.types (totals_held totals) (Content line.content) ∙ fails) same)
+refused-line before number totals named line lines fault short (inr memory) same =
+    inl (record {
+      fault = memory.0;
+      place = ap (λ n. n + 1) (ap (λ (b : CheckSeen). b.reading.number) same);
+      allowed = check-allowed-of lines line
+          (ap (λ l. takes_memory checking (check_seen lines).reading l) (seen-short line short)
+          ∙ ap (λ (b : CheckSeen). takes_memory checking b.reading (Content line.content)) (sym same) ∙ memory.1);
+    })
+
+always-too_long : (phase : Phase OpenEpoch) (types : List Count) (kept : Totals)
+    → is_reading phase ≡ true → made_in checking phase types kept Overlong ≡ Fails LineTooLong
+always-too_long (InFirstLines count) types kept e = false-true e
+always-too_long LookingOn types kept e = false-true e
+always-too_long Closed types kept e = false-true e
+always-too_long (Ended at) types kept e = false-true e
+always-too_long phase types kept e = refl
+
+pub long-line : (before : RinexReader)
+    (number : ℕ) (totals : Held) (named : Option ℕ) (line : InputLine) (lines : List InputLine)
+    → is_long line ≡ true → is_reading (reader_phase before) ≡ true
+    → checker_state_with before number totals named ≡ check_seen lines
+    → fault_so_far (with_next lines line) ≡ Some (record { line = number + 1; fault = LineTooLong })
+long-line before number totals named line lines long reading same =
+    failed-line before number totals named line lines LineTooLong
+    (ap (λ l. made_in checking (reader_phase before) before.types (totals_held totals) l) (seen-long line long)
+    ∙ always-too_long (reader_phase before) before.types (totals_held totals) reading) same

@@ -1,0 +1,176 @@
+-- What was accepted of a RINEX file, written again and read again: the units without the warnings between them, with
+-- the same header, events and types in force.
+use Rattle.std.proofs.Common.{ℕ, zero, suc, ◌≡◌, ◌+◌, ◌-◌, ◌<◌, Bool, true, false, cond, List, [], ◌∷◌, ◌++◌, map}
+use Rattle.std.proofs.Common.{length, drop, None, refl, ap, sym, ◌∙◌, arith, length-append}
+use Rattle.std.specs.Prelude.{◌||◌}
+use Rattle.std.proofs.lemmas.List.{map-append, length-map, drop_all}
+use Rattle.crx_faults.specs.meaning.Seen.{ReadLine, Content}
+use Rattle.crx_rinex.specs.meaning.Observations.{Epoch}
+use Rattle.crx_rinex.specs.meaning.Places.{Place, Here, first_line}
+use Rattle.crx_rinex.specs.meaning.Units.{Unit as FileUnit, HeaderLine, EventLine, EventRecord, Observation}
+use Rattle.crx_header.specs.meaning.Header.{is_end_of_header}
+use Rattle.crx_header.specs.meaning.ObservationTypes.{types_of}
+use Rattle.crx_reading.specs.meaning.Items.{Item, Accepted, Warned, is_at_start, header_has_ended, records_left}
+use Rattle.crx_reading.specs.meaning.Items.{records_count_types, declaring_lines, types_in_force}
+use Rattle.crx_reading.specs.meaning.UnitPlaces.{types_fault, header_line_fault, event_record, unit_place}
+use Rattle.crx_reading.specs.meaning.Reading.{Reading, AtLines, reading_within, reading_from, ended_with}
+use Rattle.crx_reading.specs.meaning.Reading.{ended_reading, whole_reading}
+use Rattle.crx_filter.specs.Laws.{continued_reading, IsReadForward, AreInPlace}
+use Rattle.crx_reading.specs.meaning.Written.{written_lines}
+use Rattle.crx_filter.proofs.reading.Resuming.{within-here, within-wanted, enough-units, resumed}
+use Rattle.crx_filter.proofs.following.Lines.{record-place}
+use Rattle.crx_filter.proofs.reading.Ending.{closes-well}
+
+-- a unit with what is known of its epoch where it is read again
+abbrev pub carried_unit : {E : Type 0}
+    → (List (Item Epoch) → Epoch → E) → List (Item Epoch) → FileUnit Epoch → FileUnit E
+carried_unit known before (HeaderLine line) = HeaderLine line
+carried_unit known before (EventLine line) = EventLine line
+carried_unit known before (EventRecord line) = EventRecord line
+carried_unit known before (Observation epoch) = Observation (known before epoch)
+
+-- the accepted units of some items
+abbrev pub carried : {E : Type 0} → (List (Item Epoch) → Epoch → E) → List (Item Epoch) → List (Item E)
+carried known [] = []
+carried known (Accepted unit ∷ before) = Accepted (carried_unit known before unit) ∷ carried known before
+carried known (Warned at ∷ before) = carried known before
+
+-- ---- the same state
+
+pub header-same : {E : Type 0} (known : List (Item Epoch) → Epoch → E) (items : List (Item Epoch))
+    → header_has_ended (carried known items) ≡ header_has_ended items
+header-same known [] = refl
+header-same known (Accepted (HeaderLine line) ∷ before) =
+    ap (λ b. is_end_of_header line || b) (header-same known before)
+header-same known (Accepted unit ∷ before) = header-same known before
+header-same known (Warned at ∷ before) = header-same known before
+
+pub started : {E : Type 0} (items : List (Item E)) → header_has_ended items ≡ true → is_at_start items ≡ false
+started [] e = absurd (cc)
+started (item ∷ before) e = refl
+
+pub start-same : {E : Type 0} (known : List (Item Epoch) → Epoch → E) (items : List (Item Epoch))
+    → AreInPlace items → is_at_start (carried known items) ≡ is_at_start items
+start-same known [] h = refl
+start-same known (Accepted unit ∷ before) h = refl
+start-same known (Warned at ∷ before) h = started (carried known before) (header-same known before ∙ (h.0).0)
+
+pub left-same : {E : Type 0} (known : List (Item Epoch) → Epoch → E) (items : List (Item Epoch))
+    → AreInPlace items → records_left (carried known items) ≡ records_left items
+left-same known (Accepted (EventRecord line) ∷ before) h = ap (λ n. n - 1) (left-same known before h.1)
+left-same known (Warned at ∷ before) h = left-same known before h.1 ∙ (h.0).1
+left-same known items h = refl
+
+pub count-same : {E : Type 0} (known : List (Item Epoch) → Epoch → E) (items : List (Item Epoch))
+    → AreInPlace items → 0 < records_left items → records_count_types (carried known items) ≡ records_count_types items
+count-same known (Accepted (EventRecord line) ∷ before) h some = count-same known before h.1 (h.0).1
+count-same known (Warned at ∷ before) h some = absurd (omega (arith, some))
+count-same known items h some = refl
+
+declares-same : {E : Type 0} (known : List (Item Epoch) → Epoch → E) (items : List (Item Epoch))
+    → AreInPlace items → declaring_lines (carried known items) ≡ declaring_lines items
+declares-same known [] h = refl
+declares-same known (Accepted (HeaderLine line) ∷ before) h =
+    ap (λ ls. ls ++ line ∷ []) (declares-same known before h.1)
+declares-same known (Accepted (EventRecord line) ∷ before) h =
+    ap (λ b. cond b (declaring_lines (carried known before) ++ line ∷ []) (declaring_lines (carried known before)))
+    (count-same known before h.1 (h.0).1)
+    ∙ ap (λ ls. cond (records_count_types before) (ls ++ line ∷ []) ls) (declares-same known before h.1)
+declares-same known (Accepted unit ∷ before) h = declares-same known before h.1
+declares-same known (Warned at ∷ before) h = declares-same known before h.1
+
+pub types-same : {E : Type 0} (known : List (Item Epoch) → Epoch → E) (items : List (Item Epoch))
+    → AreInPlace items → types_in_force (carried known items) ≡ types_in_force items
+types-same known items h = ap types_of (declares-same known items h)
+
+-- ---- header lines and records at their places
+
+pub header-here : {E : Type 0} (beginning : List (Item E)
+    → List ReadLine → Place (FileUnit E)) (items : List (Item E)) (line : List ℕ)
+    → header_has_ended items ≡ false → header_line_fault (is_at_start items) line ≡ None
+    → unit_place beginning items (Content line ∷ []) ≡ Here (HeaderLine line) 1
+header-here beginning items line e f = rw (e, f) refl
+
+record-read : {E : Type 0} (b : Bool) (line : List ℕ) → cond b (types_fault line) None ≡ None
+    → first_line (Content line ∷ []) (event_record {E = E} b) ≡ Here (EventRecord line) 1
+record-read b line e = rw e refl
+
+pub record-here : {E : Type 0} (beginning : List (Item E)
+    → List ReadLine → Place (FileUnit E)) (items : List (Item E)) (line : List ℕ) (left : ℕ)
+    → header_has_ended items ≡ true → records_left items ≡ left → 0 < left → cond (records_count_types items)
+    (types_fault line) None ≡ None → unit_place beginning items (Content line ∷ []) ≡ Here (EventRecord line) 1
+record-here beginning items line zero ended_reading e some good = absurd (omega (arith, some))
+record-here beginning items line (suc left) ended_reading e some good = record-place beginning items left
+    (Content line ∷ []) ended_reading e ∙ record-read (records_count_types items) line good
+
+-- ---- one unit after another
+
+-- one unit more, which takes all lines there
+pub one-unit : {E : Type 0} (place : List (Item E) → List ReadLine → Place (FileUnit E)) → IsReadForward place
+    → (skip : Bool) (items : List (Item E)) (number : ℕ) (lines : List ReadLine) (unit : FileUnit E)
+    → place items lines ≡ Here unit (length lines)
+    → reading_from place skip items number lines
+    ≡ record { items = Accepted unit ∷ items; stop = AtLines (number + length lines) [] }
+one-unit place h skip items number lines unit e =
+    let none : drop (length lines) lines ≡ [] = drop_all (length lines) lines (omega arith) in
+    enough-units place h skip (length lines + 1)
+    (suc (suc (length lines))) items number lines (omega arith) (omega arith)
+    ∙ within-here place skip (suc (length lines)) items number lines unit (length lines) e
+    ∙ ap (λ ls. reading_within place skip (suc (length lines)) (Accepted unit ∷ items) (number + length lines) ls) none
+    ∙ within-wanted place skip (length lines)
+    (Accepted unit ∷ items) (number + length lines) [] (h.wants (Accepted unit ∷ items))
+
+pub at-line : {E : Type 0} (items : List (Item E)) (m n : ℕ) → m ≡ n → ◌≡◌ {A = Reading E}
+    (record { items = items; stop = AtLines m [] }) (record { items = items; stop = AtLines n [] })
+at-line items m n e = ap (λ k. record { items = items; stop = AtLines k [] }) e
+
+-- each unit that is in place stands at its lines, after those before it
+abbrev pub StandsAgain : {E : Type 0} → (List (Item E) → List ReadLine → Place (FileUnit E))
+    → (List (Item Epoch) → Epoch → E) → (List (Item Epoch) → FileUnit Epoch → List (List ℕ)) → Type 0
+StandsAgain place known lines_of_unit = (before : List (Item Epoch)) (unit : FileUnit Epoch)
+    → AreInPlace (Accepted unit ∷ before)
+    → place (carried known before) (map Content (lines_of_unit before unit))
+    ≡ Here (carried_unit known before unit) (length (lines_of_unit before unit))
+
+pub reads-again : {E : Type 0} (place : List (Item E) → List ReadLine → Place (FileUnit E)) (known : List (Item Epoch)
+    → Epoch → E) (lines_of_unit : List (Item Epoch) → FileUnit Epoch → List (List ℕ))
+    → IsReadForward place → StandsAgain place known lines_of_unit
+    → (skip : Bool) (number : ℕ) (items : List (Item Epoch)) → AreInPlace items
+    → reading_from place skip [] number (map Content (written_lines lines_of_unit items)) ≡ record {
+      items = carried
+          known items;
+      stop = AtLines (number + length (written_lines lines_of_unit items)) [];
+    }
+reads-again place known lines_of_unit forward stands skip number [] h =
+    within-wanted place skip 0 [] number [] (forward.wants []) ∙ at-line [] number (number + 0) (omega arith)
+reads-again place known lines_of_unit forward stands skip number (Warned at ∷ before) h =
+    reads-again place known lines_of_unit forward stands skip number before h.1
+reads-again place known lines_of_unit forward stands skip number (Accepted unit ∷ before) h =
+    let first : List (List ℕ) = written_lines lines_of_unit before in
+    let more : List (List ℕ) = lines_of_unit before unit in
+    let same : length (map Content more) ≡ length more = length-map more Content in
+    let all : length (first ++ more) ≡ length first + length more = length-append first more in
+    let here : place (carried known before) (map Content more)
+    ≡ Here (carried_unit known before unit) (length (map Content more)) =
+    stands before unit h ∙ ap (λ n. Here (carried_unit known before unit) n) (sym same) in
+    ap (λ ls. reading_from place skip [] number ls) (map-append Content first more)
+    ∙ resumed place forward skip [] number (map Content first) (map Content more)
+    ∙ ap (λ r. continued_reading place skip r (map Content more))
+    (reads-again place known lines_of_unit forward stands skip number before h.1)
+    ∙ one-unit place forward skip (carried known before)
+    (number + length first) (map Content more) (carried_unit known before unit) here
+    ∙ at-line (Accepted (carried_unit known before unit) ∷ carried known before)
+    (number + length first + length (map Content more)) (number + length (first ++ more)) (omega (arith, same, all))
+
+-- ---- the end
+
+pub whole-again : {E : Type 0} (place : List (Item E) → List ReadLine → Place (FileUnit E)) (known : List (Item Epoch)
+    → Epoch → E) (lines_of_unit : List (Item Epoch) → FileUnit Epoch → List (List ℕ))
+    → IsReadForward place → StandsAgain place known lines_of_unit → (skip : Bool) (number : ℕ)
+    (items : List (Item Epoch)) → AreInPlace items → header_has_ended items ≡ true → records_left items ≡ 0
+    → whole_reading place skip number (map Content (written_lines lines_of_unit items))
+    ≡ record { items = carried known items; fault = None }
+whole-again place known lines_of_unit forward stands skip number items h header none =
+    ap (ended_reading skip) (reads-again place known lines_of_unit forward stands skip number items h)
+    ∙ ap (ended_with skip (carried known items) (number + length (written_lines lines_of_unit items) + 0))
+    (closes-well (carried known items) (header-same known items ∙ header) (left-same known items h ∙ none))

@@ -1,0 +1,98 @@
+-- What was accepted of compact text: each epoch is whole, by the types in force where it was read.
+use Rattle.std.proofs.Common.{ℕ, ◌≡◌, cond, List, [], ◌∷◌, None, refl}
+use Rattle.std.proofs.Common.{subst}
+use Rattle.std.specs.Prelude.{⊤}
+use Rattle.std.specs.List.{AllByRecursion}
+use Rattle.crx_faults.specs.meaning.Seen.{ReadLine}
+use Rattle.crx_header.specs.meaning.ObservationTypes.{Count}
+use Rattle.crx_rinex.specs.meaning.Places.{Place, Here, Wrong, Wanted}
+use Rattle.crx_rinex.specs.meaning.Units.{Unit as FileUnit, HeaderLine, EventLine, EventRecord, Observation}
+use Rattle.crx_history.specs.meaning.Expansion.{RawEpoch}
+use Rattle.crx_history.specs.meaning.CompactPlaces.{ReadEpoch, epoch_at}
+use Rattle.crx_compact.specs.ReadingLaws.{HasPrintableMarks, IsGood}
+use Rattle.crx_compact.proofs.soundness.Goodness.{reads-whole}
+use Rattle.crx_reading.specs.meaning.Items.{Item, Accepted, Warned, is_at_start}
+use Rattle.crx_reading.specs.meaning.Items.{records_count_types, types_in_force}
+use Rattle.crx_reading.specs.meaning.UnitPlaces.{types_fault, header_line_fault, header_line}
+use Rattle.crx_reading.specs.meaning.UnitPlaces.{event_record}
+use Rattle.crx_reading.specs.meaning.Expanded.{raws_kept, empties_state, as_observation}
+use Rattle.crx_reading.specs.meaning.Expanded.{compact_epoch_place}
+use Rattle.crx_reading.specs.meaning.Expanded.{compact_place}
+use Rattle.crx_filter.specs.Laws.{ItemsAreRead}
+use Rattle.crx_filter.proofs.reading.Types.{counts-in_force}
+use Rattle.crx_filter.proofs.reading.WhatStands.{OfHere, chosen, first-line, unless-wrong}
+use Rattle.crx_filter.proofs.reading.WhatStands.{of-unit, of-compact}
+
+-- an epoch stood at some lines
+abbrev StoodThere : List Count → List RawEpoch → FileUnit ReadEpoch → Type 0
+StoodThere types raws (HeaderLine line) = ⊤
+StoodThere types raws (EventLine line) = ⊤
+StoodThere types raws (EventRecord line) = ⊤
+StoodThere types raws (Observation read) = (lines : List ReadLine)
+    × (count : ℕ) × (epoch_at types raws lines ≡ Here read count)
+
+epoch-stood : (types : List Count) (raws : List RawEpoch) (lines : List ReadLine) (p : Place ReadEpoch)
+    → epoch_at types raws lines ≡ p → OfHere (StoodThere types raws) (as_observation p)
+epoch-stood types raws lines (Here read count) e = (lines, count, e)
+epoch-stood types raws lines (Wrong offset fault) e = tt
+epoch-stood types raws lines Wanted e = tt
+
+begun-stood : (types : List Count) (raws : List RawEpoch) (lines : List ReadLine)
+    → OfHere (StoodThere types raws) (compact_epoch_place types raws lines)
+begun-stood types raws lines =
+    of-compact (OfHere (StoodThere types raws)) types raws lines tt tt (λ line rest e. tt)
+    (epoch-stood types raws lines (epoch_at types raws lines) refl)
+
+unit-stood : (items : List (Item ReadEpoch)) (lines : List ReadLine)
+    → OfHere (StoodThere (types_in_force items) (raws_kept items)) (compact_place items lines)
+unit-stood items lines =
+    let P : FileUnit ReadEpoch → Type 0 = StoodThere (types_in_force items) (raws_kept items) in
+    of-unit (OfHere P) (λ (before : List (Item ReadEpoch)).
+    compact_epoch_place (types_in_force before) (raws_kept before)) items lines
+    (first-line P (header_line (is_at_start items)) lines
+    (λ line. unless-wrong P (HeaderLine line) (header_line_fault (is_at_start items) line) (λ good. tt)))
+    (first-line P (event_record (records_count_types items)) lines
+    (λ line. unless-wrong P (EventRecord line)
+    (cond (records_count_types items) (types_fault line) None) (λ good. tt)))
+    (begun-stood (types_in_force items) (raws_kept items) lines)
+
+-- an epoch that was accepted stood at some lines
+pub epoch-read : (before : List (Item ReadEpoch)) (read : ReadEpoch) (lines : List ReadLine) (count : ℕ)
+    → compact_place before lines ≡ Here (Observation read) count
+    → (ls : List ReadLine) × (n : ℕ) × (epoch_at (types_in_force before) (raws_kept before) ls ≡ Here read n)
+epoch-read before read lines count e =
+    subst (OfHere (StoodThere (types_in_force before) (raws_kept before))) e (unit-stood before lines)
+
+-- ---- all that were accepted
+
+-- each epoch is good by the types in force where it was read
+abbrev pub AreGoodEpochs : List (Item ReadEpoch) → Type 0
+AreGoodEpochs [] = ⊤
+AreGoodEpochs (Accepted (HeaderLine line) ∷ before) = AreGoodEpochs before
+AreGoodEpochs (Accepted (EventLine line) ∷ before) = AreGoodEpochs before
+AreGoodEpochs (Accepted (EventRecord line) ∷ before) = AreGoodEpochs before
+AreGoodEpochs (Accepted (Observation read) ∷ before) = IsGood (types_in_force before) read × AreGoodEpochs before
+AreGoodEpochs (Warned at ∷ before) = AreGoodEpochs before
+
+pub marks-printable : (items : List (Item ReadEpoch))
+    → AreGoodEpochs items → AllByRecursion HasPrintableMarks (raws_kept items)
+marks-printable [] h = tt
+marks-printable (Accepted (HeaderLine line) ∷ before) h = tt
+marks-printable (Accepted (EventLine line) ∷ before) h = marks-printable before h
+marks-printable (Accepted (EventRecord line) ∷ before) h =
+    chosen (λ raws. AllByRecursion HasPrintableMarks raws)
+    (empties_state (records_count_types before) line) [] (raws_kept before) tt (marks-printable before h)
+marks-printable (Accepted (Observation read) ∷ before) h = ((h.0).marks, marks-printable before h.1)
+marks-printable (Warned at ∷ before) h = tt
+
+pub epochs-good : (items : List (Item ReadEpoch)) → ItemsAreRead compact_place items → AreGoodEpochs items
+epochs-good [] h = tt
+epochs-good (Accepted (Observation read) ∷ before) h =
+    let rest : AreGoodEpochs before = epochs-good before h.1 in
+    let stood = epoch-read before read (h.0).0 (h.0).1 (h.0).2 in (
+      reads-whole (types_in_force before)
+          (raws_kept before) stood.0 read stood.1 (counts-in_force before) (marks-printable before rest) stood.2,
+      rest,
+    )
+epochs-good (Accepted unit ∷ before) h = epochs-good before h.1
+epochs-good (Warned at ∷ before) h = epochs-good before h.1

@@ -1,0 +1,107 @@
+-- The two lines that compact text begins with are read, and can be cut off again.
+use Rattle.std.proofs.Common.{ℕ, zero, suc, ◌≡◌, ◌≢◌, ◌+◌, true, false, List, [], ◌∷◌, ◌++◌, take, drop, replicate}
+use Rattle.std.proofs.Common.{length, refl, ap, arith, subst, length-append, Ok}
+use Rattle.std.specs.Prelude.{nat_le}
+use Rattle.std.specs.List.{list_all}
+use Rattle.std.specs.Str.{bytes_eq}
+use Rattle.std.proofs.Math.Seq.{drop-append_seam}
+use Rattle.std.proofs.lemmas.List.{length-take-le}
+use Rattle.std.proofs.lemmas.List.Elements.{All-cons, All-nil}
+use Rattle.std.proofs.lemmas.Bool.{ne_eqb, and_parts, and_from}
+use Rattle.crx_lines.specs.Reading.{HasNoFeed}
+use Rattle.crx_faults.specs.meaning.Lines.{ends_with_return}
+use Rattle.crx_columns.specs.meaning.Columns.{without_end_blanks}
+use Rattle.crx_faults.specs.meaning.Seen.{ReadLine, Content}
+use Rattle.crx_columns.specs.meaning.Texts.{is_printable}
+use Rattle.crx_faults.specs.declared.limits.TheConstants.{DATE_LIMIT}
+use Rattle.crx_rinex.specs.meaning.Places.{Here}
+use Rattle.crx_header.specs.meaning.Label.{label_of}
+use Rattle.crx_reading.specs.declared.crinex.TheConstants.{CRINEX_PROGRAM, CRINEX_PROGRAM_LABEL}
+use Rattle.crx_options.specs.meaning.Choices.{is_date}
+use Rattle.crx_reading.specs.meaning.Compacted.{left_justified, version_line, program_line}
+use Rattle.crx_reading.specs.meaning.Expanded.{crinex_program, first_lines}
+use Rattle.crx_filter.proofs.wayback.Cut.{IsClean}
+use Rattle.crx_lines.proofs.PieceLemmas.{NoFeed}
+
+-- ---- the date's columns
+
+date-width : (date : List ℕ) → length (left_justified 20 date) ≡ 20
+date-width date =
+    let all : length (date ++ replicate 20 32) ≡ length date + 20 = length-append date (replicate 20 32) in
+    length-take-le 20 (date ++ replicate 20 32) (omega (arith, all))
+
+drop-exact : (n : ℕ) (xs ys : List ℕ) → length xs ≡ n → drop n (xs ++ ys) ≡ ys
+drop-exact n xs ys e = subst (λ k. drop k (xs ++ ys) ≡ ys) e (drop-append_seam xs ys)
+
+program-label : (date : List ℕ) → label_of (program_line date) ≡ CRINEX_PROGRAM_LABEL
+program-label date = ap (λ (t : List ℕ). without_end_blanks (take 20 (t ++ replicate 20 32)))
+    (drop-exact 20 (left_justified 20 date) CRINEX_PROGRAM_LABEL (date-width date))
+
+program-read : (date : List ℕ) → crinex_program (program_line date) ≡ Ok (program_line date)
+program-read date =
+    let label : bytes_eq (label_of (program_line date)) CRINEX_PROGRAM_LABEL ≡ true =
+    ap (λ t. bytes_eq t CRINEX_PROGRAM_LABEL) (program-label date) in
+    rw label refl
+
+pub first-lines_read : (date : List ℕ) (rest : List ReadLine) → first_lines
+    (Content version_line ∷ Content (program_line date) ∷ rest) ≡ Here (version_line ∷ program_line date ∷ []) 2
+first-lines_read date rest = rw (program-read date) refl
+
+-- ---- each is cut off again
+
+-- a printable character is none that isn't
+pub printable-other : (c d : ℕ) → is_printable d ≡ false → is_printable c ≡ true → c ≢ d
+printable-other c d isn_t is_so is = let same : is_printable c ≡ is_printable d = ap is_printable is in absurd (cc)
+
+pub printable-no_feed : (line : List ℕ) → list_all is_printable line ≡ true → HasNoFeed line
+printable-no_feed [] h = All-nil NoFeed
+printable-no_feed (c ∷ cs) h =
+    let both = and_parts (is_printable c) _ h in
+    All-cons NoFeed c cs (printable-other c 10 refl both.0) (printable-no_feed cs both.1)
+
+pub printable-no_return : (line : List ℕ) → list_all is_printable line ≡ true → ends_with_return line ≡ false
+printable-no_return [] h = refl
+printable-no_return (c ∷ []) h = ne_eqb c 13 (printable-other c 13 refl (and_parts (is_printable c) true h).0)
+printable-no_return (c ∷ d ∷ ds) h =
+    printable-no_return (d ∷ ds) (and_parts (is_printable c) (list_all is_printable (d ∷ ds)) h).1
+
+pub append-printable : (a b : List ℕ)
+    → list_all is_printable a ≡ true → list_all is_printable b ≡ true → list_all is_printable (a ++ b) ≡ true
+append-printable [] b h k = k
+append-printable (c ∷ cs) b h k =
+    let both = and_parts (is_printable c) _ h in
+    and_from (is_printable c) (list_all is_printable (cs ++ b)) both.0 (append-printable cs b both.1 k)
+
+pub take-printable : (n : ℕ) (a : List ℕ) → list_all is_printable a ≡ true → list_all is_printable (take n a) ≡ true
+take-printable zero a h = refl
+take-printable (suc n) [] h = refl
+take-printable (suc n) (c ∷ cs) h =
+    let both = and_parts (is_printable c) _ h in
+    and_from (is_printable c) (list_all is_printable (take n cs)) both.0 (take-printable n cs both.1)
+
+pub program-printable : (date : List ℕ) → is_date date ≡ true → list_all is_printable (program_line date) ≡ true
+program-printable date h =
+    let good : list_all is_printable date ≡ true =
+    (and_parts (nat_le (length date) DATE_LIMIT) (list_all is_printable date) h).1 in
+    let columns : list_all is_printable (left_justified 20 date) ≡ true =
+    take-printable 20 (date ++ replicate 20 32) (append-printable date (replicate 20 32) good refl) in
+    let after : list_all is_printable (left_justified 20 date ++ CRINEX_PROGRAM_LABEL) ≡ true =
+    append-printable (left_justified 20 date) CRINEX_PROGRAM_LABEL columns refl in
+    append-printable CRINEX_PROGRAM (left_justified 20 date ++ CRINEX_PROGRAM_LABEL) refl after
+
+pub program-clean : (date : List ℕ) → is_date date ≡ true → IsClean (program_line date)
+program-clean date h =
+    let all : list_all is_printable (program_line date) ≡ true = program-printable date h in
+    let width : length (left_justified 20 date) ≡ 20 = date-width date in
+    let two : length (left_justified 20 date ++ CRINEX_PROGRAM_LABEL) ≡ length (left_justified 20 date) + 18 =
+    length-append (left_justified 20 date) CRINEX_PROGRAM_LABEL in
+    let three : length (program_line date) ≡ 40 + length (left_justified 20 date ++ CRINEX_PROGRAM_LABEL) =
+    length-append CRINEX_PROGRAM (left_justified 20 date ++ CRINEX_PROGRAM_LABEL) in
+    record {
+      one_line = printable-no_feed (program_line date) all;
+      no_return = printable-no_return (program_line date) all;
+      short = omega (arith, width, two, three);
+    }
+
+pub version-clean : IsClean version_line
+version-clean = record { one_line = printable-no_feed version_line refl; no_return = refl; short = omega arith }

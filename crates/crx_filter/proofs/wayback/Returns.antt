@@ -1,0 +1,163 @@
+-- The bytes 13 of a file on the way to compact text and back: they never become more, and fewer where a copied line
+-- ends in CR. So a file that comes back has no such line.
+use Rattle.std.proofs.Common.{ℕ, zero, suc, ◌≡◌, ◌+◌, ◌<◌, ◌≤◌, true, cond, List, [], ◌∷◌, ◌++◌, map}
+use Rattle.std.proofs.Common.{take, drop, refl, arith, append_assoc}
+use Rattle.std.specs.Prelude.{◌==◌}
+use Rattle.std.specs.List.{AllByRecursion, list_all}
+use Rattle.std.proofs.lemmas.Bool.{ne_eqb, and_parts}
+use Rattle.crx_faults.specs.meaning.Lines.{Piece, InputLine, pieces_of, onto_first, ends_with_return, without_return}
+use Rattle.crx_faults.specs.meaning.Lines.{line_of, lines_of, is_long}
+use Rattle.crx_lines.specs.Reading.{HasNoFeed}
+use Rattle.crx_faults.specs.meaning.Seen.{ReadLine, Content, Overlong, seen}
+use Rattle.crx_columns.specs.meaning.Texts.{is_printable}
+use Rattle.crx_lines.proofs.PieceLemmas.{pieces-first}
+use Rattle.crx_faults.specs.meaning.Lines.{lines_text}
+use Rattle.crx_reading.proofs.Choosing.{by_bool}
+use Rattle.crx_filter.proofs.wayback.First.{printable-other}
+
+-- ---- of a text
+
+abbrev pub returns : List ℕ → ℕ
+returns [] = 0
+returns (b ∷ bs) = cond (b == 13) 1 0 + returns bs
+
+returns-append : (xs ys : List ℕ) → returns (xs ++ ys) ≡ returns xs + returns ys
+returns-append [] ys = omega arith
+returns-append (x ∷ xs) ys = let rest : returns (xs ++ ys) ≡ returns xs + returns ys = returns-append xs ys in
+    omega (arith, rest)
+
+-- one CR at the end is taken off
+pub returns-kept : (text : List ℕ) → returns (without_return text) ≤ returns text
+returns-kept [] = omega arith
+returns-kept (b ∷ []) = by_bool (b == 13) (λ on. rw on (omega arith)) (λ off. rw off (rw off (omega arith)))
+returns-kept (b ∷ c ∷ bs) = let rest : returns (without_return (c ∷ bs)) ≤ returns (c ∷ bs) = returns-kept (c ∷ bs) in
+    omega (arith, rest)
+
+pub returns-fewer : (text : List ℕ) → ends_with_return text ≡ true → returns (without_return text) < returns text
+returns-fewer [] e = absurd (cc)
+returns-fewer (b ∷ []) e = rw e (omega arith)
+returns-fewer (b ∷ c ∷ bs) e = let rest : returns (without_return (c ∷ bs)) < returns (c ∷ bs) =
+    returns-fewer (c ∷ bs) e in omega (arith, rest)
+
+pub printable-none : (text : List ℕ) → list_all is_printable text ≡ true → returns text ≡ 0
+printable-none [] h = refl
+printable-none (c ∷ cs) h =
+    let both = and_parts (is_printable c) _ h in
+    let other = ne_eqb c 13 (printable-other c 13 refl both.0) in
+    rw (other, printable-none cs both.1) refl
+
+-- ---- of lines that are written
+
+abbrev pub returns_in : List (List ℕ) → ℕ
+returns_in [] = 0
+returns_in (line ∷ lines) = returns line + returns_in lines
+
+pub in-append : (xs ys : List (List ℕ)) → returns_in (xs ++ ys) ≡ returns_in xs + returns_in ys
+in-append [] ys = omega arith
+in-append (x ∷ xs) ys = let rest : returns_in (xs ++ ys) ≡ returns_in xs + returns_in ys = in-append xs ys in
+    omega (arith, rest)
+
+pub in-text : (lines : List (List ℕ)) → returns (lines_text lines) ≡ returns_in lines
+in-text [] = refl
+in-text (line ∷ lines) =
+    let all : returns (lines_text (line ∷ lines)) ≡ returns (line ++ 10 ∷ []) + returns (lines_text lines) =
+    returns-append (line ++ 10 ∷ []) (lines_text lines) in
+    let one : returns (line ++ 10 ∷ []) ≡ returns line + returns (10 ∷ []) = returns-append line (10 ∷ []) in
+    let rest : returns (lines_text lines) ≡ returns_in lines = in-text lines in
+    omega (arith, all, one, rest)
+
+pub in-printable : (lines : List (List ℕ))
+    → AllByRecursion (λ (line : List ℕ). list_all is_printable line ≡ true) lines → returns_in lines ≡ 0
+in-printable [] h = refl
+in-printable (line ∷ lines) h =
+    let one : returns line ≡ 0 = printable-none line h.0 in
+    let rest : returns_in lines ≡ 0 = in-printable lines h.1 in
+    omega (arith, one, rest)
+
+-- ---- of lines that are read
+
+abbrev pub returns_read : List ReadLine → ℕ
+returns_read [] = 0
+returns_read (Overlong ∷ lines) = returns_read lines
+returns_read (Content line ∷ lines) = returns line + returns_read lines
+
+pub read-cut : (n : ℕ) (lines : List ReadLine)
+    → returns_read lines ≡ returns_read (take n lines) + returns_read (drop n lines)
+read-cut zero lines = omega arith
+read-cut (suc n) [] = refl
+read-cut (suc n) (Overlong ∷ lines) = read-cut n lines
+read-cut (suc n) (Content line ∷ lines) = let rest : returns_read lines
+    ≡ returns_read (take n lines) + returns_read (drop n lines) = read-cut n lines in omega (arith, rest)
+
+read-one : (l : InputLine) (lines : List ReadLine)
+    → returns_read (seen l ∷ lines) ≤ returns l.content + returns_read lines
+read-one l lines = by_bool (is_long l) (λ on. rw on (omega arith)) (λ off. rw off (omega arith))
+
+-- the bytes of pieces
+abbrev returns_of : List Piece → ℕ
+returns_of [] = 0
+returns_of (p ∷ ps) = returns p.bytes + returns_of ps
+
+read-pieces : (ps : List Piece) → returns_read (map seen (map line_of ps)) ≤ returns_of ps
+read-pieces [] = omega arith
+read-pieces (p ∷ ps) =
+    let one : returns_read (seen (line_of p) ∷ map seen (map line_of ps)) ≤ returns (without_return p.bytes)
+    + returns_read (map seen (map line_of ps)) = read-one (line_of p) (map seen (map line_of ps)) in
+    let kept : returns (without_return p.bytes) ≤ returns p.bytes = returns-kept p.bytes in
+    let rest : returns_read (map seen (map line_of ps)) ≤ returns_of ps = read-pieces ps in
+    omega (arith, one, kept, rest)
+
+onto : (b : ℕ) (ps : List Piece) → returns_of (onto_first b ps) ≡ cond (b == 13) 1 0 + returns_of ps
+onto b [] = omega arith
+onto b (p ∷ ps) = omega arith
+
+of-pieces : (input : List ℕ) → returns_of (pieces_of input) ≤ returns input
+of-pieces [] = omega arith
+of-pieces (b ∷ bs) =
+    let rest : returns_of (pieces_of bs) ≤ returns bs = of-pieces bs in
+    by_bool (b == 10)
+    (λ on. rw on (omega (arith, rest)))
+    (λ off.
+    let one = onto b (pieces_of bs) in
+    rw off (omega (arith, rest, one)))
+
+-- what is read of an input has no more than the input
+pub read-input : (input : List ℕ) → returns_read (map seen (lines_of input)) ≤ returns input
+read-input input =
+    let one : returns_read (map seen (map line_of (pieces_of input))) ≤ returns_of (pieces_of input) =
+    read-pieces (pieces_of input) in
+    let two : returns_of (pieces_of input) ≤ returns input = of-pieces input in
+    omega (arith, one, two)
+
+-- lines without their last CR
+abbrev pub returns_left : List (List ℕ) → ℕ
+returns_left [] = 0
+returns_left (line ∷ lines) = returns (without_return line) + returns_left lines
+
+pub left-append : (xs ys : List (List ℕ)) → returns_left (xs ++ ys) ≡ returns_left xs + returns_left ys
+left-append [] ys = omega arith
+left-append (x ∷ xs) ys = let rest : returns_left (xs ++ ys) ≡ returns_left xs + returns_left ys = left-append xs ys in
+    omega (arith, rest)
+
+pub left-kept : (lines : List (List ℕ)) → returns_left lines ≤ returns_in lines
+left-kept [] = omega arith
+left-kept (line ∷ lines) =
+    let one : returns (without_return line) ≤ returns line = returns-kept line in
+    let rest : returns_left lines ≤ returns_in lines = left-kept lines in
+    omega (arith, one, rest)
+
+-- lines that are written and read again have lost one CR where one ended them
+pub read-written : (lines : List (List ℕ))
+    → AllByRecursion HasNoFeed lines → returns_read (map seen (lines_of (lines_text lines))) ≤ returns_left lines
+read-written [] h = omega arith
+read-written (line ∷ lines) h =
+    let text : lines_text (line ∷ lines) ≡ line ++ 10 ∷ lines_text lines =
+    append_assoc line (10 ∷ []) (lines_text lines) in
+    let pieces : pieces_of (line ++ 10 ∷ lines_text lines) ≡ record {
+      bytes = line;
+      is_ended = true;
+    } ∷ pieces_of (lines_text lines) = pieces-first line (lines_text lines) h.0 in
+    let read : InputLine = line_of (record { bytes = line; is_ended = true }) in
+    let one = read-one read (map seen (lines_of (lines_text lines))) in
+    let rest = read-written lines h.1 in
+    rw (text, pieces) (omega (arith, one, rest))

@@ -1,0 +1,246 @@
+-- A file comes back byte for byte only where no copied line ends in CR: else it comes back with fewer bytes 13. So it
+-- is standard.
+use Rattle.std.proofs.Common.{ℕ, ◌≡◌, ◌+◌, ◌<◌, ◌≤◌, Bool, true, false, List, [], ◌∷◌, ◌++◌, map}
+use Rattle.std.proofs.Common.{length, drop, Option, Some, None, refl, ap, sym, ◌∙◌, arith, ◌⊎◌, inl, inr}
+use Rattle.std.specs.List.{AllByRecursion, list_all}
+use Rattle.crx_lines.specs.Reading.{HasNoFeed}
+use Rattle.crx_faults.specs.meaning.Lines.{ends_with_return, without_return, lines_of}
+use Rattle.crx_faults.specs.meaning.Seen.{ReadLine, seen}
+use Rattle.crx_columns.specs.meaning.Texts.{is_printable}
+use Rattle.crx_faults.specs.declared.fault.Fault.{Fault}
+use Rattle.crx_rinex.specs.meaning.Observations.{Epoch}
+use Rattle.crx_rinex.specs.meaning.Printing.{printed_epoch}
+use Rattle.crx_faults.specs.meaning.Lines.{lines_text}
+use Rattle.crx_rinex.specs.meaning.Units.{HeaderLine, EventLine, EventRecord, Observation}
+use Rattle.crx_history.specs.meaning.CompactPlaces.{ReadEpoch}
+use Rattle.crx_history.specs.meaning.Compaction.{compact_epoch}
+use Rattle.crx_compact.specs.Laws.{LinesCanStand}
+use Rattle.crx_compact.specs.ReadingLaws.{IsGood}
+use Rattle.crx_options.specs.meaning.Choices.{Choices, is_date}
+use Rattle.crx_reading.specs.meaning.Items.{Item, Accepted, Warned, types_in_force}
+use Rattle.crx_reading.specs.meaning.Reading.{WholeReading, Stop, AtLines, is_skipped, reading_from}
+use Rattle.crx_reading.specs.meaning.Reading.{fault_at_end, ended_with, ended_reading}
+use Rattle.crx_runs.specs.meaning.Results.{FilterResult}
+use Rattle.crx_reading.specs.meaning.Compacted.{version_line, program_line, marked_epochs, compact_lines, compacted}
+use Rattle.crx_reading.specs.meaning.Expanded.{compact_place, first_lines, whole_compact}
+use Rattle.crx_reading.specs.meaning.Expanded.{expanded, expanded_unit}
+use Rattle.crx_filter.specs.Expanded.{expanded_lines}
+use Rattle.crx_reading.specs.meaning.Standard.{whole_of}
+use Rattle.crx_filter.specs.Laws.{AreInPlace}
+use Rattle.crx_reading.specs.meaning.WayBack.{OfCopiedLines, HaveNoReturns}
+use Rattle.crx_filter.specs.WayBack.{IsStandardWhereSame}
+use Rattle.crx_reading.proofs.Choosing.{by_bool}
+use Rattle.crx_filter.proofs.reading.WhatStands.{by_first}
+use Rattle.crx_filter.proofs.reading.WhatWasRead.{items-read}
+use Rattle.crx_filter.proofs.wayback.Carried.{started}
+use Rattle.crx_filter.proofs.wayback.WayBack.{IsSettled, whole-settled, lines-same}
+use Rattle.crx_filter.proofs.wayback.Cut.{IsClean, CanStand}
+use Rattle.crx_filter.proofs.wayback.First.{program-printable, program-clean, version-clean, printable-no_feed}
+use Rattle.crx_filter.proofs.wayback.Items.{marked_now, epoch-stands}
+use Rattle.crx_filter.proofs.wayback.Reading.{lines_back}
+use Rattle.crx_filter.proofs.wayback.Standard.{same-reading}
+use Rattle.crx_filter.proofs.wayback.Converse.{epoch-printable, standard-where_kept}
+use Rattle.crx_filter.proofs.wayback.ExpandedWhole.{AreGoodEpochs, epochs-good}
+use Rattle.crx_filter.proofs.wayback.Returns.{returns, returns-kept, returns-fewer, returns_in, in-append, in-text}
+use Rattle.crx_filter.proofs.wayback.Returns.{in-printable, returns_read, returns_left, left-append, left-kept}
+use Rattle.crx_filter.proofs.wayback.Returns.{read-written, read-input}
+use Rattle.crx_filter.proofs.wayback.ReturnsRead.{returns_copied, rinex-within, compact-within}
+
+-- ---- what an expansion writes
+
+written-returns : (items : List (Item ReadEpoch))
+    → AreGoodEpochs items → returns_in (expanded_lines items) ≡ returns_copied items
+written-returns [] h = refl
+written-returns (Accepted (Observation read) ∷ before) h =
+    let all : returns_in (expanded_lines before ++ printed_epoch read.epoch) ≡ returns_in (expanded_lines before)
+    + returns_in (printed_epoch read.epoch) = in-append (expanded_lines before) (printed_epoch read.epoch) in
+    let none : returns_in (printed_epoch read.epoch) ≡ 0 = in-printable
+    (printed_epoch read.epoch) (epoch-printable (types_in_force before) read.epoch (IsGood.whole h.0)) in
+    let rest : returns_in (expanded_lines before) ≡ returns_copied before = written-returns before h.1 in
+    omega (arith, all, none, rest)
+written-returns (Accepted unit ∷ before) h =
+    let all : returns_in (expanded_lines (Accepted unit ∷ before))
+    ≡ returns_in (expanded_lines before) + returns_in (expanded_unit before unit) =
+    in-append (expanded_lines before) (expanded_unit before unit) in
+    let rest = written-returns before h in
+    omega (arith, all, rest)
+written-returns (Warned at ∷ before) h = written-returns before h
+
+end-good : (skip : Bool) (items : List (Item ReadEpoch)) (number : ℕ) (o : Option Fault)
+    → AreGoodEpochs items → AreGoodEpochs (WholeReading.items (ended_with skip items number o))
+end-good skip items number None h = h
+end-good skip items number (Some fault) h =
+    by_bool (is_skipped skip items fault) (λ on. rw on h) (λ off. rw off h)
+
+ended-good : (skip : Bool) (items : List (Item ReadEpoch)) (stop : Stop) → AreGoodEpochs items
+    → AreGoodEpochs (WholeReading.items (ended_reading skip (record { items = items; stop = stop })))
+ended-good skip items (AtLines number lines) h =
+    end-good skip items (number + length lines) (fault_at_end items lines) h
+ended-good skip items stop h = h
+
+pub whole-good : (skip : Bool) (lines : List ReadLine) → AreGoodEpochs (WholeReading.items (whole_compact skip lines))
+whole-good skip lines = by_first (first_lines lines)
+    (λ two count e.
+    let r = reading_from compact_place skip [] (count + 1) (drop count lines) in
+    rw (e, whole_compact) (ended-good skip r.items r.stop
+    (epochs-good r.items (items-read compact_place skip (count + 1) (drop count lines)))))
+    (λ offset fault e. rw (e, whole_compact) tt)
+    (λ e. rw (e, whole_compact) tt)
+
+-- an expansion writes no more of them than it reads
+expanded-returns : (text : List ℕ) (choices : Choices)
+    → returns (FilterResult.output (expanded text choices)) ≤ returns_read (map seen (lines_of text))
+expanded-returns text choices =
+    let items : List (Item ReadEpoch) = WholeReading.items (whole_compact choices.skip (map seen (lines_of text))) in
+    let one : returns (lines_text (expanded_lines items)) ≡ returns_in (expanded_lines items) =
+    in-text (expanded_lines items) in
+    let two : returns_in (expanded_lines items) ≡ returns_copied items =
+    written-returns items (whole-good choices.skip (map seen (lines_of text))) in
+    let three : returns_copied items ≤ returns_read (map seen (lines_of text)) =
+    compact-within choices.skip (map seen (lines_of text)) in
+    omega (arith, one, two, three)
+
+-- ---- compact text
+
+-- what is left of copied lines once one CR is taken off the end of each
+abbrev left_copied : List (Item Epoch) → ℕ
+left_copied [] = 0
+left_copied (Accepted (HeaderLine line) ∷ before) = returns (without_return line) + left_copied before
+left_copied (Accepted (EventLine line) ∷ before) = returns (without_return line) + left_copied before
+left_copied (Accepted (EventRecord line) ∷ before) = returns (without_return line) + left_copied before
+left_copied (Accepted (Observation epoch) ∷ before) = left_copied before
+left_copied (Warned at ∷ before) = left_copied before
+
+left-all : (items : List (Item Epoch)) → left_copied items ≤ returns_copied items
+left-all [] = omega arith
+left-all (Accepted (HeaderLine line) ∷ before) = let one = returns-kept line in let rest = left-all before in
+    omega (arith, one, rest)
+left-all (Accepted (EventLine line) ∷ before) = let one = returns-kept line in let rest = left-all before in
+    omega (arith, one, rest)
+left-all (Accepted (EventRecord line) ∷ before) = let one = returns-kept line in let rest = left-all before in
+    omega (arith, one, rest)
+left-all (Accepted (Observation epoch) ∷ before) = let rest = left-all before in omega (arith, rest)
+left-all (Warned at ∷ before) = left-all before
+
+-- no copied line ends in CR, or some are lost
+abbrev KeepsOrLoses : List (Item Epoch) → Type 0
+KeepsOrLoses items = HaveNoReturns items ⊎ (left_copied items < returns_copied items)
+
+one-line : (line : List ℕ) (before : List (Item Epoch)) → KeepsOrLoses before
+    → ((ends_with_return line ≡ false) × HaveNoReturns before)
+    ⊎ (returns (without_return line) + left_copied before < returns line + returns_copied before)
+one-line line before h = by_bool (ends_with_return line)
+    (λ on. let one = returns-fewer line on in let rest = left-all before in inr (omega (arith, one, rest)))
+    (λ off. elim h [
+      | inl none ↦ inl (off, none)
+      | inr less ↦ let one = returns-kept line in inr (omega (arith, one, less))
+    ])
+
+keeps-or_loses : (items : List (Item Epoch)) → KeepsOrLoses items
+keeps-or_loses [] = inl tt
+keeps-or_loses (Accepted (HeaderLine line) ∷ before) = one-line line before (keeps-or_loses before)
+keeps-or_loses (Accepted (EventLine line) ∷ before) = one-line line before (keeps-or_loses before)
+keeps-or_loses (Accepted (EventRecord line) ∷ before) = one-line line before (keeps-or_loses before)
+keeps-or_loses (Accepted (Observation epoch) ∷ before) =
+    elim (keeps-or_loses before) [ inl none ↦ inl (tt, none) | inr less ↦ inr (omega (arith, less)) ]
+keeps-or_loses (Warned at ∷ before) = keeps-or_loses before
+
+printable-lines : (lines : List (List ℕ))
+    → AllByRecursion (λ (line : List ℕ). list_all is_printable line ≡ true) lines → AllByRecursion HasNoFeed lines
+printable-lines [] h = tt
+printable-lines (line ∷ lines) h = (printable-no_feed line h.0, printable-lines lines h.1)
+
+append-no_feed : (a b : List (List ℕ))
+    → AllByRecursion HasNoFeed a → AllByRecursion HasNoFeed b → AllByRecursion HasNoFeed (a ++ b)
+append-no_feed [] b h k = k
+append-no_feed (line ∷ a) b h k = (h.0, append-no_feed a b h.1 k)
+
+-- the lines of compact text after its first two
+record AreBack (lines : List (List ℕ)) (n : ℕ) : Type 0 where
+  no_feed : AllByRecursion HasNoFeed lines
+  left : returns_left lines ≤ n
+
+copied-back : (lines : List (List ℕ)) (line : List ℕ) (n : ℕ)
+    → HasNoFeed line → AreBack lines n → AreBack (lines ++ line ∷ []) (returns (without_return line) + n)
+copied-back lines line n h b =
+    let all : returns_left (lines ++ line ∷ []) ≡ returns_left lines + returns_left (line ∷ []) =
+    left-append lines (line ∷ []) in
+    let rest = b.left in
+    record { no_feed = append-no_feed lines (line ∷ []) b.no_feed (h, tt); left = omega (arith, all, rest) }
+
+epoch-back : (lines more : List (List ℕ)) (n : ℕ) → AllByRecursion
+    (λ (line : List ℕ). list_all is_printable line ≡ true) more → AreBack lines n → AreBack (lines ++ more) n
+epoch-back lines more n h b =
+    let all : returns_left (lines ++ more) ≡ returns_left lines + returns_left more = left-append lines more in
+    let kept : returns_left more ≤ returns_in more = left-kept more in
+    let none : returns_in more ≡ 0 = in-printable more h in
+    let rest = b.left in
+    record {
+      no_feed = append-no_feed lines more b.no_feed (printable-lines more h);
+      left = omega (arith, all, kept, none, rest);
+    }
+
+lines-back : (every : Option ℕ) (items : List (Item Epoch))
+    → AreInPlace items → OfCopiedLines CanStand items → AreBack (lines_back every items) (left_copied items)
+lines-back every [] h k = record { no_feed = tt; left = omega arith }
+lines-back every (Accepted (HeaderLine line) ∷ before) h k =
+    copied-back (lines_back every before) line (left_copied before) (k.0).0 (lines-back every before h.1 k.1)
+lines-back every (Accepted (EventLine line) ∷ before) h k =
+    copied-back (lines_back every before) line (left_copied before) (k.0).0 (lines-back every before h.1 k.1)
+lines-back every (Accepted (EventRecord line) ∷ before) h k =
+    copied-back (lines_back every before) line (left_copied before) (k.0).0 (lines-back every before h.1 k.1)
+lines-back every (Accepted (Observation epoch) ∷ before) h k =
+    epoch-back (lines_back every before)
+    (compact_epoch (marked_now every before epoch ∷ marked_epochs every before)) (left_copied before)
+    (LinesCanStand.printable (epoch-stands every before epoch h)) (lines-back every before h.1 k.1)
+lines-back every (Warned at ∷ before) h k = lines-back every before h.1 k
+
+first-none : (line : List ℕ) → list_all is_printable line ≡ true → returns_left (line ∷ []) ≡ 0
+first-none line h =
+    let kept : returns_left (line ∷ []) ≤ returns_in (line ∷ []) = left-kept (line ∷ []) in
+    let none : returns_in (line ∷ []) ≡ 0 = in-printable (line ∷ []) (h, tt) in
+    omega (arith, kept, none)
+
+-- compact text is read with no more of them than are left
+compacted-returns : (choices : Choices) (items : List (Item Epoch)) → is_date choices.date ≡ true → IsSettled items
+    → returns_read (map seen (lines_of (lines_text (compact_lines choices items)))) ≤ left_copied items
+compacted-returns choices items dated h =
+    let back : AreBack (lines_back choices.every items) (left_copied items) =
+    lines-back choices.every items h.in_place h.copied in
+    let lines : List (List ℕ) = version_line ∷ program_line choices.date ∷ lines_back choices.every items in
+    let same : compact_lines choices items ≡ lines = lines-same choices items h.in_place (started items h.header) in
+    let one : returns_left (version_line ∷ []) ≡ 0 = first-none version_line refl in
+    let two : returns_left (program_line choices.date ∷ []) ≡ 0 =
+    first-none (program_line choices.date) (program-printable choices.date dated) in
+    let read : returns_read (map seen (lines_of (lines_text lines))) ≤ returns_left lines =
+    read-written lines
+    (IsClean.one_line version-clean, (IsClean.one_line (program-clean choices.date dated), back.no_feed)) in
+    let rest : returns_left (lines_back choices.every items) ≤ left_copied items = back.left in
+    rw same (omega (arith, one, two, read, rest))
+
+-- ---- a file that comes back
+
+pub standard-where_same : (input : List ℕ) (compacting expanding : Choices)
+    → IsStandardWhereSame input compacting expanding
+standard-where_same input compacting expanding dated good same =
+    let lines : List ReadLine = map seen (lines_of input) in
+    let items : List (Item Epoch) = WholeReading.items (whole_of input) in
+    let h : IsSettled items = whole-settled false input good in
+    let text : List ℕ = lines_text (compact_lines compacting items) in
+    let written : FilterResult.output (compacted input compacting) ≡ text =
+    ap (λ (w : WholeReading Epoch). lines_text (compact_lines compacting w.items))
+    (same-reading compacting.skip lines good) in
+    elim (keeps-or_loses items) [
+      | inl none ↦ standard-where_kept input compacting expanding dated good none same
+      | inr less ↦
+          let back : FilterResult.output (expanded text expanding) ≡ input =
+          ap (λ t. FilterResult.output (expanded t expanding)) (sym written) ∙ same in
+          let one : returns (FilterResult.output (expanded text expanding)) ≤ returns_read (map seen (lines_of text)) =
+          expanded-returns text expanding in
+          let two : returns_read (map seen (lines_of text)) ≤ left_copied items =
+          compacted-returns compacting items dated h in
+          let three : returns_copied items ≤ returns_read lines = rinex-within false lines in
+          let four : returns_read lines ≤ returns input = read-input input in
+          let five : returns (FilterResult.output (expanded text expanding)) ≡ returns input = ap returns back in
+          absurd (omega (arith, less, one, two, three, four, five))
+    ]

@@ -1,0 +1,179 @@
+-- The bytes 13 of the lines that are copied are those of the lines that were read.
+use Rattle.std.proofs.Common.{ℕ, ◌≡◌, ◌+◌, ◌≤◌, Bool, cond, List, [], ◌∷◌, length, take}
+use Rattle.std.proofs.Common.{drop, Option, Some, None, Result, Ok, Err, refl, arith, subst}
+use Rattle.std.specs.Prelude.{⊤}
+use Rattle.crx_faults.specs.meaning.Seen.{ReadLine, Content, Overlong}
+use Rattle.crx_faults.specs.declared.fault.Fault.{Fault}
+use Rattle.crx_rinex.specs.meaning.Observations.{Epoch}
+use Rattle.crx_header.specs.meaning.ObservationTypes.{Count}
+use Rattle.crx_rinex.specs.meaning.EpochLines.{HeadLine, EventHead, EpochHead, head_of}
+use Rattle.crx_rinex.specs.meaning.EpochPlaces.{opened, begun_by, rest_at, unit_begun, epoch_place}
+use Rattle.crx_rinex.specs.meaning.Places.{Place, Here, Wrong, Wanted, after_lines, then_place, one_line, first_line}
+use Rattle.crx_rinex.specs.meaning.Units.{Unit as FileUnit, HeaderLine, EventLine, EventRecord, Observation}
+use Rattle.crx_history.specs.meaning.Expansion.{RawEpoch}
+use Rattle.crx_history.specs.meaning.CompactPlaces.{ReadEpoch, epoch_at}
+use Rattle.crx_reading.specs.meaning.Items.{Item, Accepted, Warned, is_at_start}
+use Rattle.crx_reading.specs.meaning.Items.{records_count_types, types_in_force}
+use Rattle.crx_reading.specs.meaning.UnitPlaces.{unless_wrong, types_fault, header_line_fault, header_line}
+use Rattle.crx_reading.specs.meaning.UnitPlaces.{event_record}
+use Rattle.crx_reading.specs.meaning.UnitPlaces.{unit_place}
+use Rattle.crx_reading.specs.meaning.Reading.{Reading, WholeReading, Stop, AtFault, AtLines, Looking, is_skipped}
+use Rattle.crx_reading.specs.meaning.Reading.{reading_from, fault_at_end}
+use Rattle.crx_reading.specs.meaning.Reading.{ended_with, ended_reading}
+use Rattle.crx_reading.specs.meaning.Compacted.{rinex_place, whole_rinex}
+use Rattle.crx_reading.specs.meaning.Expanded.{raws_kept, as_observation, compact_epoch_place}
+use Rattle.crx_reading.specs.meaning.Expanded.{compact_place}
+use Rattle.crx_reading.specs.meaning.Expanded.{first_lines, whole_compact}
+use Rattle.crx_reading.proofs.Choosing.{by_bool}
+use Rattle.crx_filter.proofs.reading.WhatStands.{by_first, of-unit, of-compact}
+use Rattle.crx_filter.proofs.reading.KeptThroughout.{within-kept}
+use Rattle.crx_filter.proofs.wayback.Returns.{returns, returns_read, read-cut}
+
+-- ---- of items
+
+abbrev pub returns_of_unit : {E : Type 0} → FileUnit E → ℕ
+returns_of_unit (HeaderLine line) = returns line
+returns_of_unit (EventLine line) = returns line
+returns_of_unit (EventRecord line) = returns line
+returns_of_unit (Observation epoch) = 0
+
+abbrev pub returns_copied : {E : Type 0} → List (Item E) → ℕ
+returns_copied [] = 0
+returns_copied (Accepted unit ∷ before) = returns_of_unit unit + returns_copied before
+returns_copied (Warned at ∷ before) = returns_copied before
+
+-- ---- a unit has no more than its lines
+
+abbrev IsOfLines : {E : Type 0} → List ReadLine → Place (FileUnit E) → Type 0
+IsOfLines lines (Here unit count) = returns_of_unit unit ≤ returns_read (take count lines)
+IsOfLines lines (Wrong offset fault) = ⊤
+IsOfLines lines Wanted = ⊤
+
+header-of : (E : Type 0) (line : List ℕ) (lines : List ReadLine) (wrong : Option Fault)
+    → IsOfLines {E = E} (Content line ∷ lines) (one_line (unless_wrong (HeaderLine line) wrong))
+header-of E line lines None = omega arith
+header-of E line lines (Some fault) = tt
+
+record-of : (E : Type 0) (line : List ℕ) (lines : List ReadLine) (wrong : Option Fault)
+    → IsOfLines {E = E} (Content line ∷ lines) (one_line (unless_wrong (EventRecord line) wrong))
+record-of E line lines None = omega arith
+record-of E line lines (Some fault) = tt
+
+header-lines : (E : Type 0) (is_first : Bool) (lines : List ReadLine)
+    → IsOfLines {E = E} lines (first_line lines (header_line is_first))
+header-lines E is_first [] = tt
+header-lines E is_first (Overlong ∷ lines) = tt
+header-lines E is_first (Content line ∷ lines) = header-of E line lines (header_line_fault is_first line)
+
+record-lines : (E : Type 0) (counts : Bool) (lines : List ReadLine)
+    → IsOfLines {E = E} lines (first_line lines (event_record counts))
+record-lines E counts [] = tt
+record-lines E counts (Overlong ∷ lines) = tt
+record-lines E counts (Content line ∷ lines) = record-of E line lines (cond counts (types_fault line) None)
+
+unit-lines : (E : Type 0) (beginning : List (Item E) → List ReadLine → Place (FileUnit E))
+    → ((items : List (Item E)) (lines : List ReadLine) → IsOfLines lines (beginning items lines))
+    → (items : List (Item E)) (lines : List ReadLine) → IsOfLines lines (unit_place beginning items lines)
+unit-lines E beginning h items lines = of-unit (IsOfLines lines) beginning items lines
+    (header-lines E (is_at_start items) lines)
+    (record-lines E (records_count_types items) lines) (h items lines)
+
+-- in RINEX
+
+observed-of : (all lines : List ReadLine) (p : Place Epoch)
+    → IsOfLines all (after_lines 1 (then_place p lines (λ epoch rest. Here (Observation epoch) 0)))
+observed-of all lines (Here epoch count) = omega arith
+observed-of all lines (Wrong offset fault) = tt
+observed-of all lines Wanted = tt
+
+begun-of : (types : List Count) (line : List ℕ) (lines : List ReadLine) (r : Result HeadLine Fault) → IsOfLines
+    (Content line ∷ lines) (then_place (one_line (begun_by line r)) (Content line ∷ lines) (unit_begun types))
+begun-of types line lines (Err fault) = tt
+begun-of types line lines (Ok (EventHead flag count)) = omega arith
+begun-of types line lines (Ok (EpochHead head count clock)) = observed-of
+    (Content line ∷ lines) lines (rest_at (opened types (record { head = head; count = count; clock = clock })) lines)
+
+epoch-lines : (types : List Count) (lines : List ReadLine) → IsOfLines lines (epoch_place types lines)
+epoch-lines types [] = tt
+epoch-lines types (Overlong ∷ lines) = tt
+epoch-lines types (Content line ∷ lines) = begun-of types line lines (head_of line)
+
+rinex-lines : (items : List (Item Epoch)) (lines : List ReadLine) → IsOfLines lines (rinex_place items lines)
+rinex-lines items lines = unit-lines Epoch (λ (before : List (Item Epoch)). epoch_place (types_in_force before))
+    (λ before ls. epoch-lines (types_in_force before) ls) items lines
+
+-- in compact text
+
+read-of : (lines : List ReadLine) (p : Place ReadEpoch) → IsOfLines lines (as_observation p)
+read-of lines (Here read count) = omega arith
+read-of lines (Wrong offset fault) = tt
+read-of lines Wanted = tt
+
+compact-begun : (types : List Count) (raws : List RawEpoch) (lines : List ReadLine)
+    → IsOfLines lines (compact_epoch_place types raws lines)
+compact-begun types raws lines = of-compact (IsOfLines lines) types raws lines tt tt
+    (λ line rest e. rw e (omega arith)) (read-of lines (epoch_at types raws lines))
+
+compact-lines : (items : List (Item ReadEpoch)) (lines : List ReadLine) → IsOfLines lines (compact_place items lines)
+compact-lines items lines = unit-lines ReadEpoch
+    (λ (before : List (Item ReadEpoch)). compact_epoch_place (types_in_force before) (raws_kept before))
+    (λ before ls. compact-begun (types_in_force before) (raws_kept before) ls) items lines
+
+-- ---- nor have all units
+
+all-within : {E : Type 0} (place : List (Item E) → List ReadLine → Place (FileUnit E))
+    → ((items : List (Item E)) (lines : List ReadLine) → IsOfLines lines (place items lines))
+    → (skip : Bool) (number : ℕ) (lines : List ReadLine)
+    → returns_copied (reading_from place skip [] number lines).items ≤ returns_read lines
+all-within {E = E} place p skip number lines =
+    let kept = within-kept place skip
+    (λ items ls. returns_copied items + returns_read ls ≤ returns_read lines) (record {
+      here = λ items ls unit count e h.
+          let own : returns_of_unit unit ≤ returns_read (take count ls) =
+          subst (IsOfLines ls) e (p items ls) in
+          let cut = read-cut count ls in
+          omega (arith, h, own, cut);
+      warned = λ items ls at on h. h;
+      passed = λ items ls n h.
+          let cut = read-cut n ls in
+          omega (arith, h, cut);
+    }) (length lines + 1) [] number lines (omega arith) in
+    let all = kept.1 in
+    omega (arith, all)
+
+end-same : {E : Type 0} (skip : Bool) (items : List (Item E)) (number : ℕ) (o : Option Fault)
+    → returns_copied (WholeReading.items (ended_with skip items number o)) ≡ returns_copied items
+end-same skip items number None = refl
+end-same skip items number (Some fault) =
+    by_bool (is_skipped skip items fault) (λ on. rw on refl) (λ off. rw off refl)
+
+ended-same : {E : Type 0} (skip : Bool) (items : List (Item E)) (stop : Stop) → returns_copied
+    (WholeReading.items (ended_reading skip (record { items = items; stop = stop }))) ≡ returns_copied items
+ended-same skip items (AtFault at) = refl
+ended-same skip items (AtLines number lines) = end-same skip items (number + length lines) (fault_at_end items lines)
+ended-same skip items (Looking number) = refl
+
+whole-within : {E : Type 0} (place : List (Item E) → List ReadLine → Place (FileUnit E))
+    → ((items : List (Item E)) (lines : List ReadLine) → IsOfLines lines (place items lines))
+    → (skip : Bool) (number : ℕ) (lines : List ReadLine) → returns_copied
+    (WholeReading.items (ended_reading skip (reading_from place skip [] number lines))) ≤ returns_read lines
+whole-within place p skip number lines =
+    let r : Reading _ = reading_from place skip [] number lines in
+    let same : returns_copied (WholeReading.items (ended_reading skip r)) ≡ returns_copied r.items =
+    ended-same skip r.items r.stop in
+    let all : returns_copied r.items ≤ returns_read lines = all-within place p skip number lines in
+    omega (arith, same, all)
+
+pub rinex-within : (skip : Bool) (lines : List ReadLine)
+    → returns_copied (WholeReading.items (whole_rinex skip lines)) ≤ returns_read lines
+rinex-within skip lines = whole-within rinex_place rinex-lines skip 1 lines
+
+pub compact-within : (skip : Bool) (lines : List ReadLine)
+    → returns_copied (WholeReading.items (whole_compact skip lines)) ≤ returns_read lines
+compact-within skip lines = by_first (first_lines lines)
+    (λ two count e.
+    let rest = whole-within compact_place compact-lines skip (count + 1) (drop count lines) in
+    let cut = read-cut count lines in
+    rw (e, whole_compact) (omega (arith, rest, cut)))
+    (λ offset fault e. rw (e, whole_compact) (omega arith))
+    (λ e. rw (e, whole_compact) (omega arith))

@@ -1,0 +1,173 @@
+-- A standard file comes back byte for byte: nothing of it is skipped, no line of it ends in CR, and printing gives back
+-- its lines.
+use Rattle.std.proofs.Common.{ℕ, zero, suc, ◌≡◌, ◌≢◌, ◌+◌, Bool, true, false, cond, ◌⊎◌, inl, inr, List, [], ◌∷◌, map}
+use Rattle.std.proofs.Common.{length, drop, Option, Some, None, refl, ap, sym, ◌∙◌, subst}
+use Rattle.std.specs.Prelude.{◌==◌}
+use Rattle.std.specs.List.{AllByRecursion, list_all}
+use Rattle.std.proofs.lemmas.Bool.Decides.{eqb_tells}
+use Rattle.std.proofs.lemmas.Bool.{and_parts}
+use Rattle.crx_faults.specs.meaning.Lines.{Piece, InputLine, pieces_of, onto_first, ends_with_return, without_return}
+use Rattle.crx_faults.specs.meaning.Lines.{line_of, lines_of, is_long}
+use Rattle.crx_lines.proofs.PieceLemmas.{EachEnded}
+use Rattle.crx_faults.specs.meaning.Seen.{ReadLine, seen}
+use Rattle.crx_faults.specs.declared.fault.Fault.{Fault}
+use Rattle.crx_faults.specs.declared.fault.At.{At}
+use Rattle.crx_rinex.specs.meaning.Observations.{Epoch}
+use Rattle.crx_rinex.specs.meaning.Places.{Place}
+use Rattle.crx_rinex.specs.meaning.Units.{Unit as FileUnit}
+use Rattle.crx_options.specs.meaning.Choices.{Choices}
+use Rattle.crx_reading.specs.meaning.Items.{Item, Accepted}
+use Rattle.crx_reading.specs.meaning.Reading.{Reading, WholeReading, Stop, AtLines, is_skipped}
+use Rattle.crx_reading.specs.meaning.Reading.{after_fault, reading_within, fault_at_end}
+use Rattle.crx_reading.specs.meaning.Reading.{ended_with, ended_reading}
+use Rattle.crx_faults.specs.meaning.Lines.{lines_text}
+use Rattle.crx_reading.specs.meaning.Compacted.{rinex_place, whole_rinex}
+use Rattle.crx_reading.specs.meaning.Directions.{rinex_reading}
+use Rattle.crx_reading.specs.meaning.Standard.{printed_items, whole_of}
+use Rattle.crx_reading.specs.meaning.WayBack.{OfCopiedLines, HaveNoReturns, written_well}
+use Rattle.crx_reading.proofs.Choosing.{by_bool}
+use Rattle.crx_filter.specs.WayBack.{NormalFormComesBack, StandardComesBack}
+use Rattle.crx_filter.proofs.reading.Resuming.{by_place}
+use Rattle.crx_filter.proofs.wayback.Cut.{OfContent, return-kept}
+use Rattle.crx_filter.proofs.wayback.Reading.{items-copied}
+use Rattle.crx_filter.proofs.wayback.WayBack.{comes-back}
+use Rattle.std.proofs.lemmas.Bool.{not-true}
+
+-- ---- where nothing is wrong, nothing is skipped
+
+not-ended : {X : Type 0} (at : At) → ◌≡◌ {A = Option At} (Some at) None → X
+not-ended at e = absurd (cc)
+
+ended-same : {E : Type 0} (skip : Bool) (items : List (Item E)) (number : ℕ) (o : Option Fault) → WholeReading.fault
+    (ended_with false items number o) ≡ None → ended_with skip items number o ≡ ended_with false items number o
+ended-same skip items number None f = refl
+ended-same skip items number (Some fault) f = not-ended (record { line = number; fault = fault }) f
+
+within-same : {E : Type 0} (place : List (Item E) → List ReadLine
+    → Place (FileUnit E)) (skip : Bool) (units : ℕ) (items : List (Item E)) (number : ℕ) (lines : List ReadLine)
+    → WholeReading.fault (ended_reading false (reading_within place false units items number lines)) ≡ None
+    → ended_reading skip (reading_within place skip units items number lines)
+    ≡ ended_reading false (reading_within place false units items number lines)
+within-same place skip zero items number lines f =
+    ended-same skip items (number + length lines) (fault_at_end items lines) f
+within-same place skip (suc units) items number lines f = by_place (place items lines)
+    (λ unit count e.
+    let good = rw (e, reading_within) at f in
+    rw (e, reading_within)
+    (within-same place skip units (Accepted unit ∷ items) (number + count) (drop count lines) good))
+    (λ offset fault e.
+    let never = rw (e, reading_within, after_fault) at f in
+    not-ended (record { line = number + offset; fault = fault }) never)
+    (λ e.
+    let good = rw (e, reading_within) at f in
+    rw (e, reading_within) (ended-same skip items (number + length lines) (fault_at_end items lines) good))
+
+pub same-reading : (skip : Bool) (lines : List ReadLine)
+    → WholeReading.fault (whole_rinex false lines) ≡ None → whole_rinex skip lines ≡ whole_rinex false lines
+same-reading skip lines f = within-same rinex_place skip (length lines + 1) [] 1 lines f
+
+-- ---- no line ends in CR
+
+ended-copied : (P : List ℕ → Type 0) (skip : Bool) (items : List (Item Epoch)) (stop : Stop) → OfCopiedLines P items
+    → OfCopiedLines P (WholeReading.items (ended_reading skip (record { items = items; stop = stop })))
+ended-copied P skip items (AtLines number lines) h = at-end (fault_at_end items lines)
+  where
+    at-end : (o : Option Fault) → OfCopiedLines P (WholeReading.items (ended_with skip items (number + length lines) o))
+    at-end None = h
+    at-end (Some fault) = by_bool (is_skipped skip items fault) (λ on. rw on h) (λ off. rw off h)
+ended-copied P skip items stop h = h
+
+pub whole-copied : (P : List ℕ → Type 0) (skip : Bool) (lines : List ReadLine)
+    → AllByRecursion (OfContent P) lines → OfCopiedLines P (WholeReading.items (whole_rinex skip lines))
+whole-copied P skip lines h = let r : Reading Epoch = rinex_reading skip lines in
+    ended-copied P skip r.items r.stop (items-copied P skip lines h)
+
+abbrev pub NoReturn : List ℕ → Type 0
+NoReturn line = ends_with_return line ≡ false
+
+-- the bytes of a plain line, which no CR ends
+plain-piece : (p : Piece) → InputLine.is_plain (line_of p) ≡ true → (p.is_ended ≡ true) × NoReturn p.bytes
+plain-piece p e =
+    let both = and_parts p.is_ended _ e in
+    (both.0, not-true (ends_with_return p.bytes) both.1)
+
+abbrev are_plain : List Piece → Bool
+are_plain ps = list_all (λ (line : InputLine). line.is_plain) (map line_of ps)
+
+-- of the first piece, and of the others
+plain-parts : (p : Piece) (ps : List Piece) → are_plain (p ∷ ps) ≡ true
+    → (p.is_ended ≡ true) × NoReturn p.bytes × (are_plain ps ≡ true)
+plain-parts p ps e =
+    let both = and_parts (InputLine.is_plain (line_of p)) (are_plain ps) e in
+    let first = plain-piece p both.0 in
+    (first.0, first.1, both.1)
+
+seen-no_return : (l : InputLine) → NoReturn l.content → OfContent NoReturn (seen l)
+seen-no_return l h = by_bool (is_long l) (λ on. rw on tt) (λ off. rw off h)
+
+pub plain-no_return : (ps : List Piece) → list_all (λ (line : InputLine). line.is_plain) (map line_of ps) ≡ true
+    → AllByRecursion (OfContent NoReturn) (map seen (map line_of ps))
+plain-no_return [] e = tt
+plain-no_return (p ∷ ps) e =
+    let plain = plain-parts p ps e in
+    let kept : without_return p.bytes ≡ p.bytes = return-kept p.bytes plain.1 in
+    (seen-no_return (line_of p) (subst NoReturn (sym kept) plain.1), plain-no_return ps plain.2)
+
+-- ---- the text of an input's plain lines is the input
+
+onto-text : (b : ℕ) (bs : List ℕ) (ps : List Piece)
+    → EachEnded (onto_first b ps) → (EachEnded ps → lines_text (map (λ (p : Piece). p.bytes) ps) ≡ bs)
+    → lines_text (map (λ (p : Piece). p.bytes) (onto_first b ps)) ≡ b ∷ bs
+onto-text b bs [] e h = let never = e.0 in absurd (cc)
+onto-text b bs (p ∷ ps) e h = ap (λ t. b ∷ t) (h e)
+
+byte-text : (b : ℕ) (bs : List ℕ) (ps : List Piece) → (EachEnded ps → lines_text (map (λ (p : Piece). p.bytes) ps) ≡ bs)
+    → ((b == 10) ≡ true) × (b ≡ 10) ⊎ ((b == 10) ≡ false) × (b ≢ 10)
+    → EachEnded (cond (b == 10) (record { bytes = []; is_ended = true } ∷ ps) (onto_first b ps))
+    → lines_text (map (λ (p : Piece). p.bytes)
+    (cond (b == 10) (record { bytes = []; is_ended = true } ∷ ps) (onto_first b ps))) ≡ b ∷ bs
+byte-text b bs ps h (inl is) = rw is.0 (λ e. ap (λ t. 10 ∷ t) (h e.1) ∙ ap (λ c. c ∷ bs) (sym is.1))
+byte-text b bs ps h (inr is) = rw is.0 (λ e. onto-text b bs ps e h)
+
+pieces-text : (input : List ℕ)
+    → EachEnded (pieces_of input) → lines_text (map (λ (p : Piece). p.bytes) (pieces_of input)) ≡ input
+pieces-text [] e = refl
+pieces-text (b ∷ bs) e = byte-text b bs (pieces_of bs) (pieces-text bs) (eqb_tells b 10) e
+
+plain-ended : (ps : List Piece) → are_plain ps ≡ true → EachEnded ps
+plain-ended [] e = tt
+plain-ended (p ∷ ps) e =
+    let plain = plain-parts p ps e in
+    (plain.0, plain-ended ps plain.2)
+
+plain-contents : (ps : List Piece) → list_all (λ (line : InputLine). line.is_plain) (map line_of ps) ≡ true
+    → map (λ (line : InputLine). line.content) (map line_of ps) ≡ map (λ (p : Piece). p.bytes) ps
+plain-contents [] e = refl
+plain-contents (p ∷ ps) e =
+    let plain = plain-parts p ps e in
+    cc (return-kept p.bytes plain.1, plain-contents ps plain.2)
+
+pub plain-text : (input : List ℕ) → list_all (λ (line : InputLine). line.is_plain) (lines_of input) ≡ true
+    → lines_text (map (λ (line : InputLine). line.content) (lines_of input)) ≡ input
+plain-text input e = ap lines_text (plain-contents (pieces_of input) e)
+    ∙ pieces-text input (plain-ended (pieces_of input) e)
+
+-- ---- a file read to its good end, and a standard file
+
+pub normal-comes_back : (input : List ℕ) (compacting expanding : Choices)
+    → NormalFormComesBack input compacting expanding
+normal-comes_back input compacting expanding dated good none =
+    let lines : List ReadLine = map seen (lines_of input) in
+    let same : whole_rinex compacting.skip lines ≡ whole_of input = same-reading compacting.skip lines good in
+    comes-back input compacting expanding dated (ap (λ (w : WholeReading Epoch). w.fault) same
+    ∙ good) (subst (λ (w : WholeReading Epoch). HaveNoReturns w.items) (sym same) none)
+    ∙ ap (λ (w : WholeReading Epoch). written_well (lines_text (printed_items w.items))) same
+
+pub standard-comes_back : (input : List ℕ) (compacting expanding : Choices)
+    → StandardComesBack input compacting expanding
+standard-comes_back input compacting expanding dated standard =
+    let none : HaveNoReturns (WholeReading.items (whole_of input)) =
+    whole-copied NoReturn false (map seen (lines_of input)) (plain-no_return (pieces_of input) standard.plain) in
+    normal-comes_back input compacting expanding dated standard.good none
+    ∙ ap (λ ls. written_well (lines_text ls)) (sym standard.given_back)
+    ∙ ap written_well (plain-text input standard.plain)

@@ -1,0 +1,223 @@
+-- What was compacted comes back.
+use Rattle.std.proofs.Common.{ℕ, ◌≡◌, ◌+◌, ◌*◌, ◌≤◌, Bool, true, false, cond, List, [], ◌∷◌, ◌++◌, map, length, Option}
+use Rattle.std.proofs.Common.{Some, None, refl, ap, ◌∙◌, arith}
+use Rattle.std.specs.Prelude.{nat_lt, not, reverse}
+use Rattle.std.specs.List.{AllByRecursion, list_all}
+use Rattle.std.proofs.lemmas.Bool.{ltb-false}
+use Rattle.crx_faults.specs.meaning.Lines.{lines_of, ends_with_return}
+use Rattle.crx_faults.specs.meaning.Seen.{ReadLine, Content, seen}
+use Rattle.crx_columns.specs.meaning.Texts.{is_printable}
+use Rattle.crx_faults.specs.declared.fault.Fault.{Fault}
+use Rattle.crx_faults.specs.declared.fault.At.{At}
+use Rattle.crx_faults.specs.declared.limits.TheConstants.{TYPES_LIMIT, LINE_LIMIT}
+use Rattle.crx_rinex.specs.meaning.Observations.{Epoch}
+use Rattle.crx_rinex.specs.meaning.Printing.{printed_epoch}
+use Rattle.crx_faults.specs.meaning.Lines.{lines_text}
+use Rattle.crx_rinex.specs.meaning.Units.{Unit as FileUnit, HeaderLine, EventLine, EventRecord, Observation}
+use Rattle.crx_rinex.specs.meaning.Units.{printed_unit}
+use Rattle.crx_history.specs.meaning.Compaction.{Marked, compact_epoch}
+use Rattle.crx_history.specs.meaning.CompactPlaces.{ReadEpoch}
+use Rattle.crx_compact.specs.Laws.{LinesCanStand}
+use Rattle.crx_compact.proofs.wayback.Lengths.{lines-short}
+use Rattle.crx_options.specs.meaning.Choices.{Choices}
+use Rattle.crx_reading.specs.meaning.Items.{Item, Accepted, Warned, is_at_start, header_has_ended, records_left}
+use Rattle.crx_reading.specs.meaning.Items.{types_in_force}
+use Rattle.crx_reading.specs.meaning.Reading.{Reading, WholeReading, Stop, AtFault, AtLines, Looking, is_skipped}
+use Rattle.crx_reading.specs.meaning.Reading.{reading_from, fault_at_end, ended_with, ended_reading}
+use Rattle.crx_reading.specs.meaning.Written.{warnings_in}
+use Rattle.crx_runs.specs.meaning.Results.{result_of_course}
+use Rattle.crx_reading.specs.meaning.Written.{written_lines, result_of}
+use Rattle.crx_reading.specs.meaning.Compacted.{rinex_place, marked_epochs, version_line, program_line, whole_rinex}
+use Rattle.crx_reading.specs.meaning.Compacted.{compact_lines}
+use Rattle.crx_reading.specs.meaning.Directions.{rinex_reading}
+use Rattle.crx_reading.specs.meaning.Expanded.{compact_place, whole_compact, expanded_unit, expansion_result, expanded}
+use Rattle.crx_reading.specs.meaning.Standard.{printed_items}
+use Rattle.crx_filter.specs.Laws.{AreInPlace}
+use Rattle.crx_reading.specs.meaning.WayBack.{OfCopiedLine, OfCopiedLines, HaveNoReturns, written_well}
+use Rattle.crx_filter.specs.WayBack.{ComesBack}
+use Rattle.crx_reading.proofs.Choosing.{by_bool}
+use Rattle.crx_filter.proofs.reading.Forward.{rinex-forward}
+use Rattle.crx_filter.proofs.following.Lines.{IsStopped}
+use Rattle.crx_filter.proofs.reading.Stopping.{reading-stopped}
+use Rattle.crx_filter.proofs.reading.InPlace.{items-in_place}
+use Rattle.crx_filter.proofs.reading.WhatWasRead.{items-read, allowed}
+use Rattle.crx_filter.proofs.wayback.Cut.{IsClean, CanStand, lines-cut, input-stands}
+use Rattle.crx_filter.proofs.wayback.First.{first-lines_read, program-clean, version-clean, printable-no_feed}
+use Rattle.crx_filter.proofs.wayback.First.{printable-no_return}
+use Rattle.crx_filter.proofs.wayback.Items.{marked_now, body_unit, known_back, read_back, unit-here, whole-next}
+use Rattle.crx_filter.proofs.wayback.Items.{epoch-stands}
+use Rattle.crx_filter.proofs.wayback.Carried.{started, whole-again}
+use Rattle.crx_filter.proofs.reading.ForwardCompact.{compact-forward}
+use Rattle.crx_filter.proofs.wayback.Reading.{lines_back, items-copied}
+
+-- ---- the end of the compaction
+
+-- what was accepted, where the compaction isn't ended by a fault
+pub record IsSettled (items : List (Item Epoch)) : Type 0 where
+  pub in_place : AreInPlace items
+  pub copied : OfCopiedLines CanStand items
+  pub header : header_has_ended items ≡ true
+  pub none : records_left items ≡ 0
+
+lt-none : (n : ℕ) → nat_lt 0 n ≡ false → n ≡ 0
+lt-none n e = let h = ltb-false 0 n e in omega (arith, h)
+
+end-body : (b c : Bool) (one two : Fault)
+    → cond (not b) (Some one) (cond c (Some two) None) ≡ None → (b ≡ true) × (c ≡ false)
+end-body true true one two e = absurd (cc)
+end-body true false one two e = (refl, refl)
+end-body false c one two e = absurd (cc)
+
+end-means : (items : List (Item Epoch)) (rest : List ReadLine)
+    → fault_at_end items rest ≡ None → (header_has_ended items ≡ true) × (records_left items ≡ 0)
+end-means [] rest e = absurd (cc)
+end-means (item ∷ before) (line ∷ rest) e = absurd (cc)
+end-means (item ∷ before) [] e =
+    let both = end-body (header_has_ended (item ∷ before)) (nat_lt 0 (records_left (item ∷ before))) _ _ e in
+    (both.0, lt-none (records_left (item ∷ before)) both.1)
+
+end-settled : (skip : Bool) (items : List (Item Epoch)) (number : ℕ) (rest : List ReadLine)
+    → AreInPlace items → OfCopiedLines CanStand items
+    → (o : Option Fault) → fault_at_end items rest ≡ o → WholeReading.fault (ended_with skip items number o) ≡ None
+    → IsSettled (WholeReading.items (ended_with skip items number o))
+end-settled skip items number rest h k None e f = let good = end-means items rest e in
+    record { in_place = h; copied = k; header = good.0; none = good.1 }
+end-settled skip items number rest h k (Some fault) e f = by_bool (is_skipped skip items fault)
+    (λ on.
+    let facts = allowed skip items fault on in
+    rw on (record { in_place = (facts, h); copied = k; header = facts.0; none = refl }))
+    (λ off.
+    let at : At = record { line = number; fault = fault } in
+    let never : ◌≡◌ {A = Option At} (Some at) None = rw off at f in
+    absurd (cc))
+
+settled : (skip : Bool) (items : List (Item Epoch)) (stop : Stop) (next : ℕ)
+    → AreInPlace items → OfCopiedLines CanStand items → IsStopped rinex_place items stop next
+    → WholeReading.fault (ended_reading skip (record { items = items; stop = stop })) ≡ None
+    → IsSettled (WholeReading.items (ended_reading skip (record { items = items; stop = stop })))
+settled skip items (AtFault at) next h k s f = absurd (cc)
+settled skip items (AtLines number rest) next h k s f =
+    end-settled skip items (number + length rest) rest h k (fault_at_end items rest) refl f
+settled skip items (Looking number) next h k s f = record { in_place = h; copied = k; header = s.1; none = s.2 }
+
+pub whole-settled : (skip : Bool) (input : List ℕ) → WholeReading.fault (whole_rinex skip (map seen (lines_of input)))
+    ≡ None → IsSettled (WholeReading.items (whole_rinex skip (map seen (lines_of input))))
+whole-settled skip input f =
+    let lines : List ReadLine = map seen (lines_of input) in
+    let r : Reading Epoch = rinex_reading skip lines in
+    settled skip r.items r.stop (1 + length lines) (items-in_place r.items (items-read rinex_place skip 1 lines))
+    (items-copied CanStand skip lines (input-stands input))
+    (reading-stopped rinex_place rinex-forward skip [] 1 (1 + length lines) lines refl) f
+
+-- ---- the lines that are written
+
+pub lines-same : (choices : Choices) (items : List (Item Epoch)) → AreInPlace items → is_at_start items ≡ false
+    → compact_lines choices items ≡ version_line ∷ program_line choices.date ∷ lines_back choices.every items
+lines-same choices [] h e = absurd (cc)
+lines-same choices (Accepted (HeaderLine line) ∷ []) h e = refl
+lines-same choices (Accepted (HeaderLine line) ∷ item ∷ before) h e =
+    ap (λ ls. ls ++ line ∷ []) (lines-same choices (item ∷ before) h.1 refl)
+lines-same choices (Accepted unit ∷ before) h e =
+    ap (λ ls. ls ++ body_unit choices.every before unit)
+    (lines-same choices before h.1 (started before (h.0).0))
+lines-same choices (Warned at ∷ before) h e = lines-same choices before h.1 (started before (h.0).0)
+
+-- ---- each of them is read as it was written
+
+append-clean : (a b : List (List ℕ))
+    → AllByRecursion IsClean a → AllByRecursion IsClean b → AllByRecursion IsClean (a ++ b)
+append-clean [] b h k = k
+append-clean (line ∷ a) b h k = (h.0, append-clean a b h.1 k)
+
+clean : (line : List ℕ) → CanStand line → ends_with_return line ≡ false → IsClean line
+clean line h e = record { one_line = h.0; no_return = e; short = h.1 }
+
+within-limit : (n : ℕ) → n ≤ 18 * TYPES_LIMIT → n ≤ LINE_LIMIT
+within-limit n h = omega (arith, h)
+
+epoch-clean : (lines : List (List ℕ)) → AllByRecursion (λ (line : List ℕ). list_all is_printable line ≡ true) lines
+    → AllByRecursion (λ (line : List ℕ). length line ≤ 18 * TYPES_LIMIT) lines → AllByRecursion IsClean lines
+epoch-clean [] h k = tt
+epoch-clean (line ∷ lines) h k = (
+  record {
+    one_line = printable-no_feed line h.0;
+    no_return = printable-no_return line h.0;
+    short = within-limit (length line) k.0;
+  },
+  epoch-clean lines h.1 k.1,
+)
+
+unit-clean : (every : Option ℕ) (before : List (Item Epoch)) (unit : FileUnit Epoch)
+    → AreInPlace (Accepted unit ∷ before)
+    → OfCopiedLine CanStand unit → OfCopiedLine (λ (line : List ℕ). ends_with_return line ≡ false) unit
+    → AllByRecursion IsClean (body_unit every before unit)
+unit-clean every before (HeaderLine line) h k e = (clean line k e, tt)
+unit-clean every before (EventLine line) h k e = (clean line k e, tt)
+unit-clean every before (EventRecord line) h k e = (clean line k e, tt)
+unit-clean every before (Observation epoch) h k e =
+    let m : Marked = marked_now every before epoch in
+    let older : List Marked = marked_epochs every before in
+    let stands : LinesCanStand m older = epoch-stands every before epoch h in
+    epoch-clean (compact_epoch (m ∷ older)) stands.printable
+    (lines-short (types_in_force before) m.in_full m.epoch older (whole-next every before epoch h))
+
+pub lines-clean : (every : Option ℕ) (items : List (Item Epoch)) → AreInPlace items
+    → OfCopiedLines CanStand items → HaveNoReturns items → AllByRecursion IsClean (lines_back every items)
+lines-clean every [] h k e = tt
+lines-clean every (Accepted unit ∷ before) h k e =
+    append-clean (lines_back every before)
+    (body_unit every before unit) (lines-clean every before h.1 k.1 e.1) (unit-clean every before unit h k.0 e.0)
+lines-clean every (Warned at ∷ before) h k e = lines-clean every before h.1 k e
+
+-- ---- what is written in the end
+
+pub printed-same : (every : Option ℕ) (items : List (Item Epoch))
+    → written_lines expanded_unit (read_back every items) ≡ printed_items items
+printed-same every [] = refl
+printed-same every (Accepted (Observation epoch) ∷ before) =
+    ap (λ ls. ls ++ printed_epoch epoch) (printed-same every before)
+printed-same every (Accepted unit ∷ before) = ap (λ ls. ls ++ printed_unit unit) (printed-same every before)
+printed-same every (Warned at ∷ before) = printed-same every before
+
+pub no-warnings : (every : Option ℕ) (items : List (Item Epoch)) → warnings_in (read_back every items) ≡ []
+no-warnings every [] = refl
+no-warnings every (Accepted unit ∷ before) = no-warnings every before
+no-warnings every (Warned at ∷ before) = no-warnings every before
+
+result-well : (items : List (Item ReadEpoch)) (lines : List (List ℕ))
+    → written_lines expanded_unit items ≡ lines → warnings_in items ≡ []
+    → result_of expanded_unit (record { items = items; fault = None }) ≡ written_well (lines_text lines)
+result-well items lines e f =
+    ap (λ (w : List At). result_of_course
+    (record { output = lines_text (written_lines expanded_unit items); warnings = reverse w; fault = None })) f
+    ∙ ap (λ ls. written_well (lines_text ls)) e
+
+-- the two first lines, and then the reading of the rest
+pub whole-after : (skip : Bool) (date : List ℕ) (rest : List ReadLine) → whole_compact skip (Content version_line
+    ∷ Content (program_line date) ∷ rest) ≡ ended_reading skip (reading_from compact_place skip [] 3 rest)
+whole-after skip date rest = rw (first-lines_read date rest, whole_compact) refl
+
+whole-back : (every : Option ℕ) (skip : Bool) (date : List ℕ) (items : List (Item Epoch)) → IsSettled items
+    → whole_compact skip (map Content (version_line ∷ program_line date ∷ lines_back every items))
+    ≡ record { items = read_back every items; fault = None }
+whole-back every skip date items h =
+    whole-after skip date (map Content (lines_back every items))
+    ∙ whole-again compact_place (known_back every)
+    (body_unit every) compact-forward (unit-here every) skip 3 items h.in_place h.header h.none
+
+pub comes-back : (input : List ℕ) (compacting expanding : Choices) → ComesBack input compacting expanding
+comes-back input compacting expanding dated f none =
+    let items : List (Item Epoch) = WholeReading.items (whole_rinex compacting.skip (map seen (lines_of input))) in
+    let h : IsSettled items = whole-settled compacting.skip input f in
+    let lines : List (List ℕ) = version_line ∷ program_line compacting.date ∷ lines_back compacting.every items in
+    let same : compact_lines compacting items ≡ lines =
+    lines-same compacting items h.in_place (started items h.header) in
+    let clean : AllByRecursion IsClean lines = (
+      version-clean,
+      (program-clean compacting.date dated, lines-clean compacting.every items h.in_place h.copied none),
+    ) in
+    ap (λ ls. expanded (lines_text ls) expanding) same
+    ∙ ap (expansion_result expanding) (lines-cut lines clean)
+    ∙ ap (result_of expanded_unit) (whole-back compacting.every expanding.skip compacting.date items h)
+    ∙ result-well (read_back compacting.every items)
+    (printed_items items) (printed-same compacting.every items) (no-warnings compacting.every items)

@@ -1,0 +1,37 @@
+-- What the laws of a check say.
+use Rattle.std.specs.Prelude.{◌≡◌, ◌↔◌, ℕ, true, false, List, [], ◌∷◌, ◌++◌, None}
+use Rattle.crx_faults.specs.meaning.Lines.{InputLine, lines_of}
+use Rattle.crx_options.specs.meaning.Choices.{Choices, is_date}
+use Rattle.crx_reading.specs.LineByLine.{seen_end}
+use Rattle.crx_filter.specs.Laws.{failed_by, is_again}
+use Rattle.crx_reading.specs.meaning.Compacted.{compacted}
+use Rattle.crx_reading.specs.meaning.Expanded.{expanded}
+use Rattle.crx_reading.specs.meaning.Standard.{whole_of, whole_reading_of, findings_of, checked, IsStandard}
+use Rattle.crx_reading.specs.CheckByLine.{checking, check_seen, check_step, check_next, found_by}
+use Rattle.crx_reading.specs.meaning.Directions.{fault_so_far}
+
+-- a check is given one line more: no line comes again; the line's fault is the one that ends the reading; and where
+-- there is none, what is seen then is made of the line and of what was seen before it alone
+pub record IsCheckedOn (lines : List InputLine) (line : InputLine) : Type 0 where
+  pub once : is_again (check_step (check_seen lines) line).answer ≡ false
+  pub fault : fault_so_far (lines ++ line ∷ []) ≡ failed_by (check_step (check_seen lines) line).answer
+  pub next : fault_so_far (lines ++ line ∷ []) ≡ None
+      → check_seen (lines ++ line ∷ []) ≡ check_next (check_seen lines) line
+
+-- the end of the input: its fault is that of the whole reading, and where there is none, what was seen is what there is
+-- to find
+pub record IsCheckEnded (lines : List InputLine) : Type 0 where
+  pub fault : (whole_reading_of lines).fault ≡ failed_by (seen_end checking (check_seen lines).reading).answer
+  pub found : (whole_reading_of lines).fault ≡ None → found_by (check_seen lines) ≡ findings_of lines
+
+-- a file that is read to its good end has no line to name exactly where it is standard
+abbrev pub IsNamedWhereNot : List ℕ → Type 0
+IsNamedWhereNot input = (whole_of input).fault ≡ None
+    → (findings_of (lines_of input)).not_standard ≡ None ↔ IsStandard input
+
+-- a file that is read to its good end is reported as standard, with status 0, exactly where the expansion of its
+-- compaction gives it back; whatever is chosen for either
+abbrev pub IsStandardExactlyWhereSame : List ℕ → Choices → Choices → Type 0
+IsStandardExactlyWhereSame input compacting expanding =
+    is_date compacting.date ≡ true → (whole_of input).fault ≡ None
+    → ((checked input).status ≡ 0) ↔ ((expanded (compacted input compacting).output expanding).output ≡ input)

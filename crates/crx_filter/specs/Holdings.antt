@@ -1,0 +1,51 @@
+-- All that engines hold between two lines of an input, part by part. By the law `engines_hold` one that takes over
+-- these parts of another is that other; so there is no part beside them, in which a record of the past lines could
+-- grow.
+use Rattle.crx_reading.specs.Holdings.{compact_reader_with, ready_lines_with, rinex_reader_with}
+use Rattle.crx_filter.specs.declared.compaction.Compaction.{Compaction}
+use Rattle.crx_filter.specs.declared.compactor.Compactor.{Compactor}
+use Rattle.crx_filter.specs.declared.expander.Expander.{Expander}
+use Rattle.crx_filter.specs.declared.checker.Checker.{Checker}
+
+-- a compaction, with the parts of another
+abbrev pub compaction_with : Compaction → Compaction → Compaction
+compaction_with one other = record one {
+  options = other.options;
+  number = other.number;
+  index = other.index;
+  reader = rinex_reader_with one.reader other.reader;
+  columns = other.columns;
+  idle = other.idle;
+  counted = other.counted;
+  within = other.within;
+}
+
+-- a compactor, with the parts of another
+abbrev pub compactor_with : Compactor → Compactor → Compactor
+compactor_with one other = record one {
+  compaction = compaction_with one.compaction other.compaction;
+  ready = ready_lines_with one.ready other.ready;
+  answer = other.answer;
+}
+
+-- an expander, with the parts of another
+abbrev pub expander_with : Expander → Expander → Expander
+expander_with one other = record one {
+  options = other.options;
+  number = other.number;
+  reader = compact_reader_with one.reader other.reader;
+  lines = other.lines;
+  answer = other.answer;
+}
+
+-- a checker, with the parts of another
+abbrev pub checker_with : Checker → Checker → Checker
+checker_with one other = record one {
+  reader = rinex_reader_with one.reader other.reader;
+  number = other.number;
+  totals = other.totals;
+  not_standard = other.not_standard;
+  handed_out = other.handed_out;
+  text = other.text;
+  answer = other.answer;
+}

@@ -1,0 +1,229 @@
+-- What the laws of both filters say, where it is long.
+use Rattle.crx_reading.specs.meaning.Reading.{fault_of_stop}
+use Rattle.std.specs.Prelude.{◌≡◌, ◌<◌, if◌then◌else◌, ℕ, Bool, true, false, List, [], ◌∷◌, ◌++◌, Option, Some, None}
+use Rattle.std.specs.Prelude.{map, ⊤}
+use Rattle.crx_faults.specs.meaning.Seen.{ReadLine, seen}
+use Rattle.crx_rinex.specs.meaning.Places.{Place, Here, Wanted}
+use Rattle.crx_rinex.specs.Steady.{IsSteady}
+use Rattle.crx_rinex.specs.meaning.Units.{Unit as FileUnit, HeaderLine, EventLine, EventRecord, Observation, Unit}
+use Rattle.crx_rinex.specs.meaning.EpochLines.{is_event_line, records_in}
+use Rattle.crx_rinex.specs.meaning.Epochs.{IsWholeEpoch}
+use Rattle.crx_reading.specs.meaning.UnitPlaces.{types_fault, header_line_fault}
+use Rattle.std.specs.Option.{is_some}
+use Rattle.crx_faults.specs.meaning.Lines.{lines_of}
+use Rattle.crx_faults.specs.declared.fault.At.{At}
+use Rattle.crx_options.specs.meaning.Choices.{Choices}
+use Rattle.crx_reading.specs.meaning.Items.{Item, Accepted, Warned, is_at_start, header_has_ended, records_left}
+use Rattle.crx_reading.specs.meaning.Items.{records_count_types, types_in_force}
+use Rattle.crx_reading.specs.meaning.Reading.{Reading, AtFault, AtLines, Looking, WholeReading, reading_from}
+use Rattle.crx_reading.specs.meaning.Reading.{looked_for}
+use Rattle.crx_faults.specs.meaning.Faults.{is_skippable}
+use Rattle.crx_reading.specs.meaning.Written.{warnings_in}
+use Rattle.crx_reading.specs.LineByLine.{Direction, Seen, Step, Answer, Quiet, Ready, Notice, Failed, seen_next}
+use Rattle.crx_reading.specs.LineByLine.{seen_end}
+use Rattle.crx_rinex.specs.meaning.Observations.{Epoch}
+use Rattle.crx_history.specs.meaning.CompactPlaces.{ReadEpoch}
+use Rattle.crx_filter.specs.Compacted.{compaction_so_far}
+use Rattle.crx_reading.specs.meaning.Directions.{rinex_reading}
+use Rattle.crx_reading.specs.meaning.Compacted.{whole_rinex, compact_lines}
+use Rattle.crx_filter.specs.Expanded.{expanded_lines, expansion_so_far}
+use Rattle.crx_reading.specs.meaning.Directions.{compact_reading}
+use Rattle.crx_reading.specs.meaning.Expanded.{whole_compact}
+use Rattle.crx_reading.specs.CompactionByLine.{compaction, compaction_seen}
+use Rattle.crx_reading.specs.ExpansionByLine.{expansion, expansion_seen}
+use Rattle.crx_runs.specs.meaning.Results.{Begins}
+
+-- a reading that is continued, once more lines have come
+abbrev pub continued_reading : {E : Type 0}
+    → (List (Item E) → List ReadLine → Place (Unit E)) → Bool → Reading E → List ReadLine → Reading E
+continued_reading place skip so_far more =
+    elim (so_far.stop) [
+      | AtFault at ↦ record { items = so_far.items; stop = AtFault at }
+      | AtLines number lines ↦ reading_from place skip so_far.items number (lines ++ more)
+      | Looking number ↦ looked_for (reading_from place skip so_far.items) so_far.items number more
+    ]
+
+-- what stands at a place is certain as soon as its last line has come, and where there is no line yet, one is wanted
+pub record IsReadForward {E : Type 0} (place : List (Item E) → List ReadLine → Place (FileUnit E)) : Type 0 where
+  pub steady : (items : List (Item E)) → IsSteady (place items)
+  pub wants : (items : List (Item E)) → place items [] ≡ Wanted
+
+-- the reading of some lines and more goes on from the reading of the first
+abbrev pub IsResumed : {E : Type 0} → (List (Item E) → List ReadLine → Place (FileUnit E)) → Type 0
+IsResumed {E = E} place =
+    (skip : Bool) (items : List (Item E)) (number : ℕ) (lines more : List ReadLine)
+    → reading_from place skip items number (lines ++ more)
+    ≡ continued_reading place skip (reading_from place skip items number lines) more
+
+-- ---- prefixes
+
+-- what is written for some lines stands at the beginning of what is written for these lines and more, and of the whole
+-- output for every input that has these lines first
+pub record IsWrittenFirst (so_far : List ReadLine
+    → Choices → List ℕ) (output : List ℕ → Choices → List ℕ) (choices : Choices) (lines : List ReadLine) : Type 0 where
+  pub longer : (more : List ReadLine) → Begins (so_far (lines ++ more) choices) (so_far lines choices)
+  pub whole : (input : List ℕ) (more : List ReadLine)
+      → map seen (lines_of input) ≡ lines ++ more → Begins (output input choices) (so_far lines choices)
+
+-- ---- one line at a time
+
+-- the warning of an answer
+abbrev pub noticed_by : Answer → List At
+noticed_by Quiet = []
+noticed_by Ready = []
+noticed_by (Notice at again) = at ∷ []
+noticed_by (Failed at) = []
+
+-- the fault of an answer that ends the run
+abbrev pub failed_by : Answer → Option At
+failed_by Quiet = None
+failed_by Ready = None
+failed_by (Notice at again) = None
+failed_by (Failed at) = Some at
+
+-- whether the line is to come again
+abbrev pub is_again : Answer → Bool
+is_again Quiet = false
+is_again Ready = false
+is_again (Notice at again) = again
+is_again (Failed at) = false
+
+-- what a line comes to: the warnings, newest first; the fault that ended the run; the lines handed out; and what is
+-- seen then
+pub record Fed (O K : Type 0) : Type 0 where
+  pub warned : List At
+  pub failed : Option At
+  pub handed_out : List (List ℕ)
+  pub next : Seen O K
+
+abbrev pub fed_once : {O K : Type 0} → Step O K → Fed O K
+fed_once step = record {
+  warned = noticed_by step.answer;
+  failed = failed_by step.answer;
+  handed_out = step.handed_out;
+  next = step.next;
+}
+
+abbrev pub fed_twice : {O K : Type 0} → Step O K → Step O K → Fed O K
+fed_twice one two = record {
+  warned = noticed_by two.answer ++ noticed_by one.answer;
+  failed = failed_by two.answer;
+  handed_out = one.handed_out ++ two.handed_out;
+  next = two.next;
+}
+
+-- a line is given once, or a second time where it is to come again
+abbrev pub fed : {U O K : Type 0} → Direction U O K → Seen O K → ReadLine → Fed O K
+fed direction seen line =
+    let one : Step _ _ = seen_next direction seen line in
+    elim (is_again one.answer) [ true ↦ fed_twice one (seen_next direction one.next line) | false ↦ fed_once one ]
+
+-- one line more, as it is fed and as it is read: what is seen then, the lines that are written more, the warnings that
+-- come, and the fault that has ended the run by then
+pub record IsFollowed {O K : Type 0} (seen_then : Seen O K) (written_before written_then : List (List ℕ))
+    (warned_before warned_then : List At) (failed_then : Option At) (line_fed : Fed O K) : Type 0 where
+  pub next : seen_then ≡ line_fed.next
+  pub handed_out : written_then ≡ written_before ++ line_fed.handed_out
+  pub warned : warned_then ≡ line_fed.warned ++ warned_before
+  pub failed : failed_then ≡ line_fed.failed
+
+-- a compaction is given one line more: it has seen, written and reported what the compaction of all these lines has; a
+-- line is fed by what was seen before it alone
+abbrev pub IsCompactedOn : Choices → List ReadLine → ReadLine → Type 0
+IsCompactedOn choices lines line =
+    let before : Reading Epoch = rinex_reading choices.skip lines in
+    let after : Reading Epoch = rinex_reading choices.skip (lines ++ line ∷ []) in
+    IsFollowed (compaction_seen choices (lines ++ line ∷ []))
+    (compaction_so_far choices lines) (compaction_so_far choices (lines ++ line ∷ []))
+    (warnings_in before.items) (warnings_in after.items)
+    (fault_of_stop after.stop) (fed compaction (compaction_seen choices lines) line)
+
+-- an expansion is given one line more: it has seen, written and reported what the expansion of all these lines has
+abbrev pub IsExpandedOn : Choices → List ReadLine → ReadLine → Type 0
+IsExpandedOn choices lines line =
+    let before : Reading ReadEpoch = compact_reading choices.skip lines in
+    let after : Reading ReadEpoch = compact_reading choices.skip (lines ++ line ∷ []) in
+    IsFollowed (expansion_seen choices (lines ++ line ∷ []))
+    (expansion_so_far choices lines) (expansion_so_far choices (lines ++ line ∷ []))
+    (warnings_in before.items) (warnings_in after.items)
+    (fault_of_stop after.stop) (fed expansion (expansion_seen choices lines) line)
+
+-- ---- the end of the input
+
+-- the end of the input, as it comes after some lines and as all lines are read: no line comes again, nothing more is
+-- written, and the warning and the fault are those of the whole reading
+pub record IsEndedBy {O K : Type 0} (written_then written_whole : List (List ℕ))
+    (warned_then warned_whole : List At) (failed_whole : Option At) (end : Step O K) : Type 0 where
+  pub once : is_again end.answer ≡ false
+  pub handed_out : end.handed_out ≡ []
+  pub written : written_whole ≡ written_then
+  pub warned : warned_whole ≡ noticed_by end.answer ++ warned_then
+  pub failed : failed_whole ≡ failed_by end.answer
+
+abbrev pub IsCompactionEnded : Choices → List ReadLine → Type 0
+IsCompactionEnded choices lines =
+    let whole : WholeReading Epoch = whole_rinex choices.skip lines in
+    IsEndedBy (compaction_so_far choices lines)
+    (compact_lines choices whole.items) (warnings_in (rinex_reading choices.skip lines).items)
+    (warnings_in whole.items) whole.fault (seen_end compaction (compaction_seen choices lines))
+
+abbrev pub IsExpansionEnded : Choices → List ReadLine → Type 0
+IsExpansionEnded choices lines =
+    let whole : WholeReading ReadEpoch = whole_compact choices.skip lines in
+    IsEndedBy (expansion_so_far choices lines) (expanded_lines whole.items) (warnings_in (compact_reading choices.skip
+    lines).items) (warnings_in whole.items) whole.fault (seen_end expansion (expansion_seen choices lines))
+
+-- ---- a fault that ended the run
+
+-- once a fault has ended the run, more lines change nothing
+pub record StaysEnded {E : Type 0} (reading : List ReadLine
+    → Reading E) (whole : List ReadLine → WholeReading E) (lines more : List ReadLine) (at : At) : Type 0 where
+  pub same : reading (lines ++ more) ≡ reading lines
+  pub ended : whole (lines ++ more) ≡ record { items = (reading lines).items; fault = Some at }
+
+-- ---- what was accepted
+
+-- each accepted unit stood at some lines after the items before it, and each warning came where a fault may be skipped
+abbrev pub ItemsAreRead : {E : Type 0} → (List (Item E) → List ReadLine → Place (FileUnit E)) → List (Item E) → Type 0
+ItemsAreRead place [] = ⊤
+ItemsAreRead place (Accepted unit ∷ before) =
+    ((lines : List ReadLine) × (count : ℕ) × (place before lines ≡ Here unit count)) × ItemsAreRead place before
+ItemsAreRead place (Warned at ∷ before) = ((header_has_ended before ≡ true)
+    × (records_left before ≡ 0) × (is_skippable at.fault ≡ true)) × ItemsAreRead place before
+
+-- what is true of a unit that was accepted after some items: a header line stands in the header and is good; an event's
+-- first line is one, and stands between units; a record is one of those that its event announces, and no bad types line
+-- where these count; and an epoch is whole, with the types in force
+abbrev pub IsInPlace : List (Item Epoch) → FileUnit Epoch → Type 0
+IsInPlace before (HeaderLine line) = (header_has_ended before ≡ false)
+    × (header_line_fault (is_at_start before) line ≡ None)
+IsInPlace before (EventLine line) = (header_has_ended before ≡ true)
+    × (records_left before ≡ 0) × (is_event_line line ≡ true) × (is_some (records_in line) ≡ true)
+IsInPlace before (EventRecord line) = (header_has_ended before ≡ true)
+    × (0 < records_left before) × ((if records_count_types before then types_fault line else None) ≡ None)
+IsInPlace before (Observation epoch) = (header_has_ended before ≡ true)
+    × (records_left before ≡ 0) × IsWholeEpoch (types_in_force before) epoch
+
+-- each unit that was accepted is in place, and each warning came where a fault may be skipped
+abbrev pub AreInPlace : List (Item Epoch) → Type 0
+AreInPlace [] = ⊤
+AreInPlace (Accepted unit ∷ before) = IsInPlace before unit × AreInPlace before
+AreInPlace (Warned at ∷ before) =
+    ((header_has_ended before ≡ true) × (records_left before ≡ 0) × (is_skippable at.fault ≡ true)) × AreInPlace before
+
+-- ---- ready lines
+
+abbrev pub is_ready : Answer → Bool
+is_ready Quiet = false
+is_ready Ready = true
+is_ready (Notice at again) = false
+is_ready (Failed at) = false
+
+abbrev pub has_lines : List (List ℕ) → Bool
+has_lines [] = false
+has_lines (line ∷ lines) = true
+
+-- a line is answered as ready exactly where lines are borrowed
+abbrev pub IsReadyWhereHandedOut : {U O K : Type 0} → Direction U O K → Type 0
+IsReadyWhereHandedOut {O = O} {K = K} direction = (seen : Seen O K) (line : ReadLine)
+    → is_ready (seen_next direction seen line).answer ≡ has_lines (seen_next direction seen line).handed_out
