@@ -1,5 +1,5 @@
 -- Good results come from good results.
-use Rattle.std.specs.Prelude.{◌≡◌, refl, Bool, true, false, List, ◌∷◌, Result, Ok, Err, if◌then◌else◌}
+use Rattle.std.specs.Prelude.{◌≡◌, refl, Bool, true, false, List, ◌∷◌, Result, Ok, Err, OnOk, IfOk, if◌then◌else◌}
 use Rattle.std.specs.Result.{is_ok}
 use Rattle.std.proofs.Common.{sym, ap, true≢false}
 use Rattle.crx_faults.specs.declared.fault.Fault.{Fault}
@@ -50,3 +50,12 @@ pub before-ok : {X : Type 0} (x : X) (r : Result (List X) Fault) (given : List X
     → before_all x r ≡ Ok given → Follows r (λ xs. Ok (x ∷ xs)) given
 before-ok x (Ok xs) given e = record { from = xs; first = refl; next = e }
 before-ok x (Err q) given e = absurd (no-err q given e)
+
+-- ---- a refusal that is handed on
+
+-- what is said of a good result holds of it
+pub no-ok : {T E : Type 0} (r : Result T E) (e : E) (X : Type 0) → r ≡ Err e → OnOk r X
+no-ok r e X is = rw is tt
+
+pub no-value : {T E : Type 0} (r : Result T E) (e : E) (P : T → Type 0) → r ≡ Err e → IfOk r P
+no-value r e P is = rw is tt

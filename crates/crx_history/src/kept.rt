@@ -37,7 +37,7 @@ use crx_arcs::arc::ClockArc;
 use crx_faults::Fault;
 use crx_faults::limits::{HEAD_WIDTH, LINE_LIMIT, NAME_WIDTH, SATELLITES_LIMIT};
 use crx_header::{Types, after_columns, is_same_identifier, padded, put_identifier};
-use crx_rinex::{Epoch, EpochLine, Identifiers, SatRow, begins_epoch, print_head};
+use crx_rinex::{Epoch, EpochLine, Identifiers, begins_epoch, print_head};
 use crx_text::difference::patch_bytes;
 use crx_text::{Text, code_read, trim_end};
 use std::alloc::{AllocError, Global};
@@ -365,13 +365,25 @@ impl KeptEpoch {
         ensures err { IfErr result (λ fault. fault ≡ Fault.OutOfMemory) }
         ensures memory { OnErr result (0 < length satellites.now) }
     {
-        let head = EpochLine::new(padded(&self.text, 1), self.clock.value()).unwrap();
-        let mut epoch = Epoch::new(alloc, head);
+        let mut epoch = Epoch::new(alloc, self.head());
         for place in 0..satellites.len() {
-            let row = self.satellites[place].row(alloc, &satellites[place])?;
-            push_row(&mut epoch, row)?;
+            push_row(
+                &mut epoch,
+                alloc,
+                &self.satellites[place],
+                &satellites[place],
+            )?;
         }
         Ok(epoch)
+    }
+
+    /// The first line of the epoch that the history shows.
+    fn head(&self) -> EpochLine
+        requires { is_some (epoch_count (columns self.now.text 1 HEAD_WIDTH)) ≡ true }
+        ensures head { result.head ≡ columns self.now.text 1 HEAD_WIDTH }
+        ensures clock { result.clock ≡ shown_value self.now.clock }
+    {
+        EpochLine::new(padded(&self.text, 1), self.clock.value()).unwrap()
     }
 
     /// Replaces a text by the printed line of the epoch that the history shows.
@@ -379,8 +391,7 @@ impl KeptEpoch {
         requires { is_some (epoch_count (columns self.now.text 1 HEAD_WIDTH)) ≡ true }
         ensures { text.new ≡ printed_head (columns self.now.text 1 HEAD_WIDTH) (shown_value self.now.clock) }
     {
-        let head = EpochLine::new(padded(&self.text, 1), self.clock.value()).unwrap();
-        print_head(&head, text);
+        print_head(&self.head(), text);
     }
 
     /// Puts the printed lines of so many rows that the history shows after others.
@@ -395,14 +406,21 @@ impl KeptEpoch {
     }
 }
 
-/// Puts a row after the others of an epoch, which has no row of its satellite: so only `OutOfMemory` can refuse it.
-fn push_row(epoch: &mut Epoch, row: SatRow) -> Result<(), Fault>
+/// Puts the row that a satellite's history shows after the others of an epoch, which has no row of it: so only `OutOfMemory` can refuse it.
+fn push_row(
+    epoch: &mut Epoch,
+    alloc: Global,
+    held: &HeldSatellite,
+    satellite: &AwaitedSatellite,
+) -> Result<(), Fault>
+    requires named { held.now.name ≡ satellite.now.name }
+    requires sized { length held.now.cells ≡ satellite.now.count }
     requires wanted { is_full_epoch epoch.old ≡ false }
-    requires new { has_satellite row.name epoch.old.rows ≡ false }
-    ensures ok { OnOk result (epoch.new ≡ with_row epoch.old row) }
+    requires new { has_satellite held.now.name epoch.old.rows ≡ false }
+    ensures ok { OnOk result (epoch.new ≡ with_row epoch.old (shown_row held.now)) }
     ensures err { IfErr result (λ fault. fault ≡ Fault.OutOfMemory) }
 {
-    match epoch.push(row) {
+    match epoch.push(held.row(alloc, satellite)?) {
         Ok(()) => Ok(()),
         Err((_, fault)) => Err(fault),
     }

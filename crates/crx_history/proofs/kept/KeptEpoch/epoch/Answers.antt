@@ -1,72 +1,46 @@
 use Rattle.std.proofs.Common.{ap, ◌∙◌, ◌≡◌, [], List, ℕ, ℤ, Bool, Option, is_some, length, slice_index_or, arith}
 use Rattle.crx_columns.specs.meaning.Columns.{columns}
 use Rattle.crx_faults.specs.declared.limits.TheConstants.{HEAD_WIDTH}
-use Rattle.crx_rinex.specs.meaning.EpochLines.{epoch_count}
 use Rattle.crx_rinex.specs.Epochs.{is_full_epoch, with_row}
 use Rattle.crx_rinex.specs.meaning.Epochs.{has_satellite}
-use Rattle.crx_rinex.specs.meaning.Observations.{Epoch, Row}
+use Rattle.crx_rinex.specs.meaning.Observations.{Epoch}
 use Rattle.crx_history.specs.ShownRows.{shown_epoch, shown_row}
-use Rattle.crx_arcs.specs.ArcSteps.{shown_value}
 use Rattle.crx_history.specs.Tails.{RowTail, Tail}
 use Rattle.crx_history.proofs.ShownEpochs.{IsRowShown, row-at}
-use Rattle.crx_history.proofs.ShownEpochs.{line-made, made-line}
+use Rattle.std.proofs.lemmas.Result.{err_from_is_err_and}
+use Rattle.crx_history.proofs.Results.{no-value}
 use Rattle.crx_history.proofs.kept.KeptEpoch.epoch.Goals as goal
 
-pub unwrap-head-requires : goal.unwrap-head-requires
-unwrap-head-requires c =
-    let same : c.padded.result ≡ columns c.args.self.now.text 1 HEAD_WIDTH =
-    c.padded.ensures ∙ ap (λ t. columns t 1 HEAD_WIDTH) (c.deref.ensures.value ∙ ap (λ (t : Tail). t.text) c.self.view_is) in
-    line-made c.new.result c.padded.result c.value.result c.new.ensures
-    (ap {B = Bool} (λ (h : List ℕ). is_some (epoch_count h)) same
-    ∙ ap {B = Bool} (λ (n : Option ℕ). is_some n) c.requires.announced.counted)
+pub returns-in_err-push_row-clause-ok : goal.returns-in_err-push_row-clause-ok
+returns-in_err-push_row-clause-ok c =
+    let p = err_from_is_err_and c.from_residual.result c.from_residual.ensures.1 in no-value _ _ _ p.1
+
+pub head-requires : goal.head-requires
+head-requires c = ap {B = Bool} (λ (n : Option ℕ). is_some n) c.requires.announced.counted
 
 pub loop-place-init : goal.loop-place-init
 loop-place-init c =
-    let head : List ℕ = columns c.args.self.now.text 1 HEAD_WIDTH in
-    let same : c.padded.result ≡ head =
-    c.padded.ensures ∙ ap (λ t. columns t 1 HEAD_WIDTH) (c.deref.ensures.value ∙ ap (λ (t : Tail). t.text) c.self.view_is) in
     c.new-epoch.ensures.value
-    ∙ made-line c.new.result c.padded.result c.value.result c.unwrap-head.result c.new.ensures c.unwrap-head.ensures
-    ∙ ap {B = Epoch} (λ (h : List ℕ). record { head = h; clock = c.value.result; rows = [] }) same
-    ∙ ap {B = Epoch} (λ (q : Option ℤ). record { head = head; clock = q; rows = [] })
-    (c.value.ensures.value ∙ ap (λ (t : Tail). shown_value t.clock) c.self.view_is)
+    ∙ ap {B = Epoch} (λ (h : List ℕ). record { head = h; clock = c.head.result.clock; rows = [] }) c.head.ensures.head
+    ∙ ap {B = Epoch} (λ (q : Option ℤ). record {
+      head = columns c.args.self.now.text 1 HEAD_WIDTH;
+      clock = q;
+      rows = [];
+    }) c.head.ensures.clock
 
-pub row-requires-clause-named : goal.row-requires-clause-named
-row-requires-clause-named c =
+pub push_row-requires : goal.push_row-requires
+push_row-requires c =
     let at : IsRowShown c.args.self.now c.loop-place.place c.index.result.now c.index-satellites-place.result =
     row-at c.args.self.now c.args.satellites.now (length c.args.satellites.now) c.loop-place.place c.index.result.now
     c.index-satellites-place.result c.requires c.loop-place-test.true
     (c.index.ensures ∙ ap (λ (rs : List RowTail). slice_index_or rs c.loop-place.place c.index.result.now)
     (ap (λ (t : Tail). t.rows) c.self.view_is)) c.index-satellites-place.is in
-    at.named
-
-pub row-requires-clause-sized : goal.row-requires-clause-sized
-row-requires-clause-sized c =
-    let at : IsRowShown c.args.self.now c.loop-place.place c.index.result.now c.index-satellites-place.result =
-    row-at c.args.self.now c.args.satellites.now (length c.args.satellites.now) c.loop-place.place c.index.result.now
-    c.index-satellites-place.result c.requires c.loop-place-test.true
-    (c.index.ensures ∙ ap (λ (rs : List RowTail). slice_index_or rs c.loop-place.place c.index.result.now)
-    (ap (λ (t : Tail). t.rows) c.self.view_is)) c.index-satellites-place.is in
-    at.sized
-
-pub push_row-requires-clause-new : goal.push_row-requires-clause-new
-push_row-requires-clause-new c =
-    let at : IsRowShown c.args.self.now c.loop-place.place c.index.result.now c.index-satellites-place.result =
-    row-at c.args.self.now c.args.satellites.now (length c.args.satellites.now) c.loop-place.place c.index.result.now
-    c.index-satellites-place.result c.requires c.loop-place-test.true
-    (c.index.ensures ∙ ap (λ (rs : List RowTail). slice_index_or rs c.loop-place.place c.index.result.now)
-    (ap (λ (t : Tail). t.rows) c.self.view_is)) c.index-satellites-place.is in
-    ap (λ (r : Row). has_satellite r.name c.loop-place.epoch.rows) c.in_ok-row.ensures.ok
-    ∙ ap (λ (e : Epoch). has_satellite (shown_row c.index.result.now).name e.rows) c.loop-place.invariant ∙ at.new
-
-pub push_row-requires-clause-wanted : goal.push_row-requires-clause-wanted
-push_row-requires-clause-wanted c =
-    let at : IsRowShown c.args.self.now c.loop-place.place c.index.result.now c.index-satellites-place.result =
-    row-at c.args.self.now c.args.satellites.now (length c.args.satellites.now) c.loop-place.place c.index.result.now
-    c.index-satellites-place.result c.requires c.loop-place-test.true
-    (c.index.ensures ∙ ap (λ (rs : List RowTail). slice_index_or rs c.loop-place.place c.index.result.now)
-    (ap (λ (t : Tail). t.rows) c.self.view_is)) c.index-satellites-place.is in
-    ap is_full_epoch c.loop-place.invariant ∙ at.wanted
+    record {
+      named = at.named;
+      sized = at.sized;
+      wanted = ap is_full_epoch c.loop-place.invariant ∙ at.wanted;
+      new = ap (λ (e : Epoch). has_satellite c.index.result.now.name e.rows) c.loop-place.invariant ∙ at.new;
+    }
 
 pub loop-place-preserved : goal.loop-place-preserved
 loop-place-preserved c =
@@ -76,8 +50,7 @@ loop-place-preserved c =
     (c.index.ensures ∙ ap (λ (rs : List RowTail). slice_index_or rs c.loop-place.place c.index.result.now)
     (ap (λ (t : Tail). t.rows) c.self.view_is)) c.index-satellites-place.is in
     c.in_ok-push_row.ensures.ok
-    ∙ ap (λ (e : Epoch). with_row e c.in_ok-row.row) c.loop-place.invariant
-    ∙ ap (with_row (shown_epoch c.args.self.now c.loop-place.place)) c.in_ok-row.ensures.ok ∙ at.with
+    ∙ ap (λ (e : Epoch). with_row e (shown_row c.index.result.now)) c.loop-place.invariant ∙ at.with
 
 pub returns-clause-ok : goal.returns-clause-ok
 returns-clause-ok c =

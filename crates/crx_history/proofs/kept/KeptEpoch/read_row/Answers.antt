@@ -1,4 +1,5 @@
-use Rattle.std.proofs.Common.{◌≡◌, List, ℕ, length, slice_index_or, slice_set, ap, ◌∙◌, sym}
+use Rattle.std.proofs.Common.{◌≡◌, refl, List, ℕ, length, slice_index_or, slice_set, ap, ◌∙◌, sym, arith}
+use Rattle.std.proofs.lemmas.List.{length-set}
 use Rattle.std.proofs.lemmas.Option.{slice_get_within}
 use Rattle.crx_arcs.specs.meaning.Sequences.{named}
 use Rattle.crx_history.specs.Tails.{RowTail, Tail}
@@ -6,6 +7,26 @@ use Rattle.crx_history.specs.HeldRows.{row_held}
 use Rattle.crx_arcs.proofs.PlaceByPlace.{value-there}
 use Rattle.crx_history.proofs.Marks.{if-err, next-row, on-ok, row-by_tail}
 use Rattle.crx_history.proofs.kept.KeptEpoch.read_row.Goals as goal
+
+pub read-requires : goal.read-requires
+read-requires c =
+    let here : c.index_mut.result.now ≡ c.requires.room.row =
+    c.index_mut.ensures.value
+    ∙ ap (λ (t : Tail). slice_index_or t.rows c.args.index c.index_mut.result.now) c.self.view_is
+    ∙ value-there c.args.self.now.rows c.args.index c.requires.room.row _ c.requires.room.there in
+    record {
+      sized = ap (λ (r : RowTail). length r.cells) here ∙ c.requires.room.many;
+      short = c.requires.short;
+      other = c.requires.other;
+    }
+
+pub invariant_of-self : goal.invariant_of-self
+invariant_of-self c = (
+  c.self.invariant.0,
+  (omega arith, refl),
+  λ is. (omega arith, omega arith, refl),
+  rw (length-set c.self.inside.satellites.items c.args.index c.read.new.self) c.self.invariant.3,
+)
 
 pub returns-clause-ok : goal.returns-clause-ok
 returns-clause-ok c =
