@@ -260,7 +260,7 @@ def link(made, program):
 
 
 def build_library():
-    """Proves and builds the static library for C, over the libraries that `make` left, or else over those that the gate passed.
+    """Proves and builds the static library for C, over the libraries that `make` or the gate left, or else over those of a copy.
     Whether that went well."""
     uses = crates()
     libraries = below(LIBRARY, uses)
@@ -275,8 +275,8 @@ def build_library():
 
 
 def build_library_apart(libraries):
-    """The same in a copy of the crates below it, without wrong bodies: what the gate passed, `rt ci` takes there from what it keeps on this
-    machine by checksums, and proves the rest. It builds no static library itself, and `rt lib` would prove all these libraries once more."""
+    """The same in a copy of the crates below it, without wrong bodies: `rt ci` proves them there, but for what it may keep on this machine by
+    checksums. It builds no static library itself."""
     with tempfile.TemporaryDirectory(prefix="rnxcmp-") as folder:
         copy = Path(folder)
         (copy / ".git").mkdir()  # `rt ci` takes this for the top of a repository
@@ -306,15 +306,33 @@ def build_archive(folder):
 def ci(program):
     """Runs `rt ci`, which builds the program: how many things passed and how many failed, of its last line."""
     program.unlink(missing_ok=True)
+    began = time.time()
     status, _ = followed(["rt", "ci"], TOP, Progress().of_the_gate)
     found = re.findall(r"^(\d+) passed, (\d+) failed$", LOG.read_text(errors="replace"), re.M)
     passed, failed = (int(found[-1][0]), int(found[-1][1])) if found else (0, 1)
     failed = failed or (1 if status else 0)
     if failed:
         show_log()
+    else:
+        take_over(began)
     if not program.exists():
         build()
     return passed, failed
+
+
+def take_over(began):
+    """Takes the libraries that `rt ci` has proved since then for those that `make` would leave, so that the library for C is built over them:
+    all of them, or none where one is older or isn't there."""
+    uses = crates()
+    names = [name for name in uses if name in below(LIBRARY, uses) + below(PROGRAM, uses)]
+    made = {name: CRATES / name / "out/rlib" / f"{name}.rlib" for name in names}
+    if any(not (it / "format").exists() or (it / "format").stat().st_mtime < began for it in made.values()):
+        return
+    shutil.rmtree(PROVED, ignore_errors=True)
+    for name, it in made.items():
+        shutil.copytree(it, made_of(name), copy_function=os.link)
+    for name, it in sums_of(names, uses).items():
+        (PROVED / f"{name}.sum").write_text(it)
 
 
 def listed():
