@@ -1,4 +1,6 @@
 pub mod meaning
+pub mod Codes
+pub mod FirstDigits
 pub mod ArcTails
 pub mod ArcSteps
 pub mod Arcs

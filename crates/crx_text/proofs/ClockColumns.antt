@@ -13,13 +13,12 @@ use lib.Lanes.{pick_l, mask_l, top, zip2, dots}
 use Rattle.crx_columns.specs.meaning.Columns.{without_first_blanks}
 use Rattle.crx_text.specs.Fields.{is_plain_after, weighed}
 use Rattle.crx_text.specs.meaning.Numbers.{IsWithin, number_of, missing_or_number, signed_number}
-use Rattle.crx_text.specs.FirstDigits.{above_zero}
-use Rattle.crx_text.proofs.DigitRows.{value_small}
+use Rattle.crx_text.specs.Digits.{above_zero}
 use Rattle.crx_text.proofs.LaneBits.{all_bits}
 use Rattle.crx_text.proofs.PlainLanes.{all_at}
 use Rattle.crx_text.proofs.PlainSizes.{joined_of, twelve}
 use Rattle.crx_text.proofs.PlainSpellings.{decimal_whole, weighed_digits}
-use Rattle.crx_text.proofs.PowersOfTen.{digit_range}
+use Rattle.crx_text.proofs.PowersOfTen.{digit_range, value_small}
 use Rattle.crx_text.proofs.ReadBack.{digits_behind}
 use Rattle.crx_text.proofs.Sizes.{neg_is_within, number_of_width, pos_is_within}
 

@@ -1,10 +1,5 @@
 pub mod ClockColumns
 pub mod ClockTexts
-pub mod CodeReads
-pub mod CodeTexts
-pub mod CellReads
-pub mod DigitPairs
-pub mod DigitRows
 pub mod GroupHalves
 pub mod LaneBits
 pub mod PlainLanes

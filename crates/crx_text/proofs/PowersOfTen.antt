@@ -2,6 +2,7 @@
 use Rattle.std.proofs.Common.{pow-add, true, List, [], ◌∷◌, ◌++◌, length, drop, get_or, ◌≡◌, ℕ, suc, ◌+◌, ◌-◌, ◌*◌, ◌<◌}
 use Rattle.std.proofs.Common.{◌≤◌, ◌^◌, arith, refl, ap, sym, ◌∙◌}
 use Rattle.std.proofs.Math.Nat.{pow-suc, one-le-pow, mul-le-mul_left, mul-le-mul_right, pow-le-pow_right}
+use Rattle.std.proofs.lemmas.Bool.{and_parts}
 use Rattle.std.proofs.lemmas.List.{drop_more}
 use Rattle.std.proofs.lemmas.Str.{digit_value_digit}
 use Rattle.std.proofs.lemmas.Bool.Decides.{nat_tests}
@@ -53,6 +54,21 @@ pub digits_value_after-append : (n : ℕ) (xs ys : List ℕ)
     → digits_value_after 10 n (xs ++ ys) ≡ digits_value_after 10 (digits_value_after 10 n xs) ys
 digits_value_after-append n [] ys = refl
 digits_value_after-append n (x ∷ xs) ys = digits_value_after-append (n * 10 + digit_value x) xs ys
+
+-- the number that digits write is less than the next one before them, with as many zeros
+pub value_small : (size : ℕ) (ds : List ℕ)
+    → all_ascii_digits ds ≡ true → digits_value_after 10 size ds < (size + 1) * 10 ^ length ds
+value_small size [] digits = omega arith
+value_small size (c ∷ cs) digits =
+    let parts = and_parts (is_ascii_digit c) (all_ascii_digits cs) digits in
+    let range = digit_range c parts.0 in
+    let value = digit_value_is c parts.0 in
+    let next : size * 10 + digit_value c + 1 ≤ (size + 1) * 10 = omega (arith, value, range) in
+    let less = value_small (size * 10 + digit_value c) cs parts.1 in
+    let grows : (size * 10 + digit_value c + 1) * 10 ^ length cs ≤ (size + 1) * 10 * 10 ^ length cs =
+    mul-le-mul_right (10 ^ length cs) next in
+    let power : 10 ^ suc (length cs) ≡ 10 ^ length cs * 10 = pow-suc 10 (length cs) in
+    rw power (omega (arith, less, grows))
 
 -- a number of some digits, and as many more digits
 pub more_digits_fit : (size a b n : ℕ) → size < 1 * 10 ^ a → a + b ≤ n → (size + 1) * 10 ^ b ≤ 10 ^ n

@@ -7,7 +7,7 @@ use Rattle.std.proofs.lemmas.Fmt.{decimal_digit, decimal_step}
 use Rattle.std.proofs.lemmas.List.{length-map, length-drop, append-nil}
 use Rattle.std.specs.List.{list_all}
 use Rattle.crx_text.specs.FieldTexts.{leading_zeros}
-pub use Rattle.crx_text.specs.FirstDigits.{written}
+pub use Rattle.crx_text.specs.Digits.{written}
 use Rattle.crx_text.specs.meaning.Numbers.{zero_padded}
 
 abbrev pub are_digits : List ℕ → Bool

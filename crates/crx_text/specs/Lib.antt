@@ -1,6 +1,5 @@
 pub mod meaning
-pub mod Codes
-pub mod FirstDigits
+pub mod Digits
 pub mod FieldTexts
 pub mod Fields
 pub mod Numbers

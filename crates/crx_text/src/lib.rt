@@ -1,16 +1,14 @@
-//! The texts that RINEX and Compact RINEX files are made of: numbers in columns, and codes. Texts and their differences are those of
-//! crx_columns, faults and limits those of crx_faults; they are handed on.
+//! Numbers in columns, as RINEX files have them. Texts and their differences are those of crx_columns, faults and limits those of
+//! crx_faults; they are handed on.
 #![tactic(auto)]
 
 mod clock_field;
 mod clock_text;
-pub mod code;
-mod digits;
+pub mod digits;
 mod field;
 mod field_text;
 pub mod number;
 
-pub use code::{Code, code_before_blank, code_print, code_read, step_before_blank, write_cell};
 pub use crx_columns::copies::{copy_text, put_blanks};
 pub use crx_columns::difference::{
     BadCharacter, all_kept, all_printable, append_difference, diff_bytes, diff_text, patch_bytes,
