@@ -60,7 +60,7 @@ engine too: for handles read `Going`, `Handles` and `Opened` of `crates/rnxcmp_c
 More has to be read. The public calls `compact`, `expand` and `check` (`crates/crx_filter/src`), `run` (`crates/crx_program/src/program.rt`)
 and those of the library (`crates/rnxcmp_c/src/exports.rt`) have the contracts that use these definitions. The traits `Source` and `Sink`
 (`crates/crx_lines/src/device.rt`) say what readers and writers are. Contracts and definitions cite constants: `limits.rt` of crx_faults,
-`labels.rt` of crx_header, `crinex.rt` of crx_reading and `answer.rt` of rnxcmp_c have them. README.md says what else is trusted.
+`labels.rt` of crx_header, `crinex.rt` beside it and `answer.rt` of rnxcmp_c have them. README.md says what else is trusted.
 docs/FORMATS.md describes the formats in words.
 
 ## The words of the subject

@@ -115,9 +115,9 @@ class Progress:
         self.refused = {}
 
 
-def followed(command, folder, each, temporary=None):
+def followed(command, folder, each, temporary=None, proof=None):
     """Runs a command, with what it prints into the log and line by line to a call: the exit status and the last line. Its temporary files
-    go into a folder, if one is given."""
+    go into a folder, and its process into a proof, if one is given."""
     LOG.parent.mkdir(exist_ok=True)
     last = ""
     with LOG.open("a") as log:
@@ -125,6 +125,8 @@ def followed(command, folder, each, temporary=None):
         streams = {"stdin": subprocess.DEVNULL, "stdout": subprocess.PIPE, "stderr": subprocess.STDOUT}
         environment = {**os.environ, "TMPDIR": temporary} if temporary else None
         with subprocess.Popen(command, cwd=folder, env=environment, text=True, errors="replace", **streams) as process:
+            if proof:
+                proof.process = process
             for line in process.stdout:
                 log.write(line)
                 log.flush()
@@ -160,7 +162,7 @@ def below(name, libraries):
 
 def build():
     """Proves and builds the program and the libraries below it: as many crates at once as there are cores, with a job each, and first those that
-    the longest chain of crates waits for; one that has cores to itself has more jobs. Whether that went well."""
+    the longest chain of crates waits for, which others make way for; one that has cores to itself has more jobs. Whether that went well."""
     uses = crates()
     names = [*below(PROGRAM, uses), PROGRAM]
     sums, rank = sums_of(names, uses), ranks_of(names, uses)
@@ -168,19 +170,37 @@ def build():
     done = [name for name in names if is_proved(name, sums[name])]
     for name in done:
         Progress(began).say(name, "proved before, as it stands")
-    with temporary() as folder, ThreadPoolExecutor(cores()) as pool:
+    with temporary() as folder, ThreadPoolExecutor(processes()) as pool:
         while len(done) < len(names):
-            ready = [name for name in names if name not in done and name not in running.values() and set(done).issuperset(uses[name])]
-            ready = sorted(ready, key=rank.get, reverse=True)[: cores() - len(running)]
-            jobs = max(1, cores() // (len(running) + len(ready)))
-            for name in ready:
-                running[pool.submit(prove, name, sums[name], jobs, folder, Progress(began, name))] = name
-            for ended in wait(running, return_when=FIRST_COMPLETED).done:
-                if ended.result():
+            ready = [name for name in names if name not in done and name not in running and set(done).issuperset(uses[name])]
+            first = sorted([*running, *ready], key=rank.get, reverse=True)[: cores()]
+            starting = [name for name in first if name in ready][: processes() - len(running)]
+            jobs = max(1, cores() // (len(running) + len(starting)))
+            for name in starting:
+                running[name] = Proof(pool, name, sums[name], jobs, folder, Progress(began, name))
+            for name, proof in running.items():
+                if name not in first:
+                    proof.step_back()
+            wait([proof.end for proof in running.values()], return_when=FIRST_COMPLETED)
+            for name in [name for name, proof in running.items() if proof.end.done()]:
+                if running.pop(name).end.result():
                     show_log()
                     return False
-                done.append(running.pop(ended))
+                done.append(name)
     return True
+
+
+class Proof:
+    """A crate that is being proved and built, in a process of its own."""
+
+    def __init__(self, pool, name, wanted, jobs, folder, progress):
+        self.process = None
+        self.end = pool.submit(prove, name, wanted, jobs, folder, progress, self)
+
+    def step_back(self):
+        """Leaves the cores to crates for which more crates wait, and goes on with what these leave."""
+        if self.process and self.process.poll() is None:
+            os.setpriority(os.PRIO_PROCESS, self.process.pid, 19)
 
 
 def sums_of(names, uses):
@@ -212,27 +232,32 @@ def is_proved(name, wanted):
     return is_there and stamp.exists() and stamp.read_text() == wanted
 
 
-def prove(name, wanted, jobs, folder, progress):
+def prove(name, wanted, jobs, folder, progress, proof):
     """Proves and builds a crate with so many jobs, over a folder for the prover's own files: the exit status."""
     PROVED.mkdir(parents=True, exist_ok=True)
     stamp = PROVED / f"{name}.sum"
     stamp.unlink(missing_ok=True)
     command = [*rattle_build(name, PROVED), "--jobs", str(jobs)]
     if name != PROGRAM:
-        status, _ = followed([*command, "--statements", "-o", str(made_of(name))], CRATES / name, progress.of_a_build, folder)
+        status, _ = followed([*command, "--statements", "-o", str(made_of(name))], CRATES / name, progress.of_a_build, folder, proof)
     else:
         made = made_of(name).with_suffix(".o")  # a release is linked of it too
         made.parent.mkdir(exist_ok=True)
-        status = followed([*command, *BACKEND, "-o", str(made)], CRATES / name, progress.of_a_build, folder)[0] or link(made, made_of(name))
+        status = followed([*command, *BACKEND, "-o", str(made)], CRATES / name, progress.of_a_build, folder, proof)[0] or link(made, made_of(name))
     if not status:
         stamp.write_text(wanted)
     return status
 
 
 def cores():
-    """How many proofs run at a time, each in a process of up to 2 GB."""
+    """How many proofs have a core each, at a time."""
+    return max(1, min(len(os.sched_getaffinity(0)), 4, processes()))
+
+
+def processes():
+    """How many proofs there may be at a time, with those that have stepped back: each is a process of up to 2 GB."""
     memory = os.sysconf("SC_PHYS_PAGES") * os.sysconf("SC_PAGE_SIZE")
-    return max(1, min(len(os.sched_getaffinity(0)), 4, memory // 2_000_000_000))
+    return max(1, min(8, memory // 2_000_000_000))
 
 
 def temporary():

@@ -5,6 +5,7 @@ use Rattle.crx_compact.specs.declared.incoming.Incoming.TheInside.{Inside as Inc
 use Rattle.crx_compact.specs.declared.expanded_lines.CopiedLine.TheInside.{Inside as CopiedLineInside}
 use Rattle.crx_compact.specs.declared.expanded_lines.ExpandedLines.TheInside.{Inside as ExpandedLinesInside}
 use Rattle.crx_compact.specs.declared.columns.Columns.TheInside.{Inside as ColumnsInside}
+use Rattle.crx_compact.specs.declared.ready_lines.ReadyLines.{ReadyLines}
 
 -- an epoch whose lines come, with the parts of another
 abbrev pub incoming_with : IncomingInside → IncomingInside → IncomingInside
@@ -41,4 +42,13 @@ columns_with one other = record one {
   lines = other.lines;
   part = other.part;
   alloc = other.alloc;
+}
+
+-- the lines that a compaction has ready, with the parts of another
+abbrev pub ready_lines_with : ReadyLines → ReadyLines → ReadyLines
+ready_lines_with one other = record one {
+  turn = other.turn;
+  program = other.program;
+  copied = other.copied;
+  made = other.made;
 }

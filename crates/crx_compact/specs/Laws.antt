@@ -15,7 +15,7 @@ use Rattle.crx_history.specs.meaning.Compaction.{Marked, since_full, run_of, arc
 use Rattle.crx_history.specs.meaning.Compaction.{epoch_line}
 use Rattle.crx_history.specs.Tails.{Tail, tail_of, IsBoundedTail}
 use Rattle.crx_history.specs.Steps.{no_tail, lines_after_tail, tail_after}
-use Rattle.crx_rinex.specs.meaning.EpochLines.{begins_epoch, is_event_line}
+use Rattle.crx_header.specs.meaning.EpochColumns.{begins_epoch, is_event_line}
 
 -- marks laid over one another by patching line after line, the newest last
 abbrev pub patched_in_turn : List (List ℕ) → List ℕ

@@ -1,4 +1,4 @@
-pub mod OpenEpochs
+pub mod ReadyLines
 pub mod Coded
 pub mod Laws
 pub mod ReadingLaws

@@ -8,8 +8,8 @@ use Rattle.crx_faults.specs.declared.fault.Fault.TheVariants.{NotAnEpoch}
 use Rattle.crx_rinex.specs.meaning.Observations.{Row, Epoch}
 use Rattle.crx_history.specs.meaning.EpochText.{Satellite}
 use Rattle.crx_history.specs.Tails.{RowTail, Tail}
-use Rattle.crx_compact.specs.OpenEpochs.{HeldClock, OpenRawEpoch, RawStep, Going, Faulty, whole_or_awaiting, line_step}
-use Rattle.crx_compact.specs.OpenEpochs.{ColumnsState, Idle, Reading}
+use Rattle.crx_history.specs.OpenEpochs.{HeldClock, OpenRawEpoch, RawStep, Going, Faulty, whole_or_awaiting, line_step}
+use Rattle.crx_history.specs.OpenEpochs.{ColumnsState, Idle, Reading}
 use Rattle.crx_history.specs.HeldRows.{HeldRow, HaveRows}
 use Rattle.crx_history.specs.ShownRows.{shown_epoch}
 use Rattle.crx_compact.specs.declared.incoming.Stage.{Stage}

@@ -7,7 +7,7 @@ use Rattle.crx_rinex.specs.meaning.Places.{Here}
 use Rattle.crx_history.specs.meaning.Expansion.{RawEpoch}
 use Rattle.crx_history.specs.meaning.CompactPlaces.{ReadEpoch, epoch_at}
 use Rattle.crx_history.specs.Tails.{tail_left}
-use Rattle.crx_compact.specs.OpenEpochs.{OpenRawEpoch, open_raw_with, ColumnsState, Idle, Reading}
+use Rattle.crx_history.specs.OpenEpochs.{OpenRawEpoch, open_raw_with, ColumnsState, Idle, Reading}
 
 -- an epoch whose lines have come in part: these lines, by these counts of types, after the raw epochs accepted since
 -- the reader's state was last emptied

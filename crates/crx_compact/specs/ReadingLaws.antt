@@ -19,9 +19,9 @@ use Rattle.crx_history.specs.Expansion.{epoch_from}
 use Rattle.crx_history.specs.meaning.CompactPlaces.{ReadEpoch, epoch_at}
 use Rattle.crx_history.specs.Tails.{Tail, IsBoundedTail, tail_of, tail_of_block, tail_left, tail_or_nothing}
 use Rattle.crx_history.specs.Steps.{raw_tail_after}
-use Rattle.crx_compact.specs.OpenEpochs.{epoch_after, OpenRawEpoch, IsBoundedOpen, IsBoundedStep, first_step, next_step}
-use Rattle.crx_compact.specs.OpenEpochs.{placed_as, held_after, place_of_step, place_by_steps, open_raw_after}
-use Rattle.crx_compact.specs.OpenEpochs.{open_raw_with}
+use Rattle.crx_history.specs.OpenEpochs.{epoch_after, OpenRawEpoch, IsBoundedOpen, IsBoundedStep, first_step, next_step}
+use Rattle.crx_history.specs.OpenEpochs.{placed_as, held_after, place_of_step, place_by_steps, open_raw_after}
+use Rattle.crx_history.specs.OpenEpochs.{open_raw_with}
 use Rattle.crx_compact.specs.Laws.{AreWhole}
 
 -- ---- reading what was written

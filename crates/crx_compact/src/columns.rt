@@ -11,9 +11,9 @@ ghost use Rattle.crx_history.specs.meaning.Expansion.{RawEpoch};
 ghost use Rattle.crx_history.specs.meaning.CompactPlaces.{epoch_at};
 ghost use Rattle.crx_compact.specs.ReadBlocks.{HasReadTo, IsReading};
 ghost use Rattle.crx_faults.specs.declared.limits.TheConstants.{LINE_LIMIT};
-ghost use Rattle.crx_rinex.specs.meaning.EpochLines.{begins_epoch, is_event_line};
-ghost use Rattle.crx_compact.specs.OpenEpochs.{awaits_row, is_faulty, is_idle, makes_epoch, tail_held, first_step, step_in, Faulty, HasMade, HasPrintedLines};
-ghost use Rattle.crx_compact.specs.OpenEpochs.ColumnsState.{Idle};
+ghost use Rattle.crx_header.specs.meaning.EpochColumns.{begins_epoch, is_event_line};
+ghost use Rattle.crx_history.specs.OpenEpochs.{awaits_row, is_faulty, is_idle, makes_epoch, tail_held, first_step, step_in, Faulty, HasMade, HasPrintedLines};
+ghost use Rattle.crx_history.specs.OpenEpochs.ColumnsState.{Idle};
 ghost use Rattle.crx_history.specs.meaning.Compaction.{Marked, compact_epoch};
 ghost use Rattle.crx_history.specs.Tails.{tail_left, tail_or_nothing};
 ghost use Rattle.crx_history.specs.Steps.{lines_after_tail, no_tail, tail_after, tail_written_after};
@@ -49,7 +49,7 @@ pub struct Columns {
 
 impl Model for Columns {
     ghost use Rattle.std.specs.Prelude.{Some, None, ◌≡◌, if◌then◌else◌, false};
-    ghost use Rattle.crx_compact.specs.OpenEpochs.{ColumnsState};
+    ghost use Rattle.crx_history.specs.OpenEpochs.{ColumnsState};
     ghost use Rattle.crx_compact.specs.OpenLines.{columns_state, have_all_come};
     ghost use Rattle.crx_history.specs.Steps.{no_tail};
 

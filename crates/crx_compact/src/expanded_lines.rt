@@ -6,7 +6,7 @@ ghost use Rattle.std.specs.Io.BufRead.{Rests};
 ghost use Rattle.std.specs.Option.{option_copied};
 ghost use Rattle.crx_faults.specs.declared.limits.TheConstants.{HEAD_WIDTH, LINE_LIMIT};
 ghost use Rattle.crx_columns.specs.meaning.Columns.{columns};
-ghost use Rattle.crx_rinex.specs.meaning.EpochLines.{epoch_count};
+ghost use Rattle.crx_header.specs.meaning.EpochColumns.{epoch_count};
 ghost use Rattle.crx_rinex.specs.meaning.Printing.{printed_epoch, printed_row};
 ghost use Rattle.crx_faults.specs.meaning.Lines.{lines_text};
 ghost use Rattle.crx_history.specs.ShownRows.{shown_epoch, shown_row};

@@ -4,10 +4,10 @@ ghost use Rattle.std.specs.Option.{option_copied};
 ghost use Rattle.std.specs.Prelude.{slice_get, ◌≡◌, ◌≤◌, ◌<◌, ◌⊎◌, None, Some, Ok, Err, length, is_some, false, true, OnOk, OnErr, IfOk, IfErr, IfSome, []};
 ghost use Rattle.crx_faults.specs.declared.limits.TheConstants.{LINE_LIMIT};
 ghost use Rattle.crx_history.specs.Tails.{Tail};
-ghost use Rattle.crx_compact.specs.OpenEpochs.{opened_raw, is_faulty, Whole, Faulty};
+ghost use Rattle.crx_history.specs.OpenEpochs.{opened_raw, is_faulty, Whole, Faulty};
 ghost use Rattle.crx_history.specs.HeldRows.{row_after, HasRow, IsNextRow};
 ghost use Rattle.std.specs.Result.{is_ok};
-ghost use Rattle.crx_rinex.specs.meaning.EpochLines.{begins_epoch};
+ghost use Rattle.crx_header.specs.meaning.EpochColumns.{begins_epoch};
 ghost use Rattle.crx_rinex.specs.meaning.Printing.{printed_epoch};
 ghost use Rattle.crx_compact.specs.OpenLines.{open_raw, made_of, step_after, epoch_so_far, have_all_come};
 

@@ -6,6 +6,7 @@ pub mod columns;
 pub mod expanded_lines;
 mod incoming;
 pub mod laws;
+pub mod ready_lines;
 
 pub use coded::Coded;
 pub use columns::Columns;

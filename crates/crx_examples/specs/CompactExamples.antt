@@ -9,7 +9,7 @@ use Rattle.crx_rinex.specs.meaning.Places.{Place}
 use Rattle.crx_faults.specs.meaning.Seen.{ReadLine, Content}
 use Rattle.crx_history.specs.meaning.CompactPlaces.{ReadEpoch}
 use Rattle.crx_history.specs.Steps.{no_tail}
-use Rattle.crx_compact.specs.OpenEpochs.{OpenRawEpoch, placed_as}
+use Rattle.crx_history.specs.OpenEpochs.{OpenRawEpoch, placed_as}
 use Rattle.crx_compact.specs.ReadingLaws.{epochs_at, TypedEpoch}
 
 -- columns 1 to 41 of the epoch at second s of 2024-01-01, with n satellites

@@ -6,3 +6,4 @@ pub mod wayback
 pub mod standard
 pub mod damage
 pub mod Kept
+pub mod CompactSteps

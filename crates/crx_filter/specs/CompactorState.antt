@@ -7,7 +7,7 @@ use Rattle.crx_filter.specs.EngineLines.{HasTaken}
 use Rattle.crx_runs.specs.Engines.{Awaited}
 use Rattle.crx_reading.specs.LineByLine.{Seen}
 use Rattle.crx_filter.specs.CompactionState.{compaction_state}
-use Rattle.crx_reading.specs.ReadyLines.{pending_lines}
+use Rattle.crx_compact.specs.ReadyLines.{pending_lines}
 use Rattle.crx_filter.specs.declared.compactor.Compactor.{Compactor}
 
 -- what it has seen

@@ -1,8 +1,10 @@
 -- All that engines hold between two lines of an input, part by part. By the law `engines_hold` one that takes over
 -- these parts of another is that other; so there is no part beside them, in which a record of the past lines could
 -- grow.
-use Rattle.crx_reading.specs.Holdings.{compact_reader_with, ready_lines_with, rinex_reader_with}
+use Rattle.crx_compact.specs.Holdings.{ready_lines_with}
+use Rattle.crx_reading.specs.Holdings.{rinex_reader_with}
 use Rattle.crx_filter.specs.declared.compaction.Compaction.{Compaction}
+use Rattle.crx_filter.specs.declared.compact_reader.CompactReader.{CompactReader}
 use Rattle.crx_filter.specs.declared.compactor.Compactor.{Compactor}
 use Rattle.crx_filter.specs.declared.expander.Expander.{Expander}
 use Rattle.crx_filter.specs.declared.checker.Checker.{Checker}
@@ -26,6 +28,15 @@ compactor_with one other = record one {
   compaction = compaction_with one.compaction other.compaction;
   ready = ready_lines_with one.ready other.ready;
   answer = other.answer;
+}
+
+-- a reader of compact text, with the parts of another
+abbrev pub compact_reader_with : CompactReader → CompactReader → CompactReader
+compact_reader_with one other = record one {
+  stage = other.stage;
+  types = other.types;
+  columns = other.columns;
+  consistent = other.consistent;
 }
 
 -- an expander, with the parts of another

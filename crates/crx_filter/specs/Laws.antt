@@ -6,7 +6,7 @@ use Rattle.crx_faults.specs.meaning.Seen.{ReadLine, seen}
 use Rattle.crx_rinex.specs.meaning.Places.{Place, Here, Wanted}
 use Rattle.crx_rinex.specs.Steady.{IsSteady}
 use Rattle.crx_rinex.specs.meaning.Units.{Unit as FileUnit, HeaderLine, EventLine, EventRecord, Observation, Unit}
-use Rattle.crx_rinex.specs.meaning.EpochLines.{is_event_line, records_in}
+use Rattle.crx_header.specs.meaning.EpochColumns.{is_event_line, records_in}
 use Rattle.crx_rinex.specs.meaning.Epochs.{IsWholeEpoch}
 use Rattle.crx_reading.specs.meaning.UnitPlaces.{types_fault, header_line_fault}
 use Rattle.std.specs.Option.{is_some}

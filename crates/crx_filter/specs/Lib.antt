@@ -9,6 +9,7 @@ pub mod CompactionState
 pub mod CompactorState
 pub mod CheckingLaws
 pub mod Anew
+pub mod CompactReaders
 pub mod ExpanderState
 pub mod EngineLines
 pub mod CheckerState

@@ -2,14 +2,14 @@
 
 ghost use Rattle.std.specs.Prelude.{◌≡◌, ◌≤◌, true};
 ghost use Rattle.crx_faults.specs.declared.limits.TheConstants.{INPUT_LIMIT};
-ghost use Rattle.crx_compact.specs.OpenEpochs.{is_idle};
+ghost use Rattle.crx_history.specs.OpenEpochs.{is_idle};
 ghost use Rattle.crx_reading.specs.meaning.Compacted.{is_at_every};
 
 use crate::settled::{Settled, after_end, after_fault};
 use crx_compact::Columns;
+use crx_compact::ready_lines::ReadyLines;
 use crx_faults::{At, Fault};
 use crx_options::Options;
-use crx_reading::ready_lines::ReadyLines;
 use crx_reading::rinex_reader::{RinexReader, RinexStep};
 use crx_reading::stage::Stage;
 use crx_rinex::begins_epoch;
@@ -54,7 +54,7 @@ impl Compaction {
     ghost use Rattle.crx_reading.specs.LineByLine.{Ended, failed_step, seen_end, seen_next};
     ghost use Rattle.crx_reading.specs.meaning.Reading.{can_go_on};
     ghost use Rattle.crx_faults.specs.meaning.Faults.{is_skippable};
-    ghost use Rattle.crx_reading.specs.ReadyLines.{pending_lines};
+    ghost use Rattle.crx_compact.specs.ReadyLines.{pending_lines};
     ghost use Rattle.crx_reading.specs.RinexStages.{is_whole, open_epoch};
     ghost use Rattle.crx_filter.specs.EngineSteps.{Steps, step_made, settled_seen};
     ghost use Rattle.crx_reading.specs.Stages.{is_ended, is_settled};

@@ -1,10 +1,10 @@
 //! The engine that compacts RINEX one line at a time.
 
 use crate::compaction::Compaction;
+use crx_compact::ready_lines::ReadyLines;
 use crx_faults::At;
 use crx_lines::Line;
 use crx_options::Options;
-use crx_reading::ready_lines::ReadyLines;
 use crx_runs::Step;
 use crx_runs::engine::answer_given;
 use std::alloc::{AllocError, Global};

@@ -15,12 +15,12 @@ ghost use Rattle.crx_reading.specs.ExpansionByLine.{expansion, expansion_seen};
 ghost use Rattle.crx_faults.specs.meaning.Faults.{is_skippable};
 ghost use Rattle.crx_reading.specs.declared.stage.Stage.TheVariants.{Ended, Open};
 
+use crate::compact_reader::CompactReader;
 use crate::settled::{after_end, after_fault};
 use crx_compact::ExpandedLines;
 use crx_faults::{At, Fault};
 use crx_lines::Line;
 use crx_options::Options;
-use crx_reading::compact_reader::CompactReader;
 use crx_reading::line_number::LineNumber;
 use crx_reading::stage::Stage;
 use crx_rinex::begins_epoch;

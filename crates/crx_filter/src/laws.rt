@@ -1,8 +1,9 @@
 //! Laws over the definitions of this crate: each is the contract of a function that does nothing.
 
 ghost use Rattle.std.specs.Prelude.{◌≡◌};
-ghost use Rattle.crx_filter.specs.Holdings.{compaction_with, compactor_with, expander_with, checker_with};
+ghost use Rattle.crx_filter.specs.Holdings.{compaction_with, compactor_with, compact_reader_with, expander_with, checker_with};
 ghost use Rattle.crx_filter.specs.declared.compaction.Compaction.{Compaction};
+ghost use Rattle.crx_filter.specs.declared.compact_reader.CompactReader.{CompactReader};
 ghost use Rattle.crx_filter.specs.declared.compactor.Compactor.{Compactor};
 ghost use Rattle.crx_filter.specs.declared.expander.Expander.{Expander};
 ghost use Rattle.crx_filter.specs.declared.checker.Checker.{Checker};
@@ -12,6 +13,7 @@ ghost use Rattle.crx_filter.specs.declared.checker.Checker.{Checker};
 pub fn engines_hold()
     ensures compaction { (one other : Compaction) → compaction_with one other ≡ other }
     ensures compactor { (one other : Compactor) → compactor_with one other ≡ other }
+    ensures compact_reader { (one other : CompactReader) → compact_reader_with one other ≡ other }
     ensures expander { (one other : Expander) → expander_with one other ≡ other }
     ensures checker { (one other : Checker) → checker_with one other ≡ other }
 {}

@@ -3,6 +3,7 @@
 
 pub mod checker;
 mod checks;
+mod compact_reader;
 mod compaction;
 pub mod compactor;
 mod compactor_engine;

@@ -2,3 +2,6 @@
 pub mod Label
 pub mod Header
 pub mod ObservationTypes
+pub mod CompactHeader
+pub mod Satellites
+pub mod EpochColumns

@@ -10,7 +10,7 @@ use Rattle.crx_columns.specs.meaning.Texts.{by_position, is_kept}
 use Rattle.std.specs.Str.{bytes_eq}
 use Rattle.std.specs.Char.{is_ascii_digit}
 use Rattle.crx_header.specs.meaning.ObservationTypes.{is_system}
-use Rattle.crx_rinex.specs.meaning.SatelliteLines.{is_identifier}
+use Rattle.crx_header.specs.meaning.Satellites.{is_identifier}
 
 pub at-take_past : (n : ℕ) (text : List ℕ) (p : ℕ) → n ≤ p → at (take n text) p ≡ 32
 at-take_past zero text p h = refl

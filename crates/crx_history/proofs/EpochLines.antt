@@ -7,20 +7,19 @@ use Rattle.std.proofs.Common.{ap, subst, sym, ◌∙◌}
 use Rattle.std.proofs.lemmas.Bool.{and_from}
 use Rattle.crx_columns.specs.meaning.Columns.{is_blank, columns}
 use Rattle.crx_header.specs.meaning.ObservationTypes.{Count}
-use Rattle.crx_rinex.specs.meaning.Epochs.{is_among, are_apart}
+use Rattle.crx_header.specs.meaning.Satellites.{is_among, are_apart, types_of_satellite}
 use Rattle.crx_faults.specs.declared.fault.Fault.{Fault}
 use Rattle.crx_faults.specs.declared.fault.Fault.TheVariants.{BadEpoch, BadSatellite, RepeatedSatellite}
 use Rattle.crx_arcs.specs.meaning.Sequences.{before_all}
-use Rattle.crx_rinex.specs.meaning.EpochLines.{epoch_count}
+use Rattle.crx_header.specs.meaning.EpochColumns.{epoch_count}
 use Rattle.crx_columns.specs.meaning.Texts.{is_printable}
-use Rattle.crx_rinex.specs.meaning.SatelliteLines.{types_of_satellite}
 use Rattle.crx_history.specs.meaning.EpochText.{names_in, Satellite, satellite_before, satellites_named}
 use Rattle.crx_history.specs.meaning.Past.{Past}
 use Rattle.crx_history.specs.meaning.CompactPlaces.{satellites_counted, satellites_of_text, satellites_of_line}
 use Rattle.crx_history.proofs.Identifiers.{AreNew, new-before, not-among}
 use Rattle.crx_history.proofs.Results.{no-err, ok-same, Follows, if-err, if-ok, if-true, if-false, before-ok}
 use Rattle.std.proofs.lemmas.List.{length-map}
-use Rattle.crx_rinex.proofs.Apart.{apart-map}
+use Rattle.crx_header.proofs.Apart.{apart-map}
 use Rattle.crx_history.specs.Tails.{Tail}
 use Rattle.crx_history.specs.HeldRows.{past_of_tail}
 use Rattle.crx_history.specs.RowsSoFar.{AreAnnounced}

@@ -5,8 +5,8 @@ use Rattle.std.specs.Prelude.{find}
 use Rattle.std.specs.List.{list_any, AllByRecursion}
 use Rattle.std.specs.Str.{bytes_eq}
 use Rattle.std.proofs.lemmas.Bool.{and_parts, not-true, or_parts}
-use Rattle.crx_rinex.specs.meaning.Epochs.{is_among, are_apart}
-use Rattle.crx_rinex.proofs.Apart.{new_at, other_way}
+use Rattle.crx_header.specs.meaning.Satellites.{is_among, are_apart}
+use Rattle.crx_header.proofs.Apart.{new_at, other_way}
 use Rattle.crx_arcs.specs.meaning.Sequences.{named}
 use Rattle.crx_history.proofs.Characters.{bytes_eq-same}
 

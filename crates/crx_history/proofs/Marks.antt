@@ -16,7 +16,7 @@ use Rattle.crx_faults.specs.declared.fault.Fault.TheVariants.{BadFlags, Truncate
 use Rattle.std.proofs.Math.Path.{fun_ext}
 use Rattle.crx_columns.specs.meaning.EachPlace.{each_place}
 use Rattle.crx_arcs.specs.meaning.Sequences.{and_then, before_all}
-use Rattle.crx_rinex.specs.meaning.EpochLines.{begins_epoch}
+use Rattle.crx_header.specs.meaning.EpochColumns.{begins_epoch}
 use Rattle.crx_history.specs.meaning.EpochText.{Satellite}
 use Rattle.crx_arcs.specs.meaning.Cells.{ReadCell, after_cells, cells_of, cells_read, cell_read}
 use Rattle.crx_history.specs.meaning.CompactPlaces.{ReadRow, satellite_line_read, are_marks, row_of_cells, row_of_line}

@@ -4,8 +4,8 @@ use Rattle.std.proofs.Common.{take, drop, refl, ap, sym, ◌∙◌, arith}
 use Rattle.std.specs.Str.{bytes_eq}
 use Rattle.std.proofs.lemmas.Bool.{or_parts}
 use Rattle.std.proofs.lemmas.List.{get_or-map, get_or-take, length-take, take-map, take-take}
-use Rattle.crx_rinex.specs.meaning.Epochs.{is_among}
-use Rattle.crx_rinex.proofs.Apart.{among-map}
+use Rattle.crx_header.specs.meaning.Satellites.{is_among}
+use Rattle.crx_header.proofs.Apart.{among-map}
 use Rattle.crx_history.specs.HeldRows.{AreNamed}
 use Rattle.crx_arcs.specs.meaning.Sequences.{named}
 use Rattle.crx_history.specs.Tails.{RowTail}

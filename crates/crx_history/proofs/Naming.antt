@@ -6,15 +6,14 @@ use Rattle.std.specs.Str.{bytes_eq}
 use Rattle.std.proofs.Common.{sym, ◌∙◌, ap, arith}
 use Rattle.crx_columns.specs.meaning.EachPlace.{each_place}
 use Rattle.crx_columns.proofs.EachPlace.{drop-each_place, each_place-more}
-use Rattle.crx_rinex.proofs.Apart.{among-map}
-use Rattle.crx_rinex.specs.meaning.Epochs.{is_among}
+use Rattle.crx_header.proofs.Apart.{among-map}
+use Rattle.crx_header.specs.meaning.Satellites.{is_among, types_of_satellite}
 use Rattle.crx_columns.specs.meaning.Columns.{columns}
 use Rattle.crx_faults.specs.declared.fault.Fault.{Fault}
 use Rattle.crx_faults.specs.declared.fault.Fault.TheVariants.{BadSatellite, RepeatedSatellite}
 use Rattle.crx_header.specs.meaning.ObservationTypes.{Count}
 use Rattle.crx_arcs.specs.meaning.Sequences.{before_all}
 use Rattle.crx_history.specs.meaning.EpochText.{Satellite, names_in, satellite_before, satellites_named}
-use Rattle.crx_rinex.specs.meaning.SatelliteLines.{types_of_satellite}
 use Rattle.crx_history.proofs.Characters.{bytes_eq-same, bytes_eq-is}
 
 -- the names of some satellites before earlier ones, the last one first

@@ -10,7 +10,7 @@ use Rattle.crx_faults.specs.declared.fault.Fault.TheVariants.{BadEpoch}
 use Rattle.crx_columns.specs.meaning.Columns.{columns, is_blank}
 use Rattle.crx_header.specs.meaning.ObservationTypes.{Count}
 use Rattle.crx_columns.specs.meaning.EachPlace.{each_place}
-use Rattle.crx_rinex.specs.meaning.EpochLines.{epoch_count}
+use Rattle.crx_header.specs.meaning.EpochColumns.{epoch_count}
 use Rattle.crx_columns.proofs.EachPlace.{each_place-same, length-each_place}
 use Rattle.crx_history.specs.meaning.CompactPlaces.{satellites_counted, satellites_of_text}
 use Rattle.crx_history.specs.meaning.EpochText.{Satellite, names_in, satellites_named}

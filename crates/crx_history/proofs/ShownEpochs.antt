@@ -8,10 +8,12 @@ use Rattle.std.proofs.lemmas.Option.{slice_get_within, same_Some, slice_get-map}
 use Rattle.std.proofs.lemmas.List.{take_all, length-map, length-take-le, map-append, take-map, take-take}
 use Rattle.crx_faults.specs.declared.fault.Fault.{Fault}
 use Rattle.crx_faults.specs.declared.fault.Fault.TheVariants.{BadEpoch}
-use Rattle.crx_rinex.specs.meaning.EpochLines.{ObservationHead, satellites_of, epoch_count}
+use Rattle.crx_rinex.specs.meaning.EpochLines.{ObservationHead}
+use Rattle.crx_header.specs.meaning.EpochColumns.{satellites_of, epoch_count}
 use Rattle.crx_rinex.specs.Epochs.{begun, is_full_epoch, with_row}
-use Rattle.crx_rinex.specs.meaning.Epochs.{has_satellite, is_among, are_apart}
-use Rattle.crx_rinex.proofs.Apart.{among-names, new_at}
+use Rattle.crx_rinex.specs.meaning.Epochs.{has_satellite}
+use Rattle.crx_header.specs.meaning.Satellites.{is_among, are_apart}
+use Rattle.crx_header.proofs.Apart.{among-names, new_at}
 use Rattle.crx_history.specs.Tails.{Tail, RowTail}
 use Rattle.crx_history.specs.RowsSoFar.{AreRowsSoFar}
 use Rattle.crx_history.proofs.Results.{ok-same, no-err}

@@ -14,8 +14,8 @@ use Rattle.crx_arcs.proofs.PlaceByPlace.{at-padded, at-take}
 use Rattle.crx_history.proofs.Characters.{at-take_past, within-or_past}
 use Rattle.crx_columns.specs.meaning.Columns.{character_at, columns, is_blank, without_end_blanks, before_end_blanks}
 use Rattle.crx_rinex.specs.meaning.Observations.{Row, Epoch}
-use Rattle.crx_rinex.specs.meaning.EpochLines.{ObservationHead, IsObservationHead, begins_epoch, is_observation_flag}
-use Rattle.crx_rinex.specs.meaning.EpochLines.{satellites_in}
+use Rattle.crx_rinex.specs.meaning.EpochLines.{ObservationHead, IsObservationHead}
+use Rattle.crx_header.specs.meaning.EpochColumns.{begins_epoch, is_observation_flag, satellites_in}
 use Rattle.crx_rinex.specs.meaning.Epochs.{IsSoundEpoch}
 use Rattle.crx_rinex.specs.meaning.SatelliteLines.{IsSoundRow}
 use Rattle.crx_history.specs.HeldRows.{AreHeldFlags}

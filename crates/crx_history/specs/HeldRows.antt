@@ -4,10 +4,9 @@ use Rattle.std.specs.Prelude.{Result, Ok, slice_get, slice_set, Bool}
 use Rattle.std.specs.List.{list_all}
 use Rattle.crx_faults.specs.declared.limits.TheConstants.{LINE_LIMIT, OBSERVATION_WIDTH, CLOCK_WIDTH}
 use Rattle.crx_header.specs.meaning.ObservationTypes.{IsAllowedCount}
-use Rattle.crx_rinex.specs.meaning.SatelliteLines.{is_identifier}
+use Rattle.crx_header.specs.meaning.Satellites.{is_identifier, are_apart}
 use Rattle.crx_history.specs.meaning.EpochText.{Satellite}
 use Rattle.crx_columns.specs.meaning.Texts.{is_kept}
-use Rattle.crx_rinex.specs.meaning.Epochs.{are_apart}
 use Rattle.crx_columns.specs.Texts.{patched}
 use Rattle.crx_faults.specs.declared.fault.Fault.{Fault}
 use Rattle.crx_arcs.specs.meaning.Sequences.{and_then}

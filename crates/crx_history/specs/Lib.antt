@@ -2,6 +2,7 @@ pub mod meaning
 pub mod Expansion
 pub mod Tails
 pub mod Steps
+pub mod OpenEpochs
 pub mod ShownRows
 pub mod HeldRows
 pub mod RowsSoFar

@@ -4,10 +4,10 @@ use Rattle.crx_columns.specs.meaning.Columns.{columns}
 use Rattle.crx_faults.specs.declared.limits.TheConstants.{HEAD_WIDTH}
 use Rattle.crx_rinex.specs.meaning.Observations.{Row, Epoch}
 use Rattle.crx_history.specs.meaning.EpochText.{Satellite}
-use Rattle.crx_rinex.specs.meaning.EpochLines.{epoch_count}
+use Rattle.crx_header.specs.meaning.EpochColumns.{epoch_count}
 use Rattle.crx_history.specs.Tails.{Tail}
 use Rattle.crx_history.specs.HeldRows.{past_of_tail}
-use Rattle.crx_rinex.specs.meaning.Epochs.{are_apart}
+use Rattle.crx_header.specs.meaning.Satellites.{are_apart}
 use Rattle.crx_arcs.specs.meaning.Cells.{ReadCell}
 use Rattle.crx_history.specs.meaning.CompactPlaces.{clock_line_read, satellites_of_text}
 use Rattle.crx_header.specs.meaning.ObservationTypes.{Count}

@@ -4,9 +4,9 @@ ghost use Rattle.std.specs.Bool.{OnTrue};
 ghost use Rattle.std.specs.Prelude.{◌≡◌, ◌≤◌, ◌⊎◌, ◌+◌, ◌++◌, ◌∷◌, [], true, false, Some, Ok, Err, drop, length, slice_get, take, map, OnOk, IfErr};
 ghost use Rattle.crx_columns.specs.meaning.Columns.{columns};
 ghost use Rattle.crx_faults.specs.declared.limits.TheConstants.{HEAD_WIDTH, LINE_LIMIT, SATELLITES_LIMIT};
-ghost use Rattle.crx_rinex.specs.meaning.EpochLines.{epoch_count};
+ghost use Rattle.crx_header.specs.meaning.EpochColumns.{epoch_count};
 ghost use Rattle.crx_header.specs.meaning.ObservationTypes.{IsAllowedCount};
-ghost use Rattle.crx_rinex.specs.meaning.SatelliteLines.{is_identifier};
+ghost use Rattle.crx_header.specs.meaning.Satellites.{is_identifier};
 ghost use Rattle.crx_history.specs.meaning.CompactPlaces.{satellites_of_text};
 ghost use Rattle.crx_history.specs.meaning.EpochText.{Satellite, names_in, satellites_named};
 

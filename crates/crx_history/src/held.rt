@@ -4,7 +4,7 @@ ghost use Rattle.std.specs.Prelude.{◌≡◌, ◌≤◌, ◌<◌, ◌+◌, ◌-
 ghost use Rattle.std.specs.List.{flat_map, list_all};
 ghost use Rattle.crx_columns.specs.meaning.Texts.{is_kept};
 ghost use Rattle.std.specs.Result.{is_ok};
-ghost use Rattle.crx_rinex.specs.meaning.EpochLines.{begins_epoch};
+ghost use Rattle.crx_header.specs.meaning.EpochColumns.{begins_epoch};
 ghost use Rattle.crx_arcs.specs.meaning.Codes.{code_text};
 ghost use Rattle.crx_arcs.specs.Codes.{IsPrintable};
 ghost use Rattle.crx_columns.specs.meaning.Texts.{text_difference};

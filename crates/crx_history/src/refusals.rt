@@ -4,7 +4,7 @@
 ghost use Rattle.std.specs.Prelude.{◌≡◌, ◌≤◌, ◌⊎◌, List, [], ℕ, Err, true};
 ghost use Rattle.std.specs.Result.{is_ok};
 ghost use Rattle.crx_faults.specs.declared.limits.TheConstants.{SATELLITES_LIMIT};
-ghost use Rattle.crx_rinex.specs.meaning.Epochs.{is_among};
+ghost use Rattle.crx_header.specs.meaning.Satellites.{is_among};
 ghost use Rattle.crx_history.specs.meaning.CompactPlaces.{satellites_of_text};
 ghost use Rattle.crx_history.specs.meaning.EpochText.{names_in, satellites_named};
 

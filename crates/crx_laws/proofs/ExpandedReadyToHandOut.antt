@@ -12,7 +12,7 @@ use Rattle.crx_faults.specs.declared.fault.Fault.{Fault}
 use Rattle.crx_faults.specs.declared.fault.Fault.TheVariants.{BadEpoch}
 use Rattle.crx_faults.specs.declared.limits.TheConstants.{LINE_LIMIT, NAME_WIDTH, CELL_WIDTH, TYPES_LIMIT}
 use Rattle.crx_rinex.specs.meaning.Observations.{Row, Epoch}
-use Rattle.crx_rinex.specs.meaning.EpochLines.{is_event_line, records_in, satellites_of}
+use Rattle.crx_header.specs.meaning.EpochColumns.{is_event_line, records_in, satellites_of}
 use Rattle.crx_rinex.specs.meaning.Epochs.{IsWholeEpoch}
 use Rattle.crx_header.specs.meaning.ObservationTypes.{Count}
 use Rattle.crx_rinex.specs.meaning.Places.{Place, Here, Wrong, Wanted, one_line, first_line}

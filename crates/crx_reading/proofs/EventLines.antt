@@ -4,8 +4,8 @@ use Rattle.std.proofs.Common.{◌∙◌, true≢false}
 use Rattle.crx_columns.specs.meaning.Columns.{character_at}
 use Rattle.crx_faults.specs.declared.fault.Fault.{Fault}
 use Rattle.crx_faults.specs.declared.fault.Fault.TheVariants.{BadEpoch}
-use Rattle.crx_rinex.specs.meaning.EpochLines.{HeadLine, EventHead, EpochHead, event_head, head_of, begins_epoch}
-use Rattle.crx_rinex.specs.meaning.EpochLines.{is_event_flag, is_event_line, records_in}
+use Rattle.crx_rinex.specs.meaning.EpochLines.{HeadLine, EventHead, EpochHead, event_head, head_of}
+use Rattle.crx_header.specs.meaning.EpochColumns.{begins_epoch, is_event_flag, is_event_line, records_in}
 
 head-of-event : (line : List ℕ) (begins flagged : Bool)
     → begins_epoch line ≡ begins → is_event_flag (character_at line 32) ≡ flagged → begins && flagged ≡ true

@@ -14,9 +14,11 @@ use Rattle.crx_faults.specs.declared.fault.Fault.{Fault}
 use Rattle.crx_faults.specs.declared.fault.Fault.TheVariants.{NotAnEpoch}
 use Rattle.crx_faults.specs.declared.limits.TheConstants.{HEAD_WIDTH, CLOCK_WIDTH}
 use Rattle.crx_rinex.specs.meaning.Observations.{Row, Epoch as ObservationEpoch}
-use Rattle.crx_rinex.specs.meaning.EpochLines.{HeadLine, EventHead, EpochHead, ObservationHead, begins_epoch}
-use Rattle.crx_rinex.specs.meaning.EpochLines.{is_event_flag, is_event_line, records_in, event_head, epoch_head}
-use Rattle.crx_rinex.specs.meaning.EpochLines.{epoch_count, with_clock, head_of, satellites_of}
+use Rattle.crx_rinex.specs.meaning.EpochLines.{HeadLine, EventHead, EpochHead, ObservationHead}
+use Rattle.crx_header.specs.meaning.EpochColumns.{begins_epoch, is_event_flag, is_event_line, records_in}
+use Rattle.crx_rinex.specs.meaning.EpochLines.{event_head, epoch_head}
+use Rattle.crx_header.specs.meaning.EpochColumns.{epoch_count, satellites_of}
+use Rattle.crx_rinex.specs.meaning.EpochLines.{with_clock, head_of}
 use Rattle.crx_rinex.specs.meaning.EpochPlaces.{OpenEpoch, begun_by, beginning_of, opened, epoch_of, row_if_new}
 use Rattle.crx_rinex.specs.EpochPlaces.{Going, Whole, when_wanted, whole_or_going, after_row}
 use Rattle.crx_rinex.specs.Epochs.{begun, is_full_epoch, AddsRow}

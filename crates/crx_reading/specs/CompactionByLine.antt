@@ -17,7 +17,7 @@ use Rattle.crx_reading.specs.meaning.Items.{Item, types_in_force}
 use Rattle.crx_reading.specs.LineByLine.{Phase, InHeader, InEpoch, Seen, Made, Completes, Moves, Fails, Repeats}
 use Rattle.crx_reading.specs.LineByLine.{made_of_line, Direction, seen_of}
 use Rattle.crx_reading.specs.meaning.Compacted.{epochs_accepted, is_interrupted, is_at_every, marked_epochs}
-use Rattle.crx_reading.specs.meaning.Compacted.{lines_before_header}
+use Rattle.crx_header.specs.meaning.CompactHeader.{lines_before_header}
 use Rattle.crx_reading.specs.meaning.Directions.{rinex_reading}
 
 -- the state of the epochs: the next one's index, from 0; and the tail of those before it, or none where the next

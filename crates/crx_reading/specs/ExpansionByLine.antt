@@ -2,15 +2,15 @@
 use Rattle.std.specs.Prelude.{ℕ, Bool, false, not, ◌&&◌, List, [], ◌∷◌, length, Option, Some, None, if◌then◌else◌}
 use Rattle.std.specs.Option.{is_some}
 use Rattle.crx_faults.specs.meaning.Seen.{ReadLine, Content, Overlong}
-use Rattle.crx_rinex.specs.meaning.EpochLines.{is_event_line}
+use Rattle.crx_header.specs.meaning.EpochColumns.{is_event_line}
 use Rattle.crx_rinex.specs.meaning.Places.{Here, Wrong, Wanted}
 use Rattle.crx_rinex.specs.meaning.Units.{Unit, HeaderLine, EventLine, EventRecord, Observation, printed_unit}
 use Rattle.crx_header.specs.meaning.ObservationTypes.{Count}
 use Rattle.crx_rinex.specs.meaning.Observations.{Epoch}
 use Rattle.crx_history.specs.meaning.CompactPlaces.{ReadEpoch}
 use Rattle.crx_history.specs.Tails.{Tail, tail_left}
-use Rattle.crx_compact.specs.OpenEpochs.{OpenRawEpoch, HeldEpoch, RawStep, Going, Whole, Faulty, first_step, next_step}
-use Rattle.crx_compact.specs.OpenEpochs.{is_faulty, makes_epoch, open_raw_with}
+use Rattle.crx_history.specs.OpenEpochs.{OpenRawEpoch, HeldEpoch, RawStep, Going, Whole, Faulty, first_step, next_step}
+use Rattle.crx_history.specs.OpenEpochs.{is_faulty, makes_epoch, open_raw_with}
 use Rattle.crx_options.specs.meaning.Choices.{Choices}
 use Rattle.crx_reading.specs.meaning.Items.{Item, types_in_force}
 use Rattle.crx_reading.specs.LineByLine.{Phase, InFirstLines, InEpoch, Seen, Made, Completes, Moves, Fails}

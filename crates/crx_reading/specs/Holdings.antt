@@ -4,8 +4,6 @@
 use Rattle.crx_options.specs.declared.options.Options.TheInside.{Inside as OptionsInside}
 use Rattle.crx_reading.specs.declared.line_number.LineNumber.TheInside.{Inside as LineNumberInside}
 use Rattle.crx_reading.specs.declared.rinex_reader.RinexReader.{RinexReader}
-use Rattle.crx_reading.specs.declared.ready_lines.ReadyLines.{ReadyLines}
-use Rattle.crx_reading.specs.declared.compact_reader.CompactReader.{CompactReader}
 
 -- options, with the parts of another
 abbrev pub options_with : OptionsInside → OptionsInside → OptionsInside
@@ -29,23 +27,5 @@ rinex_reader_with one other = record one {
   stage = other.stage;
   types = other.types;
   epoch = other.epoch;
-  consistent = other.consistent;
-}
-
--- the lines that a compaction has ready, with the parts of another
-abbrev pub ready_lines_with : ReadyLines → ReadyLines → ReadyLines
-ready_lines_with one other = record one {
-  turn = other.turn;
-  program = other.program;
-  copied = other.copied;
-  made = other.made;
-}
-
--- a reader of compact text, with the parts of another
-abbrev pub compact_reader_with : CompactReader → CompactReader → CompactReader
-compact_reader_with one other = record one {
-  stage = other.stage;
-  types = other.types;
-  columns = other.columns;
   consistent = other.consistent;
 }

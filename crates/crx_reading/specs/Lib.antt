@@ -8,7 +8,5 @@ pub mod Stages
 pub mod RinexStages
 pub mod RinexReaders
 pub mod CompactStages
-pub mod CompactReaders
-pub mod ReadyLines
 pub mod Totals
 pub mod Holdings

@@ -1,7 +1,7 @@
 -- The epoch that a reader of RINEX holds open.
 use Rattle.std.specs.Prelude.{Bool, true, false, not, List, Option, Some, None}
 use Rattle.crx_rinex.specs.meaning.Observations.{Epoch}
-use Rattle.crx_rinex.specs.meaning.EpochLines.{satellites_of}
+use Rattle.crx_header.specs.meaning.EpochColumns.{satellites_of}
 use Rattle.crx_rinex.specs.meaning.EpochPlaces.{OpenEpoch}
 use Rattle.crx_rinex.specs.Epochs.{is_full_epoch}
 use Rattle.crx_header.specs.meaning.ObservationTypes.{Count}

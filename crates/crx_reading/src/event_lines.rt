@@ -1,14 +1,14 @@
 //! The first lines of events in compact text.
 
 ghost use Rattle.std.specs.Prelude.{◌≡◌, Some, None, true, MatchResult};
-ghost use Rattle.crx_rinex.specs.meaning.EpochLines.{is_event_line, records_in};
+ghost use Rattle.crx_header.specs.meaning.EpochColumns.{is_event_line, records_in};
 ghost use Rattle.crx_faults.specs.declared.fault.Fault.TheVariants.{BadEpoch};
 
 use crx_faults::Fault;
 use crx_rinex::Head;
 
 /// How many records follow an event's first line, by its columns 33 to 35; `BadEpoch` where these hold no count.
-pub(crate) fn records_announced(line: &[u8]) -> Result<usize, Fault>
+pub fn records_announced(line: &[u8]) -> Result<usize, Fault>
     requires event { is_event_line line.now ≡ true }
     ensures { MatchResult result
         (λ count. records_in line.now ≡ Some count)

@@ -3,13 +3,13 @@
 ghost use Rattle.std.specs.Prelude.{◌≡◌, Ok, Err, MatchResult};
 ghost use Rattle.crx_reading.specs.meaning.Expanded.{crinex_program, crinex_version};
 
-use crate::crinex::{CRINEX_PROGRAM_LABEL, CRINEX_VERSION, CRINEX_VERSION_LABEL};
 use crx_faults::Fault;
+use crx_header::crinex::{CRINEX_PROGRAM_LABEL, CRINEX_VERSION, CRINEX_VERSION_LABEL};
 use crx_header::is_labelled;
 use crx_text::columns::trimmed;
 
 /// Checks the first line of compact text: `3.0` in columns 1 to 20 and the label `CRINEX VERS   / TYPE`, else `NotCompact`.
-pub(crate) fn check_version(line: &[u8]) -> Result<(), Fault>
+pub fn check_version(line: &[u8]) -> Result<(), Fault>
     ensures { MatchResult result
         (λ _. crinex_version line.now ≡ Ok line.now)
         (λ fault. crinex_version line.now ≡ Err fault) }
@@ -23,7 +23,7 @@ pub(crate) fn check_version(line: &[u8]) -> Result<(), Fault>
 }
 
 /// Checks the second line of compact text: the label `CRINEX PROG / DATE`, else `BadProgLine`.
-pub(crate) fn check_program(line: &[u8]) -> Result<(), Fault>
+pub fn check_program(line: &[u8]) -> Result<(), Fault>
     ensures { MatchResult result
         (λ _. crinex_program line.now ≡ Ok line.now)
         (λ fault. crinex_program line.now ≡ Err fault) }

@@ -2,15 +2,12 @@
 //! are made of stand here too: the stage between two lines, the readers, the lines that are ready and those of a report.
 #![tactic(auto)]
 
-pub mod compact_reader;
-pub mod crinex;
-mod event_lines;
-mod first_lines;
+pub mod event_lines;
+pub mod first_lines;
 pub mod laws;
 pub mod line_number;
-pub mod ready_lines;
 pub mod report;
 pub mod rinex_reader;
 pub mod stage;
 pub mod totals;
-mod types_lines;
+pub mod types_lines;

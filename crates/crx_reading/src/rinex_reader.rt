@@ -1,7 +1,7 @@
 //! RINEX observation files, one line at a time: what each line is, the types in force, and the epoch whose rows come.
 
 ghost use Rattle.std.specs.Prelude.{◌≡◌, true};
-ghost use Rattle.crx_rinex.specs.meaning.EpochLines.{satellites_of};
+ghost use Rattle.crx_header.specs.meaning.EpochColumns.{satellites_of};
 ghost use Rattle.crx_rinex.specs.Epochs.{begun};
 ghost use Rattle.crx_reading.specs.RinexStages.{is_rinex_stage};
 
@@ -45,7 +45,7 @@ impl RinexReader {
     ghost use Rattle.std.specs.Prelude.{◌⊎◌, [], None, Some, false, if◌then◌else◌, IfOk, IfErr, OnErr};
     ghost use Rattle.std.specs.Bool.{OnFalse, OnTrue};
     ghost use Rattle.std.specs.Option.{option_copied};
-    ghost use Rattle.crx_rinex.specs.meaning.EpochLines.{begins_epoch};
+    ghost use Rattle.crx_header.specs.meaning.EpochColumns.{begins_epoch};
     ghost use Rattle.crx_rinex.specs.Epochs.{is_full_epoch};
     ghost use Rattle.crx_rinex.specs.meaning.Epochs.{IsSoundEpoch};
     ghost use Rattle.crx_reading.specs.CompactionByLine.{Written};

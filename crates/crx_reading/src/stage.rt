@@ -2,7 +2,7 @@
 
 ghost use Rattle.std.specs.Prelude.{◌≡◌, List, Option, Bool, true, false, if◌then◌else◌};
 ghost use Rattle.crx_rinex.specs.meaning.EpochPlaces.{OpenEpoch};
-ghost use Rattle.crx_compact.specs.OpenEpochs.{OpenRawEpoch};
+ghost use Rattle.crx_history.specs.OpenEpochs.{OpenRawEpoch};
 ghost use Rattle.crx_reading.specs.LineByLine.{is_in_epoch, may_skip, with_records_left, InHeader, BetweenUnits};
 ghost use Rattle.crx_reading.specs.meaning.Items.{counts_types};
 ghost use Rattle.crx_reading.specs.Stages.{seen_stage, is_held, is_settled};
@@ -73,7 +73,7 @@ impl Stage {
 }
 
 /// The stage after a header line.
-pub(crate) fn after_header_line(line: &[u8]) -> Stage
+pub fn after_header_line(line: &[u8]) -> Stage
     ensures rinex { (held : Option OpenEpoch)
         → seen_stage held result ≡ (if is_end_of_header line.now then BetweenUnits else InHeader false) }
     ensures compact { (held : Option OpenRawEpoch)
@@ -88,7 +88,7 @@ pub(crate) fn after_header_line(line: &[u8]) -> Stage
 }
 
 /// The stage with so many records of an event still to come.
-pub(crate) fn with_records_left(left: usize, counted: bool) -> Stage
+pub fn with_records_left(left: usize, counted: bool) -> Stage
     ensures rinex { (held : Option OpenEpoch) → seen_stage held result ≡ with_records_left left counted }
     ensures compact { (held : Option OpenRawEpoch) → seen_stage held result ≡ with_records_left left counted }
     ensures consistent { (epoch : Option Epoch) → is_rinex_stage result epoch ≡ true }
@@ -101,7 +101,7 @@ pub(crate) fn with_records_left(left: usize, counted: bool) -> Stage
 }
 
 /// Whether types lines count among the records of an event: the flag in column 32 of its line is from 2 to 5.
-pub(crate) fn counts_types(line: &[u8]) -> bool
+pub fn counts_types(line: &[u8]) -> bool
     ensures { result ≡ counts_types line.now }
 {
     line.len() > 31 && matches!(line[31], b'2'..=b'5')

@@ -11,11 +11,7 @@ use crx_header::{Types, header_first};
 
 /// Takes in a header line, or answers what is wrong with it: the first line has checks of its own. After a fault the types
 /// are as they were.
-pub(crate) fn accept_header_line(
-    types: &mut Types,
-    is_first: bool,
-    line: &[u8],
-) -> Result<(), Fault>
+pub fn accept_header_line(types: &mut Types, is_first: bool, line: &[u8]) -> Result<(), Fault>
     ensures good { OnOk result (header_line_fault is_first line.now ≡ None) }
     ensures ok { OnOk result (types.new ≡ with_line types.old line.now) }
     ensures same { OnErr result (types.new ≡ types.old) }
@@ -30,7 +26,7 @@ pub(crate) fn accept_header_line(
 }
 
 /// Takes in a record of an event: types lines among them count where this is said. After a fault the types are as they were.
-pub(crate) fn accept_record(types: &mut Types, counted: bool, line: &[u8]) -> Result<(), Fault>
+pub fn accept_record(types: &mut Types, counted: bool, line: &[u8]) -> Result<(), Fault>
     ensures good { OnOk result ((if counted then types_fault line.now else None) ≡ None) }
     ensures ok { OnOk result (types.new ≡ (if counted then with_line types.old line.now else types.old)) }
     ensures same { OnErr result (types.new ≡ types.old) }

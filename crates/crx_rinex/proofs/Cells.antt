@@ -1,24 +1,24 @@
 -- The cells of a satellite line, taken one by one.
-use Rattle.std.proofs.Common.{◌≡◌, ℕ, ℤ, ◌+◌, ◌-◌, ◌*◌, ◌<◌, ◌≤◌, true, ◌&&◌, All, List, [], ◌∷◌, ◌++◌, Option, Some}
+use Rattle.std.proofs.Common.{◌≡◌, ℕ, ℤ, ◌+◌, ◌-◌, ◌*◌, ◌<◌, ◌≤◌, true, All, List, [], ◌∷◌, ◌++◌, Option, Some}
 use Rattle.std.proofs.Common.{None, length, take, drop, replicate, get_or, refl, ap, sym, subst, ◌∙◌, arith, suc, zero}
 use Rattle.std.specs.List.{concat, list_all}
-use Rattle.std.proofs.lemmas.Bool.{and_from, and_parts}
+use Rattle.std.proofs.lemmas.Bool.{and_from}
 use Rattle.std.proofs.lemmas.List.Elements.{All-replicate, All-set}
 use Rattle.std.proofs.lemmas.List.Folds.{concat-append, list_all-append}
-use Rattle.std.specs.Prelude.{slice_set, slice_index_or}
-use Rattle.crx_faults.specs.declared.limits.TheConstants.{NAME_WIDTH}
+use Rattle.std.specs.Prelude.{slice_set}
 use Rattle.std.proofs.lemmas.List.{take_more_set, length-set, take_at, take-append-le, drop_all, length-drop, take-take}
 use Rattle.std.proofs.lemmas.List.{length-append, length-replicate, append_assoc}
 use Rattle.std.proofs.lemmas.Option.{option_and_then_some, same_Some, none-some}
-use Rattle.crx_columns.specs.meaning.Columns.{character_at, columns}
+use Rattle.crx_columns.specs.meaning.Columns.{character_at}
 use Rattle.crx_columns.specs.meaning.EachPlace.{each_place}
 use Rattle.crx_rinex.specs.meaning.Observations.{Row}
 use Rattle.crx_text.specs.Numbers.{IsObservation}
 use Rattle.crx_text.specs.meaning.Numbers.{observation_of, number_of, IsValue}
 use Rattle.crx_columns.specs.meaning.Texts.{is_kept}
-use Rattle.crx_header.specs.meaning.ObservationTypes.{is_system, count_of, Count, IsAllowedCount}
-use Rattle.crx_rinex.specs.meaning.SatelliteLines.{all_some, values_in, flags_at, flags_in, field, has_number, types_of_satellite}
-use Rattle.crx_rinex.specs.meaning.SatelliteLines.{is_identifier, IsSoundRow}
+use Rattle.crx_header.specs.meaning.ObservationTypes.{IsAllowedCount}
+use Rattle.crx_rinex.specs.meaning.SatelliteLines.{all_some, values_in, flags_at, flags_in, field}
+use Rattle.crx_header.specs.meaning.Satellites.{is_identifier}
+use Rattle.crx_rinex.specs.meaning.SatelliteLines.{IsSoundRow}
 use Rattle.crx_rinex.specs.SatelliteLines.{blank_row, with_flags, with_value}
 use Rattle.crx_columns.proofs.EachPlace.{each_place-more, index-each_place, length-each_place}
 
@@ -77,27 +77,6 @@ read_inside line k n long h =
     let width : 16 * k + 3 + n - (16 * k + 3) ≡ n = omega arith in
     ap (λ (n : ℕ). take 14 (take n (drop (16 * k + 3) line))) width
     ∙ take-take 14 n (drop (16 * k + 3) line) long ∙ sym (field_inside line k (omega (arith, h)))
-
-first_column : (line : List ℕ) → character_at line 1 ≡ slice_index_or (columns line 1 3) 0 0
-first_column [] = refl
-first_column (c ∷ cs) = refl
-
--- an identifier's columns
-pub identifier_columns : (line : List ℕ)
-    → is_identifier (columns line 1 3) ≡ (is_system (character_at line 1) && has_number line)
-identifier_columns [] = refl
-identifier_columns (a ∷ []) = refl
-identifier_columns (a ∷ b ∷ []) = refl
-identifier_columns (a ∷ b ∷ c ∷ cs) = refl
-
--- the types of a satellite whose identifier is known to have the form of one
-pub known_types : (types : List Count) (line name : List ℕ) → columns line 1 NAME_WIDTH ≡ name
-    → is_identifier name ≡ true → types_of_satellite types line ≡ count_of types (slice_index_or name 0 0)
-known_types types line name e named =
-    let is : (is_system (character_at line 1) && has_number line) ≡ true =
-    sym (identifier_columns line) ∙ ap is_identifier e ∙ named in
-    let number = (and_parts (is_system (character_at line 1)) (has_number line) is).1 in
-    rw number (ap (count_of types) (first_column line ∙ ap (λ (n : List ℕ). slice_index_or n 0 0) e))
 
 -- two indicators more
 pub pair_pushed : (line : List ℕ) (k : ℕ) (flags : List ℕ) (a b : ℕ) → 2 * k + 1 < length flags

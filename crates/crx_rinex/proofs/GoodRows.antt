@@ -14,7 +14,8 @@ use Rattle.crx_rinex.specs.meaning.Observations.{Row}
 use Rattle.crx_rinex.specs.meaning.Epochs.{has_satellite}
 use Rattle.crx_rinex.specs.meaning.EpochPlaces.{row_if_new}
 use Rattle.crx_header.specs.meaning.ObservationTypes.{Count}
-use Rattle.crx_rinex.specs.meaning.SatelliteLines.{flags_in, row_of, row_of_types, row_with, types_of_satellite}
+use Rattle.crx_rinex.specs.meaning.SatelliteLines.{flags_in, row_of, row_of_types, row_with}
+use Rattle.crx_header.specs.meaning.Satellites.{types_of_satellite}
 use Rattle.crx_rinex.specs.meaning.SatelliteLines.{values_in}
 
 -- a line that is read as a row has the row's identifier

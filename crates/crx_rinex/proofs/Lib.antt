@@ -1,5 +1,3 @@
-pub mod Apart
-pub mod Finding
 pub mod Cells
 pub mod Lines
 pub mod Steady

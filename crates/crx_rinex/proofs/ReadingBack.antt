@@ -22,8 +22,9 @@ use Rattle.crx_columns.specs.meaning.Texts.{is_kept}
 use Rattle.crx_rinex.specs.meaning.Observations.{Row, Epoch}
 use Rattle.crx_header.specs.meaning.ObservationTypes.{Count, is_system}
 use Rattle.crx_rinex.specs.meaning.EpochLines.{EpochHead, ObservationHead, IsObservationHead, IsClockOffset}
-use Rattle.crx_rinex.specs.meaning.EpochLines.{begins_epoch, is_event_flag, is_observation_flag, satellites_in}
-use Rattle.crx_rinex.specs.meaning.EpochLines.{satellites_of, epoch_count, epoch_head, with_clock, head_of}
+use Rattle.crx_header.specs.meaning.EpochColumns.{begins_epoch, is_event_flag, is_observation_flag, satellites_in}
+use Rattle.crx_header.specs.meaning.EpochColumns.{satellites_of, epoch_count}
+use Rattle.crx_rinex.specs.meaning.EpochLines.{epoch_head, with_clock, head_of}
 use Rattle.crx_rinex.specs.meaning.Epochs.{has_satellite, are_different, IsWholeEpoch}
 use Rattle.crx_rinex.specs.meaning.EpochPlaces.{OpenEpoch, EpochBegins, opened, rows_wanted, epoch_of, with_next_row}
 use Rattle.crx_rinex.specs.meaning.EpochPlaces.{next_row, rows_at, rest_at, begun_by, beginning_of, unit_begun}
@@ -32,13 +33,14 @@ use Rattle.crx_rinex.specs.meaning.Places.{Here, after_lines, then_place, one_li
 use Rattle.crx_rinex.specs.meaning.Units.{Observation}
 use Rattle.crx_rinex.specs.meaning.Printing.{printed_row, printed_head, printed_epoch}
 use Rattle.crx_text.specs.meaning.PrintedCells.{printed_cells}
-use Rattle.crx_rinex.specs.meaning.SatelliteLines.{all_some, field, flags_at, flags_in, has_number, types_of_satellite}
+use Rattle.crx_rinex.specs.meaning.SatelliteLines.{all_some, field, flags_at, flags_in}
+use Rattle.crx_header.specs.meaning.Satellites.{has_number, types_of_satellite}
 use Rattle.crx_rinex.specs.meaning.SatelliteLines.{row_with, row_of_types, row_of, IsSoundRow, HasItsTypes}
 use Rattle.crx_columns.specs.meaning.EachPlace.{each_place}
 use Rattle.crx_columns.proofs.EachPlace.{each_place-same}
 use Rattle.crx_columns.proofs.Characters.{at, at-without_end_blanks, at-drop, at-append, at-append_past, columns-are}
 use Rattle.crx_columns.proofs.Characters.{list_all-from_at}
-use Rattle.crx_rinex.proofs.Apart.{other_way}
+use Rattle.crx_header.proofs.Apart.{other_way}
 use Rattle.crx_rinex.proofs.SoundEpochs.{name_types}
 
 -- ---- a field

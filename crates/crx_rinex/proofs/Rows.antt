@@ -15,11 +15,13 @@ use Rattle.std.proofs.Common.{get_or, set}
 use Rattle.std.proofs.lemmas.List.Elements.{All-push}
 use Rattle.crx_columns.specs.meaning.Texts.{is_kept}
 use Rattle.crx_rinex.specs.meaning.Observations.{Row, Epoch}
-use Rattle.crx_rinex.specs.meaning.EpochLines.{ObservationHead, satellites_of, count_within_limit, begins_epoch, is_observation_flag}
-use Rattle.crx_rinex.specs.meaning.Epochs.{has_satellite, is_among, IsSoundEpoch}
+use Rattle.crx_rinex.specs.meaning.EpochLines.{ObservationHead}
+use Rattle.crx_header.specs.meaning.EpochColumns.{satellites_of, count_within_limit, begins_epoch, is_observation_flag}
+use Rattle.crx_rinex.specs.meaning.Epochs.{has_satellite, IsSoundEpoch}
+use Rattle.crx_header.specs.meaning.Satellites.{is_among}
 use Rattle.crx_rinex.specs.Epochs.{with_row, is_full_epoch, AreEpochParts, AreOfRows}
 use Rattle.crx_rinex.specs.meaning.SatelliteLines.{IsSoundRow}
-use Rattle.crx_rinex.proofs.Apart.{among-map, apart-push}
+use Rattle.crx_header.proofs.Apart.{among-map, apart-push}
 
 -- an epoch that isn't full stays sound with a new satellite's row
 pub sound-with_row : (epoch : Epoch) (row : Row) → IsSoundEpoch epoch → IsSoundRow row

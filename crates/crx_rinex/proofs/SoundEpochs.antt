@@ -1,11 +1,11 @@
 -- What is read of an observation epoch is sound.
-use Rattle.std.proofs.Common.{◌≡◌, ℕ, ℤ, ◌+◌, ◌-◌, ◌*◌, ◌≤◌, zero, suc, Bool, true, false, not, cond, List, [], ◌∷◌}
-use Rattle.std.proofs.Common.{◌++◌, length, drop, replicate, Option, Some, None, IfSome, OnSome, unwrap_or, Result, Ok}
+use Rattle.std.proofs.Common.{◌≡◌, ℕ, ℤ, ◌+◌, ◌*◌, ◌≤◌, zero, suc, Bool, true, false, not, cond, List, [], ◌∷◌}
+use Rattle.std.proofs.Common.{length, drop, Option, Some, None, IfSome, OnSome, unwrap_or, Result, Ok}
 use Rattle.std.proofs.Common.{Err, refl, ap, sym, subst, ◌∙◌, arith}
 use Rattle.std.specs.Prelude.{⊤, All}
 use Rattle.std.specs.List.{list_all, AllByRecursion}
 use Rattle.std.proofs.lemmas.Bool.{and_from}
-use Rattle.std.proofs.lemmas.List.{length_push, length-append, length-take, length-replicate}
+use Rattle.std.proofs.lemmas.List.{length_push, length-append}
 use Rattle.std.proofs.lemmas.List.Elements.{All-cons, All-nil, All-push}
 use Rattle.std.proofs.lemmas.Option.{option_and_then_some, same_Some, none-some}
 use Rattle.crx_columns.specs.meaning.Columns.{character_at, columns, is_blank}
@@ -22,10 +22,12 @@ use Rattle.crx_rinex.specs.meaning.Observations.{Row, Epoch}
 use Rattle.crx_rinex.specs.meaning.Units.{Unit, Observation}
 use Rattle.crx_rinex.specs.meaning.Places.{Place, Here, Wrong, Wanted, after_lines, then_place, one_line}
 use Rattle.crx_rinex.specs.meaning.EpochLines.{HeadLine, EventHead, EpochHead, ObservationHead, IsObservationHead}
-use Rattle.crx_rinex.specs.meaning.EpochLines.{is_event_flag, begins_epoch, epoch_count, epoch_head, event_head}
-use Rattle.crx_rinex.specs.meaning.EpochLines.{with_clock, head_of, records_in, satellites_of}
+use Rattle.crx_header.specs.meaning.EpochColumns.{is_event_flag, begins_epoch, epoch_count, records_in, satellites_of}
+use Rattle.crx_rinex.specs.meaning.EpochLines.{epoch_head, event_head}
+use Rattle.crx_rinex.specs.meaning.EpochLines.{with_clock, head_of}
 use Rattle.crx_rinex.specs.meaning.SatelliteLines.{row_of, row_of_types, row_with, values_in, flags_in, flags_at, field}
-use Rattle.crx_rinex.specs.meaning.SatelliteLines.{all_some, types_of_satellite, has_number, is_identifier, IsSoundRow}
+use Rattle.crx_rinex.specs.meaning.SatelliteLines.{all_some, IsSoundRow}
+use Rattle.crx_header.specs.meaning.Satellites.{types_of_satellite, has_number, is_identifier}
 use Rattle.crx_rinex.specs.meaning.SatelliteLines.{HasItsTypes}
 use Rattle.crx_rinex.specs.meaning.Epochs.{has_satellite, are_different, IsWholeEpoch}
 use Rattle.crx_rinex.specs.meaning.EpochPlaces.{OpenEpoch, Beginning, EventBegins, EpochBegins, opened, rows_wanted}
@@ -34,10 +36,11 @@ use Rattle.crx_rinex.specs.meaning.EpochPlaces.{begun_by, beginning_of, unit_beg
 use Rattle.crx_columns.specs.meaning.EachPlace.{each_place}
 use Rattle.crx_columns.proofs.Characters.{length-columns}
 use Rattle.crx_columns.proofs.EachPlace.{each_place-all, length-each_place}
-use Rattle.crx_rinex.proofs.Cells.{flags_in_more, identifier_columns}
+use Rattle.crx_rinex.proofs.Cells.{flags_in_more}
+use Rattle.crx_header.proofs.FirstColumns.{identifier_columns}
 use Rattle.crx_header.proofs.Counts.{allowed_of, system_of}
 use Rattle.crx_rinex.proofs.Ranges.{value_fits, clock_fits, tested}
-use Rattle.crx_rinex.proofs.Apart.{apart-push}
+use Rattle.crx_header.proofs.Apart.{apart-push}
 use Rattle.crx_rinex.proofs.Rows.{satellites_few}
 
 -- ---- a row

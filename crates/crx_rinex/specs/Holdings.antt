@@ -3,7 +3,7 @@
 -- past lines could grow.
 use Rattle.crx_header.specs.declared.types.Types.TheInside.{Inside as TypesInside}
 use Rattle.crx_rinex.specs.declared.satellite_row.SatRow.TheInside.{Inside as SatRowInside}
-use Rattle.crx_rinex.specs.declared.identifiers.Identifiers.TheInside.{Inside as IdentifiersInside}
+use Rattle.crx_header.specs.declared.identifiers.Identifiers.TheInside.{Inside as IdentifiersInside}
 use Rattle.crx_rinex.specs.declared.epoch_line.EpochLine.TheInside.{Inside as EpochLineInside}
 use Rattle.crx_rinex.specs.declared.epoch.Epoch.TheInside.{Inside as EpochInside}
 

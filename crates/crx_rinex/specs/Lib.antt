@@ -2,7 +2,6 @@ pub mod meaning
 pub mod Heads
 pub mod SatelliteLines
 pub mod Epochs
-pub mod Identifiers
 pub mod Printing
 pub mod Steady
 pub mod EpochPlaces

@@ -7,18 +7,19 @@ ghost use Rattle.std.specs.Option.{option_copied};
 ghost use Rattle.std.specs.Result.{is_ok};
 ghost use Rattle.crx_columns.specs.meaning.Columns.{columns};
 ghost use Rattle.crx_faults.specs.declared.limits.TheConstants.{NAME_WIDTH, SATELLITES_LIMIT, TYPES_LIMIT};
-ghost use Rattle.crx_rinex.specs.meaning.EpochLines.{satellites_of, IsObservationHead};
+ghost use Rattle.crx_header.specs.meaning.EpochColumns.{satellites_of};
+ghost use Rattle.crx_rinex.specs.meaning.EpochLines.{IsObservationHead};
 ghost use Rattle.crx_rinex.specs.Epochs.{begun, is_full_epoch, with_row, AddsRow};
-ghost use Rattle.crx_rinex.specs.meaning.Epochs.{has_satellite, is_among, IsSoundEpoch};
+ghost use Rattle.crx_rinex.specs.meaning.Epochs.{has_satellite, IsSoundEpoch};
+ghost use Rattle.crx_header.specs.meaning.Satellites.{is_among};
 ghost use Rattle.crx_rinex.specs.meaning.EpochPlaces.{row_if_new};
 ghost use Rattle.crx_rinex.specs.meaning.Observations.{observations_in, observations_of};
 ghost use Rattle.crx_rinex.specs.meaning.SatelliteLines.{row_of, IsSoundRow};
 
 use crate::epoch_line::EpochLine;
-use crate::identifiers::Identifiers;
 use crate::satellite_row::{SatRow, row_fault};
 use crx_faults::Fault;
-use crx_header::{Types, identifier};
+use crx_header::{Identifiers, Types, identifier};
 use std::alloc::Global;
 use std::marker::Model;
 

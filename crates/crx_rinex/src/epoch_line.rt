@@ -1,21 +1,20 @@
 //! Epoch lines. RINEX 3.05, table A3, EPOCH record.
 
-ghost use Rattle.std.specs.Prelude.{◌≡◌, ◌≤◌, None, Some, Ok, Err, IfSome, MatchResult};
-ghost use Rattle.std.specs.List.{list_all};
+ghost use Rattle.std.specs.Prelude.{◌≡◌, None, Some, Ok, Err, MatchResult};
 ghost use Rattle.std.specs.Option.{ForSome};
 ghost use Rattle.crx_columns.specs.meaning.Columns.{columns};
 ghost use Rattle.crx_text.specs.Numbers.{IsClock};
 ghost use Rattle.crx_faults.specs.declared.limits.TheConstants.{HEAD_WIDTH};
-ghost use Rattle.crx_columns.specs.meaning.Texts.{is_kept};
-ghost use Rattle.crx_rinex.specs.meaning.EpochLines.{head_of, begins_epoch, epoch_count, epoch_head, is_event_flag, is_event_line, is_observation_flag, records_in, satellites_in, EpochHead, IsObservationHead};
+ghost use Rattle.crx_rinex.specs.meaning.EpochLines.{head_of, epoch_head, EpochHead, IsObservationHead};
+ghost use Rattle.crx_header.specs.meaning.EpochColumns.{epoch_count};
 ghost use Rattle.crx_rinex.specs.Heads.{head_line};
 
-use crx_columns::columns::{character, is_blank};
+use crx_columns::columns::character;
 use crx_faults::Fault;
-use crx_faults::limits::{CLOCK_WIDTH, HEAD_WIDTH, SATELLITES_LIMIT};
-use crx_header::columns::number;
+use crx_faults::limits::{CLOCK_WIDTH, HEAD_WIDTH};
+use crx_header::epoch_columns::{is_event_flag, records_in, satellites};
 use crx_header::{after_columns, all_blank, padded};
-use crx_text::{all_kept, clock_read};
+use crx_text::clock_read;
 use std::marker::Model;
 
 /// The first line of an observation epoch: columns 1 to 41, the count of satellites that they hold, and the
@@ -84,21 +83,6 @@ impl EpochLine {
     }
 }
 
-/// Whether a line begins an epoch or an event: its first character is `>`.
-#[inline(always)]
-pub fn begins_epoch(line: &[u8]) -> bool
-    ensures { result ≡ begins_epoch line.now }
-{
-    matches!(line, [b'>', ..])
-}
-
-/// Whether a line is an event's first one, by its own bytes: it begins with `>` and has a flag from 2 to 6 in column 32.
-pub fn is_event_line(line: &[u8]) -> bool
-    ensures { result ≡ is_event_line line.now }
-{
-    begins_epoch(line) && is_event_flag(character(line, 32))
-}
-
 /// What stands in a line where an epoch may begin.
 #[derive(Drop)]
 pub enum Head {
@@ -140,55 +124,6 @@ impl Head {
         }
         Ok(Head::Epoch(observation_head(line)?))
     }
-}
-
-/// Whether a flag in column 32 is that of an event: 2 to 5, or 6 for cycle slip records.
-fn is_event_flag(flag: u8) -> bool
-    ensures { result ≡ is_event_flag flag }
-{
-    matches!(flag, b'2'..=b'6')
-}
-
-/// How many records follow an event, in columns 33 to 35; none where they are blank.
-fn records_in(line: &[u8]) -> Option<usize>
-    ensures { result ≡ records_in line.now }
-{
-    if is_blank(line, 33, 3) {
-        Some(0)
-    } else {
-        number(line, 33)
-    }
-}
-
-/// How many satellites columns 1 to 41 announce, if they are those of an observation epoch.
-fn satellites(columns: &[u8]) -> Option<usize>
-    ensures value { result ≡ epoch_count columns.now }
-    ensures within { IfSome result (λ count. count ≤ SATELLITES_LIMIT) }
-{
-    if character(columns, 1) == b'>'
-        && is_observation_flag(character(columns, 32))
-        && all_kept(columns)
-    {
-        satellites_in(columns)
-    } else {
-        None
-    }
-}
-
-/// Whether a flag in column 32 is that of an observation epoch: 0, or 1 for a power failure.
-fn is_observation_flag(flag: u8) -> bool
-    ensures { result ≡ is_observation_flag flag }
-{
-    flag == b'0' || flag == b'1'
-}
-
-/// The count of satellites in columns 33 to 35, if it is within the limit.
-fn satellites_in(line: &[u8]) -> Option<usize>
-    ensures value { result ≡ satellites_in line.now }
-    ensures within { IfSome result (λ count. count ≤ SATELLITES_LIMIT) }
-{
-    let count = number(line, 33)?;
-    (count <= SATELLITES_LIMIT).then_some(count)
 }
 
 /// Reads the line of an observation epoch.

@@ -4,7 +4,7 @@ ghost use Rattle.std.specs.Prelude.{◌≡◌, ◌≤◌, ◌+◌, ◌∷◌, []
 ghost use Rattle.crx_rinex.specs.Holdings.{types_with, row_with_parts, identifiers_with, epoch_line_with, epoch_with};
 ghost use Rattle.crx_header.specs.declared.types.Types.TheInside.{Inside as TypesInside};
 ghost use Rattle.crx_rinex.specs.declared.satellite_row.SatRow.TheInside.{Inside as SatRowInside};
-ghost use Rattle.crx_rinex.specs.declared.identifiers.Identifiers.TheInside.{Inside as IdentifiersInside};
+ghost use Rattle.crx_header.specs.declared.identifiers.Identifiers.TheInside.{Inside as IdentifiersInside};
 ghost use Rattle.crx_rinex.specs.declared.epoch_line.EpochLine.TheInside.{Inside as EpochLineInside};
 ghost use Rattle.crx_rinex.specs.declared.epoch.Epoch.TheInside.{Inside as EpochInside};
 

@@ -1,6 +1,6 @@
 //! Satellite lines. RINEX 3.05, table A3, OBSERVATION record, A1,I2.2,m(F14.3,I1,I1).
 
-ghost use Rattle.std.specs.Prelude.{ℕ, ◌≡◌, ◌≤◌, ◌<◌, ◌+◌, ◌-◌, ◌*◌, ◌++◌, ◌∷◌, [], ◌⊎◌, replicate, slice_set, true, None, Some, Ok, Err, is_some, length, All, IfOk, IfErr, IfSome, OnOk, OnErr, OnSome, IfNone, MatchBool, ◌≢◌, MatchResult, slice_get, take, drop};
+ghost use Rattle.std.specs.Prelude.{ℕ, ◌≡◌, ◌≤◌, ◌<◌, ◌+◌, ◌-◌, ◌*◌, ◌++◌, ◌⊎◌, slice_set, true, None, Some, Ok, Err, is_some, length, All, IfOk, IfErr, IfSome, OnOk, OnErr, IfNone, MatchBool, ◌≢◌, MatchResult, slice_get, take, drop};
 ghost use Rattle.std.specs.Bool.{OnTrue, OnFalse};
 ghost use Rattle.std.specs.List.{list_all};
 ghost use Rattle.std.specs.Option.{option_map, ForSome};
@@ -15,14 +15,19 @@ ghost use Rattle.crx_rinex.specs.meaning.Observations.{observations_of};
 ghost use Rattle.crx_rinex.specs.meaning.Printing.{printed_row};
 ghost use Rattle.crx_text.specs.meaning.PrintedCells.{printed_cells};
 ghost use Rattle.crx_rinex.specs.SatelliteLines.{blank_row, with_flags, with_value, AreCellsRead};
-ghost use Rattle.crx_rinex.specs.meaning.SatelliteLines.{field, flags_in, has_number, is_identifier, row_of, row_with, types_of_satellite, values_in, IsSoundRow};
+ghost use Rattle.crx_rinex.specs.meaning.SatelliteLines.{field, flags_in, row_of, row_with, values_in, IsSoundRow};
+ghost use Rattle.crx_header.specs.meaning.Satellites.{is_identifier, types_of_satellite};
 
 use crx_columns::columns::character;
 use crx_faults::Fault;
 use crx_faults::limits::{CELL_WIDTH, NAME_WIDTH, OBSERVATION_WIDTH, TYPES_LIMIT};
+use crx_header::cells::{cells_within, put_indicators, put_indicators_within};
 use crx_header::columns::first_identifier;
-use crx_header::{Types, after_columns, all_blank, identifier, is_same_identifier, padded};
-use crx_text::{Text, all_kept, copy_text, obs_print_cell, obs_read, obs_read_into, put_blanks};
+use crx_header::{
+    Types, after_columns, all_blank, identifier, is_same_identifier, padded, put_flags,
+    types_of_satellite,
+};
+use crx_text::{Text, all_kept, obs_print_cell, obs_read, obs_read_into};
 use std::alloc::Global;
 use std::marker::Model;
 
@@ -512,68 +517,6 @@ fn split_plain_cells(line: &[u8], values: &mut [Option<i64>], flags: &mut [u8]) 
     count
 }
 
-/// How many of so many cells stand within a line.
-#[inline(always)]
-fn cells_within(line: &[u8], m: usize) -> usize
-    ensures few { result ≤ m }
-    ensures within { (k : ℕ) → k < result → CELL_WIDTH * k + (NAME_WIDTH + CELL_WIDTH) ≤ length line.now }
-{
-    m.min(line.len().saturating_sub(NAME_WIDTH) / CELL_WIDTH)
-}
-
-/// Puts the two indicators of type k, from 0, in their places, where its cell stands within the line: both become one load and one
-/// store.
-#[inline(always)]
-fn put_indicators_within(line: &[u8], k: usize, flags: &mut [u8])
-    requires few { k < TYPES_LIMIT }
-    requires inside { CELL_WIDTH * k + (NAME_WIDTH + CELL_WIDTH) ≤ length line.now }
-    requires within { 2 * k + 1 < length flags.old }
-    ensures { flags.new ≡ slice_set (slice_set flags.old (2 * k)
-        (character_at line.now (CELL_WIDTH * k + (NAME_WIDTH + OBSERVATION_WIDTH + 1)))) (2 * k + 1)
-        (character_at line.now (CELL_WIDTH * k + (NAME_WIDTH + OBSERVATION_WIDTH + 2))) }
-{
-    let end = CELL_WIDTH * k + NAME_WIDTH + CELL_WIDTH;
-    let (lock, strength) = (line[end - 2], line[end - 1]);
-    flags[2 * k] = lock;
-    flags[2 * k + 1] = strength;
-}
-
-/// Puts the two indicators of type k, from 0, in their places. They are blank where the line ends before them.
-#[inline(always)]
-fn put_indicators(line: &[u8], k: usize, flags: &mut [u8])
-    requires few { k < TYPES_LIMIT }
-    requires within { 2 * k + 1 < length flags.old }
-    ensures { flags.new ≡ slice_set (slice_set flags.old (2 * k)
-        (character_at line.now (CELL_WIDTH * k + (NAME_WIDTH + OBSERVATION_WIDTH + 1)))) (2 * k + 1)
-        (character_at line.now (CELL_WIDTH * k + (NAME_WIDTH + OBSERVATION_WIDTH + 2))) }
-{
-    flags[2 * k] = character(line, CELL_WIDTH * k + (NAME_WIDTH + OBSERVATION_WIDTH + 1));
-    flags[2 * k + 1] = character(line, CELL_WIDTH * k + (NAME_WIDTH + OBSERVATION_WIDTH + 2));
-}
-
-/// How many types the satellite of a line has, where the line begins with an identifier of a system with types.
-#[inline(always)]
-pub fn types_of_satellite(types: &Types, line: &[u8]) -> Option<usize>
-    ensures value { result ≡ types_of_satellite types.now line.now }
-    ensures allowed { IfSome result IsAllowedCount }
-    ensures named { OnSome result (is_identifier (columns line.now 1 NAME_WIDTH) ≡ true) }
-{
-    if has_number(line) {
-        types.count(character(line, 1))
-    } else {
-        None
-    }
-}
-
-/// Whether columns 2 and 3 go on with an identifier: a digit or a blank, and a digit.
-#[inline(always)]
-fn has_number(line: &[u8]) -> bool
-    ensures { result ≡ has_number line.now }
-{
-    let tens = character(line, 2);
-    (tens.is_ascii_digit() || tens == b' ') && character(line, 3).is_ascii_digit()
-}
-
 /// The value of type k, from 0; `None` where its field is neither blank nor a number of format F14.3.
 #[inline(never)]
 fn observation(line: &[u8], k: usize) -> Option<Option<i64>>
@@ -591,16 +534,6 @@ fn observation(line: &[u8], k: usize) -> Option<Option<i64>>
     } else {
         obs_read(&padded::<OBSERVATION_WIDTH>(line, start + 1)).ok()
     }
-}
-
-/// Puts indicators in place of a row's, two for each type, and blanks in place of those after them.
-pub fn put_flags(held: &mut [u8], flags: &[u8])
-    requires fitting { length flags.now ≤ length held.old }
-    requires few { length held.old ≤ LINE_LIMIT }
-    ensures { held.new ≡ flags.now ++ replicate (length held.old - length flags.now) 32 }
-{
-    copy_text(&mut held[..flags.len()], flags);
-    put_blanks(&mut held[flags.len()..]);
 }
 
 /// Appends cells: each value in its columns, and its two indicators.

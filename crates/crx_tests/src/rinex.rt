@@ -1,7 +1,7 @@
 //! Values from outside: lines as files have them, and each call that takes memory, with memory at hand.
 
 ghost use Rattle.std.specs.Prelude.{◌≡◌, true};
-ghost use Rattle.crx_rinex.specs.meaning.SatelliteLines.{is_identifier};
+ghost use Rattle.crx_header.specs.meaning.Satellites.{is_identifier};
 
 use crate::expecting::expect;
 use crate::owned::Owned;

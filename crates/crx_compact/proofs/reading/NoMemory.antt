@@ -8,7 +8,7 @@ use Rattle.crx_arcs.specs.meaning.Codes.{code_of}
 use Rattle.crx_faults.specs.declared.fault.Fault.{Fault}
 use Rattle.crx_faults.specs.declared.fault.Fault.TheVariants.{BadField, BadFlags, OutOfMemory, OutOfRange, Truncated}
 use Rattle.crx_faults.specs.declared.limits.TheConstants.{OBSERVATION_WIDTH}
-use Rattle.crx_rinex.specs.meaning.EpochLines.{begins_epoch}
+use Rattle.crx_header.specs.meaning.EpochColumns.{begins_epoch}
 use Rattle.crx_arcs.specs.meaning.Sequences.{and_then, before_all}
 use Rattle.crx_history.specs.meaning.EpochText.{Satellite}
 use Rattle.crx_arcs.specs.meaning.ArcValues.{in_range, is_within}

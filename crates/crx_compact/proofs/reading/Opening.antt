@@ -9,16 +9,16 @@ use Rattle.std.proofs.lemmas.List.{take_all}
 use Rattle.crx_faults.specs.declared.fault.Fault.{Fault}
 use Rattle.crx_rinex.specs.meaning.Printing.{printed_epoch}
 use Rattle.crx_rinex.specs.Epochs.{with_row}
-use Rattle.crx_rinex.specs.meaning.Epochs.{are_apart}
-use Rattle.crx_rinex.proofs.Apart.{apart-fewer, apart-map}
+use Rattle.crx_header.specs.meaning.Satellites.{are_apart}
+use Rattle.crx_header.proofs.Apart.{apart-fewer, apart-map}
 use Rattle.crx_arcs.specs.meaning.Cells.{ReadCell}
 use Rattle.crx_arcs.specs.ArcTails.{ArcTail}
 use Rattle.crx_history.specs.Tails.{RowTail, Tail}
 use Rattle.crx_history.specs.HeldRows.{row_after, AreApart, held_row, HeldRow, past_of_tail, IsNextRow}
 use Rattle.crx_faults.specs.meaning.Seen.{Content}
-use Rattle.crx_compact.specs.OpenEpochs.{ColumnsState, Faulty, HasMade, HasPrintedLines, first_step, is_idle, line_step, opened_raw}
-use Rattle.crx_compact.specs.OpenEpochs.{step_in, tail_for_line, Idle, HeldClock, OpenRawEpoch, RawStep}
-use Rattle.crx_compact.specs.OpenEpochs.{Whole, whole_or_awaiting}
+use Rattle.crx_history.specs.OpenEpochs.{ColumnsState, Faulty, HasMade, HasPrintedLines, first_step, is_idle, line_step, opened_raw}
+use Rattle.crx_history.specs.OpenEpochs.{step_in, tail_for_line, Idle, HeldClock, OpenRawEpoch, RawStep}
+use Rattle.crx_history.specs.OpenEpochs.{Whole, whole_or_awaiting}
 use Rattle.crx_compact.specs.OpenLines.{columns_state, epoch_so_far, have_all_come, rows_so_far, step_after}
 use Rattle.crx_compact.specs.OpenLines.{AreLinesSoFar, lines_so_far, OpenLines, held_rows, made_of, open_raw}
 use Rattle.crx_history.specs.RowsSoFar.{AreAnnounced, AreRowsSoFar}

@@ -13,7 +13,7 @@ use Rattle.crx_faults.specs.declared.limits.TheConstants.{OBSERVATION_WIDTH, CLO
 use Rattle.crx_header.specs.meaning.ObservationTypes.{Count}
 use Rattle.crx_columns.specs.meaning.EachPlace.{each_place}
 use Rattle.crx_arcs.specs.meaning.Sequences.{stretch}
-use Rattle.crx_rinex.specs.meaning.EpochLines.{begins_epoch}
+use Rattle.crx_header.specs.meaning.EpochColumns.{begins_epoch}
 use Rattle.crx_history.specs.meaning.Expansion.{RawRow, RawEpoch, block_of, overlaid, raw_row_named, raw_run_of}
 use Rattle.crx_history.specs.meaning.Expansion.{marks_of, code_in}
 use Rattle.crx_arcs.specs.meaning.ArcValues.{since_start, value_of}
@@ -25,7 +25,7 @@ use Rattle.crx_history.specs.Steps.{no_tail, tail_named, cell_of_tail, flags_of_
 use Rattle.crx_history.specs.Steps.{raw_tail_after}
 use Rattle.crx_arcs.specs.ArcSteps.{value_of_code, arc_of_code}
 use Rattle.crx_history.specs.HeldRows.{past_of_tail}
-use Rattle.crx_compact.specs.OpenEpochs.{tail_for_line, epoch_after}
+use Rattle.crx_history.specs.OpenEpochs.{tail_for_line, epoch_after}
 use Rattle.crx_compact.specs.ReadingLaws.{HasSingleLines, RawByTail}
 use Rattle.crx_columns.proofs.EachPlace.{each_place-same, index-each_place}
 use Rattle.crx_compact.proofs.Lists.{mapped-same}

@@ -12,9 +12,10 @@ use Rattle.crx_text.specs.meaning.Numbers.{IsMissingOrWithin, IsValue}
 use Rattle.crx_rinex.specs.meaning.Observations.{Row}
 use Rattle.crx_header.specs.meaning.ObservationTypes.{Count, is_system, count_of, IsAllowedCount}
 use Rattle.crx_header.specs.ObservationTypes.{AreCounts}
-use Rattle.crx_rinex.specs.meaning.EpochLines.{begins_epoch}
-use Rattle.crx_rinex.specs.meaning.SatelliteLines.{has_number, IsSoundRow, HasItsTypes, types_of_satellite}
-use Rattle.crx_rinex.proofs.Apart.{apart-map}
+use Rattle.crx_header.specs.meaning.EpochColumns.{begins_epoch}
+use Rattle.crx_header.specs.meaning.Satellites.{has_number, types_of_satellite}
+use Rattle.crx_rinex.specs.meaning.SatelliteLines.{IsSoundRow, HasItsTypes}
+use Rattle.crx_header.proofs.Apart.{apart-map}
 use Rattle.crx_header.proofs.Counts.{allowed_of, system_of}
 use Rattle.crx_rinex.proofs.Rows.{satellites_few}
 use Rattle.crx_arcs.specs.declared.code.Code.{Code}

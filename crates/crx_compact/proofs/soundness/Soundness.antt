@@ -9,7 +9,7 @@ use Rattle.crx_arcs.specs.meaning.Codes.{code_of}
 use Rattle.crx_faults.specs.meaning.Seen.{ReadLine, Content, Overlong}
 use Rattle.crx_rinex.specs.meaning.Observations.{Row, Epoch}
 use Rattle.crx_header.specs.meaning.ObservationTypes.{Count}
-use Rattle.crx_rinex.proofs.Apart.{apart-map}
+use Rattle.crx_header.proofs.Apart.{apart-map}
 use Rattle.crx_rinex.specs.meaning.Places.{Place, Here, Wrong, Wanted, then_place, after_lines, first_line, one_line}
 use Rattle.crx_arcs.specs.declared.code.Code.{Code}
 use Rattle.crx_arcs.specs.declared.code.Code.TheVariants.{Missing}
@@ -19,7 +19,7 @@ use Rattle.crx_faults.specs.declared.fault.Fault.TheVariants.{Truncated}
 use Rattle.crx_columns.specs.meaning.EachPlace.{each_place}
 use Rattle.crx_arcs.specs.meaning.Sequences.{and_then, before_all}
 use Rattle.crx_history.specs.Expansion.{all_ok, text_of, row_from, rows_from, epoch_of_block, epoch_from}
-use Rattle.crx_rinex.specs.meaning.EpochLines.{begins_epoch}
+use Rattle.crx_header.specs.meaning.EpochColumns.{begins_epoch}
 use Rattle.crx_history.specs.meaning.EpochText.{Satellite}
 use Rattle.crx_history.specs.meaning.Expansion.{RawRow, RawEpoch, block_of, raw_row_named, raw_run_of, marks_of}
 use Rattle.crx_history.specs.meaning.Past.{Past, past_of_block, past_of_epochs, past_of_line}

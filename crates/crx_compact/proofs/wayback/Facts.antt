@@ -11,7 +11,7 @@ use Rattle.crx_rinex.specs.meaning.Observations.{Row, Epoch}
 use Rattle.crx_rinex.specs.meaning.Epochs.{has_satellite, are_different, IsWholeEpoch}
 use Rattle.crx_faults.specs.declared.fault.Fault.{Fault}
 use Rattle.crx_columns.specs.meaning.EachPlace.{each_place}
-use Rattle.crx_rinex.specs.meaning.EpochLines.{begins_epoch, is_observation_flag, satellites_in}
+use Rattle.crx_header.specs.meaning.EpochColumns.{begins_epoch, is_observation_flag, satellites_in}
 use Rattle.crx_history.specs.meaning.EpochText.{Satellite, satellites_named}
 use Rattle.crx_header.specs.meaning.ObservationTypes.{Count}
 use Rattle.crx_history.specs.meaning.Compaction.{epoch_text}

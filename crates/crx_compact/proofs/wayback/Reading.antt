@@ -22,7 +22,7 @@ use Rattle.crx_arcs.specs.meaning.Sequences.{back_to, and_then}
 use Rattle.crx_arcs.specs.meaning.Differences.{code_at}
 use Rattle.crx_history.specs.meaning.Compaction.{Marked, epoch_text, row_named, since_full, run_of, clock_arc}
 use Rattle.crx_history.specs.meaning.Compaction.{newest_text, satellite_line, epoch_line, compact_epoch}
-use Rattle.crx_rinex.specs.meaning.EpochLines.{begins_epoch, epoch_count}
+use Rattle.crx_header.specs.meaning.EpochColumns.{begins_epoch, epoch_count}
 use Rattle.crx_history.specs.meaning.EpochText.{names_in, Satellite, satellites_named}
 use Rattle.crx_history.specs.meaning.Expansion.{RawEpoch, block_of, raw_run_of, overlaid}
 use Rattle.crx_arcs.specs.meaning.ArcValues.{value_of}

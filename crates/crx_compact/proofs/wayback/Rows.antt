@@ -9,7 +9,8 @@ use Rattle.std.proofs.Common.{sym, ◌∙◌, ap, subst, arith, not-suc-le-zero}
 use Rattle.std.proofs.lemmas.List.{get_or_past}
 use Rattle.std.proofs.lemmas.List.Elements.{All-head, All-tail}
 use Rattle.crx_text.specs.meaning.Numbers.{IsWithin, IsMissingOrWithin, IsValue}
-use Rattle.crx_rinex.specs.meaning.EpochLines.{IsClockOffset, begins_epoch}
+use Rattle.crx_rinex.specs.meaning.EpochLines.{IsClockOffset}
+use Rattle.crx_header.specs.meaning.EpochColumns.{begins_epoch}
 use Rattle.crx_columns.specs.meaning.Columns.{is_blank, without_end_blanks}
 use Rattle.crx_columns.specs.meaning.Texts.{text_difference, mark_of, by_position}
 use Rattle.crx_arcs.specs.meaning.Codes.{code_text}

@@ -11,7 +11,7 @@ use Rattle.crx_arcs.specs.declared.code.Code.{Code}
 use Rattle.crx_faults.specs.declared.limits.TheConstants.{WRITTEN_ORDER}
 use Rattle.crx_rinex.specs.meaning.Observations.{Row, Epoch}
 use Rattle.crx_header.specs.meaning.ObservationTypes.{Count}
-use Rattle.crx_rinex.specs.meaning.EpochLines.{begins_epoch, is_event_flag, is_event_line, is_observation_flag}
+use Rattle.crx_header.specs.meaning.EpochColumns.{begins_epoch, is_event_flag, is_event_line, is_observation_flag}
 use Rattle.crx_history.specs.meaning.Compaction.{Marked, epoch_text, since_full, run_of, arc_of, clock_arc, newest_text}
 use Rattle.crx_history.specs.meaning.Compaction.{indicators_before, codes_of, satellite_line, epoch_line}
 use Rattle.crx_arcs.specs.meaning.Cells.{cell_text}

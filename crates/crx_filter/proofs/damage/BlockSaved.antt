@@ -6,7 +6,7 @@ use Rattle.crx_faults.specs.meaning.Lines.{InputLine, pieces_of, lines_of}
 use Rattle.crx_faults.specs.meaning.Seen.{ReadLine, Content, Overlong, seen}
 use Rattle.crx_faults.specs.declared.fault.At.{At}
 use Rattle.crx_rinex.specs.meaning.Observations.{Epoch}
-use Rattle.crx_rinex.specs.meaning.EpochLines.{begins_epoch, is_event_line}
+use Rattle.crx_header.specs.meaning.EpochColumns.{begins_epoch, is_event_line}
 use Rattle.crx_rinex.specs.meaning.Units.{Observation}
 use Rattle.crx_history.specs.meaning.CompactPlaces.{ReadEpoch}
 use Rattle.crx_options.specs.meaning.Choices.{Choices}
@@ -14,7 +14,8 @@ use Rattle.crx_reading.specs.meaning.Items.{Item, Accepted, Warned, header_has_e
 use Rattle.crx_reading.specs.meaning.Items.{types_in_force}
 use Rattle.crx_reading.specs.meaning.Reading.{Reading, WholeReading, AtLines, reading_from, ended_reading}
 use Rattle.crx_filter.specs.Laws.{continued_reading, AreInPlace}
-use Rattle.crx_reading.specs.meaning.Compacted.{version_line, program_line, compact_unit, compact_lines}
+use Rattle.crx_reading.specs.meaning.Compacted.{compact_unit, compact_lines}
+use Rattle.crx_header.specs.meaning.CompactHeader.{version_line, program_line}
 use Rattle.crx_reading.specs.meaning.Expanded.{compact_place}
 use Rattle.crx_reading.specs.meaning.WayBack.{HaveNoReturns}
 use Rattle.crx_filter.specs.Anew.{IsBetweenUnits, GoOnAlike, starts_anew}

@@ -23,7 +23,8 @@ use Rattle.crx_runs.specs.meaning.Messages.{notices_text}
 use Rattle.crx_reading.specs.meaning.Written.{warnings_in}
 use Rattle.crx_runs.specs.meaning.Results.{status_after}
 use Rattle.crx_reading.specs.meaning.Written.{result_of}
-use Rattle.crx_reading.specs.meaning.Compacted.{marked_epochs, version_line, program_line, compact_unit, compact_lines}
+use Rattle.crx_reading.specs.meaning.Compacted.{marked_epochs, compact_unit, compact_lines}
+use Rattle.crx_header.specs.meaning.CompactHeader.{version_line, program_line}
 use Rattle.crx_reading.specs.meaning.Compacted.{whole_rinex}
 use Rattle.crx_reading.specs.meaning.Expanded.{compact_place, expanded_unit, whole_compact, expanded}
 use Rattle.crx_filter.specs.Expanded.{expanded_lines}

@@ -11,7 +11,7 @@ use Rattle.std.proofs.lemmas.Bool.{and_parts}
 use Rattle.crx_faults.specs.meaning.Lines.{Piece, InputLine, pieces_of, onto_first, line_of, lines_of, is_long}
 use Rattle.crx_faults.specs.meaning.Seen.{Content, Overlong, seen}
 use Rattle.crx_lines.proofs.PieceLemmas.{EachEnded, pieces-first}
-use Rattle.crx_rinex.specs.meaning.EpochLines.{begins_epoch}
+use Rattle.crx_header.specs.meaning.EpochColumns.{begins_epoch}
 use Rattle.crx_faults.specs.meaning.Lines.{lines_text}
 use Rattle.crx_reading.specs.meaning.Damage.{may_replace}
 use Rattle.crx_filter.proofs.wayback.Cut.{IsClean, seen-clean}

@@ -6,7 +6,7 @@ use Rattle.std.specs.Option.{is_some}
 use Rattle.crx_faults.specs.meaning.Seen.{ReadLine, Content, Overlong}
 use Rattle.crx_faults.specs.declared.fault.Fault.{Fault}
 use Rattle.crx_faults.specs.declared.fault.At.{At}
-use Rattle.crx_rinex.specs.meaning.EpochLines.{begins_epoch, is_event_line}
+use Rattle.crx_header.specs.meaning.EpochColumns.{begins_epoch, is_event_line}
 use Rattle.crx_header.specs.meaning.ObservationTypes.{Count, count_in, count_of_types_line, is_types_line}
 use Rattle.crx_rinex.specs.meaning.Places.{Place, Wrong, Wanted, first_line, one_line}
 use Rattle.crx_rinex.specs.meaning.Units.{Unit as FileUnit, HeaderLine, EventRecord}

@@ -3,12 +3,12 @@ use Rattle.std.proofs.Common.{ℕ, ◌≡◌, Bool, true, false, List, [], ◌�
 use Rattle.crx_faults.specs.meaning.Seen.{ReadLine}
 use Rattle.crx_rinex.specs.meaning.Observations.{Epoch}
 use Rattle.crx_rinex.specs.meaning.Units.{Unit as FileUnit, HeaderLine, EventLine, EventRecord, Observation}
-use Rattle.crx_compact.specs.OpenEpochs.{HeldEpoch, OpenRawEpoch}
+use Rattle.crx_history.specs.OpenEpochs.{HeldEpoch, OpenRawEpoch}
 use Rattle.crx_history.specs.Tails.{Tail}
 use Rattle.crx_rinex.specs.meaning.EpochPlaces.{OpenEpoch}
 use Rattle.crx_reading.specs.LineByLine.{Seen, Made, Completes, Moves, Fails, Repeats, Direction, Step, is_skipped_in}
 use Rattle.crx_reading.specs.LineByLine.{made_in, step_of_made}
-use Rattle.crx_reading.specs.meaning.Compacted.{lines_before_header}
+use Rattle.crx_header.specs.meaning.CompactHeader.{lines_before_header}
 use Rattle.crx_reading.specs.CompactionByLine.{Written, compaction, is_before_header}
 use Rattle.crx_reading.specs.ExpansionByLine.{expansion}
 use Rattle.crx_filter.specs.Laws.{is_ready, has_lines, IsReadyWhereHandedOut}

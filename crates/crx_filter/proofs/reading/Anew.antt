@@ -7,7 +7,7 @@ use Rattle.std.specs.Prelude.{⊤}
 use Rattle.crx_faults.specs.meaning.Seen.{ReadLine, Content, Overlong}
 use Rattle.crx_faults.specs.declared.fault.Fault.{Fault}
 use Rattle.crx_faults.specs.declared.fault.At.{At}
-use Rattle.crx_rinex.specs.meaning.EpochLines.{begins_epoch, is_event_line, records_in}
+use Rattle.crx_header.specs.meaning.EpochColumns.{begins_epoch, is_event_line, records_in}
 use Rattle.crx_header.specs.meaning.ObservationTypes.{Count}
 use Rattle.crx_header.specs.ObservationTypes.{with_line}
 use Rattle.crx_rinex.specs.meaning.Places.{Place, Here, Wrong, Wanted, one_line, first_line}

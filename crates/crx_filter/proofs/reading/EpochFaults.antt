@@ -13,10 +13,10 @@ use Rattle.crx_faults.specs.declared.limits.TheConstants.{HEAD_WIDTH, NAME_WIDTH
 use Rattle.crx_faults.specs.declared.fault.Fault.{Fault}
 use Rattle.crx_faults.specs.declared.fault.Fault.TheVariants.{BadEpoch, BadClock, RepeatedSatellite, BadField}
 use Rattle.crx_faults.specs.declared.fault.Fault.TheVariants.{OutOfRange, BadFlags, Truncated, LineTooLong}
-use Rattle.crx_rinex.specs.meaning.EpochLines.{epoch_count, begins_epoch}
+use Rattle.crx_header.specs.meaning.EpochColumns.{epoch_count, begins_epoch}
 use Rattle.crx_header.specs.meaning.ObservationTypes.{Count}
 use Rattle.crx_rinex.specs.meaning.Places.{Place, Here, Wrong, Wanted, after_lines, then_place, one_line, first_line}
-use Rattle.crx_rinex.specs.meaning.SatelliteLines.{types_of_satellite}
+use Rattle.crx_header.specs.meaning.Satellites.{types_of_satellite}
 use Rattle.crx_history.specs.meaning.CompactPlaces.{BegunEpoch, satellites_counted, satellites_of_text}
 use Rattle.crx_history.specs.meaning.CompactPlaces.{satellites_of_line, epoch_begun, clock_line_read}
 use Rattle.crx_arcs.specs.meaning.Cells.{cell_read}

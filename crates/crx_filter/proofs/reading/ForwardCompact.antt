@@ -5,7 +5,7 @@ use Rattle.crx_rinex.specs.meaning.Units.{Unit as FileUnit}
 use Rattle.crx_faults.specs.declared.fault.Fault.{Fault}
 use Rattle.crx_rinex.specs.meaning.Places.{Place, Here, Wrong, Wanted, then_place, one_line, first_line}
 use Rattle.crx_rinex.specs.Steady.{IsSteady, Remains, IsDecidedAfter}
-use Rattle.crx_rinex.specs.meaning.EpochLines.{is_event_line}
+use Rattle.crx_header.specs.meaning.EpochColumns.{is_event_line}
 use Rattle.crx_header.specs.meaning.ObservationTypes.{Count}
 use Rattle.crx_rinex.proofs.Steady.{steady-here, steady-first_line, steady-then}
 use Rattle.crx_history.specs.meaning.Expansion.{RawEpoch}

@@ -13,8 +13,9 @@ use Rattle.crx_faults.specs.declared.fault.Fault.TheVariants.{BadEpoch}
 use Rattle.crx_rinex.specs.meaning.Observations.{Epoch}
 use Rattle.crx_rinex.specs.meaning.Places.{Place, Here, Wrong, Wanted, after_lines, then_place, one_line, first_line}
 use Rattle.crx_rinex.specs.meaning.Units.{Unit as FileUnit, HeaderLine, EventLine, EventRecord, Observation}
-use Rattle.crx_rinex.specs.meaning.EpochLines.{begins_epoch, is_event_flag, is_event_line, records_in, event_head}
-use Rattle.crx_rinex.specs.meaning.EpochLines.{epoch_head, with_clock, head_of, epoch_count}
+use Rattle.crx_header.specs.meaning.EpochColumns.{begins_epoch, is_event_flag, is_event_line, records_in, epoch_count}
+use Rattle.crx_rinex.specs.meaning.EpochLines.{event_head}
+use Rattle.crx_rinex.specs.meaning.EpochLines.{epoch_head, with_clock, head_of}
 use Rattle.crx_header.specs.meaning.ObservationTypes.{Count}
 use Rattle.crx_rinex.specs.meaning.EpochPlaces.{Beginning, EventBegins, EpochBegins, opened, begun_by, beginning_of}
 use Rattle.crx_rinex.specs.meaning.EpochPlaces.{rest_at, unit_begun, epoch_place}

@@ -17,8 +17,9 @@ use Rattle.crx_columns.specs.meaning.Texts.{is_kept}
 use Rattle.crx_header.specs.meaning.Header.{is_supported, first_header_fault}
 use Rattle.crx_header.specs.declared.labels.TheConstants.{VERSION_LABEL}
 use Rattle.crx_header.specs.meaning.Label.{has_label}
-use Rattle.crx_rinex.specs.meaning.EpochLines.{HeadLine, EventHead, EpochHead, is_event_flag, records_in}
-use Rattle.crx_rinex.specs.meaning.EpochLines.{epoch_count, event_head, with_clock, epoch_head, head_of, begins_epoch}
+use Rattle.crx_rinex.specs.meaning.EpochLines.{HeadLine, EventHead, EpochHead}
+use Rattle.crx_header.specs.meaning.EpochColumns.{is_event_flag, records_in, epoch_count, begins_epoch}
+use Rattle.crx_rinex.specs.meaning.EpochLines.{event_head, with_clock, epoch_head, head_of}
 use Rattle.crx_rinex.specs.meaning.EpochPlaces.{OpenEpoch, Beginning, EventBegins, EpochBegins, opened, rows_wanted}
 use Rattle.crx_rinex.specs.meaning.EpochPlaces.{with_next_row, row_if_new, next_row, row_at, rows_at, rest_at, begun_by}
 use Rattle.crx_rinex.specs.meaning.EpochPlaces.{beginning_of, unit_begun, epoch_place}
@@ -26,12 +27,13 @@ use Rattle.crx_rinex.specs.meaning.Epochs.{has_satellite}
 use Rattle.crx_rinex.specs.meaning.Observations.{Row, Epoch}
 use Rattle.crx_header.specs.meaning.ObservationTypes.{Count, is_bad_types_line}
 use Rattle.crx_rinex.specs.meaning.Places.{Place, Here, Wrong, Wanted, first_line}
-use Rattle.crx_rinex.specs.meaning.SatelliteLines.{types_of_satellite, values_in, flags_in, row_with, row_of_types}
+use Rattle.crx_header.specs.meaning.Satellites.{types_of_satellite}
+use Rattle.crx_rinex.specs.meaning.SatelliteLines.{values_in, flags_in, row_with, row_of_types}
 use Rattle.crx_rinex.specs.meaning.SatelliteLines.{row_of}
 use Rattle.crx_rinex.specs.meaning.Units.{Unit as FileUnit, HeaderLine, EventRecord, Observation}
 use Rattle.crx_history.specs.meaning.CompactPlaces.{ReadEpoch, epoch_at}
 use Rattle.crx_history.specs.meaning.Expansion.{RawEpoch}
-use Rattle.crx_reading.specs.declared.crinex.TheConstants.{CRINEX_VERSION, CRINEX_VERSION_LABEL, CRINEX_PROGRAM_LABEL}
+use Rattle.crx_header.specs.declared.crinex.TheConstants.{CRINEX_VERSION, CRINEX_VERSION_LABEL, CRINEX_PROGRAM_LABEL}
 use Rattle.crx_reading.specs.meaning.Items.{Item, is_at_start, records_count_types}
 use Rattle.crx_reading.specs.meaning.Items.{types_in_force}
 use Rattle.crx_reading.specs.meaning.UnitPlaces.{unless_wrong, types_fault, first_fault, header_line_fault, header_line}

@@ -5,7 +5,7 @@ use Rattle.std.specs.Prelude.{⊤, not, nat_lt}
 use Rattle.crx_faults.specs.meaning.Seen.{ReadLine, Content, Overlong}
 use Rattle.crx_faults.specs.declared.fault.Fault.{Fault}
 use Rattle.crx_faults.specs.declared.fault.Fault.TheVariants.{BadEpoch}
-use Rattle.crx_rinex.specs.meaning.EpochLines.{is_event_line, records_in}
+use Rattle.crx_header.specs.meaning.EpochColumns.{is_event_line, records_in}
 use Rattle.crx_header.specs.meaning.ObservationTypes.{Count}
 use Rattle.crx_rinex.specs.meaning.Places.{Place, Here, Wrong, Wanted, one_line, first_line}
 use Rattle.crx_rinex.specs.meaning.Units.{Unit as FileUnit, EventLine}

@@ -3,9 +3,9 @@ use Rattle.std.proofs.Common.{Bool, ◌≡◌, inl, inr, ℕ, ◌+◌, true, fal
 use Rattle.std.proofs.Common.{[], Option, Some, None, Result, Err, refl, sym}
 use Rattle.std.proofs.Common.{ap, ◌∙◌, if◌then◌else◌, true≢false}
 use Rattle.crx_header.specs.meaning.ObservationTypes.{Count}
-use Rattle.crx_compact.specs.OpenEpochs.{OpenRawEpoch, ColumnsState}
+use Rattle.crx_history.specs.OpenEpochs.{OpenRawEpoch, ColumnsState}
 use Rattle.crx_history.specs.Tails.{Tail}
-use Rattle.crx_compact.specs.OpenEpochs.ColumnsState.{Idle, Reading}
+use Rattle.crx_history.specs.OpenEpochs.ColumnsState.{Idle, Reading}
 use Rattle.crx_faults.specs.meaning.Seen.{Content, Overlong}
 use Rattle.crx_faults.specs.declared.fault.At.{At}
 use Rattle.crx_faults.specs.declared.fault.Fault.{Fault}
@@ -17,7 +17,7 @@ use Rattle.crx_faults.specs.meaning.Faults.{is_skippable}
 use Rattle.crx_filter.specs.EngineSteps.{IsAt, Steps, settled_seen, step_made}
 use Rattle.crx_reading.specs.Stages.{is_held, is_settled, seen_stage}
 use Rattle.crx_reading.specs.CompactStages.{is_compact_stage, open_in}
-use Rattle.crx_reading.specs.CompactReaders.{RefusesCompactLine}
+use Rattle.crx_filter.specs.CompactReaders.{RefusesCompactLine}
 use Rattle.crx_runs.specs.declared.engine.Step.{Step}
 use Rattle.crx_filter.specs.declared.settled.Settled.{Settled}
 use Rattle.crx_reading.specs.declared.stage.Stage.{Stage}

@@ -16,9 +16,9 @@ use Rattle.crx_columns.specs.meaning.Texts.{is_printable}
 use Rattle.crx_faults.specs.declared.limits.TheConstants.{DATE_LIMIT}
 use Rattle.crx_rinex.specs.meaning.Places.{Here}
 use Rattle.crx_header.specs.meaning.Label.{label_of}
-use Rattle.crx_reading.specs.declared.crinex.TheConstants.{CRINEX_PROGRAM, CRINEX_PROGRAM_LABEL}
+use Rattle.crx_header.specs.declared.crinex.TheConstants.{CRINEX_PROGRAM, CRINEX_PROGRAM_LABEL}
 use Rattle.crx_options.specs.meaning.Choices.{is_date}
-use Rattle.crx_reading.specs.meaning.Compacted.{left_justified, version_line, program_line}
+use Rattle.crx_header.specs.meaning.CompactHeader.{left_justified, version_line, program_line}
 use Rattle.crx_reading.specs.meaning.Expanded.{crinex_program, first_lines}
 use Rattle.crx_filter.proofs.wayback.Cut.{IsClean}
 use Rattle.crx_lines.proofs.PieceLemmas.{NoFeed}

@@ -8,7 +8,7 @@ use Rattle.crx_faults.specs.meaning.Seen.{ReadLine, Content}
 use Rattle.crx_rinex.specs.meaning.Observations.{Row, Epoch}
 use Rattle.crx_rinex.specs.meaning.Places.{Here}
 use Rattle.crx_rinex.specs.meaning.Units.{Unit as FileUnit, HeaderLine, EventLine, EventRecord, Observation}
-use Rattle.crx_rinex.specs.meaning.EpochLines.{is_event_line, records_in}
+use Rattle.crx_header.specs.meaning.EpochColumns.{is_event_line, records_in}
 use Rattle.crx_header.specs.meaning.ObservationTypes.{Count}
 use Rattle.crx_history.specs.meaning.Compaction.{Marked, since_full, run_of, satellite_line, compact_epoch, epoch_line}
 use Rattle.crx_history.specs.meaning.Expansion.{RawEpoch, block_of}

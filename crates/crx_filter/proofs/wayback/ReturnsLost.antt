@@ -21,7 +21,8 @@ use Rattle.crx_reading.specs.meaning.Items.{Item, Accepted, Warned, types_in_for
 use Rattle.crx_reading.specs.meaning.Reading.{WholeReading, Stop, AtLines, is_skipped, reading_from}
 use Rattle.crx_reading.specs.meaning.Reading.{fault_at_end, ended_with, ended_reading}
 use Rattle.crx_runs.specs.meaning.Results.{FilterResult}
-use Rattle.crx_reading.specs.meaning.Compacted.{version_line, program_line, marked_epochs, compact_lines, compacted}
+use Rattle.crx_reading.specs.meaning.Compacted.{marked_epochs, compact_lines, compacted}
+use Rattle.crx_header.specs.meaning.CompactHeader.{version_line, program_line}
 use Rattle.crx_reading.specs.meaning.Expanded.{compact_place, first_lines, whole_compact}
 use Rattle.crx_reading.specs.meaning.Expanded.{expanded, expanded_unit}
 use Rattle.crx_filter.specs.Expanded.{expanded_lines}

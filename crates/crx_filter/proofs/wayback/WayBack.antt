@@ -27,7 +27,8 @@ use Rattle.crx_reading.specs.meaning.Reading.{reading_from, fault_at_end, ended_
 use Rattle.crx_reading.specs.meaning.Written.{warnings_in}
 use Rattle.crx_runs.specs.meaning.Results.{result_of_course}
 use Rattle.crx_reading.specs.meaning.Written.{written_lines, result_of}
-use Rattle.crx_reading.specs.meaning.Compacted.{rinex_place, marked_epochs, version_line, program_line, whole_rinex}
+use Rattle.crx_reading.specs.meaning.Compacted.{rinex_place, marked_epochs, whole_rinex}
+use Rattle.crx_header.specs.meaning.CompactHeader.{version_line, program_line}
 use Rattle.crx_reading.specs.meaning.Compacted.{compact_lines}
 use Rattle.crx_reading.specs.meaning.Directions.{rinex_reading}
 use Rattle.crx_reading.specs.meaning.Expanded.{compact_place, whole_compact, expanded_unit, expansion_result, expanded}

@@ -13,7 +13,7 @@ use Rattle.crx_rinex.specs.meaning.Observations.{Row, Epoch}
 use Rattle.crx_header.specs.meaning.ObservationTypes.{Count}
 use Rattle.crx_rinex.specs.meaning.Places.{Place, Here, then_place, first_line}
 use Rattle.crx_arcs.specs.meaning.Sequences.{and_then}
-use Rattle.crx_rinex.specs.meaning.EpochLines.{begins_epoch, epoch_count}
+use Rattle.crx_header.specs.meaning.EpochColumns.{begins_epoch, epoch_count}
 use Rattle.crx_columns.specs.meaning.Texts.{is_printable}
 use Rattle.crx_history.specs.meaning.EpochText.{names_in, Satellite, satellites_named}
 use Rattle.crx_history.specs.meaning.Expansion.{RawRow, RawEpoch}

@@ -10,9 +10,9 @@ use Rattle.crx_columns.specs.meaning.EachPlace.{each_place}
 use Rattle.crx_arcs.specs.meaning.Sequences.{before_all}
 pub use Rattle.crx_columns.specs.meaning.Texts.{is_printable}
 pub use Rattle.crx_header.specs.meaning.Label.{number_in}
-pub use Rattle.crx_rinex.specs.meaning.EpochLines.{begins_epoch, is_observation_flag, count_within_limit, satellites_in}
-pub use Rattle.crx_rinex.specs.meaning.EpochLines.{epoch_count}
-pub use Rattle.crx_rinex.specs.meaning.SatelliteLines.{types_of_satellite}
+pub use Rattle.crx_header.specs.meaning.EpochColumns.{begins_epoch, is_observation_flag, count_within_limit, satellites_in}
+pub use Rattle.crx_header.specs.meaning.EpochColumns.{epoch_count}
+pub use Rattle.crx_header.specs.meaning.Satellites.{types_of_satellite}
 use Rattle.crx_header.specs.meaning.ObservationTypes.{Count}
 
 -- the identifiers after the 41 columns, three characters each

@@ -7,7 +7,7 @@ use Rattle.crx_arcs.specs.declared.code.Code.{Code}
 use Rattle.crx_arcs.specs.declared.code.Code.TheVariants.{Missing}
 use Rattle.crx_columns.specs.meaning.EachPlace.{each_place}
 use Rattle.crx_arcs.specs.meaning.Sequences.{back_to, named, stretch}
-use Rattle.crx_rinex.specs.meaning.EpochLines.{begins_epoch}
+use Rattle.crx_header.specs.meaning.EpochColumns.{begins_epoch}
 
 -- a satellite line as it is read: the identifier that it belongs to, its codes and its marks
 pub record RawRow : Type 0 where

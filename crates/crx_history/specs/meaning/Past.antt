@@ -5,7 +5,7 @@ use Rattle.std.specs.Prelude.{ℕ, ℤ, List, [], ◌∷◌, map, Option, Some, 
 use Rattle.crx_arcs.specs.declared.code.Code.{Code}
 use Rattle.crx_faults.specs.declared.fault.Fault.{Fault}
 use Rattle.crx_faults.specs.declared.limits.TheConstants.{OBSERVATION_WIDTH, CLOCK_WIDTH}
-use Rattle.crx_rinex.specs.meaning.EpochLines.{begins_epoch}
+use Rattle.crx_header.specs.meaning.EpochColumns.{begins_epoch}
 use Rattle.crx_history.specs.meaning.Expansion.{RawEpoch, block_of, overlaid, code_in, raw_run_of, marks_of}
 use Rattle.crx_arcs.specs.meaning.ArcValues.{value_of}
 

@@ -18,8 +18,8 @@ use Rattle.crx_laws.proofs.OpenSound.{IsOpenSoundly, open-sound}
 use Rattle.crx_history.specs.meaning.CompactPlaces.{ReadEpoch, epoch_at}
 use Rattle.crx_history.specs.meaning.Expansion.{RawEpoch}
 use Rattle.crx_history.specs.Tails.{Tail, IsBoundedTail, tail_left}
-use Rattle.crx_compact.specs.OpenEpochs.{OpenRawEpoch, IsBoundedOpen, epoch_after, first_step, held_after, placed_as}
-use Rattle.crx_compact.specs.OpenEpochs.{place_by_steps, open_raw_with}
+use Rattle.crx_history.specs.OpenEpochs.{OpenRawEpoch, IsBoundedOpen, epoch_after, first_step, held_after, placed_as}
+use Rattle.crx_history.specs.OpenEpochs.{place_by_steps, open_raw_with}
 use Rattle.crx_laws.proofs.soundness.BoundedTails.{written-bounded}
 use Rattle.crx_laws.proofs.soundness.BoundedReading.{read-bounded, open-bounded, place-bounded, OfHeld}
 use Rattle.crx_compact.proofs.reading.LineByLine.{steps-agree}

@@ -10,7 +10,8 @@ use Rattle.crx_history.specs.meaning.Compaction.{Marked, run_of, satellite_line}
 use Rattle.crx_compact.proofs.wayback.Lengths.{lines-short}
 use Rattle.crx_options.specs.meaning.Choices.{Choices, is_date}
 use Rattle.crx_reading.specs.meaning.Items.{Item, Accepted, Warned, is_at_start, types_in_force}
-use Rattle.crx_reading.specs.meaning.Compacted.{lines_before_header, marked_epochs, compact_unit, rinex_place}
+use Rattle.crx_reading.specs.meaning.Compacted.{marked_epochs, compact_unit, rinex_place}
+use Rattle.crx_header.specs.meaning.CompactHeader.{lines_before_header}
 use Rattle.crx_reading.specs.meaning.Directions.{rinex_reading}
 use Rattle.crx_filter.specs.Laws.{AreInPlace}
 use Rattle.crx_reading.specs.meaning.WayBack.{OfCopiedLine, OfCopiedLines}

@@ -18,13 +18,13 @@ use Rattle.crx_faults.specs.declared.fault.Fault.{Fault}
 use Rattle.crx_faults.specs.declared.fault.Fault.TheVariants.{BadClock, Truncated}
 use Rattle.crx_faults.specs.declared.limits.TheConstants.{NAME_WIDTH, ORDER_LIMIT, TYPES_LIMIT, SATELLITES_LIMIT}
 use Rattle.crx_rinex.specs.meaning.Places.{Place, Here, Wrong, Wanted}
-use Rattle.crx_rinex.specs.meaning.SatelliteLines.{types_of_satellite}
+use Rattle.crx_header.specs.meaning.Satellites.{types_of_satellite}
 use Rattle.crx_header.specs.meaning.ObservationTypes.{Count, IsAllowedCount}
 use Rattle.crx_header.specs.ObservationTypes.{AreCounts}
 use Rattle.crx_header.proofs.Counts.{allowed_of}
 use Rattle.crx_rinex.proofs.Rows.{satellites_few}
 use Rattle.crx_arcs.specs.meaning.Sequences.{and_then, named}
-use Rattle.crx_rinex.specs.meaning.EpochLines.{begins_epoch}
+use Rattle.crx_header.specs.meaning.EpochColumns.{begins_epoch}
 use Rattle.crx_history.specs.meaning.EpochText.{Satellite}
 use Rattle.crx_history.specs.meaning.Expansion.{RawRow, code_in}
 use Rattle.crx_arcs.specs.meaning.Cells.{ReadCell, cell_read}
@@ -37,12 +37,12 @@ use Rattle.crx_history.specs.Steps.{tail_named, cell_of_tail, flags_of_tail}
 use Rattle.crx_arcs.specs.ArcSteps.{onto_sum, differences_by}
 use Rattle.crx_arcs.specs.ArcSteps.{arc_of_code}
 use Rattle.crx_history.specs.HeldRows.{past_of_tail, HeldRow}
-use Rattle.crx_compact.specs.OpenEpochs.{tail_for_line, HeldClock, HeldEpoch, OpenRawEpoch}
-use Rattle.crx_compact.specs.OpenEpochs.{RawStep, Going, Whole, Faulty, opened_raw, opening, first_step}
-use Rattle.crx_compact.specs.OpenEpochs.{whole_or_awaiting, held_clock, raw_step_with_clock}
+use Rattle.crx_history.specs.OpenEpochs.{tail_for_line, HeldClock, HeldEpoch, OpenRawEpoch}
+use Rattle.crx_history.specs.OpenEpochs.{RawStep, Going, Whole, Faulty, opened_raw, opening, first_step}
+use Rattle.crx_history.specs.OpenEpochs.{whole_or_awaiting, held_clock, raw_step_with_clock}
 use Rattle.crx_history.specs.HeldRows.{held_row}
-use Rattle.crx_compact.specs.OpenEpochs.{raw_step_with_row, line_step, next_step, place_of_steps, open_raw_after}
-use Rattle.crx_compact.specs.OpenEpochs.{IsBoundedAwaited, IsBoundedHeld, IsBoundedOpen, IsBoundedStep}
+use Rattle.crx_history.specs.OpenEpochs.{raw_step_with_row, line_step, next_step, place_of_steps, open_raw_after}
+use Rattle.crx_history.specs.OpenEpochs.{IsBoundedAwaited, IsBoundedHeld, IsBoundedOpen, IsBoundedStep}
 use Rattle.crx_compact.specs.ReadingLaws.{ReadAreBounded}
 use Rattle.crx_columns.proofs.EachPlace.{each_place-all, length-each_place}
 use Rattle.crx_history.proofs.Characters.{same_characters}

@@ -15,8 +15,7 @@ use Rattle.crx_faults.specs.declared.fault.Fault.{Fault}
 use Rattle.crx_faults.specs.declared.limits.TheConstants.{LINE_LIMIT, TYPES_LIMIT}
 use Rattle.crx_rinex.specs.meaning.Observations.{Row, Epoch}
 use Rattle.crx_header.specs.meaning.ObservationTypes.{Count}
-use Rattle.crx_rinex.specs.meaning.EpochLines.{begins_epoch, is_event_line, records_in}
-use Rattle.crx_rinex.specs.meaning.EpochLines.{satellites_of}
+use Rattle.crx_header.specs.meaning.EpochColumns.{begins_epoch, is_event_line, records_in, satellites_of}
 use Rattle.crx_rinex.specs.meaning.SatelliteLines.{IsSoundRow}
 use Rattle.crx_rinex.specs.meaning.Epochs.{IsWholeEpoch}
 use Rattle.crx_rinex.specs.meaning.EpochPlaces.{epoch_place}

@@ -1,7 +1,7 @@
 -- The compaction of a RINEX file: Hatanaka's Compact RINEX 3.0.
 -- Lists of items have the newest first.
 use Rattle.std.specs.Prelude.{ℕ, Bool, true, false, ◌||◌, ◌&&◌, ◌+◌, ◌%◌, List, [], ◌∷◌, ◌++◌, ◌==◌, Option, Some, None}
-use Rattle.std.specs.Prelude.{nat_lt, take, replicate, map}
+use Rattle.std.specs.Prelude.{nat_lt, map}
 use Rattle.crx_faults.specs.meaning.Seen.{ReadLine, seen}
 use Rattle.crx_faults.specs.meaning.Lines.{lines_of}
 use Rattle.crx_rinex.specs.meaning.Observations.{Epoch}
@@ -9,7 +9,7 @@ use Rattle.crx_rinex.specs.meaning.Places.{Place}
 use Rattle.crx_rinex.specs.meaning.Units.{Unit, HeaderLine, EventLine, EventRecord, Observation}
 use Rattle.crx_rinex.specs.meaning.EpochPlaces.{epoch_place}
 use Rattle.crx_history.specs.meaning.Compaction.{Marked, compact_epoch}
-use Rattle.crx_reading.specs.declared.crinex.TheConstants.{CRINEX_VERSION_LINE, CRINEX_PROGRAM, CRINEX_PROGRAM_LABEL}
+use Rattle.crx_header.specs.meaning.CompactHeader.{lines_before_header}
 use Rattle.crx_options.specs.meaning.Choices.{Choices}
 use Rattle.crx_reading.specs.meaning.Items.{Item, Accepted, Warned, is_at_start, types_in_force}
 use Rattle.crx_reading.specs.meaning.UnitPlaces.{unit_place}
@@ -61,22 +61,6 @@ marked_epochs every (Accepted (Observation epoch) ∷ before) =
 marked_epochs every (Warned at ∷ before) = marked_epochs every before
 
 -- ---- the text
-
--- a text in so many columns, blanks after it
-abbrev pub left_justified : ℕ → List ℕ → List ℕ
-left_justified width text = take width (text ++ replicate width 32)
-
--- the two lines that stand before the header in compact text
-abbrev pub version_line : List ℕ
-version_line = CRINEX_VERSION_LINE
-
-abbrev pub program_line : List ℕ → List ℕ
-program_line date = CRINEX_PROGRAM ++ left_justified 20 date ++ CRINEX_PROGRAM_LABEL
-
--- the lines before a header line: before the first one the two of compact text
-abbrev pub lines_before_header : List ℕ → Bool → List (List ℕ)
-lines_before_header date true = version_line ∷ program_line date ∷ []
-lines_before_header date false = []
 
 -- the lines of a unit in compact text, after the items before it
 abbrev pub compact_unit : Choices → List (Item Epoch) → Unit Epoch → List (List ℕ)

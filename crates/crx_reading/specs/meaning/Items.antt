@@ -6,7 +6,7 @@ use Rattle.crx_faults.specs.declared.fault.At.{At}
 use Rattle.crx_columns.specs.meaning.Columns.{character_at}
 use Rattle.crx_rinex.specs.meaning.Units.{Unit, HeaderLine, EventLine, EventRecord, Observation}
 use Rattle.crx_header.specs.meaning.Header.{is_end_of_header}
-use Rattle.crx_rinex.specs.meaning.EpochLines.{records_in}
+use Rattle.crx_header.specs.meaning.EpochColumns.{records_in}
 use Rattle.crx_header.specs.meaning.ObservationTypes.{Count, types_of}
 
 -- a unit that was accepted, or a warning in the place of one

@@ -7,7 +7,7 @@ use Rattle.crx_faults.specs.meaning.Faults.{is_skippable}
 use Rattle.crx_faults.specs.declared.fault.Fault.{Fault}
 use Rattle.crx_faults.specs.declared.fault.Fault.TheVariants.{MissingVersion, NoEndOfHeader, Truncated}
 use Rattle.crx_faults.specs.declared.fault.At.{At}
-use Rattle.crx_rinex.specs.meaning.EpochLines.{begins_epoch}
+use Rattle.crx_header.specs.meaning.EpochColumns.{begins_epoch}
 use Rattle.crx_rinex.specs.meaning.Places.{Place, Here, Wrong, Wanted}
 use Rattle.crx_rinex.specs.meaning.Units.{Unit}
 use Rattle.crx_reading.specs.meaning.Items.{Item, Accepted, Warned, header_has_ended, records_left}

@@ -1,54 +1,19 @@
 -- Epoch lines: RINEX 3.05, table A3, EPOCH record.
-use Rattle.std.specs.Prelude.{◌≡◌, ◌≤◌, ◌+◌, ℕ, ℤ, Bool, length, ◌||◌, ◌&&◌, ◌-◌, List, ◌==◌, Option, Some, None}
-use Rattle.std.specs.Prelude.{Result, Ok, Err, if◌then◌else◌, nat_le, unwrap_or, not, drop}
+use Rattle.std.specs.Prelude.{◌≡◌, ◌≤◌, ◌+◌, ℕ, ℤ, length, ◌-◌, List, Option, Some, None}
+use Rattle.std.specs.Prelude.{Result, Ok, Err, if◌then◌else◌, not, drop}
 use Rattle.std.specs.List.{list_all}
-use Rattle.std.specs.Option.{option_and_then}
 use Rattle.crx_columns.specs.meaning.Columns.{columns, character_at, is_blank}
 use Rattle.crx_text.specs.meaning.Numbers.{clock_of, IsMissingOrWithin}
-use Rattle.crx_columns.specs.meaning.Texts.{is_kept}
 use Rattle.crx_faults.specs.declared.limits.TheConstants.{SATELLITES_LIMIT, HEAD_WIDTH, CLOCK_WIDTH}
 use Rattle.crx_faults.specs.declared.fault.Fault.{Fault}
 use Rattle.crx_faults.specs.declared.fault.Fault.TheVariants.{NotAnEpoch, BadEpoch, BadClock}
-use Rattle.crx_header.specs.meaning.Label.{number_in}
+use Rattle.crx_header.specs.meaning.EpochColumns.{begins_epoch, is_event_flag, records_in, epoch_count}
 
 -- what a line that begins with > stands for: an event with its flag and the count of its records, or an observation
 -- epoch with columns 1 to 41, the count of its satellites, and the receiver clock offset
 pub data HeadLine : Type 0 where
   EventHead : ℕ → ℕ → HeadLine
   EpochHead : List ℕ → ℕ → Option ℤ → HeadLine
-
--- an epoch line begins with >
-abbrev pub begins_epoch : List ℕ → Bool
-begins_epoch line = character_at line 1 == 62
-
--- the flag's digit in column 32: 2 to 5 are events, and 6 (cycle slip records) is read as one
-abbrev pub is_event_flag : ℕ → Bool
-is_event_flag flag = nat_le 50 flag && nat_le flag 54
-
--- the flags of observations: 0 good, 1 a power failure before
-abbrev pub is_observation_flag : ℕ → Bool
-is_observation_flag flag = (flag == 48) || (flag == 49)
-
--- a line that begins an event
-abbrev pub is_event_line : List ℕ → Bool
-is_event_line line = begins_epoch line && is_event_flag (character_at line 32)
-
--- the count of an event's records in columns 33 to 35; blank counts 0
-abbrev pub records_in : List ℕ → Option ℕ
-records_in line = if list_all is_blank (columns line 33 3) then Some 0 else number_in (columns line 33 3)
-
-abbrev pub count_within_limit : ℕ → Option ℕ
-count_within_limit count = if nat_le count SATELLITES_LIMIT then Some count else None
-
--- the count of an observation epoch's satellites in columns 33 to 35
-abbrev pub satellites_in : List ℕ → Option ℕ
-satellites_in line = option_and_then count_within_limit (number_in (columns line 33 3))
-
--- the count that an epoch line's columns before the clock announce, where they are those of an observation epoch: >, a
--- flag of 0 or 1, a count, and no character but those kept
-abbrev pub epoch_count : List ℕ → Option ℕ
-epoch_count head = if begins_epoch head
-    && is_observation_flag (character_at head 32) && list_all is_kept head then satellites_in head else None
 
 abbrev pub event_head : ℕ → Option ℕ → Result HeadLine Fault
 event_head flag None = Err BadEpoch
@@ -78,10 +43,6 @@ pub record ObservationHead : Type 0 where
   pub head : List ℕ
   pub count : ℕ
   pub clock : Option ℤ
-
--- how many satellites columns 1 to 41 announce
-abbrev pub satellites_of : List ℕ → ℕ
-satellites_of head = unwrap_or (epoch_count head) 0
 
 -- a clock that fits its columns, or none
 abbrev pub IsClockOffset : Option ℤ → Type 0

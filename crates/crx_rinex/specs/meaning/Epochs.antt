@@ -1,24 +1,17 @@
 -- Observation epochs whose rows come one by one: RINEX 3.05, table A3.
-use Rattle.std.specs.Prelude.{◌≡◌, ◌≤◌, ℕ, Bool, true, List, [], ◌∷◌, ◌&&◌, length, not, All}
+use Rattle.std.specs.Prelude.{◌≡◌, ◌≤◌, ℕ, Bool, true, List, length, All}
 use Rattle.std.specs.List.{list_any}
 use Rattle.std.specs.Str.{bytes_eq}
 use Rattle.crx_rinex.specs.meaning.Observations.{Row, Epoch}
-use Rattle.crx_rinex.specs.meaning.EpochLines.{IsObservationHead, satellites_of}
+use Rattle.crx_rinex.specs.meaning.EpochLines.{IsObservationHead}
+use Rattle.crx_header.specs.meaning.EpochColumns.{satellites_of}
 use Rattle.crx_header.specs.meaning.ObservationTypes.{Count}
+use Rattle.crx_header.specs.meaning.Satellites.{are_apart}
 use Rattle.crx_rinex.specs.meaning.SatelliteLines.{IsSoundRow, HasItsTypes}
 
 -- whether some rows have a satellite
 abbrev pub has_satellite : List ℕ → List Row → Bool
 has_satellite name rows = list_any (λ row. bytes_eq row.name name) rows
-
--- whether some things have one of this identifier among them
-abbrev pub is_among : {X : Type 0} → (X → List ℕ) → List ℕ → List X → Bool
-is_among name_of name xs = list_any (λ x. bytes_eq (name_of x) name) xs
-
--- whether no two of them have one identifier
-abbrev pub are_apart : {X : Type 0} → (X → List ℕ) → List X → Bool
-are_apart name_of [] = true
-are_apart name_of (x ∷ xs) = not (is_among name_of (name_of x) xs) && are_apart name_of xs
 
 -- whether no two rows are of one satellite
 abbrev pub are_different : List Row → Bool

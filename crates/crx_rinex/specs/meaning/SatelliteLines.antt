@@ -1,7 +1,6 @@
 -- Satellite lines: RINEX 3.05, table A3, OBSERVATION record, A1,I2.2,m(F14.3,I1,I1).
-use Rattle.std.specs.Prelude.{◌≡◌, ℕ, ℤ, Bool, true, ◌==◌, ◌||◌, ◌&&◌, ◌+◌, ◌*◌, List, [], ◌∷◌, Option, Some, None}
+use Rattle.std.specs.Prelude.{◌≡◌, ℕ, ℤ, true, ◌+◌, ◌*◌, List, [], ◌∷◌, Option, Some, None}
 use Rattle.std.specs.Prelude.{Result, Ok, Err, if◌then◌else◌, not, drop, length, All}
-use Rattle.std.specs.Char.{is_ascii_digit}
 use Rattle.std.specs.List.{list_all, concat}
 use Rattle.std.specs.Option.{option_and_then}
 use Rattle.crx_columns.specs.meaning.Columns.{columns, character_at, is_blank}
@@ -12,16 +11,8 @@ use Rattle.crx_faults.specs.declared.limits.TheConstants.{OBSERVATION_WIDTH, NAM
 use Rattle.crx_faults.specs.declared.fault.Fault.{Fault}
 use Rattle.crx_faults.specs.declared.fault.Fault.TheVariants.{BadSatellite, BadField, BadFlags}
 use Rattle.crx_columns.specs.meaning.Texts.{is_kept}
-use Rattle.crx_header.specs.meaning.ObservationTypes.{Count, IsAllowedCount, count_of, is_system}
-
--- whether columns 2 and 3 of a satellite line go on with an identifier: a digit or a blank, and a digit
-abbrev pub has_number : List ℕ → Bool
-has_number line = (is_ascii_digit (character_at line 2) || is_blank (character_at line 2))
-    && is_ascii_digit (character_at line 3)
-
--- how many types the satellite of a line has, where it has an identifier of a system with types
-abbrev pub types_of_satellite : List Count → List ℕ → Option ℕ
-types_of_satellite types line = if has_number line then count_of types (character_at line 1) else None
+use Rattle.crx_header.specs.meaning.ObservationTypes.{Count, IsAllowedCount}
+use Rattle.crx_header.specs.meaning.Satellites.{is_identifier, types_of_satellite}
 
 -- the field of type k, from 0
 abbrev pub field : List ℕ → ℕ → List ℕ
@@ -61,10 +52,6 @@ row_of_types line (Some m) = row_with m line (values_in m line)
 -- a satellite's row, or the first fault of its line
 abbrev pub row_of : List Count → List ℕ → Result Row Fault
 row_of types line = row_of_types line (types_of_satellite types line)
-
--- an identifier: the letter of a system, a digit or a blank, and a digit
-abbrev pub is_identifier : List ℕ → Bool
-is_identifier name = (length name == NAME_WIDTH) && (is_system (character_at name 1) && has_number name)
 
 -- what is true of every row: its identifier has the form of one; it has as many values as a system may have types, each
 -- within its columns; and two indicators for each, of the characters that may stand there

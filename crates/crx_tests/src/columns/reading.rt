@@ -3,7 +3,7 @@
 ghost use Rattle.std.specs.Bool.{OnTrue};
 ghost use Rattle.std.specs.Prelude.{◌≡◌, ◌≤◌, length, false};
 ghost use Rattle.crx_faults.specs.declared.limits.TheConstants.{LINE_LIMIT};
-ghost use Rattle.crx_rinex.specs.meaning.EpochLines.{is_event_line};
+ghost use Rattle.crx_header.specs.meaning.EpochColumns.{is_event_line};
 
 use super::cases::{Table, both_forms, both_ways, read_alone};
 use super::*;

@@ -8,7 +8,7 @@ use Rattle.crx_columns.proofs.EachPlace.{drop_all-each_place}
 use Rattle.crx_history.proofs.Naming.{among-named, named-bad, named-twice, named-more, named-all, next-name}
 use Rattle.crx_rinex.proofs.Rows.{names-long}
 use Rattle.crx_columns.proofs.Characters.{length-columns}
-use Rattle.crx_rinex.specs.meaning.SatelliteLines.{is_identifier}
+use Rattle.crx_header.specs.meaning.Satellites.{is_identifier}
 use Rattle.std.proofs.Math.Seq.{take-append_seam}
 use Rattle.crx_history.proofs.awaited.read_names.Goals as goal
 

@@ -6,8 +6,8 @@ use Rattle.std.proofs.lemmas.List.{map-append}
 use Rattle.std.specs.List.{list_any}
 use Rattle.std.specs.Str.{bytes_eq}
 use Rattle.crx_columns.specs.meaning.Columns.{columns}
-use Rattle.crx_rinex.specs.meaning.Epochs.{is_among}
-use Rattle.crx_rinex.proofs.Apart.{among-map}
+use Rattle.crx_header.specs.meaning.Satellites.{is_among}
+use Rattle.crx_header.proofs.Apart.{among-map}
 use Rattle.crx_columns.proofs.EachPlace.{drop_all-each_place, each_place-more}
 use Rattle.crx_history.specs.meaning.EpochText.{Satellite, names_in}
 use Rattle.crx_history.proofs.Naming.{named-all, named-bad, named-more, named-twice, next-name}

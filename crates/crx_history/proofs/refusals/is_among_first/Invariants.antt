@@ -1,5 +1,5 @@
 use Rattle.std.specs.Prelude.{◌≡◌, ℕ, List, false}
-use Rattle.crx_rinex.specs.meaning.Epochs.{is_among}
+use Rattle.crx_header.specs.meaning.Satellites.{is_among}
 use Rattle.crx_history.specs.meaning.EpochText.{names_in}
 use Rattle.crx_history.proofs.refusals.is_among_first.Given as goal
 

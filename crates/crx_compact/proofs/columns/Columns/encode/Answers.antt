@@ -1,7 +1,7 @@
 use Rattle.std.proofs.Common.{ap, ◌∙◌, Some}
 use Rattle.crx_compact.specs.Coded.{CodedEpoch}
-use Rattle.crx_compact.specs.OpenEpochs.{ColumnsState, tail_held}
-use Rattle.crx_compact.specs.OpenEpochs.ColumnsState.{Idle}
+use Rattle.crx_history.specs.OpenEpochs.{ColumnsState, tail_held}
+use Rattle.crx_history.specs.OpenEpochs.ColumnsState.{Idle}
 use Rattle.crx_history.specs.Tails.{Tail}
 use Rattle.crx_history.proofs.Marks.{if-ok, on-ok}
 use Rattle.crx_compact.proofs.wayback.Encoding.{lines-coded, tail-coded}

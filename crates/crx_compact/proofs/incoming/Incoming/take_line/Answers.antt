@@ -1,7 +1,7 @@
 use Rattle.std.proofs.Common.{◌+◌, ap, ◌∙◌, sym, subst, ◌≡◌, Option, Some, None, List}
 use Rattle.std.specs.Prelude.{slice_get}
 use Rattle.crx_history.specs.meaning.EpochText.{Satellite}
-use Rattle.crx_compact.specs.OpenEpochs.{RawStep}
+use Rattle.crx_history.specs.OpenEpochs.{RawStep}
 use Rattle.crx_compact.specs.OpenLines.{OpenLines, AreLinesSoFar, HaveRowsAt, lines_so_far, made_of, step_after}
 use Rattle.crx_compact.specs.declared.incoming.Stage.{Stage}
 use Rattle.crx_compact.specs.declared.incoming.Stage.TheVariants.{Rows}

@@ -6,7 +6,7 @@ use Rattle.crx_faults.specs.meaning.Seen.{Content}
 use Rattle.crx_filter.specs.EngineSteps.{Steps}
 use Rattle.crx_reading.specs.CompactionByLine.{compaction}
 use Rattle.crx_filter.specs.CompactionState.{compaction_state}
-use Rattle.crx_reading.specs.ReadyLines.{pending_lines}
+use Rattle.crx_compact.specs.ReadyLines.{pending_lines}
 use Rattle.crx_filter.proofs.following.DirectionSteps.{compaction-goes}
 use Rattle.crx_filter.proofs.steps.EngineAnswers.{answers-seen, seen-within}
 use Rattle.crx_filter.proofs.steps.EngineLemmas.{repeats}

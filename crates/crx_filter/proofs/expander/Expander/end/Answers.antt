@@ -1,10 +1,10 @@
 use Rattle.std.proofs.Common.{◌≡◌, List, ℕ, Option, None, refl, sym, ap, ◌∙◌}
 use Rattle.crx_faults.specs.declared.fault.At.{At}
-use Rattle.crx_compact.specs.OpenEpochs.{OpenRawEpoch, tail_held}
+use Rattle.crx_history.specs.OpenEpochs.{OpenRawEpoch, tail_held}
 use Rattle.crx_history.specs.Tails.{Tail}
 use Rattle.crx_reading.specs.CompactStages.{open_in}
 use Rattle.crx_filter.specs.EngineSteps.{step_made}
-use Rattle.crx_reading.specs.CompactReaders.{seen_in, compact_reader_state}
+use Rattle.crx_filter.specs.CompactReaders.{seen_in, compact_reader_state}
 use Rattle.crx_reading.specs.ExpansionByLine.{expansion}
 use Rattle.crx_filter.specs.ExpanderState.{expander_state}
 use Rattle.crx_reading.specs.declared.stage.Stage.{Stage}

@@ -1,10 +1,10 @@
 use Rattle.std.proofs.Common.{Bool, ℕ, [], Option, None, sym, ap, subst, ◌∙◌, if◌then◌else◌}
-use Rattle.crx_compact.specs.OpenEpochs.{OpenRawEpoch, tail_held}
+use Rattle.crx_history.specs.OpenEpochs.{OpenRawEpoch, tail_held}
 use Rattle.crx_history.specs.Tails.{Tail}
 use Rattle.crx_faults.specs.meaning.Seen.{ReadLine}
 use Rattle.crx_reading.specs.CompactStages.{open_in}
 use Rattle.crx_reading.specs.LineByLine.{Seen}
-use Rattle.crx_reading.specs.CompactReaders.{compact_reader_state}
+use Rattle.crx_filter.specs.CompactReaders.{compact_reader_state}
 use Rattle.crx_filter.specs.EngineSteps.{IsAt, step_made}
 use Rattle.crx_filter.proofs.steps.ExpanderSteps.{settled-as}
 use Rattle.crx_filter.proofs.expander.Expander.fail.Goals as goal

@@ -4,7 +4,7 @@ use Rattle.std.proofs.lemmas.Bool.{false≢true}
 use Rattle.crx_faults.specs.declared.limits.TheConstants.{HEAD_WIDTH}
 use Rattle.crx_faults.specs.declared.fault.Fault.{Fault}
 use Rattle.crx_columns.specs.meaning.Columns.{columns}
-use Rattle.crx_rinex.specs.meaning.EpochLines.{epoch_count}
+use Rattle.crx_header.specs.meaning.EpochColumns.{epoch_count}
 use Rattle.crx_header.specs.meaning.ObservationTypes.{Count}
 use Rattle.crx_history.specs.meaning.CompactPlaces.{satellites_of_text}
 use Rattle.crx_history.specs.meaning.EpochText.{Satellite}

@@ -2,9 +2,10 @@ use Rattle.std.proofs.Common.{rules, ◌≡◌, ◌++◌, ◌∷◌, [], List, �
 use Rattle.std.proofs.Common.{append_assoc, arith}
 use Rattle.std.proofs.lemmas.Bool.{false≢true}
 use Rattle.std.proofs.lemmas.List.{take_all}
-use Rattle.crx_rinex.specs.meaning.Epochs.{are_apart, are_different}
+use Rattle.crx_header.specs.meaning.Satellites.{are_apart}
+use Rattle.crx_rinex.specs.meaning.Epochs.{are_different}
 use Rattle.crx_rinex.specs.meaning.Observations.{Row}
-use Rattle.crx_rinex.proofs.Apart.{apart-map}
+use Rattle.crx_header.proofs.Apart.{apart-map}
 use Rattle.crx_history.specs.HeldRows.{AreApart}
 use Rattle.crx_arcs.specs.meaning.Codes.{code_text}
 use Rattle.crx_columns.specs.meaning.Texts.{text_difference}

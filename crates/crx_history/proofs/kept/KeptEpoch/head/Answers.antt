@@ -1,7 +1,7 @@
 use Rattle.std.proofs.Common.{ap, ◌∙◌, ◌≡◌, List, ℕ, Bool, is_some}
 use Rattle.crx_columns.specs.meaning.Columns.{columns}
 use Rattle.crx_faults.specs.declared.limits.TheConstants.{HEAD_WIDTH}
-use Rattle.crx_rinex.specs.meaning.EpochLines.{epoch_count}
+use Rattle.crx_header.specs.meaning.EpochColumns.{epoch_count}
 use Rattle.crx_rinex.specs.meaning.Observations.{Epoch}
 use Rattle.crx_arcs.specs.ArcSteps.{shown_value}
 use Rattle.crx_history.specs.Tails.{Tail}

@@ -1,5 +1,5 @@
 use Rattle.std.proofs.Common.{◌≡◌, false, sym, refl}
-use Rattle.crx_rinex.specs.meaning.EpochLines.{begins_epoch}
+use Rattle.crx_header.specs.meaning.EpochColumns.{begins_epoch}
 use Rattle.crx_reading.specs.CompactionByLine.{Written}
 use Rattle.crx_reading.proofs.RinexSteps.{whole-taken, part-taken, row-made, row-allowed}
 use Rattle.crx_reading.proofs.rinex_reader.RinexReader.row.Goals as goal

@@ -3,7 +3,8 @@ use Rattle.std.proofs.Common.{unwrap_or, ℕ, Option}
 use Rattle.std.proofs.Common.{get_or}
 use Rattle.std.proofs.lemmas.List.{length-set, length-take-le, take_more_set}
 use Rattle.std.proofs.lemmas.Bool.{ne_eqb}
-use Rattle.crx_rinex.specs.meaning.EpochLines.{satellites_of, IsObservationHead, ObservationHead}
+use Rattle.crx_header.specs.meaning.EpochColumns.{satellites_of}
+use Rattle.crx_rinex.specs.meaning.EpochLines.{IsObservationHead, ObservationHead}
 use Rattle.crx_rinex.specs.meaning.Observations.{Row, Epoch}
 use Rattle.crx_rinex.specs.meaning.Epochs.{has_satellite}
 use Rattle.crx_rinex.specs.Epochs.{is_full_epoch, with_row}

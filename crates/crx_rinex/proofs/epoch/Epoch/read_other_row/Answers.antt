@@ -4,7 +4,8 @@ use Rattle.std.proofs.lemmas.List.{length-set, take_more_set}
 use Rattle.std.specs.Prelude.{Err}
 use Rattle.crx_faults.specs.declared.fault.Fault.{Fault}
 use Rattle.crx_rinex.specs.meaning.Observations.{Row, Epoch}
-use Rattle.crx_rinex.specs.meaning.Epochs.{has_satellite, is_among}
+use Rattle.crx_rinex.specs.meaning.Epochs.{has_satellite}
+use Rattle.crx_header.specs.meaning.Satellites.{is_among}
 use Rattle.crx_rinex.specs.Epochs.{is_full_epoch, with_row}
 use Rattle.crx_rinex.specs.meaning.EpochPlaces.{row_if_new}
 use Rattle.crx_columns.specs.meaning.Columns.{columns}

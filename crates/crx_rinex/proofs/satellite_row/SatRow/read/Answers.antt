@@ -2,7 +2,8 @@ use Rattle.std.proofs.Common.{◌≡◌, ◌*◌, ℕ, length, ap, sym, ◌∙�
 use Rattle.std.specs.Option.{is_some}
 use Rattle.std.proofs.lemmas.List.{with_items_is}
 use Rattle.std.proofs.lemmas.Result.{IfOk-from_err, err_from_is_err_and}
-use Rattle.crx_rinex.specs.meaning.SatelliteLines.{is_identifier, row_of_types, row_with, values_in}
+use Rattle.crx_header.specs.meaning.Satellites.{is_identifier}
+use Rattle.crx_rinex.specs.meaning.SatelliteLines.{row_of_types, row_with, values_in}
 use Rattle.crx_rinex.proofs.Cells.{sound-written}
 use Rattle.crx_rinex.proofs.satellite_row.SatRow.read.Goals as goal
 

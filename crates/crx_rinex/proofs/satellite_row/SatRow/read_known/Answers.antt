@@ -5,8 +5,9 @@ use Rattle.std.specs.Result.{is_ok}
 use Rattle.std.proofs.lemmas.Result.{IfErr-weaker, on_ok_weaker}
 use Rattle.crx_faults.specs.declared.fault.Fault.TheVariants.{OutOfMemory}
 use Rattle.crx_rinex.specs.meaning.Observations.{Row}
-use Rattle.crx_rinex.specs.meaning.SatelliteLines.{types_of_satellite, row_of, row_of_types, row_with, values_in}
-use Rattle.crx_rinex.proofs.Cells.{known_types}
+use Rattle.crx_header.specs.meaning.Satellites.{types_of_satellite}
+use Rattle.crx_rinex.specs.meaning.SatelliteLines.{row_of, row_of_types, row_with, values_in}
+use Rattle.crx_header.proofs.FirstColumns.{known_types}
 use Rattle.crx_rinex.proofs.satellite_row.SatRow.read_known.Goals as goal
 
 counted : (c : goal.After-read_values) → types_of_satellite c.args.types.now c.args.line.now ≡ Some c.in-Some.count

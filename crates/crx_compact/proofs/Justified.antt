@@ -1,0 +1,22 @@
+-- Texts in columns, with blanks after them.
+use Rattle.std.proofs.Common.{ℕ, ◌≡◌, ◌+◌, ◌-◌, ◌≤◌, List, [], ◌∷◌, ◌++◌, length, take, replicate, ap, sym, ◌∙◌, arith}
+use Rattle.std.proofs.Common.{suc, zero}
+use Rattle.std.proofs.lemmas.List.{take-replicate}
+use Rattle.crx_header.specs.meaning.CompactHeader.{left_justified}
+
+sub-zero-width : (width : ℕ) → width - 0 ≡ width
+sub-zero-width width = omega arith
+
+-- the columns of a padded text are the text and blanks after it
+take-padded : (width blanks : ℕ) (text : List ℕ) → length text ≤ width → width ≤ length text + blanks
+    → take width (text ++ replicate blanks 32) ≡ text ++ replicate (width - length text) 32
+take-padded width blanks [] fits enough = take-replicate width blanks 32 (omega arith)
+    ∙ ap (λ (n : ℕ). replicate n 32) (sym (sub-zero-width width))
+take-padded zero blanks (c ∷ cs) fits enough = absurd (omega arith)
+take-padded (suc width) blanks (c ∷ cs) fits enough =
+    let left : suc width - suc (length cs) ≡ width - length cs = omega arith in
+    rw left (ap (λ (rest : List ℕ). c ∷ rest) (take-padded width blanks cs (omega arith) (omega arith)))
+
+pub left_justified-is : (width : ℕ) (text : List ℕ)
+    → length text ≤ width → text ++ replicate (width - length text) 32 ≡ left_justified width text
+left_justified-is width text fits = sym (take-padded width width text fits (omega arith))

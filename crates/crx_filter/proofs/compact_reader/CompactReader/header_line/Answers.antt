@@ -1,0 +1,10 @@
+use Rattle.std.proofs.Common.{None, ap}
+use Rattle.crx_history.specs.OpenEpochs.{is_idle}
+use Rattle.crx_filter.proofs.CompactSteps.{idle-stage}
+use Rattle.crx_filter.proofs.compact_reader.CompactReader.header_line.Goals as goal
+
+pub invariant_of-self-2 : goal.invariant_of-self-2
+invariant_of-self-2 c = record {
+  consistent = idle-stage c.after_header_line-self.result c.reset.new.self
+      (c.after_header_line-self.ensures.consistent None) (ap is_idle c.reset.ensures);
+}

@@ -1,0 +1,281 @@
+//! Compact RINEX 3.0, one line at a time: what each line is, the observation types in force, and the epoch whose lines come.
+
+ghost use Rattle.std.specs.Prelude.{◌≡◌, ◌≢◌, ◌≤◌, ℕ, if◌then◌else◌, [], None, true, false, length, IfOk, IfErr, OnErr, OnOk};
+ghost use Rattle.crx_faults.specs.declared.limits.TheConstants.{LINE_LIMIT};
+ghost use Rattle.crx_faults.specs.meaning.Seen.{Content};
+ghost use Rattle.crx_history.specs.OpenEpochs.{is_idle, tail_held};
+ghost use Rattle.crx_history.specs.OpenEpochs.ColumnsState.{Idle};
+ghost use Rattle.crx_options.specs.meaning.Choices.{Choices};
+ghost use Rattle.crx_reading.specs.CompactStages.{is_compact_stage, open_in, wants_lines};
+ghost use Rattle.crx_reading.specs.Stages.{is_ended, is_settled, seen_stage};
+ghost use Rattle.crx_reading.specs.meaning.Expanded.{empties_state};
+ghost use Rattle.crx_reading.specs.ExpansionByLine.{expansion, compact_begins};
+ghost use Rattle.crx_reading.specs.LineByLine.{BetweenUnits, made_in, made_of_first_lines, made_of_unit};
+ghost use Rattle.crx_reading.specs.meaning.UnitPlaces.{event_record, header_line};
+ghost use Rattle.crx_reading.specs.declared.stage.Stage.{Stage};
+ghost use Rattle.crx_reading.specs.declared.stage.Stage.TheVariants.{FirstLines, Header, Event, Looking, Open};
+
+use crx_compact::{Columns, ExpandedLines};
+use crx_faults::Fault;
+use crx_header::{Types, is_types};
+use crx_reading::event_lines::records_announced;
+use crx_reading::first_lines::{check_program, check_version};
+use crx_reading::stage::{Stage, after_header_line, counts_types, with_records_left};
+use crx_reading::types_lines::{accept_header_line, accept_record};
+use crx_rinex::{begins_epoch, is_event_line};
+use std::alloc::Global;
+
+/// Reads compact text one line at a time.
+#[derive(Drop)]
+pub struct CompactReader {
+    pub stage: Stage,
+    types: Types,
+    columns: Columns,
+    ghost consistent: { is_compact_stage stage columns ≡ true },
+}
+
+impl CompactReader {
+    ghost use Rattle.crx_filter.specs.CompactReaders.{RefusesCompactLine, TakesCompactLine, TakesOtherLine, made_next, compact_reader_phase, seen_in, compact_reader_state};
+    ghost use Rattle.crx_reading.specs.ExpansionByLine.{expansion_seen};
+
+    /// A reader before the first line.
+    pub fn new(alloc: Global) -> CompactReader
+        ensures { (choices : Choices) → compact_reader_state choices 0 result ≡ expansion_seen choices [] }
+    {
+        CompactReader {
+            stage: Stage::FirstLines { count: 0 },
+            types: Types::new(alloc),
+            columns: Columns::new(alloc),
+        }
+    }
+
+    /// Takes one of the first two lines of compact text.
+    ///
+    /// `NotCompact` comes where the first one isn't that of Compact RINEX 3.0, `BadProgLine` where the second one has another
+    /// label.
+    #[inline(never)]
+    fn first_line(&mut self, count: usize, line: &[u8]) -> Result<(), Fault>
+        requires idle { is_idle self.old.columns ≡ true }
+        ensures takes { (choices : Choices) (number : ℕ)
+            → OnOk result (TakesOtherLine (made_of_first_lines count line.now) line.now (seen_in
+            choices number self.old (FirstLines count)) (compact_reader_state choices number self.new) false) }
+        ensures refuses { IfErr result (RefusesCompactLine self.old.types (tail_held self.old.columns) (made_of_first_lines
+            count line.now) (seen_stage (open_in self.old.columns) (FirstLines count)) line.now) }
+        ensures types { OnErr result (self.new.types ≡ self.old.types) }
+    {
+        if count == 0 {
+            check_version(line)?;
+            self.stage = Stage::FirstLines { count: 1 };
+        } else {
+            check_program(line)?;
+            self.stage = Stage::Header { is_first: true };
+        }
+        Ok(())
+    }
+
+    /// Takes a header line.
+    ///
+    /// The faults of the first header line come first, then `BadTypesLine`; `OutOfMemory` at a types line alone.
+    #[inline(never)]
+    fn header_line(&mut self, is_first: bool, line: &[u8]) -> Result<(), Fault>
+        requires idle { is_idle self.old.columns ≡ true }
+        ensures takes { (choices : Choices) (number : ℕ)
+            → OnOk result (TakesOtherLine (made_of_unit (header_line is_first line.now)) line.now (seen_in choices
+            number self.old (Header is_first)) (compact_reader_state choices number self.new) true) }
+        ensures refuses { IfErr result
+            (RefusesCompactLine self.old.types (tail_held self.old.columns) (made_of_unit (header_line is_first line.now))
+            (seen_stage (open_in self.old.columns) (Header is_first)) line.now) }
+        ensures types { OnErr result (self.new.types ≡ self.old.types) }
+    {
+        accept_header_line(&mut self.types, is_first, line)?;
+        self.columns.reset();
+        self.stage = after_header_line(line);
+        Ok(())
+    }
+
+    /// Takes a record of an event: a types line among those of flags 2 to 5 empties the columns.
+    ///
+    /// `BadTypesLine` comes where types lines count and the letter or the count of one is wrong; `OutOfMemory` at a types line
+    /// that counts alone.
+    #[inline(never)]
+    fn record(&mut self, left: usize, counted: bool, line: &[u8]) -> Result<(), Fault>
+        requires idle { is_idle self.old.columns ≡ true }
+        ensures takes { (choices : Choices) (number : ℕ)
+            → OnOk result (TakesOtherLine (made_of_unit (event_record counted line.now)) line.now (seen_in choices
+            number self.old (Event left counted)) (compact_reader_state choices number self.new) true) }
+        ensures refuses { IfErr result
+            (RefusesCompactLine self.old.types (tail_held self.old.columns) (made_of_unit (event_record counted line.now))
+            (seen_stage (open_in self.old.columns) (Event left counted)) line.now) }
+        ensures types { OnErr result (self.new.types ≡ self.old.types) }
+    {
+        accept_record(&mut self.types, counted, line)?;
+        reset_if(&mut self.columns, empties_columns(counted, line));
+        self.stage = with_records_left(left.saturating_sub(1), counted);
+        Ok(())
+    }
+
+    /// Takes a line where an epoch or an event may begin; `true` says that it is an event's, which stands in RINEX as it is.
+    ///
+    /// `BadEpoch` comes where an event's count is none; then the refusals of [`Columns::begin`].
+    #[inline(never)]
+    fn begin(&mut self, line: &[u8]) -> Result<bool, Fault>
+        requires idle { is_idle self.old.columns ≡ true }
+        requires short { length line.now ≤ LINE_LIMIT }
+        ensures takes { (choices : Choices) (number : ℕ) (stage : Stage) → IfOk result
+            (TakesOtherLine (compact_begins self.old.types (tail_held self.old.columns) (Content line.now)) line.now
+            (seen_in choices number self.old stage) (compact_reader_state choices number self.new)) }
+        ensures refuses { IfErr result
+            (λ fault. RefusesCompactLine self.old.types (tail_held self.old.columns) (compact_begins self.old.types
+            (tail_held self.old.columns) (Content line.now)) BetweenUnits line.now fault) }
+        ensures types { OnErr result (self.new.types ≡ self.old.types) }
+    {
+        if is_event_line(line) {
+            let count = records_announced(line)?;
+            self.stage = with_records_left(count, counts_types(line));
+            return Ok(true);
+        }
+        self.columns.begin(&self.types, line)?;
+        self.stage = Stage::Open;
+        Ok(false)
+    }
+
+    /// Takes a line of the epoch that is open. `true` says that it is the last one, and that the lines of the epoch are ready.
+    ///
+    /// The refusals are those of [`Columns::feed_into`].
+    #[inline(always)]
+    fn go_on(&mut self, line: &[u8], lines: &mut ExpandedLines) -> Result<bool, Fault>
+        requires open { wants_lines self.old.columns ≡ true }
+        requires short { length line.now ≤ LINE_LIMIT }
+        requires drained { lines.old ≡ [] }
+        ensures takes { (choices : Choices) (number : ℕ) → IfOk result (TakesCompactLine (made_in expansion
+            (seen_stage (open_in self.old.columns) Open) self.old.types None (Content line.now)) line.now
+            (seen_in choices number self.old Open) (compact_reader_state choices number self.new) lines.new) }
+        ensures refuses { IfErr result (RefusesCompactLine self.old.types (tail_held self.old.columns)
+            (made_in expansion (seen_stage (open_in self.old.columns) Open) self.old.types None
+            (Content line.now)) (seen_stage (open_in self.old.columns) Open) line.now) }
+        ensures types { OnErr result (self.new.types ≡ self.old.types) }
+        ensures none { OnErr result (lines.new ≡ []) }
+    {
+        match self.columns.feed_into(line, lines) {
+            Ok(false) => Ok(false),
+            Ok(true) => {
+                self.stage = Stage::Between;
+                Ok(true)
+            }
+            Err(fault) => {
+                self.stage = Stage::Between;
+                Err(fault)
+            }
+        }
+    }
+
+    /// Takes the next line of the input, once no line before it is pending: `true` says that lines are ready, which are the line itself
+    /// or those of the epoch that it completes.
+    ///
+    /// The faults are those of what the line is. `OutOfMemory` comes only at a line without a fault: a types line that counts, an
+    /// epoch's line, and a satellite's line.
+    #[inline(always)]
+    pub fn read(&mut self, line: &[u8], lines: &mut ExpandedLines) -> Result<bool, Fault>
+        requires running { is_ended self.old.stage ≡ false }
+        requires short { length line.now ≤ LINE_LIMIT }
+        requires drained { lines.old ≡ [] }
+        ensures takes { (choices : Choices) (number : ℕ)
+            → IfOk result (TakesCompactLine (made_next self.old line.now) line.now (compact_reader_state
+            choices number self.old) (compact_reader_state choices number self.new) lines.new) }
+        ensures refuses { IfErr result (RefusesCompactLine self.old.types (tail_held self.old.columns)
+            (made_next self.old line.now) (compact_reader_phase self.old) line.now) }
+        ensures types { OnErr result (self.new.types ≡ self.old.types) }
+        ensures none { OnErr result (lines.new ≡ []) }
+    {
+        if let Stage::Open = self.stage {
+            return self.go_on(line, lines);
+        }
+        let is_copied = self.read_between(line)?;
+        if is_copied {
+            lines.copy(line);
+        }
+        Ok(is_copied)
+    }
+
+    /// Takes a line where no epoch is open; `true` says that it stands in RINEX as it is.
+    #[inline(never)]
+    fn read_between(&mut self, line: &[u8]) -> Result<bool, Fault>
+        requires running { is_ended self.old.stage ≡ false }
+        requires between { self.old.stage ≢ Open }
+        requires short { length line.now ≤ LINE_LIMIT }
+        ensures takes { (choices : Choices) (number : ℕ)
+            → IfOk result (TakesOtherLine (made_next self.old line.now) line.now (compact_reader_state
+            choices number self.old) (compact_reader_state choices number self.new)) }
+        ensures refuses { IfErr result (RefusesCompactLine self.old.types (tail_held self.old.columns)
+            (made_next self.old line.now) (compact_reader_phase self.old) line.now) }
+        ensures types { OnErr result (self.new.types ≡ self.old.types) }
+    {
+        match self.stage {
+            Stage::FirstLines { count } => {
+                self.first_line(count, line)?;
+                Ok(false)
+            }
+            Stage::Header { is_first } => {
+                self.header_line(is_first, line)?;
+                Ok(true)
+            }
+            Stage::Event { left, counted } => {
+                self.record(left, counted, line)?;
+                Ok(true)
+            }
+            Stage::Between => self.begin(line),
+            Stage::Looking => self.look(line),
+            Stage::Open | Stage::Closed | Stage::Ended(_) => Ok(false),
+        }
+    }
+
+    /// Takes a line where one that begins with `>` is looked for.
+    fn look(&mut self, line: &[u8]) -> Result<bool, Fault>
+        requires looking { self.old.stage ≡ Looking }
+        requires short { length line.now ≤ LINE_LIMIT }
+        ensures takes { (choices : Choices) (number : ℕ)
+            → IfOk result (TakesOtherLine (made_next self.old line.now) line.now (compact_reader_state
+            choices number self.old) (compact_reader_state choices number self.new)) }
+        ensures refuses { IfErr result (RefusesCompactLine self.old.types (tail_held self.old.columns)
+            (made_next self.old line.now) (compact_reader_phase self.old) line.now) }
+        ensures types { OnErr result (self.new.types ≡ self.old.types) }
+    {
+        if begins_epoch(line) {
+            return self.begin(line);
+        }
+        Ok(false)
+    }
+
+    /// Goes to the stage after a fault or after the end of the input, where no epoch is open, and empties the columns where that is
+    /// asked for.
+    pub fn settle(&mut self, stage: Stage, is_emptied: bool)
+        requires settled { is_settled stage ≡ true }
+        ensures stage { self.new.stage ≡ stage }
+        ensures types { self.new.types ≡ self.old.types }
+        ensures tail { tail_held self.new.columns
+            ≡ (if is_emptied then None else tail_held self.old.columns) }
+    {
+        if is_emptied || !self.columns.is_idle() {
+            self.columns.reset();
+        }
+        self.stage = stage;
+    }
+}
+
+/// Whether a record that was accepted empties the columns: a types line does, where types lines count.
+fn empties_columns(counted: bool, line: &[u8]) -> bool
+    ensures { result ≡ empties_state counted line.now }
+{
+    counted && is_types(line)
+}
+
+/// Empties columns between two epochs, where that is asked for.
+fn reset_if(columns: &mut Columns, is_emptied: bool)
+    requires idle { is_idle columns.old ≡ true }
+    ensures tail { tail_held columns.new ≡ (if is_emptied then None else tail_held columns.old) }
+    ensures idle { is_idle columns.new ≡ true }
+{
+    if is_emptied {
+        columns.reset();
+    }
+}

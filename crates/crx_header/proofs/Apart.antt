@@ -1,0 +1,82 @@
+-- Things of different identifiers, and one put in the place of another of the same identifier.
+use Rattle.std.proofs.Common.{◌≡◌, ℕ, zero, suc, ◌<◌, ◌≤◌, true, false, not, ◌||◌, List, [], ◌∷◌, ◌++◌, length}
+use Rattle.std.proofs.Common.{get_or, map, take, refl, ap, sym, ◌∙◌, arith}
+use Rattle.std.specs.Prelude.{Bool}
+use Rattle.std.specs.Str.{bytes_eq}
+use Rattle.std.proofs.lemmas.Bool.{or_parts, and_parts, not-true, false≢true, false_from_ne_true}
+use Rattle.std.proofs.lemmas.List.Folds.{list_any-append}
+use Rattle.std.proofs.lemmas.Slice.Eq.{bytes_eq-Decides}
+use Rattle.crx_header.specs.meaning.Satellites.{is_among, are_apart}
+
+-- the test of two texts doesn't ask which is the first
+pub other_way : (xs ys : List ℕ) → bytes_eq xs ys ≡ false → bytes_eq ys xs ≡ false
+other_way xs ys h = false_from_ne_true
+    (bytes_eq ys xs) (λ t. false≢true (sym h ∙ (bytes_eq-Decides xs ys).1 (sym ((bytes_eq-Decides ys xs).0 t))))
+
+-- one more at the end, of another identifier than those before it
+pub apart-push : {X : Type 0} (f : X → List ℕ) (xs : List X) (x : X)
+    → are_apart f xs ≡ true → is_among f (f x) xs ≡ false → are_apart f (xs ++ x ∷ []) ≡ true
+apart-push f [] x h new = refl
+apart-push f (y ∷ xs) x h new =
+    let apart = and_parts (not (is_among f (f y) xs)) (are_apart f xs) h in
+    let differs = or_parts (bytes_eq (f y) (f x)) (is_among f (f x) xs) new in
+    let old : is_among f (f y) xs ≡ false = not-true (is_among f (f y) xs) apart.0 in
+    let other : bytes_eq (f x) (f y) ≡ false = other_way (f y) (f x) differs.0 in
+    rw (list_any-append (λ k. bytes_eq (f k) (f y)) xs (x ∷ []), old, other) (apart-push f xs x apart.1 differs.1)
+
+not-at : {X : Type 0} (f : X → List ℕ) (name : List ℕ) (n : ℕ) (xs : List X) (k : ℕ) (d : X)
+    → is_among f name (take n xs) ≡ false → k < n → k < length xs → bytes_eq (f (get_or xs k d)) name ≡ false
+not-at f name zero xs k d h a b = absurd (omega (arith, a))
+not-at f name (suc n) [] k d h a b = absurd (omega (arith, b))
+not-at f name (suc n) (x ∷ xs) zero d h a b = (or_parts (bytes_eq (f x) name) (is_among f name (take n xs)) h).0
+not-at f name (suc n) (x ∷ xs) (suc k) d h a b = not-at f name n xs k d
+    (or_parts (bytes_eq (f x) name) (is_among f name (take n xs)) h).1 (omega (arith, a)) (omega (arith, b))
+
+pub new_at : {X : Type 0} (f : X → List ℕ) (n : ℕ) (xs : List X) (k : ℕ) (d : X)
+    → are_apart f (take n xs) ≡ true → k < n → k < length xs → is_among f (f (get_or xs k d)) (take k xs) ≡ false
+new_at f zero xs k d h a b = absurd (omega (arith, a))
+new_at f (suc n) [] k d h a b = absurd (omega (arith, b))
+new_at f (suc n) (x ∷ xs) zero d h a b = refl
+new_at f (suc n) (x ∷ xs) (suc k) d h a b =
+    let apart = and_parts (not (is_among f (f x) (take n xs))) (are_apart f (take n xs)) h in
+    let differs = not-at f (f x) n xs k d
+    (not-true (is_among f (f x) (take n xs)) apart.0) (omega (arith, a)) (omega (arith, b)) in
+    rw (other_way (f (get_or xs k d)) (f x) differs) (new_at f n xs k d apart.1 (omega (arith, a)) (omega (arith, b)))
+
+among-fewer : {X : Type 0} (f : X → List ℕ) (name : List ℕ) (m n : ℕ) (xs : List X)
+    → m ≤ n → is_among f name (take n xs) ≡ false → is_among f name (take m xs) ≡ false
+among-fewer f name zero n xs e h = refl
+among-fewer f name (suc m) zero xs e h = absurd (omega (arith, e))
+among-fewer f name (suc m) (suc n) [] e h = refl
+among-fewer f name (suc m) (suc n) (x ∷ xs) e h =
+    let parts = or_parts (bytes_eq (f x) name) (is_among f name (take n xs)) h in
+    rw parts.0 (among-fewer f name m n xs (omega (arith, e)) parts.1)
+
+-- as many of them, or fewer, are different
+pub apart-fewer : {X : Type 0} (f : X → List ℕ) (m n : ℕ) (xs : List X)
+    → m ≤ n → are_apart f (take n xs) ≡ true → are_apart f (take m xs) ≡ true
+apart-fewer f zero n xs e h = refl
+apart-fewer f (suc m) zero xs e h = absurd (omega (arith, e))
+apart-fewer f (suc m) (suc n) [] e h = refl
+apart-fewer f (suc m) (suc n) (x ∷ xs) e h =
+    let apart = and_parts (not (is_among f (f x) (take n xs))) (are_apart f (take n xs)) h in
+    rw (among-fewer f (f x) m n xs (omega (arith, e)) (not-true (is_among f (f x) (take n xs)) apart.0))
+    (apart-fewer f m n xs (omega (arith, e)) apart.1)
+
+pub among-map : {X Y : Type 0} (f : Y → List ℕ) (g : X → Y) (name : List ℕ) (xs : List X)
+    → is_among f name (map g xs) ≡ is_among (λ x. f (g x)) name xs
+among-map f g name [] = refl
+among-map f g name (x ∷ xs) = ap (λ (b : Bool). bytes_eq (f (g x)) name || b) (among-map f g name xs)
+
+-- what keeps its identifier stays different
+pub apart-map : {X Y : Type 0} (f : Y → List ℕ) (g : X → Y) (xs : List X)
+    → are_apart f (map g xs) ≡ are_apart (λ x. f (g x)) xs
+apart-map f g [] = refl
+apart-map f g (x ∷ xs) = rw (among-map f g (f (g x)) xs, apart-map f g xs) refl
+
+-- two lists of the same identifiers have the same ones
+pub among-names : {X Y : Type 0} (f : X → List ℕ) (g : Y → List ℕ) (name : List ℕ) (xs : List X) (ys : List Y)
+    → map f xs ≡ map g ys → is_among f name xs ≡ is_among g name ys
+among-names f g name xs ys e =
+    sym (among-map (λ (n : List ℕ). n) f name xs)
+    ∙ ap (is_among (λ (n : List ℕ). n) name) e ∙ among-map (λ (n : List ℕ). n) g name ys

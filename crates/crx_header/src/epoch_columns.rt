@@ -1,0 +1,74 @@
+//! The columns of an epoch line before the clock: its flag and its count. RINEX 3.05, table A3, EPOCH record.
+
+ghost use Rattle.std.specs.Prelude.{◌≡◌, ◌≤◌, IfSome};
+ghost use Rattle.crx_faults.specs.declared.limits.TheConstants.{SATELLITES_LIMIT};
+ghost use Rattle.crx_header.specs.meaning.EpochColumns.{begins_epoch, epoch_count, is_event_flag, is_event_line, is_observation_flag, records_in, satellites_in};
+
+use crate::columns::number;
+use crx_columns::columns::{character, is_blank};
+use crx_columns::difference::all_kept;
+use crx_faults::limits::SATELLITES_LIMIT;
+
+/// Whether a line begins an epoch or an event: its first character is `>`.
+#[inline(always)]
+pub fn begins_epoch(line: &[u8]) -> bool
+    ensures { result ≡ begins_epoch line.now }
+{
+    matches!(line, [b'>', ..])
+}
+
+/// Whether a line is an event's first one, by its own bytes: it begins with `>` and has a flag from 2 to 6 in column 32.
+pub fn is_event_line(line: &[u8]) -> bool
+    ensures { result ≡ is_event_line line.now }
+{
+    begins_epoch(line) && is_event_flag(character(line, 32))
+}
+
+/// Whether a flag in column 32 is that of an event: 2 to 5, or 6 for cycle slip records.
+pub fn is_event_flag(flag: u8) -> bool
+    ensures { result ≡ is_event_flag flag }
+{
+    matches!(flag, b'2'..=b'6')
+}
+
+/// How many records follow an event, in columns 33 to 35; none where they are blank.
+pub fn records_in(line: &[u8]) -> Option<usize>
+    ensures { result ≡ records_in line.now }
+{
+    if is_blank(line, 33, 3) {
+        Some(0)
+    } else {
+        number(line, 33)
+    }
+}
+
+/// How many satellites columns 1 to 41 announce, if they are those of an observation epoch.
+pub fn satellites(columns: &[u8]) -> Option<usize>
+    ensures value { result ≡ epoch_count columns.now }
+    ensures within { IfSome result (λ count. count ≤ SATELLITES_LIMIT) }
+{
+    if character(columns, 1) == b'>'
+        && is_observation_flag(character(columns, 32))
+        && all_kept(columns)
+    {
+        satellites_in(columns)
+    } else {
+        None
+    }
+}
+
+/// Whether a flag in column 32 is that of an observation epoch: 0, or 1 for a power failure.
+fn is_observation_flag(flag: u8) -> bool
+    ensures { result ≡ is_observation_flag flag }
+{
+    flag == b'0' || flag == b'1'
+}
+
+/// The count of satellites in columns 33 to 35, if it is within the limit.
+fn satellites_in(line: &[u8]) -> Option<usize>
+    ensures value { result ≡ satellites_in line.now }
+    ensures within { IfSome result (λ count. count ≤ SATELLITES_LIMIT) }
+{
+    let count = number(line, 33)?;
+    (count <= SATELLITES_LIMIT).then_some(count)
+}
