@@ -1,4 +1,4 @@
-//! Compact RINEX both ways: epochs to compact lines and back, and the laws that join the two.
+//! Compact RINEX both ways: epochs to compact lines and back, the lines that each direction has ready, and the laws that join the two.
 #![tactic(auto)]
 
 pub mod coded;

@@ -1,4 +1,5 @@
-//! The engines, which do line by line what both filters and the check mean, and whole runs of them: from a reader to a writer and messages.
+//! The reader of compact text and the engines, which do line by line what both filters and the check mean, and whole runs of them: from a
+//! reader to a writer and messages.
 #![tactic(auto)]
 
 pub mod checker;

@@ -1,5 +1,6 @@
 //! What both filters and the check mean: the reading of a file unit by unit, its compaction and its expansion. The parts that their engines
-//! are made of stand here too: the stage between two lines, the readers, the lines that are ready and those of a report.
+//! are made of, but for those that need columns, stand here too: the stage between two lines, the reader of RINEX, totals, and the lines of a
+//! report.
 #![tactic(auto)]
 
 pub mod event_lines;

@@ -8,3 +8,4 @@ pub mod Rows
 pub mod SoundEpochs
 pub mod LastLines
 pub mod GoodRows
+pub mod Copied

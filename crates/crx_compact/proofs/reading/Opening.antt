@@ -1,7 +1,7 @@
 -- The lines of an epoch that have come, and what they make.
-use Rattle.std.specs.Prelude.{◌≡◌, refl, ℕ, suc, zero, ◌+◌, ◌≤◌, ◌<◌, List, [], ◌∷◌, ◌++◌, length, map, take, drop}
+use Rattle.std.specs.Prelude.{◌≡◌, refl, ℕ, ℤ, suc, zero, ◌+◌, ◌≤◌, ◌<◌, List, [], ◌∷◌, ◌++◌, length, map, take, drop}
 use Rattle.std.specs.Prelude.{Option, Some, None, Ok, true, false, ◌==◌, Err, slice_get}
-use Rattle.std.specs.Prelude.{is_some, IfSome}
+use Rattle.std.specs.Prelude.{is_some, IfSome, Bool, not, ◌&&◌, if◌then◌else◌}
 use Rattle.std.proofs.Common.{sym, ◌∙◌, ap, subst, arith, true≢false, add-one}
 use Rattle.std.proofs.lemmas.Option.{slice_get_within}
 use Rattle.std.proofs.lemmas.List.{length-take, length-append, length-map, length-take-le, length-drop, map-append}
@@ -14,21 +14,23 @@ use Rattle.crx_header.proofs.Apart.{apart-fewer, apart-map}
 use Rattle.crx_arcs.specs.meaning.Cells.{ReadCell}
 use Rattle.crx_arcs.specs.ArcTails.{ArcTail}
 use Rattle.crx_history.specs.Tails.{RowTail, Tail}
-use Rattle.crx_history.specs.HeldRows.{row_after, AreApart, held_row, HeldRow, past_of_tail, IsNextRow}
+use Rattle.crx_history.specs.HeldRows.{row_after, AreApart, HaveRows, held_row, HeldRow, past_of_tail, IsNextRow}
+use Rattle.crx_history.specs.Steps.{no_tail, tail_written_after}
 use Rattle.crx_faults.specs.meaning.Seen.{Content}
 use Rattle.crx_history.specs.OpenEpochs.{ColumnsState, Faulty, HasMade, HasPrintedLines, first_step, is_idle, line_step, opened_raw}
-use Rattle.crx_history.specs.OpenEpochs.{step_in, tail_for_line, Idle, HeldClock, OpenRawEpoch, RawStep}
-use Rattle.crx_history.specs.OpenEpochs.{Whole, whole_or_awaiting}
+use Rattle.crx_history.specs.OpenEpochs.{step_in, tail_for_line, tail_held, Idle, HeldClock, OpenRawEpoch, RawStep}
+use Rattle.crx_history.specs.OpenEpochs.{Whole, raw_step_with_clock, whole_or_awaiting}
 use Rattle.crx_compact.specs.OpenLines.{columns_state, epoch_so_far, have_all_come, rows_so_far, step_after}
 use Rattle.crx_compact.specs.OpenLines.{AreLinesSoFar, lines_so_far, OpenLines, held_rows, made_of, open_raw}
-use Rattle.crx_history.specs.RowsSoFar.{AreAnnounced, AreRowsSoFar}
+use Rattle.crx_history.specs.RowsSoFar.{AreAnnounced, AreRowsSoFar, HasClock}
 use Rattle.crx_compact.specs.declared.incoming.Stage.{Stage}
 use Rattle.crx_compact.specs.declared.incoming.Stage.TheVariants.{Unbegun, Clock, Rows}
 use Rattle.crx_history.specs.ShownRows.{shown_epoch, shown_row}
+use Rattle.crx_arcs.specs.ArcSteps.{shown_value}
 use Rattle.crx_compact.proofs.reading.StepsByCode.{row-ok}
 use Rattle.crx_compact.proofs.soundness.Soundness.{line-facts}
 use Rattle.crx_history.proofs.Results.{and_then-ok, ok-same}
-use Rattle.crx_history.specs.meaning.CompactPlaces.{satellite_line_read}
+use Rattle.crx_history.specs.meaning.CompactPlaces.{clock_line_read, satellite_line_read}
 use Rattle.std.proofs.Math.ListN.{drop_of_length-le}
 use Rattle.crx_columns.specs.meaning.Columns.{columns}
 use Rattle.crx_faults.specs.declared.limits.TheConstants.{HEAD_WIDTH}
@@ -132,6 +134,69 @@ gone-same : (before : Tail) (text : List ℕ)
     }) clock rows awaited
 gone-same before text one_clock one_rows one_awaited other_clock other_rows other_awaited clock rows [] = refl
 gone-same before text one_clock one_rows one_awaited other_clock other_rows other_awaited clock rows (s ∷ awaited) = refl
+
+-- ---- the clock line
+
+-- an epoch whose clock line is awaited
+abbrev clock-awaited : Tail → List ℕ → List Satellite → OpenRawEpoch
+clock-awaited before text satellites =
+    record { before = before; text = text; clock = None; rows = []; awaited = satellites }
+
+pub clock-taken : (before next left : Tail)
+    (line : List ℕ) (count : ℕ) (satellites : List Satellite) (state : Option OpenLines)
+    → lines_so_far Clock next count satellites ≡ state → HasClock before line next left
+    → step_after before state line ≡ made_of before (lines_so_far Rows left 0 satellites)
+clock-taken before next left line count satellites state is h =
+    let clock : HeldClock = record { value = shown_value left.clock; arc = left.clock } in
+    ap {B = RawStep} (λ (o : Option OpenLines). step_after before o line) (sym is)
+    ∙ ap (raw_step_with_clock (clock-awaited before next.text satellites)) h.read
+    ∙ ap {B = RawStep} (λ (arc : Option ArcTail). whole_or_awaiting (clock-awaited before next.text satellites)
+    (record { value = h.cell.value; arc = arc }) [] satellites) (sym (ap (λ (t : Tail). t.clock) h.left))
+    ∙ ap {B = RawStep} (λ (value : Option ℤ). whole_or_awaiting (clock-awaited before next.text satellites)
+    (record { value = value; arc = left.clock }) [] satellites) (sym h.shown)
+    ∙ gone-same before next.text None [] satellites (Some clock) [] satellites clock [] satellites
+    ∙ ap {B = RawStep} (λ (text : List ℕ). whole_or_awaiting (record {
+      before = before;
+      text = text;
+      clock = Some clock;
+      rows = [];
+      awaited = satellites;
+    }) clock [] satellites) (sym (ap (λ (t : Tail). t.text) h.left))
+
+-- a clock line with a fault
+pub clock-refused : (before next : Tail)
+    (line : List ℕ) (count : ℕ) (satellites : List Satellite) (state : Option OpenLines) (fault : Fault)
+    → lines_so_far Clock next count satellites ≡ state → clock_line_read (past_of_tail before) line ≡ Err fault
+    → step_after before state line ≡ Faulty fault
+clock-refused before next line count satellites state fault is e =
+    ap {B = RawStep} (λ (o : Option OpenLines). step_after before o line) (sym is)
+    ∙ ap (raw_step_with_clock (clock-awaited before next.text satellites)) e
+
+-- no row has come right after the clock line
+pub no-rows : (next left : Tail)
+    (satellites : List Satellite) → AreAnnounced next.text satellites → HaveRows satellites next.rows
+    → left ≡ record next { clock = left.clock }
+    → AreRowsSoFar (shown_epoch left 0) left 0 satellites × HaveRows satellites left.rows
+no-rows next left satellites announced rows same = (
+  record {
+    head = refl;
+    announced = subst (λ (text : List ℕ). AreAnnounced text satellites) (sym (ap (λ (t : Tail). t.text) same)) announced;
+    counted = refl;
+    named = refl;
+    sized = refl;
+    within = omega arith;
+    left = omega arith;
+  },
+  subst (λ (tails : List RowTail). HaveRows satellites tails) (sym (ap (λ (t : Tail). t.rows) same)) rows,
+)
+
+-- what is said of an epoch whose clock line is awaited holds of one whose clock line has come
+pub after-clock : (next : Tail) (count : ℕ) (satellites : List Satellite) (state : Option OpenLines) (X : Type 0)
+    → lines_so_far Rows next count satellites ≡ state
+    → IfSome state (λ (lines : OpenLines). is_some lines.clock ≡ false → X)
+after-clock next count satellites state X is =
+    subst (λ (o : Option OpenLines). IfSome o (λ (lines : OpenLines). is_some lines.clock ≡ false → X)) is (λ e.
+    absurd (true≢false e))
 
 -- ---- satellite lines
 
@@ -340,3 +405,29 @@ pub whole-printed : (step : RawStep) (before left : Tail) (taken : Option OpenLi
     → ((t : Tail) → made_of t taken ≡ Whole (record { epoch = epoch_so_far taken; tail = left }))
     → HasPrintedLines step (Idle (Some left)) true lines
 whole-printed step before left taken lines e is h = grind arith
+
+-- what an epoch is written after, by the tail that is kept
+pub written-after : (is_kept full : Bool) (kept nothing : Tail) (goes_on : Bool) (state : ColumnsState)
+    (before : Tail) (incoming : Option OpenLines)
+    → columns_state (if is_kept then Some kept else None) before incoming ≡ state → is_idle state ≡ true
+    → nothing ≡ no_tail → goes_on ≡ (is_kept && not full)
+    → (if goes_on then kept else nothing) ≡ tail_written_after full (tail_held state)
+written-after is_kept full kept nothing goes_on state before incoming is idle none goes =
+    ap {B = Tail} (λ (b : Bool). if b then kept else nothing) goes
+    ∙ by_flags is_kept full
+    ∙ ap (λ (tail : Option Tail). tail_written_after full tail) held
+  where
+    by_flags : (b f : Bool)
+        → (if b && not f then kept else nothing) ≡ tail_written_after f (if b then Some kept else None)
+    by_flags true true = none
+    by_flags true false = refl
+    by_flags false true = none
+    by_flags false false = none
+
+    held_in : (o : Option OpenLines) → columns_state (if is_kept then Some kept else None) before o ≡ state
+        → (if is_kept then Some kept else None) ≡ tail_held state
+    held_in None e = ap tail_held e
+    held_in (Some lines) e = absurd (true≢false (sym (ap is_idle e ∙ idle)))
+
+    held : (if is_kept then Some kept else None) ≡ tail_held state
+    held = held_in incoming is

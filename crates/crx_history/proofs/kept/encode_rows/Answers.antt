@@ -1,5 +1,6 @@
 use Rattle.std.proofs.Common.{◌≡◌, refl, ◌≤◌, ◌<◌, ◌+◌, ◌++◌, ◌∷◌, [], List, ℕ, Option, Some, length, slice_get}
 use Rattle.std.proofs.Common.{zero, suc, subst, sym, take, ap, ◌∙◌, arith}
+use borrow.Author.Count.{falls}
 use Rattle.crx_faults.specs.declared.limits.TheConstants.{SATELLITES_LIMIT}
 use Rattle.std.proofs.lemmas.Result.{err_from_is_err_and}
 use Rattle.std.proofs.lemmas.List.{append-nil, length-set, length-take, take_more_set}
@@ -105,3 +106,9 @@ pub returns-clause-lines : goal.returns-clause-lines
 returns-clause-lines c =
     made-all (row_line_in c.args.before.now.rows) c.args.lines.now c.args.epoch.now.rows
     c.loop-row.index c.loop-row.lines c.loop-row.invariant.handed_out (sym c.in_default.ensures.value)
+
+pub loop-row-smaller : goal.loop-row-smaller
+loop-row-smaller c =
+    let rows = c.args.epoch.now.rows in
+    falls (length rows) c.loop-row.index
+    (below rows c.loop-row.index (length rows) c.in-Some.row.now (omega arith) (sym c.in-Some.ensures.value))

@@ -3,6 +3,8 @@ use Rattle.std.proofs.lemmas.List.{length-set}
 use Rattle.crx_faults.specs.declared.limits.TheConstants.{SATELLITES_LIMIT}
 use Rattle.crx_history.proofs.RoomForRows.{room-all, room-more}
 use Rattle.crx_history.proofs.ShownRows.{get-there}
+use Rattle.std.proofs.lemmas.Result.{err_from_is_err_and}
+use Rattle.crx_history.proofs.Results.{no-ok}
 use Rattle.crx_history.proofs.kept.fill_rows.Goals as goal
 
 pub loop-place-preserved : goal.loop-place-preserved
@@ -22,3 +24,11 @@ pub returns-clause-rows : goal.returns-clause-rows
 returns-clause-rows c =
     room-all c.args.satellites.now c.loop-place.rows.items c.loop-place.place
     c.loop-place.auto.place-end c.loop-place-test.false c.loop-place.invariant.1
+
+pub returns-in_err-make_room-clause-rows : goal.returns-in_err-make_room-clause-rows
+returns-in_err-make_room-clause-rows c =
+    let p = err_from_is_err_and c.from_residual.result c.from_residual.ensures.1 in no-ok _ _ _ p.1
+
+pub returns-in_err-resize-clause-rows : goal.returns-in_err-resize-clause-rows
+returns-in_err-resize-clause-rows c =
+    let p = err_from_is_err_and c.from_residual-in_err-resize.result c.from_residual-in_err-resize.ensures.1 in no-ok _ _ _ p.1

@@ -1,11 +1,14 @@
-use Rattle.std.proofs.Common.{rules, ◌≡◌, ◌+◌, ◌*◌, ◌<◌, ◌-◌, ◌++◌, ◌∙◌, List, ℕ}
+use Rattle.std.proofs.Common.{rules, ◌≡◌, ◌≤◌, ◌+◌, ◌*◌, ◌^◌, ◌<◌, ◌-◌, Fits, w64, ◌++◌, ◌∙◌, List, ℕ}
 use Rattle.std.proofs.Common.{ap, arith, drop, length, replicate, sym, take}
+use borrow.Author.Count.{falls}
 use Rattle.std.specs.List.{flat_map}
 use Rattle.std.proofs.Math.Seq.{take-append_seam}
 use Rattle.std.proofs.lemmas.List.{append-nil, length-append, length-replicate, length-take, take_all, take_at}
 use Rattle.crx_rinex.specs.meaning.Observations.{Row}
 use Rattle.crx_arcs.proofs.PlaceByPlace.{some-there}
 use Rattle.crx_history.proofs.Making.{taken_all, texts_more, texts_all}
+use Rattle.std.proofs.lemmas.Result.{err_from_is_err_and}
+use Rattle.crx_history.proofs.Results.{no-ok}
 use Rattle.crx_history.proofs.kept.push_names.Goals as goal
 
 -- what is there before the identifiers, and how long it is with them
@@ -76,3 +79,25 @@ returns c =
     ∙ (texts_all (λ (r : Row). r.name) _ c.args.epoch.now.rows c.loop-row.index
     (take c.loop-row.at c.loop-row.text.items) c.loop-row.invariant.2 none
     ∙ ap (λ (t : List ℕ). t ++ names) (resized _ _ _ _ start items).1)
+
+-- the place after an identifier is within the text
+next-place : (at start index count long len cap : ℕ) → at ≡ start + 3 * index → index < count
+    → long ≡ start + 3 * count → len ≡ long → len ≤ cap → cap < 2 ^ 63 → Fits w64 (at + 3)
+next-place at start index count long len cap is there whole same kept small =
+    omega (arith, is, there, whole, same, kept, small)
+
+pub overflow_add-at : goal.overflow_add-at
+overflow_add-at c =
+    let text = c.loop-row.text in
+    next-place c.loop-row.at c.len-start.result c.loop-row.index (length c.args.epoch.now.rows) (length text.items) text.len text.cap
+    c.loop-row.invariant.0 (some-there c.args.epoch.now.rows c.loop-row.index c.in-Some.row.now (sym c.in-Some.ensures.value))
+    c.loop-row.invariant.1 text.ok.0 text.ok.1 text.small
+
+pub loop-row-smaller : goal.loop-row-smaller
+loop-row-smaller c =
+    falls (length c.args.epoch.now.rows) c.loop-row.index
+    (some-there c.args.epoch.now.rows c.loop-row.index c.in-Some.row.now (sym c.in-Some.ensures.value))
+
+pub returns-in_err-resize : goal.returns-in_err-resize
+returns-in_err-resize c =
+    let p = err_from_is_err_and c.from_residual.result c.from_residual.ensures.1 in no-ok _ _ _ p.1

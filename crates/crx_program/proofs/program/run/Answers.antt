@@ -1,5 +1,5 @@
-use Rattle.std.proofs.Common.{◌≡◌, ◌∙◌, map, inl, inr, refl, string_bytes}
-use Rattle.crx_command.specs.meaning.Planning.{Run, plan_of}
+use Rattle.std.proofs.Common.{◌≡◌, ◌∙◌, map, inl, inr, is_some, refl, string_bytes, subst, sym, true}
+use Rattle.crx_command.specs.meaning.Planning.{Help, Refused, Refusal, Run, plan_of}
 use Rattle.crx_program.specs.meaning.Jobs.{NoMemory}
 use Rattle.crx_runs.specs.meaning.Spans.{span, reader_span}
 use Rattle.crx_command.specs.declared.job.Job.{Job}
@@ -47,3 +47,63 @@ returns-in-Ok-Run-clause-done g c = λ job e.
     (span g.M.Sink c.args.messages.now c.run_job.new.messages) c.run_job.result
     ((c.run_job.new.input ≡ c.args.input.now) × (c.run_job.new.output ≡ c.args.output.now))
     (same_job c.in-Ok-Run.job job (planned ∙ e)) c.run_job.ensures.done
+
+-- help is no run and no refusal, and a run is neither help nor a refusal
+help_not_run : (job : Job) → Help ≡ Run job → ⊥
+help_not_run job e = cc
+
+help_not_refused : (refusal : Refusal) → Help ≡ Refused refusal → ⊥
+help_not_refused refusal e = cc
+
+run_not_refused : (job : Job) (refusal : Refusal) → Run job ≡ Refused refusal → ⊥
+run_not_refused job refusal e = cc
+
+pub returns-in-Ok-Help-clause-refused : goal.returns-in-Ok-Help-clause-refused
+returns-in-Ok-Help-clause-refused g c = λ refusal e.
+    let planned : Help ≡ plan_of (map string_bytes c.args.words.items) =
+    rw c.in-Ok-Help.field-0-is at c.in-Ok-Help.ensures in
+    absurd (help_not_refused refusal (planned ∙ e))
+
+pub returns-in-Ok-Help-clause-output : goal.returns-in-Ok-Help-clause-output
+returns-in-Ok-Help-clause-output g c = λ job e some.
+    let planned : Help ≡ plan_of (map string_bytes c.args.words.items) =
+    rw c.in-Ok-Help.field-0-is at c.in-Ok-Help.ensures in
+    absurd (help_not_run job (planned ∙ e))
+
+pub returns-in-Ok-Help-clause-done : goal.returns-in-Ok-Help-clause-done
+returns-in-Ok-Help-clause-done g c = λ job e.
+    let planned : Help ≡ plan_of (map string_bytes c.args.words.items) =
+    rw c.in-Ok-Help.field-0-is at c.in-Ok-Help.ensures in
+    absurd (help_not_run job (planned ∙ e))
+
+pub returns-in-Ok-Run-clause-refused : goal.returns-in-Ok-Run-clause-refused
+returns-in-Ok-Run-clause-refused g c = λ refusal e.
+    let planned : Run c.in-Ok-Run.job ≡ plan_of (map string_bytes c.args.words.items) =
+    rw c.in-Ok-Run.field-0-is at c.in-Ok-Run.ensures in
+    absurd (run_not_refused c.in-Ok-Run.job refusal (planned ∙ e))
+
+pub returns-in-Ok-Run-clause-help : goal.returns-in-Ok-Run-clause-help
+returns-in-Ok-Run-clause-help g c = λ e.
+    let planned : Run c.in-Ok-Run.job ≡ plan_of (map string_bytes c.args.words.items) =
+    rw c.in-Ok-Run.field-0-is at c.in-Ok-Run.ensures in
+    absurd (help_not_run c.in-Ok-Run.job (sym (planned ∙ e)))
+
+pub returns-in-Ok-Run-clause-input : goal.returns-in-Ok-Run-clause-input
+returns-in-Ok-Run-clause-input g c = λ job e some.
+    let planned : Run c.in-Ok-Run.job ≡ plan_of (map string_bytes c.args.words.items) =
+    rw c.in-Ok-Run.field-0-is at c.in-Ok-Run.ensures in
+    c.run_job.ensures.input
+    (subst (λ (j : Job). is_some j.source ≡ true) (sym (same_job c.in-Ok-Run.job job (planned ∙ e))) some)
+
+pub returns-in-Ok-Run-clause-output : goal.returns-in-Ok-Run-clause-output
+returns-in-Ok-Run-clause-output g c = λ job e some.
+    let planned : Run c.in-Ok-Run.job ≡ plan_of (map string_bytes c.args.words.items) =
+    rw c.in-Ok-Run.field-0-is at c.in-Ok-Run.ensures in
+    c.run_job.ensures.output
+    (subst (λ (j : Job). is_some j.target ≡ true) (sym (same_job c.in-Ok-Run.job job (planned ∙ e))) some)
+
+pub returns-in-Err-clause-input : goal.returns-in-Err-clause-input
+returns-in-Err-clause-input g c = λ job e some. refl {a = c.args.input.now}
+
+pub returns-in-Err-clause-output : goal.returns-in-Err-clause-output
+returns-in-Err-clause-output g c = λ job e some. refl {a = c.args.output.now}

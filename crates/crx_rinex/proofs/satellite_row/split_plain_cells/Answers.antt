@@ -1,6 +1,6 @@
 use Rattle.std.proofs.Common.{ℤ, ◌+◌, ◌*◌, ◌<◌, ◌≤◌, List, Option, Some, length, take, ap, sym, ◌∙◌}
 use Rattle.std.proofs.Common.{arith, ◌++◌, ◌∷◌, [], refl}
-use Rattle.std.proofs.lemmas.List.{take_more_set, length-set}
+use Rattle.std.proofs.lemmas.List.{take_more_set, take-set, length-set}
 use Rattle.std.proofs.lemmas.List.Elements.{All-push, All-same}
 use Rattle.crx_text.specs.meaning.Numbers.{observation_of, IsValue}
 use Rattle.crx_columns.specs.meaning.Columns.{character_at}
@@ -36,4 +36,19 @@ loop-k-preserved c =
       length-set values k value ∙ inv.3,
       ap length c.put_indicators_within.ensures ∙ (length-set _ (2 * k + 1) (character_at line (16 * k + 19))
           ∙ (length-set flags (2 * k) (character_at line (16 * k + 18)) ∙ inv.4)),
+    )
+
+pub returns-then-not-obs_read_into : goal.returns-then-not-obs_read_into
+returns-then-not-obs_read_into c =
+    let k = c.loop-k.k in
+    let values = c.loop-k.values in
+    let inv = c.loop-k.invariant in
+    let value = c.obs_read_into.new.value in
+    let kept = take-set values k value in
+    let test = c.loop-k-test.true in
+    let same = inv.3 in (
+      omega (arith, test, same, c.cells_within-count.ensures.few, length-set values k value),
+      inv.0 ∙ ap (λ (vs : List (Option ℤ)). Some vs) (sym kept),
+      inv.2,
+      All-same IsValue _ (take k values) kept inv.1,
     )

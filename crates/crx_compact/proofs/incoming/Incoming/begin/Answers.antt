@@ -1,10 +1,11 @@
-use Rattle.std.proofs.Common.{◌≡◌, true, refl, List, ℕ, Result, Ok, Err, ap, subst, sym}
+use Rattle.std.proofs.Common.{◌≡◌, ◌⊎◌, inl, inr, true, refl, List, ℕ, Result, Ok, Err, ap, subst, sym, rules}
 use Rattle.crx_history.specs.meaning.EpochText.{Satellite}
 use Rattle.crx_history.specs.HeldRows.{HaveRows}
 use Rattle.crx_history.specs.RowsSoFar.{AreAnnounced}
 use Rattle.crx_history.specs.Tails.{Tail}
 use Rattle.std.specs.Result.{is_ok}
 use Rattle.crx_faults.specs.declared.fault.Fault.{Fault}
+use Rattle.crx_faults.specs.declared.fault.Fault.TheVariants.{OutOfMemory}
 use Rattle.crx_arcs.specs.meaning.Sequences.{and_then}
 use Rattle.crx_history.proofs.EpochLines.{announced}
 use Rattle.crx_compact.proofs.incoming.Incoming.begin.Goals as goal
@@ -31,3 +32,38 @@ returns-in-Err-OutOfMemory-clause-memory c = λ out.
 pub returns-in_default-make_room-clause-memory : goal.returns-in_default-make_room-clause-memory
 returns-in_default-make_room-clause-memory c = λ out.
     still-good _ _ (c.fault_of_epoch_line.ensures.memory c.in-OutOfMemory.is)
+
+-- a fault stays where it goes on, unless memory ran out
+handed-on : {X Y : Type 0} (r : Result X Fault) (f : X → Y) (fault : Fault)
+    → (r ≡ Err fault) ⊎ (fault ≡ OutOfMemory)
+    → (and_then {Y = Y} r (λ (x : X). Ok (f x)) ≡ Err fault) ⊎ (fault ≡ OutOfMemory)
+handed-on r f fault (inl e) = inl (ap (λ q. and_then q (λ x. Ok (f x))) e)
+handed-on r f fault (inr e) = inr e
+
+pub returns-in_default : goal.returns-in_default
+returns-in_default c = record {
+  ok = tt;
+  «open» = tt;
+  awaiting = refl;
+  err = handed-on _ _ _ c.fault_of_epoch_line.ensures.fault;
+  memory = λ out. absurd (c.in_default.not-OutOfMemory out);
+}
+
+pub returns-in_default-make_room-clause-err : goal.returns-in_default-make_room-clause-err
+returns-in_default-make_room-clause-err c = inr refl
+
+pub returns-in_default-make_rows-clause-err : goal.returns-in_default-make_rows-clause-err
+returns-in_default-make_rows-clause-err c = inr refl
+
+pub returns-in-Err-OutOfMemory-clause-err : goal.returns-in-Err-OutOfMemory-clause-err
+returns-in-Err-OutOfMemory-clause-err c =
+    handed-on _ _ _ c.fault_of_epoch_line-in-Err-OutOfMemory.ensures.fault
+
+pub returns-in-Err : goal.returns-in-Err
+returns-in-Err c = record {
+  ok = tt;
+  «open» = tt;
+  awaiting = search rules;
+  err = handed-on _ _ _ c.in-Err.ensures.err;
+  memory = search rules;
+}

@@ -1,8 +1,11 @@
-use Rattle.std.proofs.Common.{◌≡◌, ◌+◌, ◌++◌, List, Option, ℕ, ℤ, length, take, ap, ◌∙◌, arith}
+use Rattle.std.proofs.Common.{◌≡◌, ◌+◌, ◌++◌, List, Option, ℕ, ℤ, drop, length, take, ap, ◌∙◌, arith}
 use Rattle.std.specs.Prelude.{flat_map}
 use Rattle.crx_columns.specs.meaning.Columns.{without_end_blanks}
-use Rattle.crx_arcs.specs.Cells.{codes_of_cells}
+use Rattle.std.proofs.lemmas.List.{take_at}
+use Rattle.crx_arcs.specs.Cells.{arcs_of_cells, codes_of_cells}
 use Rattle.crx_arcs.specs.meaning.Cells.{cell_text}
+use Rattle.crx_arcs.specs.ArcTails.{ArcTail}
+use Rattle.crx_history.specs.Tails.{RowTail}
 use Rattle.crx_columns.proofs.WrittenTexts.{LineWritten, line-written}
 use Rattle.crx_history.proofs.held.HeldSatellite.write_line.Goals as goal
 
@@ -46,3 +49,27 @@ returns-clause-within c =
     let trimmed = ap length (c.trim_end.ensures ∙ ap without_end_blanks written.seen) in
     let kept = written.within in
     omega (arith, room, within, count, end, same, same', trimmed, kept)
+
+pub invariant_of-self : goal.invariant_of-self
+invariant_of-self c =
+    let arcs = c.write_cells-end.new.arcs in
+    let same : length arcs ≡ length c.self.inside.arcs.items = c.write_cells-end.auto.arcs
+    ∙ ap length c.deref_mut.ensures.value in
+    rw (
+      take_at arcs (drop (length arcs) c.self.inside.arcs.items)
+          c.self.inside.arcs.len (c.write_cells-end.auto.arcs ∙ c.deref_mut.ensures.len),
+      same,
+    ) c.self.invariant
+
+pub returns-clause-after : goal.returns-clause-after
+returns-clause-after c =
+    let arcs = c.write_cells-end.new.arcs in
+    rw (take_at arcs (drop (length arcs) c.self.inside.arcs.items)
+    c.self.inside.arcs.len (c.write_cells-end.auto.arcs ∙ c.deref_mut.ensures.len))
+    (ap {B = RowTail} (λ (t : RowTail). record { name = t.name; flags = t.flags; cells = arcs }) c.self.view_is
+    ∙ ap {B = RowTail} (λ (cells : List (Option ArcTail)). record {
+      name = c.args.self.now.name;
+      flags = c.args.self.now.flags;
+      cells = cells;
+    }) (c.write_cells-end.ensures.arcs
+    ∙ ap (λ (vs : List (Option ℤ)). arcs_of_cells c.args.arcs.now vs) c.values.ensures.value))

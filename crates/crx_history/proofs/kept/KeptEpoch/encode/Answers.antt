@@ -16,6 +16,8 @@ use Rattle.crx_history.specs.meaning.Compaction.{epoch_text}
 use Rattle.crx_arcs.specs.ArcSteps.{arc_of_value, code_of_value}
 use Rattle.crx_history.specs.Steps.{row_line_in, row_tail_in}
 use Rattle.crx_history.proofs.SoundTexts.{difference-trimmed}
+use Rattle.std.proofs.lemmas.Result.{err_from_is_err_and}
+use Rattle.crx_history.proofs.Results.{no-ok}
 use Rattle.crx_history.proofs.kept.KeptEpoch.encode.Goals as goal
 
 same-tail : (text text' : List ℕ) (clock clock' : Option ArcTail) (rows rows' : List RowTail)
@@ -79,3 +81,35 @@ returns-clause-lines c =
     ∙ ap (λ (arc : Option ArcTail). code_of_value epoch.clock arc) c.copied-self-inside.ensures))
     (c.in_ok-encode_rows.ensures.lines
     ∙ ap (λ (t : Tail). c.push_code.new.lines ++ map (row_line_in t.rows) epoch.rows) (sym c.before-2.view_is)))
+
+pub returns-in_err-renew_text-clause-after : goal.returns-in_err-renew_text-clause-after
+returns-in_err-renew_text-clause-after c =
+    let p = err_from_is_err_and c.from_residual.result c.from_residual.ensures.1 in no-ok _ _ _ p.1
+
+pub returns-in_err-renew_text-clause-lines : goal.returns-in_err-renew_text-clause-lines
+returns-in_err-renew_text-clause-lines c =
+    let p = err_from_is_err_and c.from_residual.result c.from_residual.ensures.1 in no-ok _ _ _ p.1
+
+pub returns-in_err-push_change-clause-after : goal.returns-in_err-push_change-clause-after
+returns-in_err-push_change-clause-after c =
+    let p = err_from_is_err_and c.from_residual-in_err-push_change.result c.from_residual-in_err-push_change.ensures.1 in no-ok _ _ _ p.1
+
+pub returns-in_err-push_change-clause-lines : goal.returns-in_err-push_change-clause-lines
+returns-in_err-push_change-clause-lines c =
+    let p = err_from_is_err_and c.from_residual-in_err-push_change.result c.from_residual-in_err-push_change.ensures.1 in no-ok _ _ _ p.1
+
+pub returns-in_err-push_code-clause-after : goal.returns-in_err-push_code-clause-after
+returns-in_err-push_code-clause-after c =
+    let p = err_from_is_err_and c.from_residual-in_err-push_code.result c.from_residual-in_err-push_code.ensures.1 in no-ok _ _ _ p.1
+
+pub returns-in_err-push_code-clause-lines : goal.returns-in_err-push_code-clause-lines
+returns-in_err-push_code-clause-lines c =
+    let p = err_from_is_err_and c.from_residual-in_err-push_code.result c.from_residual-in_err-push_code.ensures.1 in no-ok _ _ _ p.1
+
+pub returns-in_err-encode_rows-clause-after : goal.returns-in_err-encode_rows-clause-after
+returns-in_err-encode_rows-clause-after c =
+    let p = err_from_is_err_and c.from_residual-in_err-encode_rows.result c.from_residual-in_err-encode_rows.ensures.1 in no-ok _ _ _ p.1
+
+pub returns-in_err-encode_rows-clause-lines : goal.returns-in_err-encode_rows-clause-lines
+returns-in_err-encode_rows-clause-lines c =
+    let p = err_from_is_err_and c.from_residual-in_err-encode_rows.result c.from_residual-in_err-encode_rows.ensures.1 in no-ok _ _ _ p.1

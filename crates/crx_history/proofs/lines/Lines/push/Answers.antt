@@ -1,6 +1,8 @@
 use Rattle.std.proofs.Common.{◌≡◌, ◌+◌, ◌++◌, ◌∷◌, [], List, ℕ, drop, length, take, ap, ◌∙◌, arith, rules}
 use Rattle.std.proofs.lemmas.List.{take_at}
 use Rattle.crx_history.proofs.LineTexts.{Pushed, line-pushed}
+use Rattle.std.proofs.lemmas.Result.{err_from_is_err_and}
+use Rattle.crx_history.proofs.Results.{no-ok}
 use Rattle.crx_history.proofs.lines.Lines.push.Goals as goal
 
 pub invariant_of-self-2 : goal.invariant_of-self-2
@@ -46,3 +48,7 @@ returns-clause-ok c =
       take_at bytes
           (drop (length bytes) c.grow.new.bytes.items) c.grow.new.bytes.len long,
     ) pushed.is
+
+pub returns-in_err-grow-clause-ok : goal.returns-in_err-grow-clause-ok
+returns-in_err-grow-clause-ok c =
+    let p = err_from_is_err_and c.from_residual.result c.from_residual.ensures.1 in no-ok _ _ _ p.1

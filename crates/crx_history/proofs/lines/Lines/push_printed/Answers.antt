@@ -4,6 +4,8 @@ use Rattle.crx_rinex.specs.meaning.Printing.{printed_row}
 use Rattle.crx_history.specs.ShownRows.{shown_row}
 use Rattle.crx_columns.proofs.WrittenTexts.{same-before}
 use Rattle.crx_history.proofs.LineTexts.{row-pushed}
+use Rattle.std.proofs.lemmas.Result.{err_from_is_err_and}
+use Rattle.crx_history.proofs.Results.{no-ok}
 use Rattle.crx_history.proofs.lines.Lines.push_printed.Goals as goal
 
 pub invariant_of-self-then-is_err : goal.invariant_of-self-then-is_err
@@ -65,3 +67,7 @@ returns c =
     (c.print_line-length.ensures.line ∙ ap (λ (t : List ℕ). take inside.filled t ++ line) seen)
     c.print_line-length.ensures.within lengths in
     rw (← c.self.view_is, take_at new (drop (length new) grown) c.grow.new.bytes.len long) pushed.is
+
+pub returns-in_err-grow : goal.returns-in_err-grow
+returns-in_err-grow c =
+    let p = err_from_is_err_and c.from_residual.result c.from_residual.ensures.1 in no-ok _ _ _ p.1

@@ -1,5 +1,5 @@
 use Rattle.std.proofs.Common.{◌≡◌, ◌<◌, ◌+◌, List, ap, sym, ◌∙◌, take, not, true, false, length, ◌++◌, ◌∷◌, [], refl}
-use Rattle.std.proofs.Common.{subst, inl, inr, arith}
+use Rattle.std.proofs.Common.{subst, inl, inr, arith, ℕ}
 use Rattle.std.proofs.lemmas.List.{length-set, length_push, take_all, take_more_set}
 use Rattle.crx_faults.specs.declared.limits.TheConstants.{SATELLITES_LIMIT}
 use Rattle.crx_rinex.specs.meaning.Observations.{Row, Epoch}
@@ -92,14 +92,36 @@ returns-then-self-len-clause-new c =
     (ap (λ (e : Epoch). e.rows) c.self.view_is) c.self.invariant.4 (c.in-Ok-true.ensures.new
     ∙ ap not c.in-Ok-true.field-0-test)
 
+-- a row that is pushed after the last one
+pushed : (rows : List Row) (count : ℕ) (row : Row)
+    → count ≡ length rows → take (count + 1) (rows ++ row ∷ []) ≡ take count rows ++ row ∷ []
+pushed rows count row long =
+    take_all (count + 1) (rows ++ row ∷ []) (omega (arith, long, length_push rows row))
+    ∙ ap (λ (rs : List Row). rs ++ row ∷ []) (sym (take_all count rows (omega (arith, long))))
+
+full : (c : goal.After-self-3-1) → c.self.inside.count ≡ length c.self.inside.rows.items
+full c =
+    let a = c.if-self-len.false in
+    let b = c.self.inside.rows.ok.0 in
+    let e = c.len.ensures in
+    let f = c.self.invariant.1 in
+    omega (arith, a, b, e, f)
+
+pub returns-clause-ok : goal.returns-clause-ok
+returns-clause-ok c =
+    let rows = c.self.inside.rows.items in
+    let count = c.self.inside.count in
+    ap (λ (rs : List Row). record { head = c.self.inside.head.head; clock = c.self.inside.head.clock; rows = rs })
+    (ap {B = List Row} (take (count + 1)) c.in_default.ensures.items ∙ pushed rows count c.args.row (full c))
+    ∙ ap (λ (e : Epoch). with_row e c.args.row) c.self.view_is
+
 pub invariant_of-self-2 : goal.invariant_of-self-2
 invariant_of-self-2 c =
     let head = c.self.inside.head in
     let rows = c.self.inside.rows.items in
     let count = c.self.inside.count in
     let names = c.self.inside.names in
-    let long : count ≡ length rows = let a = c.if-self-len.false in let b =
-    c.self.inside.rows.ok.0 in let e = c.len.ensures in let f = c.self.invariant.1 in omega (arith, a, b, e, f) in
+    let long = full c in
     let next = c.in-Ok-true.ensures.next c.in-Ok-true.field-0-test in
     let new : has_satellite c.args.row.name (take count rows) ≡ false =
     by_names (record {
@@ -109,9 +131,7 @@ invariant_of-self-2 c =
     }) names rows count c.args.row.name c.name.result false c.name.ensures.value
     refl c.self.invariant.4 (c.in-Ok-true.ensures.new ∙ ap not c.in-Ok-true.field-0-test) in
     let room : count < SATELLITES_LIMIT = room-left head.head head.clock rows count c.self.invariant.0 c.self.invariant.1 (ap is_full_epoch c.self.view_is ∙ c.requires) in
-    let all : take (count + 1) (rows ++ c.args.row ∷ []) ≡ take count rows ++ c.args.row ∷ [] =
-    take_all (count + 1) (rows ++ c.args.row ∷ []) (omega (arith, long, length_push rows c.args.row))
-    ∙ ap (λ (rs : List Row). rs ++ c.args.row ∷ []) (sym (take_all count rows (omega (arith, long)))) in
+    let all = pushed rows count c.args.row long in
     rw c.in_default.ensures.items (
       sound-pushed head.head head.clock rows count c.args.row c.self.invariant.0 long c.name.ensures.sound
           (ap is_full_epoch c.self.view_is ∙ c.requires) new,

@@ -1,7 +1,7 @@
 use Rattle.std.proofs.Common.{◌≡◌, ◌<◌, ◌+◌, List, ap, sym, ◌∙◌, take, false, length, slice_set, arith, refl}
 use Rattle.std.proofs.Common.{unwrap_or, ℕ, Option}
 use Rattle.std.proofs.Common.{get_or}
-use Rattle.std.proofs.lemmas.List.{length-set, length-take-le, take_more_set}
+use Rattle.std.proofs.lemmas.List.{get_or_default, length-set, length-take-le, take-set, take_more_set}
 use Rattle.std.proofs.lemmas.Bool.{ne_eqb}
 use Rattle.crx_header.specs.meaning.EpochColumns.{satellites_of}
 use Rattle.crx_rinex.specs.meaning.EpochLines.{IsObservationHead, ObservationHead}
@@ -92,3 +92,19 @@ invariant_of-self c =
     unread c.self.inside.head c.self.inside.names rows count
     c.self.inside.known row c.index_mut-row.result.now c.self.invariant here
     (c.read_known.ensures.name ∙ ap (λ (r : Row). r.name) c.index_mut-row.ensures.value)
+
+pub read_known-requires : goal.read_known-requires
+read_known-requires c =
+    let rows = c.self.inside.rows.items in
+    let count : ℕ = c.self.inside.count in
+    let here : count < c.self.inside.known = omega (arith, c.if-place-self.false) in
+    c.if-not-is_of.ensures
+    ∙ ap (λ (r : Row). r.name) (c.index.ensures
+    ∙ get_or_default rows count c.index.result.now c.index_mut-row.result.now (omega (arith, here, c.self.invariant.8.1))
+    ∙ sym c.index_mut-row.ensures.value)
+
+pub returns-in_default-clause-same : goal.returns-in_default-clause-same
+returns-in_default-clause-same c =
+    let head = c.self.inside.head in
+    ap (λ (rs : List Row). record { head = head.head; clock = head.clock; rows = rs })
+    (take-set c.self.inside.rows.items c.self.inside.count c.read_known.new.self) ∙ c.self.view_is

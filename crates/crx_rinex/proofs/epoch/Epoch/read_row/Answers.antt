@@ -133,3 +133,13 @@ returns-clause-refused c = c.read_other_row.ensures.refused
 
 pub returns-clause-err : goal.returns-clause-err
 returns-clause-err c = c.read_other_row.ensures.err
+
+pub read_known-requires : goal.read_known-requires
+read_known-requires c =
+    let rows = c.self.inside.rows.items in
+    let count : ℕ = c.self.inside.count in
+    let here : count < c.self.inside.known = omega (arith, c.if-self.true) in
+    c.if-is_of.ensures
+    ∙ ap (λ (r : Row). r.name) (c.index.ensures
+    ∙ get_or_default rows count c.index.result.now c.index_mut-row.result.now (omega (arith, here, c.self.invariant.8.1))
+    ∙ sym c.index_mut-row.ensures.value)

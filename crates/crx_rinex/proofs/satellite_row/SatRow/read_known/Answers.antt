@@ -42,3 +42,10 @@ returns-clause-refused c =
         λ same. out.2 (same_Some (length c.args.self.now.values) c.in-Some.count (sym same ∙ counted c)),
       )
     ]) c.read_values.ensures.refused
+
+pub returns-in_default-clause-refused : goal.returns-in_default-clause-refused
+returns-in_default-clause-refused c =
+    inl (ap (row_of_types c.args.line.now)
+    (known_types c.args.types.now c.args.line.now c.self.inside.name
+    (c.requires ∙ sym (ap (λ (r : Row). r.name) c.self.view_is)) c.self.invariant.named
+    ∙ sym c.count.ensures.value ∙ c.in_default.is))

@@ -1,5 +1,7 @@
-use Rattle.std.proofs.Common.{◌≡◌, ◌*◌, ℕ, ℤ, List, Option, None, length, replicate, ap, sym, subst, ◌∙◌, arith, rules}
-use Rattle.crx_rinex.specs.meaning.SatelliteLines.{IsSoundRow}
+use Rattle.std.proofs.Common.{◌≡◌, ◌*◌, ℕ, ℤ, List, Option, None, Ok, length, replicate, drop, ap, sym, subst, ◌∙◌, arith, rules, take, ◌++◌}
+use Rattle.std.proofs.lemmas.List.{take_at}
+use Rattle.crx_columns.specs.meaning.Columns.{columns}
+use Rattle.crx_rinex.specs.meaning.SatelliteLines.{IsSoundRow, row_with, values_in}
 use Rattle.crx_rinex.proofs.Cells.{sound-written, sound-blank}
 use Rattle.crx_rinex.proofs.satellite_row.SatRow.read_values.Goals as goal
 
@@ -46,3 +48,21 @@ returns-clause-sound c = invariant_of-self-in_default c
 
 pub returns-in-Err-clause-sound : goal.returns-in-Err-clause-sound
 returns-in-Err-clause-sound c = invariant_of-self-in-Err c
+
+pub returns-clause-ok : goal.returns-clause-ok
+returns-clause-ok c =
+    let line = c.args.line.now in
+    let name = columns line 1 3 in
+    let values = c.read_cells.new.values in
+    let flags = c.read_cells.new.flags in
+    let put : List (Option ℤ) =
+    take c.resize_for.new.values.len (values ++ drop (length values) c.resize_for.new.values.items) in
+    let sized = c.in_ok-resize_for.ensures.ok in
+    let count : length c.deref_mut.result.now ≡ c.args.count = ap length c.deref_mut.ensures.value ∙ sized.0 in
+    ap (λ n. row_with n line (values_in n line)) (sym count) ∙ c.in_default.ensures.ok
+    ∙ ap (λ (vs : List (Option ℤ)). Ok (record { name = name; values = vs; flags = flags }))
+    (sym (take_at values (drop (length values) c.resize_for.new.values.items) c.resize_for.new.values.len
+    (c.read_cells.auto.values ∙ c.deref_mut.ensures.len)))
+    ∙ ap (λ (fs : List ℕ). Ok (record { name = name; values = put; flags = fs }))
+    (sym (take_at flags (drop (length flags) c.resize_for.new.flags.items) c.resize_for.new.flags.len
+    (c.read_cells.auto.flags ∙ c.deref_mut-2.ensures.len)))
