@@ -7,6 +7,7 @@
 tests/run.py uses the same for the whole gate and for what changed.
 """
 
+import contextlib
 import hashlib
 import json
 import os
@@ -200,7 +201,8 @@ class Proof:
     def step_back(self):
         """Leaves the cores to crates for which more crates wait, and goes on with what these leave."""
         if self.process and self.process.poll() is None:
-            os.setpriority(os.PRIO_PROCESS, self.process.pid, 19)
+            with contextlib.suppress(ProcessLookupError):  # it may end just now
+                os.setpriority(os.PRIO_PROCESS, self.process.pid, 19)
 
 
 def sums_of(names, uses):
