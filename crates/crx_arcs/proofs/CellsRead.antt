@@ -89,7 +89,8 @@ pub shown-code : (width : ℕ) (code : Code) (arc : Option ArcTail) (value : Opt
 shown-code width Missing arc value e = ap ok-value e
 shown-code width (Start order number) arc value e = in-columns width number value e
 shown-code width (Step number) None value e = absurd (true≢false (sym (ap is-ok-value e)))
-shown-code width (Step number) (Some arc) value e = in-columns width (value_of_tail (arc_after_number number arc)) value e
+shown-code width (Step number) (Some arc) value e =
+    in-columns width (value_of_tail (arc_after_number number arc)) value e
 
 abbrev codes_in : List ReadCell → List Code
 codes_in cells = map (λ (c : ReadCell). c.code) cells

@@ -50,9 +50,11 @@ cells-more before values place line line' arcs value code arc newer more m here 
           ∙ sym (each_place-more place (arc_at_place before values));
       line_made =
           n ∙ ap (λ t. t ++ cell_text code) m.line_made
-          ∙ ap (λ (k : Code). (line ++ flat_map cell_text (each_place place (code_at_place before values))) ++ cell_text k)
+          ∙ ap (λ (k : Code). (line ++ flat_map cell_text (each_place place (code_at_place before values)))
+          ++ cell_text k)
           (c ∙ ap (λ (v : Option ℤ). code_of_value v (slice_index_or before place None)) (sym is))
-          ∙ flat_map_more cell_text line (each_place place (code_at_place before values)) (code_at_place before values place)
+          ∙ flat_map_more cell_text line (each_place place (code_at_place before values))
+          (code_at_place before values place)
           ∙ ap (λ ks. line ++ flat_map cell_text ks) (sym (each_place-more place (code_at_place before values)));
       within = omega arith;
     }
@@ -111,7 +113,8 @@ pub print-on : (arcs : List (Option ArcTail)) (flags before text whole : List �
     → k < length arcs → arc ≡ slice_index_or arcs k arc
     → text ≡ before ++ (observation_text (shown_value arc) ++ at flags (2 * k) ∷ at flags (2 * k + 1) ∷ [])
     → before ++ printed_cells (drop k (map shown_value arcs)) (drop (2 * k) (columns flags 1 (2 * length arcs))) ≡ whole
-    → text ++ printed_cells (drop (k + 1) (map shown_value arcs)) (drop (2 * (k + 1)) (columns flags 1 (2 * length arcs)))
+    → text ++ printed_cells (drop (k + 1) (map shown_value arcs))
+    (drop (2 * (k + 1)) (columns flags 1 (2 * length arcs)))
     ≡ whole
 print-on arcs flags before text whole k arc h is made left =
     let values : List (Option ℤ) = map shown_value arcs in

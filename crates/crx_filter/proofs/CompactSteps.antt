@@ -68,9 +68,11 @@ begun-wants types tail line after (begun, going, is) = ap wants_lines is
 
 pub look-refused : (types : List Count) (tail : Option Tail) (line : List ℕ) (result : Result Bool Fault)
     → begins_epoch line ≡ true
-    → IfErr result (λ fault. RefusesCompactLine types tail (compact_begins types tail (Content line)) BetweenUnits line fault)
+    → IfErr result (λ fault. RefusesCompactLine types tail
+    (compact_begins types tail (Content line)) BetweenUnits line fault)
     → IfErr result
-    (λ fault. RefusesCompactLine types tail (made_in expansion LookingOn types tail (Content line)) LookingOn line fault)
+    (λ fault. RefusesCompactLine types tail (made_in expansion LookingOn types tail
+    (Content line)) LookingOn line fault)
 look-refused types tail line (Ok step) begins refused = tt
 look-refused types tail line (Err fault) begins (inl fails) =
     let same : made_in expansion LookingOn types tail (Content line) ≡ compact_begins types tail (Content line) =
@@ -80,4 +82,8 @@ look-refused types tail line (Err fault) begins (inl fails) =
     if-true : {X : Type 0} (b : Bool) (x y : X) → b ≡ true → (if b then x else y) ≡ x
     if-true b x y e = rw e refl
 look-refused types tail line (Err fault) begins (inr out) =
-    inr (out.0, and_from (begins_epoch line) (not (is_event_line line) && is_good_beginning types tail line) begins out.1)
+    inr (
+      out.0,
+      and_from (begins_epoch line) (not
+          (is_event_line line) && is_good_beginning types tail line) begins out.1,
+    )

@@ -59,8 +59,9 @@ impl CompactReader {
         ensures takes { (choices : Choices) (number : ℕ)
             → OnOk result (TakesOtherLine (made_of_first_lines count line.now) line.now (seen_in
             choices number self.old (FirstLines count)) (compact_reader_state choices number self.new) false) }
-        ensures refuses { IfErr result (RefusesCompactLine self.old.types (tail_held self.old.columns) (made_of_first_lines
-            count line.now) (seen_stage (open_in self.old.columns) (FirstLines count)) line.now) }
+        ensures refuses { IfErr result (RefusesCompactLine self.old.types (tail_held self.old.columns)
+            (made_of_first_lines count line.now) (seen_stage (open_in self.old.columns) (FirstLines count))
+            line.now) }
         ensures types { OnErr result (self.new.types ≡ self.old.types) }
     {
         if count == 0 {

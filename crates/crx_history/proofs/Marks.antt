@@ -73,7 +73,8 @@ columns-left count flags =
     ∙ at-padded (2 * count) (patched flags []) p ∙ at-unmarked flags p))
 
 -- the columns of indicators show what is held of them
-columns-held : (count : ℕ) (flags : List ℕ) → columns (flags_held count flags) 1 (2 * count) ≡ columns flags 1 (2 * count)
+columns-held : (count : ℕ) (flags : List ℕ) → columns (flags_held count flags) 1 (2 * count)
+    ≡ columns flags 1 (2 * count)
 columns-held count flags =
     columns-are (flags_held count flags) 1 (2 * count)
     (columns flags 1 (2 * count)) (length-columns flags 1 (2 * count)) (λ p less.
@@ -170,7 +171,8 @@ line-held arcs flags satellite line left at name held h read e same columned =
     let codes : List Code = map (λ (c : ReadCell). c.code) read.cells in
     let count : length read.cells ≡ satellite.count = cells-many arcs satellite.count line left at read in
     let many : length left ≡ satellite.count =
-    sym (length-map left shown_value) ∙ ap length read.shown ∙ length-map read.cells (λ (c : ReadCell). c.value) ∙ count in
+    sym (length-map left shown_value) ∙ ap length read.shown
+    ∙ length-map read.cells (λ (c : ReadCell). c.value) ∙ count in
     let kept : text ≡ flags_held (length codes) marked =
     t ∙ ap (λ n. flags_held n marked) (sym (length-map read.cells (λ (c : ReadCell). c.code) ∙ count)) in
     let shown : columns text 1 (2 * length left) ≡ columns marked 1 (2 * length read.cells) =

@@ -155,7 +155,8 @@ named-all types all place found n e = n.so_far
 
 -- ---- an identifier among those of a text
 
-pub any-at : (P : List ℕ → Bool) (n k : ℕ) (f : ℕ → List ℕ) → k < n → P (f k) ≡ true → list_any P (each_place n f) ≡ true
+pub any-at : (P : List ℕ → Bool) (n k : ℕ) (f : ℕ → List ℕ) → k < n → P (f k) ≡ true
+    → list_any P (each_place n f) ≡ true
 any-at P zero k f h e = absurd (omega (arith, h))
 any-at P (suc n) zero f h e = ap (λ b. b || list_any P (each_place n (λ i. f (suc i)))) e
 any-at P (suc n) (suc k) f h e = or-true (P (f 0)) _ (any-at P n k (λ i. f (suc i)) (omega (arith, h)) e)
@@ -178,7 +179,8 @@ pub any-more : (P : List ℕ → Bool) (n : ℕ) (f : ℕ → List ℕ)
 any-more P n f h e = ap (list_any P) (each_place-more n f) ∙ any-append P (each_place n f) (f n) h e
 
 -- the identifier at a place, which was read
-pub next-name : (text : List ℕ) (count place : ℕ) (name : List ℕ) → place < count → name ≡ columns text (42 + 3 * place) 3
+pub next-name : (text : List ℕ) (count place : ℕ) (name : List ℕ) → place < count → name
+    ≡ columns text (42 + 3 * place) 3
     → drop place (names_in text count) ≡ name ∷ drop (place + 1) (names_in text count)
 next-name text count place name h e =
     drop-each_place count place (λ k. columns text (42 + 3 * k) 3) h

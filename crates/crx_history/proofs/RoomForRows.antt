@@ -31,11 +31,13 @@ room-more satellites before rows k s left same within here many so_far = (
       ∙ sym (ap (map types_of) (taken_more satellites k s here) ∙ map-append types_of (take k satellites) (s ∷ [])),
 )
 
-pub room-all : (satellites : List Satellite) (rows : List RowTail) (k : ℕ) → k ≤ length satellites → length satellites ≤ k
+pub room-all : (satellites : List Satellite) (rows : List RowTail) (k : ℕ) → k ≤ length satellites
+    → length satellites ≤ k
     → map cells_in (take k rows) ≡ map types_of (take k satellites) → HaveRows satellites rows
 room-all satellites rows k one other so_far =
     let end : length satellites ≡ k = omega (arith, one, other) in
-    ap (λ n. map cells_in (take n rows)) end ∙ so_far ∙ ap (map types_of) (take_all k satellites (omega (arith, one, other)))
+    ap (λ n. map cells_in (take n rows)) end ∙ so_far
+    ∙ ap (map types_of) (take_all k satellites (omega (arith, one, other)))
 
 -- each of the satellites has a history
 pub has-row : (satellites : List Satellite) (rows : List RowTail) (k : ℕ) (s : Satellite)

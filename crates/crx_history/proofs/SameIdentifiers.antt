@@ -66,5 +66,6 @@ same-satellites types text other satellites e same counted =
     ∙ read-after_columns types other (length satellites)
     ∙ ap {B = Result (List Satellite) Fault} (λ t. read_after_columns types t (length satellites)) (sym same)
     ∙ sym (read-after_columns types text (length satellites))
-    ∙ ap {B = Result (List Satellite) Fault} (satellites_counted types text) (sym (announced_in types text satellites e))
+    ∙ ap {B = Result (List Satellite) Fault} (satellites_counted types text)
+    (sym (announced_in types text satellites e))
     ∙ e

@@ -139,7 +139,8 @@ pub row-at : (next : Tail) (satellites : List Satellite) (n place : ℕ) (tail :
 row-at next satellites n place tail satellite h less here there =
     let left : n ≤ length next.rows = h.left in
     let within : n ≤ length satellites = h.within in
-    let rows : slice_get next.rows place ≡ Some tail = get-there next.rows place tail (omega (arith, left, less)) here in
+    let rows : slice_get next.rows place ≡ Some tail =
+    get-there next.rows place tail (omega (arith, left, less)) here in
     let sats : slice_get satellites place ≡ Some satellite =
     get-there satellites place satellite (omega (arith, within, less)) there in
     let before : AreRowsSoFar (shown_epoch next place) next place satellites =

@@ -101,11 +101,14 @@ pub length-held : (count : ℕ) (flags : List ℕ) → length (flags_held count 
 length-held count flags = omega (arith, few_kept (take (2 * count) flags), length-cut (2 * count) flags)
 
 -- so many columns of indicators, and what is held of them
-pub held-columns : (count : ℕ) (flags : List ℕ) → without_end_blanks (columns flags 1 (2 * count)) ≡ flags_held count flags
+pub held-columns : (count : ℕ) (flags : List ℕ) → without_end_blanks (columns flags 1 (2 * count))
+    ≡ flags_held count flags
 held-columns count flags =
-    same_characters (columns flags 1 (2 * count)) (take (2 * count) flags) (λ p. by_place p (within-or_past (2 * count) p))
+    same_characters (columns flags 1 (2 * count)) (take (2 * count) flags)
+    (λ p. by_place p (within-or_past (2 * count) p))
   where
-    by_place : (p : ℕ) → (p < 2 * count) ⊎ (2 * count ≤ p) → at (columns flags 1 (2 * count)) p ≡ at (take (2 * count) flags) p
+    by_place : (p : ℕ) → (p < 2 * count) ⊎ (2 * count ≤ p) → at (columns flags 1 (2 * count)) p
+        ≡ at (take (2 * count) flags) p
     by_place p (inl h) = at-take (2 * count) (flags ++ replicate (2 * count) 32) p h ∙ at-padded (2 * count) flags p
         ∙ sym (at-take (2 * count) flags p h)
     by_place p (inr h) = at-take_past (2 * count) (flags ++ replicate (2 * count) 32) p h
@@ -137,7 +140,8 @@ columns-trimmed width flags =
 
 pub patched-trimmed : (flags marks : List ℕ) → patched (without_end_blanks flags) marks ≡ patched flags marks
 patched-trimmed flags marks =
-    same_characters (by_position character_of (without_end_blanks flags) marks) (by_position character_of flags marks) (λ p.
+    same_characters (by_position character_of (without_end_blanks flags) marks)
+    (by_position character_of flags marks) (λ p.
     at-by_position character_of refl (without_end_blanks flags) marks p
     ∙ ap (λ c. character_of c (at marks p)) (at-without_end_blanks flags p)
     ∙ sym (at-by_position character_of refl flags marks p))

@@ -299,7 +299,8 @@ impl HeldSatellite {
         requires other { begins_epoch line.now ≡ false }
         ensures ok { OnOk result (row_held (option_copied before.entry) satellite.now line.now
             ≡ Ok (record { row = shown_row self.new; tail = self.new })) }
-        ensures err { IfErr result (λ fault. row_held (option_copied before.entry) satellite.now line.now ≡ Err fault) }
+        ensures err { IfErr result (λ fault. row_held (option_copied before.entry) satellite.now line.now
+            ≡ Err fault) }
         ensures sized { length self.new.cells ≡ length self.old.cells }
     {
         match before {
@@ -323,7 +324,8 @@ impl HeldSatellite {
         requires other { begins_epoch line.now ≡ false }
         ensures ok { OnOk result (row_held_from arcs.now flags.now satellite.now line.now
             ≡ Ok (record { row = shown_row self.new; tail = self.new })) }
-        ensures err { IfErr result (λ fault. row_held_from arcs.now flags.now satellite.now line.now ≡ Err fault) }
+        ensures err { IfErr result (λ fault. row_held_from arcs.now flags.now satellite.now line.now
+            ≡ Err fault) }
         ensures sized { length self.new.cells ≡ length self.old.cells }
     {
         let count = satellite.count();

@@ -397,7 +397,8 @@ impl KeptEpoch {
     /// Puts the printed lines of so many rows that the history shows after others.
     pub fn print_rows(&self, count: usize, lines: &mut Lines) -> Result<(), AllocError>
         requires { count ≤ length self.now.rows }
-        ensures { OnOk result (lines.new ≡ lines.old ++ map printed_row (map shown_row (take count self.now.rows))) }
+        ensures { OnOk result (lines.new ≡ lines.old ++ map printed_row
+            (map shown_row (take count self.now.rows))) }
     {
         for place in 0..count {
             lines.push_printed(&self.satellites[place])?;
@@ -527,7 +528,8 @@ fn fill_rows(
 
 /// Puts the identifiers of satellites at their places; `false` where one stands at two, and then they aren't all there.
 fn put_names(satellites: &[HeldSatellite], names: &mut Identifiers) -> Result<bool, AllocError>
-    ensures { IfOk result (λ are_all. are_all ≡ true → AreNamed (length satellites.now) names.new satellites.now) }
+    ensures { IfOk result (λ are_all. are_all ≡ true
+        → AreNamed (length satellites.now) names.new satellites.now) }
 {
     for place in 0..satellites.len() {
         if !names.put(place, satellites[place].name())? {

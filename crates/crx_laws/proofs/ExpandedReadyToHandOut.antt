@@ -211,11 +211,17 @@ one-ready_to_hand_out line h = record { few = omega arith; short = (h, tt) }
 units-ready_to_hand_out : (items : List (Item ReadEpoch)) → AreShort items → AreGoodEpochs items
     → OfUnits (λ before unit. AreReadyToHandOut (longest_printed unit) (expanded_unit before unit)) items
 units-ready_to_hand_out [] h k = tt
-units-ready_to_hand_out (Accepted (HeaderLine line) ∷ before) h k = (one-ready_to_hand_out line h.0, units-ready_to_hand_out before h.1 k)
-units-ready_to_hand_out (Accepted (EventLine line) ∷ before) h k = (one-ready_to_hand_out line h.0, units-ready_to_hand_out before h.1 k)
-units-ready_to_hand_out (Accepted (EventRecord line) ∷ before) h k = (one-ready_to_hand_out line h.0, units-ready_to_hand_out before h.1 k)
-units-ready_to_hand_out (Accepted (Observation read) ∷ before) h k =
-    (epoch-ready_to_hand_out (types_in_force before) read.epoch (IsGood.whole k.0), units-ready_to_hand_out before h.1 k.1)
+units-ready_to_hand_out (Accepted (HeaderLine line) ∷ before) h k =
+    (one-ready_to_hand_out line h.0, units-ready_to_hand_out before h.1 k)
+units-ready_to_hand_out (Accepted (EventLine line) ∷ before) h k =
+    (one-ready_to_hand_out line h.0, units-ready_to_hand_out before h.1 k)
+units-ready_to_hand_out (Accepted (EventRecord line) ∷ before) h k =
+    (one-ready_to_hand_out line h.0, units-ready_to_hand_out before h.1 k)
+units-ready_to_hand_out (Accepted (Observation read) ∷ before) h k = (
+  epoch-ready_to_hand_out (types_in_force before) read.epoch
+      (IsGood.whole k.0),
+  units-ready_to_hand_out before h.1 k.1,
+)
 units-ready_to_hand_out (Warned at ∷ before) h k = units-ready_to_hand_out before h k
 
 pub expanded-ready_to_hand_out : (choices : Choices) (lines : List ReadLine) → ExpandedIsReadyToHandOut choices lines

@@ -9,14 +9,16 @@ use Rattle.crx_command.specs.declared.job.Job.{Job}
 use Rattle.crx_command.specs.declared.job.Tool.{Tool}
 
 -- a filter that ran from a file, into another or into the output
-pub from_file : {R S : Type 0} (sources : SourceGhosts R) (unread : R → Type 0) (sinks : SinkGhosts S) (source target : Option (List ℕ))
+pub from_file : {R S : Type 0} (sources : SourceGhosts R) (unread : R → Type 0) (sinks : SinkGhosts S)
+    (source target : Option (List ℕ))
     → is_some source ≡ true → (tool : Tool) (choices : Choices) (input : Input) (output messages : Device) (status : ℕ)
     (first last : R) → unread first → sources.failures first ≡ 0 → sources.ends first ≡ 0
     → IsFilteredInto sinks target tool choices (reader_span sources first last) output messages status
     → IsFilteredFrom sources unread sinks source target tool choices input output messages status
 from_file sources unread sinks None target e tool choices input output messages status first last new failures ends h =
     absurd (true≢false (sym e))
-from_file sources unread sinks (Some source) target e tool choices input output messages status first last new failures ends h =
+from_file sources unread sinks (Some source) target e tool choices input output messages status first last new
+    failures ends h =
     (first, last, new, failures, ends, h)
 
 -- a job that wasn't begun, with less that stays

@@ -151,7 +151,8 @@ fn run_from_source<H: Files, R: Source, W: Sink, M: Sink>(
 ) -> u8
     ensures input { is_some job.now.source ≡ true → input.new ≡ input.old }
     ensures output { is_some job.now.target ≡ true → output.new ≡ output.old }
-    ensures done { IsFilteredFrom ⟦<Std<H::File> as Source>⟧ is_unread ⟦<Std<BufWriter<UntilFailure<H::File>>> as Sink>⟧
+    ensures done { IsFilteredFrom ⟦<Std<H::File> as Source>⟧ is_unread
+        ⟦<Std<BufWriter<UntilFailure<H::File>>> as Sink>⟧
         job.now.source job.now.target job.now.tool options (reader_span R.Source input.old input.new)
         (span W.Sink output.old output.new) (span M.Sink messages.old messages.new) result
         ⊎ IsNotBegun job.now (span M.Sink messages.old messages.new) result ((input.new ≡ input.old)

@@ -142,7 +142,8 @@ known-put known names rows k row d h within is =
     )
 
 -- the identifier at a place is that of such a row
-pub known-next : (known : ℕ) (names : List (List ℕ)) (rows : List Row) (k : ℕ) (row d : Row) → AreOfRows known names rows
+pub known-next : (known : ℕ) (names : List (List ℕ)) (rows : List Row) (k : ℕ) (row d : Row)
+    → AreOfRows known names rows
     → k < known → row.name ≡ (get_or rows k d).name → take (k + 1) names ≡ take k names ++ row.name ∷ []
 known-next known names rows k row d h within is =
     take_more names k [] (omega (arith, within, h.0))
@@ -166,7 +167,8 @@ pub unread : (head : ObservationHead) (names : List (List ℕ)) (rows : List Row
     → AreEpochParts head names (set rows count row) count known
 unread head names rows count known row d h here is =
     let same : take count (set rows count row) ≡ take count rows = take-set rows count row in (
-      subst (λ (rs : List Row). IsSoundEpoch (record { head = head.head; clock = head.clock; rows = rs })) (sym same) h.0,
+      subst (λ (rs : List Row). IsSoundEpoch (record { head = head.head; clock = head.clock; rows = rs }))
+          (sym same) h.0,
       omega (arith, h.1, length-set rows count row),
       h.2,
       h.3,

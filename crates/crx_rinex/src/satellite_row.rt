@@ -144,9 +144,10 @@ impl SatRow {
         requires { IsAllowedCount count }
         ensures ok { OnOk result (row_with count line.now (values_in count line.now)
             ≡ Ok (record self.new { name = columns line.now 1 NAME_WIDTH })) }
-        ensures refused { IfErr result (λ fault. (row_with count line.now (values_in count line.now) ≡ Err fault)
-            ⊎ ((fault ≡ Fault.OutOfMemory)
-            × (is_ok (row_with count line.now (values_in count line.now)) ≡ true) × (length self.old.values ≢ count))) }
+        ensures refused { IfErr result (λ fault.
+            (row_with count line.now (values_in count line.now) ≡ Err fault)
+            ⊎ ((fault ≡ Fault.OutOfMemory) × (is_ok (row_with count line.now (values_in count line.now)) ≡ true)
+            × (length self.old.values ≢ count))) }
         ensures err { IfErr result (λ fault. (self.new ≡ self.old)
             ⊎ (((fault ≡ Fault.BadField) ⊎ (fault ≡ Fault.BadFlags))
             × (self.new ≡ blank_row self.old.name (length self.new.values)))) }

@@ -145,7 +145,8 @@ module _ (step : List ℕ → Type 0)
       subst (λ x. ReaderAnswers old found.0 at_end' counted counted' x new) is found.2 in
       (passed-more old new found.0 at_end' a.0.bytes a.0.is_ended a.1, omega (arith, a.1.within))
 
-  pub overlong-passed : (at : At) → r ≡ Err at → at.fault ≡ LineTooLong → (old.passed < new.passed) × (new.passed ≤ INPUT_LIMIT)
+  pub overlong-passed : (at : At) → r ≡ Err at → at.fault ≡ LineTooLong → (old.passed < new.passed)
+      × (new.passed ≤ INPUT_LIMIT)
   overlong-passed at is long =
       let e : old.phase ≡ Open = ⊎_elim (λ e. e) (λ e. absurd (err-not-none at (sym is ∙ at-ended e))) going in
       let found = at-open e in

@@ -31,7 +31,8 @@ pub(crate) fn step<E: Engine, R: Source, W: Sink, M: Sink>(
     ensures running { OnOk result (E.is_open engine.new) }
     ensures drained { OnOk result (E.ready engine.new ≡ []) }
     ensures counted { OnOk result (IsWithinLimit (reading input.new)) }
-    ensures farther { IfOk result (λ o. IfSome o (λ _. ((reading input.old).passed < (reading input.new).passed)
+    ensures farther { IfOk result (λ o. IfSome o (λ _.
+        ((reading input.old).passed < (reading input.new).passed)
         × ((reading input.new).passed ≤ INPUT_LIMIT))) }
     ensures goes { (r0 : R) (w0 : W) (m0 : M) (lines : List InputLine) → E.shows engine.old lines []
         → IsRunning

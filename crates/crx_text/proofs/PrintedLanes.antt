@@ -16,7 +16,8 @@ use Rattle.crx_text.proofs.LaneBits.{fourteen, sixteen, no_bit, top_lane}
 
 -- the three digits in the bytes of one lane
 abbrev small_word : ℕ → ℕ
-small_word g = (g + (g * 205 % 2 ^ 32 / 2 ^ 11 + g * 41 % 2 ^ 32 / 2 ^ 12 * 2 ^ 8 % 2 ^ 32) % 2 ^ 32 * 246 % 2 ^ 32) % 2 ^ 32
+small_word g = (g + (g * 205 % 2 ^ 32 / 2 ^ 11 + g * 41 % 2 ^ 32 / 2 ^ 12 * 2 ^ 8 % 2 ^ 32) % 2 ^ 32
+    * 246 % 2 ^ 32) % 2 ^ 32
 
 abbrev pub group_word : ℕ → ℕ
 group_word g = small_word (bit_and g 1023)

@@ -96,8 +96,8 @@ fn size(columns: u8x16) -> u64
 #[inline(always)]
 pub(crate) fn of_groups(groups: u32x4) -> u64
     requires { Each1 (λ group. group < 2 ^ 16) groups }
-    ensures { result ≡ ((slice_index groups 0 * 1000 + slice_index groups 1) * 1000 + slice_index groups 2) * 1000
-        + slice_index groups 3 }
+    ensures { result ≡ ((slice_index groups 0 * 1000 + slice_index groups 1) * 1000 + slice_index groups 2)
+        * 1000 + slice_index groups 3 }
 {
     let pairs = u64x2::from_le_bytes(groups.to_le_bytes());
     let first = pairs & u64x2::splat(0xffff_ffff);

@@ -47,7 +47,8 @@ lines-within fed =
     omega (arith, ap length all, length-append (ended_lines_of fed) (lines_of first.0), few-lines first.0 first.1)
 
 -- memory ran out at a line of more kinds
-line-weaker : (filter : Filter) (P Q : ℕ → Type 0) (result : FilterResult) (reader : Reader) (outcome : Outcome) (past : HandlePast)
+line-weaker : (filter : Filter) (P Q : ℕ → Type 0) (result : FilterResult) (reader : Reader)
+    (outcome : Outcome) (past : HandlePast)
     → ((n : ℕ) → P n → Q n) → RunIsOutOfMemory filter P result reader outcome past
     → RunIsOutOfMemory filter Q result reader outcome past
 line-weaker filter P Q result reader outcome past weaker ran = record {

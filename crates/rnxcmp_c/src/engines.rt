@@ -28,14 +28,17 @@ pub enum AnyEngine {
 pub(crate) fn take_any(engine: &mut AnyEngine, held: &mut Held, bytes: &[u8]) -> Result<(), At>
     requires drained { ready_of engine.old ≡ [] }
     requires running { is_open_of engine.old }
-    requires going { (past : HandlePast) × IsGoing (engine_filter engine.old) (shows_of engine.old) held.old past
+    requires going { (past : HandlePast) × IsGoing (engine_filter engine.old)
+        (shows_of engine.old) held.old past
         × (length past.fed + length bytes.now ≤ INPUT_LIMIT) }
     ensures of { (task : Task) → IsOf task engine.old → IsOf task engine.new }
     ensures running { OnOk result (is_open_of engine.new) }
     ensures drained { OnOk result (ready_of engine.new ≡ []) }
-    ensures going { (past : HandlePast) → IsGoing (engine_filter engine.old) (shows_of engine.old) held.old past
-        → OnOk result (IsGoing (engine_filter engine.new) (shows_of engine.new) held.new (fed_with past bytes.now)) }
-    ensures breaks { (past : HandlePast) → IsGoing (engine_filter engine.old) (shows_of engine.old) held.old past
+    ensures going { (past : HandlePast) → IsGoing (engine_filter engine.old)
+        (shows_of engine.old) held.old past → OnOk result
+        (IsGoing (engine_filter engine.new) (shows_of engine.new) held.new (fed_with past bytes.now)) }
+    ensures breaks { (past : HandlePast) → IsGoing (engine_filter engine.old)
+        (shows_of engine.old) held.old past
         → IfErr result (λ at. Breaks (engine_filter engine.old) held.new (fed_with past bytes.now) at) }
 {
     match engine {
@@ -49,14 +52,18 @@ pub(crate) fn take_any(engine: &mut AnyEngine, held: &mut Held, bytes: &[u8]) ->
 pub(crate) fn end_any(engine: &mut AnyEngine, held: &mut Held) -> Result<(), At>
     requires drained { ready_of engine.old ≡ [] }
     requires running { is_open_of engine.old }
-    requires going { (past : HandlePast) × IsGoing (engine_filter engine.old) (shows_of engine.old) held.old past
+    requires going { (past : HandlePast) × IsGoing (engine_filter engine.old)
+        (shows_of engine.old) held.old past
         × (length past.fed ≤ INPUT_LIMIT) }
     ensures of { (task : Task) → IsOf task engine.old → IsOf task engine.new }
-    ensures ended { (past : HandlePast) → IsGoing (engine_filter engine.old) (shows_of engine.old) held.old past
+    ensures ended { (past : HandlePast) → IsGoing (engine_filter engine.old)
+        (shows_of engine.old) held.old past
         → OnOk result (has_ended_of engine.new (lines_of past.fed)) }
-    ensures done { (past : HandlePast) → IsGoing (engine_filter engine.old) (shows_of engine.old) held.old past
+    ensures done { (past : HandlePast) → IsGoing (engine_filter engine.old)
+        (shows_of engine.old) held.old past
         → OnOk result (IsAll ((engine_filter engine.old).whole (lines_of past.fed)) held.new past) }
-    ensures fails { (past : HandlePast) → IsGoing (engine_filter engine.old) (shows_of engine.old) held.old past
+    ensures fails { (past : HandlePast) → IsGoing (engine_filter engine.old)
+        (shows_of engine.old) held.old past
         → IfErr result (λ at. LineFails (engine_filter engine.old) held.new past at) }
 {
     match engine {

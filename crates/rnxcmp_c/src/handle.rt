@@ -69,7 +69,8 @@ fn put_in(handle: &mut Handle, reader: Box<Reader>)
 
 /// Opens a closed handle for a run of this engine.
 fn open(alloc: Global, handle: &mut Handle, engine: AnyEngine) -> Answer
-    ensures opened { (task : Task) → IsFresh task engine → result.status ≡ 0 → HandleStands task handle.new nothing_fed }
+    ensures opened { (task : Task) → IsFresh task engine → result.status ≡ 0
+        → HandleStands task handle.new nothing_fed }
     ensures answer { (result ≡ bare_answer 0 0 0) ⊎ (result ≡ bare_answer 1 0 (code_of_fault OutOfMemory)) }
     ensures unchanged { (result.status ≡ 0 → ⊥) → IsUnchanged handle.old handle.new }
 {
@@ -210,11 +211,13 @@ pub extern "C" fn rnxcmp_c_take(
     requires { IsSoundHandle handle.old }
     ensures closed { handle.old.is_open ≡ false → IsMisused result × IsUnchanged handle.old handle.new
         × (output.new ≡ output.old) × (messages.new ≡ messages.old) }
-    ensures output { handle.old.is_open ≡ true → output.new ≡ placed (output_kept handle.old.place.held) output.old }
+    ensures output { handle.old.is_open ≡ true
+        → output.new ≡ placed (output_kept handle.old.place.held) output.old }
     ensures messages { handle.old.is_open ≡ true
         → messages.new ≡ placed (messages_kept handle.old.place.held) messages.old }
     ensures answer { handle.old.is_open ≡ true → AnswersHandle handle.new result }
-    ensures same { handle.old.is_open ≡ true → (reader : Reader) → Holds handle.old reader → EndedAlike reader handle.new }
+    ensures same { handle.old.is_open ≡ true → (reader : Reader) → Holds handle.old reader
+        → EndedAlike reader handle.new }
     ensures stands { (task : Task) (past : HandlePast) → HandleStands task handle.old past
         → HandleStands task handle.new (taken_with past (take (length output.old) (output_kept handle.old.place.held))
         (take (length messages.old) (messages_kept handle.old.place.held))) }

@@ -64,7 +64,8 @@ impl Reader {
     /// Takes the end of the input.
     pub(crate) fn end(&mut self)
         requires { (task : Task) × (past : HandlePast) × ReaderRuns task self.old past }
-        ensures { (task : Task) (past : HandlePast) → ReaderRuns task self.old past → ReaderHasEnded task self.new past }
+        ensures { (task : Task) (past : HandlePast) → ReaderRuns task self.old past
+            → ReaderHasEnded task self.new past }
     {
         match end_any(&mut self.engine, &mut self.held) {
             Ok(()) => {
@@ -122,7 +123,8 @@ impl Reader {
     /// Takes the end of the input, if its run goes on.
     pub(crate) fn take_end(&mut self) -> Answer
         requires { (task : Task) × (past : HandlePast) × ReaderStands task self.old past }
-        ensures { (task : Task) (past : HandlePast) → ReaderStands task self.old past → Ends task self.old self.new past result }
+        ensures { (task : Task) (past : HandlePast) → ReaderStands task self.old past
+            → Ends task self.old self.new past result }
     {
         if self.outcome.is_some() {
             return misused();
@@ -137,7 +139,8 @@ impl Reader {
         ensures messages { messages.new ≡ placed self.old.held.messages.bytes.items messages.old }
         ensures answer { result ≡ answer_now self.new }
         ensures same { self.new.outcome ≡ self.old.outcome }
-        ensures stands { (task : Task) (past : HandlePast) → ReaderStands task self.old past → ReaderStands task self.new (taken_with past
+        ensures stands { (task : Task) (past : HandlePast) → ReaderStands task self.old past
+            → ReaderStands task self.new (taken_with past
             (take (length output.old) self.old.held.output.bytes.items)
             (take (length messages.old) self.old.held.messages.bytes.items)) }
     {

@@ -112,7 +112,8 @@ read_rows-held : (before : Tail) (line : List ℕ) (satellites : List Satellite)
     ≡ after_lines 2 (rows_placed (held_begun before line satellites) (held_clock before cell) [] p)
 read_rows-held before line satellites cell tail lines (Here rows n) h =
     grind (arith, held-same before line satellites cell rows tail h)
-read_rows-held before line satellites cell tail lines (Wrong n q) h = ap {B = Place HeldEpoch} (λ k. Wrong k q) (omega arith)
+read_rows-held before line satellites cell tail lines (Wrong n q) h =
+    ap {B = Place HeldEpoch} (λ k. Wrong k q) (omega arith)
 read_rows-held before line satellites cell tail lines Wanted h = refl
 
 clock-steps : (before : Tail) (line : List ℕ) (satellites : List Satellite) (tail : Option Tail) (lines : List ReadLine)

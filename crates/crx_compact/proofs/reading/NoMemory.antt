@@ -57,7 +57,8 @@ cell-none malformed value m h (Some code) =
     and-then-none {Y = ReadCell} (value code) (λ v. Ok (record { code = code; value = v })) (h code) (λ v e. cc)
 
 cells-none : (value : ℕ → Code → Result (Option ℤ) Fault)
-    → ((place : ℕ) (code : Code) → NoMemory (value place code)) → (texts : List (List ℕ)) → NoMemory (cells_read value texts)
+    → ((place : ℕ) (code : Code) → NoMemory (value place code)) → (texts : List (List ℕ))
+    → NoMemory (cells_read value texts)
 cells-none value h [] = λ e. cc
 cells-none value h (text ∷ texts) =
     and-then-none (cell_read BadField (value 0) (code_of text))
@@ -81,7 +82,8 @@ no-memory-at-row before s line fault e out =
     by_marks cells true = λ e. cc
     by_marks cells false = λ e. cc
 
-    by_start : (b : Bool) → NoMemory {X = ReadRow} (if b then Err Truncated else row_of_line (past_of_tail before) s line)
+    by_start : (b : Bool) → NoMemory {X = ReadRow}
+        (if b then Err Truncated else row_of_line (past_of_tail before) s line)
     by_start true = λ e. cc
     by_start false =
         and-then-none (cells_read ((past_of_tail before).value s.name) (cells_of s.count line))

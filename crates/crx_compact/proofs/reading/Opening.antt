@@ -133,7 +133,8 @@ gone-same : (before : Tail) (text : List ℕ)
       awaited = other_awaited;
     }) clock rows awaited
 gone-same before text one_clock one_rows one_awaited other_clock other_rows other_awaited clock rows [] = refl
-gone-same before text one_clock one_rows one_awaited other_clock other_rows other_awaited clock rows (s ∷ awaited) = refl
+gone-same before text one_clock one_rows one_awaited other_clock other_rows other_awaited clock rows
+    (s ∷ awaited) = refl
 
 -- ---- the clock line
 
@@ -180,7 +181,8 @@ pub no-rows : (next left : Tail)
 no-rows next left satellites announced rows same = (
   record {
     head = refl;
-    announced = subst (λ (text : List ℕ). AreAnnounced text satellites) (sym (ap (λ (t : Tail). t.text) same)) announced;
+    announced = subst (λ (text : List ℕ). AreAnnounced text satellites)
+        (sym (ap (λ (t : Tail). t.text) same)) announced;
     counted = refl;
     named = refl;
     sized = refl;

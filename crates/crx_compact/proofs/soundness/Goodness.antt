@@ -155,7 +155,8 @@ typed-parts types name count h = grind arith
 
 pub row-sound : (types : List Count) (block : List RawEpoch) (satellite : Satellite) (read : ReadRow)
     → AreCounts types → AllByRecursion HasPrintableMarks block
-    → IsKnown types satellite → RowFacts (past_of_block block) satellite read → IsSoundRow read.row × HasItsTypes types read.row
+    → IsKnown types satellite → RowFacts (past_of_block block) satellite read → IsSoundRow read.row
+    × HasItsTypes types read.row
 row-sound types block satellite read counts printable known h =
     let name = satellite.name in
     let values = map (λ (c : ReadCell). c.value) h.cells in

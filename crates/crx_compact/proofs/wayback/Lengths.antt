@@ -71,7 +71,8 @@ within-length j (negsuc n) some few h =
 -- a code of an arc whose values fit so many columns: a first value has two characters before it, and a difference one
 -- digit more than a value
 pub code-length : (j : ℕ) (xs : List ℤ)
-    → 0 < j → j + 2 ≤ DIGITS_LIMIT → doubled WRITTEN_ORDER (10 ^ (j + 1)) < 10 ^ (j + 2) → AllByRecursion (IsWithin (j + 2)) xs
+    → 0 < j → j + 2 ≤ DIGITS_LIMIT → doubled WRITTEN_ORDER (10 ^ (j + 1)) < 10 ^ (j + 2)
+    → AllByRecursion (IsWithin (j + 2)) xs
     → length (code_text (code_at WRITTEN_ORDER xs)) ≤ j + 3
 code-length j [] some few h all = omega arith
 code-length j (x ∷ []) some few h all =

@@ -102,7 +102,8 @@ text-columns types e h =
     ∙ at-without_end_blanks (epoch_text e) p ∙ text-head types e h p less)
 
 text-good : (types : List Count) (e : Epoch)
-    → IsWholeEpoch types e → satellites_of_text types (without_end_blanks (epoch_text e)) ≡ Ok (satellites_of_rows e.rows)
+    → IsWholeEpoch types e → satellites_of_text types (without_end_blanks (epoch_text e))
+    ≡ Ok (satellites_of_rows e.rows)
 text-good types e h =
     let text = without_end_blanks (epoch_text e) in
     let count = ap epoch_count (text-columns types e h) ∙ head-counted types e h in

@@ -128,7 +128,8 @@ lines-stand types full e older h =
     let others : AllByRecursion (λ (line : List ℕ). begins_epoch line ≡ false) (text ∷ lines) =
     (text-other text clock, lines-each (λ line. begins_epoch line ≡ false) types ms (row-begins types) h e.rows rows) in
     let first = difference-printable (if full then [] else newest_text older) (epoch_text e) (text-kept types e h.0) in
-    let printable = lines-each (λ line. list_all is_printable line ≡ true) types ms (row-printable types) h e.rows rows in
+    let printable = lines-each (λ line. list_all is_printable line ≡ true) types ms
+    (row-printable types) h e.rows rows in
     let no_event = all-from (λ (line : List ℕ). is_event_line line ≡ false)
     (λ line begins. ap (λ b. b && is_event_flag (character_at line 32)) begins) (text ∷ lines) others in
     record {

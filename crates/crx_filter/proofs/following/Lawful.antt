@@ -34,7 +34,8 @@ pub compaction-lawful : (choices : Choices) → IsLawful (compaction_filter choi
 compaction-lawful choices = record {
   nothing = refl;
   decided =
-      λ (lines more : List InputLine) (at : At) (e : fault_of_stop (rinex_reading choices.skip (map seen lines)).stop ≡ Some at).
+      λ (lines more : List InputLine) (at : At) (e : fault_of_stop
+      (rinex_reading choices.skip (map seen lines)).stop ≡ Some at).
       let s = rinex-stays choices.skip (map seen lines) (map seen more) at e in
       ap (λ (ls : List ReadLine). whole_course (compact_unit choices) (whole_rinex choices.skip ls)) (both lines more)
       ∙ ap (λ (w : WholeReading Epoch). whole_course (compact_unit choices) w) s.ended
@@ -56,7 +57,8 @@ pub expansion-lawful : (choices : Choices) → IsLawful (expansion_filter choice
 expansion-lawful choices = record {
   nothing = refl;
   decided =
-      λ (lines more : List InputLine) (at : At) (e : fault_of_stop (compact_reading choices.skip (map seen lines)).stop ≡ Some at).
+      λ (lines more : List InputLine) (at : At) (e : fault_of_stop
+      (compact_reading choices.skip (map seen lines)).stop ≡ Some at).
       let s = compact-stays choices.skip (map seen lines) (map seen more) at e in
       ap (λ (ls : List ReadLine). whole_course expanded_unit (whole_compact choices.skip ls)) (both lines more)
       ∙ ap (λ (w : WholeReading ReadEpoch). whole_course expanded_unit w) s.ended

@@ -201,7 +201,12 @@ module _ {E U O K : Type 0} {beginning : List (Item E) → List ReadLine → Pla
           let is_one : failed_step direction seen line fault
           ≡ record { answer = Notice at true; handed_out = []; next = looking } =
           failed-skipped direction seen line fault skipped
-          ∙ ap (λ (b : Bool). record { answer = Notice at b; handed_out = []; next = after_warning direction seen b }) both in
+          ∙ ap (λ (b : Bool). record {
+            answer = Notice at b;
+            handed_out = [];
+            next = after_warning direction
+                seen b;
+          }) both in
           let kept_then : direction.emptied kept ≡ kept_of (Warned at ∷ items) =
           emptied-same h items kept keeps ∙ h.warned items at in
           let made_then : Made U O = direction.begins (types_in_force items) (kept_of (Warned at ∷ items))

@@ -159,7 +159,8 @@ module _ {E U O K : Type 0} {beginning : List (Item E) → List ReadLine → Pla
       (open_with items rest) ended left_is ∙ ap (λ o. phase_in_body 0 (records_count_types items) o) open_is in
       by_line line (subst (λ p. taken_in items line p ≡ true) phase e)
     where
-      by_line : (l : ReadLine) → taken_in items l (InEpoch so_far) ≡ true → line_takes (place h) takes items rest l ≡ true
+      by_line : (l : ReadLine) → taken_in items l (InEpoch so_far) ≡ true
+          → line_takes (place h) takes items rest l ≡ true
       by_line Overlong e = false-true e
       by_line (Content content) e =
           ap (place_takes takes items (length rest))

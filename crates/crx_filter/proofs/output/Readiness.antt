@@ -18,7 +18,8 @@ use Rattle.std.specs.Prelude.{Option}
 
 step-ready : {U O K : Type 0} (direction : Direction U O K) → ((seen : Seen O K) (unit : FileUnit U)
     → has_lines (direction.written seen unit) ≡ true) → (seen : Seen O K) (line : ReadLine) (made : Made U O)
-    → is_ready (step_of_made direction seen line made).answer ≡ has_lines (step_of_made direction seen line made).handed_out
+    → is_ready (step_of_made direction seen line made).answer
+    ≡ has_lines (step_of_made direction seen line made).handed_out
 step-ready direction some seen line (Completes unit) = sym (some seen unit)
 step-ready direction some seen line (Moves phase) = refl
 step-ready direction some seen line (Repeats at) = refl

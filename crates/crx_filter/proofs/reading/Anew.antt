@@ -284,7 +284,8 @@ module _ (skip : Bool) (units : ℕ) (ih : IsAnew skip units)
   anew-line line lines e begins anew =
       let all : List ReadLine = Content line ∷ lines in
       let one : compact_place a all ≡ compact_beginning a all = body-place compact_beginning a all h.one e in
-      let two : compact_place b all ≡ compact_beginning b all = body-place compact_beginning b all h.two (sym h.left ∙ e) in
+      let two : compact_place b all ≡ compact_beginning b all =
+      body-place compact_beginning b all h.two (sym h.left ∙ e) in
       by_bool (is_event_line line)
       (λ on. alike-step all (one_line (event_line line)) (one ∙ rw on refl) (two ∙ rw on refl)
       (anew-event line lines (records_in line) refl (rw on at anew)))

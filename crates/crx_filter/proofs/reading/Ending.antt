@@ -43,7 +43,13 @@ ends-same direction unit_lines choices items count phase types kept None same =
     record { once = refl; handed_out = refl; written = refl; warned = refl; failed = refl }
 ends-same {E = E} {K = K} direction unit_lines choices items count phase types kept (Some fault) same =
     by_bool (is_skipped_in (seen_in choices count phase types kept) fault)
-    (λ on. rw (same fault ∙ on, on) (record { once = refl; handed_out = refl; written = refl; warned = refl; failed = refl }))
+    (λ on. rw (same fault ∙ on, on) (record {
+      once = refl;
+      handed_out = refl;
+      written = refl;
+      warned = refl;
+      failed = refl;
+    }))
     (λ off. rw (same fault ∙ off, off)
     (record { once = refl; handed_out = refl; written = refl; warned = refl; failed = refl }))
 

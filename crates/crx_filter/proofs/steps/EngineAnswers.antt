@@ -35,7 +35,8 @@ use Rattle.crx_filter.proofs.following.Following.{fed-once as feeds-once, fed-tw
 pub record FollowsBy (filter : Filter) {O K : Type 0}
     (lines : List InputLine) (line : InputLine) (seen_then : Seen O K) (line_fed : Fed O K) : Type 0 where
   pub next : seen_then ≡ line_fed.next
-  pub output : (filter.so_far (with_next lines line)).output ≡ (filter.so_far lines).output ++ lines_text line_fed.handed_out
+  pub output : (filter.so_far (with_next lines line)).output ≡ (filter.so_far lines).output
+      ++ lines_text line_fed.handed_out
   pub warnings : (filter.so_far (with_next lines line)).warnings
       ≡ (filter.so_far lines).warnings ++ reverse line_fed.warned
   pub fault : (filter.so_far (with_next lines line)).fault ≡ line_fed.failed
@@ -122,7 +123,8 @@ pub comes-again : {U O K : Type 0}
     → record { answer = Notice at true; handed_out = handed_out; next = next } ≡ seen_next direction before line
     → ComesAgain before next line
 comes-again direction before next line at handed_out e =
-    again-by-made direction before next line at handed_out (made_in direction before.phase before.types before.kept line) e
+    again-by-made direction before next line at handed_out
+    (made_in direction before.phase before.types before.kept line) e
 
 -- ---- one answer
 
@@ -139,7 +141,8 @@ module _ {U O K : Type 0} {direction : Direction U O K} {seen_after : List ReadL
   -- only a step that is ready hands out lines
   quiet-handed_out : (before : Seen O K) (line : ReadLine) (step : SeenStep O K)
       → step ≡ seen_next direction before line → is_ready step.answer ≡ false → step.handed_out ≡ []
-  quiet-handed_out before line step e quiet = none-handed_out step.handed_out (ap (λ (s : SeenStep O K). has_lines s.handed_out) e
+  quiet-handed_out before line step e quiet = none-handed_out step.handed_out
+      (ap (λ (s : SeenStep O K). has_lines s.handed_out) e
       ∙ sym (goes.ready before line) ∙ ap (λ (s : SeenStep O K). is_ready s.answer) (sym e) ∙ quiet)
 
   -- ---- a line that is fed once, or comes a second time
@@ -218,7 +221,8 @@ module _ {U O K : Type 0} {direction : Direction U O K} {seen_after : List ReadL
         let two = seen_next direction now (seen line) in
         let h = follows-fed (fed_twice step two) (fed-again first (seen line) step e refl) in (
           showing lines (record { notice = notice; line = line } ∷ []) (ap
-              (λ (ls : List (List ℕ)). record { answer = Notice notice true; handed_out = ls; next = now }) (sym none) ∙ e),
+              (λ (ls : List (List ℕ)). record { answer = Notice notice true; handed_out = ls; next = now })
+              (sym none) ∙ e),
           refl,
           (
             reverse (noticed_by two.answer),
@@ -270,7 +274,8 @@ module _ {U O K : Type 0} {direction : Direction U O K} {seen_after : List ReadL
             (quiet-handed_out before (seen line) (step_made (Ok (Warned next false)) ready now) s refl) refl refl
         answers (Err at) twice s =
             inr (ends-with (fed_twice step (step_made (Err at) ready now))
-            (notice ∷ []) at twice (quiet-handed_out before (seen line) (step_made (Err at) ready now) s refl) refl refl)
+            (notice ∷ []) at twice (quiet-handed_out before (seen line)
+            (step_made (Err at) ready now) s refl) refl refl)
 
     -- memory ran out, the first time or the second
     ran-out : (shows : List InputLine → List Awaited

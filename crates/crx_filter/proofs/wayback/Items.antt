@@ -131,7 +131,8 @@ unit-here every before (EventLine line) h =
     ∙ (h.0).0) (left-same (known_back every) before h.1 ∙ (h.0).1)
     ∙ event-begins (types_in_force (read_back every before)) (raws_kept (read_back every before)) line (h.0).2 (h.0).3
 unit-here every before (EventRecord line) h =
-    record-here compact_beginning (read_back every before) line (records_left before) (header-same (known_back every) before
+    record-here compact_beginning (read_back every before) line (records_left before)
+    (header-same (known_back every) before
     ∙ (h.0).0) (left-same (known_back every) before h.1) (h.0).1
     (ap (λ b. cond b (types_fault line) None) (count-same (known_back every) before h.1 (h.0).1) ∙ (h.0).2)
 unit-here every before (Observation epoch) h =

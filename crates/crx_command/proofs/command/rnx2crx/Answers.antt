@@ -7,7 +7,8 @@ use Rattle.crx_command.proofs.command.rnx2crx.Goals as goal
 pub returns : goal.returns
 returns c =
     let start : app_of c.override_usage.result ≡ new_app (codes "rnx2crx") = search rules in
-    let every = one_more _ _ _ _ _ c.in_ok-start.ensures c.every_option.ensures.local start c.every_option.ensures.rule in
+    let every = one_more _ _ _ _ _ c.in_ok-start.ensures c.every_option.ensures.local start
+    c.every_option.ensures.rule in
     let flags = flags_more _ _ _ c.in_ok-with_flags.ensures every in
     let date = one_more _ _ _ _ _ c.in_ok-arg.ensures c.date_option.ensures.local flags c.date_option.ensures.rule in
     IfOk-weaker c.arg-3.result _ _ (λ r h. ap (λ (a : App). a.top)

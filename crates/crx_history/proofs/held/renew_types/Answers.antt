@@ -11,6 +11,7 @@ returns-clause-held c =
     let none : List ℕ = [] in
     let items : c.resize.new.self.items ≡ take (2 * n) none ++ replicate (2 * n - length none) 32 = search rules in
     let nothing : take (2 * n) none ≡ none = take-nil (2 * n) in
-    subst AreHeldFlags (sym (items ∙ ap (λ (t : List ℕ). take (2 * n) none ++ replicate (2 * n - length t) 32) (sym nothing)
+    subst AreHeldFlags (sym (items ∙ ap (λ (t : List ℕ). take (2 * n) none ++ replicate (2 * n - length t) 32)
+    (sym nothing)
     ∙ sym (columns_are none 1 (2 * n))))
     (columns-held n none c.requires.allowed (record { within = omega arith; kept = refl }))

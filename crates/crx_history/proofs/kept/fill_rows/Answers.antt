@@ -17,8 +17,16 @@ loop-place-preserved c =
     c.index-satellites-place.is)
     (c.in_ok-resize.ensures ∙ c.count.ensures.value) c.loop-place.invariant.1 in
     let few = c.in_ok-make_room.ensures.few SATELLITES_LIMIT c.loop-place.invariant.2
-    (omega (arith, c.loop-place-test.true, c.requires.awaited)) in
-    (more.0, more.1, omega (arith, few, length-set c.make_room.new.satellites.items c.loop-place.place c.resize.new.self))
+    (omega (arith, c.loop-place-test.true, c.requires.awaited)) in (
+      more.0,
+      more.1,
+      omega (
+        arith,
+        few,
+        length-set c.make_room.new.satellites.items c.loop-place.place
+            c.resize.new.self,
+      ),
+    )
 
 pub returns-clause-rows : goal.returns-clause-rows
 returns-clause-rows c =
@@ -31,4 +39,5 @@ returns-in_err-make_room-clause-rows c =
 
 pub returns-in_err-resize-clause-rows : goal.returns-in_err-resize-clause-rows
 returns-in_err-resize-clause-rows c =
-    let p = err_from_is_err_and c.from_residual-in_err-resize.result c.from_residual-in_err-resize.ensures.1 in no-ok _ _ _ p.1
+    let p = err_from_is_err_and c.from_residual-in_err-resize.result c.from_residual-in_err-resize.ensures.1
+    in no-ok _ _ _ p.1

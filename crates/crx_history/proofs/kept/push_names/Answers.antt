@@ -89,8 +89,10 @@ next-place at start index count long len cap is there whole same kept small =
 pub overflow_add-at : goal.overflow_add-at
 overflow_add-at c =
     let text = c.loop-row.text in
-    next-place c.loop-row.at c.len-start.result c.loop-row.index (length c.args.epoch.now.rows) (length text.items) text.len text.cap
-    c.loop-row.invariant.0 (some-there c.args.epoch.now.rows c.loop-row.index c.in-Some.row.now (sym c.in-Some.ensures.value))
+    next-place c.loop-row.at c.len-start.result c.loop-row.index (length c.args.epoch.now.rows)
+    (length text.items) text.len text.cap
+    c.loop-row.invariant.0 (some-there c.args.epoch.now.rows c.loop-row.index c.in-Some.row.now
+    (sym c.in-Some.ensures.value))
     c.loop-row.invariant.1 text.ok.0 text.ok.1 text.small
 
 pub loop-row-smaller : goal.loop-row-smaller

@@ -66,7 +66,8 @@ loop-place-preserved c =
       named-more c.args.types.now (names_in text c.args.count) place found.0 (found.0 ++ satellite ∷ []) name count.0
           found.1 (next-name text c.args.count place name c.loop-place-test.true c.identifier-name.ensures)
           (sym c.types_of_satellite.ensures.value ∙ count.1)
-          (stands text place name found.0 false found.2 (sym c.is_among_first.ensures ∙ c.if-is_among_first.false)) refl,
+          (stands text place name found.0 false found.2
+          (sym c.is_among_first.ensures ∙ c.if-is_among_first.false)) refl,
       each_place-more place (λ k. columns text (42 + 3 * k) 3)
           ∙ ap (λ (ns : List (List ℕ)). ns ++ columns text (42 + 3 * place) 3 ∷ []) found.2
           ∙ ap (λ (n : List ℕ). map (λ (s : Satellite). s.name) found.0 ++ n ∷ []) (sym c.identifier-name.ensures)

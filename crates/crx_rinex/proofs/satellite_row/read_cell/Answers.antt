@@ -20,7 +20,8 @@ returns-then-line-start-clause-flags c =
     let flags = c.args.flags.now in
     let k : ℕ = c.args.k in
     let past = c.if-line-start.true in
-    let lock : 32 ≡ character_at line (16 * k + 18) = sym (get_or_past line (16 * k + 18 - 1) 32 (omega (arith, past))) in
+    let lock : 32 ≡ character_at line (16 * k + 18) =
+    sym (get_or_past line (16 * k + 18 - 1) 32 (omega (arith, past))) in
     let strength : 32 ≡ character_at line (16 * k + 19) =
     sym (get_or_past line (16 * k + 19 - 1) 32 (omega (arith, past))) in
     ap (λ x. slice_set (slice_set flags (2 * k) x) (2 * k + 1) 32) lock

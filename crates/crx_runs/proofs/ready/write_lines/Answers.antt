@@ -18,7 +18,8 @@ returns-in-Err-clause-part g c =
     ∙ ap (λ (ls : List (List ℕ)). so_far.0 ++ lines_text ls) (first-and-rest lines line c.in-Some.ensures.value)
     ∙ ap (λ (t : List ℕ). so_far.0 ++ t) (append_assoc line (10 ∷ []) (lines_text (drop 1 lines))) in
     let n = c.in-Err.field-0-0 in
-    let part = part-written all so_far.0 line ((10 ∷ []) ++ lines_text (drop 1 lines)) n whole c.in-Err.ensures.short in (
+    let part = part-written all so_far.0 line ((10 ∷ [])
+    ++ lines_text (drop 1 lines)) n whole c.in-Err.ensures.short in (
       length so_far.0 + n,
       part.0,
       subst (λ (t : List ℕ). g.W.Sink.took old t then)
@@ -49,7 +50,8 @@ returns-in-Err-write_all_counted-clause-part g c =
       length written + n,
       part.0,
       subst (λ (t : List ℕ). g.W.Sink.took old t then) (sym part.1)
-          (g.met.W.Sink.took_both old mid then written (take n (10 ∷ [])) first c.in-Err-write_all_counted.ensures.part),
+          (g.met.W.Sink.took_both old mid then written
+          (take n (10 ∷ [])) first c.in-Err-write_all_counted.ensures.part),
     )
 
 pub loop-line-preserved : goal.loop-line-preserved

@@ -176,7 +176,8 @@ returns-in_ok-take_overlong-in-LineTooLong-clause-goes g c = λ r0 w0 m0 (lines 
     running line number read (g.E.Engine.shows c.take_overlong.new.engine) _
     (c.in_ok-take_overlong-in-LineTooLong.ensures.done lines line shown taken)
 
-pub returns-in_err-take_overlong-in-LineTooLong-clause-stops : goal.returns-in_err-take_overlong-in-LineTooLong-clause-stops
+pub returns-in_err-take_overlong-in-LineTooLong-clause-stops :
+    goal.returns-in_err-take_overlong-in-LineTooLong-clause-stops
 returns-in_err-take_overlong-in-LineTooLong-clause-stops g c = λ r0 w0 m0 (lines : List InputLine) shown running.
     let filter = g.E.Engine.filter c.args.engine.now in
     let r1 = c.args.reader.now in

@@ -12,5 +12,6 @@ returns-in-Some-clause-opened c = λ (task : Task) fresh zero.
       is_open = c.put_in.ensures.opened;
       holds = c.put_in.ensures.reader;
       stands = subst (λ (r : Reader). ReaderStands task r nothing_fed) (sym c.in-Some.ensures)
-          (fresh-stands task c.args.engine c.new.result fresh held.tail held.number held.warned held.output held.messages);
+          (fresh-stands task c.args.engine c.new.result fresh held.tail held.number held.warned held.output
+          held.messages);
     }

@@ -31,7 +31,8 @@ returns-clause-sound c = λ is_open.
     let same = one-held c.args.handle.now.place.held sound.2.reader c.deref_mut.result.now sound.2.holds
     (c.take_out-reader.ensures.reader ∙ ap (λ (r : Reader). r ∷ []) (sym c.deref_mut.ensures.value)) in
     let stands = subst (λ (r : Reader). ReaderStands task r past) same sound.2.stands in
-    let then = feeds-stands task c.deref_mut.result.now c.take_in-answer.new.self past c.args.bytes.now c.take_in-answer.result
+    let then = feeds-stands task c.deref_mut.result.now c.take_in-answer.new.self past c.args.bytes.now
+    c.take_in-answer.result
     c.deref_mut.result.now.outcome stands (c.take_in-answer.ensures task past stands) in (
       task,
       then.0,

@@ -11,10 +11,15 @@ use Rattle.rnxcmp_c.proofs.handle.rnxcmp_c_open_compact.Goals as goal
 pub returns-in-Ok-new-clause-opened : goal.returns-in-Ok-new-clause-opened
 returns-in-Ok-new-clause-opened c =
     let seen = c.in-Ok-new.ensures.seen in
-    let same : (compactor_seen c.in-Ok-new.compactor).choices ≡ c.in-Ok.options = ap (λ (s : Seen OpenEpoch Written). s.choices) seen in
+    let same : (compactor_seen c.in-Ok-new.compactor).choices ≡ c.in-Ok.options =
+    ap (λ (s : Seen OpenEpoch Written). s.choices) seen in
     c.open.ensures.opened (Compact _) (record {
       is_of = ap compaction_filter (same ∙ c.in-Ok.ensures.0);
       drained = c.in-Ok-new.ensures.drained;
       takes = tt;
-      shown = (seen ∙ ap (λ (o : Choices). compaction_seen o []) (sym same), ap (λ (s : Seen OpenEpoch Written). s.number) seen);
+      shown = (
+        seen ∙ ap (λ (o : Choices). compaction_seen o []) (sym same),
+        ap
+            (λ (s : Seen OpenEpoch Written). s.number) seen,
+      );
     })

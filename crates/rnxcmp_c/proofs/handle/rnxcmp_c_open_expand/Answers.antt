@@ -11,13 +11,18 @@ use Rattle.rnxcmp_c.proofs.handle.rnxcmp_c_open_expand.Goals as goal
 pub returns-in-Ok-clause-opened : goal.returns-in-Ok-clause-opened
 returns-in-Ok-clause-opened c = λ zero.
     let seen = c.in-Ok.ensures.seen in
-    let same : c.in-Ok.expander.options ≡ c.expansion_options.result = ap (λ (s : Seen OpenRawEpoch (Option Tail)). s.choices) seen in (
+    let same : c.in-Ok.expander.options ≡ c.expansion_options.result =
+    ap (λ (s : Seen OpenRawEpoch (Option Tail)). s.choices) seen in (
       c.expansion_options.result,
       c.expansion_options.ensures,
       c.open.ensures.opened (Expand c.expansion_options.result) (record {
         is_of = ap expansion_filter same;
         drained = c.in-Ok.ensures.drained;
         takes = tt;
-        shown = (seen ∙ ap (λ (o : Choices). expansion_seen o []) (sym same), ap (λ (s : Seen OpenRawEpoch (Option Tail)). s.number) seen);
+        shown = (
+          seen ∙ ap (λ (o : Choices). expansion_seen o []) (sym same),
+          ap
+              (λ (s : Seen OpenRawEpoch (Option Tail)). s.number) seen,
+        );
       }) zero,
     )

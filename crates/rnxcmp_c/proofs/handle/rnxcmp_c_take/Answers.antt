@@ -20,7 +20,8 @@ returns-clause-output c = λ is_open.
 pub returns-clause-messages : goal.returns-clause-messages
 returns-clause-messages c = λ is_open.
     let holds = c.take_out-reader.ensures.reader ∙ ap (λ (r : Reader). r ∷ []) (sym c.deref_mut.ensures.value) in
-    c.hand_out-answer.ensures.messages ∙ ap (λ (l : List Reader). placed (messages_kept l) c.args.messages.now) (sym holds)
+    c.hand_out-answer.ensures.messages ∙ ap (λ (l : List Reader). placed
+    (messages_kept l) c.args.messages.now) (sym holds)
 
 pub returns-clause-answer : goal.returns-clause-answer
 returns-clause-answer c = λ is_open. record {
@@ -36,7 +37,8 @@ returns-clause-same c = λ is_open (before : Reader) held.
       reader = c.hand_out-answer.new.self;
       holds = c.put_in.ensures.reader;
       outcome = c.hand_out-answer.ensures.same
-          ∙ ap (λ (r : Reader). r.outcome) (one-held c.args.handle.now.place.held c.deref_mut.result.now before holds held);
+          ∙ ap (λ (r : Reader). r.outcome) (one-held c.args.handle.now.place.held c.deref_mut.result.now
+          before holds held);
     }
 
 pub returns-clause-stands : goal.returns-clause-stands
@@ -48,9 +50,11 @@ returns-clause-stands c = λ (task : Task) (past : HandlePast) stands.
       reader = new;
       is_open = c.put_in.ensures.opened;
       holds = c.put_in.ensures.reader;
-      stands = subst (λ (l : List Reader). ReaderStands task new (taken_with past (take (length c.args.output.now) (output_kept l))
+      stands = subst (λ (l : List Reader). ReaderStands task new
+          (taken_with past (take (length c.args.output.now) (output_kept l))
           (take (length c.args.messages.now) (messages_kept l)))) (sym holds)
-          (c.hand_out-answer.ensures.stands task past (subst (λ (r : Reader). ReaderStands task r past) same stands.stands));
+          (c.hand_out-answer.ensures.stands task past
+          (subst (λ (r : Reader). ReaderStands task r past) same stands.stands));
     }
 
 pub returns-clause-sound : goal.returns-clause-sound
@@ -66,6 +70,7 @@ returns-clause-sound c = λ is_open.
         reader = c.hand_out-answer.new.self;
         is_open = c.put_in.ensures.opened;
         holds = c.put_in.ensures.reader;
-        stands = c.hand_out-answer.ensures.stands task past (subst (λ (r : Reader). ReaderStands task r past) same sound.2.stands);
+        stands = c.hand_out-answer.ensures.stands task past
+            (subst (λ (r : Reader). ReaderStands task r past) same sound.2.stands);
       },
     )

@@ -15,7 +15,8 @@ returns-in_err-encode-clause-err c =
 
 pub returns-in_err-place_names-clause-err : goal.returns-in_err-place_names-clause-err
 returns-in_err-place_names-clause-err c =
-    let p = err_from_is_err_and c.from_residual-in_err-place_names.result c.from_residual-in_err-place_names.ensures.1 in
+    let p = err_from_is_err_and c.from_residual-in_err-place_names.result
+    c.from_residual-in_err-place_names.ensures.1 in
     rw p.1 c.self.view_is
 
 pub invariant_of-self-2 : goal.invariant_of-self-2
@@ -42,7 +43,8 @@ returns-clause-kept c =
       | else-self w ↦ rw w.if-self.false (w.stands_after-is ∙ w.if-self.false)
     ] in
     let none : self.incoming ≡ None =
-    state-idle (if self.is_kept then Some self.kept else None) _ self.incoming (ap is_idle c.self.view_is ∙ c.requires.idle) in
+    state-idle (if self.is_kept then Some self.kept else None) _ self.incoming
+    (ap is_idle c.self.view_is ∙ c.requires.idle) in
     ap {B = ColumnsState} (λ (o : Option OpenLines). columns_state (Some kept)
     (if self.goes_on then kept else self.nothing) o) none
     ∙ ap {B = ColumnsState} (λ (t : Tail). Idle (Some t)) (c.swap.ensures.x_after

@@ -16,7 +16,8 @@ invariant_of-self-in-Ok-read_epoch_line c =
       subst (λ (t : List ℕ). AreAnnounced t satellites) (sym (ap (λ (t : Tail). t.text) c.make_rows.ensures.others))
           (announced c.args.types.now c.args.before.now c.if-not-is_roomy.self-inside.next c.read_epoch_line.new.self
           c.args.line.now satellites c.in-Ok-read_epoch_line.ensures.ok c.in-Ok-read_epoch_line.ensures.text),
-      subst (λ (ss : List Satellite). HaveRows ss c.make_rows.new.self.rows) c.as_slice.ensures.value c.in-Ok-make_rows.ensures.rows,
+      subst (λ (ss : List Satellite). HaveRows ss c.make_rows.new.self.rows) c.as_slice.ensures.value
+          c.in-Ok-make_rows.ensures.rows,
     )
 
 -- what goes on from a good result is good

@@ -25,7 +25,8 @@ returns-in_default-clause-ok c =
     ap {B = Option Satellite} (λ (ss : List Satellite). slice_get ss self.count) (sym c.as_slice.ensures.value)
     ∙ sym c.in_default.ensures in
     ap {B = RawStep} (λ (o : Option OpenLines). step_after c.args.before.now o c.args.line.now) (sym state)
-    ∙ all-taken c.args.before.now self.next c.args.line.now self.count self.satellites (shown_epoch self.next self.count) none
+    ∙ all-taken c.args.before.now self.next c.args.line.now self.count self.satellites
+    (shown_epoch self.next self.count) none
     ∙ ap {B = RawStep} (λ (o : Option OpenLines). made_of c.args.before.now o) state
 
 pub next_row-requires-clause-room : goal.next_row-requires-clause-room
@@ -47,7 +48,8 @@ invariant_of-self-in-Ok c =
     subst (λ (s : Stage). AreLinesSoFar s c.next_row.new.next (self.count + 1) self.satellites
     × HaveRowsAt s c.next_row.new.next self.satellites) (sym c.in-Rows.is) (
       rows-more c.args.before.now self.next c.next_row.new.next c.args.line.now self.count
-          self.satellites (shown_epoch self.next self.count) (shown_epoch c.next_row.new.next (self.count + 1)) c.in-Some.satellite.now rows here
+          self.satellites (shown_epoch self.next self.count)
+          (shown_epoch c.next_row.new.next (self.count + 1)) c.in-Some.satellite.now rows here
           (row-shown c.args.before.now self.next c.next_row.new.next c.args.line.now self.count
           c.in-Some.satellite.now c.in-Ok.ensures.ok),
       subst (λ (rows : List RowTail). HaveRows self.satellites rows) (sym c.in-Ok.ensures.ok.others)
@@ -67,7 +69,8 @@ returns-in-Ok-clause-ok c =
     (sym c.in-Rows.is) ∙ c.self.view_is in
     ap {B = RawStep} (λ (o : Option OpenLines). step_after c.args.before.now o c.args.line.now) (sym state)
     ∙ row-taken c.args.before.now self.next c.next_row.new.next c.args.line.now self.count
-    self.satellites (shown_epoch self.next self.count) (shown_epoch c.next_row.new.next (self.count + 1)) c.in-Some.satellite.now rows here
+    self.satellites (shown_epoch self.next self.count)
+    (shown_epoch c.next_row.new.next (self.count + 1)) c.in-Some.satellite.now rows here
     (row-shown c.args.before.now self.next c.next_row.new.next c.args.line.now self.count
     c.in-Some.satellite.now c.in-Ok.ensures.ok)
     ∙ ap {B = RawStep} (λ (s : Stage). made_of c.args.before.now (lines_so_far s c.next_row.new.next (self.count + 1)

@@ -14,7 +14,8 @@ invariant_of-self-2 c = (
   λ yes.
       let counts = by_ok c.hold.result c.if-is_err.ensures.negation c.hold.ensures.counts in
       let identifiers = by_ok c.hold.result c.if-is_err.ensures.negation c.hold.ensures.identifiers in
-      let read = by_ok c.read_satellites-answer.result (sym c.is_ok-self-inside.ensures.value ∙ yes) c.read_satellites-answer.ensures.ok in (
+      let read = by_ok c.read_satellites-answer.result
+      (sym c.is_ok-self-inside.ensures.value ∙ yes) c.read_satellites-answer.ensures.ok in (
         c.args.text.now,
         sym c.after_columns-rest.ensures ∙ sym identifiers,
         ap (λ (ts : List Count). satellites_of_text ts c.args.text.now) counts ∙ read,

@@ -23,7 +23,8 @@ returns-clause-line c =
     let end = c.print_cells-end.ensures.end in
     let same = c.put_identifier.auto.bytes in
     let same' = c.print_cells-end.auto.bytes in
-    let written : LineWritten c.print_cells-end.new.bytes c.args.bytes.now name cells c.args.at c.print_cells-end.result =
+    let written : LineWritten c.print_cells-end.new.bytes c.args.bytes.now name cells c.args.at
+    c.print_cells-end.result =
     line-written _ _ _ _ _ _ (c.print_cells-end.ensures.cells
     ∙ ap (λ (t : List ℕ). t ++ cells) c.put_identifier.ensures)
     (omega (arith, room, seen, count, end, same, same')) (omega (arith, room)) in
@@ -32,7 +33,8 @@ returns-clause-line c =
     without_end_blanks (name ++ cells_shown arcs c.deref-2.result.now)) c.deref.ensures.value
     ∙ ap (λ (flags : List ℕ). without_end_blanks
     (name ++ cells_shown c.self.inside.arcs.items flags)) c.deref-2.ensures.value
-    ∙ ap (λ (flags : List ℕ). without_end_blanks (name ++ printed_cells (map shown_value c.self.inside.arcs.items) flags))
+    ∙ ap (λ (flags : List ℕ). without_end_blanks
+    (name ++ printed_cells (map shown_value c.self.inside.arcs.items) flags))
     (sym (columns-trimmed (2 * length c.self.inside.arcs.items) c.self.inside.flags.items))
     ∙ ap (λ (tail : RowTail). printed_row (shown_row tail)) c.self.view_is in
     ap (λ (t : List ℕ). take (c.args.at + length t) c.print_cells-end.new.bytes) trimmed ∙ written.is
@@ -48,7 +50,8 @@ returns-clause-within c =
     let end = c.print_cells-end.ensures.end in
     let same = c.put_identifier.auto.bytes in
     let same' = c.print_cells-end.auto.bytes in
-    let written : LineWritten c.print_cells-end.new.bytes c.args.bytes.now name cells c.args.at c.print_cells-end.result =
+    let written : LineWritten c.print_cells-end.new.bytes c.args.bytes.now name cells c.args.at
+    c.print_cells-end.result =
     line-written _ _ _ _ _ _ (c.print_cells-end.ensures.cells
     ∙ ap (λ (t : List ℕ). t ++ cells) c.put_identifier.ensures)
     (omega (arith, room, seen, count, end, same, same')) (omega (arith, room)) in

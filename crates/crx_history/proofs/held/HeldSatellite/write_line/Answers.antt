@@ -21,7 +21,8 @@ returns-clause-line c =
     let same' = c.put_text-end.auto.bytes in
     let put : take c.write_cells-end.result c.write_cells-end.new.bytes ≡ take c.args.at c.args.bytes.now ++ cells =
     c.write_cells-end.ensures.written
-    ∙ ap (λ (vs : List (Option ℤ)). take c.args.at c.args.bytes.now ++ flat_map cell_text (codes_of_cells c.args.arcs.now vs))
+    ∙ ap (λ (vs : List (Option ℤ)). take c.args.at c.args.bytes.now
+    ++ flat_map cell_text (codes_of_cells c.args.arcs.now vs))
     c.values.ensures.value in
     let written : LineWritten c.put_text-end.new.bytes c.args.bytes.now cells marks c.args.at c.put_text-end.result =
     line-written _ _ _ _ _ _ (c.put_text-end.ensures.put ∙ ap (λ (t : List ℕ). t ++ marks) put)
@@ -41,7 +42,8 @@ returns-clause-within c =
     let same' = c.put_text-end.auto.bytes in
     let put : take c.write_cells-end.result c.write_cells-end.new.bytes ≡ take c.args.at c.args.bytes.now ++ cells =
     c.write_cells-end.ensures.written
-    ∙ ap (λ (vs : List (Option ℤ)). take c.args.at c.args.bytes.now ++ flat_map cell_text (codes_of_cells c.args.arcs.now vs))
+    ∙ ap (λ (vs : List (Option ℤ)). take c.args.at c.args.bytes.now
+    ++ flat_map cell_text (codes_of_cells c.args.arcs.now vs))
     c.values.ensures.value in
     let written : LineWritten c.put_text-end.new.bytes c.args.bytes.now cells marks c.args.at c.put_text-end.result =
     line-written _ _ _ _ _ _ (c.put_text-end.ensures.put ∙ ap (λ (t : List ℕ). t ++ marks) put)

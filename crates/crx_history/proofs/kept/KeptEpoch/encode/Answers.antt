@@ -92,24 +92,30 @@ returns-in_err-renew_text-clause-lines c =
 
 pub returns-in_err-push_change-clause-after : goal.returns-in_err-push_change-clause-after
 returns-in_err-push_change-clause-after c =
-    let p = err_from_is_err_and c.from_residual-in_err-push_change.result c.from_residual-in_err-push_change.ensures.1 in no-ok _ _ _ p.1
+    let p = err_from_is_err_and c.from_residual-in_err-push_change.result
+    c.from_residual-in_err-push_change.ensures.1 in no-ok _ _ _ p.1
 
 pub returns-in_err-push_change-clause-lines : goal.returns-in_err-push_change-clause-lines
 returns-in_err-push_change-clause-lines c =
-    let p = err_from_is_err_and c.from_residual-in_err-push_change.result c.from_residual-in_err-push_change.ensures.1 in no-ok _ _ _ p.1
+    let p = err_from_is_err_and c.from_residual-in_err-push_change.result
+    c.from_residual-in_err-push_change.ensures.1 in no-ok _ _ _ p.1
 
 pub returns-in_err-push_code-clause-after : goal.returns-in_err-push_code-clause-after
 returns-in_err-push_code-clause-after c =
-    let p = err_from_is_err_and c.from_residual-in_err-push_code.result c.from_residual-in_err-push_code.ensures.1 in no-ok _ _ _ p.1
+    let p = err_from_is_err_and c.from_residual-in_err-push_code.result
+    c.from_residual-in_err-push_code.ensures.1 in no-ok _ _ _ p.1
 
 pub returns-in_err-push_code-clause-lines : goal.returns-in_err-push_code-clause-lines
 returns-in_err-push_code-clause-lines c =
-    let p = err_from_is_err_and c.from_residual-in_err-push_code.result c.from_residual-in_err-push_code.ensures.1 in no-ok _ _ _ p.1
+    let p = err_from_is_err_and c.from_residual-in_err-push_code.result
+    c.from_residual-in_err-push_code.ensures.1 in no-ok _ _ _ p.1
 
 pub returns-in_err-encode_rows-clause-after : goal.returns-in_err-encode_rows-clause-after
 returns-in_err-encode_rows-clause-after c =
-    let p = err_from_is_err_and c.from_residual-in_err-encode_rows.result c.from_residual-in_err-encode_rows.ensures.1 in no-ok _ _ _ p.1
+    let p = err_from_is_err_and c.from_residual-in_err-encode_rows.result
+    c.from_residual-in_err-encode_rows.ensures.1 in no-ok _ _ _ p.1
 
 pub returns-in_err-encode_rows-clause-lines : goal.returns-in_err-encode_rows-clause-lines
 returns-in_err-encode_rows-clause-lines c =
-    let p = err_from_is_err_and c.from_residual-in_err-encode_rows.result c.from_residual-in_err-encode_rows.ensures.1 in no-ok _ _ _ p.1
+    let p = err_from_is_err_and c.from_residual-in_err-encode_rows.result
+    c.from_residual-in_err-encode_rows.ensures.1 in no-ok _ _ _ p.1

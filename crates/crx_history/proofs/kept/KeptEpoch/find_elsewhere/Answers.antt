@@ -17,7 +17,8 @@ pub returns-in-None : goal.returns-in-None
 returns-in-None c =
     c.find-in-None.ensures
     ∙ ap {B = Option RowTail} (λ (rows : List RowTail). named (λ (row : RowTail). row.name) c.args.name rows)
-    (take_all (length c.deref-in-None.result.now - c.self.inside.apart) (drop c.self.inside.apart c.deref-in-None.result.now)
+    (take_all (length c.deref-in-None.result.now - c.self.inside.apart)
+    (drop c.self.inside.apart c.deref-in-None.result.now)
     (omega (arith, length-drop c.self.inside.apart c.deref-in-None.result.now)))
     ∙ ap {B = Option RowTail} (λ (rows : List RowTail).
     named (λ (row : RowTail). row.name) c.args.name (drop c.self.inside.apart rows)) c.deref-in-None.ensures.value

@@ -12,5 +12,6 @@ returns-clause-ok c =
       cell = cell;
       read = search rules;
       left = search rules;
-      shown = ap shown_value c.in_ok-apply.ensures.ok ∙ shown-code CLOCK_WIDTH c.in-Ok.code _ _ (sym c.in_ok-apply.ensures.value);
+      shown = ap shown_value c.in_ok-apply.ensures.ok
+          ∙ shown-code CLOCK_WIDTH c.in-Ok.code _ _ (sym c.in_ok-apply.ensures.value);
     }

@@ -31,14 +31,16 @@ next n m h = omega (arith, h)
 pub invariant_of-self-2 : goal.invariant_of-self-2
 invariant_of-self-2 c =
     let inside = c.self.inside in
-    let next_line = line-there inside.lengths.items inside.bytes.items inside.filled inside.handed_out inside.handed_out_bytes
+    let next_line = line-there inside.lengths.items inside.bytes.items inside.filled inside.handed_out
+    inside.handed_out_bytes
     c.index.result.now _ _ c.self.invariant c.if-self-len.false c.len.ensures inside.lengths.ok.0 c.index.ensures in
     (next_line.still, c.self.invariant.1)
 
 pub returns : goal.returns
 returns c =
     let inside = c.self.inside in
-    let next_line = line-there inside.lengths.items inside.bytes.items inside.filled inside.handed_out inside.handed_out_bytes
+    let next_line = line-there inside.lengths.items inside.bytes.items inside.filled inside.handed_out
+    inside.handed_out_bytes
     c.index.result.now _ _ c.self.invariant c.if-self-len.false c.len.ensures inside.lengths.ok.0 c.index.ensures in
     rw (← c.self.view_is, c.deref.ensures.value) (
       (refl, λ _. tt, next_line.left),
@@ -52,17 +54,21 @@ returns c =
 pub overflow_add-end : goal.overflow_add-end
 overflow_add-end c =
     let inside = c.self.inside in
-    let next_line = line-there inside.lengths.items inside.bytes.items inside.filled inside.handed_out inside.handed_out_bytes
+    let next_line = line-there inside.lengths.items inside.bytes.items inside.filled inside.handed_out
+    inside.handed_out_bytes
     c.index.result.now _ _ c.self.invariant c.if-self-len.false c.len.ensures inside.lengths.ok.0 c.index.ensures in
-    held-within _ inside.filled (length inside.bytes.items) inside.bytes.len inside.bytes.cap (less _ _ next_line.within)
+    held-within _ inside.filled (length inside.bytes.items) inside.bytes.len inside.bytes.cap
+    (less _ _ next_line.within)
     c.self.invariant.1 inside.bytes.ok.0 inside.bytes.ok.1 inside.bytes.small
 
 pub overflow_add-self-2 : goal.overflow_add-self-2
 overflow_add-self-2 c =
     let inside = c.self.inside in
-    let next_line = line-there inside.lengths.items inside.bytes.items inside.filled inside.handed_out inside.handed_out_bytes
+    let next_line = line-there inside.lengths.items inside.bytes.items inside.filled inside.handed_out
+    inside.handed_out_bytes
     c.index.result.now _ _ c.self.invariant c.if-self-len.false c.len.ensures inside.lengths.ok.0 c.index.ensures in
-    held-within _ inside.filled (length inside.bytes.items) inside.bytes.len inside.bytes.cap (next _ _ next_line.within)
+    held-within _ inside.filled (length inside.bytes.items) inside.bytes.len inside.bytes.cap
+    (next _ _ next_line.within)
     c.self.invariant.1 inside.bytes.ok.0 inside.bytes.ok.1 inside.bytes.small
 
 pub returns-then-self-len : goal.returns-then-self-len
@@ -70,7 +76,8 @@ returns-then-self-len c =
     let inside = c.self.inside in
     let none : c.args.self.now ≡ [] =
     sym c.self.view_is ∙ ap (λ (counts : List ℕ). cut counts (drop inside.handed_out_bytes
-    (take inside.filled inside.bytes.items))) (drop_of_length-le inside.lengths.items (all-out _ _ _ _ c.if-self-len.true c.len.ensures inside.lengths.ok.0)) in (
+    (take inside.filled inside.bytes.items))) (drop_of_length-le inside.lengths.items
+    (all-out _ _ _ _ c.if-self-len.true c.len.ensures inside.lengths.ok.0)) in (
       (refl, λ _. tt, c.self.view_is ∙ none ∙ sym (ap (drop 1) none)),
       record {
         value = sym (ap {B = Option (List ℕ)} (λ (lines : List (List ℕ)). slice_get lines 0) none);

@@ -39,7 +39,8 @@ returns-then-place-gt-LINE_LIMIT-clause-answers g c =
       (
         piece_at s.front held len true,
         takes gave held held 0 0 0 len at_end s true
-            (inside, feed) (inr refl) (reading old) after (len + 1) refl refl now (omega arith) (let limit = old.limit in
+            (inside, feed) (inr refl) (reading old) after (len + 1) refl refl now (omega arith)
+            (let limit = old.limit in
             omega (arith, limit)) refl c.requires,
         content-long gave held held 0 0 0 len at_end s true content
             (c.content-place.ensures.value ∙ ap (λ w. without_return (take len (kept w))) c.deref-2.ensures)
@@ -82,7 +83,8 @@ returns-clause-answers g c =
       (
         piece_at s.front held len true,
         takes gave held held 0 0 0 len at_end s true
-            (inside, feed) (inr refl) (reading old) after (len + 1) refl refl now (omega arith) (let limit = old.limit in
+            (inside, feed) (inr refl) (reading old) after (len + 1) refl refl now (omega arith)
+            (let limit = old.limit in
             omega (arith, limit)) refl c.requires,
         shown-line s.front
             (take len held) (slice_range c.pass.new.self.bytes.items place.from place.to) true place.has_return

@@ -25,7 +25,8 @@ invariant_of-self g c =
     let over = λ (e : c.in-Err.fault ≡ InputTooLong).
     let found = c.in-Err.ensures.over (ap Err e) in
     let sum = Seeking-sum _ (kept c.deref_mut.result.now) held _ _ found.1 (length held) found.2 in
-    let bound : old.passed + length held ≤ INPUT_LIMIT = omega (arith, sum, ap length same, ap length shown, old.limit) in
+    let bound : old.passed + length held ≤ INPUT_LIMIT =
+    omega (arith, sum, ap length same, ap length shown, old.limit) in
     bound in
     let failed = λ (e : c.in-Err.fault ≡ ReadFailed).
     let found = c.in-Err.ensures.failed (ap Err e) in
@@ -76,7 +77,8 @@ returns-then-is_nothing-clause-answers g c =
     × at_end = subst (λ b. EndIs held found.len b at_end) none.2 c.in-Ok.ensures.end in
     let facts = nothing gave start held _ _ _ _ at_end s none.0 none.1 end.0 in
     let asked = g.R.Source.ends c.args.reader.now in
-    let now : List ℕ → ReaderState = λ l. record { rest = l; passed = old.passed; number = old.number; phase = Ended } in (
+    let now : List ℕ → ReaderState = λ l. record
+    { rest = l; passed = old.passed; number = old.number; phase = Ended } in (
       s.given,
       s.lead,
       (
@@ -99,8 +101,10 @@ pass-requires g c =
     let found = c.in-Ok.found in
     let held = kept c.seek.new.window in
     let within : c.held-held.result ≤ length held =
-    held-within (λ given. g.R.Source.gave c.args.reader.now given c.seek.new.reader) (kept c.deref_mut.result.now) held _
-    c.in-Ok.ensures.ok.0 found.passed found.len (g.R.Source.at_end c.seek.new.reader) c.in-Ok.ensures.ok.1 found.is_ended
+    held-within (λ given. g.R.Source.gave c.args.reader.now given c.seek.new.reader)
+    (kept c.deref_mut.result.now) held _
+    c.in-Ok.ensures.ok.0 found.passed found.len
+    (g.R.Source.at_end c.seek.new.reader) c.in-Ok.ensures.ok.1 found.is_ended
     c.held-held.result c.in-Ok.ensures.end c.held-held.ensures in
     omega (arith, within, ap (λ w. length (kept w)) c.deref_mut-2.ensures.value)
 
@@ -201,7 +205,8 @@ returns-then-is_over-clause-answers g c =
             found.passed found.len at_end s found.is_ended c.in-Ok.ensures.end some (reading old) _ c.held-held.result
             (sym same) c.held-held.ensures now refl (omega (arith, limit)) refl c.phase_after-self.ensures,
         content-long
-            gave start held _ taken found.passed found.len at_end s found.is_ended content (c.content-place.ensures.value
+            gave start held _ taken found.passed found.len at_end s found.is_ended content
+            (c.content-place.ensures.value
             ∙ ap (λ w. without_return (take found.len (kept w))) c.deref-2.ensures)
             over,
         refl,

@@ -71,7 +71,8 @@ invariant_of-self-then-self-len c =
         names-long names c.put.new.self count c.name.result c.self.invariant.3 next,
         omega (arith, within, grown),
         names-next names c.put.new.self rows c.put_row.new.rows.items count c.args.row
-            c.name.result c.name.ensures.value c.self.invariant.4 next (put ∙ take_more_set rows count c.args.row within),
+            c.name.result c.name.ensures.value c.self.invariant.4 next
+            (put ∙ take_more_set rows count c.args.row within),
       ),
     )
 
@@ -130,7 +131,8 @@ invariant_of-self-2 c =
       rows = take count rows;
     }) names rows count c.args.row.name c.name.result false c.name.ensures.value
     refl c.self.invariant.4 (c.in-Ok-true.ensures.new ∙ ap not c.in-Ok-true.field-0-test) in
-    let room : count < SATELLITES_LIMIT = room-left head.head head.clock rows count c.self.invariant.0 c.self.invariant.1 (ap is_full_epoch c.self.view_is ∙ c.requires) in
+    let room : count < SATELLITES_LIMIT = room-left head.head head.clock rows count c.self.invariant.0
+    c.self.invariant.1 (ap is_full_epoch c.self.view_is ∙ c.requires) in
     let all = pushed rows count c.args.row long in
     rw c.in_default.ensures.items (
       sound-pushed head.head head.clock rows count c.args.row c.self.invariant.0 long c.name.ensures.sound

@@ -31,7 +31,8 @@ same : (c : goal.After-self-2-1) → c.read_known.new.self.name
     ≡ (get_or c.self.inside.rows.items c.self.inside.count c.index_mut-row.result.now).name
 same c = c.read_known.ensures.name ∙ ap (λ (r : Row). r.name) c.index_mut-row.ensures.value
 
-new : (c : goal.After-self-2-1) → has_satellite c.read_known.new.self.name (take c.self.inside.count c.self.inside.rows.items) ≡ false
+new : (c : goal.After-self-2-1) → has_satellite c.read_known.new.self.name
+    (take c.self.inside.count c.self.inside.rows.items) ≡ false
 new c =
     known-new c.self.inside.known c.self.inside.names c.self.inside.rows.items c.self.inside.count
     c.read_known.new.self c.index_mut-row.result.now c.self.invariant.8 (here c) (same c) c.self.invariant.4
@@ -79,7 +80,8 @@ returns-clause-sound c =
     let head = c.self.inside.head in
     let rows = c.self.inside.rows.items in
     let count : ℕ = c.self.inside.count in
-    sound-put head.head head.clock rows count c.read_known.new.self c.self.invariant.0 (within c) c.read_known.ensures.sound
+    sound-put head.head head.clock rows count c.read_known.new.self c.self.invariant.0
+    (within c) c.read_known.ensures.sound
     (not-full head rows count c.count.result c.self.invariant.2 (within c) c.count.ensures.value
     (omega (arith, c.if-place-count.false))) (new c)
 
@@ -100,7 +102,8 @@ read_known-requires c =
     let here : count < c.self.inside.known = omega (arith, c.if-place-self.false) in
     c.if-not-is_of.ensures
     ∙ ap (λ (r : Row). r.name) (c.index.ensures
-    ∙ get_or_default rows count c.index.result.now c.index_mut-row.result.now (omega (arith, here, c.self.invariant.8.1))
+    ∙ get_or_default rows count c.index.result.now c.index_mut-row.result.now
+    (omega (arith, here, c.self.invariant.8.1))
     ∙ sym c.index_mut-row.ensures.value)
 
 pub returns-in_default-clause-same : goal.returns-in_default-clause-same

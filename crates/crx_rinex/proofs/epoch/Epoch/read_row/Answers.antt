@@ -24,7 +24,8 @@ same : (c : goal.After-self-then-is_of-1) → c.read_known.new.self.name
     ≡ (get_or c.self.inside.rows.items c.self.inside.count c.index_mut-row.result.now).name
 same c = c.read_known.ensures.name ∙ ap (λ (r : Row). r.name) c.index_mut-row.ensures.value
 
-new : (c : goal.After-self-then-is_of-1) → has_satellite c.read_known.new.self.name (take c.self.inside.count c.self.inside.rows.items) ≡ false
+new : (c : goal.After-self-then-is_of-1) → has_satellite c.read_known.new.self.name
+    (take c.self.inside.count c.self.inside.rows.items) ≡ false
 new c =
     known-new c.self.inside.known c.self.inside.names c.self.inside.rows.items c.self.inside.count
     c.read_known.new.self c.index_mut-row.result.now c.self.invariant.8 (here c) (same c) c.self.invariant.4
@@ -78,12 +79,14 @@ returns-in_err-read_known-clause-refused c =
     let old = c.index_mut-row.result.now in
     let name : columns c.args.line.now 1 NAME_WIDTH ≡ row.name = c.if-is_of.ensures
     ∙ ap (λ (r : Row). r.name) (c.index.ensures
-    ∙ get_or_default rows count first old (omega (arith, here, c.self.invariant.8.1)) ∙ sym c.index_mut-row.ensures.value)
+    ∙ get_or_default rows count first old (omega (arith, here, c.self.invariant.8.1))
+    ∙ sym c.index_mut-row.ensures.value)
     ∙ sym c.read_known.ensures.name in
     let other : has_satellite (columns c.args.line.now 1 NAME_WIDTH) c.args.self.now.rows ≡ false =
     ap (λ (n : List ℕ). has_satellite n c.args.self.now.rows) name
     ∙ ap (λ (e : Epoch). has_satellite row.name e.rows) (sym c.self.view_is)
-    ∙ known-new c.self.inside.known c.self.inside.names rows count row c.index_mut-row.result.now c.self.invariant.8 here same
+    ∙ known-new c.self.inside.known c.self.inside.names rows count row c.index_mut-row.result.now
+    c.self.invariant.8 here same
     c.self.invariant.4 c.each_stands_once.ensures in
     let p = err_from_is_err_and c.from_residual.result c.from_residual.ensures.1 in
     rw (p.1, p.2) (elim (c.in_err-read_known.ensures.refused) [
@@ -141,5 +144,6 @@ read_known-requires c =
     let here : count < c.self.inside.known = omega (arith, c.if-self.true) in
     c.if-is_of.ensures
     ∙ ap (λ (r : Row). r.name) (c.index.ensures
-    ∙ get_or_default rows count c.index.result.now c.index_mut-row.result.now (omega (arith, here, c.self.invariant.8.1))
+    ∙ get_or_default rows count c.index.result.now c.index_mut-row.result.now
+    (omega (arith, here, c.self.invariant.8.1))
     ∙ sym c.index_mut-row.ensures.value)

@@ -11,7 +11,8 @@ before c = record { name = c.self.inside.name; values = c.self.inside.values.ite
 
 -- the indicators are those that were given, and blanks
 whole : (c : goal.After-self-1)
-    → take c.self.inside.flags.len (c.put_flags.new.held ++ drop (length c.put_flags.new.held) c.self.inside.flags.items)
+    → take c.self.inside.flags.len (c.put_flags.new.held
+    ++ drop (length c.put_flags.new.held) c.self.inside.flags.items)
     ≡ c.args.flags.now ++ replicate (2 * length (before c).values - length c.args.flags.now) 32
 whole c =
     let held = c.put_flags.new.held in

@@ -30,5 +30,6 @@ empty_spec 𝓤 𝓛 𝓜 𝓡 wired =
     sets ! (agg ! (and_then ! (lit ! tt) (no_more !))) refl (tt, (record { fits = lit< tt }, tt)) $
     returns ! (look_at ! 0 refl) $ free_all ! refl $
     nothing ! $ place_in ! null_ptr [] $ let held : List Reader = [] in
-    use0 𝓛 (raw (fact 𝓤 (held ≡ []))) (fact_i 𝓤 (held ≡ []) (emp 𝓤) refl) $ nothing ! $ nothing ! $ keep ! (0 ∷ 1 ∷ 3 ∷ 2 ∷ []) $
+    use0 𝓛 (raw (fact 𝓤 (held ≡ []))) (fact_i 𝓤 (held ≡ []) (emp 𝓤) refl) $ nothing ! $ nothing ! $ keep !
+    (0 ∷ 1 ∷ 3 ∷ 2 ∷ []) $
     by ! (leaves 𝓛 ended tt c z (word null_ptr) (record { at = null_ptr; held = [] }) tt tt)))
