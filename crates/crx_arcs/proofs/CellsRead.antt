@@ -3,8 +3,8 @@ use Rattle.std.specs.Prelude.{◌≡◌, ◌≤◌, ◌<◌, refl, ℕ, suc, ◌
 use Rattle.std.specs.Prelude.{drop, slice_index_or, slice_set, Bool, true, false, Option, Some, None, Result, Ok, Err, if◌then◌else◌}
 use Rattle.std.proofs.Common.{sym, ◌∙◌, ap, arith, length-append, true≢false}
 use Rattle.std.proofs.lemmas.List.{drop-drop, length-drop, length-map, length-set, take_more_set, map-append}
-use Rattle.crx_arcs.specs.meaning.Codes.{code_of, first_cell, after_cell}
-use Rattle.crx_arcs.specs.declared.code.Code.{Code}
+use Rattle.crx_text.specs.meaning.Codes.{code_of, first_cell, after_cell}
+use Rattle.crx_text.specs.declared.code.Code.{Code}
 use Rattle.crx_faults.specs.declared.fault.Fault.{Fault}
 use Rattle.crx_faults.specs.declared.fault.Fault.TheVariants.{BadField, OutOfRange}
 use Rattle.crx_arcs.specs.meaning.Sequences.{and_then, before_all}
@@ -13,7 +13,7 @@ use Rattle.crx_arcs.specs.ArcTails.{ArcTail}
 use Rattle.crx_arcs.specs.ArcSteps.{arc_after_number, arc_of_code, value_of_code, value_of_tail}
 use Rattle.crx_arcs.specs.ArcSteps.{shown_value}
 use Rattle.crx_arcs.specs.meaning.ArcValues.{in_range, is_within}
-use Rattle.crx_arcs.specs.declared.code.Code.TheVariants.{Missing, Start, Step}
+use Rattle.crx_text.specs.declared.code.Code.TheVariants.{Missing, Start, Step}
 use Rattle.crx_faults.specs.declared.limits.TheConstants.{OBSERVATION_WIDTH}
 use Rattle.crx_arcs.specs.Cells.{value_at_place, arcs_of_codes, CellsAreRead, IsCellRead}
 

@@ -1,9 +1,4 @@
 pub mod arcs
-pub mod CellNumbers
 pub mod CellsRead
-pub mod CodeReads
-pub mod CodeTexts
-pub mod DigitPairs
-pub mod DigitRows
 pub mod PlaceByPlace
 pub mod SameTexts

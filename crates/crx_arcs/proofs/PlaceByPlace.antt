@@ -3,7 +3,7 @@ use Rattle.std.specs.Prelude.{◌≡◌, ◌≤◌, ◌<◌, ℕ, zero, suc, ◌
 use Rattle.std.specs.Prelude.{slice_index_or, Option, Some, None, refl, ◌*◌, map, drop, replicate, take}
 use Rattle.std.proofs.Common.{sym, ◌∙◌, ap, arith, append_assoc, not-suc-le-zero, le_of_suc-le-suc}
 use Rattle.std.proofs.lemmas.List.{flat_map_more, length-map}
-use Rattle.crx_arcs.specs.declared.code.Code.{Code}
+use Rattle.crx_text.specs.declared.code.Code.{Code}
 use Rattle.crx_columns.specs.meaning.EachPlace.{each_place}
 use Rattle.std.proofs.lemmas.Option.{same_Some, slice_get_within}
 use Rattle.crx_arcs.specs.ArcTails.{ArcTail}

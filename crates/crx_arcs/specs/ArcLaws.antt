@@ -1,7 +1,7 @@
 -- Laws of arcs: their codes by their values, and their values by their codes.
 use Rattle.std.specs.Prelude.{◌≡◌, ℕ, ℤ, List, [], ◌∷◌, Option, Some, None, if◌then◌else◌}
 use Rattle.std.specs.Option.{option_map}
-use Rattle.crx_arcs.specs.declared.code.Code.{Code}
+use Rattle.crx_text.specs.declared.code.Code.{Code}
 use Rattle.crx_faults.specs.declared.limits.TheConstants.{WRITTEN_ORDER}
 use Rattle.crx_arcs.specs.meaning.Differences.{code_at, value_at}
 use Rattle.crx_arcs.specs.meaning.ArcValues.{Started, since_start, value_of}

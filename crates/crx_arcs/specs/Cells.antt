@@ -1,12 +1,12 @@
 -- The cells of a satellite line after the arcs of its satellite in the epoch before.
 use Rattle.std.specs.Prelude.{◌≡◌, ◌≤◌, ℕ, ℤ, List, length, map, drop, slice_index_or, slice_set, Option, Some, None}
 use Rattle.std.specs.Prelude.{Result, Ok}
-use Rattle.crx_arcs.specs.meaning.Codes.{code_of, first_cell, after_cell}
+use Rattle.crx_text.specs.meaning.Codes.{code_of, first_cell, after_cell}
 use Rattle.crx_faults.specs.declared.limits.TheConstants.{OBSERVATION_WIDTH}
-use Rattle.crx_arcs.specs.declared.code.Code.TheVariants.{Missing}
+use Rattle.crx_text.specs.declared.code.Code.TheVariants.{Missing}
 use Rattle.crx_faults.specs.declared.fault.Fault.{Fault}
 use Rattle.crx_arcs.specs.meaning.Cells.{ReadCell, cells_read, cells_of, after_cells}
-use Rattle.crx_arcs.specs.declared.code.Code.{Code}
+use Rattle.crx_text.specs.declared.code.Code.{Code}
 use Rattle.crx_columns.specs.meaning.EachPlace.{each_place}
 use Rattle.crx_arcs.specs.ArcTails.{ArcTail}
 use Rattle.crx_arcs.specs.ArcSteps.{arc_of_code, arc_of_value, code_of_value, value_of_code, shown_value}

@@ -1,6 +1,4 @@
 pub mod meaning
-pub mod Codes
-pub mod FirstDigits
 pub mod ArcTails
 pub mod ArcSteps
 pub mod Arcs

@@ -1,5 +1,4 @@
 -- What has to be believed: the definitions that the promises stand on. docs/READING.md gives their order.
-pub mod Codes
 pub mod Sequences
 pub mod Differences
 pub mod ArcValues

@@ -2,22 +2,22 @@
 //! differences: an arc is stored as its order and its latest differences of order 0, 1, .. up to it.
 
 ghost use Rattle.std.specs.Prelude.{◌≡◌, ◌≤◌, ◌<◌, ◌+◌, ◌*◌, ◌^◌, ◌++◌, ◌∷◌, [], ℕ, ℤ, List, Option, None, Some, Ok, length, take, IfSome, OnSome, IfNone, OnOk, OnErr, MatchResult, IsTrue};
-ghost use Rattle.crx_arcs.specs.Codes.{IsPrintable, IsShort};
+ghost use Rattle.crx_text.specs.Codes.{IsPrintable, IsShort};
 ghost use Rattle.crx_text.specs.meaning.Numbers.{IsMissingOrWithin, IsWithin};
 ghost use Rattle.crx_arcs.specs.Arcs.{AreBelow, IsBelow, value_bound};
 ghost use Rattle.crx_arcs.specs.meaning.Differences.{code_at, newest};
 ghost use Rattle.crx_arcs.specs.meaning.ArcValues.{is_within, value_of};
 ghost use Rattle.crx_arcs.specs.ArcLaws.{accepted, arc_of_codes, arc_of_values};
 ghost use Rattle.crx_arcs.specs.meaning.Sequences.{stretch};
-ghost use Rattle.crx_arcs.specs.declared.code.Code.{Code};
-ghost use Rattle.crx_arcs.specs.declared.code.Code.TheVariants.{Step};
+ghost use Rattle.crx_text.specs.declared.code.Code.{Code};
+ghost use Rattle.crx_text.specs.declared.code.Code.TheVariants.{Step};
 ghost use Rattle.crx_faults.specs.declared.limits.TheConstants.{CLOCK_WIDTH, DIGITS_LIMIT, ORDER_LIMIT, WRITTEN_ORDER};
 ghost use Rattle.crx_arcs.specs.ArcSteps.{shown_value};
 ghost use Rattle.crx_arcs.specs.ArcSteps.{arc_of_code, arc_of_value, code_of_value, differences_after, differences_by, highest, value_of_code};
 
-use crate::code::Code;
 use crx_faults::Fault;
 use crx_faults::limits::{CLOCK_WIDTH, OBSERVATION_WIDTH, ORDER_LIMIT, WRITTEN_ORDER};
+use crx_text::Code;
 use std::marker::Model;
 
 /// The most differences that an arc stores: those of order 0 to [`ORDER_LIMIT`].

@@ -8,21 +8,20 @@ ghost use Rattle.crx_text.specs.meaning.Numbers.{observation_text, IsValue};
 ghost use Rattle.crx_faults.specs.declared.limits.TheConstants.{CELL_WIDTH};
 ghost use Rattle.crx_arcs.specs.ArcSteps.{shown_value};
 ghost use Rattle.crx_text.specs.Numbers.{IsObservation};
-ghost use Rattle.crx_arcs.specs.meaning.Codes.{after_cell, code_of, first_cell};
-ghost use Rattle.crx_arcs.specs.Codes.{IsPrintable, IsShort};
+ghost use Rattle.crx_text.specs.meaning.Codes.{after_cell, code_of, first_cell};
+ghost use Rattle.crx_text.specs.Codes.{IsPrintable, IsShort};
 ghost use Rattle.crx_arcs.specs.declared.cells.TheConstants.{CELL_ROOM};
 ghost use Rattle.crx_arcs.specs.Cells.{arcs_of_cells, codes_of_cells, value_at_place, CellsAreRead, IsCellRead};
 ghost use Rattle.crx_arcs.specs.meaning.Cells.{cell_read, cells_of, cells_read};
 ghost use Rattle.crx_faults.specs.declared.fault.Fault.TheVariants.{BadField};
-ghost use Rattle.crx_arcs.specs.declared.code.Code.TheVariants.{Missing, Step};
+ghost use Rattle.crx_text.specs.declared.code.Code.TheVariants.{Missing, Step};
 ghost use Rattle.crx_arcs.specs.meaning.Cells.{cell_text};
 ghost use Rattle.crx_arcs.specs.ArcSteps.{arc_of_code, arc_of_value, code_of_value};
 
 use crate::arc::ObsArc;
-use crate::code::{Code, code_before_blank, step_before_blank, write_cell};
 use crx_faults::Fault;
 use crx_faults::limits::{CELL_WIDTH, DIGITS_LIMIT};
-use crx_text::obs_print_cell_into;
+use crx_text::{Code, code_before_blank, obs_print_cell_into, step_before_blank, write_cell};
 
 /// The room for a cell in a satellite line: a code, with its sign, order and `&`, its blank, and what its digits are written with.
 pub const CELL_ROOM: usize = DIGITS_LIMIT + 6;

@@ -1,12 +1,9 @@
-//! What compact text is written with: codes of numbers; arcs, the values of an observation or of the clock to codes and back, by running
-//! differences; and the cells of a satellite line, the codes of a compact line and the observations of a row, by the arcs of its cells.
+//! Arcs: the values of an observation or of the clock to codes and back, by running differences; and the cells of a satellite line: the
+//! codes of a compact line and the observations of a row, by the arcs of its cells.
 #![tactic(auto)]
 
 pub mod arc;
 pub mod cells;
-pub mod code;
-mod digits;
 pub mod same;
 
 pub use arc::{ClockArc, ObsArc};
-pub use code::{Code, code_before_blank, code_print, code_read, step_before_blank, write_cell};

@@ -20,7 +20,7 @@ Names: without a file name standard input is read, and without one or with `-`
 standard output is written. Else the output file is named after the input file:
   .rnx <-> .crx   .RNX <-> .CRX   .24o <-> .24d   .24O <-> .24D   (any year)
 
-Whole folders: see rnxcmp-file --help, which does one file and loses nothing.
+Whole folders: see rnxcmp-file --help.
 
 Messages go to standard error, one line each:
   ERROR line 7 code 18: bad indicator

@@ -4,3 +4,4 @@
 pub mod checking_examples;
 pub mod compact_examples;
 pub mod filter_examples;
+pub mod stretch_examples;

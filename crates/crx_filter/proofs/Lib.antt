@@ -5,5 +5,6 @@ pub mod output
 pub mod wayback
 pub mod standard
 pub mod damage
+pub mod stretches
 pub mod Kept
 pub mod CompactSteps

@@ -2,3 +2,4 @@
 pub mod CheckLines
 pub mod CheckEnded
 pub mod CheckStandard
+pub mod Lossless

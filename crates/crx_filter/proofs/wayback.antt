@@ -11,3 +11,7 @@ pub mod ExpandedWhole
 pub mod Returns
 pub mod ReturnsRead
 pub mod ReturnsLost
+pub mod NormalForm
+pub mod Canonical
+pub mod Units
+pub mod ExpandedStandard

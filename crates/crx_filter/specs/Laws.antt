@@ -24,6 +24,7 @@ use Rattle.crx_reading.specs.LineByLine.{seen_end}
 use Rattle.crx_rinex.specs.meaning.Observations.{Epoch}
 use Rattle.crx_history.specs.meaning.CompactPlaces.{ReadEpoch}
 use Rattle.crx_filter.specs.Compacted.{compaction_so_far}
+pub use Rattle.crx_filter.specs.meaning.UnitsAndText.{IsInPlace}
 use Rattle.crx_reading.specs.meaning.Directions.{rinex_reading}
 use Rattle.crx_reading.specs.meaning.Compacted.{whole_rinex, compact_lines}
 use Rattle.crx_filter.specs.Expanded.{expanded_lines, expansion_so_far}
@@ -190,19 +191,6 @@ ItemsAreRead place (Accepted unit ∷ before) =
     ((lines : List ReadLine) × (count : ℕ) × (place before lines ≡ Here unit count)) × ItemsAreRead place before
 ItemsAreRead place (Warned at ∷ before) = ((header_has_ended before ≡ true)
     × (records_left before ≡ 0) × (is_skippable at.fault ≡ true)) × ItemsAreRead place before
-
--- what is true of a unit that was accepted after some items: a header line stands in the header and is good; an event's
--- first line is one, and stands between units; a record is one of those that its event announces, and no bad types line
--- where these count; and an epoch is whole, with the types in force
-abbrev pub IsInPlace : List (Item Epoch) → FileUnit Epoch → Type 0
-IsInPlace before (HeaderLine line) = (header_has_ended before ≡ false)
-    × (header_line_fault (is_at_start before) line ≡ None)
-IsInPlace before (EventLine line) = (header_has_ended before ≡ true)
-    × (records_left before ≡ 0) × (is_event_line line ≡ true) × (is_some (records_in line) ≡ true)
-IsInPlace before (EventRecord line) = (header_has_ended before ≡ true)
-    × (0 < records_left before) × ((if records_count_types before then types_fault line else None) ≡ None)
-IsInPlace before (Observation epoch) = (header_has_ended before ≡ true)
-    × (records_left before ≡ 0) × IsWholeEpoch (types_in_force before) epoch
 
 -- each unit that was accepted is in place, and each warning came where a fault may be skipped
 abbrev pub AreInPlace : List (Item Epoch) → Type 0

@@ -4,6 +4,7 @@ ghost use Rattle.std.specs.Prelude.{◌≡◌, ℕ, List, [], None, Some};
 ghost use Rattle.crx_faults.specs.declared.fault.At.{At};
 ghost use Rattle.crx_filter.specs.CheckerState.{CheckerHasTaken, CheckerIsOpen, pending_report};
 ghost use Rattle.crx_reading.specs.meaning.Directions.{check_filter};
+ghost use Rattle.crx_filter.specs.meaning.Lossless.{SaysThatItComesBack};
 ghost use Rattle.crx_filter.specs.meaning.Promises.{JudgesStandard, Keeps};
 ghost use Rattle.crx_runs.specs.meaning.Runs.{Runs};
 ghost use Rattle.crx_reading.specs.meaning.Standard.{checked, report_status};
@@ -55,7 +56,8 @@ fn check_by<R: Source, W: Sink, M: Sink>(
 
 /// Checks a RINEX file: writes its report once the whole input is accepted, and else reports the fault that ended the check. The status
 /// is 0 where the file is standard, 2 where it isn't, and 1 after a fault: one of a line, or `ReadFailed`, `WriteFailed`, `InputTooLong` and
-/// `OutOfMemory` where a device or memory failed or the input is longer.
+/// `OutOfMemory` where a device or memory failed or the input is longer. A file with status 0 comes back from its compact text byte for
+/// byte.
 #[inline(never)]
 pub fn check<R: Source, W: Sink, M: Sink>(
     alloc: Global,
@@ -67,6 +69,9 @@ pub fn check<R: Source, W: Sink, M: Sink>(
         (reader_span R.Source reader.old reader.new)
         (span W.Sink writer.old writer.new)
         (span M.Sink messages.old messages.new) result.status result.fault }
+    ensures lossless { Keeps (SaysThatItComesBack result.status)
+        (reader_span R.Source reader.old reader.new)
+        (span W.Sink writer.old writer.new) (span M.Sink messages.old messages.new) result.fault }
     ensures standard { Keeps (JudgesStandard (span W.Sink writer.old writer.new) result.status)
         (reader_span R.Source reader.old reader.new)
         (span W.Sink writer.old writer.new) (span M.Sink messages.old messages.new) result.fault }

@@ -1,10 +1,15 @@
 //! Both filters over a whole input.
 
-ghost use Rattle.std.specs.Prelude.{◌≡◌, ℕ, List};
+ghost use Rattle.std.specs.Prelude.{◌≡◌, ℕ, List, None};
+ghost use Rattle.crx_filter.specs.meaning.Canonical.{DependsOnNormalForm};
+ghost use Rattle.crx_filter.specs.meaning.Lossless.{BringsBackWhatPasses};
+ghost use Rattle.crx_filter.specs.meaning.UnitsAndText.{ReadsUnits, WritesUnits};
+ghost use Rattle.crx_filter.specs.meaning.WrittenStandard.{WroteStandard};
 ghost use Rattle.crx_reading.specs.meaning.Compacted.{compacted};
 ghost use Rattle.crx_reading.specs.meaning.Directions.{compaction_filter, expansion_filter};
 ghost use Rattle.crx_reading.specs.meaning.Expanded.{expanded};
 ghost use Rattle.crx_filter.specs.meaning.Promises.{BringsBackWhatWasCompacted, Keeps, SavesAllElse};
+ghost use Rattle.crx_filter.specs.meaning.Stretches.{KeepsUndamaged, WritesWholeUnits};
 ghost use Rattle.crx_runs.specs.meaning.Runs.{Runs};
 ghost use Rattle.crx_runs.specs.meaning.Spans.{span};
 ghost use Rattle.crx_runs.specs.meaning.Spans.{reader_span};
@@ -21,6 +26,9 @@ use std::alloc::Global;
 /// Where no device failed and memory didn't run out, the output, the messages, the status and the fault are those of the compaction of
 /// the whole input, of at most [`INPUT_LIMIT`](crx_faults::limits::INPUT_LIMIT) bytes. `ReadFailed`, `WriteFailed`, `InputTooLong` and
 /// `OutOfMemory` come where a device or memory failed or the input is longer; what was written by then is a prefix of the defined output.
+///
+/// Of the RINEX text of units that make a file it writes their compact text. Files that have the same normal form have the same compact
+/// text.
 #[inline(never)]
 pub fn compact<R: Source, W: Sink, M: Sink>(
     alloc: Global,
@@ -33,6 +41,14 @@ pub fn compact<R: Source, W: Sink, M: Sink>(
         (reader_span R.Source reader.old reader.new)
         (span W.Sink writer.old writer.new)
         (span M.Sink messages.old messages.new) result.status result.fault }
+    ensures units { Keeps (WritesUnits options (span W.Sink writer.old writer.new)
+        (span M.Sink messages.old messages.new) result.status result.fault)
+        (reader_span R.Source reader.old reader.new)
+        (span W.Sink writer.old writer.new) (span M.Sink messages.old messages.new) result.fault }
+    ensures canonical { Keeps (DependsOnNormalForm options (span W.Sink writer.old writer.new)
+        (span M.Sink messages.old messages.new) result.status result.fault)
+        (reader_span R.Source reader.old reader.new)
+        (span W.Sink writer.old writer.new) (span M.Sink messages.old messages.new) result.fault }
 {
     start(
         alloc,
@@ -48,6 +64,9 @@ pub fn compact<R: Source, W: Sink, M: Sink>(
 /// Where no device failed and memory didn't run out, the output, the messages, the status and the fault are those of the expansion of
 /// the whole input, of at most [`INPUT_LIMIT`](crx_faults::limits::INPUT_LIMIT) bytes. `ReadFailed`, `WriteFailed`, `InputTooLong` and
 /// `OutOfMemory` come where a device or memory failed or the input is longer; what was written by then is a prefix of the defined output.
+///
+/// A file that a check passes comes back from its compact text byte for byte, and of the compact text of units that make a file it writes
+/// their RINEX text. Whatever text is expanded, what is written without a fault is a standard file, unless a line of it ends in CR.
 #[inline(never)]
 pub fn expand<R: Source, W: Sink, M: Sink>(
     alloc: Global,
@@ -60,12 +79,28 @@ pub fn expand<R: Source, W: Sink, M: Sink>(
         (reader_span R.Source reader.old reader.new)
         (span W.Sink writer.old writer.new)
         (span M.Sink messages.old messages.new) result.status result.fault }
+    ensures lossless { Keeps (BringsBackWhatPasses (span W.Sink writer.old writer.new)
+        (span M.Sink messages.old messages.new) result.status result.fault)
+        (reader_span R.Source reader.old reader.new)
+        (span W.Sink writer.old writer.new) (span M.Sink messages.old messages.new) result.fault }
+    ensures units { Keeps (ReadsUnits (span W.Sink writer.old writer.new)
+        (span M.Sink messages.old messages.new) result.status result.fault)
+        (reader_span R.Source reader.old reader.new)
+        (span W.Sink writer.old writer.new) (span M.Sink messages.old messages.new) result.fault }
+    ensures standard { result.fault ≡ None → WroteStandard (span W.Sink writer.old writer.new) }
     ensures way_back { Keeps (BringsBackWhatWasCompacted (span W.Sink writer.old writer.new)
         (span M.Sink messages.old messages.new) result.status result.fault)
         (reader_span R.Source reader.old reader.new)
         (span W.Sink writer.old writer.new) (span M.Sink messages.old messages.new) result.fault }
     ensures salvage { Keeps (SavesAllElse options (span W.Sink writer.old writer.new)
         (span M.Sink messages.old messages.new) result.status result.fault)
+        (reader_span R.Source reader.old reader.new)
+        (span W.Sink writer.old writer.new) (span M.Sink messages.old messages.new) result.fault }
+    ensures damage { Keeps (KeepsUndamaged options (span W.Sink writer.old writer.new)
+        (span M.Sink messages.old messages.new) result.status result.fault)
+        (reader_span R.Source reader.old reader.new)
+        (span W.Sink writer.old writer.new) (span M.Sink messages.old messages.new) result.fault }
+    ensures whole_units { Keeps (WritesWholeUnits (span W.Sink writer.old writer.new))
         (reader_span R.Source reader.old reader.new)
         (span W.Sink writer.old writer.new) (span M.Sink messages.old messages.new) result.fault }
 {

@@ -8,8 +8,8 @@ use Rattle.std.proofs.lemmas.List.{length-map, take_more_set}
 use Rattle.crx_columns.specs.meaning.Columns.{columns, without_end_blanks}
 use Rattle.crx_columns.specs.meaning.Texts.{by_position, is_printable, is_kept}
 use Rattle.crx_columns.specs.Texts.{character_of, patched}
-use Rattle.crx_arcs.specs.declared.code.Code.{Code}
-use Rattle.crx_arcs.specs.declared.code.Code.TheVariants.{Missing}
+use Rattle.crx_text.specs.declared.code.Code.{Code}
+use Rattle.crx_text.specs.declared.code.Code.TheVariants.{Missing}
 use Rattle.crx_faults.specs.declared.limits.TheConstants.{OBSERVATION_WIDTH}
 use Rattle.crx_faults.specs.declared.fault.Fault.{Fault}
 use Rattle.crx_faults.specs.declared.fault.Fault.TheVariants.{BadFlags, Truncated, BadField}
@@ -35,7 +35,7 @@ use Rattle.crx_history.proofs.SoundTexts.{held-columns, patched-trimmed}
 use Rattle.crx_history.proofs.Characters.{list_all-at, at-by_position}
 use Rattle.crx_columns.proofs.Characters.{at, at-without_end_blanks, columns-are, list_all-from_at, length-columns}
 use Rattle.crx_arcs.proofs.PlaceByPlace.{at-padded, at-take}
-use Rattle.crx_arcs.specs.meaning.Codes.{code_of, after_cell}
+use Rattle.crx_text.specs.meaning.Codes.{code_of, after_cell}
 use Rattle.crx_history.proofs.Results.{ok-same, Follows, and_then-ok, before-ok}
 
 -- ---- the characters of patched indicators

@@ -4,9 +4,9 @@ use Rattle.std.specs.Prelude.{if◌then◌else◌, unwrap_or}
 use Rattle.crx_columns.specs.meaning.Columns.{without_end_blanks}
 use Rattle.crx_columns.specs.meaning.Texts.{text_difference}
 use Rattle.crx_columns.specs.Texts.{patched}
-use Rattle.crx_arcs.specs.meaning.Codes.{code_text}
+use Rattle.crx_text.specs.meaning.Codes.{code_text}
 use Rattle.crx_rinex.specs.meaning.Observations.{Row, Epoch, value_in}
-use Rattle.crx_arcs.specs.declared.code.Code.{Code}
+use Rattle.crx_text.specs.declared.code.Code.{Code}
 use Rattle.crx_columns.specs.meaning.EachPlace.{each_place}
 use Rattle.crx_arcs.specs.meaning.Sequences.{named}
 use Rattle.crx_history.specs.meaning.Compaction.{epoch_text, line_of_codes}

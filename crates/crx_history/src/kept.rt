@@ -33,13 +33,12 @@ use crate::held::{HeldSatellite, find, push_change, push_code};
 use crate::lines::Lines;
 use crate::refusals::fault_of_text;
 use crx_arcs::arc::ClockArc;
-use crx_arcs::code::code_read;
 use crx_faults::Fault;
 use crx_faults::limits::{HEAD_WIDTH, LINE_LIMIT, NAME_WIDTH, SATELLITES_LIMIT};
 use crx_header::{Types, after_columns, is_same_identifier, padded, put_identifier};
 use crx_rinex::{Epoch, EpochLine, Identifiers, begins_epoch, print_head};
 use crx_text::difference::patch_bytes;
-use crx_text::{Text, trim_end};
+use crx_text::{Text, code_read, trim_end};
 use std::alloc::{AllocError, Global};
 use std::marker::Model;
 

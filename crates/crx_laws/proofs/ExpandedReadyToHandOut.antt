@@ -187,7 +187,7 @@ rows-short [] h = tt
 rows-short (row ∷ rows) h =
     (row-short row (All-head IsSoundRow row rows h), rows-short rows (All-tail IsSoundRow row rows h))
 
-epoch-ready_to_hand_out : (types : List Count) (epoch : Epoch)
+pub epoch-ready_to_hand_out : (types : List Count) (epoch : Epoch)
     → IsWholeEpoch types epoch → AreReadyToHandOut longest (printed_epoch epoch)
 epoch-ready_to_hand_out types epoch h =
     let trimmed : length (printed_head epoch.head epoch.clock) ≤ length (epoch.head ++ clock_text epoch.clock) =

@@ -4,3 +4,5 @@ pub mod wayback
 pub mod output
 pub mod ExpandedReadyToHandOut
 pub mod OpenSound
+pub mod blockwise
+pub mod Weights

@@ -1,4 +1,3 @@
 -- What is written of epochs reads back as these epochs.
 pub mod OneTail
 pub mod BackByLines
-pub mod NormalForm

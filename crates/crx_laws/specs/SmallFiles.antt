@@ -1,7 +1,7 @@
 -- Small files for the laws' premises and for worked examples: their lines in RINEX and in compact text.
 use Rattle.std.specs.Prelude.{ℕ, pos, ◌+◌, false, true, List, [], ◌∷◌, ◌++◌, Some, None, codes, replicate, flat_map}
 use Rattle.crx_rinex.specs.meaning.Observations.{Epoch}
-use Rattle.crx_rinex.specs.meaning.Units.{HeaderLine, Observation}
+use Rattle.crx_rinex.specs.meaning.Units.{Unit as FileUnit, HeaderLine, EventLine, EventRecord, Observation}
 use Rattle.crx_options.specs.meaning.Choices.{Choices}
 use Rattle.crx_reading.specs.meaning.Items.{Item, Accepted}
 use Rattle.crx_faults.specs.meaning.Lines.{lines_text}
@@ -141,3 +141,30 @@ damaged_before_event lines =
     lines_text (first_two ++ header ++ full_line_at 0 1 (codes "G01") ∷ [])
     ++ lines_text lines
     ++ lines_text (comment_event ++ full_line_at 2 1 (codes "G01") ∷ [] ∷ codes "3&20000202000" ∷ [])
+
+-- its units, newest first
+abbrev pub units_with_event : List (FileUnit Epoch)
+units_with_event =
+    Observation (epoch_at_second 2 20000202000)
+    ∷ EventRecord (blanks 60 ++ codes "COMMENT")
+    ∷ EventLine (line_at 2 4 1)
+    ∷ Observation (epoch_at_second 1 20000100500)
+    ∷ Observation (epoch_at_second 0 20000000000)
+    ∷ HeaderLine (blanks 60 ++ codes "END OF HEADER")
+    ∷ HeaderLine one_type_line
+    ∷ HeaderLine (codes "     3.04           OBSERVATION DATA    G                   RINEX VERSION / TYPE")
+    ∷ []
+
+-- ---- compact text that the program doesn't write
+
+-- an arc of order 1, and one of order 0 after it in the next epoch
+abbrev pub of_other_orders : List ℕ
+of_other_orders = lines_text (first_two ++ header
+    ++ full_line_at 0 1 (codes "G01") ∷ [] ∷ codes "1&20000000000"
+    ∷ second_changed 1 ∷ [] ∷ codes "0&20000100500" ∷ second_changed 2 ∷ [] ∷ codes "20000202000" ∷ [])
+
+-- a header line whose content ends in CR
+abbrev pub with_returns : List ℕ
+with_returns = lines_text (first_two)
+    ++ lines_text (codes "     3.04           OBSERVATION DATA    G                   RINEX VERSION / TYPE"
+    ∷ codes "twice\r\r" ∷ one_type_line ∷ (blanks 60 ++ codes "END OF HEADER") ∷ [])

@@ -1,7 +1,7 @@
 //! Laws of arcs, texts and the epochs that are written: each is the contract of a function that does nothing.
 
 ghost use Rattle.std.specs.Prelude.{◌≡◌, ◌↔◌, true, ℕ, ℤ, List, Option};
-ghost use Rattle.crx_arcs.specs.declared.code.Code.{Code};
+ghost use Rattle.crx_text.specs.declared.code.Code.{Code};
 ghost use Rattle.crx_text.specs.meaning.Numbers.{IsWithin};
 ghost use Rattle.crx_rinex.specs.meaning.Epochs.{are_different};
 ghost use Rattle.crx_history.specs.meaning.Compaction.{Marked};

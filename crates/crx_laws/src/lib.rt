@@ -2,14 +2,21 @@
 //! nothing, but for the way back through `Columns`, which reads what was written.
 #![tactic(auto)]
 
+pub mod blocks;
+pub mod canonical;
 pub mod checking_laws;
 pub mod compact_laws;
 pub mod compact_reading;
 pub mod filter_laws;
 pub mod line_laws;
+pub mod lossless;
 pub mod normal_form;
 pub mod read_back;
 pub mod reading_back;
 pub mod rinex_laws;
 pub mod salvage;
+pub mod sizes;
+pub mod stretches;
+pub mod units;
 pub mod way_back;
+pub mod written_standard;

@@ -2,8 +2,7 @@
 
 use crate::expecting::expect;
 use crate::texts::shown;
-use crx_arcs::{Code, code_before_blank, code_print, code_read};
-use crx_text::{BadField, Text};
+use crx_text::{BadField, Code, Text, code_before_blank, code_print, code_read};
 
 /// Differences, and what is printed of them.
 const STEPS: &[(i64, &[u8])] = &[

@@ -1,5 +1,10 @@
+pub mod CellNumbers
 pub mod ClockColumns
 pub mod ClockTexts
+pub mod CodeReads
+pub mod CodeTexts
+pub mod DigitPairs
+pub mod DigitRows
 pub mod GroupHalves
 pub mod LaneBits
 pub mod PlainLanes

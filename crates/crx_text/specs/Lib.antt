@@ -1,5 +1,7 @@
 pub mod meaning
+pub mod Codes
 pub mod Digits
+pub mod FirstDigits
 pub mod FieldTexts
 pub mod Fields
 pub mod Numbers

@@ -5,12 +5,12 @@ ghost use Rattle.std.specs.Str.{all_ascii_digits};
 ghost use Rattle.std.specs.Str.Parse.{digits_value_after, starts_with_minus};
 ghost use Rattle.crx_text.specs.meaning.Numbers.{signed_number, without_minus};
 
-/// The most columns of a number, its point among them, that an `i64` holds in every form.
-pub const WIDEST: usize = 19;
+// The most columns of a number, its point among them, that an `i64` holds in every form.
+pub(crate) const WIDEST: usize = 19;
 
-/// Goes on from the number that the digits so far write; `None` comes where a byte is no digit. It asks for a number and digits
-/// that make fewer than [`WIDEST`] columns.
-pub fn digits_read(before: u64, digits: &[u8]) -> Option<u64>
+// Goes on from the number that the digits so far write; None where a byte is no digit. It asks for a number and digits that make
+// fewer than `WIDEST` columns.
+pub(crate) fn digits_read(before: u64, digits: &[u8]) -> Option<u64>
     requires { (before + 1) * 10 ^ length digits.now ≤ 10 ^ (WIDEST - 1) }
     ensures value { result ≡ (if all_ascii_digits digits.now
         then Some (digits_value_after 10 before digits.now) else None) }
@@ -26,9 +26,9 @@ pub fn digits_read(before: u64, digits: &[u8]) -> Option<u64>
     Some(size)
 }
 
-/// Whether a minus begins the text, and the text without it.
+// Whether a minus begins the text, and the text without it.
 #[inline(always)]
-pub fn split_minus(text: &[u8]) -> (bool, &[u8])
+pub(crate) fn split_minus(text: &[u8]) -> (bool, &[u8])
     ensures sign { result.0 ≡ starts_with_minus text.now }
     ensures rest { result.1.now ≡ without_minus text.now }
     ensures shorter { length result.1.now + (if result.0 then 1 else 0) ≡ length text.now }
@@ -39,9 +39,9 @@ pub fn split_minus(text: &[u8]) -> (bool, &[u8])
     }
 }
 
-/// A number of this size, below zero where its minus stands.
+// A number of this size, below zero where its minus stands.
 #[inline(always)]
-pub fn signed(is_below: bool, size: u64) -> i64
+pub(crate) fn signed(is_below: bool, size: u64) -> i64
     requires { size < 2 ^ 63 }
     ensures { result ≡ signed_number is_below size }
 {

@@ -1,10 +1,9 @@
 //! The program's arguments and its standard streams.
 
-use crx_command::job::UsageFault;
-use crx_command::word::Word;
+use crate::{UsageFault, Word, run};
 use crx_faults::Fault;
 use crx_lines::Std;
-use crx_program::program::{OUTPUT_BUFFER, run};
+use crx_program::program::OUTPUT_BUFFER;
 use crx_program::refusal::{refuse, report_at_start};
 use crx_runs::UntilFailure;
 use std::alloc::Global;

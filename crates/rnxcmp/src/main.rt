@@ -3,6 +3,11 @@
 
 pub mod host;
 
+pub use crx_command::date::{date_text, default_date};
+pub use crx_command::job::{Decision, Job, Tool, UsageFault};
+pub use crx_command::plan::plan;
+pub use crx_command::word::Word;
+pub use crx_program::program::run;
 use std::process::ExitCode;
 
 fn main(rt: HostRuntime) -> ExitCode {

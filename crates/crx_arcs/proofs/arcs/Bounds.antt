@@ -7,7 +7,7 @@ use Rattle.std.proofs.lemmas.Int.{ints}
 use Rattle.std.proofs.Math.Nat.{pow-le-pow_right}
 use Rattle.crx_faults.specs.declared.limits.TheConstants.{WRITTEN_ORDER, DIGITS_LIMIT}
 use Rattle.crx_text.specs.meaning.Numbers.{IsWithin}
-use Rattle.crx_arcs.specs.Codes.{IsShort, IsPrintable}
+use Rattle.crx_text.specs.Codes.{IsShort, IsPrintable}
 use Rattle.crx_arcs.specs.meaning.Differences.{difference, code_at}
 use Rattle.crx_arcs.specs.meaning.ArcValues.{is_within}
 use Rattle.crx_arcs.proofs.arcs.Weights.{difference-suc, difference-zero}

@@ -2,8 +2,8 @@
 use Rattle.std.specs.Prelude.{◌≡◌, refl, ℕ, zero, suc, ◌<◌, ℤ, List, [], ◌∷◌, length, Option, Some, None, ⊤}
 use Rattle.std.specs.Option.{option_map}
 use Rattle.std.proofs.Common.{◌∙◌, ap, arith, not-suc-le-zero}
-use Rattle.crx_arcs.specs.declared.code.Code.{Code}
-use Rattle.crx_arcs.specs.declared.code.Code.TheVariants.{Missing, Start, Step}
+use Rattle.crx_text.specs.declared.code.Code.{Code}
+use Rattle.crx_text.specs.declared.code.Code.TheVariants.{Missing, Start, Step}
 use Rattle.crx_arcs.specs.meaning.Differences.{value_at, code_at}
 use Rattle.crx_arcs.specs.meaning.ArcValues.{Started, onto_started, since_start, in_range, value_since, value_of}
 use Rattle.crx_arcs.specs.ArcTails.{ArcTail, started_tail, arc_tail}

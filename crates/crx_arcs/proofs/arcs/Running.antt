@@ -8,8 +8,8 @@ use Rattle.std.proofs.lemmas.List.{take_more_set, drop-set-lt, length-take}
 use Rattle.std.proofs.lemmas.Grind.{common_steps}
 use Rattle.crx_arcs.specs.Arcs.{IsBelow, AreBelow, value_bound, kept_tail, IsArcInRange, IsNewestWithin}
 use Rattle.crx_text.specs.meaning.Numbers.{IsWithin}
-use Rattle.crx_arcs.specs.Codes.{IsShort}
-use Rattle.crx_arcs.specs.declared.code.Code.TheVariants.{Step}
+use Rattle.crx_text.specs.Codes.{IsShort}
+use Rattle.crx_text.specs.declared.code.Code.TheVariants.{Step}
 use Rattle.crx_arcs.specs.ArcTails.{ArcTail}
 use Rattle.crx_arcs.specs.meaning.Differences.{newest}
 use Rattle.crx_arcs.specs.ArcSteps.{differences_after, onto_sum, differences_by, highest, code_of_value, arc_of_value}

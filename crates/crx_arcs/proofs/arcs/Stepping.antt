@@ -3,7 +3,7 @@ use Rattle.std.specs.Prelude.{◌≡◌, refl, ℕ, zero, suc, ◌-◌, min, ℤ
 use Rattle.std.specs.Prelude.{Option, Some}
 use Rattle.std.proofs.Common.{sym, ◌∙◌, ap, arith}
 use Rattle.std.proofs.lemmas.Int.{ints}
-use Rattle.crx_arcs.specs.declared.code.Code.TheVariants.{Step}
+use Rattle.crx_text.specs.declared.code.Code.TheVariants.{Step}
 use Rattle.crx_columns.specs.meaning.EachPlace.{each_place}
 use Rattle.crx_arcs.specs.meaning.Differences.{difference, value_at, newest}
 use Rattle.crx_arcs.specs.ArcTails.{ArcTail, differences_of, values_of}

@@ -1,8 +1,8 @@
 -- The cells of a row, and those of a satellite line: a code and one blank each. What is asked of a code, and in which
 -- order, is this project's profile.
 use Rattle.std.specs.Prelude.{ℕ, ℤ, zero, suc, List, [], ◌∷◌, Option, Some, None, Result, Ok, Err, ◌++◌}
-use Rattle.crx_arcs.specs.meaning.Codes.{code_of, first_cell, after_cell, code_text}
-use Rattle.crx_arcs.specs.declared.code.Code.{Code}
+use Rattle.crx_text.specs.meaning.Codes.{code_of, first_cell, after_cell, code_text}
+use Rattle.crx_text.specs.declared.code.Code.{Code}
 use Rattle.crx_faults.specs.declared.fault.Fault.{Fault}
 use Rattle.crx_faults.specs.declared.fault.Fault.TheVariants.{BadField}
 use Rattle.crx_arcs.specs.meaning.Sequences.{and_then, before_all}

@@ -2,8 +2,8 @@
 -- An arc's values a_0 .. a_u and its codes c_0 .. c_u stand newest first: the newest is at place 0, a_(u-i) at place i.
 use Rattle.std.specs.Prelude.{ℕ, zero, suc, ◌+◌, ◌-◌, min, ℤ, pos, neg_ℤ, ◌+ℤ◌, ◌*ℤ◌, List, [], ◌∷◌, length, take}
 use Rattle.std.specs.Prelude.{reverse}
-use Rattle.crx_arcs.specs.declared.code.Code.{Code}
-use Rattle.crx_arcs.specs.declared.code.Code.TheVariants.{Missing, Start, Step}
+use Rattle.crx_text.specs.declared.code.Code.{Code}
+use Rattle.crx_text.specs.declared.code.Code.TheVariants.{Missing, Start, Step}
 
 -- the binomial coefficient C(n, k), 0 where k is above n
 abbrev pub binomial : ℕ → ℕ → ℕ

@@ -7,8 +7,8 @@ use Rattle.std.proofs.Math.Path.{fun_ext}
 use Rattle.std.proofs.lemmas.List.{get_or_past}
 use Rattle.crx_columns.specs.Texts.{patched}
 use Rattle.crx_faults.specs.meaning.Seen.{ReadLine}
-use Rattle.crx_arcs.specs.declared.code.Code.{Code}
-use Rattle.crx_arcs.specs.declared.code.Code.TheVariants.{Missing}
+use Rattle.crx_text.specs.declared.code.Code.{Code}
+use Rattle.crx_text.specs.declared.code.Code.TheVariants.{Missing}
 use Rattle.crx_faults.specs.declared.limits.TheConstants.{OBSERVATION_WIDTH, CLOCK_WIDTH}
 use Rattle.crx_header.specs.meaning.ObservationTypes.{Count}
 use Rattle.crx_columns.specs.meaning.EachPlace.{each_place}

@@ -10,9 +10,9 @@ use Rattle.std.proofs.lemmas.Fmt.{length-decimal-le}
 use Rattle.std.proofs.lemmas.List.{length-append}
 use Rattle.std.proofs.Math.Nat.{pow-le-pow_right}
 use Rattle.crx_columns.specs.meaning.Texts.{by_position, mark_of, text_difference}
-use Rattle.crx_arcs.specs.meaning.Codes.{code_text}
+use Rattle.crx_text.specs.meaning.Codes.{code_text}
 use Rattle.crx_rinex.specs.meaning.Observations.{Row, Epoch, value_in}
-use Rattle.crx_arcs.specs.declared.code.Code.{Code}
+use Rattle.crx_text.specs.declared.code.Code.{Code}
 use Rattle.crx_faults.specs.declared.limits.TheConstants.{WRITTEN_ORDER, DIGITS_LIMIT, TYPES_LIMIT, SATELLITES_LIMIT}
 use Rattle.crx_faults.specs.declared.limits.TheConstants.{OBSERVATION_WIDTH, CLOCK_WIDTH}
 use Rattle.crx_arcs.specs.meaning.Differences.{difference, code_at}

@@ -8,13 +8,13 @@ use Rattle.std.proofs.lemmas.Simd.{map-map}
 use Rattle.std.proofs.Math.Seq.{drop-append_seam}
 use Rattle.std.proofs.lemmas.Bool.{and_parts}
 use Rattle.crx_columns.specs.meaning.Columns.{is_blank, without_end_blanks, columns}
-use Rattle.crx_arcs.specs.meaning.Codes.{code_text}
-use Rattle.crx_arcs.specs.Codes.{IsPrintable}
+use Rattle.crx_text.specs.meaning.Codes.{code_text}
+use Rattle.crx_text.specs.Codes.{IsPrintable}
 use Rattle.crx_faults.specs.meaning.Seen.{ReadLine, Content}
 use Rattle.crx_rinex.specs.meaning.Observations.{Row, Epoch}
 use Rattle.crx_header.specs.meaning.ObservationTypes.{Count}
 use Rattle.crx_rinex.specs.meaning.Places.{Here}
-use Rattle.crx_arcs.specs.declared.code.Code.{Code}
+use Rattle.crx_text.specs.declared.code.Code.{Code}
 use Rattle.crx_faults.specs.declared.fault.Fault.{Fault}
 use Rattle.crx_faults.specs.declared.fault.Fault.TheVariants.{BadEpoch}
 use Rattle.crx_faults.specs.declared.limits.TheConstants.{WRITTEN_ORDER, CLOCK_WIDTH}
@@ -39,7 +39,7 @@ use Rattle.crx_compact.specs.ReadingLaws.{ReadsBack}
 use Rattle.crx_compact.specs.Laws.{AreWhole}
 use Rattle.crx_compact.proofs.Lists.{all-from}
 use Rattle.crx_compact.proofs.wayback.Writable.{head-counted, typed-rows}
-use Rattle.crx_arcs.proofs.CodeTexts.{code_of-code_text}
+use Rattle.crx_text.proofs.CodeTexts.{code_of-code_text}
 use Rattle.crx_columns.proofs.EndBlanks.{few_kept}
 use Rattle.crx_compact.proofs.wayback.CodeTexts.{is_code_character, code-characters}
 use Rattle.crx_compact.proofs.wayback.Runs.{raw_block, marked, Begins, begins_full, begins_later, block-raws, raw_run}

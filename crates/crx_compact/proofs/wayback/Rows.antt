@@ -13,11 +13,11 @@ use Rattle.crx_rinex.specs.meaning.EpochLines.{IsClockOffset}
 use Rattle.crx_header.specs.meaning.EpochColumns.{begins_epoch}
 use Rattle.crx_columns.specs.meaning.Columns.{is_blank, without_end_blanks}
 use Rattle.crx_columns.specs.meaning.Texts.{text_difference, mark_of, by_position}
-use Rattle.crx_arcs.specs.meaning.Codes.{code_text}
-use Rattle.crx_arcs.specs.Codes.{IsPrintable}
+use Rattle.crx_text.specs.meaning.Codes.{code_text}
+use Rattle.crx_text.specs.Codes.{IsPrintable}
 use Rattle.crx_rinex.specs.meaning.Observations.{Row, Epoch, value_in}
-use Rattle.crx_arcs.specs.declared.code.Code.{Code}
-use Rattle.crx_arcs.specs.declared.code.Code.TheVariants.{Missing}
+use Rattle.crx_text.specs.declared.code.Code.{Code}
+use Rattle.crx_text.specs.declared.code.Code.TheVariants.{Missing}
 use Rattle.crx_faults.specs.declared.fault.Fault.{Fault}
 use Rattle.crx_faults.specs.declared.limits.TheConstants.{WRITTEN_ORDER, OBSERVATION_WIDTH, CLOCK_WIDTH}
 use Rattle.crx_columns.specs.meaning.EachPlace.{each_place}
@@ -39,7 +39,7 @@ use Rattle.crx_compact.proofs.Lists.{all-from}
 use Rattle.crx_compact.proofs.wayback.Writable.{IsTypedRow, typed-rows}
 use Rattle.crx_compact.specs.ReadingLaws.{raw_row}
 use Rattle.crx_header.specs.meaning.ObservationTypes.{Count}
-use Rattle.crx_arcs.proofs.CodeTexts.{code_of-code_text}
+use Rattle.crx_text.proofs.CodeTexts.{code_of-code_text}
 use Rattle.crx_compact.proofs.wayback.CodeTexts.{is_code_character, code-characters}
 use Rattle.crx_compact.proofs.wayback.Cells.{AreWritten, cells-written, marks-written, one_cell}
 use Rattle.crx_compact.proofs.wayback.Overlays.{at_past}

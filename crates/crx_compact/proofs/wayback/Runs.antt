@@ -10,8 +10,8 @@ use Rattle.crx_columns.specs.meaning.Columns.{without_end_blanks}
 use Rattle.crx_columns.specs.meaning.Texts.{text_difference, mark_of, by_position}
 use Rattle.crx_columns.specs.Texts.{patched, character_of}
 use Rattle.crx_rinex.specs.meaning.Observations.{Row, Epoch, value_in}
-use Rattle.crx_arcs.specs.declared.code.Code.{Code}
-use Rattle.crx_arcs.specs.declared.code.Code.TheVariants.{Missing}
+use Rattle.crx_text.specs.declared.code.Code.{Code}
+use Rattle.crx_text.specs.declared.code.Code.TheVariants.{Missing}
 use Rattle.crx_faults.specs.declared.limits.TheConstants.{WRITTEN_ORDER}
 use Rattle.crx_arcs.specs.meaning.Sequences.{back_to, named, stretch}
 use Rattle.crx_arcs.specs.meaning.Differences.{code_at}

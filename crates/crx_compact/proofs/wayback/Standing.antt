@@ -6,8 +6,8 @@ use Rattle.std.proofs.Common.{◌∙◌, ap, arith}
 use Rattle.std.proofs.lemmas.Bool.{and_parts}
 use Rattle.crx_columns.specs.meaning.Columns.{character_at, without_end_blanks}
 use Rattle.crx_columns.specs.meaning.Texts.{text_difference, is_printable, mark_of, is_kept}
-use Rattle.crx_arcs.specs.meaning.Codes.{code_text}
-use Rattle.crx_arcs.specs.declared.code.Code.{Code}
+use Rattle.crx_text.specs.meaning.Codes.{code_text}
+use Rattle.crx_text.specs.declared.code.Code.{Code}
 use Rattle.crx_faults.specs.declared.limits.TheConstants.{WRITTEN_ORDER}
 use Rattle.crx_rinex.specs.meaning.Observations.{Row, Epoch}
 use Rattle.crx_header.specs.meaning.ObservationTypes.{Count}

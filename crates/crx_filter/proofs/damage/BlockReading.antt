@@ -67,7 +67,7 @@ pub place-between : (items : List (Item ReadEpoch)) (lines : List ReadLine) → 
 place-between items lines h = body-place (λ (before : List (Item ReadEpoch)).
     compact_epoch_place (types_in_force before) (raws_kept before)) items lines h.header h.none
 
-place-inside : (items : List (Item ReadEpoch)) (line : List ℕ) (lines : List ReadLine)
+pub place-inside : (items : List (Item ReadEpoch)) (line : List ℕ) (lines : List ReadLine)
     → IsBetweenUnits items → is_event_line line ≡ false
     → compact_place items (Content line ∷ lines)
     ≡ as_observation (epoch_at (types_in_force items) (raws_kept items) (Content line ∷ lines))
@@ -76,13 +76,13 @@ place-inside items line lines h e =
     ∙ ap (λ b. cond b (one_line (event_line line))
     (as_observation (epoch_at (types_in_force items) (raws_kept items) (Content line ∷ lines)))) e
 
-observation-here : (p : Place ReadEpoch) (unit : FileUnit ReadEpoch) (count : ℕ)
+pub observation-here : (p : Place ReadEpoch) (unit : FileUnit ReadEpoch) (count : ℕ)
     → as_observation p ≡ Here unit count → (read : ReadEpoch) × (unit ≡ Observation read)
 observation-here (Here read n) unit count e = (read, cc)
 observation-here (Wrong k fault) unit count e = absurd (cc)
 observation-here Wanted unit count e = absurd (cc)
 
-observation-skippable : (p : Place ReadEpoch) → IsSkippableAt p → IsSkippableAt (as_observation p)
+pub observation-skippable : (p : Place ReadEpoch) → IsSkippableAt p → IsSkippableAt (as_observation p)
 observation-skippable (Here read count) h = tt
 observation-skippable (Wrong offset fault) h = h
 observation-skippable Wanted h = tt

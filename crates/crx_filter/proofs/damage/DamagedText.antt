@@ -23,7 +23,7 @@ use Rattle.std.proofs.lemmas.Bool.{not-true}
 abbrev contents : List InputLine → List (List ℕ)
 contents lines = map (λ (line : InputLine). line.content) lines
 
-each-ended : (ps : List Piece) → list_all (λ (piece : Piece). piece.is_ended) ps ≡ true → EachEnded ps
+pub each-ended : (ps : List Piece) → list_all (λ (piece : Piece). piece.is_ended) ps ≡ true → EachEnded ps
 each-ended [] e = tt
 each-ended (p ∷ ps) e = (
   (and_parts p.is_ended (list_all (λ (piece : Piece). piece.is_ended) ps) e).0,
@@ -63,7 +63,7 @@ pieces-append : (one two : List ℕ) → EachEnded (pieces_of one) → pieces_of
 pieces-append [] two e = refl
 pieces-append (b ∷ one) two e = byte-append b one two (pieces-append one two) (eqb_tells b 10) e
 
-lines-append : (one two : List ℕ)
+pub lines-append : (one two : List ℕ)
     → EachEnded (pieces_of one) → map seen (lines_of (one ++ two)) ≡ map seen (lines_of one) ++ map seen (lines_of two)
 lines-append one two e =
     ap (λ ps. map seen (map line_of ps)) (pieces-append one two e)
@@ -72,7 +72,7 @@ lines-append one two e =
 
 -- ---- written lines before a text
 
-front-cut : (lines : List (List ℕ)) (text : List ℕ) → AllByRecursion IsClean lines
+pub front-cut : (lines : List (List ℕ)) (text : List ℕ) → AllByRecursion IsClean lines
     → map seen (lines_of (lines_text lines ++ text)) ≡ map Content lines ++ map seen (lines_of text)
 front-cut [] text h = refl
 front-cut (line ∷ lines) text h =

@@ -1,11 +1,11 @@
 -- After a damaged block: reading goes on at the next line that begins with >, with at most one warning before it.
-use Rattle.std.proofs.Common.{ℕ, suc, ◌≡◌, ◌+◌, ◌≤◌, max, inl, inr, true, List, [], ◌∷◌, ◌++◌, length, drop, Some, None}
+use Rattle.std.proofs.Common.{ℕ, suc, ◌≡◌, ◌+◌, ◌≤◌, max, inl, inr, true, false, List, [], ◌∷◌, ◌++◌, length, drop, Some, None}
 use Rattle.std.proofs.Common.{refl, ap, sym, ◌∙◌, subst, arith, length-append}
 use Rattle.std.proofs.Math.Seq.{drop-append_seam}
 use Rattle.crx_faults.specs.meaning.Seen.{ReadLine, Content, Overlong}
 use Rattle.crx_faults.specs.declared.fault.At.{At}
 use Rattle.crx_faults.specs.declared.fault.Fault.TheVariants.{Truncated}
-use Rattle.crx_header.specs.meaning.EpochColumns.{begins_epoch}
+use Rattle.crx_header.specs.meaning.EpochColumns.{begins_epoch, is_event_line}
 use Rattle.crx_rinex.specs.meaning.Places.{Wanted}
 use Rattle.crx_history.specs.meaning.CompactPlaces.{ReadEpoch}
 use Rattle.crx_reading.specs.meaning.Items.{Item, Warned, header_has_ended, records_left, types_in_force}
@@ -43,13 +43,12 @@ pub record GoesOnAt (items : List (Item ReadEpoch)) (tail : List ReadLine) (r : 
   pub same : r ≡ reading_from compact_place true (with_warnings warnings items) number tail
 
 -- an epoch that is open is cut off, and reading goes on at the very line that does so
-cut-goes_on : (items : List (Item ReadEpoch)) (number : ℕ) (rest : List ReadLine) (line : List ℕ) (tail : List ReadLine)
-    → IsBetweenUnits items → IsBlockText rest → compact_place items rest ≡ Wanted → begins_epoch line ≡ true
-    → GoesOnAt items (Content line ∷ tail) (reading_from compact_place true items number (rest ++ Content line ∷ tail))
-cut-goes_on items number [] line tail h text e begins =
-    record { warnings = []; few = omega arith; number = number; same = refl }
-cut-goes_on items number (Overlong ∷ rest) line tail h text e begins = absurd text
-cut-goes_on items number (Content first ∷ rest) line tail h text e begins =
+pub open-goes_on : (items : List (Item ReadEpoch)) (number : ℕ) (first : List ℕ) (rest : List ReadLine)
+    (line : List ℕ) (tail : List ReadLine) → IsBetweenUnits items → is_event_line first ≡ false
+    → compact_place items (Content first ∷ rest) ≡ Wanted → begins_epoch line ≡ true
+    → GoesOnAt items (Content line ∷ tail)
+    (reading_from compact_place true items number (Content first ∷ (rest ++ Content line ∷ tail)))
+open-goes_on items number first rest line tail h no_event e begins =
     let open_lines : List ReadLine = Content first ∷ rest in
     let all : List ReadLine = open_lines ++ Content line ∷ tail in
     let offset : ℕ = suc (length rest) in
@@ -70,13 +69,22 @@ cut-goes_on items number (Content first ∷ rest) line tail h text e begins =
       same = enough-units compact_place compact-forward true
           (length all + 1) (suc (length all)) items number all (omega arith) (omega arith)
           ∙ within-wrong compact_place true
-          (length all) items number all offset Truncated (place-cut items first rest line tail h text.0 begins e)
+          (length all) items number all offset Truncated (place-cut items first rest line tail h no_event begins e)
           ∙ fault-skipped true read items number all offset Truncated on
           ∙ ap (λ ls. looked_for (read (Warned at ∷ items)) (Warned at ∷ items) (number + n) ls) left
           ∙ looked-here (read (Warned at ∷ items)) (Warned at ∷ items) (number + n) (Content line) tail begins
           ∙ enough-units compact_place compact-forward true (length all) (length (Content line ∷ tail) + 1)
           (Warned at ∷ items) (number + n) (Content line ∷ tail) (omega (arith, counted)) (omega arith);
     }
+
+cut-goes_on : (items : List (Item ReadEpoch)) (number : ℕ) (rest : List ReadLine) (line : List ℕ) (tail : List ReadLine)
+    → IsBetweenUnits items → IsBlockText rest → compact_place items rest ≡ Wanted → begins_epoch line ≡ true
+    → GoesOnAt items (Content line ∷ tail) (reading_from compact_place true items number (rest ++ Content line ∷ tail))
+cut-goes_on items number [] line tail h text e begins =
+    record { warnings = []; few = omega arith; number = number; same = refl }
+cut-goes_on items number (Overlong ∷ rest) line tail h text e begins = absurd text
+cut-goes_on items number (Content first ∷ rest) line tail h text e begins =
+    open-goes_on items number first rest line tail h text.0 e begins
 
 goes_on : (items : List (Item ReadEpoch)) (r : Reading ReadEpoch) (line : List ℕ) (tail : List ReadLine)
     → IsBetweenUnits items → EndsBlock items r → begins_epoch line ≡ true
@@ -118,7 +126,7 @@ ends-well (item ∷ before) number h = ap (ended_with true (item ∷ before) (nu
         → records_left (item ∷ before) ≡ 0 → fault_at_end (item ∷ before) [] ≡ None
     good a b = rw (a, b) refl
 
-ends-inside : (items : List (Item ReadEpoch)) (number : ℕ) (line : ReadLine) (rest : List ReadLine)
+pub ends-inside : (items : List (Item ReadEpoch)) (number : ℕ) (line : ReadLine) (rest : List ReadLine)
     → IsBetweenUnits items
     → EndsAfter items (ended_reading true (record { items = items; stop = AtLines number (line ∷ rest) }))
 ends-inside [] number line rest h = let never = h.header in absurd (cc)

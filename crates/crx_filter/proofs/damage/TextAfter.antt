@@ -110,7 +110,7 @@ first-full choices block epoch (Accepted (Observation other) ∷ items) h none =
 first-full choices block epoch (Warned at ∷ items) h none =
     interrupted-full choices.every (Warned at ∷ (items ++ block)) refl
 
-header-stays : (items block : List (Item Epoch))
+pub header-stays : (items block : List (Item Epoch))
     → header_has_ended block ≡ true → header_has_ended (items ++ block) ≡ true
 header-stays [] block h = h
 header-stays (item ∷ items) block h = ap (λ b. ends_header item || b) (header-stays items block h)

@@ -57,13 +57,13 @@ pub record AreSame (a b : List (Item ReadEpoch)) : Type 0 where
   pub block : block_of (raws_kept a) ≡ block_of (raws_kept b)
 
 -- the units that can stand after some items
-abbrev MayFollow : List (Item ReadEpoch) → FileUnit ReadEpoch → Type 0
+abbrev pub MayFollow : List (Item ReadEpoch) → FileUnit ReadEpoch → Type 0
 MayFollow items (HeaderLine line) = ⊥
 MayFollow items (EventLine line) = ⊤
 MayFollow items (EventRecord line) = 0 < records_left items
 MayFollow items (Observation read) = ⊤
 
-alike-unit : (a b : List (Item ReadEpoch)) (unit : FileUnit ReadEpoch)
+pub alike-unit : (a b : List (Item ReadEpoch)) (unit : FileUnit ReadEpoch)
     → MayFollow a unit → AreAlike a b → AreAlike (Accepted unit ∷ a) (Accepted unit ∷ b)
 alike-unit a b (HeaderLine line) f h = absurd f
 alike-unit a b (EventRecord line) f h = record {

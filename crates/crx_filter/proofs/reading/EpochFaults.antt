@@ -5,10 +5,10 @@ use Rattle.std.specs.Prelude.{⊤, not}
 use Rattle.std.specs.List.{list_all, list_any}
 use Rattle.std.specs.Str.{bytes_eq}
 use Rattle.crx_columns.specs.meaning.Columns.{columns, is_blank, without_end_blanks}
-use Rattle.crx_arcs.specs.meaning.Codes.{code_of}
+use Rattle.crx_text.specs.meaning.Codes.{code_of}
 use Rattle.crx_faults.specs.meaning.Seen.{ReadLine, Content, Overlong}
-use Rattle.crx_arcs.specs.declared.code.Code.{Code}
-use Rattle.crx_arcs.specs.declared.code.Code.TheVariants.{Missing, Start, Step}
+use Rattle.crx_text.specs.declared.code.Code.{Code}
+use Rattle.crx_text.specs.declared.code.Code.TheVariants.{Missing, Start, Step}
 use Rattle.crx_faults.specs.declared.limits.TheConstants.{HEAD_WIDTH, NAME_WIDTH, CLOCK_WIDTH, OBSERVATION_WIDTH}
 use Rattle.crx_faults.specs.declared.fault.Fault.{Fault}
 use Rattle.crx_faults.specs.declared.fault.Fault.TheVariants.{BadEpoch, BadClock, RepeatedSatellite, BadField}

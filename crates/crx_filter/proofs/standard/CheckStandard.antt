@@ -63,7 +63,7 @@ status-is : (input : List ℕ) → (whole_of input).fault ≡ None
     → (checked input).status ≡ report_status (findings_of (lines_of input)).not_standard
 status-is input good = ap (λ o. FilterResult.status (checked_by o (findings_of (lines_of input)))) good
 
-none-where_0 : (named : Option ℕ) → report_status named ≡ 0 → named ≡ None
+pub none-where_0 : (named : Option ℕ) → report_status named ≡ 0 → named ≡ None
 none-where_0 None e = refl
 none-where_0 (Some number) e = absurd (cc)
 

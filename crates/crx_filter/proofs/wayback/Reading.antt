@@ -78,7 +78,7 @@ copied-unit P items lines h =
     (copied-header P (is_at_start items) lines h) (copied-record P (records_count_types items) lines h)
     (copied-event P (types_in_force items) lines h)
 
-all-drop : {X : Type 0} (P : X → Type 0) (n : ℕ) (xs : List X) → AllByRecursion P xs → AllByRecursion P (drop n xs)
+pub all-drop : {X : Type 0} (P : X → Type 0) (n : ℕ) (xs : List X) → AllByRecursion P xs → AllByRecursion P (drop n xs)
 all-drop P zero xs h = h
 all-drop P (suc n) [] h = tt
 all-drop P (suc n) (x ∷ xs) h = all-drop P n xs h.1

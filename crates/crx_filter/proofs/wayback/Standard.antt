@@ -35,7 +35,7 @@ use Rattle.std.proofs.lemmas.Bool.{not-true}
 
 -- ---- where nothing is wrong, nothing is skipped
 
-not-ended : {X : Type 0} (at : At) → ◌≡◌ {A = Option At} (Some at) None → X
+pub not-ended : {X : Type 0} (at : At) → ◌≡◌ {A = Option At} (Some at) None → X
 not-ended at e = absurd (cc)
 
 ended-same : {E : Type 0} (skip : Bool) (items : List (Item E)) (number : ℕ) (o : Option Fault) → WholeReading.fault

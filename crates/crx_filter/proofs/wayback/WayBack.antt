@@ -19,7 +19,7 @@ use Rattle.crx_history.specs.meaning.Compaction.{Marked, compact_epoch}
 use Rattle.crx_history.specs.meaning.CompactPlaces.{ReadEpoch}
 use Rattle.crx_compact.specs.Laws.{LinesCanStand}
 use Rattle.crx_compact.proofs.wayback.Lengths.{lines-short}
-use Rattle.crx_options.specs.meaning.Choices.{Choices}
+use Rattle.crx_options.specs.meaning.Choices.{Choices, is_date}
 use Rattle.crx_reading.specs.meaning.Items.{Item, Accepted, Warned, is_at_start, header_has_ended, records_left}
 use Rattle.crx_reading.specs.meaning.Items.{types_in_force}
 use Rattle.crx_reading.specs.meaning.Reading.{Reading, WholeReading, Stop, AtFault, AtLines, Looking, is_skipped}
@@ -69,7 +69,7 @@ end-body true true one two e = absurd (cc)
 end-body true false one two e = (refl, refl)
 end-body false c one two e = absurd (cc)
 
-end-means : (items : List (Item Epoch)) (rest : List ReadLine)
+pub end-means : {E : Type 0} (items : List (Item E)) (rest : List ReadLine)
     → fault_at_end items rest ≡ None → (header_has_ended items ≡ true) × (records_left items ≡ 0)
 end-means [] rest e = absurd (cc)
 end-means (item ∷ before) (line ∷ rest) e = absurd (cc)
@@ -185,7 +185,7 @@ no-warnings every [] = refl
 no-warnings every (Accepted unit ∷ before) = no-warnings every before
 no-warnings every (Warned at ∷ before) = no-warnings every before
 
-result-well : (items : List (Item ReadEpoch)) (lines : List (List ℕ))
+pub result-well : (items : List (Item ReadEpoch)) (lines : List (List ℕ))
     → written_lines expanded_unit items ≡ lines → warnings_in items ≡ []
     → result_of expanded_unit (record { items = items; fault = None }) ≡ written_well (lines_text lines)
 result-well items lines e f =
@@ -206,10 +206,11 @@ whole-back every skip date items h =
     ∙ whole-again compact_place (known_back every)
     (body_unit every) compact-forward (unit-here every) skip 3 items h.in_place h.header h.none
 
-pub comes-back : (input : List ℕ) (compacting expanding : Choices) → ComesBack input compacting expanding
-comes-back input compacting expanding dated f none =
-    let items : List (Item Epoch) = WholeReading.items (whole_rinex compacting.skip (map seen (lines_of input))) in
-    let h : IsSettled items = whole-settled compacting.skip input f in
+-- what was accepted comes back from its compact text
+pub items-back : (items : List (Item Epoch)) (compacting expanding : Choices)
+    → is_date compacting.date ≡ true → IsSettled items → HaveNoReturns items
+    → expanded (lines_text (compact_lines compacting items)) expanding ≡ written_well (lines_text (printed_items items))
+items-back items compacting expanding dated h none =
     let lines : List (List ℕ) = version_line ∷ program_line compacting.date ∷ lines_back compacting.every items in
     let same : compact_lines compacting items ≡ lines =
     lines-same compacting items h.in_place (started items h.header) in
@@ -222,3 +223,8 @@ comes-back input compacting expanding dated f none =
     ∙ ap (result_of expanded_unit) (whole-back compacting.every expanding.skip compacting.date items h)
     ∙ result-well (read_back compacting.every items)
     (printed_items items) (printed-same compacting.every items) (no-warnings compacting.every items)
+
+pub comes-back : (input : List ℕ) (compacting expanding : Choices) → ComesBack input compacting expanding
+comes-back input compacting expanding dated f none =
+    let items : List (Item Epoch) = WholeReading.items (whole_rinex compacting.skip (map seen (lines_of input))) in
+    items-back items compacting expanding dated (whole-settled compacting.skip input f) none

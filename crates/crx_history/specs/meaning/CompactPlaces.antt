@@ -4,7 +4,7 @@ use Rattle.std.specs.Prelude.{ℕ, ◌+◌, ◌*◌, Bool, not, ◌&&◌, List, 
 use Rattle.std.specs.Prelude.{Result, Ok, Err, if◌then◌else◌}
 use Rattle.std.specs.List.{list_all}
 use Rattle.crx_columns.specs.meaning.Columns.{columns, is_blank, without_end_blanks}
-use Rattle.crx_arcs.specs.meaning.Codes.{code_of}
+use Rattle.crx_text.specs.meaning.Codes.{code_of}
 use Rattle.crx_faults.specs.meaning.Seen.{ReadLine}
 use Rattle.crx_faults.specs.declared.limits.TheConstants.{HEAD_WIDTH, NAME_WIDTH}
 use Rattle.crx_faults.specs.declared.fault.Fault.{Fault}

@@ -2,7 +2,7 @@
 -- for changes of those before them, but for those of an epoch in full, those of a satellite that the epoch before
 -- doesn't hold, and values that begin an arc. Header lines and events are copied.
 use Rattle.std.specs.Prelude.{ℕ, ℤ, List, [], ◌∷◌, map, Option, Some, None, Result, if◌then◌else◌}
-use Rattle.crx_arcs.specs.declared.code.Code.{Code}
+use Rattle.crx_text.specs.declared.code.Code.{Code}
 use Rattle.crx_faults.specs.declared.fault.Fault.{Fault}
 use Rattle.crx_faults.specs.declared.limits.TheConstants.{OBSERVATION_WIDTH, CLOCK_WIDTH}
 use Rattle.crx_header.specs.meaning.EpochColumns.{begins_epoch}

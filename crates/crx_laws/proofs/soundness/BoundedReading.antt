@@ -8,12 +8,12 @@ use Rattle.std.proofs.Common.{sym, ◌∙◌, ap, subst, arith}
 use Rattle.std.proofs.lemmas.List.{length-map, length-append, length-take}
 use Rattle.crx_columns.proofs.Characters.{length-columns, at, at-without_end_blanks, at-drop}
 use Rattle.crx_columns.specs.meaning.Columns.{is_blank, character_at, before_end_blanks, without_end_blanks, columns}
-use Rattle.crx_arcs.specs.meaning.Codes.{code_of, coded_number}
+use Rattle.crx_text.specs.meaning.Codes.{code_of, coded_number}
 use Rattle.crx_columns.specs.Texts.{patched, character_of}
 use Rattle.crx_columns.specs.meaning.Texts.{by_position}
 use Rattle.crx_faults.specs.meaning.Seen.{ReadLine, Content, Overlong}
-use Rattle.crx_arcs.specs.declared.code.Code.{Code}
-use Rattle.crx_arcs.specs.declared.code.Code.TheVariants.{Missing, Start, Step}
+use Rattle.crx_text.specs.declared.code.Code.{Code}
+use Rattle.crx_text.specs.declared.code.Code.TheVariants.{Missing, Start, Step}
 use Rattle.crx_faults.specs.declared.fault.Fault.{Fault}
 use Rattle.crx_faults.specs.declared.fault.Fault.TheVariants.{BadClock, Truncated}
 use Rattle.crx_faults.specs.declared.limits.TheConstants.{NAME_WIDTH, ORDER_LIMIT, TYPES_LIMIT, SATELLITES_LIMIT}

@@ -1,5 +1,5 @@
 use Rattle.std.proofs.Common.{arith}
-use Rattle.crx_arcs.proofs.CodeTexts.{code_text_length}
+use Rattle.crx_text.proofs.CodeTexts.{code_text_length}
 use Rattle.crx_arcs.proofs.cells.write_any_value.Goals as goal
 
 pub write_cell-requires-clause-room : goal.write_cell-requires-clause-room

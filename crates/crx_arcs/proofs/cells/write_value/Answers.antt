@@ -1,6 +1,6 @@
 use Rattle.std.proofs.Common.{rules, arith, FitsSigned, w64}
-use Rattle.crx_arcs.specs.declared.code.Code.TheVariants.{Step}
-use Rattle.crx_arcs.proofs.CodeTexts.{code_text_length}
+use Rattle.crx_text.specs.declared.code.Code.TheVariants.{Step}
+use Rattle.crx_text.proofs.CodeTexts.{code_text_length}
 use Rattle.crx_arcs.proofs.arcs.Running.{same-bits}
 use Rattle.crx_arcs.proofs.cells.write_value.Goals as goal
 

@@ -1,7 +1,7 @@
 -- by computation
 use Rattle.std.proofs.Common.{refl}
 use Rattle.std.specs.Fmt.{digits}
-use Rattle.crx_arcs.specs.meaning.Codes.{coded_number}
+use Rattle.crx_text.specs.meaning.Codes.{coded_number}
 use Rattle.crx_examples.proofs.compact_examples.no_satellite.Goals as goal
 
 pub returns : goal.returns

@@ -4,7 +4,7 @@ use Rattle.std.proofs.Common.{refl, arith}
 use Rattle.std.proofs.lemmas.Int.{ints}
 use Rattle.std.proofs.lemmas.List.Elements.{All-cons, All-nil}
 use Rattle.std.specs.Fmt.{digits}
-use Rattle.crx_arcs.specs.meaning.Codes.{coded_number}
+use Rattle.crx_text.specs.meaning.Codes.{coded_number}
 use Rattle.crx_text.specs.Numbers.{IsObservation}
 use Rattle.crx_header.specs.ObservationTypes.{IsCount}
 use Rattle.crx_rinex.specs.meaning.SatelliteLines.{IsSoundRow, HasItsTypes}

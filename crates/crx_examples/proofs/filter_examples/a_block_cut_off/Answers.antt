@@ -1,7 +1,7 @@
 -- by computation
 use Rattle.std.proofs.Common.{refl, arith, [], ◌∷◌, ◌++◌, codes, inl}
 use Rattle.std.specs.Fmt.{digits}
-use Rattle.crx_arcs.specs.meaning.Codes.{coded_number}
+use Rattle.crx_text.specs.meaning.Codes.{coded_number}
 use Rattle.crx_text.specs.meaning.Numbers.{size_of, number_of, number_text}
 use Rattle.crx_faults.specs.declared.fault.Fault.TheVariants.{Truncated}
 use Rattle.crx_laws.specs.SmallFiles.{header, header_items, first_two, epoch_at_second, epoch_line_at, full_line_at}

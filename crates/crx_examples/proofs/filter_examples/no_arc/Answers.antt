@@ -1,7 +1,7 @@
 -- by computation
 use Rattle.std.proofs.Common.{refl}
 use Rattle.std.specs.Fmt.{digits}
-use Rattle.crx_arcs.specs.meaning.Codes.{coded_number}
+use Rattle.crx_text.specs.meaning.Codes.{coded_number}
 use Rattle.crx_text.specs.meaning.Numbers.{size_of, number_of, number_text}
 use Rattle.crx_examples.proofs.filter_examples.no_arc.Goals as goal
 

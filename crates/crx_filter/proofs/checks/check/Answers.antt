@@ -1,8 +1,10 @@
 use Rattle.crx_reading.specs.meaning.Directions.{check_filter}
 use Rattle.crx_reading.specs.meaning.Standard.{checked}
+use Rattle.crx_filter.specs.meaning.Lossless.{SaysThatItComesBack}
 use Rattle.crx_filter.specs.meaning.Promises.{JudgesStandard}
 use Rattle.crx_runs.specs.meaning.Spans.{Input, reader_span, Device, span}
 use Rattle.crx_filter.proofs.Kept.{kept, judges-standard}
+use Rattle.crx_filter.proofs.standard.Lossless.{says-so}
 use Rattle.crx_filter.proofs.checks.check.Goals as goal
 
 pub returns : goal.returns
@@ -19,6 +21,12 @@ returns g c =
     let ran = c.check_by.ensures.runs in
     record {
       runs = ran;
+      lossless = (
+        ran.0,
+        ran.1,
+        kept checked check_filter (SaysThatItComesBack status)
+            input ran.0 writer messages status fault (says-so writer messages status fault) ran.2,
+      );
       standard = (
         ran.0,
         ran.1,

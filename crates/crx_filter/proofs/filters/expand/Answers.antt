@@ -2,6 +2,11 @@ use Rattle.std.proofs.Common.{◌≡◌, ℕ, List, [], Option, ap}
 use Rattle.crx_history.specs.OpenEpochs.{OpenRawEpoch}
 use Rattle.crx_history.specs.Tails.{Tail}
 use Rattle.crx_reading.specs.ExpansionByLine.{expansion_seen}
+use Rattle.crx_filter.specs.meaning.Lossless.{BringsBackWhatPasses}
+use Rattle.crx_filter.specs.meaning.UnitsAndText.{ReadsUnits}
+use Rattle.crx_filter.proofs.standard.Lossless.{brings-back_passed}
+use Rattle.crx_filter.proofs.wayback.ExpandedStandard.{wrote-standard}
+use Rattle.crx_filter.proofs.wayback.Units.{reads-units}
 use Rattle.crx_filter.specs.declared.expander.Expander.{Expander}
 use Rattle.crx_reading.specs.LineByLine.{Seen}
 use Rattle.crx_reading.specs.meaning.Expanded.{expanded}
@@ -12,6 +17,8 @@ use Rattle.std.proofs.lemmas.Result.{IfOk-weaker}
 use Rattle.crx_filter.proofs.following.Lawful.{expansion-lawful}
 use Rattle.crx_filter.specs.meaning.Promises.{BringsBackWhatWasCompacted, SavesAllElse}
 use Rattle.crx_filter.proofs.Kept.{kept, brings-back, saves-all_else}
+use Rattle.crx_filter.specs.meaning.Stretches.{KeepsUndamaged, WritesWholeUnits}
+use Rattle.crx_filter.proofs.stretches.StretchesKept.{keeps-undamaged, writes-whole_units}
 use Rattle.crx_filter.proofs.filters.expand.Goals as goal
 
 pub returns : goal.returns
@@ -33,10 +40,25 @@ returns g c =
     (λ (e : Expander). expansion_filter e.options ≡ expansion_filter choices)
     (λ e is. ap expansion_filter (same e is)) c.new.ensures.seen) in
     let expansion = λ (bytes : List ℕ). expanded bytes choices in
+    let passed = BringsBackWhatPasses writer messages status fault in
+    let units = ReadsUnits writer messages status fault in
     let back = BringsBackWhatWasCompacted writer messages status fault in
     let saves = SavesAllElse choices writer messages status fault in
     record {
       runs = ran;
+      lossless = (
+        ran.0,
+        ran.1,
+        kept expansion (expansion_filter choices) passed input ran.0 writer messages status fault
+            (brings-back_passed choices writer messages status fault) ran.2,
+      );
+      units = (
+        ran.0,
+        ran.1,
+        kept expansion (expansion_filter choices) units input ran.0 writer messages status fault
+            (reads-units choices writer messages status fault) ran.2,
+      );
+      standard = λ good. wrote-standard choices writer messages status fault ran.0 good (ran.2.good good).5;
       way_back = (
         ran.0,
         ran.1,
@@ -48,6 +70,18 @@ returns g c =
         ran.1,
         kept expansion (expansion_filter choices) saves input ran.0 writer messages status fault
             (saves-all_else choices writer messages status fault) ran.2,
+      );
+      damage = (
+        ran.0,
+        ran.1,
+        kept expansion (expansion_filter choices) (KeepsUndamaged choices writer messages status fault) input ran.0
+            writer messages status fault (keeps-undamaged choices writer messages status fault) ran.2,
+      );
+      whole_units = (
+        ran.0,
+        ran.1,
+        kept expansion (expansion_filter choices) (WritesWholeUnits writer) input ran.0
+            writer messages status fault (writes-whole_units choices writer messages status fault) ran.2,
       );
     }
 

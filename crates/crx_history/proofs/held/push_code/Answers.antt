@@ -1,7 +1,7 @@
 use Rattle.std.proofs.Common.{arith, ap, length}
 use Rattle.crx_history.proofs.Making.{ok-unless}
 use Rattle.crx_history.proofs.held.push_code.Goals as goal
-use Rattle.crx_arcs.proofs.CodeTexts.{code_text_length}
+use Rattle.crx_text.proofs.CodeTexts.{code_text_length}
 
 -- an empty text has room for a code
 pub unwrap-requires : goal.unwrap-requires

@@ -1,4 +1,4 @@
-use Rattle.crx_laws.proofs.wayback.NormalForm.{normal-for_good}
+use Rattle.crx_filter.proofs.wayback.NormalForm.{normal-for_good}
 use Rattle.crx_laws.proofs.normal_form.the_normal_form_stays.Goals as goal
 
 pub returns : goal.returns

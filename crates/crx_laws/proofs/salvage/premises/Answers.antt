@@ -2,7 +2,7 @@
 use Rattle.std.proofs.Common.{ℕ, refl, List, [], ◌∷◌, ◌++◌, codes, inl, inr, ◌≡◌, true}
 use Rattle.std.specs.List.{list_all}
 use Rattle.std.specs.Fmt.{digits}
-use Rattle.crx_arcs.specs.meaning.Codes.{coded_number}
+use Rattle.crx_text.specs.meaning.Codes.{coded_number}
 use Rattle.crx_faults.specs.meaning.Lines.{Piece, lines_of, pieces_of}
 use Rattle.crx_text.specs.meaning.Numbers.{size_of, number_of, number_text}
 use Rattle.crx_rinex.specs.meaning.Units.{EventLine, EventRecord, Observation}

@@ -1,8 +1,8 @@
 use Rattle.std.proofs.Common.{rules, ◌≡◌, ◌<◌, ◌+◌, length, take, ap, ◌∙◌, arith, FitsSigned, w64}
 use Rattle.crx_text.specs.meaning.Numbers.{IsWithin}
-use Rattle.crx_arcs.specs.declared.code.Code.TheVariants.{Step}
+use Rattle.crx_text.specs.declared.code.Code.TheVariants.{Step}
 use Rattle.crx_arcs.specs.ArcSteps.{differences_after, highest}
-use Rattle.crx_arcs.specs.Codes.{IsShort}
+use Rattle.crx_text.specs.Codes.{IsShort}
 use Rattle.crx_arcs.specs.Arcs.{kept_tail}
 use Rattle.crx_arcs.proofs.arcs.Running.{GoesOn, same-bits, begun-tail, begun-kept, lower-below}
 use Rattle.crx_arcs.proofs.arcs.Running.{within-below, goes-on-kept, goes-on, highest-short, within-short}

@@ -1,6 +1,6 @@
 use Rattle.std.proofs.Common.{rules, ◌≡◌, take, sym, ap, ◌∙◌, arith, FitsSigned, w64}
-use Rattle.crx_arcs.specs.Codes.{IsShort}
-use Rattle.crx_arcs.specs.declared.code.Code.TheVariants.{Step}
+use Rattle.crx_text.specs.Codes.{IsShort}
+use Rattle.crx_text.specs.declared.code.Code.TheVariants.{Step}
 use Rattle.crx_arcs.specs.ArcSteps.{differences_after, highest}
 use Rattle.crx_arcs.specs.Arcs.{kept_tail}
 use Rattle.crx_arcs.proofs.arcs.Running.{GoesOn, same-bits, lower-below, within-below, goes-on-kept, goes-on}

@@ -7,9 +7,9 @@ use Rattle.crx_rinex.specs.meaning.Epochs.{are_different}
 use Rattle.crx_rinex.specs.meaning.Observations.{Row}
 use Rattle.crx_header.proofs.Apart.{apart-map}
 use Rattle.crx_history.specs.HeldRows.{AreApart}
-use Rattle.crx_arcs.specs.meaning.Codes.{code_text}
+use Rattle.crx_text.specs.meaning.Codes.{code_text}
 use Rattle.crx_columns.specs.meaning.Texts.{text_difference}
-use Rattle.crx_arcs.specs.declared.code.Code.{Code}
+use Rattle.crx_text.specs.declared.code.Code.{Code}
 use Rattle.crx_arcs.specs.ArcTails.{ArcTail}
 use Rattle.crx_history.specs.Tails.{RowTail, Tail}
 use Rattle.crx_history.specs.meaning.Compaction.{epoch_text}

@@ -1,5 +1,0 @@
-use Rattle.crx_arcs.proofs.CodeTexts.{code_of-code_text}
-use Rattle.crx_arcs.proofs.code.code_is_read_back.Goals as goal
-
-pub returns : goal.returns
-returns c = code_of-code_text c.args.code c.requires

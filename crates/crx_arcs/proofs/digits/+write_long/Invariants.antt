@@ -1,4 +1,0 @@
-use Rattle.crx_arcs.proofs.digits.+write_long.Given as goal
-
-abbrev pub decreases-write_long : goal.decreases-write_long
-decreases-write_long l = l.size

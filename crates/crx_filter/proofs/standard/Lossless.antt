@@ -1,0 +1,43 @@
+-- What passes a check comes back.
+use Rattle.std.proofs.Common.{ℕ, ◌≡◌, true, List, Option, Some, None, refl, ap, sym, ◌∙◌, subst}
+use Rattle.crx_faults.specs.meaning.Lines.{lines_of}
+use Rattle.crx_faults.specs.declared.fault.At.{At}
+use Rattle.crx_options.specs.meaning.Choices.{Choices}
+use Rattle.crx_reading.specs.meaning.Compacted.{compacted}
+use Rattle.crx_reading.specs.meaning.Expanded.{expanded}
+use Rattle.crx_reading.specs.meaning.Standard.{Findings, whole_of, findings_of, checked_by, checked, IsStandard}
+use Rattle.crx_reading.specs.meaning.WayBack.{written_well}
+use Rattle.crx_runs.specs.meaning.Results.{FilterResult}
+use Rattle.crx_runs.specs.meaning.Runs.{IsResult}
+use Rattle.crx_runs.specs.meaning.Spans.{Device}
+use Rattle.crx_filter.specs.meaning.Lossless.{WhatPassesComesBack, SaysThatItComesBack, BringsBackWhatPasses}
+use Rattle.crx_filter.proofs.standard.CheckStandard.{named-where_not, none-where_0}
+use Rattle.crx_filter.proofs.wayback.Standard.{standard-comes_back}
+
+-- a check answers 0 only where no fault ended it, and no line was named
+passed : (o : Option At) (found : Findings) → FilterResult.status (checked_by o found) ≡ 0
+    → (o ≡ None) × (found.not_standard ≡ None)
+passed None found e = (refl, none-where_0 found.not_standard e)
+passed (Some at) found e = absurd (cc)
+
+passed-standard : (file : List ℕ) → FilterResult.status (checked file) ≡ 0 → IsStandard file
+passed-standard file e =
+    let both = passed (whole_of file).fault (findings_of (lines_of file)) e in
+    (named-where_not file both.0).0 both.1
+
+pub what-passes : WhatPassesComesBack
+what-passes file e compacting expanding dated =
+    standard-comes_back file compacting expanding dated (passed-standard file e)
+
+-- ---- in runs
+
+pub says-so : (writer messages : Device) (status : ℕ) (fault : Option At) (file : List ℕ)
+    → IsResult (checked file) writer messages status fault → SaysThatItComesBack status file
+says-so writer messages status fault file ran zero_status = what-passes file (sym ran.status_is ∙ zero_status)
+
+pub brings-back_passed : (expanding : Choices) (writer messages : Device) (status : ℕ) (fault : Option At)
+    (text : List ℕ) → IsResult (expanded text expanding) writer messages status fault
+    → BringsBackWhatPasses writer messages status fault text
+brings-back_passed expanding writer messages status fault text ran file compacting dated e same =
+    subst (λ r. IsResult r writer messages status fault)
+    (ap (λ t. expanded t expanding) same ∙ what-passes file e compacting expanding dated) ran

@@ -1,0 +1,280 @@
+-- The reading of a damaged stretch: whatever its lines are, but an event's first one, epochs and warnings are
+-- read of it alone; and it goes on at the next line that begins with >.
+use Rattle.std.proofs.Common.{ℕ, zero, suc, ◌≡◌, ◌+◌, ◌-◌, ◌<◌, max, ◌⊎◌, inl, inr, true, false, List, []}
+use Rattle.std.proofs.Common.{◌∷◌}
+use Rattle.std.proofs.Common.{◌++◌, length, drop, refl, ap, sym, ◌∙◌, subst, arith, append_assoc}
+use Rattle.std.specs.Prelude.{⊤}
+use Rattle.std.specs.List.{AllByRecursion}
+use Rattle.std.proofs.lemmas.List.{length-drop}
+use Rattle.crx_faults.specs.meaning.Faults.{is_skippable}
+use Rattle.crx_faults.specs.meaning.Seen.{ReadLine, Content, Overlong}
+use Rattle.crx_faults.specs.declared.fault.At.{At}
+use Rattle.crx_faults.specs.declared.fault.Fault.{Fault}
+use Rattle.crx_header.specs.meaning.EpochColumns.{begins_epoch, is_event_line}
+use Rattle.crx_rinex.specs.meaning.Places.{Here, Wrong, Wanted}
+use Rattle.crx_rinex.specs.meaning.Units.{Unit as FileUnit, HeaderLine, EventLine, EventRecord, Observation}
+use Rattle.crx_history.specs.meaning.CompactPlaces.{ReadEpoch, epoch_at}
+use Rattle.crx_reading.specs.meaning.Items.{Item, Accepted, Warned, types_in_force}
+use Rattle.crx_reading.specs.meaning.Reading.{Reading, AtLines, Looking, is_skipped, can_go_on, looked_for}
+use Rattle.crx_reading.specs.meaning.Reading.{reading_within, reading_from}
+use Rattle.crx_reading.specs.meaning.Expanded.{raws_kept, compact_place}
+use Rattle.crx_reading.proofs.Choosing.{by_bool}
+use Rattle.crx_filter.specs.Anew.{IsBetweenUnits}
+use Rattle.crx_filter.specs.Laws.{continued_reading}
+use Rattle.crx_filter.proofs.reading.EpochFaults.{IsSkippableAt, epoch-skippable}
+use Rattle.crx_filter.proofs.reading.ForwardCompact.{compact-forward}
+use Rattle.crx_filter.proofs.reading.Resuming.{by_place, here-within, wrong-within, within-here, within-wrong}
+use Rattle.crx_filter.proofs.reading.Resuming.{within-wanted, fault-skipped, looked-here, looked-on, resumed}
+use Rattle.crx_filter.proofs.damage.BlockReading.{place-between, place-inside, observation-here}
+use Rattle.crx_filter.proofs.damage.BlockReading.{observation-skippable}
+use Rattle.crx_filter.proofs.damage.BlockReading.{skipped-here}
+use Rattle.crx_filter.proofs.damage.GoingOn.{with_warnings, GoesOnAt, open-goes_on}
+
+-- ---- the lines of a stretch, and what is read of them
+
+-- a line that is no event's first one
+abbrev pub IsNoEvent : ReadLine → Type 0
+IsNoEvent (Content line) = is_event_line line ≡ false
+IsNoEvent Overlong = ⊤
+
+-- epochs and warnings alone
+abbrev pub AreEpochs : List (Item ReadEpoch) → Type 0
+AreEpochs [] = ⊤
+AreEpochs (Accepted (HeaderLine line) ∷ before) = ⊥
+AreEpochs (Accepted (EventLine line) ∷ before) = ⊥
+AreEpochs (Accepted (EventRecord line) ∷ before) = ⊥
+AreEpochs (Accepted (Observation read) ∷ before) = AreEpochs before
+AreEpochs (Warned at ∷ before) = AreEpochs before
+
+-- a reading has stopped where more lines could make an epoch, or looks for a line that begins with >
+abbrev pub IsOpen : List (Item ReadEpoch) → Reading ReadEpoch → Type 0
+IsOpen items r =
+    ((number : ℕ) × (rest : List ReadLine) × AllByRecursion IsNoEvent rest
+    × (compact_place items rest ≡ Wanted) × (r ≡ record { items = items; stop = AtLines number rest }))
+    ⊎ ((number : ℕ) × (r ≡ record { items = items; stop = Looking number }))
+
+pub record IsStretchRead (items : List (Item ReadEpoch)) (r : Reading ReadEpoch) : Type 0 where
+  pub news : List (Item ReadEpoch)
+  pub epochs : AreEpochs news
+  pub stops : IsOpen (news ++ items) r
+
+pub all-append : {X : Type 0} (P : X → Type 0) (one two : List X)
+    → AllByRecursion P one → AllByRecursion P two → AllByRecursion P (one ++ two)
+all-append P [] two h k = k
+all-append P (x ∷ one) two h k = (h.0, all-append P one two h.1 k)
+
+all-drop : {X : Type 0} (P : X → Type 0) (count : ℕ) (xs : List X)
+    → AllByRecursion P xs → AllByRecursion P (drop count xs)
+all-drop P zero xs h = h
+all-drop P (suc count) [] h = tt
+all-drop P (suc count) (x ∷ xs) h = all-drop P count xs h.1
+
+pub epochs-append : (one two : List (Item ReadEpoch)) → AreEpochs one → AreEpochs two → AreEpochs (one ++ two)
+epochs-append [] two h k = k
+epochs-append (Accepted (HeaderLine line) ∷ one) two h k = absurd h
+epochs-append (Accepted (EventLine line) ∷ one) two h k = absurd h
+epochs-append (Accepted (EventRecord line) ∷ one) two h k = absurd h
+epochs-append (Accepted (Observation read) ∷ one) two h k = epochs-append one two h k
+epochs-append (Warned at ∷ one) two h k = epochs-append one two h k
+
+pub epochs-between : (news items : List (Item ReadEpoch))
+    → AreEpochs news → IsBetweenUnits items → IsBetweenUnits (news ++ items)
+epochs-between [] items h between = between
+epochs-between (Accepted (HeaderLine line) ∷ news) items h between = absurd h
+epochs-between (Accepted (EventLine line) ∷ news) items h between = absurd h
+epochs-between (Accepted (EventRecord line) ∷ news) items h between = absurd h
+epochs-between (Accepted (Observation read) ∷ news) items h between =
+    record { header = IsBetweenUnits.header (epochs-between news items h between); none = refl }
+epochs-between (Warned at ∷ news) items h between =
+    record { header = IsBetweenUnits.header (epochs-between news items h between); none = refl }
+
+pub epochs-types : (news items : List (Item ReadEpoch))
+    → AreEpochs news → types_in_force (news ++ items) ≡ types_in_force items
+epochs-types [] items h = refl
+epochs-types (Accepted (HeaderLine line) ∷ news) items h = absurd h
+epochs-types (Accepted (EventLine line) ∷ news) items h = absurd h
+epochs-types (Accepted (EventRecord line) ∷ news) items h = absurd h
+epochs-types (Accepted (Observation read) ∷ news) items h = epochs-types news items h
+epochs-types (Warned at ∷ news) items h = epochs-types news items h
+
+-- one item more before what is read
+onto : (item : Item ReadEpoch) (items : List (Item ReadEpoch)) (r : Reading ReadEpoch)
+    → AreEpochs (item ∷ []) → IsStretchRead (item ∷ items) r → IsStretchRead items r
+onto item items r one h = record {
+  news = h.news ++ item ∷ [];
+  epochs = epochs-append h.news (item ∷ []) h.epochs one;
+  stops = subst (λ (all : List (Item ReadEpoch)). IsOpen all r) (sym (append_assoc h.news
+      (item ∷ []) items)) h.stops;
+}
+
+-- ---- what stands at such lines
+
+stretch-epoch : (items : List (Item ReadEpoch)) (lines : List ReadLine) (unit : FileUnit ReadEpoch)
+    (count : ℕ)
+    → IsBetweenUnits items → AllByRecursion IsNoEvent lines → compact_place items lines ≡ Here unit count
+    → (read : ReadEpoch) × (unit ≡ Observation read)
+stretch-epoch items [] unit count h text e = let never = sym (place-between items [] h) ∙ e in absurd (cc)
+stretch-epoch items (Overlong ∷ lines) unit count h text e =
+    observation-here (epoch_at (types_in_force items) (raws_kept items) (Overlong ∷ lines)) unit count
+    (sym (place-between items (Overlong ∷ lines) h) ∙ e)
+stretch-epoch items (Content line ∷ lines) unit count h text e =
+    observation-here (epoch_at (types_in_force items) (raws_kept items) (Content line ∷ lines)) unit count
+    (sym (place-inside items line lines h text.0) ∙ e)
+
+stretch-fault : (items : List (Item ReadEpoch)) (lines : List ReadLine) (offset : ℕ) (fault : Fault)
+    → IsBetweenUnits items → AllByRecursion IsNoEvent lines → compact_place items lines ≡ Wrong offset fault
+    → is_skippable fault ≡ true
+stretch-fault items [] offset fault h text e = let never = sym (place-between items [] h) ∙ e in absurd (cc)
+stretch-fault items (Overlong ∷ lines) offset fault h text e =
+    subst (λ p. IsSkippableAt p) (sym (place-between items (Overlong ∷ lines) h) ∙ e)
+    (observation-skippable (epoch_at (types_in_force items) (raws_kept items) (Overlong ∷ lines))
+    (epoch-skippable (types_in_force items) (raws_kept items) (Overlong ∷ lines)))
+stretch-fault items (Content line ∷ lines) offset fault h text e =
+    subst (λ p. IsSkippableAt p) (sym (place-inside items line lines h text.0) ∙ e)
+    (observation-skippable (epoch_at (types_in_force items) (raws_kept items) (Content line ∷ lines))
+    (epoch-skippable (types_in_force items) (raws_kept items) (Content line ∷ lines)))
+
+-- ---- the reading
+
+-- from wherever reading goes on, epochs and warnings are read
+looked-stretch : (read : ℕ → List ReadLine
+    → Reading ReadEpoch) (items : List (Item ReadEpoch)) (bound number : ℕ)
+    (lines : List ReadLine) → ((n : ℕ) (ls : List ReadLine) → length ls < bound
+    → AllByRecursion IsNoEvent ls → IsStretchRead items (read n ls))
+    → length lines < bound → AllByRecursion IsNoEvent lines
+    → IsStretchRead items (looked_for read items number lines)
+looked-stretch read items bound number [] h few text =
+    record { news = []; epochs = tt; stops = inr (number, refl) }
+looked-stretch read items bound number (line ∷ lines) h few text = by_bool (can_go_on line)
+    (λ on. subst (IsStretchRead items) (sym (looked-here read items number line lines on))
+    (h number (line ∷ lines) few text))
+    (λ off. subst (IsStretchRead items) (sym (looked-on read items number line lines off))
+    (looked-stretch read items bound (number + 1) lines h (omega (arith, few)) text.1))
+
+within-stretch : (units : ℕ) (items : List (Item ReadEpoch)) (number : ℕ) (lines : List ReadLine)
+    → length lines < units → IsBetweenUnits items → AllByRecursion IsNoEvent lines
+    → IsStretchRead items (reading_within compact_place true units items number lines)
+within-stretch zero items number lines few h text = absurd (omega (arith, few))
+within-stretch (suc units) items number lines few h text = by_place (compact_place items lines)
+    (λ unit count e.
+    let epoch = stretch-epoch items lines unit count h text e in
+    let read : ReadEpoch = epoch.0 in
+    let within = here-within compact_place compact-forward items lines unit count e in
+    let some = within.0 in
+    let in_lines = within.1 in
+    let left : length (drop count lines) ≡ length lines - count = length-drop count lines in
+    let rest : IsStretchRead (Accepted (Observation read) ∷ items) (reading_within compact_place true units
+    (Accepted (Observation read) ∷ items) (number + count) (drop count lines)) =
+    within-stretch units (Accepted (Observation read) ∷ items) (number + count) (drop count lines)
+    (omega (arith, few, some, in_lines, left)) (record { header = h.header; none = refl })
+    (all-drop IsNoEvent count lines text) in
+    subst (IsStretchRead items)
+    (sym (within-here compact_place true units items number lines unit count e
+    ∙ ap (λ u. reading_within compact_place true units (Accepted u ∷ items) (number + count)
+    (drop count lines))
+    epoch.1))
+    (onto (Accepted (Observation read)) items _ tt rest))
+    (λ offset fault e.
+    let at : At = record { line = number + offset; fault = fault } in
+    let on : is_skipped true items fault ≡ true =
+    skipped-here items fault h (stretch-fault items lines offset fault h text e) in
+    let n : ℕ = max offset 1 in
+    let short = wrong-within compact_place compact-forward items lines offset fault e in
+    let left : length (drop n lines) ≡ length lines - n = length-drop n lines in
+    subst (IsStretchRead items)
+    (sym (within-wrong compact_place true units items number lines offset fault e
+    ∙ fault-skipped true (reading_within compact_place true units) items number lines offset fault on))
+    (onto (Warned at) items _ tt
+    (looked-stretch (reading_within compact_place true units (Warned at ∷ items)) (Warned at ∷ items) units
+    (number + n)
+    (drop n lines)
+    (λ m ls less none.
+    within-stretch units (Warned at ∷ items) m ls less (record { header = h.header; none = refl }) none)
+    (omega (arith, few, short, left)) (all-drop IsNoEvent n lines text))))
+    (λ e. record {
+      news = [];
+      epochs = tt;
+      stops = inl (number, lines, text, e, within-wanted compact_place true units items number lines e);
+    })
+
+-- more lines of a stretch, after what was read so far
+pub stretch-more : (items : List (Item ReadEpoch)) (so_far lines : List ReadLine) → IsBetweenUnits items
+    → IsOpen items (reading_from compact_place true [] 3 so_far) → AllByRecursion IsNoEvent lines
+    → IsStretchRead items (reading_from compact_place true [] 3 (so_far ++ lines))
+stretch-more items so_far lines between stops text =
+    subst (IsStretchRead items) (sym (resumed compact_place compact-forward true [] 3 so_far lines))
+    (goes-on stops)
+  where
+    r : Reading ReadEpoch
+    r = reading_from compact_place true [] 3 so_far
+
+    goes-on : IsOpen items r → IsStretchRead items (continued_reading compact_place true r lines)
+    goes-on (inl (number, rest, none, e, is)) =
+        subst (λ (s : Reading ReadEpoch). IsStretchRead items (continued_reading compact_place true s lines))
+        (sym is)
+        (within-stretch (length (rest ++ lines) + 1) items number (rest ++ lines) (omega arith) between
+        (all-append IsNoEvent rest lines none text))
+    goes-on (inr (number, is)) =
+        subst (λ (s : Reading ReadEpoch). IsStretchRead items (continued_reading compact_place true s lines))
+        (sym is)
+        (looked-stretch (reading_from compact_place true items) items (length lines + 1) number lines
+        (λ m ls less none. within-stretch (length ls + 1) items m ls (omega arith) between none)
+        (omega arith) text)
+
+-- ---- the next line that begins with >
+
+-- reading goes on at some lines, after these items and a warning, if there is one
+pub record GoesOnAfter (items : List (Item ReadEpoch)) (lines : List ReadLine)
+    (r : Reading ReadEpoch) : Type 0 where
+  pub news : List (Item ReadEpoch)
+  pub epochs : AreEpochs news
+  pub number : ℕ
+  pub same : r ≡ reading_from compact_place true (news ++ items) number lines
+
+abbrev warned : List At → List (Item ReadEpoch)
+warned [] = []
+warned (at ∷ older) = Warned at ∷ warned older
+
+warned-same : (warnings : List At) (items : List (Item ReadEpoch))
+    → with_warnings warnings items ≡ warned warnings ++ items
+warned-same [] items = refl
+warned-same (at ∷ older) items = ap (λ all. Warned at ∷ all) (warned-same older items)
+
+warned-epochs : (warnings : List At) → AreEpochs (warned warnings)
+warned-epochs [] = tt
+warned-epochs (at ∷ older) = warned-epochs older
+
+after-warnings : (items : List (Item ReadEpoch)) (lines : List ReadLine) (r : Reading ReadEpoch)
+    → GoesOnAt items lines r → GoesOnAfter items lines r
+after-warnings items lines r g = record {
+  news = warned g.warnings;
+  epochs = warned-epochs g.warnings;
+  number = g.number;
+  same = g.same
+      ∙ ap (λ all. reading_from compact_place true all g.number lines) (warned-same g.warnings items);
+}
+
+pub open-continued : (items : List (Item ReadEpoch)) (r : Reading ReadEpoch) (line : List ℕ)
+    (tail : List ReadLine)
+    → IsBetweenUnits items → IsOpen items r → begins_epoch line ≡ true
+    → GoesOnAfter items (Content line ∷ tail) (continued_reading compact_place true r (Content line ∷ tail))
+open-continued items r line tail between (inl (number, [], none, e, is)) begins = record {
+  news = [];
+  epochs = tt;
+  number = number;
+  same = ap (λ s. continued_reading compact_place true s (Content line ∷ tail)) is;
+}
+open-continued items r line tail between (inl (number, Overlong ∷ rest, none, e, is)) begins =
+    let never = sym (place-between items (Overlong ∷ rest) between) ∙ e in absurd (cc)
+open-continued items r line tail between (inl (number, Content first ∷ rest, none, e, is)) begins =
+    subst (λ (s : Reading ReadEpoch). GoesOnAfter items (Content line ∷ tail)
+    (continued_reading compact_place true s (Content line ∷ tail))) (sym is)
+    (after-warnings items (Content line ∷ tail) _
+    (open-goes_on items number first rest line tail between none.0 e begins))
+open-continued items r line tail between (inr (number, is)) begins = record {
+  news = [];
+  epochs = tt;
+  number = number;
+  same = ap (λ s. continued_reading compact_place true s (Content line ∷ tail)) is
+      ∙ looked-here (reading_from compact_place true items) items number (Content line) tail begins;
+}

@@ -1,0 +1,172 @@
+-- A text that is damaged in stretches, cut into lines: those that the compaction wrote, and those that come
+-- in the stretches.
+use Rattle.std.proofs.Common.{ℕ, ◌≡◌, ◌⊎◌, inl, inr, true, not, List, [], ◌∷◌, ◌++◌, map, length, drop}
+use Rattle.std.proofs.Common.{refl, ap, sym, ◌∙◌, subst, append_assoc, append-nil}
+use Rattle.std.specs.Prelude.{◌||◌}
+use Rattle.std.specs.List.{AllByRecursion, list_all}
+use Rattle.std.proofs.Math.Seq.{drop-append_seam}
+use Rattle.std.proofs.lemmas.Bool.{and_parts, not-true}
+use Rattle.crx_faults.specs.meaning.Lines.{Piece, InputLine, pieces_of, lines_of, is_long, lines_text}
+use Rattle.crx_faults.specs.meaning.Seen.{Content, seen}
+use Rattle.crx_header.specs.meaning.EpochColumns.{is_event_line}
+use Rattle.crx_rinex.specs.meaning.Observations.{Epoch}
+use Rattle.crx_options.specs.meaning.Choices.{Choices}
+use Rattle.crx_reading.specs.meaning.Items.{Item, Accepted, Warned, header_has_ended}
+use Rattle.crx_reading.specs.meaning.Compacted.{compact_lines}
+use Rattle.crx_reading.specs.meaning.Damage.{lines_after}
+use Rattle.crx_reading.specs.meaning.WayBack.{OfCopiedLines, HaveNoReturns}
+use Rattle.crx_reading.proofs.Choosing.{by_bool}
+use Rattle.crx_filter.specs.Laws.{AreInPlace}
+use Rattle.crx_filter.specs.meaning.Stretches.{Stretch, up_to_end, up_to_next, with_stretches, stretches_text}
+use Rattle.crx_filter.specs.meaning.Stretches.{begins_no_event, IsStretch, AreStretches}
+use Rattle.crx_filter.proofs.wayback.Cut.{IsClean, CanStand}
+use Rattle.crx_filter.proofs.wayback.Reading.{lines_back}
+use Rattle.crx_filter.proofs.wayback.WayBack.{lines-clean}
+use Rattle.crx_filter.proofs.damage.BlockSaved.{rest-in_place, text-parts}
+use Rattle.crx_filter.proofs.damage.DamagedText.{each-ended, lines-append, front-cut, clean-both}
+use Rattle.crx_filter.proofs.damage.TextAfter.{lines_on, written-on, header-stays}
+use Rattle.crx_filter.proofs.stretches.OpenReading.{IsNoEvent}
+use Rattle.crx_filter.proofs.stretches.StretchesRead.{stretch_lines, lines_of_stretches, AllowLines}
+
+-- ---- the lines that come in a stretch
+
+lines-allowed : (lines : List InputLine) → list_all begins_no_event lines ≡ true
+    → AllByRecursion IsNoEvent (map seen lines)
+lines-allowed [] e = tt
+lines-allowed (line ∷ lines) e =
+    let both = and_parts (begins_no_event line) (list_all begins_no_event lines) e in
+    (one line both.0, lines-allowed lines both.1)
+  where
+    one : (line : InputLine) → begins_no_event line ≡ true → IsNoEvent (seen line)
+    one line e = by_bool (is_long line)
+        (λ long. rw long tt)
+        (λ short. rw short (not-true (is_event_line line.content)
+        (sym (ap (λ b. b || not (is_event_line line.content)) short) ∙ e)))
+
+pub stretches-allowed : (choices : Choices) (before : List (Item Epoch)) (stretches : List Stretch)
+    → AreStretches choices before stretches → AllowLines stretches
+stretches-allowed choices before [] h = tt
+stretches-allowed choices before (s ∷ later) h = (
+  lines-allowed (lines_of s.instead) (IsStretch.allowed h.0),
+  stretches-allowed choices (up_to_next before s) later h.1,
+)
+
+-- ---- the units of a file, and those before some of them
+
+pub record AreGood (items : List (Item Epoch)) : Type 0 where
+  pub in_place : AreInPlace items
+  pub copied : OfCopiedLines CanStand items
+  pub no_returns : HaveNoReturns items
+
+copied-rest : (P : List ℕ → Type 0) (later before : List (Item Epoch))
+    → OfCopiedLines P (later ++ before) → OfCopiedLines P before
+copied-rest P [] before h = h
+copied-rest P (Accepted unit ∷ later) before h = copied-rest P later before h.1
+copied-rest P (Warned at ∷ later) before h = copied-rest P later before h
+
+pub good-before : (later before : List (Item Epoch)) → AreGood (later ++ before) → AreGood before
+good-before later before h = record {
+  in_place = rest-in_place later before h.in_place;
+  copied = copied-rest CanStand later before h.copied;
+  no_returns = copied-rest _ later before h.no_returns;
+}
+
+pub good-up_to : (before : List (Item Epoch)) (stretches : List Stretch)
+    → AreGood (with_stretches before stretches) → AreGood before
+good-up_to before [] h = h
+good-up_to before (s ∷ later) h = good-before s.lost before
+    (good-before s.kept (up_to_end before s) (good-up_to (up_to_next before s) later h))
+
+-- ---- the units that are kept
+
+-- their lines are those of the longer text without those of the shorter
+pub kept-lines : (choices : Choices) (kept block : List (Item Epoch)) → AreInPlace (kept ++ block)
+    → header_has_ended block ≡ true
+    → lines_after choices block (kept ++ block) ≡ lines_on choices.every kept block
+kept-lines choices kept block h header =
+    ap (drop (length (compact_lines choices block)))
+    (text-parts choices kept block h (header-stays kept block header) header)
+    ∙ drop-append_seam (compact_lines choices block) (lines_on choices.every kept block)
+
+pub kept-clean : (choices : Choices) (kept block : List (Item Epoch)) → AreGood (kept ++ block)
+    → AllByRecursion IsClean (lines_on choices.every kept block)
+kept-clean choices kept block h =
+    (clean-both (lines_back choices.every block) (lines_on choices.every kept block)
+    (subst (AllByRecursion IsClean) (written-on choices.every kept block)
+    (lines-clean choices.every (kept ++ block) h.in_place h.copied h.no_returns))).1
+
+-- ---- the lines of the text
+
+-- bytes that end with a line, and then others
+ended-cut : (instead : List ℕ) (lines : List (List ℕ)) (text : List ℕ) → AllByRecursion IsClean lines
+    → list_all (λ (piece : Piece). piece.is_ended) (pieces_of instead) ≡ true
+    → map seen (lines_of (instead ++ (lines_text lines ++ text)))
+    ≡ map seen (lines_of instead) ++ (map Content lines ++ map seen (lines_of text))
+ended-cut instead lines text clean ended =
+    lines-append instead (lines_text lines ++ text) (each-ended (pieces_of instead) ended)
+    ∙ ap (λ ls. map seen (lines_of instead) ++ ls) (front-cut lines text clean)
+
+-- bytes with nothing after them
+last-cut : (choices : Choices) (before : List (Item Epoch)) (s : Stretch) (later : List Stretch)
+    → s.kept ≡ [] → later ≡ [] → lines_after choices (up_to_end before s) (up_to_next before s)
+    ≡ lines_on choices.every s.kept (up_to_end before s)
+    → map seen (lines_of (stretches_text choices before (s ∷ later)))
+    ≡ lines_of_stretches choices.every before (s ∷ later)
+last-cut choices before s later none last same =
+    let block : List (Item Epoch) = up_to_end before s in
+    let nothing : lines_on choices.every s.kept block ≡ [] =
+    ap (λ (kept : List (Item Epoch)). lines_on choices.every kept block) none in
+    let text : stretches_text choices before (s ∷ later) ≡ s.instead =
+    ap (λ (ls : List (List ℕ)). s.instead ++ (lines_text ls ++ stretches_text choices
+    (up_to_next before s) later))
+    (same ∙ nothing)
+    ∙ ap (λ (l : List Stretch). s.instead ++ stretches_text choices (up_to_next before s) l) last
+    ∙ append-nil s.instead in
+    let lines : lines_of_stretches choices.every before (s ∷ later) ≡ map seen (lines_of s.instead) =
+    ap (λ (l : List Stretch). stretch_lines choices.every before s
+    ++ lines_of_stretches choices.every (up_to_next before s) l) last
+    ∙ append-nil (stretch_lines choices.every before s)
+    ∙ ap (λ (ls : List (List ℕ)). map seen (lines_of s.instead) ++ map Content ls) nothing
+    ∙ append-nil (map seen (lines_of s.instead)) in
+    ap (λ t. map seen (lines_of t)) text ∙ sym lines
+
+pub stretches-cut : (choices : Choices) (before : List (Item Epoch)) (stretches : List Stretch)
+    → AreStretches choices before stretches → AreGood (with_stretches before stretches)
+    → header_has_ended before ≡ true → map seen (lines_of (stretches_text choices before stretches))
+    ≡ lines_of_stretches choices.every before stretches
+stretches-cut choices before [] h good header = refl
+stretches-cut choices before (s ∷ later) h good header =
+    either (IsStretch.ended h.0) (stretches-cut choices next later h.1 good
+    (header-stays s.kept block block-header))
+  where
+    block : List (Item Epoch)
+    block = up_to_end before s
+
+    next : List (Item Epoch)
+    next = up_to_next before s
+
+    here : AreGood next
+    here = good-up_to next later good
+
+    block-header : header_has_ended block ≡ true
+    block-header = header-stays s.lost before header
+
+    same : lines_after choices block next ≡ lines_on choices.every s.kept block
+    same = kept-lines choices s.kept block here.in_place block-header
+
+    either : ((s.kept ≡ []) × (later ≡ []))
+        ⊎ (list_all (λ (piece : Piece). piece.is_ended) (pieces_of s.instead) ≡ true)
+        → map seen (lines_of (stretches_text choices next later))
+        ≡ lines_of_stretches choices.every next later
+        → map seen (lines_of (stretches_text choices before (s ∷ later)))
+        ≡ lines_of_stretches choices.every before (s ∷ later)
+    either (inl nothing) rest = last-cut choices before s later nothing.0 nothing.1 same
+    either (inr ended) rest =
+        ap (λ (ls : List (List ℕ)). map seen (lines_of (s.instead ++ (lines_text ls
+        ++ stretches_text choices next later)))) same
+        ∙ ended-cut s.instead (lines_on choices.every s.kept block) (stretches_text choices next later)
+        (kept-clean choices s.kept block here) ended
+        ∙ sym (append_assoc (map seen (lines_of s.instead)) (map Content
+        (lines_on choices.every s.kept block))
+        (map seen (lines_of (stretches_text choices next later))))
+        ∙ ap (λ ls. stretch_lines choices.every before s ++ ls) rest

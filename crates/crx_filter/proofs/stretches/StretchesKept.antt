@@ -1,0 +1,27 @@
+-- What a run keeps of damaged text follows from what it is, by the laws.
+use Rattle.std.proofs.Common.{ℕ, List, Option, subst}
+use Rattle.crx_faults.specs.meaning.Lines.{lines_text}
+use Rattle.crx_faults.specs.declared.fault.At.{At}
+use Rattle.crx_options.specs.meaning.Choices.{Choices}
+use Rattle.crx_reading.specs.meaning.Expanded.{expanded}
+use Rattle.crx_reading.specs.meaning.Standard.{printed_items}
+use Rattle.crx_runs.specs.meaning.Results.{Begins}
+use Rattle.crx_runs.specs.meaning.Runs.{IsResult}
+use Rattle.crx_runs.specs.meaning.Spans.{Device}
+use Rattle.crx_filter.specs.meaning.Stretches.{KeepsUndamaged, WritesWholeUnits}
+use Rattle.crx_filter.proofs.stretches.StretchesSaved.{rest-kept, whole-first}
+
+pub keeps-undamaged : (expanding : Choices)
+    (writer messages : Device) (status : ℕ) (fault : Option At) (damaged : List ℕ)
+    → IsResult (expanded damaged expanding) writer messages status fault
+    → KeepsUndamaged expanding writer messages status fault damaged
+keeps-undamaged expanding writer messages status fault damaged ran file compacting dated skips damage =
+    (expanded damaged expanding, rest-kept file compacting expanding damaged dated skips damage, ran)
+
+pub writes-whole_units : (expanding : Choices)
+    (writer messages : Device) (status : ℕ) (fault : Option At) (text : List ℕ)
+    → IsResult (expanded text expanding) writer messages status fault → WritesWholeUnits writer text
+writes-whole_units expanding writer messages status fault text ran file compacting dated whole =
+    let begins : Begins (expanded text expanding).output (lines_text (printed_items whole.before)) =
+    whole-first file compacting expanding text dated whole in
+    (begins.rest, subst (λ output. writer.took output) begins.same ran.output)

@@ -1,0 +1,258 @@
+-- The reading of a text that is damaged in stretches: after each stretch the units that are kept, exactly.
+use Rattle.std.proofs.Common.{ℕ, ◌≡◌, true, List, [], ◌∷◌, ◌++◌, map, Option, refl, ap, sym, ◌∙◌, subst}
+use Rattle.std.proofs.Common.{append_assoc}
+use Rattle.std.proofs.Common.{append-nil, inl, inr, ◌⊎◌}
+use Rattle.std.specs.Prelude.{⊤}
+use Rattle.std.specs.List.{AllByRecursion, flat_map}
+use Rattle.std.proofs.lemmas.Grind.{flat_map-append}
+use Rattle.crx_faults.specs.meaning.Lines.{lines_of}
+use Rattle.crx_faults.specs.meaning.Seen.{ReadLine, Content, seen}
+use Rattle.crx_rinex.specs.meaning.Observations.{Epoch}
+use Rattle.crx_rinex.specs.meaning.Epochs.{IsWholeEpoch}
+use Rattle.crx_rinex.specs.meaning.Printing.{printed_epoch}
+use Rattle.crx_rinex.specs.meaning.Units.{HeaderLine, EventLine, EventRecord, Observation}
+use Rattle.crx_compact.specs.ReadingLaws.{IsGood}
+use Rattle.crx_history.specs.meaning.CompactPlaces.{ReadEpoch}
+use Rattle.crx_options.specs.meaning.Choices.{Choices}
+use Rattle.crx_reading.specs.meaning.Items.{Item, Accepted, Warned, header_has_ended, records_left}
+use Rattle.crx_reading.specs.meaning.Items.{types_in_force}
+use Rattle.crx_reading.specs.meaning.Reading.{reading_from}
+use Rattle.crx_reading.specs.meaning.Expanded.{compact_place}
+use Rattle.crx_reading.specs.meaning.Damage.{BeginsAnew}
+use Rattle.crx_reading.specs.meaning.Standard.{printed_items}
+use Rattle.crx_filter.specs.Anew.{IsBetweenUnits}
+use Rattle.crx_filter.specs.Expanded.{expanded_lines}
+use Rattle.crx_filter.specs.Laws.{AreInPlace}
+use Rattle.crx_filter.specs.meaning.Stretches.{Stretch, up_to_end, up_to_next, with_stretches, IsStretch}
+use Rattle.crx_filter.specs.meaning.Stretches.{AreStretches, Saves}
+use Rattle.crx_filter.proofs.wayback.Carried.{left-same, types-same}
+use Rattle.crx_filter.proofs.wayback.ExpandedWhole.{AreGoodEpochs}
+use Rattle.crx_filter.proofs.wayback.Items.{known_back}
+use Rattle.crx_filter.proofs.damage.BlockSaved.{rest-in_place}
+use Rattle.crx_filter.proofs.damage.SavedText.{lines-append, epochs_of}
+use Rattle.crx_filter.proofs.damage.TextAfter.{lines_on, header-stays}
+use Rattle.crx_filter.proofs.stretches.OpenReading.{IsNoEvent, AreEpochs, IsOpen, IsStretchRead, stretch-more}
+use Rattle.crx_filter.proofs.stretches.OpenReading.{all-append}
+use Rattle.crx_filter.proofs.stretches.OpenReading.{epochs-append, epochs-between, epochs-types}
+use Rattle.crx_filter.proofs.stretches.KeptReading.{back_on, back-printed, anew-between, IsKeptRead}
+use Rattle.crx_filter.proofs.stretches.KeptReading.{CanBeKept, kept-more}
+
+-- ---- where a reading stands
+
+-- these lines were read as these items, which leave the same state as these units
+pub record HasCome (so_far : List ReadLine) (items : List (Item ReadEpoch)) (before : List
+    (Item Epoch)) : Type 0 where
+  pub stops : IsOpen items (reading_from compact_place true [] 3 so_far)
+  pub between : IsBetweenUnits items
+  pub types : types_in_force items ≡ types_in_force before
+
+-- the lines of a stretch, and those of the units that are kept after it
+abbrev pub stretch_lines : Option ℕ → List (Item Epoch) → Stretch → List ReadLine
+stretch_lines every before s =
+    map seen (lines_of s.instead) ++ map Content (lines_on every s.kept (up_to_end before s))
+
+abbrev pub lines_of_stretches : Option ℕ → List (Item Epoch) → List Stretch → List ReadLine
+lines_of_stretches every before [] = []
+lines_of_stretches every before (s ∷ later) =
+    stretch_lines every before s ++ lines_of_stretches every (up_to_next before s) later
+
+-- ---- one stretch
+
+pub record IsStepRead (choices : Choices) (before : List (Item Epoch)) (s : Stretch)
+    (so_far : List ReadLine) (items : List (Item ReadEpoch)) : Type 0 where
+  pub news : List (Item ReadEpoch)
+  pub epochs : AreEpochs news
+  pub come : HasCome (so_far ++ stretch_lines choices.every before s)
+      (back_on choices.every s.kept (up_to_end before s) ++ (news ++ items)) (up_to_next before s)
+
+-- no line of a stretch is an event's first one
+abbrev pub AllowsLines : Stretch → Type 0
+AllowsLines s = AllByRecursion IsNoEvent (map seen (lines_of s.instead))
+
+-- what is known of the units up to the next stretch
+pub record IsSound (before : List (Item Epoch)) (s : Stretch) : Type 0 where
+  pub in_place : AreInPlace (up_to_next before s)
+  pub header : header_has_ended before ≡ true
+  pub closed : records_left (up_to_next before s) ≡ 0
+
+end-left : (choices : Choices) (before : List (Item Epoch)) (s : Stretch) → IsSound before s
+    → BeginsAnew choices (up_to_end before s) s.kept → records_left (up_to_end before s) ≡ 0
+end-left choices before s sound anew =
+    either (anew-between choices s.kept (up_to_end before s) sound.in_place anew)
+  where
+    either : (s.kept ≡ []) ⊎ (records_left (up_to_end before s) ≡ 0) → records_left (up_to_end before s) ≡ 0
+    either (inl e) = ap (λ (kept : List (Item Epoch)). records_left (kept ++ up_to_end before s)) (sym e)
+        ∙ sound.closed
+    either (inr e) = e
+
+pub one-stretch : (choices : Choices) (before : List (Item Epoch)) (s : Stretch) (later : List Stretch)
+    (so_far : List ReadLine) (items : List (Item ReadEpoch)) → IsStretch choices before s later
+    → AllowsLines s
+    → IsSound before s → HasCome so_far items before → IsStepRead choices before s so_far items
+one-stretch choices before s later so_far items h allowed sound come =
+    let block : List (Item Epoch) = up_to_end before s in
+    let first : IsStretchRead items (reading_from compact_place true [] 3 (so_far ++ map seen
+    (lines_of s.instead))) =
+    stretch-more items so_far (map seen (lines_of s.instead)) come.between come.stops allowed in
+    let x : List (Item ReadEpoch) = first.news ++ items in
+    let can : CanBeKept choices.every s.kept block x = record {
+      in_place = sound.in_place;
+      header = header-stays s.lost before sound.header;
+      left = end-left choices before s sound h.anew;
+      between = epochs-between first.news items first.epochs come.between;
+      types = epochs-types first.news items first.epochs ∙ come.types ∙ sym h.types;
+    } in
+    let k : IsKeptRead choices.every s.kept block x (reading_from compact_place true [] 3
+    ((so_far ++ map seen (lines_of s.instead)) ++ map Content (lines_on choices.every s.kept block))) =
+    kept-more choices s.kept block x (so_far ++ map seen (lines_of s.instead)) can h.anew first.stops in
+    let joined : k.news ++ (first.news ++ items) ≡ (k.news ++ first.news) ++ items =
+    sym (append_assoc k.news first.news items) in
+    let front : List (Item ReadEpoch) = back_on choices.every s.kept block in
+    let there : HasCome (so_far ++ stretch_lines choices.every before s)
+    (front ++ (k.news ++ x)) (up_to_next before s) = record {
+      stops = subst (λ ls. IsOpen (front ++ (k.news ++ x)) (reading_from compact_place true [] 3 ls))
+          (append_assoc so_far (map seen (lines_of s.instead)) (map Content
+          (lines_on choices.every s.kept block)))
+          k.stops;
+      between = record {
+        header = (k.alike).one;
+        none = (k.alike).left ∙ left-same (known_back choices.every) (up_to_next before s) sound.in_place
+            ∙ sound.closed;
+      };
+      types = (k.alike).types ∙ types-same (known_back choices.every) (up_to_next before s) sound.in_place;
+    } in
+    record {
+      news = k.news ++ first.news;
+      epochs = epochs-append k.news first.news k.epochs first.epochs;
+      come = subst (λ (all : List (Item ReadEpoch)). HasCome (so_far ++ stretch_lines choices.every before s)
+          (front ++ all) (up_to_next before s)) joined there;
+    }
+
+-- ---- what is written for it
+
+-- the printed epochs among what is read of a stretch
+news-printed : (news : List (Item ReadEpoch))
+    → AreEpochs news → expanded_lines news ≡ flat_map printed_epoch (epochs_of news)
+news-printed [] h = refl
+news-printed (Accepted (HeaderLine line) ∷ news) h = absurd h
+news-printed (Accepted (EventLine line) ∷ news) h = absurd h
+news-printed (Accepted (EventRecord line) ∷ news) h = absurd h
+news-printed (Accepted (Observation read) ∷ news) h =
+    ap (λ ls. ls ++ printed_epoch read.epoch) (news-printed news h)
+    ∙ ap (λ ls. flat_map printed_epoch (epochs_of news) ++ ls) (sym (append-nil (printed_epoch read.epoch)))
+    ∙ sym (flat_map-append printed_epoch (epochs_of news) (read.epoch ∷ []))
+news-printed (Warned at ∷ news) h = news-printed news h
+
+-- they are whole
+good-rest : (later items : List (Item ReadEpoch)) → AreGoodEpochs (later ++ items) → AreGoodEpochs items
+good-rest [] items h = h
+good-rest (Accepted (HeaderLine line) ∷ later) items h = good-rest later items h
+good-rest (Accepted (EventLine line) ∷ later) items h = good-rest later items h
+good-rest (Accepted (EventRecord line) ∷ later) items h = good-rest later items h
+good-rest (Accepted (Observation read) ∷ later) items h = good-rest later items h.1
+good-rest (Warned at ∷ later) items h = good-rest later items h
+
+news-whole : (news items : List (Item ReadEpoch)) → AreEpochs news → AreGoodEpochs (news ++ items)
+    → AllByRecursion (IsWholeEpoch (types_in_force items)) (epochs_of news)
+news-whole [] items h good = tt
+news-whole (Accepted (HeaderLine line) ∷ news) items h good = absurd h
+news-whole (Accepted (EventLine line) ∷ news) items h good = absurd h
+news-whole (Accepted (EventRecord line) ∷ news) items h good = absurd h
+news-whole (Accepted (Observation read) ∷ news) items h good =
+    all-append (IsWholeEpoch (types_in_force items)) (epochs_of news) (read.epoch ∷ [])
+    (news-whole news items h good.1)
+    (subst (λ types. IsWholeEpoch types read.epoch) (epochs-types news items h) (IsGood.whole good.0), tt)
+news-whole (Warned at ∷ news) items h good = news-whole news items h good
+
+-- ---- all stretches
+
+pub record AreStretchesRead (choices : Choices) (before : List (Item Epoch)) (stretches : List Stretch)
+    (so_far : List ReadLine) (items : List (Item ReadEpoch)) : Type 0 where
+  pub more : List (Item ReadEpoch)
+  pub come : HasCome (so_far ++ lines_of_stretches choices.every before stretches)
+      (more ++ items) (with_stretches before stretches)
+  pub saves : AreGoodEpochs (more ++ items) → Saves before stretches (expanded_lines more)
+
+-- each line that comes in a stretch is allowed
+abbrev pub AllowLines : List Stretch → Type 0
+AllowLines [] = ⊤
+AllowLines (s ∷ later) = AllowsLines s × AllowLines later
+
+-- what is known of all units
+pub record AreSound (before : List (Item Epoch)) (stretches : List Stretch) : Type 0 where
+  pub in_place : AreInPlace (with_stretches before stretches)
+  pub header : header_has_ended before ≡ true
+  pub closed : records_left (with_stretches before stretches) ≡ 0
+
+pub in_place-up_to : (before : List (Item Epoch)) (stretches : List Stretch)
+    → AreInPlace (with_stretches before stretches) → AreInPlace before
+in_place-up_to before [] h = h
+in_place-up_to before (s ∷ later) h =
+    rest-in_place s.lost before (rest-in_place s.kept (up_to_end before s) (in_place-up_to
+    (up_to_next before s) later h))
+
+-- the units up to the next stretch, or the end, are whole
+pub next-closed : (choices : Choices) (next : List (Item Epoch)) (later : List Stretch)
+    → AreStretches choices next later → records_left (with_stretches next later) ≡ 0 → records_left next ≡ 0
+next-closed choices next [] h closed = closed
+next-closed choices next (s ∷ later) h closed = IsStretch.between h.0
+
+pub stretches-read : (choices : Choices) (before : List (Item Epoch)) (stretches : List Stretch)
+    (so_far : List ReadLine) (items : List (Item ReadEpoch)) → AreStretches choices before stretches
+    → AllowLines stretches → AreSound before stretches → HasCome so_far items before
+    → AreStretchesRead choices before stretches so_far items
+stretches-read choices before [] so_far items h allowed sound come = record {
+  more = [];
+  come = subst (λ ls. HasCome ls items before) (sym (append-nil so_far)) come;
+  saves = λ good. refl;
+}
+stretches-read choices before (s ∷ later) so_far items h allowed sound come =
+    let next : List (Item Epoch) = up_to_next before s in
+    let block : List (Item Epoch) = up_to_end before s in
+    let here : IsSound before s = record {
+      in_place = in_place-up_to next later sound.in_place;
+      header = sound.header;
+      closed = next-closed choices next later h.1 sound.closed;
+    } in
+    let one : IsStepRead choices before s so_far items =
+    one-stretch choices before s later so_far items h.0 allowed.0 here come in
+    let front : List (Item ReadEpoch) = back_on choices.every s.kept block in
+    let x : List (Item ReadEpoch) = front ++ (one.news ++ items) in
+    let lines : List ReadLine = stretch_lines choices.every before s in
+    let rest : AreStretchesRead choices next later (so_far ++ lines) x =
+    stretches-read choices next later (so_far ++ lines) x h.1 allowed.1
+    (record {
+      in_place = sound.in_place;
+      header = header-stays s.kept block (header-stays s.lost before sound.header);
+      closed = sound.closed;
+    }) one.come in
+    let all : List (Item ReadEpoch) = rest.more ++ (front ++ one.news) in
+    let joined : rest.more ++ x ≡ all ++ items =
+    ap (λ (l : List (Item ReadEpoch)). rest.more ++ l) (sym (append_assoc front one.news items))
+    ∙ sym (append_assoc rest.more (front ++ one.news) items) in
+    let printed : expanded_lines all ≡ flat_map printed_epoch (epochs_of one.news)
+    ++ (printed_items s.kept ++ expanded_lines rest.more) =
+    lines-append rest.more (front ++ one.news)
+    ∙ ap (λ ls. ls ++ expanded_lines rest.more) (lines-append front one.news)
+    ∙ append_assoc (expanded_lines one.news) (expanded_lines front) (expanded_lines rest.more)
+    ∙ ap (λ ls. ls ++ (expanded_lines front ++ expanded_lines rest.more)) (news-printed one.news one.epochs)
+    ∙ ap (λ ls. flat_map printed_epoch (epochs_of one.news) ++ (ls ++ expanded_lines rest.more))
+    (back-printed choices.every s.kept block) in
+    record {
+      more = all;
+      come = subst (λ (l : List (Item ReadEpoch)). HasCome
+          (so_far ++ lines_of_stretches choices.every before (s ∷ later)) l (with_stretches before
+          (s ∷ later))) joined
+          (subst (λ ls. HasCome ls (rest.more ++ x) (with_stretches next later))
+          (append_assoc so_far lines (lines_of_stretches choices.every next later)) rest.come);
+      saves = λ good.
+          let again : AreGoodEpochs (rest.more ++ x) = subst AreGoodEpochs (sym joined) good in (
+            epochs_of one.news,
+            expanded_lines rest.more,
+            subst (λ types. AllByRecursion (IsWholeEpoch types) (epochs_of one.news)) come.types
+                (news-whole one.news items one.epochs (good-rest front (one.news ++ items)
+                (good-rest rest.more x again))),
+            printed,
+            rest.saves again,
+          );
+    }

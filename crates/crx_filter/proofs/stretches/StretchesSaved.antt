@@ -1,0 +1,205 @@
+-- What an expansion writes and reports of a text that is damaged in stretches; and of one that begins with
+-- whole units.
+use Rattle.std.proofs.Common.{ℕ, ◌≡◌, ◌+◌, Bool, true, false, List, [], ◌∷◌, ◌++◌, map, length, reverse}
+use Rattle.std.proofs.Common.{Option, None, refl}
+use Rattle.std.proofs.Common.{ap, sym, ◌∙◌, subst, arith, append-nil, inl, inr}
+use Rattle.std.specs.List.{AllByRecursion}
+use Rattle.crx_faults.specs.meaning.Lines.{lines_of, lines_text}
+use Rattle.crx_faults.specs.meaning.Seen.{ReadLine, Content, seen}
+use Rattle.crx_header.specs.meaning.CompactHeader.{version_line, program_line}
+use Rattle.crx_rinex.specs.meaning.Observations.{Epoch}
+use Rattle.crx_history.specs.meaning.CompactPlaces.{ReadEpoch}
+use Rattle.crx_options.specs.meaning.Choices.{Choices, is_date}
+use Rattle.crx_reading.specs.meaning.Items.{Item, is_at_start, records_left}
+use Rattle.crx_reading.specs.meaning.Reading.{Reading, AtLines, reading_from, ended_reading}
+use Rattle.crx_reading.specs.meaning.Compacted.{compact_lines}
+use Rattle.crx_reading.specs.meaning.Expanded.{compact_place, expanded_unit, whole_compact, expanded}
+use Rattle.crx_reading.specs.meaning.Standard.{printed_items}
+use Rattle.crx_reading.specs.meaning.Written.{warnings_in, result_of}
+use Rattle.crx_runs.specs.meaning.Messages.{notices_text}
+use Rattle.crx_runs.specs.meaning.Results.{Begins}
+use Rattle.crx_filter.specs.Anew.{IsBetweenUnits}
+use Rattle.crx_filter.specs.Expanded.{expanded_lines, expanded_so_far}
+use Rattle.crx_filter.specs.Laws.{AreInPlace, ItemsAreRead, IsWrittenFirst}
+use Rattle.crx_filter.specs.meaning.Stretches.{with_stretches, read_of_file, IsReadWhole, HasStretches}
+use Rattle.crx_filter.specs.meaning.Stretches.{KeepsTheRest}
+use Rattle.crx_filter.specs.meaning.Stretches.{BeginsWhole}
+use Rattle.crx_filter.proofs.reading.CompactPrefixes.{expanded-first, reading-at}
+use Rattle.crx_filter.proofs.reading.ForwardCompact.{compact-forward}
+use Rattle.crx_filter.proofs.reading.WhatWasRead.{items-read}
+use Rattle.crx_filter.proofs.wayback.Carried.{started, types-same, reads-again}
+use Rattle.crx_filter.proofs.wayback.Cut.{IsClean}
+use Rattle.crx_filter.proofs.wayback.ExpandedWhole.{AreGoodEpochs, epochs-good}
+use Rattle.crx_filter.proofs.wayback.First.{first-lines_read, version-clean, program-clean}
+use Rattle.crx_filter.proofs.wayback.Items.{body_unit, known_back, read_back, unit-here}
+use Rattle.crx_filter.proofs.wayback.Reading.{lines_back}
+use Rattle.crx_filter.proofs.wayback.WayBack.{IsSettled, whole-settled, lines-same, lines-clean, printed-same}
+use Rattle.crx_filter.proofs.wayback.WayBack.{whole-after}
+use Rattle.crx_filter.proofs.damage.BlockSaved.{back-between}
+use Rattle.crx_filter.proofs.damage.DamagedText.{front-cut}
+use Rattle.crx_filter.proofs.damage.GoingOn.{EndsAfter, ends-well, ends-inside, with_warnings}
+use Rattle.crx_filter.proofs.damage.SavedText.{lines-append, lines-warned}
+use Rattle.crx_filter.proofs.stretches.OpenReading.{IsOpen}
+use Rattle.crx_filter.proofs.stretches.StretchesCut.{AreGood, good-before, good-up_to, stretches-allowed}
+use Rattle.crx_filter.proofs.stretches.StretchesCut.{stretches-cut}
+use Rattle.crx_filter.proofs.stretches.StretchesRead.{HasCome, AreStretchesRead, lines_of_stretches}
+use Rattle.crx_filter.proofs.stretches.StretchesRead.{next-closed}
+use Rattle.crx_filter.proofs.stretches.StretchesRead.{stretches-read}
+
+-- ---- the file
+
+pub file-settled : (file : List ℕ) (choices : Choices) → IsReadWhole file choices
+    → IsSettled (read_of_file file choices).items
+file-settled file choices h = whole-settled choices.skip file h.good
+
+pub file-good : (file : List ℕ) (choices : Choices) → IsReadWhole file choices
+    → AreGood (read_of_file file choices).items
+file-good file choices h =
+    let settled : IsSettled (read_of_file file choices).items = file-settled file choices h in
+    record { in_place = settled.in_place; copied = settled.copied; no_returns = h.no_returns }
+
+-- ---- the first lines of a text
+
+abbrev pub front_lines : Choices → List (Item Epoch) → List (List ℕ)
+front_lines choices before = version_line ∷ program_line choices.date ∷ lines_back choices.every before
+
+front-clean : (choices : Choices) (before : List (Item Epoch)) → is_date choices.date ≡ true → AreGood before
+    → AllByRecursion IsClean (front_lines choices before)
+front-clean choices before dated h = (
+  version-clean,
+  (program-clean choices.date dated, lines-clean choices.every before h.in_place h.copied h.no_returns),
+)
+
+pub front-seen : (choices : Choices) (before : List (Item Epoch)) (text : List ℕ)
+    → is_date choices.date ≡ true → AreGood before → is_at_start before ≡ false
+    → map seen (lines_of (lines_text (compact_lines choices before) ++ text))
+    ≡ map Content (front_lines choices before) ++ map seen (lines_of text)
+front-seen choices before text dated h begun =
+    ap (λ ls. map seen (lines_of (lines_text ls ++ text))) (lines-same choices before h.in_place begun)
+    ∙ front-cut (front_lines choices before) text (front-clean choices before dated h)
+
+pub front-read : (skip : Bool) (every : Option ℕ) (before : List (Item Epoch)) → AreInPlace before
+    → reading_from compact_place skip [] 3 (map Content (lines_back every before))
+    ≡ record { items = read_back every before; stop = AtLines (3 + length (lines_back every before)) [] }
+front-read skip every before h =
+    reads-again compact_place (known_back every) (body_unit every) compact-forward
+    (unit-here every) skip 3 before h
+
+-- ---- the end of the input
+
+open-ends : (items : List (Item ReadEpoch)) (r : Reading ReadEpoch)
+    → IsBetweenUnits items → IsOpen items r → EndsAfter items (ended_reading true r)
+open-ends items r between (inl (number, [], text, e, is)) =
+    record {
+      warnings = [];
+      few = omega arith;
+      same = ap (ended_reading true) is
+          ∙ ends-well items number between;
+    }
+open-ends items r between (inl (number, line ∷ rest, text, e, is)) =
+    subst (λ (s : Reading ReadEpoch). EndsAfter items (ended_reading true s))
+    (sym is) (ends-inside items number line rest between)
+open-ends items r between (inr (number, is)) =
+    record { warnings = []; few = omega arith; same = ap (ended_reading true) is }
+
+open-items : (items : List (Item ReadEpoch)) (r : Reading ReadEpoch) → IsOpen items r → r.items ≡ items
+open-items items r (inl (number, rest, text, e, is)) = ap (λ (s : Reading ReadEpoch). s.items) is
+open-items items r (inr (number, is)) = ap (λ (s : Reading ReadEpoch). s.items) is
+
+-- ---- text that is damaged in stretches
+
+pub rest-kept : (file : List ℕ) (choices expanding : Choices) (damaged : List ℕ)
+    → is_date choices.date ≡ true → expanding.skip ≡ true → (d : HasStretches file choices damaged)
+    → KeepsTheRest file choices damaged d (expanded damaged expanding)
+rest-kept file choices expanding damaged dated skips d =
+    let settled : IsSettled (with_stretches d.before d.stretches) =
+    subst IsSettled d.parts (file-settled file choices d.file_good) in
+    let good : AreGood (with_stretches d.before d.stretches) =
+    subst AreGood d.parts (file-good file choices d.file_good) in
+    let front : AreGood d.before = good-up_to d.before d.stretches good in
+    let old : List ReadLine = map Content (lines_back choices.every d.before) in
+    let new : List ReadLine = lines_of_stretches choices.every d.before d.stretches in
+    let start : List (Item ReadEpoch) = read_back choices.every d.before in
+    let last : ℕ = 3 + length (lines_back choices.every d.before) in
+    let closed : records_left d.before ≡ 0 =
+    next-closed choices d.before d.stretches d.each settled.none in
+    let come : HasCome old start d.before = record {
+      stops = inl
+          (last, [], tt, compact-forward.wants start, front-read true choices.every d.before front.in_place);
+      between = back-between choices.every d.before front.in_place d.header closed;
+      types = types-same (known_back choices.every) d.before front.in_place;
+    } in
+    let r : AreStretchesRead choices d.before d.stretches old start =
+    stretches-read choices d.before d.stretches old start d.each
+    (stretches-allowed choices d.before d.stretches d.each)
+    (record { in_place = settled.in_place; header = d.header; closed = settled.none }) come in
+    let items : List (Item ReadEpoch) = r.more ++ start in
+    let reading : Reading ReadEpoch = reading_from compact_place true [] 3 (old ++ new) in
+    let end : EndsAfter items (ended_reading true reading) =
+    open-ends items reading (HasCome.between r.come) (HasCome.stops r.come) in
+    let all : List (Item ReadEpoch) = with_warnings end.warnings items in
+    let cut : map seen (lines_of damaged)
+    ≡ Content version_line ∷ Content (program_line choices.date) ∷ (old ++ new) =
+    ap (λ t. map seen (lines_of t)) d.text
+    ∙ front-seen choices d.before _ dated front (started d.before d.header)
+    ∙ ap (λ ls. Content version_line ∷ Content (program_line choices.date) ∷ (old ++ ls))
+    (stretches-cut choices d.before d.stretches d.each good d.header) in
+    let whole : whole_compact expanding.skip (map seen (lines_of damaged)) ≡ record {
+      items = all;
+      fault =
+          None;
+    } =
+    ap (λ skip. whole_compact skip (map seen (lines_of damaged))) skips
+    ∙ ap (whole_compact true) cut ∙ whole-after true choices.date (old ++ new) ∙ end.same in
+    let read : AreGoodEpochs items = epochs-good items
+    (subst (ItemsAreRead compact_place) (open-items items reading (HasCome.stops r.come))
+    (items-read compact_place true 3 (old ++ new))) in
+    let text : expanded_lines all ≡ printed_items d.before ++ expanded_lines r.more =
+    lines-warned end.warnings items ∙ lines-append r.more start
+    ∙ ap (λ ls. ls ++ expanded_lines r.more) (printed-same choices.every d.before) in
+    subst (KeepsTheRest file choices damaged d) (sym (ap (result_of expanded_unit) whole))
+    (record {
+      lines = expanded_lines r.more;
+      saves = r.saves read;
+      warnings = reverse (warnings_in all);
+      output = ap lines_text text;
+      messages = append-nil (notices_text (reverse (warnings_in all)));
+      status = refl;
+      fault = refl;
+    })
+
+-- ---- text that begins with whole units
+
+whole-so_far : (expanding choices : Choices) (before : List (Item Epoch)) → AreInPlace before
+    → expanded_so_far (map Content (front_lines choices before)) expanding ≡ lines_text (printed_items before)
+whole-so_far expanding choices before h =
+    ap (λ (r : Reading ReadEpoch). lines_text (expanded_lines r.items))
+    (reading-at expanding.skip (map Content (front_lines choices before)) _ 2
+    (first-lines_read choices.date (map Content (lines_back choices.every before)))
+    ∙ front-read expanding.skip choices.every before h)
+    ∙ ap lines_text (printed-same choices.every before)
+
+begun-first : (expanding choices : Choices) (before : List (Item Epoch)) (text more : List ℕ)
+    → is_date choices.date ≡ true → AreGood before → is_at_start before ≡ false
+    → text ≡ lines_text (compact_lines choices before) ++ more
+    → Begins (expanded text expanding).output (lines_text (printed_items before))
+begun-first expanding choices before text more dated h begun e =
+    subst (λ t. Begins (expanded text expanding).output t) (whole-so_far expanding choices before h.in_place)
+    (IsWrittenFirst.whole (expanded-first expanding (map Content (front_lines choices before))) text
+    (map seen (lines_of more)) (ap (λ t. map seen (lines_of t)) e
+    ∙ front-seen choices before more dated h begun))
+
+pub whole-first : (file : List ℕ) (choices expanding : Choices) (text : List ℕ)
+    → is_date choices.date ≡ true → (h : BeginsWhole file choices text)
+    → Begins (expanded text expanding).output (lines_text (printed_items h.before))
+whole-first file choices expanding text dated h =
+    by_units h.before (good-before h.after h.before (subst AreGood h.parts
+    (file-good file choices h.file_good)))
+    h.text_is
+  where
+    by_units : (before : List (Item Epoch)) → AreGood before
+        → text ≡ lines_text (compact_lines choices before) ++ h.more
+        → Begins (expanded text expanding).output (lines_text (printed_items before))
+    by_units [] good e = record { rest = (expanded text expanding).output; same = refl }
+    by_units (item ∷ before) good e =
+        begun-first expanding choices (item ∷ before) text h.more dated good refl e

@@ -1,0 +1,58 @@
+-- Compact text is canonical: a file's normal form is compacted as the file, and comes back from that text.
+use Rattle.std.proofs.Common.{ℕ, ◌≡◌, true, false, List, None, map, refl, ap, sym, ◌∙◌, Option, subst}
+use Rattle.crx_faults.specs.meaning.Lines.{lines_of}
+use Rattle.crx_faults.specs.meaning.Seen.{seen}
+use Rattle.crx_faults.specs.declared.fault.At.{At}
+use Rattle.crx_rinex.specs.meaning.Observations.{Epoch}
+use Rattle.crx_options.specs.meaning.Choices.{Choices}
+use Rattle.crx_reading.specs.meaning.Compacted.{compact_unit, compacted, whole_rinex}
+use Rattle.crx_reading.specs.meaning.Expanded.{expanded}
+use Rattle.crx_reading.specs.meaning.Reading.{WholeReading}
+use Rattle.crx_reading.specs.meaning.Standard.{normal_form, whole_of}
+use Rattle.crx_reading.specs.meaning.WayBack.{HasNormalForm, written_well}
+use Rattle.crx_reading.specs.meaning.Written.{result_of}
+use Rattle.crx_runs.specs.meaning.Results.{FilterResult}
+use Rattle.crx_runs.specs.meaning.Runs.{IsResult}
+use Rattle.crx_runs.specs.meaning.Spans.{Device}
+use Rattle.crx_filter.specs.meaning.Canonical.{CompactsAsNormal, IsCanonical, DependsOnNormalForm}
+use Rattle.crx_filter.proofs.wayback.NormalForm.{read-as_normal}
+use Rattle.crx_filter.proofs.wayback.Standard.{same-reading, normal-comes_back}
+
+-- a compaction is what the reading makes of it that skips nothing, where that has no fault
+pub compacted-by : (file : List ℕ) (choices : Choices) → (whole_of file).fault ≡ None
+    → compacted file choices ≡ result_of (compact_unit choices) (whole_of file)
+compacted-by file choices good =
+    ap (result_of (compact_unit choices)) (same-reading choices.skip (map seen (lines_of file)) good)
+
+pub as-normal : (file : List ℕ) (choices : Choices) → CompactsAsNormal file choices
+as-normal file choices h =
+    let again : whole_of (normal_form file) ≡ whole_of file = read-as_normal file h in
+    compacted-by (normal_form file) choices (ap (λ (w : WholeReading Epoch). w.fault) again ∙ h.good)
+    ∙ ap (result_of (compact_unit choices)) again
+    ∙ sym (compacted-by file choices h.good)
+
+same-compaction : (one other : List ℕ) (choices : Choices) → HasNormalForm one → HasNormalForm other
+    → normal_form one ≡ normal_form other → compacted one choices ≡ compacted other choices
+same-compaction one other choices h k same =
+    sym (as-normal one choices h) ∙ ap (λ t. compacted t choices) same ∙ as-normal other choices k
+
+pub canonical : (one other : List ℕ) (choices : Choices) → IsCanonical one other choices
+canonical one other choices dated h k = (
+  λ same.
+      let back : written_well (normal_form one) ≡ written_well (normal_form other) =
+      sym (normal-comes_back one choices choices dated h.good h.no_returns)
+      ∙ ap (λ t. expanded t choices) same
+      ∙ normal-comes_back other choices choices dated k.good k.no_returns in
+      ap (λ (r : FilterResult). r.output) back,
+  λ same. ap (λ (r : FilterResult). r.output) (same-compaction one other choices h k same),
+)
+
+-- ---- in runs
+
+pub depends-on_normal : (choices : Choices)
+    (writer messages : Device) (status : ℕ) (fault : Option At) (file : List ℕ)
+    → IsResult (compacted file choices) writer messages status fault
+    → DependsOnNormalForm choices writer messages status fault file
+depends-on_normal choices writer messages status fault file ran other h k same =
+    subst (λ r. IsResult r writer messages status fault)
+    (same-compaction file other choices h k (sym same)) ran

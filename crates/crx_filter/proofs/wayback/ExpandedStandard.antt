@@ -1,0 +1,442 @@
+-- What an expansion writes is standard: what was read of compact text is in place, as units of RINEX, and what is
+-- copied is a line.
+use Rattle.std.proofs.Common.{ℕ, zero, suc, ◌≡◌, ◌+◌, Bool, true, false, cond, List, [], ◌∷◌, ◌++◌, map, length, drop}
+use Rattle.std.proofs.Common.{Option, Some, None, Result, refl, ap, sym, ◌∙◌, subst, arith, append_assoc}
+use Rattle.std.specs.Prelude.{◌||◌, ◌-◌, ⊤}
+use Rattle.std.specs.List.{AllByRecursion, list_all}
+use Rattle.std.specs.Option.{is_some}
+use Rattle.std.proofs.lemmas.Bool.{and_parts, not-true}
+use Rattle.crx_lines.specs.Reading.{HasNoFeed}
+use Rattle.crx_lines.proofs.PieceLemmas.{pieces-first}
+use Rattle.crx_faults.specs.meaning.Lines.{Piece, InputLine, pieces_of, ends_with_return, line_of, lines_of, lines_text}
+use Rattle.crx_faults.specs.meaning.Seen.{ReadLine, Content, Overlong, seen}
+use Rattle.crx_faults.specs.declared.fault.At.{At}
+use Rattle.crx_faults.specs.declared.fault.Fault.{Fault}
+use Rattle.crx_faults.specs.declared.fault.Fault.TheVariants.{BadEpoch}
+use Rattle.crx_header.specs.meaning.EpochColumns.{is_event_line, records_in}
+use Rattle.crx_header.specs.meaning.Header.{is_end_of_header}
+use Rattle.crx_header.specs.meaning.ObservationTypes.{Count, types_of}
+use Rattle.crx_columns.specs.meaning.Texts.{is_printable}
+use Rattle.crx_rinex.specs.meaning.Epochs.{IsWholeEpoch}
+use Rattle.crx_rinex.specs.meaning.Observations.{Epoch}
+use Rattle.crx_rinex.specs.meaning.Places.{Place, Here, Wrong, Wanted, first_line, one_line}
+use Rattle.crx_rinex.specs.meaning.Printing.{printed_epoch}
+use Rattle.crx_rinex.specs.meaning.Units.{Unit as FileUnit, HeaderLine, EventLine, EventRecord, Observation}
+use Rattle.crx_rinex.specs.meaning.Units.{printed_unit}
+use Rattle.crx_history.specs.meaning.CompactPlaces.{ReadEpoch, epoch_at}
+use Rattle.crx_history.specs.meaning.Expansion.{RawEpoch}
+use Rattle.crx_compact.specs.ReadingLaws.{IsGood}
+use Rattle.crx_options.specs.meaning.Choices.{Choices}
+use Rattle.crx_reading.specs.meaning.Expanded.{compact_place, compact_epoch_place, event_line, as_observation, raws_kept}
+use Rattle.crx_reading.specs.meaning.Expanded.{first_lines, whole_compact, rinex_unit, expanded_unit, expanded}
+use Rattle.crx_reading.specs.meaning.Items.{Item, Accepted, Warned, is_at_start, header_has_ended, records_left}
+use Rattle.crx_reading.specs.meaning.Items.{records_count_types, declaring_lines, types_in_force}
+use Rattle.crx_reading.specs.meaning.Reading.{Reading, WholeReading, Stop, AtFault, AtLines, Looking, is_skipped}
+use Rattle.crx_reading.specs.meaning.Reading.{reading_from, fault_at_end, ended_with, ended_reading}
+use Rattle.crx_reading.specs.meaning.Standard.{printed_items, IsStandard}
+use Rattle.crx_reading.specs.meaning.UnitPlaces.{types_fault, header_line_fault, header_line, event_record}
+use Rattle.crx_reading.specs.meaning.WayBack.{OfCopiedLine, OfCopiedLines, HaveNoReturns}
+use Rattle.crx_reading.specs.meaning.Written.{written_lines}
+use Rattle.crx_runs.specs.meaning.Results.{FilterResult}
+use Rattle.crx_runs.specs.meaning.Runs.{IsResult}
+use Rattle.crx_runs.specs.meaning.Spans.{Device}
+use Rattle.crx_filter.specs.Laws.{ItemsAreRead, IsInPlace, AreInPlace}
+use Rattle.crx_filter.specs.meaning.WrittenStandard.{has_plain_lines, rinex_items, WhatIsExpandedIsStandard, WroteStandard}
+use Rattle.crx_reading.proofs.Choosing.{by_bool}
+use Rattle.crx_filter.proofs.following.Following.{body-place}
+use Rattle.crx_filter.proofs.following.Lines.{record-place, IsStopped}
+use Rattle.crx_filter.proofs.reading.ForwardCompact.{compact-forward, compact_beginning}
+use Rattle.crx_filter.proofs.reading.KeptThroughout.{within-kept}
+use Rattle.crx_filter.proofs.reading.Stopping.{reading-stopped}
+use Rattle.crx_filter.proofs.reading.WhatStands.{OfHere, OfOk, by_first, first-line, unless-wrong, one-line, of-unit}
+use Rattle.crx_filter.proofs.reading.WhatWasRead.{items-read, allowed}
+use Rattle.crx_filter.proofs.wayback.Converse.{epoch-printable, lines-plain, printed-plain, all-plain}
+use Rattle.crx_filter.proofs.wayback.Cut.{CanStand, OfContent, input-stands}
+use Rattle.crx_filter.proofs.wayback.ExpandedWhole.{AreGoodEpochs, epochs-good}
+use Rattle.crx_filter.proofs.wayback.First.{printable-no_feed}
+use Rattle.crx_filter.proofs.wayback.NormalForm.{settled-standard}
+use Rattle.crx_filter.proofs.wayback.Reading.{all-drop}
+use Rattle.crx_filter.proofs.wayback.Standard.{NoReturn, not-ended}
+use Rattle.crx_filter.proofs.wayback.WayBack.{IsSettled, end-means}
+
+-- ---- the units of compact text, as units of RINEX, have the same header, events and types in force
+
+header-read : (items : List (Item ReadEpoch)) → header_has_ended (rinex_items items) ≡ header_has_ended items
+header-read [] = refl
+header-read (Accepted (HeaderLine line) ∷ before) = ap (λ b. is_end_of_header line || b) (header-read before)
+header-read (Accepted (EventLine line) ∷ before) = header-read before
+header-read (Accepted (EventRecord line) ∷ before) = header-read before
+header-read (Accepted (Observation read) ∷ before) = header-read before
+header-read (Warned at ∷ before) = header-read before
+
+start-read : (items : List (Item ReadEpoch)) → is_at_start (rinex_items items) ≡ is_at_start items
+start-read [] = refl
+start-read (Accepted unit ∷ before) = refl
+start-read (Warned at ∷ before) = refl
+
+left-read : (items : List (Item ReadEpoch)) → records_left (rinex_items items) ≡ records_left items
+left-read [] = refl
+left-read (Accepted (HeaderLine line) ∷ before) = refl
+left-read (Accepted (EventLine line) ∷ before) = refl
+left-read (Accepted (EventRecord line) ∷ before) = ap (λ n. n - 1) (left-read before)
+left-read (Accepted (Observation read) ∷ before) = refl
+left-read (Warned at ∷ before) = refl
+
+count-read : (items : List (Item ReadEpoch))
+    → records_count_types (rinex_items items) ≡ records_count_types items
+count-read [] = refl
+count-read (Accepted (HeaderLine line) ∷ before) = refl
+count-read (Accepted (EventLine line) ∷ before) = refl
+count-read (Accepted (EventRecord line) ∷ before) = count-read before
+count-read (Accepted (Observation read) ∷ before) = refl
+count-read (Warned at ∷ before) = refl
+
+declares-read : (items : List (Item ReadEpoch)) → declaring_lines (rinex_items items) ≡ declaring_lines items
+declares-read [] = refl
+declares-read (Accepted (HeaderLine line) ∷ before) = ap (λ ls. ls ++ line ∷ []) (declares-read before)
+declares-read (Accepted (EventLine line) ∷ before) = declares-read before
+declares-read (Accepted (EventRecord line) ∷ before) =
+    ap (λ b. cond b
+    (declaring_lines (rinex_items before) ++ line ∷ []) (declaring_lines (rinex_items before))) (count-read before)
+    ∙ ap (λ ls. cond (records_count_types before) (ls ++ line ∷ []) ls) (declares-read before)
+declares-read (Accepted (Observation read) ∷ before) = declares-read before
+declares-read (Warned at ∷ before) = declares-read before
+
+types-read : (items : List (Item ReadEpoch)) → types_in_force (rinex_items items) ≡ types_in_force items
+types-read items = ap types_of (declares-read items)
+
+-- ---- they are in place
+
+abbrev IsPlaced : List (Item ReadEpoch) → FileUnit ReadEpoch → Type 0
+IsPlaced before unit = IsInPlace (rinex_items before) (rinex_unit unit)
+
+abbrev IsGoodUnit : List Count → FileUnit ReadEpoch → Type 0
+IsGoodUnit types (HeaderLine line) = ⊤
+IsGoodUnit types (EventLine line) = ⊤
+IsGoodUnit types (EventRecord line) = ⊤
+IsGoodUnit types (Observation read) = IsWholeEpoch types read.epoch
+
+abbrev IsBegun : FileUnit ReadEpoch → Type 0
+IsBegun (HeaderLine line) = ⊥
+IsBegun (EventLine line) = (is_event_line line ≡ true) × (is_some (records_in line) ≡ true)
+IsBegun (EventRecord line) = ⊥
+IsBegun (Observation read) = ⊤
+
+of-event : (P : Place (FileUnit ReadEpoch) → Type 0) (line : List ℕ) (o : Option ℕ) → records_in line ≡ o
+    → ((count : ℕ) → o ≡ Some count → P (Here (EventLine line) 1)) → P (Wrong 0 BadEpoch)
+    → P (one_line (event_line line))
+of-event P line None e event bad = rw (e, event_line) bad
+of-event P line (Some count) e event bad = rw (e, event_line) (event count refl)
+
+observed : (p : Place ReadEpoch) → OfHere IsBegun (as_observation p)
+observed (Here read count) = tt
+observed (Wrong offset fault) = tt
+observed Wanted = tt
+
+place-begun : (types : List Count) (raws : List RawEpoch) (lines : List ReadLine)
+    → OfHere IsBegun (compact_epoch_place types raws lines)
+place-begun types raws [] = tt
+place-begun types raws (Overlong ∷ lines) = observed (epoch_at types raws (Overlong ∷ lines))
+place-begun types raws (Content line ∷ lines) = by_bool (is_event_line line)
+    (λ on. rw on (of-event (OfHere IsBegun) line (records_in line) refl (λ count e. (on, ap is_some e)) tt))
+    (λ off. rw off (observed (epoch_at types raws (Content line ∷ lines))))
+
+begun-placed : (before : List (Item ReadEpoch)) (unit : FileUnit ReadEpoch)
+    → header_has_ended before ≡ true → records_left before ≡ 0
+    → IsGoodUnit (types_in_force before) unit → IsBegun unit → IsPlaced before unit
+begun-placed before (HeaderLine line) ended none good h = absurd h
+begun-placed before (EventLine line) ended none good h =
+    (header-read before ∙ ended, left-read before ∙ none, h.0, h.1)
+begun-placed before (EventRecord line) ended none good h = absurd h
+begun-placed before (Observation read) ended none good h = (
+  header-read before ∙ ended,
+  left-read before ∙ none,
+  subst (λ types. IsWholeEpoch types read.epoch) (sym (types-read before)) good,
+)
+
+in-body : (before : List (Item ReadEpoch)) (unit : FileUnit ReadEpoch) (lines : List ReadLine) (count : ℕ)
+    → compact_place before lines ≡ Here unit count → IsGoodUnit (types_in_force before) unit
+    → header_has_ended before ≡ true → (left : ℕ) → records_left before ≡ left → IsPlaced before unit
+in-body before unit lines count e good ended zero none =
+    let here : compact_epoch_place (types_in_force before) (raws_kept before) lines ≡ Here unit count =
+    sym (body-place compact_beginning before lines ended none) ∙ e in
+    begun-placed before unit ended none good
+    (subst (λ p. OfHere IsBegun p) here (place-begun (types_in_force before) (raws_kept before) lines))
+in-body before unit lines count e good ended (suc left) some =
+    let here : first_line lines (event_record (records_count_types before)) ≡ Here unit count =
+    sym (record-place compact_beginning before left lines ended some) ∙ e in
+    let more = left-read before in
+    subst (λ p. OfHere (IsPlaced before) p) here
+    (first-line (IsPlaced before) (event_record (records_count_types before)) lines
+    (λ line. unless-wrong (IsPlaced before) (EventRecord line)
+    (cond (records_count_types before) (types_fault line) None)
+    (λ right. (
+      header-read before ∙ ended,
+      omega (arith, some, more),
+      ap (λ b. cond b (types_fault line) None) (count-read before) ∙ right,
+    ))))
+
+in-header : (before : List (Item ReadEpoch)) (unit : FileUnit ReadEpoch) (lines : List ReadLine) (count : ℕ)
+    → compact_place before lines ≡ Here unit count → header_has_ended before ≡ false → IsPlaced before unit
+in-header before unit lines count e open_header =
+    let here : first_line lines (header_line (is_at_start before)) ≡ Here unit count =
+    sym (at_header lines open_header) ∙ e in
+    subst (λ p. OfHere (IsPlaced before) p) here
+    (first-line (IsPlaced before) (header_line (is_at_start before)) lines
+    (λ line. unless-wrong (IsPlaced before) (HeaderLine line) (header_line_fault (is_at_start before) line)
+    (λ right. (
+      header-read before ∙ open_header,
+      ap (λ b. header_line_fault b line) (start-read before) ∙ right,
+    ))))
+  where
+    at_header : (ls : List ReadLine)
+        → header_has_ended before ≡ false
+        → compact_place before ls ≡ first_line ls (header_line (is_at_start before))
+    at_header ls e = rw e refl
+
+unit-placed : (before : List (Item ReadEpoch)) (unit : FileUnit ReadEpoch) (lines : List ReadLine) (count : ℕ)
+    → compact_place before lines ≡ Here unit count
+    → IsGoodUnit (types_in_force before) unit → IsPlaced before unit
+unit-placed before unit lines count e good = by_bool (header_has_ended before)
+    (λ on. in-body before unit lines count e good on (records_left before) refl)
+    (λ off. in-header before unit lines count e off)
+
+good-unit : (before : List (Item ReadEpoch)) (unit : FileUnit ReadEpoch)
+    → AreGoodEpochs (Accepted unit ∷ before) → IsGoodUnit (types_in_force before) unit
+good-unit before (HeaderLine line) h = tt
+good-unit before (EventLine line) h = tt
+good-unit before (EventRecord line) h = tt
+good-unit before (Observation read) h = IsGood.whole h.0
+
+good-before : (before : List (Item ReadEpoch)) (unit : FileUnit ReadEpoch)
+    → AreGoodEpochs (Accepted unit ∷ before) → AreGoodEpochs before
+good-before before (HeaderLine line) h = h
+good-before before (EventLine line) h = h
+good-before before (EventRecord line) h = h
+good-before before (Observation read) h = h.1
+
+items-placed : (items : List (Item ReadEpoch)) → ItemsAreRead compact_place items → AreGoodEpochs items
+    → AreInPlace (rinex_items items)
+items-placed [] h good = tt
+items-placed (Accepted unit ∷ before) h good = (
+  unit-placed before unit (h.0).0 (h.0).1 (h.0).2 (good-unit before unit good),
+  items-placed before h.1 (good-before before unit good),
+)
+items-placed (Warned at ∷ before) h good = (
+  (header-read before ∙ (h.0).0, left-read before ∙ (h.0).1, (h.0).2),
+  items-placed before h.1 good,
+)
+
+-- ---- what is copied is a line
+
+abbrev Copies : (List ℕ → Type 0) → FileUnit ReadEpoch → Type 0
+Copies P unit = OfCopiedLine P (rinex_unit unit)
+
+first-copied : (P : List ℕ → Type 0)
+    (read : List ℕ → Result (FileUnit ReadEpoch) Fault) (lines : List ReadLine)
+    → ((line : List ℕ) → P line → OfOk (Copies P) (read line)) → AllByRecursion (OfContent P) lines
+    → OfHere (Copies P) (first_line lines read)
+first-copied P read [] k h = tt
+first-copied P read (Overlong ∷ lines) k h = tt
+first-copied P read (Content line ∷ lines) k h = one-line (Copies P) (read line) (k line h.0)
+
+observation-copies : (P : List ℕ → Type 0) (p : Place ReadEpoch) → OfHere (Copies P) (as_observation p)
+observation-copies P (Here read count) = tt
+observation-copies P (Wrong offset fault) = tt
+observation-copies P Wanted = tt
+
+begun-copied : (P : List ℕ → Type 0) (types : List Count) (raws : List RawEpoch) (lines : List ReadLine)
+    → AllByRecursion (OfContent P) lines → OfHere (Copies P) (compact_epoch_place types raws lines)
+begun-copied P types raws [] h = tt
+begun-copied P types raws (Overlong ∷ lines) h = observation-copies P (epoch_at types raws (Overlong ∷ lines))
+begun-copied P types raws (Content line ∷ lines) h = by_bool (is_event_line line)
+    (λ on. rw on (of-event (OfHere (Copies P)) line (records_in line) refl (λ count e. h.0) tt))
+    (λ off. rw off (observation-copies P (epoch_at types raws (Content line ∷ lines))))
+
+unit-copied : (P : List ℕ → Type 0) (items : List (Item ReadEpoch)) (lines : List ReadLine)
+    → AllByRecursion (OfContent P) lines → OfHere (Copies P) (compact_place items lines)
+unit-copied P items lines h =
+    of-unit (OfHere (Copies P)) compact_beginning items lines
+    (first-copied P (header_line (is_at_start items)) lines
+    (λ line k. unless-wrong (Copies P) (HeaderLine line)
+    (header_line_fault (is_at_start items) line) (λ right. k)) h)
+    (first-copied P (event_record (records_count_types items)) lines
+    (λ line k. unless-wrong (Copies P) (EventRecord line)
+    (cond (records_count_types items) (types_fault line) None) (λ right. k)) h)
+    (begun-copied P (types_in_force items) (raws_kept items) lines h)
+
+items-copied : (P : List ℕ → Type 0) (skip : Bool) (number : ℕ) (lines : List ReadLine)
+    → AllByRecursion (OfContent P) lines
+    → OfCopiedLines P (rinex_items (reading_from compact_place skip [] number lines).items)
+items-copied P skip number lines all =
+    (within-kept compact_place skip
+    (λ items ls. OfCopiedLines P (rinex_items items) × AllByRecursion (OfContent P) ls)
+    (record {
+      here = λ items ls unit count e h. (
+        (subst (λ p. OfHere (Copies P) p) e (unit-copied P items ls h.1), h.0),
+        all-drop (OfContent P) count ls h.1,
+      );
+      warned = λ items ls at on h. h;
+      passed = λ items ls n h. (h.0, all-drop (OfContent P) n ls h.1);
+    })
+    (length lines + 1) [] number lines (tt, all)).1.0
+
+-- ---- the end
+
+end-settled : (skip : Bool) (items : List (Item ReadEpoch)) (number : ℕ) (rest : List ReadLine)
+    → AreInPlace (rinex_items items) → OfCopiedLines CanStand (rinex_items items)
+    → (o : Option Fault) → fault_at_end items rest ≡ o
+    → WholeReading.fault (ended_with skip items number o) ≡ None
+    → IsSettled (rinex_items (WholeReading.items (ended_with skip items number o)))
+end-settled skip items number rest h k None e f =
+    let good = end-means items rest e in
+    record { in_place = h; copied = k; header = header-read items ∙ good.0; none = left-read items ∙ good.1 }
+end-settled skip items number rest h k (Some fault) e f = by_bool (is_skipped skip items fault)
+    (λ on.
+    let facts = allowed skip items fault on in
+    rw on (record {
+      in_place = ((header-read items ∙ facts.0, left-read items ∙ facts.1, facts.2), h);
+      copied = k;
+      header = header-read items ∙ facts.0;
+      none = refl;
+    }))
+    (λ off.
+    let never = rw off at f in
+    not-ended (record { line = number; fault = fault }) never)
+
+stop-settled : (skip : Bool) (items : List (Item ReadEpoch)) (stop : Stop) (next : ℕ)
+    → AreInPlace (rinex_items items) → OfCopiedLines CanStand (rinex_items items)
+    → IsStopped compact_place items stop next
+    → WholeReading.fault (ended_reading skip (record { items = items; stop = stop })) ≡ None
+    → IsSettled (rinex_items
+    (WholeReading.items (ended_reading skip (record { items = items; stop = stop }))))
+stop-settled skip items (AtFault at) next h k s f = not-ended at f
+stop-settled skip items (AtLines number rest) next h k s f =
+    end-settled skip items (number + length rest) rest h k (fault_at_end items rest) refl f
+stop-settled skip items (Looking number) next h k s f = record {
+  in_place = h;
+  copied = k;
+  header = header-read items ∙ s.1;
+  none = left-read items ∙ s.2;
+}
+
+from-settled : (skip : Bool) (number : ℕ) (lines : List ReadLine) → AllByRecursion (OfContent CanStand) lines
+    → WholeReading.fault (ended_reading skip (reading_from compact_place skip [] number lines)) ≡ None
+    → IsSettled (rinex_items (WholeReading.items (ended_reading skip
+    (reading_from compact_place skip [] number lines))))
+from-settled skip number lines h f =
+    let r : Reading ReadEpoch = reading_from compact_place skip [] number lines in
+    let read : ItemsAreRead compact_place r.items = items-read compact_place skip number lines in
+    stop-settled skip r.items r.stop (number + length lines)
+    (items-placed r.items read (epochs-good r.items read)) (items-copied CanStand skip number lines h)
+    (reading-stopped compact_place compact-forward skip [] number (number + length lines) lines refl) f
+
+pub read-settled : (skip : Bool) (lines : List ReadLine) → AllByRecursion (OfContent CanStand) lines
+    → WholeReading.fault (whole_compact skip lines) ≡ None
+    → IsSettled (rinex_items (WholeReading.items (whole_compact skip lines)))
+read-settled skip lines h f = by_first (first_lines lines)
+    (λ two count e.
+    let good = rw (e, whole_compact) at f in
+    rw (e, whole_compact)
+    (from-settled skip (count + 1) (drop count lines) (all-drop (OfContent CanStand) count lines h) good))
+    (λ offset fault e.
+    let never = rw (e, whole_compact) at f in
+    not-ended (record { line = offset + 1; fault = fault }) never)
+    (λ e.
+    let never = rw (e, whole_compact) at f in
+    absurd (cc))
+
+-- ---- what is written
+
+printed-read : (items : List (Item ReadEpoch))
+    → written_lines expanded_unit items ≡ printed_items (rinex_items items)
+printed-read [] = refl
+printed-read (Accepted unit ∷ before) = ap (λ ls. ls ++ printed_unit (rinex_unit unit)) (printed-read before)
+printed-read (Warned at ∷ before) = printed-read before
+
+append-all : (P : List ℕ → Type 0) (a b : List (List ℕ))
+    → AllByRecursion P a → AllByRecursion P b → AllByRecursion P (a ++ b)
+append-all P [] b h k = k
+append-all P (line ∷ a) b h k = (h.0, append-all P a b h.1 k)
+
+all-parts : (P : List ℕ → Type 0) (a b : List (List ℕ))
+    → AllByRecursion P (a ++ b) → AllByRecursion P a × AllByRecursion P b
+all-parts P [] b h = (tt, h)
+all-parts P (line ∷ a) b h =
+    let both = all-parts P a b h.1 in
+    ((h.0, both.0), both.1)
+
+printable-lines : (lines : List (List ℕ))
+    → AllByRecursion (λ (line : List ℕ). list_all is_printable line ≡ true) lines
+    → AllByRecursion HasNoFeed lines
+printable-lines [] h = tt
+printable-lines (line ∷ lines) h = (printable-no_feed line h.0, printable-lines lines h.1)
+
+printed-no_feed : (items : List (Item Epoch))
+    → AreInPlace items → OfCopiedLines CanStand items → AllByRecursion HasNoFeed (printed_items items)
+printed-no_feed [] h k = tt
+printed-no_feed (Accepted (Observation epoch) ∷ before) h k =
+    append-all HasNoFeed (printed_items before) (printed_epoch epoch) (printed-no_feed before h.1 k.1)
+    (printable-lines (printed_epoch epoch) (epoch-printable (types_in_force before) epoch (h.0).2))
+printed-no_feed (Accepted unit ∷ before) h k =
+    append-all HasNoFeed (printed_items before) (printed_unit unit)
+    (printed-no_feed before h.1 k.1) ((k.0).0, tt)
+printed-no_feed (Warned at ∷ before) h k = printed-no_feed before h.1 k
+
+-- lines of which each is plain once they are written and cut again have no CR at their ends
+cut-plain : (lines : List (List ℕ)) → AllByRecursion HasNoFeed lines
+    → has_plain_lines (lines_text lines) ≡ true → AllByRecursion NoReturn lines
+cut-plain [] h e = tt
+cut-plain (line ∷ lines) h e =
+    let text : lines_text (line ∷ lines) ≡ line ++ 10 ∷ lines_text lines =
+    append_assoc line (10 ∷ []) (lines_text lines) in
+    let pieces : pieces_of (line ++ 10 ∷ lines_text lines) ≡ record { bytes = line; is_ended = true }
+    ∷ pieces_of (lines_text lines) = pieces-first line (lines_text lines) h.0 in
+    let are_plain : List Piece → Bool = λ ps. list_all (λ (l : InputLine). l.is_plain) (map line_of ps) in
+    let all : are_plain (record { bytes = line; is_ended = true } ∷ pieces_of (lines_text lines)) ≡ true =
+    sym (ap are_plain (ap pieces_of text ∙ pieces)) ∙ e in
+    let both = and_parts (InputLine.is_plain (line_of (record { bytes = line; is_ended = true })))
+    (are_plain (pieces_of (lines_text lines))) all in
+    (not-true (ends_with_return line) both.0, cut-plain lines h.1 both.1)
+
+copied-plain : (items : List (Item Epoch))
+    → AllByRecursion NoReturn (printed_items items) → HaveNoReturns items
+copied-plain [] h = tt
+copied-plain (Accepted (Observation epoch) ∷ before) h =
+    (tt, copied-plain before (all-parts NoReturn (printed_items before) (printed_epoch epoch) h).0)
+copied-plain (Accepted unit ∷ before) h =
+    let both = all-parts NoReturn (printed_items before) (printed_unit unit) h in
+    ((both.1).0, copied-plain before both.0)
+copied-plain (Warned at ∷ before) h = copied-plain before h
+
+plain-copied : (items : List (Item Epoch)) → IsSettled items → HaveNoReturns items
+    → has_plain_lines (lines_text (printed_items items)) ≡ true
+plain-copied items h none =
+    ap (list_all (λ (line : InputLine). line.is_plain))
+    (lines-plain (printed_items items) (printed-plain items h.in_place h.copied none))
+    ∙ all-plain (printed_items items)
+
+pub expanded-standard : (text : List ℕ) (choices : Choices) → WhatIsExpandedIsStandard text choices
+expanded-standard text choices good =
+    let lines : List ReadLine = map seen (lines_of text) in
+    let read : List (Item ReadEpoch) = WholeReading.items (whole_compact choices.skip lines) in
+    let items : List (Item Epoch) = rinex_items read in
+    let settled : IsSettled items = read-settled choices.skip lines (input-stands text) good in
+    let same : FilterResult.output (expanded text choices) ≡ lines_text (printed_items items) =
+    ap lines_text (printed-read read) in
+    let none : has_plain_lines (FilterResult.output (expanded text choices)) ≡ true → HaveNoReturns items =
+    λ plain. copied-plain items (cut-plain (printed_items items)
+    (printed-no_feed items settled.in_place settled.copied) (sym (ap has_plain_lines same) ∙ plain)) in
+    record {
+      standard = λ plain. subst IsStandard (sym same) (settled-standard items settled (none plain));
+      copied = (none, λ copies. ap has_plain_lines same ∙ plain-copied items settled copies);
+    }
+
+-- ---- in runs
+
+pub wrote-standard : (choices : Choices)
+    (writer messages : Device) (status : ℕ) (fault : Option At) (text : List ℕ)
+    → fault ≡ None → IsResult (expanded text choices) writer messages status fault → WroteStandard writer
+wrote-standard choices writer messages status fault text good ran =
+    let standard = expanded-standard text choices (sym ran.fault_is ∙ good) in
+    (FilterResult.output (expanded text choices), ran.output, standard.standard)

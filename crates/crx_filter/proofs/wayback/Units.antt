@@ -1,0 +1,172 @@
+-- The two texts of units that make a file; and each standard file is such a text.
+use Rattle.std.proofs.Common.{ℕ, ◌≡◌, true, false, List, [], ◌∷◌, ◌++◌, map, Option, None, refl, ap, sym, ◌∙◌, subst}
+use Rattle.std.specs.Prelude.{reverse}
+use Rattle.crx_faults.specs.meaning.Lines.{pieces_of, lines_of, lines_text}
+use Rattle.crx_faults.specs.meaning.Seen.{seen}
+use Rattle.crx_faults.specs.declared.fault.At.{At}
+use Rattle.crx_rinex.specs.meaning.Observations.{Epoch}
+use Rattle.crx_rinex.specs.meaning.Units.{Unit as FileUnit, HeaderLine, EventLine, EventRecord, Observation}
+use Rattle.crx_options.specs.meaning.Choices.{Choices}
+use Rattle.crx_reading.specs.meaning.Compacted.{compact_lines, compact_unit, compacted, whole_rinex}
+use Rattle.crx_reading.specs.meaning.Items.{Item, Accepted, Warned}
+use Rattle.crx_reading.specs.meaning.Reading.{WholeReading}
+use Rattle.crx_reading.specs.meaning.Standard.{printed_items, whole_of, IsStandard}
+use Rattle.crx_reading.specs.meaning.WayBack.{OfCopiedLine, OfCopiedLines, HaveNoReturns, written_well}
+use Rattle.crx_reading.specs.meaning.Written.{warnings_in, result_of}
+use Rattle.crx_reading.specs.meaning.Expanded.{expanded}
+use Rattle.crx_runs.specs.meaning.Results.{result_of_course}
+use Rattle.crx_runs.specs.meaning.Runs.{IsResult}
+use Rattle.crx_runs.specs.meaning.Spans.{Device}
+use Rattle.crx_filter.specs.Laws.{AreInPlace}
+use Rattle.crx_filter.specs.meaning.UnitsAndText.{CanBeCopied, as_items, AreInOrder, MakeAFile, rinex_text, compact_text}
+use Rattle.crx_filter.specs.meaning.UnitsAndText.{TextsOfUnits, WritesUnits, ReadsUnits, IsStandardByUnits}
+use Rattle.crx_filter.proofs.wayback.Canonical.{compacted-by}
+use Rattle.crx_filter.proofs.wayback.Cut.{CanStand}
+use Rattle.crx_filter.proofs.wayback.NormalForm.{printed-again, accepted-all, whole-none, settled-standard}
+use Rattle.crx_filter.proofs.wayback.Standard.{whole-copied, plain-no_return, plain-text, NoReturn}
+use Rattle.crx_filter.proofs.wayback.WayBack.{IsSettled, whole-settled, items-back}
+
+-- ---- units in order are items that are settled
+
+in-place : (units : List (FileUnit Epoch)) → AreInOrder units → AreInPlace (as_items units)
+in-place [] h = tt
+in-place (unit ∷ before) h = (h.0, in-place before h.2)
+
+of-line : (P Q : List ℕ → Type 0) → ((line : List ℕ) → P line → Q line) → (unit : FileUnit Epoch)
+    → OfCopiedLine P unit → OfCopiedLine Q unit
+of-line P Q f (HeaderLine line) h = f line h
+of-line P Q f (EventLine line) h = f line h
+of-line P Q f (EventRecord line) h = f line h
+of-line P Q f (Observation epoch) h = tt
+
+copied : (Q : List ℕ → Type 0) → ((line : List ℕ) → CanBeCopied line → Q line)
+    → (units : List (FileUnit Epoch)) → AreInOrder units → OfCopiedLines Q (as_items units)
+copied Q f [] h = tt
+copied Q f (unit ∷ before) h = (of-line CanBeCopied Q f unit h.1, copied Q f before h.2)
+
+can-stand : (line : List ℕ) → CanBeCopied line → CanStand line
+can-stand line h = (h.one_line, h.short)
+
+no-return : (line : List ℕ) → CanBeCopied line → NoReturn line
+no-return line h = h.no_return
+
+settled : (units : List (FileUnit Epoch)) → MakeAFile units → IsSettled (as_items units)
+settled units h = record {
+  in_place = in-place units h.in_order;
+  copied = copied CanStand can-stand units h.in_order;
+  header = h.header;
+  none = h.complete;
+}
+
+no-returns : (units : List (FileUnit Epoch)) → MakeAFile units → HaveNoReturns (as_items units)
+no-returns units h = copied NoReturn no-return units h.in_order
+
+-- ---- their texts
+
+none-warned : (units : List (FileUnit Epoch)) → warnings_in (as_items units) ≡ []
+none-warned [] = refl
+none-warned (unit ∷ before) = none-warned before
+
+whole-text : (units : List (FileUnit Epoch)) → MakeAFile units
+    → whole_of (rinex_text units) ≡ record { items = as_items units; fault = None }
+whole-text units h =
+    printed-again (as_items units) (settled units h) (no-returns units h)
+    ∙ ap (λ (all : List (Item Epoch)). record { items = all; fault = None })
+    (accepted-all (as_items units) (none-warned units))
+
+compacts : (units : List (FileUnit Epoch)) (choices : Choices) → MakeAFile units
+    → compacted (rinex_text units) choices ≡ written_well (compact_text choices units)
+compacts units choices h =
+    let whole = whole-text units h in
+    compacted-by (rinex_text units) choices (ap (λ (w : WholeReading Epoch). w.fault) whole)
+    ∙ ap (result_of (compact_unit choices)) whole
+    ∙ ap (λ (w : List At). result_of_course
+    (record { output = compact_text choices units; warnings = reverse w; fault = None })) (none-warned units)
+
+pub texts-of_units : (units : List (FileUnit Epoch)) (compacting expanding : Choices)
+    → TextsOfUnits units compacting expanding
+texts-of_units units compacting expanding h = record {
+  compaction = compacts units compacting h;
+  expansion = λ dated.
+      items-back (as_items units) compacting expanding dated (settled units h) (no-returns units h);
+}
+
+-- ---- in runs
+
+pub writes-units : (choices : Choices)
+    (writer messages : Device) (status : ℕ) (fault : Option At) (file : List ℕ)
+    → IsResult (compacted file choices) writer messages status fault
+    → WritesUnits choices writer messages status fault file
+writes-units choices writer messages status fault file ran units h same =
+    subst (λ r. IsResult r writer messages status fault)
+    (ap (λ t. compacted t choices) same ∙ compacts units choices h) ran
+
+pub reads-units : (expanding : Choices)
+    (writer messages : Device) (status : ℕ) (fault : Option At) (text : List ℕ)
+    → IsResult (expanded text expanding) writer messages status fault
+    → ReadsUnits writer messages status fault text
+reads-units expanding writer messages status fault text ran units compacting dated h same =
+    subst (λ r. IsResult r writer messages status fault) (ap (λ t. expanded t expanding) same
+    ∙ items-back (as_items units) compacting expanding dated (settled units h) (no-returns units h)) ran
+
+-- ---- a standard file is the text of its units
+
+abbrev pub units_in : List (Item Epoch) → List (FileUnit Epoch)
+units_in [] = []
+units_in (Accepted unit ∷ before) = unit ∷ units_in before
+units_in (Warned at ∷ before) = units_in before
+
+all-units : (items : List (Item Epoch)) → warnings_in items ≡ [] → as_items (units_in items) ≡ items
+all-units [] e = refl
+all-units (Accepted unit ∷ before) e = ap (λ items. Accepted unit ∷ items) (all-units before e)
+all-units (Warned at ∷ before) e = absurd (cc)
+
+both : (unit : FileUnit Epoch)
+    → OfCopiedLine CanStand unit → OfCopiedLine NoReturn unit → OfCopiedLine CanBeCopied unit
+both (HeaderLine line) h k = record { one_line = h.0; short = h.1; no_return = k }
+both (EventLine line) h k = record { one_line = h.0; short = h.1; no_return = k }
+both (EventRecord line) h k = record { one_line = h.0; short = h.1; no_return = k }
+both (Observation epoch) h k = tt
+
+in-order : (units : List (FileUnit Epoch)) → AreInPlace (as_items units)
+    → OfCopiedLines CanStand (as_items units) → HaveNoReturns (as_items units) → AreInOrder units
+in-order [] h k e = tt
+in-order (unit ∷ before) h k e = (h.0, both unit k.0 e.0, in-order before h.1 k.1 e.1)
+
+make-file : (units : List (FileUnit Epoch)) → IsSettled (as_items units) → HaveNoReturns (as_items units)
+    → MakeAFile units
+make-file units h none = record {
+  in_order = in-order units h.in_place h.copied none;
+  header = h.header;
+  complete = h.none;
+}
+
+no-returns_in : (file : List ℕ) → IsStandard file → HaveNoReturns (WholeReading.items (whole_of file))
+no-returns_in file h =
+    whole-copied NoReturn false (map seen (lines_of file)) (plain-no_return (pieces_of file) h.plain)
+
+all-accepted : (file : List ℕ)
+    → as_items (units_in (WholeReading.items (whole_of file))) ≡ WholeReading.items (whole_of file)
+all-accepted file = all-units (WholeReading.items (whole_of file)) (whole-none (map seen (lines_of file)))
+
+-- the units that are read of a standard file
+pub read-units : (file : List ℕ) → IsStandard file → MakeAFile (units_in (WholeReading.items (whole_of file)))
+read-units file h =
+    let all = all-accepted file in
+    make-file (units_in (WholeReading.items (whole_of file)))
+    (subst IsSettled (sym all) (whole-settled false file h.good))
+    (subst HaveNoReturns (sym all) (no-returns_in file h))
+
+units-of_standard : (file : List ℕ) → IsStandard file
+    → (units : List (FileUnit Epoch)) × MakeAFile units × (file ≡ rinex_text units)
+units-of_standard file h =
+    let same : file ≡ rinex_text (units_in (WholeReading.items (whole_of file))) =
+    sym (plain-text file h.plain) ∙ ap lines_text h.given_back
+    ∙ ap (λ (items : List (Item Epoch)). lines_text (printed_items items)) (sym (all-accepted file)) in
+    (units_in (WholeReading.items (whole_of file)), read-units file h, same)
+
+pub standard-by_units : (file : List ℕ) → IsStandardByUnits file
+standard-by_units file = (
+  units-of_standard file,
+  λ h. subst IsStandard (sym h.2) (settled-standard (as_items h.0) (settled h.0 h.1) (no-returns h.0 h.1)),
+)

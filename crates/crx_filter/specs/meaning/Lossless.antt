@@ -1,0 +1,32 @@
+-- Losslessness, said by the results of the three calls alone: what passes a check comes back from its compact
+-- text. Nothing of RINEX or of compact text has to be known for it.
+use Rattle.std.specs.Prelude.{◌≡◌, ℕ, List, Option, true}
+use Rattle.crx_faults.specs.declared.fault.At.{At}
+use Rattle.crx_options.specs.meaning.Choices.{Choices, is_date}
+use Rattle.crx_reading.specs.meaning.Compacted.{compacted}
+use Rattle.crx_reading.specs.meaning.Expanded.{expanded}
+use Rattle.crx_reading.specs.meaning.Standard.{checked}
+use Rattle.crx_reading.specs.meaning.WayBack.{written_well}
+use Rattle.crx_runs.specs.meaning.Runs.{IsResult}
+use Rattle.crx_runs.specs.meaning.Spans.{Device}
+
+-- the expansion of a file's compact text is `written_well file`: its output is the file byte for byte, with no
+-- message, status 0 and no fault; whatever is chosen for the compaction, with a date that is one, and the expansion
+abbrev pub ComesBackWhole : List ℕ → Type 0
+ComesBackWhole file = (compacting expanding : Choices) → is_date compacting.date ≡ true
+    → expanded (compacted file compacting).output expanding ≡ written_well file
+
+-- every file that a check passes, with status 0, comes back
+abbrev pub WhatPassesComesBack : Type 0
+WhatPassesComesBack = (file : List ℕ) → (checked file).status ≡ 0 → ComesBackWhole file
+
+-- a check that answered 0 says that its file comes back
+abbrev pub SaysThatItComesBack : ℕ → List ℕ → Type 0
+SaysThatItComesBack status file = status ≡ 0 → ComesBackWhole file
+
+-- an expansion of the compact text of a file that a check passes wrote the file, with no message and status 0
+abbrev pub BringsBackWhatPasses : Device → Device → ℕ → Option At → List ℕ → Type 0
+BringsBackWhatPasses writer messages status fault text =
+    (file : List ℕ) (compacting : Choices)
+    → is_date compacting.date ≡ true → (checked file).status ≡ 0 → text ≡ (compacted file compacting).output
+    → IsResult (written_well file) writer messages status fault

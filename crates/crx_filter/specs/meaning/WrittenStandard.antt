@@ -1,0 +1,42 @@
+-- What an expansion writes is a standard file, whoever wrote the compact text, and whatever of it was damaged.
+use Rattle.std.specs.Prelude.{◌≡◌, ◌↔◌, ℕ, Bool, List, [], ◌∷◌, None, true, map}
+use Rattle.std.specs.List.{list_all}
+use Rattle.crx_faults.specs.meaning.Lines.{InputLine, lines_of}
+use Rattle.crx_faults.specs.meaning.Seen.{seen}
+use Rattle.crx_rinex.specs.meaning.Observations.{Epoch}
+use Rattle.crx_history.specs.meaning.CompactPlaces.{ReadEpoch}
+use Rattle.crx_options.specs.meaning.Choices.{Choices}
+use Rattle.crx_reading.specs.meaning.Expanded.{expanded, rinex_unit, whole_compact}
+use Rattle.crx_reading.specs.meaning.Items.{Item, Accepted, Warned}
+use Rattle.crx_reading.specs.meaning.Standard.{IsStandard}
+use Rattle.crx_reading.specs.meaning.WayBack.{HaveNoReturns}
+use Rattle.crx_runs.specs.meaning.Spans.{Device}
+
+-- whether each line of a text ends with LF and no CR before it
+abbrev pub has_plain_lines : List ℕ → Bool
+has_plain_lines text = list_all (λ (line : InputLine). line.is_plain) (lines_of text)
+
+-- a standard file was written, unless a line of it ends in CR
+abbrev pub WroteStandard : Device → Type 0
+WroteStandard writer =
+    (output : List ℕ) × writer.took output × (has_plain_lines output ≡ true → IsStandard output)
+
+-- ---- the law
+
+-- the units that were read of compact text, with the warnings between them, as the units of RINEX they stand for
+abbrev pub rinex_items : List (Item ReadEpoch) → List (Item Epoch)
+rinex_items [] = []
+rinex_items (Accepted unit ∷ before) = Accepted (rinex_unit unit) ∷ rinex_items before
+rinex_items (Warned at ∷ before) = Warned at ∷ rinex_items before
+
+-- what the expansion of a text writes, where no fault ends it
+pub record IsWrittenStandard (text : List ℕ) (choices : Choices) : Type 0 where
+  -- is standard, unless a line of it ends in CR
+  pub standard : has_plain_lines (expanded text choices).output ≡ true
+      → IsStandard (expanded text choices).output
+  -- and that is so exactly where a line that was copied has a content that ends in CR
+  pub copied : has_plain_lines (expanded text choices).output ≡ true
+      ↔ HaveNoReturns (rinex_items (whole_compact choices.skip (map seen (lines_of text))).items)
+
+abbrev pub WhatIsExpandedIsStandard : List ℕ → Choices → Type 0
+WhatIsExpandedIsStandard text choices = (expanded text choices).fault ≡ None → IsWrittenStandard text choices

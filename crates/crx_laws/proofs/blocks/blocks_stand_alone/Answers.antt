@@ -1,0 +1,5 @@
+use Rattle.crx_laws.proofs.blockwise.GoingOn.{stand-alone}
+use Rattle.crx_laws.proofs.blocks.blocks_stand_alone.Goals as goal
+
+pub returns : goal.returns
+returns c = stand-alone

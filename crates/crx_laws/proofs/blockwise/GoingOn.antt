@@ -1,0 +1,382 @@
+-- What comes after a text that is expanded without a fault is read after its units, and after a warning, if
+-- there is one; and alike after another text that leaves the same types.
+use Rattle.std.proofs.Common.{ℕ, ◌≡◌, ◌+◌, ◌⊎◌, inl, inr, Bool, true, false, cond, List, [], ◌∷◌, ◌++◌, map}
+use Rattle.std.proofs.Common.{length, drop, Option, Some, None, refl, ap, sym, ◌∙◌, subst, arith, append-nil}
+use Rattle.std.specs.Prelude.{◌&&◌, ◌==◌, not, nat_lt}
+use Rattle.std.proofs.lemmas.Bool.{and_parts, ltb-false}
+use Rattle.std.proofs.lemmas.Grind.{flat_map-append}
+use Rattle.std.proofs.lemmas.List.{drop-append-le}
+use Rattle.crx_faults.specs.meaning.Lines.{lines_of, pieces_of, lines_text}
+use Rattle.crx_faults.specs.meaning.Seen.{ReadLine, Content, Overlong, seen}
+use Rattle.crx_faults.specs.declared.fault.At.{At}
+use Rattle.crx_faults.specs.declared.fault.Fault.{Fault}
+use Rattle.crx_header.specs.meaning.EpochColumns.{begins_epoch, is_event_line}
+use Rattle.crx_rinex.specs.meaning.Places.{Place, Here, Wrong, Wanted, one_line}
+use Rattle.crx_rinex.specs.Steady.{Remains}
+use Rattle.crx_history.specs.meaning.CompactPlaces.{ReadEpoch, epoch_at}
+use Rattle.crx_options.specs.meaning.Choices.{Choices}
+use Rattle.crx_reading.specs.meaning.Items.{Item, header_has_ended, records_announced, records_left}
+use Rattle.crx_reading.specs.meaning.Items.{types_in_force}
+use Rattle.crx_reading.specs.meaning.Reading.{Reading, WholeReading, Stop, AtFault, AtLines, Looking}
+use Rattle.crx_reading.specs.meaning.Reading.{is_skipped}
+use Rattle.crx_reading.specs.meaning.Reading.{reading_from, fault_at_end, ended_with, ended_reading}
+use Rattle.crx_reading.specs.meaning.Expanded.{raws_kept, event_line, as_observation, compact_place}
+use Rattle.crx_reading.specs.meaning.Expanded.{first_lines}
+use Rattle.crx_reading.specs.meaning.Expanded.{whole_compact, expanded}
+use Rattle.crx_reading.proofs.Choosing.{by_bool}
+use Rattle.crx_filter.specs.Anew.{IsBetweenUnits, GoOnAlike, starts_anew}
+use Rattle.crx_filter.specs.Expanded.{expanded_lines}
+use Rattle.crx_filter.specs.Laws.{continued_reading}
+use Rattle.crx_filter.proofs.following.Lines.{IsStopped, one_line-decided}
+use Rattle.crx_filter.proofs.reading.Anew.{depends-on_types}
+use Rattle.crx_filter.proofs.reading.CompactPrefixes.{whole-at}
+use Rattle.crx_filter.proofs.reading.ForwardCompact.{compact-forward, steady-first_lines}
+use Rattle.crx_filter.proofs.reading.Resuming.{looked-here, resumed}
+use Rattle.crx_filter.proofs.reading.Stopping.{reading-stopped}
+use Rattle.crx_filter.proofs.reading.WhatWasRead.{allowed}
+use Rattle.crx_filter.proofs.damage.BlockReading.{place-between}
+use Rattle.crx_filter.proofs.damage.DamagedText.{each-ended, lines-append as pieces-append}
+use Rattle.crx_filter.proofs.damage.GoingOn.{with_warnings, warned-between, warned-types, GoesOnAt}
+use Rattle.crx_filter.proofs.damage.GoingOn.{open-goes_on}
+use Rattle.crx_filter.proofs.damage.SavedText.{lines-append, lines-warned, header-append, left-append}
+use Rattle.crx_laws.specs.Blocks.{read_of_text, CanGoOn, HaveSameTypes, kind_of, GoOnWith, StandAlone}
+use Rattle.crx_laws.proofs.blockwise.Erased.{erased_reading, within-alike, lines-erased, ended-lines}
+use Rattle.crx_laws.proofs.blockwise.Erased.{ended-kind}
+
+-- ---- where a reading whose end is good has stopped
+
+-- an end without a fault is good, or a warning
+end-passed : (skip : Bool) (items : List (Item ReadEpoch)) (number : ℕ) (o : Option Fault)
+    → (ended_with skip items number o).fault ≡ None
+    → (o ≡ None) ⊎ ((fault : Fault) × (o ≡ Some fault) × (is_skipped skip items fault ≡ true))
+end-passed skip items number None e = inl refl
+end-passed skip items number (Some fault) e = by_bool (is_skipped skip items fault)
+    (λ on. inr (fault, refl, on))
+    (λ off.
+    let never : ◌≡◌ {A = Option At} (Some (record { line = number; fault = fault })) None =
+    rw (off, ended_with) at e in
+    absurd (cc))
+
+end-body : (b c : Bool) (one two : Fault)
+    → cond (not b) (Some one) (cond c (Some two) None) ≡ None → (b ≡ true) × (c ≡ false)
+end-body true true one two e = absurd (cc)
+end-body true false one two e = (refl, refl)
+end-body false c one two e = absurd (cc)
+
+lt-none : (n : ℕ) → nat_lt 0 n ≡ false → n ≡ 0
+lt-none n e = let h = ltb-false 0 n e in omega (arith, h)
+
+end-good : (items : List (Item ReadEpoch)) (rest : List ReadLine)
+    → fault_at_end items rest ≡ None → IsBetweenUnits items × (rest ≡ [])
+end-good [] rest e = absurd (cc)
+end-good (item ∷ before) (line ∷ rest) e = absurd (cc)
+end-good (item ∷ before) [] e =
+    let both = end-body (header_has_ended (item ∷ before)) (nat_lt 0 (records_left (item ∷ before))) _ _ e in
+    (record { header = both.0; none = lt-none (records_left (item ∷ before)) both.1 }, refl)
+
+-- it is between two units, or an epoch is open and faults are skipped
+lines-passed : (skip : Bool) (items : List (Item ReadEpoch)) (number : ℕ) (rest : List ReadLine)
+    → (ended_with skip items number (fault_at_end items rest)).fault ≡ None
+    → IsBetweenUnits items × ((rest ≡ []) ⊎ (skip ≡ true))
+lines-passed skip items number rest e = either (end-passed skip items number (fault_at_end items rest) e)
+  where
+    either : (fault_at_end items rest ≡ None) ⊎ ((fault : Fault) × (fault_at_end items rest ≡ Some fault)
+        × (is_skipped skip items fault ≡ true)) → IsBetweenUnits items × ((rest ≡ []) ⊎ (skip ≡ true))
+    either (inl good) = let h = end-good items rest good in (h.0, inl h.1)
+    either (inr (fault, is, on)) =
+        let facts = allowed skip items fault on in (
+          record { header = facts.0; none = facts.1 },
+          inr (and_parts skip (header_has_ended items && ((records_left items == 0) && _)) on).0,
+        )
+
+-- ---- reading goes on
+
+pub record GoesOn (skip : Bool) (items : List (Item ReadEpoch)) (lines : List ReadLine)
+    (r : Reading ReadEpoch) : Type 0 where
+  pub between : IsBetweenUnits items
+  pub warnings : List At
+  pub number : ℕ
+  pub same : r ≡ reading_from compact_place skip (with_warnings warnings items) number lines
+
+wanted-no_event : (items : List (Item ReadEpoch)) (line : List ℕ) (rest : List ReadLine)
+    → IsBetweenUnits items
+    → compact_place items (Content line ∷ rest) ≡ Wanted → is_event_line line ≡ false
+wanted-no_event items line rest between e = by_bool (is_event_line line)
+    (λ on. absurd (one_line-decided (event_line {E = ReadEpoch} line) (sym (there on) ∙ e)))
+    (λ off. off)
+  where
+    there : is_event_line line ≡ true → compact_place items (Content line ∷ rest) ≡ one_line (event_line line)
+    there on = place-between items (Content line ∷ rest) between
+        ∙ ap (λ b. cond b (one_line (event_line line)) (as_observation (epoch_at (types_in_force items)
+        (raws_kept items) (Content line ∷ rest)))) on
+
+open-passed : (items : List (Item ReadEpoch)) (number : ℕ) (rest : List ReadLine) (line : List ℕ)
+    (tail : List ReadLine) → IsBetweenUnits items → compact_place items rest ≡ Wanted
+    → begins_epoch line ≡ true
+    → GoesOn true items (Content line ∷ tail)
+    (reading_from compact_place true items number (rest ++ Content line ∷ tail))
+open-passed items number [] line tail between e begins =
+    record { between = between; warnings = []; number = number; same = refl }
+open-passed items number (Overlong ∷ rest) line tail between e begins =
+    let never = sym (place-between items (Overlong ∷ rest) between) ∙ e in absurd (cc)
+open-passed items number (Content first ∷ rest) line tail between e begins =
+    let g : GoesOnAt items (Content line ∷ tail)
+    (reading_from compact_place true items number (Content first ∷ (rest ++ Content line ∷ tail))) =
+    open-goes_on items number first rest line tail between
+    (wanted-no_event items first rest between e) e begins in
+    record { between = between; warnings = g.warnings; number = g.number; same = g.same }
+
+pub goes-on : (skip : Bool) (items : List (Item ReadEpoch)) (stop : Stop) (next : ℕ) (line : List ℕ)
+    (tail : List ReadLine) → IsStopped compact_place items stop next
+    → (ended_reading skip (record { items = items; stop = stop })).fault ≡ None → begins_epoch line ≡ true
+    → GoesOn skip items (Content line ∷ tail)
+    (continued_reading compact_place skip (record { items = items; stop = stop }) (Content line ∷ tail))
+goes-on skip items (AtFault at) next line tail stopped e begins = absurd (cc)
+goes-on skip items (Looking number) next line tail stopped e begins = record {
+  between = record { header = stopped.1; none = stopped.2 };
+  warnings = [];
+  number = number;
+  same = looked-here (reading_from compact_place skip items) items number (Content line) tail begins;
+}
+goes-on skip items (AtLines number rest) next line tail stopped e begins =
+    let passed = lines-passed skip items (number + length rest) rest e in
+    either passed.0 passed.1
+  where
+    lines : List ReadLine
+    lines = Content line ∷ tail
+
+    either : IsBetweenUnits items → (rest ≡ []) ⊎ (skip ≡ true) → GoesOn skip items lines
+        (continued_reading compact_place skip (record { items = items; stop = AtLines number rest }) lines)
+    either between (inl none) = record {
+      between = between;
+      warnings = [];
+      number = number;
+      same = ap (λ ls. reading_from compact_place skip items number (ls ++ lines)) none;
+    }
+    either between (inr on) =
+        subst (λ (s : Bool). GoesOn s items lines (reading_from compact_place s items number (rest ++ lines)))
+        (sym on) (open-passed items number rest line tail between stopped.0 begins)
+
+-- ---- a whole text, and more
+
+-- how a text was read, and how it is read with more after it
+pub record IsTextRead (text : List ℕ) (choices : Choices) : Type 0 where
+  pub items : List (Item ReadEpoch)
+  pub stop : Stop
+  pub next : ℕ
+  pub stopped : IsStopped compact_place items stop next
+  pub whole : read_of_text text choices ≡ ended_reading choices.skip (record { items = items; stop = stop })
+  pub further : (more : List ℕ) → read_of_text (text ++ more) choices
+      ≡ ended_reading choices.skip (continued_reading compact_place choices.skip
+      (record { items = items; stop = stop }) (map seen (lines_of more)))
+
+text-read : (text : List ℕ) (choices : Choices) → CanGoOn text choices → IsTextRead text choices
+text-read text choices h = by_first (first_lines lines) refl
+  where
+    lines : List ReadLine
+    lines = map seen (lines_of text)
+
+    by_first : (p : Place (List (List ℕ))) → first_lines lines ≡ p → IsTextRead text choices
+    by_first (Wrong offset fault) e =
+        let never : ◌≡◌ {A = Option At} (Some (record { line = offset + 1; fault = fault })) None =
+        rw (e, whole_compact) at h.good in absurd (cc)
+    by_first Wanted e = let never = rw (e, whole_compact) at h.good in absurd (cc)
+    by_first (Here two count) e =
+        let r : Reading ReadEpoch =
+        reading_from compact_place choices.skip [] (count + 1) (drop count lines) in
+        record {
+          items = r.items;
+          stop = r.stop;
+          next = (count + 1) + length (drop count lines);
+          stopped = reading-stopped compact_place compact-forward choices.skip [] (count + 1) _
+              (drop count lines) refl;
+          whole = whole-at choices.skip lines two count e;
+          further = λ more.
+              let M : List ReadLine = map seen (lines_of more) in
+              let stays : Remains (length lines) (Here two count) (first_lines (lines ++ M)) =
+              subst (λ q. Remains (length lines) q (first_lines (lines ++ M))) e
+              (steady-first_lines lines M) in
+              ap (whole_compact choices.skip) (pieces-append text more (each-ended (pieces_of text) h.lines))
+              ∙ whole-at choices.skip (lines ++ M) two count stays.1
+              ∙ ap (λ ls. ended_reading choices.skip (reading_from compact_place choices.skip []
+              (count + 1) ls))
+              (drop-append-le count lines M stays.0)
+              ∙ ap (ended_reading choices.skip) (resumed compact_place compact-forward choices.skip []
+              (count + 1)
+              (drop count lines) M);
+        }
+
+-- ---- the end, and what it leaves
+
+ended_with-types : (skip : Bool) (items : List (Item ReadEpoch)) (number : ℕ) (o : Option Fault)
+    → types_in_force (ended_with skip items number o).items ≡ types_in_force items
+ended_with-types skip items number None = refl
+ended_with-types skip items number (Some fault) = by_bool (is_skipped skip items fault)
+    (λ on. rw (on, ended_with) refl)
+    (λ off. rw (off, ended_with) refl)
+
+ended-types : (skip : Bool) (items : List (Item ReadEpoch)) (stop : Stop)
+    → types_in_force (ended_reading skip (record { items = items; stop = stop })).items ≡ types_in_force items
+ended-types skip items (AtFault at) = refl
+ended-types skip items (AtLines number lines) =
+    ended_with-types skip items (number + length lines) (fault_at_end items lines)
+ended-types skip items (Looking number) = refl
+
+-- items that leave a reader at the same place of a file
+module _ (a b : List (Item ReadEpoch)) (one : header_has_ended a ≡ true) (two : header_has_ended b ≡ true)
+    (left : records_left a ≡ records_left b) where
+  end-same : (lines : List ReadLine) → fault_at_end a lines ≡ fault_at_end b lines
+  end-same lines = by_items a b one two left lines
+    where
+      by_items : (a b : List (Item ReadEpoch)) → header_has_ended a ≡ true → header_has_ended b ≡ true
+          → records_left a ≡ records_left b → (lines : List ReadLine)
+          → fault_at_end a lines ≡ fault_at_end b lines
+      by_items [] b one two left lines = absurd (cc)
+      by_items (item ∷ a) [] one two left lines = absurd (cc)
+      by_items (item ∷ a) (other ∷ b) one two left (line ∷ lines) = refl
+      by_items (item ∷ a) (other ∷ b) one two left [] = rw (one, two, left) refl
+
+  ended_with-same : (skip : Bool) (number : ℕ) (o : Option Fault)
+      → (ended_with skip a number o).fault ≡ (ended_with skip b number o).fault
+  ended_with-same skip number None = refl
+  ended_with-same skip number (Some fault) =
+      let same : is_skipped skip a fault ≡ is_skipped skip b fault = rw (one, two, left) refl in
+      by_bool (is_skipped skip b fault)
+      (λ on. rw (on, same ∙ on, ended_with) refl)
+      (λ off. rw (off, same ∙ off, ended_with) refl)
+
+  ended-same : (skip : Bool) (stop : Stop) → (ended_reading skip (record { items = a; stop = stop })).fault
+      ≡ (ended_reading skip (record { items = b; stop = stop })).fault
+  ended-same skip (AtFault at) = refl
+  ended-same skip (AtLines number lines) =
+      ap (λ o. (ended_with skip a (number + length lines) o).fault) (end-same lines)
+      ∙ ended_with-same skip (number + length lines) (fault_at_end b lines)
+  ended-same skip (Looking number) = refl
+
+-- ---- the law
+
+-- what is read of some lines after two lists of items
+pub record AreReadAlike (skip : Bool) (x y : List (Item ReadEpoch))
+    (one two : Reading ReadEpoch) : Type 0 where
+  pub more : List (Item ReadEpoch)
+  pub first : expanded_lines one.items ≡ expanded_lines x ++ expanded_lines more
+  pub second : expanded_lines two.items ≡ expanded_lines y ++ expanded_lines more
+  pub ended : kind_of (ended_reading skip one).fault ≡ kind_of (ended_reading skip two).fault
+
+read-alike : (skip : Bool) (lines : List ReadLine) (x y : List (Item ReadEpoch)) (m n : ℕ)
+    → starts_anew 0 lines ≡ true → IsBetweenUnits x → IsBetweenUnits y → types_in_force x ≡ types_in_force y
+    → AreReadAlike skip x y (reading_from compact_place skip x m lines)
+    (reading_from compact_place skip y n lines)
+read-alike skip lines x y m n anew one two types =
+    let first : Reading ReadEpoch = reading_from compact_place skip x m lines in
+    let same : Reading ReadEpoch = reading_from compact_place skip y m lines in
+    let second : Reading ReadEpoch = reading_from compact_place skip y n lines in
+    let alike : GoOnAlike x y first same = depends-on_types skip x y m lines one two types anew in
+    let numbered : erased_reading same ≡ erased_reading second =
+    within-alike skip (length lines + 1) y y m n lines refl in
+    let more : List (Item ReadEpoch) = alike.more in
+    record {
+      more = more;
+      first = ap (λ (r : Reading ReadEpoch). expanded_lines r.items) alike.first ∙ lines-append more x;
+      second = sym (lines-erased second.items)
+          ∙ sym (ap (λ (r : Reading ReadEpoch). expanded_lines r.items) numbered) ∙ lines-erased same.items
+          ∙ ap (λ (r : Reading ReadEpoch). expanded_lines r.items) alike.second ∙ lines-append more y;
+      ended = ap (λ (r : Reading ReadEpoch). kind_of (ended_reading skip r).fault) alike.first
+          ∙ ap kind_of (ended-same (more ++ x) (more ++ y) (header-append more x one.header)
+          (header-append more y two.header) (left-append more x y (one.none ∙ sym two.none)) skip alike.stop)
+          ∙ sym (ap (λ (r : Reading ReadEpoch). kind_of (ended_reading skip r).fault) alike.second)
+          ∙ ended-kind skip same.items same.stop
+          ∙ ap (λ (r : Reading ReadEpoch). kind_of (ended_reading skip r).fault) numbered
+          ∙ sym (ended-kind skip second.items second.stop);
+    }
+
+-- a text, and what comes after it
+pub record IsFurtherRead (text more : List ℕ) (choices : Choices) (lines : List ReadLine) : Type 0 where
+  pub items : List (Item ReadEpoch)
+  pub number : ℕ
+  pub between : IsBetweenUnits items
+  pub types : types_in_force items ≡ types_in_force (read_of_text text choices).items
+  pub before : (expanded text choices).output ≡ lines_text (expanded_lines items)
+  pub after : read_of_text (text ++ more) choices
+      ≡ ended_reading choices.skip (reading_from compact_place choices.skip items number lines)
+
+further-read : (text more : List ℕ) (choices : Choices) (line : List ℕ) (tail : List ReadLine)
+    → CanGoOn text choices
+    → map seen (lines_of more) ≡ Content line ∷ tail → begins_epoch line ≡ true
+    → IsFurtherRead text more choices (Content line ∷ tail)
+further-read text more choices line tail h is begins =
+    let t : IsTextRead text choices = text-read text choices h in
+    let g : GoesOn choices.skip t.items (Content line ∷ tail) (continued_reading compact_place choices.skip
+    (record { items = t.items; stop = t.stop }) (Content line ∷ tail)) =
+    goes-on choices.skip t.items t.stop t.next line tail t.stopped
+    (sym (ap (λ (w : WholeReading ReadEpoch). w.fault) t.whole) ∙ h.good) begins in
+    record {
+      items = with_warnings g.warnings t.items;
+      number = g.number;
+      between = warned-between g.warnings t.items g.between;
+      types = warned-types g.warnings t.items ∙ sym (ended-types choices.skip t.items t.stop)
+          ∙ sym (ap (λ (w : WholeReading ReadEpoch). types_in_force w.items) t.whole);
+      before = ap lines_text (ap (λ (w : WholeReading ReadEpoch). expanded_lines w.items) t.whole
+          ∙ ended-lines choices.skip t.items t.stop ∙ sym (lines-warned g.warnings t.items));
+      after = t.further more
+          ∙ ap (λ ls. ended_reading choices.skip (continued_reading compact_place choices.skip
+          (record { items = t.items; stop = t.stop }) ls)) is
+          ∙ ap (ended_reading choices.skip) g.same;
+    }
+
+text-append : (one two : List (List ℕ)) → lines_text (one ++ two) ≡ lines_text one ++ lines_text two
+text-append one two = flat_map-append (λ (line : List ℕ). line ++ 10 ∷ []) one two
+
+nothing-more : (text more : List ℕ) (choices : Choices) → CanGoOn text choices → map seen (lines_of more) ≡ []
+    → read_of_text (text ++ more) choices ≡ read_of_text text choices
+nothing-more text more choices h none =
+    ap (whole_compact choices.skip) (pieces-append text more (each-ended (pieces_of text) h.lines)
+    ∙ ap (λ ls. map seen (lines_of text) ++ ls) none ∙ append-nil (map seen (lines_of text)))
+
+by-lines : (more one other : List ℕ) (choices : Choices) (lines : List ReadLine) → CanGoOn one choices
+    → CanGoOn other choices → HaveSameTypes one other choices → map seen (lines_of more) ≡ lines
+    → starts_anew 0 lines ≡ true → GoOnWith more one other choices
+by-lines more one other choices [] h k types is anew =
+    let first : read_of_text (one ++ more) choices ≡ read_of_text one choices =
+    nothing-more one more choices h is in
+    let second : read_of_text (other ++ more) choices ≡ read_of_text other choices =
+    nothing-more other more choices k is in
+    record {
+      lines = [];
+      first = ap (λ (w : WholeReading ReadEpoch). lines_text (expanded_lines w.items)) first
+          ∙ sym (append-nil (expanded one choices).output);
+      second = ap (λ (w : WholeReading ReadEpoch). lines_text (expanded_lines w.items)) second
+          ∙ sym (append-nil (expanded other choices).output);
+      ended = ap (λ (w : WholeReading ReadEpoch). kind_of w.fault) first ∙ ap kind_of (h.good ∙ sym k.good)
+          ∙ sym (ap (λ (w : WholeReading ReadEpoch). kind_of w.fault) second);
+    }
+by-lines more one other choices (Overlong ∷ tail) h k types is anew = absurd (cc)
+by-lines more one other choices (Content line ∷ tail) h k types is anew =
+    let begins : begins_epoch line ≡ true = (and_parts
+    (begins_epoch line) (cond (is_event_line line) (starts_anew
+    (records_announced line) tail) true) anew).0 in
+    let lines : List ReadLine = Content line ∷ tail in
+    let a : IsFurtherRead one more choices lines = further-read one more choices line tail h is begins in
+    let b : IsFurtherRead other more choices lines = further-read other more choices line tail k is begins in
+    let r : Reading ReadEpoch = reading_from compact_place choices.skip a.items a.number lines in
+    let s : Reading ReadEpoch = reading_from compact_place choices.skip b.items b.number lines in
+    let same : AreReadAlike choices.skip a.items b.items r s =
+    read-alike choices.skip lines a.items b.items a.number b.number anew a.between b.between
+    (a.types ∙ types ∙ sym b.types) in
+    record {
+      lines = expanded_lines same.more;
+      first = ap (λ (w : WholeReading ReadEpoch). lines_text (expanded_lines w.items)) a.after
+          ∙ ap lines_text (ended-lines choices.skip r.items r.stop ∙ same.first)
+          ∙ text-append (expanded_lines a.items) (expanded_lines same.more)
+          ∙ ap (λ t. t ++ lines_text (expanded_lines same.more)) (sym a.before);
+      second = ap (λ (w : WholeReading ReadEpoch). lines_text (expanded_lines w.items)) b.after
+          ∙ ap lines_text (ended-lines choices.skip s.items s.stop ∙ same.second)
+          ∙ text-append (expanded_lines b.items) (expanded_lines same.more)
+          ∙ ap (λ t. t ++ lines_text (expanded_lines same.more)) (sym b.before);
+      ended = ap (λ (w : WholeReading ReadEpoch). kind_of w.fault) a.after ∙ same.ended
+          ∙ sym (ap (λ (w : WholeReading ReadEpoch). kind_of w.fault) b.after);
+    }
+
+pub stand-alone : (more one other : List ℕ) (choices : Choices) → StandAlone more one other choices
+stand-alone more one other choices h k types anew =
+    by-lines more one other choices (map seen (lines_of more)) h k types refl anew

@@ -1,0 +1,65 @@
+-- by computation
+use Rattle.std.proofs.Common.{refl, [], ◌∷◌, ◌++◌, inl, inr, codes}
+use Rattle.std.specs.Fmt.{digits}
+use Rattle.crx_text.specs.meaning.Codes.{coded_number}
+use Rattle.crx_faults.specs.meaning.Lines.{lines_text}
+use Rattle.crx_filter.specs.meaning.Stretches.{IsReadWhole, HasStretches, BeginsWhole}
+use Rattle.crx_laws.specs.SmallFiles.{file_of_five, with_event, plain_choices, in_full_every_second}
+use Rattle.crx_laws.specs.SmallFiles.{header_items}
+use Rattle.crx_laws.specs.SmallFiles.{epoch_at_second}
+use Rattle.crx_laws.specs.SmallStretches.{first_epoch, second_block, two_stretches, event_lost, damaged_twice}
+use Rattle.crx_laws.specs.SmallStretches.{cut_off}
+use Rattle.crx_laws.specs.SmallStretches.{without_event}
+use Rattle.crx_reading.specs.meaning.Items.{Accepted}
+use Rattle.crx_rinex.specs.meaning.Units.{Observation}
+use Rattle.crx_text.specs.meaning.Numbers.{size_of, number_of, number_text}
+use Rattle.crx_laws.proofs.stretches.premises.Goals as goal
+
+five : IsReadWhole (lines_text (file_of_five [])) in_full_every_second
+unfolding digits coded_number size_of number_of number_text
+five = record { good = refl; no_returns = (tt, (tt, (tt, (tt, (tt, (refl, (refl, (refl, tt)))))))) }
+
+twice : HasStretches (lines_text (file_of_five [])) in_full_every_second damaged_twice
+unfolding digits coded_number size_of number_of number_text
+twice = record {
+  file_good = five;
+  before = first_epoch;
+  stretches = two_stretches;
+  parts = refl;
+  header = refl;
+  each = (
+    record { between = refl; types = refl; allowed = refl; anew = refl; ended = inr refl },
+    (record { between = refl; types = refl; allowed = refl; anew = tt; ended = inl (refl, refl) }, tt),
+  );
+  text = refl;
+}
+
+event : HasStretches (lines_text with_event) plain_choices without_event
+unfolding digits coded_number size_of number_of number_text
+event = record {
+  file_good = record {
+    good = refl;
+    no_returns =
+        (tt, (refl, (refl, (tt, (tt, (refl, (refl, (refl, tt))))))));
+  };
+  before = header_items;
+  stretches = event_lost;
+  parts = refl;
+  header = refl;
+  each = (record { between = refl; types = refl; allowed = refl; anew = refl; ended = inr refl }, tt);
+  text = refl;
+}
+
+cut : BeginsWhole (lines_text (file_of_five [])) in_full_every_second cut_off
+unfolding digits coded_number size_of number_of number_text
+cut = record {
+  file_good = five;
+  before = second_block ++ (Accepted (Observation (epoch_at_second 1 20000100500)) ∷ first_epoch);
+  after = Accepted (Observation (epoch_at_second 4 20000408000)) ∷ [];
+  more = codes "> 2024 01";
+  parts = refl;
+  text_is = refl;
+}
+
+pub returns : goal.returns
+returns c = record { twice = twice; event = event; cut = cut }

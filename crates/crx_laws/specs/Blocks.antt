@@ -1,0 +1,74 @@
+-- Blocks stand alone: what comes after one text is expanded alike after another that leaves the same types in
+-- force.
+use Rattle.std.specs.Prelude.{ℕ, ◌≡◌, Bool, true, List, ◌++◌, Option, None, map}
+use Rattle.std.specs.List.{list_all}
+use Rattle.std.specs.Option.{option_map}
+use Rattle.crx_faults.specs.meaning.Lines.{Piece, pieces_of, lines_of, lines_text}
+use Rattle.crx_faults.specs.meaning.Seen.{seen}
+use Rattle.crx_faults.specs.declared.fault.At.{At}
+use Rattle.crx_faults.specs.declared.fault.Fault.{Fault}
+use Rattle.crx_filter.specs.Anew.{starts_anew}
+use Rattle.crx_filter.specs.meaning.Stretches.{read_of_file, IsReadWhole}
+use Rattle.crx_history.specs.meaning.CompactPlaces.{ReadEpoch}
+use Rattle.crx_options.specs.meaning.Choices.{Choices}
+use Rattle.crx_rinex.specs.meaning.Observations.{Epoch}
+use Rattle.crx_reading.specs.meaning.Compacted.{compacted}
+use Rattle.crx_reading.specs.meaning.Damage.{BeginsAnew, lines_after}
+use Rattle.crx_reading.specs.meaning.Expanded.{whole_compact, expanded}
+use Rattle.crx_reading.specs.meaning.Items.{Item, header_has_ended, records_left, types_in_force}
+use Rattle.crx_reading.specs.meaning.Reading.{WholeReading}
+
+-- whether each line of a text ends with LF
+abbrev pub has_whole_lines : List ℕ → Bool
+has_whole_lines text = list_all (λ (piece : Piece). piece.is_ended) (pieces_of text)
+
+-- what is read of compact text
+abbrev pub read_of_text : List ℕ → Choices → WholeReading ReadEpoch
+read_of_text text choices = whole_compact choices.skip (map seen (lines_of text))
+
+-- a text after which more can come: its lines end with LF, and no fault ends its expansion
+pub record CanGoOn (text : List ℕ) (choices : Choices) : Type 0 where
+  pub lines : has_whole_lines text ≡ true
+  pub good : (read_of_text text choices).fault ≡ None
+
+-- two texts that leave the same observation types in force
+abbrev pub HaveSameTypes : List ℕ → List ℕ → Choices → Type 0
+HaveSameTypes one other choices =
+    types_in_force (read_of_text one choices).items ≡ types_in_force (read_of_text other choices).items
+
+-- a fault without the number of its line
+abbrev pub kind_of : Option At → Option Fault
+kind_of fault = option_map (λ (at : At). at.fault) fault
+
+-- what comes after two texts is expanded alike: the same lines are written for it, and it is ended by the
+-- same fault or by none
+pub record GoOnWith (more : List ℕ) (one other : List ℕ) (choices : Choices) : Type 0 where
+  pub lines : List (List ℕ)
+  pub first : (expanded (one ++ more) choices).output ≡ (expanded one choices).output ++ lines_text lines
+  pub second : (expanded (other ++ more) choices).output ≡ (expanded other choices).output ++ lines_text lines
+  pub ended : kind_of (expanded (one ++ more) choices).fault
+      ≡ kind_of (expanded (other ++ more) choices).fault
+
+-- whoever wrote them, where all starts anew at the first line that comes
+abbrev pub StandAlone : List ℕ → List ℕ → List ℕ → Choices → Type 0
+StandAlone more one other choices =
+    CanGoOn one choices → CanGoOn other choices → HaveSameTypes one other choices
+    → starts_anew 0 (map seen (lines_of more)) ≡ true → GoOnWith more one other choices
+
+-- ---- blocks that a compaction wrote
+
+-- some units of a file, from an event or an epoch in full on, whose compact text comes after that of another
+-- file, as the header alone, which leaves the types that are in force before these units
+pub record IsPieceAfter (file front : List ℕ) (choices : Choices) (text : List ℕ) : Type 0 where
+  pub file_good : IsReadWhole file choices
+  pub front_good : IsReadWhole front choices
+  pub before : List (Item Epoch)
+  pub piece : List (Item Epoch)
+  pub later : List (Item Epoch)
+  pub parts : (read_of_file file choices).items ≡ later ++ (piece ++ before)
+  pub header : header_has_ended before ≡ true
+  pub whole : (records_left before ≡ 0) × (records_left (piece ++ before) ≡ 0)
+  pub types : types_in_force (read_of_file front choices).items ≡ types_in_force before
+  pub anew : BeginsAnew choices before piece
+  pub text_is : text
+      ≡ (compacted front choices).output ++ lines_text (lines_after choices before (piece ++ before))

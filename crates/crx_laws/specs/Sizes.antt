@@ -1,0 +1,14 @@
+-- How much an expansion can make of compact text.
+use Rattle.std.specs.Prelude.{ℕ, ◌≤◌, ◌+◌, ◌*◌, List, length}
+use Rattle.crx_faults.specs.declared.limits.TheConstants.{NAME_WIDTH, CELL_WIDTH, TYPES_LIMIT}
+use Rattle.crx_options.specs.meaning.Choices.{Choices}
+use Rattle.crx_reading.specs.meaning.Expanded.{expanded}
+
+-- the longest line of an epoch in RINEX with its LF, 6404 bytes: an identifier, and a cell for each of as
+-- many types as a system may have. In compact text a line of one byte, its LF, can stand for it
+abbrev pub most_for_a_byte : ℕ
+most_for_a_byte = NAME_WIDTH + CELL_WIDTH * TYPES_LIMIT + 1
+
+-- an expansion is at most so many times as long as the compact text
+abbrev pub IsWithinSize : List ℕ → Choices → Type 0
+IsWithinSize text choices = length (expanded text choices).output ≤ most_for_a_byte * length text

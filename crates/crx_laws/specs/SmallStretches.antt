@@ -1,0 +1,72 @@
+-- Small files that are damaged in stretches, and one that is cut off, for the laws' premises.
+use Rattle.std.specs.Prelude.{ℕ, List, [], ◌∷◌, ◌++◌, codes}
+use Rattle.crx_faults.specs.meaning.Lines.{lines_text}
+use Rattle.crx_rinex.specs.meaning.Observations.{Epoch}
+use Rattle.crx_rinex.specs.meaning.Units.{EventLine, EventRecord, Observation}
+use Rattle.crx_reading.specs.meaning.Items.{Item, Accepted}
+use Rattle.crx_filter.specs.meaning.Stretches.{Stretch}
+use Rattle.crx_laws.specs.SmallFiles.{blanks, header, first_two, line_at, full_line_at, second_changed}
+use Rattle.crx_laws.specs.SmallFiles.{epoch_at_second}
+use Rattle.crx_laws.specs.SmallFiles.{header_items}
+
+-- ---- a file of five epochs, every second one in full in its compact text
+
+-- the header and the first epoch
+abbrev pub first_epoch : List (Item Epoch)
+first_epoch = Accepted (Observation (epoch_at_second 0 20000000000)) ∷ header_items
+
+abbrev pub first_epoch_text : List ℕ
+first_epoch_text =
+    lines_text (first_two ++ header ++ full_line_at 0 1 (codes "G01") ∷ [] ∷ codes "3&20000000000" ∷ [])
+
+-- the second block
+abbrev pub second_block : List (Item Epoch)
+second_block = Accepted (Observation (epoch_at_second 3 20000304500))
+    ∷ Accepted (Observation (epoch_at_second 2 20000202000)) ∷ []
+
+abbrev pub second_block_text : List ℕ
+second_block_text =
+    lines_text (full_line_at 2 1 (codes "G01") ∷ [] ∷ codes "3&20000202000" ∷ second_changed 3 ∷ []
+    ∷ codes "102500" ∷ [])
+
+-- in place of the second epoch's lines two others, of which the first begins with >; and in place of the
+-- third block, its first line too, a part of that line without LF at its end
+abbrev pub two_stretches : List Stretch
+two_stretches =
+    record {
+      lost = Accepted (Observation (epoch_at_second 1 20000100500)) ∷ [];
+      instead = codes ">\nxyz\n";
+      kept = second_block;
+    }
+    ∷ record {
+      lost = Accepted (Observation (epoch_at_second 4 20000408000)) ∷ [];
+      instead = codes "> 2024 01";
+      kept = [];
+    }
+    ∷ []
+
+abbrev pub damaged_twice : List ℕ
+damaged_twice = first_epoch_text ++ codes ">\nxyz\n" ++ second_block_text ++ codes "> 2024 01"
+
+-- the same text, cut off inside its third block
+abbrev pub cut_off : List ℕ
+cut_off = first_epoch_text ++ lines_text (second_changed 1 ∷ [] ∷ codes "100500" ∷ [])
+    ++ second_block_text ++ codes "> 2024 01"
+
+-- ---- a file with an event after its first block
+
+-- the first two epochs and the event are lost, and with them their lines
+abbrev pub event_lost : List Stretch
+event_lost =
+    record {
+      lost = Accepted (EventRecord (blanks 60 ++ codes "COMMENT")) ∷ Accepted (EventLine (line_at 2 4 1))
+          ∷ Accepted (Observation (epoch_at_second 1 20000100500))
+          ∷ Accepted (Observation (epoch_at_second 0 20000000000)) ∷ [];
+      instead = [];
+      kept = Accepted (Observation (epoch_at_second 2 20000202000)) ∷ [];
+    }
+    ∷ []
+
+abbrev pub without_event : List ℕ
+without_event =
+    lines_text (first_two ++ header ++ full_line_at 2 1 (codes "G01") ∷ [] ∷ codes "3&20000202000" ∷ [])

@@ -1,0 +1,120 @@
+-- Reading the number in a cell, up to the first blank of a line.
+use Rattle.std.proofs.Common.{true, false, ℕ, ℤ, ◌≡◌, ◌==◌, ◌<◌, Bool, List, [], ◌∷◌, length, Option, Some, None}
+use Rattle.std.proofs.Common.{if◌then◌else◌, ◌&&◌, inl, inr, arith, refl, ap, get_or}
+use Rattle.std.proofs.lemmas.Bool.{cases_eq}
+use Rattle.std.proofs.lemmas.Bool.Decides.{nat_tests}
+use Rattle.std.specs.Char.{is_ascii_digit}
+use Rattle.std.specs.Option.{option_map}
+use Rattle.std.specs.Str.{all_ascii_digits}
+use Rattle.std.specs.Str.Parse.{digits_value, starts_with_minus}
+use Rattle.crx_columns.specs.meaning.Columns.{is_blank}
+use Rattle.crx_text.specs.meaning.Codes.{code_of, coded_number, first_cell, is_count_of_digits}
+use Rattle.crx_text.specs.Codes.{counted_digits}
+use Rattle.crx_text.specs.declared.code.Code.TheVariants.{Step}
+use Rattle.crx_text.specs.meaning.Numbers.{signed_number, without_minus}
+
+pub without_minus-cell : (text : List ℕ) → without_minus (first_cell text) ≡ first_cell (without_minus text)
+without_minus-cell [] = refl
+without_minus-cell (c ∷ cs) =
+    elim (cases_eq c 32) [
+      | inl blank ↦ let e : c ≡ 32 = blank in rw e refl
+      | inr other ↦
+          let keeps : (c == 32) ≡ false = grind (arith, nat_tests) in
+          elim (cases_eq c 45) [
+            | inl minus ↦ let e : c ≡ 45 = minus in rw e refl
+            | inr digit ↦
+                let test : (c == 45) ≡ false = grind (arith, nat_tests) in
+                rw (keeps, test) (rw keeps refl)
+          ]
+    ]
+
+pub starts_with_minus-cell : (text : List ℕ) → starts_with_minus (first_cell text) ≡ starts_with_minus text
+starts_with_minus-cell [] = refl
+starts_with_minus-cell (c ∷ cs) =
+    elim (cases_eq c 32) [
+      | inl blank ↦ let e : c ≡ 32 = blank in rw e refl
+      | inr other ↦ let keeps : (c == 32) ≡ false = grind (arith, nat_tests) in rw keeps refl
+    ]
+
+chosen : (a : Bool) (n : ℕ) (f : ℕ → ℤ) → (if a then Some (f n) else None) ≡ option_map f (if a then Some n else None)
+chosen true n f = refl
+chosen false n f = refl
+
+-- the number in a cell, by its minus and its digits
+pub coded_number-cell : (text digits : List ℕ) → digits ≡ without_minus text → coded_number (first_cell text)
+    ≡ option_map (signed_number (starts_with_minus text)) (counted_digits (first_cell digits))
+unfolding coded_number
+coded_number-cell text digits is =
+    rw (without_minus-cell text, starts_with_minus-cell text, ← is)
+    (chosen (is_count_of_digits (length (first_cell digits)) && all_ascii_digits (first_cell digits))
+    (digits_value 10 (first_cell digits)) (signed_number (starts_with_minus text)))
+
+pub no_cell : {A : Type 0} (r : Option (ℕ × A)) (counted : Option ℕ) (f : ℕ → ℤ)
+    → r ≡ None → option_map (λ cell. cell.0) r ≡ counted → option_map f counted ≡ None
+no_cell None counted f is e = rw (← e) refl
+no_cell (Some x) counted f is e = absurd (cc)
+
+pub a_cell : {A : Type 0} (r : Option (ℕ × A)) (counted : Option ℕ) (f : ℕ → ℤ) (size : ℕ) (next : A)
+    → r ≡ Some (size, next) → option_map (λ cell. cell.0) r ≡ counted → option_map f counted ≡ Some (f size)
+a_cell r counted f size next is e = rw (← e, is) refl
+
+none_of : (a b : Bool) (n : ℕ) → b ≡ false → (if a && b then Some n else None) ≡ None
+none_of true b n e = ap (λ t. if t then Some n else None) e
+none_of false b n e = refl
+
+-- where no digit begins the cell, it has no number
+pub no_first_digit : (text : List ℕ)
+    → (0 < length text → is_ascii_digit (get_or text 0 0) ≡ false) → counted_digits (first_cell text) ≡ None
+no_first_digit [] stops = refl
+no_first_digit (c ∷ cs) stops =
+    let other : is_ascii_digit c ≡ false = stops (omega arith) in
+    let digits : all_ascii_digits (c ∷ first_cell cs) ≡ false = ap (λ t. t && all_ascii_digits (first_cell cs)) other in
+    elim (is_blank c) as (λ b. counted_digits (if b then [] else c ∷ first_cell cs) ≡ None) [
+      | true ↦ refl
+      | false ↦ none_of (is_count_of_digits (length (c ∷ first_cell cs)))
+          (all_ascii_digits (c ∷ first_cell cs)) (digits_value 10 (c ∷ first_cell cs)) digits
+    ]
+
+-- ---- a number is the code of a difference
+
+no_choice : (a b : Bool) (n : ℤ) → b ≡ false → (if a && b then Some n else None) ≡ None
+no_choice true b n e = ap (λ t. if t then Some n else None) e
+no_choice false b n e = refl
+
+no_digits : (text digits : List ℕ)
+    → digits ≡ without_minus text → all_ascii_digits digits ≡ false → coded_number text ≡ None
+unfolding coded_number
+no_digits text digits is other =
+    rw (← is) (no_choice (is_count_of_digits (length digits))
+    (all_ascii_digits digits) (signed_number (starts_with_minus text) (digits_value 10 digits)) other)
+
+no_text : coded_number [] ≡ None
+unfolding coded_number
+no_text = refl
+
+stopped : (b : Bool) → (b && false) ≡ false
+stopped true = refl
+stopped false = refl
+
+after_order : (c : ℕ) (cs : List ℕ) → coded_number (c ∷ 38 ∷ cs) ≡ None
+after_order c cs =
+    elim (cases_eq c 45) [
+      | inl minus ↦ let e : c ≡ 45 = minus in rw e (no_digits (45 ∷ 38 ∷ cs) (38 ∷ cs) refl refl)
+      | inr other ↦
+          let test : (c == 45) ≡ false = grind (arith, nat_tests) in
+          no_digits (c ∷ 38 ∷ cs) (c ∷ 38 ∷ cs) (rw test refl) (stopped (is_ascii_digit c))
+    ]
+
+pub code_of-number : (text : List ℕ) (number : ℤ) → coded_number text ≡ Some number → code_of text ≡ Some (Step number)
+code_of-number [] number e = absurd (let none = no_text in cc)
+code_of-number (c ∷ []) number e = ap (option_map Step) e
+code_of-number (c ∷ d ∷ cs) number e =
+    elim (cases_eq d 38) [
+      | inl and ↦
+          let is : d ≡ 38 = and in
+          let none : coded_number (c ∷ d ∷ cs) ≡ None = rw is (after_order c cs) in
+          absurd (cc)
+      | inr other ↦
+          let test : (d == 38) ≡ false = grind (arith, nat_tests) in
+          rw test (ap (option_map Step) e)
+    ]

@@ -1,0 +1,120 @@
+-- Printed codes.
+use Rattle.std.proofs.Common.{true, false, ◌≡◌, ◌≢◌, ◌==◌, ℕ, ℤ, pos, negsuc, neg_ℤ, suc, ◌+◌, ◌-◌, ◌≤◌, ◌<◌, ◌^◌, List}
+use Rattle.std.proofs.Common.{[], ◌∷◌, ◌++◌, length, get_or, take, slice_set, decimal, Some, inl, inr, arith, ap, sym}
+use Rattle.std.proofs.Common.{◌∙◌, refl}
+use Rattle.std.proofs.lemmas.Bool.{cases_lt}
+use Rattle.std.proofs.lemmas.Bool.Decides.{nat_tests}
+use Rattle.std.proofs.lemmas.Fmt.{decimal_digit, decimal_nonempty, length-decimal-le}
+use Rattle.std.proofs.lemmas.List.{append_assoc, get_or_past}
+use Rattle.std.proofs.lemmas.Str.Parse.{not_in_digits}
+use Rattle.std.specs.Fmt.{signed_decimal}
+use Rattle.std.specs.Option.{option_map}
+use Rattle.std.specs.Str.{all_ascii_digits}
+use Rattle.std.specs.Str.Parse.{starts_with_minus}
+use Rattle.crx_text.specs.declared.code.Code.{Code}
+use Rattle.crx_text.specs.declared.code.Code.TheVariants.{Missing, Start, Step}
+use Rattle.crx_faults.specs.declared.limits.TheConstants.{DIGITS_LIMIT, ORDER_LIMIT}
+use Rattle.crx_text.specs.meaning.Codes.{code_of, code_text, coded_number, is_order, step_of}
+use Rattle.crx_text.specs.Codes.{IsPrintable, IsShort}
+use Rattle.crx_text.specs.meaning.Numbers.{without_minus}
+use Rattle.crx_text.proofs.DigitPairs.{two_written}
+use Rattle.crx_text.proofs.CodeReads.{coded_number_fitting}
+use Rattle.crx_text.proofs.ReadBack.{decimal_first, decimal_is_digits, decimal_weighs, digits_own}
+
+-- an order is one digit
+pub code_text_start : (order : ℕ) (value : ℤ)
+    → order < 10 → code_text (Start order value) ≡ (48 + order) ∷ 38 ∷ signed_decimal value
+code_text_start order value small = ap (λ (ds : List ℕ). ds ++ 38 ∷ signed_decimal value) (decimal_digit order small)
+
+signed_decimal_length : (z : ℤ) → IsShort z → length (signed_decimal z) ≤ DIGITS_LIMIT + 1
+signed_decimal_length (pos n) short = let few = length-decimal-le DIGITS_LIMIT n (omega arith) short (omega arith) in
+    omega (arith, few)
+signed_decimal_length (negsuc n) short = let few =
+    length-decimal-le DIGITS_LIMIT (suc n) (omega arith) short (omega arith) in omega (arith, few)
+
+-- how long a code's text may be
+pub code_text_length : (code : Code) → IsPrintable code → length (code_text code) ≤ 21
+code_text_length Missing printable = omega arith
+code_text_length (Start order value) printable =
+    let whole = ap length (code_text_start order value (omega (arith, printable.0))) in
+    let number = signed_decimal_length value printable.1 in
+    omega (arith, whole, number)
+code_text_length (Step difference) printable = let number = signed_decimal_length difference printable in
+    omega (arith, number)
+
+-- an order, & and a number, written one after another
+pub start_written : (bytes number : List ℕ) (at order : ℕ) → at + 2 ≤ length bytes → take (at + 2)
+    (slice_set (slice_set bytes at (48 + order)) (at + 1) 38) ++ number ≡ take at bytes ++ (48 + order) ∷ 38 ∷ number
+start_written bytes number at order room =
+    ap (λ (t : List ℕ). t ++ number) (two_written bytes at (48 + order) 38 room)
+    ∙ append_assoc (take at bytes) ((48 + order) ∷ 38 ∷ []) number
+
+-- ---- reading back
+
+pub no_mark_in_digits : (ds : List ℕ) (i : ℕ) → all_ascii_digits ds ≡ true → get_or ds i 0 ≢ 38
+no_mark_in_digits ds i digits =
+    elim (cases_lt i (length ds)) as (λ _. get_or ds i 0 ≢ 38) [
+      | inl within ↦ not_in_digits digits_own ds 38 digits (λ range. omega (arith, range)) i within
+      | inr past ↦ let e = get_or_past ds i 0 past in omega (arith, e)
+    ]
+
+pub without_minus-digits : (text : List ℕ) → get_or text 0 0 ≢ 45 → without_minus text ≡ text
+without_minus-digits [] other = refl
+without_minus-digits (c ∷ cs) other =
+    let test : (c == 45) ≡ false = grind (arith, nat_tests) in
+    rw test refl
+
+pub starts_with_minus-digits : (text : List ℕ) → get_or text 0 0 ≢ 45 → starts_with_minus text ≡ false
+starts_with_minus-digits text other = grind (arith, nat_tests)
+
+pub coded_number-decimal : (n : ℕ) → n < 10 ^ DIGITS_LIMIT → coded_number (decimal n) ≡ Some (pos n)
+coded_number-decimal n small =
+    let tiny : n < 2 ^ 64 = omega arith in
+    let first = decimal_first n tiny in
+    let other : get_or (decimal n) 0 0 ≢ 45 = omega (arith, first) in
+    coded_number_fitting (decimal n) (decimal n) (sym (without_minus-digits (decimal n) other))
+    (decimal_nonempty n tiny) (length-decimal-le DIGITS_LIMIT n (omega arith) small tiny)
+    ∙ (rw (decimal_is_digits n tiny, starts_with_minus-digits (decimal n) other, decimal_weighs n tiny) refl)
+
+pub coded_number-minus : (n : ℕ) → n < 10 ^ DIGITS_LIMIT → coded_number (45 ∷ decimal n) ≡ Some (neg_ℤ (pos n))
+coded_number-minus n small =
+    let tiny : n < 2 ^ 64 = omega arith in
+    coded_number_fitting (45 ∷ decimal n)
+    (decimal n) refl (decimal_nonempty n tiny) (length-decimal-le DIGITS_LIMIT n (omega arith) small tiny)
+    ∙ (rw (decimal_is_digits n tiny, decimal_weighs n tiny) refl)
+
+pub coded_number-signed_decimal : (z : ℤ) → IsShort z → coded_number (signed_decimal z) ≡ Some z
+coded_number-signed_decimal (pos n) short = coded_number-decimal n short
+coded_number-signed_decimal (negsuc n) short = coded_number-minus (suc n) short
+
+pub code_of_step : (text : List ℕ) → 0 < length text → get_or text 1 0 ≢ 38 → code_of text ≡ step_of text
+code_of_step [] some other = absurd (omega arith)
+code_of_step (c ∷ []) some other = refl
+code_of_step (c ∷ d ∷ cs) some other =
+    let test : (d == 38) ≡ false = grind (arith, nat_tests) in
+    rw test refl
+
+pub code_of-signed_decimal : (z : ℤ) → IsShort z → code_of (signed_decimal z) ≡ step_of (signed_decimal z)
+code_of-signed_decimal (pos n) short =
+    let tiny : n < 2 ^ 64 = omega arith in
+    code_of_step (decimal n) (decimal_nonempty n tiny) (no_mark_in_digits (decimal n) 1 (decimal_is_digits n tiny))
+code_of-signed_decimal (negsuc n) short =
+    let tiny : suc n < 2 ^ 64 = omega arith in
+    code_of_step (45 ∷ decimal (suc n))
+    (omega arith) (no_mark_in_digits (decimal (suc n)) 0 (decimal_is_digits (suc n) tiny))
+
+pub code_of_start : (order : ℕ) (value : ℤ) → order ≤ ORDER_LIMIT
+    → IsShort value → code_of ((48 + order) ∷ 38 ∷ signed_decimal value) ≡ Some (Start order value)
+code_of_start order value small short =
+    let test : is_order (48 + order) ≡ true = grind (arith, nat_tests) in
+    let same : 48 + order - 48 ≡ order = omega arith in
+    rw (test, same, coded_number-signed_decimal value short) refl
+
+-- what is printed of a code is read back
+pub code_of-code_text : (code : Code) → IsPrintable code → code_of (code_text code) ≡ Some code
+code_of-code_text Missing printable = refl
+code_of-code_text (Start order value) printable =
+    ap code_of (code_text_start order value (omega (arith, printable.0)))
+    ∙ code_of_start order value printable.0 printable.1
+code_of-code_text (Step z) printable = code_of-signed_decimal z printable
+    ∙ ap (option_map Step) (coded_number-signed_decimal z printable)

@@ -1,0 +1,204 @@
+-- Two digits at a time.
+use Rattle.std.proofs.Common.{bit_or, ◌≡◌, ℕ, ℤ, pos, negsuc, w64, zero, suc, ◌+◌, ◌-◌, ◌*◌, ◌/◌, ◌%◌, ◌<◌, ◌≤◌}
+use Rattle.std.proofs.Common.{Bool, true, false}
+use Rattle.std.proofs.Common.{◌&&◌, T, eqb, List, [], ◌∷◌, ◌++◌, length, take, drop, get_or, slice_set, inl, inr, arith}
+use Rattle.std.proofs.Common.{eq-zero-or-pos, eqb→eq, append_assoc, decimal, ◌^◌, ap, sym, ◌∙◌, refl, subst}
+use Rattle.std.proofs.lemmas.List.{take_more_set, length-set, length-take-le, take-take}
+use Rattle.std.proofs.Math.Dec.{ltb}
+use Rattle.std.proofs.Math.Seq.{take-append-add}
+use Rattle.std.proofs.lemmas.Bool.{cases_lt, le-ltb, lt-ltb}
+use Rattle.std.proofs.lemmas.Fmt.{decimal_digit, decimal_nonempty}
+use Rattle.std.proofs.lemmas.Bool.{agree_below, agree_below_at}
+use lib.Count.{count_trailing_zeros}
+use lib.Ieee.Fits.{and_l, and_r}
+use mir.Val.{SFits, bool_byte}
+use Rattle.itoa.proofs.Decimal.{decimal_four, decimal_pair, decimal_two, length_one, length_pair, length_two, pair}
+use Rattle.std.specs.Int.{from_le_bytes, to_le_bytes, w32}
+use Rattle.std.proofs.lemmas.Nat.{from_le_bytes-to_le_bytes_4}
+use Rattle.std.specs.Fmt.{signed_decimal}
+use Rattle.crx_text.specs.declared.code_digits.TheConstants.{PAIRS}
+
+abbrev are_pairs : ℕ → Bool
+are_pairs zero = true
+are_pairs (suc p) =
+    (eqb (get_or PAIRS (p * 2) 0) (48 + p / 10) && eqb (get_or PAIRS (p * 2 + 1) 0) (48 + p % 10)) && are_pairs p
+
+below : (n p : ℕ) → T (are_pairs n)
+    → p < n → (get_or PAIRS (p * 2) 0 ≡ 48 + p / 10) × (get_or PAIRS (p * 2 + 1) 0 ≡ 48 + p % 10)
+below zero p t h = absurd (omega arith)
+below (suc n) p t h =
+    elim (eq-zero-or-pos (n - p)) [
+      | inl z ↦ let e : p ≡ n = omega arith in let a = and_l _ (are_pairs n) t in
+          rw e (eqb→eq _ _ (and_l _ _ a), eqb→eq _ _ (and_r _ _ a))
+      | inr g ↦ below n p (and_r _ (are_pairs n) t) (omega arith)
+    ]
+
+pub PAIRS_at : (p : ℕ) → p < 100 → (get_or PAIRS (p * 2) 0 ≡ 48 + p / 10) × (get_or PAIRS (p * 2 + 1) 0 ≡ 48 + p % 10)
+PAIRS_at p h = below 100 p tt h
+
+-- two bytes, one after the other
+pub two_written : (bytes : List ℕ) (at a b : ℕ)
+    → at + 2 ≤ length bytes → take (at + 2) (slice_set (slice_set bytes at a) (at + 1) b) ≡ take at bytes ++ a ∷ b ∷ []
+two_written bytes at a b room =
+    let sum : at + 2 ≡ at + 1 + 1 = omega arith in
+    rw sum (take_more_set (slice_set bytes at a) (at + 1) b (omega (arith, length-set bytes at a))
+    ∙ ap (λ (t : List ℕ). t ++ b ∷ []) (take_more_set bytes at a (omega arith))
+    ∙ append_assoc (take at bytes) (a ∷ []) (b ∷ []))
+
+-- what is written after what was written
+pub joined : (first second third front back : List ℕ) (at middle end : ℕ) → take middle second ≡ take at first ++ front
+    → take end third ≡ take middle second ++ back → take end third ≡ take at first ++ (front ++ back)
+joined first second third front back at middle end one two = two
+    ∙ ap (λ (t : List ℕ). t ++ back) one ∙ append_assoc (take at first) front back
+
+pub signed_decimal-some : (z : ℤ) → SFits w64 z → 0 < length (signed_decimal z)
+signed_decimal-some (pos n) fits = let small = fits.sfits in decimal_nonempty n (omega (arith, small))
+signed_decimal-some (negsuc n) fits = omega arith
+
+-- ---- four digits in a word
+
+abbrev pub four : ℕ → List ℕ
+four n = (48 + n / 100 / 10) ∷ (48 + n / 100 % 10) ∷ (48 + n % 100 / 10) ∷ (48 + n % 100 % 10) ∷ []
+
+pub four_small : (n i : ℕ) → n < 10000 → get_or (four n) i 0 < 256
+four_small n zero small = omega arith
+four_small n (suc zero) small = omega arith
+four_small n (suc (suc zero)) small = omega arith
+four_small n (suc (suc (suc zero))) small = omega arith
+four_small n (suc (suc (suc (suc i)))) small = omega arith
+
+-- how many zeros stand before a number's digits in four columns
+pub zeros_counted : (n : ℕ) → n < 10000
+    → bool_byte (ltb n 10) + bool_byte (ltb n 100) + bool_byte (ltb n 1000) + length (decimal n) ≡ 4
+zeros_counted n small =
+    elim (cases_lt n 10) [
+      | inl one ↦ rw (lt-ltb n 10 one, lt-ltb n 100 (omega arith), lt-ltb n 1000 (omega arith), length_one n one) refl
+      | inr two_at_least ↦ elim (cases_lt n 100) [
+        | inl two ↦ rw (
+          le-ltb n 10 two_at_least,
+          lt-ltb n 100 two,
+          lt-ltb n 1000
+              (omega arith),
+          length_two n two_at_least two,
+        ) refl
+        | inr three_at_least ↦ elim (cases_lt n 1000) [
+          | inl three ↦ rw (
+            le-ltb n 10 two_at_least,
+            le-ltb n 100 three_at_least,
+            lt-ltb
+                n 1000 three,
+            length_pair n three_at_least (omega arith),
+            length_one (n / 100) (omega arith),
+          ) refl
+          | inr four_at_least ↦ rw (
+            le-ltb n 10 two_at_least,
+            le-ltb n 100 three_at_least,
+            le-ltb n 1000 four_at_least,
+            length_pair n three_at_least (omega arith),
+            length_two (n / 100) (omega arith) (omega arith),
+          ) refl
+        ]
+      ]
+    ]
+
+digits_at : (n z k : ℕ) (ds : List ℕ) → decimal n ≡ ds → z + length (decimal n) ≡ 4 → length ds + k ≡ 4 → z ≡ k
+digits_at n z k ds is count long = let same = ap length is in omega (arith, same)
+
+-- a number's own digits stand after those zeros
+pub digits_last : (n z : ℕ) → n < 10000 → z + length (decimal n) ≡ 4 → drop z (four n) ≡ decimal n
+digits_last n z small count =
+    elim (cases_lt n 10) [
+      | inl one ↦
+          let own : n % 100 % 10 ≡ n = omega arith in
+          rw (digits_at n z 3 _ (decimal_digit n one) count refl, decimal_digit n one, own) refl
+      | inr two_at_least ↦ elim (cases_lt n 100) [
+        | inl two ↦
+            let own : n % 100 ≡ n = omega arith in
+            rw (digits_at n z 2 _ (decimal_two n two_at_least two) count refl, decimal_two n two_at_least two, own) refl
+        | inr three_at_least ↦ elim (cases_lt n 1000) [
+          | inl three ↦
+              let own : n / 100 % 10 ≡ n / 100 = omega arith in
+              let whole : decimal n ≡ (48 + n / 100) ∷ pair (n % 100) = decimal_pair n three_at_least (omega arith)
+              ∙ ap (λ (t : List ℕ). t ++ pair (n % 100)) (decimal_digit (n / 100) (omega arith)) in
+              rw (digits_at n z 1 _ whole count refl, whole, own) refl
+          | inr four_at_least ↦
+              let whole : decimal n ≡ four n = decimal_pair n three_at_least (omega arith)
+              ∙ ap (λ (t : List ℕ). t ++ pair (n % 100)) (decimal_two (n / 100) (omega arith) (omega arith)) in
+              rw (digits_at n z 0 _ whole count refl, whole) refl
+        ]
+      ]
+    ]
+
+-- the bytes of a word that is shifted by whole bytes
+pub bytes_shifted : (word z : ℕ)
+    → z ≤ 3 → word < 2 ^ 32 → take (4 - z) (to_le_bytes w32 (word / 2 ^ (8 * z))) ≡ drop z (to_le_bytes w32 word)
+bytes_shifted word zero few fits =
+    let own : word / 1 ≡ word = omega arith in
+    rw own refl
+bytes_shifted word (suc zero) few fits =
+    let second : word / 256 / 256 % 256 ≡ word / 65536 % 256 = omega arith in
+    let third : word / 256 / 65536 % 256 ≡ word / 16777216 % 256 = omega arith in
+    rw (second, third) refl
+bytes_shifted word (suc (suc zero)) few fits =
+    let second : word / 65536 / 256 % 256 ≡ word / 16777216 % 256 = omega arith in
+    rw second refl
+bytes_shifted word (suc (suc (suc zero))) few fits = refl
+bytes_shifted word (suc (suc (suc (suc z)))) few fits = absurd (omega arith)
+
+-- the first bytes of what was written
+pub first_written : (old new bytes : List ℕ) (at n k : ℕ) → at ≤ length old
+    → k ≤ n → take (at + n) new ≡ take at old ++ bytes → take (at + k) new ≡ take at old ++ take k bytes
+first_written old new bytes at n k within few whole =
+    sym (take-take (at + k) (at + n) new (omega arith)) ∙ ap (take (at + k)) whole
+    ∙ ap (λ (i : ℕ). take (i + k) (take at old ++ bytes)) (sym (length-take-le at old within))
+    ∙ take-append-add (take at old) bytes k
+
+-- a number's last four digits, after those before them
+pub four_written : (first second third : List ℕ) (size at middle : ℕ)
+    → 10000 ≤ size → size < 2 ^ 64 → take middle second ≡ take at first ++ decimal (size / 10000) →
+    take (middle + 4) third ≡ take middle second ++ four (size - size / 10000 * 10000)
+    → take (middle + 4) third ≡ take at first ++ decimal size
+four_written first second third size at middle many fits one two =
+    let low : size - size / 10000 * 10000 ≡ size % 10000 = omega arith in
+    joined first second third (decimal (size / 10000))
+    (four (size - size / 10000 * 10000)) at middle (middle + 4) one two
+    ∙ ap (λ (n : ℕ). take at first ++ (decimal (size / 10000) ++ four n)) low
+    ∙ ap (λ (t : List ℕ). take at first ++ t) (sym (decimal_four size many fits))
+
+-- ---- the zeros before a number, by the lowest bit of its digits
+
+-- four digits beside each other, the first one lowest
+abbrev pub digits_beside : ℕ → ℕ
+digits_beside n = n / 100 / 10 + 256 * (n / 100 % 10) + 65536 * (n % 100 / 10) + 16777216 * (n % 100 % 10)
+
+abbrev pub zeros_of : ℕ → ℕ
+zeros_of n = bool_byte (ltb n 10) + bool_byte (ltb n 100) + bool_byte (ltb n 1000)
+
+abbrev pub lowest_of : ℕ → ℕ
+lowest_of n = count_trailing_zeros 32 (bit_or (digits_beside n) 268435456) / 8
+
+all_agree : agree_below (λ n. eqb (lowest_of n) (zeros_of n)) (λ n. true) 10000 ≡ true
+unfolding count_trailing_zeros
+all_agree = refl
+
+lowest_is : (n : ℕ) → n < 10000 → lowest_of n ≡ zeros_of n
+lowest_is n small =
+    let same : eqb (lowest_of n) (zeros_of n) ≡ true =
+    agree_below_at (λ n. eqb (lowest_of n) (zeros_of n)) (λ n. true) 10000 n all_agree small in
+    eqb→eq (lowest_of n) (zeros_of n) (subst T (sym same) tt)
+
+-- a word whose bytes are a number's columns, and its digits
+pub zeros_found : (n word : ℕ) → n < 10000 → word < 2 ^ 32 → to_le_bytes w32 word ≡ four n
+    → count_trailing_zeros 32 (bit_or (word - 808464432) 268435456) / 8 ≡ zeros_of n
+zeros_found n word small fits bytes =
+    let whole : word ≡ 808464432 + digits_beside n =
+    sym (from_le_bytes-to_le_bytes_4 word fits) ∙ ap (from_le_bytes w32) bytes ∙ omega arith in
+    let digits : word - 808464432 ≡ digits_beside n = omega (arith, whole) in
+    ap (λ (d : ℕ). count_trailing_zeros 32 (bit_or d 268435456) / 8) digits ∙ lowest_is n small
+
+pub few_zeros : (n : ℕ) → zeros_of n ≤ 3
+few_zeros n = omega (arith, one (ltb n 10), one (ltb n 100), one (ltb n 1000))
+  where
+    one : (b : Bool) → bool_byte b ≤ 1
+    one true = omega arith
+    one false = omega arith

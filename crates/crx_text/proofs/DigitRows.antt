@@ -1,0 +1,371 @@
+-- Rows of digits, and the number that the first of them write.
+use Rattle.std.proofs.Common.{◌≡◌, ℕ, zero, suc, ◌+◌, ◌-◌, ◌*◌, ◌/◌, ◌%◌, ◌^◌, ◌<◌, ◌≤◌, Bool, true, false, not, cond}
+use Rattle.std.proofs.Common.{◌&&◌, T, ltb, leb, eqb, List, [], ◌∷◌, ◌++◌, map, length, replicate, take, drop, get_or}
+use Rattle.std.proofs.Common.{subst, Fits, w8, refl, sym, ap, ◌∙◌, arith}
+use Rattle.std.proofs.Math.Nat.{mul-le-mul_right}
+use Rattle.std.proofs.lemmas.Bool.{agree_below_at, and_parts, lt-ltb, ltb-true, ne_eqb}
+use Rattle.std.proofs.lemmas.List.Sums.{prefix_len_stops}
+use Rattle.std.proofs.lemmas.List.{length-append, length-take-le, take-append-drop, take-take, get_or-take}
+use Rattle.std.proofs.lemmas.List.{take-append-le, take-map}
+use Rattle.std.proofs.lemmas.Bool.{le-leb}
+use Rattle.std.proofs.lemmas.Bool.Decides.{nat_tests}
+use Rattle.std.proofs.lemmas.Simd.{mask_l-mod, pick_l_whole, zip2_splat}
+use Rattle.std.proofs.lemmas.Simd.{trailing_mask_l}
+use Rattle.std.specs.Char.{is_ascii_digit}
+use Rattle.std.specs.List.{range_with_len, prefix_len}
+use Rattle.std.specs.Str.{all_ascii_digits}
+use Rattle.std.specs.Str.Parse.{digits_value, digits_value_after}
+use lib.Count.{count_trailing_zeros}
+use lib.Lanes.{Each1, chunk, pick_l, mask_l, top, zip2, dots, all_below, pair_sums, products}
+use Rattle.crx_text.proofs.GroupHalves.{wide_of, wide_are_four}
+use Rattle.crx_text.specs.meaning.Codes.{after_cell, first_cell}
+use Rattle.crx_text.specs.Digits.{above_zero, written}
+use Rattle.crx_text.specs.FirstDigits.{HasFirstDigits, is_below_ten}
+use Rattle.crx_text.specs.declared.code_digits.TheConstants.{WEIGHTS, SCALES}
+use Rattle.crx_text.proofs.PowersOfTen.{digit_range, digit_value_is, digits_value_after-append, value_small}
+use Rattle.crx_text.proofs.LaneBits.{sixteen, no_bit, top_lane}
+use Rattle.crx_text.proofs.PlainLanes.{lane_fits}
+
+-- ---- the lanes of a row
+
+-- a row's characters less 48, and as many zeros after them, as the code makes them
+pub lanes_are : (row : List ℕ) → length row ≡ 8 → zip2 (λ a b. (a + (256 - b)) % 256)
+    (pick_l 0 (row ++ replicate 8 0) (range_with_len 0 16)) (replicate 16 48) ≡ map above_zero (row ++ replicate 8 0)
+lanes_are row long =
+    let sixteen : length (row ++ replicate 8 0) ≡ 16 = omega (arith, length-append row (replicate 8 0), long) in
+    ap (λ (v : List ℕ). zip2 (λ a b. (a + (256 - b)) % 256) v (replicate 16 48))
+    (pick_l_whole 0 (row ++ replicate 8 0) 16 sixteen)
+    ∙ zip2_splat (λ a b. (a + (256 - b)) % 256) (row ++ replicate 8 0) 16 48 sixteen
+
+-- each of a row's characters is a byte
+abbrev pub AreBytes : List ℕ → Type 0
+AreBytes row = (i : ℕ) → get_or row i 0 < 256
+
+pub front_bytes : (n : ℕ) (text : List ℕ) → AreBytes text → AreBytes (take n text)
+front_bytes zero text small i = omega arith
+front_bytes (suc n) [] small i = omega arith
+front_bytes (suc n) (c ∷ cs) small zero = small 0
+front_bytes (suc n) (c ∷ cs) small (suc i) = front_bytes n cs (λ (j : ℕ). small (suc j)) i
+
+pub padded_bytes : (text : List ℕ) (more : ℕ) → AreBytes text → AreBytes (text ++ replicate more 0)
+padded_bytes [] zero small i = omega arith
+padded_bytes [] (suc more) small zero = omega arith
+padded_bytes [] (suc more) small (suc i) = padded_bytes [] more small i
+padded_bytes (c ∷ cs) more small zero = small 0
+padded_bytes (c ∷ cs) more small (suc i) = padded_bytes cs more (λ (j : ℕ). small (suc j)) i
+
+-- ---- how many digits a row begins with
+
+below_ten : (c : ℕ) → c < 256 → is_below_ten (above_zero c) ≡ is_ascii_digit c
+below_ten c small = agree_below_at (λ x. is_below_ten (above_zero x)) is_ascii_digit 256 c refl small
+
+digits_agree : (row : List ℕ) → AreBytes row
+    → prefix_len is_below_ten (map above_zero row) ≡ prefix_len is_ascii_digit row
+digits_agree [] small = refl
+digits_agree (c ∷ cs) small = rw (below_ten c (small 0))
+    (ap (λ (n : ℕ). cond (is_ascii_digit c) (1 + n) 0) (digits_agree cs (λ (i : ℕ). small (suc i))))
+
+-- where fewer of the first ones pass than they are, no more pass in all
+prefix_in_front : (p : ℕ → Bool) (n : ℕ) (xs : List ℕ)
+    → prefix_len p (take n xs) < n → prefix_len p xs ≡ prefix_len p (take n xs)
+prefix_in_front p zero xs few = absurd (omega (arith, few))
+prefix_in_front p (suc n) [] few = refl
+prefix_in_front p (suc n) (x ∷ xs) few = go (p x) few (prefix_in_front p n xs)
+  where
+    go : (b : Bool) → cond b (1 + prefix_len p (take n xs)) 0 < suc n
+        → (prefix_len p (take n xs) < n → prefix_len p xs ≡ prefix_len p (take n xs))
+        → cond b (1 + prefix_len p xs) 0 ≡ cond b (1 + prefix_len p (take n xs)) 0
+    go true less next = ap (λ (m : ℕ). 1 + m) (next (omega (arith, less)))
+    go false less next = refl
+
+-- the lanes before one that ends the digits in any case
+ends : (ds : List ℕ) (bits : List Bool)
+    → prefix_len (λ b. not b) (map (leb 10) ds ++ true ∷ bits) ≡ prefix_len is_below_ten ds
+ends [] bits = refl
+ends (d ∷ ds) bits =
+    let here : not (leb 10 d) ≡ is_below_ten d = grind (arith, nat_tests) in
+    rw here (ap (λ (n : ℕ). cond (is_below_ten d) (1 + n) 0) (ends ds bits))
+
+abbrev pub end_lanes : List ℕ → List Bool
+end_lanes v = map (top 7) (zip2 (λ a b. cond (leb a b) 255 0)
+    (10 ∷ 10 ∷ 10 ∷ 10 ∷ 10 ∷ 10 ∷ 10 ∷ 0 ∷ 0 ∷ 0 ∷ 0 ∷ 0 ∷ 0 ∷ 0 ∷ 0 ∷ 0 ∷ []) v)
+
+end_explicit : (c : ℕ → ℕ) → count_trailing_zeros 64 (mask_l (end_lanes (map c (range_with_len 0 16))) % 2 ^ 64)
+    ≡ prefix_len is_below_ten (map c (range_with_len 0 7))
+end_explicit c =
+    let lane = λ (i : ℕ). top_lane (leb 10 (c i)) in
+    let ended = λ (i : ℕ). le-leb 0 (c i) (omega arith) in
+    let bits : List Bool = map (leb 10) (map c (range_with_len 0 7)) ++ replicate 9 true in
+    let are : end_lanes (map c (range_with_len 0 16)) ≡ bits =
+    rw (
+      lane 0,
+      lane 1,
+      lane 2,
+      lane 3,
+      lane 4,
+      lane 5,
+      lane 6,
+      ended 7,
+      ended 8,
+      ended 9,
+      ended 10,
+      ended 11,
+      ended 12,
+      ended 13,
+      ended 14,
+      ended 15,
+    ) refl in
+    let some : 0 < mask_l bits = grind (arith, nat_tests, no_bit (λ (b : Bool). b) bits) in
+    let found = trailing_mask_l (λ (b : Bool). b) 64 bits (omega arith) some in
+    ap (λ m. count_trailing_zeros 64 (mask_l m % 2 ^ 64)) are
+    ∙ (ap (count_trailing_zeros 64) (mask_l-mod bits 64 (omega arith)) ∙ found)
+    ∙ ends (map c (range_with_len 0 7)) (replicate 8 true)
+
+pub end_is : (v : List ℕ) → length v ≡ 16
+    → count_trailing_zeros 64 (mask_l (end_lanes v) % 2 ^ 64) ≡ prefix_len is_below_ten (take 7 v)
+end_is v long =
+    subst (λ (w : List ℕ). count_trailing_zeros 64 (mask_l (end_lanes w) % 2 ^ 64)
+    ≡ prefix_len is_below_ten (take 7 w)) (sym (sixteen v long)) (end_explicit (λ (i : ℕ). get_or v i 0))
+
+-- ---- the number that the first digits of a row write
+
+abbrev pub weights_of : ℕ → List ℕ
+weights_of count = pick_l 0 (chunk 0 8 (take (56 - 8 * count) (drop (8 * count) WEIGHTS)) ++ replicate 8 0)
+    (range_with_len 0 16)
+
+abbrev pub scale_of : ℕ → ℕ
+scale_of count = get_or SCALES count 0
+
+abbrev pub grouped : List ℕ → List ℕ
+grouped digits = pick_l 0 (digits ++ replicate 16 0)
+    (0 ∷ 1 ∷ 2 ∷ 16 ∷ 3 ∷ 4 ∷ 5 ∷ 16 ∷ 16 ∷ 16 ∷ 16 ∷ 16 ∷ 16 ∷ 16 ∷ 16 ∷ 16 ∷ [])
+
+abbrev pub pairs_of : List ℕ → ℕ → List ℕ
+pairs_of digits count = wide_of (dots (grouped digits) (weights_of count))
+
+abbrev pub total_of : List ℕ → ℕ → ℕ
+total_of digits count = get_or (pairs_of digits count) 0 0 * scale_of count % 2 ^ 64 / 2 ^ 32
+
+-- two products of bytes and weights that are small together
+pub pairs_small : (xs ys : List ℕ) → Each1 (Fits w8) xs → T (all_below 128 (pair_sums ys))
+    → T (all_below 32768 (pair_sums (products xs ys)))
+pairs_small [] ys fits small = tt
+pairs_small (x ∷ xs) [] fits small = tt
+pairs_small (x ∷ []) (y ∷ ys) fits small = tt
+pairs_small (x ∷ x′ ∷ xs) (y ∷ []) fits small = tt
+pairs_small (x ∷ x′ ∷ xs) (y ∷ y′ ∷ ys) fits small =
+    go (ltb (y + y′) 128) refl small (λ (rest : T (all_below 128 (pair_sums ys))). pairs_small xs ys fits.1.1 rest)
+  where
+    go : (b : Bool) → ltb (y + y′) 128 ≡ b → T (b && all_below 128 (pair_sums ys))
+        → (T (all_below 128 (pair_sums ys)) → T (all_below 32768 (pair_sums (products xs ys))))
+        → T (ltb (x * y + x′ * y′) 32768 && all_below 32768 (pair_sums (products xs ys)))
+    go true e rest next =
+        let few : y + y′ < 128 = ltb-true (y + y′) 128 e in
+        let one : x * y ≤ 255 * y = mul-le-mul_right y (omega (arith, fits.0.fits)) in
+        let two : x′ * y′ ≤ 255 * y′ = mul-le-mul_right y′ (omega (arith, fits.1.0.fits)) in
+        let less = lt-ltb (x * y + x′ * y′) 32768 (omega (arith, few, one, two)) in
+        rw less (next rest)
+    go false e rest next = absurd rest
+
+pub weights_small : (count : ℕ) → count ≤ 6
+    → T (all_below 128 (pair_sums (weights_of count))) × T (all_below 128 (weights_of count))
+weights_small zero few = (tt, tt)
+weights_small (suc zero) few = (tt, tt)
+weights_small (suc (suc zero)) few = (tt, tt)
+weights_small (suc (suc (suc zero))) few = (tt, tt)
+weights_small (suc (suc (suc (suc zero)))) few = (tt, tt)
+weights_small (suc (suc (suc (suc (suc zero))))) few = (tt, tt)
+weights_small (suc (suc (suc (suc (suc (suc zero)))))) few = (tt, tt)
+weights_small (suc (suc (suc (suc (suc (suc (suc count))))))) few = absurd (omega arith)
+
+-- what the groups of three make of the first six lanes, which are weighed by hundreds, tens and ones
+module _ (e : ℕ → ℕ) (small : (i : ℕ) → e i < 256) where
+  of_groups : (count a b : ℕ) → dots (grouped (map e (range_with_len 0 16))) (weights_of count) ≡ a ∷ b ∷ 0 ∷ 0 ∷ []
+      → a < 2 ^ 32 → b < 2 ^ 32
+      → total_of (map e (range_with_len 0 16)) count ≡ (a + 2 ^ 32 * b) * scale_of count % 2 ^ 64 / 2 ^ 32
+  of_groups count a b groups as_small bs_small =
+      let pairs : pairs_of (map e (range_with_len 0 16)) count ≡ (a + 2 ^ 32 * b) ∷ (0 + 2 ^ 32 * 0) ∷ [] =
+      ap wide_of groups ∙ wide_are_four a b 0 0 as_small bs_small (omega arith) (omega arith) in
+      ap (λ (v : List ℕ). get_or v 0 0 * scale_of count % 2 ^ 64 / 2 ^ 32) pairs
+
+  abbrev lane : ℕ → ℕ → ℕ
+  lane count j = get_or (dots (grouped (map e (range_with_len 0 16))) (weights_of count)) j 0
+
+  total_explicit : (count : ℕ) → count ≤ 6
+      → total_of (map e (range_with_len 0 16)) count ≡ written 0 (take count (map e (range_with_len 0 16)))
+  total_explicit zero few =
+      of_groups 0 (lane 0 0) (lane 0 1) refl
+      (omega (arith, small 0, small 1, small 2)) (omega (arith, small 3, small 4, small 5))
+      ∙ omega (arith, small 0, small 1, small 2, small 3, small 4, small 5)
+  total_explicit (suc zero) few =
+      of_groups 1 (lane 1 0) (lane 1 1) refl
+      (omega (arith, small 0, small 1, small 2)) (omega (arith, small 3, small 4, small 5))
+      ∙ omega (arith, small 0, small 1, small 2, small 3, small 4, small 5)
+  total_explicit (suc (suc zero)) few =
+      of_groups 2 (lane 2 0) (lane 2 1) refl
+      (omega (arith, small 0, small 1, small 2)) (omega (arith, small 3, small 4, small 5))
+      ∙ omega (arith, small 0, small 1, small 2, small 3, small 4, small 5)
+  total_explicit (suc (suc (suc zero))) few =
+      of_groups 3 (lane 3 0) (lane 3 1) refl
+      (omega (arith, small 0, small 1, small 2)) (omega (arith, small 3, small 4, small 5))
+      ∙ omega (arith, small 0, small 1, small 2, small 3, small 4, small 5)
+  total_explicit (suc (suc (suc (suc zero)))) few =
+      of_groups 4 (lane 4 0) (lane 4 1) refl
+      (omega (arith, small 0, small 1, small 2)) (omega (arith, small 3, small 4, small 5))
+      ∙ omega (arith, small 0, small 1, small 2, small 3, small 4, small 5)
+  total_explicit (suc (suc (suc (suc (suc zero))))) few =
+      of_groups 5 (lane 5 0) (lane 5 1) refl
+      (omega (arith, small 0, small 1, small 2)) (omega (arith, small 3, small 4, small 5))
+      ∙ omega (arith, small 0, small 1, small 2, small 3, small 4, small 5)
+  total_explicit (suc (suc (suc (suc (suc (suc zero)))))) few =
+      of_groups 6 (lane 6 0) (lane 6 1) refl
+      (omega (arith, small 0, small 1, small 2)) (omega (arith, small 3, small 4, small 5))
+      ∙ omega (arith, small 0, small 1, small 2, small 3, small 4, small 5)
+  total_explicit (suc (suc (suc (suc (suc (suc (suc count))))))) few = absurd (omega arith)
+
+pub total_is : (v : List ℕ) (count : ℕ) → length v ≡ 16 → Each1 (Fits w8) v → count ≤ 6
+    → total_of v count ≡ written 0 (take count v)
+total_is v count long fits few =
+    subst (λ (w : List ℕ). total_of w count ≡ written 0 (take count w)) (sym (sixteen v long))
+    (total_explicit (λ (i : ℕ). get_or v i 0) (λ (i : ℕ). lane_fits v i fits) count few)
+
+-- the digits less 48 write what the digits write
+written_digits : (size count : ℕ) (row : List ℕ) → all_ascii_digits (take count row) ≡ true
+    → written size (take count (map above_zero row)) ≡ digits_value_after 10 size (take count row)
+written_digits size zero row digits = refl
+written_digits size (suc count) [] digits = refl
+written_digits size (suc count) (c ∷ cs) digits =
+    let parts = and_parts (is_ascii_digit c) (all_ascii_digits (take count cs)) digits in
+    let range = digit_range c parts.0 in
+    let value : above_zero c ≡ c - 48 = omega (arith, range) in
+    ap (λ (d : ℕ). written (size * 10 + d) (take count (map above_zero cs))) value
+    ∙ (written_digits (size * 10 + (c - 48)) count cs parts.1
+    ∙ ap (λ (d : ℕ). digits_value_after 10 (size * 10 + d) (take count cs)) (sym (digit_value_is c parts.0)))
+
+-- ---- a cell that begins with digits
+
+pub prefix_digits : (row : List ℕ) → all_ascii_digits (take (prefix_len is_ascii_digit row) row) ≡ true
+prefix_digits [] = refl
+prefix_digits (c ∷ cs) = go (is_ascii_digit c) refl (prefix_digits cs)
+  where
+    go : (t : Bool) → is_ascii_digit c ≡ t → all_ascii_digits (take (prefix_len is_ascii_digit cs) cs) ≡ true
+        → all_ascii_digits (take (cond t (1 + prefix_len is_ascii_digit cs) 0) (c ∷ cs)) ≡ true
+    go true e rest =
+        let one : 1 + prefix_len is_ascii_digit cs ≡ suc (prefix_len is_ascii_digit cs) = omega arith in
+        rw (one, e) rest
+    go false e rest = refl
+
+-- what the lanes of a row say of its characters
+pub read_row : (row digits : List ℕ) (size count : ℕ) → length row ≡ 8 → AreBytes row
+    → digits ≡ map above_zero (row ++ replicate 8 0) → count ≡ prefix_len is_below_ten (take 7 digits) → count ≤ 6
+    → size ≡ written 0 (take count digits)
+    → (count ≡ prefix_len is_ascii_digit row) × (size ≡ digits_value 10 (take count row))
+read_row row digits size count long small are counted few sized =
+    let front : (n : ℕ) → n ≤ 8 → take n digits ≡ take n (map above_zero row) = λ (n : ℕ) (within : n ≤ 8).
+    ap (take n) are ∙ take-map above_zero n (row ++ replicate 8 0)
+    ∙ ap (map above_zero) (take-append-le n row (replicate 8 0) (omega (arith, long, within)))
+    ∙ sym (take-map above_zero n row) in
+    let seven : count ≡ prefix_len is_below_ten (take 7 (map above_zero row)) =
+    counted ∙ ap (prefix_len is_below_ten) (front 7 (omega arith)) in
+    let whole = prefix_in_front is_below_ten 7 (map above_zero row) (omega (arith, seven, few)) in
+    let is : count ≡ prefix_len is_ascii_digit row = seven ∙ sym whole ∙ digits_agree row small in
+    let are_digits : all_ascii_digits (take count row) ≡ true = rw is (prefix_digits row) in (
+      is,
+      sized ∙ ap (written 0) (front count (omega (arith, few))) ∙ written_digits 0 count row are_digits,
+    )
+
+no_blank : (c : ℕ) → is_ascii_digit c ≡ true → eqb c 32 ≡ false
+no_blank c digit = let range = digit_range c digit in ne_eqb c 32 (λ e. omega (arith, range))
+
+first_cell-digits : (ds rest : List ℕ) → all_ascii_digits ds ≡ true → first_cell (ds ++ rest) ≡ ds ++ first_cell rest
+first_cell-digits [] rest digits = refl
+first_cell-digits (c ∷ cs) rest digits =
+    let parts = and_parts (is_ascii_digit c) (all_ascii_digits cs) digits in
+    let other = no_blank c parts.0 in
+    rw other (ap (λ (t : List ℕ). c ∷ t) (first_cell-digits cs rest parts.1))
+
+after_cell-digits : (ds rest : List ℕ) → all_ascii_digits ds ≡ true → after_cell (ds ++ rest) ≡ after_cell rest
+after_cell-digits [] rest digits = refl
+after_cell-digits (c ∷ cs) rest digits =
+    let parts = and_parts (is_ascii_digit c) (all_ascii_digits cs) digits in
+    let other = no_blank c parts.0 in
+    rw other (after_cell-digits cs rest parts.1)
+
+digits_before : (ds rest : List ℕ) → all_ascii_digits ds ≡ true → all_ascii_digits (ds ++ rest) ≡ all_ascii_digits rest
+digits_before [] rest digits = refl
+digits_before (c ∷ cs) rest digits =
+    let parts = and_parts (is_ascii_digit c) (all_ascii_digits cs) digits in
+    rw parts.0 (digits_before cs rest parts.1)
+
+-- so many digits, which a text begins with, and no digit after them
+digits_found : (text : List ℕ) (size count : ℕ) → count < 8 → count ≤ length text
+    → all_ascii_digits (take count text) ≡ true → size ≡ digits_value_after 10 0 (take count text)
+    → (count < length text → is_ascii_digit (get_or text count 0) ≡ false) → HasFirstDigits text size count
+digits_found text size count few long digits value stop =
+    let whole : text ≡ take count text ++ drop count text = sym (take-append-drop count text) in
+    let rest = drop count text in
+    let cell : first_cell text ≡ take count text ++ first_cell rest = ap first_cell whole
+    ∙ first_cell-digits (take count text) rest digits in
+    let within : length (take count text) ≡ count = length-take-le count text long in
+    record {
+      few = omega arith;
+      within = long;
+      small = let less = value_small 0 (take count text) digits in let power : 10 ^ length (take count text)
+          ≡ 10 ^ count = ap (λ (n : ℕ). 10 ^ n) within in omega (arith, value, less, power);
+      digits = sym (ap all_ascii_digits cell ∙ digits_before (take count text) (first_cell rest) digits);
+      value = ap (λ (n : ℕ). digits_value_after 10 n (first_cell rest)) value
+          ∙ sym (ap (digits_value_after 10 0) cell ∙ digits_value_after-append 0 (take count text) (first_cell rest));
+      long = ap length cell ∙ (length-append (take count text) (first_cell rest)
+          ∙ ap (λ (n : ℕ). n + length (first_cell rest)) within);
+      after = sym (ap after_cell whole ∙ after_cell-digits (take count text) rest digits);
+      stops = λ most more. stop more;
+    }
+
+-- in a whole row
+pub first_digits_of : (text : List ℕ) (size count : ℕ) → count < 8 → 8 ≤ length text → count ≡ prefix_len is_ascii_digit
+    (take 8 text) → size ≡ digits_value 10 (take count (take 8 text)) → HasFirstDigits text size count
+first_digits_of text size count few long count_is size_is =
+    let row : List ℕ = take 8 text in
+    let eight : length row ≡ 8 = length-take-le 8 text long in
+    let front : take count row ≡ take count text = take-take count 8 text (omega arith) in
+    let digits : all_ascii_digits (take count text) ≡ true = rw (← front, count_is) (prefix_digits row) in
+    digits_found text size count few (omega arith) digits (size_is ∙ ap (digits_value_after 10 0) front) (λ more.
+    let stop = prefix_len_stops is_ascii_digit row 0 (omega (arith, eight, count_is)) in
+    sym (ap is_ascii_digit (get_or-take 8 text count 0 (omega arith)))
+    ∙ (ap (λ (n : ℕ). is_ascii_digit (get_or row n 0)) count_is ∙ stop))
+
+-- ---- the same of fewer characters than a row has, with zeros after them
+
+pub padded_prefix : (text : List ℕ) (more : ℕ)
+    → prefix_len is_ascii_digit (text ++ replicate more 0) ≡ prefix_len is_ascii_digit text
+padded_prefix [] zero = refl
+padded_prefix [] (suc more) = refl
+padded_prefix (c ∷ cs) more = ap (λ (n : ℕ). cond (is_ascii_digit c) (1 + n) 0) (padded_prefix cs more)
+
+pub prefix_within : (text : List ℕ) → prefix_len is_ascii_digit text ≤ length text
+prefix_within [] = omega arith
+prefix_within (c ∷ cs) = go (is_ascii_digit c) (prefix_within cs)
+  where
+    go : (t : Bool) → prefix_len is_ascii_digit cs ≤ length cs
+        → cond t (1 + prefix_len is_ascii_digit cs) 0 ≤ length (c ∷ cs)
+    go true rest = omega (arith, rest)
+    go false rest = omega arith
+
+module _ (text : List ℕ) (more size count : ℕ)
+    (count_is : count ≡ prefix_len is_ascii_digit (text ++ replicate more 0)) where
+  pub few_within : count ≤ length text
+  few_within = omega (arith, count_is, padded_prefix text more, prefix_within text)
+
+  pub few_digits : all_ascii_digits (take count (text ++ replicate more 0)) ≡ true
+  few_digits = rw count_is (prefix_digits (text ++ replicate more 0))
+
+  pub few_digits_of : length text < 8
+      → size ≡ digits_value 10 (take count (text ++ replicate more 0)) → HasFirstDigits text size count
+  few_digits_of short size_is =
+      let front : take count (text ++ replicate more 0) ≡ take count text =
+      take-append-le count text (replicate more 0) few_within in
+      let same : count ≡ prefix_len is_ascii_digit text = count_is ∙ padded_prefix text more in
+      digits_found text size count (omega (arith, few_within, short)) few_within
+      (ap all_ascii_digits (sym front) ∙ few_digits) (size_is ∙ ap (digits_value_after 10 0) front) (λ less.
+      ap (λ (n : ℕ). is_ascii_digit (get_or text n 0)) same
+      ∙ prefix_len_stops is_ascii_digit text 0 (omega (arith, same, less)))

@@ -1,0 +1,5 @@
+use Rattle.crx_text.proofs.CodeTexts.{code_of-code_text}
+use Rattle.crx_text.proofs.code.code_is_read_back.Goals as goal
+
+pub returns : goal.returns
+returns c = code_of-code_text c.args.code c.requires

@@ -1,0 +1,4 @@
+use Rattle.crx_text.proofs.code_digits.+write_long.Given as goal
+
+abbrev pub decreases-write_long : goal.decreases-write_long
+decreases-write_long l = l.size

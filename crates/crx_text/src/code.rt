@@ -1,0 +1,220 @@
+//! Codes of numbers: Hatanaka's Compact RINEX 3.0, the codes of satellite lines and of the clock line.
+
+ghost use Rattle.std.specs.Prelude.{◌≡◌, ◌+◌, ◌<◌, ◌≤◌, [], ◌∷◌, ◌++◌, ◌↔◌, Some, length, take, drop, IfOk, IfSome, OnOk, OnErr, IsErr};
+ghost use Rattle.std.specs.Option.{option_map};
+ghost use Rattle.std.specs.Result.{result_ok};
+
+use crate::code_digits::{
+    ROW, digits_before_blank, digits_in_front, few_digits_before_blank, write_signed,
+};
+use crate::digits::{digits_read, signed, split_minus};
+use crate::number::BadField;
+use crx_columns::text::{Text, TextFull};
+use crx_faults::limits::{DIGITS_LIMIT, LINE_LIMIT, ORDER_LIMIT};
+
+/// What stands for a value in compact text.
+#[derive(Clone, Copy, Debug, PartialEq, Eq)]
+pub enum Code {
+    /// No value: the empty text.
+    Missing,
+    /// The first value of an arc, and the order up to which its differences go.
+    Start {
+        /// The highest order of the arc's differences.
+        order: u8,
+        /// The value itself, in its unit.
+        value: i64,
+    },
+    /// The next difference of a started arc.
+    Step(i64),
+}
+
+ghost use Rattle.crx_text.specs.Codes.{IsPrintable, IsShort};
+ghost use Rattle.crx_text.specs.meaning.Codes.{after_cell, code_of, code_text, coded_number, first_cell, is_order};
+ghost use Rattle.crx_text.specs.declared.code.Code.TheVariants.{Step};
+ghost use Rattle.crx_faults.specs.declared.limits.TheConstants.{LINE_LIMIT};
+
+/// The most bytes that are written with a code: an order, `&`, a minus, the digits, and three more, since digits
+/// are written four at a time.
+const CODE_WIDTH: usize = DIGITS_LIMIT + 6;
+
+/// Appends a code's printed text: an order is one digit, and `&` stands after it. It asks for an
+/// order and numbers within the limits. `TextFull` comes only where the text would pass
+/// [`LINE_LIMIT`] bytes, and then it stays as it was.
+#[inline]
+#[tactic(auto, using(crate::proofs::CodeTexts::code_text_length))]
+pub fn code_print(code: Code, text: &mut Text) -> Result<(), TextFull>
+    requires { IsPrintable code }
+    ensures ok { OnOk result (text.new ≡ text.old ++ code_text code) }
+    ensures full { IsErr result ↔ (LINE_LIMIT < length text.old + length (code_text code)) }
+    ensures err { OnErr result (text.new ≡ text.old) }
+{
+    if LINE_LIMIT - text.len < CODE_WIDTH {
+        return code_print_at_end(code, text);
+    }
+    text.len = write_code(&mut text.bytes, text.len, code);
+    Ok(())
+}
+
+// Does what `code_print` does, where there may be no room for every code.
+#[cold]
+#[inline(never)]
+#[tactic(auto, using(crate::proofs::CodeTexts::code_text_length))]
+fn code_print_at_end(code: Code, text: &mut Text) -> Result<(), TextFull>
+    requires { IsPrintable code }
+    ensures ok { OnOk result (text.new ≡ text.old ++ code_text code) }
+    ensures full { IsErr result ↔ (LINE_LIMIT < length text.old + length (code_text code)) }
+    ensures err { OnErr result (text.new ≡ text.old) }
+{
+    let mut printed = [b' '; CODE_WIDTH];
+    let end = write_code(&mut printed, 0, code);
+    text.extend(&printed[..end])
+}
+
+/// Writes a code's printed text and a blank from an index on, and answers the index after them. What stands before them stays; up
+/// to two bytes after them may be overwritten.
+/// It asks for an order and numbers within the limits, and for room.
+#[inline(always)]
+pub fn write_cell(buffer: &mut [u8], at: usize, code: Code) -> usize
+    requires printable { IsPrintable code }
+    requires room { at + length (code_text code) + 3 ≤ length buffer.old }
+    ensures written { take result buffer.new ≡ take at buffer.old ++ (code_text code ++ 32 ∷ []) }
+    ensures within { result ≡ at + length (code_text code) + 1 }
+{
+    let end = write_code(buffer, at, code);
+    buffer[end] = b' ';
+    end + 1
+}
+
+// Writes a code's text from an index on, and answers the index after it.
+#[inline(always)]
+fn write_code(buffer: &mut [u8], at: usize, code: Code) -> usize
+    requires printable { IsPrintable code }
+    requires room { at + length (code_text code) + 3 ≤ length buffer.old }
+    ensures written { take result buffer.new ≡ take at buffer.old ++ code_text code }
+    ensures within { result ≡ at + length (code_text code) }
+{
+    match code {
+        Code::Missing => at,
+        Code::Start { order, value } => {
+            buffer[at] = b'0' + order;
+            buffer[at + 1] = b'&';
+            write_signed(buffer, at + 2, value)
+        }
+        Code::Step(difference) => write_signed(buffer, at, difference),
+    }
+}
+
+/// Reads a code. A number is an optional minus and 1 to [`DIGITS_LIMIT`] digits, leading zeros and
+/// `-0` among them; an order is one digit of at most [`ORDER_LIMIT`] before `&`; the empty text is a
+/// missing value. `BadField` comes for every other text.
+pub fn code_read(text: &[u8]) -> Result<Code, BadField>
+    ensures value { result_ok result ≡ code_of text.now }
+    ensures printable { IfOk result IsPrintable }
+{
+    match text {
+        [] => Ok(Code::Missing),
+        [order, b'&', number @ ..] => {
+            if !is_order(*order) {
+                return Err(BadField);
+            }
+            match coded_number_read(number) {
+                Some(value) => Ok(Code::Start {
+                    order: *order - b'0',
+                    value,
+                }),
+                None => Err(BadField),
+            }
+        }
+        _ => match coded_number_read(text) {
+            Some(difference) => Ok(Code::Step(difference)),
+            None => Err(BadField),
+        },
+    }
+}
+
+/// Reads the code up to a line's first blank, or up to its end, and answers it with the index after
+/// that blank, or of the line's end. Spellings and `BadField` are those of [`code_read`].
+#[inline]
+pub fn code_before_blank(line: &[u8]) -> Result<(Code, usize), BadField>
+    ensures value { option_map (λ cell. cell.0) (result_ok result) ≡ code_of (first_cell line.now) }
+    ensures next { IfOk result (λ cell. drop cell.1 line.now ≡ after_cell line.now) }
+    ensures within { IfOk result (λ cell. cell.1 ≤ length line.now) }
+    ensures printable { IfOk result (λ cell. IsPrintable cell.0) }
+{
+    match line {
+        [] => Ok((Code::Missing, 0)),
+        [b' ', ..] => Ok((Code::Missing, 1)),
+        [order, b'&', rest @ ..] => {
+            if !is_order(*order) {
+                return Err(BadField);
+            }
+            let order = *order - b'0';
+            match number_before_blank(rest) {
+                Some((value, next)) => Ok((Code::Start { order, value }, next + 2)),
+                None => Err(BadField),
+            }
+        }
+        _ => match number_before_blank(line) {
+            Some((difference, next)) => Ok((Code::Step(difference), next)),
+            None => Err(BadField),
+        },
+    }
+}
+
+/// Reads a difference up to a line's first blank, or up to its end, and answers it with the index after that blank, or of
+/// the line's end. `None` comes where the cell is another code or none, and also where [`code_before_blank`] is to read it:
+/// of seven digits or more.
+#[inline(always)]
+pub fn step_before_blank(line: &[u8]) -> Option<(i64, usize)>
+    ensures value { IfSome result (λ cell. code_of (first_cell line.now) ≡ Some (Step cell.0)) }
+    ensures next { IfSome result (λ cell. drop cell.1 line.now ≡ after_cell line.now) }
+    ensures within { IfSome result (λ cell. cell.1 ≤ length line.now) }
+    ensures short { IfSome result (λ cell. IsShort cell.0) }
+{
+    let (is_below, digits) = split_minus(line);
+    if line.len() > ROW {
+        let (size, next) = digits_in_front(digits)?;
+        return Some((signed(is_below, size), next + usize::from(is_below)));
+    }
+    let (size, next) = few_digits_before_blank(digits)?;
+    Some((signed(is_below, size), next + usize::from(is_below)))
+}
+
+/// A law: what is printed of a code is read back.
+pub fn code_is_read_back(code: Code)
+    requires { IsPrintable code }
+    ensures { code_of (code_text code) ≡ Some code }
+{}
+
+// Whether the character is an order that may be read.
+fn is_order(character: u8) -> bool
+    ensures { result ≡ is_order character }
+{
+    character.is_ascii_digit() && character - b'0' <= ORDER_LIMIT
+}
+
+// The number in a code; None where the text is none.
+fn coded_number_read(text: &[u8]) -> Option<i64>
+    ensures value { result ≡ coded_number text.now }
+    ensures short { IfSome result IsShort }
+{
+    let (is_below, digits) = split_minus(text);
+    if digits.is_empty() || DIGITS_LIMIT < digits.len() {
+        return None;
+    }
+    let size = digits_read(0, digits)?;
+    Some(signed(is_below, size))
+}
+
+// The number up to a text's first blank, and the index after that blank; None where it is none.
+#[inline(always)]
+fn number_before_blank(text: &[u8]) -> Option<(i64, usize)>
+    ensures value { option_map (λ cell. cell.0) result ≡ coded_number (first_cell text.now) }
+    ensures next { IfSome result (λ cell. drop cell.1 text.now ≡ after_cell text.now) }
+    ensures within { IfSome result (λ cell. cell.1 ≤ length text.now) }
+    ensures short { IfSome result (λ cell. IsShort cell.0) }
+{
+    let (is_below, digits) = split_minus(text);
+    let (size, next) = digits_before_blank(digits)?;
+    Some((signed(is_below, size), next + usize::from(is_below)))
+}

@@ -1,0 +1,354 @@
+//! The digits of codes: read up to a blank, and written one after another.
+
+ghost use Rattle.std.specs.Prelude.{◌≡◌, ◌+◌, ◌-◌, ◌*◌, ◌/◌, ◌%◌, ◌<◌, ◌≤◌, ◌^◌, Some, [], ◌∷◌, ◌++◌, length, take, drop, map, replicate, decimal, IfSome};
+ghost use Rattle.std.specs.Fmt.{signed_decimal};
+ghost use Rattle.std.specs.Int.{to_le_bytes, w32};
+ghost use Rattle.std.specs.Option.{option_map};
+ghost use Rattle.std.specs.List.{prefix_len};
+ghost use Rattle.crx_text.specs.Digits.{above_zero, written};
+ghost use Rattle.crx_text.specs.meaning.Codes.{after_cell, first_cell};
+ghost use Rattle.crx_text.specs.Codes.{counted_digits};
+ghost use Rattle.crx_text.specs.FirstDigits.{HasFirstDigits, is_below_ten};
+ghost use Rattle.crx_faults.specs.declared.limits.TheConstants.{DIGITS_LIMIT};
+
+use crx_columns::copies::copy_text;
+use crx_faults::limits::DIGITS_LIMIT;
+use std::simd::prelude::*;
+
+// The number that the digits up to a text's first blank write, and the index after that blank or of
+// the text's end; None where there is no digit, too many, or something else.
+#[inline(always)]
+pub(crate) fn digits_before_blank(text: &[u8]) -> Option<(u64, usize)>
+    ensures value { option_map (λ cell. cell.0) result ≡ counted_digits (first_cell text.now) }
+    ensures next { IfSome result (λ cell. drop cell.1 text.now ≡ after_cell text.now) }
+    ensures within { IfSome result (λ cell. (cell.0 < 10 ^ DIGITS_LIMIT) × (cell.1 ≤ length text.now)) }
+{
+    match few_digits_before_blank(text) {
+        Some(cell) => Some(cell),
+        None => digits_before_blank_singly(text),
+    }
+}
+
+// What `digits_before_blank` gives, where at most six digits stand before a blank, or before the text's end; else None, whatever there
+// is. Six digits are two groups of three, which one product weighs, and most codes have no more, so they take 42 instructions in
+// place of 60 to 126. Where fewer characters than a row has are left of a line, they are copied into a row: one by one a line's last
+// code takes 50 to 100 instructions.
+#[inline(always)]
+pub(crate) fn few_digits_before_blank(text: &[u8]) -> Option<(u64, usize)>
+    ensures value { IfSome result (λ cell. counted_digits (first_cell text.now) ≡ Some cell.0) }
+    ensures next { IfSome result (λ cell. drop cell.1 text.now ≡ after_cell text.now) }
+    ensures within { IfSome result (λ cell. (cell.0 < 10 ^ DIGITS_LIMIT) × (cell.1 ≤ length text.now)) }
+{
+    if text.len() < ROW {
+        return digits_of_few(text);
+    }
+    digits_in_front(text)
+}
+
+// What `digits_before_blank` gives, read digit by digit: numbers of seven digits or more.
+#[inline(always)]
+fn digits_before_blank_singly(text: &[u8]) -> Option<(u64, usize)>
+    ensures value { option_map (λ cell. cell.0) result ≡ counted_digits (first_cell text.now) }
+    ensures next { IfSome result (λ cell. drop cell.1 text.now ≡ after_cell text.now) }
+    ensures within { IfSome result (λ cell. (cell.0 < 10 ^ DIGITS_LIMIT) × (cell.1 ≤ length text.now)) }
+{
+    let (size, count) = first_digits(text);
+    if count == 0 {
+        return None;
+    }
+    if count > DIGITS_LIMIT {
+        return None;
+    }
+    ended_digits(text, size, count)
+}
+
+// The number of so many first digits, and the index after its blank or of the text's end; None where something else stands
+// after them.
+#[inline(always)]
+fn ended_digits(text: &[u8], size: u64, count: usize) -> Option<(u64, usize)>
+    requires digits { HasFirstDigits text.now size count }
+    requires some { 0 < count }
+    requires few { count ≤ DIGITS_LIMIT }
+    ensures value { option_map (λ cell. cell.0) result ≡ counted_digits (first_cell text.now) }
+    ensures next { IfSome result (λ cell. drop cell.1 text.now ≡ after_cell text.now) }
+    ensures within { IfSome result (λ cell. (cell.0 < 10 ^ DIGITS_LIMIT) × (cell.1 ≤ length text.now)) }
+{
+    if count == text.len() {
+        return Some((size, count));
+    }
+    before_blank(text, size, count)
+}
+
+// What `ended_digits` gives of a text that has a character after the digits.
+#[inline(always)]
+fn before_blank(text: &[u8], size: u64, count: usize) -> Option<(u64, usize)>
+    requires digits { HasFirstDigits text.now size count }
+    requires some { 0 < count }
+    requires few { count ≤ DIGITS_LIMIT }
+    requires more { count < length text.now }
+    ensures value { option_map (λ cell. cell.0) result ≡ counted_digits (first_cell text.now) }
+    ensures next { IfSome result (λ cell. drop cell.1 text.now ≡ after_cell text.now) }
+    ensures within { IfSome result (λ cell. (cell.0 < 10 ^ DIGITS_LIMIT) × (cell.1 ≤ length text.now)) }
+{
+    if text[count] == b' ' {
+        return Some((size, count + 1));
+    }
+    None
+}
+
+// The number that the digits at a text's beginning write, and how many they are; no more of them
+// than one too many are read.
+#[inline(never)]
+fn first_digits(text: &[u8]) -> (u64, usize)
+    ensures { HasFirstDigits text.now result.0 result.1 }
+{
+    let limit = text.len().min(DIGITS_LIMIT + 1);
+    let mut size = 0;
+    let mut count = 0;
+    while count < limit {
+        let digit = text[count];
+        if !digit.is_ascii_digit() {
+            return (size, count);
+        }
+        size = size * 10 + u64::from(digit - b'0');
+        count += 1;
+    }
+    (size, count)
+}
+
+// How many characters stand in a row of lanes.
+pub(crate) const ROW: usize = 8;
+
+// How many digits of a row are read at once.
+const FEW: usize = 6;
+
+// What `few_digits_before_blank` gives of a text that has as many characters as a row.
+#[inline(always)]
+pub(crate) fn digits_in_front(text: &[u8]) -> Option<(u64, usize)>
+    requires { ROW ≤ length text.now }
+    ensures value { IfSome result (λ cell. counted_digits (first_cell text.now) ≡ Some cell.0) }
+    ensures next { IfSome result (λ cell. drop cell.1 text.now ≡ after_cell text.now) }
+    ensures within { IfSome result (λ cell. (cell.0 < 10 ^ DIGITS_LIMIT) × (cell.1 ≤ length text.now)) }
+{
+    let digits = row_digits(text);
+    let count = digits_in_row(digits);
+    if count == 0 || count > FEW {
+        return None;
+    }
+    before_blank(text, row_size(digits, count), count)
+}
+
+// What `few_digits_before_blank` gives of fewer characters than a row has, which are copied into one.
+#[inline(always)]
+fn digits_of_few(text: &[u8]) -> Option<(u64, usize)>
+    requires { length text.now < ROW }
+    ensures value { IfSome result (λ cell. counted_digits (first_cell text.now) ≡ Some cell.0) }
+    ensures next { IfSome result (λ cell. drop cell.1 text.now ≡ after_cell text.now) }
+    ensures within { IfSome result (λ cell. (cell.0 < 10 ^ DIGITS_LIMIT) × (cell.1 ≤ length text.now)) }
+{
+    let mut characters = [0; ROW];
+    copy_text(&mut characters[..text.len()], text);
+    let digits = row_digits(&characters);
+    let count = digits_in_row(digits);
+    if count == 0 || count > FEW {
+        return None;
+    }
+    ended_digits(text, row_size(digits, count), count)
+}
+
+// How far the characters of a row stand above `0`, and zeros after them.
+#[inline(always)]
+fn row_digits(text: &[u8]) -> u8x16
+    requires { ROW ≤ length text.now }
+    ensures { result ≡ map above_zero (take ROW text.now ++ replicate 8 0) }
+{
+    let row = u8x8::from_slice(text).shuffle(
+        u8x8::splat(0),
+        [0, 1, 2, 3, 4, 5, 6, 7, 8, 9, 10, 11, 12, 13, 14, 15],
+    );
+    row - u8x16::splat(b'0')
+}
+
+// The first number of a lane that ends the digits; the lane after the sixth digit ends them in any case.
+const ENDS: [u8; 16] = [10, 10, 10, 10, 10, 10, 10, 0, 0, 0, 0, 0, 0, 0, 0, 0];
+
+// How many of the first seven lanes come before one that is no digit.
+#[inline(always)]
+fn digits_in_row(digits: u8x16) -> usize
+    ensures { result ≡ prefix_len is_below_ten (take 7 digits) }
+{
+    digits
+        .simd_ge(u8x16::from_array(ENDS))
+        .to_bitmask()
+        .trailing_zeros() as usize
+}
+
+// What each digit of a row weighs in its group of three, for each count of digits.
+#[rattlefmt::skip]
+static WEIGHTS: [u8; 8 * (FEW + 1)] = [
+    0, 0, 0, 0, 0, 0, 0, 0,
+    1, 0, 0, 0, 0, 0, 0, 0,
+    10, 1, 0, 0, 0, 0, 0, 0,
+    100, 10, 1, 0, 0, 0, 0, 0,
+    100, 10, 1, 0, 1, 0, 0, 0,
+    100, 10, 1, 0, 10, 1, 0, 0,
+    100, 10, 1, 0, 100, 10, 1, 0,
+];
+
+// What the second group weighs, and 2^32 times what the first one does, for each count of digits.
+static SCALES: [u64; FEW + 1] = [
+    0,
+    1 << 32,
+    1 << 32,
+    1 << 32,
+    (10 << 32) + 1,
+    (100 << 32) + 1,
+    (1000 << 32) + 1,
+];
+
+// The number that so many digits write, which a row begins with. The two groups of three digits are weighed by one product, whose
+// upper half is their sum.
+#[inline(always)]
+fn row_size(digits: u8x16, count: usize) -> u64
+    requires { count ≤ FEW }
+    ensures { result ≡ written 0 (take count digits) }
+{
+    let weights = u8x8::from_slice(&WEIGHTS[8 * count..]).shuffle(
+        u8x8::splat(0),
+        [0, 1, 2, 3, 4, 5, 6, 7, 8, 9, 10, 11, 12, 13, 14, 15],
+    );
+    let groups = digits
+        .shuffle(
+            u8x16::splat(0),
+            [0, 1, 2, 16, 3, 4, 5, 16, 16, 16, 16, 16, 16, 16, 16, 16],
+        )
+        .dot4(weights);
+    let pairs = u64x2::from_le_bytes(groups.to_le_bytes()).to_array();
+    pairs[0].wrapping_mul(SCALES[count]) >> 32
+}
+
+static PAIRS: [u8; 200] =
+    *b"00010203040506070809101112131415161718192021222324252627282930313233343536373839404142434445464748495051525354555657585960616263646566676869707172737475767778798081828384858687888990919293949596979899";
+
+// Writes a number from an index on, its minus and digits one after another, and answers the index
+// after it. Up to three bytes after it are written too.
+#[inline(always)]
+pub(crate) fn write_signed(buffer: &mut [u8], at: usize, number: i64) -> usize
+    requires { at + length (signed_decimal number) + 3 ≤ length buffer.old }
+    ensures written { take result buffer.new ≡ take at buffer.old ++ signed_decimal number }
+    ensures within { result ≡ at + length (signed_decimal number) }
+{
+    buffer[at] = b'-';
+    write_decimal(buffer, at + usize::from(number < 0), number.unsigned_abs())
+}
+
+// Writes a number without a sign.
+#[inline(always)]
+fn write_decimal(buffer: &mut [u8], at: usize, size: u64) -> usize
+    requires { at + length (decimal size) + 3 ≤ length buffer.old }
+    ensures written { take result buffer.new ≡ take at buffer.old ++ decimal size }
+    ensures within { result ≡ at + length (decimal size) }
+{
+    if size < 10_000 {
+        return write_short(buffer, at, size as u32);
+    }
+    let high = size / 10_000;
+    let middle = write_front(buffer, at, high);
+    write_word(buffer, middle, four_digits((size - high * 10_000) as u32));
+    middle + 4
+}
+
+// Writes what stands before a number's last four digits. Of up to eight digits it is written here, without a call.
+#[inline(always)]
+fn write_front(buffer: &mut [u8], at: usize, size: u64) -> usize
+    requires { at + length (decimal size) + 3 ≤ length buffer.old }
+    ensures written { take result buffer.new ≡ take at buffer.old ++ decimal size }
+    ensures within { result ≡ at + length (decimal size) }
+{
+    if size < 10_000 {
+        return write_short(buffer, at, size as u32);
+    }
+    write_long(buffer, at, size)
+}
+
+// Writes a number of any count of digits, four at a time, the first ones first: it calls itself for those before the last four.
+fn write_long(buffer: &mut [u8], at: usize, size: u64) -> usize
+    requires { at + length (decimal size) + 3 ≤ length buffer.old }
+    ensures written { take result buffer.new ≡ take at buffer.old ++ decimal size }
+    ensures within { result ≡ at + length (decimal size) }
+{
+    if size < 10_000 {
+        return write_short(buffer, at, size as u32);
+    }
+    let high = size / 10_000;
+    let middle = write_long(buffer, at, high);
+    write_word(buffer, middle, four_digits((size - high * 10_000) as u32));
+    middle + 4
+}
+
+// Writes a number of at most four digits. Its four columns are made in one word, the word is shifted by the zeros
+// before the number, and it is written by one store. A branch on the count of digits takes 3 to 15 instructions less, but
+// is mispredicted where the count differs from value to value: 7.9 ns a call in place of 4.4 over random numbers.
+#[inline(always)]
+fn write_short(buffer: &mut [u8], at: usize, size: u32) -> usize
+    requires small { size < 10000 }
+    requires room { at + length (decimal size) + 3 ≤ length buffer.old }
+    ensures written { take result buffer.new ≡ take at buffer.old ++ decimal size }
+    ensures within { result ≡ at + length (decimal size) }
+{
+    let (columns, zeros) = columns_of(size);
+    write_word(buffer, at, columns >> (8 * zeros));
+    at + 4 - zeros
+}
+
+// The four digits of a number, as `four_digits` gives them, and how many zeros stand before the number; 0 has a digit of its own. The
+// lowest bit that is set among the digits says where the first one stands that isn't 0; a bit above the last one ends the search.
+#[inline(always)]
+fn columns_of(size: u32) -> (u32, usize)
+    requires small { size < 10000 }
+    ensures columns { to_le_bytes w32 result.0 ≡ (48 + size / 100 / 10)
+        ∷ (48 + size / 100 % 10) ∷ (48 + size % 100 / 10) ∷ (48 + size % 100 % 10) ∷ [] }
+    ensures count { result.1 + length (decimal size) ≡ 4 }
+    ensures few { result.1 ≤ 3 }
+{
+    let columns = four_digits(size);
+    let digits = columns - u32::from_le_bytes(*b"0000");
+    let zeros = (digits | 1 << 28).trailing_zeros() / 8;
+    (columns, zeros as usize)
+}
+
+// The four digits of a number, zeros among them; the first one is the word's lowest byte.
+#[inline(always)]
+fn four_digits(size: u32) -> u32
+    requires { size < 10000 }
+    ensures { to_le_bytes w32 result ≡ (48 + size / 100 / 10)
+        ∷ (48 + size / 100 % 10) ∷ (48 + size % 100 / 10) ∷ (48 + size % 100 % 10) ∷ [] }
+{
+    let high = hundreds(size);
+    let low = size - high * 100;
+    let (high, low) = (high as usize, low as usize);
+    u32::from_le_bytes([
+        PAIRS[high * 2],
+        PAIRS[high * 2 + 1],
+        PAIRS[low * 2],
+        PAIRS[low * 2 + 1],
+    ])
+}
+
+// A number's hundreds, by one product: the compiler's own division of a number that it knows less of takes three instructions more.
+#[inline(always)]
+fn hundreds(size: u32) -> u32
+    requires { size < 10000 }
+    ensures { result ≡ size / 100 }
+{
+    (size * 5243) >> 19
+}
+
+// Writes the four bytes of a word from an index on, the lowest one first.
+#[inline(always)]
+fn write_word(buffer: &mut [u8], at: usize, word: u32)
+    requires { at + 4 ≤ length buffer.old }
+    ensures { take (at + 4) buffer.new ≡ take at buffer.old ++ to_le_bytes w32 word }
+{
+    buffer[at..at + 4].copy_from_slice(&word.to_le_bytes());
+}
