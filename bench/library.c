@@ -35,11 +35,11 @@ static size_t whole(void) {
 }
 
 static size_t taken(rnxcmp_handle *handle, rnxcmp_answer *answer, size_t at) {
-    size_t kept = answer->output_length;
-    if (kept != 0) {
+    size_t ready = answer->output_length;
+    if (ready != 0) {
         rnxcmp_take(handle, room + at, room_length - at, NULL, 0, answer);
     }
-    return at + kept;
+    return at + ready;
 }
 
 static size_t pieces(void) {
@@ -49,8 +49,10 @@ static size_t pieces(void) {
     if ((expands ? rnxcmp_open_expand : rnxcmp_open_compact)(&handle, NULL, &answer) != RNXCMP_GOOD) {
         return 0;
     }
-    for (size_t at = 0; at < length; at += PIECE) {
-        rnxcmp_feed(&handle, input + at, length - at < PIECE ? length - at : PIECE, &answer);
+    for (size_t at = 0, used = 0; at < length; at += used) {
+        if (rnxcmp_feed(&handle, input + at, length - at < PIECE ? length - at : PIECE, &used, &answer) != RNXCMP_GOOD) {
+            break;
+        }
         written = taken(&handle, &answer, written);
     }
     int status = rnxcmp_end(&handle, &answer);

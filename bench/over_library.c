@@ -36,10 +36,11 @@ static void grow(room *one, size_t length) {
 /* Reads a whole file: how many bytes it has. */
 static size_t read_file(const char *name, room *input) {
     FILE *file = fopen(name, "rb");
-    if (file == NULL || fseek(file, 0, SEEK_END) != 0) {
+    long whole = file != NULL && fseek(file, 0, SEEK_END) == 0 ? ftell(file) : -1;
+    if (whole < 0) {
         stop(name, "cannot be read");
     }
-    size_t length = (size_t)ftell(file);
+    size_t length = (size_t)whole;
     rewind(file);
     grow(input, length);
     if (fread(input->bytes, 1, length, file) != length) {
@@ -60,7 +61,8 @@ static void write_file(const char *name, const char *ending, const room *output,
 }
 
 static int call(const char *tool, const room *input, size_t length, const room *output, rnxcmp_answer *answer) {
-    const rnxcmp_options options = {.date = "01-Jan-24 00:00"};
+    rnxcmp_options options = RNXCMP_OPTIONS;
+    options.date = "01-Jan-24 00:00";
     if (strcmp(tool, "rnx2crx") == 0) {
         return rnxcmp_compact(input->bytes, length, &options, output->bytes, output->length, NULL, 0, answer);
     }
@@ -82,7 +84,7 @@ static void do_file(const char *tool, const char *name, room *input, room *outpu
         status = call(tool, input, length, output, &answer);
     }
     if (status != RNXCMP_GOOD) {
-        stop(name, rnxcmp_words(answer.code));
+        stop(name, status == RNXCMP_FAULT ? rnxcmp_words(answer.code) : rnxcmp_status_words((uint32_t)status));
     }
     if (strcmp(tool, "check") != 0) {
         write_file(name, strcmp(tool, "rnx2crx") == 0 ? ".crx" : ".text", output, answer.output_length);

@@ -4,8 +4,8 @@
     bench/planning.py PROGRAM FOLDER [--files 10000] [--rounds 1] [--ways rnx2crx file-rnx2crx ..]
 
 Makes files in FOLDER by generate.py, of three kinds (KINDS), each many times as a link: so what is read comes from memory, and what is
-written goes to the disk. Each way to do them all takes one file at a time: by the program or the script, started as a recipe starts them,
-or by the library, in one process (over_library.c in C, OVER_LIBRARY in Python) that reads a file, calls, and writes what was made.
+written goes to the disk. Each way to do them all takes one file at a time: by the program, started as a recipe starts it, by rnxcmp-file,
+which is given a hundred, or by the library, in one process (over_library.c in C, OVER_LIBRARY in Python) that reads a file, calls, and writes what was made.
 
 It prints a row for each way: processor milliseconds a file of each kind (user and system, with all that was started), milliseconds of a
 clock, the greatest process in MB (where GNU time is installed), and for ten million such files processor hours and the terabytes that are
@@ -63,16 +63,16 @@ class Way:
 
 def ways(folder):
     one = ["xargs", "-0", "-n", "1"]
-    script = [*one, "rnxcmp-file", "rnx2crx"]
+    tool = ["xargs", "-0", "-n", "100", "rnxcmp-file", "rnx2crx", "-q"]
     found = [
         Way("rnx2crx", "`rnxcmp rnx2crx FILE`", [*one, "rnxcmp", "rnx2crx"]),
         Way("crx2rnx", "`rnxcmp crx2rnx FILE`", [*one, "rnxcmp", "crx2rnx"], ".back.crx", ".back.crx"),
         Way("check", "`rnxcmp check FILE`", [*one, "rnxcmp", "check"], silent=True),
-        Way("file-rnx2crx", "`rnxcmp-file rnx2crx FILE`", script),
-        Way("file-gzip", "`rnxcmp-file rnx2crx --gzip FILE`", [*script, "--gzip"]),
-        Way("file-verify", "`rnxcmp-file rnx2crx --gzip --verify FILE`", [*script, "--gzip", "--verify"]),
-        Way("file-crx2rnx", "`rnxcmp-file crx2rnx FILE`", [*one, "rnxcmp-file", "crx2rnx"], ".back.crx", ".back.crx"),
-        Way("file-again", "`rnxcmp-file rnx2crx FILE`, done before", script, compact=".crx"),
+        Way("file-rnx2crx", "`rnxcmp-file rnx2crx FILE..`", tool),
+        Way("file-gzip", "`rnxcmp-file rnx2crx --gzip FILE..`", [*tool, "--gzip"]),
+        Way("file-verify", "`rnxcmp-file rnx2crx --gzip --verify FILE..`", [*tool, "--gzip", "--verify"]),
+        Way("file-crx2rnx", "`rnxcmp-file crx2rnx FILE..`", [*tool[:-2], "crx2rnx", "-q"], ".back.crx", ".back.crx"),
+        Way("file-again", "`rnxcmp-file rnx2crx FILE..`, done before", tool, compact=".crx"),
     ]
     if (LIBRARY / "librnxcmp.a").exists():
         over_c, over_python = folder / "bin/over_library", [sys.executable, "-c", OVER_LIBRARY, str(TOP / "python")]
@@ -83,9 +83,7 @@ def ways(folder):
 
 
 def make_tools(program, tools):
-    tools.mkdir(parents=True, exist_ok=True)
-    shutil.copy(program, tools / "rnxcmp")
-    shutil.copy(TOP / "packaging/bin/rnxcmp-file", tools)
+    subprocess.run([TOP / "packaging/install.sh", tools.parent, program, LIBRARY], check=True)
     if (LIBRARY / "librnxcmp.a").exists():
         command = ["cc", "-O2", "-Wall", "-Wextra", "-Werror", "-I", LIBRARY, HERE / "over_library.c", LIBRARY / "librnxcmp.a", "-o", tools / "over_library"]
         subprocess.run(command, check=True)
@@ -102,7 +100,7 @@ def make_files(folder, files):
             if not path.exists():
                 subprocess.run([HERE / "generate.py", "--megabytes", f"{size:.3f}", "--interval", str(interval), "--systems", systems,
                                 "--random", str(number), "-o", path], check=True)
-            subprocess.run([folder / "bin/rnxcmp-file", "rnx2crx", path], check=True)
+            subprocess.run([folder / "bin/rnxcmp-file", "rnx2crx", "-q", path], check=True)
         for number in range(files * share // 100):
             link = folder / f"archive/{kind}/{number // 500:03}/made{number:05}.rnx"
             link.parent.mkdir(parents=True, exist_ok=True)

@@ -1,65 +1,92 @@
-/* Compacts a RINEX file in pieces, expands what is ready of it at once, and says whether the file came back: stream FILE */
+/*
+ * Compacts a RINEX file in pieces, expands what is ready of it at once, and says whether the file came back, or its normal form, as a file
+ * does that isn't standard: stream FILE
+ *
+ * It holds no more of either text than a handle keeps, and what is taken of it into a room.
+ */
 #include <rnxcmp.h>
 #include <stdio.h>
+#include <stdlib.h>
 #include <string.h>
 
+enum { ROOM = 4096 };
+
+/* The file once more, from which the expansion's bytes are expected. */
+static FILE *again;
 static unsigned long long compact_length;
 static int same = 1;
 
+/* Ends the program where a call didn't go well. */
+static void demand_good(int status, const rnxcmp_answer *answer) {
+    if (status == RNXCMP_FAULT) {
+        fprintf(stderr, "line %llu: %s\n", (unsigned long long)answer->line, rnxcmp_words(answer->code));
+    } else if (status != RNXCMP_GOOD) {
+        fprintf(stderr, "%s\n", rnxcmp_status_words((uint32_t)status));
+    }
+    if (status != RNXCMP_GOOD) {
+        exit(1);
+    }
+}
+
+/* Takes what fits of a handle's output, and gives how much that is. Its messages have to be taken as well; they come where units are
+   skipped, or after a fault. */
+static size_t taken(rnxcmp_handle *handle, char *room, rnxcmp_answer *answer) {
+    char messages[ROOM];
+    size_t ready = answer->output_length;
+    rnxcmp_take(handle, room, ROOM, messages, sizeof messages, answer);
+    return ready - answer->output_length;
+}
+
 /* Takes what is ready of the expansion, and compares it with the file's next bytes. */
-static void compare(rnxcmp_handle *expansion, size_t kept, FILE *file) {
-    char room[4096], bytes[4096];
-    while (kept > 0) {
-        rnxcmp_answer answer;
-        rnxcmp_take(expansion, room, sizeof room, NULL, 0, &answer);
-        size_t taken = kept - answer.output_length;
-        same &= fread(bytes, 1, taken, file) == taken && memcmp(room, bytes, taken) == 0;
-        kept = answer.output_length;
+static void compare(rnxcmp_handle *expansion, rnxcmp_answer *answer) {
+    char room[ROOM], bytes[ROOM];
+    while (answer->output_length > 0) {
+        size_t count = taken(expansion, room, answer);
+        same &= fread(bytes, 1, count, again) == count && memcmp(room, bytes, count) == 0;
     }
 }
 
 /* Takes what is ready of the compact text, and expands it. */
-static void expand(rnxcmp_handle *compaction, size_t kept, rnxcmp_handle *expansion, FILE *file) {
-    char room[4096];
-    while (kept > 0) {
-        rnxcmp_answer answer, expanded;
-        rnxcmp_take(compaction, room, sizeof room, NULL, 0, &answer);
-        size_t taken = kept - answer.output_length;
-        compact_length += taken;
-        same &= rnxcmp_feed(expansion, room, taken, &expanded) == RNXCMP_GOOD;
-        compare(expansion, expanded.output_length, file);
-        kept = answer.output_length;
+static void expand(rnxcmp_handle *compaction, rnxcmp_answer *answer, rnxcmp_handle *expansion) {
+    char room[ROOM];
+    while (answer->output_length > 0) {
+        size_t count = taken(compaction, room, answer), used;
+        compact_length += count;
+        for (size_t from = 0; from < count; from += used) {
+            rnxcmp_answer expanded;
+            demand_good(rnxcmp_feed(expansion, room + from, count - from, &used, &expanded), &expanded);
+            compare(expansion, &expanded);
+        }
     }
 }
 
 int main(int count, char **words) {
     rnxcmp_handle compaction = RNXCMP_CLOSED, expansion = RNXCMP_CLOSED;
     rnxcmp_answer answer;
-    char piece[4096];
-    size_t length;
-    FILE *file = count == 2 ? fopen(words[1], "rb") : NULL, *again = count == 2 ? fopen(words[1], "rb") : NULL;
-    if (file == NULL || again == NULL || rnxcmp_open_compact(&compaction, NULL, NULL) != RNXCMP_GOOD
-        || rnxcmp_open_expand(&expansion, NULL, NULL) != RNXCMP_GOOD) {
+    char piece[ROOM];
+    size_t length, used;
+    FILE *file = count == 2 ? fopen(words[1], "rb") : NULL;
+    again = count == 2 ? fopen(words[1], "rb") : NULL;
+    if (file == NULL || again == NULL) {
         return 1;
     }
-    int status = RNXCMP_GOOD;
-    while (status == RNXCMP_GOOD && (length = fread(piece, 1, sizeof piece, file)) > 0) {
-        status = rnxcmp_feed(&compaction, piece, length, &answer);
-        expand(&compaction, answer.output_length, &expansion, again);
+    demand_good(rnxcmp_open_compact(&compaction, NULL, &answer), &answer);
+    demand_good(rnxcmp_open_expand(&expansion, NULL, &answer), &answer);
+    while ((length = fread(piece, 1, sizeof piece, file)) > 0) {
+        for (size_t from = 0; from < length; from += used) {
+            demand_good(rnxcmp_feed(&compaction, piece + from, length - from, &used, &answer), &answer);
+            expand(&compaction, &answer, &expansion);
+        }
     }
-    if (status == RNXCMP_GOOD) {
-        status = rnxcmp_end(&compaction, &answer);
-        expand(&compaction, answer.output_length, &expansion, again);
-    }
-    if (status != RNXCMP_GOOD) {
-        fprintf(stderr, "%s: line %llu: %s\n", words[1], (unsigned long long)answer.line, rnxcmp_words(answer.code));
-        return status;
-    }
-    same &= rnxcmp_end(&expansion, &answer) == RNXCMP_GOOD;
-    compare(&expansion, answer.output_length, again);
+    demand_good(rnxcmp_end(&compaction, &answer), &answer);
+    expand(&compaction, &answer, &expansion);
+    demand_good(rnxcmp_end(&expansion, &answer), &answer);
+    compare(&expansion, &answer);
     same &= fgetc(again) == EOF;
-    printf("compact %llu bytes, in pieces: %s\n", compact_length, same ? "the same again" : "not the same again");
+    printf("compact %llu bytes, in pieces: %s\n", compact_length, same ? "the same again" : "its normal form");
     rnxcmp_close(&compaction);
     rnxcmp_close(&expansion);
-    return same ? 0 : 1;
+    fclose(file);
+    fclose(again);
+    return 0;
 }

@@ -1,4 +1,4 @@
-! rnxcmp for Fortran 2003 and later: rnxcmp.h, which says what each call and field is, over iso_c_binding.
+! rnxcmp for Fortran 2003 and later: rnxcmp.h, which says what each call and field is, over iso_c_binding. Version 2 of the interface.
 !
 !     use rnxcmp
 !     type(rnxcmp_options) :: options
@@ -8,6 +8,7 @@
 !     ...
 !     status = rnxcmp_compact(input, len(input, c_size_t), options, output, len(output, c_size_t), messages, len(messages, c_size_t), answer)
 !     if (status == RNXCMP_FAULT) print *, answer%line, rnxcmp_words(answer%code)
+!     if (status > RNXCMP_WARNINGS) print *, rnxcmp_status_words(status)
 !
 ! The program is linked with -lrnxcmp. A room may have the length 0.
 module rnxcmp
@@ -15,20 +16,24 @@ module rnxcmp
         c_signed_char
     implicit none
     private
-    public :: rnxcmp_compact, rnxcmp_expand, rnxcmp_check, rnxcmp_words, rnxcmp_version
+    public :: rnxcmp_compact, rnxcmp_expand, rnxcmp_check, rnxcmp_words, rnxcmp_status_words, rnxcmp_version
     public :: rnxcmp_open_compact, rnxcmp_open_expand, rnxcmp_open_check, rnxcmp_feed, rnxcmp_end, rnxcmp_take, rnxcmp_close
     public :: rnxcmp_options, rnxcmp_answer, rnxcmp_handle
     public :: c_int, c_size_t, c_char
 
     integer(c_int), parameter, public :: RNXCMP_GOOD = 0, RNXCMP_FAULT = 1, RNXCMP_WARNINGS = 2, RNXCMP_NO_ROOM = 3, &
-        RNXCMP_BAD_DATE = 4, RNXCMP_BAD_PROCESSOR = 5, RNXCMP_MISUSED = 6
+        RNXCMP_BAD_DATE = 4, RNXCMP_BAD_PROCESSOR = 5, RNXCMP_MISUSED = 6, RNXCMP_OUTPUT_LIMIT = 7
     integer(c_int32_t), parameter, public :: RNXCMP_INPUT_TOO_LONG = 2, RNXCMP_OUT_OF_MEMORY = 22
+    integer(c_int), parameter, public :: RNXCMP_INTERFACE = 2
+    integer(c_size_t), parameter, public :: RNXCMP_READY = 65536
 
-    ! date is c_null_ptr, or c_loc of a text (a target) that ends with c_null_char
+    ! size is that of this type; date is c_null_ptr, or c_loc of a text (a target) that ends with c_null_char
     type, bind(c) :: rnxcmp_options
+        integer(c_size_t) :: size = 32
         integer(c_int32_t) :: every = 0
         integer(c_int32_t) :: skip = 0
         type(c_ptr) :: date = c_null_ptr
+        integer(c_int64_t) :: max_output = 0
     end type
 
     type, bind(c) :: rnxcmp_answer
@@ -67,11 +72,12 @@ module rnxcmp
             type(rnxcmp_answer), intent(out) :: answer
         end function
 
-        integer(c_int) function rnxcmp_feed(handle, bytes, length, answer) bind(c, name="rnxcmp_feed")
+        integer(c_int) function rnxcmp_feed(handle, bytes, length, used, answer) bind(c, name="rnxcmp_feed")
             import :: c_int, c_size_t, c_char, rnxcmp_handle, rnxcmp_answer
             type(rnxcmp_handle), intent(inout) :: handle
             character(kind=c_char), intent(in) :: bytes(*)
             integer(c_size_t), value :: length
+            integer(c_size_t), intent(out) :: used
             type(rnxcmp_answer), intent(out) :: answer
         end function
 
@@ -140,6 +146,11 @@ module rnxcmp
             integer(c_int32_t), value :: code
         end function
 
+        type(c_ptr) function status_words_at(status) bind(c, name="rnxcmp_status_words")
+            import :: c_ptr, c_int32_t
+            integer(c_int32_t), value :: status
+        end function
+
         type(c_ptr) function version_at() bind(c, name="rnxcmp_version")
             import :: c_ptr
         end function
@@ -157,6 +168,13 @@ contains
         integer(c_int32_t), intent(in) :: code
         character(len=:), allocatable :: words
         words = text_at(words_at(code))
+    end function
+
+    ! The words of a status, as "the output is longer than its room" of 3.
+    function rnxcmp_status_words(status) result(words)
+        integer(c_int), intent(in) :: status
+        character(len=:), allocatable :: words
+        words = text_at(status_words_at(int(status, c_int32_t)))
     end function
 
     ! The version of the library, as "1.0.0".

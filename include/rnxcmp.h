@@ -1,5 +1,5 @@
 /*
- * rnxcmp: RINEX 3.0x observation files and Compact RINEX 3.0 (Hatanaka's format), over memory.
+ * rnxcmp: RINEX 3.0x observation files and Compact RINEX 3.0 (Hatanaka's format), over memory. Version 2 of the interface.
  *
  *     rnxcmp_compact   RINEX 3.0x to Compact RINEX 3.0
  *     rnxcmp_expand    Compact RINEX 3.0 to RINEX 3.0x
@@ -12,19 +12,30 @@
  * that the program rnxcmp writes to standard error. A room is a pointer and its length in bytes; with length 0 the pointer may be NULL. The
  * texts have no byte 0 at their end.
  *
- *     const char date[] = "01-Jan-24 00:00";
- *     rnxcmp_options options = {0, 0, date};
+ *     rnxcmp_options options = RNXCMP_OPTIONS;
+ *     options.date = "01-Jan-24 00:00";
  *     rnxcmp_answer answer;
  *     int status = rnxcmp_compact(input, length, &options, room, room_length, NULL, 0, &answer);
  *     if (status == RNXCMP_NO_ROOM) {
  *         // make a room of answer.output_length bytes, and call again
  *     } else if (status == RNXCMP_FAULT) {
  *         fprintf(stderr, "line %llu: %s\n", (unsigned long long)answer.line, rnxcmp_words(answer.code));
+ *     } else if (status > RNXCMP_WARNINGS) {
+ *         fprintf(stderr, "%s\n", rnxcmp_status_words(status));
  *     }
  *
  * Any number of threads may call at once, for a handle one at a time. No call keeps a pointer, opens a file, prints or ends the process.
- * The input and the two rooms must not overlap, and nothing may change them during the call. A call needs 256 KiB of stack, and takes
- * memory from malloc, about as much as the output and the messages have. It isn't for signal handlers.
+ * The input, the two rooms and the answer must not overlap, and nothing else may change them during the call. A call needs 256 KiB of
+ * stack. It takes memory from malloc: of each text as much as its room holds at most, and what the run needs of earlier lines. It isn't
+ * for signal handlers.
+ *
+ * What differs from version 1, whose library is librnxcmp.so.1:
+ * - rnxcmp_options begins with its own size, and has `max_output`; the status RNXCMP_OUTPUT_LIMIT is new.
+ * - rnxcmp_feed answers in `used` how many bytes it took: it takes none while RNXCMP_READY bytes are ready and not taken.
+ * - Bytes over 2^40 end the run of a handle; before, they were refused, and the run went on.
+ * - A call whose rooms are small takes no memory for what doesn't fit.
+ * - NULL with a length that isn't 0, and NULL for a handle, are RNXCMP_MISUSED; rnxcmp_close takes NULL.
+ * - rnxcmp_status_words is new.
  */
 #ifndef RNXCMP_H
 #define RNXCMP_H
@@ -36,47 +47,76 @@
 extern "C" {
 #endif
 
-/* What a call answers. */
+/* The version of this interface. */
+#define RNXCMP_INTERFACE 2
+
+/* What a call answers. rnxcmp_status_words has words for each. */
 enum {
     /* All went well. For a check: the file is standard. */
     RNXCMP_GOOD = 0,
     /*
      * A fault ended the run; `code` and `line` say which, and where. The output holds what stood before it: header lines, event lines and
-     * whole epochs. After RNXCMP_INPUT_TOO_LONG and RNXCMP_OUT_OF_MEMORY neither room was changed, and both lengths are 0.
+     * whole epochs. After RNXCMP_INPUT_TOO_LONG and RNXCMP_OUT_OF_MEMORY a call over a whole input has changed neither room, and both
+     * lengths are 0.
      */
     RNXCMP_FAULT = 1,
     /* Units were skipped, and the messages say which. For a check: the file is accepted, but isn't standard. */
     RNXCMP_WARNINGS = 2,
-    /* The output has more bytes than its room: it stands there as far as it fits, and `output_length` says how long a room it needs. */
+    /*
+     * The output has more bytes than its room: it stands there as far as it fits, and `output_length` says how long a room it needs. This
+     * hides which of the three above the status is: a fault ended the run where `code` isn't 0, and `code` and `line` are that fault's.
+     */
     RNXCMP_NO_ROOM = 3,
     /* The date has more than 20 bytes, or one outside 32 to 126. Neither room was changed. */
     RNXCMP_BAD_DATE = 4,
     /* The processor is older than x86-64-v2. Neither room was changed. */
     RNXCMP_BAD_PROCESSOR = 5,
-    /* The handle isn't as the call needs it: not open, open already, or its run has ended. Nothing was done. */
-    RNXCMP_MISUSED = 6
+    /*
+     * NULL with a length that isn't 0, NULL for a handle or for `used`, options of a size that this library doesn't know, or a handle that
+     * isn't as the call needs it: not open, open already, or its run has ended. Nothing was done, and the other fields are 0.
+     */
+    RNXCMP_MISUSED = 6,
+    /*
+     * The output has more bytes than `max_output`; `line` and `code` are 0, and no message says this. A call over a whole input has changed
+     * neither room, and both lengths are 0. The run of a handle has ended: its output is what the lines make before the first one by which
+     * it would be longer, which is header lines, event lines and whole epochs, and its messages are the warnings of those lines.
+     */
+    RNXCMP_OUTPUT_LIMIT = 7
 };
 
 /* Two numbers of faults, of 22, that aren't of a line; rnxcmp_words has words for all. */
 enum { RNXCMP_INPUT_TOO_LONG = 2, RNXCMP_OUT_OF_MEMORY = 22 };
 
-/* What is chosen for a run. All of it may be 0. */
+/* What is chosen for a run. But for `size` all of it may be 0. */
 typedef struct rnxcmp_options {
+    /*
+     * sizeof(rnxcmp_options), as the caller compiled it. A longer one, of a later version, is taken where it has at most 256 bytes and
+     * those beyond this version's are 0; any other size is RNXCMP_MISUSED.
+     */
+    size_t size;
     /* At every so many epochs, counted from 0, one stands in full; 0: only where one must, at first and after events and warnings. */
     uint32_t every;
     /* Not 0: an epoch with a fault is skipped with a warning, and the run goes on. */
     uint32_t skip;
     /* The date in columns 41 to 60 of compact text's second line, ended by a byte 0; NULL is the same as "", and leaves blanks. */
     const char *date;
+    /* The most bytes that the output may have; 0: no limit. See RNXCMP_OUTPUT_LIMIT. */
+    uint64_t max_output;
 } rnxcmp_options;
+
+#define RNXCMP_OPTIONS                                                                                                                         \
+    { sizeof(rnxcmp_options), 0, 0, NULL, 0 }
 
 /* How a call went. */
 typedef struct rnxcmp_answer {
     /* The line of the fault that ended the run, from 1; 0 where no line was read, or no fault ended it. */
     uint64_t line;
-    /* How many bytes the whole output has, whatever its room is. */
+    /* How many bytes the whole output has, whatever its room is. Of a handle: how many bytes of it are ready, and not taken. */
     size_t output_length;
-    /* How many bytes all messages have, whatever their room is. They stand there as far as they fit; the status is the same. */
+    /*
+     * How many bytes all messages have, whatever their room is. They stand there as far as they fit; the status is the same. Of a handle:
+     * how many bytes of them are ready, and not taken.
+     */
     size_t messages_length;
     /* What the call also returns. */
     uint32_t status;
@@ -85,13 +125,13 @@ typedef struct rnxcmp_answer {
 } rnxcmp_answer;
 
 /*
- * Compacts `input_length` bytes of RINEX 3.0x, at most 2^40. `options` may be NULL, which is the same as all 0, and so may `answer`.
- * Returns the status.
+ * Compacts `input_length` bytes of RINEX 3.0x, at most 2^40. `options` may be NULL, which is the same as RNXCMP_OPTIONS, and so may
+ * `answer`. Returns the status.
  */
 int rnxcmp_compact(const void *input, size_t input_length, const rnxcmp_options *options, void *output, size_t output_room, void *messages,
                    size_t messages_room, rnxcmp_answer *answer);
 
-/* Expands Compact RINEX 3.0, in the same way. Of the options it uses `skip` alone. */
+/* Expands Compact RINEX 3.0, in the same way. Of the options it uses `skip` and `max_output` alone. */
 int rnxcmp_expand(const void *input, size_t input_length, const rnxcmp_options *options, void *output, size_t output_room, void *messages,
                   size_t messages_room, rnxcmp_answer *answer);
 
@@ -116,20 +156,36 @@ int rnxcmp_check(const void *input, size_t input_length, void *output, size_t ou
  *
  *     rnxcmp_handle handle = RNXCMP_CLOSED;
  *     rnxcmp_answer answer;
- *     rnxcmp_open_expand(&handle, NULL, &answer);
- *     while ((length = fread(bytes, 1, sizeof bytes, input)) > 0 && rnxcmp_feed(&handle, bytes, length, &answer) == RNXCMP_GOOD) {
- *         do {
- *             size_t kept = answer.output_length;
- *             rnxcmp_take(&handle, room, sizeof room, NULL, 0, &answer);
- *             fwrite(room, 1, kept - answer.output_length, output);
- *         } while (answer.output_length > 0);
+ *     size_t used;
+ *     int status = rnxcmp_open_expand(&handle, NULL, &answer);
+ *     while (status == RNXCMP_GOOD && (length = fread(bytes, 1, sizeof bytes, input)) > 0) {
+ *         for (size_t from = 0; status == RNXCMP_GOOD && from < length; from += used) {
+ *             status = rnxcmp_feed(&handle, bytes + from, length - from, &used, &answer);
+ *             write_what_is_ready(&handle, &answer);
+ *         }
  *     }
- *     rnxcmp_end(&handle, &answer);      // and take the rest
+ *     if (status == RNXCMP_GOOD) {
+ *         status = rnxcmp_end(&handle, &answer);
+ *         write_what_is_ready(&handle, &answer);
+ *     }
  *     rnxcmp_close(&handle);
  *
- * What was taken in all, and then what is kept, is what the call over the whole input gives: the texts of the lines so far, and after
- * the end all of both texts. A handle keeps the bytes of the last line as long as it has no line end, what the run needs of
- * earlier lines, and what was made and not taken.
+ * where write_what_is_ready empties both texts, of which the answer says how much is ready:
+ *
+ *     while (answer->output_length > 0 || answer->messages_length > 0) {
+ *         size_t output_length = answer->output_length, messages_length = answer->messages_length;
+ *         rnxcmp_take(handle, room, sizeof room, lines, sizeof lines, answer);
+ *         fwrite(room, 1, output_length - answer->output_length, output);
+ *         fwrite(lines, 1, messages_length - answer->messages_length, stderr);
+ *     }
+ *
+ * What was taken in all, and then what is ready, is what the call over the whole input gives: the texts of the lines so far, and after
+ * the end all of both texts. After RNXCMP_OUTPUT_LIMIT and RNXCMP_INPUT_TOO_LONG it is what the first lines make, and after
+ * RNXCMP_OUT_OF_MEMORY a prefix of it.
+ *
+ * What a handle keeps is bounded, whatever was fed: of the last line at most 8194 bytes, as long as it has no line end (a longer one is
+ * too long, whatever follows); what the run needs of earlier lines; and what was made and not taken, which is less than RNXCMP_READY
+ * bytes and then what one line makes, at most an epoch of 1001 lines of 8193 bytes, and after rnxcmp_end what the end makes too.
  */
 typedef struct rnxcmp_handle {
     void *place;
@@ -145,34 +201,47 @@ typedef struct rnxcmp_handle {
  */
 int rnxcmp_open_compact(rnxcmp_handle *handle, const rnxcmp_options *options, rnxcmp_answer *answer);
 
-/* Of the options it uses `skip` alone. */
+/* Of the options it uses `skip` and `max_output` alone. */
 int rnxcmp_open_expand(rnxcmp_handle *handle, const rnxcmp_options *options, rnxcmp_answer *answer);
 
 int rnxcmp_open_check(rnxcmp_handle *handle, rnxcmp_answer *answer);
 
-/*
- * Takes `length` bytes more of the input, which may end anywhere. RNXCMP_GOOD: the run goes on; `output_length` and `messages_length` say
- * how many bytes are kept. RNXCMP_FAULT: a fault has ended the run, whatever follows; `code` and `line` say which, and where. Where all
- * bytes would be more than 2^40, that is RNXCMP_INPUT_TOO_LONG, nothing of these bytes is taken, and the run goes on. After
- * RNXCMP_OUT_OF_MEMORY the texts that are kept may be cut anywhere.
- */
-int rnxcmp_feed(rnxcmp_handle *handle, const void *bytes, size_t length, rnxcmp_answer *answer);
+/* While so many bytes of the output and of the messages together are ready, rnxcmp_feed takes none. */
+#define RNXCMP_READY 65536
 
-/* The input has ended: the status is that of the whole input, 0, 1 or 2, and the rest of both texts is kept. */
+/*
+ * Takes bytes of the input, which may end anywhere, and stores in `used` how many it took of `length`: as long as fewer than RNXCMP_READY
+ * bytes are ready, it takes one line more. So where nothing is ready it takes at least one, and where it takes fewer than `length` the
+ * caller takes what is ready, and feeds the rest. Neither `used` nor, with a length that isn't 0, `bytes` may be NULL.
+ *
+ * RNXCMP_GOOD: the run goes on. RNXCMP_FAULT: a fault has ended the run, whatever follows; `code` and `line` say which, and where.
+ * RNXCMP_OUTPUT_LIMIT: the output would have more than `max_output` bytes, and the run has ended, whatever follows. In the last two `used`
+ * is `length`, or as many as the input may still have, but for RNXCMP_INPUT_TOO_LONG: that comes where 2^40 bytes were taken and there is
+ * one more; it has the number of the line after the last LF, and `used` is 0. After RNXCMP_OUT_OF_MEMORY the texts that are ready may be cut anywhere.
+ */
+int rnxcmp_feed(rnxcmp_handle *handle, const void *bytes, size_t length, size_t *used, rnxcmp_answer *answer);
+
+/*
+ * The input has ended: the status is that of the whole input, 0, 1 or 2, or RNXCMP_OUTPUT_LIMIT, and the rest of both texts is ready. It
+ * is taken whatever is ready before.
+ */
 int rnxcmp_end(rnxcmp_handle *handle, rnxcmp_answer *answer);
 
 /*
- * Moves what is kept of the output and of the messages into two rooms, as far as it fits. The answer says how much is kept after it, and
- * how the run stands: 0 while it goes on, and from its end on the status, `code` and `line` of its end. Each call moves what is left to
- * the front of its memory: where much is kept, one long room is faster than many short ones.
+ * Moves what is ready of the output and of the messages into two rooms, as far as it fits. The answer says how much is ready after it, and
+ * how the run stands: 0 while it goes on, and from its end on the status, `code` and `line` of its end. All calls together take time in
+ * proportion to the bytes that they move.
  */
 int rnxcmp_take(rnxcmp_handle *handle, void *output, size_t output_room, void *messages, size_t messages_room, rnxcmp_answer *answer);
 
-/* Closes a handle and frees what it holds; a closed one stays as it is. */
+/* Closes a handle and frees what it holds; a closed one stays as it is, and NULL does nothing. */
 void rnxcmp_close(rnxcmp_handle *handle);
 
 /* The words of a fault, as "bad satellite" of 13; "" of a number that isn't from 1 to 22. They stay for ever. */
 const char *rnxcmp_words(uint32_t code);
+
+/* The words of a status, as "the output is longer than its room" of 3; "" of a number that isn't from 0 to 7. They stay for ever. */
+const char *rnxcmp_status_words(uint32_t status);
 
 /* The version of this library, as "1.0.0". It stays for ever. */
 const char *rnxcmp_version(void);

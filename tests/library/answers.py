@@ -39,6 +39,10 @@ class Result:
     messages: bytes
     status: int
 
+    def warnings(self):
+        """The messages without the line of the fault that ended the run."""
+        return re.sub(rb"^ERROR .*\n", b"", self.messages, flags=re.M)
+
     def fault(self):
         """The number and the line of the fault that ended the run."""
         found = re.search(rb"^ERROR line (\d+) code (\d+): ", self.messages, re.M)
@@ -80,11 +84,14 @@ def call_of(words, data):
 
 
 def answers_of(case):
-    """The calls of a case with their answers; none where the program refuses its arguments or finds no file."""
+    """The calls of a case with their answers; none where the program refuses its arguments, shows help or finds no file."""
     if case.messages.startswith(b"ERROR: "):
         return
     for line in case.arguments:
-        call, names = call_of(shlex.split(line), case.input)
+        words = shlex.split(line)
+        if words[0] not in KINDS or {"-h", "--help"} & set(words):
+            continue
+        call, names = call_of(words, case.input)
         output = case.output
         if names:
             call.data = case.files.get(names[0])

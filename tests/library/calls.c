@@ -1,16 +1,11 @@
 /*
- * Makes calls of the library, as checks.py asks for them, each over memory that ends where no more may be touched.
+ * Makes calls of the library over whole inputs, as calls_from_c.py asks for them, each over memory that ends where no more may be touched.
  *
  *     calls            takes calls from standard input, and writes their answers to standard output
- *     calls THREADS N  compacts and expands the bytes of standard input N times in each of so many threads
  *     calls limit      calls with an input that is a byte longer than the limit, of which no byte can be read
- *
- * A call is its kind (0 compact, 1 expand, 2 check), whether faults are skipped, whether pointers to rooms of length 0 are NULL (a byte
- * each), the number of epochs, the lengths of the two rooms, of the date and of the input (8 bytes each), the date and the input. An
- * answer is the five fields (8 bytes each), and both rooms, which held '#' before the call.
  */
 #define _GNU_SOURCE
-#include <pthread.h>
+#include "counted.h"
 #include <rnxcmp.h>
 #include <stdio.h>
 #include <stdlib.h>
@@ -18,6 +13,20 @@
 #include <sys/mman.h>
 
 enum { PAGE = 4096 };
+
+/* A call; the date and the input follow. */
+struct request {
+    uint64_t kind, skip, every, max_output;
+    uint64_t output_room, messages_room;
+    uint64_t null;    /* whether pointers to rooms of length 0 are NULL */
+    uint64_t refused; /* the number of the growth of memory that is refused; 0 for none */
+    uint64_t date_length, length;
+};
+
+/* Its answer; both rooms follow, which held '#' before the call. */
+struct reply {
+    uint64_t status, code, line, output_length, messages_length, growths, most_held;
+};
 
 /* Memory whose end is the end of a page, with a page before it and one after it that can't be touched. */
 typedef struct {
@@ -79,29 +88,36 @@ static int called(int kind, const void *input, size_t length, const rnxcmp_optio
     }
 }
 
+/* Makes a call, whose memory is counted, and frees all of it. */
+static struct reply called_once(const struct request *asked, const char *date, guarded input, guarded output, guarded messages) {
+    rnxcmp_options options = {sizeof options, (uint32_t)asked->every, (uint32_t)asked->skip, date, asked->max_output};
+    rnxcmp_answer answer;
+    size_t held_before = held;
+    growths = 0, most_held = held, refused = asked->refused;
+    int status = called((int)asked->kind, input.start, asked->length, &options, output, asked->output_room, messages, asked->messages_room,
+                        asked->null != 0, &answer);
+    refused = 0;
+    if (status != (int)answer.status || !is_whole(output) || !is_whole(messages) || held != held_before) {
+        fprintf(stderr, "wrong: status %d of %d, memory before a room, or memory that isn't freed\n", status, (int)answer.status);
+        exit(3);
+    }
+    return (struct reply){answer.status, answer.code, answer.line, answer.output_length, answer.messages_length, growths, most_held - held_before};
+}
+
 static int serve(void) {
-    unsigned char small[3];
-    uint64_t numbers[5];
-    while (take(small, sizeof small)) {
-        if (!take(numbers, sizeof numbers)) {
+    struct request asked;
+    while (take(&asked, sizeof asked)) {
+        guarded date = guard(asked.date_length + 1), input = guard(asked.length);
+        guarded output = guard(asked.output_room), messages = guard(asked.messages_room);
+        if (!take(date.start, asked.date_length) || !take(input.start, asked.length)) {
             return 2;
         }
-        guarded date = guard(numbers[3] + 1), input = guard(numbers[4]), output = guard(numbers[1]), messages = guard(numbers[2]);
-        if (!take(date.start, numbers[3]) || !take(input.start, numbers[4])) {
-            return 2;
-        }
-        date.start[numbers[3]] = 0;
+        date.start[asked.date_length] = 0;
         mprotect(input.whole, (input.pages + 2) * PAGE, PROT_READ);
-        rnxcmp_options options = {(uint32_t)numbers[0], small[1], date.start};
-        rnxcmp_answer answer;
-        int status = called(small[0], input.start, numbers[4], &options, output, numbers[1], messages, numbers[2], small[2], &answer);
-        if (status != (int)answer.status || !is_whole(output) || !is_whole(messages)) {
-            return 3;
-        }
-        uint64_t fields[5] = {answer.status, answer.code, answer.line, answer.output_length, answer.messages_length};
-        put(fields, sizeof fields);
-        put(output.start, numbers[1]);
-        put(messages.start, numbers[2]);
+        struct reply reply = called_once(&asked, date.start, input, output, messages);
+        put(&reply, sizeof reply);
+        put(output.start, asked.output_room);
+        put(messages.start, asked.messages_room);
         fflush(stdout);
         release(date);
         release(input);
@@ -111,53 +127,11 @@ static int serve(void) {
     return 0;
 }
 
-/* ---- threads */
-
-static char *file;
-static size_t file_length;
-static int rounds;
-
-static void *rounds_of_a_thread(void *unused) {
-    (void)unused;
-    const rnxcmp_options options = {0, 0, "D"};
-    rnxcmp_answer answer;
-    char *compact = malloc(file_length + 1), *back = malloc(file_length + 1);
-    size_t wrong = 0;
-    for (int round = 0; round < rounds; round++) {
-        wrong += rnxcmp_compact(file, file_length, &options, compact, file_length, NULL, 0, &answer) != 0;
-        wrong += rnxcmp_expand(compact, answer.output_length, NULL, back, file_length, NULL, 0, &answer) != 0;
-        wrong += answer.output_length != file_length || memcmp(back, file, file_length) != 0;
-    }
-    free(compact);
-    free(back);
-    return (void *)wrong;
-}
-
-static int in_threads(int count) {
-    pthread_t threads[64];
-    size_t room = 1 << 24;
-    file = malloc(room);
-    file_length = fread(file, 1, room, stdin);
-    for (int k = 0; k < count; k++) {
-        if (pthread_create(&threads[k], NULL, rounds_of_a_thread, NULL) != 0) {
-            abort();
-        }
-    }
-    size_t wrong = 0;
-    for (int k = 0; k < count; k++) {
-        void *of_one = NULL;
-        pthread_join(threads[k], &of_one);
-        wrong += (size_t)of_one;
-    }
-    free(file);
-    return wrong != 0;
-}
-
 /* ---- an input over the limit */
 
 static int over_the_limit(void) {
     const size_t length = ((size_t)1 << 40) + 1;
-    const rnxcmp_options bad_date = {0, 0, "a date of more than 20 bytes"};
+    const rnxcmp_options bad_date = {sizeof bad_date, 0, 0, "a date of more than 20 bytes", 0};
     void *input = mmap(NULL, length, PROT_NONE, MAP_PRIVATE | MAP_ANONYMOUS | MAP_NORESERVE, -1, 0);
     if (input == MAP_FAILED) {
         return 77;
@@ -180,12 +154,6 @@ static int over_the_limit(void) {
 }
 
 int main(int count, char **words) {
-    if (count == 2) {
-        return over_the_limit();
-    }
-    if (count == 3) {
-        rounds = atoi(words[2]);
-        return in_threads(atoi(words[1]));
-    }
-    return serve();
+    (void)words;
+    return count == 2 ? over_the_limit() : serve();
 }

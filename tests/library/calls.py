@@ -1,16 +1,23 @@
 """The Python package as it is installed, beside the program: calls.py PROGRAM SAMPLE. What is wrong is printed, with status 1."""
 
+import array
 import gzip
+import os
 import subprocess
 import sys
 import tempfile
 import threading
+import time
+import tracemalloc
 import warnings
+from datetime import datetime, timezone
 from pathlib import Path
 
 import rnxcmp
+from inputs import header_and_epochs
 
 PROGRAM, SAMPLE = sys.argv[1], Path(sys.argv[2])
+VERSION = Path(__file__).resolve().parents[2] / "VERSION"
 DATE = "01-Jan-24 00:00"
 wrong = []
 
@@ -40,7 +47,11 @@ def check_filters(data, compact):
     expect("rnx2crx of a memoryview", rnxcmp.rnx2crx(memoryview(data), date=DATE), compact)
     expect("every second", rnxcmp.rnx2crx(data, date=DATE, reinit_every_nth=2), run(["rnx2crx", "-e", "2", "--date", DATE], data).stdout)
     expect("crx2rnx", rnxcmp.crx2rnx(compact), data)
+    os.environ["TZ"] = "Asia/Tokyo"
+    time.tzset()
     now = rnxcmp.rnx2crx(data)
+    written = datetime.strptime(now.split(b"\n")[1][40:60].decode().strip(), "%d-%b-%y %H:%M").replace(tzinfo=timezone.utc)
+    expect("the present moment", abs((datetime.now(timezone.utc) - written).total_seconds()) < 180, True)
     program = run(["rnx2crx"], data).stdout
     expect("the date's form", [now.split(b"\n")[1][k] for k in (42, 46, 49, 52)], [ord(c) for c in "-- :"])
     expect("all but the date", now.split(b"\n")[2:], program.split(b"\n")[2:])
@@ -69,24 +80,182 @@ def check_faults(data, compact):
             warnings.simplefilter("always")
             (rnxcmp.compress if "rnx2crx" in words else rnxcmp.decompress)(text, skip_strange_epochs=True)
         expect("the place out of another call", {w.filename for w in caught}, {__file__})
-    raised(ValueError, lambda: rnxcmp.rnx2crx(data, date="x" * 21))
-    raised(ValueError, lambda: rnxcmp.rnx2crx(data, date="\u00e9"))
-    raised(ValueError, lambda: rnxcmp.rnx2crx(data, date="a\0b"))
-    raised(ValueError, lambda: rnxcmp.rnx2crx(data, reinit_every_nth=-1))
     expect("nothing", raised(rnxcmp.RnxcmpError, lambda: rnxcmp.rnx2crx(b"")).code, 3)
+    fault = raised(rnxcmp.RnxcmpError, lambda: rnxcmp.crx2rnx(b"x\n"))
+    expect("the fields of a fault", (fault.line, fault.code, fault.output), (1, 8, b""))
+
+
+def check_arguments(data, compact):
+    """What is refused, and by which error."""
+    for opened in (rnxcmp.rnx2crx, lambda _, **more: rnxcmp.Stream.compacting(**more)):
+        for date in ("x" * 21, "\u00e9", "a\0b", "a\tb", "\x7f"):
+            raised(ValueError, lambda: opened(data, date=date))
+        for date in (b"01-Jan-24", 5, data):
+            raised(TypeError, lambda: opened(data, date=date))
+        for every in (-1, 2**32):
+            raised(ValueError, lambda: opened(data, reinit_every_nth=every))
+        raised(TypeError, lambda: opened(data, reinit_every_nth=1.5))
+    for opened in (rnxcmp.rnx2crx, rnxcmp.crx2rnx, rnxcmp.decompress, rnxcmp.compress, lambda _, **more: rnxcmp.Stream.expanding(**more)):
+        for length in (0, -1, 2**64):
+            raised(ValueError, lambda: opened(compact if opened is rnxcmp.crx2rnx else gzip.compress(data), max_length=length))
+    for call in (rnxcmp.rnx2crx, rnxcmp.crx2rnx, rnxcmp.check, rnxcmp.Stream.checking().feed, rnxcmp.Stream.checking().outputs):
+        for content in (5, "text", None, [66], array.array("B", b"text"), Path("text")):
+            raised(TypeError, lambda: call(content))
+    for call in (rnxcmp.decompress, rnxcmp.compress):
+        for content in (5, None, [66]):
+            raised(TypeError, lambda: call(content))
+
+
+def check_views(data, compact):
+    """A memoryview is read as bytes() reads it, in whatever order and width its items are."""
+    header, epochs = header_and_epochs(data)
+    long = rnxcmp.rnx2crx(header + epochs * 40, date=DATE)
+    wide = array.array("H", long + b"\n" * (len(long) % 2))
+    square = memoryview(compact[: len(compact) // 4 * 4]).cast("B", (len(compact) // 4, 4))
+    for view in (memoryview(compact[::-1])[::-1], memoryview(bytes(2 * len(compact)))[::2], memoryview(wide), square, memoryview(bytearray(compact)), memoryview(b"")):
+        wanted = outcome(rnxcmp.crx2rnx, bytes(view))
+        expect("a view", outcome(rnxcmp.crx2rnx, view), wanted)
+        expect("a view in pieces", outcome(streamed, view), wanted)
+    expect("a view, backwards", rnxcmp.crx2rnx(memoryview(compact[::-1])[::-1]), data)
+
+
+def outcome(call, content):
+    """What a call gives, or its error and the output before that."""
+    try:
+        return call(content)
+    except rnxcmp.RnxcmpError as fault:
+        return f"{fault}", fault.output
+
+
+def streamed(content):
+    with rnxcmp.Stream.expanding() as stream:
+        begun = stream.feed(content)
+        try:
+            return begun + stream.end()
+        except rnxcmp.RnxcmpError as fault:
+            fault.output = begun + fault.output
+            raise
+
+
+def check_limits(data, compact):
+    """``max_length`` is the most that may come, of a filter and out of gzip."""
+    for call, content, length in (
+        (lambda content, **more: rnxcmp.rnx2crx(content, date=DATE, **more), data, len(compact)),
+        (rnxcmp.crx2rnx, compact, len(data)),
+        (rnxcmp.decompress, compact, len(data)),
+        (rnxcmp.decompress, gzip.compress(compact), len(data)),
+        (rnxcmp.decompress, gzip.compress(data), len(data)),
+        (rnxcmp.compress, gzip.compress(data), len(data)),
+        (lambda content, **more: rnxcmp.compress(content, compression="none", **more), data, len(rnxcmp.rnx2crx(data))),
+    ):
+        expect("within the limit", call(content, max_length=length), call(content))
+        fault = raised(rnxcmp.OutputLimitError, lambda: call(content, max_length=length - 1))
+        expect("a limit", (isinstance(fault, rnxcmp.RnxcmpError), fault.line, fault.code, fault.output), (True, 0, 0, b""))
+    bomb = gzip.compress(data + b" " * 50_000_000)
+    tracemalloc.start()
+    raised(rnxcmp.OutputLimitError, lambda: rnxcmp.decompress(bomb, max_length=100_000))
+    expect("the memory that a bomb takes", tracemalloc.get_traced_memory()[1] < 8_000_000, True)
+    tracemalloc.stop()
+    epochs = [k for k in range(len(data)) if data.startswith(b"\n>", k)]
+    for length in (epochs[5], epochs[5] + 1, epochs[6], len(data) - 1):
+        stream = rnxcmp.Stream.expanding(max_length=length)
+        fault = raised(rnxcmp.OutputLimitError, lambda: stream.feed(compact))
+        expect("what a limit leaves", fault.output, data[: max(k + 1 for k in epochs if k < length)])
+        raised(ValueError, lambda: stream.feed(b""))
+    whole = rnxcmp.Stream.compacting(date=DATE, max_length=len(compact))
+    expect("a stream within the limit", whole.feed(data) + whole.end(), compact)
+
+
+def check_streams(data, compact):
+    """Outputs come a part at a time, as they are asked for."""
+    header, epochs = header_and_epochs(data)
+    long = header + epochs * 200
+    packed = rnxcmp.rnx2crx(long, date=DATE)
+    wanted = rnxcmp.crx2rnx(packed)
+    for content in (packed, bytearray(packed), memoryview(packed)):
+        stream = rnxcmp.Stream.expanding()
+        tracemalloc.start()
+        lengths, same, at = [], True, 0
+        for given in (lambda: stream.outputs(content), stream.last_outputs):
+            for part in given():
+                lengths.append(len(part))
+                same = same and wanted[at : at + len(part)] == part
+                at += len(part)
+        most = tracemalloc.get_traced_memory()[1]
+        tracemalloc.stop()
+        expect("outputs", (same, at), (True, len(wanted)))
+        expect("parts of outputs", (0 < min(lengths), max(lengths) <= 65536, most < 1_000_000), (True, True, True))
+    stream = rnxcmp.Stream.expanding()
+    parts = stream.outputs(packed)
+    expect("no part is made before it is asked for", next(parts), wanted[:65536])
+    for call in (lambda: stream.feed(b""), lambda: stream.outputs(b""), stream.end, stream.last_outputs):
+        raised(ValueError, call)
+    expect("all parts", wanted[:65536] + b"".join(parts) + stream.end(), wanted)
+    raised(ValueError, lambda: stream.outputs(b""))
+    raised(ValueError, stream.last_outputs)
+    stream = rnxcmp.Stream.expanding()
+    parts = stream.outputs(packed)
+    next(parts)
+    stream.close()
+    raised(ValueError, lambda: next(parts))
+    stream.close()
+    with rnxcmp.Stream.expanding() as stream:
+        begun = stream.feed(compact[:-5])
+        fault = raised(rnxcmp.RnxcmpError, lambda: stream.feed(compact[-5:] + b"?\n"))
+    expect("a fault in pieces", (fault.code, fault.line, begun + fault.output), (11, compact.count(b"\n") + 1, data))
+    raised(ValueError, lambda: stream.feed(b"x"))
+    with rnxcmp.Stream.expanding() as stream:
+        stream.feed(compact[:1000])
+    raised(ValueError, lambda: stream.feed(compact[1000:]))
+    with rnxcmp.Stream.checking() as stream:
+        expect("a check in pieces", stream.feed(data[:1000]) + stream.feed(data[1000:]) + stream.end(), rnxcmp.check(data).text.encode())
+
+
+def check_many_warnings(data):
+    """200 warnings, and then a fault that ends the run though faults are skipped."""
+    header, epochs = header_and_epochs(data)
+    first = epochs[: epochs.index(b"\n>") + 1]
+    line = first[: first.index(b"\n") + 1]
+    strange = line[:32] + b"  1\nX01\n"
+    event = line[:31] + b"4  1\n" + b"G    0 C1C".ljust(60) + b"SYS / # / OBS TYPES\n"
+    content = header + first + strange * 200 + event
+    run_of_program = run(["rnx2crx", "-s", "--date", DATE], content)
+    expect("so many messages", run_of_program.stderr.count(b"\n"), 201)
+    for name, call in (
+        ("whole", lambda: rnxcmp.rnx2crx(content, date=DATE, skip_strange_epochs=True)),
+        ("in pieces", lambda: rnxcmp.Stream.compacting(date=DATE, skip_strange_epochs=True).feed(content)),
+    ):
+        with warnings.catch_warnings(record=True) as caught:
+            warnings.simplefilter("always")
+            fault = raised(rnxcmp.RnxcmpError, call)
+        lines = "".join(f"WARNING {w.message}\n" for w in caught) + f"ERROR {fault}\n"
+        expect(f"200 warnings and a fault, {name}", lines.encode(), run_of_program.stderr)
+        expect(f"the output before them, {name}", fault.output, run_of_program.stdout)
+        expect(f"its fields, {name}", (fault.code, fault.line), (6, content.count(b"\n")))
 
 
 def check_report(data):
-    report = rnxcmp.check(data)
-    program = run(["check"], data)
-    expect("a report", report.text.encode(), program.stdout)
-    expect("standard", (report.is_standard, report.first_not_standard), (True, None))
+    """Each field of a report, beside the program's text; of a file with two systems, an event and a line that isn't standard too."""
+    header, epochs = header_and_epochs(data)
+    event = epochs[:31] + b"4  1\n" + b" " * 60 + b"COMMENT\n"
     padded = data.rstrip(b"\n") + b"  \n"
-    report = rnxcmp.check(padded)
-    expect("not standard", f"standard no {report.first_not_standard}\n" in report.text and not report.is_standard, True)
-    expect("counts", f"epochs {report.epochs}\nevents {report.events}\nobservations {report.observations}\n" in report.text, True)
-    expect("systems", "systems " + " ".join(f"{k} {n}" for k, n in report.systems.items()) + "\n" in report.text, True)
+    no_types = b"".join(line for line in header.splitlines(True) if b"OBS TYPES" not in line)
+    for content, first in ((data, None), (padded, padded.count(b"\n")), (header + event + epochs, None), (no_types, None)):
+        report, program = rnxcmp.check(content), run(["check"], content)
+        expect("a report", report.text.encode(), program.stdout)
+        lines = dict(line.split(" ", 1) for line in report.text.splitlines())
+        systems = " ".join(f"{letter} {count}" for letter, count in report.systems.items()) or "none"
+        standard = "yes" if report.is_standard else f"no {report.first_not_standard}"
+        counts = (report.epochs, report.events, report.observations)
+        expect("its fields", (report.format, systems, *map(str, counts), standard), tuple(lines.values()))
+        expect("their names", list(lines), ["format", "systems", "epochs", "events", "observations", "standard"])
+        expect("the line that isn't standard", (report.is_standard, report.first_not_standard), (first is None, first))
+        expect("their types", [type(x) for x in (*counts, report.is_standard, report.format, report.systems)], [int, int, int, bool, str, dict])
+    expect("types of systems", {type(count) for count in rnxcmp.check(data).systems.values()}, {int})
+    expect("an event", rnxcmp.check(header + event + epochs).events, 1)
+    expect("no systems", rnxcmp.check(no_types).systems, {})
     raised(rnxcmp.RnxcmpError, lambda: rnxcmp.check(b"x"))
+    raised(AttributeError, lambda: setattr(rnxcmp.check(data), "epochs", 5))
 
 
 def check_files(data, compact, folder):
@@ -95,10 +264,10 @@ def check_files(data, compact, folder):
         path.write_bytes(content)
         expect(f"decompress {name}", rnxcmp.decompress(path), data)
         expect(f"decompress bytes of {name}", rnxcmp.decompress(content), data)
-        target = rnxcmp.decompress_on_disk(path, delete=name == "b.crx")
+        target = rnxcmp.decompress_on_disk(path)
         expect(f"name for {name}", target.name, {"a": "abcd0010.24o", "b": "b.rnx", "c": "c.rnx", "d": "d.rnx"}[name[0]])
         expect(f"{name} on disk", target.read_bytes(), data)
-        expect(f"{name} deleted", path.exists(), name != "b.crx")
+        expect(f"{name} stays", path.read_bytes(), content)
     for name, wanted in (("abcd0010.24o", "abcd0010.24d.gz"), ("c.rnx", "c.crx.gz")):
         target = rnxcmp.compress_on_disk(folder / name)
         expect(f"name for {name}", target.name, wanted)
@@ -136,6 +305,12 @@ def main():
     check_filters(data, compact)
     check_faults(data, compact)
     check_report(data)
+    check_arguments(data, compact)
+    check_views(data, compact)
+    check_limits(data, compact)
+    check_streams(data, compact)
+    check_many_warnings(data)
+    expect("the version", (rnxcmp.version(), rnxcmp.__version__), (VERSION.read_text().strip(),) * 2)
     with tempfile.TemporaryDirectory() as folder:
         check_files(data, compact, Path(folder))
     check_refusals(data, compact)

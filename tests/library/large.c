@@ -31,6 +31,9 @@ static char *read_all(const char *path, size_t *length) {
     }
     *length = (size_t)about.st_size;
     char *bytes = malloc(*length + 1);
+    if (bytes == NULL) {
+        exit(9);
+    }
     for (size_t at = 0; at < *length;) {
         ssize_t count = read(file, bytes + at, *length - at);
         if (count <= 0) {
@@ -46,10 +49,14 @@ int main(int count, char **words) {
     if (count != 5) {
         return 9;
     }
-    const rnxcmp_options options = {0, 0, "01-Jan-24 00:00"};
+    rnxcmp_options options = RNXCMP_OPTIONS;
     size_t length, room = strtoull(words[4], NULL, 10);
     char *input = read_all(words[2], &length), *output = malloc(room + 1), messages[4096];
     rnxcmp_answer answer;
+    if (output == NULL) {
+        return 9;
+    }
+    options.date = "01-Jan-24 00:00";
     double start = seconds();
     int status = words[1][0] == '0'   ? rnxcmp_compact(input, length, &options, output, room, messages, sizeof messages, &answer)
                  : words[1][0] == '1' ? rnxcmp_expand(input, length, &options, output, room, messages, sizeof messages, &answer)

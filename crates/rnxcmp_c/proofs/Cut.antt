@@ -11,7 +11,8 @@ use Rattle.crx_runs.specs.declared.taking.Halt.{Halt}
 use Rattle.crx_runs.specs.declared.taking.Halt.TheVariants.{Fault, Unwritten, Unreported}
 use Rattle.crx_runs.specs.meaning.Spans.{Device}
 use Rattle.crx_runs.specs.Taking.{IsCut, IsHalted}
-use Rattle.rnxcmp_c.specs.declared.devices.Collected.{Collected}
+use Rattle.rnxcmp_c.specs.Waiting.{waiting}
+use Rattle.rnxcmp_c.specs.declared.pending.Pending.{Pending}
 use Rattle.rnxcmp_c.specs.Going.{LineStops, StopsBy}
 use Rattle.crx_runs.specs.meaning.Results.{Begins}
 use Rattle.crx_runs.specs.meaning.Spans.{AreNext}
@@ -30,9 +31,9 @@ begins-next before after here next = record {
 }
 
 pub cut-stops : (before after : Course) (memory : Option (List At)) (number : ℕ) (writer messages : Device)
-    (output then_output kept then_kept : Collected)
-    → ((t : List ℕ) → writer.took t → then_output.bytes.items ≡ output.bytes.items ++ t)
-    → ((t : List ℕ) → messages.took t → then_kept.bytes.items ≡ kept.bytes.items ++ t)
+    (output then_output kept then_kept : Pending)
+    → ((t : List ℕ) → writer.took t → (waiting then_output) ≡ (waiting output) ++ t)
+    → ((t : List ℕ) → messages.took t → (waiting then_kept) ≡ (waiting kept) ++ t)
     → (halt : Halt) → IsCut before after memory number writer messages halt
     → StopsBy number before after output then_output kept then_kept halt
 cut-stops before after memory number writer messages output then_output kept then_kept wrote reported (Fault at)
@@ -53,7 +54,7 @@ cut-stops before after memory number writer messages output then_output kept the
       notices = here;
       output_is = ended.ends.output;
       warnings_are = ended.ends.warnings;
-      wrote = wrote [] ended.wrote.0 ∙ append-nil output.bytes.items;
+      wrote = wrote [] ended.wrote.0 ∙ append-nil (waiting output);
       reported = reported (notices_text here) ended.reported.0;
     })
 cut-stops before after memory number writer messages output then_output kept then_kept wrote reported Unwritten
@@ -98,9 +99,9 @@ cut-stops before after memory number writer messages output then_output kept the
 
 -- the same of the end, at which memory may run out for the texts alone
 pub halted-stops : (before after : Course) (number last : ℕ) (writer messages : Device)
-    (output then_output kept then_kept : Collected)
-    → ((t : List ℕ) → writer.took t → then_output.bytes.items ≡ output.bytes.items ++ t)
-    → ((t : List ℕ) → messages.took t → then_kept.bytes.items ≡ kept.bytes.items ++ t)
+    (output then_output kept then_kept : Pending)
+    → ((t : List ℕ) → writer.took t → (waiting then_output) ≡ (waiting output) ++ t)
+    → ((t : List ℕ) → messages.took t → (waiting then_kept) ≡ (waiting kept) ++ t)
     → (halt : Halt) → IsHalted before after None last writer messages [] [] halt
     → StopsBy number before after output then_output kept then_kept halt
 halted-stops before after number last writer messages output then_output kept then_kept wrote reported (Fault at)
@@ -118,7 +119,7 @@ halted-stops before after number last writer messages output then_output kept th
     ([], cut)
 
 -- the fault at the line where it ended the run
-pub stops-at : (number : ℕ) (before after : Course) (output then_output kept then_kept : Collected) (halt : Halt)
+pub stops-at : (number : ℕ) (before after : Course) (output then_output kept then_kept : Pending) (halt : Halt)
     (at : At)
     → ((other : At) → halt ≡ Fault other → at ≡ other) → (halt ≡ Unwritten → at.fault ≡ OutOfMemory)
     → (halt ≡ Unreported → at.fault ≡ OutOfMemory) → ((halt ≡ Unwritten) ⊎ (halt ≡ Unreported) → at.line ≡ number)

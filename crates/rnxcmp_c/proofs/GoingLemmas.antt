@@ -15,10 +15,17 @@ use Rattle.crx_runs.specs.meaning.Filters.{Filter, with_next}
 use Rattle.crx_runs.specs.meaning.Messages.{notices_text, warning_text}
 use Rattle.crx_runs.specs.meaning.Results.{Begins, Course, are_some}
 use Rattle.rnxcmp_c.specs.declared.held.Held.{Held}
-use Rattle.rnxcmp_c.specs.declared.devices.Collected.{Collected}
-use Rattle.rnxcmp_c.specs.Going.{HandlePast, fed_with, IsText, IsGoing, IsBroken, Breaks, MovesOn, EndsThere, LineStops}
+use Rattle.rnxcmp_c.specs.Waiting.{waiting}
+use Rattle.rnxcmp_c.specs.declared.pending.Pending.{Pending}
+use Rattle.rnxcmp_c.specs.Counting.{take-of_taken}
+use Rattle.rnxcmp_c.specs.Going.{HandlePast, fed_with, IsText, IsGoing, IsBroken, MovesOn, EndsThere, LineStops}
 use Rattle.rnxcmp_c.specs.Going.{piece_line, IsAll, IsFailed, LineFails, IsCutShort, RanOutAt, RunsShort}
-use Rattle.rnxcmp_c.specs.Going.{AreCutShort, AreFirstWarnings}
+use Rattle.rnxcmp_c.specs.Going.{AreCutShort, AreFirstWarnings, EndsPastLimit, IsPastLimit, MovesWithin, PassesLimit}
+use Rattle.rnxcmp_c.specs.Going.{RunBreaks, RunFails, StepStops, with_one_more}
+use Rattle.rnxcmp_c.specs.declared.limits.TheConstants.{LINE_ROOM}
+use Rattle.rnxcmp_c.specs.declared.stop.Stop.{Stop}
+use Rattle.rnxcmp_c.specs.declared.stop.Stop.TheVariants.{Fault, Limit}
+use Rattle.rnxcmp_c.proofs.PieceLemmas.{none-where_none}
 
 -- the bytes before the first LF have none
 pub no_feed-before : (bytes : List ℕ) (n : ℕ) → n ≤ length bytes
@@ -51,39 +58,39 @@ more-text whole taken kept more then after grows is was =
     grows ∙ ap (λ t. t ++ more) is ∙ append_assoc taken kept more ∙ ap (λ t. taken ++ t) (sym was)
 
 -- what was taken of an output that was cut short, and then what is kept, is a prefix of it
-text-short : (before after : Course) (old new : Collected) (taken : List ℕ)
-    → before.output ≡ taken ++ old.bytes.items → IsCutShort before after old new
-    → Begins before.output (taken ++ new.bytes.items) ⊎ Begins after.output (taken ++ new.bytes.items)
+text-short : (before after : Course) (old new : Pending) (taken : List ℕ)
+    → before.output ≡ taken ++ (waiting old) → IsCutShort before after old new
+    → Begins before.output (taken ++ (waiting new)) ⊎ Begins after.output (taken ++ (waiting new))
 text-short before after old new taken is short =
     ⊎_elim (λ none. inl (record {
       rest = [];
-      same = is ∙ ap (λ t. taken ++ t) (sym (short.wrote ∙ ap (λ t. old.bytes.items ++ t) none
-          ∙ append-nil old.bytes.items))
-          ∙ sym (append-nil (taken ++ new.bytes.items));
+      same = is ∙ ap (λ t. taken ++ t) (sym (short.wrote ∙ ap (λ t. (waiting old) ++ t) none
+          ∙ append-nil (waiting old)))
+          ∙ sym (append-nil (taken ++ (waiting new)));
     }))
     (λ begins. inr (record {
       rest = begins.rest;
       same = begins.same ∙ ap (λ t. t ++ begins.rest) (ap (λ t. t ++ short.text) is
-          ∙ append_assoc taken old.bytes.items short.text ∙ ap (λ t. taken ++ t) (sym short.wrote));
+          ∙ append_assoc taken (waiting old) short.text ∙ ap (λ t. taken ++ t) (sym short.wrote));
     }))
     short.first
 
 -- the same of the messages
-warnings-short : (before after : Course) (old new : Collected) (taken : List ℕ)
-    → notices_text before.warnings ≡ taken ++ old.bytes.items → AreCutShort before after old new
-    → Begins (notices_text before.warnings) (taken ++ new.bytes.items)
-    ⊎ Begins (notices_text after.warnings) (taken ++ new.bytes.items)
+warnings-short : (before after : Course) (old new : Pending) (taken : List ℕ)
+    → notices_text before.warnings ≡ taken ++ (waiting old) → AreCutShort before after old new
+    → Begins (notices_text before.warnings) (taken ++ (waiting new))
+    ⊎ Begins (notices_text after.warnings) (taken ++ (waiting new))
 warnings-short before after old new taken is short =
     ⊎_elim (λ none. inl (record {
       rest = [];
-      same = is ∙ ap (λ t. taken ++ t) (sym (short.reported ∙ ap (λ t. old.bytes.items ++ t) none
-          ∙ append-nil old.bytes.items))
-          ∙ sym (append-nil (taken ++ new.bytes.items));
+      same = is ∙ ap (λ t. taken ++ t) (sym (short.reported ∙ ap (λ t. (waiting old) ++ t) none
+          ∙ append-nil (waiting old)))
+          ∙ sym (append-nil (taken ++ (waiting new)));
     }))
     (λ begins. inr (record {
       rest = begins.rest;
       same = begins.same ∙ ap (λ t. t ++ begins.rest) (ap (λ t. t ++ short.text) is
-          ∙ append_assoc taken old.bytes.items short.text ∙ ap (λ t. taken ++ t) (sym short.reported));
+          ∙ append_assoc taken (waiting old) short.text ∙ ap (λ t. taken ++ t) (sym short.reported));
     }))
     short.first
 
@@ -109,30 +116,39 @@ begins-then all mid first a b = record {
 pub record IsSame (old new : Held) : Type 0 where
   pub number : new.number ≡ old.number
   pub warned : new.warned ≡ old.warned
-  pub output : new.output.bytes.items ≡ old.output.bytes.items
-  pub messages : new.messages.bytes.items ≡ old.messages.bytes.items
+  pub limit : new.limit ≡ old.limit
+  pub left : new.left ≡ old.left
+  pub output : (waiting new.output) ≡ (waiting old.output)
+  pub messages : (waiting new.messages) ≡ (waiting old.messages)
+
+-- what is kept of a line that goes on is what is kept of all of it
+kept-more : (old new : Held) (bytes tail : List ℕ) → old.tail.bytes.items ≡ take LINE_ROOM tail
+    → new.tail.bytes.items ≡ take LINE_ROOM (old.tail.bytes.items ++ bytes)
+    → new.tail.bytes.items ≡ take LINE_ROOM (tail ++ bytes)
+kept-more old new bytes tail before after =
+    after ∙ ap (λ t. take LINE_ROOM (t ++ bytes)) before ∙ take-of_taken LINE_ROOM tail bytes
 
 module _ (filter : Filter) (shows : List InputLine → List Awaited → Type 0)
     (held : Held) (past : HandlePast) (is : IsGoing filter shows held past) where
   abbrev lines : List InputLine
   lines = ended_lines_of past.fed
 
-  -- bytes without LF are kept
-  pub keeps-going : (new : Held) (bytes : List ℕ) → IsSame held new → new.tail.items ≡ held.tail.items ++ bytes
+  -- bytes without LF are kept, as far as there is room
+  pub keeps-going : (new : Held) (bytes : List ℕ) → IsSame held new
+      → new.tail.bytes.items ≡ take LINE_ROOM (held.tail.bytes.items ++ bytes)
       → HasNoFeed bytes → IsGoing filter shows new (fed_with past bytes)
-  keeps-going new bytes same tail none =
-      let no_feed : HasNoFeed (held.tail.items ++ bytes) =
-      All-append (λ b. b ≢ 10) held.tail.items bytes is.no_feed none in
+  keeps-going new bytes same kept none =
+      let tail : List ℕ = is.tail ++ bytes in
+      let no_feed : HasNoFeed tail = All-append (λ b. b ≢ 10) is.tail bytes is.no_feed none in
       let still : ended_lines_of (past.fed ++ bytes) ≡ ended_lines_of past.fed =
-      is.cut_ended bytes ∙ ap (λ l. ended_lines_of past.fed ++ l) (ended_lines-none (held.tail.items ++ bytes) no_feed)
+      is.cut_ended bytes ∙ ap (λ l. ended_lines_of past.fed ++ l) (ended_lines-none tail no_feed)
       ∙ append-nil (ended_lines_of past.fed) in
       let over : (F : List ℕ → List InputLine) (more : List ℕ)
-      → ((y : List ℕ) → F (past.fed ++ y) ≡ ended_lines_of past.fed ++ F (held.tail.items ++ y))
-      → F ((past.fed ++ bytes) ++ more) ≡ ended_lines_of (past.fed ++ bytes) ++ F (new.tail.items ++ more) =
+      → ((y : List ℕ) → F (past.fed ++ y) ≡ ended_lines_of past.fed ++ F (is.tail ++ y))
+      → F ((past.fed ++ bytes) ++ more) ≡ ended_lines_of (past.fed ++ bytes) ++ F (tail ++ more) =
       λ F more so_far. ap F (append_assoc past.fed bytes more) ∙ so_far (bytes ++ more)
-      ∙ ap (λ t. ended_lines_of past.fed ++ F t) (sym (append_assoc held.tail.items bytes more)
-      ∙ ap (λ t. t ++ more) (sym tail))
-      ∙ ap (λ ls. ls ++ F (new.tail.items ++ more)) (sym still) in
+      ∙ ap (λ t. ended_lines_of past.fed ++ F t) (sym (append_assoc is.tail bytes more))
+      ∙ ap (λ ls. ls ++ F (tail ++ more)) (sym still) in
       record {
         shown = subst (λ ls. shows ls []) (sym still) is.shown;
         good = subst (λ ls. (filter.so_far ls).fault ≡ None) (sym still) is.good;
@@ -144,24 +160,33 @@ module _ (filter : Filter) (shows : List InputLine → List Awaited → Type 0)
         };
         flag = same.warned ∙ is.flag ∙ ap (λ ls. are_some (filter.so_far ls).warnings) (sym still);
         number = same.number ∙ is.number ∙ ap length (sym still);
-        no_feed = subst HasNoFeed (sym tail) no_feed;
+        tail = tail;
+        kept = kept-more held new bytes is.tail is.kept kept;
+        no_feed = no_feed;
         cut = λ more. over lines_of more is.cut;
         cut_ended = λ more. over ended_lines_of more is.cut_ended;
         counted = omega (
           arith,
           is.counted,
           same.number,
-          ap length tail,
-          length-append held.tail.items bytes,
+          length-append is.tail bytes,
           length-append past.fed bytes,
         );
+        left = λ limited.
+            let before : 0 < held.limit = subst (λ (n : ℕ). 0 < n) same.limit limited in
+            omega (
+              arith,
+              is.left before,
+              same.limit,
+              same.left,
+              ap (λ ls. length (filter.so_far ls).output) still,
+            );
       }
 
-  -- memory ran out before a line was taken
   first-lines : (bytes more : List ℕ) → (rest : List InputLine) × (lines_of
       ((past.fed ++ bytes) ++ more) ≡ ended_lines_of past.fed ++ rest)
   first-lines bytes more = (
-    lines_of (held.tail.items ++ (bytes ++ more)),
+    lines_of (is.tail ++ (bytes ++ more)),
     ap lines_of (append_assoc past.fed bytes more) ∙ is.cut (bytes ++ more),
   )
 
@@ -172,93 +197,75 @@ module _ (filter : Filter) (shows : List InputLine → List Awaited → Type 0)
         arith,
         number,
         ap length (is.cut_ended bytes),
-        length-append (ended_lines_of past.fed) (ended_lines_of (held.tail.items ++ bytes)),
+        length-append (ended_lines_of past.fed) (ended_lines_of (is.tail ++ bytes)),
       )
-
-  pub breaks-before : (new : Held) (bytes : List ℕ) (at : At) → new.output.bytes.items ≡ held.output.bytes.items
-      → new.messages.bytes.items ≡ held.messages.bytes.items
-      → RanOutAt (held.number + 1) at → Breaks filter new (fed_with past bytes) at
-  breaks-before new bytes at same told memory =
-      inl (record {
-        fault = memory.0;
-        some = omega (arith, memory.1);
-        within = few-lines bytes at.line (memory.1 ∙ ap (λ n. n + 1) is.number);
-        lines = ended_lines_of past.fed;
-        first = first-lines bytes;
-        output = record {
-          rest = [];
-          same = is.text.wrote ∙ ap (λ t. past.output ++ t) (sym same)
-              ∙ sym (append-nil (past.output ++ new.output.bytes.items));
-        };
-        messages = warnings-first filter (past.fed ++ bytes) (ended_lines_of past.fed) (first-lines bytes)
-            (past.messages ++ new.messages.bytes.items) (record {
-              rest = [];
-              same = is.text.reported ∙ ap (λ t. past.messages ++ t) (sym told)
-                  ∙ sym (append-nil (past.messages ++ new.messages.bytes.items));
-            });
-      })
 
   -- a line's bytes, and its LF
   module _ (mid : Held) (piece : List ℕ) (same : IsSame held mid)
-      (tail : mid.tail.items ≡ held.tail.items ++ piece) (none : HasNoFeed piece) where
+      (tail : mid.tail.bytes.items ≡ take LINE_ROOM (held.tail.bytes.items ++ piece)) (none : HasNoFeed piece) where
+    abbrev bytes_all : List ℕ
+    bytes_all = is.tail ++ piece
+
+    pub mid-kept : mid.tail.bytes.items ≡ take LINE_ROOM bytes_all
+    mid-kept = kept-more held mid piece is.tail is.kept tail
+
     abbrev line : InputLine
-    line = piece_line mid.tail.items true
+    line = piece_line bytes_all true
 
     abbrev fed : List ℕ
     fed = piece ++ 10 ∷ []
 
-    whole : HasNoFeed mid.tail.items
-    whole = subst HasNoFeed (sym tail) (All-append (λ b. b ≢ 10) held.tail.items piece is.no_feed none)
+    whole : HasNoFeed bytes_all
+    whole = All-append (λ b. b ≢ 10) is.tail piece is.no_feed none
 
-    joined : (more : List ℕ) → held.tail.items ++ (fed ++ more) ≡ mid.tail.items ++ 10 ∷ more
+    joined : (more : List ℕ) → is.tail ++ (fed ++ more) ≡ bytes_all ++ 10 ∷ more
     joined more =
-        ap (λ t. held.tail.items ++ t) (append_assoc piece (10 ∷ []) more)
-        ∙ sym (append_assoc held.tail.items piece (10 ∷ more)) ∙ ap (λ t. t ++ 10 ∷ more) (sym tail)
+        ap (λ t. is.tail ++ t) (append_assoc piece (10 ∷ []) more) ∙ sym (append_assoc is.tail piece (10 ∷ more))
 
     one-more : ended_lines_of (past.fed ++ fed) ≡ with_next (ended_lines_of past.fed) line
     one-more =
         is.cut_ended fed ∙ ap (λ t. ended_lines_of past.fed ++ ended_lines_of t)
-        (ap (λ t. held.tail.items ++ t) (sym (append-nil fed)) ∙ joined [])
-        ∙ ap (λ ls. ended_lines_of past.fed ++ ls) (ended_lines-first mid.tail.items [] whole)
+        (ap (λ t. is.tail ++ t) (sym (append-nil fed)) ∙ joined [])
+        ∙ ap (λ ls. ended_lines_of past.fed ++ ls) (ended_lines-first bytes_all [] whole)
 
     pub line-first : (more : List ℕ) → lines_of (past.fed ++ (fed ++ more)) ≡ with_next
         (ended_lines_of past.fed) line ++ lines_of more
     line-first more =
         is.cut (fed ++ more) ∙ ap (λ t. ended_lines_of past.fed ++ lines_of t) (joined more)
-        ∙ ap (λ ls. ended_lines_of past.fed ++ ls) (lines-first mid.tail.items more whole)
+        ∙ ap (λ ls. ended_lines_of past.fed ++ ls) (lines-first bytes_all more whole)
         ∙ sym (append_assoc (ended_lines_of past.fed) (line ∷ []) (lines_of more))
 
     ended-first : (more : List ℕ)
         → ended_lines_of (past.fed ++ (fed ++ more)) ≡ with_next (ended_lines_of past.fed) line ++ ended_lines_of more
     ended-first more =
         is.cut_ended (fed ++ more) ∙ ap (λ t. ended_lines_of past.fed ++ ended_lines_of t) (joined more)
-        ∙ ap (λ ls. ended_lines_of past.fed ++ ls) (ended_lines-first mid.tail.items more whole)
+        ∙ ap (λ ls. ended_lines_of past.fed ++ ls) (ended_lines-first bytes_all more whole)
         ∙ sym (append_assoc (ended_lines_of past.fed) (line ∷ []) (ended_lines_of more))
 
     pub goes-on : (then : List InputLine → List Awaited → Type 0) (new : Held)
-        → MovesOn (filter.so_far (ended_lines_of past.fed)) (filter.so_far (with_next (ended_lines_of past.fed) line))
+        → MovesWithin (filter.so_far (ended_lines_of past.fed)) (filter.so_far (with_next
+        (ended_lines_of past.fed) line))
         (then (with_next (ended_lines_of past.fed) line) []) mid new
-        → new.number ≡ mid.number + 1 → new.tail.items ≡ [] → IsGoing filter then new (fed_with past fed)
-    goes-on then new moved number empty =
+        → new.number ≡ mid.number + 1 → new.tail.bytes.items ≡ [] → IsGoing filter then new (fed_with past fed)
+    goes-on then new within number empty =
+        let moved = within.moved in
         let kept = moved.kept in
         let before = filter.so_far (ended_lines_of past.fed) in
         let over : (F : List ℕ → List InputLine) (more : List ℕ)
         → F (past.fed ++ (fed ++ more)) ≡ with_next (ended_lines_of past.fed) line ++ F more
-        → F ((past.fed ++ fed) ++ more) ≡ ended_lines_of (past.fed ++ fed) ++ F (new.tail.items ++ more) =
-        λ F more first. ap F (append_assoc past.fed fed more) ∙ first
-        ∙ ap (λ t. with_next (ended_lines_of past.fed) line ++ F (t ++ more)) (sym empty)
-        ∙ ap (λ ls. ls ++ F (new.tail.items ++ more)) (sym one-more) in
+        → F ((past.fed ++ fed) ++ more) ≡ ended_lines_of (past.fed ++ fed) ++ F more =
+        λ F more first. ap F (append_assoc past.fed fed more) ∙ first ∙ ap (λ ls. ls ++ F more) (sym one-more) in
         record {
           shown = subst (λ ls. then ls []) (sym one-more) kept.is_shown;
           good = subst (λ ls. (filter.so_far ls).fault ≡ None) (sym one-more) kept.good;
           text = record {
             wrote = ap (λ ls. (filter.so_far ls).output) one-more
-                ∙ more-text before.output past.output held.output.bytes.items kept.text new.output.bytes.items _
+                ∙ more-text before.output past.output (waiting held.output) kept.text (waiting new.output) _
                 kept.output_is is.text.wrote (kept.wrote ∙ ap (λ t. t ++ kept.text) same.output);
             reported = ap (λ ls. notices_text (filter.so_far ls).warnings) one-more
-                ∙ more-text (notices_text before.warnings) past.messages held.messages.bytes.items
+                ∙ more-text (notices_text before.warnings) past.messages (waiting held.messages)
                 (notices_text kept.notices)
-                new.messages.bytes.items _ (ap notices_text kept.warnings_are
+                (waiting new.messages) _ (ap notices_text kept.warnings_are
                 ∙ notices-both before.warnings kept.notices)
                 is.text.reported (kept.reported ∙ ap (λ t. t ++ notices_text kept.notices) same.messages);
           };
@@ -267,7 +274,9 @@ module _ (filter : Filter) (shows : List InputLine → List Awaited → Type 0)
               ∙ ap are_some (sym kept.warnings_are) ∙ ap (λ ls. are_some (filter.so_far ls).warnings) (sym one-more);
           number = number ∙ ap (λ n. n + 1) (same.number ∙ is.number)
               ∙ sym (length-append (ended_lines_of past.fed) (line ∷ [])) ∙ ap length (sym one-more);
-          no_feed = subst HasNoFeed (sym empty) (λ k d h. absurd (omega (arith, h)));
+          tail = [];
+          kept = empty;
+          no_feed = λ k d h. absurd (omega (arith, h));
           cut = λ more. over lines_of more (line-first more);
           cut_ended = λ more. over ended_lines_of more (ended-first more);
           counted = omega (
@@ -275,10 +284,21 @@ module _ (filter : Filter) (shows : List InputLine → List Awaited → Type 0)
             is.counted,
             same.number,
             number,
-            ap length empty,
             length-append past.fed fed,
             length-append piece (10 ∷ []),
           );
+          left = λ limited.
+              let there : 0 < mid.limit = subst (λ (n : ℕ). 0 < n) within.limit limited in
+              let before : 0 < held.limit = subst (λ (n : ℕ). 0 < n) same.limit there in
+              omega (
+                arith,
+                is.left before,
+                within.left there,
+                within.limit,
+                same.limit,
+                same.left,
+                ap (λ ls. length (filter.so_far ls).output) one-more,
+              );
         }
 
     line-then : (rest more : List ℕ) → (others : List InputLine)
@@ -290,6 +310,33 @@ module _ (filter : Filter) (shows : List InputLine → List Awaited → Type 0)
           ∙ sym (append_assoc piece (10 ∷ []) (rest ++ more))))
           ∙ line-first (rest ++ more),
     )
+
+    -- the output would be longer than it may be
+    passes-there : (new : Held) (rest : List ℕ)
+        → PassesLimit (filter.so_far (ended_lines_of past.fed)) (filter.so_far (with_next
+        (ended_lines_of past.fed) line)) mid new
+        → IsPastLimit filter new (fed_with past (piece ++ 10 ∷ rest))
+    passes-there new rest passes =
+        let there : 0 < held.limit = subst (λ (n : ℕ). 0 < n) same.limit passes.limited in
+        let before = filter.so_far (ended_lines_of past.fed) in
+        let after = filter.so_far (with_next (ended_lines_of past.fed) line) in
+        let all : held.left + length before.output ≡ held.limit = is.left there in
+        record {
+          lines = ended_lines_of past.fed;
+          line = line;
+          first = λ more. (
+            (line-then rest more).0,
+            (line-then rest more).1
+                ∙ append_assoc (ended_lines_of past.fed) (line ∷ []) (line-then rest more).0,
+          );
+          limited = omega (arith, there, passes.limit, same.limit);
+          within = omega (arith, all, passes.limit, same.limit);
+          over = omega (arith, all, passes.over, passes.limit, same.limit, same.left);
+          text = record {
+            wrote = is.text.wrote ∙ ap (λ t. past.output ++ t) (sym (passes.output_is ∙ same.output));
+            reported = is.text.reported ∙ ap (λ t. past.messages ++ t) (sym (passes.messages_are ∙ same.messages));
+          };
+        }
 
     breaks-there : (new : Held) (rest : List ℕ) (at : At)
         → EndsThere (filter.so_far (ended_lines_of past.fed)) (filter.so_far (with_next (ended_lines_of past.fed) line))
@@ -303,8 +350,8 @@ module _ (filter : Filter) (shows : List InputLine → List Awaited → Type 0)
           fault = ends.fault;
           text = record {
             wrote = ends.output_is ∙ is.text.wrote ∙ ap (λ t. past.output ++ t) (sym (ends.wrote ∙ same.output));
-            reported = more-text (notices_text before.warnings) past.messages held.messages.bytes.items
-                (notices_text ends.notices) new.messages.bytes.items _
+            reported = more-text (notices_text before.warnings) past.messages (waiting held.messages)
+                (notices_text ends.notices) (waiting new.messages) _
                 (ap notices_text ends.warnings_are ∙ notices-both before.warnings ends.notices) is.text.reported
                 (ends.reported ∙ ap (λ t. t ++ notices_text ends.notices) same.messages);
           };
@@ -322,7 +369,7 @@ module _ (filter : Filter) (shows : List InputLine → List Awaited → Type 0)
         let bytes : List ℕ = piece ++ 10 ∷ rest in
         let within = few-lines bytes at.line memory.1 in
         let some : 0 < at.line = omega (arith, memory.1) in
-        let texts : List ℕ = past.messages ++ new.messages.bytes.items in
+        let texts : List ℕ = past.messages ++ (waiting new.messages) in
         let messages : AreFirstWarnings filter (past.fed ++ bytes) texts =
         ⊎_elim
         (λ (prefix : Begins (notices_text before.warnings) texts). warnings-first filter (past.fed ++ bytes)
@@ -331,7 +378,7 @@ module _ (filter : Filter) (shows : List InputLine → List Awaited → Type 0)
         (with_next (ended_lines_of past.fed) line) (line-then rest) texts prefix)
         (warnings-short before after mid.messages new.messages past.messages (is.text.reported
         ∙ ap (λ t. past.messages ++ t) (sym same.messages)) told) in
-        ⊎_elim (λ (prefix : Begins before.output (past.output ++ new.output.bytes.items)). record {
+        ⊎_elim (λ (prefix : Begins before.output (past.output ++ (waiting new.output))). record {
           fault = memory.0;
           some = some;
           within = within;
@@ -340,7 +387,7 @@ module _ (filter : Filter) (shows : List InputLine → List Awaited → Type 0)
           output = prefix;
           messages = messages;
         })
-        (λ (prefix : Begins after.output (past.output ++ new.output.bytes.items)). record {
+        (λ (prefix : Begins after.output (past.output ++ (waiting new.output))). record {
           fault = memory.0;
           some = some;
           within = within;
@@ -352,12 +399,13 @@ module _ (filter : Filter) (shows : List InputLine → List Awaited → Type 0)
         (text-short before after mid.output new.output past.output (is.text.wrote
         ∙ ap (λ t. past.output ++ t) (sym same.output)) short)
 
-    pub breaks : (new : Held) (rest : List ℕ) (at : At)
-        → LineStops (length (ended_lines_of past.fed) + 1) (filter.so_far (ended_lines_of past.fed))
-        (filter.so_far (with_next (ended_lines_of past.fed) line)) mid.output new.output mid.messages new.messages at
-        → Breaks filter new (fed_with past (piece ++ 10 ∷ rest)) at
-    breaks new rest at (inl memory) = inl (breaks-short new rest at memory.0 memory.1 memory.2)
-    breaks new rest at (inr ends) = inr (breaks-there new rest at ends)
+    pub breaks : (new : Held) (rest : List ℕ) (stop : Stop)
+        → StepStops (length (ended_lines_of past.fed) + 1) (filter.so_far (ended_lines_of past.fed))
+        (filter.so_far (with_next (ended_lines_of past.fed) line)) mid new stop
+        → RunBreaks filter new (fed_with past (piece ++ 10 ∷ rest)) stop
+    breaks new rest (Fault at) (inl memory) = inl (breaks-short new rest at memory.0 memory.1 memory.2)
+    breaks new rest (Fault at) (inr ends) = inr (breaks-there new rest at ends)
+    breaks new rest Limit passes = passes-there new rest passes
 
 -- ---- the end
 
@@ -366,11 +414,11 @@ text-grows : (before after : Course) (shown : Type 0) (old new : Held) (past : H
 text-grows before after shown old new past text moved =
     let kept = moved.kept in
     record {
-      wrote = more-text before.output past.output old.output.bytes.items kept.text new.output.bytes.items _
+      wrote = more-text before.output past.output (waiting old.output) kept.text (waiting new.output) _
           kept.output_is text.wrote kept.wrote;
-      reported = more-text (notices_text before.warnings) past.messages old.messages.bytes.items
+      reported = more-text (notices_text before.warnings) past.messages (waiting old.messages)
           (notices_text kept.notices)
-          new.messages.bytes.items _ (ap notices_text kept.warnings_are ∙ notices-both before.warnings kept.notices)
+          (waiting new.messages) _ (ap notices_text kept.warnings_are ∙ notices-both before.warnings kept.notices)
           text.reported kept.reported;
     }
 
@@ -384,8 +432,8 @@ text-ends : (before after : Course) (old new : Held) (past : HandlePast) (at : A
     → EndsThere before after old.output new.output old.messages new.messages at → IsText after new past
 text-ends before after old new past at text ends = record {
   wrote = ends.output_is ∙ text.wrote ∙ ap (λ t. past.output ++ t) (sym ends.wrote);
-  reported = more-text (notices_text before.warnings) past.messages old.messages.bytes.items (notices_text ends.notices)
-      new.messages.bytes.items _ (ap notices_text ends.warnings_are ∙ notices-both before.warnings ends.notices)
+  reported = more-text (notices_text before.warnings) past.messages (waiting old.messages) (notices_text ends.notices)
+      (waiting new.messages) _ (ap notices_text ends.warnings_are ∙ notices-both before.warnings ends.notices)
       text.reported ends.reported;
 }
 
@@ -408,10 +456,10 @@ module _ (filter : Filter) (mid : Held) (past : HandlePast) (lines : List InputL
   ends-badly lawful number last at (inl memory) =
       let first = subst (λ ls. Begins (filter.whole ls).output (filter.so_far lines).output) (append-nil lines)
       (lawful.goes_on lines []) in
-      let output : Begins (filter.whole lines).output (past.output ++ new.output.bytes.items) =
+      let output : Begins (filter.whole lines).output (past.output ++ (waiting new.output)) =
       ⊎_elim (λ prefix. begins-then _ _ _ first prefix) (λ prefix. prefix)
       (text-short (filter.so_far lines) (filter.whole lines) mid.output new.output past.output text.wrote memory.1) in
-      let texts : List ℕ = past.messages ++ new.messages.bytes.items in
+      let texts : List ℕ = past.messages ++ (waiting new.messages) in
       let messages : AreFirstWarnings filter past.fed texts =
       ⊎_elim
       (λ (prefix : Begins (notices_text (filter.so_far lines).warnings) texts). inl (record {
@@ -426,7 +474,7 @@ module _ (filter : Filter) (mid : Held) (past : HandlePast) (lines : List InputL
       memory.2) in
       inl (record {
         ran_out = (memory.0.0, memory.0.1 ∙ last ∙ ap length (sym whole));
-        output = subst (λ ls. Begins (filter.whole ls).output (past.output ++ new.output.bytes.items))
+        output = subst (λ ls. Begins (filter.whole ls).output (past.output ++ (waiting new.output)))
             (sym whole) output;
         messages = messages;
       })
@@ -436,28 +484,60 @@ module _ (filter : Filter) (mid : Held) (past : HandlePast) (lines : List InputL
         text = text-ends (filter.so_far lines) (filter.whole lines) mid new past at text ends;
       }))
 
+-- what a limit leaves after some lines
+abbrev IsLeft : Filter → List InputLine → Held → Type 0
+IsLeft filter lines held = 0 < held.limit → held.left + length (filter.so_far lines).output ≡ held.limit
+
+-- the end, or a line before it, ended the run after some lines
+module _ (filter : Filter) (mid : Held) (past : HandlePast) (lines : List InputLine)
+    (text : IsText (filter.so_far lines) mid past) (left : IsLeft filter lines mid) (new : Held) where
+  pub passes-after : (others : List InputLine) → lines_of past.fed ≡ lines ++ others
+      → PassesLimit (filter.so_far lines) (with_one_more filter lines others) mid new → EndsPastLimit filter new past
+  passes-after others first passes = record {
+    lines = lines;
+    others = others;
+    first = first;
+    limited = omega (arith, passes.limited, passes.limit);
+    within = omega (arith, left passes.limited, passes.limit);
+    over = omega (arith, left passes.limited, passes.over, passes.limit);
+    text = record {
+      wrote = text.wrote ∙ ap (λ t. past.output ++ t) (sym passes.output_is);
+      reported = text.reported ∙ ap (λ t. past.messages ++ t) (sym passes.messages_are);
+    };
+  }
+
+  pub ends-stopped : (flag : mid.warned ≡ are_some (filter.so_far lines).warnings) (whole : lines_of past.fed ≡ lines)
+      → IsLawful filter → (number : ℕ) → number ≡ length lines → (stop : Stop)
+      → StepStops number (filter.so_far lines) (filter.whole lines) mid new stop → RunFails filter new past stop
+  ends-stopped flag whole lawful number last (Fault at) stops =
+      ends-badly filter mid past lines text flag whole new lawful number last at stops
+  ends-stopped flag whole lawful number last Limit passes =
+      passes-after [] (whole ∙ sym (append-nil lines)) passes
+
 module _ (filter : Filter) (shows : List InputLine → List Awaited → Type 0)
     (held : Held) (past : HandlePast) (is : IsGoing filter shows held past) where
-  all-cut : lines_of past.fed ≡ ended_lines_of past.fed ++ lines_of held.tail.items
+  pub all-cut : lines_of past.fed ≡ ended_lines_of past.fed ++ lines_of is.tail
   all-cut =
       ap lines_of (sym (append-nil past.fed)) ∙ is.cut []
-      ∙ ap (λ t. ended_lines_of past.fed ++ lines_of t) (append-nil held.tail.items)
+      ∙ ap (λ t. ended_lines_of past.fed ++ lines_of t) (append-nil is.tail)
 
   -- nothing stands after the last LF
-  pub all-ended : held.tail.items ≡ [] → lines_of past.fed ≡ ended_lines_of past.fed
+  pub all-ended : held.tail.bytes.items ≡ [] → lines_of past.fed ≡ ended_lines_of past.fed
   all-ended none =
-      all-cut ∙ ap (λ t. ended_lines_of past.fed ++ lines_of t) none ∙ append-nil (ended_lines_of past.fed)
+      all-cut ∙ ap (λ t. ended_lines_of past.fed ++ lines_of t) (none-where_none is.tail (sym is.kept ∙ none))
+      ∙ append-nil (ended_lines_of past.fed)
 
   -- a line without LF stands there
-  pub all-but_last : 0 < length held.tail.items
-      → lines_of past.fed ≡ with_next (ended_lines_of past.fed) (piece_line held.tail.items false)
+  pub all-but_last : 0 < length held.tail.bytes.items
+      → lines_of past.fed ≡ with_next (ended_lines_of past.fed) (piece_line is.tail false)
   all-but_last some =
-      all-cut ∙ ap (λ ls. ended_lines_of past.fed ++ ls) (lines-last held.tail.items is.no_feed some)
+      all-cut ∙ ap (λ ls. ended_lines_of past.fed ++ ls) (lines-last is.tail is.no_feed
+      (omega (arith, some, ap length is.kept, length-take LINE_ROOM is.tail)))
 
   -- that line was taken
-  module _ (mid : Held) (some : 0 < length held.tail.items) where
+  module _ (mid : Held) (some : 0 < length held.tail.bytes.items) where
     abbrev last : List InputLine
-    last = with_next (ended_lines_of past.fed) (piece_line held.tail.items false)
+    last = with_next (ended_lines_of past.fed) (piece_line is.tail false)
 
     module _ (shown : Type 0)
         (moved : MovesOn (filter.so_far (ended_lines_of past.fed)) (filter.so_far last) shown held mid) where
@@ -476,10 +556,10 @@ module _ (filter : Filter) (shows : List InputLine → List Awaited → Type 0)
         → LineFails filter mid past at
     last-fails lawful at (inl memory) =
         let ended = ended_lines_of past.fed in
-        let written : List ℕ = past.output ++ mid.output.bytes.items in
+        let written : List ℕ = past.output ++ (waiting mid.output) in
         let whole : lines_of past.fed ≡ last = all-but_last some in
         let before : Begins (filter.whole last).output (filter.so_far ended).output =
-        lawful.goes_on ended (piece_line held.tail.items false ∷ []) in
+        lawful.goes_on ended (piece_line is.tail false ∷ []) in
         let after : Begins (filter.whole last).output (filter.so_far last).output =
         subst (λ ls. Begins (filter.whole ls).output (filter.so_far last).output) (append-nil last)
         (lawful.goes_on last []) in
@@ -487,12 +567,12 @@ module _ (filter : Filter) (shows : List InputLine → List Awaited → Type 0)
         ⊎_elim (λ prefix. begins-then _ _ _ before prefix) (λ prefix. begins-then _ _ _ after prefix)
         (text-short (filter.so_far ended) (filter.so_far last) held.output mid.output past.output is.text.wrote
         memory.1) in
-        let texts : List ℕ = past.messages ++ mid.messages.bytes.items in
+        let texts : List ℕ = past.messages ++ (waiting mid.messages) in
         let messages : AreFirstWarnings filter past.fed texts =
         ⊎_elim
         (λ (prefix : Begins (notices_text (filter.so_far ended).warnings) texts). inl (record {
           lines = ended;
-          others = piece_line held.tail.items false ∷ [];
+          others = piece_line is.tail false ∷ [];
           first = whole;
           begins = prefix;
         }))
@@ -507,7 +587,7 @@ module _ (filter : Filter) (shows : List InputLine → List Awaited → Type 0)
         inl (record {
           ran_out = (
             memory.0.0,
-            memory.0.1 ∙ sym (ap length whole ∙ length-append ended (piece_line held.tail.items false ∷ [])),
+            memory.0.1 ∙ sym (ap length whole ∙ length-append ended (piece_line is.tail false ∷ [])),
           );
           output = subst (λ ls. Begins (filter.whole ls).output written) (sym whole) output;
           messages = messages;
@@ -519,3 +599,19 @@ module _ (filter : Filter) (shows : List InputLine → List Awaited → Type 0)
           fault = ends.fault;
           text = text-ends (filter.so_far (ended_lines_of past.fed)) (filter.so_far last) held mid past at is.text ends;
         }))
+
+    pub last-left : (shown : Type 0)
+        → MovesWithin (filter.so_far (ended_lines_of past.fed)) (filter.so_far last) shown held mid
+        → IsLeft filter last mid
+    last-left shown moved limited =
+        let before : 0 < held.limit = subst (λ (n : ℕ). 0 < n) moved.limit limited in
+        omega (arith, is.left before, moved.left before, moved.limit)
+
+    pub last-stopped : IsLawful filter → (stop : Stop)
+        → StepStops (length (ended_lines_of past.fed) + 1) (filter.so_far (ended_lines_of past.fed))
+        (filter.so_far last) held mid stop
+        → RunFails filter mid past stop
+    last-stopped lawful (Fault at) stops = last-fails lawful at stops
+    last-stopped lawful Limit passes =
+        passes-after filter held past (ended_lines_of past.fed) is.text is.left mid (piece_line is.tail false ∷ [])
+        (all-but_last some) passes

@@ -1,8 +1,7 @@
 -- A handle stays sound from call to call.
 use Rattle.std.proofs.Common.{◌≡◌, ◌⊎◌, inl, inr, ℕ, ◌+◌, ◌<◌, ◌≤◌, List, [], ◌∷◌, length, Option, Some, None, Bool}
-use Rattle.std.proofs.Common.{true, false}
+use Rattle.std.proofs.Common.{true, false, take}
 use Rattle.std.proofs.Common.{◌++◌, nat_lt, arith, refl, sym, ap, ◌∙◌, subst, append-nil, length-append, ⊎_elim}
-use Rattle.std.proofs.lemmas.Bool.{ltb-true, ltb-false}
 use Rattle.crx_faults.specs.meaning.Lines.{lines_of}
 use Rattle.crx_faults.specs.meaning.Seen.{ended_lines_of}
 use Rattle.crx_lines.specs.Reading.{HasNoFeed}
@@ -12,9 +11,13 @@ use Rattle.crx_runs.specs.meaning.Messages.{notices_text}
 use Rattle.crx_runs.specs.meaning.Results.{Course, FilterResult, are_some}
 use Rattle.crx_faults.specs.declared.limits.TheConstants.{INPUT_LIMIT}
 use Rattle.crx_runs.specs.declared.outcome.Outcome.{Outcome}
+use Rattle.rnxcmp_c.specs.Waiting.{waiting}
 use Rattle.rnxcmp_c.specs.Going.{HandlePast, fed_with}
 use Rattle.rnxcmp_c.specs.Handles.{IsFresh, ReaderRuns, nothing_fed}
-use Rattle.rnxcmp_c.specs.Handles.{ReaderEndsBy, FeedsBy, HasEndedBy, HasFedBy, IsLineReached, ReaderIsOver, ReaderStands}
+use Rattle.rnxcmp_c.specs.Handles.{ReaderEndsBy, FeedsBy, HasEndedBy, HasFedBy, HasPassedBy, IsLineReached, ReaderIsOver}
+use Rattle.rnxcmp_c.specs.Handles.{ReaderStands, RunIsOverLimit, allowed_after, limit_for}
+use Rattle.rnxcmp_c.specs.Holding.{HoldsNothing}
+use Rattle.rnxcmp_c.proofs.PieceLemmas.{none-or}
 use Rattle.rnxcmp_c.specs.Handles.{StandsBy, Task}
 use Rattle.rnxcmp_c.specs.Handles.{RunIsOutOfMemory, filter_for, result_for}
 use Rattle.crx_runs.specs.meaning.Filters.{Filter}
@@ -69,9 +72,12 @@ fed-stands task reader past (Some outcome) (inl memory) =
     (subst (λ (bytes : List ℕ). RunIsOutOfMemory (filter_for task) (λ line. (0 < line) × IsLineReached past.fed line)
     (result_for task bytes) reader outcome past)
     (append-nil past.fed) (memory [])))
-fed-stands task reader past (Some outcome) (inr over) =
-    inr (subst (λ (bytes : List ℕ). ReaderIsOver (result_for task bytes) reader outcome past) (append-nil past.fed)
-    (over []))
+fed-stands task reader past (Some outcome) (inr (inl limit)) =
+    inr (inl (subst (λ (bytes : List ℕ). RunIsOverLimit (filter_for task) (limit_for task) bytes
+    (result_for task bytes) reader outcome past) (append-nil past.fed) (limit [])))
+fed-stands task reader past (Some outcome) (inr (inr over)) =
+    inr (inr (inr (subst (λ (bytes : List ℕ). ReaderIsOver (result_for task bytes) reader outcome past)
+    (append-nil past.fed) (over []))))
 
 ended-stands : (task : Task) (reader : Reader) (past : HandlePast) (outcome : Option Outcome)
     → HasEndedBy task reader past outcome → StandsBy task reader past outcome
@@ -79,25 +85,31 @@ ended-stands task reader past None ended = absurd ended
 ended-stands task reader past (Some outcome) (inl memory) =
     inl (line-weaker (filter_for task) _ (IsLineReached past.fed) (result_for task past.fed) reader outcome past
     (λ n last. omega (arith, last, lines-within past.fed)) memory)
-ended-stands task reader past (Some outcome) (inr over) = inr over
+ended-stands task reader past (Some outcome) (inr (inl limit)) = inr (inl limit)
+ended-stands task reader past (Some outcome) (inr (inr over)) = inr (inr (inr over))
 
--- whether bytes are too many
-either : (b : Bool) → (b ≡ true) ⊎ (b ≡ false)
-either true = inl refl
-either false = inr refl
+passed-stands : (task : Task) (reader : Reader) (past : HandlePast) (outcome : Option Outcome)
+    → HasPassedBy task reader past outcome → StandsBy task reader past outcome
+passed-stands task reader past None passed = absurd passed
+passed-stands task reader past (Some outcome) (inl memory) =
+    inl (line-weaker (filter_for task) _ (IsLineReached past.fed) (result_for task past.fed) reader outcome past
+    (λ n at. omega (arith, at)) memory)
+passed-stands task reader past (Some outcome) (inr long) = inr (inr (inl long))
 
-within-or : (n m : ℕ) → (n ≤ m) ⊎ (m < n)
-within-or n m = ⊎_elim (λ e. inr (ltb-true m n e)) (λ e. inl (ltb-false m n e)) (either (nat_lt m n))
-
-pub feeds-stands : (task : Task) (old new : Reader) (past : HandlePast) (bytes : List ℕ) (answer : Answer)
-    (outcome : Option Outcome) → ReaderStands task old past → FeedsBy task old new past bytes answer outcome
+pub feeds-stands : (task : Task) (old new : Reader) (past : HandlePast) (bytes : List ℕ) (used : ℕ) (answer : Answer)
+    (outcome : Option Outcome) → ReaderStands task old past → FeedsBy task old new past bytes used answer outcome
     → (then : HandlePast) × ReaderStands task new then
-feeds-stands task old new past bytes answer None stands feeds =
-    ⊎_elim (λ fits. (fed_with past bytes, fed-stands task new (fed_with past bytes) new.outcome (feeds.fed fits).0))
-    (λ long. (past, subst (λ (r : Reader). ReaderStands task r past) (sym (feeds.long long).1) stands))
-    (within-or (length past.fed + length bytes) INPUT_LIMIT)
-feeds-stands task old new past bytes answer (Some outcome) stands feeds =
-    (past, subst (λ (r : Reader). ReaderStands task r past) (sym feeds.1) stands)
+feeds-stands task old new past bytes used answer None stands feeds =
+    let then : HandlePast = fed_with past (take used bytes) in
+    let goes_on : (0 < length bytes → 0 < length (allowed_after past bytes))
+    → (t : HandlePast) × ReaderStands task new t = λ some. (then, fed-stands task new then new.outcome (feeds.fed some)) in
+    ⊎_elim (λ none. goes_on (λ h. absurd (omega (arith, h, none))))
+    (λ more. ⊎_elim
+    (λ none. (past, passed-stands task new past new.outcome (feeds.over more none).1))
+    (λ some. goes_on (λ h. some)) (none-or (length (allowed_after past bytes))))
+    (none-or (length bytes))
+feeds-stands task old new past bytes used answer (Some outcome) stands feeds =
+    (past, subst (λ (r : Reader). ReaderStands task r past) (sym feeds.2) stands)
 
 pub ends-stands : (task : Task) (old new : Reader) (past : HandlePast) (answer : Answer)
     (outcome : Option Outcome) → ReaderStands task old past → ReaderEndsBy task old new past answer outcome
@@ -107,28 +119,37 @@ ends-stands task old new past answer (Some outcome) stands ends =
     (past, subst (λ (r : Reader). ReaderStands task r past) (sym ends.1) stands)
 
 -- before the first byte
-pub fresh-stands : (task : Task) (engine : AnyEngine) (held : Held) → IsFresh task engine → held.tail.items ≡ []
-    → held.number ≡ 0 → held.warned ≡ false → held.output.bytes.items ≡ [] → held.messages.bytes.items ≡ []
+pub fresh-stands : (task : Task) (engine : AnyEngine) (held : Held) (limit : ℕ) → IsFresh task engine
+    → limit_for task ≡ limit → HoldsNothing limit held
     → ReaderRuns task (record { engine = engine; held = held; fed = 0; outcome = None }) nothing_fed
-fresh-stands task engine held fresh tail number warned output messages =
+fresh-stands task engine held limit fresh limited nothing_held =
     let nothing = IsLawful.nothing (subst IsLawful (sym (filter-is task engine fresh.is_of)) (lawful-for task)) in
     record {
       is_of = fresh.is_of;
       drained = fresh.drained;
       takes = fresh.takes;
+      limit = nothing_held.limit_is ∙ sym limited;
       going = record {
         shown = fresh.shown;
         good = ap (λ (c : Course). c.fault) nothing;
         text = record {
-          wrote = ap (λ (c : Course). c.output) nothing ∙ sym output;
-          reported = ap (λ (c : Course). notices_text c.warnings) nothing ∙ sym messages;
+          wrote = ap (λ (c : Course). c.output) nothing ∙ sym nothing_held.output;
+          reported = ap (λ (c : Course). notices_text c.warnings) nothing ∙ sym nothing_held.messages;
         };
-        flag = warned ∙ ap (λ (c : Course). are_some c.warnings) (sym nothing);
-        number = number;
-        no_feed = subst HasNoFeed (sym tail) (λ k d h. absurd (omega (arith, h)));
-        cut = λ more. ap (λ (t : List ℕ). lines_of (t ++ more)) (sym tail);
-        cut_ended = λ more. ap (λ (t : List ℕ). ended_lines_of (t ++ more)) (sym tail);
-        counted = omega (arith, number, ap length tail);
+        flag = nothing_held.warned ∙ ap (λ (c : Course). are_some c.warnings) (sym nothing);
+        number = nothing_held.number;
+        tail = [];
+        kept = nothing_held.tail;
+        no_feed = λ k d h. absurd (omega (arith, h));
+        cut = λ more. refl;
+        cut_ended = λ more. refl;
+        counted = omega (arith, nothing_held.number);
+        left = λ limited. omega (
+          arith,
+          nothing_held.left,
+          nothing_held.limit_is,
+          ap (λ (c : Course). length c.output) nothing,
+        );
       };
       counted = refl;
       within = omega arith;

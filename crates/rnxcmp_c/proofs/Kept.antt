@@ -1,5 +1,5 @@
 -- What the answers of calls bring back, save and judge follows from what they are, by the laws.
-use Rattle.std.proofs.Common.{ℕ, ◌≡◌, ◌≤◌, List, length, Option, Some, None, refl, ap, sym, subst, ◌∙◌, cond}
+use Rattle.std.proofs.Common.{inl, inr, ℕ, ◌≡◌, ◌≤◌, List, length, Option, Some, None, refl, ap, sym, subst, ◌∙◌, cond}
 use Rattle.std.specs.Prelude.{◌↔◌, true}
 use Rattle.std.proofs.lemmas.Bool.{le-leb}
 use Rattle.crx_faults.specs.meaning.Lines.{lines_of}
@@ -13,7 +13,9 @@ use Rattle.crx_filter.proofs.standard.CheckStandard.{named-where_not}
 use Rattle.crx_filter.proofs.wayback.WayBack.{comes-back}
 use Rattle.crx_filter.proofs.wayback.Standard.{normal-comes_back, standard-comes_back}
 use Rattle.crx_filter.proofs.damage.DamageStays.{saved-lines}
-use Rattle.rnxcmp_c.specs.meaning.Answers.{IsAnswer, Rooms, status_in}
+use Rattle.rnxcmp_c.specs.Collecting.{HasNone, IsRun}
+use Rattle.rnxcmp_c.specs.declared.runs.Run.{Run}
+use Rattle.rnxcmp_c.specs.meaning.Answers.{AnswersWithin, HasNoMemory, IsAnswer, IsOver, Rooms, status_in}
 use Rattle.rnxcmp_c.specs.meaning.Promises.{CallBringsBackWhatWasCompacted, CallJudgesStandard, CallSavesAllElse}
 use Rattle.rnxcmp_c.specs.declared.answer.Answer.{Answer}
 use Rattle.rnxcmp_c.specs.declared.answer.TheConstants.{NO_ROOM}
@@ -65,3 +67,18 @@ judges-standard file answer before after is fits good =
     ∙ ap (λ o. FilterResult.status (checked_by o found)) good) in
     both-ways (both-ways (λ zero. sym status ∙ zero, λ zero. status ∙ zero) (none-where_0 found.not_standard))
     (named-where_not file good)
+
+-- ---- the limit of the output
+
+pub answers-run : (whole : FilterResult) (output messages most : ℕ) (run : Run) (answer : Answer) (before after : Rooms)
+    → IsRun whole output messages most run → IsAnswer whole answer before after
+    → AnswersWithin most whole answer before after
+answers-run whole output messages most run answer before after is answered =
+    record { within = λ few. answered; over = λ more. absurd (is.within more) }
+
+pub answers-none : (whole : FilterResult) (most : ℕ) (answer : Answer) (before : Rooms)
+    → HasNone (IsOver most whole.output) answer → (HasNoMemory answer → ⊥) → AnswersWithin most whole answer before before
+answers-none whole most answer before (inl over) memory =
+    record { within = λ few. absurd (few over.1); over = λ more. (over.0, refl) }
+answers-none whole most answer before (inr out) memory =
+    absurd (memory (ap (λ (a : Answer). a.code) out.1))

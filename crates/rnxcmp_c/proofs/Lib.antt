@@ -1,7 +1,13 @@
 pub mod Cut
+pub mod FedLemmas
 pub mod GoingLemmas
 pub mod HandleLemmas
 pub mod Kept
+pub mod Lossless
 mod LooseValues
+pub mod PieceLemmas
 mod PlaceValues
 pub mod ReaderLemmas
+pub mod RunLemmas
+pub mod TakenLemmas
+pub mod WithinLemmas

@@ -1,12 +1,14 @@
 -- A reader's run has ended as the whole run of its input does.
 use Rattle.std.proofs.Common.{◌≡◌, ◌⊎◌, inl, inr, ⊎_elim, ℕ, List, [], ◌++◌, Option, Some, None, refl, sym, ap, ◌∙◌, subst}
-use Rattle.std.proofs.Common.{append-nil, append_assoc}
-use Rattle.crx_faults.specs.meaning.Lines.{lines_of}
+use Rattle.std.proofs.Common.{◌<◌, ◌≤◌, ◌+◌, ◌∷◌, arith, length, append-nil, append_assoc, length-append}
+use Rattle.crx_faults.specs.meaning.Lines.{InputLine, lines_of}
+use Rattle.crx_faults.specs.meaning.Seen.{ended_lines_of}
+use Rattle.crx_faults.specs.declared.limits.TheConstants.{INPUT_LIMIT}
 use Rattle.crx_faults.specs.declared.fault.At.{At}
-use Rattle.crx_faults.specs.declared.fault.Fault.TheVariants.{OutOfMemory}
+use Rattle.crx_faults.specs.declared.fault.Fault.TheVariants.{InputTooLong, OutOfMemory}
 use Rattle.crx_reading.specs.meaning.Directions.{check_filter, report_unless}
 use Rattle.crx_runs.specs.Lawful.{IsLawful}
-use Rattle.crx_runs.specs.meaning.Filters.{Filter}
+use Rattle.crx_runs.specs.meaning.Filters.{Filter, with_next}
 use Rattle.crx_runs.specs.meaning.Messages.{error_text, notices_text}
 use Rattle.crx_runs.specs.meaning.Results.{Begins, Course, FilterResult, good_status, result_of_course, status_after}
 use Rattle.crx_reading.specs.meaning.Standard.{Findings, checked_by, findings_of, report_status, whole_of}
@@ -14,12 +16,17 @@ use Rattle.crx_filter.proofs.following.CheckLawful.{check-lawful}
 use Rattle.crx_filter.proofs.following.Lawful.{compaction-lawful, expansion-lawful}
 use Rattle.crx_runs.specs.declared.outcome.Outcome.{Outcome}
 use Rattle.crx_runs.specs.meaning.Runs.{FaultIs}
-use Rattle.rnxcmp_c.specs.Going.{AreFirstWarnings, Breaks, LineFails, IsAll, IsText, HandlePast}
+use Rattle.rnxcmp_c.specs.Waiting.{waiting}
+use Rattle.rnxcmp_c.specs.Going.{AreFirstWarnings, Breaks, LineFails, IsAll, IsGoing, IsText, HandlePast}
+use Rattle.rnxcmp_c.specs.Going.{EndsPastLimit, IsPastLimit, RunBreaks, RunFails, with_one_more}
+use Rattle.rnxcmp_c.specs.declared.stop.Stop.{Stop}
+use Rattle.rnxcmp_c.specs.declared.stop.Stop.TheVariants.{Fault, Limit}
 use Rattle.rnxcmp_c.specs.Handles.{Task, Compact, Expand, Check, IsOf, ReaderIsOver, IsPut, IsPutDown, IsPutSilently}
-use Rattle.rnxcmp_c.specs.Handles.{AreMessagesCut, RunIsOutOfMemory, filter_for}
+use Rattle.rnxcmp_c.specs.Handles.{AreMessagesCut, IsStopped, ReaderRuns, RunIsOutOfMemory, RunIsOverLimit, filter_for}
+use Rattle.rnxcmp_c.specs.Handles.{HasPassedBy, limit_for, shows_of, too_long_after}
 use Rattle.rnxcmp_c.specs.Handles.{HasFedBy, HasEndedBy, engine_filter, has_ended_of}
 use Rattle.rnxcmp_c.specs.meaning.Answers.{line_in}
-use Rattle.rnxcmp_c.proofs.GoingLemmas.{begins-then, warnings-first}
+use Rattle.rnxcmp_c.proofs.GoingLemmas.{all-cut, begins-then, warnings-first}
 use Rattle.rnxcmp_c.specs.Handles.{result_for, status_at_end}
 use Rattle.rnxcmp_c.specs.declared.engines.AnyEngine.{AnyEngine}
 use Rattle.rnxcmp_c.specs.declared.engines.AnyEngine.TheVariants.{Compacting, Expanding, Checking}
@@ -27,19 +34,19 @@ use Rattle.rnxcmp_c.specs.declared.held.Held.{Held}
 use Rattle.rnxcmp_c.specs.declared.reader.Reader.{Reader}
 
 pub filter-is : (task : Task) (engine : AnyEngine) → IsOf task engine → engine_filter engine ≡ filter_for task
-filter-is (Compact choices) (Compacting e) is = is
-filter-is (Compact choices) (Expanding e) is = absurd is
-filter-is (Compact choices) (Checking e) is = absurd is
-filter-is (Expand choices) (Compacting e) is = absurd is
-filter-is (Expand choices) (Expanding e) is = is
-filter-is (Expand choices) (Checking e) is = absurd is
+filter-is (Compact choices limit) (Compacting e) is = is
+filter-is (Compact choices limit) (Expanding e) is = absurd is
+filter-is (Compact choices limit) (Checking e) is = absurd is
+filter-is (Expand choices limit) (Compacting e) is = absurd is
+filter-is (Expand choices limit) (Expanding e) is = is
+filter-is (Expand choices limit) (Checking e) is = absurd is
 filter-is Check (Compacting e) is = absurd is
 filter-is Check (Expanding e) is = absurd is
 filter-is Check (Checking e) is = refl
 
 pub lawful-for : (task : Task) → IsLawful (filter_for task)
-lawful-for (Compact choices) = compaction-lawful choices
-lawful-for (Expand choices) = expansion-lawful choices
+lawful-for (Compact choices limit) = compaction-lawful choices
+lawful-for (Expand choices limit) = expansion-lawful choices
 lawful-for Check = check-lawful
 
 -- ---- a fault
@@ -52,8 +59,8 @@ checked-faulty None found at is = absurd (cc)
 
 result-faulty : (task : Task) (input : List ℕ) (at : At) → ((filter_for task).whole (lines_of input)).fault ≡ Some at
     → result_of_course ((filter_for task).whole (lines_of input)) ≡ result_for task input
-result-faulty (Compact choices) input at is = refl
-result-faulty (Expand choices) input at is = refl
+result-faulty (Compact choices limit) input at is = refl
+result-faulty (Expand choices limit) input at is = refl
 result-faulty Check input at is = checked-faulty (whole_of input).fault (findings_of (lines_of input)) at is
 
 course-over : (course : Course) (reader : Reader) (mid : Held) (outcome : Outcome) (past : HandlePast) (at : At)
@@ -64,8 +71,8 @@ course-over course reader mid outcome past at fault text put = record {
   fault = put.fault ∙ sym fault;
   output = text.wrote ∙ ap (λ t. past.output ++ t) (sym put.output);
   messages = ap (λ t. t ++ error_text course.fault) text.reported
-      ∙ ap (λ f. (past.messages ++ mid.messages.bytes.items) ++ error_text f) fault
-      ∙ append_assoc past.messages mid.messages.bytes.items (error_text (Some at))
+      ∙ ap (λ f. (past.messages ++ (waiting mid.messages)) ++ error_text f) fault
+      ∙ append_assoc past.messages (waiting mid.messages) (error_text (Some at))
       ∙ ap (λ t. past.messages ++ t) (sym put.messages);
 }
 
@@ -76,10 +83,10 @@ checked-output (Some at) found = refl
 checked-output None found = refl
 
 -- the output of a result is that of the filter
-output-for : (task : Task) (input : List ℕ) → (result_for task input).output ≡ ((filter_for task).whole
+pub output-for : (task : Task) (input : List ℕ) → (result_for task input).output ≡ ((filter_for task).whole
     (lines_of input)).output
-output-for (Compact choices) input = refl
-output-for (Expand choices) input = refl
+output-for (Compact choices limit) input = refl
+output-for (Expand choices limit) input = refl
 output-for Check input = checked-output (whole_of input).fault (findings_of (lines_of input))
 
 -- memory ran out at this line, before a fault was put down or for its message
@@ -87,9 +94,9 @@ record IsShort (mid new : Held) (outcome : Outcome) (line : ℕ) : Type 0 where
   pub memory : FaultIs OutOfMemory outcome.fault
   pub status : outcome.status ≡ 1
   pub line_is : line_in outcome.fault ≡ line
-  pub output : new.output.bytes.items ≡ mid.output.bytes.items
-  pub messages : (new.messages.bytes.items ≡ mid.messages.bytes.items)
-      ⊎ (new.messages.bytes.items ≡ mid.messages.bytes.items ++ error_text outcome.fault)
+  pub output : (waiting new.output) ≡ (waiting mid.output)
+  pub messages : ((waiting new.messages) ≡ (waiting mid.messages))
+      ⊎ ((waiting new.messages) ≡ (waiting mid.messages) ++ error_text outcome.fault)
 
 put-silently : (mid new : Held) (outcome : Outcome) (at : At) → IsPutSilently mid new outcome at
     → IsShort mid new outcome at.line
@@ -108,7 +115,7 @@ put-down mid new outcome at memory put = record {
   status = put.status;
   line_is = ap line_in put.fault;
   output = put.output;
-  messages = inr (put.messages ∙ ap (λ f. mid.messages.bytes.items ++ error_text f) (sym put.fault));
+  messages = inr (put.messages ∙ ap (λ f. (waiting mid.messages) ++ error_text f) (sym put.fault));
 }
 
 put-short : (mid new : Held) (outcome : Outcome) (at : At)
@@ -119,18 +126,18 @@ put-short mid new outcome at memory (inr put) = put-down mid new outcome at memo
 -- the run is out of memory: at such a line, or at that of the result's fault
 module _ (filter : Filter) (is_line : ℕ → Type 0) (result : FilterResult) (reader : Reader) (mid : Held)
     (outcome : Outcome) (past : HandlePast) (line : ℕ) (short : IsShort mid reader.held outcome line)
-    (output : Begins result.output (past.output ++ mid.output.bytes.items))
-    (told : AreFirstWarnings filter past.fed (past.messages ++ mid.messages.bytes.items)) where
-  still : Begins result.output (past.output ++ reader.held.output.bytes.items)
+    (output : Begins result.output (past.output ++ (waiting mid.output)))
+    (told : AreFirstWarnings filter past.fed (past.messages ++ (waiting mid.messages))) where
+  still : Begins result.output (past.output ++ (waiting reader.held.output))
   still = subst (λ t. Begins result.output (past.output ++ t)) (sym short.output) output
 
-  cut : AreMessagesCut filter past.fed (past.messages ++ reader.held.messages.bytes.items) outcome.fault
+  cut : AreMessagesCut filter past.fed (past.messages ++ (waiting reader.held.messages)) outcome.fault
   cut = record {
-    warnings = past.messages ++ mid.messages.bytes.items;
+    warnings = past.messages ++ (waiting mid.messages);
     first = told;
     whole = ⊎_elim (λ same. inl (ap (λ t. past.messages ++ t) same))
         (λ more. inr (ap (λ t. past.messages ++ t) more
-        ∙ sym (append_assoc past.messages mid.messages.bytes.items (error_text outcome.fault))))
+        ∙ sym (append_assoc past.messages (waiting mid.messages) (error_text outcome.fault))))
         short.messages;
   }
 
@@ -159,7 +166,7 @@ module _ (task : Task) (engine : AnyEngine) (is : IsOf task engine)
   fault-short : (is_line : ℕ → Type 0) (input : List ℕ) (course : Course)
       → (filter_for task).whole (lines_of input) ≡ course → course.fault ≡ Some at → IsText course mid past
       → IsPutSilently mid reader.held outcome at
-      → AreFirstWarnings (filter_for task) past.fed (past.messages ++ mid.messages.bytes.items)
+      → AreFirstWarnings (filter_for task) past.fed (past.messages ++ (waiting mid.messages))
       → RunIsOutOfMemory (filter_for task) is_line (result_for task input) reader outcome past
   fault-short is_line input course whole fault text put told =
       let same : result_of_course course ≡ result_for task input =
@@ -167,14 +174,14 @@ module _ (task : Task) (engine : AnyEngine) (is : IsOf task engine)
       subst (λ r. RunIsOutOfMemory (filter_for task) is_line r reader outcome past) same
       (short-fault (filter_for task) is_line (result_of_course course) reader mid outcome past at.line
       (put-silently mid reader.held outcome at put)
-      (record { rest = []; same = text.wrote ∙ sym (append-nil (past.output ++ mid.output.bytes.items)) }) told
+      (record { rest = []; same = text.wrote ∙ sym (append-nil (past.output ++ (waiting mid.output))) }) told
       (ap line_in (sym fault)))
 
   pub breaks-over : Breaks (engine_filter engine) mid past at → IsPut mid reader.held at (Some outcome)
       → HasFedBy task reader past (Some outcome)
   breaks-over (inl ran) put = inl (λ more.
       let filter = filter_for task in
-      let written : List ℕ = past.output ++ mid.output.bytes.items in
+      let written : List ℕ = past.output ++ (waiting mid.output) in
       let rest = ran.first more in
       let first : Begins (filter.so_far ran.lines).output written =
       subst (λ (f : Filter). Begins (f.so_far ran.lines).output written) (filter-is task engine is) ran.output in
@@ -184,7 +191,7 @@ module _ (task : Task) (engine : AnyEngine) (is : IsOf task engine)
       short-at filter _ (result_for task (past.fed ++ more)) reader mid outcome past at.line
       (put-short mid reader.held outcome at ran.fault put)
       (subst (λ t. Begins t written) (sym (output-for task (past.fed ++ more))) (begins-then _ _ _ all first))
-      (subst (λ (f : Filter). AreFirstWarnings f past.fed (past.messages ++ mid.messages.bytes.items))
+      (subst (λ (f : Filter). AreFirstWarnings f past.fed (past.messages ++ (waiting mid.messages)))
       (filter-is task engine is) ran.messages)
       (ran.some, ran.within))
   breaks-over (inr broken) put =
@@ -195,30 +202,30 @@ module _ (task : Task) (engine : AnyEngine) (is : IsOf task engine)
       subst (λ (f : Filter). IsText (f.so_far broken.lines) mid past) (filter-is task engine is) broken.text in
       let whole : (more : List ℕ) → filter.whole (lines_of (past.fed ++ more)) ≡ filter.so_far broken.lines = λ more.
       ap filter.whole (broken.first more).1 ∙ (lawful-for task).decided broken.lines (broken.first more).0 at fault in
-      let told : AreFirstWarnings filter past.fed (past.messages ++ mid.messages.bytes.items) =
-      warnings-first filter past.fed broken.lines broken.first (past.messages ++ mid.messages.bytes.items)
-      (record { rest = []; same = text.reported ∙ sym (append-nil (past.messages ++ mid.messages.bytes.items)) }) in
+      let told : AreFirstWarnings filter past.fed (past.messages ++ (waiting mid.messages)) =
+      warnings-first filter past.fed broken.lines broken.first (past.messages ++ (waiting mid.messages))
+      (record { rest = []; same = text.reported ∙ sym (append-nil (past.messages ++ (waiting mid.messages))) }) in
       ⊎_elim (λ silently. inl (λ more.
       fault-short _ (past.fed ++ more) (filter.so_far broken.lines) (whole more) fault text silently told))
-      (λ down. inr (λ more.
+      (λ down. inr (inr (λ more.
       subst (λ r. ReaderIsOver r reader outcome past)
       (sym (ap result_of_course (whole more))
       ∙ result-faulty task (past.fed ++ more) at (ap (λ (c : Course). c.fault) (whole more) ∙ fault))
-      (course-over (filter.so_far broken.lines) reader mid outcome past at fault text down)))
+      (course-over (filter.so_far broken.lines) reader mid outcome past at fault text down))))
       put
 
   pub fails-over : LineFails (engine_filter engine) mid past at
       → IsPut mid reader.held at (Some outcome)
       → HasEndedBy task reader past (Some outcome)
   fails-over (inl ran) put =
-      let written : List ℕ = past.output ++ mid.output.bytes.items in
+      let written : List ℕ = past.output ++ (waiting mid.output) in
       let output : Begins ((filter_for task).whole (lines_of past.fed)).output written =
       subst (λ (f : Filter). Begins (f.whole (lines_of past.fed)).output written)
       (filter-is task engine is) ran.output in
       inl (short-at (filter_for task) _ (result_for task past.fed) reader mid outcome past at.line
       (put-short mid reader.held outcome at ran.ran_out.0 put)
       (subst (λ t. Begins t written) (sym (output-for task past.fed)) output)
-      (subst (λ (f : Filter). AreFirstWarnings f past.fed (past.messages ++ mid.messages.bytes.items))
+      (subst (λ (f : Filter). AreFirstWarnings f past.fed (past.messages ++ (waiting mid.messages)))
       (filter-is task engine is) ran.messages) ran.ran_out.1)
   fails-over (inr failed) put =
       let whole = (filter_for task).whole (lines_of past.fed) in
@@ -228,11 +235,139 @@ module _ (task : Task) (engine : AnyEngine) (is : IsOf task engine)
       let text : IsText whole mid past = subst (λ (c : Course). IsText c mid past) same failed.text in
       ⊎_elim (λ silently. inl (fault-short _ past.fed whole refl fault text silently (inr (record {
         rest = [];
-        same = text.reported ∙ sym (append-nil (past.messages ++ mid.messages.bytes.items));
+        same = text.reported ∙ sym (append-nil (past.messages ++ (waiting mid.messages)));
       }))))
-      (λ down. inr (subst (λ r. ReaderIsOver r reader outcome past) (result-faulty task past.fed at fault)
-      (course-over whole reader mid outcome past at fault text down)))
+      (λ down. inr (inr (subst (λ r. ReaderIsOver r reader outcome past) (result-faulty task past.fed at fault)
+      (course-over whole reader mid outcome past at fault text down))))
       put
+
+-- ---- the limit of the output
+
+length-begins : (text first : List ℕ) → Begins text first → length first ≤ length text
+length-begins text first begins = omega (arith, ap length begins.same, length-append first begins.rest)
+
+-- what some lines make with one more of those that follow, or with the end, stands first in what all of them make
+one_more-first : (filter : Filter) → IsLawful filter → (lines others : List InputLine)
+    → Begins (filter.whole (lines ++ others)).output (with_one_more filter lines others).output
+one_more-first filter lawful lines [] = record {
+  rest = [];
+  same = ap (λ ls. (filter.whole ls).output) (append-nil lines) ∙ sym (append-nil (filter.whole lines).output);
+}
+one_more-first filter lawful lines (line ∷ others) =
+    subst (λ ls. Begins (filter.whole ls).output (filter.so_far (with_next lines line)).output)
+    (append_assoc lines (line ∷ []) others) (lawful.goes_on (with_next lines line) others)
+
+module _ (task : Task) (reader : Reader) (mid : Held) (outcome : Outcome) (past : HandlePast)
+    (stopped : IsStopped mid reader.held outcome Limit) where
+  is-over_limit : (input : List ℕ) (lines others : List InputLine) → lines_of input ≡ lines ++ others
+      → 0 < limit_for task → length ((filter_for task).so_far lines).output ≤ limit_for task
+      → limit_for task < length (with_one_more (filter_for task) lines others).output
+      → IsText ((filter_for task).so_far lines) mid past
+      → RunIsOverLimit (filter_for task) (limit_for task) input (result_for task input) reader outcome past
+  is-over_limit input lines others first limited within over text =
+      let filter = filter_for task in
+      let longer : Begins (result_for task input).output (with_one_more filter lines others).output =
+      subst (λ t. Begins t (with_one_more filter lines others).output)
+      (sym (output-for task input ∙ ap (λ ls. (filter.whole ls).output) first))
+      (one_more-first filter (lawful-for task) lines others) in
+      record {
+        status = ap (λ (o : Outcome). o.status) stopped.0;
+        fault = ap (λ (o : Outcome). o.fault) stopped.0;
+        limited = limited;
+        longer = omega (arith, over, length-begins _ _ longer);
+        lines = lines;
+        others = others;
+        first = first;
+        within = within;
+        over = over;
+        output = text.wrote ∙ ap (λ (h : Held). past.output ++ waiting h.output) (sym stopped.1);
+        messages = text.reported ∙ ap (λ (h : Held). past.messages ++ waiting h.messages) (sym stopped.1);
+      }
+
+  module _ (engine : AnyEngine) (is : IsOf task engine) (limit : mid.limit ≡ limit_for task) where
+    limited-by : 0 < mid.limit → 0 < limit_for task
+    limited-by = subst (λ (n : ℕ). 0 < n) limit
+
+    pub passes-over : IsPastLimit (engine_filter engine) mid past → HasFedBy task reader past (Some outcome)
+    passes-over before =
+        let passes = subst (λ (f : Filter). IsPastLimit f mid past) (filter-is task engine is) before in
+        inr (inl (λ more. is-over_limit (past.fed ++ more) passes.lines (passes.line ∷ (passes.first more).0)
+        (passes.first more).1 (limited-by passes.limited) (omega (arith, passes.within, limit))
+        (omega (arith, passes.over, limit)) passes.text))
+
+    pub passes-at_end : EndsPastLimit (engine_filter engine) mid past → HasEndedBy task reader past (Some outcome)
+    passes-at_end before =
+        let passes = subst (λ (f : Filter). EndsPastLimit f mid past) (filter-is task engine is) before in
+        inr (inl (is-over_limit past.fed passes.lines passes.others passes.first (limited-by passes.limited)
+        (omega (arith, passes.within, limit)) (omega (arith, passes.over, limit)) passes.text))
+
+-- what stopped a run is how it has ended
+pub stops-over : (task : Task) (engine : AnyEngine) → IsOf task engine → (reader : Reader) (mid : Held)
+    → mid.limit ≡ limit_for task → (outcome : Outcome) (past : HandlePast) (stop : Stop)
+    → RunBreaks (engine_filter engine) mid past stop → IsStopped mid reader.held outcome stop
+    → HasFedBy task reader past (Some outcome)
+stops-over task engine is reader mid limit outcome past (Fault at) breaks put =
+    breaks-over task engine is reader mid outcome past at breaks put
+stops-over task engine is reader mid limit outcome past Limit breaks stopped =
+    passes-over task reader mid outcome past stopped engine is limit breaks
+
+pub stops-at_end : (task : Task) (engine : AnyEngine) → IsOf task engine → (reader : Reader) (mid : Held)
+    → mid.limit ≡ limit_for task → (outcome : Outcome) (past : HandlePast) (stop : Stop)
+    → RunFails (engine_filter engine) mid past stop → IsStopped mid reader.held outcome stop
+    → HasEndedBy task reader past (Some outcome)
+stops-at_end task engine is reader mid limit outcome past (Fault at) fails put =
+    fails-over task engine is reader mid outcome past at fails put
+stops-at_end task engine is reader mid limit outcome past Limit fails stopped =
+    passes-at_end task reader mid outcome past stopped engine is limit fails
+
+-- ---- the limit of the input
+
+pub passed-over : (task : Task) (before reader : Reader) (outcome : Outcome) (past : HandlePast)
+    → ReaderRuns task before past → length past.fed ≡ INPUT_LIMIT
+    → IsPut before.held reader.held (record { line = before.held.number + 1; fault = InputTooLong }) (Some outcome)
+    → HasPassedBy task reader past (Some outcome)
+passed-over task before reader outcome past runs full put =
+    let filter = filter_for task in
+    let mid = before.held in
+    let ended = ended_lines_of past.fed in
+    let going = subst (λ (f : Filter). IsGoing f (shows_of before.engine) mid past)
+    (filter-is task before.engine runs.is_of) runs.going in
+    let at : At = record { line = mid.number + 1; fault = InputTooLong } in
+    let same : at ≡ too_long_after past.fed =
+    ap (λ (n : ℕ). let a : At = record { line = n + 1; fault = InputTooLong } in a) going.number in
+    let all = all-cut filter (shows_of before.engine) mid past going in
+    let first : Begins (filter.whole (lines_of past.fed)).output (filter.so_far ended).output =
+    subst (λ ls. Begins (filter.whole ls).output (filter.so_far ended).output) (sym all)
+    ((lawful-for task).goes_on ended (lines_of going.tail)) in
+    let written : List ℕ = past.output ++ waiting mid.output in
+    let told : AreFirstWarnings filter past.fed (past.messages ++ waiting mid.messages) =
+    inl (record {
+      lines = ended;
+      others = lines_of going.tail;
+      first = all;
+      begins = record {
+        rest = [];
+        same = going.text.reported ∙ sym (append-nil (past.messages ++ waiting mid.messages));
+      };
+    }) in
+    ⊎_elim
+    (λ silently. inl (short-at filter (λ line. line ≡ length ended + 1) (result_for task past.fed) reader mid outcome
+    past at.line (put-silently mid reader.held outcome at silently)
+    (subst (λ t. Begins t written) (sym (output-for task past.fed))
+    (begins-then _ _ _ first (record { rest = []; same = going.text.wrote ∙ sym (append-nil written) })))
+    told (ap (λ (n : ℕ). n + 1) going.number)))
+    (λ down. inr (record {
+      full = full;
+      status = down.status;
+      fault = down.fault ∙ ap (λ (a : At). Some a) same;
+      good = going.good;
+      output = going.text.wrote ∙ ap (λ t. past.output ++ t) (sym down.output);
+      messages = ap (λ t. t ++ error_text outcome.fault) going.text.reported
+          ∙ ap (λ f. (past.messages ++ waiting mid.messages) ++ error_text f) down.fault
+          ∙ append_assoc past.messages (waiting mid.messages) (error_text (Some at))
+          ∙ ap (λ t. past.messages ++ t) (sym down.messages);
+    }))
+    put
 
 -- ---- the end
 
@@ -264,18 +399,18 @@ pub all-over : (task : Task) (engine then : AnyEngine) → IsOf task engine → 
     → outcome.status ≡ status_at_end then reader.held.warned
     → IsAll ((engine_filter engine).whole (lines_of past.fed)) reader.held past → has_ended_of then (lines_of past.fed)
     → ReaderIsOver (result_for task past.fed) reader outcome past
-all-over (Compact choices) engine (Compacting c) is now reader outcome past none status all ended =
+all-over (Compact choices limit) engine (Compacting c) is now reader outcome past none status all ended =
     course-well _ reader outcome past none status
     (subst (λ (f : Filter). IsAll (f.whole (lines_of past.fed)) reader.held past) (filter-is
-    (Compact choices) engine is) all)
-all-over (Compact choices) engine (Expanding c) is now reader outcome past none status all ended = absurd now
-all-over (Compact choices) engine (Checking c) is now reader outcome past none status all ended = absurd now
-all-over (Expand choices) engine (Compacting c) is now reader outcome past none status all ended = absurd now
-all-over (Expand choices) engine (Expanding c) is now reader outcome past none status all ended =
+    (Compact choices limit) engine is) all)
+all-over (Compact choices limit) engine (Expanding c) is now reader outcome past none status all ended = absurd now
+all-over (Compact choices limit) engine (Checking c) is now reader outcome past none status all ended = absurd now
+all-over (Expand choices limit) engine (Compacting c) is now reader outcome past none status all ended = absurd now
+all-over (Expand choices limit) engine (Expanding c) is now reader outcome past none status all ended =
     course-well _ reader outcome past none status
     (subst (λ (f : Filter). IsAll (f.whole (lines_of past.fed)) reader.held past) (filter-is
-    (Expand choices) engine is) all)
-all-over (Expand choices) engine (Checking c) is now reader outcome past none status all ended = absurd now
+    (Expand choices limit) engine is) all)
+all-over (Expand choices limit) engine (Checking c) is now reader outcome past none status all ended = absurd now
 all-over Check engine (Compacting c) is now reader outcome past none status all ended = absurd now
 all-over Check engine (Expanding c) is now reader outcome past none status all ended = absurd now
 all-over Check engine (Checking c) is now reader outcome past none status all ended =

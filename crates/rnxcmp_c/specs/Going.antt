@@ -1,18 +1,23 @@
 -- A run between two calls, by the bytes that were fed and the texts that were taken.
-use Rattle.std.specs.Prelude.{◌≡◌, ◌⊎◌, ◌<◌, ◌≤◌, ℕ, ◌+◌, Bool, ◌||◌, List, [], ◌++◌, length, Some, None}
+use Rattle.std.specs.Prelude.{◌≡◌, ◌⊎◌, ◌<◌, ◌≤◌, ℕ, ◌+◌, Bool, ◌||◌, List, [], ◌∷◌, ◌++◌, length, take, Some, None}
 use Rattle.crx_faults.specs.meaning.Lines.{InputLine, line_of, lines_of}
 use Rattle.crx_faults.specs.meaning.Seen.{ended_lines_of}
 use Rattle.crx_lines.specs.Reading.{HasNoFeed}
 use Rattle.crx_faults.specs.declared.fault.At.{At}
 use Rattle.crx_faults.specs.declared.fault.Fault.TheVariants.{OutOfMemory}
 use Rattle.crx_runs.specs.Engines.{Awaited}
-use Rattle.crx_runs.specs.meaning.Filters.{Filter}
+use Rattle.crx_runs.specs.meaning.Filters.{Filter, with_next}
 use Rattle.crx_runs.specs.meaning.Messages.{notices_text}
 use Rattle.crx_runs.specs.meaning.Results.{Begins, Course, are_some}
 use Rattle.crx_runs.specs.declared.taking.Halt.{Halt}
-use Rattle.crx_runs.specs.declared.taking.Halt.TheVariants.{Fault, Unwritten, Unreported}
-use Rattle.rnxcmp_c.specs.declared.devices.Collected.{Collected}
+use Rattle.crx_runs.specs.declared.taking.Halt.TheVariants.{Fault as Faulty, Unwritten, Unreported}
+use Rattle.rnxcmp_c.specs.Waiting.{waiting}
+use Rattle.rnxcmp_c.specs.declared.pending.Pending.{Pending}
 use Rattle.rnxcmp_c.specs.declared.held.Held.{Held}
+use Rattle.rnxcmp_c.specs.declared.limits.TheConstants.{LINE_ROOM, READY_LIMIT}
+use Rattle.rnxcmp_c.specs.Holding.{ready_in}
+use Rattle.rnxcmp_c.specs.declared.stop.Stop.{Stop}
+use Rattle.rnxcmp_c.specs.declared.stop.Stop.TheVariants.{Fault, Limit}
 
 -- the line of some bytes, by whether an LF followed them
 abbrev pub piece_line : List ℕ → Bool → InputLine
@@ -22,15 +27,15 @@ piece_line bytes is_ended = line_of (record { bytes = bytes; is_ended = is_ended
 
 -- a line was taken, or the end: what it adds was kept
 pub record IsKept (before after : Course)
-    (shown : Type 0) (output then_output messages then_messages : Collected) (warned : Bool) : Type 0 where
+    (shown : Type 0) (output then_output messages then_messages : Pending) (warned : Bool) : Type 0 where
   pub is_shown : shown
   pub good : after.fault ≡ None
   pub text : List ℕ
   pub notices : List At
   pub output_is : after.output ≡ before.output ++ text
   pub warnings_are : after.warnings ≡ before.warnings ++ notices
-  pub wrote : then_output.bytes.items ≡ output.bytes.items ++ text
-  pub reported : then_messages.bytes.items ≡ messages.bytes.items ++ notices_text notices
+  pub wrote : waiting then_output ≡ waiting output ++ text
+  pub reported : waiting then_messages ≡ waiting messages ++ notices_text notices
   pub flag : warned ≡ are_some notices
 
 -- the same of what is held between two calls
@@ -40,46 +45,73 @@ pub record MovesOn (before after : Course) (shown : Type 0) (old new : Held) : T
   pub flag : new.warned ≡ (old.warned || warned)
 
 -- a fault ended the run there, after some warnings
-pub record EndsThere (before after : Course) (output then_output messages then_messages : Collected)
+pub record EndsThere (before after : Course) (output then_output messages then_messages : Pending)
     (at : At) : Type 0 where
   pub fault : after.fault ≡ Some at
   pub notices : List At
   pub output_is : after.output ≡ before.output
   pub warnings_are : after.warnings ≡ before.warnings ++ notices
-  pub wrote : then_output.bytes.items ≡ output.bytes.items
-  pub reported : then_messages.bytes.items ≡ messages.bytes.items ++ notices_text notices
+  pub wrote : waiting then_output ≡ waiting output
+  pub reported : waiting then_messages ≡ waiting messages ++ notices_text notices
 
 -- memory ran out at a line of this number
 abbrev pub RanOutAt : ℕ → At → Type 0
 RanOutAt number at = (at.fault ≡ OutOfMemory) × (at.line ≡ number)
 
 -- of what a line adds to the output, or the end, a prefix was kept
-pub record IsCutShort (before after : Course) (output then_output : Collected) : Type 0 where
+pub record IsCutShort (before after : Course) (output then_output : Pending) : Type 0 where
   pub text : List ℕ
-  pub wrote : then_output.bytes.items ≡ output.bytes.items ++ text
+  pub wrote : waiting then_output ≡ waiting output ++ text
   pub first : (text ≡ []) ⊎ Begins after.output (before.output ++ text)
 
 -- of its warnings a prefix was kept too
-pub record AreCutShort (before after : Course) (messages then_messages : Collected) : Type 0 where
+pub record AreCutShort (before after : Course) (messages then_messages : Pending) : Type 0 where
   pub text : List ℕ
-  pub reported : then_messages.bytes.items ≡ messages.bytes.items ++ text
+  pub reported : waiting then_messages ≡ waiting messages ++ text
   pub first : (text ≡ []) ⊎ Begins (notices_text after.warnings) (notices_text before.warnings ++ text)
 
 -- memory ran out, or a fault ended the run
-abbrev pub LineStops : ℕ → Course → Course → Collected → Collected → Collected → Collected → At → Type 0
+abbrev pub LineStops : ℕ → Course → Course → Pending → Pending → Pending → Pending → At → Type 0
 LineStops number before after output then_output messages then_messages at =
     (RanOutAt number at × IsCutShort before after output then_output × AreCutShort before after messages then_messages)
     ⊎ EndsThere before after output then_output messages then_messages at
 
-abbrev pub StopsBy : ℕ → Course → Course → Collected → Collected → Collected → Collected → Halt → Type 0
-StopsBy number before after output then_output messages then_messages (Fault at) =
+abbrev pub StopsBy : ℕ → Course → Course → Pending → Pending → Pending → Pending → Halt → Type 0
+StopsBy number before after output then_output messages then_messages (Faulty at) =
     LineStops number before after output then_output messages then_messages at
 StopsBy number before after output then_output messages then_messages Unwritten =
     IsCutShort before after output then_output × AreCutShort before after messages then_messages
 StopsBy number before after output then_output messages then_messages Unreported =
     IsCutShort before after output then_output × AreCutShort before after messages then_messages
 
+-- ---- the limit of the output
+
+-- a line was taken, or the end, and the output stays within its limit
+pub record MovesWithin (before after : Course) (shown : Type 0) (old new : Held) : Type 0 where
+  pub moved : MovesOn before after shown old new
+  pub limit : new.limit ≡ old.limit
+  pub left : 0 < old.limit → new.left + length after.output ≡ old.left + length before.output
+
+-- the output would be longer than it may be: of the line, or of the end, nothing was kept
+pub record PassesLimit (before after : Course) (old new : Held) : Type 0 where
+  pub limited : 0 < old.limit
+  pub limit : new.limit ≡ old.limit
+  pub over : old.left + length before.output < length after.output
+  pub output_is : waiting new.output ≡ waiting old.output
+  pub messages_are : waiting new.messages ≡ waiting old.messages
+
+-- what ended the run: a fault, or memory that ran out; or the limit of the output
+abbrev pub StepStops : ℕ → Course → Course → Held → Held → Stop → Type 0
+StepStops number before after old new (Fault at) =
+    LineStops number before after old.output new.output old.messages new.messages at
+StepStops number before after old new Limit = PassesLimit before after old new
+
 -- ---- a run
+
+-- what some lines make with the first of those that follow, or with the end where none does
+abbrev pub with_one_more : Filter → List InputLine → List InputLine → Course
+with_one_more filter lines [] = filter.whole lines
+with_one_more filter lines (line ∷ more) = filter.so_far (with_next lines line)
 
 -- what came before: the bytes that were fed, and what was taken of the output and of the messages
 pub record HandlePast : Type 0 where
@@ -87,17 +119,24 @@ pub record HandlePast : Type 0 where
   pub output : List ℕ
   pub messages : List ℕ
 
+-- of so many bytes some were taken: at least one where little enough waited, and not all only where much waits now
+pub record IsTaken (old new : Held) (length count : ℕ) : Type 0 where
+  pub within : count ≤ length
+  pub some : 0 < length → ready_in old < READY_LIMIT → 0 < count
+  pub all : count < length → READY_LIMIT ≤ ready_in new
+  pub still : READY_LIMIT ≤ ready_in old → (count ≡ 0) × (new ≡ old)
+
 -- more bytes were fed
 abbrev pub fed_with : HandlePast → List ℕ → HandlePast
 fed_with past bytes = record { fed = past.fed ++ bytes; output = past.output; messages = past.messages }
 
 -- a text was written and reported: what was taken of it, and then what is kept
 pub record IsText (course : Course) (held : Held) (past : HandlePast) : Type 0 where
-  pub wrote : course.output ≡ past.output ++ held.output.bytes.items
-  pub reported : notices_text course.warnings ≡ past.messages ++ held.messages.bytes.items
+  pub wrote : course.output ≡ past.output ++ waiting held.output
+  pub reported : notices_text course.warnings ≡ past.messages ++ waiting held.messages
 
--- the lines whose LF was fed were taken, and no fault ended the run; what they make was taken by the caller or is kept,
--- and so are the bytes after them
+-- the lines whose LF was fed were taken, and no fault ended the run; what they make was taken by the caller or is kept;
+-- and so are the bytes after them, as far as a line may be long
 pub record IsGoing (filter : Filter)
     (shows : List InputLine → List Awaited → Type 0) (held : Held) (past : HandlePast) : Type 0 where
   pub shown : shows (ended_lines_of past.fed) []
@@ -105,12 +144,14 @@ pub record IsGoing (filter : Filter)
   pub text : IsText (filter.so_far (ended_lines_of past.fed)) held past
   pub flag : held.warned ≡ are_some (filter.so_far (ended_lines_of past.fed)).warnings
   pub number : held.number ≡ length (ended_lines_of past.fed)
-  pub no_feed : HasNoFeed held.tail.items
-  pub cut : (more : List ℕ) → lines_of (past.fed ++ more) ≡ ended_lines_of past.fed ++ lines_of
-      (held.tail.items ++ more)
+  pub tail : List ℕ
+  pub kept : held.tail.bytes.items ≡ take LINE_ROOM tail
+  pub no_feed : HasNoFeed tail
+  pub cut : (more : List ℕ) → lines_of (past.fed ++ more) ≡ ended_lines_of past.fed ++ lines_of (tail ++ more)
   pub cut_ended : (more : List ℕ)
-      → ended_lines_of (past.fed ++ more) ≡ ended_lines_of past.fed ++ ended_lines_of (held.tail.items ++ more)
-  pub counted : held.number + length held.tail.items ≤ length past.fed
+      → ended_lines_of (past.fed ++ more) ≡ ended_lines_of past.fed ++ ended_lines_of (tail ++ more)
+  pub counted : held.number + length tail ≤ length past.fed
+  pub left : 0 < held.limit → held.left + length (filter.so_far (ended_lines_of past.fed)).output ≡ held.limit
 
 -- a fault of some of the first lines ended the run, whatever follows
 pub record IsBroken (filter : Filter) (held : Held) (past : HandlePast) (at : At) : Type 0 where
@@ -140,12 +181,28 @@ pub record RunsShort (filter : Filter) (held : Held) (past : HandlePast) (at : A
   pub within : at.line ≤ length (ended_lines_of past.fed) + 1
   pub lines : List InputLine
   pub first : (more : List ℕ) → (rest : List InputLine) × (lines_of (past.fed ++ more) ≡ lines ++ rest)
-  pub output : Begins (filter.so_far lines).output (past.output ++ held.output.bytes.items)
-  pub messages : AreFirstWarnings filter past.fed (past.messages ++ held.messages.bytes.items)
+  pub output : Begins (filter.so_far lines).output (past.output ++ waiting held.output)
+  pub messages : AreFirstWarnings filter past.fed (past.messages ++ waiting held.messages)
 
 -- memory ran out, or a fault ended the run
 abbrev pub Breaks : Filter → Held → HandlePast → At → Type 0
 Breaks filter held past at = RunsShort filter held past at ⊎ IsBroken filter held past at
+
+-- the output of some of the first lines is within its limit, and with one line more it isn't, whatever follows; what was
+-- taken and then what is kept is what those first ones make
+pub record IsPastLimit (filter : Filter) (held : Held) (past : HandlePast) : Type 0 where
+  pub lines : List InputLine
+  pub line : InputLine
+  pub first : (more : List ℕ) → (rest : List InputLine) × (lines_of (past.fed ++ more) ≡ lines ++ line ∷ rest)
+  pub limited : 0 < held.limit
+  pub within : length (filter.so_far lines).output ≤ held.limit
+  pub over : held.limit < length (filter.so_far (with_next lines line)).output
+  pub text : IsText (filter.so_far lines) held past
+
+-- what ended the run: memory or a fault; or the limit of the output
+abbrev pub RunBreaks : Filter → Held → HandlePast → Stop → Type 0
+RunBreaks filter held past (Fault at) = Breaks filter held past at
+RunBreaks filter held past Limit = IsPastLimit filter held past
 
 -- ---- the end
 
@@ -164,10 +221,25 @@ pub record IsFailed (course : Course) (held : Held) (past : HandlePast) (at : At
 -- prefix of it, and the same of the warnings
 pub record EndsShort (filter : Filter) (held : Held) (past : HandlePast) (at : At) : Type 0 where
   pub ran_out : RanOutAt (length (lines_of past.fed)) at
-  pub output : Begins (filter.whole (lines_of past.fed)).output (past.output ++ held.output.bytes.items)
-  pub messages : AreFirstWarnings filter past.fed (past.messages ++ held.messages.bytes.items)
+  pub output : Begins (filter.whole (lines_of past.fed)).output (past.output ++ waiting held.output)
+  pub messages : AreFirstWarnings filter past.fed (past.messages ++ waiting held.messages)
+
+-- the output of some of the first lines is within its limit, and with one line more, or the end, it isn't
+pub record EndsPastLimit (filter : Filter) (held : Held) (past : HandlePast) : Type 0 where
+  pub lines : List InputLine
+  pub others : List InputLine
+  pub first : lines_of past.fed ≡ lines ++ others
+  pub limited : 0 < held.limit
+  pub within : length (filter.so_far lines).output ≤ held.limit
+  pub over : held.limit < length (with_one_more filter lines others).output
+  pub text : IsText (filter.so_far lines) held past
 
 -- memory ran out, or a fault ended the run
 abbrev pub LineFails : Filter → Held → HandlePast → At → Type 0
 LineFails filter held past at = EndsShort filter held past at
     ⊎ IsFailed (filter.whole (lines_of past.fed)) held past at
+
+-- what ended the run: memory or a fault; or the limit of the output
+abbrev pub RunFails : Filter → Held → HandlePast → Stop → Type 0
+RunFails filter held past (Fault at) = LineFails filter held past at
+RunFails filter held past Limit = EndsPastLimit filter held past

@@ -1,17 +1,16 @@
 -- A handle between two calls.
-use Rattle.std.specs.Prelude.{◌≡◌, ◌⊎◌, ◌<◌, ◌≤◌, ⊤, ℕ, ◌+◌, Bool, List, [], ◌++◌, length, Option, Some, None}
+use Rattle.std.specs.Prelude.{◌≡◌, ◌⊎◌, ◌<◌, ◌≤◌, ⊤, ℕ, ◌+◌, ◌-◌, Bool, List, [], ◌++◌, length, take, Option, Some, None}
 use Rattle.crx_faults.specs.meaning.Lines.{InputLine, lines_of}
 use Rattle.crx_faults.specs.meaning.Seen.{ended_lines_of}
 use Rattle.crx_faults.specs.declared.limits.TheConstants.{INPUT_LIMIT}
 use Rattle.crx_faults.specs.declared.fault.At.{At}
 use Rattle.crx_faults.specs.declared.fault.Fault.TheVariants.{InputTooLong, OutOfMemory}
-use Rattle.crx_faults.specs.meaning.Faults.{code_of_fault}
 use Rattle.crx_options.specs.meaning.Choices.{Choices}
 use Rattle.crx_reading.specs.meaning.Compacted.{compacted}
 use Rattle.crx_reading.specs.meaning.Expanded.{expanded}
 use Rattle.crx_runs.specs.meaning.Filters.{Filter}
 use Rattle.crx_runs.specs.meaning.Results.{Begins, FilterResult, good_status}
-use Rattle.crx_runs.specs.meaning.Messages.{error_text}
+use Rattle.crx_runs.specs.meaning.Messages.{error_text, notices_text}
 use Rattle.crx_reading.specs.meaning.Standard.{checked, report_status}
 use Rattle.crx_reading.specs.meaning.Directions.{check_filter}
 use Rattle.crx_filter.specs.CheckerState.{CheckerHasTaken, CheckerIsOpen, HasEnded as CheckerHasEnded, pending_report}
@@ -24,32 +23,42 @@ use Rattle.crx_filter.specs.ExpanderState.{expander_state}
 use Rattle.crx_reading.specs.ExpansionByLine.{expansion, expansion_seen}
 use Rattle.crx_runs.specs.declared.outcome.Outcome.{Outcome}
 use Rattle.crx_runs.specs.meaning.Runs.{FaultIs}
-use Rattle.rnxcmp_c.specs.Going.{AreFirstWarnings, IsGoing, HandlePast, fed_with}
+use Rattle.rnxcmp_c.specs.Going.{AreFirstWarnings, IsGoing, HandlePast, fed_with, with_one_more}
 use Rattle.rnxcmp_c.specs.meaning.Answers.{bare_answer, fault_code_in, line_in}
 use Rattle.rnxcmp_c.specs.declared.answer.Answer.{Answer}
-use Rattle.rnxcmp_c.specs.declared.answer.TheConstants.{MISUSED}
+use Rattle.rnxcmp_c.specs.declared.answer.TheConstants.{MISUSED, OUTPUT_LIMIT}
 use Rattle.rnxcmp_c.specs.declared.engines.AnyEngine.{AnyEngine}
 use Rattle.rnxcmp_c.specs.declared.engines.AnyEngine.TheVariants.{Compacting, Expanding, Checking}
 use Rattle.rnxcmp_c.specs.declared.held.Held.{Held}
+use Rattle.rnxcmp_c.specs.declared.limits.TheConstants.{READY_LIMIT}
+use Rattle.rnxcmp_c.specs.Holding.{ready_in}
+use Rattle.rnxcmp_c.specs.Waiting.{waiting}
 use Rattle.rnxcmp_c.specs.declared.reader.Reader.{Reader}
+use Rattle.rnxcmp_c.specs.declared.stop.Stop.{Stop}
+use Rattle.rnxcmp_c.specs.declared.stop.Stop.TheVariants.{Fault, Limit}
 
 -- ---- what a run is of
 
--- what was chosen for a run
+-- what was chosen for a run, and how many bytes its output may have; 0 is no limit
 pub data Task : Type 0 where
-  Compact : Choices → Task
-  Expand : Choices → Task
+  Compact : Choices → ℕ → Task
+  Expand : Choices → ℕ → Task
   Check : Task
+
+abbrev pub limit_for : Task → ℕ
+limit_for (Compact choices limit) = limit
+limit_for (Expand choices limit) = limit
+limit_for Check = 0
 
 -- what the whole run of an input writes, reports and answers
 abbrev pub result_for : Task → List ℕ → FilterResult
-result_for (Compact choices) input = compacted input choices
-result_for (Expand choices) input = expanded input choices
+result_for (Compact choices limit) input = compacted input choices
+result_for (Expand choices limit) input = expanded input choices
 result_for Check input = checked input
 
 abbrev pub filter_for : Task → Filter
-filter_for (Compact choices) = compaction_filter choices
-filter_for (Expand choices) = expansion_filter choices
+filter_for (Compact choices limit) = compaction_filter choices
+filter_for (Expand choices limit) = expansion_filter choices
 filter_for Check = check_filter
 
 -- ---- the engine of a run
@@ -84,8 +93,8 @@ has_ended_of (Checking c) lines = CheckerHasEnded c lines
 
 -- an engine is of a task
 abbrev pub IsOf : Task → AnyEngine → Type 0
-IsOf (Compact choices) (Compacting c) = compaction_filter (compactor_seen c).choices ≡ compaction_filter choices
-IsOf (Expand choices) (Expanding e) = expansion_filter e.options ≡ expansion_filter choices
+IsOf (Compact choices limit) (Compacting c) = compaction_filter (compactor_seen c).choices ≡ compaction_filter choices
+IsOf (Expand choices limit) (Expanding e) = expansion_filter e.options ≡ expansion_filter choices
 IsOf Check (Checking c) = ⊤
 IsOf task engine = ⊥
 
@@ -102,16 +111,21 @@ pub record ReaderRuns (task : Task) (reader : Reader) (past : HandlePast) : Type
   pub is_of : IsOf task reader.engine
   pub drained : ready_of reader.engine ≡ []
   pub takes : is_open_of reader.engine
+  pub limit : reader.held.limit ≡ limit_for task
   pub going : IsGoing (engine_filter reader.engine) (shows_of reader.engine) reader.held past
   pub counted : reader.fed ≡ length past.fed
   pub within : reader.fed ≤ INPUT_LIMIT
+
+-- a byte more than an input may have came, in the line after those that an LF ended
+abbrev pub too_long_after : List ℕ → At
+too_long_after fed = record { line = length (ended_lines_of fed) + 1; fault = InputTooLong }
 
 -- the run has ended with this result: what was taken of its texts, and then what is kept
 pub record ReaderIsOver (result : FilterResult) (reader : Reader) (outcome : Outcome) (past : HandlePast) : Type 0 where
   pub status : outcome.status ≡ result.status
   pub fault : outcome.fault ≡ result.fault
-  pub output : result.output ≡ past.output ++ reader.held.output.bytes.items
-  pub messages : result.messages ≡ past.messages ++ reader.held.messages.bytes.items
+  pub output : result.output ≡ past.output ++ waiting reader.held.output
+  pub messages : result.messages ≡ past.messages ++ waiting reader.held.messages
 
 -- the messages of a run in which memory ran out: the first warnings of what was fed, or a prefix of them, and then the
 -- message of the fault, where there was memory for it
@@ -127,29 +141,62 @@ pub record RunIsOutOfMemory (filter : Filter) (is_line : ℕ → Type 0)
   pub memory : FaultIs OutOfMemory outcome.fault
   pub status : outcome.status ≡ 1
   pub line : is_line (line_in outcome.fault) ⊎ (line_in outcome.fault ≡ line_in result.fault)
-  pub output : Begins result.output (past.output ++ reader.held.output.bytes.items)
-  pub messages : AreMessagesCut filter past.fed (past.messages ++ reader.held.messages.bytes.items) outcome.fault
+  pub output : Begins result.output (past.output ++ waiting reader.held.output)
+  pub messages : AreMessagesCut filter past.fed (past.messages ++ waiting reader.held.messages) outcome.fault
+
+-- the output would be longer than it may be. What was taken of both texts and then what is kept is what the first lines
+-- make, as many as make no more than it may have
+pub record RunIsOverLimit (filter : Filter) (limit : ℕ) (input : List ℕ)
+    (result : FilterResult) (reader : Reader) (outcome : Outcome) (past : HandlePast) : Type 0 where
+  pub status : outcome.status ≡ OUTPUT_LIMIT
+  pub fault : outcome.fault ≡ None
+  pub limited : 0 < limit
+  pub longer : limit < length result.output
+  pub lines : List InputLine
+  pub others : List InputLine
+  pub first : lines_of input ≡ lines ++ others
+  pub within : length (filter.so_far lines).output ≤ limit
+  pub over : limit < length (with_one_more filter lines others).output
+  pub output : (filter.so_far lines).output ≡ past.output ++ waiting reader.held.output
+  pub messages : notices_text (filter.so_far lines).warnings ≡ past.messages ++ waiting reader.held.messages
+
+-- as many bytes were fed as an input may have, and there was one more: a fault after the lines that an LF ended. What was
+-- taken of both texts and then what is kept is what these make, and the message of the fault
+pub record RunIsTooLong (filter : Filter) (reader : Reader) (outcome : Outcome) (past : HandlePast) : Type 0 where
+  pub full : length past.fed ≡ INPUT_LIMIT
+  pub status : outcome.status ≡ 1
+  pub fault : outcome.fault ≡ Some (too_long_after past.fed)
+  pub good : (filter.so_far (ended_lines_of past.fed)).fault ≡ None
+  pub output : (filter.so_far (ended_lines_of past.fed)).output ≡ past.output ++ waiting reader.held.output
+  pub messages : notices_text (filter.so_far (ended_lines_of past.fed)).warnings ++ error_text outcome.fault
+      ≡ past.messages ++ waiting reader.held.messages
 
 -- the number of a line of some bytes, at the latest of the one after those that an LF ends
 abbrev pub IsLineReached : List ℕ → ℕ → Type 0
 IsLineReached fed line = line ≤ length (ended_lines_of fed) + 1
 
--- where a run is: it goes on; or it has ended, with the result of the bytes that were fed, unless memory ran out
+-- where a run is: it goes on; or it has ended, with the result of the bytes that were fed, unless memory ran out, the
+-- output would be longer than it may be, or the input was
 abbrev pub StandsBy : Task → Reader → HandlePast → Option Outcome → Type 0
 StandsBy task reader past None = ReaderRuns task reader past
 StandsBy task reader past (Some outcome) =
     RunIsOutOfMemory (filter_for task) (IsLineReached past.fed) (result_for task past.fed) reader outcome past
-    ⊎ ReaderIsOver (result_for task past.fed) reader outcome past
+    ⊎ (RunIsOverLimit (filter_for task) (limit_for task) past.fed (result_for task past.fed) reader outcome past
+    ⊎ (RunIsTooLong (filter_for task) reader outcome past
+    ⊎ ReaderIsOver (result_for task past.fed) reader outcome past))
 
 abbrev pub ReaderStands : Task → Reader → HandlePast → Type 0
 ReaderStands task reader past = StandsBy task reader past reader.outcome
 
--- where it is after some bytes: where a fault has ended it, the result is that of every input that begins with them
+-- where it is after some bytes: where a fault or the limit of the output has ended it, the result is that of every input
+-- that begins with them
 abbrev pub HasFedBy : Task → Reader → HandlePast → Option Outcome → Type 0
 HasFedBy task reader past None = ReaderRuns task reader past
 HasFedBy task reader past (Some outcome) = ((more : List ℕ) → RunIsOutOfMemory (filter_for task)
     (λ line. (0 < line) × IsLineReached past.fed line) (result_for task (past.fed ++ more)) reader outcome past)
-    ⊎ ((more : List ℕ) → ReaderIsOver (result_for task (past.fed ++ more)) reader outcome past)
+    ⊎ (((more : List ℕ) → RunIsOverLimit (filter_for task) (limit_for task) (past.fed ++ more)
+    (result_for task (past.fed ++ more)) reader outcome past)
+    ⊎ ((more : List ℕ) → ReaderIsOver (result_for task (past.fed ++ more)) reader outcome past))
 
 abbrev pub HasFed : Task → Reader → HandlePast → Type 0
 HasFed task reader past = HasFedBy task reader past reader.outcome
@@ -159,28 +206,52 @@ abbrev pub HasEndedBy : Task → Reader → HandlePast → Option Outcome → Ty
 HasEndedBy task reader past None = ⊥
 HasEndedBy task reader past (Some outcome) = RunIsOutOfMemory (filter_for task)
     (λ line. line ≡ length (lines_of past.fed)) (result_for task past.fed) reader outcome past
-    ⊎ ReaderIsOver (result_for task past.fed) reader outcome past
+    ⊎ (RunIsOverLimit (filter_for task) (limit_for task) past.fed (result_for task past.fed) reader outcome past
+    ⊎ ReaderIsOver (result_for task past.fed) reader outcome past)
 
 abbrev pub ReaderHasEnded : Task → Reader → HandlePast → Type 0
 ReaderHasEnded task reader past = HasEndedBy task reader past reader.outcome
+
+-- after a byte more than an input may have
+abbrev pub HasPassedBy : Task → Reader → HandlePast → Option Outcome → Type 0
+HasPassedBy task reader past None = ⊥
+HasPassedBy task reader past (Some outcome) = RunIsOutOfMemory (filter_for task)
+    (λ line. line ≡ length (ended_lines_of past.fed) + 1) (result_for task past.fed) reader outcome past
+    ⊎ RunIsTooLong (filter_for task) reader outcome past
+
+abbrev pub ReaderHasPassed : Task → Reader → HandlePast → Type 0
+ReaderHasPassed task reader past = HasPassedBy task reader past reader.outcome
 
 -- a fault was put down: its message was kept, and its status is 1
 pub record IsPutDown (old new : Held) (outcome : Outcome) (at : At) : Type 0 where
   pub status : outcome.status ≡ 1
   pub fault : outcome.fault ≡ Some at
-  pub output : new.output.bytes.items ≡ old.output.bytes.items
-  pub messages : new.messages.bytes.items ≡ old.messages.bytes.items ++ error_text (Some at)
+  pub output : waiting new.output ≡ waiting old.output
+  pub messages : waiting new.messages ≡ waiting old.messages ++ error_text (Some at)
 
 -- its message couldn't be kept, which is out of memory at its line; both texts are as they were
 pub record IsPutSilently (old new : Held) (outcome : Outcome) (at : At) : Type 0 where
   pub status : outcome.status ≡ 1
   pub fault : outcome.fault ≡ Some (record { line = at.line; fault = OutOfMemory })
-  pub output : new.output.bytes.items ≡ old.output.bytes.items
-  pub messages : new.messages.bytes.items ≡ old.messages.bytes.items
+  pub output : waiting new.output ≡ waiting old.output
+  pub messages : waiting new.messages ≡ waiting old.messages
 
 abbrev pub IsPut : Held → Held → At → Option Outcome → Type 0
 IsPut old new at None = ⊥
 IsPut old new at (Some outcome) = IsPutSilently old new outcome at ⊎ IsPutDown old new outcome at
+
+-- how a run has ended by what stopped it
+abbrev pub IsStopped : Held → Held → Outcome → Stop → Type 0
+IsStopped old new outcome (Fault at) = IsPut old new at (Some outcome)
+IsStopped old new outcome Limit = (outcome ≡ record { status = OUTPUT_LIMIT; fault = None }) × (new ≡ old)
+
+-- of so many bytes that may be fed some were taken: at least one where little enough waited, and not all only where much
+-- waits now
+pub record IsFed (old new : Reader) (length count : ℕ) : Type 0 where
+  pub within : count ≤ length
+  pub some : 0 < length → ready_in old.held < READY_LIMIT → 0 < count
+  pub all : new.outcome ≡ None → count < length → READY_LIMIT ≤ ready_in new.held
+  pub still : READY_LIMIT ≤ ready_in old.held → (count ≡ 0) × (new.held ≡ old.held)
 
 -- ---- what a call answers
 
@@ -197,8 +268,8 @@ fault_now (Some outcome) = outcome.fault
 abbrev pub answer_now : Reader → Answer
 answer_now reader = record {
   line = line_in (fault_now reader.outcome);
-  output_length = length reader.held.output.bytes.items;
-  messages_length = length reader.held.messages.bytes.items;
+  output_length = length (waiting reader.held.output);
+  messages_length = length (waiting reader.held.messages);
   status = status_now reader.outcome;
   code = fault_code_in (fault_now reader.outcome);
 }
@@ -207,20 +278,28 @@ answer_now reader = record {
 abbrev pub IsMisused : Answer → Type 0
 IsMisused answer = answer ≡ bare_answer MISUSED 0 0
 
--- more bytes were fed; where these would be more than an input may have, nothing was done
-pub record FeedsBytes (task : Task) (old new : Reader) (past : HandlePast) (bytes : List ℕ)
+-- how many bytes of a text are fed at most: those within the limit of an input
+abbrev pub allowed_after : HandlePast → List ℕ → List ℕ
+allowed_after past bytes = take (INPUT_LIMIT - length past.fed) bytes
+
+-- so many more bytes were fed, a line's after another's, as long as little enough waited to be taken; or there were some,
+-- and no more may be fed, which ends the run
+pub record FeedsBytes (task : Task) (old new : Reader) (past : HandlePast) (bytes : List ℕ) (used : ℕ)
     (answer : Answer) : Type 0 where
-  pub long : INPUT_LIMIT < length past.fed + length bytes
-      → (answer ≡ bare_answer 1 0 (code_of_fault InputTooLong)) × (new ≡ old)
-  pub fed : length past.fed + length bytes ≤ INPUT_LIMIT
-      → HasFed task new (fed_with past bytes) × (answer ≡ answer_now new)
+  pub answers : answer ≡ answer_now new
+  pub within : used ≤ length (allowed_after past bytes)
+  pub over : 0 < length bytes → length (allowed_after past bytes) ≡ 0 → (used ≡ 0) × ReaderHasPassed task new past
+  pub fed : (0 < length bytes → 0 < length (allowed_after past bytes)) → HasFed task new (fed_with past (take used bytes))
+  pub some : 0 < length (allowed_after past bytes) → ready_in old.held < READY_LIMIT → 0 < used
+  pub all : new.outcome ≡ None → used < length (allowed_after past bytes) → READY_LIMIT ≤ ready_in new.held
+  pub still : 0 < length (allowed_after past bytes) → READY_LIMIT ≤ ready_in old.held → (used ≡ 0) × (new.held ≡ old.held)
 
-abbrev pub FeedsBy : Task → Reader → Reader → HandlePast → List ℕ → Answer → Option Outcome → Type 0
-FeedsBy task old new past bytes answer None = FeedsBytes task old new past bytes answer
-FeedsBy task old new past bytes answer (Some outcome) = IsMisused answer × (new ≡ old)
+abbrev pub FeedsBy : Task → Reader → Reader → HandlePast → List ℕ → ℕ → Answer → Option Outcome → Type 0
+FeedsBy task old new past bytes used answer None = FeedsBytes task old new past bytes used answer
+FeedsBy task old new past bytes used answer (Some outcome) = IsMisused answer × (used ≡ 0) × (new ≡ old)
 
-abbrev pub Feeds : Task → Reader → Reader → HandlePast → List ℕ → Answer → Type 0
-Feeds task old new past bytes answer = FeedsBy task old new past bytes answer old.outcome
+abbrev pub Feeds : Task → Reader → Reader → HandlePast → List ℕ → ℕ → Answer → Type 0
+Feeds task old new past bytes used answer = FeedsBy task old new past bytes used answer old.outcome
 
 -- the end of the input was reported
 abbrev pub ReaderEndsBy : Task → Reader → Reader → HandlePast → Answer → Option Outcome → Type 0

@@ -1,6 +1,10 @@
 pub mod meaning
 pub mod Collecting
+pub mod Counting
 pub mod Going
 pub mod Handles
+pub mod Holding
+pub mod Holdings
 pub mod Opened
 pub mod Places
+pub mod Waiting

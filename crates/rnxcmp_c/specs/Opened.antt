@@ -5,6 +5,7 @@ use Rattle.rnxcmp_c.specs.Handles.{Ends, Feeds, ReaderStands, Task, answer_now}
 use Rattle.rnxcmp_c.specs.declared.answer.Answer.{Answer}
 use Rattle.rnxcmp_c.specs.declared.handle.Handle.{Handle}
 use Rattle.rnxcmp_c.specs.declared.reader.Reader.{Reader}
+use Rattle.rnxcmp_c.specs.Waiting.{waiting}
 
 -- a handle holds a reader
 abbrev pub Holds : Handle → Reader → Type 0
@@ -28,20 +29,21 @@ IsUnchanged old new = new ≡ old
 -- the texts that are kept
 abbrev pub output_kept : List Reader → List ℕ
 output_kept [] = []
-output_kept (reader ∷ more) = reader.held.output.bytes.items
+output_kept (reader ∷ more) = waiting reader.held.output
 
 abbrev pub messages_kept : List Reader → List ℕ
 messages_kept [] = []
-messages_kept (reader ∷ more) = reader.held.messages.bytes.items
+messages_kept (reader ∷ more) = waiting reader.held.messages
 
 -- what became of a handle's run by some bytes, by the end of the input, and by a look at it
-pub record FeedsHandle (task : Task) (old new : Handle) (past : HandlePast) (bytes : List ℕ) (answer : Answer) : Type 0 where
+pub record FeedsHandle (task : Task) (old new : Handle) (past : HandlePast) (bytes : List ℕ) (used : ℕ)
+    (answer : Answer) : Type 0 where
   pub before : Reader
   pub after : Reader
   pub held : Holds old before
   pub holds : Holds new after
   pub is_open : new.is_open ≡ true
-  pub feeds : Feeds task before after past bytes answer
+  pub feeds : Feeds task before after past bytes used answer
 
 pub record EndsHandle (task : Task) (old new : Handle) (past : HandlePast) (answer : Answer) : Type 0 where
   pub before : Reader

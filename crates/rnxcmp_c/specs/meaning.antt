@@ -1,3 +1,5 @@
 -- What has to be believed: the definitions that the promises stand on. docs/READING.md gives their order.
 pub mod Answers
+pub mod Lossless
 pub mod Promises
+pub mod Stretches

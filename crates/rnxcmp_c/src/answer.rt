@@ -17,6 +17,9 @@ pub const BAD_DATE: u32 = 4;
 /// The status where a handle isn't open, or its run has ended.
 pub const MISUSED: u32 = 6;
 
+/// The status where the output has more bytes than it may have.
+pub const OUTPUT_LIMIT: u32 = 7;
+
 /// What a call answers.
 #[repr(C)]
 #[derive(Clone, Copy, Debug, PartialEq, Eq)]
@@ -27,7 +30,7 @@ pub struct Answer {
     pub output_length: usize,
     /// How many bytes all messages have.
     pub messages_length: usize,
-    /// 0, 1 or 2, as the exit status of the program; [`NO_ROOM`]; or [`BAD_DATE`].
+    /// 0, 1 or 2, as the exit status of the program; or one of the statuses above.
     pub status: u32,
     /// The number of the fault that ended the run, from 1 to 22; 0 where none did.
     pub code: u32,
@@ -65,6 +68,13 @@ pub(crate) fn misused() -> Answer
     ensures { result ≡ bare_answer MISUSED 0 0 }
 {
     bare(MISUSED, 0, 0)
+}
+
+/// The output is longer than its limit.
+pub(crate) fn over_limit() -> Answer
+    ensures { result ≡ bare_answer OUTPUT_LIMIT 0 0 }
+{
+    bare(OUTPUT_LIMIT, 0, 0)
 }
 
 /// The input is longer than the limit.

@@ -1,10 +1,8 @@
 //! The devices of a run over memory: what gives the caller's input, and what collects the output or the messages.
 
-ghost use Rattle.std.specs.Prelude.{◌≡◌, ◌≢◌, ◌++◌, [], Some, drop, false, length, true};
-ghost use Rattle.std.proofs.KnownBytes.{Appends-nil, Appends-trans, Consumes-nil, Consumes-trans};
-ghost use Rattle.rnxcmp_c.specs.meaning.Answers.{placed};
+ghost use Rattle.std.specs.Prelude.{◌≡◌, ◌≢◌, ◌<◌, ◌≤◌, ◌+◌, ◌++◌, [], Some, false, length, take, true, vec_capacity};
+ghost use Rattle.std.proofs.KnownBytes.{Consumes-nil, Consumes-trans};
 
-use crate::answer::place;
 use crx_lines::{ReadFailed, Sink, Source, WriteFailed};
 use std::alloc::Global;
 
@@ -51,30 +49,49 @@ impl Source for Given<'_> {
     ghost gave_both = { λ a b c xs ys p q. Consumes-trans (Some a.left.now) (Some b.left.now) (Some c.left.now) xs ys p q };
 }
 
-/// Collects the bytes that are written. It fails only where memory runs out.
+/// Collects the first bytes that are written, as many as a room has place for, and counts the others. It fails where memory runs out, and
+/// once it has as many as it may take.
 #[derive(Drop)]
-pub struct Collected {
+pub struct Counted {
     bytes: Vec<u8>,
+    /// How many are kept at most.
+    room: usize,
+    /// How many were taken in all.
+    count: usize,
+    /// How many are taken at most.
+    most: usize,
     failures: u64,
     flushes: u64,
     flushed: bool,
+    /// Whether memory ran out.
+    lost: bool,
+    ghost fits: { length bytes.items ≤ room },
+    ghost within: { count ≤ most },
+    ghost full: { failures ≢ 0 → lost ≡ false → count ≡ most },
+    ghost refused: { lost ≡ true → vec_capacity bytes < room },
 }
 
-impl Collected {
-    /// A sink that took no byte yet.
-    pub(crate) fn new(alloc: Global) -> Self
-        ensures empty { result.bytes.items ≡ [] }
-        ensures good { result.failures ≡ 0 }
+impl Counted {
+    ghost use Rattle.rnxcmp_c.specs.Collecting.{IsCountedAlike, IsEmpty};
+    ghost use Rattle.rnxcmp_c.specs.Counting.{Took};
+
+    /// A sink that took no byte yet, with this much room, which takes so many bytes at most.
+    pub(crate) fn new(alloc: Global, room: usize, most: usize) -> Self
+        ensures { IsEmpty room most result }
     {
-        Collected {
+        Counted {
             bytes: Vec::new(alloc),
+            room,
+            count: 0,
+            most,
             failures: 0,
             flushes: 0,
             flushed: false,
+            lost: false,
         }
     }
 
-    /// Whether memory ran out in a write.
+    /// Whether a write failed.
     pub(crate) fn has_failed(&self) -> bool
         ensures good { result ≡ false → self.now.failures ≡ 0 }
         ensures failed { result ≡ true → self.now.failures ≢ 0 }
@@ -82,43 +99,47 @@ impl Collected {
         self.failures != 0
     }
 
-    /// How many bytes are kept.
+    /// How many bytes were taken.
     pub(crate) fn count(&self) -> usize
-        ensures { result ≡ length self.now.bytes.items }
+        ensures { result ≡ self.now.count }
     {
-        self.bytes.len()
+        self.count
     }
 
-    /// Takes a text at its end; `false` says that memory ran out.
-    pub(crate) fn add(&mut self, text: &[u8]) -> bool
-        ensures taken { result ≡ true → self.new.bytes.items ≡ self.old.bytes.items ++ text.now }
-        ensures unchanged { result ≡ false → self.new.bytes.items ≡ self.old.bytes.items }
-    {
-        self.bytes.extend_from_slice(text).is_ok()
-    }
-
-    /// Moves its first bytes to the front of the room, as many as fit.
-    pub(crate) fn hand_out(&mut self, room: &mut [u8])
-        ensures room { room.new ≡ placed self.old.bytes.items room.old }
-        ensures left { self.new.bytes.items ≡ drop (length room.old) self.old.bytes.items }
-    {
-        place(&self.bytes, room);
-        let count = self.bytes.len().min(room.len());
-        let left = self.bytes.len() - count;
-        self.bytes.copy_within(count.., 0);
-        self.bytes.truncate(left);
-    }
-
-    /// All bytes that were written.
+    /// The bytes that were kept.
     pub(crate) fn into_bytes(self) -> Vec<u8>
         ensures { result ≡ self.bytes }
     {
         self.bytes
     }
+
+    /// Takes so many of some bytes; `false` says that there was no memory for those that are to be kept.
+    fn take_first(&mut self, bytes: &[u8], some: usize) -> bool
+        requires some { some ≤ length bytes.now }
+        requires within { self.old.count + some ≤ self.old.most }
+        ensures took { result ≡ true → Took self.old (take some bytes.now) self.new }
+        ensures none { result ≡ false → Took self.old [] self.new }
+        ensures lost { result ≡ false → self.new.lost ≡ true }
+        ensures counts { IsCountedAlike self.old self.new }
+    {
+        let kept = some.min(self.room - self.bytes.len());
+        if self.lost || self.bytes.reserve(kept).is_err() {
+            self.lost = true;
+            return false;
+        }
+        match self.bytes.extend_from_slice(&bytes[..kept]) {
+            Ok(()) => {}
+            Err(_) => unreachable!(),
+        }
+        self.count += some;
+        true
+    }
 }
 
-impl Sink for Collected {
-    ghost took = { λ a bytes b. b.bytes.items ≡ a.bytes.items ++ bytes };
+impl Sink for Counted {
+    ghost use Rattle.rnxcmp_c.specs.Counting.{Took, took-none, took-both};
+
+    ghost took = { Took };
 
     ghost failures = { λ s. s.failures };
 
@@ -128,13 +149,13 @@ impl Sink for Collected {
 
     fn write(&mut self, bytes: &[u8]) -> Result<usize, WriteFailed> {
         self.flushed = false;
-        match self.bytes.extend_from_slice(bytes) {
-            Ok(()) => Ok(bytes.len()),
-            Err(_) => {
-                self.failures = self.failures.saturating_add(1);
-                Err(WriteFailed)
-            }
+        let some = bytes.len().min(self.most - self.count);
+        let is_full = some == 0 && !bytes.is_empty();
+        if !is_full && self.take_first(bytes, some) {
+            return Ok(some);
         }
+        self.failures = self.failures.saturating_add(1);
+        Err(WriteFailed)
     }
 
     fn flush(&mut self) -> Result<(), WriteFailed> {
@@ -143,7 +164,7 @@ impl Sink for Collected {
         Ok(())
     }
 
-    ghost took_none = { λ s. Appends-nil (Some s.bytes.items) };
+    ghost took_none = { took-none };
 
-    ghost took_both = { λ a b c xs ys p q. Appends-trans (Some a.bytes.items) (Some b.bytes.items) (Some c.bytes.items) xs ys p q };
+    ghost took_both = { took-both };
 }

@@ -1,15 +1,17 @@
 //! The engines of the three tasks, as one type.
 
-ghost use Rattle.std.specs.Prelude.{◌≡◌, ◌≤◌, ◌+◌, [], length, OnOk, IfErr};
+ghost use Rattle.std.specs.Prelude.{◌≡◌, ◌<◌, ◌≤◌, ◌+◌, [], length, take, OnErr, OnOk, IfOk, IfErr};
 ghost use Rattle.crx_faults.specs.declared.limits.TheConstants.{INPUT_LIMIT};
 ghost use Rattle.crx_faults.specs.meaning.Lines.{lines_of};
 ghost use Rattle.crx_runs.specs.Lawful.{IsLawful};
-ghost use Rattle.rnxcmp_c.specs.Going.{Breaks, LineFails, IsAll, IsGoing, HandlePast, fed_with};
+ghost use Rattle.rnxcmp_c.specs.Going.{IsAll, IsGoing, IsTaken, HandlePast, RunBreaks, RunFails, fed_with};
+ghost use Rattle.rnxcmp_c.specs.Holding.{ready_in};
+ghost use Rattle.rnxcmp_c.specs.declared.limits.TheConstants.{READY_LIMIT};
 ghost use Rattle.rnxcmp_c.specs.Handles.{IsOf, Task, engine_filter, has_ended_of, is_open_of, ready_of, shows_of, status_at_end};
 
 use crate::held::Held;
 use crate::lines::{take_bytes, take_last};
-use crx_faults::At;
+use crate::stop::Stop;
 use crx_filter::checker::Checker;
 use crx_filter::{Compactor, Expander};
 
@@ -24,8 +26,8 @@ pub enum AnyEngine {
     Checking(Checker),
 }
 
-/// Takes some bytes.
-pub(crate) fn take_any(engine: &mut AnyEngine, held: &mut Held, bytes: &[u8]) -> Result<(), At>
+/// Takes some bytes, as long as little enough waits to be taken, and answers how many.
+pub(crate) fn take_any(engine: &mut AnyEngine, held: &mut Held, bytes: &[u8]) -> Result<usize, Stop>
     requires drained { ready_of engine.old ≡ [] }
     requires running { is_open_of engine.old }
     requires going { (past : HandlePast) × IsGoing (engine_filter engine.old)
@@ -34,12 +36,15 @@ pub(crate) fn take_any(engine: &mut AnyEngine, held: &mut Held, bytes: &[u8]) ->
     ensures of { (task : Task) → IsOf task engine.old → IsOf task engine.new }
     ensures running { OnOk result (is_open_of engine.new) }
     ensures drained { OnOk result (ready_of engine.new ≡ []) }
+    ensures limit { held.new.limit ≡ held.old.limit }
+    ensures count { IfOk result (IsTaken held.old held.new (length bytes.now)) }
+    ensures low { OnErr result (ready_in held.old < READY_LIMIT) }
     ensures going { (past : HandlePast) → IsGoing (engine_filter engine.old)
-        (shows_of engine.old) held.old past → OnOk result
-        (IsGoing (engine_filter engine.new) (shows_of engine.new) held.new (fed_with past bytes.now)) }
+        (shows_of engine.old) held.old past → IfOk result (λ n.
+        IsGoing (engine_filter engine.new) (shows_of engine.new) held.new (fed_with past (take n bytes.now))) }
     ensures breaks { (past : HandlePast) → IsGoing (engine_filter engine.old)
         (shows_of engine.old) held.old past
-        → IfErr result (λ at. Breaks (engine_filter engine.old) held.new (fed_with past bytes.now) at) }
+        → IfErr result (RunBreaks (engine_filter engine.old) held.new (fed_with past bytes.now)) }
 {
     match engine {
         AnyEngine::Compacting(compactor) => take_bytes(compactor, held, bytes),
@@ -49,13 +54,14 @@ pub(crate) fn take_any(engine: &mut AnyEngine, held: &mut Held, bytes: &[u8]) ->
 }
 
 /// Takes the end of the input.
-pub(crate) fn end_any(engine: &mut AnyEngine, held: &mut Held) -> Result<(), At>
+pub(crate) fn end_any(engine: &mut AnyEngine, held: &mut Held) -> Result<(), Stop>
     requires drained { ready_of engine.old ≡ [] }
     requires running { is_open_of engine.old }
     requires going { (past : HandlePast) × IsGoing (engine_filter engine.old)
         (shows_of engine.old) held.old past
         × (length past.fed ≤ INPUT_LIMIT) }
     ensures of { (task : Task) → IsOf task engine.old → IsOf task engine.new }
+    ensures limit { held.new.limit ≡ held.old.limit }
     ensures ended { (past : HandlePast) → IsGoing (engine_filter engine.old)
         (shows_of engine.old) held.old past
         → OnOk result (has_ended_of engine.new (lines_of past.fed)) }
@@ -64,7 +70,7 @@ pub(crate) fn end_any(engine: &mut AnyEngine, held: &mut Held) -> Result<(), At>
         → OnOk result (IsAll ((engine_filter engine.old).whole (lines_of past.fed)) held.new past) }
     ensures fails { (past : HandlePast) → IsGoing (engine_filter engine.old)
         (shows_of engine.old) held.old past
-        → IfErr result (λ at. LineFails (engine_filter engine.old) held.new past at) }
+        → IfErr result (RunFails (engine_filter engine.old) held.new past) }
 {
     match engine {
         AnyEngine::Compacting(compactor) => take_last(compactor, held),

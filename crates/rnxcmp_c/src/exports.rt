@@ -2,19 +2,22 @@
 //!
 //! Where memory didn't run out, the input has at most [`INPUT_LIMIT`] bytes and the date isn't refused, output, messages, status, fault
 //! and lengths are those of the defined result of the input, for every choice of options. A text that doesn't fit stands in its room as
-//! far as it does. Else nothing in the caller's rooms is changed.
+//! far as it does. Else, and where the output is longer than it may be, nothing in the caller's rooms is changed.
 
 ghost use Rattle.std.specs.Prelude.{◌≡◌, ◌<◌, ◌≤◌, length, Some, true, false};
+ghost use Rattle.crx_filter.specs.meaning.Lossless.{SaysThatItComesBack};
 ghost use Rattle.crx_options.specs.meaning.Choices.{Choices, choices_of, is_date};
 ghost use Rattle.crx_reading.specs.meaning.Compacted.{compacted};
 ghost use Rattle.crx_reading.specs.meaning.Expanded.{expanded};
 ghost use Rattle.crx_reading.specs.meaning.Standard.{checked};
 ghost use Rattle.crx_faults.specs.declared.limits.TheConstants.{INPUT_LIMIT};
-ghost use Rattle.rnxcmp_c.specs.meaning.Answers.{HasNoMemory, IsAnswer, IsDateRefused, CallIsOutOfMemory, IsTooLong, rooms};
+ghost use Rattle.rnxcmp_c.specs.meaning.Lossless.{CallBringsBackWhatPasses};
+ghost use Rattle.rnxcmp_c.specs.meaning.Answers.{AnswersWithin, CallIsOutOfMemory, HasNoMemory, IsAnswer, IsDateRefused, IsTooLong, rooms};
 ghost use Rattle.rnxcmp_c.specs.meaning.Promises.{CallBringsBackWhatWasCompacted, CallJudgesStandard, CallSavesAllElse};
+ghost use Rattle.rnxcmp_c.specs.meaning.Stretches.{CallKeepsUndamaged, CallWritesWholeUnits};
 
-use crate::answer::{Answer, date_refused, out_of_memory, too_long};
-use crate::runs::{Run, compaction, examination, expansion};
+use crate::answer::{Answer, date_refused, too_long};
+use crate::runs::{Bounds, compaction, examination, expansion};
 use crx_faults::limits::INPUT_LIMIT;
 use crx_filter::Options;
 use std::alloc::Global;
@@ -28,7 +31,7 @@ fn is_too_long(input: &[u8]) -> bool
 }
 
 /// Compacts RINEX 3.0x: an epoch in full at each that `every` divides (0: only where one must be), with a warning for an epoch with a
-/// fault where `skip` says so, and the date of the second line.
+/// fault where `skip` says so, the date of the second line, and at most `max_output` bytes of output (0: no limit).
 #[unsafe(no_mangle)]
 pub extern "C" fn rnxcmp_c_compact(
     alloc: Global,
@@ -36,6 +39,7 @@ pub extern "C" fn rnxcmp_c_compact(
     every: u32,
     skip: bool,
     date: &[u8],
+    max_output: u64,
     output: &mut [u8],
     messages: &mut [u8],
 ) -> Answer
@@ -46,7 +50,7 @@ pub extern "C" fn rnxcmp_c_compact(
     ensures memory { HasNoMemory result
         → CallIsOutOfMemory result (rooms output.old messages.old) (rooms output.new messages.new) }
     ensures runs { is_date date.now ≡ true → length input.now ≤ INPUT_LIMIT → (HasNoMemory result → ⊥)
-        → IsAnswer (compacted input.now (choices_of (Some every) skip date.now)) result
+        → AnswersWithin max_output (compacted input.now (choices_of (Some every) skip date.now)) result
         (rooms output.old messages.old) (rooms output.new messages.new) }
 {
     let Ok(options) = Options::new(Some(every), skip, date) else {
@@ -55,9 +59,14 @@ pub extern "C" fn rnxcmp_c_compact(
     if is_too_long(input) {
         return too_long();
     }
-    match compaction(alloc, input, options) {
+    let bounds = Bounds {
+        output: output.len(),
+        messages: messages.len(),
+        most: max_output,
+    };
+    match compaction(alloc, input, options, bounds) {
         Ok(run) => run.answer(output, messages),
-        Err(line) => out_of_memory(line),
+        Err(answer) => answer,
     }
 }
 
@@ -71,12 +80,14 @@ pub(crate) fn expansion_options(skip: bool) -> Options
     }
 }
 
-/// Expands Compact RINEX 3.0, with a warning for an epoch with a fault where `skip` says so.
+/// Expands Compact RINEX 3.0, with a warning for an epoch with a fault where `skip` says so, and at most `max_output` bytes of output
+/// (0: no limit).
 #[unsafe(no_mangle)]
 pub extern "C" fn rnxcmp_c_expand(
     alloc: Global,
     input: &[u8],
     skip: bool,
+    max_output: u64,
     output: &mut [u8],
     messages: &mut [u8],
 ) -> Answer
@@ -86,21 +97,35 @@ pub extern "C" fn rnxcmp_c_expand(
         → CallIsOutOfMemory result (rooms output.old messages.old) (rooms output.new messages.new) }
     ensures runs { length input.now ≤ INPUT_LIMIT
         → (HasNoMemory result → ⊥) → (choices : Choices) → choices.skip ≡ skip
-        → IsAnswer (expanded input.now choices) result
+        → AnswersWithin max_output (expanded input.now choices) result
         (rooms output.old messages.old) (rooms output.new messages.new) }
+    ensures lossless { length input.now ≤ INPUT_LIMIT → (HasNoMemory result → ⊥)
+        → CallBringsBackWhatPasses (λ whole. AnswersWithin max_output whole result
+        (rooms output.old messages.old) (rooms output.new messages.new)) input.now }
     ensures way_back { length input.now ≤ INPUT_LIMIT → (HasNoMemory result → ⊥)
         → CallBringsBackWhatWasCompacted (λ whole.
-        IsAnswer whole result (rooms output.old messages.old) (rooms output.new messages.new)) input.now }
+        AnswersWithin max_output whole result (rooms output.old messages.old) (rooms output.new messages.new)) input.now }
     ensures salvage { length input.now ≤ INPUT_LIMIT → (HasNoMemory result → ⊥) → skip ≡ true
-        → CallSavesAllElse (λ whole. IsAnswer whole result
+        → CallSavesAllElse (λ whole. AnswersWithin max_output whole result
+        (rooms output.old messages.old) (rooms output.new messages.new)) input.now }
+    ensures damage { length input.now ≤ INPUT_LIMIT → (HasNoMemory result → ⊥) → skip ≡ true
+        → CallKeepsUndamaged (λ whole. AnswersWithin max_output whole result
+        (rooms output.old messages.old) (rooms output.new messages.new)) input.now }
+    ensures whole_units { length input.now ≤ INPUT_LIMIT → (HasNoMemory result → ⊥)
+        → CallWritesWholeUnits (λ whole. AnswersWithin max_output whole result
         (rooms output.old messages.old) (rooms output.new messages.new)) input.now }
 {
     if is_too_long(input) {
         return too_long();
     }
-    match expansion(alloc, input, expansion_options(skip)) {
+    let bounds = Bounds {
+        output: output.len(),
+        messages: messages.len(),
+        most: max_output,
+    };
+    match expansion(alloc, input, expansion_options(skip), bounds) {
         Ok(run) => run.answer(output, messages),
-        Err(line) => out_of_memory(line),
+        Err(answer) => answer,
     }
 }
 
@@ -119,14 +144,21 @@ pub extern "C" fn rnxcmp_c_check(
     ensures runs { length input.now ≤ INPUT_LIMIT → (HasNoMemory result → ⊥)
         → IsAnswer (checked input.now) result
         (rooms output.old messages.old) (rooms output.new messages.new) }
+    ensures lossless { length input.now ≤ INPUT_LIMIT → (HasNoMemory result → ⊥)
+        → SaysThatItComesBack result.status input.now }
     ensures standard { length input.now ≤ INPUT_LIMIT → (HasNoMemory result → ⊥)
         → result.output_length ≤ length output.old → CallJudgesStandard result.status input.now }
 {
     if is_too_long(input) {
         return too_long();
     }
-    match examination(alloc, input) {
+    let bounds = Bounds {
+        output: output.len(),
+        messages: messages.len(),
+        most: 0,
+    };
+    match examination(alloc, input, bounds) {
         Ok(run) => run.answer(output, messages),
-        Err(line) => out_of_memory(line),
+        Err(answer) => answer,
     }
 }

@@ -9,7 +9,8 @@ ghost use Rattle.crx_options.specs.meaning.Choices.{Choices, choices_of, is_date
 ghost use Rattle.crx_faults.specs.declared.fault.Fault.TheVariants.{OutOfMemory};
 ghost use Rattle.crx_faults.specs.meaning.Faults.{code_of_fault};
 ghost use Rattle.rnxcmp_c.specs.Going.{HandlePast};
-ghost use Rattle.rnxcmp_c.specs.Handles.{IsFresh, IsMisused, Task, nothing_fed, taken_with};
+ghost use Rattle.rnxcmp_c.specs.Handles.{IsFresh, IsMisused, Task, limit_for, nothing_fed, taken_with};
+ghost use Rattle.rnxcmp_c.specs.Holding.{HoldsNothing};
 ghost use Rattle.rnxcmp_c.specs.Opened.{AnswersHandle, EndedAlike, EndsHandle, FeedsHandle, HandleStands, Holds, IsSoundHandle, IsUnchanged, messages_kept, output_kept};
 ghost use Rattle.rnxcmp_c.specs.declared.reader.Reader.{Reader};
 ghost use Rattle.rnxcmp_c.specs.meaning.Answers.{bare_answer, placed};
@@ -67,16 +68,16 @@ fn put_in(handle: &mut Handle, reader: Box<Reader>)
     };
 }
 
-/// Opens a closed handle for a run of this engine.
-fn open(alloc: Global, handle: &mut Handle, engine: AnyEngine) -> Answer
-    ensures opened { (task : Task) → IsFresh task engine → result.status ≡ 0
+/// Opens a closed handle for a run of this engine, with what is held beside it.
+fn open(alloc: Global, handle: &mut Handle, engine: AnyEngine, held: Held) -> Answer
+    ensures opened { (task : Task) → IsFresh task engine → HoldsNothing (limit_for task) held → result.status ≡ 0
         → HandleStands task handle.new nothing_fed }
     ensures answer { (result ≡ bare_answer 0 0 0) ⊎ (result ≡ bare_answer 1 0 (code_of_fault OutOfMemory)) }
     ensures unchanged { (result.status ≡ 0 → ⊥) → IsUnchanged handle.old handle.new }
 {
     let reader = Reader {
         engine,
-        held: Held::new(alloc),
+        held,
         fed: 0,
         outcome: None,
     };
@@ -108,9 +109,10 @@ pub extern "C" fn rnxcmp_c_open_compact(
     every: u32,
     skip: bool,
     date: &[u8],
+    max_output: u64,
 ) -> Answer
     ensures opened { result.status ≡ 0
-        → HandleStands (Task.Compact (choices_of (Some every) skip date.now)) handle.new nothing_fed }
+        → HandleStands (Task.Compact (choices_of (Some every) skip date.now) max_output) handle.new nothing_fed }
     ensures unchanged { (result.status ≡ 0 → ⊥) → IsUnchanged handle.old handle.new }
     ensures misused { handle.old.is_open ≡ true → IsMisused result }
     ensures date { handle.old.is_open ≡ false → is_date date.now ≡ false → result ≡ bare_answer BAD_DATE 0 0 }
@@ -123,17 +125,25 @@ pub extern "C" fn rnxcmp_c_open_compact(
     let Ok(options) = Options::new(Some(every), skip, date) else {
         return date_refused();
     };
+    let Ok(held) = Held::new(alloc, max_output) else {
+        return out_of_memory(0);
+    };
     match Compactor::new(alloc, options) {
-        Ok(compactor) => open(alloc, handle, AnyEngine::Compacting(compactor)),
+        Ok(compactor) => open(alloc, handle, AnyEngine::Compacting(compactor), held),
         Err(_) => out_of_memory(0),
     }
 }
 
 /// Opens a closed handle for an expansion.
 #[unsafe(no_mangle)]
-pub extern "C" fn rnxcmp_c_open_expand(alloc: Global, handle: &mut Handle, skip: bool) -> Answer
+pub extern "C" fn rnxcmp_c_open_expand(
+    alloc: Global,
+    handle: &mut Handle,
+    skip: bool,
+    max_output: u64,
+) -> Answer
     ensures opened { result.status ≡ 0 → (choices : Choices) × (choices.skip ≡ skip)
-        × HandleStands (Task.Expand choices) handle.new nothing_fed }
+        × HandleStands (Task.Expand choices max_output) handle.new nothing_fed }
     ensures unchanged { (result.status ≡ 0 → ⊥) → IsUnchanged handle.old handle.new }
     ensures misused { handle.old.is_open ≡ true → IsMisused result }
     ensures answer { handle.old.is_open ≡ false
@@ -142,8 +152,11 @@ pub extern "C" fn rnxcmp_c_open_expand(alloc: Global, handle: &mut Handle, skip:
     if handle.is_open {
         return misused();
     }
+    let Ok(held) = Held::new(alloc, max_output) else {
+        return out_of_memory(0);
+    };
     match Expander::new(alloc, expansion_options(skip)) {
-        Ok(expander) => open(alloc, handle, AnyEngine::Expanding(expander)),
+        Ok(expander) => open(alloc, handle, AnyEngine::Expanding(expander), held),
         Err(_) => out_of_memory(0),
     }
 }
@@ -160,24 +173,39 @@ pub extern "C" fn rnxcmp_c_open_check(alloc: Global, handle: &mut Handle) -> Ans
     if handle.is_open {
         return misused();
     }
-    open(alloc, handle, AnyEngine::Checking(Checker::new(alloc)))
+    let Ok(held) = Held::new(alloc, 0) else {
+        return out_of_memory(0);
+    };
+    open(
+        alloc,
+        handle,
+        AnyEngine::Checking(Checker::new(alloc)),
+        held,
+    )
 }
 
-/// Takes some bytes of the input, which may end anywhere.
+/// Takes bytes of the input, which may end anywhere, as long as little enough waits to be taken; `used` becomes how many.
 #[unsafe(no_mangle)]
-pub extern "C" fn rnxcmp_c_feed(alloc: Global, handle: &mut Handle, bytes: &[u8]) -> Answer
+pub extern "C" fn rnxcmp_c_feed(
+    alloc: Global,
+    handle: &mut Handle,
+    bytes: &[u8],
+    used: &mut usize,
+) -> Answer
     requires { IsSoundHandle handle.old }
-    ensures closed { handle.old.is_open ≡ false → IsMisused result × IsUnchanged handle.old handle.new }
+    ensures closed { handle.old.is_open ≡ false → IsMisused result × (used.new ≡ 0) × IsUnchanged handle.old handle.new }
     ensures feeds { (task : Task) (past : HandlePast) → HandleStands task handle.old past
-        → FeedsHandle task handle.old handle.new past bytes.now result }
+        → FeedsHandle task handle.old handle.new past bytes.now used.new result }
     ensures sound { IsSoundHandle handle.new }
 {
+    *used = 0;
     if !handle.is_open {
         return misused();
     }
     let mut reader = take_out(handle, alloc);
-    let answer = reader.take_in(bytes);
+    let (count, answer) = reader.take_in(bytes);
     put_in(handle, reader);
+    *used = count;
     answer
 }
 

@@ -1,40 +1,97 @@
 //! What is held of a run between two calls, beside its engine.
 
-use crate::devices::Collected;
-use std::alloc::Global;
+use crate::limits::READY_LIMIT;
+use crate::pending::Pending;
+use crate::piece::Piece;
+use std::alloc::{AllocError, Global};
 
 /// What is held between two calls.
 #[derive(Drop)]
 pub struct Held {
-    /// The bytes after the last LF.
-    pub(crate) tail: Vec<u8>,
+    /// The bytes after the last LF, as far as they are kept.
+    pub(crate) tail: Piece,
     /// The number of the last line that was taken, 0 before the first.
     pub(crate) number: u64,
     /// Whether a warning was reported.
     pub(crate) warned: bool,
+    /// The most bytes that the output may have; 0: no limit.
+    pub(crate) limit: u64,
+    /// How many of these it may still have.
+    pub(crate) left: u64,
     /// The output that wasn't handed out yet.
-    pub(crate) output: Collected,
+    pub(crate) output: Pending,
     /// The messages that weren't handed out yet.
-    pub(crate) messages: Collected,
+    pub(crate) messages: Pending,
+}
+
+/// How many bytes of both texts waited at some moment.
+#[derive(Clone, Copy)]
+pub(crate) struct Mark {
+    /// Of the output.
+    pub(crate) output: usize,
+    /// Of the messages.
+    pub(crate) messages: usize,
 }
 
 impl Held {
-    ghost use Rattle.std.specs.Prelude.{◌≡◌, [], false};
+    ghost use Rattle.std.specs.Prelude.{◌≡◌, ◌<◌, ◌≤◌, false, length, true, IfOk};
+    ghost use Rattle.rnxcmp_c.specs.Waiting.{waiting};
+    ghost use Rattle.rnxcmp_c.specs.Holding.{HoldsNothing, IsCutBack, StaysWithin, ready_in};
+    ghost use Rattle.rnxcmp_c.specs.declared.limits.TheConstants.{READY_LIMIT};
 
     /// What is held before the first byte.
-    pub(crate) fn new(alloc: Global) -> Held
-        ensures tail { result.tail.items ≡ [] }
-        ensures number { result.number ≡ 0 }
-        ensures warned { result.warned ≡ false }
-        ensures output { result.output.bytes.items ≡ [] }
-        ensures messages { result.messages.bytes.items ≡ [] }
+    pub(crate) fn new(alloc: Global, limit: u64) -> Result<Held, AllocError>
+        ensures { IfOk result (HoldsNothing limit) }
     {
-        Held {
-            tail: Vec::new(alloc),
+        let tail = Piece::new(alloc)?;
+        Ok(Held {
+            tail,
             number: 0,
             warned: false,
-            output: Collected::new(alloc),
-            messages: Collected::new(alloc),
+            limit,
+            left: limit,
+            output: Pending::new(alloc),
+            messages: Pending::new(alloc),
+        })
+    }
+
+    /// Whether little enough waits for a line to be taken.
+    pub(crate) fn is_low(&self) -> bool
+        ensures low { result ≡ true → ready_in self.now < READY_LIMIT }
+        ensures high { result ≡ false → READY_LIMIT ≤ ready_in self.now }
+    {
+        let (output, messages) = (self.output.count(), self.messages.count());
+        output < READY_LIMIT && messages < READY_LIMIT - output
+    }
+
+    /// How much waits now.
+    pub(crate) fn mark(&self) -> Mark
+        ensures output { result.output ≡ length (waiting self.now.output) }
+        ensures messages { result.messages ≡ length (waiting self.now.messages) }
+    {
+        Mark {
+            output: self.output.count(),
+            messages: self.messages.count(),
         }
+    }
+
+    /// Counts the output since a mark; where it is more than there may be, lets go of it and of the messages since, and answers `false`.
+    pub(crate) fn count_since(&mut self, mark: Mark) -> bool
+        requires output { mark.output ≤ length (waiting self.old.output) }
+        requires messages { mark.messages ≤ length (waiting self.old.messages) }
+        ensures good { result ≡ true → StaysWithin mark.output self.old self.new }
+        ensures over { result ≡ false → IsCutBack mark.output mark.messages self.old self.new }
+    {
+        if self.limit == 0 {
+            return true;
+        }
+        let added = (self.output.count() - mark.output) as u64;
+        if added > self.left {
+            self.output.cut(mark.output);
+            self.messages.cut(mark.messages);
+            return false;
+        }
+        self.left -= added;
+        true
     }
 }

@@ -1,5 +1,5 @@
 //! The filters and the check over memory of a C program: one export for each, and handles that go on from call to call.
-//! `include/rnxcmp.h` is what a C program sees of them; `library/border.c` tests the processor, takes null pointers, and calls these.
+//! `include/rnxcmp.h` is what a C program sees of them; `library/rnxcmp.c` tests the processor, takes null pointers, and calls these.
 #![tactic(auto)]
 
 mod answer;
@@ -8,8 +8,13 @@ mod engines;
 mod exports;
 mod handle;
 mod held;
+mod laws;
+mod limits;
 mod lines;
 mod loose;
+mod pending;
+mod piece;
 mod place;
 mod reader;
 mod runs;
+mod stop;

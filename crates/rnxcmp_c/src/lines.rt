@@ -1,15 +1,18 @@
 //! Lines out of the bytes that are fed, through an engine.
 
-ghost use Rattle.std.specs.Prelude.{◌≡◌, ◌⊎◌, ◌≤◌, ◌<◌, ◌+◌, List, [], length, take, drop, false, true, OnOk, IfOk, IfErr};
+ghost use Rattle.std.specs.Prelude.{◌≡◌, ◌⊎◌, ◌≤◌, ◌<◌, ◌+◌, ℕ, List, [], length, take, drop, false, true, OnOk, OnErr, IfOk, IfErr};
 ghost use Rattle.crx_faults.specs.declared.fault.At.{At};
 ghost use Rattle.crx_faults.specs.declared.limits.TheConstants.{INPUT_LIMIT};
 ghost use Rattle.crx_faults.specs.meaning.Lines.{InputLine, ends_with_return, lines_of, without_return};
 ghost use Rattle.crx_runs.specs.Lawful.{IsLawful};
 ghost use Rattle.crx_runs.specs.meaning.Filters.{with_next};
-ghost use Rattle.rnxcmp_c.specs.Going.{Breaks, LineFails, IsAll, IsGoing, IsKept, MovesOn, HandlePast, LineStops, RanOutAt, StopsBy, fed_with, piece_line};
+ghost use Rattle.rnxcmp_c.specs.Going.{IsAll, IsGoing, IsKept, IsTaken, HandlePast, LineStops, MovesOn, MovesWithin, RunBreaks, RunFails, StepStops, StopsBy, fed_with, piece_line};
+ghost use Rattle.rnxcmp_c.specs.Holding.{ready_in};
+ghost use Rattle.rnxcmp_c.specs.declared.limits.TheConstants.{LINE_ROOM, READY_LIMIT};
 
-use crate::devices::Collected;
 use crate::held::Held;
+use crate::pending::Pending;
+use crate::stop::Stop;
 use crx_faults::limits::LINE_LIMIT;
 use crx_faults::{At, Fault};
 use crx_lines::Line;
@@ -53,11 +56,11 @@ fn content_of(bytes: &[u8]) -> &[u8]
     }
 }
 
-/// Gives a line to an engine, by its bytes and whether an LF followed them; whether there was a warning.
+/// Gives a line to an engine, by what is kept of its bytes and whether an LF followed them; whether there was a warning.
 fn give_line<E: Engine>(
     engine: &mut E,
-    output: &mut Collected,
-    messages: &mut Collected,
+    output: &mut Pending,
+    messages: &mut Pending,
     bytes: &[u8],
     number: u64,
     is_ended: bool,
@@ -69,14 +72,16 @@ fn give_line<E: Engine>(
     ensures filter { E.filter engine.new ≡ E.filter engine.old }
     ensures running { OnOk result (E.is_open engine.new) }
     ensures drained { OnOk result (E.ready engine.new ≡ []) }
-    ensures done { (lines : List InputLine) → E.shows engine.old lines []
+    ensures done { (lines : List InputLine) (whole : List ℕ) → E.shows engine.old lines []
+        → bytes.now ≡ take LINE_ROOM whole
         → IfOk result (λ warned. IsKept ((E.filter engine.old).so_far lines)
-        ((E.filter engine.old).so_far (with_next lines (piece_line bytes.now is_ended)))
-        (E.shows engine.new (with_next lines (piece_line bytes.now is_ended)) [])
+        ((E.filter engine.old).so_far (with_next lines (piece_line whole is_ended)))
+        (E.shows engine.new (with_next lines (piece_line whole is_ended)) [])
         output.old output.new messages.old messages.new warned) }
-    ensures stops { (lines : List InputLine) → E.shows engine.old lines []
+    ensures stops { (lines : List InputLine) (whole : List ℕ) → E.shows engine.old lines []
+        → bytes.now ≡ take LINE_ROOM whole
         → IfErr result (λ halt. StopsBy (length lines + 1) ((E.filter engine.old).so_far lines)
-        ((E.filter engine.old).so_far (with_next lines (piece_line bytes.now is_ended)))
+        ((E.filter engine.old).so_far (with_next lines (piece_line whole is_ended)))
         output.old output.new messages.old messages.new halt) }
 {
     let content = content_of(bytes);
@@ -102,15 +107,19 @@ fn take_piece<E: Engine>(engine: &mut E, held: &mut Held, is_ended: bool) -> Res
     ensures running { OnOk result (E.is_open engine.new) }
     ensures drained { OnOk result (E.ready engine.new ≡ []) }
     ensures number { OnOk result (held.new.number ≡ held.old.number + 1) }
-    ensures tail { OnOk result (held.new.tail.items ≡ []) }
-    ensures done { (lines : List InputLine) → E.shows engine.old lines []
+    ensures tail { OnOk result (held.new.tail.bytes.items ≡ []) }
+    ensures limit { held.new.limit ≡ held.old.limit }
+    ensures left { held.new.left ≡ held.old.left }
+    ensures done { (lines : List InputLine) (whole : List ℕ) → E.shows engine.old lines []
+        → held.old.tail.bytes.items ≡ take LINE_ROOM whole
         → OnOk result (MovesOn ((E.filter engine.old).so_far lines)
-        ((E.filter engine.old).so_far (with_next lines (piece_line held.old.tail.items is_ended)))
-        (E.shows engine.new (with_next lines (piece_line held.old.tail.items is_ended)) [])
+        ((E.filter engine.old).so_far (with_next lines (piece_line whole is_ended)))
+        (E.shows engine.new (with_next lines (piece_line whole is_ended)) [])
         held.old held.new) }
-    ensures stops { (lines : List InputLine) → E.shows engine.old lines []
+    ensures stops { (lines : List InputLine) (whole : List ℕ) → E.shows engine.old lines []
+        → held.old.tail.bytes.items ≡ take LINE_ROOM whole
         → IfErr result (λ at. LineStops (length lines + 1) ((E.filter engine.old).so_far lines)
-        ((E.filter engine.old).so_far (with_next lines (piece_line held.old.tail.items is_ended)))
+        ((E.filter engine.old).so_far (with_next lines (piece_line whole is_ended)))
         held.old.output held.new.output held.old.messages held.new.messages at) }
 {
     let number = held.number + 1;
@@ -118,7 +127,7 @@ fn take_piece<E: Engine>(engine: &mut E, held: &mut Held, is_ended: bool) -> Res
         engine,
         &mut held.output,
         &mut held.messages,
-        &held.tail,
+        held.tail.as_slice(),
         number,
         is_ended,
     )
@@ -129,19 +138,51 @@ fn take_piece<E: Engine>(engine: &mut E, held: &mut Held, is_ended: bool) -> Res
     Ok(())
 }
 
-/// Memory ran out in the line after this one.
-fn no_memory(number: u64) -> At
-    requires { number ≤ INPUT_LIMIT }
-    ensures { RanOutAt (number + 1) result }
+/// Takes what is kept of a line as a line, if the output stays within its limit, also where memory ran out while it was written.
+fn take_within<E: Engine>(engine: &mut E, held: &mut Held, is_ended: bool) -> Result<(), Stop>
+    requires drained { E.ready engine.old ≡ [] }
+    requires running { E.is_open engine.old }
+    requires next { held.old.number ≡ E.taken engine.old }
+    requires shown { (lines : List InputLine) × E.shows engine.old lines [] }
+    requires within { held.old.number < INPUT_LIMIT }
+    ensures filter { E.filter engine.new ≡ E.filter engine.old }
+    ensures limit { held.new.limit ≡ held.old.limit }
+    ensures running { OnOk result (E.is_open engine.new) }
+    ensures drained { OnOk result (E.ready engine.new ≡ []) }
+    ensures number { OnOk result (held.new.number ≡ held.old.number + 1) }
+    ensures tail { OnOk result (held.new.tail.bytes.items ≡ []) }
+    ensures done { (lines : List InputLine) (whole : List ℕ) → E.shows engine.old lines []
+        → held.old.tail.bytes.items ≡ take LINE_ROOM whole
+        → OnOk result (MovesWithin ((E.filter engine.old).so_far lines)
+        ((E.filter engine.old).so_far (with_next lines (piece_line whole is_ended)))
+        (E.shows engine.new (with_next lines (piece_line whole is_ended)) [])
+        held.old held.new) }
+    ensures stops { (lines : List InputLine) (whole : List ℕ) → E.shows engine.old lines []
+        → held.old.tail.bytes.items ≡ take LINE_ROOM whole
+        → IfErr result (StepStops (length lines + 1) ((E.filter engine.old).so_far lines)
+        ((E.filter engine.old).so_far (with_next lines (piece_line whole is_ended))) held.old held.new) }
 {
-    At {
-        line: number + 1,
-        fault: Fault::OutOfMemory,
+    let mark = held.mark();
+    match take_piece(engine, held, is_ended) {
+        Ok(()) => {
+            if held.count_since(mark) {
+                Ok(())
+            } else {
+                Err(Stop::Limit)
+            }
+        }
+        Err(at) => {
+            if held.count_since(mark) {
+                Err(Stop::Fault(at))
+            } else {
+                Err(Stop::Limit)
+            }
+        }
     }
 }
 
-/// Takes the first of some bytes, and answers how many: a line's, with its LF; where no LF is among them, all of them are kept.
-fn take_next<E: Engine>(engine: &mut E, held: &mut Held, bytes: &[u8]) -> Result<usize, At>
+/// Takes the first of some bytes, and answers how many: a line's, with its LF; where no LF is among them, all of them.
+fn take_next<E: Engine>(engine: &mut E, held: &mut Held, bytes: &[u8]) -> Result<usize, Stop>
     requires drained { E.ready engine.old ≡ [] }
     requires running { E.is_open engine.old }
     requires going { (past : HandlePast) × IsGoing (E.filter engine.old) (E.shows engine.old) held.old past
@@ -149,25 +190,26 @@ fn take_next<E: Engine>(engine: &mut E, held: &mut Held, bytes: &[u8]) -> Result
     ensures filter { E.filter engine.new ≡ E.filter engine.old }
     ensures running { OnOk result (E.is_open engine.new) }
     ensures drained { OnOk result (E.ready engine.new ≡ []) }
+    ensures limit { held.new.limit ≡ held.old.limit }
     ensures count { IfOk result (λ n. (n ≤ length bytes.now) × (0 < length bytes.now → 0 < n)) }
     ensures going { (past : HandlePast) → IsGoing (E.filter engine.old) (E.shows engine.old) held.old past
         → IfOk result (λ n. IsGoing (E.filter engine.old) (E.shows engine.new) held.new
         (fed_with past (take n bytes.now))) }
     ensures breaks { (past : HandlePast) → IsGoing (E.filter engine.old) (E.shows engine.old) held.old past
-        → IfErr result (λ at. Breaks (E.filter engine.old) held.new (fed_with past bytes.now) at) }
+        → IfErr result (RunBreaks (E.filter engine.old) held.new (fed_with past bytes.now)) }
 {
     match feed_from(bytes, 0) {
-        None => match held.tail.extend_from_slice(bytes) {
-            Ok(()) => Ok(bytes.len()),
-            Err(_) => Err(no_memory(held.number)),
-        },
-        Some(end) => match held.tail.extend_from_slice(&bytes[..end]) {
-            Ok(()) => {
-                take_piece(engine, held, true)?;
-                Ok(end + 1)
+        None => {
+            held.tail.add(bytes);
+            Ok(bytes.len())
+        }
+        Some(end) => {
+            held.tail.add(&bytes[..end]);
+            match take_within(engine, held, true) {
+                Ok(()) => Ok(end + 1),
+                Err(stop) => Err(stop),
             }
-            Err(_) => Err(no_memory(held.number)),
-        },
+        }
     }
 }
 
@@ -179,8 +221,12 @@ fn rest_after(bytes: &[u8], count: usize) -> &[u8]
     &bytes[count..]
 }
 
-/// Takes some bytes: the lines whose LF is among them, and keeps the rest.
-pub(crate) fn take_bytes<E: Engine>(engine: &mut E, held: &mut Held, bytes: &[u8]) -> Result<(), At>
+/// Takes some bytes, a line's after another's, as long as little enough waits to be taken, and answers how many.
+pub(crate) fn take_bytes<E: Engine>(
+    engine: &mut E,
+    held: &mut Held,
+    bytes: &[u8],
+) -> Result<usize, Stop>
     requires drained { E.ready engine.old ≡ [] }
     requires running { E.is_open engine.old }
     requires going { (past : HandlePast) × IsGoing (E.filter engine.old) (E.shows engine.old) held.old past
@@ -188,18 +234,21 @@ pub(crate) fn take_bytes<E: Engine>(engine: &mut E, held: &mut Held, bytes: &[u8
     ensures filter { E.filter engine.new ≡ E.filter engine.old }
     ensures running { OnOk result (E.is_open engine.new) }
     ensures drained { OnOk result (E.ready engine.new ≡ []) }
+    ensures limit { held.new.limit ≡ held.old.limit }
+    ensures count { IfOk result (IsTaken held.old held.new (length bytes.now)) }
+    ensures low { OnErr result (ready_in held.old < READY_LIMIT) }
     ensures going { (past : HandlePast) → IsGoing (E.filter engine.old) (E.shows engine.old) held.old past
-        → OnOk result (IsGoing (E.filter engine.old)
-        (E.shows engine.new) held.new (fed_with past bytes.now)) }
+        → IfOk result (λ n. IsGoing (E.filter engine.old)
+        (E.shows engine.new) held.new (fed_with past (take n bytes.now))) }
     ensures breaks { (past : HandlePast) → IsGoing (E.filter engine.old) (E.shows engine.old) held.old past
-        → IfErr result (λ at. Breaks (E.filter engine.old) held.new (fed_with past bytes.now) at) }
+        → IfErr result (RunBreaks (E.filter engine.old) held.new (fed_with past bytes.now)) }
 {
     let mut left = bytes;
-    'bytes: while !left.is_empty() {
+    'bytes: while !left.is_empty() && held.is_low() {
         let count = take_next(engine, held, left)?;
         left = rest_after(left, count);
     }
-    Ok(())
+    Ok(bytes.len() - left.len())
 }
 
 /// Gives the end of the input to an engine.
@@ -208,6 +257,8 @@ fn end_run<E: Engine>(engine: &mut E, held: &mut Held) -> Result<(), At>
     requires running { E.is_open engine.old }
     requires within { E.taken engine.old ≤ INPUT_LIMIT }
     ensures filter { E.filter engine.new ≡ E.filter engine.old }
+    ensures limit { held.new.limit ≡ held.old.limit }
+    ensures left { held.new.left ≡ held.old.left }
     ensures done { (lines : List InputLine) → E.shows engine.old lines []
         → OnOk result (MovesOn ((E.filter engine.old).so_far lines) ((E.filter engine.old).whole lines)
         (E.has_ended engine.new lines) held.old held.new) }
@@ -224,6 +275,40 @@ fn end_run<E: Engine>(engine: &mut E, held: &mut Held) -> Result<(), At>
     Ok(())
 }
 
+/// Gives the end of the input to an engine, if the output stays within its limit.
+fn end_within<E: Engine>(engine: &mut E, held: &mut Held) -> Result<(), Stop>
+    requires drained { E.ready engine.old ≡ [] }
+    requires running { E.is_open engine.old }
+    requires shown { (lines : List InputLine) × E.shows engine.old lines [] }
+    requires within { E.taken engine.old ≤ INPUT_LIMIT }
+    ensures filter { E.filter engine.new ≡ E.filter engine.old }
+    ensures limit { held.new.limit ≡ held.old.limit }
+    ensures done { (lines : List InputLine) → E.shows engine.old lines []
+        → OnOk result (MovesWithin ((E.filter engine.old).so_far lines) ((E.filter engine.old).whole lines)
+        (E.has_ended engine.new lines) held.old held.new) }
+    ensures stops { (lines : List InputLine) → E.shows engine.old lines []
+        → IfErr result (StepStops held.old.number ((E.filter engine.old).so_far lines)
+        ((E.filter engine.old).whole lines) held.old held.new) }
+{
+    let mark = held.mark();
+    match end_run(engine, held) {
+        Ok(()) => {
+            if held.count_since(mark) {
+                Ok(())
+            } else {
+                Err(Stop::Limit)
+            }
+        }
+        Err(at) => {
+            if held.count_since(mark) {
+                Err(Stop::Fault(at))
+            } else {
+                Err(Stop::Limit)
+            }
+        }
+    }
+}
+
 /// Whether there are no bytes.
 fn is_blank(bytes: &[u8]) -> bool
     ensures none { result ≡ true → bytes.now ≡ [] }
@@ -233,23 +318,24 @@ fn is_blank(bytes: &[u8]) -> bool
 }
 
 /// Takes the end of the input, and before it the last line, where no LF ended it.
-pub(crate) fn take_last<E: Engine>(engine: &mut E, held: &mut Held) -> Result<(), At>
+pub(crate) fn take_last<E: Engine>(engine: &mut E, held: &mut Held) -> Result<(), Stop>
     requires drained { E.ready engine.old ≡ [] }
     requires running { E.is_open engine.old }
     requires lawful { IsLawful (E.filter engine.old) }
     requires going { (past : HandlePast) × IsGoing (E.filter engine.old) (E.shows engine.old) held.old past
         × (length past.fed ≤ INPUT_LIMIT) }
     ensures filter { E.filter engine.new ≡ E.filter engine.old }
+    ensures limit { held.new.limit ≡ held.old.limit }
     ensures ended { (past : HandlePast) → IsGoing (E.filter engine.old) (E.shows engine.old) held.old past
         → OnOk result (E.has_ended engine.new (lines_of past.fed)) }
     ensures done { (past : HandlePast) → IsGoing (E.filter engine.old) (E.shows engine.old) held.old past
         → OnOk result (IsAll ((E.filter engine.old).whole (lines_of past.fed)) held.new past) }
     ensures fails { (past : HandlePast) → IsGoing (E.filter engine.old) (E.shows engine.old) held.old past
-        → IfErr result (λ at. LineFails (E.filter engine.old) held.new past at) }
+        → IfErr result (RunFails (E.filter engine.old) held.new past) }
 {
-    if is_blank(&held.tail) {
-        return end_run(engine, held);
+    if is_blank(held.tail.as_slice()) {
+        return end_within(engine, held);
     }
-    take_piece(engine, held, false)?;
-    end_run(engine, held)
+    take_within(engine, held, false)?;
+    end_within(engine, held)
 }

@@ -1,14 +1,17 @@
 //! A run that goes on from call to call.
 
-ghost use Rattle.std.specs.Prelude.{◌≡◌, ◌<◌, ◌≤◌, ◌+◌, length, take, true, false, None, Some};
+ghost use Rattle.std.specs.Prelude.{◌≡◌, ◌<◌, ◌≤◌, ◌+◌, ◌-◌, false, length, take, true, None, Some};
 ghost use Rattle.crx_faults.specs.declared.limits.TheConstants.{INPUT_LIMIT};
 ghost use Rattle.rnxcmp_c.specs.Going.{HandlePast, fed_with};
-ghost use Rattle.rnxcmp_c.specs.Handles.{Ends, Feeds, ReaderHasEnded, HasFed, IsPut, ReaderRuns, ReaderStands, Task, answer_now, taken_with};
+ghost use Rattle.rnxcmp_c.specs.Handles.{Ends, Feeds, HasFed, IsFed, IsPut, IsStopped, ReaderHasEnded, ReaderHasPassed, ReaderRuns, ReaderStands, Task, answer_now, taken_with};
+ghost use Rattle.rnxcmp_c.specs.Waiting.{waiting};
+ghost use Rattle.rnxcmp_c.specs.declared.answer.TheConstants.{OUTPUT_LIMIT};
 ghost use Rattle.rnxcmp_c.specs.meaning.Answers.{placed};
 
-use crate::answer::{Answer, code_in, line_in, misused, too_long};
+use crate::answer::{Answer, OUTPUT_LIMIT, code_in, line_in, misused};
 use crate::engines::{AnyEngine, end_any, status_at_end, take_any};
 use crate::held::Held;
+use crate::stop::Stop;
 use crx_faults::limits::INPUT_LIMIT;
 use crx_faults::{At, Fault};
 use crx_runs::Outcome;
@@ -46,18 +49,53 @@ fn put_down(held: &mut Held, at: At) -> Outcome
     }
 }
 
+/// How the run ends whose output would be longer than it may be.
+fn limit_outcome() -> Outcome
+    ensures { result ≡ record { status = OUTPUT_LIMIT; fault = None } }
+{
+    Outcome {
+        status: OUTPUT_LIMIT as u8,
+        fault: None,
+    }
+}
+
+/// How a run ends by what stopped it.
+fn outcome_of(held: &mut Held, stop: Stop) -> Outcome
+    ensures { IsStopped held.old held.new result stop }
+{
+    match stop {
+        Stop::Fault(at) => put_down(held, at),
+        Stop::Limit => limit_outcome(),
+    }
+}
+
+/// Whether there are bytes, and an input may have none of them.
+fn is_past(allowed: &[u8], bytes: &[u8]) -> bool
+    ensures past { result ≡ true → (length allowed.now ≡ 0) × (0 < length bytes.now) }
+    ensures within { result ≡ false → 0 < length bytes.now → 0 < length allowed.now }
+{
+    allowed.is_empty() && !bytes.is_empty()
+}
+
 impl Reader {
-    /// Takes some bytes of the input.
-    pub(crate) fn feed(&mut self, bytes: &[u8])
+    /// Takes some bytes of the input, as long as little enough waits to be taken, and answers how many.
+    pub(crate) fn feed(&mut self, bytes: &[u8]) -> usize
         requires goes_on { self.old.outcome ≡ None }
         requires running { (task : Task) × (past : HandlePast) × ReaderRuns task self.old past
             × (length past.fed + length bytes.now ≤ INPUT_LIMIT) }
-        ensures { (task : Task) (past : HandlePast) → ReaderRuns task self.old past
-            → HasFed task self.new (fed_with past bytes.now) }
+        ensures count { IsFed self.old self.new (length bytes.now) result }
+        ensures fed { (task : Task) (past : HandlePast) → ReaderRuns task self.old past
+            → HasFed task self.new (fed_with past (take result bytes.now)) }
     {
         match take_any(&mut self.engine, &mut self.held, bytes) {
-            Ok(()) => self.fed += bytes.len() as u64,
-            Err(at) => self.outcome = Some(put_down(&mut self.held, at)),
+            Ok(count) => {
+                self.fed += count as u64;
+                count
+            }
+            Err(stop) => {
+                self.outcome = Some(outcome_of(&mut self.held, stop));
+                bytes.len()
+            }
         }
     }
 
@@ -74,8 +112,21 @@ impl Reader {
                     fault: None,
                 });
             }
-            Err(at) => self.outcome = Some(put_down(&mut self.held, at)),
+            Err(stop) => self.outcome = Some(outcome_of(&mut self.held, stop)),
         }
+    }
+
+    /// Ends the run since there are more bytes than an input may have.
+    fn pass_limit(&mut self)
+        requires { self.old.held.number ≤ INPUT_LIMIT }
+        ensures { (task : Task) (past : HandlePast) → ReaderRuns task self.old past → length past.fed ≡ INPUT_LIMIT
+            → ReaderHasPassed task self.new past }
+    {
+        let at = At {
+            line: self.held.number + 1,
+            fault: Fault::InputTooLong,
+        };
+        self.outcome = Some(put_down(&mut self.held, at));
     }
 
     /// How it stands.
@@ -95,29 +146,50 @@ impl Reader {
         }
     }
 
-    /// Whether so many bytes more are more than an input may have.
-    fn is_over(&self, bytes: &[u8]) -> bool
+    /// The first of some bytes, as many as the input may still have.
+    fn allowed<'a>(&self, bytes: &'a [u8]) -> &'a [u8]
         requires { self.now.fed ≤ INPUT_LIMIT }
-        ensures long { result ≡ true → INPUT_LIMIT < self.now.fed + length bytes.now }
-        ensures within { result ≡ false → self.now.fed + length bytes.now ≤ INPUT_LIMIT }
+        ensures { result.now ≡ take (INPUT_LIMIT - self.now.fed) bytes.now }
     {
-        bytes.len() as u64 > INPUT_LIMIT - self.fed
+        let left = INPUT_LIMIT - self.fed;
+        let count = (bytes.len() as u64).min(left) as usize;
+        &bytes[..count]
     }
 
-    /// Takes some bytes of the input, if its run goes on and may have them.
-    pub(crate) fn take_in(&mut self, bytes: &[u8]) -> Answer
+    /// Takes some bytes of the input, of which an input may have these, and answers how many.
+    fn take_allowed(&mut self, bytes: &[u8], allowed: &[u8]) -> usize
+        requires goes_on { self.old.outcome ≡ None }
+        requires allowed { allowed.now ≡ take (INPUT_LIMIT - self.old.fed) bytes.now }
+        requires running { (task : Task) × (past : HandlePast) × ReaderRuns task self.old past }
+        ensures over { length allowed.now ≡ 0 → 0 < length bytes.now
+            → (task : Task) (past : HandlePast) → ReaderRuns task self.old past
+            → (result ≡ 0) × ReaderHasPassed task self.new past }
+        ensures fed { (0 < length bytes.now → 0 < length allowed.now)
+            → (task : Task) (past : HandlePast) → ReaderRuns task self.old past
+            → HasFed task self.new (fed_with past (take result allowed.now)) }
+        ensures count { (0 < length bytes.now → 0 < length allowed.now)
+            → IsFed self.old self.new (length allowed.now) result }
+    {
+        if is_past(allowed, bytes) {
+            self.pass_limit();
+            return 0;
+        }
+        self.feed(allowed)
+    }
+
+    /// Takes some bytes of the input, if its run goes on, and answers how many.
+    pub(crate) fn take_in(&mut self, bytes: &[u8]) -> (usize, Answer)
         requires { (task : Task) × (past : HandlePast) × ReaderStands task self.old past }
         ensures { (task : Task) (past : HandlePast) → ReaderStands task self.old past
-            → Feeds task self.old self.new past bytes.now result }
+            → Feeds task self.old self.new past bytes.now result.0 result.1 }
     {
         if self.outcome.is_some() {
-            return misused();
+            return (0, misused());
         }
-        if self.is_over(bytes) {
-            return too_long();
-        }
-        self.feed(bytes);
-        self.answer()
+        let first = self.allowed(bytes);
+        let used = self.take_allowed(bytes, first);
+        let answer = self.answer();
+        (used, answer)
     }
 
     /// Takes the end of the input, if its run goes on.
@@ -133,16 +205,16 @@ impl Reader {
         self.answer()
     }
 
-    /// Moves what is kept of the output and of the messages to the front of two rooms, as far as it fits.
+    /// Moves what waits of the output and of the messages to the front of two rooms, as far as it fits.
     pub(crate) fn hand_out(&mut self, output: &mut [u8], messages: &mut [u8]) -> Answer
-        ensures output { output.new ≡ placed self.old.held.output.bytes.items output.old }
-        ensures messages { messages.new ≡ placed self.old.held.messages.bytes.items messages.old }
+        ensures output { output.new ≡ placed (waiting self.old.held.output) output.old }
+        ensures messages { messages.new ≡ placed (waiting self.old.held.messages) messages.old }
         ensures answer { result ≡ answer_now self.new }
         ensures same { self.new.outcome ≡ self.old.outcome }
         ensures stands { (task : Task) (past : HandlePast) → ReaderStands task self.old past
             → ReaderStands task self.new (taken_with past
-            (take (length output.old) self.old.held.output.bytes.items)
-            (take (length messages.old) self.old.held.messages.bytes.items)) }
+            (take (length output.old) (waiting self.old.held.output))
+            (take (length messages.old) (waiting self.old.held.messages))) }
     {
         self.held.output.hand_out(output);
         self.held.messages.hand_out(messages);

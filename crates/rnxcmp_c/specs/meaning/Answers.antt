@@ -1,11 +1,11 @@
 -- What a call answers, and what stands in the caller's memory after it.
-use Rattle.std.specs.Prelude.{◌≡◌, ℕ, List, ◌++◌, take, drop, length, nat_le, Option, Some, None, if◌then◌else◌}
+use Rattle.std.specs.Prelude.{◌≡◌, ◌<◌, ℕ, List, ◌++◌, take, drop, length, nat_le, Option, Some, None, if◌then◌else◌}
 use Rattle.crx_faults.specs.meaning.Faults.{code_of_fault}
 use Rattle.crx_faults.specs.declared.fault.At.{At}
 use Rattle.crx_faults.specs.declared.fault.Fault.TheVariants.{InputTooLong, OutOfMemory}
 use Rattle.crx_runs.specs.meaning.Results.{FilterResult}
 use Rattle.rnxcmp_c.specs.declared.answer.Answer.{Answer}
-use Rattle.rnxcmp_c.specs.declared.answer.TheConstants.{NO_ROOM, BAD_DATE}
+use Rattle.rnxcmp_c.specs.declared.answer.TheConstants.{NO_ROOM, BAD_DATE, OUTPUT_LIMIT}
 
 -- the bytes in the caller's two rooms, at one moment
 pub record Rooms : Type 0 where
@@ -42,6 +42,10 @@ pub record IsAnswer (result : FilterResult) (answer : Answer) (before after : Ro
   pub output : after.output ≡ placed result.output before.output
   pub messages : after.messages ≡ placed result.messages before.messages
 
+-- whether an output is longer than it may be; 0 is no limit
+abbrev pub IsOver : ℕ → List ℕ → Type 0
+IsOver most output = (0 < most) × (most < length output)
+
 -- ---- where there is no result
 
 -- an answer with a status, a line and a fault's number alone
@@ -60,6 +64,15 @@ IsDateRefused answer before after = (answer ≡ bare_answer BAD_DATE 0 0) × IsU
 -- the input is longer than the limit
 abbrev pub IsTooLong : Answer → Rooms → Rooms → Type 0
 IsTooLong answer before after = (answer ≡ bare_answer 1 0 (code_of_fault InputTooLong)) × IsUntouched before after
+
+-- the output is longer than it may be
+abbrev pub IsOverLimit : Answer → Rooms → Rooms → Type 0
+IsOverLimit answer before after = (answer ≡ bare_answer OUTPUT_LIMIT 0 0) × IsUntouched before after
+
+-- a call answered this result, or that its output is longer than it may be
+pub record AnswersWithin (most : ℕ) (result : FilterResult) (answer : Answer) (before after : Rooms) : Type 0 where
+  pub within : (IsOver most result.output → ⊥) → IsAnswer result answer before after
+  pub over : IsOver most result.output → IsOverLimit answer before after
 
 -- the number that says that memory ran out
 abbrev pub HasNoMemory : Answer → Type 0

@@ -1,17 +1,15 @@
-use Rattle.std.proofs.Common.{sym, subst}
-use Rattle.rnxcmp_c.specs.Handles.{ReaderStands, Task, nothing_fed}
+use Rattle.std.proofs.Common.{refl, sym, subst}
+use Rattle.rnxcmp_c.specs.Handles.{ReaderStands, Task, limit_for, nothing_fed}
 use Rattle.rnxcmp_c.specs.declared.reader.Reader.{Reader}
 use Rattle.rnxcmp_c.proofs.HandleLemmas.{fresh-stands}
 use Rattle.rnxcmp_c.proofs.handle.open.Goals as goal
 
 pub returns-in-Some-clause-opened : goal.returns-in-Some-clause-opened
-returns-in-Some-clause-opened c = λ (task : Task) fresh zero.
-    let held = c.new.ensures in
+returns-in-Some-clause-opened c = λ (task : Task) fresh nothing zero.
     record {
       reader = c.in-Some.reader.value;
       is_open = c.put_in.ensures.opened;
       holds = c.put_in.ensures.reader;
       stands = subst (λ (r : Reader). ReaderStands task r nothing_fed) (sym c.in-Some.ensures)
-          (fresh-stands task c.args.engine c.new.result fresh held.tail held.number held.warned held.output
-          held.messages);
+          (fresh-stands task c.args.engine c.args.held (limit_for task) fresh refl nothing);
     }

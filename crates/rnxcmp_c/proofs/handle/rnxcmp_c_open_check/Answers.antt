@@ -1,3 +1,4 @@
+use Rattle.std.proofs.Common.{refl}
 use Rattle.rnxcmp_c.specs.Handles.{Check}
 use Rattle.rnxcmp_c.proofs.handle.rnxcmp_c_open_check.Goals as goal
 
@@ -5,7 +6,7 @@ pub returns-clause-opened : goal.returns-clause-opened
 returns-clause-opened c =
     c.open.ensures.opened Check (record {
       is_of = tt;
-      drained = c.new.ensures.drained;
-      takes = c.new.ensures.running;
-      shown = c.new.ensures.taken;
-    })
+      drained = c.new-2.ensures.drained;
+      takes = c.new-2.ensures.running;
+      shown = c.new-2.ensures.taken;
+    }) c.in-Ok.ensures

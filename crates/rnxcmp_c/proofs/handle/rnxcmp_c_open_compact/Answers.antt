@@ -8,18 +8,18 @@ use Rattle.crx_options.specs.meaning.Choices.{Choices}
 use Rattle.rnxcmp_c.specs.Handles.{Compact}
 use Rattle.rnxcmp_c.proofs.handle.rnxcmp_c_open_compact.Goals as goal
 
-pub returns-in-Ok-new-clause-opened : goal.returns-in-Ok-new-clause-opened
-returns-in-Ok-new-clause-opened c =
-    let seen = c.in-Ok-new.ensures.seen in
-    let same : (compactor_seen c.in-Ok-new.compactor).choices ≡ c.in-Ok.options =
+pub returns-in-Ok-new-2-clause-opened : goal.returns-in-Ok-new-2-clause-opened
+returns-in-Ok-new-2-clause-opened c =
+    let seen = c.in-Ok-new-2.ensures.seen in
+    let same : (compactor_seen c.in-Ok-new-2.compactor).choices ≡ c.in-Ok.options =
     ap (λ (s : Seen OpenEpoch Written). s.choices) seen in
-    c.open.ensures.opened (Compact _) (record {
+    c.open.ensures.opened (Compact _ c.args.max_output) (record {
       is_of = ap compaction_filter (same ∙ c.in-Ok.ensures.0);
-      drained = c.in-Ok-new.ensures.drained;
+      drained = c.in-Ok-new-2.ensures.drained;
       takes = tt;
       shown = (
         seen ∙ ap (λ (o : Choices). compaction_seen o []) (sym same),
         ap
             (λ (s : Seen OpenEpoch Written). s.number) seen,
       );
-    })
+    }) c.in-Ok-new.ensures

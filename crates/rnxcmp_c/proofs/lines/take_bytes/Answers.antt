@@ -1,26 +1,55 @@
-use Rattle.std.proofs.Common.{ℕ, List, ◌++◌, take, drop, sym, ap, ◌∙◌, subst, append_assoc}
+use Rattle.std.proofs.Common.{rules, ℕ, ◌≡◌, ◌⊎◌, ◌+◌, ◌<◌, ◌≤◌, List, ◌++◌, length, take, drop, sym, ap, ◌∙◌, subst, arith, append_assoc}
+use Rattle.std.proofs.Common.{length-append, length-take-le, ⊎_elim}
 use Rattle.std.proofs.lemmas.List.{take-append-drop}
 use Rattle.std.proofs.lemmas.Result.{err_from_is_err_and}
 use Rattle.crx_runs.specs.meaning.Filters.{Filter}
-use Rattle.rnxcmp_c.specs.Going.{Breaks, IsGoing, HandlePast, fed_with}
+use Rattle.rnxcmp_c.specs.Going.{RunBreaks, IsGoing, HandlePast, fed_with}
+use Rattle.rnxcmp_c.specs.Holding.{ready_in}
+use Rattle.rnxcmp_c.specs.declared.held.Held.{Held}
+use Rattle.rnxcmp_c.specs.declared.limits.TheConstants.{READY_LIMIT}
+use Rattle.rnxcmp_c.proofs.PieceLemmas.{none-or}
 use Rattle.rnxcmp_c.proofs.lines.take_bytes.Goals as goal
+
+pub take_next-requires-clause-going : goal.take_next-requires-clause-going
+take_next-requires-clause-going g c =
+    let i = c.bytes.invariant in
+    let done : List ℕ = i.0.0 in
+    let past = c.requires.going.0 in
+    let shows = g.E.Engine.shows c.bytes.engine in (
+      fed_with past done,
+      subst (λ (f : Filter). IsGoing f shows c.bytes.held (fed_with past done)) (sym i.1)
+          (i.0.2 past c.requires.going.1),
+      omega (
+        arith,
+        c.requires.going.2,
+        length-append past.fed done,
+        ap length i.0.1,
+        length-append done c.bytes.left.now,
+      ),
+    )
 
 pub bytes-preserved : goal.bytes-preserved
 bytes-preserved g c =
     let i = c.bytes.invariant in
     let done : List ℕ = i.0.0 in
     let left = c.bytes.left.now in
-    let some : List ℕ = take c.in_ok-count.count left in
+    let count : ℕ = c.in_ok-count.count in
+    let some : List ℕ = take count left in
     let first = g.E.Engine.filter c.args.engine.now in
     let shows = g.E.Engine.shows c.bytes.engine in
     let then = g.E.Engine.shows c.take_next.new.engine in
-    let held = c.take_next.new.held in (
+    let held = c.take_next.new.held in
+    let more : 0 < count = c.in_ok-count.ensures.count.1 (search rules) in
+    let long : length (done ++ some) ≡ length done + count =
+    length-append done some ∙ ap (λ (n : ℕ). length done + n)
+    (length-take-le count left c.in_ok-count.ensures.count.0) in
+    let low : ready_in c.bytes.held < READY_LIMIT = c.is_low.ensures.low c.if-is_low.true in (
       (
         done ++ some,
-        i.0.1 ∙ ap (λ (l : List ℕ). done ++ l) (sym (take-append-drop c.in_ok-count.count left))
-            ∙ sym (append_assoc done some (drop c.in_ok-count.count left))
+        i.0.1 ∙ ap (λ (l : List ℕ). done ++ l) (sym (take-append-drop count left))
+            ∙ sym (append_assoc done some (drop count left))
             ∙ ap (λ (l : List ℕ). (done ++ some) ++ l) (sym c.rest_after-left.ensures),
-        λ (past : HandlePast) is.
+        (λ (past : HandlePast) is.
             let going = subst (λ (f : Filter). IsGoing f shows c.bytes.held (fed_with past done)) (sym i.1)
             (i.0.2 past is) in
             subst (λ (fed : List ℕ). IsGoing first then held (record {
@@ -31,11 +60,15 @@ bytes-preserved g c =
             }))
             (append_assoc past.fed done some)
             (subst (λ (f : Filter). IsGoing f then held (fed_with (fed_with past done) some)) i.1
-            (c.in_ok-count.ensures.going (fed_with past done) going)),
+            (c.in_ok-count.ensures.going (fed_with past done) going))),
+        (λ none. absurd (omega (arith, none, long, more))),
+        λ long. ⊎_elim (λ none. subst (λ (h : Held). ready_in h < READY_LIMIT) (i.0.3 none) low)
+            (λ some. i.0.4 some) (none-or (length done)),
       ),
       c.take_next.ensures.filter ∙ i.1,
       c.in_ok-count.ensures.drained,
       c.in_ok-count.ensures.running,
+      c.take_next.ensures.limit ∙ i.4,
     )
 
 pub returns-in_err-count-clause-breaks : goal.returns-in_err-count-clause-breaks
@@ -46,12 +79,26 @@ returns-in_err-count-clause-breaks g c = λ (past : HandlePast) is.
     let first = g.E.Engine.filter c.args.engine.now in
     let shows = g.E.Engine.shows c.bytes.engine in
     let held = c.take_next.new.held in
-    let at = c.in_err-count.field-0.0 in
-    let going = subst (λ (f : Filter). IsGoing f shows c.bytes.held (fed_with past done)) (sym i.1) (i.0.2 past is) in
+    let stop = c.in_err-count.field-0.0 in
+    let going = subst (λ (f : Filter). IsGoing f shows c.bytes.held (fed_with past done)) (sym i.1)
+    (i.0.2 past is) in
     let p = err_from_is_err_and c.from_residual.result c.from_residual.ensures.1 in
     rw (p.1, p.2)
-    (subst (λ (fed : List ℕ). Breaks first held (record { fed = fed; output = past.output; messages = past.messages })
-    at)
+    (subst (λ (fed : List ℕ). RunBreaks first held (record {
+      fed = fed;
+      output = past.output;
+      messages = past.messages;
+    }) stop)
     (append_assoc past.fed done left ∙ ap (λ (l : List ℕ). past.fed ++ l) (sym i.0.1))
-    (subst (λ (f : Filter). Breaks f held (fed_with (fed_with past done) left) at) i.1
+    (subst (λ (f : Filter). RunBreaks f held (fed_with (fed_with past done) left) stop) i.1
     (c.in_err-count.ensures.breaks (fed_with past done) going)))
+
+pub returns-in_err-count-clause-low : goal.returns-in_err-count-clause-low
+returns-in_err-count-clause-low g c =
+    let i = c.bytes.invariant in
+    let low : ready_in c.bytes.held < READY_LIMIT = c.is_low.ensures.low c.if-is_low.true in
+    let before : ready_in c.args.held.now < READY_LIMIT =
+    ⊎_elim (λ none. subst (λ (h : Held). ready_in h < READY_LIMIT) (i.0.3 none) low)
+    (λ some. i.0.4 some) (none-or (length i.0.0)) in
+    let p = err_from_is_err_and c.from_residual.result c.from_residual.ensures.1 in
+    rw p.1 before

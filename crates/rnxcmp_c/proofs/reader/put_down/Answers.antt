@@ -1,4 +1,5 @@
 use Rattle.std.proofs.Common.{inr, List, ◌++◌, ℕ, refl, ap, ◌∙◌}
+use Rattle.rnxcmp_c.specs.Waiting.{waiting}
 use Rattle.rnxcmp_c.proofs.reader.put_down.Goals as goal
 
 pub returns-then-add : goal.returns-then-add
@@ -8,5 +9,5 @@ returns-then-add c =
       fault = refl;
       output = refl;
       messages = c.add.ensures.taken c.if-add.true
-          ∙ ap (λ (t : List ℕ). c.args.held.now.messages.bytes.items ++ t) (c.bytes.ensures.value ∙ c.message.ensures);
+          ∙ ap (λ (t : List ℕ). waiting c.args.held.now.messages ++ t) (c.bytes.ensures.value ∙ c.message.ensures);
     })

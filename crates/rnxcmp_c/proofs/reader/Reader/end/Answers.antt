@@ -1,16 +1,16 @@
-use Rattle.std.proofs.Common.{inr, refl}
+use Rattle.std.proofs.Common.{◌∙◌, inr, refl}
 use Rattle.rnxcmp_c.specs.Going.{HandlePast}
 use Rattle.rnxcmp_c.specs.Handles.{Task}
-use Rattle.rnxcmp_c.proofs.ReaderLemmas.{all-over, fails-over}
+use Rattle.rnxcmp_c.proofs.ReaderLemmas.{all-over, stops-at_end}
 use Rattle.rnxcmp_c.proofs.reader.Reader.end.Goals as goal
 
 pub returns-in-Ok : goal.returns-in-Ok
 returns-in-Ok c = λ (task : Task) (past : HandlePast) is.
-    inr (all-over task c.args.self.now.engine c.end_any.new.engine is.is_of
+    inr (inr (all-over task c.args.self.now.engine c.end_any.new.engine is.is_of
     (c.end_any.ensures.of task is.is_of) _ _ past refl
-    c.status_at_end.ensures (c.in-Ok.ensures.done past is.going) (c.in-Ok.ensures.ended past is.going))
+    c.status_at_end.ensures (c.in-Ok.ensures.done past is.going) (c.in-Ok.ensures.ended past is.going)))
 
 pub returns-in-Err : goal.returns-in-Err
 returns-in-Err c = λ (task : Task) (past : HandlePast) is.
-    fails-over task c.args.self.now.engine is.is_of _ c.end_any.new.held c.put_down.result past
-    c.in-Err.at (c.in-Err.ensures.fails past is.going) c.put_down.ensures
+    stops-at_end task c.args.self.now.engine is.is_of _ c.end_any.new.held (c.in-Err.ensures.limit ∙ is.limit)
+    c.outcome_of.result past c.in-Err.stop (c.in-Err.ensures.fails past is.going) c.outcome_of.ensures

@@ -1,10 +1,20 @@
+use Rattle.std.proofs.Common.{ℕ, ◌∙◌, List, Some, length, take, sym, subst, arith}
+use Rattle.std.proofs.lemmas.List.{take_all}
 use Rattle.rnxcmp_c.specs.Going.{HandlePast, fed_with}
-use Rattle.rnxcmp_c.specs.Handles.{Task}
-use Rattle.rnxcmp_c.proofs.ReaderLemmas.{breaks-over}
+use Rattle.rnxcmp_c.specs.Handles.{HasFed, Task}
+use Rattle.rnxcmp_c.specs.declared.reader.Reader.{Reader}
+use Rattle.rnxcmp_c.proofs.ReaderLemmas.{stops-over}
 use Rattle.rnxcmp_c.proofs.reader.Reader.feed.Goals as goal
 
-pub returns-in-Err : goal.returns-in-Err
-returns-in-Err c = λ (task : Task) (past : HandlePast) is.
-    breaks-over task c.args.self.now.engine is.is_of _ c.take_any.new.held c.put_down.result
-    (fed_with past c.args.bytes.now)
-    c.in-Err.at (c.in-Err.ensures.breaks past is.going) c.put_down.ensures
+pub returns-in-Err-clause-fed : goal.returns-in-Err-clause-fed
+returns-in-Err-clause-fed c = λ (task : Task) (past : HandlePast) is.
+    let bytes : List ℕ = c.args.bytes.now in
+    let new : Reader = record c.args.self.now {
+      engine = c.take_any.new.engine;
+      held = c.outcome_of.new.held;
+      outcome = Some c.outcome_of.result;
+    } in
+    subst (λ (fed : List ℕ). HasFed task new (fed_with past fed)) (sym (take_all (length bytes) bytes (omega arith)))
+    (stops-over task c.args.self.now.engine is.is_of new c.take_any.new.held (c.in-Err.ensures.limit ∙ is.limit)
+    c.outcome_of.result (fed_with past bytes) c.in-Err.stop (c.in-Err.ensures.breaks past is.going)
+    c.outcome_of.ensures)

@@ -1,0 +1,31 @@
+-- What passes a check comes back, in the caller's memory, by the law.
+use Rattle.std.proofs.Common.{ℕ, ◌≡◌, ◌≤◌, true, false, List, length, ap, sym, subst, ◌∙◌, arith}
+use Rattle.std.specs.Prelude.{nat_le}
+use Rattle.crx_options.specs.meaning.Choices.{Choices}
+use Rattle.crx_reading.specs.meaning.Expanded.{expanded}
+use Rattle.crx_reading.specs.meaning.Standard.{checked}
+use Rattle.crx_reading.proofs.Choosing.{by_bool}
+use Rattle.crx_runs.specs.meaning.Results.{FilterResult}
+use Rattle.crx_filter.specs.meaning.Lossless.{SaysThatItComesBack}
+use Rattle.crx_filter.proofs.standard.Lossless.{what-passes}
+use Rattle.rnxcmp_c.specs.meaning.Answers.{IsAnswer, Rooms, status_in}
+use Rattle.rnxcmp_c.specs.meaning.Lossless.{CallBringsBackWhatPasses}
+use Rattle.rnxcmp_c.specs.declared.answer.Answer.{Answer}
+
+pub brings-back_passed : (holds : FilterResult → Type 0) (expanding : Choices) (text : List ℕ)
+    → holds (expanded text expanding) → CallBringsBackWhatPasses holds text
+brings-back_passed holds expanding text answered file compacting dated passed same =
+    subst holds (ap (λ t. expanded t expanding) same ∙ what-passes file passed compacting expanding dated) answered
+
+-- an output that doesn't fit has a status of its own, which isn't 0
+zero-status : (result : FilterResult) (room : ℕ) → status_in result room ≡ 0 → result.status ≡ 0
+zero-status result room e = by_bool (nat_le (length result.output) room)
+    (λ on. rw on at e)
+    (λ off.
+    let never = rw off at e in
+    absurd (omega (arith, never)))
+
+pub says-so : (file : List ℕ) (answer : Answer) (before after : Rooms)
+    → IsAnswer (checked file) answer before after → SaysThatItComesBack answer.status file
+says-so file answer before after is zero =
+    what-passes file (zero-status (checked file) (length before.output) (sym (IsAnswer.status is) ∙ zero))

@@ -1,0 +1,36 @@
+use Rattle.std.proofs.Common.{◌≡◌, ◌≤◌, ◌+◌, refl, ap, arith}
+use Rattle.std.proofs.lemmas.List.{length-drop}
+use Rattle.rnxcmp_c.specs.Holdings.{engine_with}
+use Rattle.rnxcmp_c.specs.declared.engines.AnyEngine.{AnyEngine}
+use Rattle.rnxcmp_c.specs.declared.engines.AnyEngine.TheVariants.{Compacting, Expanding, Checking}
+use Rattle.rnxcmp_c.specs.declared.held.Held.{Held}
+use Rattle.rnxcmp_c.specs.declared.reader.Reader.{Reader}
+use Rattle.rnxcmp_c.proofs.laws.handle_holds.Goals as goal
+
+-- an engine with all parts of another is that other
+engine-is : (one other : AnyEngine) → engine_with one other ≡ other
+engine-is (Compacting one) (Compacting other) = refl
+engine-is (Compacting one) (Expanding other) = refl
+engine-is (Compacting one) (Checking other) = refl
+engine-is (Expanding one) (Compacting other) = refl
+engine-is (Expanding one) (Expanding other) = refl
+engine-is (Expanding one) (Checking other) = refl
+engine-is (Checking one) (Compacting other) = refl
+engine-is (Checking one) (Expanding other) = refl
+engine-is (Checking one) (Checking other) = refl
+
+pub returns-clause-parts : goal.returns-clause-parts
+returns-clause-parts c = λ (one other : Reader).
+    ap (λ (e : AnyEngine). let r : Reader = record other { engine = e } in r) (engine-is one.engine other.engine)
+
+pub returns-clause-bounded : goal.returns-clause-bounded
+returns-clause-bounded c = λ (held : Held).
+    let output = held.output in
+    let messages = held.messages in
+    record {
+      line = held.tail.within;
+      output_waits = omega (arith, output.bounded, length-drop output.passed output.bytes.items);
+      output = omega (arith, output.bounded, output.half);
+      messages_wait = omega (arith, messages.bounded, length-drop messages.passed messages.bytes.items);
+      messages = omega (arith, messages.bounded, messages.half);
+    }

@@ -1,0 +1,19 @@
+use Rattle.std.proofs.Common.{List, ℕ, length, take, drop, sym, ap, ◌∙◌, ◌++◌}
+use Rattle.std.proofs.lemmas.List.{take-append-drop}
+use Rattle.rnxcmp_c.specs.Going.{HandlePast}
+use Rattle.rnxcmp_c.specs.Handles.{Task}
+use Rattle.rnxcmp_c.specs.Waiting.{waiting}
+use Rattle.rnxcmp_c.proofs.TakenLemmas.{taken-stands}
+use Rattle.rnxcmp_c.proofs.reader.Reader.hand_out.Goals as goal
+
+pub returns-clause-stands : goal.returns-clause-stands
+returns-clause-stands c = λ (task : Task) (past : HandlePast) stands.
+    let old = c.args.self.now in
+    let output : List ℕ = take (length c.args.output.now) (waiting old.held.output) in
+    let messages : List ℕ = take (length c.args.messages.now) (waiting old.held.messages) in
+    taken-stands task old past c.hand_out.new.self c.hand_out-2.new.self output messages
+    (sym (take-append-drop (length c.args.output.now) (waiting old.held.output))
+    ∙ ap (λ (t : List ℕ). output ++ t) (sym c.hand_out.ensures.left))
+    (sym (take-append-drop (length c.args.messages.now) (waiting old.held.messages))
+    ∙ ap (λ (t : List ℕ). messages ++ t) (sym c.hand_out-2.ensures.left))
+    stands

@@ -1,0 +1,32 @@
+-- What is held of a run between two calls, and how it is counted.
+use Rattle.std.specs.Prelude.{◌≡◌, ◌<◌, ◌≤◌, ℕ, ◌+◌, false, List, [], length, take}
+use Rattle.rnxcmp_c.specs.Waiting.{waiting}
+use Rattle.rnxcmp_c.specs.declared.held.Held.{Held}
+use Rattle.rnxcmp_c.specs.declared.limits.TheConstants.{READY_LIMIT}
+
+-- how many bytes of both texts wait to be taken
+abbrev pub ready_in : Held → ℕ
+ready_in held = length (waiting held.output) + length (waiting held.messages)
+
+-- nothing is held yet, and the output may have so many bytes
+pub record HoldsNothing (limit : ℕ) (held : Held) : Type 0 where
+  pub tail : held.tail.bytes.items ≡ []
+  pub number : held.number ≡ 0
+  pub warned : held.warned ≡ false
+  pub limit_is : held.limit ≡ limit
+  pub left : held.left ≡ limit
+  pub output : waiting held.output ≡ []
+  pub messages : waiting held.messages ≡ []
+
+-- but for what the output may still have, which is less by what was added after so many bytes
+pub record StaysWithin (mark : ℕ) (old new : Held) : Type 0 where
+  pub same : new ≡ record old { left = new.left }
+  pub left : 0 < old.limit → new.left + length (waiting old.output) ≡ old.left + mark
+
+-- more was added after so many bytes than the output may have, and both texts were cut back
+pub record IsCutBack (output messages : ℕ) (old new : Held) : Type 0 where
+  pub limited : 0 < old.limit
+  pub limit : new.limit ≡ old.limit
+  pub over : old.left + output < length (waiting old.output)
+  pub output_is : waiting new.output ≡ take output (waiting old.output)
+  pub messages_are : waiting new.messages ≡ take messages (waiting old.messages)

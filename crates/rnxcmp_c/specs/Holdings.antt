@@ -1,0 +1,65 @@
+-- All that a handle holds between two calls, part by part. By the law `handle_holds` one that takes over these parts of
+-- another is that other; so there is no part beside them, in which a record of the past lines could grow.
+use Rattle.std.specs.Prelude.{◌≤◌, ◌+◌, List, length}
+use Rattle.crx_filter.specs.Holdings.{checker_with, compactor_with, expander_with}
+use Rattle.rnxcmp_c.specs.Waiting.{waiting}
+use Rattle.rnxcmp_c.specs.declared.engines.AnyEngine.{AnyEngine}
+use Rattle.rnxcmp_c.specs.declared.engines.AnyEngine.TheVariants.{Compacting, Expanding, Checking}
+use Rattle.rnxcmp_c.specs.declared.held.Held.{Held}
+use Rattle.rnxcmp_c.specs.declared.limits.TheConstants.{LINE_ROOM, WAITING_LIMIT}
+use Rattle.rnxcmp_c.specs.declared.pending.Pending.{Pending}
+use Rattle.rnxcmp_c.specs.declared.piece.Piece.{Piece}
+use Rattle.rnxcmp_c.specs.declared.reader.Reader.{Reader}
+
+-- what is kept of a line, with the parts of another
+abbrev pub piece_with : Piece → Piece → Piece
+piece_with one other = record one { bytes = other.bytes; within = other.within; room = other.room }
+
+-- a text, with the parts of another
+abbrev pub pending_with : Pending → Pending → Pending
+pending_with one other = record one {
+  bytes = other.bytes;
+  passed = other.passed;
+  failures = other.failures;
+  flushes = other.flushes;
+  flushed = other.flushed;
+  half = other.half;
+  bounded = other.bounded;
+}
+
+-- what is held beside an engine, with the parts of another
+abbrev pub held_with : Held → Held → Held
+held_with one other = record one {
+  tail = piece_with one.tail other.tail;
+  number = other.number;
+  warned = other.warned;
+  limit = other.limit;
+  left = other.left;
+  output = pending_with one.output other.output;
+  messages = pending_with one.messages other.messages;
+}
+
+-- an engine, with the parts of another of its kind
+abbrev pub engine_with : AnyEngine → AnyEngine → AnyEngine
+engine_with (Compacting one) (Compacting other) = Compacting (compactor_with one other)
+engine_with (Expanding one) (Expanding other) = Expanding (expander_with one other)
+engine_with (Checking one) (Checking other) = Checking (checker_with one other)
+engine_with one other = other
+
+-- a reader, with the parts of another
+abbrev pub reader_with : Reader → Reader → Reader
+reader_with one other = record one {
+  engine = engine_with one.engine other.engine;
+  held = held_with one.held other.held;
+  fed = other.fed;
+  outcome = other.outcome;
+}
+
+-- how much is held beside the engine: of the last line what it may have, and of each text what waits, and no more than
+-- that of what was taken
+pub record IsBounded (held : Held) : Type 0 where
+  pub line : length held.tail.bytes.items ≤ LINE_ROOM
+  pub output_waits : length (waiting held.output) ≤ WAITING_LIMIT
+  pub output : length held.output.bytes.items ≤ WAITING_LIMIT + WAITING_LIMIT
+  pub messages_wait : length (waiting held.messages) ≤ WAITING_LIMIT
+  pub messages : length held.messages.bytes.items ≤ WAITING_LIMIT + WAITING_LIMIT

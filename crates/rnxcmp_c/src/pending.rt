@@ -1,0 +1,130 @@
+//! A text of a handle that its caller takes piece by piece.
+
+ghost use Rattle.std.specs.Prelude.{◌≡◌, ◌≢◌, ◌<◌, ◌≤◌, ◌+◌, ◌++◌, [], Some, drop, false, length, take, true};
+ghost use Rattle.std.proofs.KnownBytes.{Appends-nil, Appends-trans};
+ghost use Rattle.rnxcmp_c.specs.declared.limits.TheConstants.{WAITING_LIMIT};
+ghost use Rattle.rnxcmp_c.specs.meaning.Answers.{placed};
+
+use crate::answer::place;
+use crate::limits::WAITING_LIMIT;
+use crx_lines::{Sink, WriteFailed};
+use std::alloc::Global;
+
+/// The bytes that were made and not handed out yet, behind some that were. At most half of all were handed out: so moving the rest to the
+/// front costs no more than handing out did.
+#[derive(Drop)]
+pub struct Pending {
+    bytes: Vec<u8>,
+    /// How many were handed out.
+    passed: usize,
+    failures: u64,
+    flushes: u64,
+    flushed: bool,
+    ghost half: { passed + passed ≤ length bytes.items },
+    ghost bounded: { length bytes.items ≤ passed + WAITING_LIMIT },
+}
+
+impl Pending {
+    ghost use Rattle.rnxcmp_c.specs.Waiting.{CountsAlike, waiting};
+
+    /// No bytes.
+    pub(crate) fn new(alloc: Global) -> Pending
+        ensures { waiting result ≡ [] }
+    {
+        Pending {
+            bytes: Vec::new(alloc),
+            passed: 0,
+            failures: 0,
+            flushes: 0,
+            flushed: false,
+        }
+    }
+
+    /// How many bytes wait.
+    pub(crate) fn count(&self) -> usize
+        ensures { result ≡ length (waiting self.now) }
+    {
+        self.bytes.len() - self.passed
+    }
+
+    /// Takes a text at its end; `false` says that there was no memory for it, or that more than [`WAITING_LIMIT`] bytes would wait.
+    pub(crate) fn add(&mut self, text: &[u8]) -> bool
+        ensures taken { result ≡ true → waiting self.new ≡ waiting self.old ++ text.now }
+        ensures unchanged { result ≡ false → waiting self.new ≡ waiting self.old }
+        ensures counts { CountsAlike self.old self.new }
+    {
+        if WAITING_LIMIT - self.count() < text.len() {
+            return false;
+        }
+        self.bytes.extend_from_slice(text).is_ok()
+    }
+
+    /// Moves its first bytes to the front of the room, as many as fit.
+    pub(crate) fn hand_out(&mut self, room: &mut [u8])
+        ensures room { room.new ≡ placed (waiting self.old) room.old }
+        ensures left { waiting self.new ≡ drop (length room.old) (waiting self.old) }
+    {
+        let passed = self.passed;
+        place(&self.bytes[passed..], room);
+        let count = self.count().min(room.len());
+        self.pass(passed + count);
+    }
+
+    /// Lets go of the bytes before this place.
+    fn pass(&mut self, passed: usize)
+        requires within { passed ≤ length self.old.bytes.items }
+        requires bounded { length self.old.bytes.items ≤ passed + WAITING_LIMIT }
+        ensures { waiting self.new ≡ drop passed self.old.bytes.items }
+    {
+        let left = self.bytes.len() - passed;
+        if passed <= left {
+            self.passed = passed;
+            return;
+        }
+        self.bytes.copy_within(passed.., 0);
+        self.bytes.truncate(left);
+        self.passed = 0;
+    }
+
+    /// Keeps the first bytes that wait, and lets go of those after them.
+    pub(crate) fn cut(&mut self, count: usize)
+        requires { count ≤ length (waiting self.old) }
+        ensures { waiting self.new ≡ take count (waiting self.old) }
+    {
+        let passed = self.passed;
+        self.bytes.copy_within(passed..passed + count, 0);
+        self.bytes.truncate(count);
+        self.passed = 0;
+    }
+}
+
+impl Sink for Pending {
+    ghost use Rattle.rnxcmp_c.specs.Waiting.{waiting};
+
+    ghost took = { λ a bytes b. waiting b ≡ waiting a ++ bytes };
+
+    ghost failures = { λ s. s.failures };
+
+    ghost is_flushed = { λ s. s.flushed ≡ true };
+
+    ghost flushes = { λ s. s.flushes };
+
+    fn write(&mut self, bytes: &[u8]) -> Result<usize, WriteFailed> {
+        self.flushed = false;
+        if self.add(bytes) {
+            return Ok(bytes.len());
+        }
+        self.failures = self.failures.saturating_add(1);
+        Err(WriteFailed)
+    }
+
+    fn flush(&mut self) -> Result<(), WriteFailed> {
+        self.flushed = true;
+        self.flushes = self.flushes.saturating_add(1);
+        Ok(())
+    }
+
+    ghost took_none = { λ s. Appends-nil (Some (waiting s)) };
+
+    ghost took_both = { λ a b c xs ys p q. Appends-trans (Some (waiting a)) (Some (waiting b)) (Some (waiting c)) xs ys p q };
+}

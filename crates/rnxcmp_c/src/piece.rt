@@ -1,0 +1,50 @@
+//! What is kept of a line whose LF wasn't fed yet.
+
+ghost use Rattle.std.specs.Prelude.{◌≡◌, ◌≤◌, ◌++◌, [], length, take, IfOk, vec_capacity};
+ghost use Rattle.rnxcmp_c.specs.declared.limits.TheConstants.{LINE_ROOM};
+
+use crate::limits::LINE_ROOM;
+use std::alloc::{AllocError, Global};
+
+/// The first bytes of a line, at most [`LINE_ROOM`]. Its memory is taken at the beginning, and never more.
+#[derive(Drop)]
+pub struct Piece {
+    bytes: Vec<u8>,
+    ghost within: { length bytes.items ≤ LINE_ROOM },
+    ghost room: { LINE_ROOM ≤ vec_capacity bytes },
+}
+
+impl Piece {
+    /// No bytes.
+    pub(crate) fn new(alloc: Global) -> Result<Piece, AllocError>
+        ensures { IfOk result (λ piece. piece.bytes.items ≡ []) }
+    {
+        let bytes = Vec::with_capacity(alloc, LINE_ROOM)?;
+        Ok(Piece { bytes })
+    }
+
+    /// Takes more of the line, as far as there is room.
+    pub(crate) fn add(&mut self, bytes: &[u8])
+        ensures { self.new.bytes.items ≡ take LINE_ROOM (self.old.bytes.items ++ bytes.now) }
+    {
+        let count = bytes.len().min(LINE_ROOM - self.bytes.len());
+        match self.bytes.extend_from_slice(&bytes[..count]) {
+            Ok(()) => {}
+            Err(_) => unreachable!(),
+        }
+    }
+
+    /// Lets go of the line.
+    pub(crate) fn clear(&mut self)
+        ensures { self.new.bytes.items ≡ [] }
+    {
+        self.bytes.clear();
+    }
+
+    /// What is kept of the line.
+    pub(crate) fn as_slice(&self) -> &[u8]
+        ensures { result.now ≡ self.now.bytes.items }
+    {
+        &self.bytes
+    }
+}

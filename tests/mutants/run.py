@@ -1,0 +1,137 @@
+#!/usr/bin/env python3
+"""Planted bugs, each of which a test is to see: tests/mutants/run.py PROGRAM FOLDER [FOLDER ..]
+
+A folder has edits, whose names say what is wrong then, and a `check.py`. Each edit is made in a copy of the repository's files, and taken
+back after `check.py PROGRAM COPY MADE FILE` has been run over the copy: MADE is the repository where `make` left what it built (or that
+LIBRARY_TOP names), FILE is the one that was edited. It is to end with status 1 and to print as its last line what has seen the bug; over
+files as they are it is to end with status 0, and with 2 where they can't be built, which isn't seeing a bug.
+
+An edit is lines that begin with a word: `file:` names the file, `after:` a text after which the change is, if there is one; `old:` is what
+stands there, and `new:` what takes its place. More than one `old:` or `new:` are lines of one text. It stands there once, or once after
+that text.
+"""
+
+import argparse
+import os
+import re
+import shutil
+import subprocess
+import sys
+import tempfile
+import time
+from dataclasses import dataclass
+from pathlib import Path
+
+TOP = Path(__file__).resolve().parents[2]
+SECONDS = 200
+
+
+@dataclass
+class Edit:
+    """A change of a file."""
+
+    name: str
+    file: str
+    after: str
+    old: str
+    new: str
+
+    def apply(self, text):
+        """The text with the change."""
+        start = text.index(self.after) if self.after else 0
+        count = text[start:].count(self.old)
+        if count != 1 and not (self.after and count > 1):
+            raise ValueError(f"{self.name}: the old text stands {count} times in {self.file}")
+        return text[:start] + text[start:].replace(self.old, self.new, 1)
+
+
+def read_edit(path):
+    found = {"file": [], "after": [], "old": [], "new": []}
+    for line in path.read_text().splitlines():
+        word, value = re.fullmatch(r"(file|after|old|new): ?(.*)", line).groups()
+        found[word].append(value)
+    return Edit(path.stem, *("\n".join(found[word]) for word in ("file", "after", "old", "new")))
+
+
+def edits_of(folder):
+    return [read_edit(path) for path in sorted(folder.glob("*.edit"))]
+
+
+def stale(folder):
+    """The edits of a folder that don't go with the files as they are."""
+    found = []
+    for edit in edits_of(folder):
+        try:
+            edit.apply((TOP / edit.file).read_text())
+        except (OSError, ValueError) as error:
+            found.append(f"{folder.name}/{edit.name}: {error}")
+    return found
+
+
+def copy_to(folder):
+    """Copies the files that git knows, or all but what was made where there is no git."""
+    run = subprocess.run(["git", "ls-files", "-z"], cwd=TOP, capture_output=True)
+    if run.returncode:
+        shutil.copytree(TOP, folder, dirs_exist_ok=True, ignore=shutil.ignore_patterns("out", ".git"))
+        return
+    for name in run.stdout.decode().split("\0"):
+        if name and (TOP / name).is_file():
+            (folder / name).parent.mkdir(parents=True, exist_ok=True)
+            shutil.copy2(TOP / name, folder / name, follow_symlinks=False)
+
+
+def run_check(program, folder, copy, made, file):
+    """Whether a bug was seen, and by what, or the last line where it wasn't."""
+    command = [sys.executable, folder / "check.py", program, copy, made, file]
+    try:
+        run = subprocess.run([str(word) for word in command], capture_output=True, text=True, errors="replace", timeout=SECONDS)
+    except subprocess.TimeoutExpired:
+        return True, f"it didn't end within {SECONDS} seconds"
+    lines = run.stdout.splitlines() or run.stderr.splitlines()[-1:] or [""]
+    return run.returncode not in (0, 2), lines[-1]
+
+
+def check_folder(program, folder, made, names):
+    """Runs the edits of a folder; gives how many were seen, and the names of those that weren't."""
+    edits = [edit for edit in edits_of(folder) if not names or edit.name in names]
+    unseen = []
+    with tempfile.TemporaryDirectory() as name:
+        copy = Path(name)
+        copy_to(copy)
+        is_seen, what = run_check(program, folder, copy, made, "")
+        if is_seen or what:
+            print(f"mutant {folder.name}: without a bug something is seen: {what}")
+            return 0, ["none"]
+        for edit in edits:
+            path, begun = copy / edit.file, time.monotonic()
+            as_it_is = path.read_text()
+            path.write_text(edit.apply(as_it_is))
+            is_seen, what = run_check(program, folder, copy, made, edit.file)
+            path.write_text(as_it_is)
+            said = f"seen by {what}" if is_seen else f"NOT SEEN {what}"
+            print(f"mutant {edit.name} ... {said} ({time.monotonic() - begun:.1f} s)", flush=True)
+            unseen += [] if is_seen else [edit.name]
+    return len(edits) - len(unseen), unseen
+
+
+def main():
+    parser = argparse.ArgumentParser(description=__doc__, formatter_class=argparse.RawDescriptionHelpFormatter)
+    parser.add_argument("program", type=Path)
+    parser.add_argument("folders", type=Path, nargs="+")
+    parser.add_argument("--only", nargs="+", help="these edits alone")
+    arguments = parser.parse_args()
+    made = Path(os.environ.get("LIBRARY_TOP", TOP)).resolve()
+    seen, unseen = 0, []
+    wrong = [line for folder in arguments.folders for line in stale(folder.resolve())]
+    if wrong:
+        print("\n".join(wrong))
+        return 1
+    for folder in arguments.folders:
+        found, missing = check_folder(arguments.program.resolve(), folder.resolve(), made, arguments.only)
+        seen, unseen = seen + found, unseen + missing
+    print(f"{seen} seen, {len(unseen)} not seen" + (": " + " ".join(unseen) if unseen else ""))
+    return 1 if unseen else 0
+
+
+if __name__ == "__main__":
+    sys.exit(main())
