@@ -1,11 +1,12 @@
 #!/bin/sh
 # Makes what a release consists of, from the object file that rt leaves and the folder that `make library` leaves:
 #     packaging/dist.sh OBJECT FOLDER [LIBRARY]
-# An archive with a static program and the library, a Debian package, a source archive of the last commit, and SHA256SUMS. Each is the same bytes
-# wherever and whenever it is made, with the same compiler and C library: all times are SOURCE_DATE_EPOCH, the last commit's if not set.
+# An archive with a static program and the library, a Debian package, a source archive of the last commit, and SHA256SUMS. The first two have the
+# pages of `make docs` too. Each is the same bytes wherever and whenever it is made, with the same compiler and C library: all times are
+# SOURCE_DATE_EPOCH, the last commit's if not set.
 set -eu
 umask 022
-export LC_ALL=C TZ=UTC
+export LC_ALL=C TZ=UTC PYTHONDONTWRITEBYTECODE=1
 object=$1
 to=$2
 library=${3:-}
@@ -33,11 +34,12 @@ gcc -static -s -Wl,--build-id=none -o "$work/rnxcmp" "$object" "$kit/c/libos_c.a
 
 # the archive
 name=rnxcmp-$version-linux-x86_64
-"$top/packaging/install.sh" "$work/$name" "$work/rnxcmp"
+"$top/packaging/install.sh" "$work/$name" "$work/rnxcmp" "$library"
 install -m 644 "$top/packaging/LGPL-2.1.txt" "$work/$name/share/doc/rnxcmp"
 "$top/packaging/parts.py" "$SOURCE_DATE_EPOCH" > "$work/$name/share/doc/rnxcmp/parts.spdx.json"
+"$top/docs/pages.py" "$work/$name/share/doc/rnxcmp"
 if [ -n "$library" ]; then
-    mkdir "$work/$name/lib"
+    mkdir -p "$work/$name/lib"
     cp -P "$library"/rnxcmp.* "$library"/librnxcmp.* "$work/$name/lib"
     install -m 644 "$top/docs/LIBRARY.md" "$work/$name/share/doc/rnxcmp"
     install -d "$work/$name/share/doc/rnxcmp/examples"
@@ -48,17 +50,19 @@ tar -C "$work" --sort=name --mtime="@$SOURCE_DATE_EPOCH" --owner=0 --group=0 --n
 
 # the Debian package
 root=$work/root
-"$top/packaging/install.sh" "$root/usr" "$work/rnxcmp" share/zsh/vendor-completions
+"$top/packaging/install.sh" "$root/usr" "$work/rnxcmp" "$library" share/zsh/vendor-completions
 doc=$root/usr/share/doc/rnxcmp
 mv "$doc/NOTICES" "$doc/copyright"
 maintainer=${MAINTAINER:-the administrator of this machine <root@localhost>}
-{ # the newest changes, in the form that Debian's tools read
+{ # the changes of this version, and those since, in the form that Debian's tools read
     printf 'rnxcmp (%s) stable; urgency=medium\n\n' "$version"
-    awk '/^## / { part++ } part == 1 && /^- / { sub(/^- /, "  * "); print }' "$doc/CHANGELOG.md" | fold -s -w 70 | sed 's/^[^ ]/    &/; s/ *$//'
+    awk -v version="$version" '/^## / { past = found; found = found || $2 == version } !past && /^- / { sub(/^- /, "  * "); print }' \
+        "$doc/CHANGELOG.md" | fold -s -w 70 | sed 's/^[^ ]/    &/; s/ *$//'
     printf '\n -- %s  %s\n' "$maintainer" "$(date -u -R -d "@$SOURCE_DATE_EPOCH")"
 } | gzip -9n > "$doc/changelog.gz"
 rm "$doc/CHANGELOG.md"
 cp "$work/$name/share/doc/rnxcmp/parts.spdx.json" "$doc"
+"$top/docs/pages.py" "$doc"
 for page in "$root"/usr/share/man/man1/*.1; do
     gzip -9n "$page"
 done
@@ -70,10 +74,12 @@ Architecture: amd64
 Section: science
 Priority: optional
 Maintainer: $maintainer
+Recommends: python3 (>= 3.8), libc6 (>= 2.14), gzip
 Installed-Size: $(find "$root/usr" -type f -printf '%s\n' | awk '{ n += int(($1 + 1023) / 1024) } END { print n }')
 Description: compact, expand and check RINEX 3.0x observation files
  RINEX 3.0x observation files to Compact RINEX 3.0 (Hatanaka) and back, by a
- proved program; and a script that does the files of an archive, one at a time.
+ proved program; and rnxcmp-file, a tool in Python over the proved library that
+ does whole files of an archive, verifies them, and removes none.
 END
 find "$root" -exec touch -h -d "@$SOURCE_DATE_EPOCH" {} +
 dpkg-deb --root-owner-group -Zgzip -z9 --build "$root" "$to/rnxcmp_${version}_amd64.deb" > /dev/null

@@ -1,13 +1,16 @@
 #!/bin/sh
-# Puts the program, its other names, the manual pages, the completions and the notices below a folder:
-#     packaging/install.sh FOLDER PROGRAM [ZSH]
-# ZSH is where below FOLDER zsh looks for completions, if not in share/zsh/site-functions. The lower-case names are further copies. Each
-# file is put in place by itself, so that where the file system takes both spellings of a name for one file the second copy takes the
-# place of the first, with the same content.
+# Puts the program, its other names, the tool for whole files, the manual pages, the completions and the notices below a folder:
+#     packaging/install.sh FOLDER PROGRAM LIBRARY [ZSH]
+# LIBRARY is the folder that library/build.sh made; where the shared library isn't in it, rnxcmp-file, which is Python over it, is left out,
+# and a message says so. ZSH is where below FOLDER zsh looks for completions, if not in share/zsh/site-functions. The lower-case names are
+# further copies. Each file is put in place by itself, so that where the file system takes both spellings of a name for one file the second
+# copy takes the place of the first, with the same content.
 set -eu
 prefix=$1
 program=$2
-zsh=${3:-share/zsh/site-functions}
+library=$3
+zsh=${4:-share/zsh/site-functions}
+shared=librnxcmp.so.2
 here=$(dirname "$0")
 version=$(cat "$here/../VERSION")
 [ -x "$program" ] || { echo "no program $program: run make first" >&2; exit 1; }
@@ -18,14 +21,21 @@ page() { # page SOURCE NAME: a manual page, with the version in it
     chmod 644 "$prefix/share/man/man1/$2.1"
 }
 install -m 755 "$program" "$prefix/bin/rnxcmp"
-install -m 755 "$here/bin/rnxcmp-file" "$prefix/bin/rnxcmp-file"
+if [ -f "$library/$shared" ]; then
+    package=$prefix/lib/rnxcmp/rnxcmp
+    install -d "$package"
+    install -m 644 "$here"/../python/rnxcmp/*.py "$library/$shared" "$package"
+    install -m 755 "$here/bin/rnxcmp-file" "$prefix/bin/rnxcmp-file"
+    page rnxcmp-file rnxcmp-file
+else
+    echo "rnxcmp-file is left out: there is no library $library/$shared (make library)" >&2
+fi
 for name in RNX2CRX rnx2crx; do
     install -m 755 "$here/bin/RNX2CRX" "$prefix/bin/$name"
 done
 for name in CRX2RNX crx2rnx; do
     install -m 755 "$here/bin/CRX2RNX" "$prefix/bin/$name"
 done
-page rnxcmp-file rnxcmp-file
 for name in rnxcmp RNX2CRX CRX2RNX rnx2crx crx2rnx; do
     page rnxcmp "$name"
 done
@@ -35,6 +45,6 @@ for name in rnxcmp RNX2CRX CRX2RNX rnx2crx crx2rnx rnxcmp-file; do
 done
 install -m 644 "$here/completions/_rnxcmp" "$prefix/$zsh/_rnxcmp"
 install -m 644 "$here/../NOTICES" "$here/../CHANGELOG.md" "$prefix/share/doc/rnxcmp"
-for name in USE ARCHIVES PLANNING GUARANTEES FORMATS; do
+for name in USE FILES ARCHIVES PLANNING GUARANTEES FORMATS; do
     install -m 644 "$here/../docs/$name.md" "$prefix/share/doc/rnxcmp"
 done

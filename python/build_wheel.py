@@ -36,7 +36,8 @@ def contents(library, version):
     info = f"rnxcmp-{version}.dist-info"
     package = sorted((HERE / "rnxcmp").glob("*.py")) + [HERE / "rnxcmp" / "py.typed"]
     files = {f"rnxcmp/{path.name}": path.read_bytes() for path in package}
-    files["rnxcmp/librnxcmp.so.1"] = (library / "librnxcmp.so.1").read_bytes()
+    files["rnxcmp/librnxcmp.so.2"] = (library / "librnxcmp.so.2").read_bytes()
+    files[f"{info}/entry_points.txt"] = b"[console_scripts]\nrnxcmp-file = rnxcmp.files:main\n"
     files[f"{info}/METADATA"] = metadata(version).encode()
     files[f"{info}/WHEEL"] = f"Wheel-Version: 1.0\nGenerator: rnxcmp build_wheel.py\nRoot-Is-Purelib: false\nTag: {TAG}\n".encode()
     return info, files
@@ -55,7 +56,7 @@ def build(library, folder):
             entry = zipfile.ZipInfo(name, moment)
             entry.compress_type = zipfile.ZIP_DEFLATED
             entry.create_system = 3
-            entry.external_attr = (0o100755 if name.endswith(".so.1") else 0o100644) << 16
+            entry.external_attr = (0o100755 if name.endswith(".so.2") else 0o100644) << 16
             archive.writestr(entry, data)
     return wheel
 

@@ -50,7 +50,7 @@ _CRX2RNX() {
 }
 
 _rnxcmp_file() {
-    local place names=0 choices='--gzip --no-gzip --verify --delete -f -s -h --help'
+    local choices='-o --inputs --gzip --no-gzip --verify --verified-to --normal-form -f -s --json -q -h --help'
     COMPREPLY=()
     if [[ $COMP_CWORD -eq 1 ]]; then
         mapfile -t COMPREPLY < <(compgen -W 'rnx2crx crx2rnx -h --help' -- "$2")
@@ -58,20 +58,16 @@ _rnxcmp_file() {
     fi
     case $3 in
         -e | --date) return ;;
+        -o | --inputs | --verified-to)
+            mapfile -t COMPREPLY < <(compgen -o plusdirs -f -- "$2")
+            return
+            ;;
     esac
-    for ((place = 2; place < COMP_CWORD; place++)); do
-        case ${COMP_WORDS[place]} in
-            -e | --date) ((++place)) ;;
-            -*) ;;
-            *) ((++names)) ;;
-        esac
-    done
     [[ ${COMP_WORDS[1]} == rnx2crx ]] && choices+=' -e --date'
-    case ${COMP_WORDS[1]}$names$2 in
-        rnx2crx?-* | crx2rnx?-*) mapfile -t COMPREPLY < <(compgen -W "$choices" -- "$2") ;;
-        rnx2crx0*) _rnxcmp_files '*.@(rnx|RNX|[0-9][0-9][oO])?(.gz)' "$2" ;;
-        crx2rnx0*) _rnxcmp_files '*.@(crx|CRX|[0-9][0-9][dD])?(.gz)' "$2" ;;
-        rnx2crx1* | crx2rnx1*) mapfile -t COMPREPLY < <(compgen -o plusdirs -f -- "$2") ;;
+    case ${COMP_WORDS[1]}$2 in
+        rnx2crx-* | crx2rnx-*) mapfile -t COMPREPLY < <(compgen -W "$choices" -- "$2") ;;
+        rnx2crx*) _rnxcmp_files '*.@(rnx|RNX|[0-9][0-9][oO])?(.gz)' "$2" ;;
+        crx2rnx*) _rnxcmp_files '*.@(crx|CRX|[0-9][0-9][dD])?(.gz)' "$2" ;;
     esac
 }
 

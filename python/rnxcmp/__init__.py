@@ -12,13 +12,20 @@
     rnxcmp.compress("abcd0010.24o")           # to gzipped compact bytes
 
 The names and arguments of these are those of the package ``hatanaka``. A fault of the input raises :class:`RnxcmpError`; what was
-skipped (``skip_strange_epochs``) is a :class:`RnxcmpWarning`.
+skipped (``skip_strange_epochs``) is a :class:`RnxcmpWarning`; an output that is longer than ``max_length`` an :class:`OutputLimitError`.
 """
 
-from ._calls import Report, RnxcmpError, RnxcmpWarning, Stream, check, crx2rnx, rnx2crx, version
-from ._files import UnsupportedError, compress, compress_on_disk, decompress, decompress_on_disk, get_decompressed_path
+from typing import TYPE_CHECKING
+
+from ._calls import OutputLimitError, Report, RnxcmpError, RnxcmpWarning, Stream, check, crx2rnx, rnx2crx, version
+from ._files import compress, decompress
+from ._packed import UnsupportedError
+
+if TYPE_CHECKING:
+    from ._on_disk import compress_on_disk, decompress_on_disk, get_decompressed_path
 
 __all__ = [
+    "OutputLimitError",
     "Report",
     "RnxcmpError",
     "RnxcmpWarning",
@@ -36,3 +43,12 @@ __all__ = [
 ]
 
 __version__ = version()
+
+
+def __getattr__(name: str) -> object:
+    """What works on files is loaded when it is asked for: it needs a system with links and locks, and the rest doesn't."""
+    if name in ("compress_on_disk", "decompress_on_disk", "get_decompressed_path"):
+        from . import _on_disk
+
+        return getattr(_on_disk, name)
+    raise AttributeError(f"module {__name__!r} has no attribute {name!r}")

@@ -6,13 +6,29 @@ import sys
 import warnings
 from dataclasses import dataclass
 from datetime import datetime, timezone
-from typing import Callable, Dict, List, Optional, Union
+from typing import Callable, Dict, Iterator, List, Optional, Tuple, Union
 
-from ._library import BAD_DATE, BAD_PROCESSOR, FAULT, LIBRARY, MISUSED, NO_ROOM, Answer, Handle, Options
+from ._library import (
+    BAD_DATE,
+    BAD_PROCESSOR,
+    FAULT,
+    LIBRARY,
+    MISUSED,
+    NO_ROOM,
+    OUT_OF_MEMORY,
+    OUTPUT_LIMIT,
+    READY,
+    Answer,
+    Handle,
+    Options,
+)
 
 BytesLike = Union[bytes, bytearray, memoryview]
 
 _MONTHS = "Jan Feb Mar Apr May Jun Jul Aug Sep Oct Nov Dec".split()
+
+# bytes of a message room at first: a fault and some warnings
+_LINES = 4096
 
 
 class RnxcmpError(Exception):
@@ -28,6 +44,10 @@ class RnxcmpError(Exception):
         self.line = line
         self.code = code
         self.output = output
+
+
+class OutputLimitError(RnxcmpError):
+    """The output would have more bytes than ``max_length``; the output of a run in pieces is that of the lines before that."""
 
 
 class RnxcmpWarning(UserWarning):
@@ -55,6 +75,20 @@ class Report:
     first_not_standard: Optional[int]
 
 
+def bytes_of(data: BytesLike) -> bytes:
+    """The bytes of an input, those of a memoryview as ``bytes`` gives them."""
+    if not isinstance(data, (bytes, bytearray, memoryview)):
+        raise TypeError(f"bytes, a bytearray or a memoryview is needed, not {type(data).__name__}")
+    return bytes(data)
+
+
+def _view_of(data: BytesLike) -> memoryview:
+    """The bytes of an input one by one, without a copy where they stand side by side."""
+    if isinstance(data, memoryview) and not (data.format == "B" and data.ndim == 1 and data.c_contiguous):
+        return memoryview(bytes(data))
+    return memoryview(data if isinstance(data, (bytearray, memoryview)) else bytes_of(data))
+
+
 class _Rooms:
     """Two rooms for a call, and its answer."""
 
@@ -72,12 +106,16 @@ class _Rooms:
 
     def fit(self) -> bool:
         """Whether both texts stand there whole."""
-        return self.answer.output_length <= len(self.output) and self.answer.messages_length <= len(self.messages)
+        return bool(self.answer.output_length <= len(self.output) and self.answer.messages_length <= len(self.messages))
+
+    def texts(self, output: int, messages: int) -> Tuple[bytes, bytes]:
+        """So many bytes of both texts."""
+        return bytes(memoryview(self.output)[:output]), bytes(memoryview(self.messages)[:messages])
 
 
 def _filled(call: Callable[..., int], arguments: List[object], output: int) -> _Rooms:
     """Calls with room for so much output, and once more where a room was too small."""
-    rooms = _Rooms(output, 4096)
+    rooms = _Rooms(output, _LINES)
     call(*arguments, *rooms.arguments())
     if rooms.fit():
         return rooms
@@ -96,27 +134,38 @@ def _level_outside() -> int:
     return level
 
 
-def _output_of(rooms: _Rooms) -> bytes:
-    """The output; raises the error and issues the warnings of a call."""
-    answer = rooms.answer
-    output = bytes(memoryview(rooms.output)[: answer.output_length])
-    lines = bytes(memoryview(rooms.messages)[: answer.messages_length]).decode("ascii").splitlines()
-    for line in lines:
+def _warn_of(lines: bytes) -> None:
+    """Issues the warnings among whole lines of messages."""
+    for line in lines.decode("ascii").splitlines():
         if line.startswith("WARNING "):
             warnings.warn(line[len("WARNING ") :], RnxcmpWarning, stacklevel=_level_outside())
+
+
+def _error_of(answer: Answer, output: bytes) -> Optional[Exception]:
+    """The error that an answer means, which has the output before it."""
     if answer.status == FAULT:
-        words = LIBRARY.rnxcmp_words(answer.code).decode("ascii")
-        if answer.code == 22:
-            raise MemoryError(f"line {answer.line} code {answer.code}: {words}")
-        raise RnxcmpError(f"line {answer.line} code {answer.code}: {words}", answer.line, answer.code, output)
+        words = f"line {answer.line} code {answer.code}: {LIBRARY.rnxcmp_words(answer.code).decode('ascii')}"
+        return MemoryError(words) if answer.code == OUT_OF_MEMORY else RnxcmpError(words, answer.line, answer.code, output)
+    if answer.status == OUTPUT_LIMIT:
+        return OutputLimitError("the output is longer than max_length", output=output)
     if answer.status == BAD_DATE:
-        raise ValueError("bad date: at most 20 characters, each printable ASCII")
+        return ValueError("bad date: at most 20 characters, each printable ASCII")
     if answer.status == BAD_PROCESSOR:
-        raise RnxcmpError("this processor is older than x86-64-v2")
+        return RnxcmpError("this processor is older than x86-64-v2")
     if answer.status == MISUSED:
-        raise ValueError("the run has ended, or is closed")
+        return ValueError("the run has ended, or is closed")
     if answer.status == NO_ROOM:
-        raise RnxcmpError("the output changed between two calls")
+        return RnxcmpError("the output changed between two calls")
+    return None
+
+
+def _output_of(rooms: _Rooms) -> bytes:
+    """The output; raises the error and issues the warnings of a call."""
+    output, lines = rooms.texts(rooms.answer.output_length, rooms.answer.messages_length)
+    _warn_of(lines)
+    error = _error_of(rooms.answer, output)
+    if error is not None:
+        raise error
     return output
 
 
@@ -125,19 +174,41 @@ def _date_of(moment: datetime) -> str:
     return f"{moment.day:02}-{_MONTHS[moment.month - 1]}-{moment.year % 100:02} {moment.hour:02}:{moment.minute:02}"
 
 
-def _options_of(skip_strange_epochs: bool, reinit_every_nth: Optional[int], date: Optional[str]) -> Options:
-    """What is chosen for a compaction."""
-    every = 0 if reinit_every_nth is None else reinit_every_nth
-    if not 0 <= every < 2**32:
-        raise ValueError("reinit_every_nth is out of range")
+def _dated(date: Optional[str]) -> bytes:
+    """A date's bytes, or those of the present moment; what no date can be becomes one that is refused."""
+    if date is not None and not isinstance(date, str):
+        raise TypeError(f"a date is a str, not {type(date).__name__}")
     text = _date_of(datetime.now(timezone.utc)) if date is None else date
-    try:
-        dated = text.encode("ascii")
-    except UnicodeEncodeError:
-        dated = b"\n"
-    if b"\0" in dated:
-        dated = b"\n"
-    return Options(every, int(bool(skip_strange_epochs)), dated)
+    return b"\n" if not text.isascii() or "\0" in text else text.encode("ascii")
+
+
+def _within(name: str, value: Optional[int], least: int, bits: int) -> int:
+    """A number that isn't out of range; 0 for None."""
+    if value is not None and not least <= value < 2**bits:
+        raise ValueError(f"{name} is out of range")
+    return 0 if value is None else value
+
+
+def limit_of(max_length: Optional[int]) -> int:
+    """The most bytes that an output may have; 0 for None, which is no limit."""
+    return _within("max_length", max_length, 1, 64)
+
+
+def _options_of(
+    skip_strange_epochs: bool, max_length: Optional[int], reinit_every_nth: Optional[int] = None, date: Optional[bytes] = None
+) -> Options:
+    """What is chosen for a run."""
+    return Options(
+        every=_within("reinit_every_nth", reinit_every_nth, 0, 32),
+        skip=int(bool(skip_strange_epochs)),
+        date=date,
+        max_output=limit_of(max_length),
+    )
+
+
+def _room_for(guess: int, max_length: Optional[int]) -> int:
+    """The first room of a call: a guess, and no more than the output may have."""
+    return guess if max_length is None else min(guess, max_length)
 
 
 def rnx2crx(
@@ -146,28 +217,35 @@ def rnx2crx(
     skip_strange_epochs: bool = False,
     reinit_every_nth: Optional[int] = None,
     date: Optional[str] = None,
+    max_length: Optional[int] = None,
 ) -> bytes:
     """Compacts RINEX 3.0x into Compact RINEX 3.0.
 
     :param skip_strange_epochs: warn about epochs with a fault, and skip them.
     :param reinit_every_nth: an epoch in full at every so many.
     :param date: the date of the second line, at most 20 printable ASCII characters; else the present moment, in UTC.
+    :param max_length: the most bytes that the output may have.
     :raises RnxcmpError: where a fault ended the run.
+    :raises OutputLimitError: where the output is longer than ``max_length``.
     """
-    options = _options_of(skip_strange_epochs, reinit_every_nth, date)
-    content = bytes(data)
-    return _output_of(_filled(LIBRARY.rnxcmp_compact, [content, len(content), ctypes.byref(options)], len(content) + 4096))
+    content = bytes_of(data)
+    options = _options_of(skip_strange_epochs, max_length, reinit_every_nth, _dated(date))
+    arguments = [content, len(content), ctypes.byref(options)]
+    return _output_of(_filled(LIBRARY.rnxcmp_compact, arguments, _room_for(len(content) + 4096, max_length)))
 
 
-def crx2rnx(data: BytesLike, *, skip_strange_epochs: bool = False) -> bytes:
+def crx2rnx(data: BytesLike, *, skip_strange_epochs: bool = False, max_length: Optional[int] = None) -> bytes:
     """Expands Compact RINEX 3.0 into RINEX 3.0x.
 
     :param skip_strange_epochs: warn about epochs with a fault, and skip them.
+    :param max_length: the most bytes that the output may have.
     :raises RnxcmpError: where a fault ended the run.
+    :raises OutputLimitError: where the output is longer than ``max_length``.
     """
-    options = Options(0, int(bool(skip_strange_epochs)), None)
-    content = bytes(data)
-    return _output_of(_filled(LIBRARY.rnxcmp_expand, [content, len(content), ctypes.byref(options)], 6 * len(content) + 4096))
+    content = bytes_of(data)
+    options = _options_of(skip_strange_epochs, max_length)
+    arguments = [content, len(content), ctypes.byref(options)]
+    return _output_of(_filled(LIBRARY.rnxcmp_expand, arguments, _room_for(6 * len(content) + 4096, max_length)))
 
 
 def check(data: BytesLike) -> Report:
@@ -175,9 +253,9 @@ def check(data: BytesLike) -> Report:
 
     :raises RnxcmpError: where the file isn't accepted.
     """
-    content = bytes(data)
+    content = bytes_of(data)
     text = _output_of(_filled(LIBRARY.rnxcmp_check, [content, len(content)], 4096)).decode("latin-1")
-    found = dict(re.fullmatch(r"(\w+) ?(.*)", line).groups() for line in text.split("\n") if line)  # type: ignore[union-attr]
+    found = dict(re.findall(r"^(\w+) ?(.*)$", text, re.M))
     systems = [] if found["systems"] == "none" else found["systems"].split()
     standard = found["standard"].split()
     return Report(
@@ -200,28 +278,45 @@ class Stream:
                 write(stream.feed(piece))
             write(stream.end())
 
+    The output of one piece may be many times as long as the piece. In place of :meth:`feed` and :meth:`end`, :meth:`outputs` and
+    :meth:`last_outputs` give it in parts, of which none is made before it is asked for:
+
+            for piece in pieces:
+                for part in stream.outputs(piece):
+                    write(part)
+
     What is given in all is what :func:`rnx2crx`, :func:`crx2rnx` or the text of :func:`check` gives for the whole input. A fault raises
     :class:`RnxcmpError`, whose ``output`` is what wasn't given yet. One thread at a time may use it.
     """
 
     def __init__(self, opening: Callable[..., int], arguments: List[object]) -> None:
         self._handle = Handle()
-        rooms = _Rooms(0, 0)
-        opening(ctypes.byref(self._handle), *arguments, ctypes.byref(rooms.answer))
-        _output_of(rooms)
+        self._rooms = _Rooms(READY, _LINES)
+        self._line = b""  # the first part of a message whose rest isn't taken yet
+        self._is_given = True  # whether all outputs that were asked for are given
+        answer = Answer()
+        opening(ctypes.byref(self._handle), *arguments, ctypes.byref(answer))
+        error = _error_of(answer, b"")
+        if error is not None:
+            raise error
 
     @classmethod
     def compacting(
-        cls, *, skip_strange_epochs: bool = False, reinit_every_nth: Optional[int] = None, date: Optional[str] = None
+        cls,
+        *,
+        skip_strange_epochs: bool = False,
+        reinit_every_nth: Optional[int] = None,
+        date: Optional[str] = None,
+        max_length: Optional[int] = None,
     ) -> "Stream":
         """Compacts, with the choices of :func:`rnx2crx`."""
-        options = _options_of(skip_strange_epochs, reinit_every_nth, date)
+        options = _options_of(skip_strange_epochs, max_length, reinit_every_nth, _dated(date))
         return cls(LIBRARY.rnxcmp_open_compact, [ctypes.byref(options)])
 
     @classmethod
-    def expanding(cls, *, skip_strange_epochs: bool = False) -> "Stream":
-        """Expands, with the choice of :func:`crx2rnx`."""
-        options = Options(0, int(bool(skip_strange_epochs)), None)
+    def expanding(cls, *, skip_strange_epochs: bool = False, max_length: Optional[int] = None) -> "Stream":
+        """Expands, with the choices of :func:`crx2rnx`."""
+        options = _options_of(skip_strange_epochs, max_length)
         return cls(LIBRARY.rnxcmp_open_expand, [ctypes.byref(options)])
 
     @classmethod
@@ -229,25 +324,74 @@ class Stream:
         """Checks: the output is the text of the report, after the end."""
         return cls(LIBRARY.rnxcmp_open_check, [])
 
-    def _taken(self, answer: Answer) -> bytes:
-        """What is kept; raises the error and issues the warnings of a call."""
-        rooms = _Rooms(answer.output_length, answer.messages_length)
-        if answer.status not in (MISUSED, BAD_PROCESSOR):
+    def _fed(self, piece: bytes) -> Tuple[int, Answer]:
+        """Feeds bytes: how many were taken, and the answer."""
+        used, answer = ctypes.c_size_t(), Answer()
+        LIBRARY.rnxcmp_feed(ctypes.byref(self._handle), piece, len(piece), ctypes.byref(used), ctypes.byref(answer))
+        return used.value, answer
+
+    def _demand_open(self) -> None:
+        """Raises an error where no more can be fed."""
+        error = _error_of(self._fed(b"")[1], b"")
+        if error is not None:
+            raise error
+        if not self._is_given:
+            raise ValueError("the outputs of an earlier call weren't taken to their end")
+
+    def _taken(self, answer: Answer) -> Iterator[bytes]:
+        """What is ready, a room at a time; then raises the error of the answer, and issues warnings as they come."""
+        rooms, ready = self._rooms, answer
+        while ready.output_length or ready.messages_length:
+            rooms.answer = Answer()
             LIBRARY.rnxcmp_take(ctypes.byref(self._handle), *rooms.arguments())
-        rooms.answer = answer
-        return _output_of(rooms)
+            if rooms.answer.status == MISUSED:
+                raise ValueError("the run was closed before all outputs were taken")
+            output, lines = rooms.texts(
+                ready.output_length - rooms.answer.output_length, ready.messages_length - rooms.answer.messages_length
+            )
+            ready = rooms.answer
+            whole, end, self._line = (self._line + lines).rpartition(b"\n")
+            _warn_of(whole + end)
+            if output:
+                yield output
+        error = _error_of(answer, b"")
+        if error is not None:
+            raise error
 
-    def feed(self, data: BytesLike) -> bytes:
-        """Takes bytes of the input, which may end anywhere; gives what is ready of the output."""
-        content, answer = bytes(data), Answer()
-        LIBRARY.rnxcmp_feed(ctypes.byref(self._handle), content, len(content), ctypes.byref(answer))
-        return self._taken(answer)
+    def _outputs(self, view: memoryview) -> Iterator[bytes]:
+        """Feeds bytes, and gives what they make."""
+        at = 0
+        while at < len(view):
+            used, answer = self._fed(bytes(view[at : at + READY]))
+            at += used
+            yield from self._taken(answer)
+        self._is_given = True
 
-    def end(self) -> bytes:
-        """Takes the end of the input; gives the rest of the output."""
+    def outputs(self, data: BytesLike) -> Iterator[bytes]:
+        """Takes bytes of the input, which may end anywhere, and gives what is ready of the output in parts of at most 65536 bytes.
+
+        It feeds as much as the parts need that are asked for, and keeps no more. Before the next call all of them have to be taken;
+        else that call raises a ``ValueError``. The bytes mustn't change until then.
+        """
+        view = _view_of(data)
+        self._demand_open()
+        self._is_given = False
+        return self._outputs(view)
+
+    def last_outputs(self) -> Iterator[bytes]:
+        """Takes the end of the input, and gives the rest of the output in parts of at most 65536 bytes."""
+        self._demand_open()
         answer = Answer()
         LIBRARY.rnxcmp_end(ctypes.byref(self._handle), ctypes.byref(answer))
         return self._taken(answer)
+
+    def feed(self, data: BytesLike) -> bytes:
+        """Takes bytes of the input, which may end anywhere; gives what is ready of the output."""
+        return _joined(self.outputs(data))
+
+    def end(self) -> bytes:
+        """Takes the end of the input; gives the rest of the output."""
+        return _joined(self.last_outputs())
 
     def close(self) -> None:
         """Frees what it holds."""
@@ -264,6 +408,18 @@ class Stream:
             self.close()
 
 
+def _joined(parts: Iterator[bytes]) -> bytes:
+    """All parts of an output; an error among them has those before it."""
+    output: List[bytes] = []
+    try:
+        for part in parts:
+            output.append(part)
+    except RnxcmpError as error:
+        error.output = b"".join(output)
+        raise
+    return b"".join(output)
+
+
 def version() -> str:
     """The version of the library."""
-    return LIBRARY.rnxcmp_version().decode("ascii")
+    return str(LIBRARY.rnxcmp_version(), "ascii")

@@ -3,16 +3,28 @@
 import ctypes
 import os
 from pathlib import Path
+from typing import Any, List, Tuple
 
-GOOD, FAULT, WARNINGS, NO_ROOM, BAD_DATE, BAD_PROCESSOR, MISUSED = range(7)
+GOOD, FAULT, WARNINGS, NO_ROOM, BAD_DATE, BAD_PROCESSOR, MISUSED, OUTPUT_LIMIT = range(8)
+INPUT_TOO_LONG, OUT_OF_MEMORY = 2, 22
+INTERFACE, READY = 2, 65536
 
-_NAME = "librnxcmp.so.1"
+_NAME = f"librnxcmp.so.{INTERFACE}"
 
 
 class Options(ctypes.Structure):
-    """``rnxcmp_options``."""
+    """``rnxcmp_options``; its size is set where it is made."""
 
-    _fields_ = [("every", ctypes.c_uint32), ("skip", ctypes.c_uint32), ("date", ctypes.c_char_p)]
+    _fields_ = [
+        ("size", ctypes.c_size_t),
+        ("every", ctypes.c_uint32),
+        ("skip", ctypes.c_uint32),
+        ("date", ctypes.c_char_p),
+        ("max_output", ctypes.c_uint64),
+    ]
+
+    def __init__(self, **choices: object) -> None:
+        super().__init__(size=ctypes.sizeof(Options), **choices)
 
 
 class Answer(ctypes.Structure):
@@ -38,24 +50,25 @@ def _opened() -> ctypes.CDLL:
     named = os.environ.get("RNXCMP_LIBRARY")
     beside = Path(__file__).resolve().parent / _NAME
     library = ctypes.CDLL(named or (str(beside) if beside.exists() else _NAME))
-    room = [ctypes.c_void_p, ctypes.c_size_t]
-    filtering = [ctypes.c_char_p, ctypes.c_size_t, ctypes.POINTER(Options), *room, *room, ctypes.POINTER(Answer)]
-    for call in (library.rnxcmp_compact, library.rnxcmp_expand):
-        call.restype, call.argtypes = ctypes.c_int, filtering
-    library.rnxcmp_check.restype = ctypes.c_int
-    library.rnxcmp_check.argtypes = [ctypes.c_char_p, ctypes.c_size_t, *room, *room, ctypes.POINTER(Answer)]
-    handle, answer = ctypes.POINTER(Handle), ctypes.POINTER(Answer)
-    for call, arguments in (
-        (library.rnxcmp_open_compact, [handle, ctypes.POINTER(Options), answer]),
-        (library.rnxcmp_open_expand, [handle, ctypes.POINTER(Options), answer]),
+    room: List[Any] = [ctypes.c_void_p, ctypes.c_size_t]
+    content: List[Any] = [ctypes.c_char_p, ctypes.c_size_t]
+    options, answer, handle = ctypes.POINTER(Options), ctypes.POINTER(Answer), ctypes.POINTER(Handle)
+    calls: List[Tuple[Any, List[Any]]] = [
+        (library.rnxcmp_compact, [*content, options, *room, *room, answer]),
+        (library.rnxcmp_expand, [*content, options, *room, *room, answer]),
+        (library.rnxcmp_check, [*content, *room, *room, answer]),
+        (library.rnxcmp_open_compact, [handle, options, answer]),
+        (library.rnxcmp_open_expand, [handle, options, answer]),
         (library.rnxcmp_open_check, [handle, answer]),
-        (library.rnxcmp_feed, [handle, ctypes.c_char_p, ctypes.c_size_t, answer]),
+        (library.rnxcmp_feed, [handle, *content, ctypes.POINTER(ctypes.c_size_t), answer]),
         (library.rnxcmp_end, [handle, answer]),
         (library.rnxcmp_take, [handle, *room, *room, answer]),
-    ):
+    ]
+    for call, arguments in calls:
         call.restype, call.argtypes = ctypes.c_int, arguments
     library.rnxcmp_close.restype, library.rnxcmp_close.argtypes = None, [handle]
-    library.rnxcmp_words.restype, library.rnxcmp_words.argtypes = ctypes.c_char_p, [ctypes.c_uint32]
+    for call in (library.rnxcmp_words, library.rnxcmp_status_words):
+        call.restype, call.argtypes = ctypes.c_char_p, [ctypes.c_uint32]
     library.rnxcmp_version.restype, library.rnxcmp_version.argtypes = ctypes.c_char_p, []
     return library
 

@@ -12,10 +12,11 @@ import sys
 import tempfile
 from pathlib import Path
 
-from checking import missing_tools
+from checking import install, missing_tools
 
 sys.path.insert(0, str(Path(__file__).parent))
-import script  # noqa: E402
+import hostile  # noqa: E402
+import verifying  # noqa: E402
 from recipes import recipes  # noqa: E402
 
 TOP = Path(__file__).resolve().parents[2]
@@ -23,35 +24,37 @@ SAMPLE = TOP / "samples/station.rnx"
 OLD = 1704067200  # the time of all files, in 2024
 # what a recipe prints, among other things
 WANTED = {
-    "find and xargs": ["see messages.txt", "archive/bad.rnx: ERROR line 1 code 3", "archive/strange.rnx: WARNING line"],
+    "find and xargs": ["see messages.txt", "archive/bad_MO.rnx: ERROR line 1 code 3", "archive/strange_MO.rnx: WARNING line"],
     "GNU parallel, with a job log": ["0\trnxcmp-file rnx2crx --gzip archive/abcd0010.24o", "1\trnxcmp-file rnx2crx --gzip archive/faulty.24o"],
     "make": ["some files failed"],
     "An array job of a batch system": ["job 0: status", "job 1: status", "status 123"],
     "RINEX 2 and 4 beside RINEX 3": ["archive/two.24o\n", "some files failed"],
-    "A compaction every night": ["the messages say which files stay"],
+    "A compaction every night": ["the messages say which files aren't verified", "files: 2 made, 0 replaced, 0 there already, 3 errors; verified: 2 exact, 0 normal form"],
     "A check every night": [
-        "archive/bad.rnx: ERROR line",
+        "archive/bad_MO.rnx: ERROR line",
         "archive/faulty.24o: ERROR line",
         "archive/padded.24o: standard no",
         "reports/archive/padded.24o.txt:standard no 32, blanks at its end\n",
-        " 1  blanks at its end\n",
+        " 2  blanks at its end\n",
     ],
-    "Is anything lost?": ["the messages say which"],
+    "Checksums before and after": ["the same sums"],
+    "Do the files come back?": ["the messages say which"],
     "Other programs that read the files": ["the same"],
 }
 ELSEWHERE = ("GNU parallel over several machines",)  # recipes that tests/cluster runs
 # what stands after a recipe, and what doesn't
 LEFT = {
-    "find and xargs": (["a.crx", "sub/b.crx", "packed.crx.gz", "strange.crx"], ["bad.crx"]),
+    "find and xargs": (["a_MO.crx", "sub/b_MO.crx", "packed_MO.crx.gz", "strange_MO.crx"], ["bad_MO.crx"]),
     "GNU parallel, with a job log": (["abcd0010.24d.gz", "padded.24d.gz"], ["faulty.24d.gz"]),
     "make": (["abcd0010.24d", "abcd0020.24d", "padded.24d"], ["faulty.24d", "two.24d"]),
-    "A compaction every night": (["a.crx.gz", "sub/b.crx.gz", "bad.rnx", "strange.rnx"], ["a.rnx", "sub/b.rnx", "bad.crx.gz", "strange.crx.gz"]),
+    "A compaction every night": (["a_MO.crx.gz", "sub/b_MO.crx.gz"], ["bad_MO.crx.gz", "strange_MO.crx.gz"]),
 }
 
 
-def make_files(folder):
-    """Good files, one of them packed; one with a strange epoch, and one that is no observation file; and with a year's ending two good
-    ones, one with blanks at the ends of all epochs' lines, one with a blank line at its end, and one of RINEX 2. All are hours old."""
+def make_files(program, folder):
+    """Good files, one of them packed; one with a strange epoch, and one that is no observation file; one that is delivered again, with
+    blanks at the ends of lines, beside the packed compact file of its first half; and with a year's ending two good ones, one with blanks at
+    the ends of all epochs' lines, one with a blank line at its end, and one of RINEX 2. All are hours old."""
     good = SAMPLE.read_bytes()
     lines = good.split(b"\n")
     first = next(k for k, line in enumerate(lines) if line.startswith(b">"))
@@ -59,16 +62,24 @@ def make_files(folder):
     strange[first + 1] = strange[first + 1][:3] + b"x" * 14 + strange[first + 1][17:]
     archive = folder / "archive"
     (archive / "sub").mkdir(parents=True)
-    for name in ("a.rnx", "sub/b.rnx", "abcd0010.24o", "abcd0020.24o"):
+    for name in ("a_MO.rnx", "sub/b_MO.rnx", "abcd0010.24o", "abcd0020.24o"):
         (archive / name).write_bytes(good)
-    (archive / "packed.rnx.gz").write_bytes(gzip.compress(good))
-    (archive / "strange.rnx").write_bytes(b"\n".join(strange))
-    (archive / "bad.rnx").write_bytes(b"not RINEX\n")
+    (archive / "packed_MO.rnx.gz").write_bytes(gzip.compress(good))
+    (archive / "strange_MO.rnx").write_bytes(b"\n".join(strange))
+    (archive / "bad_MO.rnx").write_bytes(b"not RINEX\n")
+    (archive / "again_MO.rnx").write_bytes(verifying.padded(verifying.of_epochs(130)))
+    (archive / "again_MO.crx.gz").write_bytes(gzip.compress(verifying.compact(program, verifying.of_epochs(65))))
     (archive / "padded.24o").write_bytes(b"\n".join(lines[:first] + [line + b"  " for line in lines[first:-1]] + [b""]))
     (archive / "faulty.24o").write_bytes(good + b"\n")
     (archive / "two.24o").write_bytes(good.replace(b"     3.05", b"     2.11", 1))
     for path in archive.rglob("*.*"):
         os.utime(path, (OLD, OLD))
+
+
+def inputs_of(work):
+    """The observation files, packed or not, and the compact file of a former delivery."""
+    paths = [path for pattern in ("*.rnx", "*.rnx.gz", "*.24o", "again_MO.crx.gz") for path in (work / "archive").rglob(pattern)]
+    return {path: path.read_bytes() for path in paths}
 
 
 def run_block(heading, block, work, environment):
@@ -78,12 +89,20 @@ def run_block(heading, block, work, environment):
     lacking = missing_tools(block)
     if lacking:
         return f"there is no {lacking[0]}"
+    before = inputs_of(work)
     run = subprocess.run(["sh", "-c", block], cwd=work, env=environment, capture_output=True, text=True, timeout=300)
     there, absent = LEFT.get(heading, ([], []))
     missing = [line for line in WANTED[heading] if line not in run.stdout] + [name for name in there if not (work / "archive" / name).exists()]
     surplus = [name for name in absent if (work / "archive" / name).exists()] + [str(path) for path in work.rglob("*.part*")]
     wrong = [f"not there: {missing}"] * bool(missing) + [f"there: {surplus}"] * bool(surplus)
+    wrong += [] if inputs_of(work) == before else ["an input was changed or removed"]
     return [*wrong, f"output: {run.stdout!r}", f"messages: {run.stderr!r}"] if wrong else []
+
+
+def check_lists(work):
+    """The files that a nightly compaction lists as verified: two, with their absolute names."""
+    listed = sorted((work / "verified.txt").read_text().split("\0")[:-1])
+    return [] if listed == [f"{work}/archive/{name}" for name in ("a_MO.rnx", "sub/b_MO.rnx")] else [f"listed: {listed}"]
 
 
 def check_next_nights(work, environment):
@@ -98,7 +117,7 @@ def check_next_nights(work, environment):
         padded.write_bytes(content)
         run = subprocess.run(["sh", "nightly.sh"], cwd=work, env=environment, capture_output=True, text=True, timeout=300)
         said = [line.partition(": ")[0] for line in run.stdout.splitlines()]
-        wanted = [f"archive/{name}" for name in sorted(["bad.rnx", "faulty.24o", "strange.rnx", "two.24o", *more])]
+        wanted = [f"archive/{name}" for name in sorted(["bad_MO.rnx", "faulty.24o", "strange_MO.rnx", "two.24o", *more])]
         wrong += [] if said == wanted and not run.stderr else [f"said: {run.stdout!r}", f"messages: {run.stderr!r}"]
     return wrong
 
@@ -110,11 +129,11 @@ def check_reasons(work, environment):
     first = next(k for k, line in enumerate(lines) if line.startswith(b">"))
     row = lines[first + 1]
     contents = {
-        "a.rnx": (good.replace(b"\n", b"\r\n"), "1, CR before LF"),
-        "b.rnx": (good.replace(lines[first], lines[first] + b" "), f"{first + 1}, blanks at its end"),
-        "c.rnx": (good.replace(row, re.sub(rb" (\d)", rb"0\1", row, count=1)), f"{first + 2}, a number written otherwise"),
-        "d.rnx": (good[:-1], f"{len(lines) - 1}, no LF at its end"),
-        "e.rnx": (good, ""),
+        "a_MO.rnx": (good.replace(b"\n", b"\r\n"), "1, CR before LF"),
+        "b_MO.rnx": (good.replace(lines[first], lines[first] + b" "), f"{first + 1}, blanks at its end"),
+        "c_MO.rnx": (good.replace(row, re.sub(rb" (\d)", rb"0\1", row, count=1)), f"{first + 2}, a number written otherwise"),
+        "d_MO.rnx": (good[:-1], f"{len(lines) - 1}, no LF at its end"),
+        "e_MO.rnx": (good, ""),
     }
     folder = work / "reasons"
     (folder / "archive").mkdir(parents=True)
@@ -149,19 +168,21 @@ def check_rtklib(work, environment):
 def checks(program):
     with tempfile.TemporaryDirectory() as name:
         folder = Path(name)
+        failed = install(program, folder)
+        yield "installed", lambda: failed
+        if failed:
+            return
         tools = folder / "bin"
-        tools.mkdir()
-        shutil.copy(program, tools / "rnxcmp")
-        for path in (TOP / "packaging/bin").iterdir():
-            shutil.copy(path, tools)
-        shutil.copy(TOP / "packaging/bin/CRX2RNX", tools / "crx2rnx")
         work = folder / "work"
         work.mkdir()
-        make_files(work)
+        make_files(program, work)
         environment = {**os.environ, "PATH": f"{tools}:{os.environ['PATH']}"}
         for heading, block in recipes():
             yield heading, lambda: run_block(heading, block, work, environment)
+            if heading == "A compaction every night":
+                yield f"{heading}: its lists", lambda: check_lists(work)
+        yield from hostile.checks(environment)
         yield "the next nights", lambda: check_next_nights(work, environment)
         yield "reasons of the night", lambda: check_reasons(work, environment)
         yield "RTKLIB", lambda: check_rtklib(work, environment)
-    yield from script.checks(program)
+        yield from verifying.checks(program, tools / "rnxcmp-file")

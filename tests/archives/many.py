@@ -4,9 +4,9 @@
     tests/archives/many.py PROGRAM [HEADING..]
 
 Each recipe is killed in the middle, with all that it started, and begun again, and then once more; it runs on a disk that is too small
-for all outputs, and again on a greater one; and without the bad files. After each run every input is there, or its output holds all of it;
-no half output has an output's name; each bad file is named, the recipe says that files failed exactly where some did, and a further run
-leaves what is done as it is. The recipes run as a user that may not read all files, and what is mounted goes with the test: so only root
+for all outputs, and again on a greater one; and without the bad files. After each run every input is there as it was; each output holds all
+of its input; no half output has an output's name; each bad file is named, the recipe says that files failed exactly where some did, and a
+further run leaves what is done as it is. The recipes run as a user that may not read all files, and what is mounted goes with the test: so only root
 can run all of it. The last line is `N passed, M failed`.
 """
 
@@ -27,7 +27,7 @@ from pathlib import Path
 HERE = Path(__file__).resolve().parent
 TOP = HERE.parents[1]
 sys.path[:0] = [str(TOP / "tests"), str(HERE)]
-from checking import missing_tools, tally  # noqa: E402
+from checking import install, missing_tools, tally  # noqa: E402
 from recipes import recipes  # noqa: E402
 
 SAMPLE = (TOP / "samples/station.rnx").read_bytes()
@@ -39,27 +39,26 @@ ROOM = 150 * 4096  # bytes of a small disk beside what stands there at the start
 
 @dataclass
 class Recipe:
-    """What a recipe takes and makes: the endings; whether it skips epochs, removes inputs, goes into folders and takes packed files;
-    and what it prints exactly where a file failed."""
+    """What a recipe takes and makes: the endings; whether it skips epochs, takes unusual names and takes packed files; and what it prints
+    exactly where a file failed."""
 
     taken: str
     made: str
     failed: str
     skips: bool = False
-    deletes: bool = False
-    deep: bool = True
+    unusual: bool = True
     packed: bool = False
 
 
 RECIPES = {
-    "find and xargs": Recipe(".rnx", ".crx", r"see messages\.txt", skips=True, packed=True),
+    "find and xargs": Recipe("_MO.rnx", "_MO.crx", r"see messages\.txt", skips=True, packed=True),
     "GNU parallel, with a job log": Recipe(".24o", ".24d.gz", r"^[1-9][0-9]*\t"),
-    "make": Recipe(".24o", ".24d", "some files failed", deep=False),
+    "make": Recipe(".24o", ".24d", "some files failed", unusual=False),
     "An array job of a batch system": Recipe(".24o", ".24d.gz", "status [1-9]"),
     "RINEX 2 and 4 beside RINEX 3": Recipe(".24o", ".24d.gz", "some files failed|^archive/"),
-    "A compaction every night": Recipe(".rnx", ".crx.gz", "the messages say which files stay", deletes=True),
+    "A compaction every night": Recipe("_MO.rnx", "_MO.crx.gz", "the messages say which files aren't verified"),
     "A check every night": Recipe(".24o", "", "^archive/"),
-    "Is anything lost?": Recipe(".24o", ".24d.gz", "the messages say which"),
+    "Do the files come back?": Recipe(".24o", ".24d.gz", "the messages say which"),
 }
 
 
@@ -104,9 +103,9 @@ class Files:
         kinds = bad_files()
         self.good, self.bad = {}, {}
         for number in range(count - 1):
-            place = f"{number % 7}/" if recipe.deep else ""
+            place = f"{number % 7}/"
             name = f"{place}made{number:03}0{recipe.taken}"
-            if number in (30, 31) and recipe.deep:
+            if number in (30, 31) and recipe.unusual:
                 name = f"{place}it's {number} \u00fc0{recipe.taken}"
             if number % (count // 11) == 3 and len(self.bad) < len(kinds):
                 self.bad[name] = kinds[len(self.bad)]
@@ -142,6 +141,10 @@ def content_of(path):
     return gzip.decompress(content) if path.name.endswith(".gz") else content
 
 
+def is_there(path, content):
+    return path.exists() and content_of(path) == content
+
+
 def expansion(program, path):
     """What a compact file holds, or nothing where it isn't whole."""
     try:
@@ -153,25 +156,23 @@ def expansion(program, path):
 
 
 def judge(program, work, files, done, bad=True):
-    """What is wrong: something is lost, an output isn't whole, or, where the run went to its end, an output isn't there. The bad files
-    may have been removed."""
+    """What is wrong: an input isn't as it was, an output isn't whole, or, where the run went to its end, isn't there. The test may have
+    removed the bad files."""
     wrong = []
     archive = work / "archive"
     for name, content in files.good.items():
         output = files.output_of(name)
         there = output is not None and (archive / output).exists()
         whole = there and expansion(program, archive / output) == content
-        source = (archive / name).exists() and content_of(archive / name) == content
-        wrong += [f"lost: {name}"] if not whole and not source else []
+        wrong += [] if is_there(archive / name, content) else [f"not as it was: {name}"]
         wrong += [f"a half output: {output}"] if there and not whole else []
         wrong += [f"no output: {output}"] if done and output and not there else []
-        wrong += [f"the input stays: {name}"] if done and files.recipe.deletes and source else []
     for name, content in files.bad.items() if bad else ():
-        wrong += [] if (archive / name).exists() and content_of(archive / name) == content else [f"lost: {name}"]
+        wrong += [] if is_there(archive / name, content) else [f"not as it was: {name}"]
         output = files.output_of(name)
         if output and (archive / output).exists() and name not in files.strange:
             wrong.append(f"an output of a bad file: {output}")
-    wrong += [] if not bad or (archive / files.unreadable).exists() else [f"lost: {files.unreadable}"]
+    wrong += [] if not bad or (archive / files.unreadable).exists() else [f"removed: {files.unreadable}"]
     return wrong[:6] + ([f"and {len(wrong) - 6} more"] if len(wrong) > 6 else [])
 
 
@@ -285,7 +286,7 @@ def check_full(program, tools, files, block, work):
     try:
         files.write(work)
         used = sum(path.stat().st_blocks * 512 for path in disk.folder.rglob("*") if path.is_file())
-        disk.grow(used + (0 if files.recipe.deletes else ROOM))
+        disk.grow(used + ROOM)
         printed = Run(block, work, tools).end()
         wrong = [f"full: {line}" for line in judge(program, work, files, False)]
         left = [name for name in files.good if files.output_of(name) and not (work / "archive" / files.output_of(name)).exists()]
@@ -299,12 +300,12 @@ def check_full(program, tools, files, block, work):
 
 
 def checks(program, headings, folder):
+    failed = install(program, folder)
+    yield "installed", lambda: failed
+    if failed:
+        return
     tools = folder / "bin"
-    tools.mkdir()
-    shutil.copy(program, tools / "rnxcmp")
-    shutil.copy(TOP / "packaging/bin/rnxcmp-file", tools)
-    for path in (folder, *tools.iterdir()):
-        path.chmod(path.stat().st_mode | stat.S_IRGRP | stat.S_IXGRP | stat.S_IROTH | stat.S_IXOTH)
+    folder.chmod(folder.stat().st_mode | stat.S_IRGRP | stat.S_IXGRP | stat.S_IROTH | stat.S_IXOTH)
     found = {heading: block for heading, block in recipes() if heading in RECIPES}
     yield "all are there", lambda: [] if found.keys() == RECIPES.keys() else [f"recipes: {sorted(found)}"]
     for heading, block in found.items():

@@ -6,7 +6,7 @@
 Machines are daemons of the test's own, in a temporary folder, with keys, ports and configurations of their own: an sshd each for GNU
 parallel; slurmctld, munged and a slurmd each for Slurm. `one` and `two` see the disk and the program; from `bare` the program is hidden,
 and from `far` the disk. 200 files, ten of them bad and one unreadable, are compacted there; runs and single jobs are killed in the middle
-and begun again, and a disk is full and grows. Then nothing is lost, each bad file is named, and the statuses are right. All that was
+and begun again, and a disk is full and grows. Then each input is as it was, each bad file is named, and the statuses are right. All that was
 started ends with the test, and all folders go. It needs root, for what is hidden and mounted. The last line is `N passed, M failed`.
 """
 
@@ -23,7 +23,7 @@ from pathlib import Path
 
 TOP = Path(__file__).resolve().parents[2]
 sys.path[:0] = [str(TOP / "tests"), str(TOP / "tests/archives")]
-from checking import tally  # noqa: E402
+from checking import install, tally  # noqa: E402
 from many import FILES, OLD, ROOM, Disk, Files, Recipe, Run, judge  # noqa: E402
 from recipes import recipes  # noqa: E402
 
@@ -57,11 +57,12 @@ class Machines:
     def __init__(self, program, top):
         self.top = top
         top.chmod(0o755)
-        self.tools, self.disk, self.home = top / "tools", top / "disk", top / "home"
-        for folder in (self.tools, self.disk, self.home):
+        self.tools, self.disk, self.home = top / "bin", top / "disk", top / "home"
+        for folder in (self.disk, self.home):
             folder.mkdir()
-        shutil.copy(program, self.tools / "rnxcmp")
-        shutil.copy(TOP / "packaging/bin/rnxcmp-file", self.tools)
+        failed = install(program, top)
+        if failed:
+            raise RuntimeError(failed)
         (self.disk / "small").mkdir()
         self.small = Disk(self.disk / "small/archive", "64m")
         self.daemons = []
@@ -449,7 +450,7 @@ def check_full_disk(slurm, program):
 
 
 def check_bare_node(slurm, program):
-    """A machine without the program: its tasks fail with 127, nothing is lost, and on another machine all is done."""
+    """A machine without the program: its tasks fail with 127, each input is as it was, and on another machine all is done."""
     work, files = prepare(slurm.machines.new_work())
     states = slurm.end_of(slurm.submit(work, f"0-{JOBS - 1}", "--nodelist=bare"))
     wrong = [] if set(states.values()) == {("FAILED", "127:0")} else [f"tasks {states}"]
@@ -459,7 +460,7 @@ def check_bare_node(slurm, program):
 
 
 def check_far_node(slurm, program):
-    """A machine that doesn't see the disk: its tasks fail, where their messages can be written too; nothing is lost."""
+    """A machine that doesn't see the disk: its tasks fail, where their messages can be written too; each input is as it was."""
     work, files = prepare(slurm.machines.new_work())
     states = slurm.end_of(slurm.submit(work, f"0-{JOBS - 1}", "--nodelist=far"))
     wrong = [] if len(states) == JOBS and {state for state, _ in states.values()} == {"FAILED"} else [f"tasks {states}"]

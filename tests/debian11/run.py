@@ -84,13 +84,13 @@ def check_way_back(root, program, script):
     folder = root / "tmp/files"
     folder.mkdir()
     shutil.copy(SAMPLE, folder / "a.rnx")
-    for words, left in ((["rnx2crx", "--gzip", "--delete", "a.rnx"], "a.crx.gz"), (["crx2rnx", "--no-gzip", "--delete", "a.crx.gz"], "a.rnx")):
+    for words, there in ((["rnx2crx", "--gzip", "--verify", "a.rnx"], {"a.rnx", "a.crx.gz"}), (["crx2rnx", "--verify", "a.crx.gz", "-o", "b.rnx"], {"a.rnx", "a.crx.gz", "b.rnx"})):
         run = inside(root, "sh", "-c", 'cd /tmp/files && exec "$0" "$@"', script, *words)
-        names = [path.name for path in folder.iterdir()]
-        wrong += [] if run.returncode == 0 and not run.stderr and names == [left] else [f"{words}: {said(run)}, files {names}"]
-    same = not wrong and (folder / "a.rnx").read_bytes() == SAMPLE.read_bytes()
+        names = {path.name for path in folder.iterdir()}
+        wrong += [] if run.returncode == 0 and not run.stderr and names == there else [f"{words}: {said(run)}, files {sorted(names)}"]
+    same = not wrong and all((folder / name).read_bytes() == SAMPLE.read_bytes() for name in ("a.rnx", "b.rnx"))
     shutil.rmtree(folder)
-    return wrong or ([] if same else ["the script's file isn't the sample"])
+    return wrong or ([] if same else ["the files aren't the sample"])
 
 
 def check_archive(root):

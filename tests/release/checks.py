@@ -2,6 +2,7 @@
 version, which stands in VERSION alone (see tests/run.py)."""
 
 import json
+import os
 import re
 import shutil
 import struct
@@ -19,7 +20,8 @@ LIBRARY = TOP / "out/library"  # which the archive has too, where make library m
 VERSION = (TOP / "VERSION").read_text().strip()
 SECONDS = 100  # in which each step is to end
 INTERPRETER = 3  # what says in a program's table that it needs the system's loader
-FILES = ("bin/rnxcmp", "bin/rnxcmp-file", "bin/RNX2CRX", "bin/crx2rnx", "share/man/man1/rnxcmp.1", "share/man/man1/rnxcmp-file.1")
+FILES = ("bin/rnxcmp", "bin/RNX2CRX", "bin/crx2rnx", "share/man/man1/rnxcmp.1")
+PAGES = ["READING.md", "DEFINITIONS.md", "DEFINITIONS.html", "CONTRACTS.md", "CONTRACTS.html"]  # those of make docs
 
 
 def lacking(program):
@@ -39,7 +41,8 @@ def made(program, folder, top=TOP):
     """Makes a release: what went wrong, as lines."""
     library = [LIBRARY] if (LIBRARY / "librnxcmp.a").exists() else []
     run = subprocess.run([top / "packaging/dist.sh", f"{program}.o", folder, *library], capture_output=True, text=True, timeout=SECONDS)
-    return [] if run.returncode == 0 and not run.stderr else [f"status {run.returncode}, {run.stderr!r}"]
+    said = run.stderr if library else ""  # without the library a line says what is left out
+    return [] if run.returncode == 0 and not said else [f"status {run.returncode}, {run.stderr!r}"]
 
 
 def check_twice(program, one, two):
@@ -61,8 +64,20 @@ def needs_loader(program):
     return any(struct.unpack_from("<I", content, start + size * k)[0] == INTERPRETER for k in range(count))
 
 
+def check_tool(prefix):
+    """The tool for whole files: its manual page, and a file that it compacts and verifies."""
+    shutil.copy(SAMPLE, prefix / "a.rnx")
+    environment = {name: value for name, value in os.environ.items() if not name.startswith(("PYTHON", "RNXCMP"))}
+    command = [prefix / "bin/rnxcmp-file", "rnx2crx", "--verify", "--gzip", "a.rnx"]
+    run = subprocess.run(command, cwd=prefix, env=environment, capture_output=True, text=True, timeout=SECONDS)
+    right = run.stdout == "a.rnx: made a.crx.gz, verified exact\n" and (prefix / "a.crx.gz").exists() and (prefix / "a.rnx").read_bytes() == SAMPLE.read_bytes()
+    page = prefix / "share/man/man1/rnxcmp-file.1"
+    wrong = [] if page.exists() or page.with_suffix(".1.gz").exists() else ["no manual page of rnxcmp-file"]
+    return wrong + ([] if right and not run.stderr else [f"rnxcmp-file: status {run.returncode}, {run.stdout!r}, {run.stderr!r}"])
+
+
 def check_unpacked(prefix, doc):
-    """What stands below a folder: the files, a static program, a round trip with it and with the script, and the list of parts."""
+    """What stands below a folder: the files, a static program, a round trip with it and with the tool, and the list of parts."""
     wrong = [f"{name} isn't there" for name in FILES if not (prefix / name).exists() and not (prefix / f"{name}.gz").exists()]
     wrong += [f"share/doc/rnxcmp/{name} isn't there" for name in doc if not (prefix / "share/doc/rnxcmp" / name).exists()]
     if wrong:
@@ -73,10 +88,7 @@ def check_unpacked(prefix, doc):
     back = subprocess.run([program, "crx2rnx"], input=compact.stdout, capture_output=True, timeout=SECONDS)
     if (compact.returncode, back.returncode, back.stdout) != (0, 0, SAMPLE.read_bytes()):
         wrong.append(f"the sample doesn't come back: {compact.stderr!r}, {back.stderr!r}")
-    shutil.copy(SAMPLE, prefix / "a.rnx")
-    run = subprocess.run([prefix / "bin/rnxcmp-file", "rnx2crx", "--delete", "--gzip", "a.rnx"], cwd=prefix, capture_output=True, text=True, timeout=SECONDS)
-    if run.returncode or run.stderr or not (prefix / "a.crx.gz").exists() or (prefix / "a.rnx").exists():
-        wrong.append(f"rnxcmp-file: status {run.returncode}, {run.stderr!r}")
+    wrong += check_tool(prefix) if (LIBRARY / "librnxcmp.so.2").exists() else []
     parts = json.loads((prefix / "share/doc/rnxcmp/parts.spdx.json").read_text())
     found = {part["name"]: part["versionInfo"] for part in parts["packages"]}
     return wrong + ([] if found.get("rnxcmp") == VERSION and found.get("glibc") else [f"parts {found}"])
@@ -86,7 +98,7 @@ def check_archive(made_in, folder):
     folder.mkdir()
     name = f"rnxcmp-{VERSION}-linux-x86_64"
     subprocess.run(["tar", "-xzf", made_in / f"{name}.tar.gz", "-C", folder], check=True, timeout=SECONDS)
-    return check_unpacked(folder / name, ["NOTICES", "LGPL-2.1.txt", "CHANGELOG.md", "USE.md", "ARCHIVES.md", "GUARANTEES.md"])
+    return check_unpacked(folder / name, ["NOTICES", "LGPL-2.1.txt", "CHANGELOG.md", "USE.md", "ARCHIVES.md", "GUARANTEES.md", *PAGES])
 
 
 def check_library(folder):
@@ -115,7 +127,7 @@ def check_package(made_in, folder):
     subprocess.run(["dpkg-deb", "-x", package, folder], check=True, timeout=SECONDS)
     fields = subprocess.run(["dpkg-deb", "-f", package, "Package", "Version", "Depends"], capture_output=True, text=True, timeout=SECONDS).stdout
     wrong = [] if fields == f"Package: rnxcmp\nVersion: {VERSION}\n" else [f"fields {fields!r}"]
-    return wrong + check_unpacked(folder / "usr", ["copyright", "changelog.gz"])
+    return wrong + check_unpacked(folder / "usr", ["copyright", "changelog.gz", *PAGES])
 
 
 def check_printed(made_in, folder):
@@ -123,8 +135,9 @@ def check_printed(made_in, folder):
     shutil.copytree(made_in, folder)
     page = (TOP / "docs/USE.md").read_text()
     lines = re.findall(r"^    (.*)$", page[page.index("## Install a release") : page.index("## Arguments")], re.M)
-    more = [f"command -v {name}" for name in ("rnxcmp", "rnxcmp-file", "RNX2CRX", "crx2rnx")]
-    more += [f"man -w {name}" for name in ("rnxcmp", "rnxcmp-file", "CRX2RNX")] if shutil.which("man") else []
+    tool = ["rnxcmp-file"] if (LIBRARY / "librnxcmp.so.2").exists() else []
+    more = [f"command -v {name}" for name in ("rnxcmp", *tool, "RNX2CRX", "crx2rnx")]
+    more += [f"man -w {name}" for name in ("rnxcmp", *tool, "CRX2RNX")] if shutil.which("man") else []
     run = subprocess.run(["sh", "-ec", "\n".join([*lines, *more])], cwd=folder, capture_output=True, text=True, timeout=SECONDS)
     found = [line for line in run.stdout.splitlines() if line.startswith(f"{folder}/rnxcmp-{VERSION}-linux-x86_64/")]
     return [] if run.returncode == 0 and not run.stderr and len(lines) == 4 and len(found) == len(more) else [f"{run}"]
@@ -152,13 +165,13 @@ def check_made_from_source(program, made_in, folder):
 
 
 def check_version(program):
-    """The help, the manual pages and the list of changes say the version that stands in VERSION."""
+    """The help, the manual pages and the list of changes, but for those that aren't released, say the version that stands in VERSION."""
     wrong = [] if re.fullmatch(r"[0-9]+\.[0-9]+\.[0-9]+", VERSION) else [f"VERSION: {VERSION!r}"]
     text = subprocess.run([program, "--help"], capture_output=True, text=True, timeout=SECONDS).stdout
     wrong += [] if text.startswith(f"rnxcmp {VERSION}: ") else [f"help: {text[:40]!r}"]
     for page in sorted((TOP / "packaging/man").glob("*.1")):
         wrong += [] if '"rnxcmp @VERSION@"' in page.read_text() and VERSION not in page.read_text() else [f"{page.name} has a version of its own"]
-    newest = re.search(r"^## (.*)$", (TOP / "CHANGELOG.md").read_text(), re.M)[1]
+    newest = re.search(r"^## (?!Unreleased$)(.*)$", (TOP / "CHANGELOG.md").read_text(), re.M)[1]
     return wrong + ([] if newest == VERSION else [f"CHANGELOG.md: {newest}"])
 
 

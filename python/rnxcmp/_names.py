@@ -1,0 +1,58 @@
+"""Names of files: what an output is called, and how a name is written in a message."""
+
+import os
+import re
+from itertools import groupby
+from typing import Optional
+
+_PACKED = re.compile(r"\.(gz|GZ|z|Z)\Z")
+_FORMS = {"rnx2crx": (("rnx", "crx"), ("o", "d")), "crx2rnx": (("crx", "rnx"), ("d", "o"))}
+
+
+def is_packed(name: str) -> bool:
+    """Whether a name is that of a packed file."""
+    return _PACKED.search(name) is not None
+
+
+def unpacked_name(name: str) -> str:
+    """A name without the ending of packed files."""
+    return _PACKED.sub("", name)
+
+
+def other_name(name: str, direction: str) -> Optional[str]:
+    """The name of an unpacked file with the ending of the other form, where it has one: `.rnx`, or two digits and `o`, small or capital."""
+    (word, other_word), (letter, other_letter) = _FORMS[direction]
+    found = re.fullmatch(rf"(.*[^/]\.)({word}|{word.upper()})|(.*[^/]\.[0-9][0-9])([{letter}{letter.upper()}])", name, re.S)
+    if not found:
+        return None
+    before, old, new = (found[1], found[2], other_word) if found[1] else (found[3], found[4], other_letter)
+    return before + (new.upper() if old.isupper() else new)
+
+
+def is_named_as_input(name: str, direction: str) -> bool:
+    """Whether a file has a name as inputs of a direction have: where an output got it, the one could be taken for the other."""
+    return other_name("_" + unpacked_name(os.path.basename(name).lower()), direction) is not None
+
+
+def _escaped(name: str) -> str:
+    """Characters that can't be printed, each byte as three octal digits or a letter."""
+    letters = {7: "\\a", 8: "\\b", 9: "\\t", 10: "\\n", 11: "\\v", 12: "\\f", 13: "\\r"}
+    return "".join(letters.get(byte, f"\\{byte:03o}") for byte in os.fsencode(name))
+
+
+def _is_plain(name: str) -> bool:
+    """Whether a shell reads a name as it is."""
+    return name.isprintable() and not re.search(r"^$|^[#~]|^[{}]$|[\s!\"$&'()*;<=>?\[\\^`|]", name)
+
+
+def quoted(name: str) -> str:
+    """A name as ``ls`` writes it on a terminal: as it is, or in one line so that a shell reads the same name."""
+    if _is_plain(name):
+        return name
+    if "'" in name and _is_plain(re.sub("[' ]", "_", name)) and not re.search("[{}]", name):
+        return f'"{name}"'
+    text = "'"
+    for printable, run in groupby(name, str.isprintable):
+        piece = "".join(run)
+        text += piece.replace("'", "'\\''") if printable else f"'$'{_escaped(piece)}''"
+    return text[:-1] if not name[-1].isprintable() else text + "'"

@@ -1,0 +1,121 @@
+"""One file beside the other, as users of the package ``hatanaka`` know the calls."""
+
+import os
+import warnings
+from pathlib import Path
+from typing import Optional, Union
+
+from ._calls import RnxcmpWarning, _level_outside
+from ._files import ensure_known, is_compact, is_observation
+from ._names import is_named_as_input, other_name, unpacked_name
+from ._packed import UnsupportedError, text_of
+from ._whole import COMPACTION, COPY, EXPANSION, Choices, Whole
+
+PathLike = Union[str, "os.PathLike[str]"]
+
+_FIRST_LINE = 82  # bytes of a file that say what it is
+
+
+def _start_of(path: str) -> bytes:
+    """The first bytes of a file's text."""
+    descriptor = os.open(path, os.O_RDONLY | os.O_CLOEXEC)
+    try:
+        start = b""
+        for piece in text_of(descriptor):
+            start += piece
+            if len(start) >= _FIRST_LINE:
+                break
+        return start
+    finally:
+        os.close(descriptor)
+
+
+def _warn(text: str) -> None:
+    warnings.warn(text, RnxcmpWarning, stacklevel=_level_outside())
+
+
+def _other_name_of(path: str, direction: str) -> str:
+    """The name without the ending of packed files, with the other form's ending where it has one of this form."""
+    plain = unpacked_name(path)
+    return plain if direction == COPY else other_name(plain, direction) or plain
+
+
+def _refuse(delete: bool) -> None:
+    if delete:
+        raise ValueError("delete is no longer an option: no input is ever removed; removing is the caller's decision")
+
+
+def _ensure_name(source: str, target: str, is_compact_text: bool, is_rinex: bool) -> None:
+    """Refuses a name under which compact text would be taken for RINEX, or RINEX for compact text, and that of the input."""
+    misleading = (is_compact_text and is_named_as_input(target, COMPACTION)) or (is_rinex and is_named_as_input(target, EXPANSION))
+    if misleading or target == str(Path(source)):
+        raise UnsupportedError(f"no name for the converted file: {source}")
+
+
+def _do(path: str, target: str, choices: Choices) -> Path:
+    return Path(Whole(path, choices, target, _warn).run().output)
+
+
+def get_decompressed_path(path: PathLike) -> Path:
+    """The name of the file that :func:`decompress_on_disk` writes: without ``.gz``, and ``.crx`` as ``.rnx``, ``.24d`` as ``.24o``."""
+    return Path(_other_name_of(os.fspath(path), EXPANSION))
+
+
+def decompress_on_disk(
+    path: PathLike, *, delete: bool = False, skip_strange_epochs: bool = False, verify: bool = False, force: bool = False
+) -> Path:
+    """Decompresses a file into the file :func:`get_decompressed_path` names, and gives that path.
+
+    The file appears whole, or not at all, and the input stays as it is. One that holds nothing to decompress is left as it is.
+
+    :param verify: read the file back from the disk and compare before it gets its name.
+    :param force: replace a file that is there. Else one that holds this input is left as it is, and any other one is an error.
+    :param delete: must be false: no input is removed.
+    :raises RnxcmpError: where nothing was made.
+    """
+    _refuse(delete)
+    source = os.fspath(path)
+    target = str(get_decompressed_path(source))
+    start = _start_of(source)
+    direction = EXPANSION if is_compact(start) else COPY
+    if direction == EXPANSION:
+        ensure_known(start)
+    if direction == COPY and target == str(Path(source)):
+        return Path(source)
+    _ensure_name(source, target, False, direction == EXPANSION or is_observation(start))
+    return _do(source, target, Choices(direction, False, verify, force, skip_strange_epochs))
+
+
+def compress_on_disk(
+    path: PathLike,
+    *,
+    compression: str = "gz",
+    delete: bool = False,
+    skip_strange_epochs: bool = False,
+    reinit_every_nth: Optional[int] = None,
+    verify: bool = False,
+    force: bool = False,
+) -> Path:
+    """Compresses a file beside it, as ``abcd0010.24o`` to ``abcd0010.24d.gz``, and gives that path.
+
+    The file appears whole, or not at all, and the input stays as it is.
+
+    :param verify: read the file back from the disk and compare before it gets its name.
+    :param force: replace a file that is there. Else one that holds this input is left as it is, and any other one is an error.
+    :param delete: must be false: no input is removed.
+    :raises RnxcmpError: where nothing was made.
+    """
+    _refuse(delete)
+    if compression not in ("gz", "none"):
+        raise UnsupportedError(f"compression not supported: {compression}")
+    source = os.fspath(path)
+    start = _start_of(source)
+    direction = COMPACTION if is_observation(start) else COPY
+    if direction == COMPACTION:
+        ensure_known(start)
+    target = _other_name_of(source, direction) + (".gz" if compression == "gz" else "")
+    target = str(Path(target))
+    if direction == COPY and target == str(Path(source)):
+        return Path(source)
+    _ensure_name(source, target, direction == COMPACTION or is_compact(start), is_observation(start) and direction == COPY)
+    return _do(source, target, Choices(direction, compression == "gz", verify, force, skip_strange_epochs, reinit_every_nth))

@@ -1,0 +1,123 @@
+"""The text of a file in pieces: as it is, out of gzip, or out of compress (`.Z`); and into gzip."""
+
+import os
+import subprocess
+import zlib
+from typing import Callable, Iterable, Iterator
+
+from ._calls import RnxcmpError
+
+_PIECE = 1 << 18
+_GZIP, _COMPRESS = b"\x1f\x8b", b"\x1f\x9d"
+_OTHERS = ((b"\x1f\xa0", ".Z (LZH)"), (b"BZh", "bzip2"), (b"PK\x03\x04", "zip"), (b"\xfd7zXZ\x00", "xz"), (b"\x28\xb5\x2f\xfd", "zstd"))
+_SIGN = 6  # bytes that say how a file is packed
+_GZIP_FORM = 31  # zlib's number for gzip
+
+
+class UnsupportedError(RnxcmpError):
+    """A compression or a format that this package doesn't know; the message names it."""
+
+
+class PackError(RnxcmpError):
+    """A packed file is damaged or cut off."""
+
+
+def other_packing(start: bytes) -> str:
+    """The name of a compression that isn't read here, by what a file begins with, or an empty text."""
+    return next((name for sign, name in _OTHERS if start.startswith(sign)), "")
+
+
+def pieces_of(descriptor: int) -> Iterator[bytes]:
+    """The bytes of an open file, from where it stands."""
+    while True:
+        piece = os.read(descriptor, _PIECE)
+        if not piece:
+            return
+        yield piece
+
+
+def _out_of_gzip(pieces: Iterable[bytes]) -> Iterator[bytes]:
+    """The text of all members; zeros between and after them are no text."""
+    member, first = None, True
+    for piece in pieces:
+        while True:
+            if member is None:
+                piece = piece if first else piece.lstrip(b"\0")
+                if not piece:
+                    break
+                member, first = zlib.decompressobj(_GZIP_FORM), False
+            try:
+                text = member.decompress(piece, _PIECE)
+            except zlib.error as error:
+                raise PackError(f"the packed text is damaged: {error}") from None
+            if text:
+                yield text
+            if member.eof:
+                piece, member = member.unused_data, None
+                continue
+            piece = member.unconsumed_tail
+            if not piece and len(text) < _PIECE:
+                break
+    if member is not None:
+        raise PackError("the packed text is cut off")
+
+
+def _out_of_compress(descriptor: int) -> Iterator[bytes]:
+    """The text of a `.Z` file, by `gzip -dc`."""
+    os.lseek(descriptor, 0, os.SEEK_SET)
+    try:
+        run = subprocess.Popen(["gzip", "-dc"], stdin=descriptor, stdout=subprocess.PIPE, stderr=subprocess.PIPE)
+    except OSError as error:
+        raise UnsupportedError(f".Z is unpacked by gzip -dc, which can't be started: {error.strerror}") from None
+    assert run.stdout is not None and run.stderr is not None
+    try:
+        while True:
+            piece = os.read(run.stdout.fileno(), _PIECE)
+            if not piece:
+                break
+            yield piece
+        said = run.stderr.read(1000).decode("utf-8", "replace").strip().replace("\n", " ")
+        if run.wait() != 0:
+            raise PackError(f"gzip -dc failed: {said or run.returncode}")
+    finally:
+        run.stdout.close()
+        run.stderr.close()
+        run.kill()
+        run.wait()
+
+
+def text_of(descriptor: int) -> Iterator[bytes]:
+    """The text of an open file, unpacked by what it begins with. The file stands at its beginning."""
+    start = b""
+    while len(start) < _SIGN:
+        piece = os.read(descriptor, _PIECE)
+        if not piece:
+            break
+        start += piece
+    if start.startswith(_COMPRESS):
+        yield from _out_of_compress(descriptor)
+        return
+    if other_packing(start):
+        raise UnsupportedError(f"compression not supported: {other_packing(start)}")
+
+    def all_pieces() -> Iterator[bytes]:
+        if start:
+            yield start
+            yield from pieces_of(descriptor)
+
+    yield from _out_of_gzip(all_pieces()) if start.startswith(_GZIP) else all_pieces()
+
+
+class Packing:
+    """Writes a text through a call, packed by gzip or as it is. The same text is packed the same."""
+
+    def __init__(self, write: Callable[[bytes], None], pack: bool) -> None:
+        self._write = write
+        self._packer = zlib.compressobj(6, zlib.DEFLATED, _GZIP_FORM) if pack else None
+
+    def write(self, text: bytes) -> None:
+        self._write(self._packer.compress(text) if self._packer else text)
+
+    def end(self) -> None:
+        if self._packer:
+            self._write(self._packer.flush())

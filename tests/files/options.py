@@ -1,0 +1,411 @@
+"""Each option of rnxcmp-file, names, lines and messages, packed files, modes and owners, and the calls from Python."""
+
+import gzip
+import json
+import os
+import pty
+import random
+import shutil
+import stat
+import subprocess
+import sys
+
+from place import DATE, ENVIRONMENT, GOOD, OLD, SECONDS, TOOL, Place, changed_epoch, marked, padded
+
+PACKED = gzip.compress(GOOD)
+STRANGE = [b"a b", b"it's", b"$(touch x)", b'"q"', b"new\nline", b"tab\t`id`", b"\xff\xfe", "\u00e9t\u00e9".encode(), b"-f", b"a;b&c", b"#a", b"\x1b[2J"]
+
+
+def differs(run, status, out=None, errors=None):
+    """What is wrong with a run: another status, or texts that lack one of these."""
+    wrong = [] if run.returncode == status else [f"status {run.returncode}, not {status}"]
+    wrong += [f"not on standard output: {text!r}" for text in out or () if text not in run.stdout]
+    wrong += [f"not on standard error: {text!r}" for text in errors or () if text not in run.stderr]
+    return wrong + ([f"said: {run.stdout!r}, {run.stderr!r}"] if wrong or (run.stderr and not errors) else [])
+
+
+def output_names(texts):
+    """The output's name, with -o, --gzip and --no-gzip, and whether it is packed."""
+    wrong = []
+    for name, words, output in (
+        ("a.rnx", (), "a.crx"), ("a.RNX", (), "a.CRX"), ("a.24o", (), "a.24d"), ("a.24O", (), "a.24D"), ("a.rnx.gz", (), "a.crx.gz"),
+        ("a.rnx", ("--gzip",), "a.crx.gz"), ("a.rnx.gz", ("--no-gzip",), "a.crx"), ("a.rnx", ("-o", "b c.gz"), "b c.gz"),
+        ("a.rnx.gz", ("-o", "b"), "b"), ("a.rnx", ("-o", "b", "--gzip"), "b"), ("a.rnx", ("-o", "b.gz", "--no-gzip"), "b.gz"),
+        ("x", ("-o", "y.crx"), "y.crx"), ("a.rnx", ("-osub/b.crx",), "sub/b.crx"),
+    ):  # fmt: skip
+        with Place() as place:
+            (place.work / "sub").mkdir()
+            place.write(name, PACKED if name.endswith(".gz") else GOOD)
+            run = place.run_in_child("rnx2crx", name, *words, "--date", DATE)
+            path = place.work / output
+            content = path.read_bytes() if path.exists() else b""
+            packed = "--gzip" in words or ("--no-gzip" not in words and output.endswith(".gz"))
+            right = (gzip.decompress(content) if content[:2] == b"\x1f\x8b" else content) == texts.plain_compact
+            lines = differs(run, 0, [f"made {output}" if " " not in output else f"made '{output}'"])
+            lines += [] if right and (content[:2] == b"\x1f\x8b") == packed else ["another content"]
+            wrong += [f"{name} {words}: {line}" for line in lines]
+    return wrong
+
+
+def choices_of_the_filter(texts):
+    """-e and --date give what the program gives; without --date the line has a date of now."""
+    wrong = []
+    for words in (("-e", "2", "--date", DATE), ("-e2", "--date="), ("--date", "x" * 20)):
+        with Place() as place:
+            place.write("a.rnx", GOOD)
+            lines = differs(place.run_in_child("rnx2crx", *words, "a.rnx", "--verify"), 0, ["verified exact"])
+            given = [part for word in words for part in (("--date", word[7:]) if word.startswith("--date=") else (word,))]
+            lines += [] if (place.work / "a.crx").read_bytes() == texts.filtered(GOOD, "rnx2crx", *given) else ["another output than the program's"]
+            wrong += [f"{words}: {line}" for line in lines]
+    return wrong
+
+
+def refusals(texts):
+    """What is refused: status 1, a message, and nothing is made."""
+    wrong = []
+    for words, said in (
+        ((), "rnx2crx or crx2rnx is missing"), (("pack", "a.rnx"), "neither rnx2crx nor crx2rnx"), (("rnx2crx",), "the input is missing"),
+        (("rnx2crx", ""), "an empty name"), (("rnx2crx", "a.rnx", "-o", ""), "an empty name"), (("rnx2crx", "a.rnx", "b.rnx", "-o", "c"), "-o names one output"),
+        (("crx2rnx", "a.rnx", "-e", "2"), "belong to rnx2crx"), (("crx2rnx", "a.rnx", "--date", "x"), "belong to rnx2crx"),
+        (("rnx2crx", "a.rnx", "-e", "0"), "from 1 to 1000000"), (("rnx2crx", "a.rnx", "-e", "1000001"), "from 1 to 1000000"), (("rnx2crx", "a.rnx", "-e", "x"), "from 1"),
+        (("rnx2crx", "a.rnx", "-e", "9" * 5000), "from 1 to 1000000"),
+        (("rnx2crx", "a.rnx", "--date", "x" * 21), "bad date"), (("rnx2crx", "a.rnx", "--date", "\u00e9"), "bad date"),
+        (("rnx2crx", "a.rnx", "--gzip", "--no-gzip"), "not allowed"), (("rnx2crx", "a.rnx", "--ver"), "unrecognized"), (("rnx2crx", "a.rnx", "--normal-form"), "belongs to --verified-to"),
+        (("rnx2crx", "a.rnx", "--delete"), "no input is ever removed"), (("rnx2crx", "."), "no output name"), (("rnx2crx", "a.txt"), "no output name"),
+        (("rnx2crx", ".", "-o", "b"), "this is a folder"), (("rnx2crx", "a.rnx", "-o", "b.24o.gz"), "named as an input"), (("crx2rnx", "a.crx", "-o", "sub/.CRX"), "named as an input"), (("rnx2crx", "fifo.rnx"), "no regular file"), (("rnx2crx", "none.rnx"), "No such file"), (("rnx2crx", "a.rnx", "-o", "no/b"), "cannot write beside no/b: No such file"), (("rnx2crx", "a.rnx", "-o", "a.rnx/b"), "cannot look at a.rnx/b: Not a directory"),
+        (("rnx2crx", "a.rnx", "-o", "fifo"), "no regular file"), (("rnx2crx", "a.rnx", "-o", "dangling"), "a link to nothing"), (("rnx2crx", "empty.rnx"), "ERROR line 1 code 3"), (("rnx2crx", "a.bz2.rnx"), "bzip2"),
+    ):  # fmt: skip
+        with Place() as place:
+            place.write("a.rnx", GOOD)
+            place.write("empty.rnx", b"")
+            place.write("a.bz2.rnx", b"BZh91AY")
+            os.mkfifo(place.work / "fifo.rnx")
+            os.mkfifo(place.work / "fifo")
+            os.symlink("nothing", place.work / "dangling")
+            before = place.names()
+            run = place.run_in_child(*words)
+            wrong += [f"{words}: {line}" for line in differs(run, 1, errors=[said]) + ([] if place.names() == before else [f"files {place.names()}"])]
+    return wrong
+
+
+def help_text(texts):
+    with Place() as place:
+        run = place.run_in_child("-h")
+        return differs(run, 0, ["usage: rnxcmp-file rnx2crx", "--verified-to LIST"]) + ([] if place.run("--help", "rnx2crx").stdout == run.stdout else ["--help differs"])
+
+
+def names(texts):
+    """Names with everything in them: each is done, and is quoted as `ls` does."""
+    wrong = []
+    with Place() as place:
+        sources = [os.fsencode(place.work) + b"/" + name + b".rnx" for name in STRANGE]
+        for source in sources:
+            with open(source, "wb") as file:
+                file.write(GOOD)
+        run = subprocess.run([*TOOL, "rnx2crx", "--verified-to", "list", "--", *(os.path.basename(source) for source in sources)], cwd=place.work, env=ENVIRONMENT, capture_output=True, timeout=SECONDS)
+        listed = subprocess.run(["ls", "-d", "--quoting-style=shell-escape", "--", *(name + b".rnx" for name in STRANGE), *(name + b".crx" for name in STRANGE)], cwd=place.work, env=ENVIRONMENT, capture_output=True).stdout.splitlines()
+        wrong += [] if run.returncode == 0 and not run.stderr else [f"{run}"]
+        lines = run.stdout.splitlines()[:-1]
+        wanted = {name for name in listed}
+        for line in lines:
+            source, _, output = line.removesuffix(b", verified exact").partition(b": made ")
+            wrong += [f"not as ls has it: {part!r}" for part in (source, output) if part not in wanted]
+        wrong += [] if (place.work / "list").read_bytes() == b"".join(source + b"\0" for source in sources) else ["another list"]
+        found = subprocess.run(["xargs", "-0", "rm", "--"], stdin=(place.work / "list").open(), capture_output=True)
+        wrong += [] if found.returncode == 0 and not any(map(os.path.exists, sources)) else [f"xargs: {found}"]
+    return wrong
+
+
+def lists(texts):
+    """--verified-to: what is exact, with --normal-form the others too, nothing else; a file that is there stays."""
+    strange = changed_epoch(GOOD)
+    wrong = []
+    for more, wanted in (((), ["a.rnx"]), (("--normal-form",), ["a.rnx", "p.rnx"])):
+        with Place() as place:
+            for name, content in (("a.rnx", GOOD), ("p.rnx", padded(GOOD)), ("s.rnx", strange), ("b.rnx", b"x\n")):
+                place.write(name, content)
+            run = place.run_in_child("rnx2crx", "-s", "--verified-to", "sub list", *more, "a.rnx", "p.rnx", "s.rnx", "b.rnx")
+            wrong += differs(run, 1, ["4 files: 3 made, 0 replaced, 0 there already, 1 errors", "verified: 1 exact, 1 normal form", "with skipped epochs: 1"], ["b.rnx: ERROR line 1 code 3", "s.rnx: WARNING line"])
+            found = (place.work / "sub list").read_bytes()
+            wrong += [] if found == b"".join(f"{place.work}/{name}\0".encode() for name in wanted) else [f"{more}: {found}"]
+            run = place.run_in_child("rnx2crx", "-s", "--verified-to", "second list", "--normal-form", "s.rnx")
+            wrong += differs(run, 2, ["s.crx is there already, not verified: 1 warnings"], ["s.rnx: WARNING: not verified, since epochs were skipped"])
+            wrong += [] if (place.work / "second list").read_bytes() == b"" else ["skipped epochs are in the list"]
+            before = place.names()
+            run = place.run_in_child("rnx2crx", "-f", "--verified-to", "sub list", "a.rnx")
+            wrong += differs(run, 1, errors=["'sub list': ERROR: file exists"]) + ([] if place.names() == before else ["more files"])
+            wrong += [] if (place.work / "sub list").read_bytes() == found else ["the list was changed"]
+    return wrong
+
+
+def lists_of_inputs(texts):
+    """--inputs: names with everything in them, also from standard input; one without a NUL, and one that isn't there, are refused."""
+    wrong = []
+    with Place() as place:
+        for name in ("a b.rnx", "c\nd.rnx"):
+            place.write(name, GOOD)
+        place.write("list", b"a b.rnx\0c\nd.rnx\0")
+        place.write("half", b"a b.rnx\0c\nd.rnx")
+        place.write("empty", b"")
+        wrong += differs(place.run_in_child("rnx2crx", "-q", "--inputs", "list"), 0, ["2 files: 2 made"])
+        with open(place.work / "list", "rb") as listed:
+            run = subprocess.run([*TOOL, "rnx2crx", "-q", "--inputs", "-"], cwd=place.work, env=ENVIRONMENT, capture_output=True, text=True, stdin=listed)
+        wrong += differs(run, 0, ["2 files: 0 made, 0 replaced, 2 there already"])
+        wrong += differs(place.run_in_child("rnx2crx", "--inputs", "empty"), 0, ["0 files: 0 made"])
+        wrong += differs(place.run_in_child("rnx2crx", "--inputs", "half"), 1, errors=["doesn't end in a NUL: half"])
+        wrong += differs(place.run_in_child("rnx2crx", "--inputs", "none"), 1, errors=["cannot read the list of inputs none: No such file"])
+    return wrong
+
+
+def list_of_replaced_outputs(texts):
+    """An input whose output another input's replaces isn't in the list."""
+    with Place() as place:
+        place.write("a.rnx", GOOD)
+        place.write("a.rnx.gz", gzip.compress(marked(GOOD, 3)))
+        run = place.run_in_child("rnx2crx", "-f", "--gzip", "--verified-to", "list", "a.rnx", "a.rnx.gz")
+        wrong = differs(run, 1, errors=["list: ERROR: 1 files changed after they were verified"])
+        return wrong + ([] if (place.work / "list").read_bytes() == f"{place.work}/a.rnx.gz\0".encode() else ["another list"])
+
+
+def lines(texts):
+    """--json, -q and the summary; standard output that is full."""
+    wrong = []
+    with Place() as place:
+        for name, content in (("a.rnx", GOOD), ("p.rnx", padded(GOOD)), ("s.rnx", changed_epoch(GOOD)), ("b.rnx", b"x\n")):
+            place.write(name, content)
+        run = place.run_in_child("rnx2crx", "-s", "--verify", "--json", "a.rnx", "p.rnx", "s.rnx", "b.rnx")
+        wrong += differs(run, 1, errors=["b.rnx: ERROR", "s.rnx: WARNING"])
+        found = [json.loads(line) for line in run.stdout.splitlines()]
+        states = [(one["input"], one["output"], one["state"], one["verified"], one["skipped"], bool(one["error"])) for one in found]
+        wanted = [("a.rnx", "a.crx", "made", "exact", 0, False), ("p.rnx", "p.crx", "made", "normal form", 0, False), ("s.rnx", "s.crx", "made", None, 1, False), ("b.rnx", None, "error", None, 0, True)]
+        wrong += [] if states == wanted else [f"json: {run.stdout!r}"]
+        run = place.run_in_child("rnx2crx", "-q", "-f", "a.rnx", "p.rnx")
+        wrong += [] if run.stdout == "2 files: 0 made, 2 replaced, 0 there already, 0 errors; verified: 0 exact, 0 normal form; with skipped epochs: 0\n" else [f"-q: {run.stdout!r}"]
+        wrong += differs(place.run_in_child("rnx2crx", "-q", "a.rnx"), 0)
+        with open("/dev/full", "wb") as full:
+            run = subprocess.run([*TOOL, "rnx2crx", "-f", "a.rnx", "p.rnx"], cwd=place.work, env=ENVIRONMENT, stdout=full, stderr=subprocess.PIPE, timeout=SECONDS)
+        wrong += [] if run.returncode == 1 and b"cannot write to standard output: No space" in run.stderr else [f"full: {run}"]
+        run = subprocess.run(["sh", "-c", '"$@" >&- 2>&- <&-', "sh", *TOOL, "rnx2crx", "-f", "a.rnx"], cwd=place.work, env=ENVIRONMENT, timeout=SECONDS)
+        wrong += [] if run.returncode == 1 and texts.filtered((place.work / "a.crx").read_bytes(), "crx2rnx") == GOOD else [f"closed streams: {run}"]
+    return wrong
+
+
+def all_of_terminal(descriptor):
+    """What was written to a terminal whose other side is closed."""
+    said = b""
+    try:
+        while piece := os.read(descriptor, 10000):
+            said += piece
+    except OSError:  # so a terminal ends
+        pass
+    os.close(descriptor)
+    return said
+
+
+def progress(texts):
+    """On a terminal a line says how far it is, and is gone at the end."""
+    with Place() as place:
+        for name in ("a.rnx", "b.rnx"):
+            place.write(name, GOOD)
+        outer, inner = pty.openpty()
+        run = subprocess.run([*TOOL, "rnx2crx", "-q", "a.rnx", "b.rnx"], cwd=place.work, env=ENVIRONMENT, stdout=subprocess.DEVNULL, stderr=inner, timeout=SECONDS)
+        os.close(inner)
+        said = all_of_terminal(outer)
+        return [] if run.returncode == 0 and b"2 of 2: b.rnx" in said and said.endswith(b"\r\x1b[K") else [f"{said!r}"]
+
+
+def compressed(text, *more):
+    """A text in the form of `compress`, by codes of nine bits for its bytes, and some codes more. Each 248th code makes the table empty."""
+    codes = [code for at in range(0, len(text), 247) for code in (*text[at : at + 247], 256)]
+    bits = sum(code << 9 * k for k, code in enumerate([*codes, *more]))
+    return b"\x1f\x9d\x90" + bits.to_bytes(-(-9 * (len(codes) + len(more)) // 8), "little")
+
+
+def packs(texts):
+    """gzip of several members and with zeros at its end, `.Z`; what is cut off, damaged, or has more after it."""
+    half = len(GOOD) // 2
+    members = gzip.compress(GOOD[:half]) + gzip.compress(b"") + gzip.compress(GOOD[half:])
+    wrong = []
+    sound = {"members": members, "zeros": members + bytes(700), "bomb": gzip.compress(GOOD + GOOD[GOOD.index(b"\n>") + 1 :] * 600)}
+    bad = {"cut": PACKED[:-9], "cut in the sum": PACKED[:-1], "changed": PACKED[:3000] + b"\0\0\0" + PACKED[3003:], "more": PACKED + b"more", "half a member": PACKED + PACKED[:40], "a wrong sum": PACKED[:-8] + b"abcd" + PACKED[-4:]}
+    if shutil.which("gzip"):
+        sound["Z"] = compressed(GOOD)
+        bad.update({"cut Z": sound["Z"][: len(sound["Z"]) // 2], "Z with a code that there isn't": compressed(GOOD, 500, 500)})
+    for name, content in {**sound, **bad}.items():
+        with Place() as place:
+            source = "a.rnx.Z" if "Z" in name else "a.rnx.gz"
+            place.write(source, content)
+            run = place.run_in_child("rnx2crx", "--verify", source)
+            lines = differs(run, 0, ["verified "]) if name in sound else differs(run, 1, errors=[f"{source}: ERROR"])
+            lines += [] if place.names() == ({source, "a.crx.gz"} if name in sound else {source}) else [f"files {place.names()}"]
+            wrong += [f"{name}: {line}" for line in lines]
+    return wrong
+
+
+def shorter_and_longer(texts):
+    """An output that holds an epoch less than the input, or one more, or a header alone, holds something else."""
+    header, *epochs = GOOD.split(b"\n>")
+    three, four = (b"\n>".join([header, *epochs[:count]]) + b"\n" for count in (3, 4))
+    wrong = []
+    for source, there in ((three, four), (four, three), (three, header + b"\n"), (header + b"\n", three)):
+        for text in (source, padded(source)):
+            for words in ((), ("--verify",)):
+                with Place() as place:
+                    place.write("a.rnx", text)
+                    place.write("a.crx", texts.filtered(there, "rnx2crx"))
+                    wrong += differs(place.run_in_child("rnx2crx", *words, "a.rnx"), 1, errors=["holds something else: a.crx"])
+                with Place() as place:
+                    place.write("a.crx", texts.filtered(text, "rnx2crx"))
+                    place.write("a.rnx", there)
+                    wrong += differs(place.run_in_child("crx2rnx", *words, "a.crx"), 1, errors=["holds something else: a.rnx"])
+    return wrong
+
+
+def no_gzip_program(texts):
+    """Without the program gzip `.Z` isn't read; a message names it."""
+    with Place() as place:
+        place.write("a.rnx.Z", b"\x1f\x9d\x90" + b"x" * 30)
+        run = place.run("rnx2crx", "a.rnx.Z", environment={"PATH": "/nowhere"})
+        return differs(run, 1, errors=[".Z is unpacked by gzip -dc, which can't be started: No such file"])
+
+
+def no_epoch(texts):
+    """With -s, where no epoch is accepted, it is an error; a header alone is no fault."""
+    header = GOOD[: GOOD.index(b"\n>") + 1]
+    wrong = []
+    with Place() as place:
+        place.write("a.rnx", header + b"> x\n")
+        wrong += differs(place.run_in_child("rnx2crx", "-s", "a.rnx"), 1, errors=["ERROR: no epoch is left, so nothing is written; line "])
+        place.write("b.crx", texts.filtered(header, "rnx2crx") + b"> x\n")
+        wrong += differs(place.run_in_child("crx2rnx", "-s", "b.crx"), 1, errors=["ERROR: no epoch is left, so nothing is written; line "])
+        place.write("c.rnx", header)
+        wrong += differs(place.run_in_child("rnx2crx", "-s", "c.rnx"), 0, ["made c.crx"])
+        event = b">%30s6  1\n>%30s0  1\n" % (b"", b"")  # its record looks like an epoch
+        place.write("d.rnx", header + b"> x\n" + event)
+        wrong += differs(place.run_in_child("rnx2crx", "-s", "d.rnx"), 1, errors=["ERROR: no epoch is left, so nothing is written; line "])
+        place.write("e.rnx", header + b"> x\n" + event + GOOD[len(header) :])
+        wrong += differs(place.run_in_child("rnx2crx", "-s", "e.rnx"), 2, ["made e.crx, not verified: 1 warnings"], ["WARNING line "])
+        wanted = {"a.rnx", "b.crx", "c.rnx", "c.crx", "d.rnx", "e.rnx", "e.crx"}
+        return wrong + ([] if place.names() == wanted else [f"files {place.names()}"])
+
+
+def modes(texts):
+    """Mode, times and owner are the input's; where the group can't be had, it gets no rights."""
+    wrong = []
+    with Place() as place:
+        for mode in (0o600, 0o640, 0o444, 0o666, 0o4755):
+            source = place.write("a.rnx", GOOD)
+            os.utime(source, ns=(OLD * 10**9 + 123456789, OLD * 10**9 + 987654321))
+            if os.geteuid() == 0:
+                os.chown(source, 12345, 23456)
+            source.chmod(mode)
+            wrong += differs(place.run_in_child("rnx2crx", "-f", "a.rnx"), 0, ["a.crx"])
+            one, other = source.stat(), (place.work / "a.crx").stat()
+            for what in ("st_uid", "st_gid", "st_mtime_ns"):
+                wrong += [] if getattr(one, what) == getattr(other, what) else [f"{mode:o}: another {what}"]
+            wrong += [] if stat.S_IMODE(other.st_mode) == mode & 0o777 else [f"{mode:o}: mode {other.st_mode:o}"]
+            source.unlink()
+        if os.geteuid() or not shutil.which("setpriv"):
+            return wrong
+        source = place.write("b.rnx", GOOD)
+        os.chown(source, 65534, 23456)
+        source.chmod(0o664)
+        place.work.chmod(0o777)
+        run = place.run("rnx2crx", "b.rnx", through=("setpriv", "--reuid=65534", "--regid=65534", "--clear-groups"))
+        other = (place.work / "b.crx").stat() if (place.work / "b.crx").exists() else None
+        return wrong + differs(run, 0, ["b.crx"]) + ([] if other and (other.st_uid, other.st_gid, stat.S_IMODE(other.st_mode)) == (65534, 65534, 0o604) else [f"{other}"])
+
+
+def old_parts(texts):
+    """Parts of runs that were killed are removed; those that are locked stay."""
+    with Place() as place:
+        place.write("a.rnx", GOOD)
+        folder = place.work / f".rnxcmp-file.{os.geteuid()}"
+        folder.mkdir(0o700)
+        for name in ("part.1.old", "part.1.used"):
+            (folder / name).write_bytes(b"half")
+        with subprocess.Popen(["flock", folder / "part.1.used", "sh", "-c", "echo on; read x"], stdin=subprocess.PIPE, stdout=subprocess.PIPE) as used:
+            used.stdout.readline()
+            wrong = differs(place.run_in_child("rnx2crx", "a.rnx"), 0)
+            left = place.parts()
+            used.stdin.close()
+            used.wait()
+        wrong += [] if sorted(left) == [folder.name, f"{folder.name}/part.1.used"] else [f"left: {left}"]
+        wrong += differs(place.run_in_child("rnx2crx", "a.rnx", "-f"), 0)
+        return wrong + ([] if not place.parts() else [f"left: {place.parts()}"])
+
+
+FROM_PYTHON = """
+import sys, warnings, rnxcmp
+from pathlib import Path
+call, path, more = sys.argv[1], sys.argv[2], eval(sys.argv[3])
+with warnings.catch_warnings(record=True) as caught:
+    warnings.simplefilter("always")
+    try:
+        print(getattr(rnxcmp, call)(path, **more))
+    except Exception as error:
+        print(type(error).__name__, error)
+    print(len(caught), {w.filename for w in caught})
+"""
+
+
+def from_python(texts):
+    """compress_on_disk and decompress_on_disk: what is there is compared, and replaced with force alone; no input is removed."""
+    wrong = []
+    other = gzip.compress(texts.filtered(marked(GOOD, 4), "rnx2crx"))
+    for call, name, content, there, more, wanted, output in (
+        ("compress_on_disk", "a.24o", GOOD, None, {"verify": True}, "a.24d.gz", "a.24d.gz"),
+        ("compress_on_disk", "a.rnx", GOOD, None, {"compression": "none"}, "a.crx", "a.crx"),
+        ("compress_on_disk", "a.24n", b"navigation\n", None, {"verify": True}, "a.24n.gz", "a.24n.gz"),
+        ("compress_on_disk", "a.24o", GOOD, other, {}, "FileError file exists, and holds something else", "a.24d.gz"),
+        ("compress_on_disk", "a.24o", GOOD, other, {"force": True}, "a.24d.gz", "a.24d.gz"),
+        ("compress_on_disk", "a.24o", GOOD, None, {"delete": True}, "ValueError delete is no longer an option: no input is ever removed", None),
+        ("compress_on_disk", "a.rnx", changed_epoch(GOOD), None, {}, "RnxcmpError line 33 code", None),
+        ("compress_on_disk", "a.rnx", changed_epoch(GOOD), None, {"skip_strange_epochs": True}, "a.crx.gz\n1 {'<string>'}", "a.crx.gz"),
+        ("compress_on_disk", "a.rnx", GOOD.replace(b"     3.05", b"     2.11", 1), None, {}, "UnsupportedError format not supported: RINEX 2.11", None),
+        ("decompress_on_disk", "a.24d.gz", gzip.compress(texts.plain_compact), None, {"verify": True}, "a.24o", "a.24o"),
+        ("decompress_on_disk", "a.rnx.gz", PACKED, None, {"verify": True}, "a.rnx", "a.rnx"),
+        ("decompress_on_disk", "a.crx", texts.plain_compact, b"half", {}, "FileError file exists, and is damaged", "a.rnx"),
+        ("decompress_on_disk", "a.rnx", GOOD, None, {}, "a.rnx", None),
+        ("compress_on_disk", "a.rnx", texts.plain_compact, None, {}, "UnsupportedError no name for the converted file: a.rnx", None),
+        ("compress_on_disk", "a.crx", GOOD, None, {"compression": "none"}, "UnsupportedError no name for the converted file: a.crx", None),
+        ("compress_on_disk", "a.Rnx", GOOD, None, {}, "UnsupportedError no name for the converted file: a.Rnx", None),
+        ("decompress_on_disk", "a.txt", texts.plain_compact, None, {}, "UnsupportedError no name for the converted file: a.txt", None),
+        ("decompress_on_disk", "a.Crx.gz", gzip.compress(texts.plain_compact), None, {}, "UnsupportedError no name for the converted file: a.Crx.gz", None),
+        ("decompress_on_disk", "none.rnx", GOOD, None, {}, "none.rnx", None),
+        ("decompress_on_disk", "a.crx", texts.plain_compact.replace(b"3.0", b"1.0", 1), None, {}, "UnsupportedError format not supported: Compact RINEX 1.0", None),
+    ):  # fmt: skip
+        with Place() as place:
+            source = place.write(name, content)
+            if there:
+                place.write(output, there)
+            run = subprocess.run([sys.executable, "-S", "-c", FROM_PYTHON, call, name, repr(more)], cwd=place.work, env=ENVIRONMENT, capture_output=True, text=True, timeout=SECONDS)
+            lines = [] if run.stdout.startswith(wanted) else [f"said: {run.stdout!r}, {run.stderr!r}"]
+            lines += [] if source.read_bytes() == content and place.names() == {name, output} - {None} and not place.parts() else [f"files {place.names()}"]
+            lines += ["the old one was changed"] if there and "force" not in more and (place.work / output).read_bytes() != there else []
+            wrong += [f"{call} {name} {more}: {line}" for line in lines]
+    return wrong
+
+
+def quoting(texts):
+    """A shell reads a quoted name as the name."""
+    sys.path.insert(0, ENVIRONMENT["PYTHONPATH"])
+    from rnxcmp._names import quoted
+
+    dice = random.Random(1)
+    alphabet = "ab '\"$`\\!\n\t\x01\udcff\u00e9~#={}[]*?()&;<>|^@-%+,:.\x7f_"
+    every = ["".join(dice.choice(alphabet) for _ in range(dice.randint(1, 7))) for _ in range(2000)]
+    script = b"printf '%s\\0' " + b" ".join(os.fsencode(quoted(name)) for name in every)
+    read = subprocess.run(["bash", "-c", script], capture_output=True).stdout.split(b"\0")[:-1]
+    return [f"{name!r}: {quoted(name)}" for name, found in zip(every, read) if os.fsencode(name) != found or "\n" in quoted(name)][:5] + ([] if len(read) == len(every) else ["not all were read"])
+
+
+CHECKS = (
+    output_names, choices_of_the_filter, refusals, help_text, names, lists, lists_of_inputs, list_of_replaced_outputs, lines, progress, packs,
+    shorter_and_longer, no_gzip_program, no_epoch, modes, old_parts, from_python, quoting,
+)  # fmt: skip
+
+
+def checks(texts):
+    for check in CHECKS:
+        yield check.__name__.replace("_", " "), lambda check=check: check(texts)

@@ -1,0 +1,54 @@
+#!/usr/bin/env python3
+"""What sees a planted bug of the tool for whole files: check.py PROGRAM COPY MADE FILE (see tests/mutants/run.py). The tests of tests/files
+are run over the package in COPY, up to the first that fails; first those that are about FILE."""
+
+import os
+import sys
+from pathlib import Path
+
+PROGRAM, COPY, MADE, FILE = (Path(word) for word in sys.argv[1:5])
+os.environ["RNXCMP_FILES_TESTED"] = str(COPY / "python")
+os.environ.setdefault("RNXCMP_LIBRARY", str(MADE / "out/library/librnxcmp.so.2"))
+sys.path.insert(0, str(COPY / "tests/files"))
+sys.dont_write_bytecode = True
+COPY.chmod(0o755)  # some runs are another user's
+
+import faults  # noqa: E402
+import matrix  # noqa: E402
+import meanwhile  # noqa: E402
+import options  # noqa: E402
+import signals  # noqa: E402
+from place import Texts  # noqa: E402
+
+
+
+ABOUT = {  # words in the names of the checks that are about a file
+    "_parts.py": ("order", "modes", "old parts", "parts in use", "close", "that comes", "others", "a link", "links", "fsync"),
+    "_whole.py": ("the input", "another", "damaged", "a folder", "output is", "changed", "part that", "in use", "nothing", "shorter"),
+    "_packed.py": ("packs", "output names"),
+    "_names.py": ("quoting", "output names", "names"),
+    "_on_disk.py": ("from python",),
+    "files.py": ("lists", "lines", "refusals", "asked", "progress", "names", "list"),
+}
+
+
+def is_about(name):
+    return any(word in name for word in ABOUT.get(FILE.name, ()))
+
+
+def main():
+    texts = Texts(PROGRAM)
+    checks = [check for module in (options, meanwhile, matrix, faults, signals) for check in module.checks(texts)]
+    for name, check in sorted(checks, key=lambda check: not is_about(check[0])):
+        try:
+            wrong = check()
+        except Exception as error:  # what can't go on has seen it too
+            wrong = [repr(error)]
+        if wrong and not isinstance(wrong, str):
+            print(f"{name}: {wrong[0][:100]}".replace("\n", " "))
+            return 1
+    return 0
+
+
+if __name__ == "__main__":
+    sys.exit(main())
