@@ -1,24 +1,34 @@
-# make        proves and builds the program, compacts the sample with it, expands that again and compares,
+# make        proves and builds the program (crates.mk), compacts the sample with it, expands that again and compares,
 #             and shows what was written
 # make test   runs the gate: proofs from nothing, wrong bodies, the program's stored run, and tests; then the
 #             built program over whole texts, as a process, by the recipes of docs/ARCHIVES.md, and by the commands in print
-# make quick  the same for one who works on it: proofs and tests of what changed since all passed, no wrong bodies
-#             (what the prover prints goes into out/gate.log)
+# make quick  proves what changed of the program, and of other crates that were proved here, and runs the tests of the built program:
+#             without the tests in Rattle and without wrong bodies (what the prover prints goes into out/logs)
+# make proofs proves all crates, but for their tests in Rattle
 # make memory-test runs the program that make built with each growth of memory refused in turn (tests/memory)
 # make archive-test runs each recipe of docs/ARCHIVES.md over 200 files, some of them bad, with kills and full disks (tests/archives)
+# make files-test tries rnxcmp-file for longer (tests/files/run.py): runs at once, signals, failing calls, full disks, power cuts (as root)
+# make laws-test compares two laws with what the program that make built does: on 100,000 damages of random files, and on 200,000 damaged
+#             texts (tests/laws; some twenty minutes)
 # make cluster-test runs the recipes for several machines over 200 files, with Slurm and sshd on this one (tests/cluster; 11 minutes)
 # make debian11-test tries what make dist made in a root of Debian 11, in out/debian11 (tests/debian11)
+# make docs   writes what one reads to know what is claimed, from the sources, into out/docs (docs/READING.md): DEFINITIONS, with the
+#             definitions that the promises stand on, and CONTRACTS, with each public function's clauses, as Markdown and HTML
 # make install PREFIX=/usr/local
-#             puts the program that make built, its manual pages, completions and other names in place
+#             puts the program that make built, its manual pages, completions and other names in place, and the tool for whole files,
+#             for which it builds the library where that isn't built
 # make library
 #             proves and builds the library for C, C++ and Fortran, into out/library (docs/LIBRARY.md)
 # make library-fuzz INPUTS=100000
 #             compares so many random and damaged inputs through C, with AddressSanitizer, with the built program (two minutes on 4 cores)
 # make library-large
-#             compares a file of a gigabyte through C with the built program (three minutes, and 5 GB of memory)
+#             compares a file of a gigabyte through C with the built program, and measures handles that are fed as much (ten minutes, and
+#             5 GB of memory)
+# make mutants-test
+#             plants bugs in copies of the files, one at a time, and shows what sees each (tests/mutants; half an hour)
 # make python does that and makes the package for Python of it, into out/python
 # make dist   makes a release of what make built, in out/dist: an archive with a static program and the library, a Debian package,
-#             a source archive
+#             a source archive; the first two with the pages of make docs
 
 SAMPLE := samples/station.rnx
 COMPACT := out/station.crx
@@ -27,10 +37,19 @@ WORDS := rnx2crx --date "01-Jan-24 00:00"
 
 PREFIX ?= /usr/local
 
-.PHONY: all test quick memory-test archive-test cluster-test debian11-test install dist
+.DEFAULT_GOAL := all
+include crates.mk
+
+ARCHIVE := crates/rnxcmp_c/out/librnxcmp_c.a
+# As many proofs at a time as there are cores, and 2 GB of memory for each.
+JOBS := $(shell awk -v cores="$$(nproc)" '/^MemTotal/ { n = int($$2 / 2e6); print n < 1 ? 1 : n < cores ? n : cores }' /proc/meminfo)
+# What crates.mk makes, all at once; where a proof fails, its errors are the last lines that are printed.
+made = @rm -rf out/failed; $(MAKE) --no-print-directory $(if $(findstring jobserver,$(MAKEFLAGS)),,-j$(JOBS)) $(1) || tests/gate.py failures
+
+.PHONY: all proofs test quick memory-test archive-test files-test laws-test cluster-test debian11-test docs install dist
 
 all:
-	@tests/gate.py
+	$(call made,$(PROGRAM))
 	$(PROGRAM) $(WORDS) < $(SAMPLE) > $(COMPACT)
 	$(PROGRAM) crx2rnx < $(COMPACT) | cmp - $(SAMPLE)
 	$(PROGRAM) check $(SAMPLE)
@@ -44,17 +63,28 @@ all:
 	@echo
 	@echo "the sample comes back byte for byte; the program is $(PROGRAM)"
 
+proofs:
+	$(call made,$(PROGRAM) $(LIBRARIES:%=out/proved/%.made) $(ARCHIVE))
+
 test:
 	@tests/run.py $(PROGRAM) --gate
 
 quick:
-	@tests/run.py $(PROGRAM) --quick
+	$(call made,$(PROGRAM) $(filter $(wildcard out/proved/*.made),$(LIBRARIES:%=out/proved/%.made)) $(wildcard $(ARCHIVE)))
+	@tests/run.py $(PROGRAM)
 
 memory-test:
 	tests/memory/run.py $(PROGRAM)
 
 archive-test:
 	tests/archives/many.py $(PROGRAM)
+
+files-test:
+	tests/files/run.py $(PROGRAM)
+
+laws-test:
+	cd out && ../tests/laws/damage.py ../$(PROGRAM)
+	tests/laws/standard.py $(PROGRAM)
 
 cluster-test:
 	tests/cluster/run.py $(PROGRAM)
@@ -64,22 +94,31 @@ DEBIAN11 ?= out/debian11
 debian11-test:
 	tests/debian11/run.py out/dist $(DEBIAN11)
 
-install:
-	packaging/install.sh "$(DESTDIR)$(PREFIX)" $(PROGRAM)
+docs:
+	docs/pages.py out/docs
 
-.PHONY: library library-fuzz library-large python
+install:
+	@[ -f out/library/librnxcmp.so.2 ] || $(MAKE) --no-print-directory library || echo "the library isn't built"
+	packaging/install.sh "$(DESTDIR)$(PREFIX)" $(PROGRAM) out/library
+
+.PHONY: library library-fuzz library-large mutants-test python
 
 INPUTS := 100000
 
 library:
-	@tests/gate.py library
-	library/build.sh crates/rnxcmp_c/out/librnxcmp_c.a out/library
+	$(call made,$(ARCHIVE))
+	library/build.sh $(ARCHIVE) out/library
 
 library-fuzz:
 	python3 tests/library/checks.py $(PROGRAM) --random $(INPUTS)
 
 library-large:
 	python3 tests/library/large.py $(PROGRAM)
+
+MUTANTS := $(dir $(wildcard tests/mutants/*/check.py))
+
+mutants-test:
+	python3 tests/mutants/run.py $(PROGRAM) $(MUTANTS)
 
 python: library
 	rm -rf out/python

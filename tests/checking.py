@@ -4,6 +4,10 @@ import re
 import shutil
 import subprocess
 import traceback
+from pathlib import Path
+
+TOP = Path(__file__).resolve().parents[1]
+LIBRARY = TOP / "out/library"  # which make library made
 
 # programs that a command may need and a machine may lack
 TOOLS = ("awk", "bash", "cmp", "find", "fish", "groff", "gzip", "less", "make", "man", "mandoc", "nproc", "parallel", "sort", "xargs", "zsh")
@@ -12,6 +16,14 @@ LIKED = (
     *("strace", "valgrind", "parallel", "mandoc", "man", "groff", "fish", "zsh", "less", "rnx2rtkp"),
     *("gcc", "g++", "gfortran", "nm", "readelf", "pkg-config", "git", "dpkg", "dpkg-deb", "sha256sum"),
 )
+
+
+def install(program, prefix):
+    """Installs the program and the tool for whole files below a folder, as make install does: what failed, as lines, or why it can't be."""
+    if not (LIBRARY / "librnxcmp.so.2").exists():
+        return "there is no library: make library"
+    run = subprocess.run([TOP / "packaging/install.sh", prefix, program, LIBRARY], capture_output=True, text=True, timeout=60)
+    return [] if run.returncode == 0 and not run.stderr else [f"status {run.returncode}, {run.stderr!r}"]
 
 
 def missing_tools(command):

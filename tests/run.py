@@ -5,15 +5,16 @@
     tests/run.py PROGRAM --only case process
                                     the same of some kinds of tests
     tests/run.py PROGRAM --gate     after `rt ci`, which builds it
-    tests/run.py PROGRAM --quick    after the proofs and tests of the crates that changed since all passed (`rt check`, `rt test`)
 
-What the prover prints goes into out/gate.log; here it is a line a crate, with the minutes so far.
+What the prover prints goes into out/logs/gate; here it is a line a crate, with the minutes so far, and the errors of what failed.
 
 The program runs over whole texts (tests/cases), by tables of arguments (tests/arguments), as a process whose streams fail or change
 (tests/process), by the recipes of docs/ARCHIVES.md (tests/archives), and by the commands that README.md, the manual page and the help
 print, and as it is installed (tests/commands). Reads, writes and flushes of it are made to fail (tests/faults), and growths of its memory
-(tests/memory). The library for C and Python is called beside it (tests/library), a release is made (tests/release), and the documents are
-compared with the sources (tests/documents). The last line is `N passed, M failed`, of all. The exit status is 0 where nothing failed.
+(tests/memory). The tool for whole files is tried over all that may be under an output's name, at once, ended by signals and with
+failing calls (tests/files). The library for C and Python is called beside it (tests/library), a release is made (tests/release), and the
+documents are compared with the sources (tests/documents). The last line is `N passed, M failed`, of all. The exit status is 0 where
+nothing failed.
 """
 
 import argparse
@@ -36,8 +37,10 @@ KINDS = (
     ("recipe", "archives"),
     ("command", "commands"),
     ("fault", "faults"),
+    ("file", "files"),
     ("memory", "memory"),
     ("library", "library"),
+    ("example", "examples"),
     ("document", "documents"),
     ("release", "release"),
 )
@@ -55,17 +58,15 @@ def main():
     parser = argparse.ArgumentParser(description=__doc__, formatter_class=argparse.RawDescriptionHelpFormatter)
     parser.add_argument("program", type=Path)
     parser.add_argument("--gate", action="store_true", help="run `rt ci` first, which builds the program")
-    parser.add_argument("--quick", action="store_true", help="prove and test first what changed since all passed, and build the program")
     parser.add_argument("--only", nargs="+", choices=[kind for kind, _ in KINDS], metavar="KIND", help="run these kinds alone, of the program")
     arguments = parser.parse_args()
     program = arguments.program.resolve()
     counts = []
-    if arguments.gate or arguments.quick:
-        if not gate.began():
+    if arguments.gate:
+        if gate.toolchain():
             print("0 passed, 1 failed")
             return 1
-        standing = gate.digests()
-        counts = [gate.ci(program) if arguments.gate else gate.quick()]
+        counts = [gate.ci(program)]
     lacking = [tool for tool in LIKED if not shutil.which(tool)]
     if lacking:
         print(f"not found here: {', '.join(lacking)}; what needs them is left out")
@@ -75,8 +76,8 @@ def main():
         print(f"no program {program}")
         counts.append((0, 1))
     passed, failed = (sum(column) for column in zip(*counts))
-    if failed == 0 and (arguments.gate or arguments.quick):
-        gate.stamp(standing)
+    if arguments.gate:
+        gate.failures()
     print(f"{passed} passed, {failed} failed")
     return 1 if failed else 0
 

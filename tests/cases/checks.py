@@ -7,6 +7,7 @@ one runs in a folder that has its files.
 
 import difflib
 import re
+import resource
 import shlex
 import socket
 import subprocess
@@ -19,6 +20,7 @@ from typing import Optional
 HERE = Path(__file__).resolve().parent
 SECONDS = 60  # in which each run is to end
 PIECES = (1, 7)  # bytes that a read of standard input gives, beside all at once
+STACK = 128 * 1024  # bytes of stack that each run has
 SHORT = {
     "<header>": [
         "     3.04           OBSERVATION DATA    G                   RINEX VERSION / TYPE",
@@ -120,21 +122,26 @@ def send(sender, data, piece):
             pass  # the run ended before it read all
 
 
+def small_stack():
+    """Leaves the program that is started next so much stack."""
+    resource.setrlimit(resource.RLIMIT_STACK, (STACK, resource.getrlimit(resource.RLIMIT_STACK)[1]))
+
+
 def run(program, words, data=b"", files=None, piece=None):
-    """Runs the program in a folder with these files: standard input at once, or so many bytes a read."""
+    """Runs the program in a folder with these files, on a small stack: standard input at once, or so many bytes a read."""
     with tempfile.TemporaryDirectory() as name:
         folder = Path(name)
         for path, content in (files or {}).items():
             (folder / path).parent.mkdir(parents=True, exist_ok=True)
             (folder / path).write_bytes(content)
         if piece is None:
-            ended = subprocess.run([program, *words], input=data, capture_output=True, cwd=folder, timeout=SECONDS)
+            ended = subprocess.run([program, *words], input=data, capture_output=True, cwd=folder, timeout=SECONDS, preexec_fn=small_stack)
         else:
             sender, receiver = socket.socketpair(socket.AF_UNIX, socket.SOCK_SEQPACKET)
             sending = threading.Thread(target=send, args=(sender, data, piece))
             sending.start()
             with receiver:
-                ended = subprocess.run([program, *words], stdin=receiver, capture_output=True, cwd=folder, timeout=SECONDS)
+                ended = subprocess.run([program, *words], stdin=receiver, capture_output=True, cwd=folder, timeout=SECONDS, preexec_fn=small_stack)
             sending.join()
         return Answer(ended.stdout, ended.stderr, ended.returncode, files_in(folder))
 

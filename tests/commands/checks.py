@@ -12,7 +12,7 @@ import subprocess
 import tempfile
 from pathlib import Path
 
-from checking import missing_tools
+from checking import install, missing_tools
 
 HERE = Path(__file__).resolve().parent
 TOP = HERE.parents[1]
@@ -37,14 +37,15 @@ COMPLETIONS = (
     ("rnx2crx b", ["b c.rnx"]),
     ("crx2rnx -", ["-s", "-f", "-h", "--help", "-"]),
     ("rnxcmp-file ", ["rnx2crx", "crx2rnx", "-h", "--help"]),
-    ("rnxcmp-file rnx2crx --d", ["--delete", "--date"]),
-    ("rnxcmp-file crx2rnx --d", ["--delete"]),
+    ("rnxcmp-file rnx2crx --d", ["--date"]),
+    ("rnxcmp-file crx2rnx --d", []),
+    ("rnxcmp-file crx2rnx --v", ["--verify", "--verified-to"]),
+    ("rnxcmp-file crx2rnx -o b", ["b c.rnx"]),
     ("rnxcmp-file rnx2crx --gzip a", ["abcd0010.24o", "a.rnx.gz"]),
     ("rnxcmp-file rnx2crx -e 30 --verify abc", ["abcd0010.24o"]),
     ("rnxcmp-file rnx2crx -e ", []),
     ("rnxcmp-file crx2rnx a", ["a.crx", "a.24d.gz"]),
-    ("rnxcmp-file crx2rnx a.crx b", ["b c.rnx"]),
-    ("rnxcmp-file crx2rnx a.crx b.rnx a", []),
+    ("rnxcmp-file crx2rnx a.crx a", ["a.crx", "a.24d.gz"]),
     ("rnxcmp-file check a", []),
 )
 # what fish and zsh are to offer among other things, for words so far
@@ -52,8 +53,8 @@ OFFERED = (
     ("rnxcmp ", ["rnx2crx", "crx2rnx", "check"]),
     ("RNX2CRX --d", ["--date"]),
     ("rnxcmp-file ", ["rnx2crx", "crx2rnx"]),
-    ("rnxcmp-file rnx2crx --", ["--gzip", "--no-gzip", "--verify", "--delete", "--date"]),
-    ("rnxcmp-file crx2rnx --", ["--gzip", "--no-gzip", "--verify", "--delete"]),
+    ("rnxcmp-file rnx2crx --", ["--gzip", "--no-gzip", "--verify", "--verified-to", "--json", "--date"]),
+    ("rnxcmp-file crx2rnx --", ["--gzip", "--no-gzip", "--verify", "--inputs", "--normal-form"]),
     ("rnxcmp-file rnx2crx a", ["abcd0010.24o", "a.rnx.gz"]),
     ("rnxcmp-file crx2rnx a", ["a.crx", "a.24d.gz"]),
 )
@@ -160,9 +161,9 @@ def check_pages_strictly(prefix):
     return wrong
 
 
-def check_help(program):
-    """Each page of the help fits a terminal, that of the script too."""
-    calls = [[program, *words, "--help"] for words in ([], ["rnx2crx"], ["crx2rnx"], ["check"])] + [[TOP / "packaging/bin/rnxcmp-file", "--help"]]
+def check_help(program, prefix):
+    """Each page of the help fits a terminal, that of the tool for whole files too."""
+    calls = [[program, *words, "--help"] for words in ([], ["rnx2crx"], ["crx2rnx"], ["check"])] + [[prefix / "bin/rnxcmp-file", "--help"]]
     texts = [subprocess.run(call, capture_output=True, text=True, timeout=60).stdout for call in calls]
     wide = [f"wide: {line!r}" for text in texts for line in text.splitlines() if len(line) > WIDTH]
     return wide + ["no help" for text in texts if not text]
@@ -214,8 +215,10 @@ def checks(program):
     with tempfile.TemporaryDirectory() as name:
         top = Path(name)
         prefix = top / "prefix"
-        install = subprocess.run([TOP / "packaging/install.sh", str(prefix), str(program)], capture_output=True, text=True, timeout=60)
-        yield "install", lambda: [] if install.returncode == 0 else [install.stderr]
+        failed = install(program, prefix)
+        yield "install", lambda: failed
+        if failed:
+            return
         places = [("README", commands_of_readme()), ("manual", commands_of_manual()), ("--help", commands_of_help(program, []))]
         places += [(f"{word} --help", commands_of_help(program, [word])) for word in ("rnx2crx", "crx2rnx", "check")]
         for place, commands in places:
@@ -230,7 +233,7 @@ def checks(program):
         yield "installed: the other names", lambda: check_installed(prefix, folder)
         yield "installed: manual pages", lambda: check_pages(prefix)
         yield "installed: manual pages, by mandoc", lambda: check_pages_strictly(prefix)
-        yield "help: 80 columns", lambda: check_help(program)
+        yield "help: 80 columns", lambda: check_help(program, prefix)
         folder = top / "completions"
         folder.mkdir()
         for name in FILES:

@@ -1,30 +1,76 @@
-"""The documents against the sources: the pages and pictures that scripts make are those that they would make today, the picture of an
-epoch is what the program makes, each clause, name of code, file and make target that a document names is there, and the limits, faults and
-options of the program are those that texts beside it have (see tests/run.py)."""
+"""The documents against the sources: the pages that `make docs` makes have each definition once and no link to nothing, the pictures are
+those that their script would make today, the picture of an epoch is what the program makes, each clause, name of code, file and make target
+that a document names is there, and the limits, faults and options of the program are those that texts beside it have (see tests/run.py)."""
 
 import re
 import subprocess
+import sys
+import tempfile
+from functools import cache
 from pathlib import Path
 
 TOP = Path(__file__).resolve().parents[2]
+sys.path.insert(0, str(TOP / "docs"))
+from chapters import CHAPTERS, Book, is_definition, lines_of  # noqa: E402
+from sources import crates, functions_in, public_functions  # noqa: E402
+
 PAGES = ("README.md", "CONTRIBUTING.md", "tests/README.md", "bench/README.md", "samples/README.md") + tuple(
     str(path.relative_to(TOP)) for path in sorted((TOP / "docs").glob("*.md")))
 
 
-def written(script):
-    """What is wrong with the pages or pictures that a script of docs makes."""
-    run = subprocess.run([TOP / "docs" / script, "--check"], capture_output=True, text=True, timeout=60)
+def pictures():
+    """What is wrong with the pictures that their script makes."""
+    run = subprocess.run([TOP / "docs/pictures/draw.py", "--check"], capture_output=True, text=True, timeout=60)
     return [] if run.returncode == 0 else [(run.stdout + run.stderr).strip()]
 
 
+@cache
+def book():
+    return Book()
+
+
+def made_pages():
+    """What is wrong with the pages that `make docs` makes: a link to nothing, a definition that isn't there once, or one that isn't to be
+    believed and that a chapter of others has."""
+    with tempfile.TemporaryDirectory() as folder:
+        run = subprocess.run([TOP / "docs/pages.py", folder], capture_output=True, text=True, timeout=60)
+        if run.returncode or run.stderr:
+            return [run.stdout + run.stderr]
+        texts = {path.name: path.read_text(encoding="utf-8") for path in sorted(Path(folder).iterdir())}
+    wrong = [] if len(texts) == 5 else [f"pages {', '.join(texts)}"]
+    places = {name: re.findall(r'id="([^"]*)"', text) for name, text in texts.items()}
+    for name, text in texts.items():
+        links = re.findall(r'href="([\w.]*)#([^"]*)"' if name.endswith(".html") else r"\]\(([\w.]*)#([^)]*)\)", text)
+        wrong += [f"{name}: a link to {page or name}#{place}" for page, place in sorted(set(links)) if place not in places[page or name]]
+        wrong += [f"{name}: {place} is there twice" for place in sorted(set(places[name])) if places[name].count(place) > 1]
+    wrong += [f"{it.path.name}: {it.name} isn't there" for it in book().shown if f"\n{it.text}\n" not in texts["DEFINITIONS.md"]]
+    return wrong + [f"{it.path.relative_to(TOP)}: {it.name} is outside the folders meaning" for it in book().outside()]
+
+
+def chapters():
+    """Whether docs/READING.md lists the chapters of the page of definitions, and none has more definitions than it may."""
+    listed = re.findall(r"^\d+\. \*([^*]*)\*:", (TOP / "docs/READING.md").read_text(encoding="utf-8"), re.M)
+    wrong = [] if listed == [chapter.title for chapter in CHAPTERS] else [f"other chapters than {', '.join(listed)}"]
+    counts = [(chapter, sum(map(is_definition, content.items))) for chapter, content in zip(CHAPTERS, book().contents)]
+    return wrong + [f"{chapter.title} has {count} definitions" for chapter, count in counts if chapter.most and count > chapter.most]
+
+
+def clauses_found():
+    """The files of code in which the pages find fewer clauses than there are, or more."""
+    wrong = []
+    for path in sorted((TOP / "crates").glob("*/src/**/*.rt")):
+        there = len(re.findall(r"^\s*(?:requires|ensures)\*? ", path.read_text(encoding="utf-8"), re.M))
+        found = sum(len(function.clauses) for function, _ in functions_in(path))
+        wrong += [] if found == there else [f"{path.relative_to(TOP)}: {found} of {there} clauses"]
+    return wrong
+
+
 def contracts():
-    """The clauses of each public function, by docs/CONTRACTS.md: under its name, and under that of its type and it."""
+    """The clauses (`ensures`) of each public function: under its name, and under that of its type and it."""
     found = {}
-    for name, rest in re.findall(r"^- `([\w:]+)`(.*)$", (TOP / "docs/CONTRACTS.md").read_text(encoding="utf-8"), re.M):
-        promises = re.search(r"Promises (.*)\.$", rest)
-        clauses = set(re.findall(r"`(\w+)`", promises[1])) if promises else set()
-        for key in (name, name.split("::")[-1]):
-            found.setdefault(key, set()).update(clauses)
+    for function in (it for crate in crates() for it in public_functions(crate)):
+        for key in (function.name, function.name.split("::")[-1]):
+            found.setdefault(key, set()).update(clause.name for clause in function.clauses if clause.kind == "ensures")
     return found
 
 
@@ -140,7 +186,7 @@ STATED = {
     "packaging/completions/_rnxcmp": ("N from 1 to EVERY", "at most DATE_LIMIT bytes"),
     "include/rnxcmp.h": (
         "more than DATE_LIMIT bytes", "of faults, of FAULTS,", "ended the run, from 1 to FAULTS;", "isn't from 1 to FAULTS.", "at most INPUT_LIMIT.",
-        "more than INPUT_LIMIT,",
+        "where INPUT_LIMIT bytes were taken",
     ),
     "python/rnxcmp/_calls.py": ("number, from 1 to FAULTS;", "bad date: at most DATE_LIMIT characters", "line, at most DATE_LIMIT printable"),
     "crates/crx_faults/src/fault.rt": ("in messages, from 1 to FAULTS.",),
@@ -206,27 +252,29 @@ def options(program):
 
 
 def definitions():
-    """Whether README.md says how many definitions docs/READING.md lists."""
-    count, lines = re.search(r"All of them are (\d+) definitions of (\d+) lines", (TOP / "docs/READING.md").read_text(encoding="utf-8")).groups()
-    said = f"{count}, in {lines} lines"
-    return [] if said in (TOP / "README.md").read_text(encoding="utf-8") else [f"README.md doesn't say {said}"]
+    """Whether README.md says how many definitions one has to believe, and how many for its first promise."""
+    trusted, first = book().trusted(), [item for item in book().contents[0].items if is_definition(item)]
+    said = (f"{len(trusted)}, in {lines_of(trusted)} lines", f"on {len(first)} definitions")
+    text = (TOP / "README.md").read_text(encoding="utf-8")
+    return [f"README.md doesn't say {it}" for it in said if it not in text]
 
 
 def modules():
-    """The names that two modules of tests have, but for `checks` and `run`: all kinds of tests are read into one process, where the
-    module that is read first would stand for both."""
+    """The names that two modules of tests and pages have, but for `check`, `checks` and `run`: all kinds of tests are read into one process, where
+    the module that is read first would stand for both."""
     seen = {}
-    for path in sorted((TOP / "tests").rglob("*.py")):
-        if path.stem not in ("checks", "run"):
+    for path in sorted([*(TOP / "tests").rglob("*.py"), *(TOP / "docs").glob("*.py")]):
+        if path.stem not in ("check", "checks", "run"):
             seen.setdefault(path.stem, []).append(str(path.relative_to(TOP)))
     return [f"one name: {', '.join(paths)}" for paths in seen.values() if len(paths) > 1]
 
 
 def checks(program):
     yield "modules of tests", modules
-    yield "docs/CONTRACTS.md", lambda: written("contracts.py")
-    yield "docs/READING.md", lambda: written("reading.py")
-    yield "docs/pictures", lambda: written("pictures/draw.py")
+    yield "made pages", made_pages
+    yield "clauses of the sources", clauses_found
+    yield "chapters", chapters
+    yield "docs/pictures", pictures
     yield "docs/pictures/epoch.txt", lambda: example(program)
     yield "docs/pictures/speed.txt", figures
     yield "README.md: definitions", definitions

@@ -1,7 +1,7 @@
-"""The program, and the script rnxcmp-file, where a system call fails: strace makes one after another fail (see tests/run.py).
+"""The program, where a system call fails: strace makes one after another fail (see tests/run.py).
 
-What is looked for in the program: a message, the status, the text that was written before, and that nothing is written after a write that
-failed. And in the script: that nothing is lost.
+What is looked for: a message, the status, the text that was written before, and that nothing is written after a write that
+failed.
 """
 
 import re
@@ -9,12 +9,11 @@ import shutil
 import subprocess
 import sys
 import tempfile
-from concurrent.futures import ThreadPoolExecutor
 from pathlib import Path
 
 TESTS = Path(__file__).resolve().parents[1]
-sys.path[:0] = [str(TESTS / "process"), str(TESTS / "archives")]
-from script import GOOD, Place  # noqa: E402
+SAMPLE = TESTS.parent / "samples/station.rnx"
+sys.path.insert(0, str(TESTS / "process"))
 from cases import BAD_INDICATOR, COMPACT_FIVE, COMPACT_LONG, DATED, FIVE, H, epoch, text  # noqa: E402
 
 SECONDS = 60  # in which each run is to end
@@ -128,82 +127,15 @@ def interrupted_writes(program):
 
 def close_of_a_file(program):
     """A close of the output that fails isn't seen: all is written, the status is 0, there is no message (docs/GUARANTEES.md)."""
-    with Place(program, "a.rnx", GOOD) as place:
-        command = [*closing(place, "a.crx"), place.bin / "rnxcmp", *DATED, "a.rnx"]
-        run = subprocess.run(command, cwd=place.work, capture_output=True, timeout=SECONDS)
+    with tempfile.TemporaryDirectory() as name:
+        folder = Path(name)
+        shutil.copy(SAMPLE, folder / "a.rnx")
+        closing = ["strace", "-f", "-y", "-o", folder / "trace", "-P", folder / "a.crx", "-e", "trace=close", "-e", "inject=close:error=ENOSPC"]
+        run = subprocess.run([*closing, program, *DATED, "a.rnx"], cwd=folder, capture_output=True, timeout=SECONDS)
         wrong = [] if (run.returncode, run.stderr) == (0, b"") else [f"status {run.returncode}, messages {run.stderr!r}"]
-        return wrong + ([] if place.expanded("a.crx") == GOOD else ["the output isn't whole"]) + was_injected(place)
-
-
-def closing(place, name):
-    """strace that makes each close of a file fail."""
-    return ["strace", "-f", "-y", "-o", place.folder / "trace", "-P", place.work / name, "-e", "trace=close", "-e", "inject=close:error=ENOSPC"]
-
-
-def was_injected(place):
-    return [] if "INJECTED" in (place.folder / "trace").read_text() else ["no close was made to fail"]
-
-
-MKTEMP = "#!/bin/sh\n: > a.part && echo a.part\n"  # so that the name of the script's output is known
-
-
-def script_sees_close(program):
-    """The same of the script, packed and not: a message, status 1, no output, and the input stays."""
-    wrong = []
-    for words in (["--delete"], ["--gzip", "--delete"]):
-        with Place(program, "a.rnx", GOOD, {"mktemp": MKTEMP}) as place:
-            run = place.run("rnx2crx", *words, "a.rnx", through=closing(place, "a.part.out"))
-            wrong += [f"{words}: {line}" for line in place.differs(run, 1, ["a.rnx"], ["cannot write"]) + was_injected(place)]
-    return wrong
-
-
-def script_asks_before_it_moves(program):
-    """The output is brought onto the disk before it is moved; and it and its folder once more, before the input is removed."""
-    with Place(program, "a.rnx", GOOD, {"mktemp": MKTEMP}) as place:
-        calls = "trace=fsync,fdatasync,syncfs,sync,rename,renameat,renameat2,unlink,unlinkat"
-        run = place.run("rnx2crx", "--delete", "a.rnx", through=["strace", "-f", "-y", "-o", place.folder / "trace", "-e", calls])
-        trace = (place.folder / "trace").read_text().replace(str(place.work), "W")
-        wanted = (r"fsync\(\d+<W/a\.part\.out>\) = 0", r'rename\w*\(.*"a\.part\.out".*"a\.crx".*\) = 0',
-                  r"fsync\(\d+<W/a\.crx>\) = 0", r"fsync\(\d+<W>\) = 0", r'unlink\w*\(.*"a\.rnx".*\) = 0')
-        found = re.search(r"[\s\S]*".join(wanted), re.sub(r" +=", " =", trace))
-        return place.differs(run, 0, ["a.crx"]) + ([] if found else [f"calls: {trace}"])
-
-
-def traced(program, fault, words, through=("strace", "-f", "-qq", "-o", "/dev/null")):
-    """The script below strace with a fault in each of its processes, and what it lost, as lines: where the status is 0, or the input is gone,
-    the output is whole; and what has the output's name always is."""
-    with Place(program, "a.rnx", GOOD) as place:
-        run = place.run(*words, through=(*through, "-e", f"trace={fault.partition(':')[0]}", "-e", f"inject={fault}"))
-        source, target = place.work / "a.rnx", place.work / "a.crx"
-        there = target.exists()
-        whole = there and place.expanded("a.crx") == GOOD
-        wrong = [f"{fault}: a half output"] if there and not whole else []
-        wrong += [f"{fault}: the input is lost"] if not whole and not (source.exists() and source.read_bytes() == GOOD) else []
-        wrong += [f"{fault}: status 0 without an output"] if run.returncode == 0 and not whole else []
-        return run, wrong
-
-
-def script_sync_and_move(program):
-    """The output can't be brought onto the disk, or not be moved: status 1, a message, the input alone is left."""
-    wrong = []
-    for fault, said in (("fsync:error=EIO", "not on the disk"), ("rename,renameat,renameat2:error=EIO", "cannot move"), ("rename,renameat,renameat2:error=EXDEV", "")):
-        run, lost = traced(program, fault, ("rnx2crx", "--delete", "a.rnx"))
-        wrong += lost
-        if said and (run.returncode != 1 or said not in run.stderr or any(not line.startswith("a.rnx: ") for line in run.stderr.splitlines())):
-            wrong.append(f"{fault}: status {run.returncode}, messages {run.stderr!r}")
-    return wrong
-
-
-def script_loses_nothing(program):
-    """The first, second, .. call of a kind fails in every process that the script starts. Not `close`: a pipe that stays open has no end.
-    Nor `read`: a shell that can't read the script's first bytes ends with status 0."""
-    wrong = []
-    calls = [("write", "ENOSPC"), ("openat", "EACCES"), ("utimensat", "EPERM"), ("newfstatat", "EIO"), ("clone,clone3,fork,vfork", "EAGAIN")]
-    faults = [f"{call}:error={error}:when={place}" for call, error in calls for place in (1, 2, 4, 7)]
-    with ThreadPoolExecutor() as workers:
-        for _, lost in workers.map(lambda fault: traced(program, fault, ("rnx2crx", "--delete", "a.rnx")), faults):
-            wrong += lost
-    return wrong
+        back = subprocess.run([program, "crx2rnx"], input=(folder / "a.crx").read_bytes(), capture_output=True, timeout=SECONDS).stdout
+        wrong += [] if back == SAMPLE.read_bytes() else ["the output isn't whole"]
+        return wrong + ([] if "INJECTED" in (folder / "trace").read_text() else ["no close was made to fail"])
 
 
 def where_traced(check):
@@ -232,9 +164,5 @@ def checks(program):
         ("a message of an error", lambda: failed_messages(program, DATED, BAD_INDICATOR)),
         ("interrupted writes", lambda: interrupted_writes(program)),
         ("a close of the output file", lambda: close_of_a_file(program)),
-        ("rnxcmp-file: a close of the output", lambda: script_sees_close(program)),
-        ("rnxcmp-file: sync before the move, and before the removal", lambda: script_asks_before_it_moves(program)),
-        ("rnxcmp-file: sync and move", lambda: script_sync_and_move(program)),
-        ("rnxcmp-file: any call", lambda: script_loses_nothing(program)),
     ):
         yield name, where_traced(check)

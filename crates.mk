@@ -1,0 +1,37 @@
+# The crates of crates.txt, each proved and built over those that it stands on, into out/proved: a library with its statements and without its
+# proofs. The program and the static library are built beside their sources. What is newer than what was made of it is made anew, by time.
+# tests/gate.py runs each proof: it says in a line how it went, and shows the errors of one that failed.
+KIT := $(patsubst %/bin/rt,%,$(realpath $(shell command -v rt)))
+CRATES := $(shell sed -nE 's/^([a-z_]+)[ a-z]*:.*/\1/p' crates.txt)
+LIBRARIES := $(filter-out rnxcmp rnxcmp_c,$(CRATES))
+PROVED := $(CURDIR)/out/proved
+
+uses_of = $(shell sed -nE 's/^$(1)( [a-z]+)?: *//p' crates.txt)
+below_of = $(patsubst %,out/proved/%.made,$(call backward,$(filter $(CRATES),$(call uses_of,$(1)))))
+# The last of a line is begun first, since the longest chain of crates goes through it.
+backward = $(if $(1),$(call backward,$(wordlist 2,99,$(1))) $(firstword $(1)))
+# What is read of one crate, and the toolchain. Folders too: one is newer after a file of it has gone.
+files_of = $(shell find $(wildcard crates/$(1)/src crates/$(1)/specs crates/$(1)/proofs)) $(wildcard $(KIT)/KIT-ID)
+
+proof_of = @tests/gate.py proof $(1) $(KIT)/bin/rattle build --crate-name $(1) src/$(2).rt --links $(1)= --jobs 1 \
+    $(foreach it,std $(call uses_of,$(1)),--extern $(it)=$(if $(filter $(it),$(CRATES)),$(PROVED),$(KIT)/rlibs)/$(it).rlib) \
+    -L dependency=$(KIT)/rlibs -L dependency=$(PROVED) --antt-project $(KIT)/rattle/logic/antt-project.json --logic-built $(KIT)/logic_built
+BACKEND = --toolchain $(KIT)/toolchain --backend llvm
+
+define crate
+out/proved/$(1).made: $(call files_of,$(1)) $(call below_of,$(1)) | toolchain
+	$$(call proof_of,$(1),lib) --statements -o $(PROVED)/$(1).rlib
+	@touch $$@
+endef
+$(foreach it,$(LIBRARIES),$(eval $(call crate,$(it))))
+
+crates/rnxcmp/out/rnxcmp: $(call files_of,rnxcmp) $(call below_of,rnxcmp) | toolchain
+	$(call proof_of,rnxcmp,main) $(BACKEND) -o out/rnxcmp.o
+	@$(KIT)/bin/rattle-link --target x86_64-unknown-linux-gnu --toolchain $(KIT)/toolchain -o $@ $@.o $(KIT)/c/libos_c.a $(KIT)/c/liblibc_c.a
+
+crates/rnxcmp_c/out/librnxcmp_c.a: $(call files_of,rnxcmp_c) $(call below_of,rnxcmp_c) | toolchain
+	$(call proof_of,rnxcmp_c,lib) --crate-type staticlib $(BACKEND) -o out/librnxcmp_c.a
+
+.PHONY: toolchain
+toolchain:
+	@tests/gate.py toolchain

@@ -1,0 +1,318 @@
+#!/usr/bin/env python3
+"""What damage to compact text costs, on random files with random damage (`make laws-test`).
+
+    tests/laws/damage.py PROGRAM [--cases N] [--seed S]
+
+Each file is made up here, compacted by the program, and then damaged behind its header, in one place or many: bytes changed, lost and made,
+line ends among them, lines dropped, doubled and replaced, first lines of blocks too, and texts cut off. What the program makes of it with
+`crx2rnx -s` is compared with the law that `damage` of `expand` states: all units before the first damaged stretch, then for each stretch
+some whole epochs followed by exactly the units that are kept; no fault. A unit is kept here if its lines still stand together, each on
+a line of its own, and if it follows one that is kept, or is an event or an epoch in full. Damage of which the law says nothing, where an
+event's first line comes in a stretch or the types change there, is passed over and not counted. The last line is `N passed, M failed`.
+"""
+
+from __future__ import annotations
+
+import argparse
+import random
+import subprocess
+import sys
+from array import array
+from dataclasses import dataclass, field
+from functools import lru_cache
+from pathlib import Path
+
+LF, LONGEST = 10, 8192
+DAMAGES_OF_A_FILE = 40
+
+
+@dataclass
+class Group:
+    """An observation epoch, or an event with its records: its lines in RINEX, and in compact text how many there are."""
+
+    lines: list[bytes]
+    compact_lines: int
+    is_event: bool
+    types: dict[bytes, int]  # in force before it
+    types_after: dict[bytes, int]
+    start: int = 0  # where its compact lines begin and end, in bytes
+    end: int = 0
+    in_full: bool = False
+
+
+@dataclass
+class File:
+    header: list[bytes]
+    groups: list[Group] = field(default_factory=list)
+    compact: bytes = b""
+    body: int = 0  # where the first group begins in compact text
+
+
+# ---- files
+
+
+def labelled(text: str, label: str) -> bytes:
+    return f"{text:<60}{label}".rstrip().encode()
+
+
+def types_line(system: bytes, count: int) -> bytes:
+    names = "".join(f" {'CLDS'[k % 4]}{1 + k // 4}C" for k in range(count))
+    return labelled(f"{system.decode()}  {count:3d}{names}", "SYS / # / OBS TYPES")
+
+
+def epoch_line(second: int, flag: int, count: int) -> str:
+    return f"> 2024 01 01 {second // 3600:02d} {second // 60 % 60:02d}{second % 60:11.7f}  {flag}{count:3d}"
+
+
+def number(value: int, decimals: int, width: int) -> str:
+    text = f"{abs(value):0{decimals + 1}d}"
+    return f"{'-' * (value < 0) + text[:-decimals] + '.' + text[-decimals:]:>{width}}"
+
+
+class Station:
+    """Makes up epochs and events, one after another."""
+
+    def __init__(self, pick: random.Random) -> None:
+        self.pick = pick
+        self.types = {system: pick.randint(1, 4) for system in pick.sample([b"G", b"R", b"E"], pick.randint(1, 3))}
+        self.values: dict[tuple[bytes, int], int] = {}
+        self.second = 0
+        self.clock = pick.randint(-10**8, 10**8)
+
+    def header(self) -> list[bytes]:
+        first = labelled("     3.04           OBSERVATION DATA    M", "RINEX VERSION / TYPE")
+        comments = [labelled(f"comment {k}", "COMMENT") for k in range(self.pick.randint(0, 2))]
+        return [first, *comments, *(types_line(*each) for each in self.types.items()), labelled("", "END OF HEADER")]
+
+    def cell(self, name: bytes, place: int) -> str:
+        if self.pick.random() < 0.1:
+            self.values.pop((name, place), None)
+            return " " * 16
+        value = self.values.get((name, place), self.pick.randint(-10**9, 10**10)) + self.pick.randint(-10**6, 10**6)
+        self.values[name, place] = value
+        return number(value, 3, 14) + self.pick.choice("      1") + self.pick.choice("    56789")
+
+    def epoch(self) -> Group:
+        self.second += self.pick.randint(1, 40)
+        names = [system + b"%02d" % k for system in self.types for k in range(1, 4)]
+        names = self.pick.sample(names, self.pick.randint(0, min(5, len(names))))
+        head = epoch_line(self.second, self.pick.choice([0, 0, 0, 1]), len(names))
+        if self.pick.random() < 0.5:
+            self.clock += self.pick.randint(-10**4, 10**4)
+            head = f"{head:<41}{number(self.clock, 12, 15)}"
+        rows = [(name.decode() + "".join(self.cell(name, k) for k in range(self.types[name[:1]]))).rstrip().encode() for name in names]
+        return Group([head.encode(), *rows], 2 + len(rows), False, dict(self.types), dict(self.types))
+
+    def event(self) -> Group:
+        before, flag = dict(self.types), self.pick.choice([2, 3, 4, 4, 5, 6])
+        records = [labelled(f"record {k}", "COMMENT") for k in range(self.pick.randint(0, 3))]
+        if flag < 6 and self.pick.random() < 0.3:
+            system = self.pick.choice(list(self.types))
+            self.types[system] = self.pick.randint(1, 4)
+            records.append(types_line(system, self.types[system]))
+            self.values.clear()
+        lines = [epoch_line(self.second, flag, len(records)).encode(), *records]
+        return Group(lines, len(lines), True, before, dict(self.types))
+
+
+def run(program: str, words: list[str], text: bytes) -> tuple[int, bytes, bytes]:
+    done = subprocess.run([program, *words], input=text, capture_output=True, timeout=60)
+    return done.returncode, done.stdout, done.stderr
+
+
+def make_file(program: str, pick: random.Random) -> File:
+    station = Station(pick)
+    made = File(station.header())
+    for _ in range(pick.randint(2, 14)):
+        made.groups.append(station.event() if pick.random() < 0.15 else station.epoch())
+    rinex = b"".join(line + b"\n" for line in made.header + [line for g in made.groups for line in g.lines])
+    words = ["rnx2crx", "--date", "D"] + (["-e", str(pick.randint(1, 5))] if pick.random() < 0.7 else [])
+    status, made.compact, messages = run(program, words, rinex)
+    if status or run(program, ["crx2rnx"], made.compact) != (0, rinex, b""):
+        sys.exit(f"a file that is made here doesn't come back: {messages!r}\n{rinex.decode()}")
+    lines = made.compact.splitlines(keepends=True)
+    at = sum(map(len, lines[: 2 + len(made.header)]))
+    made.body, rest = at, lines[2 + len(made.header) :]
+    for group in made.groups:
+        group.start, group.in_full = at, rest[0].startswith(b">")
+        at += sum(map(len, rest[: group.compact_lines]))
+        group.end, rest = at, rest[group.compact_lines :]
+    return made
+
+
+# ---- damage
+
+
+class Damaged:
+    """A text, and where each of its bytes was before: -1 for a byte that wasn't there."""
+
+    def __init__(self, file: File) -> None:
+        self.data = bytearray(file.compact)
+        self.origin = array("l", range(len(file.compact)))
+        self.body = file.body
+
+    def put(self, first: int, last: int, text: bytes) -> None:
+        self.data[first:last] = text
+        self.origin[first:last] = array("l", [-1] * len(text))
+
+    def place(self, pick: random.Random) -> int:
+        return pick.randint(self.body, len(self.data))
+
+    def line(self, pick: random.Random) -> tuple[int, int]:
+        at = self.place(pick)
+        first = self.data.rfind(b"\n", 0, at) + 1
+        return max(first, self.body), self.data.find(b"\n", at) + 1 or len(self.data)
+
+    def random_text(self, pick: random.Random) -> bytes:
+        kind = pick.randrange(6)
+        if kind == 0:
+            return b"x" * pick.choice([LONGEST, LONGEST + 1, 3 * LONGEST])
+        if kind == 1:
+            return b">" + bytes(pick.choices(b"0123456789 >&\n", k=pick.randint(0, 60)))
+        if kind == 2:
+            first, last = self.line(pick)
+            return bytes(self.data[first:last])
+        if kind == 3:
+            return bytes(pick.choices(range(256), k=pick.randint(1, 30)))
+        return bytes(pick.choices(b"0123456789&- \n", k=pick.randint(0, 30)))
+
+    def damage(self, pick: random.Random) -> None:
+        kind, at = pick.randrange(9), self.place(pick)
+        first, last = self.line(pick)
+        if kind in (0, 1) and at < len(self.data):
+            self.put(at, at + 1, bytes([self.data[at] ^ (1 << pick.randrange(8))]))
+        elif kind == 2:
+            self.put(at, at, pick.choice([b"\n", b"\r", b"\0", b"\n>", b">", b" "]))
+        elif kind == 3:
+            self.put(at, min(len(self.data), at + pick.randint(1, 200)), b"")
+        elif kind == 4 and last > first:
+            self.put(last - 1, last, pick.choice([b"", b"\x0b", b" "]))
+        elif kind == 5:
+            self.put(first, last, b"")
+        elif kind == 6:
+            self.put(last, last, bytes(self.data[first:last]))
+        elif kind == 7:
+            self.put(first, last, self.random_text(pick) + b"\n" * pick.randint(0, 1))
+        elif kind == 8:
+            self.put(at, at, self.random_text(pick))
+
+
+# ---- the law
+
+
+@dataclass
+class Stretch:
+    types: dict[bytes, int]
+    kept: list[bytes]
+
+
+def begins_event(line: bytes) -> bool:
+    line = line.removesuffix(b"\r")
+    return len(line) <= LONGEST and line[:1] == b">" and line[31:32] in (b"2", b"3", b"4", b"5", b"6")
+
+
+def stretches_of(file: File, text: Damaged) -> tuple[list[bytes], list[Stretch]] | None:
+    """The lines of the units before the first stretch, and the stretches; nothing where the law says nothing."""
+    starts = {o: at for at, o in enumerate(text.origin) if o >= 0}
+
+    def stands(group: Group, at: int | None) -> bool:
+        size = group.end - group.start
+        return (at is not None and (at == 0 or text.data[at - 1] == LF)
+                and text.origin[at : at + size] == array("l", range(group.start, group.end)))
+
+    before, stretches = list(file.header), []
+    kept, types, at, number_of_group = before, file.groups[0].types, text.body, 0
+    while True:
+        while number_of_group < len(file.groups) and stands(file.groups[number_of_group], at):
+            group = file.groups[number_of_group]
+            kept += group.lines
+            types, at, number_of_group = group.types_after, at + group.end - group.start, number_of_group + 1
+        if at == len(text.data):
+            return before, stretches
+        following = len(file.groups)
+        for k in range(number_of_group, len(file.groups)):
+            group = file.groups[k]
+            there = starts.get(group.start)
+            if (group.is_event or group.in_full) and group.types == types and stands(group, there) and there >= at:
+                following = k
+                break
+        end = starts[file.groups[following].start] if following < len(file.groups) else len(text.data)
+        lines = bytes(text.data[at:end]).split(b"\n")
+        if any(map(begins_event, lines[:-1] if lines[-1] == b"" else lines)):
+            return None
+        stretches.append(Stretch(types, []))
+        kept, at, number_of_group = stretches[-1].kept, end, following
+
+
+def after_epoch(lines: list[bytes], at: int, types: dict[bytes, int]) -> int | None:
+    """The line after the epoch that begins there, if a whole one does."""
+    head = lines[at] if at < len(lines) else b""
+    if head[:1] != b">" or head[31:32] not in (b"0", b"1") or not head[32:35].strip().isdigit():
+        return None
+    rows = lines[at + 1 : at + 1 + int(head[32:35])]
+    names = {row[:3] for row in rows}
+    if len(names) < int(head[32:35]) or any(row[:1] not in types or len(row) > 3 + 16 * types[row[:1]] for row in rows):
+        return None
+    return at + 1 + len(rows)
+
+
+def is_saved(output: bytes, before: list[bytes], stretches: list[Stretch]) -> bool:
+    """Whether an output has the units before, and then for each stretch whole epochs and what is kept."""
+    lines = output.split(b"\n")
+    if lines.pop() != b"" or lines[: len(before)] != before:
+        return False
+
+    @lru_cache(None)
+    def matches(at: int, index: int) -> bool:
+        if index == len(stretches):
+            return at == len(lines)
+        kept = stretches[index].kept
+        if lines[at : at + len(kept)] == kept and matches(at + len(kept), index + 1):
+            return True
+        following = after_epoch(lines, at, stretches[index].types)
+        return following is not None and matches(following, index)
+
+    return matches(len(before), 0)
+
+
+def wrong(program: str, file: File, pick: random.Random) -> tuple[bool, str, bytes]:
+    """Whether the law speaks of some damage, what is wrong with what the program makes of it, and the text."""
+    text = Damaged(file)
+    for _ in range(pick.choice([0, 1, 1, 2, 3, 5, 9])):
+        text.damage(pick)
+    if pick.random() < 0.2:
+        text.put(text.place(pick), len(text.data), b"")
+    parts = stretches_of(file, text)
+    if parts is None:
+        return False, "", b""
+    data = bytes(text.data)
+    status, output, messages = run(program, ["crx2rnx", "-s"], data)
+    warned = messages.splitlines()
+    if status != (2 if warned else 0) or not all(line.startswith(b"WARNING line ") for line in warned):
+        return True, f"status {status}, messages {messages!r}", data
+    return True, "" if is_saved(output, *parts) else "the output isn't what the law says", data
+
+
+def main() -> int:
+    words = argparse.ArgumentParser(description=__doc__, formatter_class=argparse.RawDescriptionHelpFormatter)
+    words.add_argument("program")
+    words.add_argument("--cases", type=int, default=100000)
+    words.add_argument("--seed", type=int, default=1)
+    given = words.parse_args()
+    program, pick = str(Path(given.program).resolve()), random.Random(given.seed)
+    passed = failed = passed_over = 0
+    while passed + failed < given.cases:
+        file = make_file(program, pick)
+        for _ in range(DAMAGES_OF_A_FILE):
+            counts, what, data = wrong(program, file, pick)
+            if what:
+                Path(f"damaged{failed}.crx").write_bytes(data)
+                print(f"damaged{failed}.crx: {what}")
+            passed, failed, passed_over = passed + (counts and not what), failed + bool(what), passed_over + (not counts)
+    print(f"{passed_over} damages of which the law says nothing")
+    print(f"{passed} passed, {failed} failed")
+    return failed > 0
+
+
+if __name__ == "__main__":
+    sys.exit(main())

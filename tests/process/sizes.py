@@ -1,0 +1,119 @@
+"""Runs of sizes that other tests don't reach: many arguments, long names, long inputs. Each check answers what is wrong, as lines."""
+
+import hashlib
+import os
+import subprocess
+import tempfile
+import threading
+from pathlib import Path
+
+from cases import COMPACT_FIVE, DATED, FIVE, H, epoch, text
+
+SECONDS = 120  # in which each of these runs is to end
+PIECE = text(*[line for second in range(4000) for line in (epoch(second % 10, 1), f"G01  {20000000 + 7 * second}.000")])
+LONG = 70_000_000  # bytes
+EPOCHS = 2_000_000
+
+
+def answered(run, status, output, messages):
+    """What differs from a wanted answer, as lines."""
+    got = (run.returncode, run.stdout, run.stderr)
+    return [] if got == (status, output, messages) else [f"status {got[0]}, output {got[1][:200]!r}, messages {got[2][:600]!r}"]
+
+
+def forty_arguments(program):
+    """Forty names are more than one, and forty hyphens more than one; forty options that are the same are refused as such."""
+    wrong = []
+    for words, message in ((["rnx2crx", *[f"{place}.rnx" for place in range(40)]], b"ERROR: more than one file name\n"),
+                           (["crx2rnx", *["-"] * 40], b"ERROR: - given twice\n"), (["check", *["a.rnx"] * 40], b"ERROR: more than one file name\n")):
+        run = subprocess.run([program, *words], capture_output=True, stdin=subprocess.DEVNULL, timeout=SECONDS)
+        wrong += answered(run, 1, b"", message)
+    run = subprocess.run([program, "rnx2crx", *["-s"] * 40], capture_output=True, stdin=subprocess.DEVNULL, timeout=SECONDS)
+    if run.returncode != 1 or run.stdout or not run.stderr.startswith(b"error: "):
+        wrong.append(f"forty times -s: status {run.returncode}, messages {run.stderr!r}")
+    return wrong
+
+
+def long_names(program):
+    """A path of nearly 4,000 bytes is read and its output is written; a name of 300 bytes is named whole where it is refused."""
+    wrong = []
+    with tempfile.TemporaryDirectory() as top:
+        place = Path(top)
+        folder = os.open(top, os.O_RDONLY)
+        while len(str(place)) < 3800:
+            place = place / ("f" * 180)
+            os.mkdir("f" * 180, dir_fd=folder)
+            inner = os.open("f" * 180, os.O_RDONLY, dir_fd=folder)
+            os.close(folder)
+            folder = inner
+        with open(os.open("a.rnx", os.O_WRONLY | os.O_CREAT, dir_fd=folder), "wb") as file:
+            file.write(FIVE)
+        run = subprocess.run([program, *DATED, str(place / "a.rnx")], capture_output=True, timeout=SECONDS)
+        wrong += answered(run, 0, b"", b"")
+        with open(os.open("a.crx", os.O_RDONLY, dir_fd=folder), "rb") as file:
+            wrong += [] if file.read() == COMPACT_FIVE else ["another output under a long path"]
+        os.close(folder)
+    name = "n" * 300
+    for words, message in ((["rnx2crx", name], f"ERROR: no output name for {name}"), (["check", name], f"ERROR: cannot read {name}"),
+                           (["rnx2crx", "d/" * 100 + name + ".rnx"], f"ERROR: cannot read {'d/' * 100}{name}.rnx")):
+        run = subprocess.run([program, *words], capture_output=True, stdin=subprocess.DEVNULL, timeout=SECONDS)
+        wrong += answered(run, 1, b"", text(message))
+    return wrong
+
+
+def fed(stream, pieces):
+    """Writes all pieces into a stream, in a thread of its own: what was written, as a digest and a length, once that has ended."""
+    found = {"digest": hashlib.sha256(), "length": 0}
+
+    def feed():
+        with stream:
+            for piece in pieces:
+                found["digest"].update(piece)
+                found["length"] += len(piece)
+                stream.write(piece)
+
+    thread = threading.Thread(target=feed)
+    thread.start()
+    return thread, found
+
+
+def comes_back(program, pieces):
+    """An input through a compaction and an expansion, by standard streams: the same bytes, and their number."""
+    with subprocess.Popen([program, *DATED], stdin=subprocess.PIPE, stdout=subprocess.PIPE) as first, \
+            subprocess.Popen([program, "crx2rnx"], stdin=first.stdout, stdout=subprocess.PIPE) as second:
+        first.stdout.close()
+        thread, found = fed(first.stdin, pieces)
+        digest, length = hashlib.sha256(), 0
+        while piece := second.stdout.read(1 << 20):
+            digest.update(piece)
+            length += len(piece)
+        thread.join(timeout=SECONDS)
+    wrong = [] if (first.returncode, second.returncode) == (0, 0) else [f"status {first.returncode} and {second.returncode}"]
+    same = (length, digest.digest()) == (found["length"], found["digest"].digest())
+    return wrong if same else [*wrong, f"{found['length']} bytes went in, and {length} or others came back"]
+
+
+def seventy_megabytes(program):
+    """A long input by standard streams comes back whole, and its check counts all of it."""
+    times = LONG // len(PIECE) + 1
+    wrong = comes_back(program, [text(*H), *[PIECE] * times])
+    with subprocess.Popen([program, "check"], stdin=subprocess.PIPE, stdout=subprocess.PIPE) as run:
+        thread, _ = fed(run.stdin, [text(*H), *[PIECE] * times])
+        report = run.stdout.read()
+        thread.join(timeout=SECONDS)
+    wanted = text("format 3.04", "systems G 1", f"epochs {4000 * times}", "events 0", f"observations {4000 * times}", "standard yes")
+    return wrong if report == wanted else [*wrong, f"check: {report!r}"]
+
+
+def two_million_epochs(program):
+    """More epochs than any file has come back, each without a satellite."""
+    piece = text(*[epoch(0, 0)] * 10000)
+    return comes_back(program, [text(*H), *[piece] * (EPOCHS // 10000)])
+
+
+CHECKS = [
+    ("forty arguments", forty_arguments),
+    ("long names", long_names),
+    ("70 MB by standard streams", seventy_megabytes),
+    ("two million epochs", two_million_epochs),
+]
