@@ -1,0 +1,188 @@
+"""Which clauses each chapter of the page of definitions is about, and the definitions below them, from the top down."""
+
+import shutil
+from collections import namedtuple
+from pathlib import Path
+
+from sources import CRATES, Names, crate_of, crates, public_functions
+
+# `about`: the functions with their clauses (`*`: all), or definitions and types of the code. `left`: the definitions whose meaning isn't
+# needed there; another chapter has them. `most`: how many definitions it may have, which the tests of documents compare. `own`: whether its
+# definitions stand outside the folders `meaning`, as those of an engine's state do.
+Chapter = namedtuple("Chapter", "title words about left most own", defaults=((), None, False))
+# what a chapter has: its clauses with their functions, what it stands on in order, what it leaves, and how many definitions of ported
+# crates it stands on
+Content = namedtuple("Content", "clauses items left ported")
+
+RESULTS = ("compacted", "expanded", "checked")
+FILTERS = ("compaction_filter", "expansion_filter", "check_filter")
+DEVICES = ("Source", "Sink")
+OF_ENGINES = ("AnyEngine", "IsOf", "ready_of", "is_open_of", "engine_filter", "shows_of")
+
+CHAPTERS = (
+    Chapter(
+        "Losslessness",
+        "A file that a check passes comes back byte for byte. `compacted`, `expanded` and `checked` are what the three calls write, report"
+        " and answer for a whole input; here they need not be known.",
+        (("crx_filter::check", "lossless"), ("crx_filter::expand", "lossless")),
+        RESULTS + DEVICES,
+        20,
+    ),
+    Chapter(
+        "What compact text is",
+        "The lines of a RINEX file and those of its compact text, both printed from the same units, and that each becomes the other.",
+        (("crx_laws::units_and_text", "*"),),
+        RESULTS + ("MakeAFile",),
+        80,
+    ),
+    Chapter(
+        "Which units make a file",
+        "The order of units, and what each has to be. A file is standard exactly where it is the RINEX text of such units.",
+        (("crx_filter::MakeAFile", ""), ("crx_laws::standard_files_are_units", "*")),
+        ("IsStandard",),
+    ),
+    Chapter(
+        "Runs",
+        "What is written, reported and answered where all goes well, and where a reader, a writer or memory fails.",
+        (("crx_filter::compact", "runs"), ("crx_filter::expand", "runs"), ("crx_filter::check", "runs")),
+        RESULTS + FILTERS + DEVICES,
+    ),
+    Chapter(
+        "Bad input",
+        "How any input is read: places, faults and skipping; what is written and reported for it; what comes back of a file that isn't"
+        " standard, and which files are written; and what damage costs.",
+        (("crx_filter::compact", "*"), ("crx_filter::expand", "*"), ("crx_filter::check", "*")),
+        DEVICES,
+    ),
+    Chapter(
+        "Laws of the results",
+        "What follows of `compacted` and `expanded` alone: whatever text is expanded, standard files come of it; files with the same normal"
+        " form have the same compact text; blocks of compact text stand alone; and how much output a byte of it can make.",
+        (
+            ("crx_laws::what_is_expanded_is_standard", "*"),
+            ("crx_laws::the_normal_form_compacts_the_same", "*"),
+            ("crx_laws::compact_text_is_canonical", "*"),
+            ("crx_laws::blocks_stand_alone", "*"),
+            ("crx_laws::a_piece_is_expanded_alone", "*"),
+            ("crx_laws::an_expansion_is_bounded", "*"),
+        ),
+        own=True,
+    ),
+    Chapter("Devices", "What readers and writers are.", tuple((f"crx_lines::{name}", "") for name in DEVICES)),
+    Chapter(
+        "Arguments",
+        "What the arguments of the program ask for, what is done, and what is shown where nothing is run.",
+        (("crx_program::run", "*"),),
+    ),
+    Chapter(
+        "The library for C",
+        "What its calls over whole inputs answer, and what stands in the caller's memory after them.",
+        tuple((f"rnxcmp_c::rnxcmp_c_{call}", "*") for call in ("compact", "expand", "check")),
+    ),
+    Chapter(
+        "Handles",
+        "What a run that goes on from call to call answers. The state of the engine in a handle has the next chapter.",
+        tuple((f"rnxcmp_c::rnxcmp_c_{call}", "*") for call in ("open_compact", "open_expand", "open_check", "feed", "end", "take", "close")),
+        OF_ENGINES,
+        own=True,
+    ),
+    Chapter(
+        "The engine in a handle",
+        "What is held between two calls, which a C program has to leave as it is.",
+        tuple((f"rnxcmp_c::{name}", "") for name in OF_ENGINES),
+        own=True,
+    ),
+)
+
+
+def kit():
+    """The folder of the toolchain with the sources of ported crates, or None."""
+    found = shutil.which("rt")
+    folder = Path(found).resolve().parents[1] / "rattle" if found else None
+    return folder if folder and folder.is_dir() else None
+
+
+def all_names():
+    ported = [kit() / "clap"] if kit() else []
+    return Names([CRATES / crate for crate in crates()] + ported)
+
+
+def is_ported(item):
+    return not item.path.is_relative_to(CRATES)
+
+
+def is_definition(item):
+    return item.path.suffix == ".antt"
+
+
+def lines_of(items):
+    """How many lines some definitions have, without the comments above them."""
+    return sum(1 for item in items if is_definition(item) for line in item.text.split("\n") if line.strip())
+
+
+def top_down(roots, names, left):
+    """Some items and all that they stand on, each after those that use it, and what is left out of these by its name."""
+    done, order = set(), []
+
+    def visit(item):
+        if item in done:
+            return
+        done.add(item)
+        if item.name not in left:
+            for below in reversed(names.below_item(item)):
+                visit(below)
+        order.append(item)
+
+    for item in reversed(roots):
+        visit(item)
+    return [item for item in order[::-1] if item.name not in left], [item for item in order[::-1] if item.name in left]
+
+
+class Book:
+    """The chapters and what each has. ValueError says what is wrong with CHAPTERS."""
+
+    def __init__(self):
+        self.names = all_names()
+        self.functions = {f"{crate}::{it.name}": it for crate in crates() for it in public_functions(crate)}
+        self.contents, self.shown = [], {}  # `shown` has the chapter that shows an item
+        for chapter in CHAPTERS:
+            content = self.content(chapter)
+            self.contents.append(content)
+            self.shown.update((item, chapter) for item in content.items if item not in self.shown)
+        lost = {item.name for content in self.contents for item in content.left if item not in self.shown}
+        if lost:
+            raise ValueError(f"no chapter has {', '.join(sorted(lost))}, which others leave")
+
+    def item_named(self, crate, name):
+        found = {item for (path, _), item in self.names.items.items() if item.name == name and crate_of(path) == crate}
+        if len(found) != 1:
+            raise ValueError(f"{len(found)} definitions are called {crate}::{name}")
+        return found.pop()
+
+    def clauses_of(self, function, wanted):
+        found = [clause for clause in self.functions[function].clauses if wanted == "*" or clause.name in wanted.split()]
+        lacking = set(wanted.split()) - {clause.name for clause in found} - {"*"}
+        if lacking:
+            raise ValueError(f"{function} has no clause {', '.join(sorted(lacking))}")
+        return found
+
+    def content(self, chapter):
+        clauses, roots = [], []
+        for about, wanted in chapter.about:
+            if about in self.functions:
+                function = self.functions[about]
+                clauses.append((function, self.clauses_of(about, wanted)))
+                roots += [item for clause in clauses[-1][1] for item in self.names.below(function.path, clause.statement)]
+            else:
+                roots.append(self.item_named(*about.split("::")))
+        below, left = top_down(list(dict.fromkeys(roots)), self.names, chapter.left)
+        items = [item for item in below if not is_ported(item)]
+        return Content(clauses, items, left, sum(is_ported(item) and is_definition(item) for item in below))
+
+    def trusted(self):
+        """The definitions that one has to believe: those of all chapters, without the state of engines."""
+        return [item for item in self.shown if is_definition(item) and "meaning" in item.path.parts]
+
+    def outside(self):
+        """The definitions that stand outside the folders `meaning` and that a chapter has which is to have none of them."""
+        return [item for item, chapter in self.shown.items() if is_definition(item) and "meaning" not in item.path.parts and not chapter.own]
