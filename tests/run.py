@@ -29,17 +29,18 @@ sys.path.insert(0, str(HERE))
 import gate  # noqa: E402
 from checking import LIKED, tally  # noqa: E402
 
-# What is run of the built program: the word that its lines begin with, and the folder of its checks.py.
+# What is run of the built program: the word that its lines begin with, and the folder of its checks.py. The library is made by its own tests,
+# and those of recipes, commands and files use it.
 KINDS = (
     ("case", "cases"),
     ("argument", "arguments"),
     ("process", "process"),
+    ("library", "library"),
     ("recipe", "archives"),
     ("command", "commands"),
     ("fault", "faults"),
     ("file", "files"),
     ("memory", "memory"),
-    ("library", "library"),
     ("example", "examples"),
     ("document", "documents"),
     ("release", "release"),

@@ -19,6 +19,7 @@ import subprocess
 import sys
 import tempfile
 from concurrent.futures import ThreadPoolExecutor
+from importlib import util
 from pathlib import Path
 
 HERE = Path(__file__).resolve().parent
@@ -345,10 +346,11 @@ def check_python_cases(python, answers):
 
 def check_planted():
     """Whether each planted bug can be planted."""
-    sys.path.insert(0, str(TOP / "tests/mutants"))
-    import run
-
-    return [line for folder in sorted((TOP / "tests/mutants").iterdir()) if folder.is_dir() for line in run.stale(folder)]
+    folder = TOP / "tests/mutants"
+    spec = util.spec_from_file_location("mutants", folder / "run.py")  # `run` is a name of other tests too
+    mutants = util.module_from_spec(spec)
+    spec.loader.exec_module(mutants)
+    return [line for bugs in sorted(folder.iterdir()) if bugs.is_dir() for line in mutants.stale(bugs)]
 
 
 def make():
