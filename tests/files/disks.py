@@ -13,12 +13,11 @@ import sys
 import time
 
 from meanwhile import at_work
-from place import ENVIRONMENT, GOOD, SECONDS, TOOL, Place, Promise, marked
-from signals import CALL
+from place import ENVIRONMENT, GOOD, SECONDS, Place, Promise, marked
+from signals import BATCH, after_its_end, command_of, prepared
 
 SHUTDOWN = 0x8004587D  # EXT4_IOC_SHUTDOWN
 NO_FLUSH = (2).to_bytes(4, sys.byteorder)  # what the journal holds isn't written any more
-BATCH = 20  # files in a call
 KINDS = {  # how a disk is made, mounted, and mended after a cut
     "default": ((), (), False),
     "writeback": ((), ("-o", "data=writeback,noauto_da_alloc"), False),
@@ -75,25 +74,13 @@ class Disk:
         self.image.unlink()
 
 
-def prepared(texts, place, dice):
-    """Files on a disk, of which some have an output: theirs, or another one. All is on the disk."""
-    promises = []
-    for number in range(BATCH):
-        place.write(f"f{number}.rnx", marked(GOOD, number))
-        if dice.random() < 0.3:
-            place.write(f"f{number}.crx", texts.filtered(marked(GOOD, number if dice.random() < 0.5 else 99), "rnx2crx", "--date", "old"))
-        promises.append(Promise(texts, "rnx2crx", place, f"f{number}.rnx", f"f{number}.crx"))
-    call("sync", "-f", place.work)
-    return promises
-
-
 def one_cut(texts, disk, mends, way, dice):
     """One call, and a power cut while it is at work: what is wrong then, and whether the cut came in time."""
     with Place(disk.top) as place:
         place.holder.cleanup, cleanup = (lambda: None), place.holder.cleanup
         promises = prepared(texts, place, dice)
-        names = [promise.source.name for promise in promises]
-        command = [sys.executable, "-S", "-c", CALL, "-f", *names] if way == "Python" else [*TOOL, "rnx2crx", "-f", "--verified-to", "list", *names]
+        call("sync", "-f", place.work)
+        command = command_of(way, promises)
         run = subprocess.Popen(command, cwd=place.work, env=ENVIRONMENT, stdout=subprocess.PIPE, stderr=subprocess.DEVNULL, text=True)
         said = [run.stdout.readline()] if dice.random() < 0.9 else []
         time.sleep(dice.random() * 0.3)
@@ -105,16 +92,7 @@ def one_cut(texts, disk, mends, way, dice):
         if mends:
             disk.mend()
         disk.mount()
-        wrong = []
-        for promise in promises:
-            mine = [line for line in said if line.startswith(f"{promise.source.name}: ")]
-            wrong += [f"{promise.source.name}: {line}" for line in promise.broken("\n".join(mine))]
-        listed = place.work / "list"
-        wrong += ["a half list"] if listed.exists() and listed.read_bytes().count(b"\0") != BATCH else []
-        listed.unlink(missing_ok=True)
-        again = subprocess.run(command, cwd=place.work, env=ENVIRONMENT, capture_output=True, text=True, timeout=SECONDS)
-        wrong += [] if again.returncode == 0 and all(promise.is_new() for promise in promises) else [f"begun again: {again.returncode}, {again.stderr!r}"]
-        wrong += [f"left at last: {place.parts()}"] if place.parts() else []
+        wrong = after_its_end(place, promises, command, said)
         cleanup()
         return wrong, at_work
 

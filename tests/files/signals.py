@@ -45,6 +45,20 @@ def command_of(way, promises):
     return [*TOOL, "rnx2crx", "-f", "--verified-to", "list", *names]
 
 
+def after_its_end(place, promises, command, said):
+    """What is wrong after a call that was ended, and said these lines; and after the same, begun again, has come to its end."""
+    wrong = []
+    for promise in promises:
+        claims = "\n".join(line for line in said if line.startswith(f"{promise.source.name}: "))
+        wrong += [f"{promise.source.name}: {line}" for line in promise.broken(claims)]
+    listed = place.work / "list"
+    wrong += ["a half list"] if listed.exists() and listed.read_bytes().count(b"\0") != BATCH else []
+    listed.unlink(missing_ok=True)
+    again = subprocess.run(command, cwd=place.work, env=ENVIRONMENT, capture_output=True, text=True, timeout=SECONDS)
+    wrong += [] if again.returncode == 0 and all(promise.is_new() for promise in promises) else [f"begun again: status {again.returncode}, {again.stderr!r}"]
+    return wrong + ([f"left at last: {place.parts()}"] if place.parts() else [])
+
+
 def one_batch(texts, dice, way):
     """One call that is ended by a signal, and the same to its end: what is wrong, and whether the signal came in time."""
     with Place() as place:
@@ -58,19 +72,10 @@ def one_batch(texts, dice, way):
             run.send_signal(sign)
             said = run.communicate(timeout=SECONDS)[0].splitlines()
         wrong = []
-        for promise in promises:
-            claims = "\n".join(line for line in said if line.startswith(f"{promise.source.name}: "))
-            wrong += [f"{promise.source.name}: {line}" for line in promise.broken(claims)]
         if began and at_work and sign != signal.SIGKILL and way != "Python":
             wrong += [f"status {run.returncode}, not that of {sign.name}"] if run.returncode not in (-sign, 0) else []
             wrong += [f"left: {place.parts()}"] if place.parts() else []
-        listed = place.work / "list"
-        wrong += ["a half list"] if listed.exists() and listed.read_bytes().count(b"\0") != BATCH else []
-        listed.unlink(missing_ok=True)
-        again = subprocess.run(command, cwd=place.work, env=ENVIRONMENT, capture_output=True, text=True, timeout=SECONDS)
-        wrong += [] if again.returncode == 0 and all(promise.is_new() for promise in promises) else [f"begun again: status {again.returncode}, {again.stderr!r}"]
-        wrong += [f"left at last: {place.parts()}"] if place.parts() else []
-        return wrong, at_work
+        return wrong + after_its_end(place, promises, command, said), at_work
 
 
 def check(texts, files, way, seed):
