@@ -41,8 +41,8 @@ PREFIX ?= /usr/local
 include crates.mk
 
 ARCHIVE := crates/rnxcmp_c/out/librnxcmp_c.a
-# As many proofs at a time as there are cores, and 2 GB of memory for each.
-JOBS := $(shell awk -v cores="$$(nproc)" '/^MemTotal/ { n = int($$2 / 2e6); print n < 1 ? 1 : n < cores ? n : cores }' /proc/meminfo)
+# A proof more at a time than there are cores (crates.mk), and 2 GB of memory for each.
+JOBS := $(shell awk -v jobs="$$(($$(nproc) + 1))" '/^MemTotal/ { n = int($$2 / 2e6); print n < 1 ? 1 : n < jobs ? n : jobs }' /proc/meminfo)
 # What crates.mk makes, all at once; where a proof fails, its errors are the last lines that are printed.
 made = @rm -rf out/failed; $(MAKE) --no-print-directory $(if $(findstring jobserver,$(MAKEFLAGS)),,-j$(JOBS)) $(1) || tests/gate.py failures
 
