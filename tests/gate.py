@@ -203,13 +203,13 @@ def take_over(began):
 
 
 def main():
-    match sys.argv[1:]:
-        case ["toolchain"]:
-            return toolchain()
-        case ["proof", crate, *command]:
-            return proof(crate, command)
-        case ["failures"]:
-            return failures()
+    word, *words = sys.argv[1:] or [""]
+    if word == "toolchain":
+        return toolchain()
+    if word == "proof" and words:
+        return proof(words[0], words[1:])
+    if word == "failures":
+        return failures()
     print(__doc__, file=sys.stderr)
     return 2
 
