@@ -1,5 +1,6 @@
 """What the tests of the built program share: checks that are counted, and programs that a machine may lack."""
 
+import os
 import re
 import shutil
 import subprocess
@@ -16,6 +17,11 @@ LIKED = (
     *("strace", "valgrind", "parallel", "mandoc", "man", "groff", "fish", "zsh", "less", "rnx2rtkp"),
     *("gcc", "g++", "gfortran", "nm", "readelf", "pkg-config", "git", "dpkg", "dpkg-deb", "sha256sum"),
 )
+
+
+def files_below(folder):
+    """The files below a folder in which other processes are at work: a folder that goes meanwhile is passed over."""
+    return [Path(top) / name for top, _, names in os.walk(folder) for name in names]
 
 
 def install(program, prefix):

@@ -27,7 +27,7 @@ from pathlib import Path
 HERE = Path(__file__).resolve().parent
 TOP = HERE.parents[1]
 sys.path[:0] = [str(TOP / "tests"), str(HERE)]
-from checking import install, missing_tools, tally  # noqa: E402
+from checking import files_below, install, missing_tools, tally  # noqa: E402
 from recipes import recipes  # noqa: E402
 
 SAMPLE = (TOP / "samples/station.rnx").read_bytes()
@@ -213,7 +213,7 @@ class Run:
         """Kills all of it once so many outputs are there; whether it was still at work then."""
         pattern = re.compile(r"\.(crx|24d)(\.gz)?$|\.txt$")
         while self.process.poll() is None:
-            if sum(1 for path in self.work.rglob("*") if pattern.search(path.name)) >= outputs:
+            if sum(1 for path in files_below(self.work) if pattern.search(path.name)) >= outputs:
                 break
             time.sleep(0.02)
         at_work = self.process.poll() is None

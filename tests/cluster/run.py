@@ -23,7 +23,7 @@ from pathlib import Path
 
 TOP = Path(__file__).resolve().parents[2]
 sys.path[:0] = [str(TOP / "tests"), str(TOP / "tests/archives")]
-from checking import install, tally  # noqa: E402
+from checking import files_below, install, tally  # noqa: E402
 from many import FILES, OLD, ROOM, Disk, Files, Recipe, Run, judge  # noqa: E402
 from recipes import recipes  # noqa: E402
 
@@ -129,7 +129,7 @@ def wait_for(test, seconds=30):
 
 
 def outputs(work):
-    return sum(1 for _ in (work / "archive").rglob("*.24d.gz"))
+    return sum(1 for path in files_below(work / "archive") if path.name.endswith(".24d.gz"))
 
 
 def judged(program, work, files, done):

@@ -9,9 +9,18 @@ from concurrent.futures import ThreadPoolExecutor
 from contextlib import contextmanager
 from pathlib import Path
 
+from checking import files_below
 from place import ENVIRONMENT, GOOD, OLD, SECONDS, TOOL, Place, is_traced, loaded_main, marked
 
 DELAY, LONG = 700000, 2500000  # microseconds: for a change of a file, and for another run
+
+
+def has_part(place):
+    """Whether a part is there, and something in it."""
+    try:
+        return any(path.stat().st_size for path in files_below(place.work) if path.name.startswith("part."))
+    except FileNotFoundError:  # it got its place meanwhile
+        return False
 
 
 @contextmanager
@@ -20,7 +29,7 @@ def at_work(place, *words, exit=False, delay=DELAY):
     loaded_main()
     through = ("strace", "-f", "-qq", "-o", "/dev/null", "-e", "trace=fsync", "-e", f"inject=fsync:delay_{'exit' if exit else 'enter'}={delay}:when=1")
     run = subprocess.Popen([*through, *TOOL, *words], cwd=place.work, env=ENVIRONMENT, stdout=subprocess.PIPE, stderr=subprocess.PIPE, text=True)
-    while not any(part.is_file() and part.stat().st_size for part in place.work.rglob("part.*")) and run.poll() is None:
+    while not has_part(place) and run.poll() is None:
         time.sleep(0.002)
 
     def end():
