@@ -9,7 +9,7 @@ from pathlib import Path
 PROGRAM, COPY, MADE, FILE = (Path(word) for word in sys.argv[1:5])
 os.environ["RNXCMP_FILES_TESTED"] = str(COPY / "python")
 os.environ.setdefault("RNXCMP_LIBRARY", str(MADE / "out/library/librnxcmp.so.2"))
-sys.path.insert(0, str(COPY / "tests/files"))
+sys.path[:0] = [str(COPY / "tests/files"), str(COPY / "tests")]
 sys.dont_write_bytecode = True
 COPY.chmod(0o755)  # some runs are another user's
 
@@ -19,8 +19,6 @@ import meanwhile  # noqa: E402
 import options  # noqa: E402
 import signals  # noqa: E402
 from place import Texts  # noqa: E402
-
-
 
 ABOUT = {  # words in the names of the checks that are about a file
     "_parts.py": ("order", "modes", "old parts", "parts in use", "close", "that comes", "others", "a link", "links", "fsync"),
