@@ -20,7 +20,8 @@ use Rattle.rnxcmp_c.specs.declared.pending.Pending.{Pending}
 use Rattle.rnxcmp_c.specs.Counting.{take-of_taken}
 use Rattle.rnxcmp_c.specs.Going.{HandlePast, fed_with, IsText, IsGoing, IsBroken, MovesOn, EndsThere, LineStops}
 use Rattle.rnxcmp_c.specs.Going.{piece_line, IsAll, IsFailed, LineFails, IsCutShort, RanOutAt, RunsShort}
-use Rattle.rnxcmp_c.specs.Going.{AreCutShort, AreFirstWarnings, EndsPastLimit, IsPastLimit, MovesWithin, PassesLimit}
+use Rattle.rnxcmp_c.specs.Going.{AddsWithin, AreCutShort, AreFirstWarnings, EndsPastLimit, IsKeptWithin, IsPastLimit}
+use Rattle.rnxcmp_c.specs.Going.{MovesWithin, PassesLimit}
 use Rattle.rnxcmp_c.specs.Going.{RunBreaks, RunFails, StepStops, with_one_more}
 use Rattle.rnxcmp_c.specs.declared.limits.TheConstants.{LINE_ROOM}
 use Rattle.rnxcmp_c.specs.declared.stop.Stop.{Stop}
@@ -111,6 +112,21 @@ begins-then all mid first a b = record {
   rest = b.rest ++ a.rest;
   same = a.same ∙ ap (λ t. t ++ a.rest) b.same ∙ append_assoc first b.rest a.rest;
 }
+
+-- what was added within the limit leaves all within it
+pub adds-kept : (course : Course) (old new : Held) (past : HandlePast) → course.output ≡ past.output ++ waiting old.output
+    → (0 < old.limit → old.left + length course.output ≡ old.limit) → AddsWithin old new → IsKeptWithin new past
+adds-kept course old new past wrote left adds limited =
+    let before : 0 < old.limit = subst (λ (n : ℕ). 0 < n) adds.limit limited in
+    omega (
+      arith,
+      left before,
+      adds.left before,
+      adds.limit,
+      ap length wrote,
+      length-append past.output (waiting old.output),
+      length-append past.output (waiting new.output),
+    )
 
 -- what is held of a run, but for the bytes of its last line
 pub record IsSame (old new : Held) : Type 0 where
@@ -399,12 +415,18 @@ module _ (filter : Filter) (shows : List InputLine → List Awaited → Type 0)
         (text-short before after mid.output new.output past.output (is.text.wrote
         ∙ ap (λ t. past.output ++ t) (sym same.output)) short)
 
+    breaks-kept : (new : Held) → AddsWithin mid new → IsKeptWithin new past
+    breaks-kept new adds = adds-kept (filter.so_far (ended_lines_of past.fed)) mid new past
+        (is.text.wrote ∙ ap (λ t. past.output ++ t) (sym same.output))
+        (λ limited. omega (arith, is.left (subst (λ (n : ℕ). 0 < n) same.limit limited), same.left, same.limit)) adds
+
     pub breaks : (new : Held) (rest : List ℕ) (stop : Stop)
         → StepStops (length (ended_lines_of past.fed) + 1) (filter.so_far (ended_lines_of past.fed))
         (filter.so_far (with_next (ended_lines_of past.fed) line)) mid new stop
         → RunBreaks filter new (fed_with past (piece ++ 10 ∷ rest)) stop
-    breaks new rest (Fault at) (inl memory) = inl (breaks-short new rest at memory.0 memory.1 memory.2)
-    breaks new rest (Fault at) (inr ends) = inr (breaks-there new rest at ends)
+    breaks new rest (Fault at) (inl memory, adds) =
+        (inl (breaks-short new rest at memory.0 memory.1 memory.2), breaks-kept new adds)
+    breaks new rest (Fault at) (inr ends, adds) = (inr (breaks-there new rest at ends), breaks-kept new adds)
     breaks new rest Limit passes = passes-there new rest passes
 
 -- ---- the end
@@ -437,17 +459,28 @@ text-ends before after old new past at text ends = record {
       text.reported ends.reported;
 }
 
+-- what a limit leaves after some lines
+abbrev IsLeft : Filter → List InputLine → Held → Type 0
+IsLeft filter lines held = 0 < held.limit → held.left + length (filter.so_far lines).output ≡ held.limit
+
 -- the end after some lines
 module _ (filter : Filter) (mid : Held) (past : HandlePast) (lines : List InputLine)
     (text : IsText (filter.so_far lines) mid past) (flag : mid.warned ≡ are_some (filter.so_far lines).warnings)
     (whole : lines_of past.fed ≡ lines) (new : Held) where
-  pub ends-well : (shown : Type 0) → MovesOn (filter.so_far lines) (filter.whole lines) shown mid new
+  pub ends-well : (shown : Type 0) → IsLeft filter lines mid
+      → MovesWithin (filter.so_far lines) (filter.whole lines) shown mid new
       → IsAll (filter.whole (lines_of past.fed)) new past
-  ends-well shown moved =
+  ends-well shown left within =
+      let moved = within.moved in
+      let grown : IsText (filter.whole lines) new past =
+      text-grows (filter.so_far lines) (filter.whole lines) shown mid new past text moved in
       subst (λ ls. IsAll (filter.whole ls) new past) (sym whole) (record {
         good = moved.kept.good;
-        text = text-grows (filter.so_far lines) (filter.whole lines) shown mid new past text moved;
+        text = grown;
         flag = flag-grows (filter.so_far lines) (filter.whole lines) shown mid new flag moved;
+        within = λ limited.
+            let before : 0 < mid.limit = subst (λ (n : ℕ). 0 < n) within.limit limited in
+            omega (arith, left before, within.left before, within.limit, ap length grown.wrote);
       })
 
   pub ends-badly : IsLawful filter → (number : ℕ) → number ≡ length lines → (at : At)
@@ -484,10 +517,6 @@ module _ (filter : Filter) (mid : Held) (past : HandlePast) (lines : List InputL
         text = text-ends (filter.so_far lines) (filter.whole lines) mid new past at text ends;
       }))
 
--- what a limit leaves after some lines
-abbrev IsLeft : Filter → List InputLine → Held → Type 0
-IsLeft filter lines held = 0 < held.limit → held.left + length (filter.so_far lines).output ≡ held.limit
-
 -- the end, or a line before it, ended the run after some lines
 module _ (filter : Filter) (mid : Held) (past : HandlePast) (lines : List InputLine)
     (text : IsText (filter.so_far lines) mid past) (left : IsLeft filter lines mid) (new : Held) where
@@ -509,8 +538,10 @@ module _ (filter : Filter) (mid : Held) (past : HandlePast) (lines : List InputL
   pub ends-stopped : (flag : mid.warned ≡ are_some (filter.so_far lines).warnings) (whole : lines_of past.fed ≡ lines)
       → IsLawful filter → (number : ℕ) → number ≡ length lines → (stop : Stop)
       → StepStops number (filter.so_far lines) (filter.whole lines) mid new stop → RunFails filter new past stop
-  ends-stopped flag whole lawful number last (Fault at) stops =
-      ends-badly filter mid past lines text flag whole new lawful number last at stops
+  ends-stopped flag whole lawful number last (Fault at) stops = (
+    ends-badly filter mid past lines text flag whole new lawful number last at stops.0,
+    adds-kept (filter.so_far lines) mid new past text.wrote left stops.1,
+  )
   ends-stopped flag whole lawful number last Limit passes =
       passes-after [] (whole ∙ sym (append-nil lines)) passes
 
@@ -611,7 +642,10 @@ module _ (filter : Filter) (shows : List InputLine → List Awaited → Type 0)
         → StepStops (length (ended_lines_of past.fed) + 1) (filter.so_far (ended_lines_of past.fed))
         (filter.so_far last) held mid stop
         → RunFails filter mid past stop
-    last-stopped lawful (Fault at) stops = last-fails lawful at stops
+    last-stopped lawful (Fault at) stops = (
+      last-fails lawful at stops.0,
+      adds-kept (filter.so_far (ended_lines_of past.fed)) held mid past is.text.wrote is.left stops.1,
+    )
     last-stopped lawful Limit passes =
         passes-after filter held past (ended_lines_of past.fed) is.text is.left mid (piece_line is.tail false ∷ [])
         (all-but_last some) passes

@@ -1,7 +1,7 @@
 -- A handle stays sound from call to call.
-use Rattle.std.proofs.Common.{◌≡◌, ◌⊎◌, inl, inr, ℕ, ◌+◌, ◌<◌, ◌≤◌, List, [], ◌∷◌, length, Option, Some, None, Bool}
-use Rattle.std.proofs.Common.{true, false, take}
-use Rattle.std.proofs.Common.{◌++◌, nat_lt, arith, refl, sym, ap, ◌∙◌, subst, append-nil, length-append, ⊎_elim}
+use Rattle.std.proofs.Common.{◌≡◌, inl, inr, ℕ, ◌+◌, ◌<◌, ◌≤◌, List, [], ◌∷◌, length, Option, Some, None}
+use Rattle.std.proofs.Common.{take}
+use Rattle.std.proofs.Common.{◌++◌, arith, refl, sym, ap, ◌∙◌, subst, append-nil, length-append, ⊎_elim}
 use Rattle.crx_faults.specs.meaning.Lines.{lines_of}
 use Rattle.crx_faults.specs.meaning.Seen.{ended_lines_of}
 use Rattle.crx_lines.specs.Reading.{HasNoFeed}
@@ -9,9 +9,7 @@ use Rattle.crx_lines.proofs.ProgressLemmas.{ended_lines-come_first, lines-last}
 use Rattle.crx_runs.specs.Lawful.{IsLawful}
 use Rattle.crx_runs.specs.meaning.Messages.{notices_text}
 use Rattle.crx_runs.specs.meaning.Results.{Course, FilterResult, are_some}
-use Rattle.crx_faults.specs.declared.limits.TheConstants.{INPUT_LIMIT}
 use Rattle.crx_runs.specs.declared.outcome.Outcome.{Outcome}
-use Rattle.rnxcmp_c.specs.Waiting.{waiting}
 use Rattle.rnxcmp_c.specs.Going.{HandlePast, fed_with}
 use Rattle.rnxcmp_c.specs.Handles.{IsFresh, ReaderRuns, nothing_fed}
 use Rattle.rnxcmp_c.specs.Handles.{ReaderEndsBy, FeedsBy, HasEndedBy, HasFedBy, HasPassedBy, IsLineReached, ReaderIsOver}
@@ -50,16 +48,17 @@ lines-within fed =
     omega (arith, ap length all, length-append (ended_lines_of fed) (lines_of first.0), few-lines first.0 first.1)
 
 -- memory ran out at a line of more kinds
-line-weaker : (filter : Filter) (P Q : ℕ → Type 0) (result : FilterResult) (reader : Reader)
+line-weaker : (filter : Filter) (limit : ℕ) (P Q : ℕ → Type 0) (result : FilterResult) (reader : Reader)
     (outcome : Outcome) (past : HandlePast)
-    → ((n : ℕ) → P n → Q n) → RunIsOutOfMemory filter P result reader outcome past
-    → RunIsOutOfMemory filter Q result reader outcome past
-line-weaker filter P Q result reader outcome past weaker ran = record {
+    → ((n : ℕ) → P n → Q n) → RunIsOutOfMemory filter limit P result reader outcome past
+    → RunIsOutOfMemory filter limit Q result reader outcome past
+line-weaker filter limit P Q result reader outcome past weaker ran = record {
   memory = ran.memory;
   status = ran.status;
   line = ⊎_elim (λ at. inl (weaker (line_in outcome.fault) at)) (λ same. inr same) ran.line;
   output = ran.output;
   messages = ran.messages;
+  within = ran.within;
 }
 
 -- what is fed or ended stands
@@ -67,23 +66,24 @@ fed-stands : (task : Task) (reader : Reader) (past : HandlePast) (outcome : Opti
     → HasFedBy task reader past outcome → StandsBy task reader past outcome
 fed-stands task reader past None fed = fed
 fed-stands task reader past (Some outcome) (inl memory) =
-    inl (line-weaker (filter_for task) _ (IsLineReached past.fed) (result_for task past.fed) reader outcome past
+    inl (line-weaker (filter_for task) (limit_for task) _ (IsLineReached past.fed) (result_for task past.fed) reader outcome past
     (λ n at. at.1)
-    (subst (λ (bytes : List ℕ). RunIsOutOfMemory (filter_for task) (λ line. (0 < line) × IsLineReached past.fed line)
+    (subst (λ (bytes : List ℕ). RunIsOutOfMemory (filter_for task) (limit_for task)
+    (λ line. (0 < line) × IsLineReached past.fed line)
     (result_for task bytes) reader outcome past)
     (append-nil past.fed) (memory [])))
 fed-stands task reader past (Some outcome) (inr (inl limit)) =
     inr (inl (subst (λ (bytes : List ℕ). RunIsOverLimit (filter_for task) (limit_for task) bytes
     (result_for task bytes) reader outcome past) (append-nil past.fed) (limit [])))
 fed-stands task reader past (Some outcome) (inr (inr over)) =
-    inr (inr (inr (subst (λ (bytes : List ℕ). ReaderIsOver (result_for task bytes) reader outcome past)
+    inr (inr (inr (subst (λ (bytes : List ℕ). ReaderIsOver (limit_for task) (result_for task bytes) reader outcome past)
     (append-nil past.fed) (over []))))
 
 ended-stands : (task : Task) (reader : Reader) (past : HandlePast) (outcome : Option Outcome)
     → HasEndedBy task reader past outcome → StandsBy task reader past outcome
 ended-stands task reader past None ended = absurd ended
 ended-stands task reader past (Some outcome) (inl memory) =
-    inl (line-weaker (filter_for task) _ (IsLineReached past.fed) (result_for task past.fed) reader outcome past
+    inl (line-weaker (filter_for task) (limit_for task) _ (IsLineReached past.fed) (result_for task past.fed) reader outcome past
     (λ n last. omega (arith, last, lines-within past.fed)) memory)
 ended-stands task reader past (Some outcome) (inr (inl limit)) = inr (inl limit)
 ended-stands task reader past (Some outcome) (inr (inr over)) = inr (inr (inr over))
@@ -92,7 +92,7 @@ passed-stands : (task : Task) (reader : Reader) (past : HandlePast) (outcome : O
     → HasPassedBy task reader past outcome → StandsBy task reader past outcome
 passed-stands task reader past None passed = absurd passed
 passed-stands task reader past (Some outcome) (inl memory) =
-    inl (line-weaker (filter_for task) _ (IsLineReached past.fed) (result_for task past.fed) reader outcome past
+    inl (line-weaker (filter_for task) (limit_for task) _ (IsLineReached past.fed) (result_for task past.fed) reader outcome past
     (λ n at. omega (arith, at)) memory)
 passed-stands task reader past (Some outcome) (inr long) = inr (inr (inl long))
 

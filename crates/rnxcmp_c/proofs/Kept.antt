@@ -15,7 +15,7 @@ use Rattle.crx_filter.proofs.wayback.Standard.{normal-comes_back, standard-comes
 use Rattle.crx_filter.proofs.damage.DamageStays.{saved-lines}
 use Rattle.rnxcmp_c.specs.Collecting.{HasNone, IsRun}
 use Rattle.rnxcmp_c.specs.declared.runs.Run.{Run}
-use Rattle.rnxcmp_c.specs.meaning.Answers.{AnswersWithin, HasNoMemory, IsAnswer, IsOver, Rooms, status_in}
+use Rattle.rnxcmp_c.specs.meaning.Answers.{AnswersWithin, HasNoMemory, IsAnswer, ExceedsLimit, Rooms, status_in}
 use Rattle.rnxcmp_c.specs.meaning.Promises.{CallBringsBackWhatWasCompacted, CallJudgesStandard, CallSavesAllElse}
 use Rattle.rnxcmp_c.specs.declared.answer.Answer.{Answer}
 use Rattle.rnxcmp_c.specs.declared.answer.TheConstants.{NO_ROOM}
@@ -77,7 +77,7 @@ answers-run whole output messages most run answer before after is answered =
     record { within = λ few. answered; over = λ more. absurd (is.within more) }
 
 pub answers-none : (whole : FilterResult) (most : ℕ) (answer : Answer) (before : Rooms)
-    → HasNone (IsOver most whole.output) answer → (HasNoMemory answer → ⊥) → AnswersWithin most whole answer before before
+    → HasNone (ExceedsLimit most whole.output) answer → (HasNoMemory answer → ⊥) → AnswersWithin most whole answer before before
 answers-none whole most answer before (inl over) memory =
     record { within = λ few. absurd (few over.1); over = λ more. (over.0, refl) }
 answers-none whole most answer before (inr out) memory =

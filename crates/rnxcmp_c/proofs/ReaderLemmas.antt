@@ -22,10 +22,10 @@ use Rattle.rnxcmp_c.specs.Going.{EndsPastLimit, IsPastLimit, RunBreaks, RunFails
 use Rattle.rnxcmp_c.specs.declared.stop.Stop.{Stop}
 use Rattle.rnxcmp_c.specs.declared.stop.Stop.TheVariants.{Fault, Limit}
 use Rattle.rnxcmp_c.specs.Handles.{Task, Compact, Expand, Check, IsOf, ReaderIsOver, IsPut, IsPutDown, IsPutSilently}
-use Rattle.rnxcmp_c.specs.Handles.{AreMessagesCut, IsStopped, ReaderRuns, RunIsOutOfMemory, RunIsOverLimit, filter_for}
+use Rattle.rnxcmp_c.specs.Handles.{AreMessagesCut, EndsRunBy, ReaderRuns, RunIsOutOfMemory, RunIsOverLimit, filter_for}
 use Rattle.rnxcmp_c.specs.Handles.{HasPassedBy, limit_for, shows_of, too_long_after}
 use Rattle.rnxcmp_c.specs.Handles.{HasFedBy, HasEndedBy, engine_filter, has_ended_of}
-use Rattle.rnxcmp_c.specs.meaning.Answers.{line_in}
+use Rattle.rnxcmp_c.specs.meaning.Answers.{IsWithinLimit, line_in}
 use Rattle.rnxcmp_c.proofs.GoingLemmas.{all-cut, begins-then, warnings-first}
 use Rattle.rnxcmp_c.specs.Handles.{result_for, status_at_end}
 use Rattle.rnxcmp_c.specs.declared.engines.AnyEngine.{AnyEngine}
@@ -63,10 +63,10 @@ result-faulty (Compact choices limit) input at is = refl
 result-faulty (Expand choices limit) input at is = refl
 result-faulty Check input at is = checked-faulty (whole_of input).fault (findings_of (lines_of input)) at is
 
-course-over : (course : Course) (reader : Reader) (mid : Held) (outcome : Outcome) (past : HandlePast) (at : At)
-    → course.fault ≡ Some at → IsText course mid past → IsPutDown mid reader.held outcome at
-    → ReaderIsOver (result_of_course course) reader outcome past
-course-over course reader mid outcome past at fault text put = record {
+course-over : (limit : ℕ) (course : Course) (reader : Reader) (mid : Held) (outcome : Outcome) (past : HandlePast)
+    (at : At) → course.fault ≡ Some at → IsText course mid past → IsWithinLimit limit (past.output ++ waiting mid.output)
+    → IsPutDown mid reader.held outcome at → ReaderIsOver limit (result_of_course course) reader outcome past
+course-over limit course reader mid outcome past at fault text within put = record {
   status = put.status ∙ ap (status_after course.warnings) (sym fault);
   fault = put.fault ∙ sym fault;
   output = text.wrote ∙ ap (λ t. past.output ++ t) (sym put.output);
@@ -74,6 +74,7 @@ course-over course reader mid outcome past at fault text put = record {
       ∙ ap (λ f. (past.messages ++ (waiting mid.messages)) ++ error_text f) fault
       ∙ append_assoc past.messages (waiting mid.messages) (error_text (Some at))
       ∙ ap (λ t. past.messages ++ t) (sym put.messages);
+  within = subst (λ t. IsWithinLimit limit (past.output ++ t)) (sym put.output) within;
 }
 
 -- ---- memory
@@ -124,12 +125,16 @@ put-short mid new outcome at memory (inl put) = put-silently mid new outcome at 
 put-short mid new outcome at memory (inr put) = put-down mid new outcome at memory put
 
 -- the run is out of memory: at such a line, or at that of the result's fault
-module _ (filter : Filter) (is_line : ℕ → Type 0) (result : FilterResult) (reader : Reader) (mid : Held)
+module _ (filter : Filter) (limit : ℕ) (is_line : ℕ → Type 0) (result : FilterResult) (reader : Reader) (mid : Held)
     (outcome : Outcome) (past : HandlePast) (line : ℕ) (short : IsShort mid reader.held outcome line)
     (output : Begins result.output (past.output ++ (waiting mid.output)))
+    (few : IsWithinLimit limit (past.output ++ waiting mid.output))
     (told : AreFirstWarnings filter past.fed (past.messages ++ (waiting mid.messages))) where
   still : Begins result.output (past.output ++ (waiting reader.held.output))
   still = subst (λ t. Begins result.output (past.output ++ t)) (sym short.output) output
+
+  still-few : IsWithinLimit limit (past.output ++ waiting reader.held.output)
+  still-few = subst (λ t. IsWithinLimit limit (past.output ++ t)) (sym short.output) few
 
   cut : AreMessagesCut filter past.fed (past.messages ++ (waiting reader.held.messages)) outcome.fault
   cut = record {
@@ -141,16 +146,17 @@ module _ (filter : Filter) (is_line : ℕ → Type 0) (result : FilterResult) (r
         short.messages;
   }
 
-  short-at : is_line line → RunIsOutOfMemory filter is_line result reader outcome past
+  short-at : is_line line → RunIsOutOfMemory filter limit is_line result reader outcome past
   short-at at = record {
     memory = short.memory;
     status = short.status;
     line = inl (subst is_line (sym short.line_is) at);
     output = still;
     messages = cut;
+    within = still-few;
   }
 
-  short-fault : line ≡ line_in result.fault → RunIsOutOfMemory filter is_line result reader outcome past
+  short-fault : line ≡ line_in result.fault → RunIsOutOfMemory filter limit is_line result reader outcome past
   short-fault at = record {
     memory = short.memory;
     status = short.status;
@@ -158,23 +164,25 @@ module _ (filter : Filter) (is_line : ℕ → Type 0) (result : FilterResult) (r
         ∙ at);
     output = still;
     messages = cut;
+    within = still-few;
   }
 
 module _ (task : Task) (engine : AnyEngine) (is : IsOf task engine)
-    (reader : Reader) (mid : Held) (outcome : Outcome) (past : HandlePast) (at : At) where
+    (reader : Reader) (mid : Held) (outcome : Outcome) (past : HandlePast) (at : At)
+    (few : IsWithinLimit (limit_for task) (past.output ++ waiting mid.output)) where
   -- a fault of the result whose message couldn't be kept
   fault-short : (is_line : ℕ → Type 0) (input : List ℕ) (course : Course)
       → (filter_for task).whole (lines_of input) ≡ course → course.fault ≡ Some at → IsText course mid past
       → IsPutSilently mid reader.held outcome at
       → AreFirstWarnings (filter_for task) past.fed (past.messages ++ (waiting mid.messages))
-      → RunIsOutOfMemory (filter_for task) is_line (result_for task input) reader outcome past
+      → RunIsOutOfMemory (filter_for task) (limit_for task) is_line (result_for task input) reader outcome past
   fault-short is_line input course whole fault text put told =
       let same : result_of_course course ≡ result_for task input =
       sym (ap result_of_course whole) ∙ result-faulty task input at (ap (λ (c : Course). c.fault) whole ∙ fault) in
-      subst (λ r. RunIsOutOfMemory (filter_for task) is_line r reader outcome past) same
-      (short-fault (filter_for task) is_line (result_of_course course) reader mid outcome past at.line
+      subst (λ r. RunIsOutOfMemory (filter_for task) (limit_for task) is_line r reader outcome past) same
+      (short-fault (filter_for task) (limit_for task) is_line (result_of_course course) reader mid outcome past at.line
       (put-silently mid reader.held outcome at put)
-      (record { rest = []; same = text.wrote ∙ sym (append-nil (past.output ++ (waiting mid.output))) }) told
+      (record { rest = []; same = text.wrote ∙ sym (append-nil (past.output ++ (waiting mid.output))) }) few told
       (ap line_in (sym fault)))
 
   pub breaks-over : Breaks (engine_filter engine) mid past at → IsPut mid reader.held at (Some outcome)
@@ -188,9 +196,9 @@ module _ (task : Task) (engine : AnyEngine) (is : IsOf task engine)
       let all : Begins (filter.whole (lines_of (past.fed ++ more))).output (filter.so_far ran.lines).output =
       subst (λ ls. Begins (filter.whole ls).output (filter.so_far ran.lines).output) (sym rest.1)
       ((lawful-for task).goes_on ran.lines rest.0) in
-      short-at filter _ (result_for task (past.fed ++ more)) reader mid outcome past at.line
+      short-at filter (limit_for task) _ (result_for task (past.fed ++ more)) reader mid outcome past at.line
       (put-short mid reader.held outcome at ran.fault put)
-      (subst (λ t. Begins t written) (sym (output-for task (past.fed ++ more))) (begins-then _ _ _ all first))
+      (subst (λ t. Begins t written) (sym (output-for task (past.fed ++ more))) (begins-then _ _ _ all first)) few
       (subst (λ (f : Filter). AreFirstWarnings f past.fed (past.messages ++ (waiting mid.messages)))
       (filter-is task engine is) ran.messages)
       (ran.some, ran.within))
@@ -208,10 +216,10 @@ module _ (task : Task) (engine : AnyEngine) (is : IsOf task engine)
       ⊎_elim (λ silently. inl (λ more.
       fault-short _ (past.fed ++ more) (filter.so_far broken.lines) (whole more) fault text silently told))
       (λ down. inr (inr (λ more.
-      subst (λ r. ReaderIsOver r reader outcome past)
+      subst (λ r. ReaderIsOver (limit_for task) r reader outcome past)
       (sym (ap result_of_course (whole more))
       ∙ result-faulty task (past.fed ++ more) at (ap (λ (c : Course). c.fault) (whole more) ∙ fault))
-      (course-over (filter.so_far broken.lines) reader mid outcome past at fault text down))))
+      (course-over (limit_for task) (filter.so_far broken.lines) reader mid outcome past at fault text few down))))
       put
 
   pub fails-over : LineFails (engine_filter engine) mid past at
@@ -222,9 +230,9 @@ module _ (task : Task) (engine : AnyEngine) (is : IsOf task engine)
       let output : Begins ((filter_for task).whole (lines_of past.fed)).output written =
       subst (λ (f : Filter). Begins (f.whole (lines_of past.fed)).output written)
       (filter-is task engine is) ran.output in
-      inl (short-at (filter_for task) _ (result_for task past.fed) reader mid outcome past at.line
+      inl (short-at (filter_for task) (limit_for task) _ (result_for task past.fed) reader mid outcome past at.line
       (put-short mid reader.held outcome at ran.ran_out.0 put)
-      (subst (λ t. Begins t written) (sym (output-for task past.fed)) output)
+      (subst (λ t. Begins t written) (sym (output-for task past.fed)) output) few
       (subst (λ (f : Filter). AreFirstWarnings f past.fed (past.messages ++ (waiting mid.messages)))
       (filter-is task engine is) ran.messages) ran.ran_out.1)
   fails-over (inr failed) put =
@@ -237,8 +245,9 @@ module _ (task : Task) (engine : AnyEngine) (is : IsOf task engine)
         rest = [];
         same = text.reported ∙ sym (append-nil (past.messages ++ (waiting mid.messages)));
       }))))
-      (λ down. inr (inr (subst (λ r. ReaderIsOver r reader outcome past) (result-faulty task past.fed at fault)
-      (course-over whole reader mid outcome past at fault text down))))
+      (λ down. inr (inr (subst (λ r. ReaderIsOver (limit_for task) r reader outcome past)
+      (result-faulty task past.fed at fault)
+      (course-over (limit_for task) whole reader mid outcome past at fault text few down))))
       put
 
 -- ---- the limit of the output
@@ -258,7 +267,7 @@ one_more-first filter lawful lines (line ∷ others) =
     (append_assoc lines (line ∷ []) others) (lawful.goes_on (with_next lines line) others)
 
 module _ (task : Task) (reader : Reader) (mid : Held) (outcome : Outcome) (past : HandlePast)
-    (stopped : IsStopped mid reader.held outcome Limit) where
+    (stopped : EndsRunBy mid reader.held outcome Limit) where
   is-over_limit : (input : List ℕ) (lines others : List InputLine) → lines_of input ≡ lines ++ others
       → 0 < limit_for task → length ((filter_for task).so_far lines).output ≤ limit_for task
       → limit_for task < length (with_one_more (filter_for task) lines others).output
@@ -304,19 +313,21 @@ module _ (task : Task) (reader : Reader) (mid : Held) (outcome : Outcome) (past 
 -- what stopped a run is how it has ended
 pub stops-over : (task : Task) (engine : AnyEngine) → IsOf task engine → (reader : Reader) (mid : Held)
     → mid.limit ≡ limit_for task → (outcome : Outcome) (past : HandlePast) (stop : Stop)
-    → RunBreaks (engine_filter engine) mid past stop → IsStopped mid reader.held outcome stop
+    → RunBreaks (engine_filter engine) mid past stop → EndsRunBy mid reader.held outcome stop
     → HasFedBy task reader past (Some outcome)
 stops-over task engine is reader mid limit outcome past (Fault at) breaks put =
-    breaks-over task engine is reader mid outcome past at breaks put
+    breaks-over task engine is reader mid outcome past at
+    (subst (λ n. IsWithinLimit n (past.output ++ waiting mid.output)) limit breaks.1) breaks.0 put
 stops-over task engine is reader mid limit outcome past Limit breaks stopped =
     passes-over task reader mid outcome past stopped engine is limit breaks
 
 pub stops-at_end : (task : Task) (engine : AnyEngine) → IsOf task engine → (reader : Reader) (mid : Held)
     → mid.limit ≡ limit_for task → (outcome : Outcome) (past : HandlePast) (stop : Stop)
-    → RunFails (engine_filter engine) mid past stop → IsStopped mid reader.held outcome stop
+    → RunFails (engine_filter engine) mid past stop → EndsRunBy mid reader.held outcome stop
     → HasEndedBy task reader past (Some outcome)
 stops-at_end task engine is reader mid limit outcome past (Fault at) fails put =
-    fails-over task engine is reader mid outcome past at fails put
+    fails-over task engine is reader mid outcome past at
+    (subst (λ n. IsWithinLimit n (past.output ++ waiting mid.output)) limit fails.1) fails.0 put
 stops-at_end task engine is reader mid limit outcome past Limit fails stopped =
     passes-at_end task reader mid outcome past stopped engine is limit fails
 
@@ -350,12 +361,15 @@ passed-over task before reader outcome past runs full put =
         same = going.text.reported ∙ sym (append-nil (past.messages ++ waiting mid.messages));
       };
     }) in
+    let few : IsWithinLimit (limit_for task) written = λ limited.
+    let before : 0 < mid.limit = subst (λ (n : ℕ). 0 < n) (sym runs.limit) limited in
+    omega (arith, going.left before, runs.limit, ap length going.text.wrote) in
     ⊎_elim
-    (λ silently. inl (short-at filter (λ line. line ≡ length ended + 1) (result_for task past.fed) reader mid outcome
-    past at.line (put-silently mid reader.held outcome at silently)
+    (λ silently. inl (short-at filter (limit_for task) (λ line. line ≡ length ended + 1) (result_for task past.fed)
+    reader mid outcome past at.line (put-silently mid reader.held outcome at silently)
     (subst (λ t. Begins t written) (sym (output-for task past.fed))
     (begins-then _ _ _ first (record { rest = []; same = going.text.wrote ∙ sym (append-nil written) })))
-    told (ap (λ (n : ℕ). n + 1) going.number)))
+    few told (ap (λ (n : ℕ). n + 1) going.number)))
     (λ down. inr (record {
       full = full;
       status = down.status;
@@ -366,54 +380,57 @@ passed-over task before reader outcome past runs full put =
           ∙ ap (λ f. (past.messages ++ waiting mid.messages) ++ error_text f) down.fault
           ∙ append_assoc past.messages (waiting mid.messages) (error_text (Some at))
           ∙ ap (λ t. past.messages ++ t) (sym down.messages);
+      within = subst (λ t. IsWithinLimit (limit_for task) (past.output ++ t)) (sym down.output) few;
     }))
     put
 
 -- ---- the end
 
-course-well : (course : Course) (reader : Reader) (outcome : Outcome) (past : HandlePast)
-    → outcome.fault ≡ None → outcome.status ≡ good_status reader.held.warned → IsAll course reader.held past
-    → ReaderIsOver (result_of_course course) reader outcome past
-course-well course reader outcome past none status all = record {
+course-well : (limit : ℕ) (course : Course) (reader : Reader) (outcome : Outcome) (past : HandlePast)
+    → reader.held.limit ≡ limit → outcome.fault ≡ None → outcome.status ≡ good_status reader.held.warned
+    → IsAll course reader.held past → ReaderIsOver limit (result_of_course course) reader outcome past
+course-well limit course reader outcome past limited none status all = record {
   status = status ∙ ap good_status all.flag ∙ ap (status_after course.warnings) (sym all.good);
   fault = none ∙ sym all.good;
   output = all.text.wrote;
   messages = ap (λ f. notices_text course.warnings ++ error_text f) all.good
       ∙ append-nil (notices_text course.warnings) ∙ all.text.reported;
+  within = subst (λ n. IsWithinLimit n (past.output ++ waiting reader.held.output)) limited all.within;
 }
 
 checked-well : (fault : Option At) (found : Findings) (reader : Reader) (outcome : Outcome) (past : HandlePast)
     → fault ≡ None → outcome.fault ≡ None → outcome.status ≡ report_status found.not_standard
     → IsText (record { output = report_unless fault found; warnings = []; fault = fault }) reader.held past
-    → ReaderIsOver (checked_by fault found) reader outcome past
+    → ReaderIsOver 0 (checked_by fault found) reader outcome past
 checked-well None found reader outcome past good none status text = record {
   status = status;
   fault = none;
   output = text.wrote;
   messages = text.reported;
+  within = λ limited. absurd (omega (arith, limited));
 }
 checked-well (Some at) found reader outcome past good none status text = absurd (cc)
 
 pub all-over : (task : Task) (engine then : AnyEngine) → IsOf task engine → IsOf task then
-    → (reader : Reader) (outcome : Outcome) (past : HandlePast) → outcome.fault ≡ None
-    → outcome.status ≡ status_at_end then reader.held.warned
+    → (reader : Reader) (outcome : Outcome) (past : HandlePast) → reader.held.limit ≡ limit_for task
+    → outcome.fault ≡ None → outcome.status ≡ status_at_end then reader.held.warned
     → IsAll ((engine_filter engine).whole (lines_of past.fed)) reader.held past → has_ended_of then (lines_of past.fed)
-    → ReaderIsOver (result_for task past.fed) reader outcome past
-all-over (Compact choices limit) engine (Compacting c) is now reader outcome past none status all ended =
-    course-well _ reader outcome past none status
+    → ReaderIsOver (limit_for task) (result_for task past.fed) reader outcome past
+all-over (Compact choices limit) engine (Compacting c) is now reader outcome past limited none status all ended =
+    course-well limit _ reader outcome past limited none status
     (subst (λ (f : Filter). IsAll (f.whole (lines_of past.fed)) reader.held past) (filter-is
     (Compact choices limit) engine is) all)
-all-over (Compact choices limit) engine (Expanding c) is now reader outcome past none status all ended = absurd now
-all-over (Compact choices limit) engine (Checking c) is now reader outcome past none status all ended = absurd now
-all-over (Expand choices limit) engine (Compacting c) is now reader outcome past none status all ended = absurd now
-all-over (Expand choices limit) engine (Expanding c) is now reader outcome past none status all ended =
-    course-well _ reader outcome past none status
+all-over (Compact choices limit) engine (Expanding c) is now reader outcome past limited none status all ended = absurd now
+all-over (Compact choices limit) engine (Checking c) is now reader outcome past limited none status all ended = absurd now
+all-over (Expand choices limit) engine (Compacting c) is now reader outcome past limited none status all ended = absurd now
+all-over (Expand choices limit) engine (Expanding c) is now reader outcome past limited none status all ended =
+    course-well limit _ reader outcome past limited none status
     (subst (λ (f : Filter). IsAll (f.whole (lines_of past.fed)) reader.held past) (filter-is
     (Expand choices limit) engine is) all)
-all-over (Expand choices limit) engine (Checking c) is now reader outcome past none status all ended = absurd now
-all-over Check engine (Compacting c) is now reader outcome past none status all ended = absurd now
-all-over Check engine (Expanding c) is now reader outcome past none status all ended = absurd now
-all-over Check engine (Checking c) is now reader outcome past none status all ended =
+all-over (Expand choices limit) engine (Checking c) is now reader outcome past limited none status all ended = absurd now
+all-over Check engine (Compacting c) is now reader outcome past limited none status all ended = absurd now
+all-over Check engine (Expanding c) is now reader outcome past limited none status all ended = absurd now
+all-over Check engine (Checking c) is now reader outcome past limited none status all ended =
     let whole : IsAll (check_filter.whole (lines_of past.fed)) reader.held past =
     subst (λ (f : Filter). IsAll (f.whole (lines_of past.fed)) reader.held past) (filter-is Check engine is) all in
     checked-well (whole_of past.fed).fault (findings_of (lines_of past.fed)) reader outcome past whole.good none

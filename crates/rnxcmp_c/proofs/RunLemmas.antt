@@ -1,6 +1,6 @@
 -- What was collected of a whole run is its result, or its output is longer than it may be.
-use Rattle.std.proofs.Common.{◌≡◌, ◌⊎◌, ⊎_elim, inl, inr, ℕ, ◌+◌, ◌<◌, ◌≤◌, List, [], ◌++◌, length, take, Option, Some, None}
-use Rattle.std.proofs.Common.{refl, sym, ap, ◌∙◌, subst, arith, append-nil, length-append}
+use Rattle.std.proofs.Common.{◌≡◌, ⊎_elim, inl, inr, ℕ, ◌≤◌, List, [], ◌++◌, length, take, Option, Some, None}
+use Rattle.std.proofs.Common.{sym, ap, ◌∙◌, subst, arith, append-nil, length-append}
 use Rattle.std.proofs.lemmas.List.{take_all}
 use Rattle.crx_faults.specs.meaning.Lines.{lines_of}
 use Rattle.crx_faults.specs.meaning.Seen.{ended_lines_of}
@@ -21,7 +21,7 @@ use Rattle.rnxcmp_c.specs.Counting.{Took}
 use Rattle.rnxcmp_c.specs.declared.answer.Answer.{Answer}
 use Rattle.rnxcmp_c.specs.declared.devices.Counted.{Counted}
 use Rattle.rnxcmp_c.specs.declared.runs.Run.{Run}
-use Rattle.rnxcmp_c.specs.meaning.Answers.{IsOver, fault_code_in}
+use Rattle.rnxcmp_c.specs.meaning.Answers.{ExceedsLimit, fault_code_in}
 use Rattle.rnxcmp_c.proofs.GoingLemmas.{begins-then}
 
 not-memory : (fault : Option At) → (fault_code_in fault ≡ code_of_fault OutOfMemory → ⊥) → FaultIs OutOfMemory fault → ⊥
@@ -99,7 +99,7 @@ module _ (result_of : List ℕ → FilterResult) (filter : Filter) (lawful : IsL
       )
 
   pub none-of : (answer : Answer) → EndsWithout outcome output_after messages_after most answer
-      → HasNone (IsOver most (result_of text).output) answer
+      → HasNone (ExceedsLimit most (result_of text).output) answer
   none-of answer ends_so =
       let part = first-written runs.front in
       ⊎_elim
@@ -119,7 +119,7 @@ module _ (result_of : List ℕ → FilterResult) (filter : Filter) (lawful : IsL
       (λ memory. inr (_, memory)) ends_so.answer_is
 
 -- where there is no limit, no output is longer than it may be
-pub none-over : (output : List ℕ) (answer : Answer) {most : ℕ} → most ≡ 0 → HasNone (IsOver most output) answer
+pub none-over : (output : List ℕ) (answer : Answer) {most : ℕ} → most ≡ 0 → HasNone (ExceedsLimit most output) answer
     → HasNone ⊥ answer
 none-over output answer none (inl over) = absurd (omega (arith, none, over.1.0))
 none-over output answer none (inr memory) = inr memory

@@ -1,14 +1,21 @@
 -- The output stays within its limit, or what a line made is let go of.
-use Rattle.std.proofs.Common.{◌≡◌, ℕ, ◌+◌, ◌<◌, ◌≤◌, List, ◌++◌, length, take, sym, ap, ◌∙◌, subst, arith, length-append}
-use Rattle.std.proofs.Common.{⊎_elim}
+use Rattle.std.proofs.Common.{◌≡◌, ℕ, ◌<◌, ◌≤◌, ◌++◌, length, take, sym, ap, ◌∙◌, subst, arith, length-append}
+use Rattle.std.proofs.Common.{⊎_elim, Result, Ok, Err, IfErr, IsOk, OnOk}
 use Rattle.std.proofs.lemmas.List.{take_at}
+use Rattle.std.proofs.lemmas.Result.{IfErr-at_err}
 use Rattle.crx_faults.specs.declared.fault.At.{At}
 use Rattle.crx_runs.specs.meaning.Messages.{notices_text}
 use Rattle.crx_runs.specs.meaning.Results.{Course}
-use Rattle.rnxcmp_c.specs.Going.{LineStops, MovesOn, MovesWithin, PassesLimit}
-use Rattle.rnxcmp_c.specs.Holding.{IsCutBack, StaysWithin}
+use Rattle.rnxcmp_c.specs.Going.{LineStops, MovesOn, MovesWithin, PassesLimit, StepStops}
+use Rattle.rnxcmp_c.specs.Holding.{IsCutBack, StaysWithin, StopsCounted}
 use Rattle.rnxcmp_c.specs.Waiting.{waiting}
 use Rattle.rnxcmp_c.specs.declared.held.Held.{Held}
+use Rattle.rnxcmp_c.specs.declared.held.Mark.{Mark}
+use Rattle.rnxcmp_c.specs.declared.stop.Stop.{Stop}
+use Rattle.rnxcmp_c.specs.declared.stop.Stop.TheVariants.{Fault, Limit}
+
+ok-not-err : {T : Type 0} (done : T) (at : At) → ◌≡◌ {A = Result T At} (Ok done) (Err at) → ⊥
+ok-not-err done at e = cc
 
 module _ (before after : Course) (shown : Type 0) (old mid new : Held)
     (moved : MovesOn before after shown old mid) where
@@ -79,11 +86,22 @@ module _ (number : ℕ) (before after : Course) (old mid new : Held) (at : At)
       (λ ends. omega (arith, ap length ends.reported, length-append (waiting old.messages) (notices_text ends.notices)))
       stopped
 
-  pub stops-within : (mark : ℕ) → StaysWithin mark mid new
-      → LineStops number before after old.output new.output old.messages new.messages at
-  stops-within mark stays =
-      subst (λ (h : Held). LineStops number before after old.output h.output old.messages h.messages at)
-      (sym stays.same) stopped
+  pub stops-within : (mark : ℕ) → mark ≡ length (waiting old.output) → mid.limit ≡ old.limit → mid.left ≡ old.left
+      → StaysWithin mark mid new → StepStops number before after old new (Fault at)
+  stops-within mark marked limit left stays = (
+    subst (λ (h : Held). LineStops number before after old.output h.output old.messages h.messages at)
+        (sym stays.same) stopped,
+    record {
+      limit = ap (λ (h : Held). h.limit) stays.same ∙ limit;
+      left = λ limited. omega (
+        arith,
+        stays.left (subst (λ (n : ℕ). 0 < n) (sym limit) limited),
+        marked,
+        left,
+        ap (λ (h : Held). length (waiting h.output)) stays.same,
+      );
+    },
+  )
 
   pub stops-over : (mark messages : ℕ) → mark ≡ length (waiting old.output)
       → messages ≡ length (waiting old.messages) → mid.limit ≡ old.limit → mid.left ≡ old.left
@@ -113,3 +131,39 @@ module _ (number : ℕ) (before after : Course) (old mid new : Held) (at : At)
             ∙ take_at (waiting old.messages) short.2.text messages (sym told);
       })
       (λ ends. absurd (omega (arith, cut.over, marked, ap length ends.wrote))) stopped
+
+-- whatever a step came to, its output was counted after a mark
+module _ (number : ℕ) (before after : Course) (shown : Type 0) (old mid : Held) where
+  pub more-output-either : {T : Type 0} (taken : Result T At) → OnOk taken (MovesOn before after shown old mid)
+      → IfErr taken (λ at. LineStops number before after old.output mid.output old.messages mid.messages at)
+      → length (waiting old.output) ≤ length (waiting mid.output)
+  more-output-either (Ok done) moved stopped = more-output before after shown old mid mid moved
+  more-output-either (Err at) moved stopped = more-output-stopped number before after old mid mid at stopped
+
+  pub more-messages-either : {T : Type 0} (taken : Result T At) → OnOk taken (MovesOn before after shown old mid)
+      → IfErr taken (λ at. LineStops number before after old.output mid.output old.messages mid.messages at)
+      → length (waiting old.messages) ≤ length (waiting mid.messages)
+  more-messages-either (Ok done) moved stopped = more-messages before after shown old mid mid moved
+  more-messages-either (Err at) moved stopped = more-messages-stopped number before after old mid mid at stopped
+
+  module _ (new : Held) (mark : Mark) (marked : mark.output ≡ length (waiting old.output))
+      (told : mark.messages ≡ length (waiting old.messages)) (limit : mid.limit ≡ old.limit)
+      (left : mid.left ≡ old.left) where
+    pub step-stays : {T : Type 0} (taken : Result T At) → OnOk taken (MovesOn before after shown old mid)
+        → IsOk taken → StaysWithin mark.output mid new → MovesWithin before after shown old new
+    step-stays (Ok done) moved good stays =
+        stays-within before after shown old mid new moved mark.output marked limit left stays
+    step-stays (Err at) moved good stays = absurd (cc)
+
+    pub step-stops : {T : Type 0} (taken : Result T At) → OnOk taken (MovesOn before after shown old mid)
+        → IfErr taken (λ at. LineStops number before after old.output mid.output old.messages mid.messages at)
+        → (stop : Stop) → StopsCounted taken mark mid new stop → StepStops number before after old new stop
+    step-stops (Ok done) moved stopped (Fault at) stays = absurd (ok-not-err done at stays.0)
+    step-stops (Ok done) moved stopped Limit cut =
+        passes-limit before after shown old mid new moved mark.output mark.messages marked told limit left cut
+    step-stops (Err other) moved stopped (Fault at) stays =
+        stops-within number before after old mid new at
+        (IfErr-at_err (λ e. LineStops number before after old.output mid.output old.messages mid.messages e)
+        stays.0 stopped) mark.output marked limit left stays.1
+    step-stops (Err other) moved stopped Limit cut =
+        stops-over number before after old mid new other stopped mark.output mark.messages marked told limit left cut

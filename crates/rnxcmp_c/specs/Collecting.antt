@@ -1,10 +1,10 @@
 -- What was collected of a run over the caller's input.
-use Rattle.std.specs.Prelude.{◌≡◌, ◌⊎◌, ◌<◌, ◌≤◌, ℕ, true, false, List, [], length, take, vec_capacity}
+use Rattle.std.specs.Prelude.{◌≡◌, ◌⊎◌, ◌<◌, ◌≤◌, ℕ, true, false, [], length, take, vec_capacity}
 use Rattle.crx_faults.specs.meaning.Faults.{code_of_fault}
 use Rattle.crx_faults.specs.declared.fault.Fault.TheVariants.{OutOfMemory}
 use Rattle.crx_runs.specs.meaning.Results.{FilterResult}
 use Rattle.crx_runs.specs.declared.outcome.Outcome.{Outcome}
-use Rattle.rnxcmp_c.specs.meaning.Answers.{HasNoMemory, IsOver, bare_answer, fault_code_in, line_in}
+use Rattle.rnxcmp_c.specs.meaning.Answers.{HasNoMemory, ExceedsLimit, bare_answer, fault_code_in, line_in}
 use Rattle.rnxcmp_c.specs.declared.answer.Answer.{Answer}
 use Rattle.rnxcmp_c.specs.declared.answer.TheConstants.{OUTPUT_LIMIT}
 use Rattle.rnxcmp_c.specs.declared.devices.Counted.{Counted}
@@ -28,7 +28,7 @@ pub record IsCountedAlike (before after : Counted) : Type 0 where
 -- a run wrote, reported and answered this, and as much of both texts was kept as there is room for; its output isn't
 -- longer than it may be
 pub record IsRun (whole : FilterResult) (output messages most : ℕ) (run : Run) : Type 0 where
-  pub within : IsOver most whole.output → ⊥
+  pub within : ExceedsLimit most whole.output → ⊥
   pub output_kept : run.output.items ≡ take output whole.output
   pub output_length : run.output_length ≡ length whole.output
   pub messages_kept : run.messages.items ≡ take messages whole.messages

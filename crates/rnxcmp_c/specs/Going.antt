@@ -16,6 +16,7 @@ use Rattle.rnxcmp_c.specs.declared.pending.Pending.{Pending}
 use Rattle.rnxcmp_c.specs.declared.held.Held.{Held}
 use Rattle.rnxcmp_c.specs.declared.limits.TheConstants.{LINE_ROOM, READY_LIMIT}
 use Rattle.rnxcmp_c.specs.Holding.{ready_in}
+use Rattle.rnxcmp_c.specs.meaning.Answers.{IsWithinLimit}
 use Rattle.rnxcmp_c.specs.declared.stop.Stop.{Stop}
 use Rattle.rnxcmp_c.specs.declared.stop.Stop.TheVariants.{Fault, Limit}
 
@@ -100,10 +101,15 @@ pub record PassesLimit (before after : Course) (old new : Held) : Type 0 where
   pub output_is : waiting new.output ≡ waiting old.output
   pub messages_are : waiting new.messages ≡ waiting old.messages
 
--- what ended the run: a fault, or memory that ran out; or the limit of the output
+-- what was kept of a line, or of the end, stays within what the output may still have
+pub record AddsWithin (old new : Held) : Type 0 where
+  pub limit : new.limit ≡ old.limit
+  pub left : 0 < old.limit → length (waiting new.output) ≤ old.left + length (waiting old.output)
+
+-- what ended the run: a fault, or memory that ran out, and the output stays within its limit; or that limit
 abbrev pub StepStops : ℕ → Course → Course → Held → Held → Stop → Type 0
 StepStops number before after old new (Fault at) =
-    LineStops number before after old.output new.output old.messages new.messages at
+    LineStops number before after old.output new.output old.messages new.messages at × AddsWithin old new
 StepStops number before after old new Limit = PassesLimit before after old new
 
 -- ---- a run
@@ -199,9 +205,13 @@ pub record IsPastLimit (filter : Filter) (held : Held) (past : HandlePast) : Typ
   pub over : held.limit < length (filter.so_far (with_next lines line)).output
   pub text : IsText (filter.so_far lines) held past
 
--- what ended the run: memory or a fault; or the limit of the output
+-- what was taken of the output and then what is kept is within its limit
+abbrev pub IsKeptWithin : Held → HandlePast → Type 0
+IsKeptWithin held past = IsWithinLimit held.limit (past.output ++ waiting held.output)
+
+-- what ended the run: memory or a fault, and the output is within its limit; or that limit
 abbrev pub RunBreaks : Filter → Held → HandlePast → Stop → Type 0
-RunBreaks filter held past (Fault at) = Breaks filter held past at
+RunBreaks filter held past (Fault at) = Breaks filter held past at × IsKeptWithin held past
 RunBreaks filter held past Limit = IsPastLimit filter held past
 
 -- ---- the end
@@ -211,6 +221,7 @@ pub record IsAll (course : Course) (held : Held) (past : HandlePast) : Type 0 wh
   pub good : course.fault ≡ None
   pub text : IsText course held past
   pub flag : held.warned ≡ are_some course.warnings
+  pub within : IsKeptWithin held past
 
 -- a fault ended the run
 pub record IsFailed (course : Course) (held : Held) (past : HandlePast) (at : At) : Type 0 where
@@ -239,7 +250,7 @@ abbrev pub LineFails : Filter → Held → HandlePast → At → Type 0
 LineFails filter held past at = EndsShort filter held past at
     ⊎ IsFailed (filter.whole (lines_of past.fed)) held past at
 
--- what ended the run: memory or a fault; or the limit of the output
+-- what ended the run: memory or a fault, and the output is within its limit; or that limit
 abbrev pub RunFails : Filter → Held → HandlePast → Stop → Type 0
-RunFails filter held past (Fault at) = LineFails filter held past at
+RunFails filter held past (Fault at) = LineFails filter held past at × IsKeptWithin held past
 RunFails filter held past Limit = EndsPastLimit filter held past

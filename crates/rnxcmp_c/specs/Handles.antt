@@ -24,7 +24,7 @@ use Rattle.crx_reading.specs.ExpansionByLine.{expansion, expansion_seen}
 use Rattle.crx_runs.specs.declared.outcome.Outcome.{Outcome}
 use Rattle.crx_runs.specs.meaning.Runs.{FaultIs}
 use Rattle.rnxcmp_c.specs.Going.{AreFirstWarnings, IsGoing, HandlePast, fed_with, with_one_more}
-use Rattle.rnxcmp_c.specs.meaning.Answers.{bare_answer, fault_code_in, line_in}
+use Rattle.rnxcmp_c.specs.meaning.Answers.{IsWithinLimit, bare_answer, fault_code_in, line_in}
 use Rattle.rnxcmp_c.specs.declared.answer.Answer.{Answer}
 use Rattle.rnxcmp_c.specs.declared.answer.TheConstants.{MISUSED, OUTPUT_LIMIT}
 use Rattle.rnxcmp_c.specs.declared.engines.AnyEngine.{AnyEngine}
@@ -120,12 +120,14 @@ pub record ReaderRuns (task : Task) (reader : Reader) (past : HandlePast) : Type
 abbrev pub too_long_after : List ℕ → At
 too_long_after fed = record { line = length (ended_lines_of fed) + 1; fault = InputTooLong }
 
--- the run has ended with this result: what was taken of its texts, and then what is kept
-pub record ReaderIsOver (result : FilterResult) (reader : Reader) (outcome : Outcome) (past : HandlePast) : Type 0 where
+-- the run has ended with this result: what was taken of its texts, and then what is kept; its output is within its limit
+pub record ReaderIsOver (limit : ℕ) (result : FilterResult) (reader : Reader) (outcome : Outcome)
+    (past : HandlePast) : Type 0 where
   pub status : outcome.status ≡ result.status
   pub fault : outcome.fault ≡ result.fault
   pub output : result.output ≡ past.output ++ waiting reader.held.output
   pub messages : result.messages ≡ past.messages ++ waiting reader.held.messages
+  pub within : IsWithinLimit limit (past.output ++ waiting reader.held.output)
 
 -- the messages of a run in which memory ran out: the first warnings of what was fed, or a prefix of them, and then the
 -- message of the fault, where there was memory for it
@@ -135,14 +137,16 @@ pub record AreMessagesCut (filter : Filter) (fed all : List ℕ) (fault : Option
   pub whole : (all ≡ warnings) ⊎ (all ≡ warnings ++ error_text fault)
 
 -- memory ran out, which is status 1: at such a line, or for the message of the fault that the result has. What was
--- taken of the output and then what is kept is a prefix of it, and the messages are those of the first warnings
-pub record RunIsOutOfMemory (filter : Filter) (is_line : ℕ → Type 0)
+-- taken of the output and then what is kept is a prefix of it, and within its limit; and the messages are those of the
+-- first warnings
+pub record RunIsOutOfMemory (filter : Filter) (limit : ℕ) (is_line : ℕ → Type 0)
     (result : FilterResult) (reader : Reader) (outcome : Outcome) (past : HandlePast) : Type 0 where
   pub memory : FaultIs OutOfMemory outcome.fault
   pub status : outcome.status ≡ 1
   pub line : is_line (line_in outcome.fault) ⊎ (line_in outcome.fault ≡ line_in result.fault)
   pub output : Begins result.output (past.output ++ waiting reader.held.output)
   pub messages : AreMessagesCut filter past.fed (past.messages ++ waiting reader.held.messages) outcome.fault
+  pub within : IsWithinLimit limit (past.output ++ waiting reader.held.output)
 
 -- the output would be longer than it may be. What was taken of both texts and then what is kept is what the first lines
 -- make, as many as make no more than it may have
@@ -161,8 +165,10 @@ pub record RunIsOverLimit (filter : Filter) (limit : ℕ) (input : List ℕ)
   pub messages : notices_text (filter.so_far lines).warnings ≡ past.messages ++ waiting reader.held.messages
 
 -- as many bytes were fed as an input may have, and there was one more: a fault after the lines that an LF ended. What was
--- taken of both texts and then what is kept is what these make, and the message of the fault
-pub record RunIsTooLong (filter : Filter) (reader : Reader) (outcome : Outcome) (past : HandlePast) : Type 0 where
+-- taken of both texts and then what is kept is what these make, and the message of the fault; the output is within its
+-- limit
+pub record RunIsTooLong (filter : Filter) (limit : ℕ) (reader : Reader) (outcome : Outcome) (past : HandlePast)
+    : Type 0 where
   pub full : length past.fed ≡ INPUT_LIMIT
   pub status : outcome.status ≡ 1
   pub fault : outcome.fault ≡ Some (too_long_after past.fed)
@@ -170,6 +176,7 @@ pub record RunIsTooLong (filter : Filter) (reader : Reader) (outcome : Outcome) 
   pub output : (filter.so_far (ended_lines_of past.fed)).output ≡ past.output ++ waiting reader.held.output
   pub messages : notices_text (filter.so_far (ended_lines_of past.fed)).warnings ++ error_text outcome.fault
       ≡ past.messages ++ waiting reader.held.messages
+  pub within : IsWithinLimit limit (past.output ++ waiting reader.held.output)
 
 -- the number of a line of some bytes, at the latest of the one after those that an LF ends
 abbrev pub IsLineReached : List ℕ → ℕ → Type 0
@@ -180,10 +187,11 @@ IsLineReached fed line = line ≤ length (ended_lines_of fed) + 1
 abbrev pub StandsBy : Task → Reader → HandlePast → Option Outcome → Type 0
 StandsBy task reader past None = ReaderRuns task reader past
 StandsBy task reader past (Some outcome) =
-    RunIsOutOfMemory (filter_for task) (IsLineReached past.fed) (result_for task past.fed) reader outcome past
+    RunIsOutOfMemory (filter_for task) (limit_for task) (IsLineReached past.fed) (result_for task past.fed) reader
+    outcome past
     ⊎ (RunIsOverLimit (filter_for task) (limit_for task) past.fed (result_for task past.fed) reader outcome past
-    ⊎ (RunIsTooLong (filter_for task) reader outcome past
-    ⊎ ReaderIsOver (result_for task past.fed) reader outcome past))
+    ⊎ (RunIsTooLong (filter_for task) (limit_for task) reader outcome past
+    ⊎ ReaderIsOver (limit_for task) (result_for task past.fed) reader outcome past))
 
 abbrev pub ReaderStands : Task → Reader → HandlePast → Type 0
 ReaderStands task reader past = StandsBy task reader past reader.outcome
@@ -192,11 +200,11 @@ ReaderStands task reader past = StandsBy task reader past reader.outcome
 -- that begins with them
 abbrev pub HasFedBy : Task → Reader → HandlePast → Option Outcome → Type 0
 HasFedBy task reader past None = ReaderRuns task reader past
-HasFedBy task reader past (Some outcome) = ((more : List ℕ) → RunIsOutOfMemory (filter_for task)
+HasFedBy task reader past (Some outcome) = ((more : List ℕ) → RunIsOutOfMemory (filter_for task) (limit_for task)
     (λ line. (0 < line) × IsLineReached past.fed line) (result_for task (past.fed ++ more)) reader outcome past)
     ⊎ (((more : List ℕ) → RunIsOverLimit (filter_for task) (limit_for task) (past.fed ++ more)
     (result_for task (past.fed ++ more)) reader outcome past)
-    ⊎ ((more : List ℕ) → ReaderIsOver (result_for task (past.fed ++ more)) reader outcome past))
+    ⊎ ((more : List ℕ) → ReaderIsOver (limit_for task) (result_for task (past.fed ++ more)) reader outcome past))
 
 abbrev pub HasFed : Task → Reader → HandlePast → Type 0
 HasFed task reader past = HasFedBy task reader past reader.outcome
@@ -204,10 +212,10 @@ HasFed task reader past = HasFedBy task reader past reader.outcome
 -- after its end
 abbrev pub HasEndedBy : Task → Reader → HandlePast → Option Outcome → Type 0
 HasEndedBy task reader past None = ⊥
-HasEndedBy task reader past (Some outcome) = RunIsOutOfMemory (filter_for task)
+HasEndedBy task reader past (Some outcome) = RunIsOutOfMemory (filter_for task) (limit_for task)
     (λ line. line ≡ length (lines_of past.fed)) (result_for task past.fed) reader outcome past
     ⊎ (RunIsOverLimit (filter_for task) (limit_for task) past.fed (result_for task past.fed) reader outcome past
-    ⊎ ReaderIsOver (result_for task past.fed) reader outcome past)
+    ⊎ ReaderIsOver (limit_for task) (result_for task past.fed) reader outcome past)
 
 abbrev pub ReaderHasEnded : Task → Reader → HandlePast → Type 0
 ReaderHasEnded task reader past = HasEndedBy task reader past reader.outcome
@@ -215,9 +223,9 @@ ReaderHasEnded task reader past = HasEndedBy task reader past reader.outcome
 -- after a byte more than an input may have
 abbrev pub HasPassedBy : Task → Reader → HandlePast → Option Outcome → Type 0
 HasPassedBy task reader past None = ⊥
-HasPassedBy task reader past (Some outcome) = RunIsOutOfMemory (filter_for task)
+HasPassedBy task reader past (Some outcome) = RunIsOutOfMemory (filter_for task) (limit_for task)
     (λ line. line ≡ length (ended_lines_of past.fed) + 1) (result_for task past.fed) reader outcome past
-    ⊎ RunIsTooLong (filter_for task) reader outcome past
+    ⊎ RunIsTooLong (filter_for task) (limit_for task) reader outcome past
 
 abbrev pub ReaderHasPassed : Task → Reader → HandlePast → Type 0
 ReaderHasPassed task reader past = HasPassedBy task reader past reader.outcome
@@ -241,9 +249,9 @@ IsPut old new at None = ⊥
 IsPut old new at (Some outcome) = IsPutSilently old new outcome at ⊎ IsPutDown old new outcome at
 
 -- how a run has ended by what stopped it
-abbrev pub IsStopped : Held → Held → Outcome → Stop → Type 0
-IsStopped old new outcome (Fault at) = IsPut old new at (Some outcome)
-IsStopped old new outcome Limit = (outcome ≡ record { status = OUTPUT_LIMIT; fault = None }) × (new ≡ old)
+abbrev pub EndsRunBy : Held → Held → Outcome → Stop → Type 0
+EndsRunBy old new outcome (Fault at) = IsPut old new at (Some outcome)
+EndsRunBy old new outcome Limit = (outcome ≡ record { status = OUTPUT_LIMIT; fault = None }) × (new ≡ old)
 
 -- of so many bytes that may be fed some were taken: at least one where little enough waited, and not all only where much
 -- waits now

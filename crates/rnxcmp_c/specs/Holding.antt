@@ -1,8 +1,11 @@
 -- What is held of a run between two calls, and how it is counted.
-use Rattle.std.specs.Prelude.{◌≡◌, ◌<◌, ◌≤◌, ℕ, ◌+◌, false, List, [], length, take}
+use Rattle.std.specs.Prelude.{◌≡◌, ◌<◌, ℕ, ◌+◌, false, [], length, take, Result, Err}
+use Rattle.crx_faults.specs.declared.fault.At.{At}
 use Rattle.rnxcmp_c.specs.Waiting.{waiting}
 use Rattle.rnxcmp_c.specs.declared.held.Held.{Held}
-use Rattle.rnxcmp_c.specs.declared.limits.TheConstants.{READY_LIMIT}
+use Rattle.rnxcmp_c.specs.declared.held.Mark.{Mark}
+use Rattle.rnxcmp_c.specs.declared.stop.Stop.{Stop}
+use Rattle.rnxcmp_c.specs.declared.stop.Stop.TheVariants.{Fault, Limit}
 
 -- how many bytes of both texts wait to be taken
 abbrev pub ready_in : Held → ℕ
@@ -30,3 +33,8 @@ pub record IsCutBack (output messages : ℕ) (old new : Held) : Type 0 where
   pub over : old.left + output < length (waiting old.output)
   pub output_is : waiting new.output ≡ take output (waiting old.output)
   pub messages_are : waiting new.messages ≡ take messages (waiting old.messages)
+
+-- what ended the run, once the output since a mark was counted: the fault of the step, or the limit of the output
+abbrev pub StopsCounted : {T : Type 0} → Result T At → Mark → Held → Held → Stop → Type 0
+StopsCounted taken mark old new (Fault at) = (taken ≡ Err at) × StaysWithin mark.output old new
+StopsCounted taken mark old new Limit = IsCutBack mark.output mark.messages old new

@@ -1,6 +1,6 @@
 -- All that a handle holds between two calls, part by part. By the law `handle_holds` one that takes over these parts of
 -- another is that other; so there is no part beside them, in which a record of the past lines could grow.
-use Rattle.std.specs.Prelude.{◌≤◌, ◌+◌, List, length}
+use Rattle.std.specs.Prelude.{◌≤◌, ◌+◌, length}
 use Rattle.crx_filter.specs.Holdings.{checker_with, compactor_with, expander_with}
 use Rattle.rnxcmp_c.specs.Waiting.{waiting}
 use Rattle.rnxcmp_c.specs.declared.engines.AnyEngine.{AnyEngine}

@@ -1,16 +1,17 @@
 //! Lines out of the bytes that are fed, through an engine.
 
-ghost use Rattle.std.specs.Prelude.{◌≡◌, ◌⊎◌, ◌≤◌, ◌<◌, ◌+◌, ℕ, List, [], length, take, drop, false, true, OnOk, OnErr, IfOk, IfErr};
+ghost use Rattle.std.specs.Prelude.{◌≡◌, ◌⊎◌, ◌≤◌, ◌<◌, ◌+◌, ℕ, List, [], length, take, drop, false, true, IsOk, OnOk, OnErr, IfOk, IfErr};
 ghost use Rattle.crx_faults.specs.declared.fault.At.{At};
 ghost use Rattle.crx_faults.specs.declared.limits.TheConstants.{INPUT_LIMIT};
 ghost use Rattle.crx_faults.specs.meaning.Lines.{InputLine, ends_with_return, lines_of, without_return};
 ghost use Rattle.crx_runs.specs.Lawful.{IsLawful};
 ghost use Rattle.crx_runs.specs.meaning.Filters.{with_next};
 ghost use Rattle.rnxcmp_c.specs.Going.{IsAll, IsGoing, IsKept, IsTaken, HandlePast, LineStops, MovesOn, MovesWithin, RunBreaks, RunFails, StepStops, StopsBy, fed_with, piece_line};
-ghost use Rattle.rnxcmp_c.specs.Holding.{ready_in};
+ghost use Rattle.rnxcmp_c.specs.Holding.{StaysWithin, StopsCounted, ready_in};
+ghost use Rattle.rnxcmp_c.specs.Waiting.{waiting};
 ghost use Rattle.rnxcmp_c.specs.declared.limits.TheConstants.{LINE_ROOM, READY_LIMIT};
 
-use crate::held::Held;
+use crate::held::{Held, Mark};
 use crate::pending::Pending;
 use crate::stop::Stop;
 use crx_faults::limits::LINE_LIMIT;
@@ -138,6 +139,23 @@ fn take_piece<E: Engine>(engine: &mut E, held: &mut Held, is_ended: bool) -> Res
     Ok(())
 }
 
+/// Counts the output since a mark, whatever a step came to: where it is more than there may be, that ends the run.
+fn counted(held: &mut Held, mark: Mark, taken: Result<(), At>) -> Result<(), Stop>
+    requires output { mark.output ≤ length (waiting held.old.output) }
+    requires messages { mark.messages ≤ length (waiting held.old.messages) }
+    ensures limit { held.new.limit ≡ held.old.limit }
+    ensures good { OnOk result (IsOk taken × StaysWithin mark.output held.old held.new) }
+    ensures stops { IfErr result (StopsCounted taken mark held.old held.new) }
+{
+    if !held.count_since(mark) {
+        return Err(Stop::Limit);
+    }
+    match taken {
+        Ok(()) => Ok(()),
+        Err(at) => Err(Stop::Fault(at)),
+    }
+}
+
 /// Takes what is kept of a line as a line, if the output stays within its limit, also where memory ran out while it was written.
 fn take_within<E: Engine>(engine: &mut E, held: &mut Held, is_ended: bool) -> Result<(), Stop>
     requires drained { E.ready engine.old ≡ [] }
@@ -163,22 +181,8 @@ fn take_within<E: Engine>(engine: &mut E, held: &mut Held, is_ended: bool) -> Re
         ((E.filter engine.old).so_far (with_next lines (piece_line whole is_ended))) held.old held.new) }
 {
     let mark = held.mark();
-    match take_piece(engine, held, is_ended) {
-        Ok(()) => {
-            if held.count_since(mark) {
-                Ok(())
-            } else {
-                Err(Stop::Limit)
-            }
-        }
-        Err(at) => {
-            if held.count_since(mark) {
-                Err(Stop::Fault(at))
-            } else {
-                Err(Stop::Limit)
-            }
-        }
-    }
+    let taken = take_piece(engine, held, is_ended);
+    counted(held, mark, taken)
 }
 
 /// Takes the first of some bytes, and answers how many: a line's, with its LF; where no LF is among them, all of them.
@@ -291,22 +295,8 @@ fn end_within<E: Engine>(engine: &mut E, held: &mut Held) -> Result<(), Stop>
         ((E.filter engine.old).whole lines) held.old held.new) }
 {
     let mark = held.mark();
-    match end_run(engine, held) {
-        Ok(()) => {
-            if held.count_since(mark) {
-                Ok(())
-            } else {
-                Err(Stop::Limit)
-            }
-        }
-        Err(at) => {
-            if held.count_since(mark) {
-                Err(Stop::Fault(at))
-            } else {
-                Err(Stop::Limit)
-            }
-        }
-    }
+    let taken = end_run(engine, held);
+    counted(held, mark, taken)
 }
 
 /// Whether there are no bytes.

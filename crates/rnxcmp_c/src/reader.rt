@@ -3,7 +3,7 @@
 ghost use Rattle.std.specs.Prelude.{◌≡◌, ◌<◌, ◌≤◌, ◌+◌, ◌-◌, false, length, take, true, None, Some};
 ghost use Rattle.crx_faults.specs.declared.limits.TheConstants.{INPUT_LIMIT};
 ghost use Rattle.rnxcmp_c.specs.Going.{HandlePast, fed_with};
-ghost use Rattle.rnxcmp_c.specs.Handles.{Ends, Feeds, HasFed, IsFed, IsPut, IsStopped, ReaderHasEnded, ReaderHasPassed, ReaderRuns, ReaderStands, Task, answer_now, taken_with};
+ghost use Rattle.rnxcmp_c.specs.Handles.{Ends, Feeds, HasFed, IsFed, IsPut, EndsRunBy, ReaderHasEnded, ReaderHasPassed, ReaderRuns, ReaderStands, Task, answer_now, taken_with};
 ghost use Rattle.rnxcmp_c.specs.Waiting.{waiting};
 ghost use Rattle.rnxcmp_c.specs.declared.answer.TheConstants.{OUTPUT_LIMIT};
 ghost use Rattle.rnxcmp_c.specs.meaning.Answers.{placed};
@@ -61,7 +61,7 @@ fn limit_outcome() -> Outcome
 
 /// How a run ends by what stopped it.
 fn outcome_of(held: &mut Held, stop: Stop) -> Outcome
-    ensures { IsStopped held.old held.new result stop }
+    ensures { EndsRunBy held.old held.new result stop }
 {
     match stop {
         Stop::Fault(at) => put_down(held, at),

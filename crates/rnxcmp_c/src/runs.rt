@@ -6,7 +6,7 @@ ghost use Rattle.crx_reading.specs.meaning.Expanded.{expanded};
 ghost use Rattle.crx_runs.specs.meaning.Results.{FilterResult};
 ghost use Rattle.crx_reading.specs.meaning.Standard.{checked};
 ghost use Rattle.crx_faults.specs.declared.limits.TheConstants.{INPUT_LIMIT};
-ghost use Rattle.rnxcmp_c.specs.meaning.Answers.{IsAnswer, IsOver, fault_code_in, rooms};
+ghost use Rattle.rnxcmp_c.specs.meaning.Answers.{IsAnswer, ExceedsLimit, fault_code_in, rooms};
 ghost use Rattle.rnxcmp_c.specs.Collecting.{EndsWithout, HasMemory, HasNone, IsCollected, IsRun};
 
 use crate::answer::{Answer, NO_ROOM, code_in, line_in, out_of_memory, over_limit, place};
@@ -114,7 +114,7 @@ pub(crate) fn compaction(
     requires { length input.now ≤ INPUT_LIMIT }
     ensures run { IfOk result (IsRun (compacted input.now options) bounds.output bounds.messages bounds.most) }
     ensures memory { IfOk result HasMemory }
-    ensures none { IfErr result (HasNone (IsOver bounds.most (compacted input.now options).output)) }
+    ensures none { IfErr result (HasNone (ExceedsLimit bounds.most (compacted input.now options).output)) }
 {
     let mut reader = Given::new(input);
     let mut output = Counted::new(alloc, bounds.output, taken_at_most(bounds.most));
@@ -133,7 +133,7 @@ pub(crate) fn expansion(
     requires { length input.now ≤ INPUT_LIMIT }
     ensures run { IfOk result (IsRun (expanded input.now options) bounds.output bounds.messages bounds.most) }
     ensures memory { IfOk result HasMemory }
-    ensures none { IfErr result (HasNone (IsOver bounds.most (expanded input.now options).output)) }
+    ensures none { IfErr result (HasNone (ExceedsLimit bounds.most (expanded input.now options).output)) }
 {
     let mut reader = Given::new(input);
     let mut output = Counted::new(alloc, bounds.output, taken_at_most(bounds.most));

@@ -1,5 +1,5 @@
 -- What a call answers, and what stands in the caller's memory after it.
-use Rattle.std.specs.Prelude.{◌≡◌, ◌<◌, ℕ, List, ◌++◌, take, drop, length, nat_le, Option, Some, None, if◌then◌else◌}
+use Rattle.std.specs.Prelude.{◌≡◌, ◌<◌, ◌≤◌, ℕ, List, ◌++◌, take, drop, length, nat_le, Option, Some, None, if◌then◌else◌}
 use Rattle.crx_faults.specs.meaning.Faults.{code_of_fault}
 use Rattle.crx_faults.specs.declared.fault.At.{At}
 use Rattle.crx_faults.specs.declared.fault.Fault.TheVariants.{InputTooLong, OutOfMemory}
@@ -42,9 +42,13 @@ pub record IsAnswer (result : FilterResult) (answer : Answer) (before after : Ro
   pub output : after.output ≡ placed result.output before.output
   pub messages : after.messages ≡ placed result.messages before.messages
 
--- whether an output is longer than it may be; 0 is no limit
-abbrev pub IsOver : ℕ → List ℕ → Type 0
-IsOver most output = (0 < most) × (most < length output)
+-- an output isn't longer than it may be; 0 is no limit
+abbrev pub IsWithinLimit : ℕ → List ℕ → Type 0
+IsWithinLimit most output = 0 < most → length output ≤ most
+
+-- it is longer
+abbrev pub ExceedsLimit : ℕ → List ℕ → Type 0
+ExceedsLimit most output = (0 < most) × (most < length output)
 
 -- ---- where there is no result
 
@@ -71,8 +75,8 @@ IsOverLimit answer before after = (answer ≡ bare_answer OUTPUT_LIMIT 0 0) × I
 
 -- a call answered this result, or that its output is longer than it may be
 pub record AnswersWithin (most : ℕ) (result : FilterResult) (answer : Answer) (before after : Rooms) : Type 0 where
-  pub within : (IsOver most result.output → ⊥) → IsAnswer result answer before after
-  pub over : IsOver most result.output → IsOverLimit answer before after
+  pub within : (ExceedsLimit most result.output → ⊥) → IsAnswer result answer before after
+  pub over : ExceedsLimit most result.output → IsOverLimit answer before after
 
 -- the number that says that memory ran out
 abbrev pub HasNoMemory : Answer → Type 0

@@ -2,7 +2,7 @@ use Rattle.std.proofs.Common.{Some, length, subst}
 use Rattle.crx_options.specs.meaning.Choices.{Choices, choices_of}
 use Rattle.crx_reading.specs.meaning.Compacted.{compacted}
 use Rattle.rnxcmp_c.specs.Collecting.{HasNone, IsRun}
-use Rattle.rnxcmp_c.specs.meaning.Answers.{IsOver, rooms}
+use Rattle.rnxcmp_c.specs.meaning.Answers.{ExceedsLimit, rooms}
 use Rattle.rnxcmp_c.proofs.Kept.{answers-none, answers-run}
 use Rattle.rnxcmp_c.proofs.exports.rnxcmp_c_compact.Goals as goal
 
@@ -21,5 +21,5 @@ pub returns-in-Err-clause-runs : goal.returns-in-Err-clause-runs
 returns-in-Err-clause-runs c dated within memory =
     let whole = compacted c.args.input.now (choices_of (Some c.args.every) c.args.skip c.args.date.now) in
     answers-none whole c.args.max_output c.in-Err.answer (rooms c.args.output.now c.args.messages.now)
-    (subst (λ (o : Choices). HasNone (IsOver c.args.max_output (compacted c.args.input.now o).output) c.in-Err.answer)
+    (subst (λ (o : Choices). HasNone (ExceedsLimit c.args.max_output (compacted c.args.input.now o).output) c.in-Err.answer)
     c.in-Ok.ensures.0 c.in-Err.ensures.none) memory

@@ -1,4 +1,3 @@
-use Rattle.std.proofs.Common.{refl}
 use Rattle.rnxcmp_c.specs.Handles.{Check}
 use Rattle.rnxcmp_c.proofs.handle.rnxcmp_c_open_check.Goals as goal
 

@@ -1,4 +1,4 @@
-use Rattle.std.proofs.Common.{◌≡◌, ◌≤◌, ◌+◌, refl, ap, arith}
+use Rattle.std.proofs.Common.{◌≡◌, refl, ap, arith}
 use Rattle.std.proofs.lemmas.List.{length-drop}
 use Rattle.rnxcmp_c.specs.Holdings.{engine_with}
 use Rattle.rnxcmp_c.specs.declared.engines.AnyEngine.{AnyEngine}

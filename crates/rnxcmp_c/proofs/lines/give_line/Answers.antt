@@ -1,4 +1,4 @@
-use Rattle.std.proofs.Common.{◌≡◌, ◌+◌, ℕ, List, [], length, IfErr, IfOk, sym, ap, subst, ◌∙◌, ◌<◌, ◌≤◌, rules, arith}
+use Rattle.std.proofs.Common.{◌≡◌, ◌+◌, ℕ, List, [], length, IfErr, IfOk, ap, subst, ◌∙◌, ◌<◌, ◌≤◌, rules}
 use Rattle.std.proofs.lemmas.Bool.{lt-ltb}
 use Rattle.std.proofs.lemmas.Result.{IfErr-weaker, IfOk-weaker}
 use Rattle.crx_faults.specs.meaning.Lines.{InputLine}

@@ -28,7 +28,7 @@ returns-then-is_blank-clause-done g c = λ (past : HandlePast) is.
     let whole = all-ended filter (g.E.Engine.shows c.args.engine.now) c.args.held.now past is none in
     on_ok_weaker c.end_within.result
     (λ within. ends-well filter c.args.held.now past (ended_lines_of past.fed) is.text is.flag whole
-    c.end_within.new.held _ within.moved)
+    c.end_within.new.held _ is.left within)
     (c.end_within.ensures.done (ended_lines_of past.fed) is.shown)
 
 pub returns-then-is_blank-clause-fails : goal.returns-then-is_blank-clause-fails
@@ -74,7 +74,8 @@ returns-clause-done g c = λ (past : HandlePast) is.
     c.in_ok-take_within.ensures.filter (c.end_within-2.ensures.done lines moved.kept.is_shown) in
     on_ok_weaker c.end_within-2.result
     (λ e. ends-well filter mid past lines (last-text filter shows held past is mid some _ moved)
-    (last-flag filter shows held past is mid some _ moved) (all-but_last filter shows held past is some) new then e.moved)
+    (last-flag filter shows held past is mid some _ moved) (all-but_last filter shows held past is some) new then
+    (last-left filter shows held past is mid some _ within) e)
     ended
 
 pub returns-clause-fails : goal.returns-clause-fails

@@ -1,8 +1,6 @@
-use Rattle.std.proofs.Common.{◌≡◌, ◌+◌, ℕ, List, [], length, take, sym, ap, ◌∙◌, rules}
+use Rattle.std.proofs.Common.{◌≡◌, ℕ, List, [], length, ◌∙◌, rules}
 use Rattle.std.proofs.lemmas.Result.{err_from_is_err_and}
 use Rattle.crx_faults.specs.meaning.Lines.{InputLine}
-use Rattle.rnxcmp_c.specs.Going.{LineStops, piece_line}
-use Rattle.crx_runs.specs.meaning.Filters.{with_next}
 use Rattle.rnxcmp_c.proofs.Cut.{made-of, stops-at}
 use Rattle.rnxcmp_c.proofs.lines.take_piece.Goals as goal
 

@@ -1,4 +1,4 @@
-use Rattle.std.proofs.Common.{◌+◌, List, ℕ, refl, sym, ◌∙◌, arith}
+use Rattle.std.proofs.Common.{List, ℕ, refl, sym, ◌∙◌, arith}
 use Rattle.std.proofs.lemmas.Result.{IfErr-weaker, IfOk-weaker}
 use Rattle.crx_reading.specs.meaning.Compacted.{compacted}
 use Rattle.crx_reading.specs.meaning.Directions.{compaction_filter}

@@ -7,7 +7,7 @@ use Rattle.rnxcmp_c.proofs.reader.Reader.end.Goals as goal
 pub returns-in-Ok : goal.returns-in-Ok
 returns-in-Ok c = λ (task : Task) (past : HandlePast) is.
     inr (inr (all-over task c.args.self.now.engine c.end_any.new.engine is.is_of
-    (c.end_any.ensures.of task is.is_of) _ _ past refl
+    (c.end_any.ensures.of task is.is_of) _ _ past (c.end_any.ensures.limit ∙ is.limit) refl
     c.status_at_end.ensures (c.in-Ok.ensures.done past is.going) (c.in-Ok.ensures.ended past is.going)))
 
 pub returns-in-Err : goal.returns-in-Err

@@ -1,4 +1,4 @@
-use Rattle.std.proofs.Common.{ℕ, ◌∙◌, List, Some, length, take, sym, subst, arith}
+use Rattle.std.proofs.Common.{ℕ, ◌∙◌, List, Some, length, sym, subst, arith}
 use Rattle.std.proofs.lemmas.List.{take_all}
 use Rattle.rnxcmp_c.specs.Going.{HandlePast, fed_with}
 use Rattle.rnxcmp_c.specs.Handles.{HasFed, Task}

@@ -1,4 +1,4 @@
-use Rattle.std.proofs.Common.{List, ℕ, length, take, drop, sym, ap, ◌∙◌, ◌++◌}
+use Rattle.std.proofs.Common.{List, ℕ, length, take, sym, ap, ◌∙◌, ◌++◌}
 use Rattle.std.proofs.lemmas.List.{take-append-drop}
 use Rattle.rnxcmp_c.specs.Going.{HandlePast}
 use Rattle.rnxcmp_c.specs.Handles.{Task}
