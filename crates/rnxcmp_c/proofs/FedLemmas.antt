@@ -4,9 +4,9 @@ use Rattle.std.proofs.Common.{refl, sym, ap, ◌∙◌, subst, arith, length-tak
 use Rattle.std.proofs.lemmas.List.{take-take}
 use Rattle.crx_faults.specs.declared.limits.TheConstants.{INPUT_LIMIT}
 use Rattle.crx_runs.specs.declared.outcome.Outcome.{Outcome}
-use Rattle.rnxcmp_c.specs.Going.{HandlePast, fed_with}
-use Rattle.rnxcmp_c.specs.Handles.{FeedsBy, FeedsBytes, HasFed, IsFed, IsMisused, ReaderHasPassed, ReaderRuns, StandsBy}
-use Rattle.rnxcmp_c.specs.Handles.{Task, allowed_after, answer_now}
+use Rattle.rnxcmp_c.specs.Handles.{FeedsBy, FeedsBytes, HasFed, IsFed, ReaderHasPassed, ReaderRuns, StandsBy}
+use Rattle.rnxcmp_c.specs.Handles.{allowed_after, answer_now}
+use Rattle.rnxcmp_c.specs.meaning.Handles.{Task, HandlePast, IsMisused, fed_with}
 use Rattle.rnxcmp_c.specs.declared.answer.Answer.{Answer}
 use Rattle.rnxcmp_c.specs.declared.reader.Reader.{Reader}
 use Rattle.rnxcmp_c.proofs.PieceLemmas.{none-or}

@@ -18,7 +18,8 @@ use Rattle.rnxcmp_c.specs.declared.held.Held.{Held}
 use Rattle.rnxcmp_c.specs.Waiting.{waiting}
 use Rattle.rnxcmp_c.specs.declared.pending.Pending.{Pending}
 use Rattle.rnxcmp_c.specs.Counting.{take-of_taken}
-use Rattle.rnxcmp_c.specs.Going.{HandlePast, fed_with, IsText, IsGoing, IsBroken, MovesOn, EndsThere, LineStops}
+use Rattle.rnxcmp_c.specs.Going.{IsText, IsGoing, IsBroken, MovesOn, EndsThere, LineStops}
+use Rattle.rnxcmp_c.specs.meaning.Handles.{HandlePast, fed_with}
 use Rattle.rnxcmp_c.specs.Going.{piece_line, IsAll, IsFailed, LineFails, IsCutShort, RanOutAt, RunsShort}
 use Rattle.rnxcmp_c.specs.Going.{AddsWithin, AreCutShort, AreFirstWarnings, EndsPastLimit, IsKeptWithin, IsPastLimit}
 use Rattle.rnxcmp_c.specs.Going.{MovesWithin, PassesLimit}

@@ -77,7 +77,8 @@ answers-run whole output messages most run answer before after is answered =
     record { within = λ few. answered; over = λ more. absurd (is.within more) }
 
 pub answers-none : (whole : FilterResult) (most : ℕ) (answer : Answer) (before : Rooms)
-    → HasNone (ExceedsLimit most whole.output) answer → (HasNoMemory answer → ⊥) → AnswersWithin most whole answer before before
+    → HasNone (ExceedsLimit most whole.output) answer → (HasNoMemory answer → ⊥)
+    → AnswersWithin most whole answer before before
 answers-none whole most answer before (inl over) memory =
     record { within = λ few. absurd (few over.1); over = λ more. (over.0, refl) }
 answers-none whole most answer before (inr out) memory =

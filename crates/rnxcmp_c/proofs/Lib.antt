@@ -7,6 +7,7 @@ pub mod Lossless
 mod LooseValues
 pub mod PieceLemmas
 mod PlaceValues
+pub mod PromiseLemmas
 pub mod ReaderLemmas
 pub mod RunLemmas
 pub mod TakenLemmas

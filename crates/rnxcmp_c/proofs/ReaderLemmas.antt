@@ -17,17 +17,18 @@ use Rattle.crx_filter.proofs.following.Lawful.{compaction-lawful, expansion-lawf
 use Rattle.crx_runs.specs.declared.outcome.Outcome.{Outcome}
 use Rattle.crx_runs.specs.meaning.Runs.{FaultIs}
 use Rattle.rnxcmp_c.specs.Waiting.{waiting}
-use Rattle.rnxcmp_c.specs.Going.{AreFirstWarnings, Breaks, LineFails, IsAll, IsGoing, IsText, HandlePast}
+use Rattle.rnxcmp_c.specs.Going.{AreFirstWarnings, Breaks, LineFails, IsAll, IsGoing, IsText}
 use Rattle.rnxcmp_c.specs.Going.{EndsPastLimit, IsPastLimit, RunBreaks, RunFails, with_one_more}
 use Rattle.rnxcmp_c.specs.declared.stop.Stop.{Stop}
 use Rattle.rnxcmp_c.specs.declared.stop.Stop.TheVariants.{Fault, Limit}
-use Rattle.rnxcmp_c.specs.Handles.{Task, Compact, Expand, Check, IsOf, ReaderIsOver, IsPut, IsPutDown, IsPutSilently}
+use Rattle.rnxcmp_c.specs.Handles.{IsOf, ReaderIsOver, IsPut, IsPutDown, IsPutSilently}
 use Rattle.rnxcmp_c.specs.Handles.{AreMessagesCut, EndsRunBy, ReaderRuns, RunIsOutOfMemory, RunIsOverLimit, filter_for}
-use Rattle.rnxcmp_c.specs.Handles.{HasPassedBy, limit_for, shows_of, too_long_after}
+use Rattle.rnxcmp_c.specs.Handles.{HasPassedBy, shows_of, too_long_after}
 use Rattle.rnxcmp_c.specs.Handles.{HasFedBy, HasEndedBy, engine_filter, has_ended_of}
 use Rattle.rnxcmp_c.specs.meaning.Answers.{IsWithinLimit, line_in}
 use Rattle.rnxcmp_c.proofs.GoingLemmas.{all-cut, begins-then, warnings-first}
-use Rattle.rnxcmp_c.specs.Handles.{result_for, status_at_end}
+use Rattle.rnxcmp_c.specs.Handles.{status_at_end}
+use Rattle.rnxcmp_c.specs.meaning.Handles.{Task, HandlePast, limit_for, result_for, Compact, Expand, Check}
 use Rattle.rnxcmp_c.specs.declared.engines.AnyEngine.{AnyEngine}
 use Rattle.rnxcmp_c.specs.declared.engines.AnyEngine.TheVariants.{Compacting, Expanding, Checking}
 use Rattle.rnxcmp_c.specs.declared.held.Held.{Held}

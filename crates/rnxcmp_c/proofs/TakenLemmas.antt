@@ -2,9 +2,8 @@
 use Rattle.std.proofs.Common.{◌≡◌, inl, inr, ℕ, List, ◌++◌, Option, Some, None, sym, ap, ◌∙◌, subst, append_assoc}
 use Rattle.crx_runs.specs.declared.outcome.Outcome.{Outcome}
 use Rattle.crx_runs.specs.meaning.Results.{Begins}
-use Rattle.rnxcmp_c.specs.Going.{HandlePast}
-use Rattle.rnxcmp_c.specs.Handles.{AreMessagesCut, ReaderStands, StandsBy, Task, filter_for, limit_for}
-use Rattle.rnxcmp_c.specs.Handles.{result_for, taken_with}
+use Rattle.rnxcmp_c.specs.Handles.{AreMessagesCut, ReaderStands, StandsBy, filter_for}
+use Rattle.rnxcmp_c.specs.meaning.Handles.{Task, HandlePast, limit_for, result_for, taken_with}
 use Rattle.rnxcmp_c.specs.meaning.Answers.{IsWithinLimit}
 use Rattle.rnxcmp_c.specs.Waiting.{waiting}
 use Rattle.rnxcmp_c.specs.declared.pending.Pending.{Pending}

@@ -17,6 +17,7 @@ use Rattle.rnxcmp_c.specs.declared.held.Held.{Held}
 use Rattle.rnxcmp_c.specs.declared.limits.TheConstants.{LINE_ROOM, READY_LIMIT}
 use Rattle.rnxcmp_c.specs.Holding.{ready_in}
 use Rattle.rnxcmp_c.specs.meaning.Answers.{IsWithinLimit}
+use Rattle.rnxcmp_c.specs.meaning.Handles.{HandlePast}
 use Rattle.rnxcmp_c.specs.declared.stop.Stop.{Stop}
 use Rattle.rnxcmp_c.specs.declared.stop.Stop.TheVariants.{Fault, Limit}
 
@@ -119,22 +120,12 @@ abbrev pub with_one_more : Filter → List InputLine → List InputLine → Cour
 with_one_more filter lines [] = filter.whole lines
 with_one_more filter lines (line ∷ more) = filter.so_far (with_next lines line)
 
--- what came before: the bytes that were fed, and what was taken of the output and of the messages
-pub record HandlePast : Type 0 where
-  pub fed : List ℕ
-  pub output : List ℕ
-  pub messages : List ℕ
-
 -- of so many bytes some were taken: at least one where little enough waited, and not all only where much waits now
 pub record IsTaken (old new : Held) (length count : ℕ) : Type 0 where
   pub within : count ≤ length
   pub some : 0 < length → ready_in old < READY_LIMIT → 0 < count
   pub all : count < length → READY_LIMIT ≤ ready_in new
   pub still : READY_LIMIT ≤ ready_in old → (count ≡ 0) × (new ≡ old)
-
--- more bytes were fed
-abbrev pub fed_with : HandlePast → List ℕ → HandlePast
-fed_with past bytes = record { fed = past.fed ++ bytes; output = past.output; messages = past.messages }
 
 -- a text was written and reported: what was taken of it, and then what is kept
 pub record IsText (course : Course) (held : Held) (past : HandlePast) : Type 0 where

@@ -5,13 +5,10 @@ use Rattle.crx_faults.specs.meaning.Seen.{ended_lines_of}
 use Rattle.crx_faults.specs.declared.limits.TheConstants.{INPUT_LIMIT}
 use Rattle.crx_faults.specs.declared.fault.At.{At}
 use Rattle.crx_faults.specs.declared.fault.Fault.TheVariants.{InputTooLong, OutOfMemory}
-use Rattle.crx_options.specs.meaning.Choices.{Choices}
-use Rattle.crx_reading.specs.meaning.Compacted.{compacted}
-use Rattle.crx_reading.specs.meaning.Expanded.{expanded}
 use Rattle.crx_runs.specs.meaning.Filters.{Filter}
 use Rattle.crx_runs.specs.meaning.Results.{Begins, FilterResult, good_status}
 use Rattle.crx_runs.specs.meaning.Messages.{error_text, notices_text}
-use Rattle.crx_reading.specs.meaning.Standard.{checked, report_status}
+use Rattle.crx_reading.specs.meaning.Standard.{report_status}
 use Rattle.crx_reading.specs.meaning.Directions.{check_filter}
 use Rattle.crx_filter.specs.CheckerState.{CheckerHasTaken, CheckerIsOpen, HasEnded as CheckerHasEnded, pending_report}
 use Rattle.crx_reading.specs.CompactionByLine.{compaction, compaction_seen}
@@ -23,10 +20,12 @@ use Rattle.crx_filter.specs.ExpanderState.{expander_state}
 use Rattle.crx_reading.specs.ExpansionByLine.{expansion, expansion_seen}
 use Rattle.crx_runs.specs.declared.outcome.Outcome.{Outcome}
 use Rattle.crx_runs.specs.meaning.Runs.{FaultIs}
-use Rattle.rnxcmp_c.specs.Going.{AreFirstWarnings, IsGoing, HandlePast, fed_with, with_one_more}
-use Rattle.rnxcmp_c.specs.meaning.Answers.{IsWithinLimit, bare_answer, fault_code_in, line_in}
+use Rattle.rnxcmp_c.specs.Going.{AreFirstWarnings, IsGoing, with_one_more}
+use Rattle.rnxcmp_c.specs.meaning.Handles.{HandlePast, IsMisused, Task, Compact, Expand, Check, fed_with, limit_for}
+use Rattle.rnxcmp_c.specs.meaning.Handles.{result_for}
+use Rattle.rnxcmp_c.specs.meaning.Answers.{IsWithinLimit, fault_code_in, line_in}
 use Rattle.rnxcmp_c.specs.declared.answer.Answer.{Answer}
-use Rattle.rnxcmp_c.specs.declared.answer.TheConstants.{MISUSED, OUTPUT_LIMIT}
+use Rattle.rnxcmp_c.specs.declared.answer.TheConstants.{OUTPUT_LIMIT}
 use Rattle.rnxcmp_c.specs.declared.engines.AnyEngine.{AnyEngine}
 use Rattle.rnxcmp_c.specs.declared.engines.AnyEngine.TheVariants.{Compacting, Expanding, Checking}
 use Rattle.rnxcmp_c.specs.declared.held.Held.{Held}
@@ -39,23 +38,7 @@ use Rattle.rnxcmp_c.specs.declared.stop.Stop.TheVariants.{Fault, Limit}
 
 -- ---- what a run is of
 
--- what was chosen for a run, and how many bytes its output may have; 0 is no limit
-pub data Task : Type 0 where
-  Compact : Choices → ℕ → Task
-  Expand : Choices → ℕ → Task
-  Check : Task
-
-abbrev pub limit_for : Task → ℕ
-limit_for (Compact choices limit) = limit
-limit_for (Expand choices limit) = limit
-limit_for Check = 0
-
--- what the whole run of an input writes, reports and answers
-abbrev pub result_for : Task → List ℕ → FilterResult
-result_for (Compact choices limit) input = compacted input choices
-result_for (Expand choices limit) input = expanded input choices
-result_for Check input = checked input
-
+-- what a run writes and reports for some of the first lines, and for all
 abbrev pub filter_for : Task → Filter
 filter_for (Compact choices limit) = compaction_filter choices
 filter_for (Expand choices limit) = expansion_filter choices
@@ -282,10 +265,6 @@ answer_now reader = record {
   code = fault_code_in (fault_now reader.outcome);
 }
 
--- the handle isn't open, or its run has ended; nothing was done
-abbrev pub IsMisused : Answer → Type 0
-IsMisused answer = answer ≡ bare_answer MISUSED 0 0
-
 -- how many bytes of a text are fed at most: those within the limit of an input
 abbrev pub allowed_after : HandlePast → List ℕ → List ℕ
 allowed_after past bytes = take (INPUT_LIMIT - length past.fed) bytes
@@ -316,18 +295,6 @@ ReaderEndsBy task old new past answer (Some outcome) = IsMisused answer × (new 
 
 abbrev pub Ends : Task → Reader → Reader → HandlePast → Answer → Type 0
 Ends task old new past answer = ReaderEndsBy task old new past answer old.outcome
-
--- more was taken of the output and of the messages
-abbrev pub taken_with : HandlePast → List ℕ → List ℕ → HandlePast
-taken_with past output messages = record {
-  fed = past.fed;
-  output = past.output ++ output;
-  messages = past.messages ++ messages;
-}
-
--- nothing was fed, and nothing taken
-abbrev pub nothing_fed : HandlePast
-nothing_fed = record { fed = []; output = []; messages = [] }
 
 -- an engine of a task before its first line
 pub record IsFresh (task : Task) (engine : AnyEngine) : Type 0 where

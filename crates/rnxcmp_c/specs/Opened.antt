@@ -1,7 +1,7 @@
 -- What a handle is, between two calls.
-use Rattle.std.specs.Prelude.{◌≡◌, ℕ, true, List, [], ◌∷◌}
-use Rattle.rnxcmp_c.specs.Going.{HandlePast}
-use Rattle.rnxcmp_c.specs.Handles.{Ends, Feeds, ReaderStands, Task, answer_now}
+use Rattle.std.specs.Prelude.{◌≡◌, ℕ, Bool, true, false, List, [], ◌∷◌, is_some}
+use Rattle.rnxcmp_c.specs.Handles.{Ends, Feeds, ReaderStands, answer_now}
+use Rattle.rnxcmp_c.specs.meaning.Handles.{HandlePast, KeptTexts, Task}
 use Rattle.rnxcmp_c.specs.declared.answer.Answer.{Answer}
 use Rattle.rnxcmp_c.specs.declared.handle.Handle.{Handle}
 use Rattle.rnxcmp_c.specs.declared.reader.Reader.{Reader}
@@ -34,6 +34,15 @@ output_kept (reader ∷ more) = waiting reader.held.output
 abbrev pub messages_kept : List Reader → List ℕ
 messages_kept [] = []
 messages_kept (reader ∷ more) = waiting reader.held.messages
+
+-- both
+abbrev pub texts_kept : List Reader → KeptTexts
+texts_kept held = record { output = output_kept held; messages = messages_kept held }
+
+-- whether its run has ended
+abbrev pub has_ended : List Reader → Bool
+has_ended [] = false
+has_ended (reader ∷ more) = is_some reader.outcome
 
 -- what became of a handle's run by some bytes, by the end of the input, and by a look at it
 pub record FeedsHandle (task : Task) (old new : Handle) (past : HandlePast) (bytes : List ℕ) (used : ℕ)

@@ -4,10 +4,11 @@ ghost use Rattle.std.specs.Prelude.{◌≡◌, ◌<◌, ◌≤◌, ◌+◌, [], 
 ghost use Rattle.crx_faults.specs.declared.limits.TheConstants.{INPUT_LIMIT};
 ghost use Rattle.crx_faults.specs.meaning.Lines.{lines_of};
 ghost use Rattle.crx_runs.specs.Lawful.{IsLawful};
-ghost use Rattle.rnxcmp_c.specs.Going.{IsAll, IsGoing, IsTaken, HandlePast, RunBreaks, RunFails, fed_with};
+ghost use Rattle.rnxcmp_c.specs.Going.{IsAll, IsGoing, IsTaken, RunBreaks, RunFails};
 ghost use Rattle.rnxcmp_c.specs.Holding.{ready_in};
 ghost use Rattle.rnxcmp_c.specs.declared.limits.TheConstants.{READY_LIMIT};
-ghost use Rattle.rnxcmp_c.specs.Handles.{IsOf, Task, engine_filter, has_ended_of, is_open_of, ready_of, shows_of, status_at_end};
+ghost use Rattle.rnxcmp_c.specs.Handles.{IsOf, engine_filter, has_ended_of, is_open_of, ready_of, shows_of, status_at_end};
+ghost use Rattle.rnxcmp_c.specs.meaning.Handles.{Task, HandlePast, fed_with};
 
 use crate::held::Held;
 use crate::lines::{take_bytes, take_last};

@@ -8,10 +8,10 @@ ghost use Rattle.std.specs.Prelude.{◌≡◌, ◌⊎◌, [], IfSome, length, ta
 ghost use Rattle.crx_options.specs.meaning.Choices.{Choices, choices_of, is_date};
 ghost use Rattle.crx_faults.specs.declared.fault.Fault.TheVariants.{OutOfMemory};
 ghost use Rattle.crx_faults.specs.meaning.Faults.{code_of_fault};
-ghost use Rattle.rnxcmp_c.specs.Going.{HandlePast};
-ghost use Rattle.rnxcmp_c.specs.Handles.{IsFresh, IsMisused, Task, limit_for, nothing_fed, taken_with};
+ghost use Rattle.rnxcmp_c.specs.Handles.{IsFresh};
+ghost use Rattle.rnxcmp_c.specs.meaning.Handles.{HandlePast, HandlePromise, IsMisused, RunHasEnded, Task, fed_with, limit_for, nothing_fed, taken_with};
 ghost use Rattle.rnxcmp_c.specs.Holding.{HoldsNothing};
-ghost use Rattle.rnxcmp_c.specs.Opened.{AnswersHandle, EndedAlike, EndsHandle, FeedsHandle, HandleStands, Holds, IsSoundHandle, IsUnchanged, messages_kept, output_kept};
+ghost use Rattle.rnxcmp_c.specs.Opened.{AnswersHandle, EndedAlike, EndsHandle, FeedsHandle, HandleStands, Holds, IsSoundHandle, IsUnchanged, has_ended, messages_kept, output_kept, texts_kept};
 ghost use Rattle.rnxcmp_c.specs.declared.reader.Reader.{Reader};
 ghost use Rattle.rnxcmp_c.specs.meaning.Answers.{bare_answer, placed};
 
@@ -72,6 +72,7 @@ fn put_in(handle: &mut Handle, reader: Box<Reader>)
 fn open(alloc: Global, handle: &mut Handle, engine: AnyEngine, held: Held) -> Answer
     ensures opened { (task : Task) → IsFresh task engine → HoldsNothing (limit_for task) held → result.status ≡ 0
         → HandleStands task handle.new nothing_fed }
+    ensures running { result.status ≡ 0 → has_ended handle.new.place.held ≡ false }
     ensures answer { (result ≡ bare_answer 0 0 0) ⊎ (result ≡ bare_answer 1 0 (code_of_fault OutOfMemory)) }
     ensures unchanged { (result.status ≡ 0 → ⊥) → IsUnchanged handle.old handle.new }
 {
@@ -113,6 +114,7 @@ pub extern "C" fn rnxcmp_c_open_compact(
 ) -> Answer
     ensures opened { result.status ≡ 0
         → HandleStands (Task.Compact (choices_of (Some every) skip date.now) max_output) handle.new nothing_fed }
+    ensures running { result.status ≡ 0 → has_ended handle.new.place.held ≡ false }
     ensures unchanged { (result.status ≡ 0 → ⊥) → IsUnchanged handle.old handle.new }
     ensures misused { handle.old.is_open ≡ true → IsMisused result }
     ensures date { handle.old.is_open ≡ false → is_date date.now ≡ false → result ≡ bare_answer BAD_DATE 0 0 }
@@ -144,6 +146,7 @@ pub extern "C" fn rnxcmp_c_open_expand(
 ) -> Answer
     ensures opened { result.status ≡ 0 → (choices : Choices) × (choices.skip ≡ skip)
         × HandleStands (Task.Expand choices max_output) handle.new nothing_fed }
+    ensures running { result.status ≡ 0 → has_ended handle.new.place.held ≡ false }
     ensures unchanged { (result.status ≡ 0 → ⊥) → IsUnchanged handle.old handle.new }
     ensures misused { handle.old.is_open ≡ true → IsMisused result }
     ensures answer { handle.old.is_open ≡ false
@@ -165,6 +168,7 @@ pub extern "C" fn rnxcmp_c_open_expand(
 #[unsafe(no_mangle)]
 pub extern "C" fn rnxcmp_c_open_check(alloc: Global, handle: &mut Handle) -> Answer
     ensures opened { result.status ≡ 0 → HandleStands Task.Check handle.new nothing_fed }
+    ensures running { result.status ≡ 0 → has_ended handle.new.place.held ≡ false }
     ensures unchanged { (result.status ≡ 0 → ⊥) → IsUnchanged handle.old handle.new }
     ensures misused { handle.old.is_open ≡ true → IsMisused result }
     ensures answer { handle.old.is_open ≡ false
@@ -196,6 +200,15 @@ pub extern "C" fn rnxcmp_c_feed(
     ensures closed { handle.old.is_open ≡ false → IsMisused result × (used.new ≡ 0) × IsUnchanged handle.old handle.new }
     ensures feeds { (task : Task) (past : HandlePast) → HandleStands task handle.old past
         → FeedsHandle task handle.old handle.new past bytes.now used.new result }
+    ensures stands { (task : Task) (past : HandlePast) → HandleStands task handle.old past
+        → HandleStands task handle.new (fed_with past (take used.new bytes.now)) }
+    ensures promise { (task : Task) (past : HandlePast) → HandleStands task handle.old past
+        → has_ended handle.old.place.held ≡ false
+        → HandlePromise (has_ended handle.new.place.held) task (fed_with past (take used.new bytes.now))
+        (texts_kept handle.new.place.held) result }
+    ensures misused { (task : Task) (past : HandlePast) → HandleStands task handle.old past
+        → has_ended handle.old.place.held ≡ true
+        → IsMisused result × (used.new ≡ 0) × (handle.new.place.held ≡ handle.old.place.held) }
     ensures sound { IsSoundHandle handle.new }
 {
     *used = 0;
@@ -216,6 +229,17 @@ pub extern "C" fn rnxcmp_c_end(alloc: Global, handle: &mut Handle) -> Answer
     ensures closed { handle.old.is_open ≡ false → IsMisused result × IsUnchanged handle.old handle.new }
     ensures ends { (task : Task) (past : HandlePast) → HandleStands task handle.old past
         → EndsHandle task handle.old handle.new past result }
+    ensures stands { (task : Task) (past : HandlePast) → HandleStands task handle.old past
+        → HandleStands task handle.new past }
+    ensures promise { (task : Task) (past : HandlePast) → HandleStands task handle.old past
+        → has_ended handle.old.place.held ≡ false
+        → HandlePromise (has_ended handle.new.place.held) task past (texts_kept handle.new.place.held) result }
+    ensures ended { (task : Task) (past : HandlePast) → HandleStands task handle.old past
+        → has_ended handle.old.place.held ≡ false
+        → (has_ended handle.new.place.held ≡ true) × RunHasEnded task past (texts_kept handle.new.place.held) result }
+    ensures misused { (task : Task) (past : HandlePast) → HandleStands task handle.old past
+        → has_ended handle.old.place.held ≡ true
+        → IsMisused result × (handle.new.place.held ≡ handle.old.place.held) }
     ensures sound { IsSoundHandle handle.new }
 {
     if !handle.is_open {
@@ -249,6 +273,11 @@ pub extern "C" fn rnxcmp_c_take(
     ensures stands { (task : Task) (past : HandlePast) → HandleStands task handle.old past
         → HandleStands task handle.new (taken_with past (take (length output.old) (output_kept handle.old.place.held))
         (take (length messages.old) (messages_kept handle.old.place.held))) }
+    ensures still { has_ended handle.new.place.held ≡ has_ended handle.old.place.held }
+    ensures promise { (task : Task) (past : HandlePast) → HandleStands task handle.old past
+        → HandlePromise (has_ended handle.new.place.held) task
+        (taken_with past (take (length output.old) (output_kept handle.old.place.held))
+        (take (length messages.old) (messages_kept handle.old.place.held))) (texts_kept handle.new.place.held) result }
     ensures sound { IsSoundHandle handle.new }
 {
     if !handle.is_open {

@@ -2,8 +2,8 @@
 
 ghost use Rattle.std.specs.Prelude.{◌≡◌, ◌<◌, ◌≤◌, ◌+◌, ◌-◌, false, length, take, true, None, Some};
 ghost use Rattle.crx_faults.specs.declared.limits.TheConstants.{INPUT_LIMIT};
-ghost use Rattle.rnxcmp_c.specs.Going.{HandlePast, fed_with};
-ghost use Rattle.rnxcmp_c.specs.Handles.{Ends, Feeds, HasFed, IsFed, IsPut, EndsRunBy, ReaderHasEnded, ReaderHasPassed, ReaderRuns, ReaderStands, Task, answer_now, taken_with};
+ghost use Rattle.rnxcmp_c.specs.Handles.{Ends, Feeds, HasFed, IsFed, IsPut, EndsRunBy, ReaderHasEnded, ReaderHasPassed, ReaderRuns, ReaderStands, answer_now};
+ghost use Rattle.rnxcmp_c.specs.meaning.Handles.{Task, HandlePast, fed_with, taken_with};
 ghost use Rattle.rnxcmp_c.specs.Waiting.{waiting};
 ghost use Rattle.rnxcmp_c.specs.declared.answer.TheConstants.{OUTPUT_LIMIT};
 ghost use Rattle.rnxcmp_c.specs.meaning.Answers.{placed};

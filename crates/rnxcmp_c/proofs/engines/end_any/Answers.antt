@@ -1,6 +1,7 @@
 use Rattle.std.proofs.Common.{IfErr, OnOk, sym, subst}
 use Rattle.crx_faults.specs.meaning.Lines.{lines_of}
-use Rattle.rnxcmp_c.specs.Going.{IsAll, IsGoing, HandlePast, RunFails}
+use Rattle.rnxcmp_c.specs.Going.{IsAll, IsGoing, RunFails}
+use Rattle.rnxcmp_c.specs.meaning.Handles.{HandlePast}
 use Rattle.rnxcmp_c.specs.Handles.{engine_filter, shows_of}
 use Rattle.rnxcmp_c.specs.declared.engines.AnyEngine.{AnyEngine}
 use Rattle.crx_filter.specs.CompactorState.{compactor_seen}

@@ -1,5 +1,7 @@
-use Rattle.std.proofs.Common.{refl, sym, subst}
-use Rattle.rnxcmp_c.specs.Handles.{ReaderStands, Task, limit_for, nothing_fed}
+use Rattle.std.proofs.Common.{[], ◌∷◌, refl, sym, ap, ◌∙◌, subst}
+use Rattle.rnxcmp_c.specs.Opened.{has_ended}
+use Rattle.rnxcmp_c.specs.Handles.{ReaderStands}
+use Rattle.rnxcmp_c.specs.meaning.Handles.{Task, limit_for, nothing_fed}
 use Rattle.rnxcmp_c.specs.declared.reader.Reader.{Reader}
 use Rattle.rnxcmp_c.proofs.HandleLemmas.{fresh-stands}
 use Rattle.rnxcmp_c.proofs.handle.open.Goals as goal
@@ -13,3 +15,7 @@ returns-in-Some-clause-opened c = λ (task : Task) fresh nothing zero.
       stands = subst (λ (r : Reader). ReaderStands task r nothing_fed) (sym c.in-Some.ensures)
           (fresh-stands task c.args.engine c.args.held (limit_for task) fresh refl nothing);
     }
+
+pub returns-in-Some-clause-running : goal.returns-in-Some-clause-running
+returns-in-Some-clause-running c = λ zero.
+    ap has_ended (c.put_in.ensures.reader ∙ ap (λ (r : Reader). r ∷ []) c.in-Some.ensures)

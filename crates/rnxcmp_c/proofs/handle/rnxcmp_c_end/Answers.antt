@@ -1,8 +1,10 @@
 use Rattle.std.proofs.Common.{[], ◌∷◌, sym, ap, ◌∙◌, subst}
-use Rattle.rnxcmp_c.specs.Going.{HandlePast}
-use Rattle.rnxcmp_c.specs.Handles.{ReaderStands, Task}
+use Rattle.rnxcmp_c.specs.Handles.{ReaderStands}
+use Rattle.rnxcmp_c.specs.meaning.Handles.{Task, HandlePast}
 use Rattle.rnxcmp_c.specs.declared.reader.Reader.{Reader}
-use Rattle.rnxcmp_c.proofs.HandleLemmas.{ends-stands, one-held}
+use Rattle.rnxcmp_c.specs.Opened.{has_ended}
+use Rattle.rnxcmp_c.proofs.HandleLemmas.{ends-answer, ends-misused, ends-stands, one-held}
+use Rattle.rnxcmp_c.proofs.PromiseLemmas.{handle-ended, handle-promise}
 use Rattle.rnxcmp_c.proofs.handle.rnxcmp_c_end.Goals as goal
 
 pub take_out-reader-requires : goal.take_out-reader-requires
@@ -34,11 +36,54 @@ returns-clause-sound c = λ is_open.
     let then = ends-stands task c.deref_mut.result.now c.take_end-answer.new.self past c.take_end-answer.result
     c.deref_mut.result.now.outcome stands (c.take_end-answer.ensures task past stands) in (
       task,
-      then.0,
+      past,
       record {
         reader = c.take_end-answer.new.self;
         is_open = c.put_in.ensures.opened;
         holds = c.put_in.ensures.reader;
-        stands = then.1;
+        stands = then;
       },
     )
+
+pub returns-clause-stands : goal.returns-clause-stands
+returns-clause-stands c = λ (task : Task) (past : HandlePast) stands.
+    let holds = c.take_out-reader.ensures.reader ∙ ap (λ (r : Reader). r ∷ []) (sym c.deref_mut.ensures.value) in
+    let same = one-held c.args.handle.now.place.held stands.reader c.deref_mut.result.now stands.holds holds in
+    let before = subst (λ (r : Reader). ReaderStands task r past) same stands.stands in
+    record {
+      reader = c.take_end-answer.new.self;
+      is_open = c.put_in.ensures.opened;
+      holds = c.put_in.ensures.reader;
+      stands = ends-stands task c.deref_mut.result.now c.take_end-answer.new.self past c.take_end-answer.result
+          c.deref_mut.result.now.outcome before (c.take_end-answer.ensures task past before);
+    }
+
+pub returns-clause-promise : goal.returns-clause-promise
+returns-clause-promise c = λ (task : Task) (past : HandlePast) stands runs.
+    let holds = c.take_out-reader.ensures.reader ∙ ap (λ (r : Reader). r ∷ []) (sym c.deref_mut.ensures.value) in
+    let same = one-held c.args.handle.now.place.held stands.reader c.deref_mut.result.now stands.holds holds in
+    let before = subst (λ (r : Reader). ReaderStands task r past) same stands.stands in
+    let ends = c.take_end-answer.ensures task past before in
+    handle-promise task _ c.take_end-answer.new.self past c.take_end-answer.result c.put_in.ensures.reader
+    (ends-answer task c.deref_mut.result.now c.take_end-answer.new.self past c.take_end-answer.result
+    c.deref_mut.result.now.outcome (sym (ap has_ended holds) ∙ runs) ends).1
+    (ends-stands task c.deref_mut.result.now c.take_end-answer.new.self past c.take_end-answer.result
+    c.deref_mut.result.now.outcome before ends)
+
+pub returns-clause-ended : goal.returns-clause-ended
+returns-clause-ended c = λ (task : Task) (past : HandlePast) stands runs.
+    let holds = c.take_out-reader.ensures.reader ∙ ap (λ (r : Reader). r ∷ []) (sym c.deref_mut.ensures.value) in
+    let same = one-held c.args.handle.now.place.held stands.reader c.deref_mut.result.now stands.holds holds in
+    let before = subst (λ (r : Reader). ReaderStands task r past) same stands.stands in
+    let ends = ends-answer task c.deref_mut.result.now c.take_end-answer.new.self past c.take_end-answer.result
+    c.deref_mut.result.now.outcome (sym (ap has_ended holds) ∙ runs) (c.take_end-answer.ensures task past before) in
+    handle-ended task _ c.take_end-answer.new.self past c.take_end-answer.result c.put_in.ensures.reader ends.1 ends.0
+
+pub returns-clause-misused : goal.returns-clause-misused
+returns-clause-misused c = λ (task : Task) (past : HandlePast) stands ended.
+    let holds = c.take_out-reader.ensures.reader ∙ ap (λ (r : Reader). r ∷ []) (sym c.deref_mut.ensures.value) in
+    let same = one-held c.args.handle.now.place.held stands.reader c.deref_mut.result.now stands.holds holds in
+    let before = subst (λ (r : Reader). ReaderStands task r past) same stands.stands in
+    let misused = ends-misused task c.deref_mut.result.now c.take_end-answer.new.self past c.take_end-answer.result
+    c.deref_mut.result.now.outcome (sym (ap has_ended holds) ∙ ended) (c.take_end-answer.ensures task past before) in
+    (misused.0, c.put_in.ensures.reader ∙ ap (λ (r : Reader). r ∷ []) misused.1 ∙ sym holds)

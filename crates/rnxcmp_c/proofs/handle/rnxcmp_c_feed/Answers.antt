@@ -1,8 +1,10 @@
-use Rattle.std.proofs.Common.{[], ◌∷◌, sym, ap, ◌∙◌, subst}
-use Rattle.rnxcmp_c.specs.Going.{HandlePast}
-use Rattle.rnxcmp_c.specs.Handles.{ReaderStands, Task}
+use Rattle.std.proofs.Common.{[], ◌∷◌, take, sym, ap, ◌∙◌, subst}
+use Rattle.rnxcmp_c.specs.Handles.{ReaderStands}
+use Rattle.rnxcmp_c.specs.meaning.Handles.{Task, HandlePast, fed_with}
 use Rattle.rnxcmp_c.specs.declared.reader.Reader.{Reader}
-use Rattle.rnxcmp_c.proofs.HandleLemmas.{feeds-stands, one-held}
+use Rattle.rnxcmp_c.specs.Opened.{has_ended}
+use Rattle.rnxcmp_c.proofs.HandleLemmas.{feeds-answer, feeds-misused, feeds-stands, one-held}
+use Rattle.rnxcmp_c.proofs.PromiseLemmas.{handle-promise}
 use Rattle.rnxcmp_c.proofs.handle.rnxcmp_c_feed.Goals as goal
 
 pub take_out-reader-requires : goal.take_out-reader-requires
@@ -35,11 +37,51 @@ returns-clause-sound c = λ is_open.
     c.take_in-count.result.0 c.take_in-count.result.1
     c.deref_mut.result.now.outcome stands (c.take_in-count.ensures task past stands) in (
       task,
-      then.0,
+      _,
       record {
         reader = c.take_in-count.new.self;
         is_open = c.put_in.ensures.opened;
         holds = c.put_in.ensures.reader;
-        stands = then.1;
+        stands = then;
       },
+    )
+
+pub returns-clause-stands : goal.returns-clause-stands
+returns-clause-stands c = λ (task : Task) (past : HandlePast) stands.
+    let holds = c.take_out-reader.ensures.reader ∙ ap (λ (r : Reader). r ∷ []) (sym c.deref_mut.ensures.value) in
+    let same = one-held c.args.handle.now.place.held stands.reader c.deref_mut.result.now stands.holds holds in
+    let before = subst (λ (r : Reader). ReaderStands task r past) same stands.stands in
+    record {
+      reader = c.take_in-count.new.self;
+      is_open = c.put_in.ensures.opened;
+      holds = c.put_in.ensures.reader;
+      stands = feeds-stands task c.deref_mut.result.now c.take_in-count.new.self past c.args.bytes.now
+          c.take_in-count.result.0 c.take_in-count.result.1 c.deref_mut.result.now.outcome before
+          (c.take_in-count.ensures task past before);
+    }
+
+pub returns-clause-promise : goal.returns-clause-promise
+returns-clause-promise c = λ (task : Task) (past : HandlePast) stands runs.
+    let holds = c.take_out-reader.ensures.reader ∙ ap (λ (r : Reader). r ∷ []) (sym c.deref_mut.ensures.value) in
+    let same = one-held c.args.handle.now.place.held stands.reader c.deref_mut.result.now stands.holds holds in
+    let before = subst (λ (r : Reader). ReaderStands task r past) same stands.stands in
+    let feeds = c.take_in-count.ensures task past before in
+    handle-promise task _ c.take_in-count.new.self (fed_with past (take c.take_in-count.result.0 c.args.bytes.now))
+    c.take_in-count.result.1 c.put_in.ensures.reader
+    (feeds-answer task c.deref_mut.result.now c.take_in-count.new.self past c.take_in-count.result.1 c.args.bytes.now
+    c.take_in-count.result.0 c.deref_mut.result.now.outcome (sym (ap has_ended holds) ∙ runs) feeds)
+    (feeds-stands task c.deref_mut.result.now c.take_in-count.new.self past c.args.bytes.now c.take_in-count.result.0
+    c.take_in-count.result.1 c.deref_mut.result.now.outcome before feeds)
+
+pub returns-clause-misused : goal.returns-clause-misused
+returns-clause-misused c = λ (task : Task) (past : HandlePast) stands ended.
+    let holds = c.take_out-reader.ensures.reader ∙ ap (λ (r : Reader). r ∷ []) (sym c.deref_mut.ensures.value) in
+    let same = one-held c.args.handle.now.place.held stands.reader c.deref_mut.result.now stands.holds holds in
+    let before = subst (λ (r : Reader). ReaderStands task r past) same stands.stands in
+    let misused = feeds-misused task c.deref_mut.result.now c.take_in-count.new.self past c.take_in-count.result.1
+    c.args.bytes.now c.take_in-count.result.0 c.deref_mut.result.now.outcome (sym (ap has_ended holds) ∙ ended)
+    (c.take_in-count.ensures task past before) in (
+      misused.0,
+      misused.1,
+      c.put_in.ensures.reader ∙ ap (λ (r : Reader). r ∷ []) misused.2 ∙ sym holds,
     )

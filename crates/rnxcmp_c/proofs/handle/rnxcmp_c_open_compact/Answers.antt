@@ -5,7 +5,7 @@ use Rattle.crx_filter.specs.CompactorState.{compactor_seen}
 use Rattle.crx_reading.specs.meaning.Directions.{compaction_filter}
 use Rattle.crx_reading.specs.LineByLine.{Seen}
 use Rattle.crx_options.specs.meaning.Choices.{Choices}
-use Rattle.rnxcmp_c.specs.Handles.{Compact}
+use Rattle.rnxcmp_c.specs.meaning.Handles.{Compact}
 use Rattle.rnxcmp_c.proofs.handle.rnxcmp_c_open_compact.Goals as goal
 
 pub returns-in-Ok-new-2-clause-opened : goal.returns-in-Ok-new-2-clause-opened

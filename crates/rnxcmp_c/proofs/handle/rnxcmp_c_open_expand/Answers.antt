@@ -5,7 +5,7 @@ use Rattle.crx_reading.specs.meaning.Directions.{expansion_filter}
 use Rattle.crx_reading.specs.ExpansionByLine.{expansion_seen}
 use Rattle.crx_reading.specs.LineByLine.{Seen}
 use Rattle.crx_options.specs.meaning.Choices.{Choices}
-use Rattle.rnxcmp_c.specs.Handles.{Expand}
+use Rattle.rnxcmp_c.specs.meaning.Handles.{Expand}
 use Rattle.rnxcmp_c.proofs.handle.rnxcmp_c_open_expand.Goals as goal
 
 pub returns-in-Ok-new-clause-opened : goal.returns-in-Ok-new-clause-opened

@@ -1,10 +1,12 @@
-use Rattle.std.proofs.Common.{List, [], ◌∷◌, length, take, sym, ap, ◌∙◌, subst}
-use Rattle.rnxcmp_c.specs.Going.{HandlePast}
-use Rattle.rnxcmp_c.specs.Handles.{ReaderStands, Task, taken_with}
-use Rattle.rnxcmp_c.specs.Opened.{messages_kept, output_kept}
+use Rattle.std.proofs.Common.{List, [], ◌∷◌, length, take, Option, is_some, sym, ap, ◌∙◌, subst}
+use Rattle.crx_runs.specs.declared.outcome.Outcome.{Outcome}
+use Rattle.rnxcmp_c.specs.Handles.{ReaderStands}
+use Rattle.rnxcmp_c.specs.meaning.Handles.{Task, HandlePast, taken_with}
+use Rattle.rnxcmp_c.specs.Opened.{has_ended, messages_kept, output_kept}
 use Rattle.rnxcmp_c.specs.meaning.Answers.{placed}
 use Rattle.rnxcmp_c.specs.declared.reader.Reader.{Reader}
 use Rattle.rnxcmp_c.proofs.HandleLemmas.{one-held}
+use Rattle.rnxcmp_c.proofs.PromiseLemmas.{handle-promise}
 use Rattle.rnxcmp_c.proofs.handle.rnxcmp_c_take.Goals as goal
 
 pub take_out-reader-requires : goal.take_out-reader-requires
@@ -74,3 +76,22 @@ returns-clause-sound c = λ is_open.
             (subst (λ (r : Reader). ReaderStands task r past) same sound.2.stands);
       },
     )
+
+pub returns-clause-still : goal.returns-clause-still
+returns-clause-still c =
+    let holds = c.take_out-reader.ensures.reader ∙ ap (λ (r : Reader). r ∷ []) (sym c.deref_mut.ensures.value) in
+    ap has_ended c.put_in.ensures.reader ∙ ap (λ (o : Option Outcome). is_some o) c.hand_out-answer.ensures.same
+    ∙ sym (ap has_ended holds)
+
+pub returns-clause-promise : goal.returns-clause-promise
+returns-clause-promise c = λ (task : Task) (past : HandlePast) stands.
+    let holds = c.take_out-reader.ensures.reader ∙ ap (λ (r : Reader). r ∷ []) (sym c.deref_mut.ensures.value) in
+    let same = one-held c.args.handle.now.place.held stands.reader c.deref_mut.result.now stands.holds holds in
+    let new = c.hand_out-answer.new.self in
+    handle-promise task _ new
+    (taken_with past (take (length c.args.output.now) (output_kept c.args.handle.now.place.held))
+    (take (length c.args.messages.now) (messages_kept c.args.handle.now.place.held)))
+    c.hand_out-answer.result c.put_in.ensures.reader c.hand_out-answer.ensures.answer
+    (subst (λ (l : List Reader). ReaderStands task new (taken_with past (take (length c.args.output.now) (output_kept l))
+    (take (length c.args.messages.now) (messages_kept l)))) (sym holds)
+    (c.hand_out-answer.ensures.stands task past (subst (λ (r : Reader). ReaderStands task r past) same stands.stands)))

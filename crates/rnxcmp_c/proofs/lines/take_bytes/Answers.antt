@@ -3,7 +3,8 @@ use Rattle.std.proofs.Common.{length-append, length-take-le, ⊎_elim}
 use Rattle.std.proofs.lemmas.List.{take-append-drop}
 use Rattle.std.proofs.lemmas.Result.{err_from_is_err_and}
 use Rattle.crx_runs.specs.meaning.Filters.{Filter}
-use Rattle.rnxcmp_c.specs.Going.{RunBreaks, IsGoing, HandlePast, fed_with}
+use Rattle.rnxcmp_c.specs.Going.{RunBreaks, IsGoing}
+use Rattle.rnxcmp_c.specs.meaning.Handles.{HandlePast, fed_with}
 use Rattle.rnxcmp_c.specs.Holding.{ready_in}
 use Rattle.rnxcmp_c.specs.declared.held.Held.{Held}
 use Rattle.rnxcmp_c.specs.declared.limits.TheConstants.{READY_LIMIT}

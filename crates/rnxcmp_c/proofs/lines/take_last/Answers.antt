@@ -5,7 +5,8 @@ use Rattle.std.proofs.lemmas.Result.{on_ok_weaker, IfErr-weaker, err_from_is_err
 use Rattle.crx_faults.specs.meaning.Lines.{InputLine}
 use Rattle.crx_faults.specs.meaning.Seen.{ended_lines_of}
 use Rattle.crx_runs.specs.meaning.Filters.{Filter, with_next}
-use Rattle.rnxcmp_c.specs.Going.{MovesWithin, HandlePast, StepStops, piece_line}
+use Rattle.rnxcmp_c.specs.Going.{MovesWithin, StepStops, piece_line}
+use Rattle.rnxcmp_c.specs.meaning.Handles.{HandlePast}
 use Rattle.rnxcmp_c.proofs.GoingLemmas.{all-ended, all-but_last, ends-well, ends-stopped, last-text, last-flag}
 use Rattle.rnxcmp_c.proofs.GoingLemmas.{last-left, last-stopped}
 use Rattle.rnxcmp_c.proofs.lines.take_last.Goals as goal

@@ -1,7 +1,7 @@
 use Rattle.std.proofs.Common.{ℕ, ◌∙◌, List, Some, length, sym, subst, arith}
 use Rattle.std.proofs.lemmas.List.{take_all}
-use Rattle.rnxcmp_c.specs.Going.{HandlePast, fed_with}
-use Rattle.rnxcmp_c.specs.Handles.{HasFed, Task}
+use Rattle.rnxcmp_c.specs.Handles.{HasFed}
+use Rattle.rnxcmp_c.specs.meaning.Handles.{Task, HandlePast, fed_with}
 use Rattle.rnxcmp_c.specs.declared.reader.Reader.{Reader}
 use Rattle.rnxcmp_c.proofs.ReaderLemmas.{stops-over}
 use Rattle.rnxcmp_c.proofs.reader.Reader.feed.Goals as goal
