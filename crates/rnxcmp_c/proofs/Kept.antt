@@ -51,22 +51,25 @@ none-where_0 None = (λ e. refl, λ e. refl)
 none-where_0 (Some number) = (λ e. absurd (cc), λ e. absurd (cc))
 
 -- where the output fits, the status is the result's
-status-where_it_fits : (result : FilterResult) (room : ℕ)
+pub status-where_it_fits : (result : FilterResult) (room : ℕ)
     → length result.output ≤ room → status_in result room ≡ result.status
 status-where_it_fits result room fits = ap (λ b. cond b result.status NO_ROOM) (le-leb (length result.output) room fits)
+
+pub judges-status : (file : List ℕ) (status : ℕ) → status ≡ (checked file).status → CallJudgesStandard status file
+judges-status file status is good =
+    let found : Findings = findings_of (lines_of file) in
+    let same : status ≡ report_status found.not_standard =
+    is ∙ ap (λ o. FilterResult.status (checked_by o found)) good in
+    both-ways (both-ways (λ zero. sym same ∙ zero, λ zero. same ∙ zero) (none-where_0 found.not_standard))
+    (named-where_not file good)
 
 pub judges-standard : (file : List ℕ) (answer : Answer) (before after : Rooms)
     → IsAnswer (checked file) answer before after → answer.output_length ≤ length before.output
     → CallJudgesStandard answer.status file
-judges-standard file answer before after is fits good =
-    let found : Findings = findings_of (lines_of file) in
+judges-standard file answer before after is fits =
     let room : ℕ = length before.output in
-    let status : answer.status ≡ report_status found.not_standard =
-    IsAnswer.status is
-    ∙ (status-where_it_fits (checked file) room (subst (λ n. n ≤ room) (IsAnswer.output_length is) fits)
-    ∙ ap (λ o. FilterResult.status (checked_by o found)) good) in
-    both-ways (both-ways (λ zero. sym status ∙ zero, λ zero. status ∙ zero) (none-where_0 found.not_standard))
-    (named-where_not file good)
+    judges-status file answer.status (IsAnswer.status is
+    ∙ status-where_it_fits (checked file) room (subst (λ n. n ≤ room) (IsAnswer.output_length is) fits))
 
 -- ---- the limit of the output
 

@@ -14,7 +14,8 @@ use Rattle.crx_runs.specs.meaning.Messages.{error_text}
 use Rattle.crx_runs.specs.meaning.Results.{Begins, FilterResult}
 use Rattle.rnxcmp_c.specs.declared.answer.Answer.{Answer}
 use Rattle.rnxcmp_c.specs.declared.answer.TheConstants.{MISUSED, OUTPUT_LIMIT}
-use Rattle.rnxcmp_c.specs.meaning.Answers.{ExceedsLimit, IsWithinLimit, bare_answer, fault_code_in, line_in}
+use Rattle.rnxcmp_c.specs.meaning.Answers.{ExceedsLimit, IsWithinLimit, Rooms, bare_answer, fault_code_in, line_in}
+use Rattle.rnxcmp_c.specs.meaning.Answers.{placed}
 
 -- ---- a run
 
@@ -64,6 +65,10 @@ taken_with past output messages = record {
 pub record KeptTexts : Type 0 where
   pub output : List ℕ
   pub messages : List ℕ
+
+-- it keeps nothing
+abbrev pub nothing_kept : KeptTexts
+nothing_kept = record { output = []; messages = [] }
 
 -- all of the output that was made: what was taken, and then what is kept
 abbrev pub output_made : HandlePast → KeptTexts → List ℕ
@@ -155,3 +160,20 @@ pub record HandlePromise (has_ended : Bool) (task : Task) (past : HandlePast) (k
     : Type 0 where
   pub run : RunIs has_ended task past kept answer
   pub within : IsWithinLimit (limit_for task) (output_made past kept)
+
+-- ---- a handle and a call
+
+-- a call over the whole input answers as a run whose texts were taken, and puts these into its rooms
+pub record CallAnswersAlike (past : HandlePast) (answer call : Answer) (before after : Rooms) : Type 0 where
+  pub status : call.status ≡ answer.status
+  pub code : call.code ≡ answer.code
+  pub line : call.line ≡ answer.line
+  pub output_length : call.output_length ≡ length past.output
+  pub messages_length : call.messages_length ≡ length past.messages
+  pub output : after.output ≡ placed past.output before.output
+  pub messages : after.messages ≡ placed past.messages before.messages
+
+-- the whole result of some bytes was taken
+abbrev pub all_taken : Task → List ℕ → HandlePast
+all_taken task fed =
+    record { fed = fed; output = (result_for task fed).output; messages = (result_for task fed).messages }
