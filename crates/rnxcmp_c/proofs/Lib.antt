@@ -1,4 +1,5 @@
 pub mod Cut
+pub mod EndedLemmas
 pub mod FedLemmas
 pub mod GoingLemmas
 pub mod HandleLemmas

@@ -1,4 +1,4 @@
-use Rattle.std.proofs.Common.{◌≡◌, ◌≤◌, ℕ, List, ◌++◌, length, arith, refl, sym, ap, ◌∙◌, subst, append-nil}
+use Rattle.std.proofs.Common.{◌≡◌, ◌≤◌, ℕ, List, length, arith, refl, sym, ap, ◌∙◌, subst, append-nil}
 use Rattle.crx_runs.specs.meaning.Results.{FilterResult}
 use Rattle.rnxcmp_c.specs.declared.answer.Answer.{Answer}
 use Rattle.rnxcmp_c.specs.meaning.Answers.{ExceedsLimit, Rooms, fault_code_in, line_in, placed, rooms, status_in}
