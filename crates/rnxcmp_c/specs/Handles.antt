@@ -31,7 +31,7 @@ use Rattle.rnxcmp_c.specs.declared.engines.AnyEngine.TheVariants.{Compacting, Ex
 use Rattle.rnxcmp_c.specs.declared.held.Held.{Held}
 use Rattle.rnxcmp_c.specs.declared.limits.TheConstants.{READY_LIMIT}
 use Rattle.rnxcmp_c.specs.Holding.{ready_in}
-use Rattle.rnxcmp_c.specs.Waiting.{waiting}
+use Rattle.rnxcmp_c.specs.Waiting.{IsRefused, waiting}
 use Rattle.rnxcmp_c.specs.declared.reader.Reader.{Reader}
 use Rattle.rnxcmp_c.specs.declared.stop.Stop.{Stop}
 use Rattle.rnxcmp_c.specs.declared.stop.Stop.TheVariants.{Fault, Limit}
@@ -220,12 +220,13 @@ pub record IsPutDown (old new : Held) (outcome : Outcome) (at : At) : Type 0 whe
   pub output : waiting new.output ≡ waiting old.output
   pub messages : waiting new.messages ≡ waiting old.messages ++ error_text (Some at)
 
--- its message couldn't be kept, which is out of memory at its line; both texts are as they were
+-- its message was refused, which is out of memory at its line; both texts are as they were
 pub record IsPutSilently (old new : Held) (outcome : Outcome) (at : At) : Type 0 where
   pub status : outcome.status ≡ 1
   pub fault : outcome.fault ≡ Some (record { line = at.line; fault = OutOfMemory })
   pub output : waiting new.output ≡ waiting old.output
   pub messages : waiting new.messages ≡ waiting old.messages
+  pub refused : IsRefused old.messages (length (error_text (Some at)))
 
 abbrev pub IsPut : Held → Held → At → Option Outcome → Type 0
 IsPut old new at None = ⊥

@@ -1,10 +1,16 @@
 -- What a handle's texts are, for their caller.
-use Rattle.std.specs.Prelude.{◌≡◌, ℕ, List, drop}
+use Rattle.std.specs.Prelude.{◌≡◌, ◌⊎◌, ◌<◌, ℕ, ◌+◌, List, drop, length, vec_capacity}
+use Rattle.rnxcmp_c.specs.declared.limits.TheConstants.{WAITING_LIMIT}
 use Rattle.rnxcmp_c.specs.declared.pending.Pending.{Pending}
 
 -- the bytes that were made and not handed out
 abbrev pub waiting : Pending → List ℕ
 waiting p = drop p.passed p.bytes.items
+
+-- so many bytes were refused: more than may wait would wait then, or the buffer was too small for them
+abbrev pub IsRefused : Pending → ℕ → Type 0
+IsRefused p count = (WAITING_LIMIT < length (waiting p) + count)
+    ⊎ (vec_capacity p.bytes < length p.bytes.items + count)
 
 -- what is counted beside the bytes is the same
 pub record CountsAlike (before after : Pending) : Type 0 where

@@ -1,5 +1,5 @@
-use Rattle.std.proofs.Common.{inr, List, ◌++◌, ℕ, refl, ap, ◌∙◌}
-use Rattle.rnxcmp_c.specs.Waiting.{waiting}
+use Rattle.std.proofs.Common.{inl, inr, List, ◌++◌, ℕ, length, refl, ap, subst, ◌∙◌}
+use Rattle.rnxcmp_c.specs.Waiting.{IsRefused, waiting}
 use Rattle.rnxcmp_c.proofs.reader.put_down.Goals as goal
 
 pub returns-then-add : goal.returns-then-add
@@ -10,4 +10,15 @@ returns-then-add c =
       output = refl;
       messages = c.add.ensures.taken c.if-add.true
           ∙ ap (λ (t : List ℕ). waiting c.args.held.now.messages ++ t) (c.bytes.ensures.value ∙ c.message.ensures);
+    })
+
+pub returns : goal.returns
+returns c =
+    inl (record {
+      status = refl;
+      fault = refl;
+      output = refl;
+      messages = c.add.ensures.unchanged c.if-add.false;
+      refused = subst (λ (t : List ℕ). IsRefused c.args.held.now.messages (length t))
+          (c.bytes.ensures.value ∙ c.message.ensures) (c.add.ensures.refused c.if-add.false);
     })
