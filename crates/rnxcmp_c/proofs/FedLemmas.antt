@@ -4,8 +4,9 @@ use Rattle.std.proofs.Common.{refl, sym, ap, ◌∙◌, subst, arith, length-tak
 use Rattle.std.proofs.lemmas.List.{take-take}
 use Rattle.crx_faults.specs.declared.limits.TheConstants.{INPUT_LIMIT}
 use Rattle.crx_runs.specs.declared.outcome.Outcome.{Outcome}
+use Rattle.rnxcmp_c.specs.Going.{StopsSoon}
 use Rattle.rnxcmp_c.specs.Handles.{FeedsBy, FeedsBytes, HasFed, IsFed, ReaderHasPassed, ReaderRuns, StandsBy}
-use Rattle.rnxcmp_c.specs.Handles.{allowed_after, answer_now}
+use Rattle.rnxcmp_c.specs.Handles.{allowed_after, answer_now, filter_for}
 use Rattle.rnxcmp_c.specs.meaning.Handles.{Task, HandlePast, IsMisused, fed_with}
 use Rattle.rnxcmp_c.specs.declared.answer.Answer.{Answer}
 use Rattle.rnxcmp_c.specs.declared.reader.Reader.{Reader}
@@ -16,8 +17,10 @@ module _ (task : Task) (old new : Reader) (past : HandlePast) (bytes allowed : L
       → (length allowed ≡ 0 → 0 < length bytes → (used ≡ 0) × ReaderHasPassed task new past)
       → ((0 < length bytes → 0 < length allowed) → HasFed task new (fed_with past (take used allowed)))
       → ((0 < length bytes → 0 < length allowed) → IsFed old new (length allowed) used)
+      → ((0 < length bytes → 0 < length allowed) → new.outcome ≡ None → 0 < used
+      → StopsSoon (filter_for task) past allowed used)
       → FeedsBytes task old new past bytes used answer
-  fed-bytes first answers runs over fed count =
+  fed-bytes first answers runs over fed count soon =
       let same : allowed ≡ allowed_after past bytes =
       first ∙ ap (λ n. take (INPUT_LIMIT - n) bytes) runs.counted in
       let left : ℕ = INPUT_LIMIT - length past.fed in
@@ -38,6 +41,8 @@ module _ (task : Task) (old new : Reader) (past : HandlePast) (bytes allowed : L
             (fed (λ b. subst (λ (l : List ℕ). 0 < length l) (sym same) (h b)));
         some = λ h. (count (some h)).some (subst (λ (l : List ℕ). 0 < length l) (sym same) h);
         all = λ none h. (count (λ _. omega (arith, h, ap length same))).all none (omega (arith, h, ap length same));
+        soon = λ none h. subst (λ (l : List ℕ). StopsSoon (filter_for task) past l used) same
+            (soon (λ _. omega (arith, h, within)) none h);
         still = λ h. (count (some h)).still;
       }
 
@@ -48,10 +53,12 @@ module _ (task : Task) (old new : Reader) (past : HandlePast) (bytes allowed : L
       → (ReaderRuns task old past → (0 < length bytes → 0 < length allowed)
       → HasFed task new (fed_with past (take used allowed)))
       → ((0 < length bytes → 0 < length allowed) → IsFed old new (length allowed) used)
+      → (ReaderRuns task old past → (0 < length bytes → 0 < length allowed) → new.outcome ≡ None → 0 < used
+      → StopsSoon (filter_for task) past allowed used)
       → FeedsBy task old new past bytes used answer outcome
-  fed-by first answers None none runs over fed count =
-      fed-bytes first answers runs (over runs) (fed runs) count
-  fed-by first answers (Some outcome) none stands over fed count = absurd (cc)
+  fed-by first answers None none runs over fed count soon =
+      fed-bytes first answers runs (over runs) (fed runs) count (soon runs)
+  fed-by first answers (Some outcome) none stands over fed count soon = absurd (cc)
 
 -- the run has ended before
 pub misused-by : (task : Task) (reader : Reader) (past : HandlePast) (bytes : List ℕ) (answer : Answer)

@@ -2,7 +2,7 @@
 use Rattle.std.proofs.Common.{◌≡◌, ◌≢◌, ◌⊎◌, inl, inr, ℕ, ◌+◌, ◌<◌, ◌≤◌, true, false, ◌||◌, List, [], ◌∷◌, ◌++◌, ⊎_elim}
 use Rattle.std.proofs.Common.{length, take, drop, slice_index, None, refl, sym, ap, ◌∙◌, subst, arith, append-nil}
 use Rattle.std.proofs.Common.{append_assoc, length-append, length-take}
-use Rattle.std.proofs.lemmas.List.{drop_more, get_or-take, take-append-drop}
+use Rattle.std.proofs.lemmas.List.{drop_more, get_or-take, take-append-drop, take_at}
 use Rattle.std.proofs.lemmas.List.Elements.{All-append, All-from_get_or}
 use Rattle.crx_faults.specs.meaning.Lines.{InputLine, lines_of}
 use Rattle.crx_faults.specs.meaning.Seen.{ended_lines_of}
@@ -24,10 +24,48 @@ use Rattle.rnxcmp_c.specs.Going.{piece_line, IsAll, IsFailed, LineFails, IsCutSh
 use Rattle.rnxcmp_c.specs.Going.{AddsWithin, AreCutShort, AreFirstWarnings, EndsPastLimit, IsKeptWithin, IsPastLimit}
 use Rattle.rnxcmp_c.specs.Going.{MovesWithin, PassesLimit}
 use Rattle.rnxcmp_c.specs.Going.{RunBreaks, RunFails, StepStops, with_one_more}
-use Rattle.rnxcmp_c.specs.declared.limits.TheConstants.{LINE_ROOM}
+use Rattle.rnxcmp_c.specs.Going.{StopsSoon}
+use Rattle.rnxcmp_c.specs.Holding.{ready_in}
+use Rattle.rnxcmp_c.specs.declared.limits.TheConstants.{LINE_ROOM, READY_LIMIT}
 use Rattle.rnxcmp_c.specs.declared.stop.Stop.{Stop}
 use Rattle.rnxcmp_c.specs.declared.stop.Stop.TheVariants.{Fault, Limit}
 use Rattle.rnxcmp_c.proofs.PieceLemmas.{none-where_none}
+
+-- a line more was taken, or the last part of one, since little enough waited
+pub soon-by : (filter : Filter) (shows : List InputLine → List Awaited → Type 0) (past : HandlePast)
+    (bytes done some rest : List ℕ) (old new : Held) → bytes ≡ done ++ (some ++ rest)
+    → IsGoing filter shows old (fed_with past done) → new.number ≡ length (ended_lines_of ((past.fed ++ done) ++ some))
+    → new.number ≤ old.number + 1 → 0 < length some → ready_in old < READY_LIMIT
+    → StopsSoon filter past bytes (length (done ++ some))
+soon-by filter shows past bytes done some rest old new all going number few more low =
+    let first : take (length done) bytes ≡ done =
+    ap (take (length done)) all ∙ take_at done (some ++ rest) (length done) refl in
+    let both : take (length (done ++ some)) bytes ≡ done ++ some =
+    ap (take (length (done ++ some))) (all ∙ sym (append_assoc done some rest))
+    ∙ take_at (done ++ some) rest (length (done ++ some)) refl in
+    record {
+      before = length done;
+      within = omega (arith, length-append done some, more);
+      one = omega (
+        arith,
+        few,
+        going.number,
+        number,
+        ap (λ (l : List ℕ). length (ended_lines_of (past.fed ++ l))) first,
+        ap (λ (l : List ℕ). length (ended_lines_of (past.fed ++ l))) both,
+        ap (λ (l : List ℕ). length (ended_lines_of l)) (append_assoc past.fed done some),
+      );
+      low = omega (
+        arith,
+        low,
+        ap (λ (l : List ℕ). length (filter.so_far (ended_lines_of (past.fed ++ l))).output) first,
+        ap (λ (l : List ℕ). length (notices_text (filter.so_far (ended_lines_of (past.fed ++ l))).warnings)) first,
+        ap length going.text.wrote,
+        ap length going.text.reported,
+        length-append past.output (waiting old.output),
+        length-append past.messages (waiting old.messages),
+      );
+    }
 
 -- the bytes before the first LF have none
 pub no_feed-before : (bytes : List ℕ) (n : ℕ) → n ≤ length bytes

@@ -127,6 +127,17 @@ pub record IsTaken (old new : Held) (length count : ℕ) : Type 0 where
   pub all : count < length → READY_LIMIT ≤ ready_in new
   pub still : READY_LIMIT ≤ ready_in old → (count ≡ 0) × (new ≡ old)
 
+-- so many bytes were taken: without the last line of them, or the last part of one, less was ready than READY_LIMIT; what
+-- is ready is what the lines make whose LF was fed, but for what was taken of it
+pub record StopsSoon (filter : Filter) (past : HandlePast) (bytes : List ℕ) (count : ℕ) : Type 0 where
+  pub before : ℕ
+  pub within : before < count
+  pub one : length (ended_lines_of (past.fed ++ take count bytes))
+      ≤ length (ended_lines_of (past.fed ++ take before bytes)) + 1
+  pub low : length (filter.so_far (ended_lines_of (past.fed ++ take before bytes))).output
+      + length (notices_text (filter.so_far (ended_lines_of (past.fed ++ take before bytes))).warnings)
+      < (length past.output + length past.messages) + READY_LIMIT
+
 -- a text was written and reported: what was taken of it, and then what is kept
 pub record IsText (course : Course) (held : Held) (past : HandlePast) : Type 0 where
   pub wrote : course.output ≡ past.output ++ waiting held.output

@@ -20,7 +20,7 @@ use Rattle.crx_filter.specs.ExpanderState.{expander_state}
 use Rattle.crx_reading.specs.ExpansionByLine.{expansion, expansion_seen}
 use Rattle.crx_runs.specs.declared.outcome.Outcome.{Outcome}
 use Rattle.crx_runs.specs.meaning.Runs.{FaultIs}
-use Rattle.rnxcmp_c.specs.Going.{AreFirstWarnings, IsGoing, with_one_more}
+use Rattle.rnxcmp_c.specs.Going.{AreFirstWarnings, IsGoing, StopsSoon, with_one_more}
 use Rattle.rnxcmp_c.specs.meaning.Handles.{HandlePast, IsMisused, Task, Compact, Expand, Check, fed_with, limit_for}
 use Rattle.rnxcmp_c.specs.meaning.Handles.{result_for}
 use Rattle.rnxcmp_c.specs.meaning.Answers.{IsWithinLimit, fault_code_in, line_in}
@@ -270,7 +270,7 @@ answer_now reader = record {
 abbrev pub allowed_after : HandlePast → List ℕ → List ℕ
 allowed_after past bytes = take (INPUT_LIMIT - length past.fed) bytes
 
--- so many more bytes were fed, a line's after another's, as long as little enough waited to be taken; or there were some,
+-- so many more bytes were fed, a line's after another's, as long as little enough waited to be taken, and no more; or there were some,
 -- and no more may be fed, which ends the run
 pub record FeedsBytes (task : Task) (old new : Reader) (past : HandlePast) (bytes : List ℕ) (used : ℕ)
     (answer : Answer) : Type 0 where
@@ -280,6 +280,7 @@ pub record FeedsBytes (task : Task) (old new : Reader) (past : HandlePast) (byte
   pub fed : (0 < length bytes → 0 < length (allowed_after past bytes)) → HasFed task new (fed_with past (take used bytes))
   pub some : 0 < length (allowed_after past bytes) → ready_in old.held < READY_LIMIT → 0 < used
   pub all : new.outcome ≡ None → used < length (allowed_after past bytes) → READY_LIMIT ≤ ready_in new.held
+  pub soon : new.outcome ≡ None → 0 < used → StopsSoon (filter_for task) past (allowed_after past bytes) used
   pub still : 0 < length (allowed_after past bytes) → READY_LIMIT ≤ ready_in old.held → (used ≡ 0) × (new.held ≡ old.held)
 
 abbrev pub FeedsBy : Task → Reader → Reader → HandlePast → List ℕ → ℕ → Answer → Option Outcome → Type 0

@@ -4,7 +4,7 @@ ghost use Rattle.std.specs.Prelude.{◌≡◌, ◌<◌, ◌≤◌, ◌+◌, [], 
 ghost use Rattle.crx_faults.specs.declared.limits.TheConstants.{INPUT_LIMIT};
 ghost use Rattle.crx_faults.specs.meaning.Lines.{lines_of};
 ghost use Rattle.crx_runs.specs.Lawful.{IsLawful};
-ghost use Rattle.rnxcmp_c.specs.Going.{IsAll, IsGoing, IsTaken, RunBreaks, RunFails};
+ghost use Rattle.rnxcmp_c.specs.Going.{IsAll, IsGoing, IsTaken, RunBreaks, RunFails, StopsSoon};
 ghost use Rattle.rnxcmp_c.specs.Holding.{ready_in};
 ghost use Rattle.rnxcmp_c.specs.declared.limits.TheConstants.{READY_LIMIT};
 ghost use Rattle.rnxcmp_c.specs.Handles.{IsOf, engine_filter, has_ended_of, is_open_of, ready_of, shows_of, status_at_end};
@@ -39,6 +39,8 @@ pub(crate) fn take_any(engine: &mut AnyEngine, held: &mut Held, bytes: &[u8]) ->
     ensures drained { OnOk result (ready_of engine.new ≡ []) }
     ensures limit { held.new.limit ≡ held.old.limit }
     ensures count { IfOk result (IsTaken held.old held.new (length bytes.now)) }
+    ensures soon { (past : HandlePast) → IsGoing (engine_filter engine.old) (shows_of engine.old) held.old past
+        → IfOk result (λ n. 0 < n → StopsSoon (engine_filter engine.old) past bytes.now n) }
     ensures low { OnErr result (ready_in held.old < READY_LIMIT) }
     ensures going { (past : HandlePast) → IsGoing (engine_filter engine.old)
         (shows_of engine.old) held.old past → IfOk result (λ n.

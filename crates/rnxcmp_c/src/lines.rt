@@ -6,7 +6,7 @@ ghost use Rattle.crx_faults.specs.declared.limits.TheConstants.{INPUT_LIMIT};
 ghost use Rattle.crx_faults.specs.meaning.Lines.{InputLine, ends_with_return, lines_of, without_return};
 ghost use Rattle.crx_runs.specs.Lawful.{IsLawful};
 ghost use Rattle.crx_runs.specs.meaning.Filters.{with_next};
-ghost use Rattle.rnxcmp_c.specs.Going.{IsAll, IsGoing, IsKept, IsTaken, LineStops, MovesOn, MovesWithin, RunBreaks, RunFails, StepStops, StopsBy, piece_line};
+ghost use Rattle.rnxcmp_c.specs.Going.{IsAll, IsGoing, IsKept, IsTaken, LineStops, MovesOn, MovesWithin, RunBreaks, RunFails, StepStops, StopsBy, StopsSoon, piece_line};
 ghost use Rattle.rnxcmp_c.specs.meaning.Handles.{HandlePast, fed_with};
 ghost use Rattle.rnxcmp_c.specs.Holding.{StaysWithin, StopsCounted, ready_in};
 ghost use Rattle.rnxcmp_c.specs.Waiting.{waiting};
@@ -197,6 +197,7 @@ fn take_next<E: Engine>(engine: &mut E, held: &mut Held, bytes: &[u8]) -> Result
     ensures drained { OnOk result (E.ready engine.new ≡ []) }
     ensures limit { held.new.limit ≡ held.old.limit }
     ensures count { IfOk result (λ n. (n ≤ length bytes.now) × (0 < length bytes.now → 0 < n)) }
+    ensures number { OnOk result (held.new.number ≤ held.old.number + 1) }
     ensures going { (past : HandlePast) → IsGoing (E.filter engine.old) (E.shows engine.old) held.old past
         → IfOk result (λ n. IsGoing (E.filter engine.old) (E.shows engine.new) held.new
         (fed_with past (take n bytes.now))) }
@@ -241,6 +242,8 @@ pub(crate) fn take_bytes<E: Engine>(
     ensures drained { OnOk result (E.ready engine.new ≡ []) }
     ensures limit { held.new.limit ≡ held.old.limit }
     ensures count { IfOk result (IsTaken held.old held.new (length bytes.now)) }
+    ensures soon { (past : HandlePast) → IsGoing (E.filter engine.old) (E.shows engine.old) held.old past
+        → IfOk result (λ n. 0 < n → StopsSoon (E.filter engine.old) past bytes.now n) }
     ensures low { OnErr result (ready_in held.old < READY_LIMIT) }
     ensures going { (past : HandlePast) → IsGoing (E.filter engine.old) (E.shows engine.old) held.old past
         → IfOk result (λ n. IsGoing (E.filter engine.old)

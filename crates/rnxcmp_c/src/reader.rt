@@ -2,7 +2,8 @@
 
 ghost use Rattle.std.specs.Prelude.{◌≡◌, ◌<◌, ◌≤◌, ◌+◌, ◌-◌, false, length, take, true, None, Some};
 ghost use Rattle.crx_faults.specs.declared.limits.TheConstants.{INPUT_LIMIT};
-ghost use Rattle.rnxcmp_c.specs.Handles.{Ends, Feeds, HasFed, IsFed, IsPut, EndsRunBy, ReaderHasEnded, ReaderHasPassed, ReaderRuns, ReaderStands, answer_now};
+ghost use Rattle.rnxcmp_c.specs.Going.{StopsSoon};
+ghost use Rattle.rnxcmp_c.specs.Handles.{Ends, Feeds, HasFed, IsFed, IsPut, EndsRunBy, ReaderHasEnded, ReaderHasPassed, ReaderRuns, ReaderStands, answer_now, filter_for};
 ghost use Rattle.rnxcmp_c.specs.meaning.Handles.{Task, HandlePast, fed_with, taken_with};
 ghost use Rattle.rnxcmp_c.specs.Waiting.{waiting};
 ghost use Rattle.rnxcmp_c.specs.declared.answer.TheConstants.{OUTPUT_LIMIT};
@@ -84,6 +85,8 @@ impl Reader {
         requires running { (task : Task) × (past : HandlePast) × ReaderRuns task self.old past
             × (length past.fed + length bytes.now ≤ INPUT_LIMIT) }
         ensures count { IsFed self.old self.new (length bytes.now) result }
+        ensures soon { (task : Task) (past : HandlePast) → ReaderRuns task self.old past
+            → self.new.outcome ≡ None → 0 < result → StopsSoon (filter_for task) past bytes.now result }
         ensures fed { (task : Task) (past : HandlePast) → ReaderRuns task self.old past
             → HasFed task self.new (fed_with past (take result bytes.now)) }
     {
@@ -169,6 +172,9 @@ impl Reader {
             → HasFed task self.new (fed_with past (take result allowed.now)) }
         ensures count { (0 < length bytes.now → 0 < length allowed.now)
             → IsFed self.old self.new (length allowed.now) result }
+        ensures soon { (0 < length bytes.now → 0 < length allowed.now)
+            → (task : Task) (past : HandlePast) → ReaderRuns task self.old past
+            → self.new.outcome ≡ None → 0 < result → StopsSoon (filter_for task) past allowed.now result }
     {
         if is_past(allowed, bytes) {
             self.pass_limit();

@@ -1,6 +1,6 @@
-use Rattle.std.proofs.Common.{IfErr, IfOk, take, sym, subst}
+use Rattle.std.proofs.Common.{◌<◌, IfErr, IfOk, take, sym, subst}
 use Rattle.crx_runs.specs.meaning.Filters.{Filter}
-use Rattle.rnxcmp_c.specs.Going.{IsGoing, RunBreaks}
+use Rattle.rnxcmp_c.specs.Going.{IsGoing, RunBreaks, StopsSoon}
 use Rattle.rnxcmp_c.specs.meaning.Handles.{HandlePast, fed_with}
 use Rattle.rnxcmp_c.specs.Handles.{engine_filter, shows_of}
 use Rattle.rnxcmp_c.specs.declared.engines.AnyEngine.{AnyEngine}
@@ -48,3 +48,24 @@ pub returns-in-Checking-clause-going : goal.returns-in-Checking-clause-going
 returns-in-Checking-clause-going c = λ (past : HandlePast) is.
     c.take_bytes-in-Checking.ensures.going past (subst (λ (e : AnyEngine). IsGoing (engine_filter e)
     (shows_of e) c.args.held.now past) c.in-Checking.is is)
+
+pub returns-in-Compacting-clause-soon : goal.returns-in-Compacting-clause-soon
+returns-in-Compacting-clause-soon c = λ (past : HandlePast) is.
+    subst (λ (e : AnyEngine). IfOk c.take_bytes.result
+    (λ n. 0 < n → StopsSoon (engine_filter e) past c.args.bytes.now n)) (sym c.in-Compacting.is)
+    (c.take_bytes.ensures.soon past (subst (λ (e : AnyEngine). IsGoing (engine_filter e)
+    (shows_of e) c.args.held.now past) c.in-Compacting.is is))
+
+pub returns-in-Expanding-clause-soon : goal.returns-in-Expanding-clause-soon
+returns-in-Expanding-clause-soon c = λ (past : HandlePast) is.
+    subst (λ (e : AnyEngine). IfOk c.take_bytes-in-Expanding.result
+    (λ n. 0 < n → StopsSoon (engine_filter e) past c.args.bytes.now n)) (sym c.in-Expanding.is)
+    (c.take_bytes-in-Expanding.ensures.soon past (subst (λ (e : AnyEngine). IsGoing (engine_filter e)
+    (shows_of e) c.args.held.now past) c.in-Expanding.is is))
+
+pub returns-in-Checking-clause-soon : goal.returns-in-Checking-clause-soon
+returns-in-Checking-clause-soon c = λ (past : HandlePast) is.
+    subst (λ (e : AnyEngine). IfOk c.take_bytes-in-Checking.result
+    (λ n. 0 < n → StopsSoon (engine_filter e) past c.args.bytes.now n)) (sym c.in-Checking.is)
+    (c.take_bytes-in-Checking.ensures.soon past (subst (λ (e : AnyEngine). IsGoing (engine_filter e)
+    (shows_of e) c.args.held.now past) c.in-Checking.is is))

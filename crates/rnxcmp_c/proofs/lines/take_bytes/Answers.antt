@@ -1,13 +1,14 @@
-use Rattle.std.proofs.Common.{rules, ℕ, ◌≡◌, ◌+◌, ◌<◌, List, ◌++◌, length, take, drop, sym, ap, ◌∙◌, subst, arith, append_assoc}
+use Rattle.std.proofs.Common.{rules, ℕ, ◌≡◌, ◌+◌, ◌-◌, ◌<◌, List, ◌++◌, length, take, drop, sym, ap, ◌∙◌, subst, arith, append_assoc}
 use Rattle.std.proofs.Common.{length-append, length-take-le, ⊎_elim}
 use Rattle.std.proofs.lemmas.List.{take-append-drop}
 use Rattle.std.proofs.lemmas.Result.{err_from_is_err_and}
 use Rattle.crx_runs.specs.meaning.Filters.{Filter}
-use Rattle.rnxcmp_c.specs.Going.{RunBreaks, IsGoing}
+use Rattle.rnxcmp_c.specs.Going.{RunBreaks, IsGoing, StopsSoon}
 use Rattle.rnxcmp_c.specs.meaning.Handles.{HandlePast, fed_with}
 use Rattle.rnxcmp_c.specs.Holding.{ready_in}
 use Rattle.rnxcmp_c.specs.declared.held.Held.{Held}
 use Rattle.rnxcmp_c.specs.declared.limits.TheConstants.{READY_LIMIT}
+use Rattle.rnxcmp_c.proofs.GoingLemmas.{soon-by}
 use Rattle.rnxcmp_c.proofs.PieceLemmas.{none-or}
 use Rattle.rnxcmp_c.proofs.lines.take_bytes.Goals as goal
 
@@ -65,6 +66,13 @@ bytes-preserved g c =
         (λ none. absurd (omega (arith, none, long, more))),
         λ long. ⊎_elim (λ none. subst (λ (h : Held). ready_in h < READY_LIMIT) (i.0.3 none) low)
             (λ some. i.0.4 some) (none-or (length done)),
+        λ long past is.
+            let going = subst (λ (f : Filter). IsGoing f shows c.bytes.held (fed_with past done)) (sym i.1)
+            (i.0.2 past is) in
+            soon-by first shows past c.args.bytes.now done some (drop count left) c.bytes.held held
+            (i.0.1 ∙ ap (λ (l : List ℕ). done ++ l) (sym (take-append-drop count left))) (i.0.2 past is)
+            (c.in_ok-count.ensures.going (fed_with past done) going).number c.in_ok-count.ensures.number
+            (omega (arith, more, length-take-le count left c.in_ok-count.ensures.count.0)) low,
       ),
       c.take_next.ensures.filter ∙ i.1,
       c.in_ok-count.ensures.drained,
@@ -103,3 +111,12 @@ returns-in_err-count-clause-low g c =
     (λ some. i.0.4 some) (none-or (length i.0.0)) in
     let p = err_from_is_err_and c.from_residual.result c.from_residual.ensures.1 in
     rw p.1 before
+
+pub returns-clause-soon : goal.returns-clause-soon
+returns-clause-soon g c = λ (past : HandlePast) is more.
+    let i = c.bytes.invariant in
+    let done : List ℕ = i.0.0 in
+    let count : ℕ = length c.args.bytes.now - length c.bytes.left.now in
+    let same : length done ≡ count = omega (arith, ap length i.0.1, length-append done c.bytes.left.now) in
+    subst (λ (n : ℕ). StopsSoon (g.E.Engine.filter c.args.engine.now) past c.args.bytes.now n) same
+    (i.0.5 (omega (arith, more, same)) past is)

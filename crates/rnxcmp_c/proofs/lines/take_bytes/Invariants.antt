@@ -1,5 +1,5 @@
 use Rattle.std.proofs.Common.{◌≡◌, ◌<◌, List, [], ℕ, ◌++◌, length}
-use Rattle.rnxcmp_c.specs.Going.{IsGoing}
+use Rattle.rnxcmp_c.specs.Going.{IsGoing, StopsSoon}
 use Rattle.rnxcmp_c.specs.meaning.Handles.{HandlePast, fed_with}
 use Rattle.rnxcmp_c.specs.Holding.{ready_in}
 use Rattle.rnxcmp_c.specs.declared.limits.TheConstants.{READY_LIMIT}
@@ -11,7 +11,10 @@ invariant-bytes g l =
     → IsGoing (g.E.Engine.filter l.initial.engine) (g.E.Engine.shows l.initial.engine) l.initial.held past
     → IsGoing (g.E.Engine.filter l.initial.engine) (g.E.Engine.shows l.engine) l.held (fed_with past done))
     × (length done ≡ 0 → l.held ≡ l.initial.held)
-    × (0 < length done → ready_in l.initial.held < READY_LIMIT))
+    × (0 < length done → ready_in l.initial.held < READY_LIMIT)
+    × (0 < length done → (past : HandlePast)
+    → IsGoing (g.E.Engine.filter l.initial.engine) (g.E.Engine.shows l.initial.engine) l.initial.held past
+    → StopsSoon (g.E.Engine.filter l.initial.engine) past l.initial.left (length done)))
     × (g.E.Engine.filter l.engine ≡ g.E.Engine.filter l.initial.engine)
     × (g.E.Engine.ready l.engine ≡ [])
     × g.E.Engine.is_open l.engine

@@ -3,7 +3,9 @@ use Rattle.std.proofs.lemmas.List.{take_all}
 use Rattle.rnxcmp_c.specs.Handles.{HasFed}
 use Rattle.rnxcmp_c.specs.meaning.Handles.{Task, HandlePast, fed_with}
 use Rattle.rnxcmp_c.specs.declared.reader.Reader.{Reader}
-use Rattle.rnxcmp_c.proofs.ReaderLemmas.{stops-over}
+use Rattle.crx_runs.specs.meaning.Filters.{Filter}
+use Rattle.rnxcmp_c.specs.Going.{StopsSoon}
+use Rattle.rnxcmp_c.proofs.ReaderLemmas.{filter-is, stops-over}
 use Rattle.rnxcmp_c.proofs.reader.Reader.feed.Goals as goal
 
 pub returns-in-Err-clause-fed : goal.returns-in-Err-clause-fed
@@ -18,3 +20,8 @@ returns-in-Err-clause-fed c = λ (task : Task) (past : HandlePast) is.
     (stops-over task c.args.self.now.engine is.is_of new c.take_any.new.held (c.in-Err.ensures.limit ∙ is.limit)
     c.outcome_of.result (fed_with past bytes) c.in-Err.stop (c.in-Err.ensures.breaks past is.going)
     c.outcome_of.ensures)
+
+pub returns-in-Ok-clause-soon : goal.returns-in-Ok-clause-soon
+returns-in-Ok-clause-soon c = λ (task : Task) (past : HandlePast) is none more.
+    subst (λ (f : Filter). StopsSoon f past c.args.bytes.now c.in-Ok.count)
+    (filter-is task c.args.self.now.engine is.is_of) (c.in-Ok.ensures.soon past is.going more)

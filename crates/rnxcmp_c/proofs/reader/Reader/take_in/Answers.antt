@@ -15,3 +15,4 @@ returns c = λ (task : Task) (past : HandlePast) stands.
     c.take_allowed-used.result c.answer-answer.result c.allowed-first.ensures c.answer-answer.ensures
     c.args.self.now.outcome (sym c.is_some.ensures ∙ c.if-is_some.false) stands
     (λ runs none some. made.over none some task past runs) (λ runs some. made.fed some task past runs) made.count
+    (λ runs some. made.soon some task past runs)
