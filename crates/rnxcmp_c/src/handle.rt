@@ -201,7 +201,7 @@ pub extern "C" fn rnxcmp_c_feed(
     bytes: &[u8],
     used: &mut usize,
 ) -> Answer
-    requires { IsSoundHandle handle.old }
+    requires sound { IsSoundHandle handle.old }
     ensures closed { handle.old.is_open ≡ false → IsMisused result × (used.new ≡ 0) × IsUnchanged handle.old handle.new }
     ensures feeds { (task : Task) (past : HandlePast) → HandleStands task handle.old past
         → FeedsHandle task handle.old handle.new past bytes.now used.new result }
@@ -230,7 +230,7 @@ pub extern "C" fn rnxcmp_c_feed(
 /// Takes the end of the input.
 #[unsafe(no_mangle)]
 pub extern "C" fn rnxcmp_c_end(alloc: Global, handle: &mut Handle) -> Answer
-    requires { IsSoundHandle handle.old }
+    requires sound { IsSoundHandle handle.old }
     ensures closed { handle.old.is_open ≡ false → IsMisused result × IsUnchanged handle.old handle.new }
     ensures ends { (task : Task) (past : HandlePast) → HandleStands task handle.old past
         → EndsHandle task handle.old handle.new past result }
@@ -291,7 +291,7 @@ pub extern "C" fn rnxcmp_c_take(
     output: &mut [u8],
     messages: &mut [u8],
 ) -> Answer
-    requires { IsSoundHandle handle.old }
+    requires sound { IsSoundHandle handle.old }
     ensures closed { handle.old.is_open ≡ false → IsMisused result × IsUnchanged handle.old handle.new
         × (output.new ≡ output.old) × (messages.new ≡ messages.old) }
     ensures output { handle.old.is_open ≡ true
@@ -349,7 +349,7 @@ pub extern "C" fn rnxcmp_c_take(
 /// Closes a handle, and frees what it holds.
 #[unsafe(no_mangle)]
 pub extern "C" fn rnxcmp_c_close(alloc: Global, handle: &mut Handle)
-    requires { IsSoundHandle handle.old }
+    requires sound { IsSoundHandle handle.old }
     ensures closed { handle.new.is_open ≡ false }
     ensures nothing { handle.old.is_open ≡ true → handle.new.place.held ≡ [] }
     ensures same { handle.old.is_open ≡ false → IsUnchanged handle.old handle.new }

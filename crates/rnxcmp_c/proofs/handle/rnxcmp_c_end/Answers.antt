@@ -12,7 +12,7 @@ use Rattle.rnxcmp_c.proofs.handle.rnxcmp_c_end.Goals as goal
 
 pub take_out-reader-requires : goal.take_out-reader-requires
 take_out-reader-requires c =
-    let sound = c.requires c.if-not-handle.false in
+    let sound = c.requires.sound c.if-not-handle.false in
     (sound.2.reader, sound.2.holds)
 
 pub returns-clause-ends : goal.returns-clause-ends
@@ -30,7 +30,7 @@ returns-clause-ends c = λ (task : Task) (past : HandlePast) stands.
 
 pub returns-clause-sound : goal.returns-clause-sound
 returns-clause-sound c = λ is_open.
-    let sound = c.requires c.if-not-handle.false in
+    let sound = c.requires.sound c.if-not-handle.false in
     let task = sound.0 in
     let past = sound.1 in
     let same = one-held c.args.handle.now.place.held sound.2.reader c.deref_mut.result.now sound.2.holds

@@ -14,7 +14,7 @@ use Rattle.rnxcmp_c.proofs.handle.rnxcmp_c_take.Goals as goal
 
 pub take_out-reader-requires : goal.take_out-reader-requires
 take_out-reader-requires c =
-    let sound = c.requires c.if-not-handle.false in
+    let sound = c.requires.sound c.if-not-handle.false in
     (sound.2.reader, sound.2.holds)
 
 pub returns-clause-output : goal.returns-clause-output
@@ -64,7 +64,7 @@ returns-clause-stands c = λ (task : Task) (past : HandlePast) stands.
 
 pub returns-clause-sound : goal.returns-clause-sound
 returns-clause-sound c = λ is_open.
-    let sound = c.requires c.if-not-handle.false in
+    let sound = c.requires.sound c.if-not-handle.false in
     let task = sound.0 in
     let past = sound.1 in
     let holds = c.take_out-reader.ensures.reader ∙ ap (λ (r : Reader). r ∷ []) (sym c.deref_mut.ensures.value) in
