@@ -153,8 +153,8 @@ begins-then all mid first a b = record {
 }
 
 -- what was added within the limit leaves all within it
-pub adds-kept : (course : Course) (old new : Held) (past : HandlePast) → course.output ≡ past.output ++ waiting old.output
-    → (0 < old.limit → old.left + length course.output ≡ old.limit) → AddsWithin old new → IsKeptWithin new past
+pub adds-kept : (course : Course) (old new : Held) (past : HandlePast)
+    → course.output ≡ past.output ++ waiting old.output → (0 < old.limit → old.left + length course.output ≡ old.limit) → AddsWithin old new → IsKeptWithin new past
 adds-kept course old new past wrote left adds limited =
     let before : 0 < old.limit = subst (λ (n : ℕ). 0 < n) adds.limit limited in
     omega (

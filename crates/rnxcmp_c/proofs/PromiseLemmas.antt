@@ -25,7 +25,7 @@ use Rattle.rnxcmp_c.specs.Going.{AreFirstWarnings, IsGoing}
 use Rattle.rnxcmp_c.specs.Handles.{ReaderRuns, ReaderStands, RunIsOutOfMemory, RunIsOverLimit}
 use Rattle.rnxcmp_c.specs.Handles.{RunIsTooLong, StandsBy, answer_now, fault_now, filter_for, shows_of, status_now}
 use Rattle.rnxcmp_c.specs.Handles.{HasEndedBy, ReaderHasEnded, ReaderIsOver}
-use Rattle.rnxcmp_c.specs.Opened.{has_ended, texts_kept}
+use Rattle.rnxcmp_c.specs.Opened.{have_ended, texts_in}
 use Rattle.rnxcmp_c.specs.Waiting.{waiting}
 use Rattle.rnxcmp_c.specs.declared.answer.Answer.{Answer}
 use Rattle.rnxcmp_c.specs.declared.answer.TheConstants.{OUTPUT_LIMIT}
@@ -106,7 +106,8 @@ kept_in reader = record { output = waiting reader.held.output; messages = waitin
 
 abbrev answer_by : Option Outcome → Reader → Answer
 answer_by outcome reader =
-    handle_answer (status_now outcome) (line_in (fault_now outcome)) (fault_code_in (fault_now outcome)) (kept_in reader)
+    handle_answer (status_now outcome) (line_in (fault_now outcome)) (fault_code_in (fault_now outcome))
+    (kept_in reader)
 
 answers-same : (kept : KeptTexts) (status then : ℕ) (fault found : Option At) → status ≡ then → fault ≡ found
     → handle_answer status (line_in fault) (fault_code_in fault) kept
@@ -257,15 +258,15 @@ module _ (task : Task) (reader : Reader) (past : HandlePast) where
 module _ (task : Task) (readers : List Reader) (reader : Reader) (past : HandlePast) (answer : Answer)
     (holds : readers ≡ reader ∷ []) (answers : answer ≡ answer_now reader) where
   pub handle-promise : ReaderStands task reader past
-      → HandlePromise (has_ended readers) task past (texts_kept readers) answer
+      → HandlePromise (have_ended readers) task past (texts_in readers) answer
   handle-promise stands =
-      subst (λ (l : List Reader). HandlePromise (has_ended l) task past (texts_kept l) answer) (sym holds)
+      subst (λ (l : List Reader). HandlePromise (have_ended l) task past (texts_in l) answer) (sym holds)
       (subst (λ (a : Answer). HandlePromise (is_some reader.outcome) task past (kept_in reader) a) (sym answers)
       (reader-promise task reader past stands))
 
   pub handle-ended : ReaderHasEnded task reader past
-      → (has_ended readers ≡ true) × RunHasEnded task past (texts_kept readers) answer
+      → (have_ended readers ≡ true) × RunHasEnded task past (texts_in readers) answer
   handle-ended ended =
-      subst (λ (l : List Reader). (has_ended l ≡ true) × RunHasEnded task past (texts_kept l) answer) (sym holds)
+      subst (λ (l : List Reader). (have_ended l ≡ true) × RunHasEnded task past (texts_in l) answer) (sym holds)
       (subst (λ (a : Answer). (is_some reader.outcome ≡ true) × RunHasEnded task past (kept_in reader) a) (sym answers)
       (reader-ended task reader past ended))

@@ -65,7 +65,8 @@ result-faulty (Expand choices limit) input at is = refl
 result-faulty Check input at is = checked-faulty (whole_of input).fault (findings_of (lines_of input)) at is
 
 course-over : (limit : ℕ) (course : Course) (reader : Reader) (mid : Held) (outcome : Outcome) (past : HandlePast)
-    (at : At) → course.fault ≡ Some at → IsText course mid past → IsWithinLimit limit (past.output ++ waiting mid.output)
+    (at : At) → course.fault ≡ Some at → IsText course mid past
+    → IsWithinLimit limit (past.output ++ waiting mid.output)
     → IsPutDown mid reader.held outcome at → ReaderIsOver limit (result_of_course course) reader outcome past
 course-over limit course reader mid outcome past at fault text within put = record {
   status = put.status ∙ ap (status_after course.warnings) (sym fault);
@@ -421,16 +422,22 @@ all-over (Compact choices limit) engine (Compacting c) is now reader outcome pas
     course-well limit _ reader outcome past limited none status
     (subst (λ (f : Filter). IsAll (f.whole (lines_of past.fed)) reader.held past) (filter-is
     (Compact choices limit) engine is) all)
-all-over (Compact choices limit) engine (Expanding c) is now reader outcome past limited none status all ended = absurd now
-all-over (Compact choices limit) engine (Checking c) is now reader outcome past limited none status all ended = absurd now
-all-over (Expand choices limit) engine (Compacting c) is now reader outcome past limited none status all ended = absurd now
+all-over (Compact choices limit) engine (Expanding c) is now reader outcome past limited none status all ended =
+    absurd now
+all-over (Compact choices limit) engine (Checking c) is now reader outcome past limited none status all ended =
+    absurd now
+all-over (Expand choices limit) engine (Compacting c) is now reader outcome past limited none status all ended =
+    absurd now
 all-over (Expand choices limit) engine (Expanding c) is now reader outcome past limited none status all ended =
     course-well limit _ reader outcome past limited none status
     (subst (λ (f : Filter). IsAll (f.whole (lines_of past.fed)) reader.held past) (filter-is
     (Expand choices limit) engine is) all)
-all-over (Expand choices limit) engine (Checking c) is now reader outcome past limited none status all ended = absurd now
-all-over Check engine (Compacting c) is now reader outcome past limited none status all ended = absurd now
-all-over Check engine (Expanding c) is now reader outcome past limited none status all ended = absurd now
+all-over (Expand choices limit) engine (Checking c) is now reader outcome past limited none status all ended =
+    absurd now
+all-over Check engine (Compacting c) is now reader outcome past limited none status all ended =
+    absurd now
+all-over Check engine (Expanding c) is now reader outcome past limited none status all ended =
+    absurd now
 all-over Check engine (Checking c) is now reader outcome past limited none status all ended =
     let whole : IsAll (check_filter.whole (lines_of past.fed)) reader.held past =
     subst (λ (f : Filter). IsAll (f.whole (lines_of past.fed)) reader.held past) (filter-is Check engine is) all in

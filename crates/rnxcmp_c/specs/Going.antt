@@ -127,8 +127,8 @@ pub record IsTaken (old new : Held) (length count : ℕ) : Type 0 where
   pub all : count < length → READY_LIMIT ≤ ready_in new
   pub still : READY_LIMIT ≤ ready_in old → (count ≡ 0) × (new ≡ old)
 
--- so many bytes were taken: without the last line of them, or the last part of one, less was ready than READY_LIMIT; what
--- is ready is what the lines make whose LF was fed, but for what was taken of it
+-- so many bytes were taken: without the last line of them, or the last part of one, less than READY_LIMIT was ready,
+-- which is what the lines make whose LF was fed, but for what was taken of it
 pub record StopsSoon (filter : Filter) (past : HandlePast) (bytes : List ℕ) (count : ℕ) : Type 0 where
   pub before : ℕ
   pub within : before < count

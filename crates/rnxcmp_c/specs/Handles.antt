@@ -103,7 +103,8 @@ pub record ReaderRuns (task : Task) (reader : Reader) (past : HandlePast) : Type
 abbrev pub too_long_after : List ℕ → At
 too_long_after fed = record { line = length (ended_lines_of fed) + 1; fault = InputTooLong }
 
--- the run has ended with this result: what was taken of its texts, and then what is kept; its output is within its limit
+-- the run has ended with this result: what was taken of its texts, and then what is kept; the output is within its
+-- limit
 pub record ReaderIsOver (limit : ℕ) (result : FilterResult) (reader : Reader) (outcome : Outcome)
     (past : HandlePast) : Type 0 where
   pub status : outcome.status ≡ result.status
@@ -270,8 +271,8 @@ answer_now reader = record {
 abbrev pub allowed_after : HandlePast → List ℕ → List ℕ
 allowed_after past bytes = take (INPUT_LIMIT - length past.fed) bytes
 
--- so many more bytes were fed, a line's after another's, as long as little enough waited to be taken, and no more; or there were some,
--- and no more may be fed, which ends the run
+-- so many more bytes were fed, a line's after another's, as long as little enough waited to be taken, and no more; or
+-- there were some, and no more may be fed, which ends the run
 pub record FeedsBytes (task : Task) (old new : Reader) (past : HandlePast) (bytes : List ℕ) (used : ℕ)
     (answer : Answer) : Type 0 where
   pub answers : answer ≡ answer_now new

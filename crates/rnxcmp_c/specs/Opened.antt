@@ -35,14 +35,20 @@ abbrev pub messages_kept : List Reader → List ℕ
 messages_kept [] = []
 messages_kept (reader ∷ more) = waiting reader.held.messages
 
--- both
-abbrev pub texts_kept : List Reader → KeptTexts
-texts_kept held = record { output = output_kept held; messages = messages_kept held }
+abbrev pub texts_in : List Reader → KeptTexts
+texts_in held = record { output = output_kept held; messages = messages_kept held }
 
--- whether its run has ended
-abbrev pub has_ended : List Reader → Bool
-has_ended [] = false
-has_ended (reader ∷ more) = is_some reader.outcome
+abbrev pub have_ended : List Reader → Bool
+have_ended [] = false
+have_ended (reader ∷ more) = is_some reader.outcome
+
+-- both texts that a handle keeps
+abbrev pub texts_kept : Handle → KeptTexts
+texts_kept handle = texts_in handle.place.held
+
+-- whether the run of a handle has ended
+abbrev pub has_ended : Handle → Bool
+has_ended handle = have_ended handle.place.held
 
 -- what became of a handle's run by some bytes, by the end of the input, and by a look at it
 pub record FeedsHandle (task : Task) (old new : Handle) (past : HandlePast) (bytes : List ℕ) (used : ℕ)

@@ -39,8 +39,8 @@ pub(crate) fn take_any(engine: &mut AnyEngine, held: &mut Held, bytes: &[u8]) ->
     ensures drained { OnOk result (ready_of engine.new ≡ []) }
     ensures limit { held.new.limit ≡ held.old.limit }
     ensures count { IfOk result (IsTaken held.old held.new (length bytes.now)) }
-    ensures soon { (past : HandlePast) → IsGoing (engine_filter engine.old) (shows_of engine.old) held.old past
-        → IfOk result (λ n. 0 < n → StopsSoon (engine_filter engine.old) past bytes.now n) }
+    ensures soon { (past : HandlePast) → IsGoing (engine_filter engine.old)
+        (shows_of engine.old) held.old past → IfOk result (λ n. 0 < n → StopsSoon (engine_filter engine.old) past bytes.now n) }
     ensures low { OnErr result (ready_in held.old < READY_LIMIT) }
     ensures going { (past : HandlePast) → IsGoing (engine_filter engine.old)
         (shows_of engine.old) held.old past → IfOk result (λ n.

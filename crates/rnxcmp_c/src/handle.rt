@@ -77,7 +77,7 @@ fn put_in(handle: &mut Handle, reader: Box<Reader>)
 fn open(alloc: Global, handle: &mut Handle, engine: AnyEngine, held: Held) -> Answer
     ensures opened { (task : Task) → IsFresh task engine → HoldsNothing (limit_for task) held → result.status ≡ 0
         → HandleStands task handle.new nothing_fed }
-    ensures running { result.status ≡ 0 → has_ended handle.new.place.held ≡ false }
+    ensures running { result.status ≡ 0 → has_ended handle.new ≡ false }
     ensures answer { (result ≡ bare_answer 0 0 0) ⊎ (result ≡ bare_answer 1 0 (code_of_fault OutOfMemory)) }
     ensures unchanged { (result.status ≡ 0 → ⊥) → IsUnchanged handle.old handle.new }
 {
@@ -119,7 +119,7 @@ pub extern "C" fn rnxcmp_c_open_compact(
 ) -> Answer
     ensures opened { result.status ≡ 0
         → HandleStands (Task.Compact (choices_of (Some every) skip date.now) max_output) handle.new nothing_fed }
-    ensures running { result.status ≡ 0 → has_ended handle.new.place.held ≡ false }
+    ensures running { result.status ≡ 0 → has_ended handle.new ≡ false }
     ensures unchanged { (result.status ≡ 0 → ⊥) → IsUnchanged handle.old handle.new }
     ensures misused { handle.old.is_open ≡ true → IsMisused result }
     ensures date { handle.old.is_open ≡ false → is_date date.now ≡ false → result ≡ bare_answer BAD_DATE 0 0 }
@@ -151,7 +151,7 @@ pub extern "C" fn rnxcmp_c_open_expand(
 ) -> Answer
     ensures opened { result.status ≡ 0 → (choices : Choices) × (choices.skip ≡ skip)
         × HandleStands (Task.Expand choices max_output) handle.new nothing_fed }
-    ensures running { result.status ≡ 0 → has_ended handle.new.place.held ≡ false }
+    ensures running { result.status ≡ 0 → has_ended handle.new ≡ false }
     ensures unchanged { (result.status ≡ 0 → ⊥) → IsUnchanged handle.old handle.new }
     ensures misused { handle.old.is_open ≡ true → IsMisused result }
     ensures answer { handle.old.is_open ≡ false
@@ -173,7 +173,7 @@ pub extern "C" fn rnxcmp_c_open_expand(
 #[unsafe(no_mangle)]
 pub extern "C" fn rnxcmp_c_open_check(alloc: Global, handle: &mut Handle) -> Answer
     ensures opened { result.status ≡ 0 → HandleStands Task.Check handle.new nothing_fed }
-    ensures running { result.status ≡ 0 → has_ended handle.new.place.held ≡ false }
+    ensures running { result.status ≡ 0 → has_ended handle.new ≡ false }
     ensures unchanged { (result.status ≡ 0 → ⊥) → IsUnchanged handle.old handle.new }
     ensures misused { handle.old.is_open ≡ true → IsMisused result }
     ensures answer { handle.old.is_open ≡ false
@@ -208,11 +208,11 @@ pub extern "C" fn rnxcmp_c_feed(
     ensures stands { (task : Task) (past : HandlePast) → HandleStands task handle.old past
         → HandleStands task handle.new (fed_with past (take used.new bytes.now)) }
     ensures promise { (task : Task) (past : HandlePast) → HandleStands task handle.old past
-        → has_ended handle.old.place.held ≡ false
-        → HandlePromise (has_ended handle.new.place.held) task (fed_with past (take used.new bytes.now))
-        (texts_kept handle.new.place.held) result }
+        → has_ended handle.old ≡ false
+        → HandlePromise (has_ended handle.new) task (fed_with past (take used.new bytes.now))
+        (texts_kept handle.new) result }
     ensures misused { (task : Task) (past : HandlePast) → HandleStands task handle.old past
-        → has_ended handle.old.place.held ≡ true
+        → has_ended handle.old ≡ true
         → IsMisused result × (used.new ≡ 0) × (handle.new.place.held ≡ handle.old.place.held) }
     ensures sound { IsSoundHandle handle.new }
 {
@@ -237,39 +237,46 @@ pub extern "C" fn rnxcmp_c_end(alloc: Global, handle: &mut Handle) -> Answer
     ensures stands { (task : Task) (past : HandlePast) → HandleStands task handle.old past
         → HandleStands task handle.new past }
     ensures promise { (task : Task) (past : HandlePast) → HandleStands task handle.old past
-        → has_ended handle.old.place.held ≡ false
-        → HandlePromise (has_ended handle.new.place.held) task past (texts_kept handle.new.place.held) result }
+        → has_ended handle.old ≡ false
+        → HandlePromise (has_ended handle.new) task past (texts_kept handle.new) result }
     ensures ended { (task : Task) (past : HandlePast) → HandleStands task handle.old past
-        → has_ended handle.old.place.held ≡ false
-        → (has_ended handle.new.place.held ≡ true) × RunHasEnded task past (texts_kept handle.new.place.held) result }
+        → has_ended handle.old ≡ false
+        → (has_ended handle.new ≡ true) × RunHasEnded task past (texts_kept handle.new) result }
     ensures misused { (task : Task) (past : HandlePast) → HandleStands task handle.old past
-        → has_ended handle.old.place.held ≡ true
+        → has_ended handle.old ≡ true
         → IsMisused result × (handle.new.place.held ≡ handle.old.place.held) }
     ensures lossless { (choices : Choices) (limit : ℕ) (past : HandlePast)
-        → HandleStands (Task.Expand choices limit) handle.old past → has_ended handle.old.place.held ≡ false
+        → HandleStands (Task.Expand choices limit) handle.old past → has_ended handle.old ≡ false
         → (HasNoMemory result → ⊥) → (result.status ≡ OUTPUT_LIMIT → ⊥)
-        → CallBringsBackWhatPasses (λ whole. RunHasResult whole past (texts_kept handle.new.place.held) result) past.fed }
+        → CallBringsBackWhatPasses (λ whole. RunHasResult whole past (texts_kept handle.new) result)
+        past.fed }
     ensures way_back { (choices : Choices) (limit : ℕ) (past : HandlePast)
-        → HandleStands (Task.Expand choices limit) handle.old past → has_ended handle.old.place.held ≡ false
+        → HandleStands (Task.Expand choices limit) handle.old past → has_ended handle.old ≡ false
         → (HasNoMemory result → ⊥) → (result.status ≡ OUTPUT_LIMIT → ⊥)
-        → CallBringsBackWhatWasCompacted (λ whole. RunHasResult whole past (texts_kept handle.new.place.held) result) past.fed }
+        → CallBringsBackWhatWasCompacted (λ whole. RunHasResult whole past (texts_kept handle.new) result)
+        past.fed }
     ensures salvage { (choices : Choices) (limit : ℕ) (past : HandlePast)
-        → HandleStands (Task.Expand choices limit) handle.old past → has_ended handle.old.place.held ≡ false
+        → HandleStands (Task.Expand choices limit) handle.old past → has_ended handle.old ≡ false
         → (HasNoMemory result → ⊥) → (result.status ≡ OUTPUT_LIMIT → ⊥) → choices.skip ≡ true
-        → CallSavesAllElse (λ whole. RunHasResult whole past (texts_kept handle.new.place.held) result) past.fed }
+        → CallSavesAllElse (λ whole. RunHasResult whole past (texts_kept handle.new) result)
+        past.fed }
     ensures damage { (choices : Choices) (limit : ℕ) (past : HandlePast)
-        → HandleStands (Task.Expand choices limit) handle.old past → has_ended handle.old.place.held ≡ false
+        → HandleStands (Task.Expand choices limit) handle.old past → has_ended handle.old ≡ false
         → (HasNoMemory result → ⊥) → (result.status ≡ OUTPUT_LIMIT → ⊥) → choices.skip ≡ true
-        → CallKeepsUndamaged (λ whole. RunHasResult whole past (texts_kept handle.new.place.held) result) past.fed }
+        → CallKeepsUndamaged (λ whole. RunHasResult whole past (texts_kept handle.new) result)
+        past.fed }
     ensures whole_units { (choices : Choices) (limit : ℕ) (past : HandlePast)
-        → HandleStands (Task.Expand choices limit) handle.old past → has_ended handle.old.place.held ≡ false
+        → HandleStands (Task.Expand choices limit) handle.old past → has_ended handle.old ≡ false
         → (HasNoMemory result → ⊥) → (result.status ≡ OUTPUT_LIMIT → ⊥)
-        → CallWritesWholeUnits (λ whole. RunHasResult whole past (texts_kept handle.new.place.held) result) past.fed }
-    ensures lossless_check { (past : HandlePast) → HandleStands Task.Check handle.old past
-        → has_ended handle.old.place.held ≡ false → (HasNoMemory result → ⊥) → (result.status ≡ OUTPUT_LIMIT → ⊥)
+        → CallWritesWholeUnits (λ whole. RunHasResult whole past (texts_kept handle.new) result)
+        past.fed }
+    ensures lossless_check { (past : HandlePast)
+        → HandleStands Task.Check handle.old past → has_ended handle.old ≡ false
+        → (HasNoMemory result → ⊥) → (result.status ≡ OUTPUT_LIMIT → ⊥)
         → SaysThatItComesBack result.status past.fed }
-    ensures standard { (past : HandlePast) → HandleStands Task.Check handle.old past
-        → has_ended handle.old.place.held ≡ false → (HasNoMemory result → ⊥) → (result.status ≡ OUTPUT_LIMIT → ⊥)
+    ensures standard { (past : HandlePast)
+        → HandleStands Task.Check handle.old past → has_ended handle.old ≡ false
+        → (HasNoMemory result → ⊥) → (result.status ≡ OUTPUT_LIMIT → ⊥)
         → CallJudgesStandard result.status past.fed }
     ensures sound { IsSoundHandle handle.new }
 {
@@ -304,36 +311,50 @@ pub extern "C" fn rnxcmp_c_take(
     ensures stands { (task : Task) (past : HandlePast) → HandleStands task handle.old past
         → HandleStands task handle.new (taken_with past (take (length output.old) (output_kept handle.old.place.held))
         (take (length messages.old) (messages_kept handle.old.place.held))) }
-    ensures still { has_ended handle.new.place.held ≡ has_ended handle.old.place.held }
+    ensures still { has_ended handle.new ≡ has_ended handle.old }
     ensures promise { (task : Task) (past : HandlePast) → HandleStands task handle.old past
-        → HandlePromise (has_ended handle.new.place.held) task
+        → HandlePromise (has_ended handle.new) task
         (taken_with past (take (length output.old) (output_kept handle.old.place.held))
-        (take (length messages.old) (messages_kept handle.old.place.held))) (texts_kept handle.new.place.held) result }
+        (take (length messages.old) (messages_kept handle.old.place.held))) (texts_kept handle.new) result }
     ensures lossless { (choices : Choices) (limit : ℕ) (past : HandlePast)
-        → HandleStands (Task.Expand choices limit) handle.new past → has_ended handle.new.place.held ≡ true
-        → (HasNoMemory result → ⊥) → (result.status ≡ OUTPUT_LIMIT → ⊥) → (result.code ≡ code_of_fault InputTooLong → ⊥)
-        → CallBringsBackWhatPasses (λ whole. RunHasResult whole past (texts_kept handle.new.place.held) result) past.fed }
+        → HandleStands (Task.Expand choices limit) handle.new past → has_ended handle.new ≡ true
+        → (HasNoMemory result → ⊥) → (result.status ≡ OUTPUT_LIMIT → ⊥)
+        → (result.code ≡ code_of_fault InputTooLong → ⊥)
+        → CallBringsBackWhatPasses (λ whole. RunHasResult whole past (texts_kept handle.new) result)
+        past.fed }
     ensures way_back { (choices : Choices) (limit : ℕ) (past : HandlePast)
-        → HandleStands (Task.Expand choices limit) handle.new past → has_ended handle.new.place.held ≡ true
-        → (HasNoMemory result → ⊥) → (result.status ≡ OUTPUT_LIMIT → ⊥) → (result.code ≡ code_of_fault InputTooLong → ⊥)
-        → CallBringsBackWhatWasCompacted (λ whole. RunHasResult whole past (texts_kept handle.new.place.held) result) past.fed }
+        → HandleStands (Task.Expand choices limit) handle.new past → has_ended handle.new ≡ true
+        → (HasNoMemory result → ⊥) → (result.status ≡ OUTPUT_LIMIT → ⊥)
+        → (result.code ≡ code_of_fault InputTooLong → ⊥)
+        → CallBringsBackWhatWasCompacted (λ whole. RunHasResult whole past (texts_kept handle.new) result)
+        past.fed }
     ensures salvage { (choices : Choices) (limit : ℕ) (past : HandlePast)
-        → HandleStands (Task.Expand choices limit) handle.new past → has_ended handle.new.place.held ≡ true
-        → (HasNoMemory result → ⊥) → (result.status ≡ OUTPUT_LIMIT → ⊥) → (result.code ≡ code_of_fault InputTooLong → ⊥) → choices.skip ≡ true
-        → CallSavesAllElse (λ whole. RunHasResult whole past (texts_kept handle.new.place.held) result) past.fed }
+        → HandleStands (Task.Expand choices limit) handle.new past → has_ended handle.new ≡ true
+        → (HasNoMemory result → ⊥) → (result.status ≡ OUTPUT_LIMIT → ⊥)
+        → (result.code ≡ code_of_fault InputTooLong → ⊥) → choices.skip ≡ true
+        → CallSavesAllElse (λ whole. RunHasResult whole past (texts_kept handle.new) result)
+        past.fed }
     ensures damage { (choices : Choices) (limit : ℕ) (past : HandlePast)
-        → HandleStands (Task.Expand choices limit) handle.new past → has_ended handle.new.place.held ≡ true
-        → (HasNoMemory result → ⊥) → (result.status ≡ OUTPUT_LIMIT → ⊥) → (result.code ≡ code_of_fault InputTooLong → ⊥) → choices.skip ≡ true
-        → CallKeepsUndamaged (λ whole. RunHasResult whole past (texts_kept handle.new.place.held) result) past.fed }
+        → HandleStands (Task.Expand choices limit) handle.new past → has_ended handle.new ≡ true
+        → (HasNoMemory result → ⊥) → (result.status ≡ OUTPUT_LIMIT → ⊥)
+        → (result.code ≡ code_of_fault InputTooLong → ⊥) → choices.skip ≡ true
+        → CallKeepsUndamaged (λ whole. RunHasResult whole past (texts_kept handle.new) result)
+        past.fed }
     ensures whole_units { (choices : Choices) (limit : ℕ) (past : HandlePast)
-        → HandleStands (Task.Expand choices limit) handle.new past → has_ended handle.new.place.held ≡ true
-        → (HasNoMemory result → ⊥) → (result.status ≡ OUTPUT_LIMIT → ⊥) → (result.code ≡ code_of_fault InputTooLong → ⊥)
-        → CallWritesWholeUnits (λ whole. RunHasResult whole past (texts_kept handle.new.place.held) result) past.fed }
-    ensures lossless_check { (past : HandlePast) → HandleStands Task.Check handle.new past
-        → has_ended handle.new.place.held ≡ true → (HasNoMemory result → ⊥) → (result.status ≡ OUTPUT_LIMIT → ⊥) → (result.code ≡ code_of_fault InputTooLong → ⊥)
+        → HandleStands (Task.Expand choices limit) handle.new past → has_ended handle.new ≡ true
+        → (HasNoMemory result → ⊥) → (result.status ≡ OUTPUT_LIMIT → ⊥)
+        → (result.code ≡ code_of_fault InputTooLong → ⊥)
+        → CallWritesWholeUnits (λ whole. RunHasResult whole past (texts_kept handle.new) result)
+        past.fed }
+    ensures lossless_check { (past : HandlePast)
+        → HandleStands Task.Check handle.new past → has_ended handle.new ≡ true
+        → (HasNoMemory result → ⊥) → (result.status ≡ OUTPUT_LIMIT → ⊥)
+        → (result.code ≡ code_of_fault InputTooLong → ⊥)
         → SaysThatItComesBack result.status past.fed }
-    ensures standard { (past : HandlePast) → HandleStands Task.Check handle.new past
-        → has_ended handle.new.place.held ≡ true → (HasNoMemory result → ⊥) → (result.status ≡ OUTPUT_LIMIT → ⊥) → (result.code ≡ code_of_fault InputTooLong → ⊥)
+    ensures standard { (past : HandlePast)
+        → HandleStands Task.Check handle.new past → has_ended handle.new ≡ true
+        → (HasNoMemory result → ⊥) → (result.status ≡ OUTPUT_LIMIT → ⊥)
+        → (result.code ≡ code_of_fault InputTooLong → ⊥)
         → CallJudgesStandard result.status past.fed }
     ensures sound { IsSoundHandle handle.new }
 {

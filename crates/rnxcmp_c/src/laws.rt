@@ -20,13 +20,16 @@ pub fn handle_holds()
 /// both say so. For every input whose output is within the limit there are such answers.
 pub fn a_handle_answers_as_a_call()
     ensures same { (task : Task) (past : HandlePast) (answer call : Answer) (before after : Rooms)
-        → RunHasResult (result_for task past.fed) past nothing_kept answer → IsWithinLimit (limit_for task) past.output
+        → RunHasResult (result_for task past.fed) past nothing_kept answer
+        → IsWithinLimit (limit_for task) past.output
         → AnswersWithin (limit_for task) (result_for task past.fed) call before after
         → length past.output ≤ length before.output → CallAnswersAlike past answer call before after }
-    ensures limit { (task : Task) (past : HandlePast) (kept : KeptTexts) (answer call : Answer) (before after : Rooms)
-        → RunPassesLimit task past kept answer → AnswersWithin (limit_for task) (result_for task past.fed) call before after
+    ensures limit { (task : Task) (past : HandlePast) (kept : KeptTexts)
+        (answer call : Answer) (before after : Rooms) → RunPassesLimit task past kept answer
+        → AnswersWithin (limit_for task) (result_for task past.fed) call before after
         → (call.status ≡ answer.status) × (call.code ≡ answer.code) × (call.line ≡ answer.line) }
-    ensures instance { (task : Task) (fed : List ℕ) → IsWithinLimit (limit_for task) (result_for task fed).output
+    ensures instance { (task : Task) (fed : List ℕ)
+        → IsWithinLimit (limit_for task) (result_for task fed).output
         → (answer : Answer) × (call : Answer) × (before : Rooms) × (after : Rooms)
         × RunHasResult (result_for task fed) (all_taken task fed) nothing_kept answer
         × AnswersWithin (limit_for task) (result_for task fed) call before after

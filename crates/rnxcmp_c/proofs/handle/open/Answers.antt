@@ -1,5 +1,5 @@
 use Rattle.std.proofs.Common.{[], ◌∷◌, refl, sym, ap, ◌∙◌, subst}
-use Rattle.rnxcmp_c.specs.Opened.{has_ended}
+use Rattle.rnxcmp_c.specs.Opened.{have_ended}
 use Rattle.rnxcmp_c.specs.Handles.{ReaderStands}
 use Rattle.rnxcmp_c.specs.meaning.Handles.{Task, limit_for, nothing_fed}
 use Rattle.rnxcmp_c.specs.declared.reader.Reader.{Reader}
@@ -18,4 +18,4 @@ returns-in-Some-clause-opened c = λ (task : Task) fresh nothing zero.
 
 pub returns-in-Some-clause-running : goal.returns-in-Some-clause-running
 returns-in-Some-clause-running c = λ zero.
-    ap has_ended (c.put_in.ensures.reader ∙ ap (λ (r : Reader). r ∷ []) c.in-Some.ensures)
+    ap have_ended (c.put_in.ensures.reader ∙ ap (λ (r : Reader). r ∷ []) c.in-Some.ensures)

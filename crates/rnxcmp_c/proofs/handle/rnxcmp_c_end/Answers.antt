@@ -3,7 +3,7 @@ use Rattle.crx_options.specs.meaning.Choices.{Choices}
 use Rattle.rnxcmp_c.specs.Handles.{ReaderStands}
 use Rattle.rnxcmp_c.specs.meaning.Handles.{HandlePast, Task, Expand, Check}
 use Rattle.rnxcmp_c.specs.declared.reader.Reader.{Reader}
-use Rattle.rnxcmp_c.specs.Opened.{has_ended}
+use Rattle.rnxcmp_c.specs.Opened.{have_ended}
 use Rattle.rnxcmp_c.proofs.EndedLemmas.{run-damage, run-lossless, run-salvage, run-says_so, run-standard, run-way_back}
 use Rattle.rnxcmp_c.proofs.EndedLemmas.{run-whole_units}
 use Rattle.rnxcmp_c.proofs.HandleLemmas.{ends-answer, ends-misused, ends-stands, one-held}
@@ -69,7 +69,7 @@ returns-clause-promise c = λ (task : Task) (past : HandlePast) stands runs.
     let ends = c.take_end-answer.ensures task past before in
     handle-promise task _ c.take_end-answer.new.self past c.take_end-answer.result c.put_in.ensures.reader
     (ends-answer task c.deref_mut.result.now c.take_end-answer.new.self past c.take_end-answer.result
-    c.deref_mut.result.now.outcome (sym (ap has_ended holds) ∙ runs) ends).1
+    c.deref_mut.result.now.outcome (sym (ap have_ended holds) ∙ runs) ends).1
     (ends-stands task c.deref_mut.result.now c.take_end-answer.new.self past c.take_end-answer.result
     c.deref_mut.result.now.outcome before ends)
 
@@ -79,7 +79,7 @@ returns-clause-ended c = λ (task : Task) (past : HandlePast) stands runs.
     let same = one-held c.args.handle.now.place.held stands.reader c.deref_mut.result.now stands.holds holds in
     let before = subst (λ (r : Reader). ReaderStands task r past) same stands.stands in
     let ends = ends-answer task c.deref_mut.result.now c.take_end-answer.new.self past c.take_end-answer.result
-    c.deref_mut.result.now.outcome (sym (ap has_ended holds) ∙ runs) (c.take_end-answer.ensures task past before) in
+    c.deref_mut.result.now.outcome (sym (ap have_ended holds) ∙ runs) (c.take_end-answer.ensures task past before) in
     handle-ended task _ c.take_end-answer.new.self past c.take_end-answer.result c.put_in.ensures.reader ends.1 ends.0
 
 pub returns-clause-misused : goal.returns-clause-misused
@@ -88,7 +88,7 @@ returns-clause-misused c = λ (task : Task) (past : HandlePast) stands ended.
     let same = one-held c.args.handle.now.place.held stands.reader c.deref_mut.result.now stands.holds holds in
     let before = subst (λ (r : Reader). ReaderStands task r past) same stands.stands in
     let misused = ends-misused task c.deref_mut.result.now c.take_end-answer.new.self past c.take_end-answer.result
-    c.deref_mut.result.now.outcome (sym (ap has_ended holds) ∙ ended) (c.take_end-answer.ensures task past before) in
+    c.deref_mut.result.now.outcome (sym (ap have_ended holds) ∙ ended) (c.take_end-answer.ensures task past before) in
     (misused.0, c.put_in.ensures.reader ∙ ap (λ (r : Reader). r ∷ []) misused.1 ∙ sym holds)
 
 pub returns-clause-lossless : goal.returns-clause-lossless

@@ -2,7 +2,7 @@ use Rattle.std.proofs.Common.{[], ◌∷◌, take, sym, ap, ◌∙◌, subst}
 use Rattle.rnxcmp_c.specs.Handles.{ReaderStands}
 use Rattle.rnxcmp_c.specs.meaning.Handles.{Task, HandlePast, fed_with}
 use Rattle.rnxcmp_c.specs.declared.reader.Reader.{Reader}
-use Rattle.rnxcmp_c.specs.Opened.{has_ended}
+use Rattle.rnxcmp_c.specs.Opened.{have_ended}
 use Rattle.rnxcmp_c.proofs.HandleLemmas.{feeds-answer, feeds-misused, feeds-stands, one-held}
 use Rattle.rnxcmp_c.proofs.PromiseLemmas.{handle-promise}
 use Rattle.rnxcmp_c.proofs.handle.rnxcmp_c_feed.Goals as goal
@@ -69,7 +69,7 @@ returns-clause-promise c = λ (task : Task) (past : HandlePast) stands runs.
     handle-promise task _ c.take_in-count.new.self (fed_with past (take c.take_in-count.result.0 c.args.bytes.now))
     c.take_in-count.result.1 c.put_in.ensures.reader
     (feeds-answer task c.deref_mut.result.now c.take_in-count.new.self past c.take_in-count.result.1 c.args.bytes.now
-    c.take_in-count.result.0 c.deref_mut.result.now.outcome (sym (ap has_ended holds) ∙ runs) feeds)
+    c.take_in-count.result.0 c.deref_mut.result.now.outcome (sym (ap have_ended holds) ∙ runs) feeds)
     (feeds-stands task c.deref_mut.result.now c.take_in-count.new.self past c.args.bytes.now c.take_in-count.result.0
     c.take_in-count.result.1 c.deref_mut.result.now.outcome before feeds)
 
@@ -79,7 +79,7 @@ returns-clause-misused c = λ (task : Task) (past : HandlePast) stands ended.
     let same = one-held c.args.handle.now.place.held stands.reader c.deref_mut.result.now stands.holds holds in
     let before = subst (λ (r : Reader). ReaderStands task r past) same stands.stands in
     let misused = feeds-misused task c.deref_mut.result.now c.take_in-count.new.self past c.take_in-count.result.1
-    c.args.bytes.now c.take_in-count.result.0 c.deref_mut.result.now.outcome (sym (ap has_ended holds) ∙ ended)
+    c.args.bytes.now c.take_in-count.result.0 c.deref_mut.result.now.outcome (sym (ap have_ended holds) ∙ ended)
     (c.take_in-count.ensures task past before) in (
       misused.0,
       misused.1,

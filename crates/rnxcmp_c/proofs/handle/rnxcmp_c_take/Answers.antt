@@ -3,7 +3,7 @@ use Rattle.crx_runs.specs.declared.outcome.Outcome.{Outcome}
 use Rattle.crx_options.specs.meaning.Choices.{Choices}
 use Rattle.rnxcmp_c.specs.Handles.{ReaderStands}
 use Rattle.rnxcmp_c.specs.meaning.Handles.{HandlePast, Task, Expand, Check, taken_with}
-use Rattle.rnxcmp_c.specs.Opened.{has_ended, messages_kept, output_kept}
+use Rattle.rnxcmp_c.specs.Opened.{have_ended, messages_kept, output_kept}
 use Rattle.rnxcmp_c.specs.meaning.Answers.{placed}
 use Rattle.rnxcmp_c.specs.declared.reader.Reader.{Reader}
 use Rattle.rnxcmp_c.proofs.EndedLemmas.{ended-where, run-damage, run-lossless, run-salvage, run-says_so, run-standard}
@@ -83,8 +83,8 @@ returns-clause-sound c = λ is_open.
 pub returns-clause-still : goal.returns-clause-still
 returns-clause-still c =
     let holds = c.take_out-reader.ensures.reader ∙ ap (λ (r : Reader). r ∷ []) (sym c.deref_mut.ensures.value) in
-    ap has_ended c.put_in.ensures.reader ∙ ap (λ (o : Option Outcome). is_some o) c.hand_out-answer.ensures.same
-    ∙ sym (ap has_ended holds)
+    ap have_ended c.put_in.ensures.reader ∙ ap (λ (o : Option Outcome). is_some o) c.hand_out-answer.ensures.same
+    ∙ sym (ap have_ended holds)
 
 pub returns-clause-promise : goal.returns-clause-promise
 returns-clause-promise c = λ (task : Task) (past : HandlePast) stands.

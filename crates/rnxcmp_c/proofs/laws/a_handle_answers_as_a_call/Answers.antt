@@ -7,7 +7,8 @@ use Rattle.rnxcmp_c.proofs.Kept.{status-where_it_fits}
 use Rattle.rnxcmp_c.proofs.laws.a_handle_answers_as_a_call.Goals as goal
 
 pub returns-clause-same : goal.returns-clause-same
-returns-clause-same c = λ (task : Task) (past : HandlePast) (answer call : Answer) (before after : Rooms) run within answers fits.
+returns-clause-same c = λ (task : Task) (past : HandlePast) (answer call : Answer) (before after : Rooms) run within
+    answers fits.
     let result : FilterResult = result_for task past.fed in
     let output : result.output ≡ past.output = run.output ∙ append-nil past.output in
     let messages : result.messages ≡ past.messages = run.messages ∙ append-nil past.messages in
