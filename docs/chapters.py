@@ -17,6 +17,7 @@ Content = namedtuple("Content", "clauses items left ported")
 RESULTS = ("compacted", "expanded", "checked")
 FILTERS = ("compaction_filter", "expansion_filter", "check_filter")
 DEVICES = ("Source", "Sink")
+OF_HANDLES = ("HandleStands", "has_ended", "texts_kept", "output_kept", "messages_kept")
 OF_ENGINES = ("AnyEngine", "IsOf", "ready_of", "is_open_of", "engine_filter", "shows_of")
 
 CHAPTERS = (
@@ -78,6 +79,16 @@ CHAPTERS = (
         "The library for C",
         "What its calls over whole inputs answer, and what stands in the caller's memory after them.",
         tuple((f"rnxcmp_c::rnxcmp_c_{call}", "*") for call in ("compact", "expand", "check")),
+    ),
+    Chapter(
+        "What a handle promises",
+        "How a run stands after each call, by all that was fed and taken, by what the handle keeps, and by what the call answered; and that it"
+        " answers as a call over the whole input. `HandleStands` only links a call to the next one, and need not be read. The next chapter has"
+        " that, `has_ended`, and which texts a handle keeps.",
+        tuple((f"rnxcmp_c::rnxcmp_c_{call}", clauses) for call, clauses in (("feed", "promise misused"), ("end", "promise ended misused"), ("take", "promise")))
+        + (("rnxcmp_c::a_handle_answers_as_a_call", "*"),),
+        RESULTS + OF_HANDLES,
+        60,
     ),
     Chapter(
         "Handles",

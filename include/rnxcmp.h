@@ -180,8 +180,8 @@ int rnxcmp_check(const void *input, size_t input_length, void *output, size_t ou
  *     }
  *
  * What was taken in all, and then what is ready, is what the call over the whole input gives: the texts of the lines so far, and after
- * the end all of both texts. After RNXCMP_OUTPUT_LIMIT and RNXCMP_INPUT_TOO_LONG it is what the first lines make, and after
- * RNXCMP_OUT_OF_MEMORY a prefix of it.
+ * the end all of both texts, with the same status, `code` and `line`. After RNXCMP_OUTPUT_LIMIT and RNXCMP_INPUT_TOO_LONG it is what the
+ * first lines make, and after RNXCMP_OUT_OF_MEMORY a prefix of it. It never has more than `max_output` bytes of output.
  *
  * What a handle keeps is bounded, whatever was fed: of the last line at most 8194 bytes, as long as it has no line end (a longer one is
  * too long, whatever follows); what the run needs of earlier lines; and what was made and not taken, which is less than RNXCMP_READY
