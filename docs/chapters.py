@@ -85,7 +85,7 @@ CHAPTERS = (
         "How a run stands after each call, by all that was fed and taken, by what the handle keeps, and by what the call answered; and that it"
         " answers as a call over the whole input. `HandleStands` only links a call to the next one, and need not be read. The next chapter has"
         " that, `has_ended`, and which texts a handle keeps.",
-        tuple((f"rnxcmp_c::rnxcmp_c_{call}", clauses) for call, clauses in (("feed", "promise misused"), ("end", "promise ended misused"), ("take", "promise")))
+        tuple((f"rnxcmp_c::rnxcmp_c_{call}", clauses) for call, clauses in (("feed", "promise ended misused"), ("end", "promise ended misused"), ("take", "promise")))
         + (("rnxcmp_c::a_handle_answers_as_a_call", "*"),),
         RESULTS + OF_HANDLES,
         60,

@@ -101,7 +101,7 @@ passed-stands task reader past (Some outcome) (inl memory) =
 passed-stands task reader past (Some outcome) (inr long) = inr (inr (inl long))
 
 -- where nothing was taken, nothing more was fed
-none-fed : (past : HandlePast) (bytes : List ℕ) (used : ℕ) → used ≡ 0 → past ≡ fed_with past (take used bytes)
+pub none-fed : (past : HandlePast) (bytes : List ℕ) (used : ℕ) → used ≡ 0 → past ≡ fed_with past (take used bytes)
 none-fed past bytes used none =
     sym (ap (λ (n : ℕ). fed_with past (take n bytes)) none
     ∙ ap (λ (fed : List ℕ). let then : HandlePast = record past { fed = fed } in then) (append-nil past.fed))

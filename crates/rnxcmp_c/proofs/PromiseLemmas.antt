@@ -1,6 +1,6 @@
 -- What the state of a reader says of its run, in the words of the promise.
 use Rattle.std.proofs.Common.{◌≡◌, inl, inr, ⊎_elim, ℕ, ◌+◌, ◌<◌, ◌≤◌, List, [], ◌∷◌, ◌++◌, length, map, reverse}
-use Rattle.std.proofs.Common.{Option, Some, None, is_some, true, false, arith, refl, sym, ap, ◌∙◌, subst, append-nil}
+use Rattle.std.proofs.Common.{take, Option, Some, None, is_some, true, false, arith, refl, sym, ap, ◌∙◌, subst, append-nil}
 use Rattle.std.proofs.lemmas.List.{map-append, reverse-append}
 use Rattle.crx_faults.specs.meaning.Lines.{InputLine, lines_of}
 use Rattle.crx_faults.specs.meaning.Seen.{ReadLine, ended_lines_of, seen}
@@ -24,6 +24,7 @@ use Rattle.crx_runs.specs.declared.outcome.Outcome.{Outcome}
 use Rattle.rnxcmp_c.specs.Going.{AreFirstWarnings, IsGoing}
 use Rattle.rnxcmp_c.specs.Handles.{ReaderRuns, ReaderStands, RunIsOutOfMemory, RunIsOverLimit}
 use Rattle.rnxcmp_c.specs.Handles.{RunIsTooLong, StandsBy, answer_now, fault_now, filter_for, shows_of, status_now}
+use Rattle.rnxcmp_c.specs.Handles.{Feeds, FeedsBy, HasFedBy, HasPassedBy, IsLineReached, allowed_after}
 use Rattle.rnxcmp_c.specs.Handles.{HasEndedBy, ReaderHasEnded, ReaderIsOver}
 use Rattle.rnxcmp_c.specs.Opened.{have_ended, texts_in}
 use Rattle.rnxcmp_c.specs.Waiting.{waiting}
@@ -34,9 +35,11 @@ use Rattle.rnxcmp_c.specs.meaning.Answers.{fault_code_in, line_in}
 use Rattle.rnxcmp_c.specs.meaning.Handles.{HandlePast, HandlePromise, KeptTexts, RunHasNoMemory}
 use Rattle.rnxcmp_c.specs.meaning.Handles.{RunHasEnded, RunHasResult, RunHasTooMuch, RunPassesLimit}
 use Rattle.rnxcmp_c.specs.meaning.Handles.{Task, Compact, Expand, Check}
+use Rattle.rnxcmp_c.specs.meaning.Handles.{RunWasEnded, fed_with}
 use Rattle.rnxcmp_c.specs.meaning.Handles.{handle_answer, limit_for, result_for}
 use Rattle.rnxcmp_c.proofs.GoingLemmas.{begins-then, notices-both}
-use Rattle.rnxcmp_c.proofs.HandleLemmas.{lines-within}
+use Rattle.rnxcmp_c.proofs.HandleLemmas.{feeds-answer, lines-within, none-fed}
+use Rattle.rnxcmp_c.proofs.PieceLemmas.{none-or}
 use Rattle.rnxcmp_c.proofs.ReaderLemmas.{filter-is, lawful-for, output-for}
 
 -- ---- warnings
@@ -197,23 +200,24 @@ module _ (task : Task) (reader : Reader) (past : HandlePast) where
         };
       }
 
-  over-limit : (outcome : Outcome)
-      → RunIsOverLimit (filter_for task) (limit_for task) past.fed (result_for task past.fed) reader outcome past
-      → RunPassesLimit task past (kept_in reader) (answer_by (Some outcome) reader)
-  over-limit outcome over = record {
+  over-limit : (outcome : Outcome) (input : List ℕ)
+      → RunIsOverLimit (filter_for task) (limit_for task) input (result_for task input) reader outcome past
+      → RunPassesLimit task (record past { fed = input }) (kept_in reader) (answer_by (Some outcome) reader)
+  over-limit outcome input over = record {
     answered = answers-same (kept_in reader) outcome.status OUTPUT_LIMIT outcome.fault None over.status over.fault;
     exceeds = (over.limited, over.longer);
     begun = record {
-      output = subst (Begins (result_for task past.fed).output) over.output
-          (output-first task past.fed over.lines over.others over.first);
-      messages = subst (Begins (result_for task past.fed).messages) over.messages
-          (messages-first task past.fed over.lines over.others over.first);
+      output = subst (Begins (result_for task input).output) over.output
+          (output-first task input over.lines over.others over.first);
+      messages = subst (Begins (result_for task input).messages) over.messages
+          (messages-first task input over.lines over.others over.first);
     };
   }
 
-  has-result : (outcome : Outcome) → ReaderIsOver (limit_for task) (result_for task past.fed) reader outcome past
-      → RunHasResult (result_for task past.fed) past (kept_in reader) (answer_by (Some outcome) reader)
-  has-result outcome over = record {
+  has-result : (outcome : Outcome) (input : List ℕ)
+      → ReaderIsOver (limit_for task) (result_for task input) reader outcome past
+      → RunHasResult (result_for task input) past (kept_in reader) (answer_by (Some outcome) reader)
+  has-result outcome input over = record {
     answered = answers-same (kept_in reader) outcome.status _ outcome.fault _ over.status over.fault;
     output = over.output;
     messages = over.messages;
@@ -227,12 +231,12 @@ module _ (task : Task) (reader : Reader) (past : HandlePast) where
     within = ran.within;
   }
   stands-by (Some outcome) (inr (inl over)) = record {
-    run = inl (inr (inl (over-limit outcome over)));
+    run = inl (inr (inl (over-limit outcome past.fed over)));
     within = λ limited. omega (arith, over.within, ap length over.output);
   }
   stands-by (Some outcome) (inr (inr (inl long))) = record { run = inr (too-much outcome long); within = long.within }
   stands-by (Some outcome) (inr (inr (inr over))) = record {
-    run = inl (inl (has-result outcome over));
+    run = inl (inl (has-result outcome past.fed over));
     within = over.within;
   }
 
@@ -247,12 +251,60 @@ module _ (task : Task) (reader : Reader) (past : HandlePast) where
     refl,
     inr (inr (short-of_memory _ outcome (λ n last. omega (arith, last, lines-within past.fed)) ran)),
   )
-  ended-by (Some outcome) (inr (inl over)) = (refl, inr (inl (over-limit outcome over)))
-  ended-by (Some outcome) (inr (inr over)) = (refl, inl (has-result outcome over))
+  ended-by (Some outcome) (inr (inl over)) = (refl, inr (inl (over-limit outcome past.fed over)))
+  ended-by (Some outcome) (inr (inr over)) = (refl, inl (has-result outcome past.fed over))
 
   pub reader-ended : ReaderHasEnded task reader past
       → (is_some reader.outcome ≡ true) × RunHasEnded task past (kept_in reader) (answer_now reader)
   reader-ended ended = ended-by reader.outcome ended
+
+  fed-ended : (outcome : Option Outcome) → is_some outcome ≡ true → HasFedBy task reader past outcome
+      → RunWasEnded task past (kept_in reader) (answer_by outcome reader)
+  fed-ended None ended fed = absurd (cc)
+  fed-ended (Some outcome) ended (inl memory) =
+      inr (inr (inl (short-of_memory (λ line. (0 < line) × IsLineReached past.fed line) outcome (λ n at. at.1)
+      (subst (λ (bytes : List ℕ). RunIsOutOfMemory (filter_for task) (limit_for task)
+      (λ line. (0 < line) × IsLineReached past.fed line) (result_for task bytes) reader outcome past)
+      (append-nil past.fed) (memory [])))))
+  fed-ended (Some outcome) ended (inr (inl limit)) =
+      inr (inl (λ (more : List ℕ). over-limit outcome (past.fed ++ more) (limit more)))
+  fed-ended (Some outcome) ended (inr (inr over)) =
+      inl (λ (more : List ℕ). has-result outcome (past.fed ++ more) (over more))
+
+  passed-ended : (outcome : Option Outcome) → HasPassedBy task reader past outcome
+      → RunWasEnded task past (kept_in reader) (answer_by outcome reader)
+  passed-ended None passed = absurd passed
+  passed-ended (Some outcome) (inl memory) =
+      inr (inr (inl (short-of_memory (λ line. line ≡ length (ended_lines_of past.fed) + 1) outcome
+      (λ n at. omega (arith, at)) memory)))
+  passed-ended (Some outcome) (inr long) = inr (inr (inr (too-much outcome long)))
+
+-- what bytes have ended
+module _ (task : Task) (old new : Reader) (past : HandlePast) (bytes : List ℕ) (used : ℕ) (answer : Answer) where
+  feeds-ended : (outcome : Option Outcome) → is_some outcome ≡ false → is_some new.outcome ≡ true
+      → FeedsBy task old new past bytes used answer outcome
+      → RunWasEnded task (fed_with past (take used bytes)) (kept_in new) (answer_now new)
+  feeds-ended None runs ended feeds =
+      let goes_on : (0 < length bytes → 0 < length (allowed_after past bytes))
+      → RunWasEnded task (fed_with past (take used bytes)) (kept_in new) (answer_now new) =
+      λ some. fed-ended task new (fed_with past (take used bytes)) new.outcome ended (feeds.fed some) in
+      ⊎_elim (λ none. goes_on (λ h. absurd (omega (arith, h, none))))
+      (λ more. ⊎_elim
+      (λ none. subst (λ (then : HandlePast). RunWasEnded task then (kept_in new) (answer_now new))
+      (none-fed past bytes used (feeds.over more none).0)
+      (passed-ended task new past new.outcome (feeds.over more none).1))
+      (λ some. goes_on (λ h. some)) (none-or (length (allowed_after past bytes))))
+      (none-or (length bytes))
+  feeds-ended (Some outcome) runs ended feeds = absurd (cc)
+
+  pub handle-was_ended : (readers : List Reader) → readers ≡ new ∷ [] → is_some old.outcome ≡ false
+      → have_ended readers ≡ true → Feeds task old new past bytes used answer
+      → RunWasEnded task (fed_with past (take used bytes)) (texts_in readers) answer
+  handle-was_ended readers holds runs ended feeds =
+      subst (λ (l : List Reader). RunWasEnded task (fed_with past (take used bytes)) (texts_in l) answer) (sym holds)
+      (subst (λ (a : Answer). RunWasEnded task (fed_with past (take used bytes)) (kept_in new) a)
+      (sym (feeds-answer task old new past answer bytes used old.outcome runs feeds))
+      (feeds-ended old.outcome runs (sym (ap have_ended holds) ∙ ended) feeds))
 
 -- the same of a handle
 module _ (task : Task) (readers : List Reader) (reader : Reader) (past : HandlePast) (answer : Answer)

@@ -25,7 +25,7 @@ use Rattle.rnxcmp_c.specs.Handles.{IsOf, ReaderIsOver, IsPut, IsPutDown, IsPutSi
 use Rattle.rnxcmp_c.specs.Handles.{AreMessagesCut, EndsRunBy, ReaderRuns, RunIsOutOfMemory, RunIsOverLimit, filter_for}
 use Rattle.rnxcmp_c.specs.Handles.{HasPassedBy, shows_of, too_long_after}
 use Rattle.rnxcmp_c.specs.Handles.{HasFedBy, HasEndedBy, engine_filter, has_ended_of}
-use Rattle.rnxcmp_c.specs.meaning.Answers.{IsWithinLimit, line_in}
+use Rattle.rnxcmp_c.specs.meaning.Answers.{KeepsToLimit, line_in}
 use Rattle.rnxcmp_c.proofs.GoingLemmas.{all-cut, begins-then, warnings-first}
 use Rattle.rnxcmp_c.specs.Handles.{status_at_end}
 use Rattle.rnxcmp_c.specs.meaning.Handles.{Task, HandlePast, limit_for, result_for, Compact, Expand, Check}
@@ -66,7 +66,7 @@ result-faulty Check input at is = checked-faulty (whole_of input).fault (finding
 
 course-over : (limit : ℕ) (course : Course) (reader : Reader) (mid : Held) (outcome : Outcome) (past : HandlePast)
     (at : At) → course.fault ≡ Some at → IsText course mid past
-    → IsWithinLimit limit (past.output ++ waiting mid.output)
+    → KeepsToLimit limit (past.output ++ waiting mid.output)
     → IsPutDown mid reader.held outcome at → ReaderIsOver limit (result_of_course course) reader outcome past
 course-over limit course reader mid outcome past at fault text within put = record {
   status = put.status ∙ ap (status_after course.warnings) (sym fault);
@@ -76,7 +76,7 @@ course-over limit course reader mid outcome past at fault text within put = reco
       ∙ ap (λ f. (past.messages ++ (waiting mid.messages)) ++ error_text f) fault
       ∙ append_assoc past.messages (waiting mid.messages) (error_text (Some at))
       ∙ ap (λ t. past.messages ++ t) (sym put.messages);
-  within = subst (λ t. IsWithinLimit limit (past.output ++ t)) (sym put.output) within;
+  within = subst (λ t. KeepsToLimit limit (past.output ++ t)) (sym put.output) within;
 }
 
 -- ---- memory
@@ -130,13 +130,13 @@ put-short mid new outcome at memory (inr put) = put-down mid new outcome at memo
 module _ (filter : Filter) (limit : ℕ) (is_line : ℕ → Type 0) (result : FilterResult) (reader : Reader) (mid : Held)
     (outcome : Outcome) (past : HandlePast) (line : ℕ) (short : IsShort mid reader.held outcome line)
     (output : Begins result.output (past.output ++ (waiting mid.output)))
-    (few : IsWithinLimit limit (past.output ++ waiting mid.output))
+    (few : KeepsToLimit limit (past.output ++ waiting mid.output))
     (told : AreFirstWarnings filter past.fed (past.messages ++ (waiting mid.messages))) where
   still : Begins result.output (past.output ++ (waiting reader.held.output))
   still = subst (λ t. Begins result.output (past.output ++ t)) (sym short.output) output
 
-  still-few : IsWithinLimit limit (past.output ++ waiting reader.held.output)
-  still-few = subst (λ t. IsWithinLimit limit (past.output ++ t)) (sym short.output) few
+  still-few : KeepsToLimit limit (past.output ++ waiting reader.held.output)
+  still-few = subst (λ t. KeepsToLimit limit (past.output ++ t)) (sym short.output) few
 
   cut : AreMessagesCut filter past.fed (past.messages ++ (waiting reader.held.messages)) outcome.fault
   cut = record {
@@ -171,7 +171,7 @@ module _ (filter : Filter) (limit : ℕ) (is_line : ℕ → Type 0) (result : Fi
 
 module _ (task : Task) (engine : AnyEngine) (is : IsOf task engine)
     (reader : Reader) (mid : Held) (outcome : Outcome) (past : HandlePast) (at : At)
-    (few : IsWithinLimit (limit_for task) (past.output ++ waiting mid.output)) where
+    (few : KeepsToLimit (limit_for task) (past.output ++ waiting mid.output)) where
   -- a fault of the result whose message couldn't be kept
   fault-short : (is_line : ℕ → Type 0) (input : List ℕ) (course : Course)
       → (filter_for task).whole (lines_of input) ≡ course → course.fault ≡ Some at → IsText course mid past
@@ -319,7 +319,7 @@ pub stops-over : (task : Task) (engine : AnyEngine) → IsOf task engine → (re
     → HasFedBy task reader past (Some outcome)
 stops-over task engine is reader mid limit outcome past (Fault at) breaks put =
     breaks-over task engine is reader mid outcome past at
-    (subst (λ n. IsWithinLimit n (past.output ++ waiting mid.output)) limit breaks.1) breaks.0 put
+    (subst (λ n. KeepsToLimit n (past.output ++ waiting mid.output)) limit breaks.1) breaks.0 put
 stops-over task engine is reader mid limit outcome past Limit breaks stopped =
     passes-over task reader mid outcome past stopped engine is limit breaks
 
@@ -329,7 +329,7 @@ pub stops-at_end : (task : Task) (engine : AnyEngine) → IsOf task engine → (
     → HasEndedBy task reader past (Some outcome)
 stops-at_end task engine is reader mid limit outcome past (Fault at) fails put =
     fails-over task engine is reader mid outcome past at
-    (subst (λ n. IsWithinLimit n (past.output ++ waiting mid.output)) limit fails.1) fails.0 put
+    (subst (λ n. KeepsToLimit n (past.output ++ waiting mid.output)) limit fails.1) fails.0 put
 stops-at_end task engine is reader mid limit outcome past Limit fails stopped =
     passes-at_end task reader mid outcome past stopped engine is limit fails
 
@@ -363,7 +363,7 @@ passed-over task before reader outcome past runs full put =
         same = going.text.reported ∙ sym (append-nil (past.messages ++ waiting mid.messages));
       };
     }) in
-    let few : IsWithinLimit (limit_for task) written = λ limited.
+    let few : KeepsToLimit (limit_for task) written = λ limited.
     let before : 0 < mid.limit = subst (λ (n : ℕ). 0 < n) (sym runs.limit) limited in
     omega (arith, going.left before, runs.limit, ap length going.text.wrote) in
     ⊎_elim
@@ -382,7 +382,7 @@ passed-over task before reader outcome past runs full put =
           ∙ ap (λ f. (past.messages ++ waiting mid.messages) ++ error_text f) down.fault
           ∙ append_assoc past.messages (waiting mid.messages) (error_text (Some at))
           ∙ ap (λ t. past.messages ++ t) (sym down.messages);
-      within = subst (λ t. IsWithinLimit (limit_for task) (past.output ++ t)) (sym down.output) few;
+      within = subst (λ t. KeepsToLimit (limit_for task) (past.output ++ t)) (sym down.output) few;
     }))
     put
 
@@ -397,7 +397,7 @@ course-well limit course reader outcome past limited none status all = record {
   output = all.text.wrote;
   messages = ap (λ f. notices_text course.warnings ++ error_text f) all.good
       ∙ append-nil (notices_text course.warnings) ∙ all.text.reported;
-  within = subst (λ n. IsWithinLimit n (past.output ++ waiting reader.held.output)) limited all.within;
+  within = subst (λ n. KeepsToLimit n (past.output ++ waiting reader.held.output)) limited all.within;
 }
 
 checked-well : (fault : Option At) (found : Findings) (reader : Reader) (outcome : Outcome) (past : HandlePast)

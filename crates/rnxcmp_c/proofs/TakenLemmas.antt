@@ -4,7 +4,7 @@ use Rattle.crx_runs.specs.declared.outcome.Outcome.{Outcome}
 use Rattle.crx_runs.specs.meaning.Results.{Begins}
 use Rattle.rnxcmp_c.specs.Handles.{AreMessagesCut, ReaderStands, StandsBy, filter_for}
 use Rattle.rnxcmp_c.specs.meaning.Handles.{Task, HandlePast, limit_for, result_for, taken_with}
-use Rattle.rnxcmp_c.specs.meaning.Answers.{IsWithinLimit}
+use Rattle.rnxcmp_c.specs.meaning.Answers.{KeepsToLimit}
 use Rattle.rnxcmp_c.specs.Waiting.{waiting}
 use Rattle.rnxcmp_c.specs.declared.pending.Pending.{Pending}
 use Rattle.rnxcmp_c.specs.declared.reader.Reader.{Reader}
@@ -60,7 +60,7 @@ module _ (task : Task) (old : Reader) (past : HandlePast) (output messages : Pen
     line = ran.line;
     output = subst (Begins (result_for task past.fed).output) same-output ran.output;
     messages = subst (λ t. AreMessagesCut (filter_for task) past.fed t outcome.fault) same-messages ran.messages;
-    within = subst (IsWithinLimit (limit_for task)) same-output ran.within;
+    within = subst (KeepsToLimit (limit_for task)) same-output ran.within;
   })
   stands-by (Some outcome) (inr (inl over)) = inr (inl (record {
     status = over.status;
@@ -82,14 +82,14 @@ module _ (task : Task) (old : Reader) (past : HandlePast) (output messages : Pen
     good = long.good;
     output = long.output ∙ same-output;
     messages = long.messages ∙ same-messages;
-    within = subst (IsWithinLimit (limit_for task)) same-output long.within;
+    within = subst (KeepsToLimit (limit_for task)) same-output long.within;
   })))
   stands-by (Some outcome) (inr (inr (inr over))) = inr (inr (inr (record {
     status = over.status;
     fault = over.fault;
     output = over.output ∙ same-output;
     messages = over.messages ∙ same-messages;
-    within = subst (IsWithinLimit (limit_for task)) same-output over.within;
+    within = subst (KeepsToLimit (limit_for task)) same-output over.within;
   })))
 
   pub taken-stands : ReaderStands task old past → ReaderStands task new then

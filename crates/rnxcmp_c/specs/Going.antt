@@ -16,7 +16,7 @@ use Rattle.rnxcmp_c.specs.declared.pending.Pending.{Pending}
 use Rattle.rnxcmp_c.specs.declared.held.Held.{Held}
 use Rattle.rnxcmp_c.specs.declared.limits.TheConstants.{LINE_ROOM, READY_LIMIT}
 use Rattle.rnxcmp_c.specs.Holding.{ready_in}
-use Rattle.rnxcmp_c.specs.meaning.Answers.{IsWithinLimit}
+use Rattle.rnxcmp_c.specs.meaning.Answers.{KeepsToLimit}
 use Rattle.rnxcmp_c.specs.meaning.Handles.{HandlePast}
 use Rattle.rnxcmp_c.specs.declared.stop.Stop.{Stop}
 use Rattle.rnxcmp_c.specs.declared.stop.Stop.TheVariants.{Fault, Limit}
@@ -209,7 +209,7 @@ pub record IsPastLimit (filter : Filter) (held : Held) (past : HandlePast) : Typ
 
 -- what was taken of the output and then what is kept is within its limit
 abbrev pub IsKeptWithin : Held → HandlePast → Type 0
-IsKeptWithin held past = IsWithinLimit held.limit (past.output ++ waiting held.output)
+IsKeptWithin held past = KeepsToLimit held.limit (past.output ++ waiting held.output)
 
 -- what ended the run: memory or a fault, and the output is within its limit; or that limit
 abbrev pub RunBreaks : Filter → Held → HandlePast → Stop → Type 0

@@ -23,7 +23,7 @@ use Rattle.crx_runs.specs.meaning.Runs.{FaultIs}
 use Rattle.rnxcmp_c.specs.Going.{AreFirstWarnings, IsGoing, StopsSoon, with_one_more}
 use Rattle.rnxcmp_c.specs.meaning.Handles.{HandlePast, IsMisused, Task, Compact, Expand, Check, fed_with, limit_for}
 use Rattle.rnxcmp_c.specs.meaning.Handles.{result_for}
-use Rattle.rnxcmp_c.specs.meaning.Answers.{IsWithinLimit, fault_code_in, line_in}
+use Rattle.rnxcmp_c.specs.meaning.Answers.{KeepsToLimit, fault_code_in, line_in}
 use Rattle.rnxcmp_c.specs.declared.answer.Answer.{Answer}
 use Rattle.rnxcmp_c.specs.declared.answer.TheConstants.{OUTPUT_LIMIT}
 use Rattle.rnxcmp_c.specs.declared.engines.AnyEngine.{AnyEngine}
@@ -31,7 +31,7 @@ use Rattle.rnxcmp_c.specs.declared.engines.AnyEngine.TheVariants.{Compacting, Ex
 use Rattle.rnxcmp_c.specs.declared.held.Held.{Held}
 use Rattle.rnxcmp_c.specs.declared.limits.TheConstants.{READY_LIMIT}
 use Rattle.rnxcmp_c.specs.Holding.{ready_in}
-use Rattle.rnxcmp_c.specs.Waiting.{IsRefused, waiting}
+use Rattle.rnxcmp_c.specs.Waiting.{IsTextRefused, waiting}
 use Rattle.rnxcmp_c.specs.declared.reader.Reader.{Reader}
 use Rattle.rnxcmp_c.specs.declared.stop.Stop.{Stop}
 use Rattle.rnxcmp_c.specs.declared.stop.Stop.TheVariants.{Fault, Limit}
@@ -111,7 +111,7 @@ pub record ReaderIsOver (limit : ℕ) (result : FilterResult) (reader : Reader) 
   pub fault : outcome.fault ≡ result.fault
   pub output : result.output ≡ past.output ++ waiting reader.held.output
   pub messages : result.messages ≡ past.messages ++ waiting reader.held.messages
-  pub within : IsWithinLimit limit (past.output ++ waiting reader.held.output)
+  pub within : KeepsToLimit limit (past.output ++ waiting reader.held.output)
 
 -- the messages of a run in which memory ran out: the first warnings of what was fed, or a prefix of them, and then the
 -- message of the fault, where there was memory for it
@@ -130,7 +130,7 @@ pub record RunIsOutOfMemory (filter : Filter) (limit : ℕ) (is_line : ℕ → T
   pub line : is_line (line_in outcome.fault) ⊎ (line_in outcome.fault ≡ line_in result.fault)
   pub output : Begins result.output (past.output ++ waiting reader.held.output)
   pub messages : AreMessagesCut filter past.fed (past.messages ++ waiting reader.held.messages) outcome.fault
-  pub within : IsWithinLimit limit (past.output ++ waiting reader.held.output)
+  pub within : KeepsToLimit limit (past.output ++ waiting reader.held.output)
 
 -- the output would be longer than it may be. What was taken of both texts and then what is kept is what the first lines
 -- make, as many as make no more than it may have
@@ -160,7 +160,7 @@ pub record RunIsTooLong (filter : Filter) (limit : ℕ) (reader : Reader) (outco
   pub output : (filter.so_far (ended_lines_of past.fed)).output ≡ past.output ++ waiting reader.held.output
   pub messages : notices_text (filter.so_far (ended_lines_of past.fed)).warnings ++ error_text outcome.fault
       ≡ past.messages ++ waiting reader.held.messages
-  pub within : IsWithinLimit limit (past.output ++ waiting reader.held.output)
+  pub within : KeepsToLimit limit (past.output ++ waiting reader.held.output)
 
 -- the number of a line of some bytes, at the latest of the one after those that an LF ends
 abbrev pub IsLineReached : List ℕ → ℕ → Type 0
@@ -227,7 +227,7 @@ pub record IsPutSilently (old new : Held) (outcome : Outcome) (at : At) : Type 0
   pub fault : outcome.fault ≡ Some (record { line = at.line; fault = OutOfMemory })
   pub output : waiting new.output ≡ waiting old.output
   pub messages : waiting new.messages ≡ waiting old.messages
-  pub refused : IsRefused old.messages (length (error_text (Some at)))
+  pub refused : IsTextRefused old.messages (length (error_text (Some at)))
 
 abbrev pub IsPut : Held → Held → At → Option Outcome → Type 0
 IsPut old new at None = ⊥

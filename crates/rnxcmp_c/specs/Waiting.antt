@@ -8,8 +8,8 @@ abbrev pub waiting : Pending → List ℕ
 waiting p = drop p.passed p.bytes.items
 
 -- so many bytes were refused: more than may wait would wait then, or the buffer was too small for them
-abbrev pub IsRefused : Pending → ℕ → Type 0
-IsRefused p count = (WAITING_LIMIT < length (waiting p) + count)
+abbrev pub IsTextRefused : Pending → ℕ → Type 0
+IsTextRefused p count = (WAITING_LIMIT < length (waiting p) + count)
     ⊎ (vec_capacity p.bytes < length p.bytes.items + count)
 
 -- what is counted beside the bytes is the same

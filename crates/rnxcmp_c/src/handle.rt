@@ -9,7 +9,7 @@ ghost use Rattle.crx_options.specs.meaning.Choices.{Choices, choices_of, is_date
 ghost use Rattle.crx_faults.specs.declared.fault.Fault.TheVariants.{InputTooLong, OutOfMemory};
 ghost use Rattle.crx_faults.specs.meaning.Faults.{code_of_fault};
 ghost use Rattle.rnxcmp_c.specs.Handles.{IsFresh};
-ghost use Rattle.rnxcmp_c.specs.meaning.Handles.{HandlePast, HandlePromise, IsMisused, RunHasEnded, RunHasResult, Task, fed_with, limit_for, nothing_fed, taken_with};
+ghost use Rattle.rnxcmp_c.specs.meaning.Handles.{HandlePast, HandlePromise, IsMisused, RunHasEnded, RunHasResult, RunWasEnded, Task, fed_with, limit_for, nothing_fed, taken_with};
 ghost use Rattle.rnxcmp_c.specs.Holding.{HoldsNothing};
 ghost use Rattle.rnxcmp_c.specs.Opened.{AnswersHandle, EndedAlike, EndsHandle, FeedsHandle, HandleStands, Holds, IsSoundHandle, IsUnchanged, has_ended, messages_kept, output_kept, texts_kept};
 ghost use Rattle.rnxcmp_c.specs.declared.reader.Reader.{Reader};
@@ -211,6 +211,9 @@ pub extern "C" fn rnxcmp_c_feed(
         → has_ended handle.old ≡ false
         → HandlePromise (has_ended handle.new) task (fed_with past (take used.new bytes.now))
         (texts_kept handle.new) result }
+    ensures ended { (task : Task) (past : HandlePast) → HandleStands task handle.old past
+        → has_ended handle.old ≡ false → has_ended handle.new ≡ true
+        → RunWasEnded task (fed_with past (take used.new bytes.now)) (texts_kept handle.new) result }
     ensures misused { (task : Task) (past : HandlePast) → HandleStands task handle.old past
         → has_ended handle.old ≡ true
         → IsMisused result × (used.new ≡ 0) × (handle.new.place.held ≡ handle.old.place.held) }

@@ -5,7 +5,7 @@ ghost use Rattle.rnxcmp_c.specs.Holdings.{IsBounded, reader_with};
 ghost use Rattle.rnxcmp_c.specs.declared.answer.Answer.{Answer};
 ghost use Rattle.rnxcmp_c.specs.declared.held.Held.{Held};
 ghost use Rattle.rnxcmp_c.specs.declared.reader.Reader.{Reader};
-ghost use Rattle.rnxcmp_c.specs.meaning.Answers.{AnswersWithin, IsWithinLimit, Rooms};
+ghost use Rattle.rnxcmp_c.specs.meaning.Answers.{AnswersWithin, KeepsToLimit, Rooms};
 ghost use Rattle.rnxcmp_c.specs.meaning.Handles.{CallAnswersAlike, HandlePast, KeptTexts, RunHasResult, RunPassesLimit, Task, all_taken, limit_for, nothing_kept, result_for};
 
 /// What a handle holds, in full, and how much that is beside its engine, whatever was fed: one that takes over these parts of another is
@@ -21,7 +21,7 @@ pub fn handle_holds()
 pub fn a_handle_answers_as_a_call()
     ensures same { (task : Task) (past : HandlePast) (answer call : Answer) (before after : Rooms)
         → RunHasResult (result_for task past.fed) past nothing_kept answer
-        → IsWithinLimit (limit_for task) past.output
+        → KeepsToLimit (limit_for task) past.output
         → AnswersWithin (limit_for task) (result_for task past.fed) call before after
         → length past.output ≤ length before.output → CallAnswersAlike past answer call before after }
     ensures limit { (task : Task) (past : HandlePast) (kept : KeptTexts)
@@ -29,7 +29,7 @@ pub fn a_handle_answers_as_a_call()
         → AnswersWithin (limit_for task) (result_for task past.fed) call before after
         → (call.status ≡ answer.status) × (call.code ≡ answer.code) × (call.line ≡ answer.line) }
     ensures instance { (task : Task) (fed : List ℕ)
-        → IsWithinLimit (limit_for task) (result_for task fed).output
+        → KeepsToLimit (limit_for task) (result_for task fed).output
         → (answer : Answer) × (call : Answer) × (before : Rooms) × (after : Rooms)
         × RunHasResult (result_for task fed) (all_taken task fed) nothing_kept answer
         × AnswersWithin (limit_for task) (result_for task fed) call before after

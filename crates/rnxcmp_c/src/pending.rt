@@ -25,7 +25,7 @@ pub struct Pending {
 }
 
 impl Pending {
-    ghost use Rattle.rnxcmp_c.specs.Waiting.{CountsAlike, IsRefused, waiting};
+    ghost use Rattle.rnxcmp_c.specs.Waiting.{CountsAlike, IsTextRefused, waiting};
 
     /// No bytes.
     pub(crate) fn new(alloc: Global) -> Pending
@@ -51,7 +51,7 @@ impl Pending {
     pub(crate) fn add(&mut self, text: &[u8]) -> bool
         ensures taken { result ≡ true → waiting self.new ≡ waiting self.old ++ text.now }
         ensures unchanged { result ≡ false → waiting self.new ≡ waiting self.old }
-        ensures refused { result ≡ false → IsRefused self.old (length text.now) }
+        ensures refused { result ≡ false → IsTextRefused self.old (length text.now) }
         ensures counts { CountsAlike self.old self.new }
     {
         if WAITING_LIMIT - self.count() < text.len() {

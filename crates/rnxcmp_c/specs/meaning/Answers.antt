@@ -43,8 +43,8 @@ pub record IsAnswer (result : FilterResult) (answer : Answer) (before after : Ro
   pub messages : after.messages ≡ placed result.messages before.messages
 
 -- an output isn't longer than it may be; 0 is no limit
-abbrev pub IsWithinLimit : ℕ → List ℕ → Type 0
-IsWithinLimit most output = 0 < most → length output ≤ most
+abbrev pub KeepsToLimit : ℕ → List ℕ → Type 0
+KeepsToLimit most output = 0 < most → length output ≤ most
 
 -- it is longer
 abbrev pub ExceedsLimit : ℕ → List ℕ → Type 0

@@ -14,7 +14,7 @@ use Rattle.crx_runs.specs.meaning.Messages.{error_text}
 use Rattle.crx_runs.specs.meaning.Results.{Begins, FilterResult}
 use Rattle.rnxcmp_c.specs.declared.answer.Answer.{Answer}
 use Rattle.rnxcmp_c.specs.declared.answer.TheConstants.{MISUSED, OUTPUT_LIMIT}
-use Rattle.rnxcmp_c.specs.meaning.Answers.{ExceedsLimit, IsWithinLimit, Rooms, bare_answer, fault_code_in, line_in}
+use Rattle.rnxcmp_c.specs.meaning.Answers.{ExceedsLimit, KeepsToLimit, Rooms, bare_answer, fault_code_in, line_in}
 use Rattle.rnxcmp_c.specs.meaning.Answers.{placed}
 
 -- ---- a run
@@ -150,6 +150,14 @@ pub record RunHasTooMuch (task : Task) (past : HandlePast) (kept : KeptTexts) (a
   pub messages : AreFirstThen (result_for task past.fed) (messages_made past kept)
       (fault_message answer.line InputTooLong)
 
+-- bytes that were fed have ended it: whatever follows, with a result or past the limit of the output; or memory ran out,
+-- or the input is too long
+abbrev pub RunWasEnded : Task → HandlePast → KeptTexts → Answer → Type 0
+RunWasEnded task past kept answer =
+    ((more : List ℕ) → RunHasResult (result_for task (past.fed ++ more)) past kept answer)
+    ⊎ (((more : List ℕ) → RunPassesLimit task (fed_with past more) kept answer)
+    ⊎ (RunHasNoMemory task past kept answer ⊎ RunHasTooMuch task past kept answer))
+
 -- it goes on, or it has ended
 abbrev pub RunIs : Bool → Task → HandlePast → KeptTexts → Answer → Type 0
 RunIs false task past kept answer = RunGoesOn task past kept answer
@@ -159,7 +167,7 @@ RunIs true task past kept answer = RunHasEnded task past kept answer ⊎ RunHasT
 pub record HandlePromise (has_ended : Bool) (task : Task) (past : HandlePast) (kept : KeptTexts) (answer : Answer)
     : Type 0 where
   pub run : RunIs has_ended task past kept answer
-  pub within : IsWithinLimit (limit_for task) (output_made past kept)
+  pub within : KeepsToLimit (limit_for task) (output_made past kept)
 
 -- ---- a handle and a call
 

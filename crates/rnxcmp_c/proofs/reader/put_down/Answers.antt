@@ -1,5 +1,5 @@
 use Rattle.std.proofs.Common.{inl, inr, List, ◌++◌, ℕ, length, refl, ap, subst, ◌∙◌}
-use Rattle.rnxcmp_c.specs.Waiting.{IsRefused, waiting}
+use Rattle.rnxcmp_c.specs.Waiting.{IsTextRefused, waiting}
 use Rattle.rnxcmp_c.proofs.reader.put_down.Goals as goal
 
 pub returns-then-add : goal.returns-then-add
@@ -19,6 +19,6 @@ returns c =
       fault = refl;
       output = refl;
       messages = c.add.ensures.unchanged c.if-add.false;
-      refused = subst (λ (t : List ℕ). IsRefused c.args.held.now.messages (length t))
+      refused = subst (λ (t : List ℕ). IsTextRefused c.args.held.now.messages (length t))
           (c.bytes.ensures.value ∙ c.message.ensures) (c.add.ensures.refused c.if-add.false);
     })
