@@ -79,7 +79,7 @@ fed-stands task reader past (Some outcome) (inr (inl limit)) =
     (result_for task bytes) reader outcome past) (append-nil past.fed) (limit [])))
 fed-stands task reader past (Some outcome) (inr (inr over)) =
     inr (inr (inr (subst (λ (bytes : List ℕ). ReaderIsOver (limit_for task) (result_for task bytes) reader outcome past)
-    (append-nil past.fed) (over []))))
+    (append-nil past.fed) (over.1 []))))
 
 ended-stands : (task : Task) (reader : Reader) (past : HandlePast) (outcome : Option Outcome)
     → HasEndedBy task reader past outcome → StandsBy task reader past outcome

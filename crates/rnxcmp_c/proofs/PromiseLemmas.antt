@@ -269,7 +269,7 @@ module _ (task : Task) (reader : Reader) (past : HandlePast) where
   fed-ended (Some outcome) ended (inr (inl limit)) =
       inr (inl (λ (more : List ℕ). over-limit outcome (past.fed ++ more) (limit more)))
   fed-ended (Some outcome) ended (inr (inr over)) =
-      inl (λ (more : List ℕ). has-result outcome (past.fed ++ more) (over more))
+      inl (over.0, λ (more : List ℕ). has-result outcome (past.fed ++ more) (over.1 more))
 
   passed-ended : (outcome : Option Outcome) → HasPassedBy task reader past outcome
       → RunWasEnded task past (kept_in reader) (answer_by outcome reader)

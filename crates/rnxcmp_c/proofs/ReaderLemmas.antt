@@ -217,7 +217,7 @@ module _ (task : Task) (engine : AnyEngine) (is : IsOf task engine)
       (record { rest = []; same = text.reported ∙ sym (append-nil (past.messages ++ (waiting mid.messages))) }) in
       ⊎_elim (λ silently. inl (λ more.
       fault-short _ (past.fed ++ more) (filter.so_far broken.lines) (whole more) fault text silently told))
-      (λ down. inr (inr (λ more.
+      (λ down. inr (inr (down.status, λ more.
       subst (λ r. ReaderIsOver (limit_for task) r reader outcome past)
       (sym (ap result_of_course (whole more))
       ∙ result-faulty task (past.fed ++ more) at (ap (λ (c : Course). c.fault) (whole more) ∙ fault))

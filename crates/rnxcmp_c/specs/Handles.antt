@@ -181,14 +181,15 @@ abbrev pub ReaderStands : Task → Reader → HandlePast → Type 0
 ReaderStands task reader past = StandsBy task reader past reader.outcome
 
 -- where it is after some bytes: where a fault or the limit of the output has ended it, the result is that of every input
--- that begins with them
+-- that begins with them, and the status of a fault is 1
 abbrev pub HasFedBy : Task → Reader → HandlePast → Option Outcome → Type 0
 HasFedBy task reader past None = ReaderRuns task reader past
 HasFedBy task reader past (Some outcome) = ((more : List ℕ) → RunIsOutOfMemory (filter_for task) (limit_for task)
     (λ line. (0 < line) × IsLineReached past.fed line) (result_for task (past.fed ++ more)) reader outcome past)
     ⊎ (((more : List ℕ) → RunIsOverLimit (filter_for task) (limit_for task) (past.fed ++ more)
     (result_for task (past.fed ++ more)) reader outcome past)
-    ⊎ ((more : List ℕ) → ReaderIsOver (limit_for task) (result_for task (past.fed ++ more)) reader outcome past))
+    ⊎ ((outcome.status ≡ 1)
+    × ((more : List ℕ) → ReaderIsOver (limit_for task) (result_for task (past.fed ++ more)) reader outcome past)))
 
 abbrev pub HasFed : Task → Reader → HandlePast → Type 0
 HasFed task reader past = HasFedBy task reader past reader.outcome

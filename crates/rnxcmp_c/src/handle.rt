@@ -4,7 +4,7 @@
 //! a time. The bytes that were fed in all have a defined result; what was taken in all, and then what is kept, is a prefix of its
 //! texts while the run goes on, and the whole of them after its end.
 
-ghost use Rattle.std.specs.Prelude.{◌≡◌, ◌⊎◌, ℕ, [], IfSome, length, take, Some, true, false};
+ghost use Rattle.std.specs.Prelude.{◌≡◌, ◌⊎◌, ℕ, [], IfSome, drop, length, take, Some, true, false};
 ghost use Rattle.crx_options.specs.meaning.Choices.{Choices, choices_of, is_date};
 ghost use Rattle.crx_faults.specs.declared.fault.Fault.TheVariants.{InputTooLong, OutOfMemory};
 ghost use Rattle.crx_faults.specs.meaning.Faults.{code_of_fault};
@@ -308,6 +308,10 @@ pub extern "C" fn rnxcmp_c_take(
         → output.new ≡ placed (output_kept handle.old.place.held) output.old }
     ensures messages { handle.old.is_open ≡ true
         → messages.new ≡ placed (messages_kept handle.old.place.held) messages.old }
+    ensures output_left { handle.old.is_open ≡ true
+        → output_kept handle.new.place.held ≡ drop (length output.old) (output_kept handle.old.place.held) }
+    ensures messages_left { handle.old.is_open ≡ true
+        → messages_kept handle.new.place.held ≡ drop (length messages.old) (messages_kept handle.old.place.held) }
     ensures answer { handle.old.is_open ≡ true → AnswersHandle handle.new result }
     ensures same { handle.old.is_open ≡ true → (reader : Reader) → Holds handle.old reader
         → EndedAlike reader handle.new }

@@ -1,6 +1,6 @@
 //! A run that goes on from call to call.
 
-ghost use Rattle.std.specs.Prelude.{◌≡◌, ◌<◌, ◌≤◌, ◌+◌, ◌-◌, false, length, take, true, None, Some};
+ghost use Rattle.std.specs.Prelude.{drop, ◌≡◌, ◌<◌, ◌≤◌, ◌+◌, ◌-◌, false, length, take, true, None, Some};
 ghost use Rattle.crx_faults.specs.declared.limits.TheConstants.{INPUT_LIMIT};
 ghost use Rattle.rnxcmp_c.specs.Going.{StopsSoon};
 ghost use Rattle.rnxcmp_c.specs.Handles.{Ends, Feeds, HasFed, IsFed, IsPut, EndsRunBy, ReaderHasEnded, ReaderHasPassed, ReaderRuns, ReaderStands, answer_now, filter_for};
@@ -217,6 +217,9 @@ impl Reader {
         ensures messages { messages.new ≡ placed (waiting self.old.held.messages) messages.old }
         ensures answer { result ≡ answer_now self.new }
         ensures same { self.new.outcome ≡ self.old.outcome }
+        ensures output_left { waiting self.new.held.output ≡ drop (length output.old) (waiting self.old.held.output) }
+        ensures messages_left { waiting self.new.held.messages
+            ≡ drop (length messages.old) (waiting self.old.held.messages) }
         ensures stands { (task : Task) (past : HandlePast) → ReaderStands task self.old past
             → ReaderStands task self.new (taken_with past
             (take (length output.old) (waiting self.old.held.output))

@@ -150,11 +150,11 @@ pub record RunHasTooMuch (task : Task) (past : HandlePast) (kept : KeptTexts) (a
   pub messages : AreFirstThen (result_for task past.fed) (messages_made past kept)
       (fault_message answer.line InputTooLong)
 
--- bytes that were fed have ended it: whatever follows, with a result or past the limit of the output; or memory ran out,
--- or the input is too long
+-- bytes that were fed have ended it: whatever follows, with the result of a fault or past the limit of the output; or
+-- memory ran out, or the input is too long
 abbrev pub RunWasEnded : Task → HandlePast → KeptTexts → Answer → Type 0
 RunWasEnded task past kept answer =
-    ((more : List ℕ) → RunHasResult (result_for task (past.fed ++ more)) past kept answer)
+    ((answer.status ≡ 1) × ((more : List ℕ) → RunHasResult (result_for task (past.fed ++ more)) past kept answer))
     ⊎ (((more : List ℕ) → RunPassesLimit task (fed_with past more) kept answer)
     ⊎ (RunHasNoMemory task past kept answer ⊎ RunHasTooMuch task past kept answer))
 

@@ -1,4 +1,4 @@
-use Rattle.std.proofs.Common.{ℕ, List, [], ◌∷◌, length, take, Option, is_some, sym, ap, ◌∙◌, subst}
+use Rattle.std.proofs.Common.{ℕ, List, [], ◌∷◌, length, take, drop, Option, is_some, sym, ap, ◌∙◌, subst}
 use Rattle.crx_runs.specs.declared.outcome.Outcome.{Outcome}
 use Rattle.crx_options.specs.meaning.Choices.{Choices}
 use Rattle.rnxcmp_c.specs.Handles.{ReaderStands}
@@ -27,6 +27,18 @@ returns-clause-messages c = λ is_open.
     let holds = c.take_out-reader.ensures.reader ∙ ap (λ (r : Reader). r ∷ []) (sym c.deref_mut.ensures.value) in
     c.hand_out-answer.ensures.messages ∙ ap (λ (l : List Reader). placed
     (messages_kept l) c.args.messages.now) (sym holds)
+
+pub returns-clause-output_left : goal.returns-clause-output_left
+returns-clause-output_left c = λ is_open.
+    let holds = c.take_out-reader.ensures.reader ∙ ap (λ (r : Reader). r ∷ []) (sym c.deref_mut.ensures.value) in
+    ap output_kept c.put_in.ensures.reader ∙ c.hand_out-answer.ensures.output_left
+    ∙ ap (λ (l : List Reader). drop (length c.args.output.now) (output_kept l)) (sym holds)
+
+pub returns-clause-messages_left : goal.returns-clause-messages_left
+returns-clause-messages_left c = λ is_open.
+    let holds = c.take_out-reader.ensures.reader ∙ ap (λ (r : Reader). r ∷ []) (sym c.deref_mut.ensures.value) in
+    ap messages_kept c.put_in.ensures.reader ∙ c.hand_out-answer.ensures.messages_left
+    ∙ ap (λ (l : List Reader). drop (length c.args.messages.now) (messages_kept l)) (sym holds)
 
 pub returns-clause-answer : goal.returns-clause-answer
 returns-clause-answer c = λ is_open. record {
