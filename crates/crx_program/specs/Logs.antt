@@ -1,0 +1,10 @@
+-- Beside meaning: what a log has after no bytes, and after some and then some more.
+use Rattle.std.proofs.Common.{◌≡◌, ◌∙◌, ℕ, List, [], ◌++◌, ap, sym, append_assoc, append-nil}
+
+pub adds_none : (log : List ℕ) → log ≡ log ++ []
+adds_none log = sym (append-nil log)
+
+pub adds_both : (before between after first second : List ℕ)
+    → between ≡ before ++ first → after ≡ between ++ second → after ≡ before ++ (first ++ second)
+adds_both before between after first second p q =
+    q ∙ ap (λ (log : List ℕ). log ++ second) p ∙ append_assoc before first second

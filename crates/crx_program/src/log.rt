@@ -1,0 +1,234 @@
+//! Devices that know what went through them, and by which name they were opened. What they know is read by contracts alone.
+ghost use Rattle.std.specs.Prelude.{◌≡◌, ◌<◌, List, ℕ, [], ◌++◌, IfOk, None, Some, true};
+ghost use Rattle.std.specs.Borrow.{ftrue};
+ghost use Rattle.std.proofs.Common.{◌∙◌, refl};
+ghost use Rattle.crx_program.specs.Logs.{adds_none, adds_both};
+
+use crx_lines::{ReadFailed, Sink, Source, Std, WriteFailed, open_file};
+use crx_runs::UntilFailure;
+use std::alloc::Global;
+use std::fs::OpenOptions;
+use std::io;
+use std::io::{BufWriter, Write};
+use std::marker::{Model, PhantomData};
+use std::rt::Files;
+
+/// How many bytes of the output are collected before they are written: a system call for each line would cost more than all
+/// other work. The reader of lines itself reads the input in pieces of that size.
+pub const OUTPUT_BUFFER: usize = 65536;
+
+/// Bytes that contracts alone read. It takes no memory, and its methods do nothing at run time.
+#[derive(Drop)]
+pub struct Log {
+    marker: PhantomData<u8>,
+    pub ghost bytes: { List ℕ },
+}
+
+impl Model for Log {
+    ghost also_owns = { λ _. ftrue };
+}
+
+impl Log {
+    /// The log of no byte.
+    pub(crate) fn new() -> Log
+        ensures { result.bytes ≡ [] }
+    {
+        Log {
+            marker: PhantomData,
+        }
+    }
+
+    /// Adds bytes after those that are there.
+    #[inline(always)]
+    pub(crate) fn add(&mut self, _more: &[u8])
+        ensures { self.new.bytes ≡ self.old.bytes ++ _more.now }
+    {}
+}
+
+/// How the device of a file was opened.
+#[derive(Drop)]
+pub struct Opening {
+    /// The name that the opening call was given; empty where a device wasn't opened by a name.
+    name: Log,
+    /// The options of the call that opened the file for writing; none where there was no such call.
+    how: Option<OpenOptions>,
+}
+
+impl Opening {
+    /// That of a device that wasn't opened by a name.
+    fn none() -> Opening
+        ensures name { result.name.bytes ≡ [] }
+        ensures how { result.how ≡ None }
+    {
+        Opening {
+            name: Log::new(),
+            how: None,
+        }
+    }
+
+    /// That of a device that was opened by this name, for writing where there are options.
+    fn by(name: &str, how: Option<OpenOptions>) -> Opening
+        ensures name { result.name.bytes ≡ name.now }
+        ensures how { result.how ≡ how }
+    {
+        let mut opening = Opening {
+            name: Log::new(),
+            how,
+        };
+        opening.name.add(name.as_bytes());
+        opening
+    }
+}
+
+/// A device that knows what went through it, and how it was opened. It reads, writes and flushes by the device in it, once for each call.
+#[derive(Drop)]
+pub struct Logged<S> {
+    inner: S,
+    /// What its reads gave and its writes took.
+    log: Log,
+    opening: Opening,
+}
+
+impl<S> Logged<S> {
+    /// The device, with nothing in its log, and no name.
+    pub fn new(inner: S) -> Logged<S>
+        ensures inner { result.inner ≡ inner }
+        ensures log { result.log.bytes ≡ [] }
+        ensures name { result.opening.name.bytes ≡ [] }
+    {
+        Logged {
+            inner,
+            log: Log::new(),
+            opening: Opening::none(),
+        }
+    }
+
+    /// The device itself.
+    pub fn into_inner(self) -> S
+        ensures inner { result ≡ self.inner }
+    {
+        self.inner
+    }
+}
+
+impl<S: Source> Source for Logged<S> {
+    ghost gave = { λ a bytes b. (b.log.bytes ≡ a.log.bytes ++ bytes)
+        × (b.opening ≡ a.opening) × S.gave a.inner bytes b.inner };
+
+    // A read reported the end.
+    ghost at_end = { λ s. S.at_end s.inner × (0 < S.ends s.inner) };
+
+    ghost failures = { λ s. S.failures s.inner };
+
+    ghost ends = { λ s. S.ends s.inner };
+
+    fn read(&mut self, buffer: &mut [u8]) -> Result<usize, ReadFailed> {
+        match self.inner.read(buffer) {
+            Ok(count) => {
+                self.log.add(&buffer[..count]);
+                Ok(count)
+            }
+            Err(failed) => Err(failed),
+        }
+    }
+
+    ghost gave_none = { λ s. (adds_none s.log.bytes, refl, S.gave_none s.inner) };
+
+    ghost gave_both = { λ a b c xs ys p q. (
+      adds_both a.log.bytes b.log.bytes c.log.bytes xs ys p.0 q.0,
+      q.1 ∙ p.1,
+      S.gave_both a.inner b.inner c.inner xs ys p.2 q.2,
+    ) };
+}
+
+impl<S: Sink> Sink for Logged<S> {
+    ghost took = { λ a bytes b. (b.log.bytes ≡ a.log.bytes ++ bytes)
+        × (b.opening ≡ a.opening) × S.took a.inner bytes b.inner };
+
+    ghost failures = { λ s. S.failures s.inner };
+
+    ghost is_flushed = { λ s. S.is_flushed s.inner };
+
+    ghost flushes = { λ s. S.flushes s.inner };
+
+    fn write(&mut self, bytes: &[u8]) -> Result<usize, WriteFailed> {
+        match self.inner.write(bytes) {
+            Ok(count) => {
+                self.log.add(&bytes[..count]);
+                Ok(count)
+            }
+            Err(failed) => Err(failed),
+        }
+    }
+
+    fn flush(&mut self) -> Result<(), WriteFailed> {
+        self.inner.flush()
+    }
+
+    ghost took_none = { λ s. (adds_none s.log.bytes, refl, S.took_none s.inner) };
+
+    ghost took_both = { λ a b c xs ys p q. (
+      adds_both a.log.bytes b.log.bytes c.log.bytes xs ys p.0 q.0,
+      q.1 ∙ p.1,
+      S.took_both a.inner b.inner c.inner xs ys p.2 q.2,
+    ) };
+}
+
+/// Opens the file of a name for reading. This call and [`open_to_write`] alone make a device that has a name, which is that of the file that
+/// they ask the machine for.
+pub fn open_to_read<H: Files>(files: &H, name: &str) -> io::Result<Logged<Std<H::File>>>
+    ensures name { IfOk result (λ device. device.opening.name.bytes ≡ name.now) }
+    ensures log { IfOk result (λ device. device.log.bytes ≡ []) }
+    ensures unread { IfOk result (λ device. device.inner.is_unread ≡ true) }
+    ensures failures { IfOk result (λ device. device.inner.failures ≡ 0) }
+    ensures ends { IfOk result (λ device. device.inner.ends ≡ 0) }
+{
+    match open_file(files, name) {
+        Ok(inner) => Ok(Logged {
+            inner,
+            log: Log::new(),
+            opening: Opening::by(name, None),
+        }),
+        Err(error) => Err(error),
+    }
+}
+
+/// A file that was opened for writing, and not written yet.
+#[derive(Drop)]
+pub struct Made<F> {
+    file: F,
+    opening: Opening,
+}
+
+/// Opens the file of a name for writing, as the options say.
+pub fn open_to_write<H: Files>(files: &H, how: OpenOptions, name: &str) -> io::Result<Made<H::File>>
+    ensures name { IfOk result (λ made. made.opening.name.bytes ≡ name.now) }
+    ensures how { IfOk result (λ made. made.opening.how ≡ Some how) }
+{
+    match how.open(files, name) {
+        Ok(file) => Ok(Made {
+            file,
+            opening: Opening::by(name, Some(how)),
+        }),
+        Err(error) => Err(error),
+    }
+}
+
+impl<F: Write + Drop> Made<F> {
+    /// The device over a buffer over the file. Where there is no memory for the buffer, the file is closed.
+    pub fn into_device(self, alloc: Global) -> io::Result<Logged<Std<BufWriter<UntilFailure<F>>>>>
+        ensures opening { IfOk result (λ device. device.opening ≡ self.opening) }
+        ensures log { IfOk result (λ device. device.log.bytes ≡ []) }
+        ensures failures { IfOk result (λ device. device.inner.failures ≡ 0) }
+    {
+        let Made { file, opening } = self;
+        match BufWriter::with_capacity(alloc, OUTPUT_BUFFER, UntilFailure::new(file)) {
+            Ok(buffer) => Ok(Logged {
+                inner: Std::new(buffer),
+                log: Log::new(),
+                opening,
+            }),
+            Err(error) => Err(error),
+        }
+    }
+}
