@@ -1,25 +1,27 @@
 -- What a filter's run is where it reads a file.
-use Rattle.std.proofs.Common.{◌≡◌, ℕ, List, Option, Some, None, is_some, subst, sym, true, true≢false}
+use Rattle.std.proofs.Common.{◌≡◌, ℕ, Bool, List, Option, Some, subst}
+use Rattle.crx_lines.specs.declared.device.Std.{Std}
+use Rattle.crx_program.specs.declared.log.Logged.{Logged}
 use Rattle.crx_lines.specs.declared.device.Sink.{Ghosts as SinkGhosts}
 use Rattle.crx_lines.specs.declared.device.Source.{Ghosts as SourceGhosts}
 use Rattle.crx_options.specs.meaning.Choices.{Choices}
 use Rattle.crx_runs.specs.meaning.Spans.{Input, Device, reader_span}
-use Rattle.crx_program.specs.meaning.Jobs.{IsJobDone, IsFilteredFrom, IsFilteredInto, IsNotBegun}
+use Rattle.crx_program.specs.meaning.Jobs.{IsJobDone, IsFilteredFrom, IsFilteredInto, IsNotBegun, IsOpened}
 use Rattle.crx_command.specs.declared.job.Job.{Job}
 use Rattle.crx_command.specs.declared.job.Tool.{Tool}
 
 -- a filter that ran from a file, into another or into the output
-pub from_file : {R S : Type 0} (sources : SourceGhosts R) (unread : R → Type 0) (sinks : SinkGhosts S)
-    (source target : Option (List ℕ))
-    → is_some source ≡ true → (tool : Tool) (choices : Choices) (input : Input) (output messages : Device) (status : ℕ)
-    (first last : R) → unread first → sources.failures first ≡ 0 → sources.ends first ≡ 0
-    → IsFilteredInto sinks target tool choices (reader_span sources first last) output messages status
-    → IsFilteredFrom sources unread sinks source target tool choices input output messages status
-from_file sources unread sinks None target e tool choices input output messages status first last new failures ends h =
-    absurd (true≢false (sym e))
-from_file sources unread sinks (Some source) target e tool choices input output messages status first last new
-    failures ends h =
-    (first, last, new, failures, ends, h)
+pub from_file : {F G : Type 0} (sources : SourceGhosts (Logged (Std F))) (sinks : SinkGhosts (Logged G))
+    (name target_name : Option (List ℕ)) (force : Bool) (source : Option (Logged (Std F))) (target : Option (Logged G))
+    (opened_by : List ℕ) → name ≡ Some opened_by
+    → (tool : Tool) (choices : Choices) (input : Input) (output messages : Device) (status : ℕ)
+    (first last : Logged (Std F)) → source ≡ Some last → IsOpened opened_by first
+    → sources.failures first ≡ 0 → sources.ends first ≡ 0
+    → IsFilteredInto sinks target_name force target tool choices (reader_span sources first last) output messages status
+    → IsFilteredFrom sources sinks name source target_name force target tool choices input output messages status
+from_file sources sinks name target_name force source target opened_by e tool choices input output messages status
+    first last is opened failures ends h =
+    rw e (first, last, is, opened, failures, ends, h)
 
 -- a job that wasn't begun, with less that stays
 pub still_not_begun : (job : Job) (messages : Device) (status : ℕ) (P Q : Type 0)
@@ -28,9 +30,10 @@ still_not_begun job messages status P Q h f =
     record { why = h.why; can = h.can; shown = h.shown; status_is = h.status_is; same = f h.same }
 
 -- what is done for a job is done for the same job
-pub done_for : {R S : Type 0} (sources : SourceGhosts R) (unread : R → Type 0)
-    (sinks : SinkGhosts S) (a b : Job) (input : Input) (output messages : Device) (status : ℕ) (P : Type 0) → a ≡ b
-    → IsJobDone sources unread sinks a input output messages status P
-    → IsJobDone sources unread sinks b input output messages status P
-done_for sources unread sinks a b input output messages status P e h =
-    subst (λ (j : Job). IsJobDone sources unread sinks j input output messages status P) e h
+pub done_for : {F G : Type 0} (sources : SourceGhosts (Logged (Std F))) (sinks : SinkGhosts (Logged G)) (a b : Job)
+    (source : Option (Logged (Std F))) (target : Option (Logged G)) (input : Input) (output messages : Device)
+    (status : ℕ) (P : Type 0) → a ≡ b
+    → IsJobDone sources sinks a source target input output messages status P
+    → IsJobDone sources sinks b source target input output messages status P
+done_for sources sinks a b source target input output messages status P e h =
+    subst (λ (j : Job). IsJobDone sources sinks j source target input output messages status P) e h

@@ -1,2 +1,3 @@
 pub mod FilterEnds
 pub mod Refusals
+pub mod StreamLemmas

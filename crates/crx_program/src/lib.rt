@@ -4,3 +4,4 @@
 pub mod log;
 pub mod program;
 pub mod refusal;
+pub mod streams;

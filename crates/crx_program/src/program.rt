@@ -1,13 +1,14 @@
 //! A whole run of the program: from the arguments to an exit status.
 
-ghost use Rattle.std.specs.Prelude.{◌≡◌, ◌⊎◌, IfOk, is_some, map, string_bytes, true};
+ghost use Rattle.std.specs.Prelude.{◌≡◌, ◌⊎◌, IfOk, None, is_some, map, string_bytes, true};
 ghost use Rattle.std.specs.Option.{option_map_or};
 ghost use Rattle.crx_options.specs.meaning.Choices.{choices_of, is_date};
 ghost use Rattle.crx_command.specs.meaning.Planning.{Help, Refusal, Refused, Run, plan_of};
-ghost use Rattle.crx_program.specs.meaning.Jobs.{is_unread, IsChosen, IsJobDone, IsFiltered, IsFilteredFrom, IsFilteredInto, IsFilteredToFile, IsNotBegun};
+ghost use Rattle.crx_program.specs.meaning.Jobs.{IsChosen, IsJobDone, IsFiltered, IsFilteredFrom, IsFilteredInto, IsFilteredToFile, IsMadeBy, IsNotBegun};
 ghost use Rattle.crx_program.specs.meaning.Program.{IsHelped, IsRefused, IsShown, at_start};
 ghost use Rattle.crx_runs.specs.meaning.Spans.{span, reader_span};
 
+use crate::log::{Logged, Made, open_to_read, open_to_write};
 use crate::refusal::{refuse, report, report_at_start};
 use crx_command::date::default_date;
 use crx_command::job::{Decision, Job, Tool};
@@ -15,17 +16,45 @@ use crx_command::plan::plan;
 use crx_command::word::Word;
 use crx_faults::Fault;
 use crx_filter::{Options, check, compact, expand};
-use crx_lines::{Sink, Source, Std, open_file, write_all_counted};
+use crx_lines::{Sink, Source, Std, write_all_counted};
 use crx_runs::UntilFailure;
 use std::alloc::{AllocError, Global};
 use std::fs::OpenOptions;
+use std::io;
 use std::io::{BufWriter, ErrorKind, Write};
 use std::rt::{Clock, Files};
-use std::{fs, io};
 
-/// How many bytes of the output are collected before they are written: a system call for each line would cost more than all
-/// other work. The reader of lines itself reads the input in pieces of that size.
-pub const OUTPUT_BUFFER: usize = 65536;
+/// A file that is read, as a device that knows its name and what its reads gave.
+pub type SourceFile<F> = Logged<Std<F>>;
+
+/// A file that is written, as a device that knows its name and what was written to it; it is over a buffer.
+pub type TargetFile<F> = Logged<Std<BufWriter<UntilFailure<F>>>>;
+
+/// A run that is over: its exit status, and the devices of the files that it opened.
+#[derive(Drop)]
+pub struct Ended<F: Write + Drop> {
+    /// The exit status.
+    pub status: u8,
+    /// The file that was read, where the run opened one.
+    pub source: Option<SourceFile<F>>,
+    /// The file that was written, where the run made one.
+    pub target: Option<TargetFile<F>>,
+}
+
+impl<F: Write + Drop> Ended<F> {
+    /// A run that opened no file.
+    fn without_files(status: u8) -> Ended<F>
+        ensures status { result.status ≡ status }
+        ensures source { result.source ≡ None }
+        ensures target { result.target ≡ None }
+    {
+        Ended {
+            status,
+            source: None,
+            target: None,
+        }
+    }
+}
 
 /// The job's choices, with a date that fits its columns.
 fn options_with(job: &Job, date: &str) -> Options
@@ -69,45 +98,49 @@ fn filter<R: Source, W: Sink, M: Sink>(
     }
 }
 
-/// Runs a filter that writes to a file, through a buffer. A run that ended since a message couldn't be written hasn't
-/// flushed what it wrote before, so the buffer is flushed once more, which writes nothing where a write failed; the status
-/// is that of the run.
+/// Runs a filter that writes to a file, through a buffer.
 fn filter_to_file<R: Source, F: Write + Drop, M: Sink>(
     alloc: Global,
     tool: Tool,
     options: Options,
     reader: &mut R,
-    file: F,
+    file: Made<F>,
     messages: &mut M,
-) -> u8
-    ensures { IsFilteredToFile ⟦<Std<BufWriter<UntilFailure<F>>> as Sink>⟧ tool options
-        (reader_span R.Source reader.old reader.new) (span M.Sink messages.old messages.new) result
-        ⊎ ((result ≡ 1) × IsShown (span M.Sink messages.old messages.new) (at_start Fault.OutOfMemory)
-        × (reader.new ≡ reader.old)) }
+) -> Ended<F>
+    ensures source { result.source ≡ None }
+    ensures done { IsFilteredToFile ⟦<TargetFile<F> as Sink>⟧ file.opening result.target tool options
+        (reader_span R.Source reader.old reader.new) (span M.Sink messages.old messages.new) result.status
+        ⊎ ((result.status ≡ 1) × IsShown (span M.Sink messages.old messages.new) (at_start Fault.OutOfMemory)
+        × (reader.new ≡ reader.old) × (result.target ≡ None)) }
 {
-    match BufWriter::with_capacity(alloc, OUTPUT_BUFFER, UntilFailure::new(file)) {
-        Ok(buffer) => {
-            let mut writer = Std::new(buffer);
+    match file.into_device(alloc) {
+        Ok(device) => {
+            let mut writer = device;
             let status = filter(alloc, tool, options, reader, &mut writer, messages);
-            let mut buffer = writer.into_inner();
-            let _ = buffer.flush();
-            let _ = buffer.into_parts();
-            status
+            Ended {
+                status,
+                source: None,
+                target: Some(writer),
+            }
         }
-        Err(_) => report_at_start(messages, Fault::OutOfMemory),
+        Err(_) => Ended::without_files(report_at_start(messages, Fault::OutOfMemory)),
     }
 }
 
-/// Makes the file that is written. One that exists is overwritten only where `force` says so, and else
-/// the error is `AlreadyExists`.
-fn create<H: Files>(rt: &H, name: &str, force: bool) -> io::Result<H::File> {
+/// Makes the file that is written. One that exists is overwritten only where `force` says so; else the call that makes the file
+/// fails where there is one, with `AlreadyExists`.
+fn create<H: Files>(rt: &H, name: &str, force: bool) -> io::Result<Made<H::File>>
+    ensures made { IfOk result (λ made. IsMadeBy name.now force made.opening) }
+{
+    let mut how = OpenOptions::new();
+    how.write(true);
     if force {
-        return fs::create(rt, name);
+        how.create(true);
+        how.truncate(true);
+    } else {
+        how.create_new(true);
     }
-    OpenOptions::new()
-        .write(true)
-        .create_new(true)
-        .open(rt, name)
+    open_to_write(rt, how, name)
 }
 
 /// Runs a filter into the job's target: a file, or `output` where the job names none.
@@ -119,22 +152,25 @@ fn run_to_target<H: Files, R: Source, W: Sink, M: Sink>(
     reader: &mut R,
     output: &mut W,
     messages: &mut M,
-) -> u8
+) -> Ended<H::File>
     ensures output { is_some job.now.target ≡ true → output.new ≡ output.old }
-    ensures done { IsFilteredInto ⟦<Std<BufWriter<UntilFailure<H::File>>> as Sink>⟧
-        job.now.target job.now.tool options (reader_span R.Source reader.old reader.new)
-        (span W.Sink output.old output.new) (span M.Sink messages.old messages.new) result
-        ⊎ IsNotBegun job.now (span M.Sink messages.old messages.new) result ((reader.new ≡ reader.old)
-        × (output.new ≡ output.old)) }
+    ensures source { result.source ≡ None }
+    ensures done { IsFilteredInto ⟦<TargetFile<H::File> as Sink>⟧ job.now.target job.now.force result.target
+        job.now.tool options (reader_span R.Source reader.old reader.new)
+        (span W.Sink output.old output.new) (span M.Sink messages.old messages.new) result.status
+        ⊎ IsNotBegun job.now (span M.Sink messages.old messages.new) result.status ((reader.new ≡ reader.old)
+        × (output.new ≡ output.old) × (result.target ≡ None)) }
 {
     match &job.target {
-        None => filter(alloc, job.tool, options, reader, output, messages),
+        None => Ended::without_files(filter(alloc, job.tool, options, reader, output, messages)),
         Some(name) => match create(rt, name.text(), job.force) {
             Ok(file) => filter_to_file(alloc, job.tool, options, reader, file, messages),
             Err(error) if !job.force && error.kind() == ErrorKind::AlreadyExists => {
-                report(alloc, messages, "file exists: ", name.text())
+                Ended::without_files(report(alloc, messages, "file exists: ", name.text()))
             }
-            Err(_) => report(alloc, messages, "cannot create ", name.text()),
+            Err(_) => {
+                Ended::without_files(report(alloc, messages, "cannot create ", name.text()))
+            }
         },
     }
 }
@@ -148,24 +184,29 @@ fn run_from_source<H: Files, R: Source, W: Sink, M: Sink>(
     input: &mut R,
     output: &mut W,
     messages: &mut M,
-) -> u8
+) -> Ended<H::File>
     ensures input { is_some job.now.source ≡ true → input.new ≡ input.old }
     ensures output { is_some job.now.target ≡ true → output.new ≡ output.old }
-    ensures done { IsFilteredFrom ⟦<Std<H::File> as Source>⟧ is_unread
-        ⟦<Std<BufWriter<UntilFailure<H::File>>> as Sink>⟧
-        job.now.source job.now.target job.now.tool options (reader_span R.Source input.old input.new)
-        (span W.Sink output.old output.new) (span M.Sink messages.old messages.new) result
-        ⊎ IsNotBegun job.now (span M.Sink messages.old messages.new) result ((input.new ≡ input.old)
-        × (output.new ≡ output.old)) }
+    ensures done { IsFilteredFrom ⟦<SourceFile<H::File> as Source>⟧ ⟦<TargetFile<H::File> as Sink>⟧
+        job.now.source result.source job.now.target job.now.force result.target job.now.tool options
+        (reader_span R.Source input.old input.new)
+        (span W.Sink output.old output.new) (span M.Sink messages.old messages.new) result.status
+        ⊎ IsNotBegun job.now (span M.Sink messages.old messages.new) result.status ((input.new ≡ input.old)
+        × (output.new ≡ output.old) × (result.target ≡ None)) }
 {
     match &job.source {
         None => run_to_target(rt, alloc, job, options, input, output, messages),
-        Some(name) => match open_file(rt, name.text()) {
+        Some(name) => match open_to_read(rt, name.text()) {
             Ok(opened) => {
                 let mut reader = opened;
-                run_to_target(rt, alloc, job, options, &mut reader, output, messages)
+                let ended = run_to_target(rt, alloc, job, options, &mut reader, output, messages);
+                Ended {
+                    status: ended.status,
+                    source: Some(reader),
+                    target: ended.target,
+                }
             }
-            Err(_) => report(alloc, messages, "cannot read ", name.text()),
+            Err(_) => Ended::without_files(report(alloc, messages, "cannot read ", name.text())),
         },
     }
 }
@@ -179,18 +220,18 @@ fn run_job<H: Files + Clock, R: Source, W: Sink, M: Sink>(
     input: &mut R,
     output: &mut W,
     messages: &mut M,
-) -> u8
+) -> Ended<H::File>
     requires { option_map_or is_date job.now.date true ≡ true }
     ensures input { is_some job.now.source ≡ true → input.new ≡ input.old }
     ensures output { is_some job.now.target ≡ true → output.new ≡ output.old }
-    ensures done { IsJobDone ⟦<Std<H::File> as Source>⟧ is_unread
-        ⟦<Std<BufWriter<UntilFailure<H::File>>> as Sink>⟧ job.now
-        (reader_span R.Source input.old input.new) (span W.Sink output.old output.new)
-        (span M.Sink messages.old messages.new) result ((input.new ≡ input.old) × (output.new ≡ output.old)) }
+    ensures done { IsJobDone ⟦<SourceFile<H::File> as Source>⟧ ⟦<TargetFile<H::File> as Sink>⟧
+        job.now result.source result.target (reader_span R.Source input.old input.new)
+        (span W.Sink output.old output.new) (span M.Sink messages.old messages.new) result.status
+        ((input.new ≡ input.old) × (output.new ≡ output.old) × (result.target ≡ None)) }
 {
     match options_of(rt, alloc, job) {
         Ok(options) => run_from_source(rt, alloc, job, options, input, output, messages),
-        Err(_) => report_at_start(messages, Fault::OutOfMemory),
+        Err(_) => Ended::without_files(report_at_start(messages, Fault::OutOfMemory)),
     }
 }
 
@@ -207,7 +248,7 @@ fn show_help<W: Sink, M: Sink>(text: &Word, output: &mut W, messages: &mut M) ->
     }
 }
 
-/// Does what the arguments ask for, and answers the exit status; the arguments come without
+/// Does what the arguments ask for, and answers the exit status and the devices of the files that it opened; the arguments come without
 /// the program's name. `input` and `output` stand for standard input and standard output.
 ///
 /// A run's status is that of its filter: 0 where no message was written, 1 where an error ended it, and
@@ -226,25 +267,26 @@ pub fn run<H: Files + Clock, R: Source, W: Sink, M: Sink>(
     input: &mut R,
     output: &mut W,
     messages: &mut M,
-) -> u8
+) -> Ended<H::File>
     ensures refused { (refusal : Refusal) → plan_of (map string_bytes words.items) ≡ Refused refusal
-        → IsRefused (span M.Sink messages.old messages.new) refusal result
+        → IsRefused (span M.Sink messages.old messages.new) refusal result.status
         × (input.new ≡ input.old) × (output.new ≡ output.old) }
     ensures help { plan_of (map string_bytes words.items) ≡ Help
-        → IsHelped (span W.Sink output.old output.new) (span M.Sink messages.old messages.new) result
+        → IsHelped (span W.Sink output.old output.new) (span M.Sink messages.old messages.new) result.status
         × (input.new ≡ input.old) }
     ensures input { (job : Job) → plan_of (map string_bytes words.items) ≡ Run job
         → is_some job.source ≡ true → input.new ≡ input.old }
     ensures output { (job : Job) → plan_of (map string_bytes words.items) ≡ Run job
         → is_some job.target ≡ true → output.new ≡ output.old }
     ensures done { (job : Job) → plan_of (map string_bytes words.items) ≡ Run job
-        → IsJobDone ⟦<Std<H::File> as Source>⟧ is_unread ⟦<Std<BufWriter<UntilFailure<H::File>>> as Sink>⟧ job
-        (reader_span R.Source input.old input.new) (span W.Sink output.old output.new)
-        (span M.Sink messages.old messages.new) result ((input.new ≡ input.old) × (output.new ≡ output.old)) }
+        → IsJobDone ⟦<SourceFile<H::File> as Source>⟧ ⟦<TargetFile<H::File> as Sink>⟧
+        job result.source result.target (reader_span R.Source input.old input.new) (span W.Sink output.old output.new)
+        (span M.Sink messages.old messages.new) result.status
+        ((input.new ≡ input.old) × (output.new ≡ output.old) × (result.target ≡ None)) }
 {
     match plan(alloc, words) {
-        Ok(Decision::Help(text)) => show_help(&text, output, messages),
+        Ok(Decision::Help(text)) => Ended::without_files(show_help(&text, output, messages)),
         Ok(Decision::Run(job)) => run_job(rt, alloc, &job, input, output, messages),
-        Err(fault) => refuse(alloc, messages, &fault),
+        Err(fault) => Ended::without_files(refuse(alloc, messages, &fault)),
     }
 }

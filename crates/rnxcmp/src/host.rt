@@ -1,13 +1,19 @@
 //! The program's arguments and its standard streams.
 
-use crate::{UsageFault, Word, run};
+ghost use Rattle.std.specs.Prelude.{◌≡◌, map, string_bytes};
+ghost use Rattle.crx_command.specs.meaning.Planning.{Run, plan_of};
+ghost use Rattle.crx_program.specs.meaning.Streams.{IsExact, IsFrontOf};
+
+use crate::{Job, UsageFault, Word};
 use crx_faults::Fault;
 use crx_lines::Std;
-use crx_program::program::OUTPUT_BUFFER;
+use crx_program::log::OUTPUT_BUFFER;
 use crx_program::refusal::{refuse, report_at_start};
+use crx_program::streams::{Whole, run_over};
 use crx_runs::UntilFailure;
 use std::alloc::Global;
-use std::io::{BufWriter, Write};
+use std::fs::File;
+use std::io::{BufWriter, Stderr, Stdin, Stdout};
 use std::process::ExitCode;
 use std::{env, fs, io};
 
@@ -31,8 +37,20 @@ fn words_given(rt: &HostRuntime) -> Result<Vec<String>, UsageFault> {
     }
 }
 
-/// Does what the arguments ask for, over the standard streams (see [`run`]), and
-/// answers the exit status. The output goes through a buffer.
+/// Does what the arguments ask for, over the standard streams (see [`run`](crate::run)), and hands these back.
+pub fn run_streams(
+    rt: &HostRuntime,
+    words: Vec<String>,
+    stdout: BufWriter<UntilFailure<Stdout>>,
+) -> Whole<Stdin, Stdout, Stderr, File>
+    ensures exact { (job : Job) → plan_of (map string_bytes words.items) ≡ Run job
+        → (result.status ≡ 1 → ⊥) → IsExact job result }
+    ensures front { (job : Job) → plan_of (map string_bytes words.items) ≡ Run job → IsFrontOf job result }
+{
+    run_over(rt, rt.alloc(), words, rt.stdin(), stdout, rt.stderr())
+}
+
+/// Does what the arguments ask for, over the standard streams, and answers the exit status. The output goes through a buffer.
 ///
 /// If the system refuses memory for the arguments or the buffer, that is fault 22 at line 0, status 1. Arguments that aren't text
 /// are refused as such. A standard stream that was closed before the program began stays closed: a file that the arguments name
@@ -44,29 +62,17 @@ pub fn run_host(rt: &HostRuntime) -> ExitCode {
         fs::open(rt, NO_STREAM),
         fs::open(rt, NO_STREAM),
     ];
-    let mut messages = Std::new(rt.stderr());
     let words = match words_given(rt) {
         Ok(words) => words,
-        Err(fault) => return ExitCode::from(refuse(rt.alloc(), &mut messages, &fault)),
+        Err(fault) => {
+            let mut messages = Std::new(rt.stderr());
+            return ExitCode::from(refuse(rt.alloc(), &mut messages, &fault));
+        }
     };
     let stdout = UntilFailure::new(rt.stdout());
     let Ok(buffer) = BufWriter::with_capacity(rt.alloc(), OUTPUT_BUFFER, stdout) else {
+        let mut messages = Std::new(rt.stderr());
         return ExitCode::from(report_at_start(&mut messages, Fault::OutOfMemory));
     };
-    let mut input = Std::new(rt.stdin());
-    let mut output = Std::new(buffer);
-    let status = run(
-        rt,
-        rt.alloc(),
-        words,
-        &mut input,
-        &mut output,
-        &mut messages,
-    );
-    // A run that ended since a message couldn't be written hasn't flushed what it wrote before. After a
-    // write that failed nothing is written here.
-    let mut buffer = output.into_inner();
-    let _ = buffer.flush();
-    let _ = buffer.into_parts();
-    ExitCode::from(status)
+    ExitCode::from(run_streams(rt, words, buffer).close())
 }

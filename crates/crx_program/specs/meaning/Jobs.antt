@@ -1,5 +1,7 @@
 -- A job of the program: which filter runs, from where to where, by which choices; or why none runs.
-use Rattle.std.specs.Prelude.{◌≡◌, ◌⊎◌, ⊤, ℕ, ℤ, Bool, true, false, List, [], Option, Some, None, codes}
+use Rattle.std.specs.Prelude.{◌≡◌, ◌⊎◌, ⊤, ℕ, Bool, true, false, List, [], Option, Some, None, codes, if◌then◌else◌}
+use Rattle.std.specs.Fs.{new_options, with_create, with_create_new, with_truncate, with_write}
+use Rattle.std.specs.declared.fs.options.OpenOptions.{OpenOptions}
 use Rattle.crx_lines.specs.declared.device.Sink.{Ghosts as SinkGhosts}
 use Rattle.crx_lines.specs.declared.device.Source.{Ghosts as SourceGhosts}
 use Rattle.crx_lines.specs.declared.device.Std.{Std}
@@ -21,6 +23,8 @@ use Rattle.crx_command.specs.declared.job.Job.{Job}
 use Rattle.crx_command.specs.declared.job.Tool.{Tool}
 use Rattle.crx_command.specs.declared.job.Tool.TheVariants.{Compact, Expand, Check}
 use Rattle.crx_command.specs.meaning.ErrorLines.{error_line}
+use Rattle.crx_program.specs.declared.log.Logged.{Logged}
+use Rattle.crx_program.specs.declared.log.Opening.{Opening}
 use Rattle.crx_program.specs.meaning.Program.{at_start, IsShownOr}
 
 -- ---- a run
@@ -84,44 +88,68 @@ pub record IsNotBegun (job : Job) (messages : Device) (status : ℕ) (untouched 
   pub status_is : status ≡ 1
   pub same : untouched
 
--- a filter ran into the device over a file, from a state in which no write had failed to another one
-abbrev pub IsFilteredToFile : {S : Type 0} → SinkGhosts S → Tool → Choices → Input → Device → ℕ → Type 0
-IsFilteredToFile {S = S} sink tool choices input messages status =
-    (first : S) × (last : S) × (sink.failures first ≡ 0)
-    × IsFiltered tool choices input (span sink first last) messages status
+-- ---- the devices of files
 
--- a filter ran, into a file or else into the output
-abbrev pub IsFilteredInto : {S : Type 0}
-    → SinkGhosts S → Option (List ℕ) → Tool → Choices → Input → Device → Device → ℕ → Type 0
-IsFilteredInto sink None tool choices input output messages status =
-    IsFiltered tool choices input output messages status
-IsFilteredInto sink (Some target) tool choices input output messages status =
-    IsFilteredToFile sink tool choices input messages status
+-- the options by which an output file is opened for writing: one that exists is emptied where the job says so,
+-- and else the call fails where there is one
+abbrev pub options_of_target : Bool → OpenOptions
+options_of_target force =
+    if force then with_truncate (with_create (with_write new_options true) true) true
+    else with_create_new (with_write new_options true) true
 
--- a device that is marked as one over a file that was opened, and of which nothing was read since
-abbrev pub is_unread : {D : Type 0} → Std D → Type 0
-is_unread device = device.is_unread ≡ true
+-- a file was opened for writing, by this name
+abbrev pub IsMadeBy : List ℕ → Bool → Opening → Type 0
+IsMadeBy name force opening = (opening.name.bytes ≡ name) × (opening.how ≡ Some (options_of_target force))
 
--- a filter ran over the device of a file, from a state that is marked as unread, in which no read had failed or reported
--- the end, to another one; or else over the input
-abbrev pub IsFilteredFrom : {R S : Type 0} → SourceGhosts R → (R → Type 0)
-    → SinkGhosts S → Option (List ℕ) → Option (List ℕ) → Tool → Choices → Input → Device → Device → ℕ → Type 0
-IsFilteredFrom source unread sink None target tool choices input output messages status =
-    IsFilteredInto sink target tool choices input output messages status
-IsFilteredFrom {R = R} source unread sink (Some name) target tool choices input output messages status =
-    (first : R) × (last : R) × unread first × (source.failures first ≡ 0) × (source.ends first ≡ 0)
-    × IsFilteredInto sink target tool choices (reader_span source first last) output messages status
+-- a device of a file that was opened by this name, and of which nothing was read since
+abbrev pub IsOpened : {F : Type 0} → List ℕ → Logged (Std F) → Type 0
+IsOpened name device = (device.opening.name.bytes ≡ name) × (device.log.bytes ≡ [])
+    × (device.inner.is_unread ≡ true)
+
+-- a filter ran into the device of a file, which was opened in this way, from a state in which nothing was
+-- written and no write had failed to the state in which the device is handed back
+abbrev pub IsFilteredToFile : {G : Type 0}
+    → SinkGhosts (Logged G) → Opening → Option (Logged G) → Tool → Choices → Input → Device → ℕ → Type 0
+IsFilteredToFile {G = G} sink opening target tool choices input messages status =
+    (first : Logged G) × (last : Logged G) × (target ≡ Some last) × (first.opening ≡ opening)
+    × (first.log.bytes ≡ []) × (sink.failures first ≡ 0) × IsFiltered tool choices input (span sink first last) messages status
+
+-- a filter ran, into the file of the job's name or else into the output
+abbrev pub IsFilteredInto : {G : Type 0} → SinkGhosts (Logged G) → Option (List ℕ) → Bool → Option (Logged G)
+    → Tool → Choices → Input → Device → Device → ℕ → Type 0
+IsFilteredInto sink None force target tool choices input output messages status =
+    (target ≡ None) × IsFiltered tool choices input output messages status
+IsFilteredInto sink (Some name) force target tool choices input output messages status =
+    (opening : Opening) × IsMadeBy name force opening
+    × IsFilteredToFile sink opening target tool choices input messages status
+
+-- a filter ran over the device of a file, which was opened by the job's name, from a state in which no read had
+-- given a byte, failed or reported the end, to the state in which the device is handed back; or else over the
+-- input
+abbrev pub IsFilteredFrom : {F G : Type 0} → SourceGhosts (Logged (Std F)) → SinkGhosts (Logged G)
+    → Option (List ℕ) → Option (Logged (Std F)) → Option (List ℕ) → Bool → Option (Logged G)
+    → Tool → Choices → Input → Device → Device → ℕ → Type 0
+IsFilteredFrom sources sink None source target_name force target tool choices input output messages status =
+    (source ≡ None) × IsFilteredInto sink target_name force target tool choices input output messages status
+IsFilteredFrom {F = F} sources sink (Some name) source target_name force target tool choices input output messages
+    status =
+    (first : Logged (Std F)) × (last : Logged (Std F)) × (source ≡ Some last) × IsOpened name first
+    × (sources.failures first ≡ 0) × (sources.ends first ≡ 0)
+    × IsFilteredInto sink target_name force target tool choices (reader_span sources first last) output messages
+    status
 
 -- the filter of a job ran with the job's choices
-abbrev pub IsBegun : {R S : Type 0}
-    → SourceGhosts R → (R → Type 0) → SinkGhosts S → Job → Input → Device → Device → ℕ → Type 0
-IsBegun source unread sink job input output messages status = (choices : Choices)
+abbrev pub IsBegun : {F G : Type 0} → SourceGhosts (Logged (Std F)) → SinkGhosts (Logged G) → Job
+    → Option (Logged (Std F)) → Option (Logged G) → Input → Device → Device → ℕ → Type 0
+IsBegun sources sink job source target input output messages status = (choices : Choices)
     × IsChosen job.tool job.date job.every job.skip choices
-    × IsFilteredFrom source unread sink job.source job.target job.tool choices input output messages status
+    × IsFilteredFrom sources sink job.source source job.target job.force target job.tool choices input output
+    messages status
 
--- a job, done or not begun; the files that it names are read and written through devices of these kinds
-abbrev pub IsJobDone : {R S : Type 0}
-    → SourceGhosts R → (R → Type 0) → SinkGhosts S → Job → Input → Device → Device → ℕ → Type 0 → Type 0
-IsJobDone source unread sink job input output messages status untouched =
-    IsBegun source unread sink job input output messages status
+-- a job, done or not begun; the files that it names are read and written through the devices that are handed
+-- back
+abbrev pub IsJobDone : {F G : Type 0} → SourceGhosts (Logged (Std F)) → SinkGhosts (Logged G) → Job
+    → Option (Logged (Std F)) → Option (Logged G) → Input → Device → Device → ℕ → Type 0 → Type 0
+IsJobDone sources sink job source target input output messages status untouched =
+    IsBegun sources sink job source target input output messages status
     ⊎ IsNotBegun job messages status untouched

@@ -1,6 +1,7 @@
-use Rattle.std.proofs.Common.{◌≡◌, ◌∙◌, map, inl, inr, is_some, refl, string_bytes, subst, sym, true}
+use Rattle.std.proofs.Common.{◌≡◌, ◌∙◌, map, None, inl, inr, is_some, refl, string_bytes, subst, sym, true}
 use Rattle.crx_command.specs.meaning.Planning.{Help, Refused, Refusal, Run, plan_of}
 use Rattle.crx_program.specs.meaning.Jobs.{NoMemory}
+use Rattle.crx_program.specs.meaning.Program.{IsRefused}
 use Rattle.crx_runs.specs.meaning.Spans.{span, reader_span}
 use Rattle.crx_command.specs.declared.job.Job.{Job}
 use Rattle.crx_program.proofs.FilterEnds.{done_for}
@@ -14,9 +15,11 @@ same_job a b e = cc
 
 pub returns-in-Err-clause-refused : goal.returns-in-Err-clause-refused
 returns-in-Err-clause-refused g c = λ refusal e. (
-  refused_by _ refusal (span g.M.Sink c.args.messages.now c.refuse.new.messages)
+  subst (IsRefused (span g.M.Sink c.args.messages.now c.refuse.new.messages) refusal)
+      (sym c.without_files-in-Err.ensures.status)
+      (refused_by _ refusal (span g.M.Sink c.args.messages.now c.refuse.new.messages)
       c.refuse.result c.in-Err.fault e c.refuse.ensures.status
-      c.refuse.ensures.memory (c.refuse.ensures.refused refusal) c.in-Err.ensures,
+      c.refuse.ensures.memory (c.refuse.ensures.refused refusal) c.in-Err.ensures),
   refl {a = c.args.input.now},
   refl {a = c.args.output.now},
 )
@@ -27,8 +30,8 @@ returns-in-Err-clause-done g c = λ job e. inr (record {
   can = tt;
   shown = inl (not_run _ job (span g.M.Sink c.args.messages.now c.refuse.new.messages)
       c.in-Err.fault e c.refuse.ensures.memory c.in-Err.ensures);
-  status_is = c.refuse.ensures.status;
-  same = (refl, refl);
+  status_is = c.without_files-in-Err.ensures.status ∙ c.refuse.ensures.status;
+  same = (refl, refl, c.without_files-in-Err.ensures.target);
 })
 
 pub run_job-requires : goal.run_job-requires
@@ -41,11 +44,12 @@ pub returns-in-Ok-Run-clause-done : goal.returns-in-Ok-Run-clause-done
 returns-in-Ok-Run-clause-done g c = λ job e.
     let planned : Run c.in-Ok-Run.job ≡ plan_of (map string_bytes c.args.words.items) =
     rw c.in-Ok-Run.field-0-is at c.in-Ok-Run.ensures in
-    done_for _ _ _ c.in-Ok-Run.job job
+    done_for _ _ c.in-Ok-Run.job job c.run_job.result.source c.run_job.result.target
     (reader_span g.R.Source c.args.input.now c.run_job.new.input)
     (span g.W.Sink c.args.output.now c.run_job.new.output)
-    (span g.M.Sink c.args.messages.now c.run_job.new.messages) c.run_job.result
-    ((c.run_job.new.input ≡ c.args.input.now) × (c.run_job.new.output ≡ c.args.output.now))
+    (span g.M.Sink c.args.messages.now c.run_job.new.messages) c.run_job.result.status
+    ((c.run_job.new.input ≡ c.args.input.now) × (c.run_job.new.output ≡ c.args.output.now)
+    × (c.run_job.result.target ≡ None))
     (same_job c.in-Ok-Run.job job (planned ∙ e)) c.run_job.ensures.done
 
 -- help is no run and no refusal, and a run is neither help nor a refusal

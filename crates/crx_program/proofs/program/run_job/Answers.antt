@@ -1,4 +1,4 @@
-use Rattle.std.proofs.Common.{inl, inr, refl}
+use Rattle.std.proofs.Common.{◌∙◌, inl, inr, refl}
 use Rattle.crx_program.specs.meaning.Jobs.{NoMemory}
 use Rattle.crx_program.proofs.program.run_job.Goals as goal
 
@@ -14,6 +14,6 @@ returns-in-Err-clause-done g c =
       why = NoMemory;
       can = tt;
       shown = inl c.report_at_start.ensures.shown;
-      status_is = c.report_at_start.ensures.status;
-      same = (refl, refl);
+      status_is = c.without_files.ensures.status ∙ c.report_at_start.ensures.status;
+      same = (refl, refl, c.without_files.ensures.target);
     })

@@ -7,8 +7,8 @@ returns-in-Err-clause-done g c = inr (record {
   why = FileExists c.text-in-Err.result.now;
   can = (c.in-Some.is ∙ ap Some (sym c.text-in-Err.ensures), c.if-not-job.true);
   shown = c.report.ensures.shown;
-  status_is = c.report.ensures.status;
-  same = (refl, refl);
+  status_is = c.without_files-in-Err.ensures.status ∙ c.report.ensures.status;
+  same = (refl, refl, c.without_files-in-Err.ensures.target);
 })
 
 pub returns-in-Err-2-clause-done : goal.returns-in-Err-2-clause-done
@@ -16,6 +16,6 @@ returns-in-Err-2-clause-done g c = inr (record {
   why = CannotCreate c.text-in-Err-2.result.now;
   can = c.in-Some.is ∙ ap Some (sym c.text-in-Err-2.ensures);
   shown = c.report-in-Err-2.ensures.shown;
-  status_is = c.report-in-Err-2.ensures.status;
-  same = (refl, refl);
+  status_is = c.without_files-in-Err-2.ensures.status ∙ c.report-in-Err-2.ensures.status;
+  same = (refl, refl, c.without_files-in-Err-2.ensures.target);
 })

@@ -1,0 +1,336 @@
+-- What the logs of a run's devices are, by what ran between them.
+use Rattle.std.proofs.Common.{◌≡◌, ◌⊎◌, ◌∙◌, ◌<◌, ℕ, Bool, true, List, [], ◌++◌, Option, Some, None, ap, inl, inr, is_some, refl, subst, sym}
+use Rattle.crx_lines.specs.declared.device.Sink.{Ghosts as SinkGhosts}
+use Rattle.crx_lines.specs.declared.device.Source.{Ghosts as SourceGhosts}
+use Rattle.crx_lines.specs.declared.device.Std.{Std}
+use Rattle.std.specs.Io.KnownBytes.{Appends, Consumes, IsAtEnd}
+use Rattle.crx_faults.specs.declared.fault.At.{At}
+use Rattle.crx_options.specs.meaning.Choices.{Choices}
+use Rattle.crx_runs.specs.meaning.Spans.{Input, Device, reader_span, span}
+use Rattle.crx_command.specs.declared.job.Job.{Job}
+use Rattle.crx_command.specs.declared.job.Tool.{Tool}
+use Rattle.crx_program.specs.declared.log.Logged.{Logged}
+use Rattle.crx_program.specs.declared.log.Opening.{Opening}
+use Rattle.crx_program.specs.meaning.Jobs.{tool_result, IsChosen, IsFiltered, IsFilteredFrom, IsFilteredInto}
+use Rattle.crx_program.specs.meaning.Jobs.{IsJobDone, IsMadeBy, IsRunOf}
+use Rattle.crx_program.specs.meaning.Streams.{Gave, Took, IsAllOf, IsEndTold, IsFlushed, IsFresh, IsFrontPartOf}
+
+-- a good run of a filter
+record Good (tool : Tool) (choices : Choices) (input : Input) (writer messages : Device) (status : ℕ) : Type 0 where
+  pub given : List ℕ
+  pub gave : input.gave given
+  pub ended : input.at_end
+  pub output : writer.took (tool_result tool choices given).output
+  pub flushed : writer.flushed
+  pub reported : messages.took (tool_result tool choices given).messages
+  pub status_is : status ≡ (tool_result tool choices given).status
+
+good_of : (tool : Tool) (choices : Choices) (input : Input) (writer messages : Device) (status : ℕ)
+    (fault : Option At) (given : List ℕ) → input.gave given
+    → IsRunOf tool choices input given writer messages status fault
+    → (status ≡ 1 → ⊥) → Good tool choices input writer messages status
+good_of tool choices input writer messages status None given gave runs well =
+    let good = runs.good refl in
+    record {
+      given = given;
+      gave = gave;
+      ended = good.0;
+      output = good.5.output;
+      flushed = runs.flushed refl;
+      reported = good.5.messages_are;
+      status_is = good.5.status_is;
+    }
+good_of tool choices input writer messages status (Some at) given gave runs well =
+    absurd (well (runs.ended at refl).0)
+
+good : (tool : Tool) (choices : Choices) (input : Input) (writer messages : Device) (status : ℕ)
+    → IsFiltered tool choices input writer messages status → (status ≡ 1 → ⊥)
+    → Good tool choices input writer messages status
+good tool choices input writer messages status h well =
+    good_of tool choices input writer messages status h.0 h.1 h.2 h.3 well
+
+-- ---- what is known of the devices of logs
+
+-- what a read and a write do to a log, and what a device keeps
+abbrev pub Gives : {D : Type 0} → SourceGhosts (Logged D) → Type 0
+Gives {D = D} source = (a b : Logged D) (bytes : List ℕ) → source.gave a bytes b
+    → (b.log.bytes ≡ a.log.bytes ++ bytes) × (b.opening ≡ a.opening)
+
+abbrev pub Tells : {D : Type 0} → SourceGhosts (Logged (Std D)) → Type 0
+Tells {D = D} source = (a : Logged (Std D)) → source.at_end a → 0 < a.inner.ends
+
+abbrev pub Takes : {D : Type 0} → SinkGhosts (Logged D) → Type 0
+Takes {D = D} sink = (a b : Logged D) (bytes : List ℕ) → sink.took a bytes b
+    → (b.log.bytes ≡ a.log.bytes ++ bytes) × (b.opening ≡ a.opening)
+
+abbrev pub Flushes : {D : Type 0} → SinkGhosts (Logged (Std D)) → Type 0
+Flushes {D = D} sink = (a : Logged (Std D)) → sink.is_flushed a → a.inner.flushed ≡ true
+
+-- what was added to an empty log
+from_empty : (before after bytes : List ℕ) → before ≡ [] → after ≡ before ++ bytes → after ≡ bytes
+from_empty before after bytes empty is = is ∙ ap (λ (log : List ℕ). log ++ bytes) empty
+
+pub same_log : {D : Type 0} (a b : Logged D) → b ≡ a → a.log.bytes ≡ [] → b.log.bytes ≡ []
+same_log {D = D} a b same empty = ap (λ (device : Logged D). device.log.bytes) same ∙ empty
+
+made_still : (name : List ℕ) (force : Bool) (a b c : Opening)
+    → c ≡ b → b ≡ a → IsMadeBy name force a → IsMadeBy name force c
+made_still name force a b c p q made = subst (IsMadeBy name force) (sym (p ∙ q)) made
+
+-- the run of a filter, where its writer is by the logs
+record Writing {G O : Type 0} (name : Option (List ℕ)) (force : Bool) (target : Option (Logged (Std G)))
+    (output : Logged (Std O)) (tool : Tool) (choices : Choices) (input : Input) (messages : Device) (status : ℕ)
+    : Type 1 where
+  pub writer : Device
+  pub ran : IsFiltered tool choices input writer messages status
+  pub took : (bytes : List ℕ) → writer.took bytes → Took name force target output bytes
+  pub flushed : writer.flushed → IsFlushed target output
+
+-- and where its reader is
+record Placed {F G I O : Type 0} (job : Job) (source : Option (Logged (Std F))) (target : Option (Logged (Std G)))
+    (input : Logged (Std I)) (output : Logged (Std O)) (choices : Choices) (messages : Device) (status : ℕ)
+    : Type 1 where
+  pub reader : Input
+  pub writing : Writing job.target job.force target output job.tool choices reader messages status
+  pub gave : (bytes : List ℕ) → reader.gave bytes → Gave job.source source input bytes
+  pub ended : reader.at_end → IsEndTold source input
+
+module _ {G O : Type 0} (sinks : SinkGhosts (Logged (Std G))) (outputs : SinkGhosts (Logged (Std O)))
+    (sink_takes : Takes sinks) (output_takes : Takes outputs)
+    (sink_flushes : Flushes sinks) (output_flushes : Flushes outputs) where
+  writing : (name : Option (List ℕ)) (force : Bool) (target : Option (Logged (Std G))) (before after : Logged (Std O))
+      → before.log.bytes ≡ [] → (is_some name ≡ true → after ≡ before)
+      → (tool : Tool) (choices : Choices) (input : Input) (messages : Device) (status : ℕ)
+      → IsFilteredInto sinks name force target tool choices input (span outputs before after) messages status
+      → Writing name force target after tool choices input messages status
+  writing None force target before after empty same tool choices input messages status h = record {
+    writer = span outputs before after;
+    ran = h.1;
+    took = λ bytes took. (
+      h.0,
+      from_empty before.log.bytes after.log.bytes bytes empty
+          (output_takes before after bytes took).0,
+    );
+    flushed = λ flushed. subst (λ (t : Option (Logged (Std G))). IsFlushed t after) (sym h.0)
+        (output_flushes after flushed);
+  }
+  writing (Some name) force target before after empty same tool choices input messages status h =
+      let ran = h.2 in
+      let last = ran.1 in record {
+        writer = span sinks ran.0 last;
+        ran = ran.6;
+        took = λ bytes took. (
+          last,
+          ran.2,
+          made_still name force h.0 ran.0.opening last.opening (sink_takes ran.0 last bytes took).1 ran.3 h.1,
+          from_empty ran.0.log.bytes last.log.bytes bytes ran.4 (sink_takes ran.0 last bytes took).0,
+          same_log before after (same refl) empty,
+        );
+        flushed = λ flushed. subst (λ (t : Option (Logged (Std G))). IsFlushed t after) (sym ran.2)
+            (sink_flushes last flushed);
+      }
+
+  module _ {F I : Type 0} (sources : SourceGhosts (Logged (Std F))) (inputs : SourceGhosts (Logged (Std I)))
+      (source_gives : Gives sources) (input_gives : Gives inputs)
+      (source_tells : Tells sources) (input_tells : Tells inputs) where
+    placed : (job : Job) (source_name : Option (List ℕ)) → job.source ≡ source_name
+        → (source : Option (Logged (Std F))) (target : Option (Logged (Std G)))
+        (first last : Logged (Std I)) (before after : Logged (Std O)) → first.log.bytes ≡ [] → before.log.bytes ≡ []
+        → (is_some source_name ≡ true → last ≡ first) → (is_some job.target ≡ true → after ≡ before)
+        → (choices : Choices) (messages : Device) (status : ℕ)
+        → IsFilteredFrom sources sinks source_name source job.target job.force target job.tool choices
+        (reader_span inputs first last) (span outputs before after) messages status
+        → Placed job source target last after choices messages status
+    placed job None e source target first last before after none empty same_input same choices messages status h =
+        record {
+          reader = reader_span inputs first last;
+          writing = writing job.target job.force target before after empty same job.tool choices
+              (reader_span inputs first last) messages status h.1;
+          gave = λ bytes gave. subst (λ (name : Option (List ℕ)). Gave name source last bytes) (sym e)
+              (h.0, from_empty first.log.bytes last.log.bytes bytes none (input_gives first last bytes gave).0);
+          ended = λ ended. subst (λ (s : Option (Logged (Std F))). IsEndTold s last) (sym h.0) (input_tells last ended);
+        }
+    placed job (Some name) e source target first last before after none empty same_input same choices messages status
+        h =
+        let file = h.1 in record {
+          reader = reader_span sources h.0 file;
+          writing = writing job.target job.force target before after empty same job.tool choices
+              (reader_span sources h.0 file) messages status h.6;
+          gave = λ bytes gave. subst (λ (name : Option (List ℕ)). Gave name source last bytes) (sym e) (
+            file,
+            h.2,
+            ap (λ (opening : Opening). opening.name.bytes) (source_gives h.0 file bytes gave).1 ∙ h.3.0,
+            from_empty h.0.log.bytes file.log.bytes bytes h.3.1 (source_gives h.0 file bytes gave).0,
+            same_log first last (same_input refl) none,
+          );
+          ended = λ ended. subst (λ (s : Option (Logged (Std F))). IsEndTold s last) (sym h.2) (source_tells file ended);
+        }
+
+    module _ {E : Type 0} (reports : SinkGhosts (Logged (Std E))) (report_takes : Takes reports)
+        (job : Job) (source : Option (Logged (Std F))) (target : Option (Logged (Std G)))
+        (first last : Logged (Std I)) (before after : Logged (Std O)) (quiet spoken : Logged (Std E))
+        (none : first.log.bytes ≡ []) (empty : before.log.bytes ≡ []) (silent : quiet.log.bytes ≡ [])
+        (same_input : is_some job.source ≡ true → last ≡ first) (same : is_some job.target ≡ true → after ≡ before)
+        (status : ℕ) where
+      -- a run without a fault is exact
+      exact_of : (choices : Choices) → IsChosen job.tool job.date job.every job.skip choices
+          → Placed job source target last after choices (span reports quiet spoken) status → (status ≡ 1 → ⊥)
+          → (given : List ℕ) × (written : List ℕ) × Gave job.source source last given × IsEndTold source last
+          × Took job.target job.force target after written × IsFlushed target after
+          × IsAllOf job given written spoken.log.bytes status
+      exact_of choices chosen place well =
+          let run = good job.tool choices place.reader place.writing.writer (span reports quiet spoken) status
+          place.writing.ran well in
+          let result = tool_result job.tool choices run.given in (
+            run.given,
+            result.output,
+            place.gave run.given run.gave,
+            place.ended run.ended,
+            place.writing.took result.output run.output,
+            place.writing.flushed run.flushed,
+            (
+              choices,
+              chosen,
+              refl,
+              from_empty quiet.log.bytes spoken.log.bytes result.messages silent
+                  (report_takes quiet spoken result.messages run.reported).0,
+              run.status_is,
+            ),
+          )
+
+      -- whatever ended a run, what was written is a front part
+      front_of : (choices : Choices) → IsChosen job.tool job.date job.every job.skip choices
+          → Placed job source target last after choices (span reports quiet spoken) status
+          → (given : List ℕ) × (written : List ℕ) × Gave job.source source last given
+          × Took job.target job.force target after written × IsFrontPartOf job given written
+      front_of choices chosen place =
+          let ran = place.writing.ran in
+          let front = ran.3.front in (
+            ran.1,
+            front.written,
+            place.gave ran.1 ran.2,
+            place.writing.took front.written front.wrote,
+            (choices, chosen, elim front.first [ inl some ↦ inl some | inr all ↦ inr all.1 ]),
+          )
+
+      -- a job that was begun has a reader and a writer
+      place_of : (choices : Choices) → IsFilteredFrom sources sinks job.source source job.target job.force target
+          job.tool choices (reader_span inputs first last) (span outputs before after) (span reports quiet spoken) status
+          → Placed job source target last after choices (span reports quiet spoken) status
+      place_of choices h =
+          placed job job.source refl source target first last before after none empty same_input same choices
+          (span reports quiet spoken) status h
+
+      exact : (P : Type 0) → IsJobDone sources sinks job source target (reader_span inputs first last)
+          (span outputs before after) (span reports quiet spoken) status P → (status ≡ 1 → ⊥)
+          → (given : List ℕ) × (written : List ℕ) × Gave job.source source last given × IsEndTold source last
+          × Took job.target job.force target after written × IsFlushed target after
+          × IsAllOf job given written spoken.log.bytes status
+      exact P (inl begun) well = exact_of begun.0 begun.1 (place_of begun.0 begun.2) well
+      exact P (inr not_begun) well = absurd (well not_begun.status_is)
+
+      front : IsJobDone sources sinks job source target (reader_span inputs first last)
+          (span outputs before after) (span reports quiet spoken) status
+          ((last ≡ first) × (after ≡ before) × (target ≡ None))
+          → ((given : List ℕ) × (written : List ℕ) × Gave job.source source last given
+          × Took job.target job.force target after written × IsFrontPartOf job given written)
+          ⊎ ((last.log.bytes ≡ []) × (after.log.bytes ≡ []) × (target ≡ None))
+      front (inl begun) = inl (front_of begun.0 begun.1 (place_of begun.0 begun.2))
+      front (inr not_begun) =
+          let left = not_begun.same in
+          inr (same_log first last left.0 none, same_log before after left.1 empty, left.2)
+
+-- ---- the devices of the program
+
+-- what `Std` says of a reader and of a writer of std, by what std says of its bytes
+abbrev pub std_source : {D : Type 0} → (D → Option (List ℕ)) → SourceGhosts (Std D)
+std_source remaining = record {
+  gave = λ a bytes b. Consumes (remaining a.inner) (remaining b.inner) bytes;
+  at_end = λ s. IsAtEnd (remaining s.inner);
+  failures = λ s. s.failures;
+  ends = λ s. s.ends;
+}
+
+abbrev pub std_sink : {D : Type 0} → (D → Option (List ℕ)) → SinkGhosts (Std D)
+std_sink contents = record {
+  took = λ a bytes b. Appends (contents a.inner) (contents b.inner) bytes;
+  failures = λ s. s.failures;
+  is_flushed = λ s. s.flushed ≡ true;
+  flushes = λ s. s.flushes;
+}
+
+-- and what it says with a log
+abbrev pub logged_source : {D : Type 0} → SourceGhosts D → SourceGhosts (Logged D)
+logged_source inner = record {
+  gave = λ a bytes b. (b.log.bytes ≡ a.log.bytes ++ bytes) × (b.opening ≡ a.opening) × inner.gave a.inner bytes b.inner;
+  at_end = λ s. inner.at_end s.inner × (0 < inner.ends s.inner);
+  failures = λ s. inner.failures s.inner;
+  ends = λ s. inner.ends s.inner;
+}
+
+abbrev pub logged_sink : {D : Type 0} → SinkGhosts D → SinkGhosts (Logged D)
+logged_sink inner = record {
+  took = λ a bytes b. (b.log.bytes ≡ a.log.bytes ++ bytes) × (b.opening ≡ a.opening) × inner.took a.inner bytes b.inner;
+  failures = λ s. inner.failures s.inner;
+  is_flushed = λ s. inner.is_flushed s.inner;
+  flushes = λ s. inner.flushes s.inner;
+}
+
+abbrev pub reader_of : {D : Type 0} → (D → Option (List ℕ)) → SourceGhosts (Logged (Std D))
+reader_of remaining = logged_source (std_source remaining)
+
+abbrev pub writer_of : {D : Type 0} → (D → Option (List ℕ)) → SinkGhosts (Logged (Std D))
+writer_of contents = logged_sink (std_sink contents)
+
+gives : {D : Type 0} (remaining : D → Option (List ℕ)) → Gives (reader_of remaining)
+gives remaining a b bytes gave = (gave.0, gave.1)
+
+tells : {D : Type 0} (remaining : D → Option (List ℕ)) → Tells (reader_of remaining)
+tells remaining a ended = ended.1
+
+takes : {D : Type 0} (contents : D → Option (List ℕ)) → Takes (writer_of contents)
+takes contents a b bytes took = (took.0, took.1)
+
+flushes : {D : Type 0} (contents : D → Option (List ℕ)) → Flushes (writer_of contents)
+flushes contents a flushed = flushed
+
+module _ {F G I O E : Type 0} (file : F → Option (List ℕ)) (made : G → Option (List ℕ)) (stdin : I → Option (List ℕ))
+    (stdout : O → Option (List ℕ)) (stderr : E → Option (List ℕ))
+    (job : Job) (source : Option (Logged (Std F))) (target : Option (Logged (Std G)))
+    (first last : Logged (Std I)) (before after : Logged (Std O)) (quiet spoken : Logged (Std E))
+    (none : first.log.bytes ≡ []) (empty : before.log.bytes ≡ []) (silent : quiet.log.bytes ≡ [])
+    (same_input : is_some job.source ≡ true → last ≡ first) (same : is_some job.target ≡ true → after ≡ before)
+    (status : ℕ) where
+  pub exact_run : (P : Type 0) → IsJobDone (reader_of file) (writer_of made) job source target
+      (reader_span (reader_of stdin) first last) (span (writer_of stdout) before after)
+      (span (writer_of stderr) quiet spoken) status P → (status ≡ 1 → ⊥)
+      → (given : List ℕ) × (written : List ℕ) × Gave job.source source last given × IsEndTold source last
+      × Took job.target job.force target after written × IsFlushed target after
+      × IsAllOf job given written spoken.log.bytes status
+  exact_run P h well =
+      exact (writer_of made) (writer_of stdout) (takes made) (takes stdout) (flushes made) (flushes stdout)
+      (reader_of file) (reader_of stdin) (gives file) (gives stdin) (tells file) (tells stdin)
+      (writer_of stderr) (takes stderr) job source target first last before after quiet spoken
+      none empty silent same_input same status P h well
+
+  pub front_run : IsJobDone (reader_of file) (writer_of made) job source target
+      (reader_span (reader_of stdin) first last) (span (writer_of stdout) before after)
+      (span (writer_of stderr) quiet spoken) status ((last ≡ first) × (after ≡ before) × (target ≡ None))
+      → ((given : List ℕ) × (written : List ℕ) × Gave job.source source last given
+      × Took job.target job.force target after written × IsFrontPartOf job given written)
+      ⊎ ((last.log.bytes ≡ []) × (after.log.bytes ≡ []) × (target ≡ None))
+  front_run h =
+      front (writer_of made) (writer_of stdout) (takes made) (takes stdout) (flushes made) (flushes stdout)
+      (reader_of file) (reader_of stdin) (gives file) (gives stdin) (tells file) (tells stdin)
+      (writer_of stderr) (takes stderr) job source target first last before after quiet spoken
+      none empty silent same_input same status h
+
+-- a new device over a new one of std is fresh
+pub fresh : {D : Type 0} (inner : Std D) (device : Logged (Std D)) → device.inner ≡ inner → device.log.bytes ≡ []
+    → inner.failures ≡ 0 → inner.ends ≡ 0 → inner.flushes ≡ 0 → IsFresh device
+fresh {D = D} inner device same empty failures ends flushes = (
+  empty,
+  ap (λ (std : Std D). std.failures) same ∙ failures,
+  ap (λ (std : Std D). std.ends) same ∙ ends,
+  ap (λ (std : Std D). std.flushes) same ∙ flushes,
+)

@@ -1,0 +1,82 @@
+-- What a run over standard streams read, wrote and reported, by the logs of its devices.
+use Rattle.std.specs.Prelude.{◌≡◌, ◌⊎◌, ◌<◌, ℕ, Bool, true, List, [], Option, Some, None}
+use Rattle.crx_faults.specs.meaning.Lines.{lines_of}
+use Rattle.crx_lines.specs.declared.device.Std.{Std}
+use Rattle.crx_options.specs.meaning.Choices.{Choices}
+use Rattle.crx_runs.specs.meaning.Interruptions.{complete_lines}
+use Rattle.crx_runs.specs.meaning.Results.{Begins}
+use Rattle.crx_command.specs.declared.job.Job.{Job}
+use Rattle.crx_program.specs.declared.log.Logged.{Logged}
+use Rattle.crx_program.specs.declared.streams.Whole.{Whole}
+use Rattle.crx_program.specs.meaning.Jobs.{filter_of, tool_result, IsChosen, IsMadeBy}
+
+-- ---- what went through the devices
+
+-- the reads of a run gave these bytes: those of standard input, which are all that it gave; or those of the
+-- file of the job's name, where standard input gave none
+abbrev pub Gave : {I F : Type 0} → Option (List ℕ) → Option (Logged F) → Logged I → List ℕ → Type 0
+Gave None source input given = (source ≡ None) × (input.log.bytes ≡ given)
+Gave {F = F} (Some name) source input given = (file : Logged F) × (source ≡ Some file)
+    × (file.opening.name.bytes ≡ name) × (file.log.bytes ≡ given) × (input.log.bytes ≡ [])
+
+-- the writes of a run took these bytes: those to standard output, which are all that it took; or those to the
+-- file of the job's name, which was opened as the job says, where standard output took none
+abbrev pub Took : {O G : Type 0} → Option (List ℕ) → Bool → Option (Logged G) → Logged O → List ℕ → Type 0
+Took None force target output written = (target ≡ None) × (output.log.bytes ≡ written)
+Took {G = G} (Some name) force target output written = (file : Logged G) × (target ≡ Some file)
+    × IsMadeBy name force file.opening × (file.log.bytes ≡ written) × (output.log.bytes ≡ [])
+
+-- a read of the device that was read reported the end
+abbrev pub IsEndTold : {I F : Type 0} → Option (Logged (Std F)) → Logged (Std I) → Type 0
+IsEndTold None input = 0 < input.inner.ends
+IsEndTold (Some file) input = 0 < file.inner.ends
+
+-- the device that was written was flushed last, and the flush reported no failure
+abbrev pub IsFlushed : {O G : Type 0} → Option (Logged (Std G)) → Logged (Std O) → Type 0
+IsFlushed None output = output.inner.flushed ≡ true
+IsFlushed (Some file) output = file.inner.flushed ≡ true
+
+-- ---- by what was given
+
+-- what a job writes, reports and answers for these bytes, all of it
+abbrev pub IsAllOf : Job → List ℕ → List ℕ → List ℕ → ℕ → Type 0
+IsAllOf job given written reported status = (choices : Choices)
+    × IsChosen job.tool job.date job.every job.skip choices
+    × (written ≡ (tool_result job.tool choices given).output)
+    × (reported ≡ (tool_result job.tool choices given).messages)
+    × (status ≡ (tool_result job.tool choices given).status)
+
+-- a front part of what a job writes for these bytes, as lines that may go on or that are all
+abbrev pub IsFrontPartOf : Job → List ℕ → List ℕ → Type 0
+IsFrontPartOf job given written = (choices : Choices)
+    × IsChosen job.tool job.date job.every job.skip choices
+    × (Begins ((filter_of job.tool choices).so_far (complete_lines given)).output written
+    ⊎ Begins ((filter_of job.tool choices).whole (lines_of given)).output written)
+
+-- ---- a run
+
+-- the run read its input to the end, and wrote and reported what is defined for it, all of it and nothing
+-- else
+abbrev pub IsExact : {I O E F : Type 0} → Job → Whole I O E F → Type 0
+IsExact job whole = (given : List ℕ) × (written : List ℕ)
+    × Gave job.source whole.source whole.input given × IsEndTold whole.source whole.input
+    × Took job.target job.force whole.target whole.output written × IsFlushed whole.target whole.output
+    × IsAllOf job given written whole.messages.log.bytes whole.status
+
+-- the run wrote a front part of what is defined for what it read; or it read and wrote nothing
+abbrev pub IsFrontOf : {I O E F : Type 0} → Job → Whole I O E F → Type 0
+IsFrontOf job whole =
+    ((given : List ℕ) × (written : List ℕ) × Gave job.source whole.source whole.input given
+    × Took job.target job.force whole.target whole.output written × IsFrontPartOf job given written)
+    ⊎ ((whole.input.log.bytes ≡ []) × (whole.output.log.bytes ≡ []) × (whole.target ≡ None))
+
+-- ---- where the devices began
+
+-- a device through which nothing went yet, and of which nothing was counted
+abbrev pub IsFresh : {D : Type 0} → Logged (Std D) → Type 0
+IsFresh device = (device.log.bytes ≡ []) × (device.inner.failures ≡ 0) × (device.inner.ends ≡ 0)
+    × (device.inner.flushes ≡ 0)
+
+-- this holds of a fresh device, from which a run led to the one that it handed back
+abbrev pub FromFresh : {D : Type 0} → Logged (Std D) → (Logged (Std D) → Type 0) → Type 0
+FromFresh {D = D} last holds = (first : Logged (Std D)) × IsFresh first × holds first

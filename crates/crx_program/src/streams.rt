@@ -1,0 +1,110 @@
+//! A whole run of the program over standard streams that are handed in, which are handed back as devices that know what went through them.
+
+ghost use Rattle.std.specs.Prelude.{◌≡◌, [], None, map, string_bytes};
+ghost use Rattle.crx_command.specs.meaning.Planning.{Help, Refusal, Refused, Run, plan_of};
+ghost use Rattle.crx_program.specs.meaning.Jobs.{IsJobDone};
+ghost use Rattle.crx_program.specs.meaning.Program.{IsHelped, IsRefused};
+ghost use Rattle.crx_program.specs.meaning.Streams.{FromFresh, IsExact, IsFrontOf};
+ghost use Rattle.crx_runs.specs.meaning.Spans.{reader_span, span};
+
+use crate::log::Logged;
+use crate::program::{SourceFile, TargetFile, run};
+use crx_command::job::Job;
+use crx_lines::{Sink, Source, Std};
+use crx_runs::UntilFailure;
+use std::alloc::Global;
+use std::io::{BufWriter, Read, Write};
+use std::rt::{Clock, Files};
+
+/// Standard output, as a device that knows what was written to it; it is over a buffer.
+pub type OutputDevice<O> = TargetFile<O>;
+
+/// A run over standard streams that is over: its exit status, and each device that it read or wrote, with a log of all that went through it.
+#[derive(Drop)]
+pub struct Whole<I, O: Write + Drop, E, F: Write + Drop> {
+    /// The exit status.
+    pub status: u8,
+    /// Standard input.
+    pub input: Logged<Std<I>>,
+    /// Standard output. The device is over the buffer.
+    pub output: OutputDevice<O>,
+    /// Standard error.
+    pub messages: Logged<Std<E>>,
+    /// The file that was read, where the run opened one.
+    pub source: Option<SourceFile<F>>,
+    /// The file that was written, where the run made one.
+    pub target: Option<TargetFile<F>>,
+}
+
+/// Does what the arguments ask for, over standard streams (see [`run`]), and hands these back.
+pub fn run_over<H: Files + Clock, I: Read, O: Write + Drop, E: Write>(
+    rt: &H,
+    alloc: Global,
+    words: Vec<String>,
+    stdin: I,
+    stdout: BufWriter<UntilFailure<O>>,
+    stderr: E,
+) -> Whole<I, O, E, H::File>
+    ensures refused { (refusal : Refusal) → plan_of (map string_bytes words.items) ≡ Refused refusal
+        → FromFresh result.messages (λ messages.
+        IsRefused (span ⟦<Logged<Std<E>> as Sink>⟧ messages result.messages) refusal result.status)
+        × (result.input.log.bytes ≡ []) × (result.output.log.bytes ≡ []) }
+    ensures help { plan_of (map string_bytes words.items) ≡ Help
+        → FromFresh result.output (λ output. FromFresh result.messages (λ messages.
+        IsHelped (span ⟦<OutputDevice<O> as Sink>⟧ output result.output)
+        (span ⟦<Logged<Std<E>> as Sink>⟧ messages result.messages) result.status))
+        × (result.input.log.bytes ≡ []) }
+    ensures done { (job : Job) → plan_of (map string_bytes words.items) ≡ Run job
+        → FromFresh result.input (λ input. FromFresh result.output (λ output.
+        FromFresh result.messages (λ messages.
+        IsJobDone ⟦<SourceFile<H::File> as Source>⟧ ⟦<TargetFile<H::File> as Sink>⟧
+        job result.source result.target (reader_span ⟦<Logged<Std<I>> as Source>⟧ input result.input)
+        (span ⟦<OutputDevice<O> as Sink>⟧ output result.output)
+        (span ⟦<Logged<Std<E>> as Sink>⟧ messages result.messages) result.status
+        ((result.input ≡ input) × (result.output ≡ output) × (result.target ≡ None))))) }
+    ensures exact { (job : Job) → plan_of (map string_bytes words.items) ≡ Run job
+        → (result.status ≡ 1 → ⊥) → IsExact job result }
+    ensures front { (job : Job) → plan_of (map string_bytes words.items) ≡ Run job → IsFrontOf job result }
+{
+    let mut input = Logged::new(Std::new(stdin));
+    let mut output = Logged::new(Std::new(stdout));
+    let mut messages = Logged::new(Std::new(stderr));
+    let ended = run(rt, alloc, words, &mut input, &mut output, &mut messages);
+    Whole {
+        status: ended.status,
+        input,
+        output,
+        messages,
+        source: ended.source,
+        target: ended.target,
+    }
+}
+
+/// Hands on what a buffer still holds. A run that ended since a message couldn't be written hasn't flushed what it wrote before. After a
+/// write that failed nothing is written here.
+fn hand_on<O: Write + Drop>(device: OutputDevice<O>) {
+    let mut buffer = device.into_inner().into_inner();
+    let _ = buffer.flush();
+    let _ = buffer.into_parts();
+}
+
+impl<I: Drop, O: Write + Drop, E: Drop, F: Write + Drop> Whole<I, O, E, F> {
+    /// Hands on what the buffers of the output still hold, closes the files, and answers the exit status.
+    pub fn close(self) -> u8
+        ensures status { result ≡ self.status }
+    {
+        let Whole {
+            status,
+            input: _,
+            output,
+            messages: _,
+            source: _,
+            target,
+        } = self;
+        if let Some(file) = target {
+            hand_on(file);
+        }
+        hand_on(output);
+        status
+    }
+}
