@@ -12,12 +12,13 @@ use Rattle.crx_faults.specs.declared.fault.Fault.{Fault}
 use Rattle.crx_faults.specs.declared.fault.Fault.TheVariants.{BadEpoch, BadSatellite, RepeatedSatellite}
 use Rattle.crx_arcs.specs.meaning.Sequences.{before_all}
 use Rattle.crx_header.specs.meaning.EpochColumns.{epoch_count}
+use Rattle.crx_header.specs.meaning.InOrder.{◌otherwise◌next◌, ◌or_else◌with◌}
 use Rattle.crx_columns.specs.meaning.Texts.{is_printable}
 use Rattle.crx_history.specs.meaning.EpochText.{names_in, Satellite, satellite_before, satellites_named}
 use Rattle.crx_history.specs.meaning.Past.{Past}
-use Rattle.crx_history.specs.meaning.CompactPlaces.{satellites_counted, satellites_of_text, satellites_of_line}
+use Rattle.crx_history.specs.meaning.CompactPlaces.{satellites_of_text, satellites_of_line}
 use Rattle.crx_history.proofs.Identifiers.{AreNew, new-before, not-among}
-use Rattle.crx_history.proofs.Results.{no-err, ok-same, Follows, if-err, if-ok, if-true, if-false, before-ok}
+use Rattle.crx_history.proofs.Results.{no-err, ok-same, Follows, if-err, if-false, before-ok}
 use Rattle.std.proofs.lemmas.List.{length-map}
 use Rattle.crx_header.proofs.Apart.{apart-map}
 use Rattle.crx_history.specs.Tails.{Tail}
@@ -66,9 +67,9 @@ satellite-before : (types : List Count) (earlier : List (List ℕ))
 satellite-before types earlier name None others given h e = absurd (no-err BadSatellite given e)
 satellite-before types earlier name (Some n) others given h e =
     let s : Satellite = record { name = name; count = n } in
-    let next : before_all s others ≡ Ok given =
+    let new : before_all s others ≡ Ok given =
     if-err (list_any (bytes_eq name) earlier) RepeatedSatellite (before_all s others) given e in
-    let step : Follows others (λ ss. Ok (s ∷ ss)) given = before-ok s others given next in
+    let step : Follows others (λ ss. Ok (s ∷ ss)) given = before-ok s others given new in
     record {
       count = n;
       from = step.from;
@@ -99,6 +100,18 @@ satellites-facts types earlier (n ∷ ns) given e =
       known = (step.known, rest.known);
     })
 
+-- so many satellites of an epoch text, or its first fault
+abbrev pub satellites_counted : List Count → List ℕ → Option ℕ → Result (List Satellite) Fault
+satellites_counted types text found =
+    found or_else Err BadEpoch with λ count.
+    list_all is_blank (drop (HEAD_WIDTH + NAME_WIDTH * count) text) otherwise Err BadEpoch next
+    satellites_named types [] (names_in text count)
+
+holds-then : (b : Bool) (r : Result (List Satellite) Fault) (s : List Satellite)
+    → (if not b then Err BadEpoch else r) ≡ Ok s → b ≡ true
+holds-then true r s e = refl
+holds-then false r s e = absurd (no-err BadEpoch s e)
+
 text-facts : (types : List Count) (past : Past) (line : List ℕ) (found : Option ℕ) (satellites : List Satellite)
     → epoch_count (columns (past.text line) 1 41) ≡ found → list_all is_printable line ≡ true
     → satellites_counted types (past.text line) found ≡ Ok satellites → LineFacts types past line satellites
@@ -109,10 +122,10 @@ text-facts types past line (Some n) satellites h p e =
       count = n;
       counted = h;
       printable = p;
-      ended = if-true (list_all is_blank (drop (41 + 3 * n) text)) BadEpoch
+      ended = holds-then (list_all is_blank (drop (41 + 3 * n) text))
           (satellites_named types [] (names_in text n)) satellites e;
       named = satellites-facts types [] (names_in text n) satellites
-          (if-ok (list_all is_blank (drop (41 + 3 * n) text)) BadEpoch
+          (if-err (not (list_all is_blank (drop (41 + 3 * n) text))) BadEpoch
           (satellites_named types [] (names_in text n)) satellites e);
     }
 
@@ -122,14 +135,8 @@ pub line-facts_of : (types : List Count) (past : Past) (line : List ℕ) (satell
 line-facts_of types past line satellites e =
     let rest : Result (List Satellite) Fault = satellites_of_text types (past.text line) in
     text-facts types past line (epoch_count (columns (past.text line) 1 41)) satellites refl
-    (printable-then (list_all is_printable line) refl rest satellites e)
+    (holds-then (list_all is_printable line) rest satellites e)
     (if-err (not (list_all is_printable line)) BadEpoch rest satellites e)
-  where
-    printable-then : (b : Bool) → list_all is_printable line ≡ b
-        → (r : Result (List Satellite) Fault) (s : List Satellite)
-        → (if not b then Err BadEpoch else r) ≡ Ok s → list_all is_printable line ≡ true
-    printable-then true h r s e = h
-    printable-then false h r s e = absurd (no-err BadEpoch s e)
 
 -- an epoch line that was read announces its satellites, and names no two of them alike
 pub announced : (types : List Count) (before old new : Tail) (line : List ℕ) (satellites : List Satellite)

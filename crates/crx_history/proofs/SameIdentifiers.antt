@@ -1,6 +1,6 @@
 -- Two epoch texts with the same identifiers after their columns.
 use Rattle.std.specs.Prelude.{◌≡◌, ℕ, ◌+◌, ◌*◌, ◌-◌, ◌++◌, List, [], length, take, drop, replicate, Option, Some, Ok}
-use Rattle.std.specs.Prelude.{Result, Err, if◌then◌else◌}
+use Rattle.std.specs.Prelude.{Result, Err}
 use Rattle.std.specs.List.{list_all}
 use Rattle.std.proofs.Common.{sym, ◌∙◌, ap, arith}
 use Rattle.std.proofs.lemmas.List.{drop-drop, length-map}
@@ -11,11 +11,12 @@ use Rattle.crx_columns.specs.meaning.Columns.{columns, is_blank}
 use Rattle.crx_header.specs.meaning.ObservationTypes.{Count}
 use Rattle.crx_columns.specs.meaning.EachPlace.{each_place}
 use Rattle.crx_header.specs.meaning.EpochColumns.{epoch_count}
+use Rattle.crx_header.specs.meaning.InOrder.{◌otherwise◌next◌}
 use Rattle.crx_columns.proofs.EachPlace.{each_place-same, length-each_place}
-use Rattle.crx_history.specs.meaning.CompactPlaces.{satellites_counted, satellites_of_text}
+use Rattle.crx_history.specs.meaning.CompactPlaces.{satellites_of_text}
 use Rattle.crx_history.specs.meaning.EpochText.{Satellite, names_in, satellites_named}
 use Rattle.crx_history.specs.meaning.Past.{Past, past_of_block}
-use Rattle.crx_history.proofs.EpochLines.{LineFacts, line-facts_of}
+use Rattle.crx_history.proofs.EpochLines.{LineFacts, line-facts_of, satellites_counted}
 
 -- a text's columns announce as many satellites as were read from it
 announced_in : (types : List Count) (text : List ℕ) (satellites : List Satellite)
@@ -44,16 +45,16 @@ names-after_columns text count =
 
 abbrev read_after_columns : List Count → List ℕ → ℕ → Result (List Satellite) Fault
 read_after_columns types rest count =
-    if list_all is_blank (drop (NAME_WIDTH * count) rest)
-    then satellites_named types [] (names_after_columns rest count) else Err BadEpoch
+    list_all is_blank (drop (NAME_WIDTH * count) rest) otherwise Err BadEpoch next
+    satellites_named types [] (names_after_columns rest count)
 
 read-after_columns : (types : List Count) (text : List ℕ) (count : ℕ)
     → satellites_counted types text (Some count) ≡ read_after_columns types (drop HEAD_WIDTH text) count
 read-after_columns types text count =
-    ap {B = Result (List Satellite) Fault} (λ ns. if list_all is_blank (drop (HEAD_WIDTH + NAME_WIDTH * count) text)
-    then satellites_named types [] ns else Err BadEpoch) (names-after_columns text count)
-    ∙ ap {B = Result (List Satellite) Fault} (λ t. if list_all is_blank t
-    then satellites_named types [] (names_after_columns (drop HEAD_WIDTH text) count) else Err BadEpoch)
+    ap {B = Result (List Satellite) Fault} (λ ns. list_all is_blank (drop (HEAD_WIDTH + NAME_WIDTH * count) text)
+    otherwise Err BadEpoch next satellites_named types [] ns) (names-after_columns text count)
+    ∙ ap {B = Result (List Satellite) Fault} (λ t. list_all is_blank t
+    otherwise Err BadEpoch next satellites_named types [] (names_after_columns (drop HEAD_WIDTH text) count))
     (sym (drop-drop (NAME_WIDTH * count) HEAD_WIDTH text))
 
 -- a text that announces as many satellites as were read from another one, and has the same after its columns, has these

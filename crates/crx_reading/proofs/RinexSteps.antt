@@ -18,7 +18,8 @@ use Rattle.crx_rinex.specs.meaning.EpochLines.{HeadLine, EventHead, EpochHead, O
 use Rattle.crx_header.specs.meaning.EpochColumns.{begins_epoch, is_event_flag, is_event_line, records_in}
 use Rattle.crx_rinex.specs.meaning.EpochLines.{event_head, epoch_head}
 use Rattle.crx_header.specs.meaning.EpochColumns.{epoch_count, satellites_of}
-use Rattle.crx_rinex.specs.meaning.EpochLines.{with_clock, head_of}
+use Rattle.crx_rinex.specs.meaning.EpochLines.{head_of}
+use Rattle.crx_rinex.proofs.SoundEpochs.{with_clock}
 use Rattle.crx_rinex.specs.meaning.EpochPlaces.{OpenEpoch, begun_by, beginning_of, opened, epoch_of, row_if_new}
 use Rattle.crx_rinex.specs.EpochPlaces.{Going, Whole, when_wanted, whole_or_going, after_row}
 use Rattle.crx_rinex.specs.Epochs.{begun, is_full_epoch, AddsRow}

@@ -1,6 +1,6 @@
 -- What is printed of rows, epoch lines and epochs is read back.
 use Rattle.std.proofs.Common.{◌≡◌, ◌≢◌, ℕ, ℤ, ◌+◌, ◌-◌, ◌*◌, ◌<◌, suc, Bool, true, false, not, cond, eqb, ◌&&◌, List}
-use Rattle.std.proofs.Common.{[], ◌∷◌, ◌++◌, length, drop, map, Option, Some, None, IfSome, Ok, refl, ap, sym, subst}
+use Rattle.std.proofs.Common.{[], ◌∷◌, ◌++◌, length, drop, map, Option, Some, None, IfSome, Result, Ok, refl, ap, sym, subst}
 use Rattle.std.proofs.Common.{◌∙◌, ◌⊎◌, inl, inr, arith, append-nil, append_assoc, length-append}
 use Rattle.std.specs.Prelude.{All, ◌==◌}
 use Rattle.std.specs.List.{concat, list_all}
@@ -17,14 +17,15 @@ use Rattle.crx_text.specs.meaning.Numbers.{clock_text, IsWithin, IsValue}
 use Rattle.crx_faults.specs.meaning.Seen.{ReadLine, Content}
 use Rattle.crx_faults.specs.declared.limits.TheConstants.{OBSERVATION_WIDTH, OBSERVATION_DECIMALS, CLOCK_WIDTH}
 use Rattle.crx_faults.specs.declared.limits.TheConstants.{CLOCK_DECIMALS}
+use Rattle.crx_faults.specs.declared.fault.Fault.{Fault}
 use Rattle.crx_text.proofs.ReadBack.{number_of-number_text}
 use Rattle.crx_columns.specs.meaning.Texts.{is_kept}
 use Rattle.crx_rinex.specs.meaning.Observations.{Row, Epoch}
 use Rattle.crx_header.specs.meaning.ObservationTypes.{Count, is_system}
-use Rattle.crx_rinex.specs.meaning.EpochLines.{EpochHead, ObservationHead, IsObservationHead, IsClockOffset}
+use Rattle.crx_rinex.specs.meaning.EpochLines.{HeadLine, EpochHead, ObservationHead, IsObservationHead, IsClockOffset}
 use Rattle.crx_header.specs.meaning.EpochColumns.{begins_epoch, is_event_flag, is_observation_flag, satellites_in}
 use Rattle.crx_header.specs.meaning.EpochColumns.{satellites_of, epoch_count}
-use Rattle.crx_rinex.specs.meaning.EpochLines.{epoch_head, with_clock, head_of}
+use Rattle.crx_rinex.specs.meaning.EpochLines.{epoch_head, head_of}
 use Rattle.crx_rinex.specs.meaning.Epochs.{has_satellite, are_different, IsWholeEpoch}
 use Rattle.crx_rinex.specs.meaning.EpochPlaces.{OpenEpoch, EpochBegins, opened, rows_wanted, epoch_of, with_next_row}
 use Rattle.crx_rinex.specs.meaning.EpochPlaces.{next_row, rows_at, rest_at, begun_by, beginning_of, unit_begun}
@@ -226,10 +227,10 @@ head-chosen : (line head : List ℕ) (count : ℕ) (clock : Option ℤ) → begi
     → clock_of (columns line 42 15) ≡ Some clock → head_of line ≡ Ok (EpochHead head count clock)
 head-chosen line head count clock begins flag same counted blank reads =
     let first : epoch_count (columns line 1 41) ≡ Some count = ap epoch_count same ∙ counted in
-    let rest : epoch_head line (Some count) ≡ with_clock (columns line 1 41) count (Some clock) =
+    let rest : epoch_head line (Some count) ≡ Ok (EpochHead (columns line 1 41) count clock) =
     rw (blank, reads) refl in
     let all : head_of line ≡ epoch_head line (epoch_count (columns line 1 41)) = rw (begins, flag) refl in
-    all ∙ ap (epoch_head line) first ∙ rest ∙ ap (λ h. with_clock h count (Some clock)) same
+    all ∙ ap (epoch_head line) first ∙ rest ∙ ap {B = Result HeadLine Fault} (λ h. Ok (EpochHead h count clock)) same
 
 clock-back : (clock : Option ℤ) → IsClockOffset clock → clock_of (clock_text clock) ≡ Some clock
 clock-back clock h = number_of-number_text CLOCK_WIDTH CLOCK_DECIMALS clock

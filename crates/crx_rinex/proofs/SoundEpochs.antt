@@ -13,7 +13,7 @@ use Rattle.crx_text.specs.meaning.Numbers.{observation_of, clock_of, IsValue}
 use Rattle.crx_faults.specs.meaning.Seen.{ReadLine, Content, Overlong}
 use Rattle.crx_faults.specs.declared.fault.Fault.{Fault}
 use Rattle.crx_faults.specs.declared.fault.Fault.TheVariants.{NotAnEpoch, BadEpoch, RepeatedSatellite, BadField}
-use Rattle.crx_faults.specs.declared.fault.Fault.TheVariants.{BadFlags, Truncated}
+use Rattle.crx_faults.specs.declared.fault.Fault.TheVariants.{BadClock, BadFlags, Truncated}
 use Rattle.crx_faults.specs.declared.limits.TheConstants.{SATELLITES_LIMIT}
 use Rattle.crx_columns.specs.meaning.Texts.{is_kept}
 use Rattle.crx_header.specs.meaning.ObservationTypes.{Count, IsAllowedCount, is_system, count_of}
@@ -24,7 +24,8 @@ use Rattle.crx_rinex.specs.meaning.Places.{Place, Here, Wrong, Wanted, after_lin
 use Rattle.crx_rinex.specs.meaning.EpochLines.{HeadLine, EventHead, EpochHead, ObservationHead, IsObservationHead}
 use Rattle.crx_header.specs.meaning.EpochColumns.{is_event_flag, begins_epoch, epoch_count, records_in, satellites_of}
 use Rattle.crx_rinex.specs.meaning.EpochLines.{epoch_head, event_head}
-use Rattle.crx_rinex.specs.meaning.EpochLines.{with_clock, head_of}
+use Rattle.crx_rinex.specs.meaning.EpochLines.{head_of}
+use Rattle.crx_header.specs.meaning.InOrder.{◌or_else◌with◌}
 use Rattle.crx_rinex.specs.meaning.SatelliteLines.{row_of, row_of_types, row_with, values_in, flags_in, flags_at, field}
 use Rattle.crx_rinex.specs.meaning.SatelliteLines.{all_some, IsSoundRow}
 use Rattle.crx_header.specs.meaning.Satellites.{types_of_satellite, has_number, is_identifier}
@@ -155,6 +156,10 @@ IsSoundHead (Err fault) = ⊤
 IsSoundHead (Ok (EventHead flag count)) = ⊤
 IsSoundHead (Ok (EpochHead head count clock)) = IsObservationHead (record { head = head; count = count; clock = clock })
 
+-- the clock of an observation epoch's line, or its fault
+abbrev pub with_clock : List ℕ → ℕ → Option (Option ℤ) → Result HeadLine Fault
+with_clock head count found = found or_else Err BadClock with λ clock. Ok (EpochHead head count clock)
+
 clock_case : (line : List ℕ) (count : ℕ) → epoch_count (columns line 1 41) ≡ Some count
     → (o : Option (Option ℤ)) → clock_of (columns line 42 15) ≡ o → IsSoundHead (with_clock (columns line 1 41) count o)
 clock_case line count e None c = tt
@@ -170,7 +175,7 @@ count_case : (line : List ℕ) (o : Option ℕ) → epoch_count (columns line 1 
 count_case line None e = tt
 count_case line (Some count) e =
     elim (list_all is_blank (drop 56 line)) as (λ b.
-    IsSoundHead (cond b (with_clock (columns line 1 41) count (clock_of (columns line 42 15))) (Err BadEpoch))) [
+    IsSoundHead (cond (not b) (Err BadEpoch) (with_clock (columns line 1 41) count (clock_of (columns line 42 15))))) [
       | true ↦ clock_case line count e (clock_of (columns line 42 15)) refl
       | false ↦ tt
     ]

@@ -1,6 +1,6 @@
 -- The compact lines of an epoch read as that epoch.
 use Rattle.std.specs.Prelude.{◌≡◌, refl, ◌≢◌, ℕ, ◌+◌, ◌-◌, Bool, true, false, List, [], ◌∷◌, ◌++◌}
-use Rattle.std.specs.Prelude.{length, map, drop, Some, Result, Ok, Err, if◌then◌else◌}
+use Rattle.std.specs.Prelude.{length, map, drop, Some, Result, Ok, Err, not, if◌then◌else◌}
 use Rattle.std.specs.List.{list_all, AllByRecursion}
 use Rattle.std.proofs.Common.{sym, ◌∙◌, ap, subst, arith, drop_of_length-le}
 use Rattle.std.proofs.lemmas.List.{length-map, length-append, append_assoc, map-append}
@@ -27,7 +27,7 @@ use Rattle.crx_history.specs.meaning.EpochText.{names_in, Satellite, satellites_
 use Rattle.crx_history.specs.meaning.Expansion.{RawEpoch, block_of, raw_run_of, overlaid}
 use Rattle.crx_arcs.specs.meaning.ArcValues.{value_of}
 use Rattle.crx_history.specs.meaning.Past.{Past, past_of_block, past_of_epochs, past_of_line}
-use Rattle.crx_history.specs.meaning.CompactPlaces.{satellites_counted, satellites_of_text, satellites_of_line}
+use Rattle.crx_history.specs.meaning.CompactPlaces.{satellites_of_text, satellites_of_line}
 use Rattle.crx_history.specs.meaning.CompactPlaces.{BegunEpoch, epoch_begun, clock_line_read}
 use Rattle.crx_arcs.specs.meaning.Cells.{ReadCell}
 use Rattle.crx_history.specs.meaning.CompactPlaces.{ReadRow, satellite_line_read, rows_read, ReadEpoch, epoch_of_rows}
@@ -48,6 +48,7 @@ use Rattle.crx_compact.proofs.wayback.Facts.{text-kept, text-head, text-begins, 
 use Rattle.crx_compact.proofs.wayback.Facts.{satellites_of_rows, satellites-good, unmarked, difference-printable}
 use Rattle.crx_compact.proofs.wayback.Rows.{run-begins, rows-of_run, clock-printable, satellite_of, row-read}
 use Rattle.crx_history.proofs.Identifiers.{each-own, none-earlier}
+use Rattle.crx_history.proofs.EpochLines.{satellites_counted}
 use Rattle.crx_columns.proofs.Characters.{at, at-without_end_blanks, columns-are}
 
 -- ---- the epochs of a block
@@ -114,8 +115,8 @@ text-good types e h =
     (λ p. at-without_end_blanks (epoch_text e) (41 + p) ∙ text-names types e h p) in
     ap (satellites_counted types text) count
     ∙ ap {B = Result (List Satellite) Fault}
-    (λ r. if list_all is_blank r then satellites_named types [] (names_in text (length e.rows)) else Err
-    BadEpoch) rest ∙ ap (satellites_named types []) names
+    (λ r. if not (list_all is_blank r) then Err BadEpoch else
+    satellites_named types [] (names_in text (length e.rows))) rest ∙ ap (satellites_named types []) names
     ∙ satellites-good types [] e.rows (typed-rows types e h) (none-earlier (λ (r : Row). r.name) e.rows)
     h.sound.apart
 

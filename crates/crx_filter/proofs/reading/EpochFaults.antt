@@ -17,7 +17,7 @@ use Rattle.crx_header.specs.meaning.EpochColumns.{epoch_count, begins_epoch}
 use Rattle.crx_header.specs.meaning.ObservationTypes.{Count}
 use Rattle.crx_rinex.specs.meaning.Places.{Place, Here, Wrong, Wanted, after_lines, then_place, one_line, first_line}
 use Rattle.crx_header.specs.meaning.Satellites.{types_of_satellite}
-use Rattle.crx_history.specs.meaning.CompactPlaces.{BegunEpoch, satellites_counted, satellites_of_text}
+use Rattle.crx_history.specs.meaning.CompactPlaces.{BegunEpoch, satellites_of_text}
 use Rattle.crx_history.specs.meaning.CompactPlaces.{satellites_of_line, epoch_begun, clock_line_read}
 use Rattle.crx_arcs.specs.meaning.Cells.{cell_read}
 use Rattle.crx_arcs.specs.meaning.Cells.{cells_of, after_cells, cells_read}
@@ -33,6 +33,7 @@ use Rattle.crx_history.specs.meaning.Expansion.{block_of, code_in, raw_run_of}
 use Rattle.crx_history.specs.meaning.Past.{Past, past_of_block, past_of_epochs, past_of_line}
 use Rattle.crx_arcs.specs.meaning.Sequences.{and_then, before_all}
 use Rattle.crx_faults.specs.meaning.Faults.{is_skippable}
+use Rattle.crx_history.proofs.EpochLines.{satellites_counted}
 use Rattle.crx_filter.proofs.reading.WhatStands.{chosen}
 
 -- ---- results and places whose faults pass a test
@@ -145,9 +146,9 @@ counted-skippable : (types : List Count) (text : List ℕ) (count : Option ℕ)
     → IsSkippableResult (satellites_counted types text count)
 counted-skippable types text None = refl
 counted-skippable types text (Some count) =
-    chosen IsSkippableResult (list_all is_blank (drop (HEAD_WIDTH + NAME_WIDTH * count) text))
-    (satellites_named types [] (names_in text count)) (Err BadEpoch)
-    (named-skippable types [] (names_in text count)) refl
+    chosen IsSkippableResult (not (list_all is_blank (drop (HEAD_WIDTH + NAME_WIDTH * count) text)))
+    (Err BadEpoch) (satellites_named types [] (names_in text count)) refl
+    (named-skippable types [] (names_in text count))
 
 satellites-skippable : (types : List Count) (past : Past) (line : List ℕ)
     → IsSkippableResult (satellites_of_line types past line)

@@ -1,7 +1,7 @@
 -- What was accepted of a RINEX file is in place.
 use Rattle.std.proofs.Common.{ℕ, zero, suc, ◌≡◌, ◌+◌, true, false, cond, List, [], ◌∷◌, Option, Some, None}
 use Rattle.std.proofs.Common.{Result, Ok, Err, refl, ap, sym, subst, ◌∙◌, arith}
-use Rattle.std.specs.Prelude.{⊤, drop}
+use Rattle.std.specs.Prelude.{⊤, not, drop}
 use Rattle.std.specs.List.{list_all}
 use Rattle.crx_text.specs.meaning.Numbers.{clock_of}
 use Rattle.crx_faults.specs.declared.limits.TheConstants.{HEAD_WIDTH, CLOCK_WIDTH}
@@ -15,11 +15,11 @@ use Rattle.crx_rinex.specs.meaning.Places.{Place, Here, Wrong, Wanted, after_lin
 use Rattle.crx_rinex.specs.meaning.Units.{Unit as FileUnit, HeaderLine, EventLine, EventRecord, Observation}
 use Rattle.crx_header.specs.meaning.EpochColumns.{begins_epoch, is_event_flag, is_event_line, records_in, epoch_count}
 use Rattle.crx_rinex.specs.meaning.EpochLines.{event_head}
-use Rattle.crx_rinex.specs.meaning.EpochLines.{epoch_head, with_clock, head_of}
+use Rattle.crx_rinex.specs.meaning.EpochLines.{epoch_head, head_of}
 use Rattle.crx_header.specs.meaning.ObservationTypes.{Count}
 use Rattle.crx_rinex.specs.meaning.EpochPlaces.{Beginning, EventBegins, EpochBegins, opened, begun_by, beginning_of}
 use Rattle.crx_rinex.specs.meaning.EpochPlaces.{rest_at, unit_begun, epoch_place}
-use Rattle.crx_rinex.proofs.SoundEpochs.{sound-epoch_place}
+use Rattle.crx_rinex.proofs.SoundEpochs.{with_clock, sound-epoch_place}
 use Rattle.crx_reading.specs.meaning.Items.{Item, Accepted, Warned, is_at_start, header_has_ended, records_left}
 use Rattle.crx_reading.specs.meaning.Items.{records_count_types, types_in_force}
 use Rattle.crx_reading.specs.meaning.UnitPlaces.{types_fault, header_line_fault, header_line}
@@ -58,9 +58,9 @@ clock-begun line head count (Some clock) = tt
 epoch-begun : (line : List ℕ) (o : Option ℕ) → OfOk IsEventBegun (begun_by line (epoch_head line o))
 epoch-begun line None = tt
 epoch-begun line (Some count) =
-    chosen (λ r. OfOk IsEventBegun (begun_by line r)) (list_all is_blank (drop (HEAD_WIDTH + CLOCK_WIDTH) line))
-    (with_clock (columns line 1 HEAD_WIDTH) count (clock_of (columns line (HEAD_WIDTH + 1) CLOCK_WIDTH))) (Err BadEpoch)
-    (clock-begun line (columns line 1 HEAD_WIDTH) count (clock_of (columns line (HEAD_WIDTH + 1) CLOCK_WIDTH))) tt
+    chosen (λ r. OfOk IsEventBegun (begun_by line r)) (not (list_all is_blank (drop (HEAD_WIDTH + CLOCK_WIDTH) line)))
+    (Err BadEpoch) (with_clock (columns line 1 HEAD_WIDTH) count (clock_of (columns line (HEAD_WIDTH + 1) CLOCK_WIDTH)))
+    tt (clock-begun line (columns line 1 HEAD_WIDTH) count (clock_of (columns line (HEAD_WIDTH + 1) CLOCK_WIDTH)))
 
 line-begun : (line : List ℕ) → OfOk IsEventBegun (beginning_of line)
 line-begun line = by_bool (begins_epoch line)

@@ -19,7 +19,7 @@ use Rattle.crx_header.specs.declared.labels.TheConstants.{VERSION_LABEL}
 use Rattle.crx_header.specs.meaning.Label.{has_label}
 use Rattle.crx_rinex.specs.meaning.EpochLines.{HeadLine, EventHead, EpochHead}
 use Rattle.crx_header.specs.meaning.EpochColumns.{is_event_flag, records_in, epoch_count, begins_epoch}
-use Rattle.crx_rinex.specs.meaning.EpochLines.{event_head, with_clock, epoch_head, head_of}
+use Rattle.crx_rinex.specs.meaning.EpochLines.{event_head, epoch_head, head_of}
 use Rattle.crx_rinex.specs.meaning.EpochPlaces.{OpenEpoch, Beginning, EventBegins, EpochBegins, opened, rows_wanted}
 use Rattle.crx_rinex.specs.meaning.EpochPlaces.{with_next_row, row_if_new, next_row, row_at, rows_at, rest_at, begun_by}
 use Rattle.crx_rinex.specs.meaning.EpochPlaces.{beginning_of, unit_begun, epoch_place}
@@ -46,6 +46,7 @@ use Rattle.crx_faults.specs.meaning.Faults.{is_skippable}
 use Rattle.crx_runs.specs.Lawful.{is_of_lines}
 use Rattle.crx_filter.proofs.reading.EpochFaults.{FaultsPass, FaultsPassAt, place-then, place-first}
 use Rattle.crx_filter.proofs.reading.WhatStands.{chosen, of-unit, of-compact}
+use Rattle.crx_rinex.proofs.SoundEpochs.{with_clock}
 use Rattle.crx_filter.proofs.reading.EpochFaults.{IsSkippableAt, epoch-skippable}
 
 -- ---- results, options and places whose faults are those of lines
@@ -114,8 +115,8 @@ clock-fine head count (Some clock) = tt
 epoch_head-fine : (line : List ℕ) (count : Option ℕ) → IsFine (epoch_head line count)
 epoch_head-fine line None = refl
 epoch_head-fine line (Some count) =
-    chosen IsFine (list_all is_blank (drop (HEAD_WIDTH + CLOCK_WIDTH) line)) _ (Err BadEpoch)
-    (clock-fine (columns line 1 HEAD_WIDTH) count (clock_of (columns line (HEAD_WIDTH + 1) CLOCK_WIDTH))) refl
+    chosen IsFine (not (list_all is_blank (drop (HEAD_WIDTH + CLOCK_WIDTH) line))) (Err BadEpoch) _ refl
+    (clock-fine (columns line 1 HEAD_WIDTH) count (clock_of (columns line (HEAD_WIDTH + 1) CLOCK_WIDTH)))
 
 head-fine : (line : List ℕ) → IsFine (head_of line)
 head-fine line =

@@ -1,5 +1,5 @@
 -- The first line of a header: RINEX 3.05, table A2, RINEX VERSION / TYPE.
-use Rattle.std.specs.Prelude.{ℕ, Bool, false, ◌||◌, ◌&&◌, List, [], ◌∷◌, ◌==◌, Option, Some, None, if◌then◌else◌, not}
+use Rattle.std.specs.Prelude.{ℕ, Bool, false, ◌||◌, ◌&&◌, List, [], ◌∷◌, ◌==◌, Option, Some, None}
 use Rattle.std.specs.Prelude.{codes}
 use Rattle.std.specs.Char.{is_ascii_digit}
 use Rattle.std.specs.Str.{bytes_eq}
@@ -8,6 +8,7 @@ use Rattle.crx_faults.specs.declared.limits.TheConstants.{VERSION_WIDTH}
 use Rattle.crx_faults.specs.declared.fault.Fault.{Fault}
 use Rattle.crx_faults.specs.declared.fault.Fault.TheVariants.{MissingVersion, UnsupportedVersion, NotObservation}
 use Rattle.crx_header.specs.declared.labels.TheConstants.{VERSION_LABEL, END_LABEL}
+use Rattle.crx_header.specs.meaning.InOrder.{◌otherwise◌next◌}
 use Rattle.crx_header.specs.meaning.Label.{has_label}
 
 -- 3.0 and one digit
@@ -22,10 +23,10 @@ is_supported version = bytes_eq version (codes "3") || (bytes_eq version (codes 
 -- what is wrong with the first header line: its label, its version in columns 1 to 9, its type in column 21
 abbrev pub first_header_fault : List ℕ → Option Fault
 first_header_fault line =
-    if not (has_label VERSION_LABEL line) then Some MissingVersion
-    else if not (is_supported (without_blanks (columns line 1 VERSION_WIDTH))) then Some UnsupportedVersion
-    else if not (character_at line 21 == 79) then Some NotObservation
-    else None
+    has_label VERSION_LABEL line otherwise Some MissingVersion next
+    is_supported (without_blanks (columns line 1 VERSION_WIDTH)) otherwise Some UnsupportedVersion next
+    character_at line 21 == 79 otherwise Some NotObservation next
+    None
 
 -- the line that ends the header
 abbrev pub is_end_of_header : List ℕ → Bool

@@ -1,6 +1,6 @@
 -- Reading an observation epoch of compact text: Hatanaka's Compact RINEX 3.0, epoch line, clock line, satellite lines.
 -- What is asked of each line, and in which order, is this project's profile.
-use Rattle.std.specs.Prelude.{ℕ, ◌+◌, ◌*◌, Bool, not, ◌&&◌, List, [], ◌∷◌, map, length, drop, Option, Some, None}
+use Rattle.std.specs.Prelude.{ℕ, ◌+◌, ◌*◌, Bool, ◌&&◌, List, [], ◌∷◌, map, length, drop, Option}
 use Rattle.std.specs.Prelude.{Result, Ok, Err, if◌then◌else◌}
 use Rattle.std.specs.List.{list_all}
 use Rattle.crx_columns.specs.meaning.Columns.{columns, is_blank, without_end_blanks}
@@ -11,6 +11,7 @@ use Rattle.crx_faults.specs.declared.fault.Fault.{Fault}
 use Rattle.crx_faults.specs.declared.fault.Fault.TheVariants.{NotAnEpoch, BadEpoch, BadClock, BadFlags, Truncated}
 use Rattle.crx_rinex.specs.meaning.Observations.{Row, Epoch}
 use Rattle.crx_header.specs.meaning.ObservationTypes.{Count}
+use Rattle.crx_header.specs.meaning.InOrder.{◌otherwise◌next◌, ◌or_else◌with◌}
 use Rattle.crx_rinex.specs.meaning.Places.{Place, Here, then_place, first_line}
 use Rattle.crx_arcs.specs.meaning.Sequences.{and_then}
 use Rattle.crx_header.specs.meaning.EpochColumns.{begins_epoch, epoch_count}
@@ -22,21 +23,18 @@ use Rattle.crx_arcs.specs.meaning.Cells.{ReadCell, cell_read, cells_of, after_ce
 
 -- ---- the epoch line
 
--- so many satellites of an epoch text, with nothing but blanks after them
-abbrev pub satellites_counted : List Count → List ℕ → Option ℕ → Result (List Satellite) Fault
-satellites_counted types text None = Err BadEpoch
-satellites_counted types text (Some count) =
-    if list_all is_blank (drop (HEAD_WIDTH + NAME_WIDTH * count) text)
-    then satellites_named types [] (names_in text count) else Err BadEpoch
-
 -- the satellites of an epoch text, or its first fault
 abbrev pub satellites_of_text : List Count → List ℕ → Result (List Satellite) Fault
-satellites_of_text types text = satellites_counted types text (epoch_count (columns text 1 HEAD_WIDTH))
+satellites_of_text types text =
+    epoch_count (columns text 1 HEAD_WIDTH) or_else Err BadEpoch with λ count.
+    list_all is_blank (drop (HEAD_WIDTH + NAME_WIDTH * count) text) otherwise Err BadEpoch next
+    satellites_named types [] (names_in text count)
 
 -- the satellites of the epoch that a line begins, or the line's first fault
 abbrev pub satellites_of_line : List Count → Past → List ℕ → Result (List Satellite) Fault
 satellites_of_line types past line =
-    if not (list_all is_printable line) then Err BadEpoch else satellites_of_text types (past.text line)
+    list_all is_printable line otherwise Err BadEpoch next
+    satellites_of_text types (past.text line)
 
 -- an epoch whose line was read: the line, what its lines are read against, and its satellites
 pub record BegunEpoch : Type 0 where
@@ -45,8 +43,8 @@ pub record BegunEpoch : Type 0 where
   pub satellites : List Satellite
 
 abbrev pub epoch_begun : List Count → List ℕ → Option Past → Result BegunEpoch Fault
-epoch_begun types line None = Err NotAnEpoch
-epoch_begun types line (Some past) =
+epoch_begun types line earlier =
+    earlier or_else Err NotAnEpoch with λ past.
     and_then (satellites_of_line types past line)
     (λ satellites. Ok (record { line = line; past = past; satellites = satellites }))
 

@@ -1,5 +1,5 @@
 -- What an epoch text has to be: RINEX 3.05, table A3, EPOCH record, and Hatanaka's Compact RINEX 3.0, epoch line.
-use Rattle.std.specs.Prelude.{ℕ, ◌+◌, ◌*◌, List, [], ◌∷◌, Option, Some, None, Result, Ok, Err, if◌then◌else◌}
+use Rattle.std.specs.Prelude.{ℕ, ◌+◌, ◌*◌, List, [], ◌∷◌, Option, Result, Ok, Err, if◌then◌else◌}
 use Rattle.std.specs.List.{list_any}
 use Rattle.std.specs.Str.{bytes_eq}
 use Rattle.crx_columns.specs.meaning.Columns.{columns}
@@ -14,6 +14,7 @@ pub use Rattle.crx_header.specs.meaning.EpochColumns.{begins_epoch, is_observati
 pub use Rattle.crx_header.specs.meaning.EpochColumns.{epoch_count}
 pub use Rattle.crx_header.specs.meaning.Satellites.{types_of_satellite}
 use Rattle.crx_header.specs.meaning.ObservationTypes.{Count}
+use Rattle.crx_header.specs.meaning.InOrder.{◌or_else◌with◌}
 
 -- the identifiers after the 41 columns, three characters each
 abbrev pub names_in : List ℕ → ℕ → List (List ℕ)
@@ -27,10 +28,10 @@ pub record Satellite : Type 0 where
 -- an identifier with its count of types before the others, where none of those before it is the same
 abbrev pub satellite_before : List (List ℕ)
     → List ℕ → Option ℕ → Result (List Satellite) Fault → Result (List Satellite) Fault
-satellite_before earlier name None others = Err BadSatellite
-satellite_before earlier name (Some count) others =
-    if list_any (bytes_eq name) earlier then Err RepeatedSatellite
-    else before_all (record { name = name; count = count }) others
+satellite_before earlier name types others =
+    types or_else Err BadSatellite with λ count.
+    if list_any (bytes_eq name) earlier then Err RepeatedSatellite else
+    before_all (record { name = name; count = count }) others
 
 -- identifiers from left to right, each well formed and none of them twice, or the first fault
 abbrev pub satellites_named : List Count → List (List ℕ) → List (List ℕ) → Result (List Satellite) Fault

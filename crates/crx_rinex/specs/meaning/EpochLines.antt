@@ -1,12 +1,13 @@
 -- Epoch lines: RINEX 3.05, table A3, EPOCH record.
-use Rattle.std.specs.Prelude.{◌≡◌, ◌≤◌, ◌+◌, ℕ, ℤ, length, ◌-◌, List, Option, Some, None}
-use Rattle.std.specs.Prelude.{Result, Ok, Err, if◌then◌else◌, not, drop}
+use Rattle.std.specs.Prelude.{◌≡◌, ◌≤◌, ◌+◌, ℕ, ℤ, length, ◌-◌, List, Option, Some}
+use Rattle.std.specs.Prelude.{Result, Ok, Err, if◌then◌else◌, drop}
 use Rattle.std.specs.List.{list_all}
 use Rattle.crx_columns.specs.meaning.Columns.{columns, character_at, is_blank}
 use Rattle.crx_text.specs.meaning.Numbers.{clock_of, IsMissingOrWithin}
 use Rattle.crx_faults.specs.declared.limits.TheConstants.{SATELLITES_LIMIT, HEAD_WIDTH, CLOCK_WIDTH}
 use Rattle.crx_faults.specs.declared.fault.Fault.{Fault}
 use Rattle.crx_faults.specs.declared.fault.Fault.TheVariants.{NotAnEpoch, BadEpoch, BadClock}
+use Rattle.crx_header.specs.meaning.InOrder.{◌otherwise◌next◌, ◌or_else◌with◌}
 use Rattle.crx_header.specs.meaning.EpochColumns.{begins_epoch, is_event_flag, records_in, epoch_count}
 
 -- what a line that begins with > stands for: an event with its flag and the count of its records, or an observation
@@ -16,25 +17,25 @@ pub data HeadLine : Type 0 where
   EpochHead : List ℕ → ℕ → Option ℤ → HeadLine
 
 abbrev pub event_head : ℕ → Option ℕ → Result HeadLine Fault
-event_head flag None = Err BadEpoch
-event_head flag (Some count) = Ok (EventHead (flag - 48) count)
+event_head flag records =
+    records or_else Err BadEpoch with λ count.
+    Ok (EventHead (flag - 48) count)
 
-abbrev pub with_clock : List ℕ → ℕ → Option (Option ℤ) → Result HeadLine Fault
-with_clock head count None = Err BadClock
-with_clock head count (Some clock) = Ok (EpochHead head count clock)
-
--- an observation epoch's line: columns 1 to 41, the clock in columns 42 to 56, and blanks after it
+-- an observation epoch's line: the count that columns 1 to 41 announce, if they are those of one; blanks after column
+-- 56; the clock in columns 42 to 56
 abbrev pub epoch_head : List ℕ → Option ℕ → Result HeadLine Fault
-epoch_head line None = Err BadEpoch
-epoch_head line (Some count) = if list_all is_blank (drop (HEAD_WIDTH + CLOCK_WIDTH) line) then with_clock
-    (columns line 1 HEAD_WIDTH) count (clock_of (columns line (HEAD_WIDTH + 1) CLOCK_WIDTH)) else Err BadEpoch
+epoch_head line satellites =
+    satellites or_else Err BadEpoch with λ count.
+    list_all is_blank (drop (HEAD_WIDTH + CLOCK_WIDTH) line) otherwise Err BadEpoch next
+    clock_of (columns line (HEAD_WIDTH + 1) CLOCK_WIDTH) or_else Err BadClock with λ clock.
+    Ok (EpochHead (columns line 1 HEAD_WIDTH) count clock)
 
 -- what stands in a line where an epoch may begin, or its first fault: no >, then the flag, the count and the columns,
 -- then the clock
 abbrev pub head_of : List ℕ → Result HeadLine Fault
 head_of line =
-    if not (begins_epoch line) then Err NotAnEpoch
-    else if is_event_flag (character_at line 32) then event_head (character_at line 32) (records_in line)
+    begins_epoch line otherwise Err NotAnEpoch next
+    if is_event_flag (character_at line 32) then event_head (character_at line 32) (records_in line)
     else epoch_head line (epoch_count (columns line 1 HEAD_WIDTH))
 
 -- an observation epoch's line: columns 1 to 41, the count of satellites that they announce, and the receiver clock

@@ -1,6 +1,6 @@
 -- Satellite lines: RINEX 3.05, table A3, OBSERVATION record, A1,I2.2,m(F14.3,I1,I1).
 use Rattle.std.specs.Prelude.{◌≡◌, ℕ, ℤ, true, ◌+◌, ◌*◌, List, [], ◌∷◌, Option, Some, None}
-use Rattle.std.specs.Prelude.{Result, Ok, Err, if◌then◌else◌, not, drop, length, All}
+use Rattle.std.specs.Prelude.{Result, Ok, Err, drop, length, All}
 use Rattle.std.specs.List.{list_all, concat}
 use Rattle.std.specs.Option.{option_and_then}
 use Rattle.crx_columns.specs.meaning.Columns.{columns, character_at, is_blank}
@@ -11,6 +11,7 @@ use Rattle.crx_faults.specs.declared.limits.TheConstants.{OBSERVATION_WIDTH, NAM
 use Rattle.crx_faults.specs.declared.fault.Fault.{Fault}
 use Rattle.crx_faults.specs.declared.fault.Fault.TheVariants.{BadSatellite, BadField, BadFlags}
 use Rattle.crx_columns.specs.meaning.Texts.{is_kept}
+use Rattle.crx_header.specs.meaning.InOrder.{◌otherwise◌next◌, ◌or_else◌with◌}
 use Rattle.crx_header.specs.meaning.ObservationTypes.{Count, IsAllowedCount}
 use Rattle.crx_header.specs.meaning.Satellites.{is_identifier, types_of_satellite}
 
@@ -39,15 +40,16 @@ flags_in m line = concat (each_place m (flags_at line))
 
 -- a row of m types, or its first fault: a field that is no number, or text after the last cell; then an indicator
 abbrev pub row_with : ℕ → List ℕ → Option (List (Option ℤ)) → Result Row Fault
-row_with m line None = Err BadField
-row_with m line (Some values) =
-    if not (list_all is_blank (drop (CELL_WIDTH * m + NAME_WIDTH) line)) then Err BadField
-    else if not (list_all is_kept (flags_in m line)) then Err BadFlags
-    else Ok (record { name = columns line 1 NAME_WIDTH; values = values; flags = flags_in m line })
+row_with m line fields =
+    fields or_else Err BadField with λ values.
+    list_all is_blank (drop (CELL_WIDTH * m + NAME_WIDTH) line) otherwise Err BadField next
+    list_all is_kept (flags_in m line) otherwise Err BadFlags next
+    Ok (record { name = columns line 1 NAME_WIDTH; values = values; flags = flags_in m line })
 
 abbrev pub row_of_types : List ℕ → Option ℕ → Result Row Fault
-row_of_types line None = Err BadSatellite
-row_of_types line (Some m) = row_with m line (values_in m line)
+row_of_types line types =
+    types or_else Err BadSatellite with λ m.
+    row_with m line (values_in m line)
 
 -- a satellite's row, or the first fault of its line
 abbrev pub row_of : List Count → List ℕ → Result Row Fault
