@@ -18,7 +18,7 @@ use Rattle.crx_history.specs.meaning.EpochText.{names_in, Satellite, satellite_b
 use Rattle.crx_history.specs.meaning.Past.{Past}
 use Rattle.crx_history.specs.meaning.CompactPlaces.{satellites_of_text, satellites_of_line}
 use Rattle.crx_history.proofs.Identifiers.{AreNew, new-before, not-among}
-use Rattle.crx_history.proofs.Results.{no-err, ok-same, Follows, if-err, if-false, before-ok}
+use Rattle.crx_history.proofs.Results.{no-err, ok-same, Follows, if-err, if-true, if-false, before-ok}
 use Rattle.std.proofs.lemmas.List.{length-map}
 use Rattle.crx_header.proofs.Apart.{apart-map}
 use Rattle.crx_history.specs.Tails.{Tail}
@@ -107,11 +107,6 @@ satellites_counted types text found =
     list_all is_blank (drop (HEAD_WIDTH + NAME_WIDTH * count) text) otherwise Err BadEpoch next
     satellites_named types [] (names_in text count)
 
-holds-then : (b : Bool) (r : Result (List Satellite) Fault) (s : List Satellite)
-    → (if not b then Err BadEpoch else r) ≡ Ok s → b ≡ true
-holds-then true r s e = refl
-holds-then false r s e = absurd (no-err BadEpoch s e)
-
 text-facts : (types : List Count) (past : Past) (line : List ℕ) (found : Option ℕ) (satellites : List Satellite)
     → epoch_count (columns (past.text line) 1 41) ≡ found → list_all is_printable line ≡ true
     → satellites_counted types (past.text line) found ≡ Ok satellites → LineFacts types past line satellites
@@ -122,7 +117,7 @@ text-facts types past line (Some n) satellites h p e =
       count = n;
       counted = h;
       printable = p;
-      ended = holds-then (list_all is_blank (drop (41 + 3 * n) text))
+      ended = if-true (list_all is_blank (drop (41 + 3 * n) text)) BadEpoch
           (satellites_named types [] (names_in text n)) satellites e;
       named = satellites-facts types [] (names_in text n) satellites
           (if-err (not (list_all is_blank (drop (41 + 3 * n) text))) BadEpoch
@@ -135,7 +130,7 @@ pub line-facts_of : (types : List Count) (past : Past) (line : List ℕ) (satell
 line-facts_of types past line satellites e =
     let rest : Result (List Satellite) Fault = satellites_of_text types (past.text line) in
     text-facts types past line (epoch_count (columns (past.text line) 1 41)) satellites refl
-    (holds-then (list_all is_printable line) rest satellites e)
+    (if-true (list_all is_printable line) BadEpoch rest satellites e)
     (if-err (not (list_all is_printable line)) BadEpoch rest satellites e)
 
 -- an epoch line that was read announces its satellites, and names no two of them alike

@@ -17,10 +17,10 @@ use Rattle.std.proofs.Math.Path.{fun_ext}
 use Rattle.crx_columns.specs.meaning.EachPlace.{each_place}
 use Rattle.crx_arcs.specs.meaning.Sequences.{and_then, before_all}
 use Rattle.crx_header.specs.meaning.EpochColumns.{begins_epoch}
+use Rattle.crx_header.specs.meaning.InOrder.{◌otherwise◌next◌}
 use Rattle.crx_history.specs.meaning.EpochText.{Satellite}
 use Rattle.crx_arcs.specs.meaning.Cells.{ReadCell, after_cells, cells_of, cells_read, cell_read}
-use Rattle.crx_history.specs.meaning.CompactPlaces.{ReadRow, satellite_line_read, are_marks, row_of_cells, row_of_line}
-use Rattle.crx_history.specs.meaning.CompactPlaces.{row_with_marks}
+use Rattle.crx_history.specs.meaning.CompactPlaces.{ReadRow, satellite_line_read, are_marks, row_of_cells}
 use Rattle.crx_history.specs.meaning.Past.{Past}
 use Rattle.crx_arcs.specs.ArcTails.{ArcTail}
 use Rattle.crx_history.specs.Tails.{RowTail, Tail}
@@ -86,6 +86,16 @@ columns-held count flags =
 
 -- ---- a satellite's line
 
+abbrev pub row_with_marks : Past → Satellite → List ℕ → List ReadCell → Result ReadRow Fault
+row_with_marks past satellite marks cells =
+    are_marks satellite.count marks otherwise Err BadFlags next Ok (row_of_cells past satellite.name marks cells)
+
+-- a line for so many types: the first cell with a fault decides, then the marks
+abbrev pub row_of_line : Past → Satellite → List ℕ → Result ReadRow Fault
+row_of_line past satellite line =
+    and_then (cells_read (past.value satellite.name) (cells_of satellite.count line)) (λ cells.
+    row_with_marks past satellite (after_cells satellite.count line) cells)
+
 -- a line that begins no epoch is read by its cells
 line-cells : (arcs : List (Option ArcTail)) (flags : List ℕ) (satellite : Satellite) (line : List ℕ)
     → begins_epoch line ≡ false
@@ -112,14 +122,14 @@ line-marks : (arcs : List (Option ArcTail)) (flags : List ℕ)
     → cells_read (value_at_place arcs) (cells_of satellite.count line) ≡ Ok cells
     → after_cells satellite.count line ≡ drop at line → are_marks satellite.count (drop at line) ≡ b
     → row_held_from arcs flags satellite line
-    ≡ and_then (if b then Ok (row_of_cells (past_of_row arcs flags) satellite.name (drop at line) cells)
-    else Err BadFlags) (λ read. Ok (held_from arcs flags read))
+    ≡ and_then (b otherwise Err BadFlags next Ok (row_of_cells (past_of_row arcs flags) satellite.name (drop at line) cells))
+    (λ read. Ok (held_from arcs flags read))
 line-marks arcs flags satellite line at cells b h good marks e =
     line-cells arcs flags satellite line h (Ok cells) good
     ∙ ap {B = Result HeldRow Fault} (λ text. and_then
     (row_with_marks (past_of_row arcs flags) satellite text cells) (λ read. Ok (held_from arcs flags read))) marks
-    ∙ ap {B = Result HeldRow Fault} (λ q. and_then (if q then Ok (row_of_cells (past_of_row arcs flags) satellite.name
-    (drop at line) cells) else Err BadFlags) (λ read. Ok (held_from arcs flags read))) e
+    ∙ ap {B = Result HeldRow Fault} (λ q. and_then (q otherwise Err BadFlags next Ok (row_of_cells
+    (past_of_row arcs flags) satellite.name (drop at line) cells)) (λ read. Ok (held_from arcs flags read))) e
 
 pub line-bad_marks : (arcs : List (Option ArcTail))
     (flags : List ℕ) (satellite : Satellite) (line : List ℕ) (left : List (Option ArcTail)) (at : ℕ)
@@ -231,12 +241,12 @@ row-decided : (tail : Tail) (satellite : Satellite)
     (marks : List ℕ) (begins good : Bool) (r : Result (List ReadCell) Fault)
     → ◌≡◌ {A = Result HeldRow Fault}
     (and_then (if begins then Err Truncated else and_then r (λ cells.
-    if good then Ok (row_of_cells (past_of_row (arcs_of_tail (tail_named satellite.name tail))
-    (flags_of_tail (tail_named satellite.name tail))) satellite.name marks cells) else Err BadFlags))
+    good otherwise Err BadFlags next Ok (row_of_cells (past_of_row (arcs_of_tail (tail_named satellite.name tail))
+    (flags_of_tail (tail_named satellite.name tail))) satellite.name marks cells)))
     (λ read. Ok (held_from (arcs_of_tail (tail_named satellite.name tail))
     (flags_of_tail (tail_named satellite.name tail)) read)))
     (and_then (if begins then Err Truncated else and_then r
-    (λ cells. if good then Ok (row_of_cells (past_of_tail tail) satellite.name marks cells) else Err BadFlags))
+    (λ cells. good otherwise Err BadFlags next Ok (row_of_cells (past_of_tail tail) satellite.name marks cells)))
     (λ read. Ok (held_row tail read)))
 row-decided tail satellite marks true good r = refl
 row-decided tail satellite marks false good (Err fault) = refl

@@ -1,5 +1,5 @@
 -- Good results come from good results.
-use Rattle.std.specs.Prelude.{◌≡◌, refl, Bool, true, false, List, ◌∷◌, Result, Ok, Err, OnOk, IfOk, if◌then◌else◌}
+use Rattle.std.specs.Prelude.{◌≡◌, refl, Bool, true, false, not, List, ◌∷◌, Result, Ok, Err, OnOk, IfOk, if◌then◌else◌}
 use Rattle.std.specs.Result.{is_ok}
 use Rattle.std.proofs.Common.{sym, ap, true≢false}
 use Rattle.crx_faults.specs.declared.fault.Fault.{Fault}
@@ -31,13 +31,8 @@ pub if-err : {X : Type 0} (b : Bool) (q : Fault) (r : Result X Fault) (x : X)
 if-err true q r x e = absurd (no-err q x e)
 if-err false q r x e = e
 
-pub if-ok : {X : Type 0} (b : Bool) (q : Fault) (r : Result X Fault) (x : X)
-    → (if b then r else Err q) ≡ Ok x → r ≡ Ok x
-if-ok true q r x e = e
-if-ok false q r x e = absurd (no-err q x e)
-
 pub if-true : {X : Type 0} (b : Bool) (q : Fault) (r : Result X Fault) (x : X)
-    → (if b then r else Err q) ≡ Ok x → b ≡ true
+    → (if not b then Err q else r) ≡ Ok x → b ≡ true
 if-true true q r x e = refl
 if-true false q r x e = absurd (no-err q x e)
 

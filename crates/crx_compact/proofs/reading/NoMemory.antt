@@ -1,6 +1,6 @@
 -- That memory ran out is no fault of a satellite's line.
 use Rattle.std.specs.Prelude.{◌≡◌, ℕ, suc, ℤ, List, [], ◌∷◌, Bool, true, false, Option, None, Some, Result, Ok, Err}
-use Rattle.std.specs.Prelude.{if◌then◌else◌}
+use Rattle.std.specs.Prelude.{not, if◌then◌else◌}
 use Rattle.std.proofs.Common.{◌∙◌, ap}
 use Rattle.crx_text.specs.declared.code.Code.{Code}
 use Rattle.crx_text.specs.declared.code.Code.TheVariants.{Missing, Start, Step}
@@ -15,7 +15,8 @@ use Rattle.crx_arcs.specs.meaning.ArcValues.{in_range, is_within}
 use Rattle.crx_arcs.specs.meaning.Cells.{ReadCell, cell_read, cells_read, cells_of}
 use Rattle.crx_history.specs.meaning.CompactPlaces.{ReadRow, are_marks}
 use Rattle.crx_arcs.specs.meaning.Cells.{after_cells}
-use Rattle.crx_history.specs.meaning.CompactPlaces.{row_of_cells, row_of_line, row_with_marks}
+use Rattle.crx_history.specs.meaning.CompactPlaces.{row_of_cells}
+use Rattle.crx_history.proofs.Marks.{row_of_line, row_with_marks}
 use Rattle.crx_history.specs.meaning.CompactPlaces.{satellite_line_read}
 use Rattle.crx_history.specs.HeldRows.{HeldRow, held_row, past_of_tail}
 use Rattle.crx_history.specs.HeldRows.{row_after}
@@ -77,8 +78,8 @@ no-memory-at-row before s line fault e out =
     and-then-none {Y = HeldRow} (satellite_line_read (past_of_tail before) s line)
     (λ read. Ok (held_row before read)) (by_start (begins_epoch line)) (λ read h. cc) (ap fault_in e ∙ out)
   where
-    by_marks : (cells : List ReadCell) (b : Bool) → NoMemory {X = ReadRow} (if b
-        then Ok (row_of_cells (past_of_tail before) s.name (after_cells s.count line) cells) else Err BadFlags)
+    by_marks : (cells : List ReadCell) (b : Bool) → NoMemory {X = ReadRow} (if not b
+        then Err BadFlags else Ok (row_of_cells (past_of_tail before) s.name (after_cells s.count line) cells))
     by_marks cells true = λ e. cc
     by_marks cells false = λ e. cc
 

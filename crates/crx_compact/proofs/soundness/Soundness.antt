@@ -1,5 +1,5 @@
 -- What follows of an epoch from its having been read.
-use Rattle.std.specs.Prelude.{◌≡◌, refl, ℕ, suc, ◌+◌, ◌*◌, Bool, true, false, ℤ, List, [], ◌∷◌, map, length}
+use Rattle.std.specs.Prelude.{◌≡◌, refl, ℕ, suc, ◌+◌, ◌*◌, Bool, true, false, not, ℤ, List, [], ◌∷◌, map, length}
 use Rattle.std.specs.Prelude.{slice_index_or, drop, Option, Some, None, Result, Ok, Err, ⊤, if◌then◌else◌}
 use Rattle.std.specs.List.{AllByRecursion}
 use Rattle.std.proofs.Common.{sym, ◌∙◌, ap, subst, arith}
@@ -25,14 +25,14 @@ use Rattle.crx_history.specs.meaning.Expansion.{RawRow, RawEpoch, block_of, raw_
 use Rattle.crx_history.specs.meaning.Past.{Past, past_of_block, past_of_epochs, past_of_line}
 use Rattle.crx_compact.proofs.wayback.Cuts.{columns-cut}
 use Rattle.crx_history.specs.meaning.CompactPlaces.{satellites_of_line, BegunEpoch, epoch_begun, clock_line_read}
-use Rattle.crx_history.specs.meaning.CompactPlaces.{are_marks, ReadRow, row_of_cells, row_with_marks, row_of_line}
+use Rattle.crx_history.specs.meaning.CompactPlaces.{are_marks, ReadRow, row_of_cells}
 use Rattle.crx_history.specs.meaning.CompactPlaces.{satellite_line_read, rows_read, ReadEpoch, epoch_of_rows}
 use Rattle.crx_history.specs.meaning.CompactPlaces.{epoch_after_line, epoch_at}
 use Rattle.crx_arcs.specs.meaning.Cells.{ReadCell, cell_read, cells_read, cells_of, after_cells}
 use Rattle.crx_compact.specs.ReadingLaws.{HasSingleLines, ReadsSoundly}
 use Rattle.crx_history.proofs.Identifiers.{each-own}
-use Rattle.crx_history.proofs.Results.{no-err, ok-same, Follows, and_then-ok, if-err, if-ok, if-true, before-ok}
-use Rattle.crx_history.proofs.Marks.{cells-count, texts-count}
+use Rattle.crx_history.proofs.Results.{no-err, ok-same, Follows, and_then-ok, if-err, if-true, before-ok}
+use Rattle.crx_history.proofs.Marks.{row_with_marks, row_of_line, cells-count, texts-count}
 use Rattle.crx_history.proofs.EpochLines.{differ, names_of, LineFacts, line-facts_of}
 
 -- ---- good answers come from good answers
@@ -145,7 +145,7 @@ line-facts past satellite line read e =
     read (if-err (begins_epoch line) Truncated (row_of_line past satellite line) read e) in
     let row = row_of_cells past satellite.name marks step.from in
     subst (RowFacts past satellite)
-    (ok-same row read (if-ok (are_marks satellite.count marks) BadFlags (Ok row) read step.next)) (record {
+    (ok-same row read (if-err (not (are_marks satellite.count marks)) BadFlags (Ok row) read step.next)) (record {
       cells = step.from;
       are_read = read-cells (past.value satellite.name) texts step.from step.first;
       counted = cells-count (past.value satellite.name) texts step.from step.first

@@ -22,7 +22,7 @@ use Rattle.crx_history.specs.meaning.CompactPlaces.{satellites_of_line, epoch_be
 use Rattle.crx_arcs.specs.meaning.Cells.{cell_read}
 use Rattle.crx_arcs.specs.meaning.Cells.{cells_of, after_cells, cells_read}
 use Rattle.crx_history.specs.meaning.CompactPlaces.{are_marks, row_of_cells}
-use Rattle.crx_history.specs.meaning.CompactPlaces.{row_with_marks, row_of_line, satellite_line_read, rows_read}
+use Rattle.crx_history.specs.meaning.CompactPlaces.{satellite_line_read, rows_read}
 use Rattle.crx_history.specs.meaning.CompactPlaces.{epoch_of_rows, epoch_after_line, epoch_at}
 use Rattle.crx_arcs.specs.meaning.Differences.{value_at}
 use Rattle.crx_history.specs.meaning.EpochText.{Satellite, satellite_before, satellites_named, names_in}
@@ -34,6 +34,7 @@ use Rattle.crx_history.specs.meaning.Past.{Past, past_of_block, past_of_epochs, 
 use Rattle.crx_arcs.specs.meaning.Sequences.{and_then, before_all}
 use Rattle.crx_faults.specs.meaning.Faults.{is_skippable}
 use Rattle.crx_history.proofs.EpochLines.{satellites_counted}
+use Rattle.crx_history.proofs.Marks.{row_with_marks, row_of_line}
 use Rattle.crx_filter.proofs.reading.WhatStands.{chosen}
 
 -- ---- results and places whose faults pass a test
@@ -204,8 +205,8 @@ row_line-skippable past h satellite line =
     (skippable-and_then (cells_read (past.value satellite.name) (cells_of satellite.count line))
     (λ cells. row_with_marks past satellite marks cells)
     (cells-skippable (past.value satellite.name) (h.value satellite.name) (cells_of satellite.count line))
-    (λ cells. chosen IsSkippableResult (are_marks satellite.count marks)
-    (Ok (row_of_cells past satellite.name marks cells)) (Err BadFlags) tt refl))
+    (λ cells. chosen IsSkippableResult (not (are_marks satellite.count marks))
+    (Err BadFlags) (Ok (row_of_cells past satellite.name marks cells)) refl tt))
 
 rows_read-skippable : (past : Past) → IsSkippablePast past
     → (satellites : List Satellite) (lines : List ReadLine) → IsSkippableAt (rows_read past satellites lines)

@@ -53,7 +53,8 @@ epoch_begun types line earlier =
 -- the clock's code and value; blanks at the line's end do not count
 abbrev pub clock_line_read : Past → List ℕ → Result ReadCell Fault
 clock_line_read past line =
-    if begins_epoch line then Err Truncated else cell_read BadClock past.clock (code_of (without_end_blanks line))
+    if begins_epoch line then Err Truncated else
+    cell_read BadClock past.clock (code_of (without_end_blanks line))
 
 -- ---- satellite lines
 
@@ -77,19 +78,13 @@ row_of_cells past name marks cells =
       };
     }
 
-abbrev pub row_with_marks : Past → Satellite → List ℕ → List ReadCell → Result ReadRow Fault
-row_with_marks past satellite marks cells =
-    if are_marks satellite.count marks then Ok (row_of_cells past satellite.name marks cells) else Err BadFlags
-
--- a satellite's line for so many types: the first cell with a fault decides, then the marks
-abbrev pub row_of_line : Past → Satellite → List ℕ → Result ReadRow Fault
-row_of_line past satellite line =
-    and_then (cells_read (past.value satellite.name) (cells_of satellite.count line)) (λ cells.
-    row_with_marks past satellite (after_cells satellite.count line) cells)
-
--- a satellite's line, or its first fault
+-- a satellite's line, or its first fault: the first cell with a fault decides, then the marks
 abbrev pub satellite_line_read : Past → Satellite → List ℕ → Result ReadRow Fault
-satellite_line_read past satellite line = if begins_epoch line then Err Truncated else row_of_line past satellite line
+satellite_line_read past satellite line =
+    if begins_epoch line then Err Truncated else
+    and_then (cells_read (past.value satellite.name) (cells_of satellite.count line)) λ cells.
+    are_marks satellite.count (after_cells satellite.count line) otherwise Err BadFlags next
+    Ok (row_of_cells past satellite.name (after_cells satellite.count line) cells)
 
 -- the lines of some satellites, one for each
 abbrev pub rows_read : Past → List Satellite → List ReadLine → Place (List ReadRow)
