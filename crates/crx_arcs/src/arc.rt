@@ -191,7 +191,7 @@ impl<const WIDTH: usize> Arc<WIDTH> {
     /// An arc without values.
     pub fn new() -> Self
         requires { WIDTH ≤ CLOCK_WIDTH }
-        ensures { result ≡ None }
+        ensures empty { result ≡ None }
     {
         Arc {
             count: 0,
@@ -202,7 +202,7 @@ impl<const WIDTH: usize> Arc<WIDTH> {
 
     /// The same arc once more.
     pub fn copied(&self) -> Self
-        ensures { result ≡ self.now }
+        ensures value { result ≡ self.now }
     {
         Arc {
             count: self.count,
@@ -383,7 +383,7 @@ impl<const WIDTH: usize> Arc<WIDTH> {
     /// Ends the arc: it is one without values.
     #[inline(always)]
     pub fn end(&mut self)
-        ensures { self.new ≡ None }
+        ensures ended { self.new ≡ None }
     {
         self.count = 0;
     }

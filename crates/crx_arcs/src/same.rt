@@ -32,7 +32,7 @@ fn is_same_by_call(text: &[u8], other: &[u8]) -> bool
 /// some 40 instructions more.
 #[inline(always)]
 pub fn is_same_text(text: &[u8], other: &[u8]) -> bool
-    ensures { MatchBool result (text.now ≡ other.now) (text.now ≢ other.now) }
+    ensures same { MatchBool result (text.now ≡ other.now) (text.now ≢ other.now) }
 {
     let count = text.len();
     if count != other.len() {

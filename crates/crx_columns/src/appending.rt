@@ -8,7 +8,7 @@ use crate::text::Text;
 /// Appends bytes that fit.
 pub fn append(text: &mut Text, bytes: &[u8])
     requires { length text.old + length bytes.now ≤ LINE_LIMIT }
-    ensures { text.new ≡ text.old ++ bytes.now }
+    ensures appended { text.new ≡ text.old ++ bytes.now }
 {
     let _ = text.extend(bytes);
 }

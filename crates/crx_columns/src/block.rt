@@ -37,7 +37,8 @@ pub fn put_text(bytes: &mut [u8], start: usize, text: &[u8]) -> usize
 /// Puts a line and its LF in place of the bytes from an index on.
 pub fn put_line(bytes: &mut [u8], start: usize, line: &[u8])
     requires { start + length line.now < length bytes.old }
-    ensures { take (start + length line.now + 1) bytes.new ≡ take start bytes.old ++ (line.now ++ 10 ∷ []) }
+    ensures put { take (start + length line.now + 1) bytes.new
+        ≡ take start bytes.old ++ (line.now ++ 10 ∷ []) }
 {
     let end = put_text(bytes, start, line);
     bytes[end] = b'\n';

@@ -9,7 +9,7 @@ use crate::text::trim_end;
 /// The character in a column, from 1: a blank after the line's end.
 pub fn character(line: &[u8], column: usize) -> u8
     requires { 1 ≤ column }
-    ensures { result ≡ character_at line.now column }
+    ensures value { result ≡ character_at line.now column }
 {
     line.get(column - 1).copied().unwrap_or(b' ')
 }
@@ -43,7 +43,7 @@ pub fn trim_start(text: &[u8]) -> &[u8]
 
 /// Whether all characters of a text are blanks.
 pub fn all_blank(text: &[u8]) -> bool
-    ensures { result ≡ list_all is_blank text.now }
+    ensures value { result ≡ list_all is_blank text.now }
 {
     text.iter().all(|c| *c == b' ')
 }
@@ -51,7 +51,7 @@ pub fn all_blank(text: &[u8]) -> bool
 /// So many columns from a first one on, without the blanks at their end.
 pub fn end_trimmed(line: &[u8], first: usize, width: usize) -> &[u8]
     requires from_one { 1 ≤ first }
-    ensures { result.now ≡ without_end_blanks (columns line.now first width) }
+    ensures value { result.now ≡ without_end_blanks (columns line.now first width) }
 {
     trim_end(part(line, first, width))
 }
@@ -68,14 +68,14 @@ pub fn trimmed(line: &[u8], first: usize, width: usize) -> &[u8]
 /// Whether so many columns from a first one on are blank.
 pub fn is_blank(line: &[u8], first: usize, width: usize) -> bool
     requires from_one { 1 ≤ first }
-    ensures { result ≡ list_all is_blank (columns line.now first width) }
+    ensures value { result ≡ list_all is_blank (columns line.now first width) }
 {
     all_blank(part(line, first, width))
 }
 
 /// What comes after so many columns.
 pub fn after_columns(line: &[u8], width: usize) -> &[u8]
-    ensures { result.now ≡ drop width line.now }
+    ensures value { result.now ≡ drop width line.now }
 {
     if width < line.len() {
         &line[width..]
@@ -87,7 +87,7 @@ pub fn after_columns(line: &[u8], width: usize) -> &[u8]
 /// So many columns from a first one on, blanks after the line's end included.
 pub fn padded<const N: usize>(line: &[u8], first: usize) -> [u8; N]
     requires from_one { 1 ≤ first }
-    ensures { result ≡ columns line.now first N }
+    ensures value { result ≡ columns line.now first N }
 {
     let mut text = [b' '; N];
     let found = part(line, first, N);

@@ -11,7 +11,7 @@ use std::simd::prelude::*;
 #[inline]
 pub fn copy_text(to: &mut [u8], from: &[u8])
     requires { length to.old ≡ length from.now }
-    ensures { to.new ≡ from.now }
+    ensures copied { to.new ≡ from.now }
 {
     let count = from.len();
     if count >= 16 {
@@ -54,7 +54,7 @@ fn copy_three(to: &mut [u8], from: &[u8])
 #[inline]
 pub fn put_blanks(text: &mut [u8])
     requires { length text.old ≤ LINE_LIMIT }
-    ensures { text.new ≡ replicate (length text.old) 32 }
+    ensures blank { text.new ≡ replicate (length text.old) 32 }
 {
     if text.is_empty() {
         return;

@@ -53,7 +53,7 @@ pub fn diff_bytes(old: &[u8], new: &[u8], out: &mut Text) -> Result<(), BadChara
 pub fn append_difference(old: &[u8], new: &[u8], out: &mut Text)
     requires old_fits { length out.old + length old.now ≤ LINE_LIMIT }
     requires new_fits { length out.old + length new.now ≤ LINE_LIMIT }
-    ensures { out.new ≡ out.old ++ by_position mark_of old.now new.now }
+    ensures appended { out.new ≡ out.old ++ by_position mark_of old.now new.now }
 {
     let start = out.len;
     out.len += write_by_position::<Marks>(old, new, &mut out.bytes[start..]);
@@ -91,14 +91,14 @@ pub fn patch_bytes(old: &[u8], marks: &[u8], out: &mut Text) -> Result<(), BadCh
 
 /// Whether marks can be made of a text: all its bytes are 32 to 126, and none is `&`.
 pub fn all_kept(text: &[u8]) -> bool
-    ensures { result ≡ list_all is_kept text.now }
+    ensures value { result ≡ list_all is_kept text.now }
 {
     all_of::<Kept>(text)
 }
 
 /// Whether a text can be marks: all its bytes are 32 to 126.
 pub fn all_printable(text: &[u8]) -> bool
-    ensures { result ≡ list_all is_printable text.now }
+    ensures value { result ≡ list_all is_printable text.now }
 {
     all_of::<Printable>(text)
 }

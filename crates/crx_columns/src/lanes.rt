@@ -15,11 +15,11 @@ pub(crate) trait Kind {
 
     /// Whether a character is of the kind.
     fn holds(character: u8) -> bool
-        ensures { result ≡ is_of_kind character };
+        ensures value { result ≡ is_of_kind character };
 
     /// Lanes with those set whose characters aren't of the kind; those that are set stay so.
     fn with_others(others: u8x16, characters: u8x16) -> u8x16
-        ensures { list_all (λ lane. lane == 0) result
+        ensures both { list_all (λ lane. lane == 0) result
             ≡ (list_all (λ lane. lane == 0) others && list_all is_of_kind characters) };
 }
 
@@ -119,11 +119,11 @@ pub(crate) trait Rule {
 
     /// The character that is made of an old character and another one.
     fn apply(old: u8, other: u8) -> u8
-        ensures { result ≡ rule old other };
+        ensures value { result ≡ rule old other };
 
     /// The 16 characters that are made of 16 pairs.
     fn apply_to(old: u8x16, other: u8x16) -> u8x16
-        ensures { result ≡ zip2 rule old other };
+        ensures value { result ≡ zip2 rule old other };
 }
 
 /// Writes what the rule makes of two texts of one length.

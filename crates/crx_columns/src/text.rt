@@ -33,7 +33,7 @@ impl Model for Text {
 impl Text {
     /// The empty text.
     pub fn new() -> Self
-        ensures { result ≡ [] }
+        ensures empty { result ≡ [] }
     {
         Text {
             bytes: [0; LINE_LIMIT],
@@ -43,7 +43,7 @@ impl Text {
 
     /// Makes the text empty.
     pub fn clear(&mut self)
-        ensures { self.new ≡ [] }
+        ensures emptied { self.new ≡ [] }
     {
         self.len = 0;
     }
@@ -66,7 +66,7 @@ impl Text {
 
     /// Whether the text has no byte.
     pub fn is_empty(&self) -> bool
-        ensures { IsTrue result ↔ (self.now ≡ []) }
+        ensures value { IsTrue result ↔ (self.now ≡ []) }
     {
         self.len == 0
     }
@@ -104,7 +104,7 @@ impl Text {
 
     /// Drops the blanks at the end of the text.
     pub fn trim_end_blanks(&mut self)
-        ensures { self.new ≡ without_end_blanks self.old }
+        ensures trimmed { self.new ≡ without_end_blanks self.old }
     {
         let text = self.bytes();
         self.len = end_blanks(text);
@@ -113,7 +113,7 @@ impl Text {
 
 /// A text without the blanks at its end.
 pub fn trim_end(text: &[u8]) -> &[u8]
-    ensures { result.now ≡ without_end_blanks text.now }
+    ensures value { result.now ≡ without_end_blanks text.now }
 {
     &text[..end_blanks(text)]
 }

@@ -51,14 +51,14 @@ fn shown(alloc: Global, at: DateTime) -> Result<String, AllocError>
 /// the last two digits of the year (its sign left out), the hour and the minute. Seconds are
 /// left out, so each text stands for the minute that it names, before 1970 too.
 pub fn date_text(alloc: Global, at: Timestamp) -> Result<String, AllocError>
-    ensures { IfOk result (λ text. IsDateText at.nanosecond (string_bytes text)) }
+    ensures date { IfOk result (λ text. IsDateText at.nanosecond (string_bytes text)) }
 {
     shown(alloc, Offset::UTC.to_datetime(at))
 }
 
 /// The clock's moment as [`date_text`] gives it; an empty text where the clock gives none.
 pub fn default_date<C: Clock>(clock: &C, alloc: Global) -> Result<String, AllocError>
-    ensures { IfOk result (λ text. IsDefaultDate (string_bytes text)) }
+    ensures date { IfOk result (λ text. IsDefaultDate (string_bytes text)) }
 {
     match Timestamp::now(clock) {
         Ok(at) => date_text(alloc, at),

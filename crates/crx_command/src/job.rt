@@ -69,7 +69,7 @@ pub enum UsageFault {
 impl UsageFault {
     /// What is wrong, in words for the user; of `Parse` nothing, since its text says all.
     pub fn words(&self) -> &'static str
-        ensures { result.now ≡ words_of_usage self.now }
+        ensures value { result.now ≡ words_of_usage self.now }
     {
         match self {
             UsageFault::Parse(_) => "",
@@ -83,7 +83,7 @@ impl UsageFault {
 
     /// The text or the name that it holds, which stands after what is wrong; empty where it holds none.
     pub fn subject(&self) -> &str
-        ensures { result.now ≡ subject_of_usage self.now }
+        ensures value { result.now ≡ subject_of_usage self.now }
     {
         match self {
             UsageFault::Parse(text) => text.text(),

@@ -130,7 +130,7 @@ fn renamed<'a>(endings: &[Ending], name: &'a str) -> Option<(&'a str, &'static s
 /// `d` of `o` and `D` of `O`, as `abcd0010.24d` of `abcd0010.24o`; `crx2rnx` goes the other way.
 /// `None` comes for any other name, and for each name with `check`.
 pub fn output_name(alloc: Global, tool: Tool, name: &str) -> Result<Option<Word>, AllocError>
-    ensures { IfOk result (λ target. target ≡ output_name tool name.now) }
+    ensures value { IfOk result (λ target. target ≡ output_name tool name.now) }
 {
     match renamed(endings(tool), name) {
         Some((stem, ending)) => Ok(Some(Word::joined(alloc, stem, ending)?)),

@@ -256,7 +256,7 @@ fn not_run(alloc: Global, error: &Error) -> Result<Decision, UsageFault>
 /// `-`, write to standard output.
 #[inline(never)]
 pub fn plan(alloc: Global, words: Vec<String>) -> Result<Decision, UsageFault>
-    ensures { IfSome (plan_in result) (λ plan. plan ≡ plan_of (map string_bytes words.items)) }
+    ensures value { IfSome (plan_in result) (λ plan. plan ≡ plan_of (map string_bytes words.items)) }
 {
     match command(alloc)?.try_get_matches_from(words.as_slice()) {
         Ok(matches) => matched(alloc, &matches),

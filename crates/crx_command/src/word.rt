@@ -24,7 +24,7 @@ impl Model for Word {
 impl Word {
     /// A copy of a text.
     pub fn new(alloc: Global, text: &str) -> Result<Word, AllocError>
-        ensures { IfOk result (λ w. w ≡ text.now) }
+        ensures value { IfOk result (λ w. w ≡ text.now) }
     {
         Ok(Word {
             text: String::from_str(alloc, text)?,
@@ -33,7 +33,7 @@ impl Word {
 
     /// A text with another one after it.
     pub fn joined(alloc: Global, start: &str, end: &str) -> Result<Word, AllocError>
-        ensures { IfOk result (λ w. w ≡ start.now ++ end.now) }
+        ensures value { IfOk result (λ w. w ≡ start.now ++ end.now) }
     {
         let mut text = String::from_str(alloc, start)?;
         text.push_str(end)?;
@@ -42,7 +42,7 @@ impl Word {
 
     /// The line of an error, as `ERROR: file exists: a.crx`, with its LF: what is wrong, and a name.
     pub fn error_line(alloc: Global, words: &str, name: &str) -> Result<Word, AllocError>
-        ensures { IfOk result (λ w. w ≡ error_line words.now name.now) }
+        ensures value { IfOk result (λ w. w ≡ error_line words.now name.now) }
     {
         let mut text = String::from_str(alloc, "ERROR: ")?;
         text.push_str(words)?;
@@ -60,7 +60,7 @@ impl Word {
 
     /// The text.
     pub fn text(&self) -> &str
-        ensures { result.now ≡ self.now }
+        ensures value { result.now ≡ self.now }
     {
         self.text.as_str()
     }

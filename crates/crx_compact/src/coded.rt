@@ -45,7 +45,7 @@ impl Coded {
 
     /// The epoch.
     pub fn into_epoch(self) -> Epoch
-        ensures { result ≡ self.epoch }
+        ensures epoch { result ≡ self.epoch }
     {
         self.epoch
     }

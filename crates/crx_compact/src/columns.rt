@@ -65,7 +65,7 @@ impl Model for Columns {
 impl Columns {
     /// Columns without a history.
     pub fn new(alloc: Global) -> Columns
-        ensures { result ≡ Idle None }
+        ensures empty { result ≡ Idle None }
     {
         Columns {
             is_kept: false,
@@ -82,7 +82,7 @@ impl Columns {
 
     /// Forgets every epoch, the one whose lines have come in part too.
     pub fn reset(&mut self)
-        ensures { self.new ≡ Idle None }
+        ensures emptied { self.new ≡ Idle None }
     {
         self.is_kept = false;
         self.incoming.clear();
@@ -90,7 +90,7 @@ impl Columns {
 
     /// Whether no epoch's lines have come in part.
     pub fn is_idle(&self) -> bool
-        ensures { result ≡ is_idle self.now }
+        ensures value { result ≡ is_idle self.now }
     {
         !self.incoming.is_open()
     }

@@ -95,7 +95,7 @@ impl Model for ExpandedLines {
 impl ExpandedLines {
     /// No lines; it takes memory for every line that is copied.
     pub fn new(alloc: Global) -> Result<ExpandedLines, AllocError>
-        ensures { IfOk result (λ lines. lines ≡ []) }
+        ensures empty { IfOk result (λ lines. lines ≡ []) }
     {
         let copied = CopiedLine::new(alloc)?;
         Ok(ExpandedLines {
@@ -108,7 +108,7 @@ impl ExpandedLines {
     pub fn copy(&mut self, line: &[u8])
         requires drained { self.old ≡ [] }
         requires short { length line.now ≤ LINE_LIMIT }
-        ensures { self.new ≡ line.now ∷ [] }
+        ensures copied { self.new ≡ line.now ∷ [] }
     {
         self.copied.put(line);
     }
@@ -143,7 +143,7 @@ impl ExpandedLines {
 
     /// Whether no line is pending.
     pub fn is_drained(&self) -> bool
-        ensures { IsTrue result ↔ (self.now ≡ []) }
+        ensures value { IsTrue result ↔ (self.now ≡ []) }
     {
         self.copied.is_drained() && self.printed.is_empty()
     }

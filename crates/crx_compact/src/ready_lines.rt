@@ -61,7 +61,7 @@ impl ReadyLines {
 
     /// No lines.
     pub fn new(alloc: Global) -> Result<ReadyLines, AllocError>
-        ensures { IfOk result (λ r. pending_lines r ≡ []) }
+        ensures empty { IfOk result (λ r. pending_lines r ≡ []) }
     {
         let program = Box::new(alloc, Text::new())?;
         let copied = Box::new(alloc, Text::new())?;
@@ -75,7 +75,7 @@ impl ReadyLines {
 
     /// Whether no line is ready.
     pub fn is_empty(&self) -> bool
-        ensures { IsTrue result ↔ (pending_lines self.now ≡ []) }
+        ensures value { IsTrue result ↔ (pending_lines self.now ≡ []) }
     {
         match self.turn {
             Turn::Made => self.made.is_empty(),
@@ -85,7 +85,7 @@ impl ReadyLines {
 
     /// Drops all lines.
     pub fn clear(&mut self)
-        ensures { pending_lines self.new ≡ [] }
+        ensures emptied { pending_lines self.new ≡ [] }
     {
         self.turn = Turn::Made;
         self.made.clear();
@@ -108,7 +108,7 @@ impl ReadyLines {
     /// A line that is copied, in place of all others.
     pub fn copy(&mut self, line: &[u8])
         requires short { length line.now ≤ LINE_LIMIT }
-        ensures { pending_lines self.new ≡ line.now ∷ [] }
+        ensures copied { pending_lines self.new ≡ line.now ∷ [] }
     {
         self.hold(line, Turn::Copied);
     }
@@ -117,7 +117,7 @@ impl ReadyLines {
     pub fn copy_header(&mut self, date: &[u8], is_first: bool, line: &[u8])
         requires dated { length date.now ≤ DATE_LIMIT }
         requires short { length line.now ≤ LINE_LIMIT }
-        ensures { pending_lines self.new ≡ lines_before_header date.now is_first ++ line.now ∷ [] }
+        ensures copied { pending_lines self.new ≡ lines_before_header date.now is_first ++ line.now ∷ [] }
     {
         if is_first {
             write_program_line(&mut self.program, date);

@@ -58,35 +58,35 @@ impl FailingSink {
 
     /// The bytes that were taken.
     pub fn contents(&self) -> &[u8]
-        ensures { result.now ≡ take self.now.len self.now.memory.items }
+        ensures value { result.now ≡ take self.now.len self.now.memory.items }
     {
         &self.memory[..self.len]
     }
 
     /// How many writes were made; the count stops at the greatest value of 64 bits.
     pub fn writes(&self) -> u64
-        ensures { result ≡ self.now.writes.calls }
+        ensures value { result ≡ self.now.writes.calls }
     {
         self.writes.calls
     }
 
     /// How many flushes were made; the count stops at the greatest value of 64 bits.
     pub fn flushes(&self) -> u64
-        ensures { result ≡ self.now.flushes.calls }
+        ensures value { result ≡ self.now.flushes.calls }
     {
         self.flushes.calls
     }
 
     /// How many writes and flushes failed; the count stops at the greatest value of 64 bits.
     pub fn failures(&self) -> u64
-        ensures { result ≡ self.now.failures }
+        ensures value { result ≡ self.now.failures }
     {
         self.failures
     }
 
     /// Whether the last call was a flush that succeeded.
     pub fn is_flushed(&self) -> bool
-        ensures { result ≡ self.now.flushed }
+        ensures value { result ≡ self.now.flushed }
     {
         self.flushed
     }

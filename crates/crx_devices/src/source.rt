@@ -43,28 +43,28 @@ impl<'a> FailingSource<'a> {
 
     /// How many reads were made; the count stops at the greatest value of 64 bits.
     pub fn calls(&self) -> u64
-        ensures { result ≡ self.now.reads.calls }
+        ensures value { result ≡ self.now.reads.calls }
     {
         self.reads.calls
     }
 
     /// How many reads failed; the count stops at the greatest value of 64 bits.
     pub fn failures(&self) -> u64
-        ensures { result ≡ self.now.failures }
+        ensures value { result ≡ self.now.failures }
     {
         self.failures
     }
 
     /// How many reads reported the end; the count stops at the greatest value of 64 bits.
     pub fn ends(&self) -> u64
-        ensures { result ≡ self.now.ends }
+        ensures value { result ≡ self.now.ends }
     {
         self.ends
     }
 
     /// The bytes that were not given yet.
     pub fn left(&self) -> &'a [u8]
-        ensures { result.now ≡ self.now.left.now }
+        ensures value { result.now ≡ self.now.left.now }
     {
         self.left
     }

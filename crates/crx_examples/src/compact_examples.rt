@@ -14,7 +14,7 @@ ghost use Rattle.crx_compact.specs.ReadingLaws.{text_lines, raws_of, AreWholeByT
 
 /// Up to the fourth value the differences of order 1 and 2 are written, from then on those of order 3.
 pub fn five_values()
-    ensures { text_lines five_epochs
+    ensures lines { text_lines five_epochs
         ≡ full_line 0 1 (codes "G01") ∷ [] ∷ codes "3&20000000000" ∷ codes "                    1" ∷ []
         ∷ codes "100500" ∷ codes "                    2" ∷ [] ∷ codes "1000" ∷ codes "                    3"
         ∷ [] ∷ codes "0" ∷ codes "                    4" ∷ [] ∷ codes "0" ∷ [] }
@@ -22,7 +22,7 @@ pub fn five_values()
 
 /// An epoch in full starts everything anew.
 pub fn every_second_in_full()
-    ensures { text_lines five_epochs_restarted ≡ full_line 0 1 (codes "G01")
+    ensures lines { text_lines five_epochs_restarted ≡ full_line 0 1 (codes "G01")
         ∷ [] ∷ codes "3&20000000000" ∷ codes "                    1" ∷ [] ∷ codes "100500"
         ∷ full_line 2 1 (codes "G01") ∷ [] ∷ codes "3&20000202000" ∷ codes "                    3"
         ∷ [] ∷ codes "102500" ∷ full_line 4 1 (codes "G01") ∷ [] ∷ codes "3&20000408000" ∷ [] }
@@ -30,7 +30,7 @@ pub fn every_second_in_full()
 
 /// A missing value ends the arc: the next one starts another.
 pub fn missing_value()
-    ensures { text_lines one_missing
+    ensures lines { text_lines one_missing
         ≡ full_line 0 1 (codes "G01") ∷ [] ∷ codes "3&20000000000" ∷ codes "                    1"
         ∷ [] ∷ codes "100500" ∷ codes "                    2" ∷ [] ∷ [] ∷ codes "                    3"
         ∷ [] ∷ codes "3&20000304500" ∷ codes "                    4" ∷ [] ∷ codes "103500" ∷ [] }
@@ -38,27 +38,27 @@ pub fn missing_value()
 
 /// A satellite that was away starts with new arcs and blank indicators.
 pub fn absent_satellite()
-    ensures { text_lines one_away ≡ full_line 0 2 (codes "G01G02") ∷ [] ∷ codes "3&1000"
+    ensures lines { text_lines one_away ≡ full_line 0 2 (codes "G01G02") ∷ [] ∷ codes "3&1000"
         ∷ codes "3&5000  7" ∷ codes "                    1             1         &&&" ∷ [] ∷ codes "1000"
         ∷ codes "                    2             2         G02" ∷ [] ∷ codes "0" ∷ codes "3&7000  7" ∷ [] }
 {}
 
 /// An indicator that becomes blank is written as &.
 pub fn ending_indicator()
-    ensures { text_lines ending ≡ full_line 0 1 (codes "G01")
+    ensures lines { text_lines ending ≡ full_line 0 1 (codes "G01")
         ∷ [] ∷ codes "3&5000  7" ∷ codes "                    1" ∷ [] ∷ codes "  &" ∷ [] }
 {}
 
 /// Receiver clock offsets have arcs of their own.
 pub fn clock_arcs()
-    ensures { text_lines clocks ≡ full_line 0 1 (codes "G01") ∷ codes "3&-123456789012"
+    ensures lines { text_lines clocks ≡ full_line 0 1 (codes "G01") ∷ codes "3&-123456789012"
         ∷ [] ∷ codes "                    1" ∷ [] ∷ [] ∷ codes "                    2"
         ∷ codes "3&1" ∷ [] ∷ codes "                    3" ∷ codes "2" ∷ [] ∷ [] }
 {}
 
 /// The widest differences have fourteen digits.
 pub fn extreme_values()
-    ensures { text_lines extremes ≡ full_line 0 1 (codes "G01")
+    ensures lines { text_lines extremes ≡ full_line 0 1 (codes "G01")
         ∷ [] ∷ codes "3&9999999999999" ∷ codes "                    1" ∷ [] ∷ codes "-10999999999998"
         ∷ codes "                    2" ∷ [] ∷ codes "21999999999996" ∷ codes "                    3"
         ∷ [] ∷ codes "-43999999999992" ∷ codes "                    4" ∷ [] ∷ codes "43999999999992" ∷ [] }
@@ -74,7 +74,7 @@ pub fn bad_values()
 
 /// Differences of order 1; and & where nothing stands is a blank.
 pub fn order_one()
-    ensures { epochs_in (one_type ∷ one_type ∷ one_type ∷ []) (full_line 0 1 (codes "G01") ∷ []
+    ensures epochs { epochs_in (one_type ∷ one_type ∷ one_type ∷ []) (full_line 0 1 (codes "G01") ∷ []
         ∷ codes "1&1000" ∷ codes "                    1                              &&&" ∷ [] ∷ codes "500"
         ∷ codes "                    2" ∷ [] ∷ codes "500" ∷ []) ≡ Here (epoch_of_one 0 (Some (pos 1000))
         ∷ epoch_of_one 1 (Some (pos 1500)) ∷ epoch_of_one 2 (Some (pos 2000)) ∷ []) 9 }
@@ -82,8 +82,9 @@ pub fn order_one()
 
 /// Differences of order 2.
 pub fn order_two()
-    ensures { epochs_in (one_type ∷ one_type ∷ one_type ∷ one_type ∷ []) (full_line 0 1 (codes "G01") ∷ []
-        ∷ codes "2&1000" ∷ codes "                    1" ∷ [] ∷ codes "500" ∷ codes "                    2"
+    ensures epochs { epochs_in (one_type ∷ one_type ∷ one_type ∷ one_type ∷ [])
+        (full_line 0 1 (codes "G01") ∷ [] ∷ codes "2&1000" ∷ codes "                    1"
+        ∷ [] ∷ codes "500" ∷ codes "                    2"
         ∷ [] ∷ codes "100" ∷ codes "                    3" ∷ [] ∷ codes "100" ∷ [])
         ≡ Here (epoch_of_one 0 (Some (pos 1000)) ∷ epoch_of_one 1 (Some (pos 1500))
         ∷ epoch_of_one 2 (Some (pos 2100)) ∷ epoch_of_one 3 (Some (pos 2800)) ∷ []) 12 }
@@ -91,15 +92,16 @@ pub fn order_two()
 
 /// Of order 0 each code is the value itself.
 pub fn order_zero()
-    ensures { epochs_in (one_type ∷ one_type ∷ []) (full_line 0 1 (codes "G01")
+    ensures epochs { epochs_in (one_type ∷ one_type ∷ []) (full_line 0 1 (codes "G01")
         ∷ [] ∷ codes "0&1000" ∷ codes "                    1" ∷ [] ∷ codes "7" ∷ [])
         ≡ Here (epoch_of_one 0 (Some (pos 1000)) ∷ epoch_of_one 1 (Some (pos 7)) ∷ []) 6 }
 {}
 
 /// A start in the middle of an arc begins another, of its own order.
 pub fn start_in_mid_arc()
-    ensures { epochs_in (one_type ∷ one_type ∷ one_type ∷ one_type ∷ []) (full_line 0 1 (codes "G01") ∷ []
-        ∷ codes "3&1000" ∷ codes "                    1" ∷ [] ∷ codes "500" ∷ codes "                    2"
+    ensures epochs { epochs_in (one_type ∷ one_type ∷ one_type ∷ one_type ∷ [])
+        (full_line 0 1 (codes "G01") ∷ [] ∷ codes "3&1000" ∷ codes "                    1"
+        ∷ [] ∷ codes "500" ∷ codes "                    2"
         ∷ [] ∷ codes "1&7000" ∷ codes "                    3" ∷ [] ∷ codes "1" ∷ [])
         ≡ Here (epoch_of_one 0 (Some (pos 1000)) ∷ epoch_of_one 1 (Some (pos 1500))
         ∷ epoch_of_one 2 (Some (pos 7000)) ∷ epoch_of_one 3 (Some (pos 7001)) ∷ []) 12 }
@@ -107,13 +109,13 @@ pub fn start_in_mid_arc()
 
 /// An order above the limit is a malformed code.
 pub fn order_too_high()
-    ensures { epochs_in (one_type ∷ [])
+    ensures fault { epochs_in (one_type ∷ [])
         (full_line 0 1 (codes "G01") ∷ [] ∷ codes "10&1000" ∷ []) ≡ Wrong 2 BadField }
 {}
 
 /// Differences of an order above those that are written.
 pub fn order_four()
-    ensures { epochs_in (one_type ∷ one_type ∷ one_type ∷ one_type ∷ one_type ∷ one_type ∷ [])
+    ensures epochs { epochs_in (one_type ∷ one_type ∷ one_type ∷ one_type ∷ one_type ∷ one_type ∷ [])
         (full_line 0 1 (codes "G01") ∷ [] ∷ codes "4&1000" ∷ codes "                    1"
         ∷ [] ∷ codes "1" ∷ codes "                    2" ∷ [] ∷ codes "1" ∷ codes "                    3"
         ∷ [] ∷ codes "1" ∷ codes "                    4" ∷ [] ∷ codes "1" ∷ codes "                    5"
@@ -136,7 +138,8 @@ pub fn no_satellite()
 
 /// Each satellite's line has as many codes as its system has types; what the line leaves out is missing.
 pub fn satellites_of_two_systems()
-    ensures { epochs_in (two_systems ∷ two_systems ∷ []) (full_line 0 2 (codes "G01E05") ∷ [] ∷ codes "3&1000"
+    ensures epochs { epochs_in (two_systems ∷ two_systems ∷ [])
+        (full_line 0 2 (codes "G01E05") ∷ [] ∷ codes "3&1000"
         ∷ codes "3&5000 3&-70   7" ∷ codes "                    1" ∷ [] ∷ codes "500" ∷ codes "10" ∷ [])
         ≡ Here (epoch_of_systems 0 (pos 1000) (e05 (Some (pos 5000)) (Some (neg_ℤ (pos 70))) (codes "  7 "))
         ∷ epoch_of_systems 1 (pos 1500) (e05 (Some (pos 5010)) None (codes "  7 ")) ∷ []) 8 }
@@ -183,7 +186,7 @@ pub fn a_line_wanted()
 
 /// A fault empties what is held: the next line has to begin with `>`.
 pub fn a_fault_empties()
-    ensures { first_step one_type (tail_held (state_after (Faulty BadField)))
+    ensures fault { first_step one_type (tail_held (state_after (Faulty BadField)))
         (Content (codes "                    1")) ≡ Faulty NotAnEpoch }
 {}
 

@@ -12,7 +12,7 @@ ghost use Rattle.crx_reading.specs.LineByLine.{Quiet, Ready};
 
 /// A header alone.
 pub fn header_alone()
-    ensures { compaction_of plain_choices (header) ≡ good (first_two ++ header) }
+    ensures compaction { compaction_of plain_choices (header) ≡ good (first_two ++ header) }
 {}
 
 /// Types that change in an event: the next epoch stands in full, with the new count; and the way back.
@@ -72,14 +72,14 @@ pub fn across_an_event()
 
 /// A line that cuts an epoch off and is itself bad gives two warnings.
 pub fn two_warnings()
-    ensures { compaction_of with_skip (header ++ epoch_line_at 0 1 ∷ codes ">" ∷ epoch_line_at 1 1
+    ensures compaction { compaction_of with_skip (header ++ epoch_line_at 0 1 ∷ codes ">" ∷ epoch_line_at 1 1
         ∷ observed (codes "1.000") ∷ []) ≡ warned (first_two ++ header ++ full_line_at 1 1 (codes "G01")
         ∷ [] ∷ codes "3&1000" ∷ []) (warning 5 Truncated ++ warning 5 BadEpoch) }
 {}
 
 /// Cycle slip records are copied and never read; an event without records is its first line alone.
 pub fn cycle_slips()
-    ensures { compaction_of plain_choices (header ++ line_at 0 6 1
+    ensures compaction { compaction_of plain_choices (header ++ line_at 0 6 1
         ∷ observed (codes "1.000") ∷ line_at 1 3 0 ∷ epoch_line_at 2 1 ∷ observed (codes "2.000") ∷ [])
         ≡ good (first_two ++ header ++ line_at 0 6 1 ∷ observed (codes "1.000")
         ∷ line_at 1 3 0 ∷ full_line_at 2 1 (codes "G01") ∷ [] ∷ codes "3&2000" ∷ []) }
@@ -87,7 +87,8 @@ pub fn cycle_slips()
 
 /// After a fault that is skipped, compact text is read on at the next epoch in full.
 pub fn skipped_to_full()
-    ensures { expansion_of with_skip (first_two ++ header ++ full_line_at 0 1 (codes "G01") ∷ [] ∷ codes "5"
+    ensures expansion { expansion_of with_skip
+        (first_two ++ header ++ full_line_at 0 1 (codes "G01") ∷ [] ∷ codes "5"
         ∷ second_changed 1 ∷ [] ∷ codes "3&2000" ∷ full_line_at 2 1 (codes "G01") ∷ [] ∷ codes "3&3000" ∷ [])
         ≡ warned (header ++ epoch_line_at 2 1 ∷ observed (codes "3.000") ∷ []) (warning 8 NoArc) }
 {}
@@ -108,7 +109,7 @@ pub fn no_end_of_header()
 
 /// Compact text of another writer: differences of order 1, and & where nothing stands.
 pub fn first_differences()
-    ensures { expansion_of plain_choices (first_two ++ header ++ full_line_at 0 1 (codes "G01") ∷ []
+    ensures expansion { expansion_of plain_choices (first_two ++ header ++ full_line_at 0 1 (codes "G01") ∷ []
         ∷ codes "1&1000" ∷ (second_changed 1 ++ blanks 30 ++ codes "&&&") ∷ [] ∷ codes "500" ∷ second_changed
         2 ∷ [] ∷ codes "500" ∷ []) ≡ good (header ++ epoch_line_at 0 1 ∷ observed (codes "1.000")
         ∷ epoch_line_at 1 1 ∷ observed (codes "1.500") ∷ epoch_line_at 2 1 ∷ observed (codes "2.000") ∷ []) }
@@ -149,7 +150,8 @@ pub fn steps_of_an_expansion()
 
 /// A line that cuts an epoch off comes again, and may give a second warning.
 pub fn a_line_that_comes_again()
-    ensures { compaction_answers with_skip (header ++ epoch_line_at 0 1 ∷ codes ">" ∷ epoch_line_at 1 1
+    ensures answers { compaction_answers with_skip
+        (header ++ epoch_line_at 0 1 ∷ codes ">" ∷ epoch_line_at 1 1
         ∷ observed (codes "1.000") ∷ []) ≡ (Ready, 3) ∷ (Ready, 1) ∷ (Ready, 1) ∷ (Quiet, 0)
         ∷ (notice 5 Truncated true, 0) ∷ (notice 5 BadEpoch false, 0) ∷ (Quiet, 0) ∷ (Ready, 3) ∷ [] }
 {}
@@ -221,8 +223,9 @@ pub fn every_second_epoch()
 
 /// A block of which the first line alone is left: the units before it are saved, with one warning.
 pub fn a_block_cut_off()
-    ensures { (damage : IsDamaged (lines_text (header ++ epoch_line_at 0 1 ∷ observed (codes "1.000") ∷ []))
-        plain_choices (lines_text (first_two ++ header ++ full_line_at 0 1 (codes "G01") ∷ [])))
+    ensures salvaged { (damage : IsDamaged
+        (lines_text (header ++ epoch_line_at 0 1 ∷ observed (codes "1.000") ∷ [])) plain_choices
+        (lines_text (first_two ++ header ++ full_line_at 0 1 (codes "G01") ∷ [])))
         × IsSalvaged (lines_text (header ++ epoch_line_at 0 1 ∷ observed (codes "1.000") ∷ [])) plain_choices
         (lines_text (first_two ++ header ++ full_line_at 0 1 (codes "G01") ∷ [])) damage
         (expansion_of with_skip (first_two ++ header ++ full_line_at 0 1 (codes "G01") ∷ [])) }

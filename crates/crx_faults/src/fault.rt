@@ -59,7 +59,7 @@ impl Fault {
 
     /// The fault's number in messages, from 1 to 22.
     pub fn code(&self) -> u8
-        ensures { result ≡ code_of_fault self.now }
+        ensures value { result ≡ code_of_fault self.now }
     {
         match self {
             Fault::LineTooLong => 1,
@@ -89,7 +89,7 @@ impl Fault {
 
     /// The fault's words in messages.
     pub fn words(&self) -> &'static str
-        ensures { result.now ≡ words_of_fault self.now }
+        ensures value { result.now ≡ words_of_fault self.now }
     {
         match self {
             Fault::LineTooLong => "line too long",
@@ -119,7 +119,7 @@ impl Fault {
 
     /// Whether a run that skips faults goes on after this one, with a warning: numbers 1 and 10 to 19.
     pub fn is_skippable(&self) -> bool
-        ensures { result ≡ is_skippable self.now }
+        ensures value { result ≡ is_skippable self.now }
     {
         let code = self.code();
         code == 1 || (10 <= code && code <= 19)

@@ -74,7 +74,7 @@ impl Checker {
 
     /// The number of the first line that isn't standard, among the lines so far.
     pub fn not_standard(&self) -> Option<u64>
-        ensures { result ≡ self.now.not_standard }
+        ensures value { result ≡ self.now.not_standard }
     {
         self.not_standard
     }

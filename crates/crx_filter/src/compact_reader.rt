@@ -40,7 +40,8 @@ impl CompactReader {
 
     /// A reader before the first line.
     pub fn new(alloc: Global) -> CompactReader
-        ensures { (choices : Choices) → compact_reader_state choices 0 result ≡ expansion_seen choices [] }
+        ensures start { (choices : Choices)
+            → compact_reader_state choices 0 result ≡ expansion_seen choices [] }
     {
         CompactReader {
             stage: Stage::FirstLines { count: 0 },

@@ -54,7 +54,7 @@ impl Compactor {
 
     /// Whether none of the lines that were ready is pending.
     pub fn is_drained(&self) -> bool
-        ensures { IsTrue result ↔ (compactor_ready self.now ≡ []) }
+        ensures value { IsTrue result ↔ (compactor_ready self.now ≡ []) }
     {
         self.ready.is_empty()
     }

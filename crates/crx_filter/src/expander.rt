@@ -67,7 +67,7 @@ impl Expander {
 
     /// Whether none of the ready lines is pending.
     pub fn is_drained(&self) -> bool
-        ensures { IsTrue result ↔ (self.now.lines ≡ []) }
+        ensures value { IsTrue result ↔ (self.now.lines ≡ []) }
     {
         self.lines.is_drained()
     }

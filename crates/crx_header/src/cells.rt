@@ -24,7 +24,7 @@ pub fn put_indicators_within(line: &[u8], k: usize, flags: &mut [u8])
     requires few { k < TYPES_LIMIT }
     requires inside { CELL_WIDTH * k + (NAME_WIDTH + CELL_WIDTH) ≤ length line.now }
     requires within { 2 * k + 1 < length flags.old }
-    ensures { flags.new ≡ slice_set (slice_set flags.old (2 * k)
+    ensures put { flags.new ≡ slice_set (slice_set flags.old (2 * k)
         (character_at line.now (CELL_WIDTH * k + (NAME_WIDTH + OBSERVATION_WIDTH + 1)))) (2 * k + 1)
         (character_at line.now (CELL_WIDTH * k + (NAME_WIDTH + OBSERVATION_WIDTH + 2))) }
 {
@@ -39,7 +39,7 @@ pub fn put_indicators_within(line: &[u8], k: usize, flags: &mut [u8])
 pub fn put_indicators(line: &[u8], k: usize, flags: &mut [u8])
     requires few { k < TYPES_LIMIT }
     requires within { 2 * k + 1 < length flags.old }
-    ensures { flags.new ≡ slice_set (slice_set flags.old (2 * k)
+    ensures put { flags.new ≡ slice_set (slice_set flags.old (2 * k)
         (character_at line.now (CELL_WIDTH * k + (NAME_WIDTH + OBSERVATION_WIDTH + 1)))) (2 * k + 1)
         (character_at line.now (CELL_WIDTH * k + (NAME_WIDTH + OBSERVATION_WIDTH + 2))) }
 {
@@ -51,7 +51,7 @@ pub fn put_indicators(line: &[u8], k: usize, flags: &mut [u8])
 pub fn put_flags(held: &mut [u8], flags: &[u8])
     requires fitting { length flags.now ≤ length held.old }
     requires few { length held.old ≤ LINE_LIMIT }
-    ensures { held.new ≡ flags.now ++ replicate (length held.old - length flags.now) 32 }
+    ensures put { held.new ≡ flags.now ++ replicate (length held.old - length flags.now) 32 }
 {
     copy_text(&mut held[..flags.len()], flags);
     put_blanks(&mut held[flags.len()..]);

@@ -40,7 +40,7 @@ pub fn number(line: &[u8], first: usize) -> Option<usize>
 
 /// Whether a header line has this label in its columns 61 to 80.
 pub fn is_labelled(line: &[u8], label: &[u8]) -> bool
-    ensures { result ≡ has_label label.now line.now }
+    ensures value { result ≡ has_label label.now line.now }
 {
     end_trimmed(line, 61, 20) == label
 }
@@ -50,7 +50,7 @@ pub fn is_labelled(line: &[u8], label: &[u8]) -> bool
 pub fn identifier(line: &[u8], first: usize) -> [u8; NAME_WIDTH]
     requires from_one { 1 ≤ first }
     requires few { first ≤ LINE_LIMIT }
-    ensures { result ≡ columns line.now first NAME_WIDTH }
+    ensures value { result ≡ columns line.now first NAME_WIDTH }
 {
     [
         character(line, first),
@@ -64,7 +64,7 @@ pub fn identifier(line: &[u8], first: usize) -> [u8; NAME_WIDTH]
 #[inline(always)]
 pub fn put_identifier(bytes: &mut [u8], at: usize, name: [u8; NAME_WIDTH])
     requires { at + NAME_WIDTH ≤ length bytes.old }
-    ensures { take (at + NAME_WIDTH) bytes.new ≡ take at bytes.old ++ name }
+    ensures put { take (at + NAME_WIDTH) bytes.new ≡ take at bytes.old ++ name }
 {
     bytes[at] = name[0];
     bytes[at + 1] = name[1];
@@ -75,7 +75,7 @@ pub fn put_identifier(bytes: &mut [u8], at: usize, name: [u8; NAME_WIDTH])
 #[inline(always)]
 pub fn first_identifier(line: &[u8]) -> [u8; NAME_WIDTH]
     requires { NAME_WIDTH ≤ length line.now }
-    ensures { result ≡ columns line.now 1 NAME_WIDTH }
+    ensures value { result ≡ columns line.now 1 NAME_WIDTH }
 {
     [line[0], line[1], line[2]]
 }
@@ -83,7 +83,7 @@ pub fn first_identifier(line: &[u8]) -> [u8; NAME_WIDTH]
 /// `true` says that two identifiers are the same, and `false` that they aren't: their first two bytes are compared as one number.
 #[inline(always)]
 pub fn is_same_identifier(one: [u8; NAME_WIDTH], other: [u8; NAME_WIDTH]) -> bool
-    ensures { MatchBool result (one ≡ other) (one ≢ other) }
+    ensures same { MatchBool result (one ≡ other) (one ≢ other) }
 {
     u16::from_le_bytes([one[0], one[1]]) == u16::from_le_bytes([other[0], other[1]])
         && one[2] == other[2]

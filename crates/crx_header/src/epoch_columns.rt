@@ -12,28 +12,28 @@ use crx_faults::limits::SATELLITES_LIMIT;
 /// Whether a line begins an epoch or an event: its first character is `>`.
 #[inline(always)]
 pub fn begins_epoch(line: &[u8]) -> bool
-    ensures { result ≡ begins_epoch line.now }
+    ensures value { result ≡ begins_epoch line.now }
 {
     matches!(line, [b'>', ..])
 }
 
 /// Whether a line is an event's first one, by its own bytes: it begins with `>` and has a flag from 2 to 6 in column 32.
 pub fn is_event_line(line: &[u8]) -> bool
-    ensures { result ≡ is_event_line line.now }
+    ensures value { result ≡ is_event_line line.now }
 {
     begins_epoch(line) && is_event_flag(character(line, 32))
 }
 
 /// Whether a flag in column 32 is that of an event: 2 to 5, or 6 for cycle slip records.
 pub fn is_event_flag(flag: u8) -> bool
-    ensures { result ≡ is_event_flag flag }
+    ensures value { result ≡ is_event_flag flag }
 {
     matches!(flag, b'2'..=b'6')
 }
 
 /// How many records follow an event, in columns 33 to 35; none where they are blank.
 pub fn records_in(line: &[u8]) -> Option<usize>
-    ensures { result ≡ records_in line.now }
+    ensures value { result ≡ records_in line.now }
 {
     if is_blank(line, 33, 3) {
         Some(0)

@@ -15,7 +15,7 @@ use crx_faults::limits::VERSION_WIDTH;
 /// version in columns 1 to 9 is none of `3`, `3.0` and `3.0` with one more digit; then
 /// `NotObservation` where column 21 isn't `O`.
 pub fn header_first(line: &[u8]) -> Result<(), Fault>
-    ensures { MatchResult result
+    ensures fault { MatchResult result
         (λ _. first_header_fault line.now ≡ None)
         (λ fault. first_header_fault line.now ≡ Some fault) }
 {
@@ -44,7 +44,7 @@ fn is_supported(version: &[u8]) -> bool
 
 /// Whether a line is the one that ends the header, `END OF HEADER` in columns 61 to 80 (RINEX 3.05, table A2).
 pub fn is_end(line: &[u8]) -> bool
-    ensures { result ≡ is_end_of_header line.now }
+    ensures value { result ≡ is_end_of_header line.now }
 {
     is_labelled(line, &END_LABEL)
 }

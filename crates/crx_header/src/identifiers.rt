@@ -32,7 +32,7 @@ impl Model for Identifiers {
 impl Identifiers {
     /// No identifiers.
     pub fn new(alloc: Global) -> Identifiers
-        ensures { result ≡ [] }
+        ensures empty { result ≡ [] }
     {
         Identifiers {
             names: Vec::new(alloc),
@@ -42,7 +42,7 @@ impl Identifiers {
 
     /// Asks for room for so many identifiers more, after which [`Identifiers::put`] asks for none for as many.
     pub fn reserve(&mut self, count: usize) -> Result<(), AllocError>
-        ensures { self.new ≡ self.old }
+        ensures unchanged { self.new ≡ self.old }
     {
         self.names.reserve(count)?;
         self.places.reserve(count)?;
@@ -66,7 +66,7 @@ impl Identifiers {
     /// Each identifier stands once. The call does nothing; its caller knows this fact from then on.
     #[inline(always)]
     pub fn each_stands_once(&self)
-        ensures { (place : ℕ) → place < length self.now
+        ensures once { (place : ℕ) → place < length self.now
             → is_among (λ (n : List ℕ). n) (get_or self.now place []) (take place self.now) ≡ false }
     {
         let _ = &self.names;

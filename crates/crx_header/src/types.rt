@@ -40,7 +40,7 @@ impl Model for Types {
 impl Types {
     /// No types.
     pub fn new(alloc: Global) -> Types
-        ensures { result ≡ [] }
+        ensures empty { result ≡ [] }
     {
         Types {
             counts: IndexMap::new(alloc),
@@ -114,7 +114,7 @@ impl Types {
 /// Whether a line begins the list of a system's types: its label is `SYS / # / OBS TYPES`, and column 1 isn't blank
 /// (RINEX 3.05, table A2). Where column 1 is blank the line goes on with such a list, and counts nothing.
 pub fn is_types(line: &[u8]) -> bool
-    ensures { result ≡ is_types_line line.now }
+    ensures value { result ≡ is_types_line line.now }
 {
     is_labelled(line, &TYPES_LABEL) && character(line, 1) != b' '
 }

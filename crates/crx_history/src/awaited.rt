@@ -88,7 +88,7 @@ impl Model for AwaitedSatellites {
 impl AwaitedSatellites {
     /// No satellites.
     pub fn new(alloc: Global) -> AwaitedSatellites
-        ensures { result ≡ [] }
+        ensures empty { result ≡ [] }
     {
         AwaitedSatellites {
             satellites: Vec::new(alloc),
@@ -102,7 +102,7 @@ impl AwaitedSatellites {
     /// How many satellites there are.
     #[inline(always)]
     pub fn count(&self) -> usize
-        ensures { result ≡ length self.now }
+        ensures value { result ≡ length self.now }
     {
         self.satellites.len()
     }
@@ -118,7 +118,7 @@ impl AwaitedSatellites {
 
     /// Asks for room that the satellites of each epoch line fit into; those of the next epoch are then read in any case.
     pub fn make_roomy(&mut self) -> Result<(), AllocError>
-        ensures { self.new ≡ self.old }
+        ensures unchanged { self.new ≡ self.old }
     {
         self.is_read = false;
         self.satellites.reserve(SATELLITES_LIMIT)?;

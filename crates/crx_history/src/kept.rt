@@ -82,7 +82,7 @@ impl Model for KeptEpoch {
 impl KeptEpoch {
     /// The history where everything starts anew: an empty text, and no arcs and satellites.
     pub fn new(alloc: Global) -> KeptEpoch
-        ensures { result ≡ no_tail }
+        ensures empty { result ≡ no_tail }
     {
         KeptEpoch {
             text: Vec::new(alloc),
@@ -100,7 +100,7 @@ impl KeptEpoch {
     /// Ends an epoch of so many satellites, which have different identifiers and were read: drops those after them.
     pub fn end(&mut self, count: usize)
         requires { AreApart count self.old.rows }
-        ensures { self.new ≡ record self.old { rows = take count self.old.rows } }
+        ensures rows { self.new ≡ record self.old { rows = take count self.old.rows } }
     {
         self.satellites.truncate(count);
         self.is_placed = false;
@@ -113,7 +113,7 @@ impl KeptEpoch {
     /// files in which satellites come in the same order nothing is put.
     #[inline(always)]
     pub fn place_names(&mut self) -> Result<(), AllocError>
-        ensures { self.new ≡ self.old }
+        ensures unchanged { self.new ≡ self.old }
     {
         if self.moved <= FEW {
             return Ok(());
@@ -274,7 +274,7 @@ impl KeptEpoch {
     /// Asks for room that each epoch line and each map of identifiers fit into, so that none asks for memory from then on.
     #[inline(never)]
     pub fn make_roomy(&mut self) -> Result<(), AllocError>
-        ensures { self.new ≡ self.old }
+        ensures unchanged { self.new ≡ self.old }
     {
         self.text.reserve(LINE_LIMIT)?;
         self.names.reserve(SATELLITES_LIMIT)?;
@@ -388,7 +388,8 @@ impl KeptEpoch {
     /// Replaces a text by the printed line of the epoch that the history shows.
     pub fn print_head(&self, text: &mut Text)
         requires { is_some (epoch_count (columns self.now.text 1 HEAD_WIDTH)) ≡ true }
-        ensures { text.new ≡ printed_head (columns self.now.text 1 HEAD_WIDTH) (shown_value self.now.clock) }
+        ensures value { text.new
+            ≡ printed_head (columns self.now.text 1 HEAD_WIDTH) (shown_value self.now.clock) }
     {
         print_head(&self.head(), text);
     }
@@ -396,7 +397,7 @@ impl KeptEpoch {
     /// Puts the printed lines of so many rows that the history shows after others.
     pub fn print_rows(&self, count: usize, lines: &mut Lines) -> Result<(), AllocError>
         requires { count ≤ length self.now.rows }
-        ensures { OnOk result (lines.new ≡ lines.old ++ map printed_row
+        ensures ok { OnOk result (lines.new ≡ lines.old ++ map printed_row
             (map shown_row (take count self.now.rows))) }
     {
         for place in 0..count {

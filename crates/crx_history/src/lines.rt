@@ -50,7 +50,7 @@ impl Model for Lines {
 impl Lines {
     /// No lines.
     pub fn new(alloc: Global) -> Lines
-        ensures { result ≡ [] }
+        ensures empty { result ≡ [] }
     {
         Lines {
             bytes: Vec::new(alloc),
@@ -63,7 +63,7 @@ impl Lines {
 
     /// Drops all lines; their memory is used again for new ones.
     pub fn clear(&mut self)
-        ensures { self.new ≡ [] }
+        ensures emptied { self.new ≡ [] }
     {
         self.filled = 0;
         self.lengths.clear();
@@ -137,7 +137,7 @@ impl Lines {
 
     /// Whether no line is pending.
     pub fn is_empty(&self) -> bool
-        ensures { IsTrue result ↔ (self.now ≡ []) }
+        ensures value { IsTrue result ↔ (self.now ≡ []) }
     {
         self.handed_out == self.lengths.len()
     }

@@ -19,13 +19,13 @@ ghost use Rattle.crx_reading.specs.meaning.WayBack.{written_well};
 /// is ended by the same fault or by none. So a file can be cut where an epoch in full begins, and each piece be expanded alone, after the
 /// header.
 pub fn blocks_stand_alone()
-    ensures { (more one other : List ℕ) (choices : Choices) → StandAlone more one other choices }
+    ensures law { (more one other : List ℕ) (choices : Choices) → StandAlone more one other choices }
 {}
 
 /// What a compaction wrote of some units of a file, from an event or an epoch in full on, expands to these units after the compact text
 /// of another file that leaves the same types in force, as that of the header alone: with no message, and with any choice.
 pub fn a_piece_is_expanded_alone()
-    ensures { (file front : List ℕ) (compacting expanding : Choices) (text : List ℕ)
+    ensures law { (file front : List ℕ) (compacting expanding : Choices) (text : List ℕ)
         → is_date compacting.date ≡ true → (whole : IsPieceAfter file front compacting text)
         → expanded text expanding ≡ written_well (lines_text
         (printed_items (read_of_file front compacting).items ++ printed_items whole.piece)) }

@@ -13,46 +13,46 @@ ghost use Rattle.crx_history.specs.Tails.{Tail};
 
 /// The compact lines of an epoch read as that epoch, whatever lines follow, and hand on the block for the next one.
 pub fn reading_an_epoch()
-    ensures { EachReadsBack }
+    ensures law { EachReadsBack }
 {}
 
 /// Reading the compact text of a list of epochs gives these epochs, where the counts of types change only at full ones.
 pub fn reading_epochs()
-    ensures { ReadsBack }
+    ensures law { ReadsBack }
 {}
 
 /// An epoch that was read is what its raw epoch stands for, no satellite has two lines, and each line is counted.
 pub fn sound_reading()
-    ensures { ReadsSoundly }
+    ensures law { ReadsSoundly }
 {}
 
 /// What is left of a block of raw epochs decides what the next one leaves.
 pub fn next_raw_epoch()
-    ensures { (raw : RawEpoch) (block : List RawEpoch) → HasSingleLines raw → RawByTail raw block }
+    ensures law { (raw : RawEpoch) (block : List RawEpoch) → HasSingleLines raw → RawByTail raw block }
 {}
 
 /// What is left of the epochs before, or nothing, decides what stands at the next lines, each fault too, and what is left
 /// of an epoch that is read there.
 pub fn tail_decides()
-    ensures { (types : List Count) (older : List RawEpoch) (lines : List ReadLine)
+    ensures law { (types : List Count) (older : List RawEpoch) (lines : List ReadLine)
         → TailDecides types older lines }
 {}
 
 /// What stands at some lines, and what is left of an epoch there, is what the steps make of them line by line.
 pub fn steps_agree()
-    ensures { (types : List Count) (tail : Option Tail) (lines : List ReadLine)
+    ensures law { (types : List Count) (tail : Option Tail) (lines : List ReadLine)
         → StepsAgree types tail lines }
 {}
 
 /// More lines are wanted exactly where there is no line yet, or the lines so far make an open epoch.
 pub fn wanted_where_open()
-    ensures { (types : List Count) (tail : Option Tail) (lines : List ReadLine)
+    ensures law { (types : List Count) (tail : Option Tail) (lines : List ReadLine)
         → WantedWhereOpen types tail lines }
 {}
 
 /// The step from an open epoch is what the place has with one line more.
 pub fn steps_from_open()
-    ensures { StepsFromOpen }
+    ensures law { StepsFromOpen }
 {}
 
 /// What stands at some lines is certain as soon as its last line has come, by raw epochs and by the tail.
@@ -63,7 +63,7 @@ pub fn steady_epochs()
 
 /// A line that begins with `>` forgets: what is read from there doesn't depend on older raw epochs.
 pub fn a_full_epoch_forgets()
-    ensures { (types : List Count) (older : List RawEpoch) (line : List ℕ) (lines : List ReadLine)
+    ensures law { (types : List Count) (older : List RawEpoch) (line : List ℕ) (lines : List ReadLine)
         → begins_epoch line ≡ true → Forgets types older line lines }
 {}
 
@@ -76,17 +76,17 @@ pub fn epochs_are_whole()
 
 /// What is left of the epochs that were written is what is left of their lines as they are read.
 pub fn one_tail()
-    ensures { OneTail }
+    ensures law { OneTail }
 {}
 
 /// The lines of an epoch that was written, read one by one after what was left before it, give the epoch with the last of
 /// them, and leave what the writer has left. A full epoch is read so after anything.
 pub fn steps_read_back()
-    ensures { StepsReadBack }
+    ensures law { StepsReadBack }
 {}
 
 /// What is held of an epoch whose lines have come in part, and what a whole one leaves, is within the limits, whatever was read before:
 /// the text of one epoch, two indicators a type, at most ten differences a cell, and at most 999 satellites of 400 types each.
 pub fn bounded_reading()
-    ensures { ReadAreBounded }
+    ensures law { ReadAreBounded }
 {}

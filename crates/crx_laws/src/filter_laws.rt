@@ -39,39 +39,39 @@ pub fn resumed_compact()
 
 /// What a compaction has written for some lines stands at the beginning of its output for every input that has these lines first.
 pub fn compaction_goes_on()
-    ensures { (choices : Choices) (lines : List ReadLine)
+    ensures law { (choices : Choices) (lines : List ReadLine)
         → IsWrittenFirst compacted_so_far (λ input (c : Choices). (compacted input c).output) choices lines }
 {}
 
 /// A compaction goes line by line: after each line it has seen, handed out and reported what the compaction of all lines so far has, by
 /// what it held before that line alone; with faults skipped or not.
 pub fn compaction_by_line()
-    ensures { (choices : Choices) (lines : List ReadLine) (line : ReadLine)
+    ensures law { (choices : Choices) (lines : List ReadLine) (line : ReadLine)
         → IsCompactedOn choices lines line }
 {}
 
 /// What an expansion has written for some lines stands at the beginning of its output for every input that has these lines first.
 pub fn expansion_goes_on()
-    ensures { (choices : Choices) (lines : List ReadLine)
+    ensures law { (choices : Choices) (lines : List ReadLine)
         → IsWrittenFirst expanded_so_far (λ input (c : Choices). (expanded input c).output) choices lines }
 {}
 
 /// An expansion goes line by line, in the same way.
 pub fn expansion_by_line()
-    ensures { (choices : Choices) (lines : List ReadLine) (line : ReadLine)
+    ensures law { (choices : Choices) (lines : List ReadLine) (line : ReadLine)
         → IsExpandedOn choices lines line }
 {}
 
 /// The end of the input, after any lines, is what it is for the compaction of all of them: nothing more is written, and the fault or
 /// the warning is that of the whole reading.
 pub fn compaction_ends()
-    ensures { (choices : Choices) (lines : List ReadLine) → IsCompactionEnded choices lines }
+    ensures law { (choices : Choices) (lines : List ReadLine) → IsCompactionEnded choices lines }
 {}
 
 /// The end of the input, after any lines, is what it is for the expansion of all of them: nothing more is written, and the fault or
 /// the warning is that of the whole reading.
 pub fn expansion_ends()
-    ensures { (choices : Choices) (lines : List ReadLine) → IsExpansionEnded choices lines }
+    ensures law { (choices : Choices) (lines : List ReadLine) → IsExpansionEnded choices lines }
 {}
 
 /// Once a fault has ended the run, more lines change nothing, in both directions.
@@ -92,7 +92,7 @@ pub fn what_was_read()
 
 /// What was accepted of a RINEX file is in place: each unit where it belongs, and each epoch whole, with the types in force.
 pub fn what_was_accepted()
-    ensures { (skip : Bool) (lines : List ReadLine) → AreInPlace (rinex_reading skip lines).items }
+    ensures law { (skip : Bool) (lines : List ReadLine) → AreInPlace (rinex_reading skip lines).items }
 {}
 
 /// What a compaction holds between two lines is bounded, however long the input is: at most seven counts of types; of the last epoch
@@ -100,7 +100,7 @@ pub fn what_was_accepted()
 /// part 41 columns, the types at its line, and at most 999 rows, each with an identifier of three characters and at most 400 values, with
 /// two indicators each.
 pub fn bounded_compaction()
-    ensures { (choices : Choices) (lines : List ReadLine)
+    ensures law { (choices : Choices) (lines : List ReadLine)
         → IsBoundedCompaction (compaction_seen choices lines) }
 {}
 
@@ -108,7 +108,7 @@ pub fn bounded_compaction()
 /// 999 satellites of at most 400 cells with ten numbers each, and their indicators, at most 800 a satellite; and of an epoch whose
 /// lines have come in part no more satellites than that, those whose lines are awaited among them.
 pub fn bounded_expansion()
-    ensures { (choices : Choices) (lines : List ReadLine)
+    ensures law { (choices : Choices) (lines : List ReadLine)
         → IsBoundedExpansion (expansion_seen choices lines) }
 {}
 
@@ -123,7 +123,7 @@ pub fn bounded_lines()
 /// that stand there, if any: whatever was read before, the units from there on depend on the observation types in force and on those
 /// lines alone.
 pub fn reading_starts_anew()
-    ensures { DependsOnTypes }
+    ensures law { DependsOnTypes }
 {}
 
 /// Such lines: an event with a record that doesn't begin with `>`, and then an epoch in full; but no line of an epoch that goes on.

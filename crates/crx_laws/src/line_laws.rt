@@ -16,27 +16,27 @@ use crx_lines::phase::Phase;
 
 /// The lines of an input that begins with a piece and its LF: the line of that piece, then those of the rest.
 pub fn lines_after_first()
-    ensures { (piece rest : List ℕ) → HasNoFeed piece
+    ensures law { (piece rest : List ℕ) → HasNoFeed piece
         → lines_of (piece ++ 10 ∷ rest)
         ≡ line_of (record { bytes = piece; is_ended = true }) ∷ lines_of rest }
 {}
 
 /// The one line of an input that isn't empty and has no LF.
 pub fn last_line()
-    ensures { (piece : List ℕ) → HasNoFeed piece → 0 < length piece
+    ensures law { (piece : List ℕ) → HasNoFeed piece → 0 < length piece
         → lines_of piece ≡ line_of (record { bytes = piece; is_ended = false }) ∷ [] }
 {}
 
 /// The lines whose LF is among the first bytes of an input are its first lines, whatever comes after: the rest of these
 /// bytes has no LF, and the other lines are those of the rest and what comes after.
 pub fn ended_lines_come_first()
-    ensures { (given : List ℕ) → (rest : List ℕ) × HasNoFeed rest
+    ensures law { (given : List ℕ) → (rest : List ℕ) × HasNoFeed rest
         × ((more : List ℕ) → lines_of (given ++ more) ≡ ended_lines_of given ++ lines_of (rest ++ more)) }
 {}
 
 /// A new reader of lines has read nothing.
 pub fn reading_starts<R: Source>()
-    ensures { (start : R) → HasRead (λ given. R.gave start given start) (R.at_end start)
+    ensures law { (start : R) → HasRead (λ given. R.gave start given start) (R.at_end start)
         (tally_of (R.failures start) (R.ends start)) (tally_of (R.failures start) (R.ends start))
         (record { rest = []; passed = 0; number = 0; phase = Phase.Open }) [] }
 {}
@@ -44,7 +44,7 @@ pub fn reading_starts<R: Source>()
 /// From one answer of a reader of lines to the next: what was read of the bytes that its source gave, and how often the
 /// source failed or reported its end.
 pub fn reading_goes_on<R: Source>()
-    ensures { (start before after : R)
+    ensures law { (start before after : R)
         (more : List ℕ) (old new : ReaderState) (answer : Result (Option Line) At) (lines : List InputLine)
         → HasRead (λ given. R.gave start given before) (R.at_end before)
         (tally_of (R.failures start) (R.ends start)) (tally_of (R.failures before) (R.ends before)) old lines
@@ -59,7 +59,7 @@ pub fn reading_goes_on<R: Source>()
 /// Once the end was reported and no line is pending, the lines are those of all the bytes that the source gave. The
 /// source was asked for its end once.
 pub fn reading_ends<R: Source>()
-    ensures { (start now : R) (r : ReaderState) (lines : List InputLine)
+    ensures law { (start now : R) (r : ReaderState) (lines : List InputLine)
         → HasRead (λ given. R.gave start given now) (R.at_end now)
         (tally_of (R.failures start) (R.ends start)) (tally_of (R.failures now) (R.ends now)) r lines
         → r.phase ≡ Phase.Ended
@@ -71,7 +71,7 @@ pub fn reading_ends<R: Source>()
 /// Once a fault ended the reading, the lines are those whose LF is among the bytes that the source gave, within the limit
 /// of an input, and the fault is in the line after them. The end wasn't reported.
 pub fn reading_stops<R: Source>()
-    ensures { (start now : R) (r : ReaderState) (lines : List InputLine) (at : At)
+    ensures law { (start now : R) (r : ReaderState) (lines : List InputLine) (at : At)
         → HasRead (λ given. R.gave start given now) (R.at_end now)
         (tally_of (R.failures start) (R.ends start)) (tally_of (R.failures now) (R.ends now)) r lines
         → r.phase ≡ Phase.Stopped at

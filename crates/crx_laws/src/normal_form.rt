@@ -12,17 +12,17 @@ ghost use Rattle.crx_reading.specs.meaning.Standard.{normal_form};
 /// The normal form is read as the very same units as the file: each header line, event line and record, and each epoch with its clock
 /// offset, values and indicators.
 pub fn the_normal_form_reads_the_same()
-    ensures { (input : List ℕ) → IsReadAsNormal input }
+    ensures law { (input : List ℕ) → IsReadAsNormal input }
 {}
 
 /// The normal form is a standard file.
 pub fn the_normal_form_is_standard()
-    ensures { (input : List ℕ) → IsStandardAsNormal input }
+    ensures law { (input : List ℕ) → IsStandardAsNormal input }
 {}
 
 /// The normal form is its own normal form.
 pub fn the_normal_form_stays()
-    ensures { (input : List ℕ) → IsNormalForGood input }
+    ensures law { (input : List ℕ) → IsNormalForGood input }
 {}
 
 /// What these laws ask for can be met, and by a file that isn't standard: its number has a zero too many before the point,

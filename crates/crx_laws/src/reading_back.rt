@@ -17,19 +17,19 @@ ghost use Rattle.crx_laws.specs.Examples.{one_type, g02, epoch_of_two};
 /// The printed line of a sound row, of a system with as many types as the row has values, is read as that very row: its identifier,
 /// each value and each indicator.
 pub fn a_row_is_read_back()
-    ensures { (types : List Count) (row : Row)
+    ensures law { (types : List Count) (row : Row)
         → IsSoundRow row → HasItsTypes types row → row_of types (printed_row row) ≡ Ok row }
 {}
 
 /// A printed epoch line is read as its columns 1 to 41, the count of satellites in them, and its receiver clock offset.
 pub fn an_epoch_line_is_read_back()
-    ensures { (line : ObservationHead) → IsObservationHead line
+    ensures law { (line : ObservationHead) → IsObservationHead line
         → head_of (printed_head line.head line.clock) ≡ Ok (EpochHead line.head line.count line.clock) }
 {}
 
 /// The printed lines of a whole epoch, whatever lines come after them, are read as that very epoch, and no line more.
 pub fn an_epoch_is_read_back()
-    ensures { (types : List Count) (epoch : Epoch) (after : List ReadLine) → IsWholeEpoch types epoch
+    ensures law { (types : List Count) (epoch : Epoch) (after : List ReadLine) → IsWholeEpoch types epoch
         → epoch_place types (map Content (printed_epoch epoch) ++ after)
         ≡ Here (Observation epoch) (length epoch.rows + 1) }
 {}

@@ -19,19 +19,19 @@ ghost use Rattle.crx_rinex.specs.Laws.{IsWantedWhereOpen, IsDecidedByOpen};
 
 /// What stands in the first line alone is certain as soon as it has come.
 pub fn steady_first_line<X>()
-    ensures { (read : List ℕ → Result X Fault) → IsSteady (λ lines. first_line lines read) }
+    ensures law { (read : List ℕ → Result X Fault) → IsSteady (λ lines. first_line lines read) }
 {}
 
 /// One thing and then another are certain as soon as the last line of the second has come.
 pub fn steady_in_turn<X, Y>()
-    ensures { (first : List ReadLine → Place X) (next : X → List ReadLine → Place Y)
+    ensures law { (first : List ReadLine → Place X) (next : X → List ReadLine → Place Y)
         → IsSteady first → ((x : X) → IsSteady (next x))
         → IsSteady (λ lines. then_place (first lines) lines next) }
 {}
 
 /// What stands where an epoch or an event may begin is certain as soon as its last line has come.
 pub fn steady_epochs()
-    ensures { (types : List Count) → IsSteady (epoch_place types) }
+    ensures law { (types : List Count) → IsSteady (epoch_place types) }
 {}
 
 /// The rows of an epoch that is open are certain as soon as the last of them has come.
@@ -42,26 +42,26 @@ pub fn steady_rows()
 
 /// An epoch wants more lines exactly where it is open.
 pub fn wanted_where_open()
-    ensures { (types : List Count) (lines : List ReadLine) → IsWantedWhereOpen types lines }
+    ensures law { (types : List Count) (lines : List ReadLine) → IsWantedWhereOpen types lines }
 {}
 
 /// An open epoch decides what the next line makes of the lines so far.
 pub fn next_line_by_open()
-    ensures { (types : List Count) (lines : List ReadLine) (line : ReadLine) (so_far : OpenEpoch)
+    ensures law { (types : List Count) (lines : List ReadLine) (line : ReadLine) (so_far : OpenEpoch)
         → open_with types lines ≡ Some so_far → IsDecidedByOpen types lines line so_far }
 {}
 
 /// An epoch that is read is whole: its line, its rows and their counts of types are sound, no satellite stands twice, and
 /// it took its epoch line and one line for each satellite.
 pub fn epochs_are_whole()
-    ensures { (types : List Count) → AreCounts types → (lines : List ReadLine) (epoch : Epoch) (count : ℕ)
+    ensures law { (types : List Count) → AreCounts types → (lines : List ReadLine) (epoch : Epoch) (count : ℕ)
         → epoch_place types lines ≡ Here (Observation epoch) count
         → IsWholeEpoch types epoch × (count ≡ length epoch.rows + 1) }
 {}
 
 /// Types are of at most seven systems.
 pub fn few_systems()
-    ensures { (types : List Count) → AreCounts types → length types ≤ 7 }
+    ensures law { (types : List Count) → AreCounts types → length types ≤ 7 }
 {}
 
 /// An epoch of two satellites: it is open after its first two lines, whole with the third, and cut off by another epoch

@@ -13,13 +13,13 @@ ghost use Rattle.crx_laws.specs.SmallFiles.{file_of_five, with_event, plain_choi
 /// block whose lines still stand at its beginning), then exactly all units after it; it reports at most one warning, and its status
 /// is 2 with one and 0 without.
 pub fn damage_stays_in_its_block()
-    ensures { (input : List ℕ) (compacting expanding : Choices) (damaged : List ℕ)
+    ensures law { (input : List ℕ) (compacting expanding : Choices) (damaged : List ℕ)
         → StaysInItsBlock input compacting expanding damaged }
 {}
 
 /// What is damaged there is the output of the compaction: the text of all units, the lines of the block among them.
 pub fn undamaged_text_is_the_compaction()
-    ensures { (input : List ℕ) (compacting : Choices) (damaged : List ℕ)
+    ensures law { (input : List ℕ) (compacting : Choices) (damaged : List ℕ)
         (damage : IsDamaged input compacting damaged) → IsOfCompaction input compacting damaged damage }
 {}
 

@@ -15,7 +15,7 @@ ghost use Rattle.crx_runs.specs.meaning.Results.{Begins};
 /// epoch in full. Then an expansion that skips faults writes exactly all units before the first stretch, then for each stretch some
 /// whole epochs followed by exactly the units that are kept, and no fault ends it.
 pub fn damage_costs_what_it_touches()
-    ensures { (file : List ℕ) (compacting expanding : Choices) (damaged : List ℕ)
+    ensures law { (file : List ℕ) (compacting expanding : Choices) (damaged : List ℕ)
         → is_date compacting.date ≡ true → expanding.skip ≡ true → (damage : HasStretches file compacting damaged)
         → KeepsTheRest file compacting damaged damage (expanded damaged expanding) }
 {}
@@ -23,7 +23,7 @@ pub fn damage_costs_what_it_touches()
 /// Whatever comes after the lines of a file's first units, an expansion writes these units first. So of a text that is cut off, all
 /// units are written that are whole before the cut.
 pub fn whole_units_are_written()
-    ensures { (file : List ℕ) (compacting expanding : Choices) (text : List ℕ)
+    ensures law { (file : List ℕ) (compacting expanding : Choices) (text : List ℕ)
         → is_date compacting.date ≡ true → (whole : BeginsWhole file compacting text)
         → Begins (expanded text expanding).output (lines_text (printed_items whole.before)) }
 {}

@@ -16,26 +16,26 @@ ghost use Rattle.crx_reading.specs.meaning.WayBack.{HaveNoReturns};
 /// accepted unit as RINEX prints it, reports nothing, and ends with status 0. Faults may be skipped or not, on both ways, and epochs
 /// may stand in full as often as is chosen. No header line, event line or record may have a content that ends in CR.
 pub fn what_was_compacted_comes_back()
-    ensures { (input : List ℕ) (compacting expanding : Choices) → ComesBack input compacting expanding }
+    ensures law { (input : List ℕ) (compacting expanding : Choices) → ComesBack input compacting expanding }
 {}
 
 /// A file that is read to its good end comes back in its normal form, whatever is chosen on either way.
 pub fn the_normal_form_comes_back()
-    ensures { (input : List ℕ) (compacting expanding : Choices)
+    ensures law { (input : List ℕ) (compacting expanding : Choices)
         → NormalFormComesBack input compacting expanding }
 {}
 
 /// A standard file comes back byte for byte, whatever is chosen on either way: how often epochs stand in full, whether faults are
 /// skipped, and the date.
 pub fn a_standard_file_comes_back()
-    ensures { (input : List ℕ) (compacting expanding : Choices)
+    ensures law { (input : List ℕ) (compacting expanding : Choices)
         → StandardComesBack input compacting expanding }
 {}
 
 /// The converse: where a file that is read to its good end comes back byte for byte, by any choices, it is standard. One with a header
 /// line, event line or record whose content ends in CR never does, since it comes back with fewer of them.
 pub fn what_comes_back_is_standard()
-    ensures { (input : List ℕ) (compacting expanding : Choices)
+    ensures law { (input : List ℕ) (compacting expanding : Choices)
         → IsStandardWhereSame input compacting expanding }
 {}
 

@@ -149,7 +149,7 @@ impl<D> Std<D> {
 
     /// The reader or writer itself.
     pub fn into_inner(self) -> D
-        ensures { result ≡ self.inner }
+        ensures inner { result ≡ self.inner }
     {
         self.inner
     }

@@ -50,14 +50,14 @@ impl<'a> Line<'a> {
 
     /// The line's number, from 1.
     pub fn number(&self) -> u64
-        ensures { result ≡ line_number self.now }
+        ensures value { result ≡ line_number self.now }
     {
         self.number
     }
 
     /// Whether LF alone ends the line.
     pub fn plain(&self) -> bool
-        ensures { result ≡ (line_shown self.now).is_plain }
+        ensures value { result ≡ (line_shown self.now).is_plain }
     {
         self.is_plain
     }
@@ -114,7 +114,7 @@ impl LineReader {
 
     /// A reader before its input's first line.
     pub fn new(alloc: Global) -> Result<LineReader, AllocError>
-        ensures { IfOk result
+        ensures start { IfOk result
             (λ r. reading r ≡ record { rest = []; passed = 0; number = 0; phase = Phase.Open }) }
     {
         let window = Box::new(alloc, Window::new(alloc)?)?;
@@ -128,7 +128,7 @@ impl LineReader {
 
     /// The number of the last line that was read, 0 before the first.
     pub fn number(&self) -> u64
-        ensures { result ≡ (reading self.now).number }
+        ensures value { result ≡ (reading self.now).number }
     {
         self.number
     }

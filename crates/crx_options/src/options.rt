@@ -57,7 +57,7 @@ fn is_date(date: &[u8]) -> bool
 /// The date in its columns of the second line, with blanks after it.
 pub fn in_columns(date: &[u8]) -> [u8; DATE_LIMIT]
     requires { length date.now ≤ DATE_LIMIT }
-    ensures { result ≡ date.now ++ replicate (DATE_LIMIT - length date.now) 32 }
+    ensures value { result ≡ date.now ++ replicate (DATE_LIMIT - length date.now) 32 }
 {
     let mut columns = [b' '; DATE_LIMIT];
     columns[..date.len()].copy_from_slice(date);
@@ -82,7 +82,7 @@ impl Options {
     /// `BadDate` comes where the date has more than [`DATE_LIMIT`] bytes or a byte outside 32 to
     /// 126, and only there.
     pub fn new(every: Option<u32>, skip: bool, date: &[u8]) -> Result<Options, BadDate>
-        ensures { MatchResult result
+        ensures value { MatchResult result
             (λ o. (o ≡ choices_of every skip date.now) × IsTrue (is_date date.now))
             (λ _. is_date date.now ≡ false) }
     {
@@ -100,14 +100,14 @@ impl Options {
     /// At every how many epochs one stands in full; `None` where only those do that must: the first, and the first after each
     /// event or warning.
     pub fn every(&self) -> Option<u32>
-        ensures { result ≡ self.now.every }
+        ensures value { result ≡ self.now.every }
     {
         self.every
     }
 
     /// Whether an epoch with a fault is skipped with a warning.
     pub fn skip(&self) -> bool
-        ensures { result ≡ self.now.skip }
+        ensures value { result ≡ self.now.skip }
     {
         self.skip
     }

@@ -10,7 +10,7 @@ use crx_rinex::Head;
 /// How many records follow an event's first line, by its columns 33 to 35; `BadEpoch` where these hold no count.
 pub fn records_announced(line: &[u8]) -> Result<usize, Fault>
     requires event { is_event_line line.now ≡ true }
-    ensures { MatchResult result
+    ensures value { MatchResult result
         (λ count. records_in line.now ≡ Some count)
         (λ fault. (records_in line.now ≡ None) × (fault ≡ Fault.BadEpoch)) }
 {

@@ -10,7 +10,7 @@ use crx_text::columns::trimmed;
 
 /// Checks the first line of compact text: `3.0` in columns 1 to 20 and the label `CRINEX VERS   / TYPE`, else `NotCompact`.
 pub fn check_version(line: &[u8]) -> Result<(), Fault>
-    ensures { MatchResult result
+    ensures fault { MatchResult result
         (λ _. crinex_version line.now ≡ Ok line.now)
         (λ fault. crinex_version line.now ≡ Err fault) }
 {
@@ -24,7 +24,7 @@ pub fn check_version(line: &[u8]) -> Result<(), Fault>
 
 /// Checks the second line of compact text: the label `CRINEX PROG / DATE`, else `BadProgLine`.
 pub fn check_program(line: &[u8]) -> Result<(), Fault>
-    ensures { MatchResult result
+    ensures fault { MatchResult result
         (λ _. crinex_program line.now ≡ Ok line.now)
         (λ fault. crinex_program line.now ≡ Err fault) }
 {

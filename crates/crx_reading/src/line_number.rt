@@ -26,7 +26,7 @@ impl LineNumber {
     /// The number of a line.
     pub fn of(value: u64) -> LineNumber
         requires { value ≤ INPUT_LIMIT }
-        ensures { result ≡ value }
+        ensures number { result ≡ value }
     {
         LineNumber { value }
     }
@@ -42,7 +42,7 @@ impl LineNumber {
     /// Goes on to the next line.
     pub fn go_on(&mut self)
         requires { self.old < INPUT_LIMIT }
-        ensures { self.new ≡ self.old + 1 }
+        ensures next { self.new ≡ self.old + 1 }
     {
         self.value += 1;
     }

@@ -94,7 +94,7 @@ pub fn print_report_line(
     not_standard: Option<u64>,
     text: &mut Text,
 ) -> bool
-    ensures { MatchBool result
+    ensures line { MatchBool result
         (slice_get (report_lines (found_held totals.now types.now not_standard)) index ≡ Some text.new)
         (slice_get (report_lines (found_held totals.now types.now not_standard)) index ≡ None) }
 {

@@ -68,14 +68,14 @@ impl RinexReader {
 
     /// The types in force.
     pub fn types(&self) -> &Types
-        ensures { result.now ≡ self.now.types }
+        ensures value { result.now ≡ self.now.types }
     {
         &self.types
     }
 
     /// The epoch whose last line came last, until the next line is taken.
     pub fn epoch(&self) -> Option<&Epoch>
-        ensures { option_copied result ≡ self.now.epoch }
+        ensures value { option_copied result ≡ self.now.epoch }
     {
         self.epoch.as_ref()
     }

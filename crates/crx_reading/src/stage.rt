@@ -58,7 +58,7 @@ impl Stage {
 
     /// Whether the stage is one after a fault or after the end of the input.
     pub fn is_settled(&self) -> bool
-        ensures { result ≡ is_settled self.now }
+        ensures value { result ≡ is_settled self.now }
     {
         matches!(self, Stage::Looking | Stage::Closed | Stage::Ended(_))
     }
@@ -102,7 +102,7 @@ pub fn with_records_left(left: usize, counted: bool) -> Stage
 
 /// Whether types lines count among the records of an event: the flag in column 32 of its line is from 2 to 5.
 pub fn counts_types(line: &[u8]) -> bool
-    ensures { result ≡ counts_types line.now }
+    ensures value { result ≡ counts_types line.now }
 {
     line.len() > 31 && matches!(line[31], b'2'..=b'5')
 }

@@ -55,7 +55,7 @@ pub fn counted(totals: Totals, reader: &RinexReader, step: RinexStep, line: &[u8
 
 /// Whether printing gives back a line that was taken, by what it was: the lines that aren't of epochs are copied.
 pub fn is_given_back(reader: &RinexReader, step: RinexStep, line: &[u8], text: &mut Text) -> bool
-    ensures { (before : RinexReader) (made : Made ObservationEpoch OpenEpoch)
+    ensures value { (before : RinexReader) (made : Made ObservationEpoch OpenEpoch)
         → TakesRinexLine made before line.now step reader.now → HasPrinted made
         → result ≡ bytes_eq line.now (last_line (printed_made made)) }
 {

@@ -44,7 +44,7 @@ impl EpochLine {
     /// to 126 other than `&` (RINEX 3.05, table A3).
     pub fn new(columns: [u8; HEAD_WIDTH], clock: Option<i64>) -> Result<EpochLine, Fault>
         requires { ForSome clock IsClock }
-        ensures { MatchResult result
+        ensures value { MatchResult result
             (λ line. (epoch_count columns ≡ Some line.count) × (line.head ≡ columns) × (line.clock ≡ clock))
             (λ fault. (epoch_count columns ≡ None) × (fault ≡ Fault.BadEpoch)) }
     {
@@ -105,7 +105,7 @@ impl Head {
     /// that may not stand there or something stands after column 56; then `BadClock` where columns 42 to 56
     /// hold neither blanks nor a number of format F15.12.
     pub fn read(line: &[u8]) -> Result<Head, Fault>
-        ensures { MatchResult result
+        ensures value { MatchResult result
             (λ head. head_of line.now ≡ Ok (head_line head))
             (λ fault. head_of line.now ≡ Err fault) }
     {

@@ -39,7 +39,7 @@ impl Model for Printed {
 impl Printed {
     /// The lines of an epoch, all of them pending.
     pub fn new(epoch: Epoch) -> Printed
-        ensures { result ≡ printed_epoch epoch }
+        ensures value { result ≡ printed_epoch epoch }
     {
         Printed {
             epoch,
@@ -50,7 +50,7 @@ impl Printed {
 
     /// Whether no line is pending.
     pub fn is_drained(&self) -> bool
-        ensures { IsTrue result ↔ (self.now ≡ []) }
+        ensures value { IsTrue result ↔ (self.now ≡ []) }
     {
         self.next > 0 && self.epoch.row(self.next - 1).is_none()
     }
@@ -89,7 +89,7 @@ fn print_line(epoch: &Epoch, index: usize, text: &mut Text) -> bool
 
 /// Replaces a text by the last of an epoch's lines so far, as it is printed: that of its last row, or its epoch line where it has no row.
 pub fn print_last_line(epoch: &Epoch, text: &mut Text)
-    ensures { text.new ≡ last_line (printed_epoch epoch.now) }
+    ensures value { text.new ≡ last_line (printed_epoch epoch.now) }
 {
     match epoch.last_row() {
         Some(row) => row.print(text),
@@ -99,7 +99,7 @@ pub fn print_last_line(epoch: &Epoch, text: &mut Text)
 
 /// Replaces a text by the printed epoch line, without blanks at its end.
 pub fn print_head(head: &EpochLine, text: &mut Text)
-    ensures { text.new ≡ printed_head head.now.head head.now.clock }
+    ensures value { text.new ≡ printed_head head.now.head head.now.clock }
 {
     let mut field = [b' '; CLOCK_WIDTH];
     clock_print(head.clock(), &mut field);

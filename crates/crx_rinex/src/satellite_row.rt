@@ -167,7 +167,8 @@ impl SatRow {
     pub fn blank(alloc: Global, name: [u8; NAME_WIDTH], m: usize) -> Result<SatRow, Fault>
         requires named { is_identifier name ≡ true }
         requires allowed { IsAllowedCount m }
-        ensures { MatchResult result (λ row. row ≡ blank_row name m) (λ fault. fault ≡ Fault.OutOfMemory) }
+        ensures value { MatchResult result
+            (λ row. row ≡ blank_row name m) (λ fault. fault ≡ Fault.OutOfMemory) }
     {
         let Ok(values) = vec![in alloc; None; m] else {
             return Err(Fault::OutOfMemory);

@@ -33,7 +33,7 @@ pub enum Step {
 
 /// The answer to a line: that nothing is to be done, or the answer that is stored.
 pub fn answer_given(is_quiet: bool, kept: Result<Step, At>) -> Result<Step, At>
-    ensures { result ≡ answer_given is_quiet kept }
+    ensures value { result ≡ answer_given is_quiet kept }
 {
     if is_quiet { Ok(Step::Quiet) } else { kept }
 }
@@ -84,7 +84,7 @@ pub trait Engine {
 
     /// The answer to the line that [`Engine::take`] took last, where it answered `false`: what is to be written or reported.
     fn answer(&self) -> Result<Step, At>
-        ensures { result ≡ answer self.now };
+        ensures value { result ≡ answer self.now };
 
     /// Takes a line that is too long, by its number.
     fn overlong(&mut self, number: u64) -> Result<Step, At>

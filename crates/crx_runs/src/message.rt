@@ -33,7 +33,7 @@ impl Severity {
 
 /// The line of a fault, as `ERROR line 7 code 18: bad indicator`, with its LF. It takes no memory.
 pub fn message(severity: Severity, at: At) -> Text
-    ensures { result ≡ message_text (word_of severity) at }
+    ensures value { result ≡ message_text (word_of severity) at }
 {
     let mut text = Text::new();
     append(&mut text, severity.word().as_bytes());

@@ -15,13 +15,13 @@ impl<T: Drop> Drop for Owned<T> {
 
 impl<T: Drop> Owned<T> {
     pub fn of(value: T) -> Owned<T>
-        ensures { result.value ≡ value }
+        ensures held { result.value ≡ value }
     {
         Owned { value }
     }
 
     pub fn into_value(self) -> T
-        ensures { result ≡ self.value }
+        ensures value { result ≡ self.value }
     {
         let Owned { value } = self;
         value

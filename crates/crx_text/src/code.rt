@@ -183,7 +183,7 @@ pub fn step_before_blank(line: &[u8]) -> Option<(i64, usize)>
 /// A law: what is printed of a code is read back.
 pub fn code_is_read_back(code: Code)
     requires { IsPrintable code }
-    ensures { code_of (code_text code) ≡ Some code }
+    ensures reads_back { code_of (code_text code) ≡ Some code }
 {}
 
 // Whether the character is an order that may be read.

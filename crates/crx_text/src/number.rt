@@ -94,7 +94,7 @@ fn obs_read_any(field: &[u8]) -> Result<Option<i64>, BadField>
 #[inline(always)]
 pub fn obs_print(value: Option<i64>, field: &mut [u8; OBSERVATION_WIDTH])
     requires { ForSome value IsObservation }
-    ensures { field.new ≡ observation_text value }
+    ensures written { field.new ≡ observation_text value }
 {
     obs_print_into(value, field)
 }
@@ -147,7 +147,7 @@ pub fn obs_print_cell_into(
     requires in_range { ForSome value IsObservation }
     requires two { first + 1 < length indicators.now }
     requires room { at + CELL_WIDTH ≤ length bytes.old }
-    ensures { take (at + CELL_WIDTH) bytes.new ≡ take at bytes.old ++ (observation_text value
+    ensures written { take (at + CELL_WIDTH) bytes.new ≡ take at bytes.old ++ (observation_text value
         ++ slice_index indicators.now first ∷ slice_index indicators.now (first + 1) ∷ []) }
 {
     let end = at + OBSERVATION_WIDTH;
@@ -223,7 +223,7 @@ fn clock_read_any(field: &[u8]) -> Result<Option<i64>, BadField>
 /// `None` is printed as blanks.
 pub fn clock_print(value: Option<i64>, field: &mut [u8; CLOCK_WIDTH])
     requires { ForSome value IsClock }
-    ensures { field.new ≡ clock_text value }
+    ensures written { field.new ≡ clock_text value }
 {
     clock_print_into(value, field)
 }
@@ -256,13 +256,13 @@ const SHORT_CLOCK: u64 = 10_000_000_000_000;
 /// A law: what is printed of an observation is read back.
 pub fn obs_is_read_back(value: Option<i64>)
     requires { ForSome value IsObservation }
-    ensures { observation_of (observation_text value) ≡ Some value }
+    ensures reads_back { observation_of (observation_text value) ≡ Some value }
 {}
 
 /// A law: what is printed of a receiver clock offset is read back.
 pub fn clock_is_read_back(value: Option<i64>)
     requires { ForSome value IsClock }
-    ensures { clock_of (clock_text value) ≡ Some value }
+    ensures reads_back { clock_of (clock_text value) ≡ Some value }
 {}
 
 fn number_read(field: &[u8], width: usize, decimals: usize) -> Result<Option<i64>, BadField>

@@ -7,6 +7,8 @@ returns c =
     let put = rw (c.put_text-end.ensures.end) at c.put_text-end.ensures.put in
     let room = c.requires in
     let same = c.put_text-end.auto.bytes in
-    rw (c.put_text-end.ensures.end)
-    (line-ended c.put_text-end.new.bytes c.args.bytes.now c.args.line.now c.args.start
-    (length c.args.line.now) put (omega (arith, room, same)))
+    record {
+      put = rw (c.put_text-end.ensures.end)
+          (line-ended c.put_text-end.new.bytes c.args.bytes.now c.args.line.now c.args.start
+          (length c.args.line.now) put (omega (arith, room, same)));
+    }

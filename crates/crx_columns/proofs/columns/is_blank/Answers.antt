@@ -5,5 +5,8 @@ use Rattle.crx_columns.proofs.Blanks.{all_blank-columns}
 use Rattle.crx_columns.proofs.columns.is_blank.Goals as goal
 
 pub returns : goal.returns
-returns c = c.all_blank.ensures
-    ∙ ap (list_all is_blank) c.part.ensures.value ∙ sym (all_blank-columns c.args.line.now c.args.first c.args.width)
+returns c = record {
+  value =
+      c.all_blank.ensures.value ∙ ap (list_all is_blank) c.part.ensures.value
+      ∙ sym (all_blank-columns c.args.line.now c.args.first c.args.width);
+}

@@ -7,12 +7,13 @@ use Rattle.crx_columns.proofs.columns.trimmed.Goals as goal
 
 pub returns-clause-value : goal.returns-clause-value
 returns-clause-value c =
-    c.trim_end.ensures ∙ ap without_end_blanks c.trim_start.ensures.value ∙ ap without_blanks c.part.ensures.value
+    c.trim_end.ensures.value ∙ ap without_end_blanks c.trim_start.ensures.value
+    ∙ ap without_blanks c.part.ensures.value
     ∙ sym (blanks-columns c.args.line.now c.args.first c.args.width)
 
 pub returns-clause-within : goal.returns-clause-within
 returns-clause-within c =
-    let whole = ap length c.trim_end.ensures in
+    let whole = ap length c.trim_end.ensures.value in
     let shorter = c.trim_start.ensures.shorter in
     let inside = ap length c.part.ensures.value in
     omega (

@@ -4,4 +4,7 @@ use Rattle.crx_faults.specs.declared.limits.TheConstants.{LINE_LIMIT}
 use Rattle.crx_columns.proofs.copies.put_blanks.Goals as goal
 
 pub returns : goal.returns
-returns c = c.copy_text.ensures ∙ take-replicate {X = ℕ} (length c.args.text.now) LINE_LIMIT 32 c.requires
+returns c = record {
+  blank =
+      c.copy_text.ensures.copied ∙ take-replicate {X = ℕ} (length c.args.text.now) LINE_LIMIT 32 c.requires;
+}

@@ -11,8 +11,9 @@ returns-then-last-gt-LANES g c =
     let second : Bool = list_all kind (chunk 16 16 text) in
     let last : Bool = list_all kind (chunk (length text - 16) 16 text) in
     c.none_set.ensures
-    ∙ (c.with_others.ensures
-    ∙ (ap (λ b. b && last) (c.with_others-two.ensures ∙ ap (λ b. b && second) c.with_others-first.ensures)
+    ∙ (c.with_others.ensures.both
+    ∙ (ap (λ b. b && last) (c.with_others-two.ensures.both
+    ∙ ap (λ b. b && second) c.with_others-first.ensures.both)
     ∙ list_all-three kind 16 text (omega (arith, c.if-last-gt-LANES.true)) (omega (arith, c.requires.few))))
 
 pub returns : goal.returns
@@ -21,6 +22,6 @@ returns g c =
     let text = c.args.text.now in
     let last : Bool = list_all kind (chunk (length text - 16) 16 text) in
     c.none_set-2.ensures
-    ∙ (c.with_others-2.ensures
-    ∙ (ap (λ b. b && last) c.with_others-first.ensures
+    ∙ (c.with_others-2.ensures.both
+    ∙ (ap (λ b. b && last) c.with_others-first.ensures.both
     ∙ list_all-two kind 16 text c.requires.some (omega (arith, c.if-last-gt-LANES.false))))

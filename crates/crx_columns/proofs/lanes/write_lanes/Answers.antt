@@ -12,8 +12,8 @@ returns-clause-written g c =
     let rule = g.R.Rule.rule in
     let olds = length-chunk i 16 old c.requires.room in
     let others = length-chunk i 16 other (omega (arith, c.requires.room, c.requires.same_length.0)) in
-    let long : length c.apply_to.result ≡ 16 = ap length c.apply_to.ensures
+    let long : length c.apply_to.result ≡ 16 = ap length c.apply_to.ensures.value
     ∙ length-zip2 rule (chunk i 16 old) (chunk i 16 other) (olds ∙ sym others) ∙ olds in
     take_more_put_chunk i out c.apply_to.result
     (i + 16) (omega (arith, long)) (omega (arith, c.requires.room, c.requires.same_length.1))
-    ∙ ap (λ (t : List ℕ). take i out ++ t) c.apply_to.ensures
+    ∙ ap (λ (t : List ℕ). take i out ++ t) c.apply_to.ensures.value

@@ -13,6 +13,7 @@ loop-column-preserved g c =
       omega (arith, length-set out i c.apply.result, c.loop-column.invariant.0),
       take_more_set out i c.apply.result (omega (arith, within, c.loop-column.invariant.0))
           ∙ ap (λ (t : List ℕ). t ++ c.apply.result ∷ []) c.loop-column.invariant.1
-          ∙ ap (λ (x : ℕ). zip2 rule (take i c.args.old.now) (take i c.args.other.now) ++ x ∷ []) c.apply.ensures
+          ∙ ap (λ (x : ℕ). zip2 rule (take i c.args.old.now) (take i c.args.other.now) ++ x ∷ [])
+          c.apply.ensures.value
           ∙ sym (zip2-next rule c.args.old.now c.args.other.now i within c.requires.0),
     )

@@ -8,4 +8,6 @@ pub returns : goal.returns
 returns c =
     let moment : civil_nanos c.to_datetime.result ≡ c.args.at.nanosecond = c.to_datetime.ensures
     ∙ omega (arith, ints) in
-    IfOk-weaker c.shown.result _ _ (λ text h. (c.to_datetime.result, moment, h)) c.shown.ensures
+    record {
+      date = IfOk-weaker c.shown.result _ _ (λ text h. (c.to_datetime.result, moment, h)) c.shown.ensures;
+    }

@@ -18,8 +18,12 @@ returns-in-Ok c =
     ∙ c.in-Ok.ensures.kinds (ap is_simple_and_free is_program ∙ program_is_free) in
     let found = (c.in-Ok.ensures.matches (ap is_simple is_program ∙ program_is_simple)).1
     ∙ ap₂ subcommand_of is_program words_are in
-    same_plan (plan_in c.matched.result) _ _ (ap of_subcommand found ∙ sym (ap (λ kinds. by_kinds kinds
-    (of_subcommand (subcommand_of program (map string_bytes c.args.words.items)))) none)) c.matched.ensures
+    record {
+      value = same_plan (plan_in c.matched.result) _ _
+          (ap of_subcommand found ∙ sym (ap (λ kinds. by_kinds kinds
+          (of_subcommand (subcommand_of program (map string_bytes c.args.words.items)))) none))
+          c.matched.ensures;
+    }
 
 pub returns : goal.returns
 returns c =
@@ -28,5 +32,7 @@ returns c =
     ap (map string_bytes) c.as_slice.ensures.value in
     let has = subst (λ kinds. HasKind kinds c.in-Err.error) (ap₂ fault_of is_program words_are)
     (c.in-Err.ensures.kinds (ap is_simple_and_free is_program ∙ program_is_free)) in
-    not_run_plan (plan_in c.not_run.result)
-    c.in-Err.error _ _ (program_alike (map string_bytes c.args.words.items)) has c.not_run.ensures
+    record {
+      value = not_run_plan (plan_in c.not_run.result)
+          c.in-Err.error _ _ (program_alike (map string_bytes c.args.words.items)) has c.not_run.ensures;
+    }

@@ -14,5 +14,5 @@ pub returns : goal.returns
 returns c =
     in-parts c.args.date.now c.in_columns.result
     c.clear.new.self c.append.new.text c.append-2.new.text c.append-3.new.text
-    (c.in_columns.ensures ∙ left_justified-is 20 c.args.date.now c.requires.short)
-    c.clear.ensures c.append.ensures c.append-2.ensures c.append-3.ensures
+    (c.in_columns.ensures.value ∙ left_justified-is 20 c.args.date.now c.requires.short)
+    c.clear.ensures.emptied c.append.ensures.appended c.append-2.ensures.appended c.append-3.ensures.appended

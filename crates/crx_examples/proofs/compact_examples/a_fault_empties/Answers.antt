@@ -3,4 +3,4 @@ use Rattle.std.proofs.Common.{refl}
 use Rattle.crx_examples.proofs.compact_examples.a_fault_empties.Goals as goal
 
 pub returns : goal.returns
-returns c = refl
+returns c = record { fault = refl }

@@ -6,4 +6,4 @@ use Rattle.crx_examples.proofs.compact_examples.every_second_in_full.Goals as go
 
 pub returns : goal.returns
 unfolding digits coded_number
-returns c = refl
+returns c = record { lines = refl }

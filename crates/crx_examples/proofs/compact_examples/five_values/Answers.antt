@@ -6,4 +6,4 @@ use Rattle.crx_examples.proofs.compact_examples.five_values.Goals as goal
 
 pub returns : goal.returns
 unfolding digits coded_number
-returns c = refl
+returns c = record { lines = refl }

@@ -6,4 +6,4 @@ use Rattle.crx_examples.proofs.compact_examples.satellites_of_two_systems.Goals 
 
 pub returns : goal.returns
 unfolding digits coded_number
-returns c = refl
+returns c = record { epochs = refl }

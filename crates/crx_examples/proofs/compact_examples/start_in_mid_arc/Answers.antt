@@ -6,4 +6,4 @@ use Rattle.crx_examples.proofs.compact_examples.start_in_mid_arc.Goals as goal
 
 pub returns : goal.returns
 unfolding digits coded_number
-returns c = refl
+returns c = record { epochs = refl }

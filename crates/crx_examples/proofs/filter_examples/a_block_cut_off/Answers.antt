@@ -32,17 +32,19 @@ cut = record {
 
 pub returns : goal.returns
 unfolding warning_text digits coded_number size_of number_of number_text cut
-returns c = (
-  cut,
-  record {
-    epochs = [];
-    whole = tt;
-    warnings = record { line = 7; fault = Truncated } ∷ [];
-    few = omega arith;
-    output = refl;
-    messages = refl;
-    status = refl;
-    fault = refl;
-    own = λ count rest e. absurd (cc);
-  },
-)
+returns c = record {
+  salvaged = (
+    cut,
+    record {
+      epochs = [];
+      whole = tt;
+      warnings = record { line = 7; fault = Truncated } ∷ [];
+      few = omega arith;
+      output = refl;
+      messages = refl;
+      status = refl;
+      fault = refl;
+      own = λ count rest e. absurd (cc);
+    },
+  );
+}

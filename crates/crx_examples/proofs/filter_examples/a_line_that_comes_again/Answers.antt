@@ -7,4 +7,4 @@ use Rattle.crx_examples.proofs.filter_examples.a_line_that_comes_again.Goals as 
 
 pub returns : goal.returns
 unfolding digits coded_number size_of number_of number_text
-returns c = refl
+returns c = record { answers = refl }

@@ -7,4 +7,4 @@ use Rattle.crx_examples.proofs.filter_examples.first_differences.Goals as goal
 
 pub returns : goal.returns
 unfolding digits coded_number size_of number_of number_text
-returns c = refl
+returns c = record { expansion = refl }

@@ -8,4 +8,4 @@ use Rattle.crx_examples.proofs.filter_examples.skipped_to_full.Goals as goal
 
 pub returns : goal.returns
 unfolding warning_text digits coded_number size_of number_of number_text
-returns c = refl
+returns c = record { expansion = refl }

@@ -8,4 +8,4 @@ use Rattle.crx_examples.proofs.filter_examples.two_warnings.Goals as goal
 
 pub returns : goal.returns
 unfolding warning_text digits coded_number size_of number_of number_text
-returns c = refl
+returns c = record { compaction = refl }

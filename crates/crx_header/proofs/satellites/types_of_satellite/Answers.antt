@@ -12,4 +12,5 @@ returns-then-has_number-clause-named c =
     let line = c.args.line.now in
     let number : has_number line ≡ true = sym c.has_number.ensures ∙ c.if-has_number.true in
     IfSome_then c.count.result c.count.ensures.system (λ m p. identifier_columns line ∙ and_from
-    (is_system (character_at line 1)) (has_number line) (ap is_system (sym c.character.ensures) ∙ p) number)
+    (is_system (character_at line 1)) (has_number line)
+    (ap is_system (sym c.character.ensures.value) ∙ p) number)

@@ -39,7 +39,7 @@ returns-in-Err-clause-err c = inr refl
 pub invariant_of-push : goal.invariant_of-push
 invariant_of-push c =
     let name = c.identifier-name.result in
-    let three : length name ≡ 3 = ap length c.identifier-name.ensures
+    let three : length name ≡ 3 = ap length c.identifier-name.ensures.value
     ∙ length-columns c.args.text.now (42 + 3 * c.loop-place.place) 3 in
     let whole : columns name 1 3 ≡ name =
     ap (λ n. take n (name ++ 32 ∷ 32 ∷ 32 ∷ [])) (sym three) ∙ take-append_seam name (32 ∷ 32 ∷ 32 ∷ []) in
@@ -65,14 +65,16 @@ returns-in_default-clause-err c =
     inl (named-bad c.args.types.now (names_in c.args.text.now c.args.count)
     c.loop-place.place c.loop-place.satellites.items c.identifier-name.result c.loop-place.invariant.so_far
     (next-name c.args.text.now c.args.count c.loop-place.place
-    c.identifier-name.result c.loop-place-test.true c.identifier-name.ensures) (sym c.in_default.ensures.value))
+    c.identifier-name.result c.loop-place-test.true c.identifier-name.ensures.value)
+    (sym c.in_default.ensures.value))
 
 pub returns-in-Ok-false-clause-err : goal.returns-in-Ok-false-clause-err
 returns-in-Ok-false-clause-err c =
     inl (named-twice c.args.types.now (names_in c.args.text.now c.args.count) c.loop-place.place
     c.loop-place.satellites.items c.identifier-name.result c.in-Some.types c.loop-place.invariant.so_far
     (next-name c.args.text.now c.args.count c.loop-place.place
-    c.identifier-name.result c.loop-place-test.true c.identifier-name.ensures) (sym c.in-Some.ensures.value)
+    c.identifier-name.result c.loop-place-test.true c.identifier-name.ensures.value)
+    (sym c.in-Some.ensures.value)
     (among-named c.loop-place.satellites.items c.loop-place.names c.identifier-name.result c.loop-place.place
     true c.loop-place.invariant.placed (c.in-Ok-false.ensures.new ∙ ap not c.in-Ok-false.field-0-test)))
 
@@ -88,7 +90,8 @@ loop-place-preserved c =
           c.loop-place.place c.loop-place.satellites.items
           c.push.new.self.items c.identifier-name.result c.in-Some.types c.loop-place.invariant.so_far
           (next-name c.args.text.now c.args.count c.loop-place.place
-          c.identifier-name.result c.loop-place-test.true c.identifier-name.ensures) (sym c.in-Some.ensures.value)
+          c.identifier-name.result c.loop-place-test.true c.identifier-name.ensures.value)
+          (sym c.in-Some.ensures.value)
           (among-named c.loop-place.satellites.items c.loop-place.names c.identifier-name.result c.loop-place.place
           false c.loop-place.invariant.placed (c.in-Ok-true.ensures.new ∙ ap not c.in-Ok-true.field-0-test))
           pushed;

@@ -5,5 +5,5 @@ use Rattle.crx_history.proofs.held.copy_flags.Goals as goal
 
 pub returns-then-copy_compared-clause-marks : goal.returns-then-copy_compared-clause-marks
 returns-then-copy_compared-clause-marks c =
-    c.clear.ensures ∙ (sym (same-text c.args.before.now)
+    c.clear.ensures.emptied ∙ (sym (same-text c.args.before.now)
     ∙ ap (text_difference c.args.before.now) (sym c.if-copy_compared.ensures.same))

@@ -7,7 +7,7 @@ use Rattle.crx_history.proofs.held.hold_columns.Goals as goal
 pub returns-clause-columns : goal.returns-clause-columns
 returns-clause-columns c =
     let text : List ℕ = c.first_bytes.result.now in
-    c.put_flags.ensures ∙ ap (λ n. text ++ replicate (n - length text) 32) c.requires.sized
+    c.put_flags.ensures.put ∙ ap (λ n. text ++ replicate (n - length text) 32) c.requires.sized
     ∙ ap (λ (t : List ℕ). t ++ replicate (2 * c.args.count - length t) 32) c.first_bytes.ensures
     ∙ sym (columns_are c.args.flags.now 1 (2 * c.args.count))
 

@@ -7,6 +7,6 @@ use Rattle.crx_text.proofs.CodeTexts.{code_text_length}
 pub unwrap-requires : goal.unwrap-requires
 unwrap-requires c =
     let short = code_text_length c.args.code c.requires in
-    let empty = ap length c.clear.ensures in
+    let empty = ap length c.clear.ensures.emptied in
     ok-unless c.code_print.result (λ failed. let full = c.code_print.ensures.full.0 failed in
     omega (arith, short, empty, full))

@@ -58,7 +58,7 @@ loop-row-preserved c =
       texts_more (λ (r : Row). r.name) _ c.args.epoch.now.rows c.loop-row.index c.in-Some.row.now
           (take c.loop-row.at c.loop-row.text.items) (take (c.loop-row.at + 3) new) c.loop-row.invariant.2
           (sym c.in-Some.ensures.value)
-          (c.put_identifier.ensures
+          (c.put_identifier.ensures.put
           ∙ ap (λ (t : List ℕ). take c.loop-row.at t ++ c.name.result) c.deref_mut.ensures.value
           ∙ ap (λ (t : List ℕ). take c.loop-row.at c.loop-row.text.items ++ t) c.name.ensures.value),
     )

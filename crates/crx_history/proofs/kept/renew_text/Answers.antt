@@ -20,7 +20,7 @@ returns-in-Ok-clause-ok c =
     left c.push_epoch_text.new.text.items
     (epoch_text c.args.epoch.now) c.truncate.new.self.items c.trim_end-end.result.now _
     (c.in-Ok.ensures ∙ ap (λ t. t ++ epoch_text c.args.epoch.now) c.clear.ensures.items)
-    (c.trim_end-end.ensures ∙ ap without_end_blanks c.deref.ensures.value) refl c.truncate.ensures.items
+    (c.trim_end-end.ensures.value ∙ ap without_end_blanks c.deref.ensures.value) refl c.truncate.ensures.items
 
 pub returns-in-Ok-clause-within : goal.returns-in-Ok-clause-within
 returns-in-Ok-clause-within c =

@@ -24,7 +24,7 @@ returns-then-is_none-clause-fault c =
     inl (named-bad c.args.types.now (names_in c.args.text.now c.args.count)
     c.loop-place.place found.0 c.identifier-name.result found.1
     (next-name c.args.text.now c.args.count c.loop-place.place
-    c.identifier-name.result c.loop-place-test.true c.identifier-name.ensures)
+    c.identifier-name.result c.loop-place-test.true c.identifier-name.ensures.value)
     (sym c.types_of_satellite.ensures.value
     ∙ none c.types_of_satellite.result c.is_none.result c.is_none.ensures c.if-is_none.true))
 
@@ -49,7 +49,7 @@ returns-then-is_among_first-clause-fault c =
     inl (named-twice c.args.types.now (names_in c.args.text.now c.args.count)
     c.loop-place.place found.0 c.identifier-name.result count.0 found.1
     (next-name c.args.text.now c.args.count c.loop-place.place
-    c.identifier-name.result c.loop-place-test.true c.identifier-name.ensures)
+    c.identifier-name.result c.loop-place-test.true c.identifier-name.ensures.value)
     (sym c.types_of_satellite.ensures.value ∙ count.1)
     (stands c.args.text.now c.loop-place.place c.identifier-name.result found.0 true found.2
     (sym c.is_among_first.ensures ∙ c.if-is_among_first.true)))
@@ -64,13 +64,15 @@ loop-place-preserved c =
     let satellite : Satellite = record { name = name; count = count.0 } in (
       found.0 ++ satellite ∷ [],
       named-more c.args.types.now (names_in text c.args.count) place found.0 (found.0 ++ satellite ∷ []) name count.0
-          found.1 (next-name text c.args.count place name c.loop-place-test.true c.identifier-name.ensures)
+          found.1 (next-name text c.args.count place name c.loop-place-test.true
+          c.identifier-name.ensures.value)
           (sym c.types_of_satellite.ensures.value ∙ count.1)
           (stands text place name found.0 false found.2
           (sym c.is_among_first.ensures ∙ c.if-is_among_first.false)) refl,
       each_place-more place (λ k. columns text (42 + 3 * k) 3)
           ∙ ap (λ (ns : List (List ℕ)). ns ++ columns text (42 + 3 * place) 3 ∷ []) found.2
-          ∙ ap (λ (n : List ℕ). map (λ (s : Satellite). s.name) found.0 ++ n ∷ []) (sym c.identifier-name.ensures)
+          ∙ ap (λ (n : List ℕ). map (λ (s : Satellite). s.name) found.0 ++ n ∷ [])
+          (sym c.identifier-name.ensures.value)
           ∙ sym (map-append (λ (s : Satellite). s.name) found.0 (satellite ∷ [])),
     )
 

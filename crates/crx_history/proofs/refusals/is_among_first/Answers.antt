@@ -8,10 +8,12 @@ pub returns-then-eq : goal.returns-then-eq
 returns-then-eq c =
     sym (any-at (λ (n : List ℕ). bytes_eq n c.args.name) c.args.count c.loop-place.place
     (λ k. columns c.args.text.now (42 + 3 * k) 3) c.loop-place-test.true
-    (ap (λ (n : List ℕ). bytes_eq n c.args.name) (sym c.identifier.ensures) ∙ sym c.eq.ensures ∙ c.if-eq.true))
+    (ap (λ (n : List ℕ). bytes_eq n c.args.name) (sym c.identifier.ensures.value) ∙ sym c.eq.ensures
+    ∙ c.if-eq.true))
 
 pub loop-place-preserved : goal.loop-place-preserved
 loop-place-preserved c =
     any-more (λ (n : List ℕ). bytes_eq n c.args.name) c.loop-place.place
     (λ k. columns c.args.text.now (42 + 3 * k) 3) c.loop-place.invariant
-    (ap (λ (n : List ℕ). bytes_eq n c.args.name) (sym c.identifier.ensures) ∙ sym c.eq.ensures ∙ c.if-eq.false)
+    (ap (λ (n : List ℕ). bytes_eq n c.args.name) (sym c.identifier.ensures.value) ∙ sym c.eq.ensures
+    ∙ c.if-eq.false)

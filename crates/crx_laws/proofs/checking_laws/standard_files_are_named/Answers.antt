@@ -2,4 +2,4 @@ use Rattle.crx_filter.proofs.standard.CheckStandard.{named-where_not}
 use Rattle.crx_laws.proofs.checking_laws.standard_files_are_named.Goals as goal
 
 pub returns : goal.returns
-returns c = named-where_not
+returns c = record { law = named-where_not }

@@ -2,4 +2,4 @@ use Rattle.crx_compact.proofs.wayback.Standing.{lines-stand}
 use Rattle.crx_laws.proofs.compact_laws.lines_can_stand.Goals as goal
 
 pub returns : goal.returns
-returns c = λ types m older h. lines-stand types m.in_full m.epoch older h
+returns c = record { law = λ types m older h. lines-stand types m.in_full m.epoch older h }

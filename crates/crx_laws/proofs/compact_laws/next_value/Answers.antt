@@ -2,4 +2,4 @@ use Rattle.crx_arcs.proofs.arcs.Stepping.{values-by_tail}
 use Rattle.crx_laws.proofs.compact_laws.next_value.Goals as goal
 
 pub returns : goal.returns
-returns c = values-by_tail
+returns c = record { law = values-by_tail }

@@ -2,4 +2,4 @@ use Rattle.crx_arcs.proofs.arcs.Arcs.{values-of_codes}
 use Rattle.crx_laws.proofs.compact_laws.values_of_codes.Goals as goal
 
 pub returns : goal.returns
-returns c = values-of_codes
+returns c = record { law = values-of_codes }

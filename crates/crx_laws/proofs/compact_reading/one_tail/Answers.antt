@@ -2,4 +2,4 @@ use Rattle.crx_laws.proofs.wayback.OneTail.{one-tail}
 use Rattle.crx_laws.proofs.compact_reading.one_tail.Goals as goal
 
 pub returns : goal.returns
-returns c = one-tail
+returns c = record { law = one-tail }

@@ -2,4 +2,4 @@ use Rattle.crx_compact.proofs.wayback.Reading.{each-reads_back}
 use Rattle.crx_laws.proofs.compact_reading.reading_an_epoch.Goals as goal
 
 pub returns : goal.returns
-returns c = each-reads_back
+returns c = record { law = each-reads_back }

@@ -2,4 +2,4 @@ use Rattle.crx_laws.proofs.wayback.BackByLines.{steps-read_back}
 use Rattle.crx_laws.proofs.compact_reading.steps_read_back.Goals as goal
 
 pub returns : goal.returns
-returns c = steps-read_back
+returns c = record { law = steps-read_back }

@@ -2,4 +2,4 @@ use Rattle.crx_filter.proofs.reading.Ended.{compaction-ended}
 use Rattle.crx_laws.proofs.filter_laws.compaction_ends.Goals as goal
 
 pub returns : goal.returns
-returns c = compaction-ended
+returns c = record { law = compaction-ended }

@@ -2,4 +2,4 @@ use Rattle.crx_filter.proofs.reading.Ended.{expansion-ended}
 use Rattle.crx_laws.proofs.filter_laws.expansion_ends.Goals as goal
 
 pub returns : goal.returns
-returns c = expansion-ended
+returns c = record { law = expansion-ended }

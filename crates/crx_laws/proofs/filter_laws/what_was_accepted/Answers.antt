@@ -5,4 +5,6 @@ use Rattle.crx_filter.proofs.reading.InPlace.{items-in_place}
 use Rattle.crx_laws.proofs.filter_laws.what_was_accepted.Goals as goal
 
 pub returns : goal.returns
-returns c = λ skip lines. items-in_place (rinex_reading skip lines).items (items-read rinex_place skip 1 lines)
+returns c = record {
+  law = λ skip lines. items-in_place (rinex_reading skip lines).items (items-read rinex_place skip 1 lines);
+}

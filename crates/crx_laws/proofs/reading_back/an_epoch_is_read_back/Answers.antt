@@ -2,4 +2,4 @@ use Rattle.crx_rinex.proofs.ReadingBack.{epoch-back}
 use Rattle.crx_laws.proofs.reading_back.an_epoch_is_read_back.Goals as goal
 
 pub returns : goal.returns
-returns c = epoch-back
+returns c = record { law = epoch-back }

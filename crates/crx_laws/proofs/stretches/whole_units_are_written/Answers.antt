@@ -2,4 +2,4 @@ use Rattle.crx_filter.proofs.stretches.StretchesSaved.{whole-first}
 use Rattle.crx_laws.proofs.stretches.whole_units_are_written.Goals as goal
 
 pub returns : goal.returns
-returns c = whole-first
+returns c = record { law = whole-first }

@@ -2,4 +2,4 @@ use Rattle.crx_filter.proofs.wayback.Standard.{standard-comes_back}
 use Rattle.crx_laws.proofs.way_back.a_standard_file_comes_back.Goals as goal
 
 pub returns : goal.returns
-returns c = standard-comes_back
+returns c = record { law = standard-comes_back }

@@ -2,4 +2,4 @@ use Rattle.crx_filter.proofs.wayback.Standard.{normal-comes_back}
 use Rattle.crx_laws.proofs.way_back.the_normal_form_comes_back.Goals as goal
 
 pub returns : goal.returns
-returns c = normal-comes_back
+returns c = record { law = normal-comes_back }

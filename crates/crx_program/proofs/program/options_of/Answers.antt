@@ -6,4 +6,4 @@ use Rattle.crx_program.proofs.program.options_of.Goals as goal
 pub options_with-requires-in-None-Compact : goal.options_with-requires-in-None-Compact
 options_with-requires-in-None-Compact g c =
     ap is_date c.as_str.ensures.value
-    ∙ default_fits (string_bytes c.in_ok-date-in-None-Compact.date) c.in_ok-date-in-None-Compact.ensures
+    ∙ default_fits (string_bytes c.in_ok-date-in-None-Compact.date) c.in_ok-date-in-None-Compact.ensures.date

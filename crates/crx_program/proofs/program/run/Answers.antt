@@ -19,7 +19,7 @@ returns-in-Err-clause-refused g c = λ refusal e. (
       (sym c.without_files-in-Err.ensures.status)
       (refused_by _ refusal (span g.M.Sink c.args.messages.now c.refuse.new.messages)
       c.refuse.result c.in-Err.fault e c.refuse.ensures.status
-      c.refuse.ensures.memory (c.refuse.ensures.refused refusal) c.in-Err.ensures),
+      c.refuse.ensures.memory (c.refuse.ensures.refused refusal) c.in-Err.ensures.value),
   refl {a = c.args.input.now},
   refl {a = c.args.output.now},
 )
@@ -29,7 +29,7 @@ returns-in-Err-clause-done g c = λ job e. inr (record {
   why = NoMemory;
   can = tt;
   shown = inl (not_run _ job (span g.M.Sink c.args.messages.now c.refuse.new.messages)
-      c.in-Err.fault e c.refuse.ensures.memory c.in-Err.ensures);
+      c.in-Err.fault e c.refuse.ensures.memory c.in-Err.ensures.value);
   status_is = c.without_files-in-Err.ensures.status ∙ c.refuse.ensures.status;
   same = (refl, refl, c.without_files-in-Err.ensures.target);
 })
@@ -37,13 +37,13 @@ returns-in-Err-clause-done g c = λ job e. inr (record {
 pub run_job-requires : goal.run_job-requires
 run_job-requires g c =
     let planned : Run c.in-Ok-Run.job ≡ plan_of (map string_bytes c.args.words.items) =
-    rw c.in-Ok-Run.field-0-is at c.in-Ok-Run.ensures in
+    rw c.in-Ok-Run.field-0-is at c.in-Ok-Run.ensures.value in
     job_fits (map string_bytes c.args.words.items) c.in-Ok-Run.job planned
 
 pub returns-in-Ok-Run-clause-done : goal.returns-in-Ok-Run-clause-done
 returns-in-Ok-Run-clause-done g c = λ job e.
     let planned : Run c.in-Ok-Run.job ≡ plan_of (map string_bytes c.args.words.items) =
-    rw c.in-Ok-Run.field-0-is at c.in-Ok-Run.ensures in
+    rw c.in-Ok-Run.field-0-is at c.in-Ok-Run.ensures.value in
     done_for _ _ c.in-Ok-Run.job job c.run_job.result.source c.run_job.result.target
     (reader_span g.R.Source c.args.input.now c.run_job.new.input)
     (span g.W.Sink c.args.output.now c.run_job.new.output)
@@ -65,44 +65,44 @@ run_not_refused job refusal e = cc
 pub returns-in-Ok-Help-clause-refused : goal.returns-in-Ok-Help-clause-refused
 returns-in-Ok-Help-clause-refused g c = λ refusal e.
     let planned : Help ≡ plan_of (map string_bytes c.args.words.items) =
-    rw c.in-Ok-Help.field-0-is at c.in-Ok-Help.ensures in
+    rw c.in-Ok-Help.field-0-is at c.in-Ok-Help.ensures.value in
     absurd (help_not_refused refusal (planned ∙ e))
 
 pub returns-in-Ok-Help-clause-output : goal.returns-in-Ok-Help-clause-output
 returns-in-Ok-Help-clause-output g c = λ job e some.
     let planned : Help ≡ plan_of (map string_bytes c.args.words.items) =
-    rw c.in-Ok-Help.field-0-is at c.in-Ok-Help.ensures in
+    rw c.in-Ok-Help.field-0-is at c.in-Ok-Help.ensures.value in
     absurd (help_not_run job (planned ∙ e))
 
 pub returns-in-Ok-Help-clause-done : goal.returns-in-Ok-Help-clause-done
 returns-in-Ok-Help-clause-done g c = λ job e.
     let planned : Help ≡ plan_of (map string_bytes c.args.words.items) =
-    rw c.in-Ok-Help.field-0-is at c.in-Ok-Help.ensures in
+    rw c.in-Ok-Help.field-0-is at c.in-Ok-Help.ensures.value in
     absurd (help_not_run job (planned ∙ e))
 
 pub returns-in-Ok-Run-clause-refused : goal.returns-in-Ok-Run-clause-refused
 returns-in-Ok-Run-clause-refused g c = λ refusal e.
     let planned : Run c.in-Ok-Run.job ≡ plan_of (map string_bytes c.args.words.items) =
-    rw c.in-Ok-Run.field-0-is at c.in-Ok-Run.ensures in
+    rw c.in-Ok-Run.field-0-is at c.in-Ok-Run.ensures.value in
     absurd (run_not_refused c.in-Ok-Run.job refusal (planned ∙ e))
 
 pub returns-in-Ok-Run-clause-help : goal.returns-in-Ok-Run-clause-help
 returns-in-Ok-Run-clause-help g c = λ e.
     let planned : Run c.in-Ok-Run.job ≡ plan_of (map string_bytes c.args.words.items) =
-    rw c.in-Ok-Run.field-0-is at c.in-Ok-Run.ensures in
+    rw c.in-Ok-Run.field-0-is at c.in-Ok-Run.ensures.value in
     absurd (help_not_run c.in-Ok-Run.job (sym (planned ∙ e)))
 
 pub returns-in-Ok-Run-clause-input : goal.returns-in-Ok-Run-clause-input
 returns-in-Ok-Run-clause-input g c = λ job e some.
     let planned : Run c.in-Ok-Run.job ≡ plan_of (map string_bytes c.args.words.items) =
-    rw c.in-Ok-Run.field-0-is at c.in-Ok-Run.ensures in
+    rw c.in-Ok-Run.field-0-is at c.in-Ok-Run.ensures.value in
     c.run_job.ensures.input
     (subst (λ (j : Job). is_some j.source ≡ true) (sym (same_job c.in-Ok-Run.job job (planned ∙ e))) some)
 
 pub returns-in-Ok-Run-clause-output : goal.returns-in-Ok-Run-clause-output
 returns-in-Ok-Run-clause-output g c = λ job e some.
     let planned : Run c.in-Ok-Run.job ≡ plan_of (map string_bytes c.args.words.items) =
-    rw c.in-Ok-Run.field-0-is at c.in-Ok-Run.ensures in
+    rw c.in-Ok-Run.field-0-is at c.in-Ok-Run.ensures.value in
     c.run_job.ensures.output
     (subst (λ (j : Job). is_some j.target ≡ true) (sym (same_job c.in-Ok-Run.job job (planned ∙ e))) some)
 

@@ -23,7 +23,7 @@ returns-in-Ok-clause-done g c =
 pub returns-in-Err-clause-done : goal.returns-in-Err-clause-done
 returns-in-Err-clause-done g c = inr (record {
   why = CannotRead c.text-in-Err.result.now;
-  can = c.in-Some.is ∙ ap Some (sym c.text-in-Err.ensures);
+  can = c.in-Some.is ∙ ap Some (sym c.text-in-Err.ensures.value);
   shown = c.report.ensures.shown;
   status_is = c.without_files.ensures.status ∙ c.report.ensures.status;
   same = (refl, refl, c.without_files.ensures.target);

@@ -6,4 +6,4 @@ use Rattle.crx_program.proofs.refusal.report_at_start.Goals as goal
 pub returns-clause-shown : goal.returns-clause-shown
 returns-clause-shown g c =
     subst (λ (line : List ℕ). IsShown (span g.M.Sink c.args.messages.now c.show.new.messages) line)
-    (c.bytes.ensures.value ∙ c.message.ensures) c.show.ensures
+    (c.bytes.ensures.value ∙ c.message.ensures.value) c.show.ensures

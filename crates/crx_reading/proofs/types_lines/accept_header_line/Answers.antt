@@ -11,7 +11,7 @@ returns-clause-refused c =
     let good : (if c.args.is_first then first_header_fault line else None) ≡ None =
     elim c.if-is_first.branch [
       | then-is_first+in_ok-header_first w ↦
-          if-none c.args.is_first (first_header_fault line) w.in_ok-header_first.ensures
+          if-none c.args.is_first (first_header_fault line) w.in_ok-header_first.ensures.fault
       | else-is_first w ↦ search w.if-is_first
     ] in
     if-err c.accept_line.result (Bad line) (RefusedFirst _ line)

@@ -21,4 +21,4 @@ returns-else-end-line-clause-value c =
     let line = c.args.line.now in
     let k = c.args.k in
     c.ok-else-end-line.ensures.value ∙ c.obs_read-else-end-line.ensures.value
-    ∙ ap observation_of c.padded.ensures
+    ∙ ap observation_of c.padded.ensures.value

@@ -30,11 +30,12 @@ loop-k-preserved c =
       All-same IsValue (take (k + 1) _)
           (take k values ++ value ∷ []) more
           (All-push IsValue (take k values) value inv.1 c.if-not-obs_read_into.ensures.in_range),
-      ap (take (2 * (k + 1))) c.put_indicators_within.ensures
+      ap (take (2 * (k + 1))) c.put_indicators_within.ensures.put
           ∙ pair_pushed line k flags (character_at line (16 * k + 18))
           (character_at line (16 * k + 19)) room inv.2 refl refl,
       length-set values k value ∙ inv.3,
-      ap length c.put_indicators_within.ensures ∙ (length-set _ (2 * k + 1) (character_at line (16 * k + 19))
+      ap length c.put_indicators_within.ensures.put
+          ∙ (length-set _ (2 * k + 1) (character_at line (16 * k + 19))
           ∙ (length-set flags (2 * k) (character_at line (16 * k + 18)) ∙ inv.4)),
     )
 

@@ -27,7 +27,7 @@ pub take_answered-requires : goal.take_answered-requires
 take_answered-requires g c =
     let engine = c.take.new.self in
     let kept = λ (P : Result Step At → Type 0) (p : P (answer_given c.take.result (g.E.Engine.answer engine))).
-    subst P (sym c.answer-answer.ensures)
+    subst P (sym c.answer-answer.ensures.value)
     (subst (λ (b : Bool). P (answer_given b (g.E.Engine.answer engine))) c.if-take.false p) in
     record {
       running = kept (λ r. IfOk r (λ _. g.E.Engine.is_open engine)) c.take.ensures.running;
@@ -49,7 +49,8 @@ returns-clause-done g c = λ (lines : List InputLine) shown.
     let quiet = subst (λ (b : Bool). EngineAnswers filter (g.E.Engine.shows engine) (g.E.Engine.ready engine) lines []
     line (answer_given b (g.E.Engine.answer engine))) c.if-take.false (c.take.ensures.answers lines [] shown tt) in
     let answers = subst (λ (r : Result Step At). EngineAnswers filter
-    (g.E.Engine.shows engine) (g.E.Engine.ready engine) lines [] line r) (sym c.answer-answer.ensures) quiet in
+    (g.E.Engine.shows engine) (g.E.Engine.ready engine) lines [] line r)
+    (sym c.answer-answer.ensures.value) quiet in
     c.take_answered.ensures.done filter lines line c.take.ensures.filter answers refl
 
 pub returns-clause-cut : goal.returns-clause-cut
@@ -60,5 +61,6 @@ returns-clause-cut g c = λ (lines : List InputLine) shown.
     let quiet = subst (λ (b : Bool). EngineAnswers filter (g.E.Engine.shows engine) (g.E.Engine.ready engine) lines []
     line (answer_given b (g.E.Engine.answer engine))) c.if-take.false (c.take.ensures.answers lines [] shown tt) in
     let answers = subst (λ (r : Result Step At). EngineAnswers filter
-    (g.E.Engine.shows engine) (g.E.Engine.ready engine) lines [] line r) (sym c.answer-answer.ensures) quiet in
+    (g.E.Engine.shows engine) (g.E.Engine.ready engine) lines [] line r)
+    (sym c.answer-answer.ensures.value) quiet in
     c.take_answered.ensures.cut filter lines line c.take.ensures.filter answers refl

@@ -128,7 +128,8 @@ returns-then-warned-2 g c =
     well-done filter shows input now lines writer1 writer2 writer messages1 messages2 messages
     refl refl refl (λ xs ys a b. g.met.W.Sink.took_both w0 w2 w3 xs ys a b)
     refl refl refl (λ xs ys a b. g.met.M.Sink.took_both m0 m2 m3 xs ys a b)
-    comes c.number-last.result c.number-last.ensures ended c.lines.warned c.in-Ok.warning _ i.0.3 (c.if-warned-2.true
+    comes c.number-last.result c.number-last.ensures.value ended c.lines.warned c.in-Ok.warning _ i.0.3
+    (c.if-warned-2.true
     ∙ sym (ap (λ (b : Bool). b || c.in-Ok.warning) c.if-warned-2.true)) done
 
 pub returns-else-warned-2 : goal.returns-else-warned-2
@@ -175,7 +176,7 @@ returns-else-warned-2 g c =
     well-done filter shows input now lines writer1 writer2 writer messages1 messages2 messages
     refl refl refl (λ xs ys a b. g.met.W.Sink.took_both w0 w2 w3 xs ys a b)
     refl refl refl (λ xs ys a b. g.met.M.Sink.took_both m0 m2 m3 xs ys a b)
-    comes c.number-last.result c.number-last.ensures ended c.lines.warned c.in-Ok.warning _ i.0.3
+    comes c.number-last.result c.number-last.ensures.value ended c.lines.warned c.in-Ok.warning _ i.0.3
     (ap (λ (b : Bool). b || c.in-Ok.warning) (sym c.if-warned-2.false)) done
 
 pub take_end-requires-clause-within : goal.take_end-requires-clause-within
@@ -258,7 +259,7 @@ returns-in-Err-take_end g c =
     inr (inr (inl (stopped-end filter shows input now lines writer1 writer2 writer messages1 messages2 messages
     refl refl refl (λ xs ys a b. g.met.W.Sink.took_both w0 w2 w3 xs ys a b)
     refl refl refl (λ xs ys a b. g.met.M.Sink.took_both m0 m2 m3 xs ys a b)
-    comes c.number-last.result c.number-last.ensures c.in-Err-take_end.halt halted)))
+    comes c.number-last.result c.number-last.ensures.value c.in-Err-take_end.halt halted)))
 
 pub returns-in-Err : goal.returns-in-Err
 returns-in-Err g c =
@@ -289,4 +290,5 @@ returns-in-Err g c =
     subst (λ (f : Filter). StopsAt f input writer1 messages1 now lines c.in-Err.halt) i.3
     (c.in-Err.ensures.stops r0 w0 m0 lines i.0.1 start) in
     stopped-on filter (g.E.Engine.has_ended c.step.new.engine)
-    input writer1 messages1 now lines c.number.result c.lines.warned c.in-Err.halt c.number.ensures stops
+    input writer1 messages1 now lines c.number.result c.lines.warned c.in-Err.halt
+    c.number.ensures.value stops

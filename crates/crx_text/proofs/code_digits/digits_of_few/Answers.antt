@@ -21,7 +21,7 @@ ended_digits-requires-clause-digits c =
     let long : length row ≡ 8 =
     omega (arith, length-append text (replicate more 0), length-replicate {A = ℕ} more 0, c.requires) in
     let small = padded_bytes text more (λ (i : ℕ). (c.type_inv.text i).fits) in
-    let is = padded c.copy_text.new.to text c.copy_text.ensures in
+    let is = padded c.copy_text.new.to text c.copy_text.ensures.copied in
     let lanes : c.row_digits-digits.result ≡ map above_zero (row ++ replicate 8 0) = c.row_digits-digits.ensures
     ∙ ap (λ (t : List ℕ). map above_zero (take 8 t ++ replicate 8 0)) is
     ∙ ap (λ (t : List ℕ). map above_zero (t ++ replicate 8 0)) (take_all 8 row (omega (arith, long))) in

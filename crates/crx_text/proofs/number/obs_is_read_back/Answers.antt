@@ -4,5 +4,8 @@ use Rattle.crx_text.proofs.ReadBack.{number_of-number_text}
 use Rattle.crx_text.proofs.number.obs_is_read_back.Goals as goal
 
 pub returns : goal.returns
-returns c = number_of-number_text OBSERVATION_WIDTH OBSERVATION_DECIMALS c.args.value
-    (omega arith) (omega arith) (omega arith) c.requires
+returns c = record {
+  reads_back =
+      number_of-number_text OBSERVATION_WIDTH OBSERVATION_DECIMALS c.args.value
+      (omega arith) (omega arith) (omega arith) c.requires;
+}

@@ -11,7 +11,7 @@ obs_print_cell_into-requires-clause-room c =
 
 pub returns-clause-value : goal.returns-clause-value
 returns-clause-value c =
-    c.obs_print_cell_into.ensures
+    c.obs_print_cell_into.ensures.written
     ∙ ap (λ (t : List ℕ). t ++ (observation_text c.args.value ++ c.args.lock ∷ c.args.strength ∷ [])) c.text.view_is
 
 pub returns-clause-long : goal.returns-clause-long

@@ -50,6 +50,8 @@ returns c =
     let strength : ℕ = get_or c.args.indicators.now (c.args.first + 1) 0 in
     let after : List ℕ = set (set (put_mid at (at + 16 - at) bytes c.obs_print_row.new.cell) (at + 14) lock)
     (at + 14 + 1) strength in
-    ap (λ (n : ℕ). take n after) {x = at + CELL_WIDTH} {y = at + 14 + 2} (omega arith)
-    ∙ cell_written bytes c.obs_print_row.new.cell at _ lock strength long (omega arith) room
-    ∙ ap (λ (t : List ℕ). take at bytes ++ (t ++ lock ∷ strength ∷ [])) c.obs_print_row.ensures
+    record {
+      written = ap (λ (n : ℕ). take n after) {x = at + CELL_WIDTH} {y = at + 14 + 2} (omega arith)
+          ∙ cell_written bytes c.obs_print_row.new.cell at _ lock strength long (omega arith) room
+          ∙ ap (λ (t : List ℕ). take at bytes ++ (t ++ lock ∷ strength ∷ [])) c.obs_print_row.ensures;
+    }

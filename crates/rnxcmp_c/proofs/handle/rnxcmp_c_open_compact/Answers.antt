@@ -14,7 +14,7 @@ returns-in-Ok-new-2-clause-opened c =
     let same : (compactor_seen c.in-Ok-new-2.compactor).choices ≡ c.in-Ok.options =
     ap (λ (s : Seen OpenEpoch Written). s.choices) seen in
     c.open.ensures.opened (Compact _ c.args.max_output) (record {
-      is_of = ap compaction_filter (same ∙ c.in-Ok.ensures.0);
+      is_of = ap compaction_filter (same ∙ c.in-Ok.ensures.value.0);
       drained = c.in-Ok-new-2.ensures.drained;
       takes = tt;
       shown = (

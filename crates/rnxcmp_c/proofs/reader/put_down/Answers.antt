@@ -9,7 +9,8 @@ returns-then-add c =
       fault = refl;
       output = refl;
       messages = c.add.ensures.taken c.if-add.true
-          ∙ ap (λ (t : List ℕ). waiting c.args.held.now.messages ++ t) (c.bytes.ensures.value ∙ c.message.ensures);
+          ∙ ap (λ (t : List ℕ). waiting c.args.held.now.messages ++ t)
+          (c.bytes.ensures.value ∙ c.message.ensures.value);
     })
 
 pub returns : goal.returns

@@ -23,14 +23,14 @@ returns-in-Ok-clause-made c =
     elim c.else-goes_on.branch [
       | else-goes_on-via-then-goes_on+else-not-self w ↦
           ap {B = Option Tail} (λ (b : Bool). if b then Some no_tail else tail_held c.args.self.now)
-          (sym w.if-goes_on.ensures)
+          (sym w.if-goes_on.ensures.value)
           ∙ tail
           ∙ ap {B = Option Tail} (λ (b : Bool). if b then Some self.kept else None) w.if-not-self.false
           ∙ ap {B = Option Tail}
           (λ (b : Bool). Some (if not b then self.kept else self.nothing)) (sym w.if-goes_on.true)
       | else-goes_on-via-else-goes_on w ↦
           ap {B = Option Tail} (λ (b : Bool). if b then Some no_tail else tail_held c.args.self.now)
-          (sym w.if-goes_on.ensures)
+          (sym w.if-goes_on.ensures.value)
           ∙ ap {B = Option Tail} (λ (t : Tail). Some t) (sym c.self.invariant.0)
           ∙ ap {B = Option Tail} (λ (b : Bool). Some (if not b then self.kept else self.nothing))
           (sym w.if-goes_on.false)

@@ -48,7 +48,7 @@ returns-clause-kept c =
     ap {B = ColumnsState} (λ (o : Option OpenLines). columns_state (Some kept)
     (if self.goes_on then kept else self.nothing) o) none
     ∙ ap {B = ColumnsState} (λ (t : Tail). Idle (Some t)) (c.swap.ensures.x_after
-    ∙ c.in_ok-place_names.ensures ∙ c.in_ok-encode.ensures.after
+    ∙ c.in_ok-place_names.ensures.unchanged ∙ c.in_ok-encode.ensures.after
     ∙ ap (λ (t : Tail). tail_after t c.args.epoch.now) (c.stands_after-before.ensures
     ∙ written-after self.is_kept c.args.full self.kept self.nothing c.if-self.stands_after
     c.args.self.now _ self.incoming c.self.view_is c.requires.idle c.self.invariant.0 goes))

@@ -26,7 +26,8 @@ returns-clause-coded c =
     ∙ ap (λ (s : ColumnsState). c.clear.new.self
     ++ lines_after_tail (tail_written_after c.args.full (tail_held s)) c.args.epoch) c.self.view_is
     ∙ ap (λ (old : List (List ℕ)). old
-    ++ lines_after_tail (tail_written_after c.args.full (tail_held c.args.self.now)) c.args.epoch) c.clear.ensures)
+    ++ lines_after_tail (tail_written_after c.args.full (tail_held c.args.self.now)) c.args.epoch)
+    c.clear.ensures.emptied)
 
 pub returns-clause-kept : goal.returns-clause-kept
 returns-clause-kept c =

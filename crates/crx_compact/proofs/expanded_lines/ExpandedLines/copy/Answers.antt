@@ -5,6 +5,8 @@ use Rattle.crx_compact.proofs.expanded_lines.ExpandedLines.copy.Goals as goal
 pub returns : goal.returns
 returns c =
     let inside = c.self.inside in
-    ap (λ (ls : List (List ℕ)). ls ++ inside.printed) c.put.ensures
-    ∙ ap (λ (ls : List (List ℕ)). (c.args.line.now ∷ []) ++ ls)
-    (second-empty inside.copied inside.printed (c.self.view_is ∙ c.requires.drained))
+    record {
+      copied = ap (λ (ls : List (List ℕ)). ls ++ inside.printed) c.put.ensures
+          ∙ ap (λ (ls : List (List ℕ)). (c.args.line.now ∷ []) ++ ls)
+          (second-empty inside.copied inside.printed (c.self.view_is ∙ c.requires.drained));
+    }

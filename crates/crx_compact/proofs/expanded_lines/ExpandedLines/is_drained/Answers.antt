@@ -4,7 +4,10 @@ use Rattle.crx_compact.proofs.expanded_lines.ExpandedLines.is_drained.Goals as g
 
 pub returns-else-is_drained : goal.returns-else-is_drained
 returns-else-is_drained c =
-    let inside = c.self.inside in (
-      (λ is. absurd (true≢false (sym is ∙ c.if-is_drained.false))),
-      (λ empty. c.is_drained.ensures.1 (first-empty inside.copied inside.printed (c.self.view_is ∙ empty))),
-    )
+    let inside = c.self.inside in
+    record {
+      value = (
+        (λ is. absurd (true≢false (sym is ∙ c.if-is_drained.false))),
+        (λ empty. c.is_drained.ensures.1 (first-empty inside.copied inside.printed (c.self.view_is ∙ empty))),
+      );
+    }

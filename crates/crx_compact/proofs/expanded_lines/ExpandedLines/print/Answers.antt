@@ -10,7 +10,7 @@ returns-then-count-eq0-clause-lines c =
     ap (λ (ls : List (List ℕ)). ls ++ inside.printed) c.put.ensures
     ∙ ap (λ (ls : List (List ℕ)). (c.bytes.result.now ∷ []) ++ ls)
     (second-empty inside.copied inside.printed (c.self.view_is ∙ c.requires.drained))
-    ∙ ap (λ (line : List ℕ). line ∷ []) (c.bytes.ensures.value ∙ c.print_head.ensures)
+    ∙ ap (λ (line : List ℕ). line ∷ []) (c.bytes.ensures.value ∙ c.print_head.ensures.value)
     ∙ ap (λ n. printed_epoch (shown_epoch c.args.history.now n)) (sym c.if-count-eq0.true)
 
 pub returns-then-is_err-clause-err : goal.returns-then-is_err-clause-err
@@ -18,7 +18,7 @@ returns-then-is_err-clause-err c =
     let inside = c.self.inside in
     ap (λ (ls : List (List ℕ)). ls ++ c.clear-then-is_err.new.self)
     (first-empty inside.copied inside.printed (c.self.view_is ∙ c.requires.drained))
-    ∙ c.clear-then-is_err.ensures
+    ∙ c.clear-then-is_err.ensures.emptied
 
 pub returns-clause-lines : goal.returns-clause-lines
 returns-clause-lines c =
@@ -28,5 +28,5 @@ returns-clause-lines c =
     ap (λ (ls : List (List ℕ)). ls ++ c.print_lines.new.lines)
     (first-empty inside.copied inside.printed (c.self.view_is ∙ c.requires.drained))
     ∙ lines
-    ∙ ap (λ (ls : List (List ℕ)). ls ++ (c.bytes-2.result.now ∷ rows)) c.clear.ensures
-    ∙ ap (λ (line : List ℕ). line ∷ rows) (c.bytes-2.ensures.value ∙ c.print_head.ensures)
+    ∙ ap (λ (ls : List (List ℕ)). ls ++ (c.bytes-2.result.now ∷ rows)) c.clear.ensures.emptied
+    ∙ ap (λ (line : List ℕ). line ∷ rows) (c.bytes-2.ensures.value ∙ c.print_head.ensures.value)

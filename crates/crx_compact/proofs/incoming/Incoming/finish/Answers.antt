@@ -13,4 +13,4 @@ pub returns-clause-whole : goal.returns-clause-whole
 returns-clause-whole c = λ before.
     let self = c.self.inside in
     (all-read self.stage self.next self.count self.satellites c.args.self.now c.self.view_is c.self.invariant.0
-    c.requires.whole).whole before c.swap.new.x (c.swap.ensures.x_after ∙ c.end.ensures)
+    c.requires.whole).whole before c.swap.new.x (c.swap.ensures.x_after ∙ c.end.ensures.rows)

@@ -29,6 +29,6 @@ all-come count satellites = grind (arith, length-drop count satellites)
 pub returns-in-Rows : goal.returns-in-Rows
 returns-in-Rows c =
     let self = c.self.inside in
-    ap (λ n. leb n self.count) c.count.ensures ∙ all-come self.count self.satellites
+    ap (λ n. leb n self.count) c.count.ensures.value ∙ all-come self.count self.satellites
     ∙ ap have_all_come (ap {B = Option OpenLines} (λ (s : Stage). lines_so_far s self.next self.count self.satellites)
     (sym c.in-Rows.is) ∙ c.self.view_is)

@@ -12,8 +12,10 @@ first-header date program line copied made turn is_first first at_turn held none
     rw (first, at_turn, held, none) (ap (λ (p : List ℕ). version_line ∷ p ∷ line ∷ []) is)
 
 pub returns-then-is_first : goal.returns-then-is_first
-returns-then-is_first c =
-    first-header c.args.date.now c.hold.new.self.program.value
-    c.args.line.now c.hold.new.self.copied.value c.hold.new.self.made c.hold.new.self.turn c.args.is_first
-    (search c.if-is_first) c.hold.ensures.turn c.hold.ensures.copied c.hold.ensures.made
-    (search rules)
+returns-then-is_first c = record {
+  copied =
+      first-header c.args.date.now c.hold.new.self.program.value
+      c.args.line.now c.hold.new.self.copied.value c.hold.new.self.made c.hold.new.self.turn c.args.is_first
+      (search c.if-is_first) c.hold.ensures.turn c.hold.ensures.copied c.hold.ensures.made
+      (search rules);
+}

@@ -39,9 +39,9 @@ returns-then-print_report_line c =
       ),
       record {
         value = ap {B = Option (List ℕ)} (λ (t : List ℕ). Some t) c.bytes.ensures.value
-            ∙ sym c.if-print_report_line.ensures
+            ∙ sym c.if-print_report_line.ensures.line
             ∙ ap {B = Option (List ℕ)} (λ (types : List Count).
-            slice_get (report_lines (found_held self.totals types self.not_standard)) n) c.types.ensures
+            slice_get (report_lines (found_held self.totals types self.not_standard)) n) c.types.ensures.value
             ∙ first-left n report ∙ ap {B = Option (List ℕ)} (λ (ls : List (List ℕ)). slice_get ls 0) (sym pending);
         after_borrow = tt;
       },
@@ -56,8 +56,8 @@ returns c =
     report_left h (found_held self.totals self.reader.types self.not_standard)) c.in_ok-handed_out.was in
     let none = ap {B = Option (List ℕ)} (λ (ls : List (List ℕ)). slice_get ls 0) pending ∙ sym (first-left n report)
     ∙ ap {B = Option (List ℕ)} (λ (types : List Count).
-    slice_get (report_lines (found_held self.totals types self.not_standard)) n) (sym c.types.ensures)
-    ∙ c.if-print_report_line.ensures in (
+    slice_get (report_lines (found_held self.totals types self.not_standard)) n) (sym c.types.ensures.value)
+    ∙ c.if-print_report_line.ensures.line in (
       (
         refl,
         λ _. tt,

@@ -19,4 +19,5 @@ returns-then-begins_epoch-clause-refuses c =
     let held = open_in self.columns in
     subst (λ (s : Stage). IfErr c.begin.result (RefusesCompactLine self.types tail (made_in expansion
     (seen_stage held s) self.types tail (Content line)) (seen_stage held s) line)) (sym c.requires.looking)
-    (look-refused self.types tail line c.begin.result (sym c.if-begins_epoch.ensures) c.begin.ensures.refuses)
+    (look-refused self.types tail line c.begin.result
+    (sym c.if-begins_epoch.ensures.value) c.begin.ensures.refuses)

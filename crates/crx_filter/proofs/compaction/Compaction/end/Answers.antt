@@ -17,5 +17,5 @@ returns-clause-steps c =
       is_phase = refl;
       is_open = held-open self.reader.types self.reader.stage self.reader.epoch self.reader.consistent;
       is_count = refl;
-      is_skip = sym c.skip.ensures;
+      is_skip = sym c.skip.ensures.value;
     })

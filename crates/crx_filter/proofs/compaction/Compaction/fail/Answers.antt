@@ -15,12 +15,12 @@ returns-clause-fails c = λ (line : ReadLine) goes_on.
     let settled = c.after_fault-settled.result in
     let held = open_epoch self.reader.types self.reader.epoch in
     same-step c.settle.result settled.answer _ [] (compaction_state c.settle.new.self) (settled_seen compaction
-    (compaction_state self) held settled) c.settle.ensures.value c.clear.ensures c.settle.ensures.seen
+    (compaction_state self) held settled) c.settle.ensures.value c.clear.ensures.emptied c.settle.ensures.seen
     ∙ c.after_fault-settled.ensures.compaction (compaction_state self) held held line (record {
       is_phase = refl;
       is_open = held-open self.reader.types self.reader.stage self.reader.epoch self.reader.consistent;
       is_count = refl;
-      is_skip = sym c.skip.ensures;
+      is_skip = sym c.skip.ensures.value;
     }) goes_on
 
 pub returns-clause-counts : goal.returns-clause-counts

@@ -42,7 +42,7 @@ returns-in-Err c =
     now.stage c.in-Err.ensures.same_stage c.in-Err.ensures.same_types c.in-Err.ensures.same_epoch in
     record {
       steps = refused-step (compaction_state self) _ (Content line) c.fail.result _ (compaction_state c.fail.new.self)
-          c.in-Err.fault same (c.fail.ensures.fails (Content line) (sym c.begins_epoch.ensures))
+          c.in-Err.fault same (c.fail.ensures.fails (Content line) (sym c.begins_epoch.ensures.value))
           (c.in-Err.ensures.refuses (compaction_state self).kept) c.fail.ensures.fatal;
       ended = c.fail.ensures.ended;
       nothing = search rules;

@@ -24,9 +24,9 @@ returns-clause-answers c = λ lines notices taken awaited.
     (λ ls ns shown. shown.0) c.take_line-is_quiet.ensures.choices
     (seen-within line c.bytes.result.now c.args.line.short c.bytes.ensures.content) taken awaited
     (subst (λ (r : Result Step At). Steps compaction before (Content c.bytes.result.now) r ready now)
-    (sym c.answer_given.ensures) c.take_line-is_quiet.ensures.steps)
+    (sym c.answer_given.ensures.value) c.take_line-is_quiet.ensures.steps)
 
 pub returns-clause-repeated : goal.returns-clause-repeated
 returns-clause-repeated c = λ at is.
-    c.answer_given.ensures ∙ repeats compaction
+    c.answer_given.ensures.value ∙ repeats compaction
     (compaction_state c.args.self.now.compaction) _ _ _ _ at c.take_line-is_quiet.ensures.steps is

@@ -24,9 +24,10 @@ returns-clause-ends c =
     let held = open_in self.reader.columns in
     let at = at-stage (expander_state self) self.reader.stage self.reader.columns c.value-number.result
     c.skip.result
-    refl self.reader.consistent (sym c.value-number.ensures.value) (sym c.skip.ensures) in
+    refl self.reader.consistent (sym c.value-number.ensures.value) (sym c.skip.ensures.value) in
     let after = compact_reader_state self.options s.number reader in
-    ap (λ (n : ℕ). step_made s.answer self.lines (compact_reader_state self.options n reader)) c.of-self.ensures
+    ap (λ (n : ℕ). step_made s.answer self.lines (compact_reader_state self.options n reader))
+    c.of-self.ensures.number
     ∙ ap (λ (l : List (List ℕ)). step_made s.answer l after) c.requires.drained
     ∙ settled-as (expander_state self) (open_in reader.columns) s self.options reader.stage reader.types
     (tail_held reader.columns) refl c.settle.ensures.stage c.settle.ensures.types c.settle.ensures.tail
@@ -38,7 +39,7 @@ returns-clause-repeated c = λ (at : At) (is : c.args.self.now.reader.stage ≡ 
     let held = open_in self.reader.columns in
     let known = at-stage (expander_state self) self.reader.stage self.reader.columns c.value-number.result
     c.skip.result
-    refl self.reader.consistent (sym c.value-number.ensures.value) (sym c.skip.ensures) in
+    refl self.reader.consistent (sym c.value-number.ensures.value) (sym c.skip.ensures.value) in
     let step = c.after_end-settled.ensures.expansion (expander_state self) held None known in
     failed-at c.after_end-settled.result.answer at
     (ap (λ (s : Step OpenRawEpoch (Option Tail)). s.answer) step

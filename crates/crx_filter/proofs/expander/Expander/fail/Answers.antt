@@ -17,9 +17,11 @@ returns-clause-fails c =
     let now = open_in reader.columns in
     let kept = c.settle.ensures.tail
     ∙ ap (λ (b : Bool). if b then None else before.kept) (sym c.after_fault-settled.ensures.emptied) in
-    ap (λ (n : ℕ). step_made s.answer [] (compact_reader_state c.args.self.now.options n reader)) c.of-self.ensures
+    ap (λ (n : ℕ). step_made s.answer [] (compact_reader_state c.args.self.now.options n reader))
+    c.of-self.ensures.number
     ∙ settled-as before now s c.args.self.now.options reader.stage reader.types
     (tail_held reader.columns) chosen c.settle.ensures.stage (c.settle.ensures.types ∙ sym typed) kept
     ∙ c.after_fault-settled.ensures.expansion before held now line
     (subst (λ (n : ℕ). IsAt before held c.args.stage n c.skip.result) (sym c.value-number.ensures.value) (subst
-    (λ (skips : Bool). IsAt before held c.args.stage c.args.self.now.number skips) (sym c.skip.ensures) at)) fits
+    (λ (skips : Bool). IsAt before held c.args.stage c.args.self.now.number skips)
+    (sym c.skip.ensures.value) at)) fits

@@ -20,4 +20,4 @@ returns-clause-answers c = λ lines notices taken awaited.
     c.answer_given.result (λ ls ns shown. shown.0) c.take_line-is_quiet.ensures.options
     (seen-within line c.bytes.result.now c.args.line.short c.bytes.ensures.content) taken awaited
     (subst (λ (r : Result Step At). Steps expansion before (Content c.bytes.result.now) r new.lines now)
-    (sym c.answer_given.ensures) c.take_line-is_quiet.ensures.steps)
+    (sym c.answer_given.ensures.value) c.take_line-is_quiet.ensures.steps)

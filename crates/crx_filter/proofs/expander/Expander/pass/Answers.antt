@@ -21,7 +21,8 @@ returns c =
       steps = ap (λ (l : List (List ℕ)). step_made c.fail.result l (expander_state c.fail.new.self))
           c.fail.ensures.drained ∙ failed
           ∙ ap (step_of_made expansion (expander_state self) Overlong) (sym (too-long self.reader.stage held
-          self.reader.types (tail_held self.reader.columns) (sym c.is_settled.ensures ∙ c.if-is_settled.false)));
+          self.reader.types (tail_held self.reader.columns)
+          (sym c.is_settled.ensures.value ∙ c.if-is_settled.false)));
       options = c.fail.ensures.options;
       drained = search rules;
       ended = c.fail.ensures.ended;

@@ -14,6 +14,7 @@ returns-in-Err-clause-steps c =
     self.options.skip
     refl self.reader.consistent refl refl in
     let failed = c.fail.ensures.fails
-    (expander_state self) held (Content line) at refl (sym c.in-Err.ensures.types) (sym c.begins_epoch.ensures) in
+    (expander_state self) held (Content line) at refl (sym c.in-Err.ensures.types)
+    (sym c.begins_epoch.ensures.value) in
     refused-line (expander_state self) (expander_state c.fail.new.self) line c.in-Err.fault
     c.fail.result c.fail.new.self.lines failed c.fail.ensures.drained c.fail.ensures.fatal c.in-Err.ensures.refuses

@@ -20,7 +20,8 @@ returns-in-Err-clause-steps c =
     self.reader.consistent)
     refl refl in
     let failed = c.store_fault.ensures.fails
-    (expander_state self) held (Content line) at refl (sym c.in-Err.ensures.types) (sym c.begins_epoch.ensures) in
+    (expander_state self) held (Content line) at refl (sym c.in-Err.ensures.types)
+    (sym c.begins_epoch.ensures.value) in
     let new = c.store_fault.new.self in
     refused-line (expander_state self) (expander_state new) line c.in-Err.fault new.answer
     new.lines failed c.store_fault.ensures.drained c.store_fault.ensures.fatal c.in-Err.ensures.refuses

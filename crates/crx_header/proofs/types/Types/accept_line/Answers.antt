@@ -8,7 +8,8 @@ use Rattle.crx_header.proofs.types.Types.accept_line.Goals as goal
 
 pub returns-then-not-is_types-clause-declared : goal.returns-then-not-is_types-clause-declared
 returns-then-not-is_types-clause-declared c = λ lines h.
-    let other : is_types_line c.args.line.now ≡ false = sym c.is_types.ensures ∙ c.if-not-is_types.true in
+    let other : is_types_line c.args.line.now ≡ false =
+    sym c.is_types.ensures.value ∙ c.if-not-is_types.true in
     h ∙ sym (types_of-push lines c.args.line.now ∙ with_line-other (types_of lines) c.args.line.now other)
 
 -- the map after the insert is the counts after the line
@@ -22,7 +23,8 @@ pub returns-clause-ok : goal.returns-clause-ok
 returns-clause-ok c =
     inserted c.self.inside.counts.entries
     c.args.self.now c.args.self.now c.args.line.now c.in-Some.letter c.in-Some.count
-    (sym c.is_types.ensures ∙ c.if-not-is_types.false) c.in-Some.ensures.value c.self.view_is c.insert.new.self.entries
+    (sym c.is_types.ensures.value ∙ c.if-not-is_types.false)
+    c.in-Some.ensures.value c.self.view_is c.insert.new.self.entries
     (c.in-Ok.ensures.entries ∙ insert_is_with c.self.inside.counts.entries c.in-Some.letter c.in-Some.count)
 
 pub returns-clause-declared : goal.returns-clause-declared

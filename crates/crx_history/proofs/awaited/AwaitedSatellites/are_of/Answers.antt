@@ -27,7 +27,7 @@ returns c =
     let announced : epoch_count (columns c.args.text.now 1 HEAD_WIDTH) ≡ Some (length self.satellites.items) =
     on c.announces.result c.announces.ensures c.if-not-announces.false ∙ ap {B = Option ℕ} Some many in
     let same : drop HEAD_WIDTH c.args.text.now ≡ self.identifiers.items =
-    sym c.after_columns.ensures ∙ on c.is_same.result c.is_same.ensures c.if-not-is_same.false
+    sym c.after_columns.ensures.value ∙ on c.is_same.result c.is_same.ensures c.if-not-is_same.false
     ∙ c.deref.ensures.value in
     on-true c.are_counts.result (λ yes.
     let types : c.args.types.now ≡ self.counts.items =

@@ -26,16 +26,16 @@ pub invariant_of-self-2 : goal.invariant_of-self-2
 invariant_of-self-2 c = (λ is. absurd (false≢true is), few _ _ c.reserve.ensures.items c.self.invariant.1)
 
 pub returns-in_err-reserve : goal.returns-in_err-reserve
-returns-in_err-reserve c = c.reserve.ensures.items ∙ c.self.view_is
+returns-in_err-reserve c = record { unchanged = c.reserve.ensures.items ∙ c.self.view_is }
 
 pub returns-in_err-reserve-2 : goal.returns-in_err-reserve-2
-returns-in_err-reserve-2 c = c.reserve.ensures.items ∙ c.self.view_is
+returns-in_err-reserve-2 c = record { unchanged = c.reserve.ensures.items ∙ c.self.view_is }
 
 pub returns-in_err-reserve-3 : goal.returns-in_err-reserve-3
-returns-in_err-reserve-3 c = c.reserve.ensures.items ∙ c.self.view_is
+returns-in_err-reserve-3 c = record { unchanged = c.reserve.ensures.items ∙ c.self.view_is }
 
 pub returns-in_err-reserve-4 : goal.returns-in_err-reserve-4
-returns-in_err-reserve-4 c = c.reserve.ensures.items ∙ c.self.view_is
+returns-in_err-reserve-4 c = record { unchanged = c.reserve.ensures.items ∙ c.self.view_is }
 
 pub returns : goal.returns
-returns c = c.reserve.ensures.items ∙ c.self.view_is
+returns c = record { unchanged = c.reserve.ensures.items ∙ c.self.view_is }

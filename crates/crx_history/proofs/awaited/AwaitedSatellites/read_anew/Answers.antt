@@ -17,7 +17,7 @@ invariant_of-self-2 c = (
       let read = by_ok c.read_satellites-answer.result
       (sym c.is_ok-self-inside.ensures.value ∙ yes) c.read_satellites-answer.ensures.ok in (
         c.args.text.now,
-        sym c.after_columns-rest.ensures ∙ sym identifiers,
+        sym c.after_columns-rest.ensures.value ∙ sym identifiers,
         ap (λ (ts : List Count). satellites_of_text ts c.args.text.now) counts ∙ read,
       ),
   c.read_satellites-answer.ensures.few,

@@ -26,9 +26,9 @@ returns-clause-line c =
     let written : LineWritten c.print_cells-end.new.bytes c.args.bytes.now name cells c.args.at
     c.print_cells-end.result =
     line-written _ _ _ _ _ _ (c.print_cells-end.ensures.cells
-    ∙ ap (λ (t : List ℕ). t ++ cells) c.put_identifier.ensures)
+    ∙ ap (λ (t : List ℕ). t ++ cells) c.put_identifier.ensures.put)
     (omega (arith, room, seen, count, end, same, same')) (omega (arith, room)) in
-    let trimmed = c.trim_end.ensures ∙ ap without_end_blanks written.seen in
+    let trimmed = c.trim_end.ensures.value ∙ ap without_end_blanks written.seen in
     let own = ap (λ (arcs : List (Option ArcTail)).
     without_end_blanks (name ++ cells_shown arcs c.deref-2.result.now)) c.deref.ensures.value
     ∙ ap (λ (flags : List ℕ). without_end_blanks
@@ -53,8 +53,8 @@ returns-clause-within c =
     let written : LineWritten c.print_cells-end.new.bytes c.args.bytes.now name cells c.args.at
     c.print_cells-end.result =
     line-written _ _ _ _ _ _ (c.print_cells-end.ensures.cells
-    ∙ ap (λ (t : List ℕ). t ++ cells) c.put_identifier.ensures)
+    ∙ ap (λ (t : List ℕ). t ++ cells) c.put_identifier.ensures.put)
     (omega (arith, room, seen, count, end, same, same')) (omega (arith, room)) in
-    let trimmed = ap length (c.trim_end.ensures ∙ ap without_end_blanks written.seen) in
+    let trimmed = ap length (c.trim_end.ensures.value ∙ ap without_end_blanks written.seen) in
     let kept = written.within in
     omega (arith, room, seen, count, end, trimmed, kept, same, same')

@@ -43,7 +43,8 @@ returns-in_err-row-clause-ok c =
 
 pub returns-in_err-row-clause-err : goal.returns-in_err-row-clause-err
 returns-in_err-row-clause-err c =
-    let p = err_from_is_err_and c.from_residual.result c.from_residual.ensures.1 in rw (p.1, p.2) c.in_err-row.ensures
+    let p = err_from_is_err_and c.from_residual.result c.from_residual.ensures.1 in
+    rw (p.1, p.2) c.in_err-row.ensures.value
 
 pub set-requires-clause-within : goal.set-requires-clause-within
 set-requires-clause-within c =

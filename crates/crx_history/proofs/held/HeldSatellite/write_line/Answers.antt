@@ -27,7 +27,7 @@ returns-clause-line c =
     let written : LineWritten c.put_text-end.new.bytes c.args.bytes.now cells marks c.args.at c.put_text-end.result =
     line-written _ _ _ _ _ _ (c.put_text-end.ensures.put ∙ ap (λ (t : List ℕ). t ++ marks) put)
     (omega (arith, room, within, count, end, same, same')) (omega (arith, room)) in
-    let trimmed = c.trim_end.ensures ∙ ap without_end_blanks written.seen in
+    let trimmed = c.trim_end.ensures.value ∙ ap without_end_blanks written.seen in
     ap (λ (t : List ℕ). take (c.args.at + length t) c.put_text-end.new.bytes) trimmed ∙ written.is
 
 pub returns-clause-within : goal.returns-clause-within
@@ -48,7 +48,7 @@ returns-clause-within c =
     let written : LineWritten c.put_text-end.new.bytes c.args.bytes.now cells marks c.args.at c.put_text-end.result =
     line-written _ _ _ _ _ _ (c.put_text-end.ensures.put ∙ ap (λ (t : List ℕ). t ++ marks) put)
     (omega (arith, room, within, count, end, same, same')) (omega (arith, room)) in
-    let trimmed = ap length (c.trim_end.ensures ∙ ap without_end_blanks written.seen) in
+    let trimmed = ap length (c.trim_end.ensures.value ∙ ap without_end_blanks written.seen) in
     let kept = written.within in
     omega (arith, room, within, count, end, same, same', trimmed, kept)
 

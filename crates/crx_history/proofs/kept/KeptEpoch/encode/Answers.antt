@@ -60,7 +60,7 @@ returns-clause-after c =
     c.in_ok-renew_text.ensures.ok
     (c.push.ensures.arc
     ∙ ap (λ (v : Option ℤ). arc_of_value v c.copied-self-inside.result) (c.clock.ensures.value ∙ c.head.ensures.clock)
-    ∙ ap (λ (arc : Option ArcTail). arc_of_value epoch.clock arc) c.copied-self-inside.ensures)
+    ∙ ap (λ (arc : Option ArcTail). arc_of_value epoch.clock arc) c.copied-self-inside.ensures.value)
     (c.in_ok-encode_rows.ensures.after
     ∙ ap (λ (t : Tail). map (row_tail_in t.rows) epoch.rows) (sym c.before-2.view_is)))
 
@@ -78,7 +78,7 @@ returns-clause-lines c =
     ∙ ap (λ (k : Code). c.push_change.new.lines ++ code_text k ∷ [])
     (c.push.ensures.code
     ∙ ap (λ (v : Option ℤ). code_of_value v c.copied-self-inside.result) (c.clock.ensures.value ∙ c.head.ensures.clock)
-    ∙ ap (λ (arc : Option ArcTail). code_of_value epoch.clock arc) c.copied-self-inside.ensures))
+    ∙ ap (λ (arc : Option ArcTail). code_of_value epoch.clock arc) c.copied-self-inside.ensures.value))
     (c.in_ok-encode_rows.ensures.lines
     ∙ ap (λ (t : Tail). c.push_code.new.lines ++ map (row_line_in t.rows) epoch.rows) (sym c.before-2.view_is)))
 

@@ -5,7 +5,9 @@ use Rattle.crx_rinex.specs.meaning.Printing.{printed_head}
 use Rattle.crx_history.proofs.kept.KeptEpoch.print_head.Goals as goal
 
 pub returns : goal.returns
-returns c =
-    c.print_head.ensures
-    ∙ ap (λ (h : List ℕ). printed_head h c.head.result.clock) c.head.ensures.head
-    ∙ ap (printed_head (columns c.args.self.now.text 1 HEAD_WIDTH)) c.head.ensures.clock
+returns c = record {
+  value =
+      c.print_head.ensures.value
+      ∙ ap (λ (h : List ℕ). printed_head h c.head.result.clock) c.head.ensures.head
+      ∙ ap (printed_head (columns c.args.self.now.text 1 HEAD_WIDTH)) c.head.ensures.clock;
+}

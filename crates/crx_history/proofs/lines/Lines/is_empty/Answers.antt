@@ -24,9 +24,11 @@ returns c =
     let inside = c.self.inside in
     let count : c.len.result ≡ length inside.lengths.items = search rules in
     let text = drop inside.handed_out_bytes (take inside.filled inside.bytes.items) in
-    rw (← c.self.view_is, count) (
-      λ same. all-past inside.lengths.items text inside.handed_out
-          (at-end inside.handed_out (length inside.lengths.items) same),
-      λ none. at-end-is inside.handed_out (length inside.lengths.items) c.self.invariant.0.past_within
-          (none-left inside.lengths.items text inside.handed_out none),
-    )
+    record {
+      value = rw (← c.self.view_is, count) (
+        λ same. all-past inside.lengths.items text inside.handed_out
+            (at-end inside.handed_out (length inside.lengths.items) same),
+        λ none. at-end-is inside.handed_out (length inside.lengths.items) c.self.invariant.0.past_within
+            (none-left inside.lengths.items text inside.handed_out none),
+      );
+    }

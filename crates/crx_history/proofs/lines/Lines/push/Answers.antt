@@ -15,7 +15,7 @@ invariant_of-self-2 c =
     let lengths : c.push.new.self.items ≡ inside.lengths.items ++ length line ∷ [] = search rules in
     let text : take (inside.filled + length line + 1) bytes
     ≡ take inside.filled inside.bytes.items ++ (line ++ 10 ∷ []) =
-    c.put_line.ensures
+    c.put_line.ensures.put
     ∙ ap (λ (t : List ℕ). take inside.filled t ++ (line ++ 10 ∷ [])) c.deref_mut.ensures.value
     ∙ ap (λ (t : List ℕ). t ++ (line ++ 10 ∷ [])) (c.in_ok-grow.ensures.same inside.filled c.self.invariant.1) in
     let pushed : Pushed inside.lengths.items c.push.new.self.items (take inside.filled inside.bytes.items)
@@ -37,7 +37,7 @@ returns-clause-ok c =
     let lengths : c.push.new.self.items ≡ inside.lengths.items ++ length line ∷ [] = search rules in
     let text : take (inside.filled + length line + 1) bytes
     ≡ take inside.filled inside.bytes.items ++ (line ++ 10 ∷ []) =
-    c.put_line.ensures
+    c.put_line.ensures.put
     ∙ ap (λ (t : List ℕ). take inside.filled t ++ (line ++ 10 ∷ [])) c.deref_mut.ensures.value
     ∙ ap (λ (t : List ℕ). t ++ (line ++ 10 ∷ [])) (c.in_ok-grow.ensures.same inside.filled c.self.invariant.1) in
     let pushed : Pushed inside.lengths.items c.push.new.self.items (take inside.filled inside.bytes.items)

@@ -19,16 +19,16 @@ returns-in-Event-clause-takes c = λ (kept : Written).
     let line = c.args.line.now in
     record {
       unit_made = begin-made self line kept c.requires.stage ∙ event-made self.types line _ c.in-Event.count
-          (c.in_ok-count.ensures ∙ ap (λ (h : Head). Ok (head_line h)) c.in-Event.is);
+          (c.in_ok-count.ensures.value ∙ ap (λ (h : Head). Ok (head_line h)) c.in-Event.is);
       phase_then = c.with_records_left-self.ensures.rinex _ ∙ event-phase c.args.line.now c.in-Event.count
-          c.counts_types.result (event-counts c.args.line.now _ c.in-Event.count (c.in_ok-count.ensures
-          ∙ ap (λ (h : Head). Ok (head_line h)) c.in-Event.is)) c.counts_types.ensures;
+          c.counts_types.result (event-counts c.args.line.now _ c.in-Event.count (c.in_ok-count.ensures.value
+          ∙ ap (λ (h : Head). Ok (head_line h)) c.in-Event.is)) c.counts_types.ensures.value;
       types_then = refl;
     }
 
 pub returns-in-Epoch-clause-takes : goal.returns-in-Epoch-clause-takes
 returns-in-Epoch-clause-takes c = λ (kept : Written).
     begun-taken c.args.self.now c.begin_epoch.new.self c.args.line.now kept c.in-Epoch.head c.begin_epoch.result
-    c.requires.stage (c.in_ok-count.ensures ∙ ap (λ (h : Head). Ok (head_line h)) c.in-Epoch.is)
+    c.requires.stage (c.in_ok-count.ensures.value ∙ ap (λ (h : Head). Ok (head_line h)) c.in-Epoch.is)
     c.begin_epoch.ensures.counted c.begin_epoch.ensures.sound
     c.begin_epoch.ensures.held c.begin_epoch.ensures.types c.begin_epoch.ensures.stage c.begin_epoch.ensures.value

@@ -36,7 +36,7 @@ new : (c : goal.After-self-2-1) → has_satellite c.read_known.new.self.name
 new c =
     known-new c.self.inside.known c.self.inside.names c.self.inside.rows.items c.self.inside.count
     c.read_known.new.self c.index_mut-row.result.now c.self.invariant.8 (here c) (same c) c.self.invariant.4
-    c.each_stands_once.ensures
+    c.each_stands_once.ensures.once
 
 pub invariant_of-self-2 : goal.invariant_of-self-2
 invariant_of-self-2 c =

@@ -29,7 +29,7 @@ new : (c : goal.After-self-then-is_of-1) → has_satellite c.read_known.new.self
 new c =
     known-new c.self.inside.known c.self.inside.names c.self.inside.rows.items c.self.inside.count
     c.read_known.new.self c.index_mut-row.result.now c.self.invariant.8 (here c) (same c) c.self.invariant.4
-    c.each_stands_once.ensures
+    c.each_stands_once.ensures.once
 
 pub invariant_of-self-then-is_of : goal.invariant_of-self-then-is_of
 invariant_of-self-then-is_of c =
@@ -87,7 +87,7 @@ returns-in_err-read_known-clause-refused c =
     ∙ ap (λ (e : Epoch). has_satellite row.name e.rows) (sym c.self.view_is)
     ∙ known-new c.self.inside.known c.self.inside.names rows count row c.index_mut-row.result.now
     c.self.invariant.8 here same
-    c.self.invariant.4 c.each_stands_once.ensures in
+    c.self.invariant.4 c.each_stands_once.ensures.once in
     let p = err_from_is_err_and c.from_residual.result c.from_residual.ensures.1 in
     rw (p.1, p.2) (elim (c.in_err-read_known.ensures.refused) [
       | inl bad ↦ inl (ap (row_if_new c.args.self.now.rows) bad)

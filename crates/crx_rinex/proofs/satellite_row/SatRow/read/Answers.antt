@@ -18,7 +18,7 @@ invariant_of-result c =
     c.read_cells.auto.flags in let b = c.deref_mut-2.ensures.len in omega (arith, a, b, flags_len) in
     sound-written c.identifier.result c.read_cells.new.values
     c.in-Ok.values.items c.read_cells.new.flags c.in-Ok-vec.flags.items m c.in-Ok.values.len c.in-Ok-vec.flags.len
-    (ap is_identifier c.identifier.ensures ∙ c.in-Some.ensures.named) c.in-Some.ensures.allowed
+    (ap is_identifier c.identifier.ensures.value ∙ c.in-Some.ensures.named) c.in-Some.ensures.allowed
     values flags values_len flags_len c.in_ok-read_cells.ensures.ranged c.in_ok-read_cells.ensures.kept
 
 pub returns-clause-sound : goal.returns-clause-sound
@@ -69,7 +69,7 @@ returns-clause-ok c =
           (c.read_cells.auto.values ∙ c.deref_mut.ensures.len),
       with_items_is c.in-Ok-vec.flags c.read_cells.new.flags
           (c.read_cells.auto.flags ∙ c.deref_mut-2.ensures.len),
-      c.identifier.ensures,
+      c.identifier.ensures.value,
     )
     (ap (row_of_types line) (sym c.types_of_satellite.ensures.value ∙ c.in-Some.is)
     ∙ ap (λ (m : ℕ). row_with m line (values_in m line))

@@ -19,7 +19,7 @@ whole c =
     let same : length c.deref_mut.result.now ≡ 2 * length (before c).values = ap length c.deref_mut.ensures.value
     ∙ c.self.invariant.paired in
     take_at held (drop (length held) c.self.inside.flags.items) c.self.inside.flags.len
-    (c.put_flags.auto.held ∙ c.deref_mut.ensures.len) ∙ c.put_flags.ensures
+    (c.put_flags.auto.held ∙ c.deref_mut.ensures.len) ∙ c.put_flags.ensures.put
     ∙ ap (λ (n : ℕ). c.args.flags.now ++ replicate (n - length c.args.flags.now) 32) same
 
 pub invariant_of-self : goal.invariant_of-self
