@@ -58,8 +58,9 @@ impl CompactReader {
     fn first_line(&mut self, count: usize, line: &[u8]) -> Result<(), Fault>
         requires idle { is_idle self.old.columns ≡ true }
         ensures takes { (choices : Choices) (number : ℕ)
-            → OnOk result (TakesOtherLine (made_of_first_lines count line.now) line.now (seen_in
-            choices number self.old (FirstLines count)) (compact_reader_state choices number self.new) false) }
+            → OnOk result (TakesOtherLine (made_of_first_lines count line.now) line.now
+            (seen_in choices number self.old (FirstLines count))
+            (compact_reader_state choices number self.new) false) }
         ensures refuses { IfErr result (RefusesCompactLine self.old.types (tail_held self.old.columns)
             (made_of_first_lines count line.now) (seen_stage (open_in self.old.columns) (FirstLines count))
             line.now) }
@@ -82,10 +83,11 @@ impl CompactReader {
     fn header_line(&mut self, is_first: bool, line: &[u8]) -> Result<(), Fault>
         requires idle { is_idle self.old.columns ≡ true }
         ensures takes { (choices : Choices) (number : ℕ)
-            → OnOk result (TakesOtherLine (made_of_unit (header_line is_first line.now)) line.now (seen_in choices
-            number self.old (Header is_first)) (compact_reader_state choices number self.new) true) }
-        ensures refuses { IfErr result
-            (RefusesCompactLine self.old.types (tail_held self.old.columns) (made_of_unit (header_line is_first line.now))
+            → OnOk result (TakesOtherLine (made_of_unit (header_line is_first line.now)) line.now
+            (seen_in choices number self.old (Header is_first))
+            (compact_reader_state choices number self.new) true) }
+        ensures refuses { IfErr result (RefusesCompactLine self.old.types (tail_held self.old.columns)
+            (made_of_unit (header_line is_first line.now))
             (seen_stage (open_in self.old.columns) (Header is_first)) line.now) }
         ensures types { OnErr result (self.new.types ≡ self.old.types) }
     {
@@ -103,10 +105,11 @@ impl CompactReader {
     fn record(&mut self, left: usize, counted: bool, line: &[u8]) -> Result<(), Fault>
         requires idle { is_idle self.old.columns ≡ true }
         ensures takes { (choices : Choices) (number : ℕ)
-            → OnOk result (TakesOtherLine (made_of_unit (event_record counted line.now)) line.now (seen_in choices
-            number self.old (Event left counted)) (compact_reader_state choices number self.new) true) }
-        ensures refuses { IfErr result
-            (RefusesCompactLine self.old.types (tail_held self.old.columns) (made_of_unit (event_record counted line.now))
+            → OnOk result (TakesOtherLine (made_of_unit (event_record counted line.now)) line.now
+            (seen_in choices number self.old (Event left counted))
+            (compact_reader_state choices number self.new) true) }
+        ensures refuses { IfErr result (RefusesCompactLine self.old.types (tail_held self.old.columns)
+            (made_of_unit (event_record counted line.now))
             (seen_stage (open_in self.old.columns) (Event left counted)) line.now) }
         ensures types { OnErr result (self.new.types ≡ self.old.types) }
     {
@@ -123,12 +126,13 @@ impl CompactReader {
     fn begin(&mut self, line: &[u8]) -> Result<bool, Fault>
         requires idle { is_idle self.old.columns ≡ true }
         requires short { length line.now ≤ LINE_LIMIT }
-        ensures takes { (choices : Choices) (number : ℕ) (stage : Stage) → IfOk result
-            (TakesOtherLine (compact_begins self.old.types (tail_held self.old.columns) (Content line.now)) line.now
+        ensures takes { (choices : Choices) (number : ℕ) (stage : Stage) → IfOk result (TakesOtherLine
+            (compact_begins self.old.types (tail_held self.old.columns) (Content line.now)) line.now
             (seen_in choices number self.old stage) (compact_reader_state choices number self.new)) }
-        ensures refuses { IfErr result
-            (λ fault. RefusesCompactLine self.old.types (tail_held self.old.columns) (compact_begins self.old.types
-            (tail_held self.old.columns) (Content line.now)) BetweenUnits line.now fault) }
+        ensures refuses { IfErr result (λ fault.
+            RefusesCompactLine self.old.types (tail_held self.old.columns)
+            (compact_begins self.old.types (tail_held self.old.columns) (Content line.now))
+            BetweenUnits line.now fault) }
         ensures types { OnErr result (self.new.types ≡ self.old.types) }
     {
         if is_event_line(line) {

@@ -103,8 +103,8 @@ impl Lines {
           flags = without_end_blanks row.now.flags;
           cells = arcs_of_cells arcs.now row.now.values;
         }) }
-        ensures line { OnOk result (self.new
-            ≡ self.old ++ line_of_codes (codes_of_cells arcs.now row.now.values) flags.now row.now.flags ∷ []) }
+        ensures line { OnOk result (self.new ≡ self.old
+            ++ line_of_codes (codes_of_cells arcs.now row.now.values) flags.now row.now.flags ∷ []) }
     {
         satellite.begin(row, flags, part)?;
         let start = self.filled;

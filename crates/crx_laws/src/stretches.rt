@@ -16,7 +16,8 @@ ghost use Rattle.crx_runs.specs.meaning.Results.{Begins};
 /// whole epochs followed by exactly the units that are kept, and no fault ends it.
 pub fn damage_costs_what_it_touches()
     ensures law { (file : List ℕ) (compacting expanding : Choices) (damaged : List ℕ)
-        → is_date compacting.date ≡ true → expanding.skip ≡ true → (damage : HasStretches file compacting damaged)
+        → is_date compacting.date ≡ true → expanding.skip ≡ true
+        → (damage : HasStretches file compacting damaged)
         → KeepsTheRest file compacting damaged damage (expanded damaged expanding) }
 {}
 

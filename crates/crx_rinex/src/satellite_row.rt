@@ -146,7 +146,8 @@ impl SatRow {
             ≡ Ok (record self.new { name = columns line.now 1 NAME_WIDTH })) }
         ensures refused { IfErr result (λ fault.
             (row_with count line.now (values_in count line.now) ≡ Err fault)
-            ⊎ ((fault ≡ Fault.OutOfMemory) × (is_ok (row_with count line.now (values_in count line.now)) ≡ true)
+            ⊎ ((fault ≡ Fault.OutOfMemory)
+            × (is_ok (row_with count line.now (values_in count line.now)) ≡ true)
             × (length self.old.values ≢ count))) }
         ensures err { IfErr result (λ fault. (self.new ≡ self.old)
             ⊎ (((fault ≡ Fault.BadField) ⊎ (fault ≡ Fault.BadFlags))
