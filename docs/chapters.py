@@ -17,6 +17,11 @@ Content = namedtuple("Content", "clauses items left ported")
 RESULTS = ("compacted", "expanded", "checked")
 FILTERS = ("compaction_filter", "expansion_filter", "check_filter")
 DEVICES = ("Source", "Sink")
+OF_CALLS = (
+    *((f"open_{kind}", "opened running") for kind in ("compact", "expand", "check")),
+    *((call, "promise ended misused stands") for call in ("feed", "end")),
+    ("take", "output messages output_left messages_left promise still stands"),
+)
 OF_HANDLES = ("HandleStands", "has_ended", "texts_kept", "output_kept", "messages_kept")
 OF_ENGINES = ("AnyEngine", "IsOf", "ready_of", "is_open_of", "engine_filter", "shows_of")
 
@@ -85,7 +90,7 @@ CHAPTERS = (
         "How a run stands after each call, by all that was fed and taken, by what the handle keeps, and by what the call answered; and that it"
         " answers as a call over the whole input. `HandleStands` only links a call to the next one, and need not be read. The next chapter has"
         " that, `has_ended`, and which texts a handle keeps.",
-        tuple((f"rnxcmp_c::rnxcmp_c_{call}", clauses) for call, clauses in (("feed", "promise ended misused"), ("end", "promise ended misused"), ("take", "promise")))
+        tuple((f"rnxcmp_c::rnxcmp_c_{call}", clauses) for call, clauses in OF_CALLS)
         + (("rnxcmp_c::a_handle_answers_as_a_call", "*"),),
         RESULTS + OF_HANDLES,
         60,

@@ -181,7 +181,8 @@ int rnxcmp_check(const void *input, size_t input_length, void *output, size_t ou
  *
  * What was taken in all, and then what is ready, is what the call over the whole input gives: the texts of the lines so far, and after
  * the end all of both texts, with the same status, `code` and `line`. After RNXCMP_OUTPUT_LIMIT and RNXCMP_INPUT_TOO_LONG it is what the
- * first lines make, and after RNXCMP_OUT_OF_MEMORY a prefix of it. It never has more than `max_output` bytes of output.
+ * first lines make, and after RNXCMP_OUT_OF_MEMORY a prefix of it; the message of RNXCMP_INPUT_TOO_LONG comes after the others, and that
+ * of RNXCMP_OUT_OF_MEMORY may. It never has more than `max_output` bytes of output (0: no limit).
  *
  * What a handle keeps is bounded, whatever was fed: of the last line at most 8194 bytes, as long as it has no line end (a longer one is
  * too long, whatever follows); what the run needs of earlier lines; and what was made and not taken, which is less than RNXCMP_READY
@@ -211,13 +212,15 @@ int rnxcmp_open_check(rnxcmp_handle *handle, rnxcmp_answer *answer);
 
 /*
  * Takes bytes of the input, which may end anywhere, and stores in `used` how many it took of `length`: as long as fewer than RNXCMP_READY
- * bytes are ready, it takes one line more. So where nothing is ready it takes at least one, and where it takes fewer than `length` the
- * caller takes what is ready, and feeds the rest. Neither `used` nor, with a length that isn't 0, `bytes` may be NULL.
+ * bytes are ready, it takes more, and it stops at the line end with which so many are. So where nothing is ready it takes at least one, and
+ * where it takes fewer than `length` the caller takes what is ready, and feeds the rest. Neither `used` nor, with a length that isn't 0,
+ * `bytes` may be NULL.
  *
  * RNXCMP_GOOD: the run goes on. RNXCMP_FAULT: a fault has ended the run, whatever follows; `code` and `line` say which, and where.
  * RNXCMP_OUTPUT_LIMIT: the output would have more than `max_output` bytes, and the run has ended, whatever follows. In the last two `used`
  * is `length`, or as many as the input may still have, but for RNXCMP_INPUT_TOO_LONG: that comes where 2^40 bytes were taken and there is
- * one more; it has the number of the line after the last LF, and `used` is 0. After RNXCMP_OUT_OF_MEMORY the texts that are ready may be cut anywhere.
+ * one more; it has the number of the line after the last LF, and `used` is 0. After RNXCMP_OUT_OF_MEMORY the texts that are ready may be cut
+ * anywhere.
  */
 int rnxcmp_feed(rnxcmp_handle *handle, const void *bytes, size_t length, size_t *used, rnxcmp_answer *answer);
 

@@ -44,6 +44,7 @@ module _ (task : Task) (old new : Reader) (past : HandlePast) (bytes allowed : L
         soon = λ none h. subst (λ (l : List ℕ). StopsSoon (filter_for task) past l used) same
             (soon (λ _. omega (arith, h, within)) none h);
         still = λ h. (count (some h)).still;
+        ended = λ h is. (count (some h)).ended is ∙ ap length same;
       }
 
   pub fed-by : allowed ≡ take (INPUT_LIMIT - old.fed) bytes → answer ≡ answer_now new → (outcome : Option Outcome)

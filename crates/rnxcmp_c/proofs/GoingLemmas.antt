@@ -1,8 +1,9 @@
 -- A run goes on by the bytes that are fed.
-use Rattle.std.proofs.Common.{◌≡◌, ◌≢◌, ◌⊎◌, inl, inr, ℕ, ◌+◌, ◌<◌, ◌≤◌, true, false, ◌||◌, List, [], ◌∷◌, ◌++◌, ⊎_elim}
+use Rattle.std.proofs.Common.{◌≡◌, ◌≢◌, ◌⊎◌, inl, inr, ℕ, ◌+◌, ◌-◌, ◌<◌, ◌≤◌, true, false, ◌||◌, List, [], ◌∷◌, ◌++◌, ⊎_elim}
 use Rattle.std.proofs.Common.{length, take, drop, slice_index, None, refl, sym, ap, ◌∙◌, subst, arith, append-nil}
 use Rattle.std.proofs.Common.{append_assoc, length-append, length-take}
-use Rattle.std.proofs.lemmas.List.{drop_more, get_or-take, take-append-drop, take_at}
+use Rattle.std.proofs.Math.Seq.{take-append-add}
+use Rattle.std.proofs.lemmas.List.{drop_more, get_or-take, take-append-drop, take-append-le}
 use Rattle.std.proofs.lemmas.List.Elements.{All-append, All-from_get_or}
 use Rattle.crx_faults.specs.meaning.Lines.{InputLine, lines_of}
 use Rattle.crx_faults.specs.meaning.Seen.{ended_lines_of}
@@ -31,35 +32,40 @@ use Rattle.rnxcmp_c.specs.declared.stop.Stop.{Stop}
 use Rattle.rnxcmp_c.specs.declared.stop.Stop.TheVariants.{Fault, Limit}
 use Rattle.rnxcmp_c.proofs.PieceLemmas.{none-where_none}
 
+-- lines that were ended are no more, where the bytes that follow have no LF
+ended-still : (filter : Filter) (shows : List InputLine → List Awaited → Type 0) (held : Held) (past : HandlePast)
+    (more : List ℕ) → IsGoing filter shows held past → HasNoFeed more
+    → ended_lines_of (past.fed ++ more) ≡ ended_lines_of past.fed
+ended-still filter shows held past more going none =
+    going.cut_ended more
+    ∙ ap (λ (ls : List InputLine). ended_lines_of past.fed ++ ls)
+    (ended_lines-none (going.tail ++ more) (All-append (λ b. b ≢ 10) going.tail more going.no_feed none))
+    ∙ append-nil (ended_lines_of past.fed)
+
 -- a line more was taken, or the last part of one, since little enough waited
 pub soon-by : (filter : Filter) (shows : List InputLine → List Awaited → Type 0) (past : HandlePast)
-    (bytes done some rest : List ℕ) (old new : Held) → bytes ≡ done ++ (some ++ rest)
-    → IsGoing filter shows old (fed_with past done) → new.number ≡ length (ended_lines_of ((past.fed ++ done) ++ some))
-    → new.number ≤ old.number + 1 → 0 < length some → ready_in old < READY_LIMIT
-    → StopsSoon filter past bytes (length (done ++ some))
-soon-by filter shows past bytes done some rest old new all going number few more low =
-    let first : take (length done) bytes ≡ done =
-    ap (take (length done)) all ∙ take_at done (some ++ rest) (length done) refl in
-    let both : take (length (done ++ some)) bytes ≡ done ++ some =
-    ap (take (length (done ++ some))) (all ∙ sym (append_assoc done some rest))
-    ∙ take_at (done ++ some) rest (length (done ++ some)) refl in
+    (bytes done some rest : List ℕ) (old : Held) → bytes ≡ done ++ (some ++ rest)
+    → IsGoing filter shows old (fed_with past done) → HasNoFeed (take (length some - 1) some)
+    → 0 < length some → ready_in old < READY_LIMIT → StopsSoon filter past bytes (length (done ++ some))
+soon-by filter shows past bytes done some rest old all going none more low =
+    let most : List ℕ = take (length some - 1) some in
+    let count : length (done ++ some) - 1 ≡ length done + (length some - 1) =
+    omega (arith, length-append done some, more) in
+    let first : take (length (done ++ some) - 1) bytes ≡ done ++ most =
+    ap (λ (n : ℕ). take n bytes) count
+    ∙ ap (take (length done + (length some - 1))) all
+    ∙ take-append-add done (some ++ rest) (length some - 1)
+    ∙ ap (λ (l : List ℕ). done ++ l) (take-append-le (length some - 1) some rest (omega arith)) in
+    let lines : ended_lines_of (past.fed ++ take (length (done ++ some) - 1) bytes) ≡ ended_lines_of (past.fed ++ done) =
+    ap (λ (l : List ℕ). ended_lines_of (past.fed ++ l)) first
+    ∙ ap ended_lines_of (sym (append_assoc past.fed done most))
+    ∙ ended-still filter shows old (fed_with past done) most going none in
     record {
-      before = length done;
-      within = omega (arith, length-append done some, more);
-      one = omega (
-        arith,
-        few,
-        going.number,
-        number,
-        ap (λ (l : List ℕ). length (ended_lines_of (past.fed ++ l))) first,
-        ap (λ (l : List ℕ). length (ended_lines_of (past.fed ++ l))) both,
-        ap (λ (l : List ℕ). length (ended_lines_of l)) (append_assoc past.fed done some),
-      );
       low = omega (
         arith,
         low,
-        ap (λ (l : List ℕ). length (filter.so_far (ended_lines_of (past.fed ++ l))).output) first,
-        ap (λ (l : List ℕ). length (notices_text (filter.so_far (ended_lines_of (past.fed ++ l))).warnings)) first,
+        ap (λ (ls : List InputLine). length (filter.so_far ls).output) lines,
+        ap (λ (ls : List InputLine). length (notices_text (filter.so_far ls).warnings)) lines,
         ap length going.text.wrote,
         ap length going.text.reported,
         length-append past.output (waiting old.output),

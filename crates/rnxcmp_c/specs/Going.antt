@@ -1,5 +1,5 @@
 -- A run between two calls, by the bytes that were fed and the texts that were taken.
-use Rattle.std.specs.Prelude.{◌≡◌, ◌⊎◌, ◌<◌, ◌≤◌, ℕ, ◌+◌, Bool, ◌||◌, List, [], ◌∷◌, ◌++◌, length, take, Some, None}
+use Rattle.std.specs.Prelude.{◌≡◌, ◌⊎◌, ◌<◌, ◌≤◌, ℕ, ◌+◌, ◌-◌, Bool, ◌||◌, List, [], ◌∷◌, ◌++◌, length, take, Some, None}
 use Rattle.crx_faults.specs.meaning.Lines.{InputLine, line_of, lines_of}
 use Rattle.crx_faults.specs.meaning.Seen.{ended_lines_of}
 use Rattle.crx_lines.specs.Reading.{HasNoFeed}
@@ -127,15 +127,11 @@ pub record IsTaken (old new : Held) (length count : ℕ) : Type 0 where
   pub all : count < length → READY_LIMIT ≤ ready_in new
   pub still : READY_LIMIT ≤ ready_in old → (count ≡ 0) × (new ≡ old)
 
--- so many bytes were taken: without the last line of them, or the last part of one, less than READY_LIMIT was ready,
--- which is what the lines make whose LF was fed, but for what was taken of it
+-- so many bytes were taken: without the last one of them less than READY_LIMIT was ready, which is what the lines make
+-- whose LF was fed, but for what was taken of it
 pub record StopsSoon (filter : Filter) (past : HandlePast) (bytes : List ℕ) (count : ℕ) : Type 0 where
-  pub before : ℕ
-  pub within : before < count
-  pub one : length (ended_lines_of (past.fed ++ take count bytes))
-      ≤ length (ended_lines_of (past.fed ++ take before bytes)) + 1
-  pub low : length (filter.so_far (ended_lines_of (past.fed ++ take before bytes))).output
-      + length (notices_text (filter.so_far (ended_lines_of (past.fed ++ take before bytes))).warnings)
+  pub low : length (filter.so_far (ended_lines_of (past.fed ++ take (count - 1) bytes))).output
+      + length (notices_text (filter.so_far (ended_lines_of (past.fed ++ take (count - 1) bytes))).warnings)
       < (length past.output + length past.messages) + READY_LIMIT
 
 -- a text was written and reported: what was taken of it, and then what is kept

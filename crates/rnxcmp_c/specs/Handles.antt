@@ -1,5 +1,5 @@
 -- A handle between two calls.
-use Rattle.std.specs.Prelude.{◌≡◌, ◌⊎◌, ◌<◌, ◌≤◌, ⊤, ℕ, ◌+◌, ◌-◌, Bool, List, [], ◌++◌, length, take, Option, Some, None}
+use Rattle.std.specs.Prelude.{is_some, true, ◌≡◌, ◌⊎◌, ◌<◌, ◌≤◌, ⊤, ℕ, ◌+◌, ◌-◌, Bool, List, [], ◌++◌, length, take, Option, Some, None}
 use Rattle.crx_faults.specs.meaning.Lines.{InputLine, lines_of}
 use Rattle.crx_faults.specs.meaning.Seen.{ended_lines_of}
 use Rattle.crx_faults.specs.declared.limits.TheConstants.{INPUT_LIMIT}
@@ -245,7 +245,8 @@ pub record IsFed (old new : Reader) (length count : ℕ) : Type 0 where
   pub within : count ≤ length
   pub some : 0 < length → ready_in old.held < READY_LIMIT → 0 < count
   pub all : new.outcome ≡ None → count < length → READY_LIMIT ≤ ready_in new.held
-  pub still : READY_LIMIT ≤ ready_in old.held → (count ≡ 0) × (new.held ≡ old.held)
+  pub still : READY_LIMIT ≤ ready_in old.held → (count ≡ 0) × (new.held ≡ old.held) × (new.outcome ≡ None)
+  pub ended : is_some new.outcome ≡ true → count ≡ length
 
 -- ---- what a call answers
 
@@ -283,7 +284,10 @@ pub record FeedsBytes (task : Task) (old new : Reader) (past : HandlePast) (byte
   pub some : 0 < length (allowed_after past bytes) → ready_in old.held < READY_LIMIT → 0 < used
   pub all : new.outcome ≡ None → used < length (allowed_after past bytes) → READY_LIMIT ≤ ready_in new.held
   pub soon : new.outcome ≡ None → 0 < used → StopsSoon (filter_for task) past (allowed_after past bytes) used
-  pub still : 0 < length (allowed_after past bytes) → READY_LIMIT ≤ ready_in old.held → (used ≡ 0) × (new.held ≡ old.held)
+  pub still : 0 < length (allowed_after past bytes) → READY_LIMIT ≤ ready_in old.held
+      → (used ≡ 0) × (new.held ≡ old.held) × (new.outcome ≡ None)
+  pub ended : 0 < length (allowed_after past bytes) → is_some new.outcome ≡ true
+      → used ≡ length (allowed_after past bytes)
 
 abbrev pub FeedsBy : Task → Reader → Reader → HandlePast → List ℕ → ℕ → Answer → Option Outcome → Type 0
 FeedsBy task old new past bytes used answer None = FeedsBytes task old new past bytes used answer

@@ -1,9 +1,10 @@
 //! Lines out of the bytes that are fed, through an engine.
 
-ghost use Rattle.std.specs.Prelude.{◌≡◌, ◌⊎◌, ◌≤◌, ◌<◌, ◌+◌, ℕ, List, [], length, take, drop, false, true, IsOk, OnOk, OnErr, IfOk, IfErr};
+ghost use Rattle.std.specs.Prelude.{◌≡◌, ◌⊎◌, ◌≤◌, ◌<◌, ◌+◌, ◌-◌, ℕ, List, [], length, take, drop, false, true, IsOk, OnOk, OnErr, IfOk, IfErr};
 ghost use Rattle.crx_faults.specs.declared.fault.At.{At};
 ghost use Rattle.crx_faults.specs.declared.limits.TheConstants.{INPUT_LIMIT};
 ghost use Rattle.crx_faults.specs.meaning.Lines.{InputLine, ends_with_return, lines_of, without_return};
+ghost use Rattle.crx_lines.specs.Reading.{HasNoFeed};
 ghost use Rattle.crx_runs.specs.Lawful.{IsLawful};
 ghost use Rattle.crx_runs.specs.meaning.Filters.{with_next};
 ghost use Rattle.rnxcmp_c.specs.Going.{IsAll, IsGoing, IsKept, IsTaken, LineStops, MovesOn, MovesWithin, RunBreaks, RunFails, StepStops, StopsBy, StopsSoon, piece_line};
@@ -197,7 +198,7 @@ fn take_next<E: Engine>(engine: &mut E, held: &mut Held, bytes: &[u8]) -> Result
     ensures drained { OnOk result (E.ready engine.new ≡ []) }
     ensures limit { held.new.limit ≡ held.old.limit }
     ensures count { IfOk result (λ n. (n ≤ length bytes.now) × (0 < length bytes.now → 0 < n)) }
-    ensures number { OnOk result (held.new.number ≤ held.old.number + 1) }
+    ensures piece { IfOk result (λ n. HasNoFeed (take (n - 1) bytes.now)) }
     ensures going { (past : HandlePast) → IsGoing (E.filter engine.old) (E.shows engine.old) held.old past
         → IfOk result (λ n. IsGoing (E.filter engine.old) (E.shows engine.new) held.new
         (fed_with past (take n bytes.now))) }

@@ -1,6 +1,7 @@
-use Rattle.std.proofs.Common.{rules, ℕ, ◌≡◌, ◌+◌, ◌-◌, ◌<◌, List, ◌++◌, length, take, drop, sym, ap, ◌∙◌, subst, arith, append_assoc}
+use Rattle.std.proofs.Common.{rules, ℕ, ◌≡◌, ◌+◌, ◌-◌, ◌<◌, ◌≤◌, List, ◌++◌, length, take, drop, sym, ap, ◌∙◌, subst, arith, append_assoc}
 use Rattle.std.proofs.Common.{length-append, length-take-le, ⊎_elim}
-use Rattle.std.proofs.lemmas.List.{take-append-drop}
+use Rattle.std.proofs.lemmas.List.{take-append-drop, take-append-le}
+use Rattle.crx_lines.specs.Reading.{HasNoFeed}
 use Rattle.std.proofs.lemmas.Result.{err_from_is_err_and}
 use Rattle.crx_runs.specs.meaning.Filters.{Filter}
 use Rattle.rnxcmp_c.specs.Going.{RunBreaks, IsGoing, StopsSoon}
@@ -11,6 +12,15 @@ use Rattle.rnxcmp_c.specs.declared.limits.TheConstants.{READY_LIMIT}
 use Rattle.rnxcmp_c.proofs.GoingLemmas.{soon-by}
 use Rattle.rnxcmp_c.proofs.PieceLemmas.{none-or}
 use Rattle.rnxcmp_c.proofs.lines.take_bytes.Goals as goal
+
+-- all but the last of the first bytes
+one-less : (count : ℕ) (bytes : List ℕ) → count ≤ length bytes
+    → take (length (take count bytes) - 1) (take count bytes) ≡ take (count - 1) bytes
+one-less count bytes within =
+    ap (λ (n : ℕ). take (n - 1) (take count bytes)) (length-take-le count bytes within)
+    ∙ sym (take-append-le (count - 1) (take count bytes) (drop count bytes)
+    (omega (arith, length-take-le count bytes within)))
+    ∙ ap (take (count - 1)) (take-append-drop count bytes)
 
 pub take_next-requires-clause-going : goal.take_next-requires-clause-going
 take_next-requires-clause-going g c =
@@ -67,11 +77,10 @@ bytes-preserved g c =
         λ long. ⊎_elim (λ none. subst (λ (h : Held). ready_in h < READY_LIMIT) (i.0.3 none) low)
             (λ some. i.0.4 some) (none-or (length done)),
         λ long past is.
-            let going = subst (λ (f : Filter). IsGoing f shows c.bytes.held (fed_with past done)) (sym i.1)
-            (i.0.2 past is) in
-            soon-by first shows past c.args.bytes.now done some (drop count left) c.bytes.held held
+            soon-by first shows past c.args.bytes.now done some (drop count left) c.bytes.held
             (i.0.1 ∙ ap (λ (l : List ℕ). done ++ l) (sym (take-append-drop count left))) (i.0.2 past is)
-            (c.in_ok-count.ensures.going (fed_with past done) going).number c.in_ok-count.ensures.number
+            (subst (λ (l : List ℕ). HasNoFeed l) (sym (one-less count left c.in_ok-count.ensures.count.0))
+            c.in_ok-count.ensures.piece)
             (omega (arith, more, length-take-le count left c.in_ok-count.ensures.count.0)) low,
       ),
       c.take_next.ensures.filter ∙ i.1,

@@ -1,4 +1,4 @@
-use Rattle.std.proofs.Common.{◌≡◌, ℕ, ◌+◌, List, [], ◌∷◌, ◌++◌, length, take, drop, refl, sym, ap, ◌∙◌, subst, arith}
+use Rattle.std.proofs.Common.{◌≡◌, ℕ, ◌+◌, ◌-◌, List, [], ◌∷◌, ◌++◌, length, take, drop, refl, sym, ap, ◌∙◌, subst, arith}
 use Rattle.std.proofs.lemmas.List.{take_all, take_more}
 use Rattle.crx_faults.specs.meaning.Seen.{ended_lines_of}
 use Rattle.crx_lines.specs.Reading.{HasNoFeed}
@@ -62,3 +62,15 @@ returns-in-Err-clause-breaks g c = λ (past : HandlePast) is.
     (breaks filter shows c.args.held.now past is mid piece same c.add-in-Some.ensures none
     new (drop (end + 1) bytes) c.in-Err.stop (c.in-Err.ensures.stops (ended_lines_of past.fed) (is.tail ++ piece)
     is.shown (mid-kept filter shows c.args.held.now past is mid piece same c.add-in-Some.ensures none)))
+
+pub returns-in-None-clause-piece : goal.returns-in-None-clause-piece
+returns-in-None-clause-piece g c =
+    let bytes = c.args.bytes.now in
+    no_feed-before bytes (length bytes - 1) (omega arith) (λ k h. c.in-None.ensures.none k (omega arith) (omega (arith, h)))
+
+pub returns-in-Ok-clause-piece : goal.returns-in-Ok-clause-piece
+returns-in-Ok-clause-piece g c =
+    let end : ℕ = c.in-Some.end in
+    subst (λ (n : ℕ). HasNoFeed (take n c.args.bytes.now)) (omega arith)
+    (no_feed-before c.args.bytes.now end (omega (arith, c.in-Some.ensures.within.1))
+    (λ k h. c.in-Some.ensures.first k (omega arith) h))
