@@ -10,7 +10,7 @@ returns-in-Ok-clause-done g c =
     elim c.run_to_target-ended.ensures.done [
       | inl begun ↦
           inl (from_file _ _ c.args.job.now.source c.args.job.now.target c.args.job.now.force _ _
-          c.text.result.now (c.in-Some.is ∙ ap Some (sym c.text.ensures)) c.args.job.now.tool c.args.options
+          c.text.result.now (c.in-Some.is ∙ ap Some (sym c.text.ensures.value)) c.args.job.now.tool c.args.options
           (reader_span g.R.Source c.args.input.now c.args.input.now)
           (span g.W.Sink c.args.output.now c.run_to_target-ended.new.output) messages c.run_to_target-ended.result.status
           c.in-Ok.opened c.run_to_target-ended.new.reader refl
