@@ -1,6 +1,6 @@
 -- An epoch line that was read: its satellites are as many as it announces, and no two of one identifier.
 use Rattle.std.specs.Prelude.{◌≡◌, refl, ℕ, ◌+◌, ◌*◌, Bool, true, false, not, List, [], ◌∷◌, map, drop, Option, Some}
-use Rattle.std.specs.Prelude.{None, Result, Ok, Err, if◌then◌else◌, length}
+use Rattle.std.specs.Prelude.{None, Result, Ok, Err, length}
 use Rattle.std.specs.List.{list_all, list_any, AllByRecursion}
 use Rattle.std.specs.Str.{bytes_eq}
 use Rattle.std.proofs.Common.{ap, subst, sym, ◌∙◌}

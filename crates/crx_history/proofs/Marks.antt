@@ -88,7 +88,8 @@ columns-held count flags =
 
 abbrev pub row_with_marks : Past → Satellite → List ℕ → List ReadCell → Result ReadRow Fault
 row_with_marks past satellite marks cells =
-    are_marks satellite.count marks otherwise Err BadFlags next Ok (row_of_cells past satellite.name marks cells)
+    are_marks satellite.count marks otherwise Err BadFlags next
+    Ok (row_of_cells past satellite.name marks cells)
 
 -- a line for so many types: the first cell with a fault decides, then the marks
 abbrev pub row_of_line : Past → Satellite → List ℕ → Result ReadRow Fault
@@ -122,8 +123,8 @@ line-marks : (arcs : List (Option ArcTail)) (flags : List ℕ)
     → cells_read (value_at_place arcs) (cells_of satellite.count line) ≡ Ok cells
     → after_cells satellite.count line ≡ drop at line → are_marks satellite.count (drop at line) ≡ b
     → row_held_from arcs flags satellite line
-    ≡ and_then (b otherwise Err BadFlags next Ok (row_of_cells (past_of_row arcs flags) satellite.name (drop at line) cells))
-    (λ read. Ok (held_from arcs flags read))
+    ≡ and_then (b otherwise Err BadFlags next
+    Ok (row_of_cells (past_of_row arcs flags) satellite.name (drop at line) cells)) (λ read. Ok (held_from arcs flags read))
 line-marks arcs flags satellite line at cells b h good marks e =
     line-cells arcs flags satellite line h (Ok cells) good
     ∙ ap {B = Result HeldRow Fault} (λ text. and_then
@@ -241,12 +242,14 @@ row-decided : (tail : Tail) (satellite : Satellite)
     (marks : List ℕ) (begins good : Bool) (r : Result (List ReadCell) Fault)
     → ◌≡◌ {A = Result HeldRow Fault}
     (and_then (if begins then Err Truncated else and_then r (λ cells.
-    good otherwise Err BadFlags next Ok (row_of_cells (past_of_row (arcs_of_tail (tail_named satellite.name tail))
+    good otherwise Err BadFlags next
+    Ok (row_of_cells (past_of_row (arcs_of_tail (tail_named satellite.name tail))
     (flags_of_tail (tail_named satellite.name tail))) satellite.name marks cells)))
     (λ read. Ok (held_from (arcs_of_tail (tail_named satellite.name tail))
     (flags_of_tail (tail_named satellite.name tail)) read)))
     (and_then (if begins then Err Truncated else and_then r
-    (λ cells. good otherwise Err BadFlags next Ok (row_of_cells (past_of_tail tail) satellite.name marks cells)))
+    (λ cells. good otherwise Err BadFlags next
+    Ok (row_of_cells (past_of_tail tail) satellite.name marks cells)))
     (λ read. Ok (held_row tail read)))
 row-decided tail satellite marks true good r = refl
 row-decided tail satellite marks false good (Err fault) = refl

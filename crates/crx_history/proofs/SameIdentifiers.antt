@@ -51,7 +51,8 @@ read_after_columns types rest count =
 read-after_columns : (types : List Count) (text : List ℕ) (count : ℕ)
     → satellites_counted types text (Some count) ≡ read_after_columns types (drop HEAD_WIDTH text) count
 read-after_columns types text count =
-    ap {B = Result (List Satellite) Fault} (λ ns. list_all is_blank (drop (HEAD_WIDTH + NAME_WIDTH * count) text)
+    ap {B = Result (List Satellite) Fault}
+    (λ ns. list_all is_blank (drop (HEAD_WIDTH + NAME_WIDTH * count) text)
     otherwise Err BadEpoch next satellites_named types [] ns) (names-after_columns text count)
     ∙ ap {B = Result (List Satellite) Fault} (λ t. list_all is_blank t
     otherwise Err BadEpoch next satellites_named types [] (names_after_columns (drop HEAD_WIDTH text) count))

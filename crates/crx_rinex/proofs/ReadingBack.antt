@@ -1,7 +1,7 @@
 -- What is printed of rows, epoch lines and epochs is read back.
 use Rattle.std.proofs.Common.{◌≡◌, ◌≢◌, ℕ, ℤ, ◌+◌, ◌-◌, ◌*◌, ◌<◌, suc, Bool, true, false, not, cond, eqb, ◌&&◌, List}
-use Rattle.std.proofs.Common.{[], ◌∷◌, ◌++◌, length, drop, map, Option, Some, None, IfSome, Result, Ok, refl, ap, sym, subst}
-use Rattle.std.proofs.Common.{◌∙◌, ◌⊎◌, inl, inr, arith, append-nil, append_assoc, length-append}
+use Rattle.std.proofs.Common.{[], ◌∷◌, ◌++◌, length, drop, map, Option, Some, None, IfSome, Ok, refl, ap, sym, subst}
+use Rattle.std.proofs.Common.{Result, ◌∙◌, ◌⊎◌, inl, inr, arith, append-nil, append_assoc, length-append}
 use Rattle.std.specs.Prelude.{All, ◌==◌}
 use Rattle.std.specs.List.{concat, list_all}
 use Rattle.std.specs.Option.{option_and_then, ForSome}
@@ -22,10 +22,10 @@ use Rattle.crx_text.proofs.ReadBack.{number_of-number_text}
 use Rattle.crx_columns.specs.meaning.Texts.{is_kept}
 use Rattle.crx_rinex.specs.meaning.Observations.{Row, Epoch}
 use Rattle.crx_header.specs.meaning.ObservationTypes.{Count, is_system}
-use Rattle.crx_rinex.specs.meaning.EpochLines.{HeadLine, EpochHead, ObservationHead, IsObservationHead, IsClockOffset}
+use Rattle.crx_rinex.specs.meaning.EpochLines.{EpochHead, ObservationHead, IsObservationHead, IsClockOffset}
 use Rattle.crx_header.specs.meaning.EpochColumns.{begins_epoch, is_event_flag, is_observation_flag, satellites_in}
 use Rattle.crx_header.specs.meaning.EpochColumns.{satellites_of, epoch_count}
-use Rattle.crx_rinex.specs.meaning.EpochLines.{epoch_head, head_of}
+use Rattle.crx_rinex.specs.meaning.EpochLines.{HeadLine, epoch_head, head_of}
 use Rattle.crx_rinex.specs.meaning.Epochs.{has_satellite, are_different, IsWholeEpoch}
 use Rattle.crx_rinex.specs.meaning.EpochPlaces.{OpenEpoch, EpochBegins, opened, rows_wanted, epoch_of, with_next_row}
 use Rattle.crx_rinex.specs.meaning.EpochPlaces.{next_row, rows_at, rest_at, begun_by, beginning_of, unit_begun}
@@ -230,7 +230,8 @@ head-chosen line head count clock begins flag same counted blank reads =
     let rest : epoch_head line (Some count) ≡ Ok (EpochHead (columns line 1 41) count clock) =
     rw (blank, reads) refl in
     let all : head_of line ≡ epoch_head line (epoch_count (columns line 1 41)) = rw (begins, flag) refl in
-    all ∙ ap (epoch_head line) first ∙ rest ∙ ap {B = Result HeadLine Fault} (λ h. Ok (EpochHead h count clock)) same
+    all ∙ ap (epoch_head line) first ∙ rest
+    ∙ ap {B = Result HeadLine Fault} (λ h. Ok (EpochHead h count clock)) same
 
 clock-back : (clock : Option ℤ) → IsClockOffset clock → clock_of (clock_text clock) ≡ Some clock
 clock-back clock h = number_of-number_text CLOCK_WIDTH CLOCK_DECIMALS clock

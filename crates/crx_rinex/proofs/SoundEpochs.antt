@@ -175,7 +175,8 @@ count_case : (line : List ℕ) (o : Option ℕ) → epoch_count (columns line 1 
 count_case line None e = tt
 count_case line (Some count) e =
     elim (list_all is_blank (drop 56 line)) as (λ b.
-    IsSoundHead (cond (not b) (Err BadEpoch) (with_clock (columns line 1 41) count (clock_of (columns line 42 15))))) [
+    IsSoundHead (cond (not b) (Err BadEpoch)
+    (with_clock (columns line 1 41) count (clock_of (columns line 42 15))))) [
       | true ↦ clock_case line count e (clock_of (columns line 42 15)) refl
       | false ↦ tt
     ]

@@ -79,7 +79,8 @@ no-memory-at-row before s line fault e out =
     (λ read. Ok (held_row before read)) (by_start (begins_epoch line)) (λ read h. cc) (ap fault_in e ∙ out)
   where
     by_marks : (cells : List ReadCell) (b : Bool) → NoMemory {X = ReadRow} (if not b
-        then Err BadFlags else Ok (row_of_cells (past_of_tail before) s.name (after_cells s.count line) cells))
+        then Err BadFlags
+        else Ok (row_of_cells (past_of_tail before) s.name (after_cells s.count line) cells))
     by_marks cells true = λ e. cc
     by_marks cells false = λ e. cc
 

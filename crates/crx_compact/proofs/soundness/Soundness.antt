@@ -1,6 +1,6 @@
 -- What follows of an epoch from its having been read.
-use Rattle.std.specs.Prelude.{◌≡◌, refl, ℕ, suc, ◌+◌, ◌*◌, Bool, true, false, not, ℤ, List, [], ◌∷◌, map, length}
-use Rattle.std.specs.Prelude.{slice_index_or, drop, Option, Some, None, Result, Ok, Err, ⊤, if◌then◌else◌}
+use Rattle.std.specs.Prelude.{◌≡◌, refl, ℕ, suc, ◌+◌, ◌*◌, Bool, true, false, ℤ, List, [], ◌∷◌, map, length}
+use Rattle.std.specs.Prelude.{slice_index_or, drop, Option, Some, None, Result, Ok, Err, ⊤, not, if◌then◌else◌}
 use Rattle.std.specs.List.{AllByRecursion}
 use Rattle.std.proofs.Common.{sym, ◌∙◌, ap, subst, arith}
 use Rattle.std.proofs.lemmas.List.{length-map}
@@ -145,7 +145,8 @@ line-facts past satellite line read e =
     read (if-err (begins_epoch line) Truncated (row_of_line past satellite line) read e) in
     let row = row_of_cells past satellite.name marks step.from in
     subst (RowFacts past satellite)
-    (ok-same row read (if-err (not (are_marks satellite.count marks)) BadFlags (Ok row) read step.next)) (record {
+    (ok-same row read
+    (if-err (not (are_marks satellite.count marks)) BadFlags (Ok row) read step.next)) (record {
       cells = step.from;
       are_read = read-cells (past.value satellite.name) texts step.from step.first;
       counted = cells-count (past.value satellite.name) texts step.from step.first

@@ -58,9 +58,11 @@ clock-begun line head count (Some clock) = tt
 epoch-begun : (line : List ℕ) (o : Option ℕ) → OfOk IsEventBegun (begun_by line (epoch_head line o))
 epoch-begun line None = tt
 epoch-begun line (Some count) =
-    chosen (λ r. OfOk IsEventBegun (begun_by line r)) (not (list_all is_blank (drop (HEAD_WIDTH + CLOCK_WIDTH) line)))
-    (Err BadEpoch) (with_clock (columns line 1 HEAD_WIDTH) count (clock_of (columns line (HEAD_WIDTH + 1) CLOCK_WIDTH)))
-    tt (clock-begun line (columns line 1 HEAD_WIDTH) count (clock_of (columns line (HEAD_WIDTH + 1) CLOCK_WIDTH)))
+    chosen (λ r. OfOk IsEventBegun (begun_by line r))
+    (not (list_all is_blank (drop (HEAD_WIDTH + CLOCK_WIDTH) line))) (Err BadEpoch)
+    (with_clock (columns line 1 HEAD_WIDTH) count (clock_of (columns line (HEAD_WIDTH + 1) CLOCK_WIDTH))) tt
+    (clock-begun line (columns line 1 HEAD_WIDTH) count
+    (clock_of (columns line (HEAD_WIDTH + 1) CLOCK_WIDTH)))
 
 line-begun : (line : List ℕ) → OfOk IsEventBegun (beginning_of line)
 line-begun line = by_bool (begins_epoch line)
