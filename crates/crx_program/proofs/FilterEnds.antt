@@ -7,6 +7,7 @@ use Rattle.crx_lines.specs.declared.device.Source.{Ghosts as SourceGhosts}
 use Rattle.crx_options.specs.meaning.Choices.{Choices}
 use Rattle.crx_runs.specs.meaning.Spans.{Input, Device, reader_span}
 use Rattle.crx_program.specs.meaning.Jobs.{IsJobDone, IsFilteredFrom, IsFilteredInto, IsNotBegun, IsOpened}
+use Rattle.jiff.specs.declared.timestamp.Timestamp.{Timestamp}
 use Rattle.crx_command.specs.declared.job.Job.{Job}
 use Rattle.crx_command.specs.declared.job.Tool.{Tool}
 
@@ -30,10 +31,11 @@ still_not_begun job messages status P Q h f =
     record { why = h.why; can = h.can; shown = h.shown; status_is = h.status_is; same = f h.same }
 
 -- what is done for a job is done for the same job
-pub done_for : {F G : Type 0} (sources : SourceGhosts (Logged (Std F))) (sinks : SinkGhosts (Logged G)) (a b : Job)
+pub done_for : {F G : Type 0} (sources : SourceGhosts (Logged (Std F))) (sinks : SinkGhosts (Logged G))
+    (moment : Option Timestamp) (a b : Job)
     (source : Option (Logged (Std F))) (target : Option (Logged G)) (input : Input) (output messages : Device)
     (status : ℕ) (P : Type 0) → a ≡ b
-    → IsJobDone sources sinks a source target input output messages status P
-    → IsJobDone sources sinks b source target input output messages status P
-done_for sources sinks a b source target input output messages status P e h =
-    subst (λ (j : Job). IsJobDone sources sinks j source target input output messages status P) e h
+    → IsJobDone sources sinks moment a source target input output messages status P
+    → IsJobDone sources sinks moment b source target input output messages status P
+done_for sources sinks moment a b source target input output messages status P e h =
+    subst (λ (j : Job). IsJobDone sources sinks moment j source target input output messages status P) e h

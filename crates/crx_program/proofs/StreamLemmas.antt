@@ -7,6 +7,7 @@ use Rattle.std.specs.Io.KnownBytes.{Appends, Consumes, IsAtEnd}
 use Rattle.crx_faults.specs.declared.fault.At.{At}
 use Rattle.crx_options.specs.meaning.Choices.{Choices}
 use Rattle.crx_runs.specs.meaning.Spans.{Input, Device, reader_span, span}
+use Rattle.jiff.specs.declared.timestamp.Timestamp.{Timestamp}
 use Rattle.crx_command.specs.declared.job.Job.{Job}
 use Rattle.crx_command.specs.declared.job.Tool.{Tool}
 use Rattle.crx_program.specs.declared.log.Logged.{Logged}
@@ -167,17 +168,17 @@ module _ {G O : Type 0} (sinks : SinkGhosts (Logged (Std G))) (outputs : SinkGho
         }
 
     module _ {E : Type 0} (reports : SinkGhosts (Logged (Std E))) (report_takes : Takes reports)
-        (job : Job) (source : Option (Logged (Std F))) (target : Option (Logged (Std G)))
+        (moment : Option Timestamp) (job : Job) (source : Option (Logged (Std F))) (target : Option (Logged (Std G)))
         (first last : Logged (Std I)) (before after : Logged (Std O)) (quiet spoken : Logged (Std E))
         (none : first.log.bytes ≡ []) (empty : before.log.bytes ≡ []) (silent : quiet.log.bytes ≡ [])
         (same_input : is_some job.source ≡ true → last ≡ first) (same : is_some job.target ≡ true → after ≡ before)
         (status : ℕ) where
       -- a run without a fault is exact
-      exact_of : (choices : Choices) → IsChosen job.tool job.date job.every job.skip choices
+      exact_of : (choices : Choices) → IsChosen moment job.tool job.date job.every job.skip choices
           → Placed job source target last after choices (span reports quiet spoken) status → (status ≡ 1 → ⊥)
           → (given : List ℕ) × (written : List ℕ) × Gave job.source source last given × IsEndTold source last
           × Took job.target job.force target after written × IsFlushed target after
-          × IsAllOf job given written spoken.log.bytes status
+          × IsAllOf moment job given written spoken.log.bytes status
       exact_of choices chosen place well =
           let run = good job.tool choices place.reader place.writing.writer (span reports quiet spoken) status
           place.writing.ran well in
@@ -199,10 +200,10 @@ module _ {G O : Type 0} (sinks : SinkGhosts (Logged (Std G))) (outputs : SinkGho
           )
 
       -- whatever ended a run, what was written is a front part
-      front_of : (choices : Choices) → IsChosen job.tool job.date job.every job.skip choices
+      front_of : (choices : Choices) → IsChosen moment job.tool job.date job.every job.skip choices
           → Placed job source target last after choices (span reports quiet spoken) status
           → (given : List ℕ) × (written : List ℕ) × Gave job.source source last given
-          × Took job.target job.force target after written × IsFrontPartOf job given written
+          × Took job.target job.force target after written × IsFrontPartOf moment job given written
       front_of choices chosen place =
           let ran = place.writing.ran in
           let front = ran.3.front in (
@@ -221,19 +222,19 @@ module _ {G O : Type 0} (sinks : SinkGhosts (Logged (Std G))) (outputs : SinkGho
           placed job job.source refl source target first last before after none empty same_input same choices
           (span reports quiet spoken) status h
 
-      exact : (P : Type 0) → IsJobDone sources sinks job source target (reader_span inputs first last)
+      exact : (P : Type 0) → IsJobDone sources sinks moment job source target (reader_span inputs first last)
           (span outputs before after) (span reports quiet spoken) status P → (status ≡ 1 → ⊥)
           → (given : List ℕ) × (written : List ℕ) × Gave job.source source last given × IsEndTold source last
           × Took job.target job.force target after written × IsFlushed target after
-          × IsAllOf job given written spoken.log.bytes status
+          × IsAllOf moment job given written spoken.log.bytes status
       exact P (inl begun) well = exact_of begun.0 begun.1 (place_of begun.0 begun.2) well
       exact P (inr not_begun) well = absurd (well not_begun.status_is)
 
-      front : IsJobDone sources sinks job source target (reader_span inputs first last)
+      front : IsJobDone sources sinks moment job source target (reader_span inputs first last)
           (span outputs before after) (span reports quiet spoken) status
           ((last ≡ first) × (after ≡ before) × (target ≡ None))
           → ((given : List ℕ) × (written : List ℕ) × Gave job.source source last given
-          × Took job.target job.force target after written × IsFrontPartOf job given written)
+          × Took job.target job.force target after written × IsFrontPartOf moment job given written)
           ⊎ ((last.log.bytes ≡ []) × (after.log.bytes ≡ []) × (target ≡ None))
       front (inl begun) = inl (front_of begun.0 begun.1 (place_of begun.0 begun.2))
       front (inr not_begun) =
@@ -296,33 +297,33 @@ flushes contents a flushed = flushed
 
 module _ {F G I O E : Type 0} (file : F → Option (List ℕ)) (made : G → Option (List ℕ)) (stdin : I → Option (List ℕ))
     (stdout : O → Option (List ℕ)) (stderr : E → Option (List ℕ))
-    (job : Job) (source : Option (Logged (Std F))) (target : Option (Logged (Std G)))
+    (moment : Option Timestamp) (job : Job) (source : Option (Logged (Std F))) (target : Option (Logged (Std G)))
     (first last : Logged (Std I)) (before after : Logged (Std O)) (quiet spoken : Logged (Std E))
     (none : first.log.bytes ≡ []) (empty : before.log.bytes ≡ []) (silent : quiet.log.bytes ≡ [])
     (same_input : is_some job.source ≡ true → last ≡ first) (same : is_some job.target ≡ true → after ≡ before)
     (status : ℕ) where
-  pub exact_run : (P : Type 0) → IsJobDone (reader_of file) (writer_of made) job source target
+  pub exact_run : (P : Type 0) → IsJobDone (reader_of file) (writer_of made) moment job source target
       (reader_span (reader_of stdin) first last) (span (writer_of stdout) before after)
       (span (writer_of stderr) quiet spoken) status P → (status ≡ 1 → ⊥)
       → (given : List ℕ) × (written : List ℕ) × Gave job.source source last given × IsEndTold source last
       × Took job.target job.force target after written × IsFlushed target after
-      × IsAllOf job given written spoken.log.bytes status
+      × IsAllOf moment job given written spoken.log.bytes status
   exact_run P h well =
       exact (writer_of made) (writer_of stdout) (takes made) (takes stdout) (flushes made) (flushes stdout)
       (reader_of file) (reader_of stdin) (gives file) (gives stdin) (tells file) (tells stdin)
-      (writer_of stderr) (takes stderr) job source target first last before after quiet spoken
+      (writer_of stderr) (takes stderr) moment job source target first last before after quiet spoken
       none empty silent same_input same status P h well
 
-  pub front_run : IsJobDone (reader_of file) (writer_of made) job source target
+  pub front_run : IsJobDone (reader_of file) (writer_of made) moment job source target
       (reader_span (reader_of stdin) first last) (span (writer_of stdout) before after)
       (span (writer_of stderr) quiet spoken) status ((last ≡ first) × (after ≡ before) × (target ≡ None))
       → ((given : List ℕ) × (written : List ℕ) × Gave job.source source last given
-      × Took job.target job.force target after written × IsFrontPartOf job given written)
+      × Took job.target job.force target after written × IsFrontPartOf moment job given written)
       ⊎ ((last.log.bytes ≡ []) × (after.log.bytes ≡ []) × (target ≡ None))
   front_run h =
       front (writer_of made) (writer_of stdout) (takes made) (takes stdout) (flushes made) (flushes stdout)
       (reader_of file) (reader_of stdin) (gives file) (gives stdin) (tells file) (tells stdin)
-      (writer_of stderr) (takes stderr) job source target first last before after quiet spoken
+      (writer_of stderr) (takes stderr) moment job source target first last before after quiet spoken
       none empty silent same_input same status h
 
 -- a new device over a new one of std is fresh

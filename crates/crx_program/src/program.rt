@@ -10,7 +10,7 @@ ghost use Rattle.crx_runs.specs.meaning.Spans.{span, reader_span};
 
 use crate::log::{Logged, Made, open_to_read, open_to_write};
 use crate::refusal::{refuse, report, report_at_start};
-use crx_command::date::default_date;
+use crx_command::date::date_text;
 use crx_command::job::{Decision, Job, Tool};
 use crx_command::plan::plan;
 use crx_command::word::Word;
@@ -18,11 +18,12 @@ use crx_faults::Fault;
 use crx_filter::{Options, check, compact, expand};
 use crx_lines::{Sink, Source, Std, write_all_counted};
 use crx_runs::UntilFailure;
+use jiff::Timestamp;
 use std::alloc::{AllocError, Global};
 use std::fs::OpenOptions;
 use std::io;
 use std::io::{BufWriter, ErrorKind, Write};
-use std::rt::{Clock, Files};
+use std::rt::Files;
 
 /// A file that is read, as a device that knows its name and what its reads gave.
 pub type SourceFile<F> = Logged<Std<F>>;
@@ -64,17 +65,20 @@ fn options_with(job: &Job, date: &str) -> Options
     Options::new(job.every, job.skip, date.as_bytes()).unwrap()
 }
 
-/// What the user chose: the date among the arguments, else that of the clock's moment where one is needed.
-fn options_of<C: Clock>(clock: &C, alloc: Global, job: &Job) -> Result<Options, AllocError>
+/// What the user chose: the date among the arguments, else that of the moment where one is needed.
+fn options_of(alloc: Global, moment: Option<Timestamp>, job: &Job) -> Result<Options, AllocError>
     requires { option_map_or is_date job.now.date true ≡ true }
-    ensures { IfOk result (λ options. IsChosen job.now.tool job.now.date job.now.every job.now.skip options) }
+    ensures { IfOk result (λ options. IsChosen moment job.now.tool job.now.date job.now.every job.now.skip options) }
 {
     match (&job.date, job.tool) {
         (Some(date), _) => Ok(options_with(job, date.text())),
-        (None, Tool::Compact) => {
-            let date = default_date(clock, alloc)?;
-            Ok(options_with(job, date.as_str()))
-        }
+        (None, Tool::Compact) => match moment {
+            Some(at) => {
+                let date = date_text(alloc, at)?;
+                Ok(options_with(job, date.as_str()))
+            }
+            None => Ok(options_with(job, "")),
+        },
         (None, _) => Ok(options_with(job, "")),
     }
 }
@@ -213,9 +217,10 @@ fn run_from_source<H: Files, R: Source, W: Sink, M: Sink>(
 
 /// Does a job: makes the default date where one is needed, then opens the input file, then makes the
 /// output file, and runs the filter.
-fn run_job<H: Files + Clock, R: Source, W: Sink, M: Sink>(
+fn run_job<H: Files, R: Source, W: Sink, M: Sink>(
     rt: &H,
     alloc: Global,
+    moment: Option<Timestamp>,
     job: &Job,
     input: &mut R,
     output: &mut W,
@@ -225,11 +230,11 @@ fn run_job<H: Files + Clock, R: Source, W: Sink, M: Sink>(
     ensures input { is_some job.now.source ≡ true → input.new ≡ input.old }
     ensures output { is_some job.now.target ≡ true → output.new ≡ output.old }
     ensures done { IsJobDone ⟦<SourceFile<H::File> as Source>⟧ ⟦<TargetFile<H::File> as Sink>⟧
-        job.now result.source result.target (reader_span R.Source input.old input.new)
+        moment job.now result.source result.target (reader_span R.Source input.old input.new)
         (span W.Sink output.old output.new) (span M.Sink messages.old messages.new) result.status
         ((input.new ≡ input.old) × (output.new ≡ output.old) × (result.target ≡ None)) }
 {
-    match options_of(rt, alloc, job) {
+    match options_of(alloc, moment, job) {
         Ok(options) => run_from_source(rt, alloc, job, options, input, output, messages),
         Err(_) => Ended::without_files(report_at_start(messages, Fault::OutOfMemory)),
     }
@@ -249,7 +254,8 @@ fn show_help<W: Sink, M: Sink>(text: &Word, output: &mut W, messages: &mut M) ->
 }
 
 /// Does what the arguments ask for, and answers the exit status and the devices of the files that it opened; the arguments come without
-/// the program's name. `input` and `output` stand for standard input and standard output.
+/// the program's name. `input` and `output` stand for standard input and standard output, and `moment` is what the clock gave: the default
+/// date is its own, and empty where there is none.
 ///
 /// A run's status is that of its filter: 0 where no message was written, 1 where an error ended it, and
 /// 2 where there were warnings alone or, for `check`, where the file isn't standard. Help is written to
@@ -260,9 +266,10 @@ fn show_help<W: Sink, M: Sink>(text: &Word, output: &mut W, messages: &mut M) ->
 ///
 /// The default date is made first, where one is needed; then the input file is opened, then the output
 /// file is made.
-pub fn run<H: Files + Clock, R: Source, W: Sink, M: Sink>(
+pub fn run<H: Files, R: Source, W: Sink, M: Sink>(
     rt: &H,
     alloc: Global,
+    moment: Option<Timestamp>,
     words: Vec<String>,
     input: &mut R,
     output: &mut W,
@@ -280,13 +287,13 @@ pub fn run<H: Files + Clock, R: Source, W: Sink, M: Sink>(
         → is_some job.target ≡ true → output.new ≡ output.old }
     ensures done { (job : Job) → plan_of (map string_bytes words.items) ≡ Run job
         → IsJobDone ⟦<SourceFile<H::File> as Source>⟧ ⟦<TargetFile<H::File> as Sink>⟧
-        job result.source result.target (reader_span R.Source input.old input.new) (span W.Sink output.old output.new)
+        moment job result.source result.target (reader_span R.Source input.old input.new) (span W.Sink output.old output.new)
         (span M.Sink messages.old messages.new) result.status
         ((input.new ≡ input.old) × (output.new ≡ output.old) × (result.target ≡ None)) }
 {
     match plan(alloc, words) {
         Ok(Decision::Help(text)) => Ended::without_files(show_help(&text, output, messages)),
-        Ok(Decision::Run(job)) => run_job(rt, alloc, &job, input, output, messages),
+        Ok(Decision::Run(job)) => run_job(rt, alloc, moment, &job, input, output, messages),
         Err(fault) => Ended::without_files(refuse(alloc, messages, &fault)),
     }
 }

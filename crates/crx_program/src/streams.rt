@@ -12,9 +12,10 @@ use crate::program::{SourceFile, TargetFile, run};
 use crx_command::job::Job;
 use crx_lines::{Sink, Source, Std};
 use crx_runs::UntilFailure;
+use jiff::Timestamp;
 use std::alloc::Global;
 use std::io::{BufWriter, Read, Write};
-use std::rt::{Clock, Files};
+use std::rt::Files;
 
 /// Standard output, as a device that knows what was written to it; it is over a buffer.
 pub type OutputDevice<O> = TargetFile<O>;
@@ -37,9 +38,10 @@ pub struct Whole<I, O: Write + Drop, E, F: Write + Drop> {
 }
 
 /// Does what the arguments ask for, over standard streams (see [`run`]), and hands these back.
-pub fn run_over<H: Files + Clock, I: Read, O: Write + Drop, E: Write>(
+pub fn run_over<H: Files, I: Read, O: Write + Drop, E: Write>(
     rt: &H,
     alloc: Global,
+    moment: Option<Timestamp>,
     words: Vec<String>,
     stdin: I,
     stdout: BufWriter<UntilFailure<O>>,
@@ -58,18 +60,26 @@ pub fn run_over<H: Files + Clock, I: Read, O: Write + Drop, E: Write>(
         → FromFresh result.input (λ input. FromFresh result.output (λ output.
         FromFresh result.messages (λ messages.
         IsJobDone ⟦<SourceFile<H::File> as Source>⟧ ⟦<TargetFile<H::File> as Sink>⟧
-        job result.source result.target (reader_span ⟦<Logged<Std<I>> as Source>⟧ input result.input)
+        moment job result.source result.target (reader_span ⟦<Logged<Std<I>> as Source>⟧ input result.input)
         (span ⟦<OutputDevice<O> as Sink>⟧ output result.output)
         (span ⟦<Logged<Std<E>> as Sink>⟧ messages result.messages) result.status
         ((result.input ≡ input) × (result.output ≡ output) × (result.target ≡ None))))) }
     ensures exact { (job : Job) → plan_of (map string_bytes words.items) ≡ Run job
-        → (result.status ≡ 1 → ⊥) → IsExact job result }
-    ensures front { (job : Job) → plan_of (map string_bytes words.items) ≡ Run job → IsFrontOf job result }
+        → (result.status ≡ 1 → ⊥) → IsExact moment job result }
+    ensures front { (job : Job) → plan_of (map string_bytes words.items) ≡ Run job → IsFrontOf moment job result }
 {
     let mut input = Logged::new(Std::new(stdin));
     let mut output = Logged::new(Std::new(stdout));
     let mut messages = Logged::new(Std::new(stderr));
-    let ended = run(rt, alloc, words, &mut input, &mut output, &mut messages);
+    let ended = run(
+        rt,
+        alloc,
+        moment,
+        words,
+        &mut input,
+        &mut output,
+        &mut messages,
+    );
     Whole {
         status: ended.status,
         input,

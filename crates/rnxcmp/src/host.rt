@@ -11,6 +11,7 @@ use crx_program::log::OUTPUT_BUFFER;
 use crx_program::refusal::{refuse, report_at_start};
 use crx_program::streams::{Whole, run_over};
 use crx_runs::UntilFailure;
+use jiff::Timestamp;
 use std::alloc::Global;
 use std::fs::File;
 use std::io::{BufWriter, Stderr, Stdin, Stdout};
@@ -40,14 +41,23 @@ fn words_given(rt: &HostRuntime) -> Result<Vec<String>, UsageFault> {
 /// Does what the arguments ask for, over the standard streams (see [`run`](crate::run)), and hands these back.
 pub fn run_streams(
     rt: &HostRuntime,
+    moment: Option<Timestamp>,
     words: Vec<String>,
     stdout: BufWriter<UntilFailure<Stdout>>,
 ) -> Whole<Stdin, Stdout, Stderr, File>
     ensures exact { (job : Job) → plan_of (map string_bytes words.items) ≡ Run job
-        → (result.status ≡ 1 → ⊥) → IsExact job result }
-    ensures front { (job : Job) → plan_of (map string_bytes words.items) ≡ Run job → IsFrontOf job result }
+        → (result.status ≡ 1 → ⊥) → IsExact moment job result }
+    ensures front { (job : Job) → plan_of (map string_bytes words.items) ≡ Run job → IsFrontOf moment job result }
 {
-    run_over(rt, rt.alloc(), words, rt.stdin(), stdout, rt.stderr())
+    run_over(
+        rt,
+        rt.alloc(),
+        moment,
+        words,
+        rt.stdin(),
+        stdout,
+        rt.stderr(),
+    )
 }
 
 /// Does what the arguments ask for, over the standard streams, and answers the exit status. The output goes through a buffer.
@@ -74,5 +84,6 @@ pub fn run_host(rt: &HostRuntime) -> ExitCode {
         let mut messages = Std::new(rt.stderr());
         return ExitCode::from(report_at_start(&mut messages, Fault::OutOfMemory));
     };
-    ExitCode::from(run_streams(rt, words, buffer).close())
+    let moment = Timestamp::now(rt).ok();
+    ExitCode::from(run_streams(rt, moment, words, buffer).close())
 }

@@ -18,7 +18,8 @@ use Rattle.crx_runs.specs.meaning.Filters.{Filter}
 use Rattle.crx_runs.specs.meaning.Results.{FilterResult}
 use Rattle.crx_runs.specs.meaning.Runs.{RunsAs}
 use Rattle.crx_reading.specs.meaning.Standard.{checked}
-use Rattle.crx_command.specs.meaning.Dates.{IsDefaultDate}
+use Rattle.crx_command.specs.meaning.Dates.{IsDateText}
+use Rattle.jiff.specs.declared.timestamp.Timestamp.{Timestamp}
 use Rattle.crx_command.specs.declared.job.Job.{Job}
 use Rattle.crx_command.specs.declared.job.Tool.{Tool}
 use Rattle.crx_command.specs.declared.job.Tool.TheVariants.{Compact, Expand, Check}
@@ -29,12 +30,18 @@ use Rattle.crx_program.specs.meaning.Program.{at_start, IsShownOr}
 
 -- ---- a run
 
+-- the date of the moment that the clock gave, or none where it gave none
+abbrev pub IsDateOf : Option Timestamp → List ℕ → Type 0
+IsDateOf None date = date ≡ []
+IsDateOf (Some moment) date = IsDateText moment.nanosecond date
+
 -- the choices of a job; the date counts in a compaction alone
-abbrev pub IsChosen : Tool → Option (List ℕ) → Option ℕ → Bool → Choices → Type 0
-IsChosen tool (Some date) every skip choices = choices ≡ choices_of every skip date
-IsChosen Compact None every skip choices = (date : List ℕ) × IsDefaultDate date × (choices ≡ choices_of every skip date)
-IsChosen Expand None every skip choices = choices ≡ choices_of every skip []
-IsChosen Check None every skip choices = choices ≡ choices_of every skip []
+abbrev pub IsChosen : Option Timestamp → Tool → Option (List ℕ) → Option ℕ → Bool → Choices → Type 0
+IsChosen moment tool (Some date) every skip choices = choices ≡ choices_of every skip date
+IsChosen moment Compact None every skip choices =
+    (date : List ℕ) × IsDateOf moment date × (choices ≡ choices_of every skip date)
+IsChosen moment Expand None every skip choices = choices ≡ choices_of every skip []
+IsChosen moment Check None every skip choices = choices ≡ choices_of every skip []
 
 -- what a tool makes of an input, whole and line by line
 abbrev pub tool_result : Tool → Choices → List ℕ → FilterResult
@@ -139,17 +146,17 @@ IsFilteredFrom {F = F} sources sink (Some name) source target_name force target 
     status
 
 -- the filter of a job ran with the job's choices
-abbrev pub IsBegun : {F G : Type 0} → SourceGhosts (Logged (Std F)) → SinkGhosts (Logged G) → Job
+abbrev pub IsBegun : {F G : Type 0} → SourceGhosts (Logged (Std F)) → SinkGhosts (Logged G) → Option Timestamp → Job
     → Option (Logged (Std F)) → Option (Logged G) → Input → Device → Device → ℕ → Type 0
-IsBegun sources sink job source target input output messages status = (choices : Choices)
-    × IsChosen job.tool job.date job.every job.skip choices
+IsBegun sources sink moment job source target input output messages status = (choices : Choices)
+    × IsChosen moment job.tool job.date job.every job.skip choices
     × IsFilteredFrom sources sink job.source source job.target job.force target job.tool choices input output
     messages status
 
 -- a job, done or not begun; the files that it names are read and written through the devices that are handed
 -- back
-abbrev pub IsJobDone : {F G : Type 0} → SourceGhosts (Logged (Std F)) → SinkGhosts (Logged G) → Job
+abbrev pub IsJobDone : {F G : Type 0} → SourceGhosts (Logged (Std F)) → SinkGhosts (Logged G) → Option Timestamp → Job
     → Option (Logged (Std F)) → Option (Logged G) → Input → Device → Device → ℕ → Type 0 → Type 0
-IsJobDone sources sink job source target input output messages status untouched =
-    IsBegun sources sink job source target input output messages status
+IsJobDone sources sink moment job source target input output messages status untouched =
+    IsBegun sources sink moment job source target input output messages status
     ⊎ IsNotBegun job messages status untouched

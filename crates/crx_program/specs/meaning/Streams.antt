@@ -5,6 +5,7 @@ use Rattle.crx_lines.specs.declared.device.Std.{Std}
 use Rattle.crx_options.specs.meaning.Choices.{Choices}
 use Rattle.crx_runs.specs.meaning.Interruptions.{complete_lines}
 use Rattle.crx_runs.specs.meaning.Results.{Begins}
+use Rattle.jiff.specs.declared.timestamp.Timestamp.{Timestamp}
 use Rattle.crx_command.specs.declared.job.Job.{Job}
 use Rattle.crx_program.specs.declared.log.Logged.{Logged}
 use Rattle.crx_program.specs.declared.streams.Whole.{Whole}
@@ -39,17 +40,17 @@ IsFlushed (Some file) output = file.inner.flushed ≡ true
 -- ---- by what was given
 
 -- what a job writes, reports and answers for these bytes, all of it
-abbrev pub IsAllOf : Job → List ℕ → List ℕ → List ℕ → ℕ → Type 0
-IsAllOf job given written reported status = (choices : Choices)
-    × IsChosen job.tool job.date job.every job.skip choices
+abbrev pub IsAllOf : Option Timestamp → Job → List ℕ → List ℕ → List ℕ → ℕ → Type 0
+IsAllOf moment job given written reported status = (choices : Choices)
+    × IsChosen moment job.tool job.date job.every job.skip choices
     × (written ≡ (tool_result job.tool choices given).output)
     × (reported ≡ (tool_result job.tool choices given).messages)
     × (status ≡ (tool_result job.tool choices given).status)
 
 -- a front part of what a job writes for these bytes, as lines that may go on or that are all
-abbrev pub IsFrontPartOf : Job → List ℕ → List ℕ → Type 0
-IsFrontPartOf job given written = (choices : Choices)
-    × IsChosen job.tool job.date job.every job.skip choices
+abbrev pub IsFrontPartOf : Option Timestamp → Job → List ℕ → List ℕ → Type 0
+IsFrontPartOf moment job given written = (choices : Choices)
+    × IsChosen moment job.tool job.date job.every job.skip choices
     × (Begins ((filter_of job.tool choices).so_far (complete_lines given)).output written
     ⊎ Begins ((filter_of job.tool choices).whole (lines_of given)).output written)
 
@@ -57,17 +58,17 @@ IsFrontPartOf job given written = (choices : Choices)
 
 -- the run read its input to the end, and wrote and reported what is defined for it, all of it and nothing
 -- else
-abbrev pub IsExact : {I O E F : Type 0} → Job → Whole I O E F → Type 0
-IsExact job whole = (given : List ℕ) × (written : List ℕ)
+abbrev pub IsExact : {I O E F : Type 0} → Option Timestamp → Job → Whole I O E F → Type 0
+IsExact moment job whole = (given : List ℕ) × (written : List ℕ)
     × Gave job.source whole.source whole.input given × IsEndTold whole.source whole.input
     × Took job.target job.force whole.target whole.output written × IsFlushed whole.target whole.output
-    × IsAllOf job given written whole.messages.log.bytes whole.status
+    × IsAllOf moment job given written whole.messages.log.bytes whole.status
 
 -- the run wrote a front part of what is defined for what it read; or it read and wrote nothing
-abbrev pub IsFrontOf : {I O E F : Type 0} → Job → Whole I O E F → Type 0
-IsFrontOf job whole =
+abbrev pub IsFrontOf : {I O E F : Type 0} → Option Timestamp → Job → Whole I O E F → Type 0
+IsFrontOf moment job whole =
     ((given : List ℕ) × (written : List ℕ) × Gave job.source whole.source whole.input given
-    × Took job.target job.force whole.target whole.output written × IsFrontPartOf job given written)
+    × Took job.target job.force whole.target whole.output written × IsFrontPartOf moment job given written)
     ⊎ ((whole.input.log.bytes ≡ []) × (whole.output.log.bytes ≡ []) × (whole.target ≡ None))
 
 -- ---- where the devices began

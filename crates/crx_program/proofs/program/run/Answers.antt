@@ -44,7 +44,7 @@ pub returns-in-Ok-Run-clause-done : goal.returns-in-Ok-Run-clause-done
 returns-in-Ok-Run-clause-done g c = λ job e.
     let planned : Run c.in-Ok-Run.job ≡ plan_of (map string_bytes c.args.words.items) =
     rw c.in-Ok-Run.field-0-is at c.in-Ok-Run.ensures.value in
-    done_for _ _ c.in-Ok-Run.job job c.run_job.result.source c.run_job.result.target
+    done_for _ _ c.args.moment c.in-Ok-Run.job job c.run_job.result.source c.run_job.result.target
     (reader_span g.R.Source c.args.input.now c.run_job.new.input)
     (span g.W.Sink c.args.output.now c.run_job.new.output)
     (span g.M.Sink c.args.messages.now c.run_job.new.messages) c.run_job.result.status

@@ -56,7 +56,7 @@ returns-clause-exact g c = λ job e well.
     exact_run g.H.File.Read.remaining
     (writer_contents (λ (w : UntilFailure g.row.H-File.Denot). g.H.File.Write.contents w.inner)) g.I.Read.remaining
     (writer_contents (λ (w : UntilFailure g.row.O.Denot). g.O.Write.contents w.inner)) g.E.Write.contents
-    job c.run-ended.result.source c.run-ended.result.target
+    c.args.moment job c.run-ended.result.source c.run-ended.result.target
     c.new-input.result c.run-ended.new.input c.new-output.result c.run-ended.new.output
     c.new-messages.result c.run-ended.new.messages
     c.new-input.ensures.log c.new-output.ensures.log c.new-messages.ensures.log
@@ -68,7 +68,7 @@ returns-clause-front g c = λ job e.
     front_run g.H.File.Read.remaining
     (writer_contents (λ (w : UntilFailure g.row.H-File.Denot). g.H.File.Write.contents w.inner)) g.I.Read.remaining
     (writer_contents (λ (w : UntilFailure g.row.O.Denot). g.O.Write.contents w.inner)) g.E.Write.contents
-    job c.run-ended.result.source c.run-ended.result.target
+    c.args.moment job c.run-ended.result.source c.run-ended.result.target
     c.new-input.result c.run-ended.new.input c.new-output.result c.run-ended.new.output
     c.new-messages.result c.run-ended.new.messages
     c.new-input.ensures.log c.new-output.ensures.log c.new-messages.ensures.log
