@@ -21,5 +21,5 @@ returns c =
       output = refl;
       messages = c.add.ensures.unchanged c.if-add.false;
       refused = subst (λ (t : List ℕ). IsTextRefused c.args.held.now.messages (length t))
-          (c.bytes.ensures.value ∙ c.message.ensures) (c.add.ensures.refused c.if-add.false);
+          (c.bytes.ensures.value ∙ c.message.ensures.value) (c.add.ensures.refused c.if-add.false);
     })
