@@ -14,7 +14,7 @@ use Rattle.crx_program.specs.declared.log.Logged.{Logged}
 use Rattle.crx_program.specs.declared.log.Opening.{Opening}
 use Rattle.crx_program.specs.meaning.Jobs.{tool_result, IsChosen, IsFiltered, IsFilteredFrom, IsFilteredInto}
 use Rattle.crx_program.specs.meaning.Jobs.{IsJobDone, IsMadeBy, IsRunOf}
-use Rattle.crx_program.specs.meaning.Streams.{Gave, Took, IsAllOf, IsEndTold, IsFlushed, IsFresh, IsFrontPartOf}
+use Rattle.crx_program.specs.meaning.Streams.{ReadsGave, WritesTook, IsAllOf, IsEndTold, IsFlushedLast, IsUnused, IsPrefixOf}
 
 -- a good run of a filter
 record Good (tool : Tool) (choices : Choices) (input : Input) (writer messages : Device) (status : ℕ) : Type 0 where
@@ -84,8 +84,8 @@ record Writing {G O : Type 0} (name : Option (List ℕ)) (force : Bool) (target 
     : Type 1 where
   pub writer : Device
   pub ran : IsFiltered tool choices input writer messages status
-  pub took : (bytes : List ℕ) → writer.took bytes → Took name force target output bytes
-  pub flushed : writer.flushed → IsFlushed target output
+  pub took : (bytes : List ℕ) → writer.took bytes → WritesTook name force target output bytes
+  pub flushed : writer.flushed → IsFlushedLast target output
 
 -- and where its reader is
 record Placed {F G I O : Type 0} (job : Job) (source : Option (Logged (Std F))) (target : Option (Logged (Std G)))
@@ -93,7 +93,7 @@ record Placed {F G I O : Type 0} (job : Job) (source : Option (Logged (Std F))) 
     : Type 1 where
   pub reader : Input
   pub writing : Writing job.target job.force target output job.tool choices reader messages status
-  pub gave : (bytes : List ℕ) → reader.gave bytes → Gave job.source source input bytes
+  pub gave : (bytes : List ℕ) → reader.gave bytes → ReadsGave job.source source input bytes
   pub ended : reader.at_end → IsEndTold source input
 
 module _ {G O : Type 0} (sinks : SinkGhosts (Logged (Std G))) (outputs : SinkGhosts (Logged (Std O)))
@@ -112,7 +112,7 @@ module _ {G O : Type 0} (sinks : SinkGhosts (Logged (Std G))) (outputs : SinkGho
       from_empty before.log.bytes after.log.bytes bytes empty
           (output_takes before after bytes took).0,
     );
-    flushed = λ flushed. subst (λ (t : Option (Logged (Std G))). IsFlushed t after) (sym h.0)
+    flushed = λ flushed. subst (λ (t : Option (Logged (Std G))). IsFlushedLast t after) (sym h.0)
         (output_flushes after flushed);
   }
   writing (Some name) force target before after empty same tool choices input messages status h =
@@ -127,7 +127,7 @@ module _ {G O : Type 0} (sinks : SinkGhosts (Logged (Std G))) (outputs : SinkGho
           from_empty ran.0.log.bytes last.log.bytes bytes ran.4 (sink_takes ran.0 last bytes took).0,
           same_log before after (same refl) empty,
         );
-        flushed = λ flushed. subst (λ (t : Option (Logged (Std G))). IsFlushed t after) (sym ran.2)
+        flushed = λ flushed. subst (λ (t : Option (Logged (Std G))). IsFlushedLast t after) (sym ran.2)
             (sink_flushes last flushed);
       }
 
@@ -147,7 +147,7 @@ module _ {G O : Type 0} (sinks : SinkGhosts (Logged (Std G))) (outputs : SinkGho
           reader = reader_span inputs first last;
           writing = writing job.target job.force target before after empty same job.tool choices
               (reader_span inputs first last) messages status h.1;
-          gave = λ bytes gave. subst (λ (name : Option (List ℕ)). Gave name source last bytes) (sym e)
+          gave = λ bytes gave. subst (λ (name : Option (List ℕ)). ReadsGave name source last bytes) (sym e)
               (h.0, from_empty first.log.bytes last.log.bytes bytes none (input_gives first last bytes gave).0);
           ended = λ ended. subst (λ (s : Option (Logged (Std F))). IsEndTold s last) (sym h.0) (input_tells last ended);
         }
@@ -157,7 +157,7 @@ module _ {G O : Type 0} (sinks : SinkGhosts (Logged (Std G))) (outputs : SinkGho
           reader = reader_span sources h.0 file;
           writing = writing job.target job.force target before after empty same job.tool choices
               (reader_span sources h.0 file) messages status h.6;
-          gave = λ bytes gave. subst (λ (name : Option (List ℕ)). Gave name source last bytes) (sym e) (
+          gave = λ bytes gave. subst (λ (name : Option (List ℕ)). ReadsGave name source last bytes) (sym e) (
             file,
             h.2,
             ap (λ (opening : Opening). opening.name.bytes) (source_gives h.0 file bytes gave).1 ∙ h.3.0,
@@ -176,8 +176,8 @@ module _ {G O : Type 0} (sinks : SinkGhosts (Logged (Std G))) (outputs : SinkGho
       -- a run without a fault is exact
       exact_of : (choices : Choices) → IsChosen moment job.tool job.date job.every job.skip choices
           → Placed job source target last after choices (span reports quiet spoken) status → (status ≡ 1 → ⊥)
-          → (given : List ℕ) × (written : List ℕ) × Gave job.source source last given × IsEndTold source last
-          × Took job.target job.force target after written × IsFlushed target after
+          → (given : List ℕ) × (written : List ℕ) × ReadsGave job.source source last given × IsEndTold source last
+          × WritesTook job.target job.force target after written × IsFlushedLast target after
           × IsAllOf moment job given written spoken.log.bytes status
       exact_of choices chosen place well =
           let run = good job.tool choices place.reader place.writing.writer (span reports quiet spoken) status
@@ -199,11 +199,11 @@ module _ {G O : Type 0} (sinks : SinkGhosts (Logged (Std G))) (outputs : SinkGho
             ),
           )
 
-      -- whatever ended a run, what was written is a front part
+      -- whatever ended a run, what was written is a prefix
       front_of : (choices : Choices) → IsChosen moment job.tool job.date job.every job.skip choices
           → Placed job source target last after choices (span reports quiet spoken) status
-          → (given : List ℕ) × (written : List ℕ) × Gave job.source source last given
-          × Took job.target job.force target after written × IsFrontPartOf moment job given written
+          → (given : List ℕ) × (written : List ℕ) × ReadsGave job.source source last given
+          × WritesTook job.target job.force target after written × IsPrefixOf moment job given written
       front_of choices chosen place =
           let ran = place.writing.ran in
           let front = ran.3.front in (
@@ -224,8 +224,8 @@ module _ {G O : Type 0} (sinks : SinkGhosts (Logged (Std G))) (outputs : SinkGho
 
       exact : (P : Type 0) → IsJobDone sources sinks moment job source target (reader_span inputs first last)
           (span outputs before after) (span reports quiet spoken) status P → (status ≡ 1 → ⊥)
-          → (given : List ℕ) × (written : List ℕ) × Gave job.source source last given × IsEndTold source last
-          × Took job.target job.force target after written × IsFlushed target after
+          → (given : List ℕ) × (written : List ℕ) × ReadsGave job.source source last given × IsEndTold source last
+          × WritesTook job.target job.force target after written × IsFlushedLast target after
           × IsAllOf moment job given written spoken.log.bytes status
       exact P (inl begun) well = exact_of begun.0 begun.1 (place_of begun.0 begun.2) well
       exact P (inr not_begun) well = absurd (well not_begun.status_is)
@@ -233,8 +233,8 @@ module _ {G O : Type 0} (sinks : SinkGhosts (Logged (Std G))) (outputs : SinkGho
       front : IsJobDone sources sinks moment job source target (reader_span inputs first last)
           (span outputs before after) (span reports quiet spoken) status
           ((last ≡ first) × (after ≡ before) × (target ≡ None))
-          → ((given : List ℕ) × (written : List ℕ) × Gave job.source source last given
-          × Took job.target job.force target after written × IsFrontPartOf moment job given written)
+          → ((given : List ℕ) × (written : List ℕ) × ReadsGave job.source source last given
+          × WritesTook job.target job.force target after written × IsPrefixOf moment job given written)
           ⊎ ((last.log.bytes ≡ []) × (after.log.bytes ≡ []) × (target ≡ None))
       front (inl begun) = inl (front_of begun.0 begun.1 (place_of begun.0 begun.2))
       front (inr not_begun) =
@@ -305,8 +305,8 @@ module _ {F G I O E : Type 0} (file : F → Option (List ℕ)) (made : G → Opt
   pub exact_run : (P : Type 0) → IsJobDone (reader_of file) (writer_of made) moment job source target
       (reader_span (reader_of stdin) first last) (span (writer_of stdout) before after)
       (span (writer_of stderr) quiet spoken) status P → (status ≡ 1 → ⊥)
-      → (given : List ℕ) × (written : List ℕ) × Gave job.source source last given × IsEndTold source last
-      × Took job.target job.force target after written × IsFlushed target after
+      → (given : List ℕ) × (written : List ℕ) × ReadsGave job.source source last given × IsEndTold source last
+      × WritesTook job.target job.force target after written × IsFlushedLast target after
       × IsAllOf moment job given written spoken.log.bytes status
   exact_run P h well =
       exact (writer_of made) (writer_of stdout) (takes made) (takes stdout) (flushes made) (flushes stdout)
@@ -317,8 +317,8 @@ module _ {F G I O E : Type 0} (file : F → Option (List ℕ)) (made : G → Opt
   pub front_run : IsJobDone (reader_of file) (writer_of made) moment job source target
       (reader_span (reader_of stdin) first last) (span (writer_of stdout) before after)
       (span (writer_of stderr) quiet spoken) status ((last ≡ first) × (after ≡ before) × (target ≡ None))
-      → ((given : List ℕ) × (written : List ℕ) × Gave job.source source last given
-      × Took job.target job.force target after written × IsFrontPartOf moment job given written)
+      → ((given : List ℕ) × (written : List ℕ) × ReadsGave job.source source last given
+      × WritesTook job.target job.force target after written × IsPrefixOf moment job given written)
       ⊎ ((last.log.bytes ≡ []) × (after.log.bytes ≡ []) × (target ≡ None))
   front_run h =
       front (writer_of made) (writer_of stdout) (takes made) (takes stdout) (flushes made) (flushes stdout)
@@ -328,7 +328,7 @@ module _ {F G I O E : Type 0} (file : F → Option (List ℕ)) (made : G → Opt
 
 -- a new device over a new one of std is fresh
 pub fresh : {D : Type 0} (inner : Std D) (device : Logged (Std D)) → device.inner ≡ inner → device.log.bytes ≡ []
-    → inner.failures ≡ 0 → inner.ends ≡ 0 → inner.flushes ≡ 0 → IsFresh device
+    → inner.failures ≡ 0 → inner.ends ≡ 0 → inner.flushes ≡ 0 → IsUnused device
 fresh {D = D} inner device same empty failures ends flushes = (
   empty,
   ap (λ (std : Std D). std.failures) same ∙ failures,

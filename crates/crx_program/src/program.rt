@@ -68,7 +68,8 @@ fn options_with(job: &Job, date: &str) -> Options
 /// What the user chose: the date among the arguments, else that of the moment where one is needed.
 fn options_of(alloc: Global, moment: Option<Timestamp>, job: &Job) -> Result<Options, AllocError>
     requires { option_map_or is_date job.now.date true ≡ true }
-    ensures { IfOk result (λ options. IsChosen moment job.now.tool job.now.date job.now.every job.now.skip options) }
+    ensures { IfOk result (λ options.
+        IsChosen moment job.now.tool job.now.date job.now.every job.now.skip options) }
 {
     match (&job.date, job.tool) {
         (Some(date), _) => Ok(options_with(job, date.text())),

@@ -4,7 +4,7 @@ ghost use Rattle.std.specs.Prelude.{◌≡◌, [], None, map, string_bytes};
 ghost use Rattle.crx_command.specs.meaning.Planning.{Help, Refusal, Refused, Run, plan_of};
 ghost use Rattle.crx_program.specs.meaning.Jobs.{IsJobDone};
 ghost use Rattle.crx_program.specs.meaning.Program.{IsHelped, IsRefused};
-ghost use Rattle.crx_program.specs.meaning.Streams.{FromFresh, IsExact, IsFrontOf};
+ghost use Rattle.crx_program.specs.meaning.Streams.{FromUnused, IsExact, IsPrefix};
 ghost use Rattle.crx_runs.specs.meaning.Spans.{reader_span, span};
 
 use crate::log::Logged;
@@ -48,17 +48,17 @@ pub fn run_over<H: Files, I: Read, O: Write + Drop, E: Write>(
     stderr: E,
 ) -> Whole<I, O, E, H::File>
     ensures refused { (refusal : Refusal) → plan_of (map string_bytes words.items) ≡ Refused refusal
-        → FromFresh result.messages (λ messages.
+        → FromUnused result.messages (λ messages.
         IsRefused (span ⟦<Logged<Std<E>> as Sink>⟧ messages result.messages) refusal result.status)
         × (result.input.log.bytes ≡ []) × (result.output.log.bytes ≡ []) }
     ensures help { plan_of (map string_bytes words.items) ≡ Help
-        → FromFresh result.output (λ output. FromFresh result.messages (λ messages.
+        → FromUnused result.output (λ output. FromUnused result.messages (λ messages.
         IsHelped (span ⟦<OutputDevice<O> as Sink>⟧ output result.output)
         (span ⟦<Logged<Std<E>> as Sink>⟧ messages result.messages) result.status))
         × (result.input.log.bytes ≡ []) }
     ensures done { (job : Job) → plan_of (map string_bytes words.items) ≡ Run job
-        → FromFresh result.input (λ input. FromFresh result.output (λ output.
-        FromFresh result.messages (λ messages.
+        → FromUnused result.input (λ input. FromUnused result.output (λ output.
+        FromUnused result.messages (λ messages.
         IsJobDone ⟦<SourceFile<H::File> as Source>⟧ ⟦<TargetFile<H::File> as Sink>⟧
         moment job result.source result.target (reader_span ⟦<Logged<Std<I>> as Source>⟧ input result.input)
         (span ⟦<OutputDevice<O> as Sink>⟧ output result.output)
@@ -66,7 +66,8 @@ pub fn run_over<H: Files, I: Read, O: Write + Drop, E: Write>(
         ((result.input ≡ input) × (result.output ≡ output) × (result.target ≡ None))))) }
     ensures exact { (job : Job) → plan_of (map string_bytes words.items) ≡ Run job
         → (result.status ≡ 1 → ⊥) → IsExact moment job result }
-    ensures front { (job : Job) → plan_of (map string_bytes words.items) ≡ Run job → IsFrontOf moment job result }
+    ensures front { (job : Job) → plan_of (map string_bytes words.items) ≡ Run job
+        → IsPrefix moment job result }
 {
     let mut input = Logged::new(Std::new(stdin));
     let mut output = Logged::new(Std::new(stdout));

@@ -2,7 +2,7 @@
 
 ghost use Rattle.std.specs.Prelude.{◌≡◌, map, string_bytes};
 ghost use Rattle.crx_command.specs.meaning.Planning.{Run, plan_of};
-ghost use Rattle.crx_program.specs.meaning.Streams.{IsExact, IsFrontOf};
+ghost use Rattle.crx_program.specs.meaning.Streams.{IsExact, IsPrefix};
 
 use crate::{Job, UsageFault, Word};
 use crx_faults::Fault;
@@ -47,7 +47,8 @@ pub fn run_streams(
 ) -> Whole<Stdin, Stdout, Stderr, File>
     ensures exact { (job : Job) → plan_of (map string_bytes words.items) ≡ Run job
         → (result.status ≡ 1 → ⊥) → IsExact moment job result }
-    ensures front { (job : Job) → plan_of (map string_bytes words.items) ≡ Run job → IsFrontOf moment job result }
+    ensures front { (job : Job) → plan_of (map string_bytes words.items) ≡ Run job
+        → IsPrefix moment job result }
 {
     run_over(
         rt,

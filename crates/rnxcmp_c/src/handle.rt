@@ -75,8 +75,8 @@ fn put_in(handle: &mut Handle, reader: Box<Reader>)
 
 /// Opens a closed handle for a run of this engine, with what is held beside it.
 fn open(alloc: Global, handle: &mut Handle, engine: AnyEngine, held: Held) -> Answer
-    ensures opened { (task : Task) → IsFresh task engine → HoldsNothing (limit_for task) held → result.status ≡ 0
-        → HandleStands task handle.new nothing_fed }
+    ensures opened { (task : Task) → IsFresh task engine → HoldsNothing (limit_for task) held
+        → result.status ≡ 0 → HandleStands task handle.new nothing_fed }
     ensures running { result.status ≡ 0 → has_ended handle.new ≡ false }
     ensures answer { (result ≡ bare_answer 0 0 0) ⊎ (result ≡ bare_answer 1 0 (code_of_fault OutOfMemory)) }
     ensures unchanged { (result.status ≡ 0 → ⊥) → IsUnchanged handle.old handle.new }
@@ -202,7 +202,8 @@ pub extern "C" fn rnxcmp_c_feed(
     used: &mut usize,
 ) -> Answer
     requires sound { IsSoundHandle handle.old }
-    ensures closed { handle.old.is_open ≡ false → IsMisused result × (used.new ≡ 0) × IsUnchanged handle.old handle.new }
+    ensures closed { handle.old.is_open ≡ false
+        → IsMisused result × (used.new ≡ 0) × IsUnchanged handle.old handle.new }
     ensures feeds { (task : Task) (past : HandlePast) → HandleStands task handle.old past
         → FeedsHandle task handle.old handle.new past bytes.now used.new result }
     ensures stands { (task : Task) (past : HandlePast) → HandleStands task handle.old past

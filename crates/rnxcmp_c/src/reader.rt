@@ -122,8 +122,8 @@ impl Reader {
     /// Ends the run since there are more bytes than an input may have.
     fn pass_limit(&mut self)
         requires { self.old.held.number ≤ INPUT_LIMIT }
-        ensures { (task : Task) (past : HandlePast) → ReaderRuns task self.old past → length past.fed ≡ INPUT_LIMIT
-            → ReaderHasPassed task self.new past }
+        ensures { (task : Task) (past : HandlePast) → ReaderRuns task self.old past
+            → length past.fed ≡ INPUT_LIMIT → ReaderHasPassed task self.new past }
     {
         let at = At {
             line: self.held.number + 1,
@@ -217,7 +217,8 @@ impl Reader {
         ensures messages { messages.new ≡ placed (waiting self.old.held.messages) messages.old }
         ensures answer { result ≡ answer_now self.new }
         ensures same { self.new.outcome ≡ self.old.outcome }
-        ensures output_left { waiting self.new.held.output ≡ drop (length output.old) (waiting self.old.held.output) }
+        ensures output_left { waiting self.new.held.output
+            ≡ drop (length output.old) (waiting self.old.held.output) }
         ensures messages_left { waiting self.new.held.messages
             ≡ drop (length messages.old) (waiting self.old.held.messages) }
         ensures stands { (task : Task) (past : HandlePast) → ReaderStands task self.old past

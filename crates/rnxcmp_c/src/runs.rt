@@ -112,7 +112,8 @@ pub(crate) fn compaction(
     bounds: Bounds,
 ) -> Result<Run, Answer>
     requires { length input.now ≤ INPUT_LIMIT }
-    ensures run { IfOk result (IsRun (compacted input.now options) bounds.output bounds.messages bounds.most) }
+    ensures run { IfOk result
+        (IsRun (compacted input.now options) bounds.output bounds.messages bounds.most) }
     ensures memory { IfOk result HasMemory }
     ensures none { IfErr result (HasNone (ExceedsLimit bounds.most (compacted input.now options).output)) }
 {

@@ -15,16 +15,16 @@ use Rattle.crx_program.specs.meaning.Jobs.{filter_of, tool_result, IsChosen, IsM
 
 -- the reads of a run gave these bytes: those of standard input, which are all that it gave; or those of the
 -- file of the job's name, where standard input gave none
-abbrev pub Gave : {I F : Type 0} → Option (List ℕ) → Option (Logged F) → Logged I → List ℕ → Type 0
-Gave None source input given = (source ≡ None) × (input.log.bytes ≡ given)
-Gave {F = F} (Some name) source input given = (file : Logged F) × (source ≡ Some file)
+abbrev pub ReadsGave : {I F : Type 0} → Option (List ℕ) → Option (Logged F) → Logged I → List ℕ → Type 0
+ReadsGave None source input given = (source ≡ None) × (input.log.bytes ≡ given)
+ReadsGave {F = F} (Some name) source input given = (file : Logged F) × (source ≡ Some file)
     × (file.opening.name.bytes ≡ name) × (file.log.bytes ≡ given) × (input.log.bytes ≡ [])
 
 -- the writes of a run took these bytes: those to standard output, which are all that it took; or those to the
 -- file of the job's name, which was opened as the job says, where standard output took none
-abbrev pub Took : {O G : Type 0} → Option (List ℕ) → Bool → Option (Logged G) → Logged O → List ℕ → Type 0
-Took None force target output written = (target ≡ None) × (output.log.bytes ≡ written)
-Took {G = G} (Some name) force target output written = (file : Logged G) × (target ≡ Some file)
+abbrev pub WritesTook : {O G : Type 0} → Option (List ℕ) → Bool → Option (Logged G) → Logged O → List ℕ → Type 0
+WritesTook None force target output written = (target ≡ None) × (output.log.bytes ≡ written)
+WritesTook {G = G} (Some name) force target output written = (file : Logged G) × (target ≡ Some file)
     × IsMadeBy name force file.opening × (file.log.bytes ≡ written) × (output.log.bytes ≡ [])
 
 -- a read of the device that was read reported the end
@@ -33,9 +33,9 @@ IsEndTold None input = 0 < input.inner.ends
 IsEndTold (Some file) input = 0 < file.inner.ends
 
 -- the device that was written was flushed last, and the flush reported no failure
-abbrev pub IsFlushed : {O G : Type 0} → Option (Logged (Std G)) → Logged (Std O) → Type 0
-IsFlushed None output = output.inner.flushed ≡ true
-IsFlushed (Some file) output = file.inner.flushed ≡ true
+abbrev pub IsFlushedLast : {O G : Type 0} → Option (Logged (Std G)) → Logged (Std O) → Type 0
+IsFlushedLast None output = output.inner.flushed ≡ true
+IsFlushedLast (Some file) output = file.inner.flushed ≡ true
 
 -- ---- by what was given
 
@@ -47,9 +47,9 @@ IsAllOf moment job given written reported status = (choices : Choices)
     × (reported ≡ (tool_result job.tool choices given).messages)
     × (status ≡ (tool_result job.tool choices given).status)
 
--- a front part of what a job writes for these bytes, as lines that may go on or that are all
-abbrev pub IsFrontPartOf : Option Timestamp → Job → List ℕ → List ℕ → Type 0
-IsFrontPartOf moment job given written = (choices : Choices)
+-- a prefix of what a job writes for these bytes, as lines that may go on or that are all
+abbrev pub IsPrefixOf : Option Timestamp → Job → List ℕ → List ℕ → Type 0
+IsPrefixOf moment job given written = (choices : Choices)
     × IsChosen moment job.tool job.date job.every job.skip choices
     × (Begins ((filter_of job.tool choices).so_far (complete_lines given)).output written
     ⊎ Begins ((filter_of job.tool choices).whole (lines_of given)).output written)
@@ -60,24 +60,24 @@ IsFrontPartOf moment job given written = (choices : Choices)
 -- else
 abbrev pub IsExact : {I O E F : Type 0} → Option Timestamp → Job → Whole I O E F → Type 0
 IsExact moment job whole = (given : List ℕ) × (written : List ℕ)
-    × Gave job.source whole.source whole.input given × IsEndTold whole.source whole.input
-    × Took job.target job.force whole.target whole.output written × IsFlushed whole.target whole.output
+    × ReadsGave job.source whole.source whole.input given × IsEndTold whole.source whole.input
+    × WritesTook job.target job.force whole.target whole.output written × IsFlushedLast whole.target whole.output
     × IsAllOf moment job given written whole.messages.log.bytes whole.status
 
--- the run wrote a front part of what is defined for what it read; or it read and wrote nothing
-abbrev pub IsFrontOf : {I O E F : Type 0} → Option Timestamp → Job → Whole I O E F → Type 0
-IsFrontOf moment job whole =
-    ((given : List ℕ) × (written : List ℕ) × Gave job.source whole.source whole.input given
-    × Took job.target job.force whole.target whole.output written × IsFrontPartOf moment job given written)
+-- the run wrote a prefix of what is defined for what it read; or it read and wrote nothing
+abbrev pub IsPrefix : {I O E F : Type 0} → Option Timestamp → Job → Whole I O E F → Type 0
+IsPrefix moment job whole =
+    ((given : List ℕ) × (written : List ℕ) × ReadsGave job.source whole.source whole.input given
+    × WritesTook job.target job.force whole.target whole.output written × IsPrefixOf moment job given written)
     ⊎ ((whole.input.log.bytes ≡ []) × (whole.output.log.bytes ≡ []) × (whole.target ≡ None))
 
 -- ---- where the devices began
 
 -- a device through which nothing went yet, and of which nothing was counted
-abbrev pub IsFresh : {D : Type 0} → Logged (Std D) → Type 0
-IsFresh device = (device.log.bytes ≡ []) × (device.inner.failures ≡ 0) × (device.inner.ends ≡ 0)
+abbrev pub IsUnused : {D : Type 0} → Logged (Std D) → Type 0
+IsUnused device = (device.log.bytes ≡ []) × (device.inner.failures ≡ 0) × (device.inner.ends ≡ 0)
     × (device.inner.flushes ≡ 0)
 
 -- this holds of a fresh device, from which a run led to the one that it handed back
-abbrev pub FromFresh : {D : Type 0} → Logged (Std D) → (Logged (Std D) → Type 0) → Type 0
-FromFresh {D = D} last holds = (first : Logged (Std D)) × IsFresh first × holds first
+abbrev pub FromUnused : {D : Type 0} → Logged (Std D) → (Logged (Std D) → Type 0) → Type 0
+FromUnused {D = D} last holds = (first : Logged (Std D)) × IsUnused first × holds first
