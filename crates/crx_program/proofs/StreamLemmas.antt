@@ -326,10 +326,12 @@ module _ {F G I O E : Type 0} (file : F → Option (List ℕ)) (made : G → Opt
       (writer_of stderr) (takes stderr) moment job source target first last before after quiet spoken
       none empty silent same_input same status h
 
--- a new device over a new one of std is fresh
-pub fresh : {D : Type 0} (inner : Std D) (device : Logged (Std D)) → device.inner ≡ inner → device.log.bytes ≡ []
-    → inner.failures ≡ 0 → inner.ends ≡ 0 → inner.flushes ≡ 0 → IsUnused device
-fresh {D = D} inner device same empty failures ends flushes = (
+-- a new device over a new one of std is unused
+pub fresh : {D : Type 0} (stream : D) (inner : Std D) (device : Logged (Std D)) → device.inner ≡ inner
+    → device.log.bytes ≡ [] → inner.inner ≡ stream → inner.failures ≡ 0 → inner.ends ≡ 0 → inner.flushes ≡ 0
+    → IsUnused stream device
+fresh {D = D} stream inner device same empty over failures ends flushes = (
+  ap (λ (std : Std D). std.inner) same ∙ over,
   empty,
   ap (λ (std : Std D). std.failures) same ∙ failures,
   ap (λ (std : Std D). std.ends) same ∙ ends,

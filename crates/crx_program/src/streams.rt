@@ -48,17 +48,17 @@ pub fn run_over<H: Files, I: Read, O: Write + Drop, E: Write>(
     stderr: E,
 ) -> Whole<I, O, E, H::File>
     ensures refused { (refusal : Refusal) → plan_of (map string_bytes words.items) ≡ Refused refusal
-        → FromUnused result.messages (λ messages.
+        → FromUnused stderr (λ messages.
         IsRefused (span ⟦<Logged<Std<E>> as Sink>⟧ messages result.messages) refusal result.status)
         × (result.input.log.bytes ≡ []) × (result.output.log.bytes ≡ []) }
     ensures help { plan_of (map string_bytes words.items) ≡ Help
-        → FromUnused result.output (λ output. FromUnused result.messages (λ messages.
+        → FromUnused stdout (λ output. FromUnused stderr (λ messages.
         IsHelped (span ⟦<OutputDevice<O> as Sink>⟧ output result.output)
         (span ⟦<Logged<Std<E>> as Sink>⟧ messages result.messages) result.status))
         × (result.input.log.bytes ≡ []) }
     ensures done { (job : Job) → plan_of (map string_bytes words.items) ≡ Run job
-        → FromUnused result.input (λ input. FromUnused result.output (λ output.
-        FromUnused result.messages (λ messages.
+        → FromUnused stdin (λ input. FromUnused stdout (λ output.
+        FromUnused stderr (λ messages.
         IsJobDone ⟦<SourceFile<H::File> as Source>⟧ ⟦<TargetFile<H::File> as Sink>⟧
         moment job result.source result.target (reader_span ⟦<Logged<Std<I>> as Source>⟧ input result.input)
         (span ⟦<OutputDevice<O> as Sink>⟧ output result.output)

@@ -73,11 +73,11 @@ IsPrefix moment job whole =
 
 -- ---- where the devices began
 
--- a device through which nothing went yet, and of which nothing was counted
-abbrev pub IsUnused : {D : Type 0} → Logged (Std D) → Type 0
-IsUnused device = (device.log.bytes ≡ []) × (device.inner.failures ≡ 0) × (device.inner.ends ≡ 0)
-    × (device.inner.flushes ≡ 0)
+-- a device of this stream through which nothing went yet, and of which nothing was counted
+abbrev pub IsUnused : {D : Type 0} → D → Logged (Std D) → Type 0
+IsUnused stream device = (device.inner.inner ≡ stream) × (device.log.bytes ≡ []) × (device.inner.failures ≡ 0)
+    × (device.inner.ends ≡ 0) × (device.inner.flushes ≡ 0)
 
--- this holds of a fresh device, from which a run led to the one that it handed back
-abbrev pub FromUnused : {D : Type 0} → Logged (Std D) → (Logged (Std D) → Type 0) → Type 0
-FromUnused {D = D} last holds = (first : Logged (Std D)) × IsUnused first × holds first
+-- this holds of an unused device of this stream, from which a run led to the one that it handed back
+abbrev pub FromUnused : {D : Type 0} → D → (Logged (Std D) → Type 0) → Type 0
+FromUnused {D = D} stream holds = (first : Logged (Std D)) × IsUnused stream first × holds first

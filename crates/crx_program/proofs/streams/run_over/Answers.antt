@@ -8,8 +8,8 @@ returns-clause-refused g c = λ refusal e.
     let refused = c.run-ended.ensures.refused refusal e in (
       (
         c.new-messages.result,
-        (fresh c.new-3.result c.new-messages.result c.new-messages.ensures.inner c.new-messages.ensures.log
-            c.new-3.ensures.failures c.new-3.ensures.ends c.new-3.ensures.flushes),
+        (fresh c.args.stderr c.new-3.result c.new-messages.result c.new-messages.ensures.inner c.new-messages.ensures.log
+            c.new-3.ensures.inner c.new-3.ensures.failures c.new-3.ensures.ends c.new-3.ensures.flushes),
         refused.0,
       ),
       same_log c.new-input.result c.run-ended.new.input refused.1 c.new-input.ensures.log,
@@ -21,12 +21,12 @@ returns-clause-help g c = λ e.
     let helped = c.run-ended.ensures.help e in (
       (
         c.new-output.result,
-        (fresh c.new-2.result c.new-output.result c.new-output.ensures.inner c.new-output.ensures.log
-            c.new-2.ensures.failures c.new-2.ensures.ends c.new-2.ensures.flushes),
+        (fresh c.args.stdout c.new-2.result c.new-output.result c.new-output.ensures.inner c.new-output.ensures.log
+            c.new-2.ensures.inner c.new-2.ensures.failures c.new-2.ensures.ends c.new-2.ensures.flushes),
         (
           c.new-messages.result,
-          (fresh c.new-3.result c.new-messages.result c.new-messages.ensures.inner c.new-messages.ensures.log
-              c.new-3.ensures.failures c.new-3.ensures.ends c.new-3.ensures.flushes),
+          (fresh c.args.stderr c.new-3.result c.new-messages.result c.new-messages.ensures.inner c.new-messages.ensures.log
+              c.new-3.ensures.inner c.new-3.ensures.failures c.new-3.ensures.ends c.new-3.ensures.flushes),
           helped.0,
         ),
       ),
@@ -36,16 +36,16 @@ returns-clause-help g c = λ e.
 pub returns-clause-done : goal.returns-clause-done
 returns-clause-done g c = λ job e. (
   c.new-input.result,
-  (fresh c.new.result c.new-input.result c.new-input.ensures.inner c.new-input.ensures.log
-      c.new.ensures.failures c.new.ensures.ends c.new.ensures.flushes),
+  (fresh c.args.stdin c.new.result c.new-input.result c.new-input.ensures.inner c.new-input.ensures.log
+      c.new.ensures.inner c.new.ensures.failures c.new.ensures.ends c.new.ensures.flushes),
   (
     c.new-output.result,
-    (fresh c.new-2.result c.new-output.result c.new-output.ensures.inner c.new-output.ensures.log
-        c.new-2.ensures.failures c.new-2.ensures.ends c.new-2.ensures.flushes),
+    (fresh c.args.stdout c.new-2.result c.new-output.result c.new-output.ensures.inner c.new-output.ensures.log
+        c.new-2.ensures.inner c.new-2.ensures.failures c.new-2.ensures.ends c.new-2.ensures.flushes),
     (
       c.new-messages.result,
-      (fresh c.new-3.result c.new-messages.result c.new-messages.ensures.inner c.new-messages.ensures.log
-          c.new-3.ensures.failures c.new-3.ensures.ends c.new-3.ensures.flushes),
+      (fresh c.args.stderr c.new-3.result c.new-messages.result c.new-messages.ensures.inner c.new-messages.ensures.log
+          c.new-3.ensures.inner c.new-3.ensures.failures c.new-3.ensures.ends c.new-3.ensures.flushes),
       c.run-ended.ensures.done job e,
     ),
   ),
