@@ -131,11 +131,11 @@ module _ (task : Task) (reader : Reader) (past : HandlePast) where
         run = record {
           answered = refl;
           begun = λ (more : List ℕ). record {
-              output = subst (Begins (result_for task (past.fed ++ more)).output) going.text.wrote
-                  (output-first task (past.fed ++ more) lines (lines_of (going.tail ++ more)) (going.cut more));
-              messages = subst (Begins (result_for task (past.fed ++ more)).messages) going.text.reported
-                  (messages-first task (past.fed ++ more) lines (lines_of (going.tail ++ more)) (going.cut more));
-            };
+            output = subst (Begins (result_for task (past.fed ++ more)).output) going.text.wrote
+                (output-first task (past.fed ++ more) lines (lines_of (going.tail ++ more)) (going.cut more));
+            messages = subst (Begins (result_for task (past.fed ++ more)).messages) going.text.reported
+                (messages-first task (past.fed ++ more) lines (lines_of (going.tail ++ more)) (going.cut more));
+          };
         };
         within = λ limited.
             let before : 0 < reader.held.limit = subst (λ (n : ℕ). 0 < n) (sym runs.limit) limited in

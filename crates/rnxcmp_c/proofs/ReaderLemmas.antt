@@ -217,11 +217,14 @@ module _ (task : Task) (engine : AnyEngine) (is : IsOf task engine)
       (record { rest = []; same = text.reported ∙ sym (append-nil (past.messages ++ (waiting mid.messages))) }) in
       ⊎_elim (λ silently. inl (λ more.
       fault-short _ (past.fed ++ more) (filter.so_far broken.lines) (whole more) fault text silently told))
-      (λ down. inr (inr (down.status, λ more.
-      subst (λ r. ReaderIsOver (limit_for task) r reader outcome past)
-      (sym (ap result_of_course (whole more))
-      ∙ result-faulty task (past.fed ++ more) at (ap (λ (c : Course). c.fault) (whole more) ∙ fault))
-      (course-over (limit_for task) (filter.so_far broken.lines) reader mid outcome past at fault text few down))))
+      (λ down. inr (inr (
+        down.status,
+        λ more.
+            subst (λ r. ReaderIsOver (limit_for task) r reader outcome past)
+            (sym (ap result_of_course (whole more))
+            ∙ result-faulty task (past.fed ++ more) at (ap (λ (c : Course). c.fault) (whole more) ∙ fault))
+            (course-over (limit_for task) (filter.so_far broken.lines) reader mid outcome past at fault text few down),
+      )))
       put
 
   pub fails-over : LineFails (engine_filter engine) mid past at

@@ -63,14 +63,14 @@ returns-clause-instance c = λ (task : Task) (fed : List ℕ) within.
       },
       record {
         within = λ few. record {
-            status = refl;
-            code = refl;
-            line = refl;
-            output_length = refl;
-            messages_length = refl;
-            output = refl;
-            messages = refl;
-          };
+          status = refl;
+          code = refl;
+          line = refl;
+          output_length = refl;
+          messages_length = refl;
+          output = refl;
+          messages = refl;
+        };
         over = λ (more : ExceedsLimit (limit_for task) result.output). absurd (omega (arith, within more.0, more.1));
       },
       omega arith,
